@@ -1,0 +1,138 @@
+ghost use Rattle.std.specs.Prelude.{◌≡◌, ◌+◌, ◌<◌, ◌≤◌, ◌↔◌, length, replicate, slice_index, slice_set, IsTrue, IsNone, IfSome, nat_eq};
+ghost use Rattle.std.specs.Cmp.{partial_equiv_from_equiv};
+ghost use Rattle.std.specs.Cmp.Lexicographic.{pointwise, nat_list_eq_equiv};
+ghost use Rattle.wcp_clock.specs.Merge.{merged};
+
+use std::marker::Model;
+
+/// The most processes that a clock has components for.
+pub const MAX_PROCS: usize = 16;
+
+/// A vector clock of 1 to 16 processes: component q counts the events of process q
+/// that are known (Fidge 1988, Mattern 1989).
+///
+/// A contract sees it as the list of its components.
+#[derive(Clone, Copy, Debug)]
+pub struct Clock {
+    count: u32,
+    components: [u32; MAX_PROCS],
+}
+
+impl Model for Clock {
+    ghost use Rattle.std.specs.Prelude.{◌≡◌, ℕ, ◌-◌, ◌<◌, ◌≤◌, List, ◌++◌, length, take, drop, replicate};
+    ghost use Rattle.wcp_clock.specs.declared.clock.TheConstants.{MAX_PROCS};
+
+    ghost Value = { List ℕ };
+
+    ghost view = { λ c. take c.count c.components };
+
+    ghost invariant = { λ c. (0 < c.count) × (c.count ≤ MAX_PROCS) × (length c.components ≡ MAX_PROCS) × (drop c.count c.components ≡ replicate (MAX_PROCS - c.count) 0) };
+
+    ghost inverse = { λ v. record { count = length v; components = v ++ replicate (MAX_PROCS - length v) 0 } };
+
+    ghost use Rattle.std.proofs.Common.{arith};
+    ghost use Rattle.std.proofs.lemmas.List.{length-take-le};
+    ghost use Rattle.wcp_clock.specs.Padding.{padded_front};
+
+    ghost inverse_ok = { λ a h i. record {
+      count = length-take-le a.count a.components (Prim.omega (arith, h.1, h.2)) i;
+      components = padded_front 0 a.count MAX_PROCS a.components h.1 h.2 h.3 i;
+    } };
+}
+
+impl Clock {
+    /// The clock before any event, for `n` processes.
+    pub fn new(n: u32) -> Clock
+        requires some { 0 < n }
+        requires within { n ≤ MAX_PROCS }
+        ensures { result ≡ replicate n 0 }
+    {
+        Clock {
+            count: n,
+            components: [0; MAX_PROCS],
+        }
+    }
+
+    /// How many processes the clock has components for.
+    pub fn len(&self) -> u32
+        ensures value { result ≡ length self.now }
+        ensures some { 0 < length self.now }
+        ensures within { length self.now ≤ MAX_PROCS }
+    {
+        self.count
+    }
+
+    /// Component `p`, and 0 where the clock has no such component.
+    pub fn get(&self, p: u32) -> u32
+        requires { p < MAX_PROCS }
+        ensures { result ≡ slice_index self.now p }
+    {
+        self.components[p as usize]
+    }
+
+    /// The clock after one more event of process `p`, of which there may be `limit`.
+    pub fn tick(&self, p: u32, limit: u32) -> Option<Clock>
+        requires { p < length self.now }
+        ensures limit { IsNone result ↔ (limit ≤ slice_index self.now p) }
+        ensures counted { IfSome result (λ c. c ≡ slice_set self.now p (slice_index self.now p + 1)) }
+    {
+        let mut ticked = *self;
+        let component = &mut ticked.components[p as usize];
+        if *component >= limit {
+            return None;
+        }
+        *component += 1;
+        Some(ticked)
+    }
+
+    /// What two clocks of the same processes know together: the greater component in each place.
+    pub fn merge(&self, other: &Clock) -> Clock
+        requires { length self.now ≡ length other.now }
+        ensures { result ≡ merged self.now other.now }
+    {
+        Clock {
+            components: greater(&self.components, &other.components),
+            ..*self
+        }
+    }
+
+    /// Whether this clock's state of process `p` happened before the other clock's state, which is
+    /// of another process: one comparison.
+    pub fn precedes(&self, p: u32, other: &Clock) -> bool
+        requires { p < MAX_PROCS }
+        ensures { IsTrue result ↔ (slice_index self.now p < slice_index other.now p) }
+    {
+        self.get(p) < other.get(p)
+    }
+
+    fn components(&self) -> &[u32]
+        ensures { result.now ≡ self.now }
+    {
+        &self.components[..self.len() as usize]
+    }
+}
+
+impl PartialEq for Clock {
+    ghost eq = { λ a b. pointwise nat_eq a b };
+
+    ghost laws = { partial_equiv_from_equiv nat_list_eq_equiv };
+
+    fn eq(&self, other: &Self) -> bool {
+        self.components() == other.components()
+    }
+}
+
+impl Eq for Clock {
+    ghost laws = { nat_list_eq_equiv };
+}
+
+/// The greater of two components, in each place.
+fn greater(mine: &[u32; MAX_PROCS], theirs: &[u32; MAX_PROCS]) -> [u32; MAX_PROCS]
+    ensures { result ≡ merged mine.now theirs.now }
+{
+    let mut greater = *mine;
+    for (place, component) in theirs.iter().enumerate() {
+        greater[place] = greater[place].max(*component);
+    }
+    greater
+}

@@ -1,0 +1,10 @@
+//! Vector clocks, and what a probe emits: snapshots and close marks.
+#![tactic(auto)]
+
+mod clock;
+mod note;
+#[cfg(test)]
+mod tests;
+
+pub use clock::{Clock, MAX_PROCS};
+pub use note::{Item, Note};

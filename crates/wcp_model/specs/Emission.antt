@@ -1,0 +1,32 @@
+use Rattle.std.specs.Prelude.{◌≡◌, ◌==◌, ℕ, ◌+◌, ◌<◌, Bool, false, List, [], ◌∷◌, ◌++◌, length, slice_index, slice_index_or, if◌then◌else◌}
+use Rattle.std.specs.List.{list_any}
+use Rattle.wcp_clock.specs.declared.note.Note.{Note}
+use Rattle.wcp_clock.specs.declared.note.Note.TheVariants as note
+use Rattle.wcp_model.specs.declared.step.Step.{Step}
+use Rattle.wcp_model.specs.declared.step.Step.TheVariants as step
+use Rattle.wcp_model.specs.Computation.{Computation, AreTrueStates}
+use Rattle.wcp_model.specs.StateClock.{IsStateClock}
+
+abbrev pub is_close_of : ℕ → Step → Bool
+is_close_of p (step.Close q) = q == p
+is_close_of p _ = false
+
+-- A process is closed once it has a close step.
+abbrev pub is_closed : Computation → ℕ → Bool
+is_closed c p = list_any (is_close_of p) c
+
+-- Snapshots with these clocks, numbered from a first number on.
+abbrev pub snapshots_from : ℕ → List (List ℕ) → List Note
+snapshots_from number [] = []
+snapshots_from number (clock ∷ clocks) = note.Snap number clock ∷ snapshots_from (number + 1) clocks
+
+-- What a process emits: a snapshot of each of its true states, by rising interval, with the state's clock, and once it is
+-- closed a mark that counts them (Garg and Waldecker 1994: the messages to the checker process).
+pub record AreEmissions (n : ℕ) (c : Computation) (p : ℕ) (notes : List Note) : Type 0 where
+  pub intervals : List ℕ
+  pub true_states : AreTrueStates c p intervals
+  pub clocks : List (List ℕ)
+  pub same_length : length clocks ≡ length intervals
+  pub each : (i : ℕ) → i < length intervals →
+      IsStateClock n c (record { process = p; interval = slice_index intervals i }) (slice_index_or clocks i [])
+  pub notes_are : notes ≡ snapshots_from 0 clocks ++ (if is_closed c p then note.Close (length clocks) ∷ [] else [])

@@ -1,0 +1,89 @@
+use Rattle.std.specs.Prelude.{◌≡◌, ◌==◌, ℕ, ◌+◌, ◌<◌, ◌≤◌, ◌↔◌, Bool, true, false, IsTrue, List, [], ◌∷◌, ◌++◌, length, fold, filter, replicate, take, count_by, slice_get, slice_index, slice_set, Some, if◌then◌else◌}
+use Rattle.wcp_clock.specs.Merge.{merged}
+use Rattle.wcp_clock.specs.declared.note.Note.{Note}
+use Rattle.wcp_clock.specs.declared.note.Note.TheVariants as note
+use Rattle.wcp_model.specs.declared.state.State.{State}
+use Rattle.wcp_model.specs.declared.step.Step.{Step}
+use Rattle.wcp_model.specs.declared.step.Step.TheVariants as step
+use Rattle.wcp_model.specs.Computation.{Computation, communications, interval_at, message_at, is_send, IsTrueState}
+use Rattle.wcp_model.specs.StateClock.{IsStateClock}
+use Rattle.wcp_model.specs.Emission.{AreEmissions, is_closed}
+
+-- The accepted calls of one probe; a receive has the clock that its stamp carried.
+pub data Call : Type 0 where
+  Observed : (holds : Bool) → Call
+  Sent : Call
+  Received : (stamp : List ℕ) → Call
+  Closed : Call
+
+-- What a probe has come to: its clock, whether this interval's snapshot was emitted, whether it is closed, and its emissions.
+pub record ProbeState : Type 0 where
+  pub clock : List ℕ
+  pub flag : Bool
+  pub closed : Bool
+  pub snapshots : ℕ
+  pub notes : List Note
+
+-- A send counts an event; a receive counts one and takes the greater of each other component (Fidge 1988; Mattern 1989).
+-- The first true observation of an interval emits a snapshot, and each send and receive begins an interval (Garg and Waldecker 1994).
+abbrev pub after_call : ℕ → ProbeState → Call → ProbeState
+after_call p s (Observed false) = s
+after_call p s (Observed true) =
+    if s.flag then s
+    else record s { flag = true; snapshots = s.snapshots + 1; notes = s.notes ++ note.Snap s.snapshots s.clock ∷ [] }
+after_call p s Sent = record s { clock = slice_set s.clock p (slice_index s.clock p + 1); flag = false }
+after_call p s (Received stamp) = record s { clock = slice_set (merged s.clock stamp) p (slice_index s.clock p + 1); flag = false }
+after_call p s Closed = record s { closed = true; notes = s.notes ++ note.Close s.snapshots ∷ [] }
+
+-- The probe log: what the probe of process p of n has come to after these calls.
+abbrev pub state_of_log : ℕ → ℕ → List Call → ProbeState
+state_of_log n p log = fold (after_call p) (record { clock = replicate n 0; flag = false; closed = false; snapshots = 0; notes = [] }) log
+
+abbrev pub is_step_of : ℕ → Step → Bool
+is_step_of p (step.Observe q holds) = q == p
+is_step_of p (step.Send q to) = q == p
+is_step_of p (step.Recv q message) = q == p
+is_step_of p (step.Close q) = q == p
+is_step_of p _ = false
+
+-- The stamp of a message carries the clock of the sender's state after the send.
+pub record IsStampOf (n : ℕ) (c : Computation) (message : ℕ) (stamp : List ℕ) : Type 0 where
+  pub sent : ℕ
+  pub from : ℕ
+  pub to : ℕ
+  pub send : slice_get c sent ≡ Some (step.Send from to)
+  pub number : message_at c sent ≡ message
+  pub clock : IsStateClock n c (record { process = from; interval = interval_at c from sent + 1 }) stamp
+
+abbrev pub IsCallOf : ℕ → Computation → Step → Call → Type 0
+IsCallOf n c (step.Observe p holds) (Observed seen) = holds ≡ seen
+IsCallOf n c (step.Send p to) Sent = Unit {0}
+IsCallOf n c (step.Recv p message) (Received stamp) = IsStampOf n c message stamp
+IsCallOf n c (step.Close p) Closed = Unit {0}
+IsCallOf n c _ _ = ⊥
+
+abbrev pub AreCallsOf : ℕ → Computation → List Step → List Call → Type 0
+AreCallsOf n c [] [] = Unit {0}
+AreCallsOf n c (s ∷ steps) (call ∷ calls) = IsCallOf n c s call × AreCallsOf n c steps calls
+AreCallsOf n c [] (call ∷ calls) = ⊥
+AreCallsOf n c (s ∷ steps) [] = ⊥
+
+-- The log of a process in a computation: a call for each of its steps, in order.
+abbrev pub IsLogOf : ℕ → Computation → ℕ → List Call → Type 0
+IsLogOf n c p log = AreCallsOf n c (filter (is_step_of p) c) log
+
+-- What accepted steps of n processes keep: numbers below n, each receive after the send of its message, nothing of a process after its close.
+pub record IsAccepted (n : ℕ) (c : Computation) : Type 0 where
+  pub senders : (place p to : ℕ) → slice_get c place ≡ Some (step.Send p to) → p < n
+  pub sent_first : (place p message : ℕ) → slice_get c place ≡ Some (step.Recv p message) → message < message_at c place
+  pub close_last : (place later p : ℕ) (s : Step) → place < later → slice_get c place ≡ Some (step.Close p) → slice_get c later ≡ Some s → is_step_of p s ≡ false
+
+-- The log law: the log of each process has the clock of its last state, and its emissions.
+pub record HasClockAndEmissions (n : ℕ) (c : Computation) (p : ℕ) (s : ProbeState) : Type 0 where
+  pub clock : IsStateClock n c (record { process = p; interval = communications c p }) s.clock
+  pub flag : IsTrue s.flag ↔ IsTrueState c (record { process = p; interval = communications c p })
+  pub closed : s.closed ≡ is_closed c p
+  pub emissions : AreEmissions n c p s.notes
+
+abbrev pub LogLaw : Type 0
+LogLaw = (n : ℕ) (c : Computation) (p : ℕ) (log : List Call) → IsAccepted n c → p < n → IsLogOf n c p log → HasClockAndEmissions n c p (state_of_log n p log)

@@ -1,0 +1,15 @@
+//! Words that all crates share: steps, workloads, plans and outcomes, and the definitions and laws
+//! of computations, happened-before and cuts.
+#![tactic(auto)]
+
+mod outcome;
+mod plan;
+mod state;
+mod step;
+mod workload;
+
+pub use outcome::{GlobalCut, Outcome, Report, Tallies, Tally};
+pub use plan::{Parent, Plan, plain_plan};
+pub use state::State;
+pub use step::{Reply, Step, Why};
+pub use workload::{Action, Task, Workload};
