@@ -8,6 +8,10 @@ use std::marker::Model;
 /// The most processes that a clock has components for.
 pub const MAX_PROCS: usize = 16;
 
+/// The most communication events of one process: one fewer than its number of intervals, which a
+/// component counts.
+pub const CLOCK_LIMIT: u32 = 4_294_967_294;
+
 /// A vector clock of 1 to 16 processes: component q counts the events of process q
 /// that are known (Fidge 1988, Mattern 1989).
 ///

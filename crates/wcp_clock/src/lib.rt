@@ -6,5 +6,5 @@ mod note;
 #[cfg(test)]
 mod tests;
 
-pub use clock::{Clock, MAX_PROCS};
+pub use clock::{CLOCK_LIMIT, Clock, MAX_PROCS};
 pub use note::{Item, Note};

@@ -2,12 +2,14 @@
 //! of computations, happened-before and cuts.
 #![tactic(auto)]
 
+mod cut_laws;
 mod outcome;
 mod plan;
 mod state;
 mod step;
 mod workload;
 
+pub use cut_laws::{least_cut_law, minimum_law};
 pub use outcome::{GlobalCut, Outcome, Report, Tallies, Tally};
 pub use plan::{Parent, Plan, plain_plan};
 pub use state::State;

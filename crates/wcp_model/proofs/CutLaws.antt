@@ -1,0 +1,70 @@
+use Rattle.std.specs.Prelude.{slice_index}
+use Rattle.std.proofs.Common.{◌≡◌, ◌≢◌, ℕ, suc, zero, ◌+◌, ◌-◌, ◌<◌, ◌≤◌, min, List, [], ◌∷◌, length, take, refl, ◌∙◌, ap, subst, ⊎_elim, arith}
+use Rattle.std.proofs.lemmas.Bool.{cases_lt}
+use Rattle.std.proofs.lemmas.List.Sums.{sum_by-take-le}
+use Rattle.wcp_model.specs.declared.state.State.{State}
+use Rattle.wcp_model.specs.Computation.{Computation, IsState, IsTrueState, communications}
+use Rattle.wcp_model.specs.Order.{HappenedBefore}
+use Rattle.wcp_model.specs.Order.HappenedBefore.{Chain}
+use Rattle.wcp_model.specs.Order.DirectlyPrecedes.{Next}
+use Rattle.wcp_model.specs.Cut.{member, minimum, IsConsistent, IsSatisfyingCut, MinimumLaw}
+
+-- the state of a process in an interval
+abbrev pub state : ℕ → ℕ → State
+state p k = record { process = p; interval = k }
+
+-- what happened before a state happened before each later state of its process
+pub happened_before_later : (c : Computation) (s : State) (q k l : ℕ) → k ≤ l → l ≤ communications c q → HappenedBefore c s (state q k) → HappenedBefore c s (state q l)
+happened_before_later c s q k l order within before = go (l - k) k (omega arith) before
+  where
+    go : (steps k : ℕ) → k + steps ≡ l → HappenedBefore c s (state q k) → HappenedBefore c s (state q l)
+    go zero k end before = subst (λ (m : ℕ). HappenedBefore c s (state q m)) (omega arith) before
+    go (suc steps) k end before = go steps (k + 1) (omega arith) (Chain before (Next refl refl (omega arith)))
+
+-- a true state is a state
+pub IsState-true : (c : Computation) (s : State) → IsTrueState c s → IsState c s
+IsState-true c s seen =
+    let fewer : communications (take seen.place c) s.process ≤ communications c s.process = sum_by-take-le _ c seen.place in
+    omega (arith, seen.within)
+
+-- the minimum of two cuts has the lesser of their members
+pub length-minimum : (one other : List ℕ) → length one ≡ length other → length (minimum one other) ≡ length one
+length-minimum [] [] same = refl
+length-minimum [] (l ∷ ls) same = refl
+length-minimum (k ∷ ks) [] same = absurd (omega arith)
+length-minimum (k ∷ ks) (l ∷ ls) same = ap suc (length-minimum ks ls (omega arith))
+
+pub slice_index-minimum : (one other : List ℕ) (p : ℕ) → length one ≡ length other → slice_index (minimum one other) p ≡ min (slice_index one p) (slice_index other p)
+slice_index-minimum [] [] p same = refl
+slice_index-minimum [] (l ∷ ls) p same = absurd (omega arith)
+slice_index-minimum (k ∷ ks) [] p same = absurd (omega arith)
+slice_index-minimum (k ∷ ks) (l ∷ ls) zero same = refl
+slice_index-minimum (k ∷ ks) (l ∷ ls) (suc p) same = slice_index-minimum ks ls p (omega arith)
+
+-- a member of a satisfying cut happened before no member of a cut that lies at or below it
+pub nothing_before_below : (n : ℕ) (c : Computation) (cut lower : List ℕ) (p q : ℕ) → IsSatisfyingCut n c cut → p < n → q < n → p ≢ q → slice_index lower p ≡ slice_index cut p → slice_index lower q ≤ slice_index cut q → HappenedBefore c (member lower p) (member lower q) → ⊥
+nothing_before_below n c cut lower p q satisfying p_within q_within apart same order before =
+    let later : HappenedBefore c (member lower p) (member cut q) = happened_before_later c (member lower p) q _ _ order (IsState-true c (member cut q) (satisfying.true_states q q_within)) before in
+    satisfying.consistent p q p_within q_within apart (subst (λ k. HappenedBefore c (state p k) (member cut q)) same later)
+
+pub minimum_is_satisfying : MinimumLaw
+minimum_is_satisfying n c one other left right = record {
+  members = length-minimum one other same ∙ left.members;
+  consistent = consistent;
+  true_states = λ p p_within. ⊎_elim
+      (λ less. subst (λ k. IsTrueState c (state p k)) (omega (arith, index p)) (left.true_states p p_within))
+      (λ more. subst (λ k. IsTrueState c (state p k)) (omega (arith, index p)) (right.true_states p p_within))
+      (cases_lt (slice_index one p) (slice_index other p));
+}
+  where
+    same : length one ≡ length other
+    same = omega (arith, left.members, right.members)
+
+    index : (p : ℕ) → slice_index (minimum one other) p ≡ min (slice_index one p) (slice_index other p)
+    index p = slice_index-minimum one other p same
+
+    consistent : IsConsistent n c (minimum one other)
+    consistent p q p_within q_within apart before = ⊎_elim
+        (λ less. nothing_before_below n c one (minimum one other) p q left p_within q_within apart (omega (arith, index p)) (omega (arith, index q)) before)
+        (λ more. nothing_before_below n c other (minimum one other) p q right p_within q_within apart (omega (arith, index p)) (omega (arith, index q)) before)
+        (cases_lt (slice_index one p) (slice_index other p))

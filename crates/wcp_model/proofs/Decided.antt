@@ -1,0 +1,55 @@
+use Rattle.std.proofs.Common.{◌≡◌, ℕ, zero, suc, ◌<◌, ◌≤◌, ◌⊎◌, inl, inr, ⊎_elim, subst, arith}
+use Rattle.std.proofs.lemmas.Bool.{cases_lt}
+
+-- a fact that holds or not
+abbrev pub Decided : Type 0 → Type 0
+Decided P = P ⊎ (P → ⊥)
+
+-- facts that give each other are decided together
+pub decided_from : {P Q : Type 0} → (P → Q) → (Q → P) → Decided P → Decided Q
+decided_from to back decided = ⊎_elim (λ p. inl (to p)) (λ not. inr (λ q. not (back q))) decided
+
+-- two decided facts are decided together
+pub both_decided : {P Q : Type 0} → Decided P → Decided Q → Decided (P × Q)
+both_decided one other =
+    ⊎_elim (λ p. ⊎_elim (λ q. inl (p, q)) (λ not. inr (λ both. not both.1)) other) (λ not. inr (λ both. not both.0)) one
+
+-- of two decided facts it is decided whether one of them holds
+pub either_decided : {P Q : Type 0} → Decided P → Decided Q → Decided (P ⊎ Q)
+either_decided one other =
+    ⊎_elim (λ p. inl (inl p))
+    (λ not. ⊎_elim (λ q. inl (inr q)) (λ nor. inr (λ either. ⊎_elim not nor either)) other) one
+
+-- a decided fact that is denied
+pub not_decided : {P : Type 0} → Decided P → Decided (P → ⊥)
+not_decided decided = ⊎_elim (λ p. inr (λ not. not p)) (λ not. inl not) decided
+
+-- a fact under a decided condition
+pub under_decided : {C P : Type 0} → Decided C → Decided P → Decided (C → P)
+under_decided condition decided =
+    ⊎_elim (λ c. ⊎_elim (λ p. inl (λ _. p)) (λ not. inr (λ under. not (under c))) decided)
+    (λ not. inl (λ c. absurd (not c))) condition
+
+-- what is decided of each number below n is decided of some of them
+pub some_below_decided : (P : ℕ → Type 0) (n : ℕ) → ((k : ℕ) → k < n → Decided (P k)) → Decided ((k : ℕ) × (k < n) × P k)
+some_below_decided P zero decided = inr (λ some. omega (arith, some.1))
+some_below_decided P (suc n) decided =
+    ⊎_elim (λ (here : P n). inl (n, omega arith, here))
+    (λ (not_here : P n → ⊥).
+    decided_from (λ (some : (k : ℕ) × (k < n) × P k). (some.0, omega (arith, some.1), some.2))
+    (λ (some : (k : ℕ) × (k < suc n) × P k).
+    ⊎_elim (λ (below : some.0 < n). (some.0, below, some.2))
+    (λ (above : n ≤ some.0).
+    let last : some.0 ≡ n = omega (arith, some.1) in
+    absurd (not_here (subst P last some.2)))
+    (cases_lt some.0 n))
+    (some_below_decided P n (λ k below. decided k (omega arith))))
+    (decided n (omega arith))
+
+-- what is decided of each number below n is decided of all of them
+pub all_below_decided : (P : ℕ → Type 0) (n : ℕ) → ((k : ℕ) → k < n → Decided (P k)) → Decided ((k : ℕ) → k < n → P k)
+all_below_decided P n decided =
+    ⊎_elim (λ (some : (k : ℕ) × (k < n) × (P k → ⊥)). inr (λ all. some.2 (all some.0 some.1)))
+    (λ (none : (k : ℕ) × (k < n) × (P k → ⊥) → ⊥).
+    inl (λ k below. ⊎_elim (λ p. p) (λ not. absurd (none (k, below, not))) (decided k below)))
+    (some_below_decided (λ k. P k → ⊥) n (λ k below. not_decided (decided k below)))

@@ -1,0 +1,9 @@
+pub mod CutElimination
+pub mod CutLaws
+pub mod Decided
+pub mod Elimination
+pub mod LeastCut
+pub mod Places
+pub mod Reached
+pub mod CandidateRows
+pub mod IntervalOrder

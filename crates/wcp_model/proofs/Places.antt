@@ -1,0 +1,60 @@
+use Rattle.std.proofs.Common.{◌≡◌, ℕ, zero, suc, ◌+◌, ◌<◌, ◌≤◌, Bool, true, false, cond, List, take, length, count_by, slice_get, Some, refl, ◌∙◌, ap, ⊎_elim, add-one, arith}
+use Rattle.std.proofs.lemmas.Bool.{cases_lt, cases_Bool}
+use Rattle.std.proofs.lemmas.List.{take-take, take_all}
+use Rattle.std.proofs.lemmas.List.Sums.{count_by_more_yes, count_by_more_no, sum_by-take-le}
+use Rattle.std.proofs.lemmas.Option.{slice_get_within, get_or_from_slice_get, slice_get_cases}
+
+-- how many of the elements before a place pass a test
+abbrev pub count_before : {X : Type 0} → (X → Bool) → List X → ℕ → ℕ
+count_before test xs place = count_by test (take place xs)
+
+-- past an element that passes the count is one more
+pub count_before-yes : {X : Type 0} (test : X → Bool) (xs : List X) (place : ℕ) (x : X) → slice_get xs place ≡ Some x → test x ≡ true → count_before test xs (place + 1) ≡ count_before test xs place + 1
+count_before-yes test xs place x here passes =
+    count_by_more_yes test xs place x (slice_get_within xs place x here) (ap test (get_or_from_slice_get xs place x x here) ∙ passes)
+
+-- past an element that fails the count is the same
+pub count_before-no : {X : Type 0} (test : X → Bool) (xs : List X) (place : ℕ) (x : X) → slice_get xs place ≡ Some x → test x ≡ false → count_before test xs (place + 1) ≡ count_before test xs place
+count_before-no test xs place x here fails =
+    count_by_more_no test xs place x (slice_get_within xs place x here) (ap test (get_or_from_slice_get xs place x x here) ∙ fails)
+
+-- the count never falls
+pub count_before-mono : {X : Type 0} (test : X → Bool) (xs : List X) (early late : ℕ) → early ≤ late → count_before test xs early ≤ count_before test xs late
+count_before-mono test xs early late order =
+    let front : take early (take late xs) ≡ take early xs = take-take early late xs order in
+    rw front at (sum_by-take-le (λ x. cond (test x) 1 0) (take late xs) early)
+
+-- two elements that pass, with as many that pass before them, stand at one place
+pub count_before-place : {X : Type 0} (test : X → Bool) (xs : List X) (one other : ℕ) (x y : X) → slice_get xs one ≡ Some x → slice_get xs other ≡ Some y → test x ≡ true → test y ≡ true → count_before test xs one ≡ count_before test xs other → one ≡ other
+count_before-place test xs one other x y here there passes also same =
+    let past_one = count_before-yes test xs one x here passes in
+    let past_other = count_before-yes test xs other y there also in
+    let not_less : ¬ (one < other) = λ less. omega (arith, past_one, same, count_before-mono test xs (one + 1) other (omega arith)) in
+    let not_more : ¬ (other < one) = λ more. omega (arith, past_other, same, count_before-mono test xs (other + 1) one (omega arith)) in
+    omega arith
+
+-- past the end the count is the same
+pub count_before-past : {X : Type 0} (test : X → Bool) (xs : List X) (place : ℕ) → length xs ≤ place → count_before test xs (place + 1) ≡ count_before test xs place
+count_before-past test xs place past = rw (take_all (place + 1) xs (omega arith), take_all place xs past) refl
+
+-- one place further the count is at most one more
+pub count_before-step : {X : Type 0} (test : X → Bool) (xs : List X) (place : ℕ) → count_before test xs (place + 1) ≤ count_before test xs place + 1
+count_before-step test xs place =
+    ⊎_elim
+    (λ here.
+    ⊎_elim (λ (passes : test here.0 ≡ true). omega (arith, count_before-yes test xs place here.0 here.2 passes))
+    (λ (fails : test here.0 ≡ false). omega (arith, count_before-no test xs place here.0 here.2 fails))
+    (cases_Bool (test here.0)))
+    (λ past. omega (arith, count_before-past test xs place past.0))
+    (slice_get_cases xs place).1
+
+-- each count up to that of a place is that of some place at or before it
+pub place_of_count : {X : Type 0} (test : X → Bool) (xs : List X) (count place : ℕ) → count ≤ count_before test xs place → (earlier : ℕ) × (earlier ≤ place) × (count_before test xs earlier ≡ count)
+place_of_count test xs count zero low = (0, omega arith, omega arith)
+place_of_count test xs count (suc place) low =
+    let step : count_before test xs (suc place) ≤ count_before test xs place + 1 = rw (add-one place) at (count_before-step test xs place) in
+    ⊎_elim (λ (above : count_before test xs place < count). (suc place, omega arith, omega arith))
+    (λ (below : count ≤ count_before test xs place).
+    let found = place_of_count test xs count place below in
+    (found.0, omega (arith, found.1), found.2))
+    (cases_lt (count_before test xs place) count)

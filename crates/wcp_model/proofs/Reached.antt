@@ -1,0 +1,272 @@
+use Rattle.std.proofs.Common.{◌≡◌, ◌≢◌, ℕ, zero, suc, ◌+◌, ◌<◌, ◌≤◌, ◌⊎◌, true, false, List, take, length, count_by, slice_get, Some, refl, sym, ◌∙◌, ap, subst, inl, inr, ⊎_elim, arith}
+use Rattle.std.proofs.lemmas.Bool.{cases_lt, cases_eq, cases_Bool, eqb-true, eq-eqb}
+use Rattle.std.proofs.lemmas.List.{take_all, length-take}
+use Rattle.std.proofs.lemmas.List.Sums.{sum_by-take-le, count_by-le-length}
+use Rattle.std.proofs.lemmas.Option.{slice_get_within, slice_get_cases, same_Some}
+use Rattle.wcp_model.specs.declared.state.State.{State}
+use Rattle.wcp_model.specs.declared.step.Step.{Step}
+use Rattle.wcp_model.specs.declared.step.Step.TheVariants.{Observe, Send, Recv}
+use Rattle.wcp_model.specs.Computation.{Computation, is_communication_of, communications, interval_at, message_at, IsState, IsTrueState}
+use Rattle.wcp_model.specs.Order.{DirectlyPrecedes, Next, Message, HappenedBefore, Direct, Chain}
+use Rattle.wcp_model.specs.Cut.{member, IsConsistent, IsSatisfyingCut}
+use Rattle.wcp_model.proofs.Decided.{Decided, decided_from, both_decided, either_decided, not_decided, under_decided, some_below_decided, all_below_decided}
+use Rattle.wcp_model.proofs.Places.{count_before-yes, count_before-no, count_before-past, count_before-place, place_of_count}
+
+-- states of one process in one interval are one state
+pub same_state : (s t : State) → s.process ≡ t.process → s.interval ≡ t.interval → s ≡ t
+same_state s t process interval = λ i. record { process = process i; interval = interval i }
+
+-- the state that a process is in at a place
+abbrev pub state_at : Computation → ℕ → ℕ → State
+state_at c p place = record { process = p; interval = interval_at c p place }
+
+-- one state is another, or happened before it
+abbrev pub AtOrAfter : Computation → State → State → Type 0
+AtOrAfter c s t = (s ≡ t) ⊎ HappenedBefore c s t
+
+-- a process's own communication event ends its interval
+pub interval_at-event : (c : Computation) (p place : ℕ) (step : Step) → slice_get c place ≡ Some step → is_communication_of p step ≡ true → interval_at c p (place + 1) ≡ interval_at c p place + 1
+interval_at-event c p = count_before-yes (is_communication_of p) c
+
+-- any other step leaves it in its interval
+pub interval_at-other : (c : Computation) (p place : ℕ) (step : Step) → slice_get c place ≡ Some step → is_communication_of p step ≡ false → interval_at c p (place + 1) ≡ interval_at c p place
+interval_at-other c p = count_before-no (is_communication_of p) c
+
+-- the interval of a process is at most its last
+pub interval_at-le : (c : Computation) (p place : ℕ) → interval_at c p place ≤ communications c p
+interval_at-le c p place = sum_by-take-le _ c place
+
+-- the interval of a process is at most the number of steps so far
+pub interval_at-le-place : (c : Computation) (p place : ℕ) → interval_at c p place ≤ place
+interval_at-le-place c p place = omega (arith, count_by-le-length (is_communication_of p) (take place c), length-take place c)
+
+-- at the end each process is in its last interval
+pub interval_at-end : (c : Computation) (p : ℕ) → interval_at c p (length c) ≡ communications c p
+interval_at-end c p = ap (count_by (is_communication_of p)) (take_all (length c) c (omega arith))
+
+-- the last step of a chain
+pub last_step : {c : Computation} {s t : State} → HappenedBefore c s t → (u : State) × AtOrAfter c s u × DirectlyPrecedes c u t
+last_step {s = s} (Direct step) = (s, inl refl, step)
+last_step (Chain {t = u} chain step) = (u, inr chain, step)
+
+-- a chain with one more step
+pub one_more_step : (c : Computation) (s u t : State) → AtOrAfter c s u → DirectlyPrecedes c u t → HappenedBefore c s t
+one_more_step c s u t from step =
+    ⊎_elim (λ (same : s ≡ u). Direct (subst (λ v. DirectlyPrecedes c v t) (sym same) step)) (λ (chain : HappenedBefore c s u). Chain chain step) from
+
+-- what a direct precedence leads to is a state
+directly_to_state : {c : Computation} {s t : State} → DirectlyPrecedes c s t → IsState c t
+directly_to_state (Next same next is) = is
+directly_to_state {c = c} {t = t} (Message m) =
+    let past = interval_at-event c t.process m.received _ m.receive (eq-eqb t.process t.process refl) in
+    omega (arith, past, m.to_state, interval_at-le c t.process (m.received + 1))
+
+-- what a state happened before is a state
+pub before_to_state : {c : Computation} {s t : State} → HappenedBefore c s t → IsState c t
+before_to_state before = directly_to_state (last_step before).2
+
+-- what a direct precedence leads to is no first state
+directly_to_later : {c : Computation} {s t : State} → DirectlyPrecedes c s t → 0 < t.interval
+directly_to_later (Next same next is) = omega (arith, next)
+directly_to_later (Message m) = omega (arith, m.to_state)
+
+-- what a state happened before is no first state
+pub before_to_later : {c : Computation} {s t : State} → HappenedBefore c s t → 0 < t.interval
+before_to_later before = directly_to_later (last_step before).2
+
+-- the message was sent at this place, from the state or from one that it happened before
+pub record IsSentAfter (c : Computation) (s : State) (message sent : ℕ) : Type 0 where
+  pub process : ℕ
+  pub to : ℕ
+  pub send : slice_get c sent ≡ Some (Send process to)
+  pub number : message_at c sent ≡ message
+  pub reached : AtOrAfter c s (state_at c process sent)
+
+-- the message was so sent at a place before this one
+abbrev pub Carries : Computation → State → ℕ → ℕ → Type 0
+Carries c s place message = (sent : ℕ) × (sent < place) × IsSentAfter c s message sent
+
+-- what a state is or happened before, it happened before at the next state of that process
+pub before_next : (c : Computation) (s : State) (p place : ℕ) (step : Step) → slice_get c place ≡ Some step → is_communication_of p step ≡ true → AtOrAfter c s (state_at c p place) → HappenedBefore c s (state_at c p (place + 1))
+before_next c s p place step here own from =
+    one_more_step c s (state_at c p place) (state_at c p (place + 1)) from
+    (Next refl (sym (interval_at-event c p place step here own)) (interval_at-le c p (place + 1)))
+
+-- a receive begins a state after those that the message was sent after
+pub before_receive : (c : Computation) (s : State) (p place message : ℕ) → slice_get c place ≡ Some (Recv p message) → Carries c s place message → HappenedBefore c s (state_at c p (place + 1))
+before_receive c s p place message here carries =
+    let sent = carries.0 in
+    let from = carries.2 in
+    one_more_step c s (state_at c from.process sent) (state_at c p (place + 1)) from.reached
+    (Message
+    (record {
+      sent = sent;
+      received = place;
+      to = from.to;
+      later = carries.1;
+      send = from.send;
+      receive = here ∙ ap (λ m. Some (Recv p m)) (sym from.number);
+      from_state = refl;
+      to_state = sym (interval_at-event c p place (Recv p message) here (eq-eqb p p refl));
+    }))
+
+-- a state that begins at a place comes from the process's state before it, or by the message that is received there
+abbrev pub ComesFrom : Computation → State → ℕ → ℕ → Step → Type 0
+ComesFrom c s p place step = AtOrAfter c s (state_at c p place) ⊎ ((message : ℕ) × (step ≡ Recv p message) × Carries c s place message)
+
+directly_from : (c : Computation) (s u : State) (p place : ℕ) (step : Step) → slice_get c place ≡ Some step → is_communication_of p step ≡ true → AtOrAfter c s u → DirectlyPrecedes c u (state_at c p (place + 1)) → ComesFrom c s p place step
+directly_from c s u p place step here own from (Next same next is) =
+    let event = interval_at-event c p place step here own in
+    inl (subst (λ v. AtOrAfter c s v) (same_state u (state_at c p place) same (omega (arith, next, event))) from)
+directly_from c s u p place step here own from (Message m) =
+    let event = interval_at-event c p place step here own in
+    let received : m.received ≡ place = count_before-place (is_communication_of p) c m.received place _ step m.receive here (eq-eqb p p refl) own (omega (arith, m.to_state, event)) in
+    let message = message_at c m.sent in
+    inr (
+      message,
+      same_Some _ _ (sym here ∙ ap (λ k. slice_get c k) (sym received) ∙ m.receive),
+      (
+        m.sent,
+        omega (arith, m.later, received),
+        record {
+          process = u.process;
+          to = m.to;
+          send = m.send;
+          number = refl;
+          reached = subst (λ v. AtOrAfter c s v) (same_state u (state_at c u.process m.sent) refl (sym m.from_state)) from;
+        },
+      ),
+    )
+
+pub comes_from : (c : Computation) (s : State) (p place : ℕ) (step : Step) → slice_get c place ≡ Some step → is_communication_of p step ≡ true → HappenedBefore c s (state_at c p (place + 1)) → ComesFrom c s p place step
+comes_from c s p place step here own before =
+    let last = last_step before in
+    directly_from c s last.0 p place step here own last.1 last.2
+
+-- whether two states are one is decided
+pub same_state_decided : (s t : State) → Decided (s ≡ t)
+same_state_decided s t =
+    decided_from (λ (same : (s.process ≡ t.process) × (s.interval ≡ t.interval)). same_state s t same.0 same.1)
+    (λ (same : s ≡ t). (ap (λ u. u.process) same, ap (λ u. u.interval) same))
+    (both_decided (cases_eq s.process t.process) (cases_eq s.interval t.interval))
+
+sent_after_at : (c : Computation) (s : State) (message sent : ℕ) (step : Step) → slice_get c sent ≡ Some step → ((p : ℕ) → Decided (HappenedBefore c s (state_at c p sent))) → Decided (IsSentAfter c s message sent)
+sent_after_at c s message sent (Send p to) here before =
+    decided_from (λ (both : (message_at c sent ≡ message) × AtOrAfter c s (state_at c p sent)). record { process = p; to = to; send = here; number = both.0; reached = both.1 })
+    (λ (after : IsSentAfter c s message sent).
+    let send = after.send in
+    let process : after.process ≡ p = cc in
+    (after.number, subst (λ q. AtOrAfter c s (state_at c q sent)) process after.reached))
+    (both_decided (cases_eq (message_at c sent) message) (either_decided (same_state_decided s (state_at c p sent)) (before p)))
+sent_after_at c s message sent _ here before =
+    inr (λ after. let send = after.send in cc)
+
+-- whether a message was sent after a state is decided, where the order is at the place of sending
+pub sent_after_decided : (c : Computation) (s : State) (message sent : ℕ) → ((p : ℕ) → Decided (HappenedBefore c s (state_at c p sent))) → Decided (IsSentAfter c s message sent)
+sent_after_decided c s message sent before =
+    ⊎_elim (λ here. sent_after_at c s message sent here.0 here.2 before)
+    (λ past. inr (λ after. let send = after.send in let none = past.1 in cc))
+    (slice_get_cases c sent).1
+
+next_decided : (c : Computation) (s : State) (p place : ℕ) (step : Step) → slice_get c place ≡ Some step → is_communication_of p step ≡ true → ((message : ℕ) → Decided (Carries c s place message)) → Decided (HappenedBefore c s (state_at c p place)) → Decided (HappenedBefore c s (state_at c p (place + 1)))
+next_decided c s p place (Recv q message) here own carries before =
+    let to : q ≡ p = eqb-true q p own in
+    let receive : slice_get c place ≡ Some (Recv p message) = here ∙ ap (λ r. Some (Recv r message)) to in
+    decided_from (λ (from : AtOrAfter c s (state_at c p place) ⊎ Carries c s place message).
+    ⊎_elim (λ at. before_next c s p place (Recv q message) here own at) (λ carried. before_receive c s p place message receive carried) from)
+    (λ (after : HappenedBefore c s (state_at c p (place + 1))).
+    ⊎_elim (λ (at : AtOrAfter c s (state_at c p place)). inl at)
+    (λ (by_message : (m : ℕ) × (Recv q message ≡ Recv p m) × Carries c s place m).
+    let step = by_message.1 in
+    let same : by_message.0 ≡ message = cc in
+    inr (subst (λ m. Carries c s place m) same by_message.2))
+    (comes_from c s p place (Recv q message) here own after))
+    (either_decided (either_decided (same_state_decided s (state_at c p place)) before) (carries message))
+next_decided c s p place step here own carries before =
+    decided_from (λ (from : AtOrAfter c s (state_at c p place)). before_next c s p place step here own from)
+    (λ (after : HappenedBefore c s (state_at c p (place + 1))).
+    ⊎_elim (λ (at : AtOrAfter c s (state_at c p place)). at)
+    (λ by_message. let step = by_message.1 in absurd (cc))
+    (comes_from c s p place step here own after))
+    (either_decided (same_state_decided s (state_at c p place)) before)
+
+-- the order at a place, once it is decided at the place itself and before it
+at_next_decided : (c : Computation) (s : State) (place : ℕ) → ((earlier : ℕ) → earlier ≤ place → (p : ℕ) → Decided (HappenedBefore c s (state_at c p earlier))) → (p : ℕ) → Decided (HappenedBefore c s (state_at c p (place + 1)))
+at_next_decided c s place decided p =
+    let stays : interval_at c p (place + 1) ≡ interval_at c p place → Decided (HappenedBefore c s (state_at c p (place + 1))) =
+    λ same. subst (λ k. Decided (HappenedBefore c s (record { process = p; interval = k }))) (sym same) (decided place (omega arith) p) in
+    ⊎_elim
+    (λ here.
+    ⊎_elim
+    (λ (own : is_communication_of p here.0 ≡ true).
+    next_decided c s p place here.0 here.2 own
+    (λ message. some_below_decided (λ sent. IsSentAfter c s message sent) place (λ sent below. sent_after_decided c s message sent (λ q. decided sent (omega arith) q)))
+    (decided place (omega arith) p))
+    (λ (other : is_communication_of p here.0 ≡ false). stays (interval_at-other c p place here.0 here.2 other))
+    (cases_Bool (is_communication_of p here.0)))
+    (λ past. stays (count_before-past (is_communication_of p) c place past.0))
+    (slice_get_cases c place).1
+
+by_place_decided : (c : Computation) (s : State) (place earlier : ℕ) → earlier ≤ place → (p : ℕ) → Decided (HappenedBefore c s (state_at c p earlier))
+by_place_decided c s zero earlier low p =
+    let start : earlier ≡ 0 = omega arith in
+    inr (λ before. let later = before_to_later before in let none = interval_at-le-place c p earlier in omega arith)
+by_place_decided c s (suc place) earlier low p =
+    ⊎_elim (λ (below : earlier < suc place). by_place_decided c s place earlier (omega arith) p)
+    (λ (above : suc place ≤ earlier).
+    let last : place + 1 ≡ earlier = omega arith in
+    subst (λ k. Decided (HappenedBefore c s (state_at c p k))) last (at_next_decided c s place (λ k low p. by_place_decided c s place k low p) p))
+    (cases_lt earlier (suc place))
+
+-- whether one state happened before another is decided
+pub happened_before_decided : (c : Computation) (s t : State) → Decided (HappenedBefore c s t)
+happened_before_decided c s t =
+    ⊎_elim
+    (λ (is : t.interval < communications c t.process + 1).
+    let found = place_of_count (is_communication_of t.process) c t.interval (length c) (omega (arith, is, interval_at-end c t.process)) in
+    subst (λ u. Decided (HappenedBefore c s u)) (same_state (state_at c t.process found.0) t refl found.2) (by_place_decided c s found.0 found.0 (omega arith) t.process))
+    (λ (above : communications c t.process + 1 ≤ t.interval). inr (λ before. let is = before_to_state before in omega arith))
+    (cases_lt t.interval (communications c t.process + 1))
+
+-- an observation at a place that makes a state true
+abbrev pub IsTrueAt : Computation → State → ℕ → Type 0
+IsTrueAt c s place = (slice_get c place ≡ Some (Observe s.process true)) × (interval_at c s.process place ≡ s.interval)
+
+observed_at : (p : ℕ) (step : Step) → Decided (step ≡ Observe p true)
+observed_at p (Observe q true) = decided_from (λ (same : q ≡ p). ap (λ r. Observe r true) same) (λ same. cc) (cases_eq q p)
+observed_at p _ = inr (λ same. cc)
+
+true_at_decided : (c : Computation) (s : State) (place : ℕ) → Decided (IsTrueAt c s place)
+true_at_decided c s place =
+    both_decided
+    (⊎_elim
+    (λ here.
+    decided_from (λ (same : here.0 ≡ Observe s.process true). here.2 ∙ ap (λ step. Some step) same)
+    (λ observed. same_Some _ _ (sym here.2 ∙ observed)) (observed_at s.process here.0))
+    (λ past. inr (λ observed. let none = past.1 in cc))
+    (slice_get_cases c place).1)
+    (cases_eq (interval_at c s.process place) s.interval)
+
+-- whether a state is true is decided
+pub true_state_decided : (c : Computation) (s : State) → Decided (IsTrueState c s)
+true_state_decided c s =
+    decided_from (λ (some : (place : ℕ) × (place < length c) × IsTrueAt c s place). record { place = some.0; observed = some.2.0; within = some.2.1 })
+    (λ (is : IsTrueState c s). (is.place, slice_get_within c is.place _ is.observed, (is.observed, is.within)))
+    (some_below_decided (λ place. IsTrueAt c s place) (length c) (λ place below. true_at_decided c s place))
+
+-- whether a cut is consistent is decided
+pub consistent_decided : (n : ℕ) (c : Computation) (cut : List ℕ) → Decided (IsConsistent n c cut)
+consistent_decided n c cut =
+    decided_from (λ apart p q p_below q_below. apart p p_below q q_below) (λ consistent p p_below q q_below. consistent p q p_below q_below)
+    (all_below_decided (λ p. (q : ℕ) → q < n → p ≢ q → HappenedBefore c (member cut p) (member cut q) → ⊥) n
+    (λ p p_below.
+    all_below_decided (λ q. p ≢ q → HappenedBefore c (member cut p) (member cut q) → ⊥) n
+    (λ q q_below. under_decided (not_decided (cases_eq p q)) (not_decided (happened_before_decided c (member cut p) (member cut q))))))
+
+-- whether a list of intervals is a satisfying cut is decided
+pub satisfying_decided : (n : ℕ) (c : Computation) (cut : List ℕ) → IsSatisfyingCut n c cut ⊎ (IsSatisfyingCut n c cut → ⊥)
+satisfying_decided n c cut =
+    decided_from (λ (all : (length cut ≡ n) × (IsConsistent n c cut × ((p : ℕ) → p < n → IsTrueState c (member cut p)))). record { members = all.0; consistent = all.1.0; true_states = all.1.1 })
+    (λ (is : IsSatisfyingCut n c cut). (is.members, (is.consistent, is.true_states)))
+    (both_decided (cases_eq (length cut) n)
+    (both_decided (consistent_decided n c cut) (all_below_decided (λ p. IsTrueState c (member cut p)) n (λ p below. true_state_decided c (member cut p)))))
