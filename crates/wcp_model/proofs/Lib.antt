@@ -7,3 +7,7 @@ pub mod Places
 pub mod Reached
 pub mod CandidateRows
 pub mod IntervalOrder
+pub mod SamePlace
+pub mod StepsOfOrder
+pub mod MessagesOfOrder
+pub mod FitOrders

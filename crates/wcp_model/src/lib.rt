@@ -3,6 +3,7 @@
 #![tactic(auto)]
 
 mod cut_laws;
+mod fit_orders;
 mod outcome;
 mod plan;
 mod state;
@@ -10,6 +11,7 @@ mod step;
 mod workload;
 
 pub use cut_laws::{least_cut_law, minimum_law};
+pub use fit_orders::fit_order_law;
 pub use outcome::{GlobalCut, Outcome, Report, Tallies, Tally};
 pub use plan::{Parent, Plan, plain_plan};
 pub use state::State;

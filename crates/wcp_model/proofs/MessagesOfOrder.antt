@@ -1,0 +1,169 @@
+use Rattle.std.proofs.Common.{◌≡◌, ℕ, zero, suc, ◌+◌, ◌-◌, ◌<◌, ◌≤◌, ◌==◌, Bool, true, false, cond, List, [], ◌∷◌, take, filter, count_by, slice_get, Some, refl, sym, ap, ap₂, subst₂, ◌∙◌, inl, inr, arith}
+use Rattle.std.proofs.lemmas.Bool.{cases_Bool, and_parts, and_from, eqb-true, eq-eqb, ne_eqb, cases_lt}
+use Rattle.std.proofs.lemmas.List.{length-take, take-take}
+use Rattle.std.proofs.lemmas.List.Sums.{sum_by-take-le}
+use Rattle.std.proofs.lemmas.Option.{slice_get_within, same_Some}
+use Rattle.wcp_model.specs.declared.step.Step.TheVariants as step
+use Rattle.wcp_model.specs.declared.workload.Action.{Action}
+use Rattle.wcp_model.specs.declared.workload.Action.TheVariants as action
+use Rattle.wcp_model.specs.declared.workload.Task.{Task}
+use Rattle.wcp_model.specs.Computation.{message_at}
+use Rattle.wcp_model.specs.WorkloadComputation.{is_task_of, is_send_to, sends, receives, message_number, place_after, computation_of, IsFitOrder}
+use Rattle.wcp_model.proofs.SamePlace.{filter_yes, filter_no, count_by_yes, count_by_no, count_by-take_more, slice_get-take, element_after, one_place}
+use Rattle.wcp_model.proofs.StepsOfOrder.{sends_any, step_at, send_task, receive_task, message_at_is}
+
+-- how the place of the element after `earlier` others is found, from the front on
+place_after_first : (test : Task → Bool) (task : Task) (tasks : List Task) → test task ≡ true → place_after test 0 (task ∷ tasks) ≡ 0
+place_after_first test task tasks passes = rw passes
+
+place_after_yes : (test : Task → Bool) (earlier : ℕ) (task : Task) (tasks : List Task) → test task ≡ true → place_after test (suc earlier) (task ∷ tasks) ≡ suc (place_after test earlier tasks)
+place_after_yes test earlier task tasks passes =
+    let more : (suc earlier == 0) ≡ false = ne_eqb (suc earlier) 0 (λ none. omega arith) in
+    let before : suc earlier - 1 ≡ earlier = omega arith in
+    rw (passes, more, before) (omega arith)
+
+place_after_no : (test : Task → Bool) (earlier : ℕ) (task : Task) (tasks : List Task) → test task ≡ false → place_after test earlier (task ∷ tasks) ≡ suc (place_after test earlier tasks)
+place_after_no test earlier task tasks fails = rw fails (omega arith)
+
+-- one element further, where the first passes both tests
+both_pass : (any test : Task → Bool) (first : Task) (rest : List Task) (place earlier : ℕ) → any first ≡ true → test first ≡ true → count_by test (first ∷ take place rest) ≡ earlier → ((k : ℕ) → count_by test (take place rest) ≡ k → place_after test k (filter any rest) ≡ count_by any (take place rest)) → place_after test earlier (filter any (first ∷ rest)) ≡ count_by any (first ∷ take place rest)
+both_pass any test first rest place zero among here behind further = absurd (omega (arith, sym behind ∙ count_by_yes test first (take place rest) here))
+both_pass any test first rest place (suc earlier) among here behind further =
+    let before : count_by test (take place rest) ≡ earlier = omega (arith, sym behind ∙ count_by_yes test first (take place rest) here) in
+    ap (place_after test (suc earlier)) (filter_yes any first rest among)
+    ∙ place_after_yes test earlier first (filter any rest) here
+    ∙ ap suc (further earlier before)
+    ∙ sym (count_by_yes any first (take place rest) among)
+
+-- among the elements that pass a test, the place of one that passes a stricter test is the number of them before it
+place_after_is : (any test : Task → Bool) → ((task : Task) → test task ≡ true → any task ≡ true) → (order : List Task) (place earlier : ℕ) (task : Task) → slice_get order place ≡ Some task → test task ≡ true → count_by test (take place order) ≡ earlier → place_after test earlier (filter any order) ≡ count_by any (take place order)
+place_after_is any test implies [] place earlier task found passes behind = cc
+place_after_is any test implies (first ∷ rest) zero earlier task found passes behind =
+    let same : task ≡ first = cc in
+    let here : test first ≡ true = rw same at passes in
+    let among : any first ≡ true = implies first here in
+    rw (← behind, among) (place_after_first test first (filter any rest) here)
+place_after_is any test implies (first ∷ rest) (suc place) earlier task found passes behind =
+    elim (cases_Bool (test first)) [
+      | inl here ↦ both_pass any test first rest place earlier (implies first here) here behind (λ k. place_after_is any test implies rest place k task found passes)
+      | inr other ↦
+          let further = place_after_is any test implies rest place earlier task found passes (sym (count_by_no test first (take place rest) other) ∙ behind) in
+          elim (cases_Bool (any first)) [
+            | inl among ↦
+                ap (place_after test earlier) (filter_yes any first rest among)
+                ∙ place_after_no test earlier first (filter any rest) other
+                ∙ ap suc further
+                ∙ sym (count_by_yes any first (take place rest) among)
+            | inr apart ↦ ap (place_after test earlier) (filter_no any first rest apart) ∙ further ∙ sym (count_by_no any first (take place rest) apart)
+          ]
+    ]
+
+-- an action that passes the test for a send to q is that send
+send_to_is : (q : ℕ) (a : Action) → is_send_to q a ≡ true → a ≡ action.Send q
+send_to_is q (action.Observe holds) passes = cc
+send_to_is q (action.Send to) passes = ap action.Send (eqb-true to q passes)
+send_to_is q (action.Recv from) passes = cc
+
+-- a task that passes the test for a send by p to q is that send, and the other way round
+pub sends_is : (p q : ℕ) (task : Task) → sends p q task ≡ true → task ≡ record { p = p; action = action.Send q }
+sends_is p q task passes =
+    let parts = and_parts (is_task_of p task) (is_send_to q task.action) passes in
+    ap₂ (λ r a. record { p = r; action = a }) (eqb-true task.p p parts.0) (send_to_is q task.action parts.1)
+
+pub sends_yes : (p q : ℕ) → sends p q (record { p = p; action = action.Send q }) ≡ true
+sends_yes p q = and_from (p == p) (q == q) (eq-eqb p p refl) (eq-eqb q q refl)
+
+-- the receive by q from p passes the test for it
+pub receives_yes : (p q : ℕ) → receives p q (record { p = q; action = action.Recv p }) ≡ true
+receives_yes p q = and_from (q == q) (p == p) (eq-eqb q q refl) (eq-eqb p p refl)
+
+-- a send by p to q is a send
+sends_among : (p q : ℕ) (task : Task) → sends p q task ≡ true → sends_any task ≡ true
+sends_among p q task passes = ap sends_any (sends_is p q task passes)
+
+-- a send that stands up to a receive stands before it
+before_or_here : (order : List Task) (p q sent received : ℕ) → sent < received + 1 → slice_get order sent ≡ Some (record { p = p; action = action.Send q }) → slice_get order received ≡ Some (record { p = q; action = action.Recv p }) → sent < received
+before_or_here order p q sent received within send receive = elim (cases_lt sent received) [
+  | inl before ↦ before
+  | inr behind ↦
+      let same : sent ≡ received = omega arith in
+      let clash : action.Recv p ≡ action.Send q = ap (λ (task : Task). task.action) (same_Some _ _ (sym receive ∙ ap (slice_get order) (sym same) ∙ send)) in
+      cc
+]
+
+-- the number of the message that p sends to q after `earlier` others is the number of sends before it
+pub message_number_is : (order : List Task) (p q earlier sent : ℕ) → slice_get order sent ≡ Some (record { p = p; action = action.Send q }) → count_by (sends p q) (take sent order) ≡ earlier → message_number order p q earlier ≡ count_by sends_any (take sent order)
+message_number_is order p q earlier sent found behind = place_after_is sends_any (sends p q) (sends_among p q) order sent earlier (record { p = p; action = action.Send q }) found (sends_yes p q) behind
+
+-- the receive by q from p at a place belongs to the send by p to q at another: as many such sends stand before the send as such receives before the receive
+pub record IsDelivery (order : List Task) (p q sent received : ℕ) : Type 0 where
+  pub send : slice_get order sent ≡ Some (record { p = p; action = action.Send q })
+  pub receive : slice_get order received ≡ Some (record { p = q; action = action.Recv p })
+  pub same_rank : count_by (sends p q) (take sent order) ≡ count_by (receives p q) (take received order)
+
+-- in a fit order each receive belongs to an earlier send
+pub send_of_receive : {tasks order : List Task} → IsFitOrder tasks order → (p q received : ℕ) → slice_get order received ≡ Some (record { p = q; action = action.Recv p }) → (sent : ℕ) × (sent < received) × IsDelivery order p q sent received
+send_of_receive {tasks} {order} fit p q received found =
+    let rank = count_by (receives p q) (take received order) in
+    let front = take (received + 1) order in
+    let more : rank < count_by (sends p q) front = omega (arith, fit.sent_first (received + 1) p q, count_by-take_more (receives p q) order received _ found (receives_yes p q)) in
+    let sender = element_after (sends p q) front rank more in
+    let sent : ℕ = sender.1.place in
+    let within : sent < received + 1 = omega (arith, slice_get_within front sent sender.0 sender.1.found, length-take (received + 1) order) in
+    let there : slice_get order sent ≡ Some (record { p = p; action = action.Send q }) = sym (slice_get-take (received + 1) order sent within) ∙ sender.1.found ∙ ap Some (sends_is p q sender.0 sender.1.passes) in
+    let before : sent < received = before_or_here order p q sent received within there found in (
+      sent,
+      before,
+      record {
+        send = there;
+        receive = found;
+        same_rank = ap (count_by (sends p q)) (sym (take-take sent (received + 1) order (omega arith))) ∙ sender.1.behind;
+      },
+    )
+
+-- in a fit order the send of a delivery stands before its receive
+pub delivery_later : {tasks order : List Task} → IsFitOrder tasks order → {p q sent received : ℕ} → IsDelivery order p q sent received → sent < received
+delivery_later {tasks} {order} fit {p} {q} {sent} {received} d =
+    let earlier = send_of_receive fit p q received d.receive in
+    let same : earlier.0 ≡ sent = one_place (sends p q) order earlier.0 sent _ _ earlier.2.send (sends_yes p q) d.send (sends_yes p q) (earlier.2.same_rank ∙ sym d.same_rank) in
+    omega (arith, earlier.1)
+
+-- the receive of a delivery takes the message that its send made
+pub delivery_step : (n : ℕ) {order : List Task} {p q sent received : ℕ} → IsDelivery order p q sent received → slice_get (computation_of n order) received ≡ Some (step.Recv q (message_at (computation_of n order) sent))
+delivery_step n {order} {p} {q} {sent} {received} d =
+    step_at n order received _ d.receive
+    ∙ ap (λ message. Some (step.Recv q message)) (message_number_is order p q _ sent d.send d.same_rank ∙ sym (message_at_is n order sent))
+
+-- in a fit order a receive of the message that a send made is the receive of its delivery
+pub delivery_of : (n : ℕ) {tasks order : List Task} → IsFitOrder tasks order → (p to q sent received : ℕ) → slice_get (computation_of n order) sent ≡ Some (step.Send p to) → slice_get (computation_of n order) received ≡ Some (step.Recv q (message_at (computation_of n order) sent)) → IsDelivery order p q sent received
+delivery_of n {tasks} {order} fit p to q sent received put taken =
+    let receive = receive_task n order received q (message_at (computation_of n order) sent) taken in
+    let from : ℕ = receive.0 in
+    let earlier = send_of_receive fit from q received receive.1 in
+    let number : count_by sends_any (take earlier.0 order) ≡ count_by sends_any (take sent order) =
+    sym (message_number_is order from q _ earlier.0 earlier.2.send earlier.2.same_rank) ∙ receive.2 ∙ message_at_is n order sent in
+    let there = send_task n order sent p to put in
+    let same : earlier.0 ≡ sent = one_place sends_any order earlier.0 sent _ _ earlier.2.send refl there refl number in
+    let process : from ≡ p = ap (λ (task : Task). task.p) (same_Some _ _ (sym earlier.2.send ∙ ap (slice_get order) same ∙ there)) in
+    subst₂ (λ r place. IsDelivery order r q place received) process same earlier.2
+
+-- in a fit order the message of a delivery is sent before it is received
+pub message_sent_before : (n : ℕ) {tasks order : List Task} → IsFitOrder tasks order → {p q sent received : ℕ} → IsDelivery order p q sent received → message_at (computation_of n order) sent < message_at (computation_of n order) received
+message_sent_before n {tasks} {order} fit {p} {q} {sent} {received} d =
+    let later : sent < received = delivery_later fit d in
+    let more : count_by sends_any (take (sent + 1) (take received order)) ≤ count_by sends_any (take received order) = sum_by-take-le (λ task. cond (sends_any task) 1 0) (take received order) (sent + 1) in
+    let front : count_by sends_any (take (sent + 1) (take received order)) ≡ count_by sends_any (take (sent + 1) order) = ap (count_by sends_any) (take-take (sent + 1) received order (omega arith)) in
+    omega (arith, more, front, count_by-take_more sends_any order sent _ d.send refl, message_at_is n order sent, message_at_is n order received)
+
+-- one send has one sender and one receiver
+same_sends : (p q r u : ℕ) → ◌≡◌ {A = Task} (record { p = p; action = action.Send q }) (record { p = r; action = action.Send u }) → (p ≡ r) × (q ≡ u)
+same_sends p q r u same =
+    let send : action.Send q ≡ action.Send u = ap (λ (task : Task). task.action) same in
+    (ap (λ (task : Task). task.p) same, cc send)
+
+-- a message is received once
+pub one_receive : {order : List Task} {p q r u sent i j : ℕ} → IsDelivery order p q sent i → IsDelivery order r u sent j → i ≡ j
+one_receive {order} {p} {q} {r} {u} {sent} {i} {j} d e =
+    let same = same_sends p q r u (same_Some _ _ (sym d.send ∙ e.send)) in
+    let other : IsDelivery order p q sent j = subst₂ (λ x y. IsDelivery order x y sent j) (sym same.0) (sym same.1) e in
+    one_place (receives p q) order i j _ _ d.receive (receives_yes p q) other.receive (receives_yes p q) (sym d.same_rank ∙ other.same_rank)

@@ -1,0 +1,137 @@
+use Rattle.std.proofs.Common.{◌≡◌, ℕ, zero, suc, ◌+◌, ◌<◌, Bool, true, false, cond, List, [], ◌∷◌, length, take, filter, count_by, slice_get, Some, refl, sym, ap, ◌∙◌, inl, inr, arith}
+use Rattle.std.proofs.lemmas.Bool.{cases_Bool}
+use Rattle.std.proofs.lemmas.List.Sums.{length-filter, count_by_more_yes}
+use Rattle.std.proofs.lemmas.Option.{slice_get_within, get_or_from_slice_get}
+
+-- a filter keeps, and a count counts, the first element exactly where it passes
+pub filter_yes : {X : Type 0} (P : X → Bool) (x : X) (xs : List X) → P x ≡ true → filter P (x ∷ xs) ≡ x ∷ filter P xs
+filter_yes P x xs passes = rw passes
+
+pub filter_no : {X : Type 0} (P : X → Bool) (x : X) (xs : List X) → P x ≡ false → filter P (x ∷ xs) ≡ filter P xs
+filter_no P x xs fails = rw fails
+
+pub count_by_yes : {X : Type 0} (P : X → Bool) (x : X) (xs : List X) → P x ≡ true → count_by P (x ∷ xs) ≡ suc (count_by P xs)
+count_by_yes P x xs passes = sym (length-filter P (x ∷ xs)) ∙ ap length (filter_yes P x xs passes) ∙ ap suc (length-filter P xs)
+
+pub count_by_no : {X : Type 0} (P : X → Bool) (x : X) (xs : List X) → P x ≡ false → count_by P (x ∷ xs) ≡ count_by P xs
+count_by_no P x xs fails = sym (length-filter P (x ∷ xs)) ∙ ap length (filter_no P x xs fails) ∙ length-filter P xs
+
+-- one more counts behind an element that passes
+pub count_by-take_more : {X : Type 0} (P : X → Bool) (xs : List X) (place : ℕ) (x : X) → slice_get xs place ≡ Some x → P x ≡ true → count_by P (take (place + 1) xs) ≡ count_by P (take place xs) + 1
+count_by-take_more P xs place x found passes = count_by_more_yes P xs place x (slice_get_within xs place x found) (ap P (get_or_from_slice_get xs place x x found) ∙ passes)
+
+-- a list has an element at each place below its length
+pub element_within : {X : Type 0} (xs : List X) (place : ℕ) → place < length xs → (x : X) × (slice_get xs place ≡ Some x)
+element_within [] place within = absurd (omega arith)
+element_within (x ∷ xs) zero within = (x, refl)
+element_within (x ∷ xs) (suc place) within = element_within xs place (omega arith)
+
+-- the front of a list has the same elements
+pub slice_get-take : {X : Type 0} (n : ℕ) (xs : List X) (place : ℕ) → place < n → slice_get (take n xs) place ≡ slice_get xs place
+slice_get-take zero xs place below = absurd (omega arith)
+slice_get-take (suc n) [] place below = refl
+slice_get-take (suc n) (x ∷ xs) zero below = refl
+slice_get-take (suc n) (x ∷ xs) (suc place) below = slice_get-take n xs place (omega arith)
+
+-- an element that passes stands in the filtered list behind those before it that pass
+slice_get-filter : {X : Type 0} (P : X → Bool) (xs : List X) (place : ℕ) (x : X) → slice_get xs place ≡ Some x → P x ≡ true → slice_get (filter P xs) (length (filter P (take place xs))) ≡ Some x
+slice_get-filter P [] place x found passes = cc
+slice_get-filter P (y ∷ ys) zero x found passes =
+    let same : y ≡ x = cc in
+    let here : P y ≡ true = ap P same ∙ passes in
+    rw here found
+slice_get-filter P (y ∷ ys) (suc place) x found passes = elim (cases_Bool (P y)) [
+  | inl here ↦ rw here (slice_get-filter P ys place x found passes)
+  | inr here ↦ rw here (slice_get-filter P ys place x found passes)
+]
+
+-- an element passes the test and stands in the list after `earlier` others that do
+pub record StandsAfter {X : Type 0} (P : X → Bool) (xs : List X) (earlier : ℕ) (x : X) : Type 0 where
+  pub place : ℕ
+  pub found : slice_get xs place ≡ Some x
+  pub passes : P x ≡ true
+  pub behind : count_by P (take place xs) ≡ earlier
+
+-- each element of the filtered list has a place in the list
+stands_after : {X : Type 0} (P : X → Bool) (xs : List X) (earlier : ℕ) (x : X) → slice_get (filter P xs) earlier ≡ Some x → StandsAfter P xs earlier x
+stands_after P [] earlier x kept = cc
+stands_after P (y ∷ ys) zero x kept = elim (cases_Bool (P y)) [
+  | inl here ↦
+      let same : y ≡ x = let first = rw here at kept in cc in
+      record { place = 0; found = ap Some same; passes = ap P (sym same) ∙ here; behind = refl }
+  | inr here ↦
+      let rest = stands_after P ys zero x (rw here at kept) in
+      record { place = suc rest.place; found = rest.found; passes = rest.passes; behind = count_by_no P y (take rest.place ys) here ∙ rest.behind }
+]
+stands_after P (y ∷ ys) (suc earlier) x kept = elim (cases_Bool (P y)) [
+  | inl here ↦
+      let rest = stands_after P ys earlier x (rw here at kept) in
+      record { place = suc rest.place; found = rest.found; passes = rest.passes; behind = count_by_yes P y (take rest.place ys) here ∙ ap suc rest.behind }
+  | inr here ↦
+      let rest = stands_after P ys (suc earlier) x (rw here at kept) in
+      record { place = suc rest.place; found = rest.found; passes = rest.passes; behind = count_by_no P y (take rest.place ys) here ∙ rest.behind }
+]
+
+-- where more elements pass than `earlier`, one passes after `earlier` others
+pub element_after : {X : Type 0} (P : X → Bool) (xs : List X) (earlier : ℕ) → earlier < count_by P xs → (x : X) × StandsAfter P xs earlier x
+element_after P xs earlier more =
+    let kept = element_within (filter P xs) earlier (omega (arith, length-filter P xs)) in
+    (kept.0, stands_after P xs earlier kept.0 kept.1)
+
+-- what passes in a front is a front of what passes
+filter_front : {X : Type 0} (P : X → Bool) (place : ℕ) (xs : List X) → filter P (take place xs) ≡ take (length (filter P (take place xs))) (filter P xs)
+filter_front P zero xs = refl
+filter_front P (suc place) [] = refl
+filter_front P (suc place) (x ∷ xs) = elim (cases_Bool (P x)) [
+  | inl here ↦ rw here (ap (λ rest. x ∷ rest) (filter_front P place xs))
+  | inr here ↦ rw here (filter_front P place xs)
+]
+
+-- the same element stands in another list behind the same elements that pass
+pub record SamePlace {X : Type 0} (P : X → Bool) (xs ys : List X) (place : ℕ) (x : X) : Type 0 where
+  pub other : ℕ
+  pub found : slice_get ys other ≡ Some x
+  pub front : filter P (take other ys) ≡ filter P (take place xs)
+
+-- where two lists keep the same elements, each of these has the same place in both
+pub same_place : {X : Type 0} (P : X → Bool) (xs ys : List X) (place : ℕ) (x : X) → filter P xs ≡ filter P ys → slice_get xs place ≡ Some x → P x ≡ true → SamePlace P xs ys place x
+same_place P xs ys place x same found passes =
+    let kept = slice_get-filter P xs place x found passes in
+    let there = stands_after P ys (length (filter P (take place xs))) x (rw same at kept) in
+    let long : length (filter P (take there.place ys)) ≡ length (filter P (take place xs)) = length-filter P (take there.place ys) ∙ there.behind in
+    record {
+      other = there.place;
+      found = there.found;
+      front = filter_front P there.place ys ∙ ap (λ n. take n (filter P ys)) long ∙ ap (take (length (filter P (take place xs)))) (sym same) ∙ sym (filter_front P place xs);
+    }
+
+-- two places at which the test passes after equally many others are one
+pub one_place : {X : Type 0} (P : X → Bool) (xs : List X) (i j : ℕ) (x y : X) → slice_get xs i ≡ Some x → P x ≡ true → slice_get xs j ≡ Some y → P y ≡ true → count_by P (take i xs) ≡ count_by P (take j xs) → i ≡ j
+one_place P [] i j x y at_i passes_x at_j passes_y same = cc
+one_place P (z ∷ zs) zero zero x y at_i passes_x at_j passes_y same = refl
+one_place P (z ∷ zs) zero (suc j) x y at_i passes_x at_j passes_y same =
+    let here : P z ≡ true = let e : z ≡ x = cc in ap P e ∙ passes_x in
+    absurd (omega (arith, same ∙ count_by_yes P z (take j zs) here))
+one_place P (z ∷ zs) (suc i) zero x y at_i passes_x at_j passes_y same =
+    let here : P z ≡ true = let e : z ≡ y = cc in ap P e ∙ passes_y in
+    absurd (omega (arith, sym same ∙ count_by_yes P z (take i zs) here))
+one_place P (z ∷ zs) (suc i) (suc j) x y at_i passes_x at_j passes_y same = elim (cases_Bool (P z)) [
+  | inl here ↦ ap suc (one_place P zs i j x y at_i passes_x at_j passes_y (omega (arith, same, count_by_yes P z (take i zs) here, count_by_yes P z (take j zs) here)))
+  | inr here ↦ ap suc (one_place P zs i j x y at_i passes_x at_j passes_y (sym (count_by_no P z (take i zs) here) ∙ same ∙ count_by_no P z (take j zs) here))
+]
+
+-- a stricter test finds in a filtered list what it finds in the list
+filter-filter : {X : Type 0} (P Q : X → Bool) → ((x : X) → Q x ≡ true → P x ≡ true) → (xs : List X) → filter Q (filter P xs) ≡ filter Q xs
+filter-filter P Q implies [] = refl
+filter-filter P Q implies (x ∷ xs) = elim (cases_Bool (P x)) [
+  | inl here ↦ rw here (ap (λ rest. cond (Q x) (x ∷ rest) rest) (filter-filter P Q implies xs))
+  | inr here ↦
+      let fails : Q x ≡ false = elim (cases_Bool (Q x)) [ inl passes ↦ absurd (let clash = sym here ∙ implies x passes in cc) | inr fails ↦ fails ] in
+      rw (here, fails) (filter-filter P Q implies xs)
+]
+
+-- where the same elements pass a test, as many pass a stricter one
+pub same_count : {X : Type 0} (P Q : X → Bool) (xs ys : List X) → ((x : X) → Q x ≡ true → P x ≡ true) → filter P xs ≡ filter P ys → count_by Q xs ≡ count_by Q ys
+same_count P Q xs ys implies same =
+    let kept : filter Q xs ≡ filter Q ys = sym (filter-filter P Q implies xs) ∙ ap (filter Q) same ∙ filter-filter P Q implies ys in
+    sym (length-filter Q xs) ∙ ap length kept ∙ length-filter Q ys

@@ -1,0 +1,188 @@
+use Rattle.std.proofs.Common.{◌≡◌, ℕ, zero, suc, ◌+◌, ◌<◌, ◌≤◌, ◌&&◌, ◌==◌, Bool, true, false, cond, List, [], ◌∷◌, ◌++◌, length, map, take, count_by, slice_get, Some, refl, sym, ap, ap₂, ◌∙◌, inl, inr, ◌⊎◌, append-nil, append_assoc, zero-add, suc-add, arith}
+use Rattle.std.specs.List.{range_with_len}
+use Rattle.std.proofs.lemmas.Bool.{and_right}
+use Rattle.std.proofs.lemmas.List.Sums.{sum_by-cons}
+use Rattle.std.proofs.lemmas.List.{take_all, length-append}
+use Rattle.std.proofs.lemmas.List.FromFn.{length-map-range_with_len, get_or-map-range_with_len}
+use Rattle.std.proofs.lemmas.Option.{slice_get-get_or}
+use Rattle.wcp_model.specs.declared.step.Step.{Step}
+use Rattle.wcp_model.specs.declared.step.Step.TheVariants as step
+use Rattle.wcp_model.specs.declared.workload.Action.{Action}
+use Rattle.wcp_model.specs.declared.workload.Action.TheVariants as action
+use Rattle.wcp_model.specs.declared.workload.Task.{Task}
+use Rattle.wcp_model.specs.Computation.{is_communication_of, is_send, communications, interval_at, message_at}
+use Rattle.wcp_model.specs.WorkloadComputation.{is_task_of, is_any_send, receives, message_number, step_of, steps_from, computation_of}
+use Rattle.wcp_model.proofs.SamePlace.{count_by_no, element_within}
+
+-- an action that sends or receives
+abbrev pub is_communication : Action → Bool
+is_communication (action.Observe holds) = false
+is_communication (action.Send to) = true
+is_communication (action.Recv from) = true
+
+-- the communications of a process: its tasks that send or receive
+abbrev pub communicates : ℕ → Task → Bool
+communicates p task = is_task_of p task && is_communication task.action
+
+-- the sends of any process
+abbrev pub sends_any : Task → Bool
+sends_any task = is_any_send task.action
+
+-- among the steps after the earlier tasks, at each place stands the step of the task there
+step_from : (order earlier tasks : List Task) (place : ℕ) (task : Task) → slice_get tasks place ≡ Some task → slice_get (steps_from order earlier tasks) place ≡ Some (step_of order (earlier ++ take place tasks) task.p task.action)
+step_from order earlier [] place task found = cc
+step_from order earlier (first ∷ rest) zero task found =
+    let same : first ≡ task = cc in
+    rw (append-nil, ← same)
+step_from order earlier (first ∷ rest) (suc place) task found =
+    step_from order (earlier ++ first ∷ []) rest place task found
+    ∙ ap (λ front. Some (step_of order front task.p task.action)) (append_assoc earlier (first ∷ []) (take place rest))
+
+-- each task has one step
+length-steps_from : (order earlier tasks : List Task) → length (steps_from order earlier tasks) ≡ length tasks
+length-steps_from order earlier [] = refl
+length-steps_from order earlier (first ∷ rest) = ap suc (length-steps_from order (earlier ++ first ∷ []) rest)
+
+-- an element of two joined lists is one of the first list, or one of the second
+slice_get-append_left : {X : Type 0} (xs ys : List X) (place : ℕ) (x : X) → slice_get xs place ≡ Some x → slice_get (xs ++ ys) place ≡ Some x
+slice_get-append_left [] ys place x found = cc
+slice_get-append_left (z ∷ zs) ys zero x found = found
+slice_get-append_left (z ∷ zs) ys (suc place) x found = slice_get-append_left zs ys place x found
+
+slice_get-append_right : {X : Type 0} (xs ys : List X) (place : ℕ) → slice_get (xs ++ ys) (length xs + place) ≡ slice_get ys place
+slice_get-append_right [] ys place = ap (slice_get ys) (zero-add place)
+slice_get-append_right (z ∷ zs) ys place = rw suc-add (slice_get-append_right zs ys place)
+
+slice_get-append_cases : {X : Type 0} (xs ys : List X) (place : ℕ) (x : X) → slice_get (xs ++ ys) place ≡ Some x → (place < length xs) ⊎ ((there : ℕ) × (slice_get ys there ≡ Some x))
+slice_get-append_cases [] ys place x found = inr (place, found)
+slice_get-append_cases (z ∷ zs) ys zero x found = inl (omega arith)
+slice_get-append_cases (z ∷ zs) ys (suc place) x found = elim (slice_get-append_cases zs ys place x found) [ inl within ↦ inl (omega arith) | inr there ↦ inr there ]
+
+-- of a list of closes each step is a close
+close_at : (processes : List ℕ) (place : ℕ) (s : Step) → slice_get (map step.Close processes) place ≡ Some s → (p : ℕ) × (step.Close p ≡ s)
+close_at [] place s found = cc
+close_at (p ∷ rest) zero s found = (p, cc)
+close_at (p ∷ rest) (suc place) s found = close_at rest place s found
+
+-- at the place of a task stands its step
+pub step_at : (n : ℕ) (order : List Task) (place : ℕ) (task : Task) → slice_get order place ≡ Some task → slice_get (computation_of n order) place ≡ Some (step_of order (take place order) task.p task.action)
+step_at n order place task found = slice_get-append_left (steps_from order [] order) (map step.Close (range_with_len 0 n)) place _ (step_from order [] order place task found)
+
+-- behind the steps of the tasks each process closes, in order
+pub close_step : (n : ℕ) (order : List Task) (p : ℕ) → p < n → slice_get (computation_of n order) (length order + p) ≡ Some (step.Close p)
+close_step n order p within =
+    let closes = map step.Close (range_with_len 0 n) in
+    ap (λ k. slice_get (computation_of n order) (k + p)) (sym (length-steps_from order [] order))
+    ∙ slice_get-append_right (steps_from order [] order) closes p
+    ∙ slice_get-get_or closes p (step.Close p) (omega (arith, length-map-range_with_len step.Close 0 n))
+    ∙ ap Some (get_or-map-range_with_len step.Close 0 n p p (step.Close p) within (omega arith))
+
+-- the computation has a step for each task and a close for each process
+pub length-computation_of : (n : ℕ) (order : List Task) → length (computation_of n order) ≡ length order + n
+length-computation_of n order = omega (arith, length-append (steps_from order [] order) (map step.Close (range_with_len 0 n)), length-steps_from order [] order, length-map-range_with_len step.Close 0 n)
+
+-- a step of the computation is that of the task at its place, or a close
+pub task_at : (n : ℕ) (order : List Task) (place : ℕ) (s : Step) → slice_get (computation_of n order) place ≡ Some s → ((task : Task) × (slice_get order place ≡ Some task) × (step_of order (take place order) task.p task.action ≡ s)) ⊎ ((p : ℕ) × (step.Close p ≡ s))
+task_at n order place s found = elim (slice_get-append_cases (steps_from order [] order) (map step.Close (range_with_len 0 n)) place s found) [
+  | inl within ↦
+      let task = element_within order place (omega (arith, length-steps_from order [] order)) in
+      let here = step_at n order place task.0 task.1 in
+      inl (task.0, task.1, cc)
+  | inr there ↦ inr (close_at (range_with_len 0 n) there.0 s there.1)
+]
+
+-- an observation, a send or a receive stands for such an action of the same process
+observes : (order earlier : List Task) (q : ℕ) (a : Action) (p : ℕ) (holds : Bool) → step_of order earlier q a ≡ step.Observe p holds → (q ≡ p) × (a ≡ action.Observe holds)
+observes order earlier q (action.Observe held) p holds same = (cc, cc)
+observes order earlier q (action.Send to) p holds same = cc
+observes order earlier q (action.Recv from) p holds same = cc
+
+sends_to : (order earlier : List Task) (q : ℕ) (a : Action) (p to : ℕ) → step_of order earlier q a ≡ step.Send p to → (q ≡ p) × (a ≡ action.Send to)
+sends_to order earlier q (action.Observe held) p to same = cc
+sends_to order earlier q (action.Send other) p to same = (cc, cc)
+sends_to order earlier q (action.Recv from) p to same = cc
+
+takes_message : (order earlier : List Task) (q : ℕ) (a : Action) (p message : ℕ) → step_of order earlier q a ≡ step.Recv p message → (from : ℕ) × (q ≡ p) × (a ≡ action.Recv from) × (message_number order from q (count_by (receives from q) earlier) ≡ message)
+takes_message order earlier q (action.Observe held) p message same = cc
+takes_message order earlier q (action.Send to) p message same = cc
+takes_message order earlier q (action.Recv from) p message same = (from, cc, refl, cc)
+
+-- a task is its process and its action
+task_is : (order : List Task) (place : ℕ) (task : Task) (p : ℕ) (a : Action) → slice_get order place ≡ Some task → task.p ≡ p → task.action ≡ a → slice_get order place ≡ Some (record { p = p; action = a })
+task_is order place task p a found process act = found ∙ ap₂ (λ q b. Some (record { p = q; action = b })) process act
+
+-- where a process observes, its task observes
+pub observe_task : (n : ℕ) (order : List Task) (place p : ℕ) (holds : Bool) → slice_get (computation_of n order) place ≡ Some (step.Observe p holds) → slice_get order place ≡ Some (record { p = p; action = action.Observe holds })
+observe_task n order place p holds found = elim (task_at n order place _ found) [
+  | inl task ↦ let same = observes order (take place order) task.0.p task.0.action p holds task.2 in task_is order place task.0 p _ task.1 same.0 same.1
+  | inr close ↦ cc close.1
+]
+
+-- where a process sends, its task sends
+pub send_task : (n : ℕ) (order : List Task) (place p to : ℕ) → slice_get (computation_of n order) place ≡ Some (step.Send p to) → slice_get order place ≡ Some (record { p = p; action = action.Send to })
+send_task n order place p to found = elim (task_at n order place _ found) [
+  | inl task ↦ let same = sends_to order (take place order) task.0.p task.0.action p to task.2 in task_is order place task.0 p _ task.1 same.0 same.1
+  | inr close ↦ cc close.1
+]
+
+-- where a process receives, its task receives, and takes the message that the sender sent it after as many others as the process received from there before
+pub receive_task : (n : ℕ) (order : List Task) (place p message : ℕ) → slice_get (computation_of n order) place ≡ Some (step.Recv p message) → (from : ℕ) × (slice_get order place ≡ Some (record { p = p; action = action.Recv from })) × (message_number order from p (count_by (receives from p) (take place order)) ≡ message)
+receive_task n order place p message found = elim (task_at n order place _ found) [
+  | inl task ↦
+      let same = takes_message order (take place order) task.0.p task.0.action p message task.2 in
+      (same.0, task_is order place task.0 p _ task.1 same.1 same.2, ap (λ q. message_number order same.0 q (count_by (receives same.0 q) (take place order))) (sym same.1) ∙ same.3)
+  | inr close ↦ cc close.1
+]
+
+-- what counts at no close counts in the steps as it does in the tasks
+count_from : (f : Step → Bool) (g : Task → Bool) (order earlier tasks : List Task) (closes : List Step) (place : ℕ) → ((front : List Task) (task : Task) → f (step_of order front task.p task.action) ≡ g task) → ((k : ℕ) → count_by f (take k closes) ≡ 0) → count_by f (take place (steps_from order earlier tasks ++ closes)) ≡ count_by g (take place tasks)
+count_from f g order earlier tasks closes zero alike none = refl
+count_from f g order earlier [] closes (suc place) alike none = none (suc place)
+count_from f g order earlier (first ∷ rest) closes (suc place) alike none =
+    sum_by-cons (λ s. cond (f s) 1 0) (step_of order earlier first.p first.action) (take place (steps_from order (earlier ++ first ∷ []) rest ++ closes))
+    ∙ ap₂ (λ b k. cond b 1 0 + k) (alike earlier first) (count_from f g order (earlier ++ first ∷ []) rest closes place alike none)
+    ∙ sym (sum_by-cons (λ t. cond (g t) 1 0) first (take place rest))
+
+-- what counts at no close counts nothing among closes
+count_closes : (f : Step → Bool) (processes : List ℕ) (place : ℕ) → ((p : ℕ) → f (step.Close p) ≡ false) → count_by f (take place (map step.Close processes)) ≡ 0
+count_closes f processes zero none = refl
+count_closes f [] (suc place) none = refl
+count_closes f (p ∷ rest) (suc place) none = count_by_no f (step.Close p) (take place (map step.Close rest)) (none p) ∙ count_closes f rest place none
+
+-- what counts at no close counts in a front of the computation as it does in the front of the order
+pub count_of_steps : (f : Step → Bool) (g : Task → Bool) (n : ℕ) (order : List Task) (place : ℕ) → ((front : List Task) (task : Task) → f (step_of order front task.p task.action) ≡ g task) → ((p : ℕ) → f (step.Close p) ≡ false) → count_by f (take place (computation_of n order)) ≡ count_by g (take place order)
+count_of_steps f g n order place alike none = count_from f g order [] order (map step.Close (range_with_len 0 n)) place alike (λ k. count_closes f (range_with_len 0 n) k none)
+
+-- a test and `true` is that test
+and_true : (b : Bool) → b ≡ (b && true)
+and_true true = refl
+and_true false = refl
+
+-- a step is a communication of a process where its task is
+communicates_is : (order front : List Task) (p q : ℕ) (a : Action) → is_communication_of p (step_of order front q a) ≡ (q == p) && is_communication a
+communicates_is order front p q (action.Observe holds) = sym (and_right (q == p) false refl)
+communicates_is order front p q (action.Send to) = and_true (q == p)
+communicates_is order front p q (action.Recv from) = and_true (q == p)
+
+-- a step is a send where its task is
+sends_any_is : (order front : List Task) (q : ℕ) (a : Action) → is_send (step_of order front q a) ≡ is_any_send a
+sends_any_is order front q (action.Observe holds) = refl
+sends_any_is order front q (action.Send to) = refl
+sends_any_is order front q (action.Recv from) = refl
+
+-- the interval at a place is the number of communications of the process in the front of the order
+pub interval_at_is : (n : ℕ) (order : List Task) (p place : ℕ) → interval_at (computation_of n order) p place ≡ count_by (communicates p) (take place order)
+interval_at_is n order p place = count_of_steps (is_communication_of p) (communicates p) n order place (λ front task. communicates_is order front p task.p task.action) (λ q. refl)
+
+-- the number of a message sent at a place is the number of sends in the front of the order
+pub message_at_is : (n : ℕ) (order : List Task) (place : ℕ) → message_at (computation_of n order) place ≡ count_by sends_any (take place order)
+message_at_is n order place = count_of_steps is_send sends_any n order place (λ front task. sends_any_is order front task.p task.action) (λ q. refl)
+
+-- the communications of a process in the whole computation are those in its tasks
+pub communications_is : (n : ℕ) (order : List Task) (p : ℕ) → communications (computation_of n order) p ≡ count_by (communicates p) order
+communications_is n order p =
+    let c = computation_of n order in
+    let long : length order ≤ length c = omega (arith, length-computation_of n order) in
+    ap (count_by (is_communication_of p)) (sym (take_all (length c) c (omega arith)))
+    ∙ interval_at_is n order p (length c)
+    ∙ ap (count_by (communicates p)) (take_all (length c) order long)
