@@ -11,3 +11,10 @@ pub mod SamePlace
 pub mod StepsOfOrder
 pub mod MessagesOfOrder
 pub mod FitOrders
+pub mod EventPlaces
+pub mod Predecessors
+pub mod Growth
+pub mod RunningClock
+pub mod RunningEmissions
+pub mod RunningLog
+pub mod StateClocks

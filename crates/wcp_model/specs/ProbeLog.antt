@@ -1,11 +1,10 @@
-use Rattle.std.specs.Prelude.{◌≡◌, ◌==◌, ℕ, ◌+◌, ◌<◌, ◌≤◌, ◌↔◌, Bool, true, false, IsTrue, List, [], ◌∷◌, ◌++◌, length, fold, filter, replicate, take, count_by, slice_get, slice_index, slice_set, Some, if◌then◌else◌}
+use Rattle.std.specs.Prelude.{◌≡◌, ◌==◌, ℕ, ◌+◌, ◌<◌, ◌↔◌, Bool, true, false, IsTrue, List, [], ◌∷◌, ◌++◌, fold, filter, replicate, slice_get, slice_index, slice_set, Some, if◌then◌else◌}
 use Rattle.wcp_clock.specs.Merge.{merged}
 use Rattle.wcp_clock.specs.declared.note.Note.{Note}
 use Rattle.wcp_clock.specs.declared.note.Note.TheVariants as note
-use Rattle.wcp_model.specs.declared.state.State.{State}
 use Rattle.wcp_model.specs.declared.step.Step.{Step}
 use Rattle.wcp_model.specs.declared.step.Step.TheVariants as step
-use Rattle.wcp_model.specs.Computation.{Computation, communications, interval_at, message_at, is_send, IsTrueState}
+use Rattle.wcp_model.specs.Computation.{Computation, communications, interval_at, message_at, IsTrueState}
 use Rattle.wcp_model.specs.StateClock.{IsStateClock}
 use Rattle.wcp_model.specs.Emission.{AreEmissions, is_closed}
 
@@ -72,9 +71,8 @@ AreCallsOf n c (s ∷ steps) [] = ⊥
 abbrev pub IsLogOf : ℕ → Computation → ℕ → List Call → Type 0
 IsLogOf n c p log = AreCallsOf n c (filter (is_step_of p) c) log
 
--- What accepted steps of n processes keep: numbers below n, each receive after the send of its message, nothing of a process after its close.
-pub record IsAccepted (n : ℕ) (c : Computation) : Type 0 where
-  pub senders : (place p to : ℕ) → slice_get c place ≡ Some (step.Send p to) → p < n
+-- What accepted steps keep: each receive stands after the send of its message, and nothing of a process after its close.
+pub record IsAccepted (c : Computation) : Type 0 where
   pub sent_first : (place p message : ℕ) → slice_get c place ≡ Some (step.Recv p message) → message < message_at c place
   pub close_last : (place later p : ℕ) (s : Step) → place < later → slice_get c place ≡ Some (step.Close p) → slice_get c later ≡ Some s → is_step_of p s ≡ false
 
@@ -86,4 +84,4 @@ pub record HasClockAndEmissions (n : ℕ) (c : Computation) (p : ℕ) (s : Probe
   pub emissions : AreEmissions n c p s.notes
 
 abbrev pub LogLaw : Type 0
-LogLaw = (n : ℕ) (c : Computation) (p : ℕ) (log : List Call) → IsAccepted n c → p < n → IsLogOf n c p log → HasClockAndEmissions n c p (state_of_log n p log)
+LogLaw = (n : ℕ) (c : Computation) (p : ℕ) (log : List Call) → IsAccepted c → p < n → IsLogOf n c p log → HasClockAndEmissions n c p (state_of_log n p log)

@@ -1,4 +1,4 @@
-use Rattle.std.specs.Prelude.{◌≡◌, ◌≢◌, ℕ, ◌+◌, ◌<◌, ◌↔◌, List, length, slice_index}
+use Rattle.std.specs.Prelude.{◌≡◌, ◌≢◌, ℕ, ◌<◌, ◌↔◌, List, length, slice_index}
 use Rattle.wcp_model.specs.declared.state.State.{State}
 use Rattle.wcp_model.specs.Computation.{Computation, IsState}
 use Rattle.wcp_model.specs.Order.{HappenedBefore}

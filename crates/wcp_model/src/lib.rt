@@ -2,18 +2,22 @@
 //! of computations, happened-before and cuts.
 #![tactic(auto)]
 
+mod clock_laws;
 mod cut_laws;
 mod fit_orders;
 mod outcome;
 mod plan;
+mod probe_log;
 mod state;
 mod step;
 mod workload;
 
+pub use clock_laws::{clock_law, states_have_clocks};
 pub use cut_laws::{least_cut_law, minimum_law};
 pub use fit_orders::fit_order_law;
 pub use outcome::{GlobalCut, Outcome, Report, Tallies, Tally};
 pub use plan::{Parent, Plan, plain_plan};
+pub use probe_log::log_law;
 pub use state::State;
 pub use step::{Reply, Step, Why};
 pub use workload::{Action, Task, Workload};

@@ -1,0 +1,170 @@
+use Rattle.std.proofs.Common.{◌≡◌, ℕ, zero, suc, ◌+◌, ◌<◌, ◌≤◌, ◌↔◌, Bool, true, cond, List, [], ◌∷◌, ◌++◌, length, take, slice_get, slice_index, count_by, Some, refl, sym, ap, ◌∙◌, subst, ⊎_elim, arith}
+use Rattle.std.proofs.lemmas.Bool.{cases_lt}
+use Rattle.std.proofs.lemmas.List.{take-append-le, take_at}
+use Rattle.std.proofs.lemmas.List.Sums.{sum_by-append}
+use Rattle.std.proofs.lemmas.Option.{slice_get_within}
+use Rattle.wcp_model.specs.declared.state.State.{State}
+use Rattle.wcp_model.specs.declared.step.Step.{Step}
+use Rattle.wcp_model.specs.declared.step.Step.TheVariants.{Observe, Send, Recv}
+use Rattle.wcp_model.specs.Computation.{Computation, IsState, IsTrueState, is_communication_of, is_send, communications, interval_at, message_at}
+use Rattle.wcp_model.specs.Order.{IsMessage, DirectlyPrecedes, Next, Message, HappenedBefore, Direct, Chain}
+use Rattle.wcp_model.specs.ProbeLog.{IsStampOf}
+use Rattle.wcp_model.specs.StateClock.{CountsBefore, IsStateClock}
+use Rattle.wcp_model.proofs.EventPlaces.{event_of_send, event_below}
+use Rattle.wcp_model.proofs.Predecessors.{before_from_state}
+use Rattle.wcp_model.proofs.Places.{count_before-mono}
+
+-- an element of the front of a list stands there in the whole
+pub get_front : {X : Type 0} (xs ys : List X) (i : ℕ) → i < length xs → slice_get (xs ++ ys) i ≡ slice_get xs i
+get_front [] ys i lt = absurd (omega arith)
+get_front (x ∷ xs) ys zero lt = refl
+get_front (x ∷ xs) ys (suc i) lt = get_front xs ys i (omega arith)
+
+-- the rest begins behind the front
+pub get_behind : {X : Type 0} (xs : List X) (y : X) (ys : List X) → slice_get (xs ++ y ∷ ys) (length xs) ≡ Some y
+get_behind [] y ys = refl
+get_behind (x ∷ xs) y ys = get_behind xs y ys
+
+-- as many elements stand before a place of the front as in the front alone
+pub count_front : {X : Type 0} (test : X → Bool) (xs ys : List X) (i : ℕ) → i ≤ length xs → count_by test (take i (xs ++ ys)) ≡ count_by test (take i xs)
+count_front test xs ys i le = ap (count_by test) (take-append-le i xs ys le)
+
+-- a place with fewer before it than the front has lies in the front
+pub in_front : {X : Type 0} (test : X → Bool) (xs ys : List X) (i : ℕ) → count_by test (take i (xs ++ ys)) < count_by test xs → i < length xs
+in_front test xs ys i few =
+    ⊎_elim (λ (lt : i < length xs). lt)
+    (λ (ge : length xs ≤ i).
+    let all : count_by test (take (length xs) (xs ++ ys)) ≡ count_by test xs = ap (count_by test) (take_at xs ys (length xs) refl) in
+    absurd (omega (arith, all, count_before-mono test (xs ++ ys) (length xs) i ge)))
+    (cases_lt i (length xs))
+
+-- a longer computation has the events of a process that it had, and more
+pub communications_grow : (c e : Computation) (p : ℕ) → communications (c ++ e) p ≡ communications c p + communications e p
+communications_grow c e p = sum_by-append (λ x. cond (is_communication_of p x) 1 0) c e
+
+-- a state stays one
+pub state_grows : (c e : Computation) (s : State) → IsState c s → IsState (c ++ e) s
+state_grows c e s exists = omega (arith, communications_grow c e s.process)
+
+-- a step of the front stands there in the whole
+pub at_grows : (c e : Computation) (place : ℕ) (x : Step) → slice_get c place ≡ Some x → slice_get (c ++ e) place ≡ Some x
+at_grows c e place x at = get_front c e place (slice_get_within c place x at) ∙ at
+
+-- the interval at its place is that of the front
+pub interval_grows : (c e : Computation) (p place : ℕ) (x : Step) → slice_get c place ≡ Some x → interval_at (c ++ e) p place ≡ interval_at c p place
+interval_grows c e p place x at = count_front (is_communication_of p) c e place (omega (arith, slice_get_within c place x at))
+
+-- and so is the number of a message that is sent there
+pub message_grows : (c e : Computation) (place : ℕ) (x : Step) → slice_get c place ≡ Some x → message_at (c ++ e) place ≡ message_at c place
+message_grows c e place x at = count_front is_send c e place (omega (arith, slice_get_within c place x at))
+
+-- a message stays one in a longer computation
+pub is_message_grows : (c e : Computation) (s t : State) → IsMessage c s t → IsMessage (c ++ e) s t
+is_message_grows c e s t m = record {
+  sent = m.sent;
+  received = m.received;
+  to = m.to;
+  later = m.later;
+  send = at_grows c e m.sent (Send s.process m.to) m.send;
+  receive = at_grows c e m.received (Recv t.process (message_at c m.sent)) m.receive
+      ∙ ap (λ message. Some (Recv t.process message)) (sym (message_grows c e m.sent (Send s.process m.to) m.send));
+  from_state = interval_grows c e s.process m.sent (Send s.process m.to) m.send ∙ m.from_state;
+  to_state = omega (arith, m.to_state, interval_grows c e t.process m.received (Recv t.process (message_at c m.sent)) m.receive);
+}
+
+-- direct precedence stays
+pub direct_grows : (c e : Computation) (s t : State) → DirectlyPrecedes c s t → DirectlyPrecedes (c ++ e) s t
+direct_grows c e s t (Next process interval exists) = Next process interval (state_grows c e t exists)
+direct_grows c e s t (Message m) = Message (is_message_grows c e s t m)
+
+-- happened-before stays
+pub before_grows : (c e : Computation) (s : State) {t : State} → HappenedBefore c s t → HappenedBefore (c ++ e) s t
+before_grows c e s {t = t} (Direct d) = Direct (direct_grows c e s t d)
+before_grows c e s {t = u} (Chain {t = t} h d) = Chain (before_grows c e s h) (direct_grows c e t u d)
+
+-- no message that begins a state is new, if the state isn't
+pub is_message_shrinks : (c e : Computation) (s t : State) → IsState c t → IsMessage (c ++ e) s t → IsMessage c s t
+is_message_shrinks c e s t exists m =
+    let received : m.received < length c = in_front (is_communication_of t.process) c e m.received (omega (arith, m.to_state)) in
+    let sent : m.sent < length c = omega (arith, m.later) in
+    record {
+      sent = m.sent;
+      received = m.received;
+      to = m.to;
+      later = m.later;
+      send = sym (get_front c e m.sent sent) ∙ m.send;
+      receive = sym (get_front c e m.received received) ∙ m.receive ∙ ap (λ message. Some (Recv t.process message)) (count_front is_send c e m.sent (omega arith));
+      from_state = sym (count_front (is_communication_of s.process) c e m.sent (omega arith)) ∙ m.from_state;
+      to_state = omega (arith, m.to_state, count_front (is_communication_of t.process) c e m.received (omega arith));
+    }
+
+-- no direct precedence of a state is new, if the state isn't
+pub direct_shrinks : (c e : Computation) (s t : State) → IsState c t → DirectlyPrecedes (c ++ e) s t → DirectlyPrecedes c s t
+direct_shrinks c e s t exists (Next process interval _) = Next process interval exists
+direct_shrinks c e s t exists (Message m) = Message (is_message_shrinks c e s t exists m)
+
+-- nothing new happened before a state that existed
+pub before_shrinks : (c e : Computation) (s : State) {t : State} → IsState c t → HappenedBefore (c ++ e) s t → HappenedBefore c s t
+before_shrinks c e s {t = t} exists (Direct d) = Direct (direct_shrinks c e s t exists d)
+before_shrinks c e s {t = u} exists (Chain {t = t} h d) =
+    let link : DirectlyPrecedes c t u = direct_shrinks c e t u exists d in
+    Chain (before_shrinks c e s (before_from_state c t (Direct link)) h) link
+
+-- the order before a state that exists is settled
+pub order_settled : (c e : Computation) (s t : State) → IsState c t → HappenedBefore c s t ↔ HappenedBefore (c ++ e) s t
+order_settled c e s t exists = (before_grows c e s, before_shrinks c e s exists)
+
+-- its clock stays
+pub clock_grows : (n : ℕ) (c e : Computation) (s : State) (clock : List ℕ) → IsState c s → IsStateClock n c s clock → IsStateClock n (c ++ e) s clock
+clock_grows n c e s clock exists is = record {
+  components = is.components;
+  own = is.own;
+  others = λ q in_range other l.
+      let counts : CountsBefore c s q (slice_index clock q) = is.others q in_range other in
+      (λ h. (counts l).0 (before_shrinks c e (record { process = q; interval = l }) exists h), λ below. before_grows c e (record { process = q; interval = l }) ((counts l).1 below));
+}
+
+-- and is the one that it had
+pub clock_shrinks : (n : ℕ) (c e : Computation) (s : State) (clock : List ℕ) → IsState c s → IsStateClock n (c ++ e) s clock → IsStateClock n c s clock
+clock_shrinks n c e s clock exists is = record {
+  components = is.components;
+  own = is.own;
+  others = λ q in_range other l.
+      let counts : CountsBefore (c ++ e) s q (slice_index clock q) = is.others q in_range other in
+      (λ h. (counts l).0 (before_grows c e (record { process = q; interval = l }) h), λ below. before_shrinks c e (record { process = q; interval = l }) exists ((counts l).1 below));
+}
+
+-- a true state stays true
+pub true_state_grows : (c e : Computation) (s : State) → IsTrueState c s → IsTrueState (c ++ e) s
+true_state_grows c e s is = record {
+  place = is.place;
+  observed = at_grows c e is.place (Observe s.process true) is.observed;
+  within = interval_grows c e s.process is.place (Observe s.process true) is.observed ∙ is.within;
+}
+
+-- a state that was over becomes true no more
+pub true_state_shrinks : (c e : Computation) (s : State) → s.interval < communications c s.process → IsTrueState (c ++ e) s → IsTrueState c s
+true_state_shrinks c e s over is =
+    let place : is.place < length c = in_front (is_communication_of s.process) c e is.place (omega (arith, is.within)) in
+    record {
+      place = is.place;
+      observed = sym (get_front c e is.place place) ∙ is.observed;
+      within = sym (count_front (is_communication_of s.process) c e is.place (omega arith)) ∙ is.within;
+    }
+
+-- the stamp of a message that the front sends is settled
+pub stamp_shrinks : (n : ℕ) (c e : Computation) (message : ℕ) (stamp : List ℕ) → message < count_by is_send c → IsStampOf n (c ++ e) message stamp → IsStampOf n c message stamp
+stamp_shrinks n c e message stamp sent is =
+    let place : is.sent < length c = in_front is_send c e is.sent (omega (arith, is.number)) in
+    let send : slice_get c is.sent ≡ Some (Send is.from is.to) = sym (get_front c e is.sent place) ∙ is.send in
+    let same : interval_at (c ++ e) is.from is.sent ≡ interval_at c is.from is.sent = interval_grows c e is.from is.sent (Send is.from is.to) send in
+    record {
+      sent = is.sent;
+      from = is.from;
+      to = is.to;
+      send = send;
+      number = sym (count_front is_send c e is.sent (omega arith)) ∙ is.number;
+      clock = clock_shrinks n c e (record { process = is.from; interval = interval_at c is.from is.sent + 1 }) stamp
+          (omega (arith, event_below c is.from (interval_at c is.from is.sent) is.sent (event_of_send c is.from (interval_at c is.from is.sent) is.to is.sent send refl)))
+          (subst (λ k. IsStateClock n (c ++ e) (record { process = is.from; interval = k + 1 }) stamp) same is.clock);
+    }

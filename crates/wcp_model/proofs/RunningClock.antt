@@ -1,0 +1,101 @@
+use Rattle.std.proofs.Common.{◌≡◌, ◌≢◌, ℕ, zero, suc, ◌+◌, ◌<◌, ◌≤◌, ◌↔◌, max, List, [], ◌∷◌, length, replicate, slice_get, slice_index, slice_set, Some, refl, sym, ap, ◌∙◌, subst, inr, ⊎_elim, arith}
+use Rattle.std.proofs.lemmas.Bool.{cases_lt, cases_eq}
+use Rattle.std.proofs.lemmas.List.{length-set, length-replicate, get_or-replicate, get_or-set_same, get_or-set_other}
+use Rattle.wcp_clock.specs.Merge.{merged}
+use Rattle.wcp_model.specs.declared.state.State.{State}
+use Rattle.wcp_model.specs.declared.step.Step.TheVariants.{Send}
+use Rattle.wcp_model.specs.Computation.{Computation, IsState, interval_at}
+use Rattle.wcp_model.specs.Order.{IsMessage, DirectlyPrecedes, Next, Message, HappenedBefore, Direct}
+use Rattle.wcp_model.specs.StateClock.{CountsBefore, IsStateClock}
+use Rattle.wcp_model.proofs.EventPlaces.{event_of_send, event_below}
+use Rattle.wcp_model.proofs.Predecessors.{local_state, before_rises, before_later, only_before_send, only_before_receive}
+use Rattle.wcp_model.proofs.Reached.{AtOrAfter, one_more_step, before_to_state, before_to_later}
+
+-- the merge of two lists of one length has that length
+pub length_merged : (v w : List ℕ) → length v ≡ length w → length (merged v w) ≡ length v
+length_merged [] w same = refl
+length_merged (x ∷ xs) [] same = absurd (omega arith)
+length_merged (x ∷ xs) (y ∷ ys) same = ap suc (length_merged xs ys (omega arith))
+
+-- and the greater of each two components
+pub merged_at : (v w : List ℕ) (q : ℕ) → length v ≡ length w → slice_index (merged v w) q ≡ max (slice_index v q) (slice_index w q)
+merged_at [] [] q same = refl
+merged_at [] (y ∷ ys) q same = absurd (omega arith)
+merged_at (x ∷ xs) [] q same = absurd (omega arith)
+merged_at (x ∷ xs) (y ∷ ys) zero same = refl
+merged_at (x ∷ xs) (y ∷ ys) (suc q) same = merged_at xs ys q (omega arith)
+
+-- the first state of a process has a clock of zeros
+pub clock_at_first : (n : ℕ) (c : Computation) (p : ℕ) → p < n → IsStateClock n c (local_state p 0) (replicate n 0)
+clock_at_first n c p in_range = record {
+  components = length-replicate n 0;
+  own = get_or-replicate {A = ℕ} n p 0 0 in_range;
+  others = λ q q_in_range other l.
+      (λ h. absurd (omega (arith, before_to_later h)), λ below. absurd (omega (arith, get_or-replicate {A = ℕ} n q 0 0 q_in_range)));
+}
+
+-- of its own process too, a clock counts the states that happened before
+pub clock_counts : (n : ℕ) (c : Computation) (s : State) (clock : List ℕ) (q : ℕ) → IsState c s → IsStateClock n c s clock → q < n → CountsBefore c s q (slice_index clock q)
+clock_counts n c s clock q exists is in_range =
+    ⊎_elim (λ (e : q ≡ s.process).
+    let own : slice_index clock q ≡ s.interval = ap (slice_index clock) e ∙ is.own in
+    subst (CountsBefore c s q) (sym own) (subst (λ p. CountsBefore c s p s.interval) (sym e)
+    (λ l. (before_rises c s.process l s.interval, λ below. before_later c s.process l s.interval below exists))))
+    (λ (other : q ≡ s.process → ⊥). is.others q in_range other)
+    (cases_eq q s.process)
+
+-- what the state behind a send counts is the sender's state and what happened before it
+pub sender_counts : (n : ℕ) (c : Computation) (p k to place : ℕ) (clock : List ℕ) (q l : ℕ) → slice_get c place ≡ Some (Send p to) → interval_at c p place ≡ k → IsStateClock n c (local_state p (k + 1)) clock → q < n →
+    AtOrAfter c (local_state q l) (local_state p k) ↔ (l < slice_index clock q)
+sender_counts n c p k to place clock q l at number is in_range =
+    let exists : IsState c (local_state p (k + 1)) = omega (arith, event_below c p k place (event_of_send c p k to place at number)) in
+    let counts : CountsBefore c (local_state p (k + 1)) q (slice_index clock q) = clock_counts n c (local_state p (k + 1)) clock q exists is in_range in
+    (λ h. (counts l).0 (one_more_step c (local_state q l) (local_state p k) (local_state p (k + 1)) h (Next refl refl exists)), λ below. only_before_send c (local_state q l) p k to place at number ((counts l).1 below))
+
+-- a component that was set to one more
+ticked : (n : ℕ) (c : Computation) (p k : ℕ) (old clock : List ℕ) → p < n → length clock ≡ n → slice_index old p ≡ k →
+    ((q : ℕ) → q < n → q ≢ p → CountsBefore c (local_state p (k + 1)) q (slice_index clock q)) → IsStateClock n c (local_state p (k + 1)) (slice_set clock p (slice_index old p + 1))
+ticked n c p k old clock in_range components own others = record {
+  components = length-set clock p (slice_index old p + 1) ∙ components;
+  own = get_or-set_same clock p (slice_index old p + 1) 0 (omega arith) ∙ ap (λ j. j + 1) own;
+  others = λ q q_in_range other. subst (CountsBefore c (local_state p (k + 1)) q) (sym (get_or-set_other clock p q (slice_index old p + 1) 0 other)) (others q q_in_range other);
+}
+
+-- at a send the clock ticks
+pub clock_after_send : (n : ℕ) (c : Computation) (p k to place : ℕ) (clock : List ℕ) → p < n → slice_get c place ≡ Some (Send p to) → interval_at c p place ≡ k → IsStateClock n c (local_state p k) clock →
+    IsStateClock n c (local_state p (k + 1)) (slice_set clock p (slice_index clock p + 1))
+clock_after_send n c p k to place clock in_range at number is =
+    let exists : IsState c (local_state p (k + 1)) = omega (arith, event_below c p k place (event_of_send c p k to place at number)) in
+    ticked n c p k clock clock in_range is.components is.own (λ q q_in_range other l. (
+      λ h. ⊎_elim (λ (e : local_state q l ≡ local_state p k). absurd (other (ap (λ (s : State). s.process) e)))
+          (λ (g : HappenedBefore c (local_state q l) (local_state p k)). (is.others q q_in_range other l).0 g)
+          (only_before_send c (local_state q l) p k to place at number h),
+      λ below. one_more_step c (local_state q l) (local_state p k) (local_state p (k + 1)) (inr ((is.others q q_in_range other l).1 below)) (Next refl refl exists),
+    ))
+
+-- a state of another process that happened before the state behind a receive is counted by the clock or by the stamp
+receive_counts : (n : ℕ) (c : Computation) (r : State) (p k : ℕ) (clock stamp : List ℕ) (q l : ℕ) → IsMessage c r (local_state p (k + 1)) → IsStateClock n c (local_state p k) clock →
+    IsStateClock n c (local_state r.process (r.interval + 1)) stamp → q < n → q ≢ p → HappenedBefore c (local_state q l) (local_state p (k + 1)) ↔ (l < max (slice_index clock q) (slice_index stamp q))
+receive_counts n c r p k clock stamp q l m is sent in_range other =
+    let link : DirectlyPrecedes c r (local_state p (k + 1)) = Message m in
+    let own : HappenedBefore c (local_state q l) (local_state p k) ↔ (l < slice_index clock q) = is.others q in_range other l in
+    let theirs : AtOrAfter c (local_state q l) r ↔ (l < slice_index stamp q) = sender_counts n c r.process r.interval m.to m.sent stamp q l m.send m.from_state sent in_range in (
+      λ h. ⊎_elim
+          (⊎_elim (λ (e : local_state q l ≡ local_state p k). absurd (other (ap (λ (s : State). s.process) e)))
+          (λ (g : HappenedBefore c (local_state q l) (local_state p k)). let below : l < slice_index clock q = own.0 g in omega arith))
+          (λ (g : AtOrAfter c (local_state q l) r). let below : l < slice_index stamp q = theirs.0 g in omega arith)
+          (only_before_receive c (local_state q l) r p k m h),
+      λ below. ⊎_elim
+          (λ (lt : l < slice_index clock q).
+          one_more_step c (local_state q l) (local_state p k) (local_state p (k + 1)) (inr (own.1 lt)) (Next refl refl (before_to_state (Direct link))))
+          (λ (ge : slice_index clock q ≤ l). one_more_step c (local_state q l) r (local_state p (k + 1)) (theirs.1 (omega arith)) link)
+          (cases_lt l (slice_index clock q)),
+    )
+
+-- at a receive the clock takes the greater of each other component, and ticks
+pub clock_after_receive : (n : ℕ) (c : Computation) (r : State) (p k : ℕ) (clock stamp : List ℕ) → p < n → IsMessage c r (local_state p (k + 1)) → IsStateClock n c (local_state p k) clock →
+    IsStateClock n c (local_state r.process (r.interval + 1)) stamp → IsStateClock n c (local_state p (k + 1)) (slice_set (merged clock stamp) p (slice_index clock p + 1))
+clock_after_receive n c r p k clock stamp in_range m is sent =
+    let lengths : length clock ≡ length stamp = is.components ∙ sym sent.components in
+    ticked n c p k clock (merged clock stamp) in_range (length_merged clock stamp lengths ∙ is.components) is.own (λ q q_in_range other.
+    subst (CountsBefore c (local_state p (k + 1)) q) (sym (merged_at clock stamp q lengths)) (λ l. receive_counts n c r p k clock stamp q l m is sent q_in_range other))

@@ -1,0 +1,154 @@
+use Rattle.std.proofs.Common.{◌≡◌, ℕ, ◌+◌, ◌<◌, ◌≤◌, ◌⊎◌, true, false, if◌then◌else◌, List, [], ◌∷◌, ◌++◌, length, slice_get, slice_index, slice_index_or, count_by, Contains, refl, sym, ap, ap₂, ◌∙◌, subst, subst₂, zero-add, inl, inr, ⊎_elim, append-nil, arith}
+use Rattle.std.proofs.lemmas.Bool.{cases_lt}
+use Rattle.std.proofs.lemmas.List.{length_push, get_or_append_left, get_or_push, take_at}
+use Rattle.std.proofs.lemmas.List.Elements.{Contains-get_or, Contains-append_left, Contains-push, Contains-push_cases}
+use Rattle.std.proofs.lemmas.Option.{slice_get_within}
+use Rattle.std.specs.List.Sorted.{IsStrictlyIncreasing}
+use Rattle.wcp_clock.specs.declared.note.Note.{Note}
+use Rattle.wcp_clock.specs.declared.note.Note.TheVariants as note
+use Rattle.wcp_model.specs.declared.state.State.{State}
+use Rattle.wcp_model.specs.declared.step.Step.{Step}
+use Rattle.wcp_model.specs.declared.step.Step.TheVariants as step
+use Rattle.wcp_model.specs.Computation.{Computation, IsState, IsTrueState, AreTrueStates, is_communication_of, communications, interval_at}
+use Rattle.wcp_model.specs.Emission.{is_closed, snapshots_from, AreEmissions}
+use Rattle.wcp_model.specs.StateClock.{IsStateClock}
+use Rattle.wcp_model.proofs.Predecessors.{local_state}
+use Rattle.wcp_model.proofs.Reached.{interval_at-le}
+use Rattle.wcp_model.proofs.Growth.{get_behind, clock_grows, true_state_grows, get_front, count_front}
+
+-- the process is in its last interval at the end of the front
+pub interval_at_seam : (c e : Computation) (p : ℕ) → interval_at (c ++ e) p (length c) ≡ communications c p
+interval_at_seam c e p = ap (count_by (is_communication_of p)) (take_at c e (length c) refl)
+
+-- a true state exists
+pub true_state_exists : (c : Computation) (s : State) → IsTrueState c s → IsState c s
+true_state_exists c s is = omega (arith, is.within, interval_at-le c s.process is.place)
+
+-- a state is true after one more step if it was before, or if the step is a true observation in it
+pub true_state_cases : (c : Computation) (x : Step) (s : State) → IsTrueState (c ++ x ∷ []) s → IsTrueState c s ⊎ ((x ≡ step.Observe s.process true) × (communications c s.process ≡ s.interval))
+true_state_cases c x s is =
+    ⊎_elim (λ (lt : is.place < length c). inl (record {
+      place = is.place;
+      observed = sym (get_front c (x ∷ []) is.place lt) ∙ is.observed;
+      within = sym (count_front (is_communication_of s.process) c (x ∷ []) is.place (omega arith)) ∙ is.within;
+    }))
+    (λ (ge : length c ≤ is.place).
+    let last : is.place ≡ length c = omega (arith, slice_get_within (c ++ x ∷ []) is.place (step.Observe s.process true) is.observed, length_push c x) in
+    inr (cc (get_behind c x [], is.observed, ap (slice_get (c ++ x ∷ [])) last), sym (interval_at_seam c (x ∷ []) s.process) ∙ ap (interval_at (c ++ x ∷ []) s.process) (sym last) ∙ is.within))
+    (cases_lt is.place (length c))
+
+-- the snapshots from a number on, and one more
+pub snapshots_push : (number : ℕ) (clocks : List (List ℕ)) (clock : List ℕ) → snapshots_from number (clocks ++ clock ∷ []) ≡ snapshots_from number clocks ++ note.Snap (number + length clocks) clock ∷ []
+snapshots_push number [] clock = ap (λ k. note.Snap k clock ∷ []) (omega arith)
+snapshots_push number (first ∷ clocks) clock =
+    ap (λ notes. note.Snap number first ∷ notes) (snapshots_push (number + 1) clocks clock
+    ∙ ap (λ k. snapshots_from (number + 1) clocks ++ note.Snap k clock ∷ []) (omega arith))
+
+-- what a process has emitted, and how many of these notes are snapshots
+pub record HasEmitted (n : ℕ) (c : Computation) (p snapshots : ℕ) (notes : List Note) : Type 0 where
+  pub intervals : List ℕ
+  pub true_states : AreTrueStates c p intervals
+  pub clocks : List (List ℕ)
+  pub same_length : length clocks ≡ length intervals
+  pub each : (i : ℕ) → i < length intervals → IsStateClock n c (local_state p (slice_index intervals i)) (slice_index_or clocks i [])
+  pub counted : snapshots ≡ length clocks
+  pub notes_are : notes ≡ snapshots_from 0 clocks ++ (if is_closed c p then note.Close (length clocks) ∷ [] else [])
+
+-- these are the process's emissions
+pub emissions_of : (n : ℕ) (c : Computation) (p snapshots : ℕ) (notes : List Note) → HasEmitted n c p snapshots notes → AreEmissions n c p notes
+emissions_of n c p snapshots notes h = record { intervals = h.intervals; true_states = h.true_states; clocks = h.clocks; same_length = h.same_length; each = h.each; notes_are = h.notes_are }
+
+-- no true state is new
+abbrev pub NoneNew : Computation → Computation → ℕ → Type 0
+NoneNew c e p = (k : ℕ) → IsTrueState (c ++ e) (local_state p k) → IsTrueState c (local_state p k)
+
+-- the clocks of true states are settled
+clocks_stay : (n : ℕ) (c e : Computation) (p snapshots : ℕ) (notes : List Note) (h : HasEmitted n c p snapshots notes) →
+    (i : ℕ) → i < length h.intervals → IsStateClock n (c ++ e) (local_state p (slice_index h.intervals i)) (slice_index_or h.clocks i [])
+clocks_stay n c e p snapshots notes h i lt =
+    clock_grows n c e (local_state p (slice_index h.intervals i)) (slice_index_or h.clocks i [])
+    (true_state_exists c (local_state p (slice_index h.intervals i)) ((h.true_states.each (slice_index h.intervals i)).0 (Contains-get_or h.intervals i 0 lt)))
+    (h.each i lt)
+
+-- where no true state is new, the true states stay
+true_states_stay : (c e : Computation) (p : ℕ) (intervals : List ℕ) → NoneNew c e p → AreTrueStates c p intervals → AreTrueStates (c ++ e) p intervals
+true_states_stay c e p intervals none are = record {
+  rising = are.rising;
+  each = λ k. (λ contains. true_state_grows c e (local_state p k) ((are.each k).0 contains), λ is. (are.each k).1 (none k is));
+}
+
+-- and so does what was emitted
+pub emitted_stays : (n : ℕ) (c e : Computation) (p snapshots : ℕ) (notes : List Note) → NoneNew c e p → is_closed (c ++ e) p ≡ is_closed c p → HasEmitted n c p snapshots notes → HasEmitted n (c ++ e) p snapshots notes
+emitted_stays n c e p snapshots notes none closed h = record {
+  intervals = h.intervals;
+  true_states = true_states_stay c e p h.intervals none h.true_states;
+  clocks = h.clocks;
+  same_length = h.same_length;
+  each = clocks_stay n c e p snapshots notes h;
+  counted = h.counted;
+  notes_are = h.notes_are ∙ ap (λ b. snapshots_from 0 h.clocks ++ (if b then note.Close (length h.clocks) ∷ [] else [])) (sym closed);
+}
+
+-- a process that is open has emitted its snapshots alone
+open_notes : (n : ℕ) (c : Computation) (p snapshots : ℕ) (notes : List Note) (h : HasEmitted n c p snapshots notes) → is_closed c p ≡ false → notes ≡ snapshots_from 0 h.clocks
+open_notes n c p snapshots notes h is_open =
+    h.notes_are ∙ ap (λ b. snapshots_from 0 h.clocks ++ (if b then note.Close (length h.clocks) ∷ [] else [])) is_open ∙ append-nil (snapshots_from 0 h.clocks)
+
+-- a close emits a mark that counts the snapshots
+pub emitted_close : (n : ℕ) (c e : Computation) (p snapshots : ℕ) (notes : List Note) → NoneNew c e p → is_closed c p ≡ false → is_closed (c ++ e) p ≡ true → HasEmitted n c p snapshots notes →
+    HasEmitted n (c ++ e) p snapshots (notes ++ note.Close snapshots ∷ [])
+emitted_close n c e p snapshots notes none was_open closed h = record {
+  intervals = h.intervals;
+  true_states = true_states_stay c e p h.intervals none h.true_states;
+  clocks = h.clocks;
+  same_length = h.same_length;
+  each = clocks_stay n c e p snapshots notes h;
+  counted = h.counted;
+  notes_are = ap₂ (λ before count. before ++ note.Close count ∷ []) (open_notes n c p snapshots notes h was_open) h.counted
+      ∙ ap (λ b. snapshots_from 0 h.clocks ++ (if b then note.Close (length h.clocks) ∷ [] else [])) (sym closed);
+}
+
+-- numbers that rise, and one above them
+rising_push : (xs : List ℕ) (k : ℕ) → IsStrictlyIncreasing xs → ((i : ℕ) → i < length xs → slice_index xs i < k) → IsStrictlyIncreasing (xs ++ k ∷ [])
+rising_push xs k rising above i below =
+    let here : slice_index (xs ++ k ∷ []) i ≡ slice_index xs i = get_or_append_left xs (k ∷ []) 0 i (omega (arith, length_push xs k)) in
+    ⊎_elim (λ (lt : i + 1 < length xs). omega (arith, here, get_or_append_left xs (k ∷ []) 0 (i + 1) lt, rising i lt))
+    (λ (ge : length xs ≤ i + 1).
+    omega (arith, here, above i (omega (arith, length_push xs k)), get_or_push xs k 0 (i + 1) (omega (arith, length_push xs k))))
+    (cases_lt (i + 1) (length xs))
+
+-- a first true observation of an interval emits its snapshot
+pub emitted_snapshot : (n : ℕ) (c e : Computation) (p k snapshots : ℕ) (notes : List Note) (clock : List ℕ) → is_closed c p ≡ false → is_closed (c ++ e) p ≡ false →
+    ((j : ℕ) → IsTrueState c (local_state p j) → j < k) → ((j : ℕ) → IsTrueState (c ++ e) (local_state p j) → IsTrueState c (local_state p j) ⊎ (k ≡ j)) →
+    IsTrueState (c ++ e) (local_state p k) → IsStateClock n (c ++ e) (local_state p k) clock → HasEmitted n c p snapshots notes →
+    HasEmitted n (c ++ e) p (snapshots + 1) (notes ++ note.Snap snapshots clock ∷ [])
+emitted_snapshot n c e p k snapshots notes clock was_open still_open below new is clock_is h = record {
+  intervals = h.intervals ++ k ∷ [];
+  true_states = record {
+    rising = rising_push h.intervals k h.true_states.rising
+        (λ i lt. below (slice_index h.intervals i) ((h.true_states.each (slice_index h.intervals i)).0 (Contains-get_or h.intervals i 0 lt)));
+    each = λ j. (
+      λ contains. ⊎_elim (λ (old : Contains h.intervals j). true_state_grows c e (local_state p j) ((h.true_states.each j).0 old))
+          (λ (same : k ≡ j). subst (λ i. IsTrueState (c ++ e) (local_state p i)) same is)
+          (Contains-push_cases h.intervals k j contains),
+      λ truth. ⊎_elim (λ (old : IsTrueState c (local_state p j)). Contains-append_left h.intervals (k ∷ []) j ((h.true_states.each j).1 old))
+          (λ (same : k ≡ j). subst (Contains (h.intervals ++ k ∷ [])) same (Contains-push h.intervals k))
+          (new j truth),
+    );
+  };
+  clocks = h.clocks ++ clock ∷ [];
+  same_length = length_push h.clocks clock ∙ ap (λ i. i + 1) h.same_length ∙ sym (length_push h.intervals k);
+  each = λ i lt.
+      ⊎_elim (λ (old : i < length h.intervals).
+      subst₂ (λ j v. IsStateClock n (c ++ e) (local_state p j) v) (sym (get_or_append_left h.intervals (k ∷ []) 0 i old)) (sym (get_or_append_left h.clocks (clock ∷ []) [] i (omega (arith, h.same_length))))
+      (clocks_stay n c e p snapshots notes h i old))
+      (λ (past : length h.intervals ≤ i).
+      let last : length h.intervals ≡ i = omega (arith, length_push h.intervals k) in
+      subst₂ (λ j v. IsStateClock n (c ++ e) (local_state p j) v) (sym (get_or_push h.intervals k 0 i last)) (sym (get_or_push h.clocks clock [] i (h.same_length ∙ last))) clock_is)
+      (cases_lt i (length h.intervals));
+  counted = ap (λ i. i + 1) h.counted ∙ sym (length_push h.clocks clock);
+  notes_are = ap₂ (λ before count. before ++ note.Snap count clock ∷ []) (open_notes n c p snapshots notes h was_open) (h.counted ∙ sym (zero-add (length h.clocks)))
+      ∙ sym (snapshots_push 0 h.clocks clock)
+      ∙ sym (append-nil (snapshots_from 0 (h.clocks ++ clock ∷ [])))
+      ∙ ap (λ b. snapshots_from 0 (h.clocks ++ clock ∷ []) ++ (if b then note.Close (length (h.clocks ++ clock ∷ [])) ∷ [] else [])) (sym still_open);
+}

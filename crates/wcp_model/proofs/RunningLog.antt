@@ -1,0 +1,255 @@
+use Rattle.std.proofs.Common.{◌≡◌, ℕ, ◌+◌, ◌<◌, ◌↔◌, IsTrue, Bool, true, false, true≢false, cond, ◌||◌, List, [], ◌∷◌, ◌++◌, length, fold, filter, slice_get, slice_index, slice_set, count_by, Some, refl, sym, ap, ◌∙◌, subst, inl, inr, ⊎_elim, append_assoc, append-nil, eqb-true, eq-eqb, le_refl, ◌≤◌, arith}
+use Rattle.std.proofs.lemmas.Bool.{cases_Bool, cases_lt, cond_both, false_from_ne_true}
+use Rattle.std.proofs.lemmas.List.{take_at}
+use Rattle.std.proofs.lemmas.List.Folds.{list_any-append, Any-from_list_any}
+use Rattle.std.proofs.lemmas.List.Sums.{sum_by_push}
+use Rattle.std.proofs.lemmas.Option.{slice_get-get_or, slice_get_within}
+use Rattle.std.specs.List.{Any}
+use Rattle.wcp_clock.specs.Merge.{merged}
+use Rattle.wcp_clock.specs.declared.note.Note.TheVariants as note
+use Rattle.wcp_model.specs.declared.step.Step.{Step}
+use Rattle.wcp_model.specs.declared.step.Step.TheVariants.{Observe, Send, Recv, Close}
+use Rattle.wcp_model.specs.Computation.{Computation, IsTrueState, is_communication_of, is_send, communications, interval_at}
+use Rattle.wcp_model.specs.Emission.{is_close_of, is_closed}
+use Rattle.wcp_model.specs.Order.{IsMessage}
+use Rattle.wcp_model.specs.ProbeLog.{Call, Observed, Sent, Received, Closed, ProbeState, after_call, state_of_log, is_step_of, IsStampOf, IsCallOf, AreCallsOf, IsAccepted, LogLaw}
+use Rattle.wcp_model.specs.StateClock.{IsStateClock}
+use Rattle.wcp_model.proofs.EventPlaces.{event_of_send, event_below}
+use Rattle.wcp_model.proofs.Predecessors.{local_state}
+use Rattle.wcp_model.proofs.Growth.{get_behind, at_grows, interval_grows, message_grows, clock_grows, stamp_shrinks, true_state_grows}
+use Rattle.wcp_model.proofs.RunningClock.{clock_at_first, clock_after_send, clock_after_receive}
+use Rattle.wcp_model.proofs.RunningEmissions.{interval_at_seam, true_state_exists, true_state_cases, NoneNew, HasEmitted, emissions_of, emitted_stays, emitted_close, emitted_snapshot}
+
+-- what the probe of a process has come to after a computation
+pub record IsStateAfter (n : ℕ) (c : Computation) (p : ℕ) (s : ProbeState) : Type 0 where
+  pub clock : IsStateClock n c (local_state p (communications c p)) s.clock
+  pub flag : IsTrue s.flag ↔ IsTrueState c (local_state p (communications c p))
+  pub closed : s.closed ≡ is_closed c p
+  pub emitted : HasEmitted n c p s.snapshots s.notes
+
+-- one more step: the process has one more event, or none
+communications_push : (c : Computation) (x : Step) (p one : ℕ) → cond (is_communication_of p x) 1 0 ≡ one → communications (c ++ x ∷ []) p ≡ communications c p + one
+communications_push c x p one here = sum_by_push (λ y. cond (is_communication_of p y) 1 0) c x ∙ ap (λ k. communications c p + k) here
+
+-- a test that fails at the last element adds nothing, and one that passes settles the answer
+or_neither : (a b : Bool) → b ≡ false → (a || (b || false)) ≡ a
+or_neither true b e = refl
+or_neither false true e = e
+or_neither false false e = refl
+
+or_second : (a b : Bool) → b ≡ true → (a || (b || false)) ≡ true
+or_second true b e = refl
+or_second false true e = refl
+or_second false false e = e
+
+-- a step that is no close of the process leaves it as it was
+closed_stays : (c : Computation) (x : Step) (p : ℕ) → is_close_of p x ≡ false → is_closed (c ++ x ∷ []) p ≡ is_closed c p
+closed_stays c x p other = list_any-append (is_close_of p) c (x ∷ []) ∙ or_neither (is_closed c p) (is_close_of p x) other
+
+-- its close closes it
+closed_now : (c : Computation) (p : ℕ) → is_closed (c ++ Close p ∷ []) p ≡ true
+closed_now c p = list_any-append (is_close_of p) c (Close p ∷ []) ∙ or_second (is_closed c p) (is_close_of p (Close p)) (eq-eqb p p refl)
+
+-- a step that is no true observation makes no state true
+none_new : (c : Computation) (x : Step) (p : ℕ) → (x ≡ Observe p true → ⊥) → NoneNew c (x ∷ []) p
+none_new c x p other k is = ⊎_elim (λ (old : IsTrueState c (local_state p k)). old) (λ new. absurd (other new.0)) (true_state_cases c x (local_state p k) is)
+
+-- the last state's clock stays while the process has no new event
+clock_stays : (n : ℕ) (c : Computation) (x : Step) (p : ℕ) (clock : List ℕ) → is_communication_of p x ≡ false → IsStateClock n c (local_state p (communications c p)) clock →
+    IsStateClock n (c ++ x ∷ []) (local_state p (communications (c ++ x ∷ []) p)) clock
+clock_stays n c x p clock quiet is =
+    subst (λ k. IsStateClock n (c ++ x ∷ []) (local_state p k) clock) (omega (arith, communications_push c x p 0 (ap (λ b. cond b 1 0) quiet)))
+    (clock_grows n c (x ∷ []) (local_state p (communications c p)) clock (le_refl (communications c p)) is)
+
+-- a step that is no event of the process, and makes none of its states true
+stays : (n : ℕ) (c : Computation) (x : Step) (p : ℕ) (s : ProbeState) → is_communication_of p x ≡ false → is_close_of p x ≡ false → NoneNew c (x ∷ []) p → IsStateAfter n c p s → IsStateAfter n (c ++ x ∷ []) p s
+stays n c x p s quiet other none h =
+    let k : ℕ = communications c p in
+    record {
+      clock = clock_stays n c x p s.clock quiet h.clock;
+      flag = subst (λ l. IsTrue s.flag ↔ IsTrueState (c ++ x ∷ []) (local_state p l)) (omega (arith, communications_push c x p 0 (ap (λ b. cond b 1 0) quiet)))
+          (λ set. true_state_grows c (x ∷ []) (local_state p k) (h.flag.0 set), λ is. h.flag.1 (none k is));
+      closed = h.closed ∙ sym (closed_stays c x p other);
+      emitted = emitted_stays n c (x ∷ []) p s.snapshots s.notes none (closed_stays c x p other) h.emitted;
+    }
+
+-- an event begins a state, with a clock of its own, that isn't true yet
+begins : (n : ℕ) (c : Computation) (x : Step) (p : ℕ) (s : ProbeState) (clock : List ℕ) → is_communication_of p x ≡ true → is_close_of p x ≡ false → NoneNew c (x ∷ []) p →
+    IsStateClock n (c ++ x ∷ []) (local_state p (communications c p + 1)) clock → IsStateAfter n c p s → IsStateAfter n (c ++ x ∷ []) p (record s { clock = clock; flag = false })
+begins n c x p s clock event other none clock_is h =
+    let more : communications (c ++ x ∷ []) p ≡ communications c p + 1 = communications_push c x p 1 (ap (λ b. cond b 1 0) event) in
+    record {
+      clock = subst (λ k. IsStateClock n (c ++ x ∷ []) (local_state p k) clock) (sym more) clock_is;
+      flag = (
+        λ set. absurd (true≢false (sym set)),
+        λ is. absurd (omega (arith, more, true_state_exists c (local_state p (communications (c ++ x ∷ []) p)) (none (communications (c ++ x ∷ []) p) is))),
+      );
+      closed = h.closed ∙ sym (closed_stays c x p other);
+      emitted = emitted_stays n c (x ∷ []) p s.snapshots s.notes none (closed_stays c x p other) h.emitted;
+    }
+
+-- the first true observation of an interval
+observes_first : (n : ℕ) (c : Computation) (p : ℕ) (s : ProbeState) → is_closed c p ≡ false → s.flag ≡ false → IsStateAfter n c p s →
+    IsStateAfter n (c ++ Observe p true ∷ []) p (record s { flag = true; snapshots = s.snapshots + 1; notes = s.notes ++ note.Snap s.snapshots s.clock ∷ [] })
+observes_first n c p s is_open clear h =
+    let d : Computation = c ++ Observe p true ∷ [] in
+    let k : ℕ = communications c p in
+    let now : IsTrueState d (local_state p k) = record { place = length c; observed = get_behind c (Observe p true) []; within = interval_at_seam c (Observe p true ∷ []) p } in
+    record {
+      clock = clock_stays n c (Observe p true) p s.clock refl h.clock;
+      flag = (λ set. subst (λ l. IsTrueState d (local_state p l)) (omega (arith, communications_push c (Observe p true) p 0 refl)) now, λ is. refl);
+      closed = h.closed ∙ sym (closed_stays c (Observe p true) p refl);
+      emitted = emitted_snapshot n c (Observe p true ∷ []) p k s.snapshots s.notes s.clock is_open (closed_stays c (Observe p true) p refl ∙ is_open)
+          (λ j is. ⊎_elim (λ (lt : j < k). lt)
+          (λ (ge : k ≤ j).
+          let same : j ≡ k = omega (arith, true_state_exists c (local_state p j) is) in
+          absurd (true≢false (sym (h.flag.1 (subst (λ l. IsTrueState c (local_state p l)) same is)) ∙ clear)))
+          (cases_lt j k))
+          (λ j is. ⊎_elim (λ (old : IsTrueState c (local_state p j)). inl old) (λ new. inr new.1) (true_state_cases c (Observe p true) (local_state p j) is))
+          now (clock_grows n c (Observe p true ∷ []) (local_state p k) s.clock (le_refl k) h.clock) h.emitted;
+    }
+
+-- a true observation
+observes : (n : ℕ) (c : Computation) (p : ℕ) (s : ProbeState) → is_closed c p ≡ false → IsStateAfter n c p s → IsStateAfter n (c ++ Observe p true ∷ []) p (after_call p s (Observed true))
+observes n c p s is_open h =
+    cond_both s.flag s (record s { flag = true; snapshots = s.snapshots + 1; notes = s.notes ++ note.Snap s.snapshots s.clock ∷ [] }) (IsStateAfter n (c ++ Observe p true ∷ []) p)
+    (λ set. stays n c (Observe p true) p s refl refl
+    (λ k is. ⊎_elim (λ (old : IsTrueState c (local_state p k)). old) (λ new. subst (λ j. IsTrueState c (local_state p j)) new.1 (h.flag.0 set)) (true_state_cases c (Observe p true) (local_state p k) is)) h)
+    (λ clear. observes_first n c p s is_open clear h)
+
+-- a send
+sends : (n : ℕ) (c : Computation) (p to : ℕ) (s : ProbeState) → p < n → IsStateAfter n c p s → IsStateAfter n (c ++ Send p to ∷ []) p (after_call p s Sent)
+sends n c p to s in_range h =
+    let k : ℕ = communications c p in
+    begins n c (Send p to) p s (slice_set s.clock p (slice_index s.clock p + 1)) (eq-eqb p p refl) refl (none_new c (Send p to) p (λ e. cc e))
+    (clock_after_send n (c ++ Send p to ∷ []) p k to (length c) s.clock in_range (get_behind c (Send p to) []) (interval_at_seam c (Send p to ∷ []) p)
+    (clock_grows n c (Send p to ∷ []) (local_state p k) s.clock (le_refl k) h.clock))
+    h
+
+-- a receive, of a message whose stamp has the clock of the state behind its send
+receives : (n : ℕ) (c : Computation) (p message : ℕ) (stamp : List ℕ) (s : ProbeState) → p < n → IsStampOf n c message stamp → IsStateAfter n c p s →
+    IsStateAfter n (c ++ Recv p message ∷ []) p (after_call p s (Received stamp))
+receives n c p message stamp s in_range is h =
+    let x : Step = Recv p message in
+    let d : Computation = c ++ x ∷ [] in
+    let k : ℕ = communications c p in
+    let j : ℕ = interval_at c is.from is.sent in
+    let link : IsMessage d (local_state is.from j) (local_state p (k + 1)) = record {
+      sent = is.sent;
+      received = length c;
+      to = is.to;
+      later = slice_get_within c is.sent (Send is.from is.to) is.send;
+      send = at_grows c (x ∷ []) is.sent (Send is.from is.to) is.send;
+      receive = get_behind c x [] ∙ ap (λ m. Some (Recv p m)) (sym (message_grows c (x ∷ []) is.sent (Send is.from is.to) is.send ∙ is.number));
+      from_state = interval_grows c (x ∷ []) is.from is.sent (Send is.from is.to) is.send;
+      to_state = ap (λ i. i + 1) (interval_at_seam c (x ∷ []) p);
+    } in
+    begins n c x p s (slice_set (merged s.clock stamp) p (slice_index s.clock p + 1)) (eq-eqb p p refl) refl (none_new c x p (λ e. cc e))
+    (clock_after_receive n d (local_state is.from j) p k s.clock stamp in_range link
+    (clock_grows n c (x ∷ []) (local_state p k) s.clock (le_refl k) h.clock)
+    (clock_grows n c (x ∷ []) (local_state is.from (j + 1)) stamp (omega (arith, event_below c is.from j is.sent (event_of_send c is.from j is.to is.sent is.send refl))) is.clock))
+    h
+
+-- a close
+closes : (n : ℕ) (c : Computation) (p : ℕ) (s : ProbeState) → is_closed c p ≡ false → IsStateAfter n c p s → IsStateAfter n (c ++ Close p ∷ []) p (after_call p s Closed)
+closes n c p s is_open h =
+    let none : NoneNew c (Close p ∷ []) p = none_new c (Close p) p (λ e. cc e) in
+    let k : ℕ = communications c p in
+    record {
+      clock = clock_stays n c (Close p) p s.clock refl h.clock;
+      flag = subst (λ l. IsTrue s.flag ↔ IsTrueState (c ++ Close p ∷ []) (local_state p l)) (omega (arith, communications_push c (Close p) p 0 refl))
+          (λ set. true_state_grows c (Close p ∷ []) (local_state p k) (h.flag.0 set), λ is. h.flag.1 (none k is));
+      closed = sym (closed_now c p);
+      emitted = emitted_close n c (Close p ∷ []) p s.snapshots s.notes none is_open (closed_now c p) h.emitted;
+    }
+
+-- a step of another process
+passes_by : (n : ℕ) (c : Computation) (x : Step) (p : ℕ) (s : ProbeState) → is_step_of p x ≡ false → IsStateAfter n c p s → IsStateAfter n (c ++ x ∷ []) p s
+passes_by n c (Observe q holds) p s other h = stays n c (Observe q holds) p s refl refl (none_new c (Observe q holds) p (λ e. true≢false (sym (ap (is_step_of p) e ∙ eq-eqb p p refl) ∙ other))) h
+passes_by n c (Send q to) p s other h = stays n c (Send q to) p s other refl (none_new c (Send q to) p (λ e. cc e)) h
+passes_by n c (Recv q message) p s other h = stays n c (Recv q message) p s other refl (none_new c (Recv q message) p (λ e. cc e)) h
+passes_by n c (Close q) p s other h = stays n c (Close q) p s refl other (none_new c (Close q) p (λ e. cc e)) h
+passes_by n c x p s other h = stays n c x p s refl refl (none_new c x p (λ e. cc e)) h
+
+-- a process that has another step was open
+was_open : (n : ℕ) (c e : Computation) (x : Step) (p : ℕ) → IsAccepted (c ++ x ∷ e) → is_step_of p x ≡ true → is_closed c p ≡ false
+was_open n c e x p accepted own = false_from_ne_true (is_closed c p) (λ closed.
+    let found : Any (λ y. is_close_of p y ≡ true) c = Any-from_list_any (is_close_of p) c closed in
+    let at : slice_get c found.0 ≡ Some (Close p) = slice_get-get_or c found.0 found.1 found.2 ∙ ap Some (found.3 ∙ close_is p found.1 found.4) in
+    true≢false (sym own ∙ accepted.close_last found.0 (length c) p x found.2 (at_grows c (x ∷ e) found.0 (Close p) at) (get_behind c x e)))
+  where
+    close_is : (p : ℕ) (y : Step) → is_close_of p y ≡ true → y ≡ Close p
+    close_is p (Close q) h = ap Close (eqb-true q p h)
+    close_is p y h = absurd (true≢false (sym h))
+
+-- a message that is received was sent
+was_sent : (n : ℕ) (c e : Computation) (p message : ℕ) → IsAccepted (c ++ Recv p message ∷ e) → message < count_by is_send c
+was_sent n c e p message accepted =
+    subst (λ k. message < k) (ap (count_by is_send) (take_at c (Recv p message ∷ e) (length c) refl)) (accepted.sent_first (length c) p message (get_behind c (Recv p message) e))
+
+-- each step of the process, with the call that it is
+advances : (n : ℕ) (c e : Computation) (p : ℕ) (x : Step) (s : ProbeState) (call : Call) → IsAccepted (c ++ x ∷ e) → p < n → is_step_of p x ≡ true → IsCallOf n (c ++ x ∷ e) x call →
+    IsStateAfter n c p s → IsStateAfter n (c ++ x ∷ []) p (after_call p s call)
+advances n c e p (Observe q false) s (Observed false) accepted in_range own is h = stays n c (Observe q false) p s refl refl (none_new c (Observe q false) p (λ e. cc e)) h
+advances n c e p (Observe q true) s (Observed true) accepted in_range own is h =
+    subst (λ r. IsStateAfter n (c ++ Observe r true ∷ []) p (after_call p s (Observed true))) (sym (eqb-true q p own)) (observes n c p s (was_open n c e (Observe q true) p accepted own) h)
+advances n c e p (Observe q true) s (Observed false) accepted in_range own is h = absurd (true≢false is)
+advances n c e p (Observe q false) s (Observed true) accepted in_range own is h = absurd (true≢false (sym is))
+advances n c e p (Send q to) s Sent accepted in_range own is h =
+    subst (λ r. IsStateAfter n (c ++ Send r to ∷ []) p (after_call p s Sent)) (sym (eqb-true q p own)) (sends n c p to s in_range h)
+advances n c e p (Recv q message) s (Received stamp) accepted in_range own is h =
+    subst (λ r. IsStateAfter n (c ++ Recv r message ∷ []) p (after_call p s (Received stamp))) (sym (eqb-true q p own))
+    (receives n c p message stamp s in_range (stamp_shrinks n c (Recv q message ∷ e) message stamp (was_sent n c e q message accepted) is) h)
+advances n c e p (Close q) s Closed accepted in_range own is h =
+    subst (λ r. IsStateAfter n (c ++ Close r ∷ []) p (after_call p s Closed)) (sym (eqb-true q p own)) (closes n c p s (was_open n c e (Close q) p accepted own) h)
+advances n c e p x s call accepted in_range own is h = absurd is
+
+-- a step of the process, and what the rest of the log then comes to
+own_step : (n : ℕ) (c e : Computation) (p : ℕ) (x : Step) (s : ProbeState) (calls : List Call) → IsAccepted (c ++ x ∷ e) → p < n → is_step_of p x ≡ true →
+    AreCallsOf n (c ++ x ∷ e) (x ∷ filter (is_step_of p) e) calls → IsStateAfter n c p s →
+    ((t : ProbeState) (rest : List Call) → AreCallsOf n (c ++ x ∷ e) (filter (is_step_of p) e) rest → IsStateAfter n (c ++ x ∷ []) p t → IsStateAfter n (c ++ x ∷ e) p (fold (after_call p) t rest)) →
+    IsStateAfter n (c ++ x ∷ e) p (fold (after_call p) s calls)
+own_step n c e p x s [] accepted in_range own are h rest = absurd are
+own_step n c e p x s (call ∷ calls) accepted in_range own are h rest = rest (after_call p s call) calls are.1 (advances n c e p x s call accepted in_range own are.0 h)
+
+-- from the state after a front, the log of the rest leads to the state after the whole
+runs_on : (n p : ℕ) (e c : Computation) (s : ProbeState) (calls : List Call) → IsAccepted (c ++ e) → p < n → AreCallsOf n (c ++ e) (filter (is_step_of p) e) calls → IsStateAfter n c p s →
+    IsStateAfter n (c ++ e) p (fold (after_call p) s calls)
+runs_on n p [] c s [] accepted in_range are h = subst (λ d. IsStateAfter n d p s) (sym (append-nil c)) h
+runs_on n p [] c s (call ∷ calls) accepted in_range are h = absurd are
+runs_on n p (x ∷ e) c s calls accepted in_range are h =
+    let together : (c ++ x ∷ []) ++ e ≡ c ++ x ∷ e = append_assoc c (x ∷ []) e in
+    let rest : (t : ProbeState) (rest : List Call) → AreCallsOf n (c ++ x ∷ e) (filter (is_step_of p) e) rest → IsStateAfter n (c ++ x ∷ []) p t → IsStateAfter n (c ++ x ∷ e) p (fold (after_call p) t rest) =
+    λ t calls. subst (λ d. AreCallsOf n d (filter (is_step_of p) e) calls → IsStateAfter n (c ++ x ∷ []) p t → IsStateAfter n d p (fold (after_call p) t calls)) together
+    (runs_on n p e (c ++ x ∷ []) t calls (subst (IsAccepted) (sym together) accepted) in_range) in
+    ⊎_elim (λ (own : is_step_of p x ≡ true).
+    own_step n c e p x s calls accepted in_range own (subst (λ b. AreCallsOf n (c ++ x ∷ e) (cond b (x ∷ filter (is_step_of p) e) (filter (is_step_of p) e)) calls) own are) h rest)
+    (λ (other : is_step_of p x ≡ false).
+    rest s calls (subst (λ b. AreCallsOf n (c ++ x ∷ e) (cond b (x ∷ filter (is_step_of p) e) (filter (is_step_of p) e)) calls) other are) (passes_by n c x p s other h))
+    (cases_Bool (is_step_of p x))
+
+-- before the first step
+at_first : (n p : ℕ) → p < n → IsStateAfter n [] p (state_of_log n p [])
+at_first n p in_range = record {
+  clock = clock_at_first n [] p in_range;
+  flag = (λ set. absurd (true≢false (sym set)), λ is. absurd (no_step is.place (Observe p true) is.observed));
+  closed = refl;
+  emitted = record {
+    intervals = [];
+    true_states = record { rising = λ k below. absurd (omega arith); each = λ k. (λ contains. absurd (omega (arith, contains.1)), λ is. absurd (no_step is.place (Observe p true) is.observed)) };
+    clocks = [];
+    same_length = refl;
+    each = λ i below. absurd (omega arith);
+    counted = refl;
+    notes_are = refl;
+  };
+}
+  where
+    no_step : (place : ℕ) (x : Step) → slice_get [] place ≡ Some x → ⊥
+    no_step place x at = cc at
+
+-- the log law
+pub log_law_holds : LogLaw
+log_law_holds n c p log accepted in_range is =
+    let after : IsStateAfter n c p (state_of_log n p log) = runs_on n p c [] (state_of_log n p []) log accepted in_range is (at_first n p in_range) in
+    record { clock = after.clock; flag = after.flag; closed = after.closed; emissions = emissions_of n c p (state_of_log n p log).snapshots (state_of_log n p log).notes after.emitted }

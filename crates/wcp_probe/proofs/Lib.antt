@@ -1,0 +1,2 @@
+pub mod AcceptedCalls
+pub mod Mismatch

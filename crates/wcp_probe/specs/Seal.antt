@@ -1,0 +1,19 @@
+use Rattle.std.specs.Prelude.{◌≡◌, ℕ, List}
+use Rattle.wcp_probe.specs.declared.stamp.Stamped.{Stamped}
+
+-- What a stamp says of a message: the watch, the sender and the receiver, and the sender's clock after the send.
+pub record Seal : Type 0 where
+  pub watch : ℕ
+  pub from : ℕ
+  pub to : ℕ
+  pub clock : List ℕ
+
+-- The seal and the value of a stamped message.
+abbrev pub seal_of : {T : Type 0} → Stamped T → Seal
+seal_of message = record { watch = message.watch; from = message.from; to = message.to; clock = message.clock }
+
+abbrev pub value_of : {T : Type 0} → Stamped T → T
+value_of message = message.value
+
+abbrev pub IsSealed : {T : Type 0} → Stamped T → Seal → T → Type 0
+IsSealed message seal value = (seal_of message ≡ seal) × (value_of message ≡ value)

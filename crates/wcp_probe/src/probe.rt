@@ -1,0 +1,250 @@
+ghost use Rattle.std.specs.Prelude.{◌≡◌, ℕ, ◌+◌, ◌<◌, ◌≤◌, ◌↔◌, [], List, length, replicate, slice_index, slice_set, IsTrue, IsSome, IfOk, OnOk, OnErr, IfErr, MatchResult, Option, true, false, if◌then◌else◌};
+ghost use Rattle.wcp_clock.specs.declared.clock.TheConstants.{MAX_PROCS, CLOCK_LIMIT};
+ghost use Rattle.wcp_clock.specs.declared.note.Note.TheVariants as note;
+ghost use Rattle.wcp_model.specs.ProbeLog.{Call, Observed, Sent, Received};
+ghost use Rattle.wcp_model.specs.ProbeLog.{Closed as closed_call};
+ghost use Rattle.wcp_probe.specs.Core.{Core, StandsFor, Accepts};
+ghost use Rattle.wcp_probe.specs.Seal.{Seal, seal_of, value_of, IsSealed};
+ghost use Rattle.wcp_probe.specs.Refusals.{observe_refusal, close_refusal, stamp_refusal, receive_refusal, stamp_mismatch};
+
+use crate::stamp::Stamped;
+use std::marker::Model;
+use wcp_clock::{Clock, Note};
+
+/// Why a probe refused a call. Where several reasons hold, the first in this order is given.
+#[derive(Clone, Copy, Debug, PartialEq, Eq)]
+pub enum Refusal {
+    /// The receiver is no process of the watch, or is the probe's own.
+    NoSuch,
+    /// The probe is closed.
+    Closed,
+    /// A note is pending.
+    Backlog,
+    /// The stamp is of another watch, or of another number of processes.
+    Stranger,
+    /// The stamp is addressed to another process.
+    NotMine,
+    /// The stamp knows of more events of this process than it has made.
+    Ahead,
+    /// The process has made as many communication events as its clock can count.
+    ClockEnd,
+}
+
+/// The probe of one process: its vector clock, and the note that it emitted last, for as long as
+/// its link has not taken it.
+#[derive(Drop)]
+pub struct ProbeCore {
+    watch: u64,
+    id: u32,
+    limit: u32,
+    clock: Clock,
+    flag: bool,
+    closed: bool,
+    emitted: u32,
+    pending: Option<Note>,
+}
+
+impl Model for ProbeCore {
+    ghost use Rattle.std.specs.Prelude.{ℕ, ◌≡◌, ◌+◌, ◌<◌, ◌≤◌, ◌||◌, length, slice_index, is_some, IsTrue, if◌then◌else◌};
+    ghost use Rattle.wcp_clock.specs.declared.clock.TheConstants.{MAX_PROCS, CLOCK_LIMIT};
+    ghost use Rattle.wcp_probe.specs.Core.{Core};
+
+    ghost Value = { Core };
+
+    ghost view = { λ p. record {
+      watch = p.watch; id = p.id; limit = p.limit; clock = p.clock; flag = p.flag;
+      closed = p.closed; emitted = p.emitted; pending = p.pending;
+    } };
+
+    ghost invariant = { λ p. record {
+      process : p.id < length p.clock;
+      processes : length p.clock ≤ MAX_PROCS;
+      limit : p.limit ≤ CLOCK_LIMIT;
+      events : slice_index p.clock p.id ≤ p.limit;
+      emitted : p.emitted ≤ slice_index p.clock p.id + (if p.flag then 1 else 0);
+      pending : IsTrue (is_some p.pending) → IsTrue (p.flag || p.closed);
+    } };
+}
+
+impl ProbeCore {
+    /// The probe of process `id` of `n`, of a watch of this number; its process may make `limit`
+    /// communication events.
+    pub fn new(watch: u64, id: u32, n: u32, limit: u32) -> ProbeCore
+        requires process { id < n }
+        requires processes { n ≤ MAX_PROCS }
+        requires limit { limit ≤ CLOCK_LIMIT }
+        ensures fresh { result ≡ record {
+            watch = watch; id = id; limit = limit; clock = replicate n 0; flag = false;
+            closed = false; emitted = 0; pending = None;
+        } }
+        ensures empty { StandsFor result [] }
+    {
+        ProbeCore {
+            watch,
+            id,
+            limit,
+            clock: Clock::new(n),
+            flag: false,
+            closed: false,
+            emitted: 0,
+            pending: None,
+        }
+    }
+
+    /// The process observes its condition. The answer is whether a snapshot was emitted, which then
+    /// is pending: the first true observation of an interval emits one.
+    pub fn observe(&mut self, holds: bool) -> Result<bool, Refusal>
+        ensures first { MatchResult result (λ _. observe_refusal self.old ≡ None) (λ why. observe_refusal self.old ≡ Some why) }
+        ensures accepted { OnOk result (Accepts self.old (Observed holds) self.new) }
+        ensures emits { IfOk result (λ emitted. IsTrue emitted ↔ (IsTrue holds × (self.old.flag ≡ false))) }
+        ensures pending { IfOk result (λ emitted. self.new ≡ (if emitted
+            then record self.old { flag = true; emitted = self.old.emitted + 1; pending = Some (note.Snap self.old.emitted self.old.clock) }
+            else self.old)) }
+        ensures refused { OnErr result (self.new ≡ self.old) }
+    {
+        if self.closed {
+            return Err(Refusal::Closed);
+        }
+        if !holds || self.flag {
+            return Ok(false);
+        }
+        self.pending = Some(Note::Snap {
+            number: self.emitted,
+            clock: self.clock,
+        });
+        self.emitted += 1;
+        self.flag = true;
+        Ok(true)
+    }
+
+    /// The process sends a message: its stamp carries the clock after the send.
+    pub fn stamp<T>(&mut self, to: u32, value: T) -> Result<Stamped<T>, (Refusal, T)>
+        ensures first { MatchResult result (λ _. stamp_refusal self.old to ≡ None) (λ back. stamp_refusal self.old to ≡ Some back.0) }
+        ensures accepted { OnOk result (Accepts self.old Sent self.new) }
+        ensures pending { OnOk result (self.new.pending ≡ self.old.pending) }
+        ensures stamped { IfOk result (λ message. IsSealed message (record {
+            watch = self.old.watch; from = self.old.id; to = to; clock = self.new.clock }) value) }
+        ensures refused { IfErr result (λ back. (back.1 ≡ value) × (self.new ≡ self.old)) }
+    {
+        if to >= self.clock.len() || to == self.id {
+            return Err((Refusal::NoSuch, value));
+        }
+        if self.closed {
+            return Err((Refusal::Closed, value));
+        }
+        if self.pending.is_some() {
+            return Err((Refusal::Backlog, value));
+        }
+        let Some(clock) = self.clock.tick(self.id, self.limit) else {
+            return Err((Refusal::ClockEnd, value));
+        };
+        self.clock = clock;
+        self.flag = false;
+        Ok(Stamped {
+            watch: self.watch,
+            from: self.id,
+            to,
+            clock,
+            value,
+        })
+    }
+
+    /// The process receives a message: its clock then knows what the sender's knew after the send.
+    pub fn receive<T>(&mut self, message: Stamped<T>) -> Result<T, (Refusal, Stamped<T>)>
+        ensures first { MatchResult result (λ _. receive_refusal self.old (seal_of message) ≡ None) (λ back. receive_refusal self.old (seal_of message) ≡ Some back.0) }
+        ensures accepted { OnOk result (Accepts self.old (Received (seal_of message).clock) self.new) }
+        ensures pending { OnOk result (self.new.pending ≡ self.old.pending) }
+        ensures value { IfOk result (λ value. value ≡ value_of message) }
+        ensures refused { IfErr result (λ back. (back.1 ≡ message) × (self.new ≡ self.old)) }
+    {
+        if let Some(why) = self.why_not(&message.clock, message.watch, message.to) {
+            return Err((why, message));
+        }
+        let Some(clock) = self.clock.tick(self.id, self.limit) else {
+            return Err((Refusal::ClockEnd, message));
+        };
+        self.clock = clock.merge(&message.clock);
+        self.flag = false;
+        let Stamped { watch: _, from: _, to: _, clock: _, value } = message;
+        Ok(value)
+    }
+
+    /// The note that was emitted last, until its link has taken it.
+    pub fn pending(&self) -> Option<Note>
+        ensures { result ≡ self.now.pending }
+    {
+        self.pending
+    }
+
+    /// The link has taken the pending note.
+    pub fn was_put(&mut self)
+        requires { IsSome self.old.pending }
+        ensures { self.new ≡ record self.old { pending = None } }
+    {
+        self.pending = None;
+    }
+
+    /// The process ends its part: a mark that counts its snapshots is pending, and nothing more is
+    /// accepted.
+    pub fn close(&mut self) -> Result<(), Refusal>
+        ensures first { MatchResult result (λ _. close_refusal self.old ≡ None) (λ why. close_refusal self.old ≡ Some why) }
+        ensures accepted { OnOk result (Accepts self.old closed_call self.new) }
+        ensures pending { OnOk result (self.new ≡ record self.old { closed = true; pending = Some (note.Close self.old.emitted) }) }
+        ensures refused { OnErr result (self.new ≡ self.old) }
+    {
+        if self.closed {
+            return Err(Refusal::Closed);
+        }
+        if self.pending.is_some() {
+            return Err(Refusal::Backlog);
+        }
+        self.closed = true;
+        self.pending = Some(Note::Close {
+            count: self.emitted,
+        });
+        Ok(())
+    }
+
+    /// The process's vector clock.
+    pub fn clock(&self) -> Clock
+        ensures { result ≡ self.now.clock }
+    {
+        self.clock
+    }
+
+    /// Whether the probe is closed.
+    pub fn closed(&self) -> bool
+        ensures { result ≡ self.now.closed }
+    {
+        self.closed
+    }
+
+    /// How many snapshots were emitted.
+    pub fn emitted(&self) -> u32
+        ensures { result ≡ self.now.emitted }
+    {
+        self.emitted
+    }
+
+    /// Why a message with this stamp is refused, but for the end of the clock.
+    fn why_not(&self, clock: &Clock, watch: u64, to: u32) -> Option<Refusal>
+        ensures { result ≡ stamp_mismatch self.now (record { watch = watch; from = 0; to = to; clock = clock.now }) }
+    {
+        if self.closed {
+            return Some(Refusal::Closed);
+        }
+        if self.pending.is_some() {
+            return Some(Refusal::Backlog);
+        }
+        if watch != self.watch || clock.len() != self.clock.len() {
+            return Some(Refusal::Stranger);
+        }
+        if to != self.id {
+            return Some(Refusal::NotMine);
+        }
+        if clock.get(self.id) > self.clock.get(self.id) {
+            return Some(Refusal::Ahead);
+        }
+        None
+    }
+}
