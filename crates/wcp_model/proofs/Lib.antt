@@ -18,3 +18,5 @@ pub mod RunningClock
 pub mod RunningEmissions
 pub mod RunningLog
 pub mod StateClocks
+pub mod OnePass
+pub mod Turns

@@ -1,11 +1,12 @@
 //! Words that all crates share: steps, workloads, plans and outcomes, and the definitions and laws
-//! of computations, happened-before and cuts.
+//! of computations, happened-before and cuts, with plain programs that decide them.
 #![tactic(auto)]
 
 mod clock_laws;
 mod cut_laws;
 mod fit_orders;
 mod outcome;
+mod plain;
 mod plan;
 mod probe_log;
 mod state;
@@ -16,6 +17,7 @@ pub use clock_laws::{clock_law, states_have_clocks};
 pub use cut_laws::{least_cut_law, minimum_law};
 pub use fit_orders::fit_order_law;
 pub use outcome::{GlobalCut, Outcome, Report, Tallies, Tally};
+pub use plain::{happened_before, is_satisfying_cut, is_true_state};
 pub use plan::{Parent, Plan, plain_plan};
 pub use probe_log::log_law;
 pub use state::State;

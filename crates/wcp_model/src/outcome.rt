@@ -32,6 +32,39 @@ impl Model for GlobalCut {
     } };
 }
 
+impl GlobalCut {
+    /// The cut of these intervals, one for each process.
+    pub fn new(intervals: &[u32]) -> GlobalCut
+        requires some { 0 < length intervals.now }
+        requires within { length intervals.now ≤ MAX_PROCS }
+        ensures { result ≡ intervals.now }
+    {
+        let mut padded = [0; MAX_PROCS];
+        padded[..intervals.len()].copy_from_slice(intervals);
+        GlobalCut {
+            count: intervals.len() as u32,
+            intervals: padded,
+        }
+    }
+
+    /// How many processes the cut has a state of.
+    pub fn len(&self) -> u32
+        ensures value { result ≡ length self.now }
+        ensures some { 0 < length self.now }
+        ensures within { length self.now ≤ MAX_PROCS }
+    {
+        self.count
+    }
+
+    /// The interval of process `p`.
+    pub fn get(&self, p: u32) -> u32
+        requires { p < length self.now }
+        ensures { result ≡ slice_index self.now p }
+    {
+        self.intervals[p as usize]
+    }
+}
+
 /// How many snapshots of a process were emitted, and how many of them the checker took. Close marks
 /// don't count.
 #[derive(Clone, Copy, Debug, PartialEq, Eq)]
@@ -43,7 +76,7 @@ pub struct Tally {
 /// The tally of each process, of which there are 1 to 16. A contract sees it as that list.
 #[derive(Clone, Copy, Debug, PartialEq, Eq)]
 pub struct Tallies {
-    count: u32,
+    processes: u32,
     tallies: [Tally; MAX_PROCS],
 }
 
@@ -54,20 +87,56 @@ impl Model for Tallies {
 
     ghost Value = { List Tally };
 
-    ghost view = { λ t. take t.count t.tallies };
+    ghost view = { λ t. take t.processes t.tallies };
 
-    ghost invariant = { λ t. (0 < t.count) × (t.count ≤ MAX_PROCS) × (length t.tallies ≡ MAX_PROCS) × (drop t.count t.tallies ≡ replicate (MAX_PROCS - t.count) (record { emitted = 0; taken = 0 })) };
+    ghost invariant = { λ t. (0 < t.processes) × (t.processes ≤ MAX_PROCS) × (length t.tallies ≡ MAX_PROCS) × (drop t.processes t.tallies ≡ replicate (MAX_PROCS - t.processes) (record { emitted = 0; taken = 0 })) };
 
-    ghost inverse = { λ v. record { count = length v; tallies = v ++ replicate (MAX_PROCS - length v) (record { emitted = 0; taken = 0 }) } };
+    ghost inverse = { λ v. record { processes = length v; tallies = v ++ replicate (MAX_PROCS - length v) (record { emitted = 0; taken = 0 }) } };
 
     ghost use Rattle.std.proofs.Common.{arith};
     ghost use Rattle.std.proofs.lemmas.List.{length-take-le};
     ghost use Rattle.wcp_clock.specs.Padding.{padded_front};
 
     ghost inverse_ok = { λ a h i. record {
-      count = length-take-le a.count a.tallies (Prim.omega (arith, h.1, h.2)) i;
-      tallies = padded_front (record { emitted = 0; taken = 0 }) a.count MAX_PROCS a.tallies h.1 h.2 h.3 i;
+      processes = length-take-le a.processes a.tallies (Prim.omega (arith, h.1, h.2)) i;
+      tallies = padded_front (record { emitted = 0; taken = 0 }) a.processes MAX_PROCS a.tallies h.1 h.2 h.3 i;
     } };
+}
+
+impl Tallies {
+    /// These tallies, one for each process.
+    pub fn new(tallies: &[Tally]) -> Tallies
+        requires some { 0 < length tallies.now }
+        requires within { length tallies.now ≤ MAX_PROCS }
+        ensures { result ≡ tallies.now }
+    {
+        let mut padded = [Tally {
+            emitted: 0,
+            taken: 0,
+        }; MAX_PROCS];
+        padded[..tallies.len()].copy_from_slice(tallies);
+        Tallies {
+            processes: tallies.len() as u32,
+            tallies: padded,
+        }
+    }
+
+    /// How many processes there is a tally of.
+    pub fn len(&self) -> u32
+        ensures value { result ≡ length self.now }
+        ensures some { 0 < length self.now }
+        ensures within { length self.now ≤ MAX_PROCS }
+    {
+        self.processes
+    }
+
+    /// The tally of process `p`.
+    pub fn get(&self, p: u32) -> Tally
+        requires { p < length self.now }
+        ensures { slice_get self.now p ≡ Some result }
+    {
+        self.tallies[p as usize]
+    }
 }
 
 /// What is known of the bad moment.
@@ -86,4 +155,28 @@ pub enum Report {
 pub struct Outcome {
     pub report: Report,
     pub tallies: Tallies,
+}
+
+#[cfg(test)]
+mod tests {
+    use super::*;
+
+    #[test]
+    fn a_cut_and_tallies_are_read_back(rt: HostRuntime) {
+        let cut = GlobalCut::new(&[2, 0, 5]);
+        assert_eq!(rt; cut.len(), 3);
+        assert_eq!(rt; (cut.get(0), cut.get(1), cut.get(2)), (2, 0, 5));
+
+        let one = Tally {
+            emitted: 3,
+            taken: 1,
+        };
+        let other = Tally {
+            emitted: 4,
+            taken: 4,
+        };
+        let tallies = Tallies::new(&[one, other]);
+        assert_eq!(rt; tallies.len(), 2);
+        assert_eq!(rt; (tallies.get(0), tallies.get(1)), (one, other));
+    }
 }

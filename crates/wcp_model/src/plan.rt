@@ -43,3 +43,17 @@ pub fn plain_plan(alloc: Global, n: u32, cap: u32, hold: u32) -> Result<Plan, Al
         attach: vec![in alloc; Some(0); n as usize]?,
     })
 }
+
+#[cfg(test)]
+mod tests {
+    use super::*;
+
+    #[test]
+    fn one_relay_serves_both_processes(rt: HostRuntime) -> Result<(), AllocError> {
+        let plan = plain_plan(rt.alloc(), 2, 8, 4)?;
+        assert_eq!(rt; (plan.n, plan.cap, plan.hold), (2, 8, 4));
+        assert_eq!(rt; plan.parents.as_slice(), [Parent::Root].as_slice());
+        assert_eq!(rt; plan.attach.as_slice(), [Some(0), Some(0)].as_slice());
+        Ok(())
+    }
+}

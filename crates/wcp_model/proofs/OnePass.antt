@@ -1,0 +1,230 @@
+use Rattle.std.proofs.Common.{◌≡◌, ◌==◌, ℕ, zero, suc, ◌+◌, ◌<◌, ◌≤◌, ◌⊎◌, ◌↔◌, Bool, true, false, List, [], ◌∷◌, ◌++◌, length, slice_get, Some, Contains, IsTrue, if◌then◌else◌, refl, sym, ◌∙◌, ap, subst, inl, inr, ⊎_elim, arith}
+use Rattle.std.proofs.lemmas.Bool.{false≢true, cases_lt, cases_eq, cases_Bool, eqb-true, eqb-false, eq-eqb, ne_eqb, cond-true, cond-false}
+use Rattle.std.proofs.lemmas.List.{length_push}
+use Rattle.std.proofs.lemmas.Option.{slice_get_within, same_Some}
+use Rattle.wcp_model.specs.declared.state.State.{State}
+use Rattle.wcp_model.specs.declared.step.Step.{Step}
+use Rattle.wcp_model.specs.declared.step.Step.TheVariants.{Send, Recv}
+use Rattle.wcp_model.specs.Computation.{Computation, is_communication_of, is_send, communications, interval_at, message_at}
+use Rattle.wcp_model.specs.Order.{HappenedBefore}
+use Rattle.wcp_model.proofs.Places.{count_before-yes, count_before-no, count_before-mono}
+use Rattle.wcp_model.proofs.Reached.{state_at, AtOrAfter, Carries, IsSentAfter, same_state, interval_at-event, interval_at-other, interval_at-end, before_next, before_receive, before_to_state, before_to_later, comes_from}
+
+-- an element before the one that was pushed
+slice_get-push_before : {X : Type 0} (xs : List X) (y : X) (i : ℕ) → i < length xs → slice_get (xs ++ y ∷ []) i ≡ slice_get xs i
+slice_get-push_before [] y i below = absurd (omega arith)
+slice_get-push_before (x ∷ xs) y zero below = refl
+slice_get-push_before (x ∷ xs) y (suc i) below = slice_get-push_before xs y i (omega arith)
+
+-- the element that was pushed
+slice_get-push_at : {X : Type 0} (xs : List X) (y : X) → slice_get (xs ++ y ∷ []) (length xs) ≡ Some y
+slice_get-push_at [] y = refl
+slice_get-push_at (x ∷ xs) y = slice_get-push_at xs y
+
+-- no message is carried before it is sent
+carries_below : (c : Computation) (s : State) (place message : ℕ) → Carries c s place message → message < message_at c place
+carries_below c s place message carries =
+    let sent = carries.0 in
+    let from = carries.2 in
+    let counted = count_before-yes is_send c sent (Send from.process from.to) from.send refl in
+    omega (arith, counted, from.number, count_before-mono is_send c (sent + 1) place (omega (arith, carries.1)))
+
+-- a step that is no send carries no message
+carries_stay : (c : Computation) (s : State) (place : ℕ) (step : Step) → slice_get c place ≡ Some step → is_send step ≡ false → (message : ℕ) → Carries c s (place + 1) message ↔ Carries c s place message
+carries_stay c s place step here no_send message = (
+  λ carries.
+      let sent = carries.0 in
+      let from = carries.2 in
+      ⊎_elim (λ (below : sent < place). (sent, below, from))
+      (λ (above : place ≤ sent).
+      let at : sent ≡ place = omega (arith, carries.1) in
+      let same : step ≡ Send from.process from.to = same_Some _ _ (sym here ∙ ap (λ k. slice_get c k) (sym at) ∙ from.send) in
+      absurd (false≢true (sym no_send ∙ ap is_send same)))
+      (cases_lt sent place),
+  λ carries. (carries.0, omega (arith, carries.1), carries.2),
+)
+
+-- a process has reached a state if it is after it or in it
+abbrev pub HasReached : State → ℕ → List ℕ → ℕ → Type 0
+HasReached s interval after p = Contains after p ⊎ (p ≡ s.process) × (interval ≡ s.interval)
+
+-- what one pass knows at a place of what a state happened before: the interval of the state's process, the processes after
+-- the state, and of each message so far whether it was sent in the state or after it
+pub record IsPass (c : Computation) (s : State) (place interval : ℕ) (after : List ℕ) (carries : List Bool) : Type 0 where
+  pub interval_is : interval ≡ interval_at c s.process place
+  pub after_is : (p : ℕ) → Contains after p ↔ HappenedBefore c s (state_at c p place)
+  pub messages : length carries ≡ message_at c place
+  pub carries_is : (message : ℕ) → (slice_get carries message ≡ Some true) ↔ Carries c s place message
+
+-- at the first place nothing is known
+pub pass_none : (c : Computation) (s : State) → IsPass c s 0 0 [] []
+pass_none c s =
+    record {
+      interval_is = refl;
+      after_is = λ p. (λ contains. absurd (omega (arith, contains.1)), λ before. let later = before_to_later before in absurd (omega arith));
+      messages = refl;
+      carries_is = λ message. (λ some. absurd (let within = slice_get_within {A = Bool} [] message true some in omega arith), λ carries. absurd (omega (arith, carries.1)));
+    }
+
+module _ (c : Computation) (s : State) (place interval : ℕ) (after : List ℕ) (carries : List Bool) (pass : IsPass c s place interval after carries) where
+  -- the processes that have reached the state are those that are in it or after it
+  reached_is : (p : ℕ) → HasReached s interval after p ↔ AtOrAfter c s (state_at c p place)
+  reached_is p = (
+    λ reached.
+        ⊎_elim (λ (contains : Contains after p). inr ((pass.after_is p).0 contains))
+        (λ (at : (p ≡ s.process) × (interval ≡ s.interval)).
+        inl (same_state s (state_at c p place) (sym at.0) (sym at.1 ∙ pass.interval_is ∙ ap (λ q. interval_at c q place) (sym at.0))))
+        reached,
+    λ from.
+        ⊎_elim
+        (λ (same : s ≡ state_at c p place).
+        let process : s.process ≡ p = ap (λ u. u.process) same in
+        let in_interval : s.interval ≡ interval_at c p place = ap (λ u. u.interval) same in
+        inr (sym process, pass.interval_is ∙ ap (λ q. interval_at c q place) process ∙ sym in_interval))
+        (λ (before : HappenedBefore c s (state_at c p place)). inl ((pass.after_is p).1 before))
+        from,
+  )
+
+  -- a step that begins no state and sends no message leaves what is known
+  pub pass_other : (step : Step) → slice_get c place ≡ Some step → ((p : ℕ) → is_communication_of p step ≡ false) → is_send step ≡ false → IsPass c s (place + 1) interval after carries
+  pass_other step here no_event no_send =
+      let stays : (p : ℕ) → interval_at c p (place + 1) ≡ interval_at c p place = λ p. interval_at-other c p place step here (no_event p) in
+      record {
+        interval_is = pass.interval_is ∙ sym (stays s.process);
+        after_is = λ p. subst (λ k. Contains after p ↔ HappenedBefore c s (record { process = p; interval = k })) (sym (stays p)) (pass.after_is p);
+        messages = pass.messages ∙ sym (count_before-no is_send c place step here no_send);
+        carries_is =
+            λ message. (
+              λ some. (carries_stay c s place step here no_send message).1 ((pass.carries_is message).0 some),
+              λ carried. (pass.carries_is message).1 ((carries_stay c s place step here no_send message).0 carried),
+            );
+      }
+
+  -- the state that a send begins is after the state, if the sender has reached it
+  pub sent_is : (p to : ℕ) (later : Bool) → slice_get c place ≡ Some (Send p to) → IsTrue later ↔ HasReached s interval after p → IsTrue later ↔ HappenedBefore c s (state_at c p (place + 1))
+  sent_is p to later here is =
+      let own = eq-eqb p p refl in (
+        λ yes. before_next c s p place (Send p to) here own ((reached_is p).0 (is.0 yes)),
+        λ before.
+            ⊎_elim (λ (from : AtOrAfter c s (state_at c p place)). is.1 ((reached_is p).1 from))
+            (λ by_message. let same = by_message.1 in absurd (cc))
+            (comes_from c s p place (Send p to) here own before),
+      )
+
+  -- the state that a receive begins is after the state, if the receiver has reached it or its message was sent there
+  pub received_is : (p message : ℕ) (later : Bool) → slice_get c place ≡ Some (Recv p message) → IsTrue later ↔ (HasReached s interval after p ⊎ slice_get carries message ≡ Some true) → IsTrue later ↔ HappenedBefore c s (state_at c p (place + 1))
+  received_is p message later here is =
+      let own = eq-eqb p p refl in (
+        λ yes.
+            ⊎_elim (λ (reached : HasReached s interval after p). before_next c s p place (Recv p message) here own ((reached_is p).0 reached))
+            (λ (carried : slice_get carries message ≡ Some true). before_receive c s p place message here ((pass.carries_is message).0 carried))
+            (is.0 yes),
+        λ before.
+            ⊎_elim (λ (from : AtOrAfter c s (state_at c p place)). is.1 (inl ((reached_is p).1 from)))
+            (λ (by_message : (m : ℕ) × (Recv p message ≡ Recv p m) × Carries c s place m).
+            let step = by_message.1 in
+            let same : by_message.0 ≡ message = cc in
+            is.1 (inr ((pass.carries_is message).1 (subst (λ m. Carries c s place m) same by_message.2))))
+            (comes_from c s p place (Recv p message) here own before),
+      )
+
+  -- an event of process p puts it after the state or not, and leaves the others
+  after_event : (p : ℕ) (step : Step) (later : Bool) (grown : List ℕ) → slice_get c place ≡ Some step → ((q : ℕ) → is_communication_of q step ≡ (p == q)) → IsTrue later ↔ HappenedBefore c s (state_at c p (place + 1)) → ((q : ℕ) → Contains grown q ↔ (Contains after q ⊎ (q ≡ p) × IsTrue later)) → (q : ℕ) → Contains grown q ↔ HappenedBefore c s (state_at c q (place + 1))
+  after_event p step later grown here event is grows q =
+      let move : (k l : ℕ) → k ≡ l → HappenedBefore c s (record { process = q; interval = k }) → HappenedBefore c s (record { process = q; interval = l }) =
+      λ k l same before. subst (λ m. HappenedBefore c s (record { process = q; interval = m })) same before in
+      ⊎_elim
+      (λ (same : q ≡ p).
+      let own : is_communication_of q step ≡ true = event q ∙ eq-eqb p q (sym same) in (
+        λ contains.
+            ⊎_elim (λ (already : Contains after q). before_next c s q place step here own (inr ((pass.after_is q).0 already)))
+            (λ (now : (q ≡ p) × IsTrue later). subst (λ r. HappenedBefore c s (state_at c r (place + 1))) (sym same) (is.0 now.1))
+            ((grows q).0 contains),
+        λ before.
+            let yes : IsTrue later = is.1 (subst (λ r. HappenedBefore c s (state_at c r (place + 1))) same before) in
+            (grows q).1 (inr (same, yes)),
+      ))
+      (λ (other : q ≡ p → ⊥).
+      let stays : interval_at c q (place + 1) ≡ interval_at c q place = interval_at-other c q place step here (event q ∙ ne_eqb p q (λ same. other (sym same))) in (
+        λ contains.
+            ⊎_elim (λ (already : Contains after q). move _ _ (sym stays) ((pass.after_is q).0 already))
+            (λ (now : (q ≡ p) × IsTrue later). absurd (other now.0))
+            ((grows q).0 contains),
+        λ before. (grows q).1 (inl ((pass.after_is q).1 (move _ _ stays before))),
+      ))
+      (cases_eq q p)
+
+  -- an event of process p counts for the state's process, if that is p
+  interval_event : (p : ℕ) (step : Step) → slice_get c place ≡ Some step → is_communication_of s.process step ≡ (p == s.process) → (if p == s.process then interval + 1 else interval) ≡ interval_at c s.process (place + 1)
+  interval_event p step here event =
+      ⊎_elim
+      (λ (own : (p == s.process) ≡ true).
+      cond-true (p == s.process) (interval + 1) interval own ∙ ap (λ k. k + 1) pass.interval_is ∙ sym (interval_at-event c s.process place step here (event ∙ own)))
+      (λ (other : (p == s.process) ≡ false).
+      cond-false (p == s.process) (interval + 1) interval other ∙ pass.interval_is ∙ sym (interval_at-other c s.process place step here (event ∙ other)))
+      (cases_Bool (p == s.process))
+
+  -- a send carries its message, if the sender has reached the state
+  carries_more : (p to : ℕ) (later : Bool) → slice_get c place ≡ Some (Send p to) → IsTrue later ↔ HasReached s interval after p → (message : ℕ) → (slice_get (carries ++ later ∷ []) message ≡ Some true) ↔ Carries c s (place + 1) message
+  carries_more p to later here is message = (
+    λ some.
+        ⊎_elim
+        (λ (below : message < length carries).
+        let carried = (pass.carries_is message).0 (sym (slice_get-push_before carries later message below) ∙ some) in
+        (carried.0, omega (arith, carried.1), carried.2))
+        (λ (above : length carries ≤ message).
+        let within = slice_get_within (carries ++ later ∷ []) message true some in
+        let last : length carries ≡ message = omega (arith, within, length_push carries later) in
+        let yes : later ≡ true = same_Some _ _ (sym (slice_get-push_at carries later) ∙ ap (λ k. slice_get (carries ++ later ∷ []) k) last ∙ some) in (
+          place,
+          omega arith,
+          record {
+            process = p;
+            to = to;
+            send = here;
+            number = sym pass.messages ∙ last;
+            reached = (reached_is p).0 (is.0 yes);
+          },
+        ))
+        (cases_lt message (length carries)),
+    λ carried.
+        let sent = carried.0 in
+        let from = carried.2 in
+        ⊎_elim
+        (λ (below : sent < place).
+        let earlier : Carries c s place message = (sent, below, from) in
+        slice_get-push_before carries later message (omega (arith, carries_below c s place message earlier, pass.messages)) ∙ (pass.carries_is message).1 earlier)
+        (λ (above : place ≤ sent).
+        let at : sent ≡ place = omega (arith, carried.1) in
+        let last : length carries ≡ message = pass.messages ∙ ap (λ k. message_at c k) (sym at) ∙ from.number in
+        let send : Send p to ≡ Send from.process from.to = same_Some _ _ (sym here ∙ ap (λ k. slice_get c k) (sym at) ∙ from.send) in
+        let sender : from.process ≡ p = cc in
+        let reached : AtOrAfter c s (state_at c p place) = subst (λ k. AtOrAfter c s (state_at c p k)) at (subst (λ q. AtOrAfter c s (state_at c q sent)) sender from.reached) in
+        let yes : later ≡ true = is.1 ((reached_is p).1 reached) in
+        ap (λ k. slice_get (carries ++ later ∷ []) k) (sym last) ∙ slice_get-push_at carries later ∙ ap (λ b. Some b) yes)
+        (cases_lt sent place),
+  )
+
+  -- what is known after a send
+  pub pass_send : (p to : ℕ) (later : Bool) (grown : List ℕ) → slice_get c place ≡ Some (Send p to) → IsTrue later ↔ HasReached s interval after p → ((q : ℕ) → Contains grown q ↔ (Contains after q ⊎ (q ≡ p) × IsTrue later)) → IsPass c s (place + 1) (if p == s.process then interval + 1 else interval) grown (carries ++ later ∷ [])
+  pass_send p to later grown here is grows =
+      record {
+        interval_is = interval_event p (Send p to) here refl;
+        after_is = after_event p (Send p to) later grown here (λ q. refl) (sent_is p to later here is) grows;
+        messages = length_push carries later ∙ ap (λ k. k + 1) pass.messages ∙ sym (count_before-yes is_send c place (Send p to) here refl);
+        carries_is = carries_more p to later here is;
+      }
+
+  -- what is known after a receive
+  pub pass_receive : (p message : ℕ) (later : Bool) (grown : List ℕ) → slice_get c place ≡ Some (Recv p message) → IsTrue later ↔ (HasReached s interval after p ⊎ slice_get carries message ≡ Some true) → ((q : ℕ) → Contains grown q ↔ (Contains after q ⊎ (q ≡ p) × IsTrue later)) → IsPass c s (place + 1) (if p == s.process then interval + 1 else interval) grown carries
+  pass_receive p message later grown here is grows =
+      record {
+        interval_is = interval_event p (Recv p message) here refl;
+        after_is = after_event p (Recv p message) later grown here (λ q. refl) (received_is p message later here is) grows;
+        messages = pass.messages ∙ sym (count_before-no is_send c place (Recv p message) here refl);
+        carries_is =
+            λ m. (
+              λ some. (carries_stay c s place (Recv p message) here refl m).1 ((pass.carries_is m).0 some),
+              λ carried. (pass.carries_is m).1 ((carries_stay c s place (Recv p message) here refl m).0 carried),
+            );
+      }

@@ -1,0 +1,14 @@
+use Rattle.std.proofs.Common.{◌≡◌, ℕ, ◌<◌, ◌⊎◌}
+use Rattle.wcp_model.specs.declared.state.State.{State}
+use Rattle.wcp_model.specs.Computation.{Computation, interval_at}
+use Rattle.wcp_model.proofs.OnePass.{IsPass}
+use Rattle.wcp_model.proofs.plain.happened_before.Given as goal
+
+abbrev pub invariant-loop-step : goal.invariant-loop-step
+invariant-loop-step l =
+    record {
+      from : l.pass.from ≡ l.fn.from;
+      pass : IsPass l.steps l.fn.from l.step-index l.pass.interval l.pass.after.items l.pass.carries.items;
+      interval : l.interval ≡ interval_at l.steps l.to.process l.step-index;
+      ahead : (l.to.interval ≡ 0) ⊎ (l.interval < l.to.interval);
+    }

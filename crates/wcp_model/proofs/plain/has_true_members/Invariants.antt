@@ -1,0 +1,11 @@
+use Rattle.std.proofs.Common.{ℕ, ◌<◌, ◌≤◌, ◌^◌}
+use Rattle.wcp_model.specs.Computation.{IsTrueState}
+use Rattle.wcp_model.specs.Cut.{member}
+use Rattle.wcp_model.proofs.plain.has_true_members.Given as goal
+
+abbrev pub invariant-loop-p : goal.invariant-loop-p
+invariant-loop-p l =
+    record {
+      few : l.p ≤ 2 ^ 32;
+      true_states : (p : ℕ) → p < l.p → IsTrueState l.steps (member l.cut p);
+    }

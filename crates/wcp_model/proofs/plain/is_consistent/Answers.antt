@@ -1,0 +1,13 @@
+use Rattle.std.proofs.Common.{ℕ, ◌<◌, ◌≢◌, length, below_more, sym, ◌∙◌}
+use Rattle.std.proofs.lemmas.Bool.{false≢true}
+use Rattle.wcp_model.specs.Cut.{member}
+use Rattle.wcp_model.specs.Order.{HappenedBefore}
+use Rattle.wcp_model.proofs.plain.is_consistent.Goals as goal
+
+pub loop-p-preserved : goal.loop-p-preserved
+loop-p-preserved c =
+    below_more
+    (λ p. (q : ℕ) → q < length c.args.cut.now → p ≢ q → HappenedBefore c.args.steps.now (member c.args.cut.now p) (member c.args.cut.now q) → ⊥)
+    _
+    c.loop-p.invariant
+    (λ q below other before. false≢true (sym c.if-branch.false ∙ c.in_ok-precedes_another.ensures.1 (q, below, other, before)))

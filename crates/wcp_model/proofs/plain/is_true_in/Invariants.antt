@@ -1,0 +1,11 @@
+use Rattle.std.proofs.Common.{◌≡◌, ℕ, ◌<◌}
+use Rattle.wcp_model.specs.Computation.{interval_at}
+use Rattle.wcp_model.proofs.Reached.{IsTrueAt}
+use Rattle.wcp_model.proofs.plain.is_true_in.Given as goal
+
+abbrev pub invariant-loop-step : goal.invariant-loop-step
+invariant-loop-step l =
+    record {
+      current : l.current ≡ interval_at l.steps l.process l.step-index;
+      none : (place : ℕ) → place < l.step-index → IsTrueAt l.steps (record { process = l.process; interval = l.interval }) place → ⊥;
+    }

@@ -1,0 +1,8 @@
+use Rattle.std.proofs.Common.{ℕ, ◌<◌, ◌≢◌, length}
+use Rattle.wcp_model.specs.Cut.{member}
+use Rattle.wcp_model.specs.Order.{HappenedBefore}
+use Rattle.wcp_model.proofs.plain.precedes_another.Given as goal
+
+abbrev pub invariant-loop-q : goal.invariant-loop-q
+invariant-loop-q l =
+    (q : ℕ) → q < l.q → l.p ≢ q → HappenedBefore l.steps (member l.cut l.p) (member l.cut q) → ⊥
