@@ -1,0 +1,21 @@
+pub mod Cuts
+pub mod Numbers
+pub mod StepLines
+pub mod Questions
+pub mod Joins
+pub mod TaskWords
+pub mod Spelled
+pub mod ReadAgain
+pub mod Answered
+mod Advancing
+mod Blocked
+mod Concluding
+mod Counting
+mod Fit
+mod Lengths
+mod Linking
+mod Places
+mod Rounds
+mod Tasks
+mod Queues
+mod MessageNumbers

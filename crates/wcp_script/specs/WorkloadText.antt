@@ -1,0 +1,22 @@
+-- The text of a workload.
+use Rattle.std.specs.Prelude.{ℕ, true, false, List, [], ◌∷◌, ◌++◌, codes}
+use Rattle.std.specs.List.{flat_map}
+use Rattle.std.specs.Fmt.{decimal}
+use Rattle.wcp_model.specs.declared.workload.Action.{Action}
+use Rattle.wcp_model.specs.declared.workload.Action.TheVariants as action
+use Rattle.wcp_model.specs.declared.workload.Task.{Task}
+
+-- The words for what a process does in a step.
+abbrev pub action_words : Action → List ℕ
+action_words (action.Observe true) = codes "true"
+action_words (action.Observe false) = codes "false"
+action_words (action.Send to) = codes "send " ++ decimal to
+action_words (action.Recv from) = codes "recv " ++ decimal from
+
+-- The line of a task, with its LF.
+abbrev pub task_line : Task → List ℕ
+task_line task = codes "p " ++ decimal task.p ++ codes " " ++ action_words task.action ++ 10 ∷ []
+
+-- The text of n processes with these tasks: two lines of head, and a line for each task.
+abbrev pub workload_text : ℕ → List Task → List ℕ
+workload_text n tasks = codes "wcp 1" ++ 10 ∷ [] ++ codes "procs " ++ decimal n ++ 10 ∷ [] ++ flat_map task_line tasks
