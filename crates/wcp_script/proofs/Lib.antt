@@ -19,3 +19,9 @@ mod Rounds
 mod Tasks
 mod Queues
 mod MessageNumbers
+mod Alike
+mod Heads
+mod Orders
+mod Reports
+mod TrueRows
+mod Delivery

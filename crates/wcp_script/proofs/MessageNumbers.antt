@@ -30,21 +30,21 @@ module _ (test : Task → Bool) where
   length-numbers start [] = refl
   length-numbers start (task ∷ tasks) =
       ⊎_elim (λ (passes : test task ≡ true). rw (numbers_passing start task tasks passes, count_cons_passing task tasks passes) (ap suc (length-numbers (start + 1) tasks)))
-          (λ (fails : test task ≡ false). rw (numbers_failing start task tasks fails, count_cons_failing task tasks fails) (length-numbers (start + 1) tasks))
-          (cases_Bool (test task))
+      (λ (fails : test task ≡ false). rw (numbers_failing start task tasks fails, count_cons_failing task tasks fails) (length-numbers (start + 1) tasks))
+      (cases_Bool (test task))
 
   -- a later task adds its place at the end, if it passes
   pub numbers_push : (start : ℕ) (tasks : List Task) (task : Task) → numbers test start (tasks ++ task ∷ []) ≡ numbers test start tasks ++ (if test task then ((start + length tasks) ∷ []) else [])
   numbers_push start [] task =
       ⊎_elim (λ (passes : test task ≡ true). rw passes (ap (λ n. n ∷ []) (omega arith)))
-          (λ (fails : test task ≡ false). rw fails refl)
-          (cases_Bool (test task))
+      (λ (fails : test task ≡ false). rw fails refl)
+      (cases_Bool (test task))
   numbers_push start (first ∷ tasks) task =
       let count : (start + 1) + length tasks ≡ start + suc (length tasks) = omega arith in
       let rest : numbers test (start + 1) (tasks ++ task ∷ []) ≡ numbers test (start + 1) tasks ++ (if test task then ((start + suc (length tasks)) ∷ []) else []) = rw (← count) (numbers_push (start + 1) tasks task) in
       ⊎_elim (λ (passes : test first ≡ true). rw (numbers_passing start first (tasks ++ task ∷ []) passes, numbers_passing start first tasks passes) (ap (λ ns. start ∷ ns) rest))
-          (λ (fails : test first ≡ false). rw (numbers_failing start first (tasks ++ task ∷ []) fails, numbers_failing start first tasks fails) rest)
-          (cases_Bool (test first))
+      (λ (fails : test first ≡ false). rw (numbers_failing start first (tasks ++ task ∷ []) fails, numbers_failing start first tasks fails) rest)
+      (cases_Bool (test first))
 
   place_after_passing : (earlier : ℕ) (task : Task) (tasks : List Task) → test task ≡ true → place_after test (suc earlier) (task ∷ tasks) ≡ 1 + place_after test earlier tasks
   place_after_passing earlier task tasks passes =
@@ -57,28 +57,28 @@ module _ (test : Task → Bool) where
   number_after start earlier [] below = absurd (omega arith)
   number_after start zero (task ∷ tasks) below =
       ⊎_elim (λ (passes : test task ≡ true). rw (numbers_passing start task tasks passes, passes) (omega arith))
-          (λ (fails : test task ≡ false).
-              let rest = number_after (start + 1) zero tasks (omega (arith, count_cons_failing task tasks fails)) in
-              rw (numbers_failing start task tasks fails, fails) (omega (arith, rest)))
-          (cases_Bool (test task))
+      (λ (fails : test task ≡ false).
+      let rest = number_after (start + 1) zero tasks (omega (arith, count_cons_failing task tasks fails)) in
+      rw (numbers_failing start task tasks fails, fails) (omega (arith, rest)))
+      (cases_Bool (test task))
   number_after start (suc earlier) (task ∷ tasks) below =
       ⊎_elim (λ (passes : test task ≡ true).
-              let rest = number_after (start + 1) earlier tasks (omega (arith, count_cons_passing task tasks passes)) in
-              rw (numbers_passing start task tasks passes) (omega (arith, rest, place_after_passing earlier task tasks passes)))
-          (λ (fails : test task ≡ false).
-              let rest = number_after (start + 1) (suc earlier) tasks (omega (arith, count_cons_failing task tasks fails)) in
-              rw (numbers_failing start task tasks fails, fails) (omega (arith, rest)))
-          (cases_Bool (test task))
+      let rest = number_after (start + 1) earlier tasks (omega (arith, count_cons_passing task tasks passes)) in
+      rw (numbers_passing start task tasks passes) (omega (arith, rest, place_after_passing earlier task tasks passes)))
+      (λ (fails : test task ≡ false).
+      let rest = number_after (start + 1) (suc earlier) tasks (omega (arith, count_cons_failing task tasks fails)) in
+      rw (numbers_failing start task tasks fails, fails) (omega (arith, rest)))
+      (cases_Bool (test task))
 
   -- later tasks don't change the place after as many as pass before them
   pub place_after-append : (earlier : ℕ) (tasks others : List Task) → earlier < count_by test tasks → place_after test earlier (tasks ++ others) ≡ place_after test earlier tasks
   place_after-append earlier [] others below = absurd (omega arith)
   place_after-append zero (task ∷ tasks) others below =
       ⊎_elim (λ (passes : test task ≡ true). rw passes refl)
-          (λ (fails : test task ≡ false). rw fails (ap (λ n. 1 + n) (place_after-append zero tasks others (omega (arith, count_cons_failing task tasks fails)))))
-          (cases_Bool (test task))
+      (λ (fails : test task ≡ false). rw fails (ap (λ n. 1 + n) (place_after-append zero tasks others (omega (arith, count_cons_failing task tasks fails)))))
+      (cases_Bool (test task))
   place_after-append (suc earlier) (task ∷ tasks) others below =
       ⊎_elim (λ (passes : test task ≡ true). rw (place_after_passing earlier task (tasks ++ others) passes, place_after_passing earlier task tasks passes)
-              (ap (λ n. 1 + n) (place_after-append earlier tasks others (omega (arith, count_cons_passing task tasks passes)))))
-          (λ (fails : test task ≡ false). rw fails (ap (λ n. 1 + n) (place_after-append (suc earlier) tasks others (omega (arith, count_cons_failing task tasks fails)))))
-          (cases_Bool (test task))
+      (ap (λ n. 1 + n) (place_after-append earlier tasks others (omega (arith, count_cons_passing task tasks passes)))))
+      (λ (fails : test task ≡ false). rw fails (ap (λ n. 1 + n) (place_after-append (suc earlier) tasks others (omega (arith, count_cons_failing task tasks fails)))))
+      (cases_Bool (test task))

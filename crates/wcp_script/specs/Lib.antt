@@ -6,3 +6,5 @@ pub mod Seen
 pub mod WorkloadReading
 pub mod Progress
 pub mod Messages
+pub mod Heads
+pub mod Rows

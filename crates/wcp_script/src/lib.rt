@@ -1,6 +1,9 @@
-//! Reads texts: what a text of a workload spells, or which fault it has.
+//! What the text of a workload means: the workload that it spells or the fault that it has, and the
+//! workload's outcome.
 #![tactic(auto)]
 
+mod computing;
+mod elimination;
 mod fault;
 mod head;
 mod lines;
@@ -8,11 +11,15 @@ mod messages;
 mod number;
 mod order;
 mod steps;
+mod true_states;
 mod workload;
+mod workload_outcome;
 
+pub use computing::computation;
 pub use fault::{FaultKind, ReadFault, ScriptFault};
 pub use order::{Schedule, fit_order};
 pub use workload::read_workload;
+pub use workload_outcome::single;
 
 #[cfg(test)]
 mod tests;

@@ -35,7 +35,10 @@ impl Messages {
         for _ in 0..n * n {
             in_transit.push(VecDeque::new(alloc))?;
         }
-        Ok(Messages { sent: 0, in_transit })
+        Ok(Messages {
+            sent: 0,
+            in_transit,
+        })
     }
 
     /// The step that a task stands for.
@@ -58,7 +61,9 @@ impl Messages {
                 Ok(Step::Send(task.p, to))
             }
             Action::Recv(from) => {
-                let message = self.in_transit[channel(n, from, task.p)].pop_front().unwrap();
+                let message = self.in_transit[channel(n, from, task.p)]
+                    .pop_front()
+                    .unwrap();
                 Ok(Step::Recv(task.p, message))
             }
         }

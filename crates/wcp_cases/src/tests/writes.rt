@@ -1,0 +1,72 @@
+//! Output that is taken in pieces, or not taken.
+
+use super::rows::{ANSWERED, Row};
+use super::run;
+use super::streams::{Sink, Trouble};
+use std::io::ErrorKind;
+
+/// A writer of so many bytes at a time.
+fn taking(alloc: std::alloc::Global, most: usize, trouble: Trouble) -> Sink {
+    Sink {
+        taken: Vec::new(alloc),
+        most,
+        trouble,
+        writes: 0,
+    }
+}
+
+/// The status of a run on the row's text.
+fn run_row<R: AllocGlobal>(rt: &R, row: &Row, output: &mut Sink, errors: &mut Sink) -> u8 {
+    let mut input = row.text.as_bytes();
+    let words = ["wcpwatch", "single"];
+    run(rt, words.as_slice(), &mut input, output, errors)
+}
+
+#[test]
+fn one_byte_at_a_time_is_the_same(rt: HostRuntime) {
+    for row in ANSWERED.iter() {
+        let mut output = taking(rt.alloc(), 1, Trouble::No);
+        let mut errors = taking(rt.alloc(), 1, Trouble::No);
+        let status = run_row(&rt, row, &mut output, &mut errors);
+        assert_eq!(rt; output.taken.as_slice(), row.output.as_bytes());
+        assert!(rt; errors.taken.is_empty());
+        assert_eq!(rt; status, row.status);
+    }
+}
+
+#[test]
+fn each_write_may_fail(rt: HostRuntime) {
+    for row in ANSWERED.iter() {
+        for write in 0..row.output.len() {
+            let mut output = taking(rt.alloc(), 1, Trouble::At(write, ErrorKind::Other));
+            let mut errors = taking(rt.alloc(), 1, Trouble::No);
+            let status = run_row(&rt, row, &mut output, &mut errors);
+            assert_eq!(rt; output.taken.as_slice(), &row.output.as_bytes()[..write]);
+            assert_eq!(rt; errors.taken.as_slice(), b"wcpwatch: write\n".as_slice());
+            assert_eq!(rt; status, 2);
+        }
+    }
+}
+
+#[test]
+fn a_write_of_nothing_fails(rt: HostRuntime) {
+    for row in ANSWERED.iter() {
+        let mut output = taking(rt.alloc(), 0, Trouble::No);
+        let mut errors = taking(rt.alloc(), 1, Trouble::No);
+        let status = run_row(&rt, row, &mut output, &mut errors);
+        assert!(rt; output.taken.is_empty());
+        assert_eq!(rt; errors.taken.as_slice(), b"wcpwatch: write\n".as_slice());
+        assert_eq!(rt; status, 2);
+    }
+}
+
+#[test]
+fn the_status_stays_where_errors_fail(rt: HostRuntime) {
+    for row in ANSWERED.iter() {
+        let mut output = taking(rt.alloc(), 0, Trouble::No);
+        let mut errors = taking(rt.alloc(), 1, Trouble::Always(ErrorKind::Other));
+        let status = run_row(&rt, row, &mut output, &mut errors);
+        assert!(rt; errors.taken.is_empty());
+        assert_eq!(rt; status, 2);
+    }
+}

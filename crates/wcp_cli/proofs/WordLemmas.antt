@@ -1,0 +1,115 @@
+use Rattle.std.proofs.Common.{◌≡◌, ◌&&◌, Bool, true, false, List, [], ◌∷◌, ◌++◌, drop, fold, codes, ap, ◌∙◌, append_assoc, append-nil, Some, sym, refl, subst, None, inl, inr, ◌⊎◌, ⊎_elim}
+use Rattle.clap.proofs.OnLiterals.{clap_on_literals}
+use Rattle.clap.specs.Words.{App, IsAmong, Kinds, Text, fault_of, is_simple, is_simple_and_free, takes, built}
+use Rattle.clap.specs.Faults.{built_fault}
+use Rattle.clap.specs.Takes.{built_takes}
+use Rattle.clap.specs.Lexer.{strip_byte}
+use Rattle.clap.specs.Simple.{names_of}
+use Rattle.clap.specs.Walk.{Names, Rule, Walk, nothing_held, walk_from, walked}
+use Rattle.clap.proofs.FaultLemmas.{stopped_fault}
+use Rattle.std.proofs.lemmas.Bool.{false_from_ne_true}
+use Rattle.std.proofs.lemmas.Slice.Eq.{bytes_eq-Decides}
+use Rattle.clap.specs.declared.error.kind.ErrorKind.TheVariants as kind
+use Rattle.std.specs.Str.{bytes_eq}
+use Rattle.wcp_cli.specs.Words.{AskForSingle, AskForHelp, AskForUnknown, Unknown, Further, is_flag, program}
+
+pub program_is_free : is_simple_and_free program ≡ true
+unfolding clap_on_literals
+program_is_free = refl
+
+no_word_is_taken : built_takes (built program) nothing_held [] ≡ true
+unfolding clap_on_literals
+no_word_is_taken = refl
+
+single_is_taken : built_takes (built program) nothing_held (codes "single" ∷ []) ≡ true
+unfolding clap_on_literals
+single_is_taken = refl
+
+-- the words that ask for an outcome are taken
+pub single-takes : (words : List Text) → AskForSingle words → takes program words ≡ true
+single-takes words asked =
+    ⊎_elim (λ (none : drop 1 words ≡ []). subst (λ (ws : List Text). (built_takes (built program) nothing_held ws ≡ true)) (sym none) no_word_is_taken)
+    (λ (one : drop 1 words ≡ codes "single" ∷ []). subst (λ (ws : List Text). (built_takes (built program) nothing_held ws ≡ true)) (sym one) single_is_taken)
+    asked
+
+-- the kinds that a parse may fail by are not none, at words that ask for help
+help_fails : built_fault (built program) nothing_held (codes "help" ∷ []) ≡ [] → ⊥
+unfolding clap_on_literals
+help_fails bad = cc
+
+short_flag_fails : built_fault (built program) nothing_held (codes "-h" ∷ []) ≡ [] → ⊥
+unfolding clap_on_literals
+short_flag_fails bad = cc
+
+long_flag_fails : built_fault (built program) nothing_held (codes "--help" ∷ []) ≡ [] → ⊥
+unfolding clap_on_literals
+long_flag_fails bad = cc
+
+pub help-fails : (words : List Text) → AskForHelp words → fault_of program words ≡ [] → ⊥
+help-fails words asked =
+    elim asked [
+      | inl e ↦ subst (λ (ws : List Text). (built_fault (built program) nothing_held ws ≡ [] → ⊥)) (sym e) help_fails
+      | inr (inl e) ↦ subst (λ (ws : List Text). (built_fault (built program) nothing_held ws ≡ [] → ⊥)) (sym e) short_flag_fails
+      | inr (inr e) ↦ subst (λ (ws : List Text). (built_fault (built program) nothing_held ws ≡ [] → ⊥)) (sym e) long_flag_fails
+    ]
+
+-- ---- words that the command doesn't know
+
+no_hyphen : (word : Text) → is_flag word ≡ false → strip_byte 45 word ≡ None
+no_hyphen [] no_flag = refl
+no_hyphen (byte ∷ bytes) no_flag = rw no_flag refl
+
+not_end_of_flags : (word : Text) → is_flag word ≡ false → bytes_eq word (45 ∷ 45 ∷ []) ≡ false
+not_end_of_flags [] no_flag = refl
+not_end_of_flags (byte ∷ bytes) no_flag = rw no_flag refl
+
+not_equal : (name word : Text) → (word ≡ name → ⊥) → bytes_eq name word ≡ false
+not_equal name word differs = false_from_ne_true (bytes_eq name word) (λ same. differs (sym ((bytes_eq-Decides name word).0 same)))
+
+-- the first word is unknown
+unknown_first : (word : Text) (rest : List Text) → strip_byte 45 word ≡ None → bytes_eq (codes "single") word ≡ false → bytes_eq (codes "help") word ≡ false
+    → bytes_eq word (45 ∷ 45 ∷ []) ≡ false
+    → built_fault (built program) nothing_held (word ∷ rest) ≡ kind.UnknownArgument ∷ kind.InvalidSubcommand ∷ []
+unfolding clap_on_literals
+unknown_first word rest no_flag not_single not_help not_end = simp (not_single, not_help, not_end, no_flag) refl
+
+-- what follows the name of a subcommand is left to it
+stays_stopped : (rules : List Rule) (names : Names) (w : Walk) (name : Text) (before words : List Text)
+    → (fold (walked rules names) (record w { stopped = Some (name, before) }) words).stopped ≡ Some (name, before ++ words)
+unfolding walked
+stays_stopped rules names w name before [] = ap (λ ws. Some (name, ws)) (sym (append-nil before))
+stays_stopped rules names w name before (word ∷ words) =
+    stays_stopped rules names w name (before ++ word ∷ []) words ∙ ap (λ ws. Some (name, ws)) (append_assoc before (word ∷ []) words)
+
+-- `single` has a further word
+further_word : (word : Text) (rest : List Text) → strip_byte 45 word ≡ None → bytes_eq word (45 ∷ 45 ∷ []) ≡ false
+    → built_fault (built program) nothing_held (codes "single" ∷ word ∷ rest) ≡ kind.UnknownArgument ∷ []
+unfolding clap_on_literals
+further_word word rest no_flag not_end =
+    let stops = stays_stopped (built program).top.rules (names_of (built program)) (walk_from nothing_held) (codes "single") (word ∷ []) rest in
+    let passes = stopped_fault (built program).top (names_of (built program)) (walk_from nothing_held) (codes "single", word ∷ []) rest in
+    simp (stops, passes, not_end, no_flag) refl
+
+-- A parse fails, and not for help.
+pub record FailsPlainly (kinds : Kinds) : Type 0 where
+  pub fails : kinds ≡ [] → ⊥
+  pub no_help : IsAmong kind.DisplayHelp kinds → ⊥
+
+fails_by_word : FailsPlainly (kind.UnknownArgument ∷ kind.InvalidSubcommand ∷ [])
+fails_by_word = record {
+    fails = λ bad. cc;
+    no_help = λ among. elim among [ inl bad ↦ cc | inr rest ↦ elim rest [ inl bad ↦ cc | inr none ↦ none ] ];
+  }
+
+fails_by_argument : FailsPlainly (kind.UnknownArgument ∷ [])
+fails_by_argument = record { fails = λ bad. cc; no_help = λ among. elim among [ inl bad ↦ cc | inr none ↦ none ] }
+
+-- words that ask for what the program doesn't know are refused, and not as a wish for help
+pub unknown-fails : (words : List Text) → AskForUnknown words → FailsPlainly (fault_of program words)
+unknown-fails words (Unknown word rest is unknown) =
+    let fault = unknown_first word rest (no_hyphen word unknown.no_flag) (not_equal (codes "single") word unknown.not_single)
+        (not_equal (codes "help") word unknown.not_help) (not_end_of_flags word unknown.no_flag) in
+    subst FailsPlainly (sym (ap (built_fault (built program) nothing_held) is ∙ fault)) fails_by_word
+unknown-fails words (Further word rest is no_flag) =
+    let fault = further_word word rest (no_hyphen word no_flag) (not_end_of_flags word no_flag) in
+    subst FailsPlainly (sym (ap (built_fault (built program) nothing_held) is ∙ fault)) fails_by_argument

@@ -1,0 +1,4 @@
+pub mod Bytes
+pub mod ReportText
+pub mod Run
+pub mod Words

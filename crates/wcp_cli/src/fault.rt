@@ -1,0 +1,46 @@
+ghost use Rattle.std.specs.Prelude.{◌≡◌};
+ghost use Rattle.wcp_cli.specs.declared.fault.Fault.TheVariants.{Memory};
+
+use std::alloc::AllocError;
+use thiserror::Error;
+use wcp_script::{ReadFault, ScriptFault};
+
+/// Why the program gives no answer. It displays as its line on standard error, without the name of
+/// the program.
+#[derive(Clone, Copy, Debug, PartialEq, Eq, Error)]
+pub enum Fault {
+    /// The words after the program's name ask for nothing that it knows.
+    #[error("usage")]
+    Usage,
+    /// A read failed, or the input doesn't end.
+    #[error("read")]
+    Read,
+    /// The text is longer than the program reads.
+    #[error("toolarge")]
+    TooLarge,
+    /// The text spells no workload.
+    #[error(transparent)]
+    Script(ScriptFault),
+    #[error("memory")]
+    Memory,
+    /// Writing the output failed.
+    #[error("write")]
+    Write,
+}
+
+impl From<AllocError> for Fault {
+    ghost from_gives = { λ _ e. e ≡ Memory };
+
+    fn from(_error: AllocError) -> Fault {
+        Fault::Memory
+    }
+}
+
+impl From<ReadFault> for Fault {
+    fn from(fault: ReadFault) -> Fault {
+        match fault {
+            ReadFault::Script(fault) => Fault::Script(fault),
+            ReadFault::NoMemory => Fault::Memory,
+        }
+    }
+}

@@ -1,0 +1,13 @@
+//! The program `wcpwatch` as a function from words and bytes to bytes and a status.
+#![tactic(auto)]
+
+mod fault;
+mod help;
+mod input;
+mod output;
+mod program;
+pub mod report_text;
+mod words;
+
+pub use fault::Fault;
+pub use program::{drive, refuse};

@@ -1,0 +1,125 @@
+//! The program, over any reader and writers.
+ghost use Rattle.std.specs.Prelude.{◌≡◌, ◌≤◌, map, IfOk, MatchResult};
+ghost use Rattle.std.specs.Io.KnownBytes.{Keeps};
+ghost use Rattle.wcp_cli.specs.Run.{Answers, IsRun, Refuses, Shows, TurnsAway, status_of};
+ghost use Rattle.wcp_cli.specs.Words.{AskForSingle, AskForHelp, AskForUnknown};
+
+use crate::fault::Fault;
+use crate::input::read_text;
+use crate::output::write_whole;
+use crate::report_text::report_text;
+use crate::words::{Request, read_words};
+use std::alloc::Global;
+use std::convert::AsStr;
+use std::io::{Read, Write};
+use wcp_model::Report;
+use wcp_script::{read_workload, single};
+
+/// The status where a bad moment was found, and after help.
+const FOUND: u8 = 0;
+
+/// The status where there is no bad moment, or none is known.
+const NOT_FOUND: u8 = 1;
+
+/// The status of a run that gives no answer.
+const REFUSED: u8 = 2;
+
+/// Runs the program on its words, of which the first is its name, and gives its exit status.
+///
+/// The output is written in one piece, when all of it is known. Where there is no answer, `errors`
+/// gets one line that says why.
+pub fn drive<R: AllocGlobal, S: AsStr, I: Read, O: Write, E: Write>(
+    rt: &R,
+    words: &[S],
+    input: &mut I,
+    output: &mut O,
+    errors: &mut E,
+) -> u8
+    ensures status { result ≤ 2 }
+    ensures quiet { result ≤ 1 → Keeps (E.contents errors.old) (E.contents errors.new) }
+
+    // With any words.
+    ensures any { IsRun (I.remaining input.old) (I.remaining input.new) (O.contents output.old) (O.contents output.new) result }
+
+    // With no word after the program's name, or `single` alone.
+    ensures answers { AskForSingle (map S.text words.now) → result ≤ 1
+        → Answers (I.remaining input.old) (I.remaining input.new) (O.contents output.old) (O.contents output.new) result }
+    ensures refuses { AskForSingle (map S.text words.now) → result ≡ 2
+        → Refuses (I.remaining input.old) (I.remaining input.new) (O.contents output.old) (O.contents output.new) }
+
+    // With a word for help.
+    ensures help { AskForHelp (map S.text words.now)
+        → Shows (I.remaining input.old) (I.remaining input.new) (O.contents output.old) (O.contents output.new) result }
+
+    // With words that the program doesn't know.
+    ensures unknown { AskForUnknown (map S.text words.now)
+        → TurnsAway (I.remaining input.old) (I.remaining input.new) (O.contents output.old) (O.contents output.new) result }
+{
+    match answer(rt.alloc(), words, input, output) {
+        Ok(status) => status,
+        Err(fault) => refuse(errors, fault),
+    }
+}
+
+/// Writes the line that says why there is no answer, and gives the status of such a run. It is that
+/// status also where the line can't be written.
+pub fn refuse<E: Write>(errors: &mut E, fault: Fault) -> u8
+    ensures { result ≡ 2 }
+{
+    let _ = writeln!(errors, "wcpwatch: {fault}");
+    REFUSED
+}
+
+/// Does what the words ask for, and gives the status.
+fn answer<S: AsStr, I: Read, O: Write>(
+    alloc: Global,
+    words: &[S],
+    input: &mut I,
+    output: &mut O,
+) -> Result<u8, Fault>
+    ensures status { IfOk result (λ status. status ≤ 1) }
+    ensures any { MatchResult result
+        (IsRun (I.remaining input.old) (I.remaining input.new) (O.contents output.old) (O.contents output.new))
+        (λ fault. IsRun (I.remaining input.old) (I.remaining input.new) (O.contents output.old) (O.contents output.new) 2) }
+    ensures single { AskForSingle (map S.text words.now) → MatchResult result
+        (Answers (I.remaining input.old) (I.remaining input.new) (O.contents output.old) (O.contents output.new))
+        (λ fault. Refuses (I.remaining input.old) (I.remaining input.new) (O.contents output.old) (O.contents output.new)) }
+    ensures help { AskForHelp (map S.text words.now) → MatchResult result
+        (Shows (I.remaining input.old) (I.remaining input.new) (O.contents output.old) (O.contents output.new))
+        (λ fault. Shows (I.remaining input.old) (I.remaining input.new) (O.contents output.old) (O.contents output.new) 2) }
+    ensures unknown { AskForUnknown (map S.text words.now) → MatchResult result (λ status. ⊥)
+        (λ fault. TurnsAway (I.remaining input.old) (I.remaining input.new) (O.contents output.old) (O.contents output.new) 2) }
+{
+    match read_words(alloc, words)? {
+        Request::Single => give_outcome(alloc, input, output),
+        Request::Help(text) => {
+            write_whole(output, text.as_bytes())?;
+            Ok(FOUND)
+        }
+    }
+}
+
+/// Reads a workload and writes its outcome.
+fn give_outcome<I: Read, O: Write>(alloc: Global, input: &mut I, output: &mut O) -> Result<u8, Fault>
+    ensures status { IfOk result (λ status. status ≤ 1) }
+    ensures run { MatchResult result
+        (Answers (I.remaining input.old) (I.remaining input.new) (O.contents output.old) (O.contents output.new))
+        (λ fault. Refuses (I.remaining input.old) (I.remaining input.new) (O.contents output.old) (O.contents output.new)) }
+{
+    let text = read_text(alloc, input)?;
+    let workload = read_workload(alloc, text.as_slice())?;
+    let outcome = single(alloc, &workload)?;
+    let report = report_text(alloc, &outcome)?;
+    write_whole(output, report.as_slice())?;
+    Ok(status_of(&outcome.report))
+}
+
+/// The status after a report.
+fn status_of(report: &Report) -> u8
+    ensures { result ≡ status_of report.now }
+{
+    match report {
+        Report::Found(_) => FOUND,
+        Report::Nothing | Report::Undecided => NOT_FOUND,
+    }
+}

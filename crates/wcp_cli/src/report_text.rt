@@ -1,0 +1,62 @@
+//! The printed text of an outcome.
+ghost use Rattle.std.specs.Prelude.{◌≡◌, ◌++◌, IfOk, OnOk, string_bytes};
+ghost use Rattle.wcp_cli.specs.ReportText.{cut_text, report_line, process_lines, total_line, outcome_text};
+
+use std::alloc::{AllocError, Global};
+use wcp_model::{GlobalCut, Outcome, Report, Tallies};
+
+/// The text of an outcome: what is known of the bad moment, a line for each process, and the sums.
+pub fn report_text(alloc: Global, outcome: &Outcome) -> Result<Vec<u8>, AllocError>
+    ensures { IfOk result (λ text. text.items ≡ outcome_text outcome.now) }
+{
+    let mut text = String::new(alloc);
+    push_report(&mut text, &outcome.report)?;
+    push_processes(&mut text, &outcome.tallies)?;
+    push_total(&mut text, &outcome.tallies)?;
+    Ok(text.into_bytes())
+}
+
+fn push_report(text: &mut String, report: &Report) -> Result<(), AllocError>
+    ensures { OnOk result (string_bytes text.new ≡ string_bytes text.old ++ report_line report.now) }
+{
+    match report {
+        Report::Found(cut) => push_cut(text, cut),
+        Report::Nothing => text.push_str("none\n"),
+        Report::Undecided => text.push_str("undecided\n"),
+    }
+}
+
+fn push_cut(text: &mut String, cut: &GlobalCut) -> Result<(), AllocError>
+    ensures { OnOk result (string_bytes text.new ≡ string_bytes text.old ++ cut_text cut.now) }
+{
+    text.push_str("found")?;
+    for p in 0..cut.len() {
+        let interval = cut.get(p);
+        write!(text, " {interval}")?;
+    }
+    text.push_str("\n")
+}
+
+fn push_processes(text: &mut String, tallies: &Tallies) -> Result<(), AllocError>
+    ensures { OnOk result (string_bytes text.new ≡ string_bytes text.old ++ process_lines tallies.now) }
+{
+    for p in 0..tallies.len() {
+        let tally = tallies.get(p);
+        let (emitted, taken) = (tally.emitted, tally.taken);
+        writeln!(text, "process {p} emitted {emitted} taken {taken}")?;
+    }
+    Ok(())
+}
+
+fn push_total(text: &mut String, tallies: &Tallies) -> Result<(), AllocError>
+    ensures { OnOk result (string_bytes text.new ≡ string_bytes text.old ++ total_line tallies.now) }
+{
+    let mut emitted: u128 = 0;
+    let mut taken: u128 = 0;
+    for p in 0..tallies.len() {
+        let tally = tallies.get(p);
+        emitted += u128::from(tally.emitted);
+        taken += u128::from(tally.taken);
+    }
+    writeln!(text, "total emitted {emitted} taken {taken}")
+}
