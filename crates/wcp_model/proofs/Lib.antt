@@ -20,3 +20,6 @@ pub mod RunningLog
 pub mod StateClocks
 pub mod OnePass
 pub mod Turns
+pub mod PlanPaths
+pub mod FirstFault
+pub mod PlainPlans

@@ -6,3 +6,4 @@ pub mod Outcome
 pub mod StateClock
 pub mod Emission
 pub mod ProbeLog
+pub mod PlanFault

@@ -18,7 +18,7 @@ pub use cut_laws::{least_cut_law, minimum_law};
 pub use fit_orders::fit_order_law;
 pub use outcome::{GlobalCut, Outcome, Report, Tallies, Tally};
 pub use plain::{happened_before, is_satisfying_cut, is_true_state};
-pub use plan::{Parent, Plan, plain_plan};
+pub use plan::{Parent, Plan, PlanFault, plain_plan};
 pub use probe_log::log_law;
 pub use state::State;
 pub use step::{Reply, Step, Why};

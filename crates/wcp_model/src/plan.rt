@@ -1,7 +1,19 @@
-ghost use Rattle.std.specs.Prelude.{◌≡◌, ℕ, [], ◌∷◌, replicate, IfOk, Some};
+ghost use Rattle.std.specs.Prelude.{◌≡◌, ◌↔◌, ℕ, ◌+◌, ◌<◌, ◌≤◌, List, [], ◌∷◌, length, replicate, IsTrue, IsOk, IfOk, Some, Err};
 ghost use Rattle.wcp_model.specs.declared.plan.Parent.TheVariants.{Root};
+ghost use Rattle.wcp_model.specs.declared.plan.PlanFault.{PlanFault};
+ghost use Rattle.wcp_model.specs.declared.plan.PlanFault.TheVariants as plan_fault;
+ghost use Rattle.wcp_model.specs.PlanFault.{HasFault, HasWrongParent, IsFirstFault, IsCheckedPlan, IsPath, ServesProcess, ServesRelay, rank};
 
 use std::alloc::{AllocError, Global};
+use wcp_clock::MAX_PROCS;
+
+const MAX_CAP: u32 = 1024;
+
+const MAX_HOLD: u32 = 64;
+
+const MAX_RELAYS: usize = 15;
+/// The most relays on a path to the root.
+const MAX_PATH: usize = 8;
 
 /// What a relay passes its items to.
 #[derive(Clone, Copy, Debug, PartialEq, Eq)]
@@ -34,6 +46,7 @@ pub fn plain_plan(alloc: Global, n: u32, cap: u32, hold: u32) -> Result<Plan, Al
     ensures hold { IfOk result (λ plan. plan.hold ≡ hold) }
     ensures parents { IfOk result (λ plan. plan.parents.items ≡ Root ∷ []) }
     ensures attach { IfOk result (λ plan. plan.attach.items ≡ replicate n (Some 0)) }
+    ensures checked { IfOk result (λ plan. 1 ≤ n → n ≤ 16 → 1 ≤ cap → cap ≤ 1024 → 1 ≤ hold → hold ≤ 64 → IsCheckedPlan plan) }
 {
     Ok(Plan {
         n,
@@ -44,16 +57,162 @@ pub fn plain_plan(alloc: Global, n: u32, cap: u32, hold: u32) -> Result<Plan, Al
     })
 }
 
-#[cfg(test)]
-mod tests {
-    use super::*;
+/// Why a plan is refused. Where several faults apply, the first in this order is given.
+#[derive(Clone, Copy, Debug, PartialEq, Eq)]
+pub enum PlanFault {
+    /// The number of processes is out of its limits.
+    Procs,
+    /// The capacity of links and inboxes is out of its limits.
+    Cap,
+    /// The capacity of holds is out of its limits.
+    Hold,
+    /// There is no relay, there are too many, or the parent of one is neither a lower relay nor the
+    /// root.
+    Parent,
+    /// A path to the root has more than 8 relays.
+    Depth,
+    /// A relay serves both a process and a relay.
+    Mixed,
+    /// A relay serves nothing.
+    Childless,
+    /// `attach` has more or fewer entries than there are processes, or an entry that names no relay.
+    Unattached,
+}
 
-    #[test]
-    fn one_relay_serves_both_processes(rt: HostRuntime) -> Result<(), AllocError> {
-        let plan = plain_plan(rt.alloc(), 2, 8, 4)?;
-        assert_eq!(rt; (plan.n, plan.cap, plan.hold), (2, 8, 4));
-        assert_eq!(rt; plan.parents.as_slice(), [Parent::Root].as_slice());
-        assert_eq!(rt; plan.attach.as_slice(), [Some(0), Some(0)].as_slice());
+/// The faults in the order in which they are looked for.
+const FAULTS: [PlanFault; 8] = [
+    PlanFault::Procs,
+    PlanFault::Cap,
+    PlanFault::Hold,
+    PlanFault::Parent,
+    PlanFault::Depth,
+    PlanFault::Mixed,
+    PlanFault::Childless,
+    PlanFault::Unattached,
+];
+
+impl Plan {
+    /// Whether this plan is within the limits, and a tree whose leaves serve the processes; else its
+    /// first fault.
+    pub fn check(&self) -> Result<(), PlanFault>
+        ensures ok { IsOk result ↔ IsCheckedPlan self.now }
+        ensures err { (first : PlanFault) → (result ≡ Err first) ↔ IsFirstFault self.now first }
+    {
+        for fault in FAULTS {
+            if self.has_fault(fault) {
+                return Err(fault);
+            }
+        }
         Ok(())
     }
+
+    /// Whether the plan has this fault. Those after `Parent` are looked for where no parent is wrong.
+    fn has_fault(&self, fault: PlanFault) -> bool
+        requires { rank plan_fault.Parent < rank fault → ¬ HasFault self.now plan_fault.Parent }
+        ensures { IsTrue result ↔ HasFault self.now fault }
+    {
+        match fault {
+            PlanFault::Procs => self.n < 1 || self.n as usize > MAX_PROCS,
+            PlanFault::Cap => self.cap < 1 || self.cap > MAX_CAP,
+            PlanFault::Hold => self.hold < 1 || self.hold > MAX_HOLD,
+            PlanFault::Parent => self.has_wrong_parent(),
+            PlanFault::Depth => self.has_deep_path(),
+            PlanFault::Mixed => self.has_mixed_relay(),
+            PlanFault::Childless => self.has_childless_relay(),
+            PlanFault::Unattached => self.has_unattached_process(),
+        }
+    }
+
+    fn has_wrong_parent(&self) -> bool
+        ensures { IsTrue result ↔ HasFault self.now plan_fault.Parent }
+    {
+        if self.parents.is_empty() || self.parents.len() > MAX_RELAYS {
+            return true;
+        }
+        for (relay, parent) in self.parents.iter().enumerate() {
+            if let Parent::Relay(above) = parent
+                && *above as usize >= relay
+            {
+                return true;
+            }
+        }
+        false
+    }
+
+    fn has_deep_path(&self) -> bool
+        requires { ¬ HasFault self.now plan_fault.Parent }
+        ensures { IsTrue result ↔ HasFault self.now plan_fault.Depth }
+    {
+        for relay in 0..self.parents.len() {
+            if path_length(&self.parents, relay) > MAX_PATH {
+                return true;
+            }
+        }
+        false
+    }
+
+    fn has_mixed_relay(&self) -> bool
+        requires { ¬ HasFault self.now plan_fault.Parent }
+        ensures { IsTrue result ↔ HasFault self.now plan_fault.Mixed }
+    {
+        for relay in 0..self.parents.len() as u32 {
+            if self.serves_process(relay) && self.serves_relay(relay) {
+                return true;
+            }
+        }
+        false
+    }
+
+    fn has_childless_relay(&self) -> bool
+        requires { ¬ HasFault self.now plan_fault.Parent }
+        ensures { IsTrue result ↔ HasFault self.now plan_fault.Childless }
+    {
+        for relay in 0..self.parents.len() as u32 {
+            if !self.serves_process(relay) && !self.serves_relay(relay) {
+                return true;
+            }
+        }
+        false
+    }
+
+    fn has_unattached_process(&self) -> bool
+        ensures { IsTrue result ↔ HasFault self.now plan_fault.Unattached }
+    {
+        if self.attach.len() != self.n as usize {
+            return true;
+        }
+        self.attach.iter().any(|entry| match entry {
+            Some(relay) => *relay as usize >= self.parents.len(),
+            None => true,
+        })
+    }
+
+    fn serves_process(&self, relay: u32) -> bool
+        ensures { IsTrue result ↔ ServesProcess self.now relay }
+    {
+        let served = self.attach.get(..self.n as usize).unwrap_or(&self.attach);
+        served.contains(&Some(relay))
+    }
+
+    fn serves_relay(&self, relay: u32) -> bool
+        ensures { IsTrue result ↔ ServesRelay self.now relay }
+    {
+        self.parents.contains(&Parent::Relay(relay))
+    }
 }
+
+/// How many relays the path from a relay to the root has.
+fn path_length(parents: &[Parent], relay: usize) -> usize
+    requires right { ¬ HasWrongParent parents.now }
+    requires within { relay < length parents.now }
+    ensures path { (path : List ℕ) × IsPath parents.now (relay ∷ path) × (result ≡ length (relay ∷ path)) }
+    ensures short { result ≤ relay + 1 }
+{
+    match parents[relay] {
+        Parent::Root => 1,
+        Parent::Relay(above) => path_length(parents, above as usize) + 1,
+    }
+}
+
+#[cfg(test)]
+mod tests;

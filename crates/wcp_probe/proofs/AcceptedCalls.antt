@@ -98,7 +98,8 @@ merged-counted (x ∷ xs) (y ∷ ys) (suc p) k same below = ap (λ rest. max x y
 pub received : (clock stamp ticked : List ℕ) (p : ℕ) → p < length clock → length stamp ≡ length clock → slice_index stamp p ≤ slice_index clock p → ticked ≡ slice_set clock p (slice_index clock p + 1) → (length (merged ticked stamp) ≡ length clock) × (slice_index (merged ticked stamp) p ≡ slice_index clock p + 1) × (merged ticked stamp ≡ slice_set (merged clock stamp) p (slice_index clock p + 1))
 received clock stamp ticked p inside same behind is =
     let ticked_length : length ticked ≡ length clock = ap length is ∙ length-set clock p (slice_index clock p + 1) in
-    let own : slice_index ticked p ≡ slice_index clock p + 1 = ap (λ v. slice_index v p) is ∙ get_or-set_same clock p (slice_index clock p + 1) 0 inside in
-    (length-merged ticked stamp (ticked_length ∙ sym same) ∙ ticked_length,
-    slice_index-merged ticked stamp p (ticked_length ∙ sym same) ∙ omega arith,
-    ap (λ v. merged v stamp) is ∙ merged-counted clock stamp p (slice_index clock p + 1) (sym same) (omega arith))
+    let own : slice_index ticked p ≡ slice_index clock p + 1 = ap (λ v. slice_index v p) is ∙ get_or-set_same clock p (slice_index clock p + 1) 0 inside in (
+      length-merged ticked stamp (ticked_length ∙ sym same) ∙ ticked_length,
+      slice_index-merged ticked stamp p (ticked_length ∙ sym same) ∙ omega arith,
+      ap (λ v. merged v stamp) is ∙ merged-counted clock stamp p (slice_index clock p + 1) (sym same) (omega arith),
+    )

@@ -28,3 +28,10 @@ pub record StandsFor (core : Core) (log : List Call) : Type 0 where
 -- The probe after a call that was accepted: of whatever log it stood for, it now stands for that log with the call at its end.
 abbrev pub Accepts : Core → Call → Core → Type 0
 Accepts old call new = (log : List Call) → StandsFor old log → StandsFor new (log ++ call ∷ [])
+
+-- The probe is still that of the same watch, process, number of processes and limit.
+pub record IsSameProbe (old new : Core) : Type 0 where
+  pub watch : new.watch ≡ old.watch
+  pub id : new.id ≡ old.id
+  pub limit : new.limit ≡ old.limit
+  pub components : length new.clock ≡ length old.clock

@@ -3,7 +3,7 @@ ghost use Rattle.wcp_clock.specs.declared.clock.TheConstants.{MAX_PROCS, CLOCK_L
 ghost use Rattle.wcp_clock.specs.declared.note.Note.TheVariants as note;
 ghost use Rattle.wcp_model.specs.ProbeLog.{Call, Observed, Sent, Received};
 ghost use Rattle.wcp_model.specs.ProbeLog.{Closed as closed_call};
-ghost use Rattle.wcp_probe.specs.Core.{Core, StandsFor, Accepts};
+ghost use Rattle.wcp_probe.specs.Core.{Core, StandsFor, Accepts, IsSameProbe};
 ghost use Rattle.wcp_probe.specs.Seal.{Seal, seal_of, value_of, IsSealed};
 ghost use Rattle.wcp_probe.specs.Refusals.{observe_refusal, close_refusal, stamp_refusal, receive_refusal, stamp_mismatch};
 
@@ -52,8 +52,14 @@ impl Model for ProbeCore {
     ghost Value = { Core };
 
     ghost view = { λ p. record {
-      watch = p.watch; id = p.id; limit = p.limit; clock = p.clock; flag = p.flag;
-      closed = p.closed; emitted = p.emitted; pending = p.pending;
+      watch = p.watch;
+      id = p.id;
+      limit = p.limit;
+      clock = p.clock;
+      flag = p.flag;
+      closed = p.closed;
+      emitted = p.emitted;
+      pending = p.pending;
     } };
 
     ghost invariant = { λ p. record {
@@ -74,8 +80,14 @@ impl ProbeCore {
         requires processes { n ≤ MAX_PROCS }
         requires limit { limit ≤ CLOCK_LIMIT }
         ensures fresh { result ≡ record {
-            watch = watch; id = id; limit = limit; clock = replicate n 0; flag = false;
-            closed = false; emitted = 0; pending = None;
+          watch = watch;
+          id = id;
+          limit = limit;
+          clock = replicate n 0;
+          flag = false;
+          closed = false;
+          emitted = 0;
+          pending = None;
         } }
         ensures empty { StandsFor result [] }
     {
@@ -121,9 +133,14 @@ impl ProbeCore {
     pub fn stamp<T>(&mut self, to: u32, value: T) -> Result<Stamped<T>, (Refusal, T)>
         ensures first { MatchResult result (λ _. stamp_refusal self.old to ≡ None) (λ back. stamp_refusal self.old to ≡ Some back.0) }
         ensures accepted { OnOk result (Accepts self.old Sent self.new) }
+        ensures same { OnOk result (IsSameProbe self.old self.new) }
         ensures pending { OnOk result (self.new.pending ≡ self.old.pending) }
         ensures stamped { IfOk result (λ message. IsSealed message (record {
-            watch = self.old.watch; from = self.old.id; to = to; clock = self.new.clock }) value) }
+          watch = self.old.watch;
+          from = self.old.id;
+          to = to;
+          clock = self.new.clock;
+        }) value) }
         ensures refused { IfErr result (λ back. (back.1 ≡ value) × (self.new ≡ self.old)) }
     {
         if to >= self.clock.len() || to == self.id {
@@ -153,6 +170,7 @@ impl ProbeCore {
     pub fn receive<T>(&mut self, message: Stamped<T>) -> Result<T, (Refusal, Stamped<T>)>
         ensures first { MatchResult result (λ _. receive_refusal self.old (seal_of message) ≡ None) (λ back. receive_refusal self.old (seal_of message) ≡ Some back.0) }
         ensures accepted { OnOk result (Accepts self.old (Received (seal_of message).clock) self.new) }
+        ensures same { OnOk result (IsSameProbe self.old self.new) }
         ensures pending { OnOk result (self.new.pending ≡ self.old.pending) }
         ensures value { IfOk result (λ value. value ≡ value_of message) }
         ensures refused { IfErr result (λ back. (back.1 ≡ message) × (self.new ≡ self.old)) }
@@ -165,7 +183,13 @@ impl ProbeCore {
         };
         self.clock = clock.merge(&message.clock);
         self.flag = false;
-        let Stamped { watch: _, from: _, to: _, clock: _, value } = message;
+        let Stamped {
+            watch: _,
+            from: _,
+            to: _,
+            clock: _,
+            value,
+        } = message;
         Ok(value)
     }
 

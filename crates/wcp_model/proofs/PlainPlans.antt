@@ -1,0 +1,35 @@
+use Rattle.std.proofs.Common.{◌≡◌, ℕ, zero, suc, ◌≤◌, List, [], ◌∷◌, Some, length, replicate, slice_get, subst, ⊎_elim, arith}
+use Rattle.std.proofs.lemmas.List.{length-replicate, get_or-replicate, take_all}
+use Rattle.wcp_model.specs.declared.plan.Parent.{Parent}
+use Rattle.wcp_model.specs.declared.plan.Parent.TheVariants.{Root, Relay}
+use Rattle.wcp_model.specs.declared.plan.Plan.{Plan}
+use Rattle.wcp_model.specs.declared.plan.PlanFault.TheVariants as fault
+use Rattle.wcp_model.specs.PlanFault.{IsOutside, IsPath, IsCheckedPlan}
+
+inside : (least most x : ℕ) → least ≤ x → x ≤ most → ¬ IsOutside least most x
+inside least most x low high = ⊎_elim (λ less. omega arith) (λ more. omega arith)
+
+-- one relay under the root has no relay as its parent
+pub under_root : (relay above : ℕ) → ¬ (slice_get (Root ∷ []) relay ≡ Some (Relay above))
+under_root zero above parent = cc
+under_root (suc relay) above parent = cc
+
+-- so a path has one relay
+pub path_under_root : (path : List ℕ) → IsPath (Root ∷ []) path → length path ≤ 1
+path_under_root [] path = absurd path
+path_under_root (relay ∷ []) path = omega arith
+path_under_root (relay ∷ above ∷ rest) path = absurd (under_root relay above path.0)
+
+-- a plan of one relay, which serves every process, has no fault within the limits
+pub plain_is_checked : (plan : Plan) → plan.parents.items ≡ Root ∷ [] → plan.attach.items ≡ replicate plan.n (Some 0) → 1 ≤ plan.n → plan.n ≤ 16 → 1 ≤ plan.cap → plan.cap ≤ 1024 → 1 ≤ plan.hold → plan.hold ≤ 64 → IsCheckedPlan plan
+plain_is_checked plan parents attach some few cap_low cap_high hold_low hold_high = none
+  where
+    none : IsCheckedPlan plan
+    none fault.Procs = inside 1 16 plan.n some few
+    none fault.Cap = inside 1 1024 plan.cap cap_low cap_high
+    none fault.Hold = inside 1 64 plan.hold hold_low hold_high
+    none fault.Parent = λ has. grind (arith, under_root)
+    none fault.Depth = λ has. omega (arith, has.2, path_under_root has.0 (subst (λ (tree : List Parent). IsPath tree has.0) parents has.1))
+    none fault.Mixed = λ has. grind arith
+    none fault.Childless = λ has. grind (arith, length-replicate, get_or-replicate, take_all)
+    none fault.Unattached = λ has. grind (arith, length-replicate, get_or-replicate)

@@ -1,0 +1,19 @@
+use Rattle.std.proofs.Common.{◌≡◌, ℕ, ◌<◌, ◌≤◌, List, [], ◌∷◌, length, get_or, slice_get, Some, ◌∙◌, ap, inr, ⊎_elim, arith}
+use Rattle.std.proofs.lemmas.Bool.{cases_lt}
+use Rattle.std.proofs.lemmas.Option.{slice_get-get_or, slice_get_within}
+use Rattle.wcp_model.specs.declared.plan.Parent.{Parent}
+use Rattle.wcp_model.specs.declared.plan.Parent.TheVariants.{Root, Relay}
+use Rattle.wcp_model.specs.PlanFault.{HasWrongParent, IsPath}
+
+-- where no parent is wrong, each is lower
+pub is_lower : (parents : List Parent) (relay above : ℕ) → ¬ HasWrongParent parents → slice_get parents relay ≡ Some (Relay above) → above < relay
+is_lower parents relay above right parent = ⊎_elim (λ lower. lower) (λ high. absurd (right (inr (relay, above, parent, high)))) (cases_lt above relay)
+
+pub slice_get_here : (parents : List Parent) (relay : ℕ) (parent d : Parent) → relay < length parents → get_or parents relay d ≡ parent → slice_get parents relay ≡ Some parent
+slice_get_here parents relay parent d within here = slice_get-get_or parents relay d within ∙ ap Some here
+
+-- a path begins at a relay
+pub no_deep_path : (parents : List Parent) (relays : ℕ) (path : List ℕ) → length parents ≤ relays → ((relay : ℕ) (rest : List ℕ) → relay < relays → IsPath parents (relay ∷ rest) → length (relay ∷ rest) ≤ 8) → IsPath parents path → ¬ (8 < length path)
+no_deep_path parents relays [] all short is_path deep = is_path
+no_deep_path parents relays (relay ∷ []) all short is_path deep = omega (arith, short relay [] (omega (arith, slice_get_within parents relay Root is_path)) is_path)
+no_deep_path parents relays (relay ∷ above ∷ path) all short is_path deep = omega (arith, short relay (above ∷ path) (omega (arith, slice_get_within parents relay (Relay above) is_path.0)) is_path)

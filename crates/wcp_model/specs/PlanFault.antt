@@ -1,0 +1,57 @@
+use Rattle.std.specs.Prelude.{◌≡◌, ◌≢◌, ℕ, ◌<◌, ◌≤◌, ◌⊎◌, List, [], ◌∷◌, length, take, slice_get, Some, Any, Contains, MatchOption}
+use Rattle.wcp_model.specs.declared.plan.Parent.{Parent}
+use Rattle.wcp_model.specs.declared.plan.Parent.TheVariants.{Root, Relay}
+use Rattle.wcp_model.specs.declared.plan.Plan.{Plan}
+use Rattle.wcp_model.specs.declared.plan.PlanFault.{PlanFault}
+use Rattle.wcp_model.specs.declared.plan.PlanFault.TheVariants as fault
+
+abbrev pub IsOutside : ℕ → ℕ → ℕ → Type 0
+IsOutside least most x = (x < least) ⊎ (most < x)
+
+-- The parents of 1 to 15 relays make a tree under the root if each is the root or a lower relay; here they don't.
+abbrev pub HasWrongParent : List Parent → Type 0
+HasWrongParent parents = IsOutside 1 15 (length parents) ⊎ ((relay above : ℕ) × (slice_get parents relay ≡ Some (Relay above)) × (relay ≤ above))
+
+-- A path of the tree: relays, each with the next as its parent, and the last under the root.
+abbrev pub IsPath : List Parent → List ℕ → Type 0
+IsPath parents [] = ⊥
+IsPath parents (relay ∷ []) = slice_get parents relay ≡ Some Root
+IsPath parents (relay ∷ above ∷ path) = (slice_get parents relay ≡ Some (Relay above)) × IsPath parents (above ∷ path)
+
+-- A relay serves the processes, of the first n, that are attached to it, and the relays whose parent it is.
+abbrev pub ServesProcess : Plan → ℕ → Type 0
+ServesProcess plan relay = Contains (take plan.n plan.attach.items) (Some relay)
+
+abbrev pub ServesRelay : Plan → ℕ → Type 0
+ServesRelay plan relay = Contains plan.parents.items (Relay relay)
+
+-- What each fault means; without any, leaves of the tree serve the processes, each of which has one leaf, and all other relays serve relays.
+abbrev pub HasFault : Plan → PlanFault → Type 0
+HasFault plan fault.Procs = IsOutside 1 16 plan.n
+HasFault plan fault.Cap = IsOutside 1 1024 plan.cap
+HasFault plan fault.Hold = IsOutside 1 64 plan.hold
+HasFault plan fault.Parent = HasWrongParent plan.parents.items
+HasFault plan fault.Depth = (path : List ℕ) × IsPath plan.parents.items path × (8 < length path)
+HasFault plan fault.Mixed = (relay : ℕ) × (relay < length plan.parents.items) × ServesProcess plan relay × ServesRelay plan relay
+HasFault plan fault.Childless = (relay : ℕ) × (relay < length plan.parents.items) × ¬ ServesProcess plan relay × ¬ ServesRelay plan relay
+HasFault plan fault.Unattached = (length plan.attach.items ≢ plan.n) ⊎ Any (λ entry. MatchOption entry (Unit {0}) (λ relay. length plan.parents.items ≤ relay)) plan.attach.items
+
+-- The order of the faults.
+abbrev pub rank : PlanFault → ℕ
+rank fault.Procs = 0
+rank fault.Cap = 1
+rank fault.Hold = 2
+rank fault.Parent = 3
+rank fault.Depth = 4
+rank fault.Mixed = 5
+rank fault.Childless = 6
+rank fault.Unattached = 7
+
+-- The first fault of a plan: the plan has it, and none before it.
+pub record IsFirstFault (plan : Plan) (first : PlanFault) : Type 0 where
+  pub applies : HasFault plan first
+  pub none_before : (other : PlanFault) → rank other < rank first → ¬ HasFault plan other
+
+-- A checked plan has no fault.
+abbrev pub IsCheckedPlan : Plan → Type 0
+IsCheckedPlan plan = (fault : PlanFault) → ¬ HasFault plan fault
