@@ -97,9 +97,9 @@ pub record FailsPlainly (kinds : Kinds) : Type 0 where
 
 fails_by_word : FailsPlainly (kind.UnknownArgument ∷ kind.InvalidSubcommand ∷ [])
 fails_by_word = record {
-    fails = λ bad. cc;
-    no_help = λ among. elim among [ inl bad ↦ cc | inr rest ↦ elim rest [ inl bad ↦ cc | inr none ↦ none ] ];
-  }
+  fails = λ bad. cc;
+  no_help = λ among. elim among [ inl bad ↦ cc | inr rest ↦ elim rest [ inl bad ↦ cc | inr none ↦ none ] ];
+}
 
 fails_by_argument : FailsPlainly (kind.UnknownArgument ∷ [])
 fails_by_argument = record { fails = λ bad. cc; no_help = λ among. elim among [ inl bad ↦ cc | inr none ↦ none ] }
@@ -108,7 +108,7 @@ fails_by_argument = record { fails = λ bad. cc; no_help = λ among. elim among 
 pub unknown-fails : (words : List Text) → AskForUnknown words → FailsPlainly (fault_of program words)
 unknown-fails words (Unknown word rest is unknown) =
     let fault = unknown_first word rest (no_hyphen word unknown.no_flag) (not_equal (codes "single") word unknown.not_single)
-        (not_equal (codes "help") word unknown.not_help) (not_end_of_flags word unknown.no_flag) in
+    (not_equal (codes "help") word unknown.not_help) (not_end_of_flags word unknown.no_flag) in
     subst FailsPlainly (sym (ap (built_fault (built program) nothing_held) is ∙ fault)) fails_by_word
 unknown-fails words (Further word rest is no_flag) =
     let fault = further_word word rest (no_hyphen word no_flag) (not_end_of_flags word no_flag) in

@@ -1,7 +1,8 @@
 //! What the program says of itself.
 
 /// What the program decides.
-pub const ABOUT: &str = "Decides whether the conditions of all processes of a computation could have held at the same time.";
+pub const ABOUT: &str =
+    "Decides whether the conditions of all processes of a computation could have held at the same time.";
 
 /// What `single` does.
 pub const SINGLE: &str = "Reads a workload and prints its outcome; done where no word is given";

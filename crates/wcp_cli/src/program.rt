@@ -100,7 +100,11 @@ fn answer<S: AsStr, I: Read, O: Write>(
 }
 
 /// Reads a workload and writes its outcome.
-fn give_outcome<I: Read, O: Write>(alloc: Global, input: &mut I, output: &mut O) -> Result<u8, Fault>
+fn give_outcome<I: Read, O: Write>(
+    alloc: Global,
+    input: &mut I,
+    output: &mut O,
+) -> Result<u8, Fault>
     ensures status { IfOk result (λ status. status ≤ 1) }
     ensures run { MatchResult result
         (Answers (I.remaining input.old) (I.remaining input.new) (O.contents output.old) (O.contents output.new))

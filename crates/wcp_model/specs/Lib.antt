@@ -7,3 +7,4 @@ pub mod StateClock
 pub mod Emission
 pub mod ProbeLog
 pub mod PlanFault
+pub mod Report

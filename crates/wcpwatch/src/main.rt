@@ -1,9 +1,9 @@
 //! The program `wcpwatch`.
 #![tactic(auto)]
 
+use std::env;
 use std::io::ErrorKind;
 use std::process::ExitCode;
-use std::env;
 use std::rt::Env;
 use wcp_cli::{Fault, drive, refuse};
 

@@ -41,8 +41,17 @@ fn a_text_of_too_many_steps_is_refused(rt: HostRuntime) -> Result<(), Fail> {
     let mut output = Vec::new(rt.alloc());
     let mut errors = Vec::new(rt.alloc());
     let words = ["wcpwatch"];
-    let status = run(&rt, words.as_slice(), &mut text.as_slice(), &mut output, &mut errors);
-    assert_eq!(rt; errors.as_slice(), b"wcpwatch: line 65539: toolong\n".as_slice());
+    let status = run(
+        &rt,
+        words.as_slice(),
+        &mut text.as_slice(),
+        &mut output,
+        &mut errors,
+    );
+    assert_eq!(rt;
+        errors.as_slice(),
+        b"wcpwatch: line 65539: toolong\n".as_slice()
+    );
     assert!(rt; output.is_empty());
     assert_eq!(rt; status, 2);
     Ok(())

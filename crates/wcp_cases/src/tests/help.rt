@@ -20,7 +20,11 @@ fn other_words_are_refused(rt: HostRuntime) {
         let mut output = Vec::new(rt.alloc());
         let mut errors = Vec::new(rt.alloc());
         let status = run(&rt, words, &mut input, &mut output, &mut errors);
-        assert_eq!(rt; errors.as_slice(), b"wcpwatch: usage\n".as_slice(), "{words:?}");
+        assert_eq!(rt;
+            errors.as_slice(),
+            b"wcpwatch: usage\n".as_slice(),
+            "{words:?}"
+        );
         assert!(rt; output.is_empty(), "{words:?}");
         assert_eq!(rt; status, 2, "{words:?}");
         assert_eq!(rt; input, TEXT, "{words:?}");
@@ -36,7 +40,13 @@ fn help_tells_what_a_newcomer_needs(rt: HostRuntime) -> Result<(), Fail> {
         let words = ["wcpwatch", word];
         let status = run(&rt, words.as_slice(), &mut input, &mut output, &mut errors);
         let text = std::str::from_utf8(output.as_slice())?;
-        for part in ["single", "p 0 send 1", "found 1 1", "wcpwatch: usage", "stuck"] {
+        for part in [
+            "single",
+            "p 0 send 1",
+            "found 1 1",
+            "wcpwatch: usage",
+            "stuck",
+        ] {
             assert!(rt; text.contains(part), "{word} without {part}");
         }
         assert!(rt; errors.is_empty(), "{word}");

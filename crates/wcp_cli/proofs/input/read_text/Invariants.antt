@@ -4,7 +4,7 @@ use Rattle.wcp_cli.proofs.input.read_text.Given as goal
 
 abbrev pub invariant-loop : goal.invariant-loop
 invariant-loop g l = record {
-    consumed : Consumes (g.R.Read.remaining l.fn.input) (g.R.Read.remaining l.input) l.text.items;
-    within : vec_len l.text ≤ 2097152;
-    block : length l.block ≡ 65536;
+  consumed : Consumes (g.R.Read.remaining l.fn.input) (g.R.Read.remaining l.input) l.text.items;
+  within : vec_len l.text ≤ 2097152;
+  block : length l.block ≡ 65536;
 }

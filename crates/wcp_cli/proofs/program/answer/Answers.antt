@@ -23,12 +23,12 @@ returns-in-Single-clause-unknown g c asked = absurd (true≢false (sym (c.in_ok-
 pub returns-in_err-write_whole-in-Help-clause-any : goal.returns-in_err-write_whole-in-Help-clause-any
 returns-in_err-write_whole-in-Help-clause-any g c =
     MatchResult-from_err _ _ _ c.from_residual-in_err-write_whole-in-Help.ensures.0 (λ fault.
-        Helped (Front c.as_bytes.result.now (Keeps-refl _) c.in_err-write_whole-in-Help.ensures.err refl))
+    Helped (Front c.as_bytes.result.now (Keeps-refl _) c.in_err-write_whole-in-Help.ensures.err refl))
 
 pub returns-in_err-write_whole-in-Help-clause-help : goal.returns-in_err-write_whole-in-Help-clause-help
 returns-in_err-write_whole-in-Help-clause-help g c asked =
     MatchResult-from_err _ _ _ c.from_residual-in_err-write_whole-in-Help.ensures.0 (λ fault.
-        Front c.as_bytes.result.now (Keeps-refl _) c.in_err-write_whole-in-Help.ensures.err refl)
+    Front c.as_bytes.result.now (Keeps-refl _) c.in_err-write_whole-in-Help.ensures.err refl)
 
 pub returns-in_err-write_whole-in-Help-clause-unknown : goal.returns-in_err-write_whole-in-Help-clause-unknown
 returns-in_err-write_whole-in-Help-clause-unknown g c asked = absurd (true≢false (sym (c.in_ok-read_words.ensures.unknown asked)))

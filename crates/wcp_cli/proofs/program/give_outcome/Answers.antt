@@ -14,16 +14,16 @@ returns-in_err-write_whole-clause-run g c =
     let output_after = g.O.Write.contents c.write_whole.new.output in
     MatchResult-from_err c.from_residual-in_err-write_whole.result (Answers input input_after output output_after)
     (λ fault. Refuses input input_after output output_after) c.from_residual-in_err-write_whole.ensures.0 (λ fault.
-        Broken c.in_ok-outcome.outcome
-        (record {
-          text = c.in_ok-text.text.items;
-          n = workload.plan.n;
-          tasks = workload.tasks.items;
-          consumed = c.in_ok-text.ensures.consumed;
-          ended = c.in_ok-text.ensures.ended;
-          within = omega (arith, c.in_ok-text.ensures.within, c.in_ok-text.text.ok.0);
-          spelled = sym c.as_slice.ensures.value ∙ c.in_ok-workload.ensures.spelled;
-          could_be_read = c.in_ok-workload.ensures.could_be_read;
-          right = c.in_ok-outcome.ensures;
-        })
-        (subst (AppendsFront output output_after) is_report c.in_err-write_whole.ensures.err))
+    Broken c.in_ok-outcome.outcome
+    (record {
+      text = c.in_ok-text.text.items;
+      n = workload.plan.n;
+      tasks = workload.tasks.items;
+      consumed = c.in_ok-text.ensures.consumed;
+      ended = c.in_ok-text.ensures.ended;
+      within = omega (arith, c.in_ok-text.ensures.within, c.in_ok-text.text.ok.0);
+      spelled = sym c.as_slice.ensures.value ∙ c.in_ok-workload.ensures.spelled;
+      could_be_read = c.in_ok-workload.ensures.could_be_read;
+      right = c.in_ok-outcome.ensures;
+    })
+    (subst (AppendsFront output output_after) is_report c.in_err-write_whole.ensures.err))

@@ -8,8 +8,8 @@ loop-p-preserved c =
     let emitted = sum_more (λ tally. tally.emitted) c.args.tallies.now c.loop-p.p c.get-tally.result here in
     let taken = sum_more (λ tally. tally.taken) c.args.tallies.now c.loop-p.p c.get-tally.result here in
     record {
-        emitted = omega (arith, emitted);
-        taken = omega (arith, taken);
-        emitted_bound = omega (arith, c.get-tally.type_inv);
-        taken_bound = omega (arith, c.get-tally.type_inv);
+      emitted = omega (arith, emitted);
+      taken = omega (arith, taken);
+      emitted_bound = omega (arith, c.get-tally.type_inv);
+      taken_bound = omega (arith, c.get-tally.type_inv);
     }

@@ -1,0 +1,76 @@
+use Rattle.std.specs.Prelude.{◌≡◌, ◌≢◌, ◌==◌, ℕ, ◌<◌, ◌≤◌, List, [], ◌∷◌, ◌++◌, length, filter, map, slice_index, slice_index_or, Contains}
+use Rattle.wcp_clock.specs.declared.note.Item.{Item}
+use Rattle.wcp_clock.specs.declared.note.Note.{Note}
+use Rattle.wcp_clock.specs.declared.note.Note.TheVariants as note
+use Rattle.wcp_model.specs.declared.outcome.Report.{Report}
+use Rattle.wcp_model.specs.declared.outcome.Report.TheVariants.{Found, Nothing, Undecided}
+use Rattle.wcp_model.specs.declared.state.State.{State}
+use Rattle.wcp_model.specs.Computation.{Computation}
+use Rattle.wcp_model.specs.Cut.{member, IsSatisfyingCut}
+
+-- What a checker has taken is the list of its items, in the order in which it took them; the notes taken of one process
+-- are those of its items, in that order (Garg and Waldecker 1994: what the checker process received from each process).
+abbrev pub notes_taken : ℕ → List Item → List Note
+notes_taken p items = map (λ item. item.note) (filter (λ item. item.from == p) items)
+
+-- The clocks of the snapshots among these notes, in order.
+abbrev pub snapshot_clocks : List Note → List (List ℕ)
+snapshot_clocks [] = []
+snapshot_clocks (note.Snap number clock ∷ notes) = clock ∷ snapshot_clocks notes
+snapshot_clocks (note.Close count ∷ notes) = snapshot_clocks notes
+
+-- The clocks of the snapshots taken of one process, in order.
+abbrev pub clocks_taken : ℕ → List Item → List (List ℕ)
+clocks_taken p items = snapshot_clocks (notes_taken p items)
+
+-- All is drained if the notes taken of each process end with its close mark.
+abbrev pub IsDrained : ℕ → List Item → Type 0
+IsDrained n items = (p : ℕ) → p < n → (count : ℕ) × (before : List Note) × (notes_taken p items ≡ before ++ note.Close count ∷ [])
+
+-- A taken snapshot of a process names its state in the interval that is the clock's own component (Garg and Waldecker 1994).
+pub record IsNamed (items : List Item) (s : State) : Type 0 where
+  pub clock : List ℕ
+  pub taken : Contains (clocks_taken s.process items) clock
+  pub own : slice_index clock s.process ≡ s.interval
+
+-- A satisfying cut among the states that the taken snapshots name.
+pub record IsNamedCut (n : ℕ) (c : Computation) (items : List Item) (cut : List ℕ) : Type 0 where
+  pub satisfying : IsSatisfyingCut n c cut
+  pub named : (p : ℕ) → p < n → IsNamed items (member cut p)
+
+-- The same read by clocks alone, each named state counted as true: one taken snapshot of each process, where none precedes
+-- another; it would if its own component were less than the other's there (Mattern 1989; Garg and Waldecker 1994).
+pub record IsCutByClocks (n : ℕ) (items : List Item) (cut : List ℕ) : Type 0 where
+  pub members : length cut ≡ n
+  pub clock : ℕ → List ℕ
+  pub taken : (p : ℕ) → p < n → Contains (clocks_taken p items) (clock p)
+  pub own : (p : ℕ) → p < n → slice_index (clock p) p ≡ slice_index cut p
+  pub concurrent : (p q : ℕ) → p < n → q < n → p ≢ q → slice_index (clock p) p < slice_index (clock q) p → ⊥
+
+-- The least of the cuts of a kind is one that lies at or below each of them, at each process.
+pub record IsLeastOf (n : ℕ) (IsOne : List ℕ → Type 0) (cut : List ℕ) : Type 0 where
+  pub one : IsOne cut
+  pub below : (other : List ℕ) → IsOne other → (p : ℕ) → p < n → slice_index cut p ≤ slice_index other p
+
+-- The report on the cuts of a kind: the least of them; that there is none, and all is drained; or that there is none yet.
+abbrev pub IsReportOn : ℕ → (List ℕ → Type 0) → Type 0 → Report → Type 0
+IsReportOn n IsOne drained (Found cut) = IsLeastOf n IsOne cut
+IsReportOn n IsOne drained Nothing = ((cut : List ℕ) → IsOne cut → ⊥) × drained
+IsReportOn n IsOne drained Undecided = ((cut : List ℕ) → IsOne cut → ⊥) × (drained → ⊥)
+
+-- The report of what was taken, on the states that it names (Garg and Waldecker 1994: detection of the first cut).
+abbrev pub IsReportOfTaken : ℕ → Computation → List Item → Report → Type 0
+IsReportOfTaken n c items = IsReportOn n (IsNamedCut n c items) (IsDrained n items)
+
+-- The report of what was taken, read by clocks alone.
+abbrev pub IsReportByClocks : ℕ → List Item → Report → Type 0
+IsReportByClocks n items = IsReportOn n (IsCutByClocks n items) (IsDrained n items)
+
+-- The items of each process were taken in the order in which it emits them: its clocks never fall in a component and rise
+-- in its own, and nothing follows its close mark (Fidge 1988, Mattern 1989: clocks grow along a process).
+pub record AreTakenInOrder (n : ℕ) (items : List Item) : Type 0 where
+  pub never_fall : (p i j q : ℕ) → p < n → i ≤ j → j < length (clocks_taken p items) →
+      slice_index (slice_index_or (clocks_taken p items) i []) q ≤ slice_index (slice_index_or (clocks_taken p items) j []) q
+  pub rise : (p i j : ℕ) → p < n → i < j → j < length (clocks_taken p items) →
+      slice_index (slice_index_or (clocks_taken p items) i []) p < slice_index (slice_index_or (clocks_taken p items) j []) p
+  pub close_last : (p count : ℕ) (before after : List Note) → p < n → notes_taken p items ≡ before ++ note.Close count ∷ after → after ≡ []

@@ -1,0 +1,9 @@
+pub mod Comparing
+pub mod ComparedHead
+pub mod Found
+pub mod Left
+pub mod Reporting
+pub mod Sound
+pub mod Standing
+pub mod Taking
+pub mod Uncompared

@@ -1,0 +1,54 @@
+use Rattle.std.proofs.Common.{◌≡◌, ◌+◌, ◌<◌, length, set, slice_index, refl, ap, sym, ◌∙◌, arith}
+use Rattle.std.proofs.lemmas.List.{with_items_is}
+use Rattle.std.proofs.lemmas.Option.{MatchOption-at_none}
+use Rattle.wcp_queue.specs.Checker.{CheckerState}
+use Rattle.wcp_queue.specs.CheckerView.{state_of}
+use Rattle.wcp_queue.proofs.Sound.{room_for_tests, IsSound-snapshot}
+use Rattle.wcp_queue.proofs.Standing.{StandsFor-snapshot, StandsFor-found}
+use Rattle.wcp_queue.proofs.checker.Checker.take_snapshot.Goals as goal
+use Rattle.wcp_queue.proofs.checker.Checker.take_snapshot.Goals.{then-is_none+in_ok-self-inside, else-is_none}
+
+pub add_candidate-requires-clause-room : goal.add_candidate-requires-clause-room
+add_candidate-requires-clause-room c = rw c.deref_mut.ensures.value (room_for_tests (state_of c.self.inside) c.self.invariant)
+
+pub invariant_of-self-2 : goal.invariant_of-self-2
+invariant_of-self-2 c =
+    let within = rw (← c.self.view_is) at c.requires.within in
+    let few = rw (← c.self.view_is) at c.requires.few in
+    elim c.if-is_none.branch [
+      | then-is_none+in_ok-self-inside w ↦
+          let shown = w.deref_mut.ensures.value in
+          let items = with_items_is c.self.inside.queues w.add_candidate.new.queues (omega arith) in
+          let added = w.in_ok-self-inside.ensures in
+          rw (w.self-inside-is, items)
+          (IsSound-snapshot (state_of c.self.inside) c.self.invariant
+          (record { queues = w.add_candidate.new.queues; taken = set c.self.inside.taken c.args.p (slice_index c.self.inside.taken c.args.p + 1); closed = c.self.inside.closed; found = w.in_ok-self-inside.field-0; tests = w.add_candidate.new.tests })
+          c.args.p (omega (arith, within, c.self.invariant.few, c.self.invariant.counts)) few refl refl (omega (arith, ap length shown))
+          added.compared (λ none. MatchOption-at_none _ _ none added.cut) (rw shown at added.tests))
+      | else-is_none w ↦
+          rw w.self-inside-is
+          (IsSound-snapshot (state_of c.self.inside) c.self.invariant
+          (record { queues = c.self.inside.queues.items; taken = set c.self.inside.taken c.args.p (slice_index c.self.inside.taken c.args.p + 1); closed = c.self.inside.closed; found = c.self.inside.found; tests = c.self.inside.tests })
+          c.args.p (omega (arith, within, c.self.invariant.few, c.self.invariant.counts)) few refl refl refl
+          c.self.invariant.compared c.self.invariant.waiting (omega arith))
+    ]
+
+pub returns-clause-taken : goal.returns-clause-taken
+returns-clause-taken c =
+    let within = rw (← c.self.view_is) at c.requires.within in
+    elim c.if-is_none.branch [
+      | then-is_none+in_ok-self-inside w ↦
+          let shown = w.deref_mut.ensures.value in
+          let items = with_items_is c.self.inside.queues w.add_candidate.new.queues (omega arith) in
+          let added = w.in_ok-self-inside.ensures in
+          rw (w.self-inside-is, items, ← c.self.view_is)
+          (λ number list stands. StandsFor-snapshot (state_of c.self.inside)
+          (record { queues = w.add_candidate.new.queues; taken = set c.self.inside.taken c.args.p (slice_index c.self.inside.taken c.args.p + 1); closed = c.self.inside.closed; found = w.in_ok-self-inside.field-0; tests = w.add_candidate.new.tests })
+          list c.args.p number c.args.clock stands (omega (arith, within, c.self.invariant.few, c.self.invariant.counts)) refl refl (omega (arith, ap length shown))
+          w.if-is_none.ensures added.compared (rw shown at added.left) added.cut)
+      | else-is_none w ↦
+          rw (w.self-inside-is, ← c.self.view_is)
+          (λ number list stands. StandsFor-found (state_of c.self.inside)
+          (record { queues = c.self.inside.queues.items; taken = set c.self.inside.taken c.args.p (slice_index c.self.inside.taken c.args.p + 1); closed = c.self.inside.closed; found = c.self.inside.found; tests = c.self.inside.tests })
+          list c.args.p number c.args.clock stands (omega (arith, within, c.self.invariant.few, c.self.invariant.counts)) refl refl refl w.if-is_none.ensures refl)
+    ]

@@ -1,0 +1,20 @@
+use Rattle.wcp_queue.proofs.Left.{AreLeft-gain, HaveHeads-gain}
+use Rattle.std.proofs.Common.{refl, sym, ◌∙◌, ap}
+use Rattle.std.proofs.lemmas.List.{length-set, get_or-set_same}
+use Rattle.wcp_queue.specs.Queue.{Candidates}
+use Rattle.wcp_queue.proofs.elimination.add_candidate.Goals as goal
+
+pub returns-then-not-head_is_new-clause-left : goal.returns-then-not-head_is_new-clause-left
+returns-then-not-head_is_new-clause-left c = λ rows longer.
+    AreLeft-gain _ rows longer c.args.queues.now c.args.p c.args.clock c.index-queues-p.result c.push.new.self refl c.requires.within c.in_ok-push.ensures.ok
+
+pub returns-then-not-head_is_new-clause-cut : goal.returns-then-not-head_is_new-clause-cut
+returns-then-not-head_is_new-clause-cut c = λ heads.
+    let at_p = get_or-set_same c.args.queues.now c.args.p c.push.new.self c.index-queues-p-2.result c.requires.within in
+    let old = ap (λ (queue : Candidates). queue.head_is_new) (sym at_p) ∙ sym c.head_is_new.ensures.value ∙ c.if-not-head_is_new.true in
+    c.requires.waiting (HaveHeads-gain c.args.queues.now c.args.p c.args.clock c.index-queues-p.result c.push.new.self c.requires.within c.in_ok-push.ensures.ok old heads)
+
+pub returns-clause-left : goal.returns-clause-left
+returns-clause-left c = λ rows longer gain left.
+    let members = length-set c.args.queues.now c.args.p c.push.new.self in
+    rw members at (c.eliminate.ensures.left longer) (AreLeft-gain _ rows longer c.args.queues.now c.args.p c.args.clock c.index-queues-p.result c.push.new.self refl c.requires.within c.in_ok-push.ensures.ok gain left)

@@ -1,0 +1,90 @@
+use Rattle.std.specs.Prelude.{◌≡◌, ◌+◌, ◌-◌, ◌*◌, ◌^◌, ◌<◌, ◌≤◌, ℕ, Bool, true, false, IsTrue, Option, Some, None, MatchOption, List, [], ◌∷◌, ◌++◌, length, take, sum, count_by, All, slice_index, slice_index_or}
+use Rattle.std.specs.List.{list_any, list_all}
+use Rattle.wcp_clock.specs.declared.note.Item.{Item}
+use Rattle.wcp_clock.specs.declared.note.Note.{Note}
+use Rattle.wcp_clock.specs.declared.note.Note.TheVariants.{Snap, Close}
+use Rattle.wcp_model.specs.declared.outcome.Report.{Report}
+use Rattle.wcp_model.specs.declared.outcome.Report.TheVariants.{Found, Nothing, Undecided}
+use Rattle.wcp_model.specs.Report.{notes_taken, clocks_taken, IsCutByClocks}
+use Rattle.wcp_queue.specs.Queue.{Candidates}
+use Rattle.wcp_queue.specs.Elimination.{HaveHeads, AreCompared, AreLeft, IsFoundAmong, uncompared_in, most_tests}
+
+-- What a checker has come to: the queue of each process, how many snapshots of each it took and whether it took its close
+-- mark, the cut that it found, and how many component tests it made.
+pub record CheckerState : Type 0 where
+  pub queues : List Candidates
+  pub taken : List ℕ
+  pub closed : List Bool
+  pub found : Option (List ℕ)
+  pub tests : ℕ
+
+-- How many processes it watches, and how many snapshots of one it took.
+abbrev pub processes : CheckerState → ℕ
+processes checker = length checker.queues
+
+abbrev pub taken_of : CheckerState → ℕ → ℕ
+taken_of checker p = slice_index checker.taken p
+
+-- Its report: the cut found; else nothing, once every close mark was taken.
+abbrev pub report_from : Option (List ℕ) → Bool → Report
+report_from (Some cut) closed = Found cut
+report_from None true = Nothing
+report_from None false = Undecided
+
+abbrev pub report_of : CheckerState → Report
+report_of checker = report_from checker.found (list_all (λ closed. closed) (take (processes checker) checker.closed))
+
+abbrev pub is_snapshot : Item → Bool
+is_snapshot item = is_snap item.note
+  where
+    is_snap : Note → Bool
+    is_snap (Snap number clock) = true
+    is_snap (Close count) = false
+
+abbrev pub is_close : Note → Bool
+is_close (Snap number clock) = false
+is_close (Close count) = true
+
+-- The close mark of each process was taken.
+abbrev pub AreAllClosed : ℕ → List Item → Type 0
+AreAllClosed n items = (p : ℕ) → p < n → IsTrue (list_any is_close (notes_taken p items))
+
+-- A checker stands for the list of items that it took: it has counted them, and its queues are what elimination leaves of
+-- their snapshots' clocks, until a cut was found among these (Garg and Waldecker 1994).
+pub record StandsFor (checker : CheckerState) (items : List Item) : Type 0 where
+  pub taken : (p : ℕ) → p < processes checker → taken_of checker p ≡ length (clocks_taken p items)
+  pub snapshots : sum checker.taken ≡ count_by is_snapshot items
+  pub closed : (p : ℕ) → p < processes checker → slice_index_or checker.closed p false ≡ list_any is_close (notes_taken p items)
+  pub candidates : MatchOption checker.found
+      (AreLeft (processes checker) (λ p. clocks_taken p items) checker.queues)
+      (IsFoundAmong (processes checker) (λ p. clocks_taken p items))
+
+-- A checker took an item: where it stood for a list, it stands for that list with the item at its end.
+abbrev pub TakesItem : CheckerState → CheckerState → Item → Type 0
+TakesItem old new item = (items : List Item) → StandsFor old items → StandsFor new (items ++ item ∷ [])
+
+-- A cut that is found stays the report.
+abbrev pub KeepsFound : CheckerState → CheckerState → Type 0
+KeepsFound old new = (cut : List ℕ) → report_of old ≡ Found cut → report_of new ≡ Found cut
+
+abbrev pub HasFound : CheckerState → Type 0
+HasFound checker = (cut : List ℕ) × (report_of checker ≡ Found cut)
+
+-- What holds of the report whatever order the items came in: a found cut is one of taken snapshots of which none precedes
+-- another by its clock, and otherwise it says whether every close mark was taken.
+abbrev pub IsReportInAnyOrder : ℕ → List Item → Report → Type 0
+IsReportInAnyOrder n items (Found cut) = IsCutByClocks n items cut
+IsReportInAnyOrder n items Nothing = AreAllClosed n items
+IsReportInAnyOrder n items Undecided = AreAllClosed n items → ⊥
+
+-- What is true of every checker: its heads were compared, a process without one is waited for until a cut is found, and a
+-- snapshot costs at most two component tests with each other process (Garg and Waldecker 1994: the comparisons made).
+pub record IsSound (checker : CheckerState) : Type 0 where
+  pub some : 0 < processes checker
+  pub few : processes checker ≤ 16
+  pub counts : length checker.taken ≡ 16
+  pub marks : length checker.closed ≡ 16
+  pub few_taken : All (λ count. count ≤ 2 ^ 32) checker.taken
+  pub compared : AreCompared checker.queues
+  pub waiting : checker.found ≡ None → HaveHeads checker.queues → ⊥
+  pub bound : checker.tests + most_tests (processes checker) (uncompared_in checker.queues) ≤ most_tests (processes checker) (sum checker.taken)

@@ -1,0 +1,155 @@
+ghost use Rattle.std.specs.Prelude.{◌≡◌, true, ℕ, ◌+◌, ◌-◌, ◌*◌, ◌^◌, ◌<◌, ◌≤◌, [], ◌∷◌, ◌++◌, List, length, count_by, IfOk, IfErr, IsOk, OnOk, OnErr};
+ghost use Rattle.std.specs.List.{list_all};
+ghost use Rattle.wcp_clock.specs.declared.note.Item.{Item};
+ghost use Rattle.wcp_clock.specs.declared.note.Note.TheVariants.{Snap};
+ghost use Rattle.wcp_model.specs.declared.outcome.Report.TheVariants.{Found};
+ghost use Rattle.wcp_model.specs.Report.{AreTakenInOrder, IsReportByClocks, clocks_taken};
+
+use crate::elimination::add_candidate;
+use crate::queue::Queue;
+use std::alloc::{AllocError, Global};
+use std::marker::Model;
+use wcp_clock::{Clock, Item, MAX_PROCS, Note};
+use wcp_model::{GlobalCut, Report};
+
+/// Takes the snapshots of 1 to 16 processes, in any interleaving, and finds the least cut of those
+/// taken at which every process's condition holds.
+#[derive(Debug, Drop)]
+pub struct Checker {
+    queues: Vec<Queue>,
+    taken: [u64; MAX_PROCS],
+    closed: [bool; MAX_PROCS],
+    found: Option<GlobalCut>,
+    tests: u64,
+}
+
+impl Model for Checker {
+    ghost use Rattle.wcp_queue.specs.Checker.{CheckerState};
+
+    ghost Value = { CheckerState };
+
+    ghost use Rattle.wcp_queue.specs.CheckerView.{state_of, IsSoundInside};
+
+    ghost view = { state_of };
+
+    ghost invariant = { IsSoundInside };
+}
+
+impl Checker {
+    ghost use Rattle.wcp_queue.specs.Checker.{processes, taken_of, report_of, is_snapshot, is_close, StandsFor, TakesItem, KeepsFound, HasFound, IsReportInAnyOrder};
+
+    /// A checker of `n` processes that has taken nothing. `Err` where memory runs out.
+    pub fn new(alloc: Global, n: u32) -> Result<Checker, AllocError>
+        requires some { 0 < n }
+        requires few { n ≤ MAX_PROCS }
+        ensures processes { IfOk result (λ checker. processes checker ≡ n) }
+        ensures empty { IfOk result (λ checker. StandsFor checker []) }
+    {
+        let mut queues = Vec::with_capacity(alloc, n as usize)?;
+        for _ in 0..n {
+            queues.push(Queue::new(alloc))?;
+        }
+        Ok(Checker {
+            queues,
+            taken: [0; MAX_PROCS],
+            closed: [false; MAX_PROCS],
+            found: None,
+            tests: 0,
+        })
+    }
+
+    /// How many processes there are.
+    pub fn processes(&self) -> u32
+        ensures value { result ≡ processes self.now }
+        ensures some { 0 < processes self.now }
+        ensures few { processes self.now ≤ MAX_PROCS }
+    {
+        self.queues.len() as u32
+    }
+
+    /// Takes an item. `Err` where memory runs out: it hands the item back, and nothing has changed.
+    /// It grows only while no cut is found.
+    pub fn take(&mut self, item: Item) -> Result<(), (AllocError, Item)>
+        requires from { item.from < processes self.old }
+        requires few { taken_of self.old item.from < 4294967296 }
+        ensures taken { OnOk result (TakesItem self.old self.new item) }
+        ensures found_stays { KeepsFound self.old self.new }
+        ensures processes { processes self.new ≡ processes self.old }
+
+        // Want of memory.
+        ensures handed_back { IfErr result (λ refused. refused.1 ≡ item) }
+        ensures unchanged { OnErr result (self.new ≡ self.old) }
+        ensures close_needs_none { is_close item.note ≡ true → IsOk result }
+        ensures found_needs_none { HasFound self.old → IsOk result }
+    {
+        let p = item.from as usize;
+        match &item.note {
+            Note::Snap { clock, .. } => self
+                .take_snapshot(p, *clock)
+                .map_err(|error| (error, item)),
+            Note::Close { .. } => {
+                self.closed[p] = true;
+                Ok(())
+            }
+        }
+    }
+
+    fn take_snapshot(&mut self, p: usize, clock: Clock) -> Result<(), AllocError>
+        requires within { p < processes self.old }
+        requires few { taken_of self.old p < 4294967296 }
+        ensures taken { OnOk result ((number : ℕ) → TakesItem self.old self.new (record { from = p; note = Snap number clock })) }
+        ensures found_stays { KeepsFound self.old self.new }
+        ensures processes { processes self.new ≡ processes self.old }
+        ensures unchanged { OnErr result (self.new ≡ self.old) }
+        ensures found_needs_none { HasFound self.old → IsOk result }
+    {
+        if self.found.is_none() {
+            self.found = add_candidate(&mut self.queues, p, clock, &mut self.tests)?;
+        }
+        self.taken[p] += 1;
+        Ok(())
+    }
+
+    /// What the snapshots taken tell.
+    pub fn report(&self) -> Report
+        ensures value { result ≡ report_of self.now }
+        ensures in_any_order { (items : List Item) → StandsFor self.now items
+            → IsReportInAnyOrder (processes self.now) items result }
+        ensures exact { (items : List Item) → StandsFor self.now items
+            → AreTakenInOrder (processes self.now) items → IsReportByClocks (processes self.now) items result }
+    {
+        if let Some(cut) = self.found {
+            return Report::Found(cut);
+        }
+        let n = self.queues.len();
+        if are_all_closed(&self.closed[..n]) {
+            Report::Nothing
+        } else {
+            Report::Undecided
+        }
+    }
+
+    /// How many component tests were made: comparisons of a component of a head with that of another.
+    pub fn tests(&self) -> u64
+        ensures value { result ≡ self.now.tests }
+        ensures bound { (items : List Item) → StandsFor self.now items
+            → result ≤ 2 * (processes self.now - 1) * count_by is_snapshot items }
+    {
+        self.tests
+    }
+
+    /// How many snapshots of process `p` were taken.
+    pub fn taken(&self, p: u32) -> u64
+        requires { p < processes self.now }
+        ensures value { result ≡ taken_of self.now p }
+        ensures snapshots { (items : List Item) → StandsFor self.now items → result ≡ length (clocks_taken p items) }
+    {
+        self.taken[p as usize]
+    }
+}
+
+fn are_all_closed(closed: &[bool]) -> bool
+    ensures { result ≡ list_all (λ closed. closed) closed.now }
+{
+    closed.iter().all(|closed| *closed)
+}

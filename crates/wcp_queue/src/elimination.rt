@@ -1,0 +1,134 @@
+ghost use Rattle.std.specs.Prelude.{◌≡◌, ◌↔◌, ℕ, ◌+◌, ◌-◌, ◌*◌, ◌^◌, ◌<◌, ◌≤◌, false, List, length, IsTrue, IfNone, IfSome, IfOk, OnOk, OnErr, MatchOption, slice_index};
+ghost use Rattle.wcp_queue.specs.Elimination.{queue_of, HasNewHead, HaveHeads, IsCutOfHeads, IsMeeting, AreConcurrent, AreCompared, uncompared_in, most_tests, Eliminates, AddsCandidate};
+
+use crate::queue::Queue;
+use std::alloc::AllocError;
+use wcp_clock::{Clock, MAX_PROCS};
+use wcp_model::GlobalCut;
+
+/// Adds a snapshot of `p` and eliminates heads. Answers the cut of the heads that are left, if every
+/// process has one. `Err` where memory runs out.
+pub fn add_candidate(
+    queues: &mut [Queue],
+    p: usize,
+    clock: Clock,
+    tests: &mut u64,
+) -> Result<Option<GlobalCut>, AllocError>
+    requires few { length queues.old ≤ 16 }
+    requires within { p < length queues.old }
+    requires compared { AreCompared queues.old }
+    requires waiting { HaveHeads queues.old → ⊥ }
+    requires room { tests.old + most_tests (length queues.old) (uncompared_in queues.old + 1) < 2 ^ 64 }
+    ensures compared { AreCompared queues.new }
+    ensures left { OnOk result (AddsCandidate p clock queues.old queues.new) }
+    ensures cut { IfOk result (λ cut. MatchOption cut (HaveHeads queues.new → ⊥) (IsCutOfHeads queues.new)) }
+    ensures tests { tests.new + most_tests (length queues.old) (uncompared_in queues.new)
+        ≤ tests.old + most_tests (length queues.old) (uncompared_in queues.old + 1) }
+    ensures refused { OnErr result (queues.new ≡ queues.old) }
+    ensures no_test { OnErr result (tests.new ≡ tests.old) }
+{
+    queues[p].push(clock)?;
+    if !queues[p].head_is_new() {
+        return Ok(None);
+    }
+    eliminate(queues, tests);
+    Ok(cut_of_heads(queues))
+}
+
+/// The cut of the heads, if every process has one.
+fn cut_of_heads(queues: &[Queue]) -> Option<GlobalCut>
+    requires some { 0 < length queues.now }
+    requires few { length queues.now ≤ 16 }
+    ensures { MatchOption result (HaveHeads queues.now → ⊥) (IsCutOfHeads queues.now) }
+{
+    let mut intervals = [0; MAX_PROCS];
+    for (p, queue) in queues.iter().enumerate() {
+        intervals[p] = queue.head()?.get(p as u32);
+    }
+    Some(GlobalCut::new(&intervals[..queues.len()]))
+}
+
+/// Eliminates heads until each was compared with every other head. Counts its component tests.
+fn eliminate(queues: &mut [Queue], tests: &mut u64)
+    requires few { length queues.old ≤ 16 }
+    requires concurrent { AreConcurrent queues.old }
+    requires room { tests.old + most_tests (length queues.old) (uncompared_in queues.old) < 2 ^ 64 }
+    ensures compared { AreCompared queues.new }
+    ensures left { Eliminates queues.old queues.new }
+    ensures tests { tests.new + most_tests (length queues.old) (uncompared_in queues.new)
+        ≤ tests.old + most_tests (length queues.old) (uncompared_in queues.old) }
+{
+    while let Some(p) = first_new_head(queues) {
+        compare_head(queues, p, tests);
+    }
+}
+
+fn first_new_head(queues: &[Queue]) -> Option<usize>
+    ensures none { IfNone result ((p : ℕ) → p < length queues.now → (queue_of queues.now p).head_is_new ≡ false) }
+    ensures within { IfSome result (λ p. p < length queues.now) }
+    ensures new { IfSome result (λ p. HasNewHead (queue_of queues.now p)) }
+{
+    for (p, queue) in queues.iter().enumerate() {
+        if queue.head_is_new() {
+            return Some(p);
+        }
+    }
+    None
+}
+
+/// Compares the new head of `p` with the other heads, and eliminates those that precede one.
+fn compare_head(queues: &mut [Queue], p: usize, tests: &mut u64)
+    requires few { length queues.old ≤ 16 }
+    requires within { p < length queues.old }
+    requires new { HasNewHead (queue_of queues.old p) }
+    requires concurrent { AreConcurrent queues.old }
+    requires room { tests.old + most_tests (length queues.old) 1 < 2 ^ 64 }
+    ensures concurrent { AreConcurrent queues.new }
+    ensures left { Eliminates queues.old queues.new }
+    ensures fewer { uncompared_in queues.new < uncompared_in queues.old }
+    ensures tests { tests.new ≤ tests.old + most_tests (length queues.old) 1 }
+{
+    queues[p].mark_head();
+    let head = match queues[p].head() {
+        Some(head) => *head,
+        None => return,
+    };
+    for q in 0..queues.len() {
+        if q != p && meet(p as u32, &head, q as u32, &mut queues[q], tests) {
+            queues[p].drop_head();
+            return;
+        }
+    }
+}
+
+/// Compares a head of `p` with the head of the queue of `q`, if there is one, and eliminates that one
+/// if it precedes. Answers whether the head of `p` precedes it.
+fn meet(p: u32, head: &Clock, q: u32, queue: &mut Queue, tests: &mut u64) -> bool
+    requires p { p < 16 }
+    requires q { q < 16 }
+    requires room { tests.old + 2 < 2 ^ 64 }
+    ensures meeting { IsMeeting p head.now q queue.old queue.new result }
+    ensures tests { tests.new ≤ tests.old + 2 }
+{
+    let Some(other) = queue.head() else {
+        return false;
+    };
+    if precedes(p, head, other, tests) {
+        return true;
+    }
+    if precedes(q, other, head, tests) {
+        queue.drop_head();
+    }
+    false
+}
+
+/// Whether a snapshot of `p` precedes one of another process: one component test, which is counted.
+fn precedes(p: u32, one: &Clock, other: &Clock, tests: &mut u64) -> bool
+    requires p { p < 16 }
+    requires room { tests.old + 1 < 2 ^ 64 }
+    ensures order { IsTrue result ↔ (slice_index one.now p < slice_index other.now p) }
+    ensures counted { tests.new ≡ tests.old + 1 }
+{
+    *tests += 1;
+    one.precedes(p, other)
+}
