@@ -1,0 +1,38 @@
+#!/usr/bin/env python3
+"""Refuses each allocation of the built program in turn: each_allocation.py PROGRAM TEXT..
+
+Each answer must be that of an undisturbed run, or `wcpwatch: memory` with status 2 and no output.
+"""
+import os
+import pathlib
+import subprocess
+import sys
+import tempfile
+
+here = pathlib.Path(__file__).resolve().parent
+program, texts = sys.argv[1], sys.argv[2:]
+room = tempfile.mkdtemp()
+library = f"{room}/refuse.so"
+subprocess.run(["cc", "-shared", "-fPIC", "-O1", "-o", library, f"{here}/refuse_allocation.c", "-ldl"], check=True)
+memory = (b"", b"wcpwatch: memory\n", 2)
+
+
+def answer(text, number, tell=None):
+    words = f'exec env LD_PRELOAD="$1" REFUSE="$2" "$0" single 3>{tell or "/dev/null"}'
+    command = ["sh", "-c", words, os.path.abspath(program), library, str(number)]
+    done = subprocess.run(command, input=text, capture_output=True, timeout=60)
+    return done.stdout, done.stderr, done.returncode
+
+
+failed = 0
+for path in texts:
+    text = pathlib.Path(path).read_bytes()
+    row = answer(text, 0, f"{room}/count")
+    count = int(pathlib.Path(f"{room}/count").read_text().split()[-1])
+    answers = [answer(text, number) for number in range(1, count + 2)]
+    others = [(number + 1, it) for number, it in enumerate(answers) if it not in (row, memory)]
+    failed += len(others)
+    print(f"{path}: {count} allocations, {answers.count(memory)} answers of memory, {len(others)} other answers")
+    for number, it in others[:5]:
+        print(f"  allocation {number}: {it}")
+sys.exit(1 if failed else 0)
