@@ -17,7 +17,7 @@ static int is_refused(void) {
     return ++made == refused;
 }
 
-#define REAL(name, type) static type real; if (!real) real = (type)dlsym(RTLD_NEXT, name)
+#define REAL(name, type) static __typeof__(type) real; if (!real) real = (__typeof__(type))dlsym(RTLD_NEXT, name)
 
 void *malloc(size_t size) {
     REAL("malloc", void *(*)(size_t));
