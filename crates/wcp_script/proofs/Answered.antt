@@ -10,7 +10,7 @@ use Rattle.wcp_script.specs.declared.fault.ReadFault.{ReadFault}
 use Rattle.wcp_script.specs.declared.fault.ReadFault.TheVariants.{Script, NoMemory}
 use Rattle.wcp_script.specs.WorkloadText.{workload_text}
 use Rattle.wcp_script.specs.TextFault.{spelled_by, HasFault, AtLine, AtEnd}
-use Rattle.wcp_script.specs.Stuck.{IsStuckAt}
+use Rattle.wcp_order.specs.Stuck.{IsStuckAt}
 use Rattle.wcp_script.specs.WorkloadReading.{IsPlainPlan, IsFaultOf, IsReadAs, IsRefusedFor, Reads}
 use Rattle.wcp_script.proofs.Questions.{ok_is}
 use Rattle.wcp_script.proofs.Spelled.{spelled_by_is}

@@ -7,21 +7,3 @@ pub mod TaskWords
 pub mod Spelled
 pub mod ReadAgain
 pub mod Answered
-mod Advancing
-mod Blocked
-mod Concluding
-mod Counting
-mod Fit
-mod Lengths
-mod Linking
-mod Places
-mod Rounds
-mod Tasks
-mod Queues
-mod MessageNumbers
-mod Alike
-mod Heads
-mod Orders
-mod Reports
-mod TrueRows
-mod Delivery

@@ -9,7 +9,7 @@ use Rattle.wcp_script.specs.declared.fault.FaultKind.{FaultKind}
 use Rattle.wcp_script.specs.declared.fault.FaultKind.TheVariants as kind
 use Rattle.wcp_script.specs.declared.fault.ScriptFault.{ScriptFault}
 use Rattle.wcp_script.specs.Lines.{TextLine, lines_of, words_of, number_of}
-use Rattle.wcp_script.specs.Stuck.{IsStuckAt}
+use Rattle.wcp_order.specs.Stuck.{IsStuckAt}
 
 -- The next question is asked where the one before it found no fault.
 infixl 10 ◌>>=◌

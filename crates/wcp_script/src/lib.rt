@@ -1,25 +1,13 @@
-//! What the text of a workload means: the workload that it spells or the fault that it has, and the
-//! workload's outcome.
+//! What a text means: the workload that it spells, or the fault that it has.
 #![tactic(auto)]
 
-mod computing;
-mod elimination;
 mod fault;
 mod head;
 mod lines;
-mod messages;
 mod number;
-mod order;
 mod steps;
-mod true_states;
 mod workload;
-mod workload_outcome;
 
-pub use computing::computation;
 pub use fault::{FaultKind, ReadFault, ScriptFault};
-pub use order::{Schedule, fit_order};
+pub use wcp_single::single;
 pub use workload::read_workload;
-pub use workload_outcome::single;
-
-#[cfg(test)]
-mod tests;

@@ -9,10 +9,10 @@ ghost use Rattle.wcp_script.specs.WorkloadReading.{IsPlainPlan, IsFaultOf, IsRea
 
 use crate::fault::{FaultKind, ReadFault, ScriptFault};
 use crate::head::read_head;
-use crate::order::{Schedule, fit_order};
 use crate::steps::{FIRST_STEP_LINE, read_steps};
 use std::alloc::Global;
 use wcp_model::{Task, Workload, plain_plan};
+use wcp_order::{FitOrder, fit_order};
 
 /// How many notes each link and each inbox has room for, where the text doesn't say.
 const PLAIN_CAP: u32 = 8;
@@ -42,11 +42,11 @@ fn read(alloc: Global, bytes: &[u8]) -> Result<Workload, ReadFault>
 {
     let (n, tasks) = spelled_by(alloc, bytes)?;
     match fit_order(alloc, n, &tasks)? {
-        Schedule::Order(_) => {
+        FitOrder::Order(_) => {
             let plan = plain_plan(alloc, n, PLAIN_CAP, PLAIN_HOLD)?;
             Ok(Workload { plan, tasks })
         }
-        Schedule::Stuck(place) => {
+        FitOrder::Stuck(place) => {
             let line = place as u32 + FIRST_STEP_LINE;
             let kind = FaultKind::Stuck;
             Err(ReadFault::Script(ScriptFault { line, kind }))

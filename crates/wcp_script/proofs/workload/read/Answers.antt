@@ -2,7 +2,7 @@ use Rattle.std.proofs.Common.{◌<◌, List, refl, subst, arith}
 use Rattle.wcp_model.specs.declared.workload.Task.{Task}
 use Rattle.wcp_model.specs.WorkloadComputation.{IsFitOrder}
 use Rattle.wcp_script.specs.TextFault.{AtEnd}
-use Rattle.wcp_script.specs.Stuck.{IfStuck, IsFirstStuck, IsStuckAt}
+use Rattle.wcp_order.specs.Stuck.{IfStuck, IsFirstStuck, IsStuckAt}
 use Rattle.wcp_script.proofs.Spelled.{spelled_by_is}
 use Rattle.wcp_script.proofs.workload.read.Goals as goal
 use Rattle.wcp_script.proofs.workload.read.Goals.{In-Stuck}
@@ -16,8 +16,8 @@ fit_order-requires-clause-within c = rw c.deref.ensures.value (spelled_by_is _ _
 is_stuck : (c : In-Stuck) → IsStuckAt c.in_ok-n.tasks.items c.in-Stuck.place
 is_stuck c =
     let tasks = c.deref.result.now in
-    let none = subst (λ schedule. IfStuck schedule (λ _. (order : List Task) → IsFitOrder tasks order → ⊥)) c.in-Stuck.is c.in_ok-fit_order.ensures.no_order in
-    let first = subst (λ schedule. IfStuck schedule (IsFirstStuck tasks)) c.in-Stuck.is c.in_ok-fit_order.ensures.stuck in
+    let none = subst (λ found. IfStuck found (λ _. (order : List Task) → IsFitOrder tasks order → ⊥)) c.in-Stuck.is c.in_ok-fit_order.ensures.no_order in
+    let first = subst (λ found. IfStuck found (IsFirstStuck tasks)) c.in-Stuck.is c.in_ok-fit_order.ensures.stuck in
     let at_place : IsStuckAt tasks c.in-Stuck.place = record { no_order = none; first = first } in
     rw (← c.deref.ensures.value) at_place
 
