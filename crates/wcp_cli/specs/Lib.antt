@@ -1,4 +1,3 @@
 pub mod Bytes
-pub mod ReportText
 pub mod Run
 pub mod Words

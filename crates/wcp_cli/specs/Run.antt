@@ -9,7 +9,7 @@ use Rattle.wcp_model.specs.WorkloadComputation.{CouldBeRead}
 use Rattle.wcp_script.specs.WorkloadText.{workload_text}
 use Rattle.wcp_cli.specs.declared.input.TheConstants.{MOST_BYTES}
 use Rattle.wcp_cli.specs.Bytes.{AppendsFront}
-use Rattle.wcp_cli.specs.ReportText.{outcome_text}
+use Rattle.wcp_report.specs.ReportText.{outcome_text}
 
 -- What is known of the bytes that a reader has left, or of those that a writer holds.
 abbrev pub Known : Type 0

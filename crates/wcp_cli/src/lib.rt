@@ -6,7 +6,6 @@ mod help;
 mod input;
 mod output;
 mod program;
-pub mod report_text;
 mod words;
 
 pub use fault::Fault;

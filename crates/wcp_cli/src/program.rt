@@ -7,12 +7,12 @@ ghost use Rattle.wcp_cli.specs.Words.{AskForSingle, AskForHelp, AskForUnknown};
 use crate::fault::Fault;
 use crate::input::read_text;
 use crate::output::write_whole;
-use crate::report_text::report_text;
 use crate::words::{Request, read_words};
 use std::alloc::Global;
 use std::convert::AsStr;
 use std::io::{Read, Write};
 use wcp_model::Report;
+use wcp_report::report_text;
 use wcp_script::{read_workload, single};
 
 /// The status where a bad moment was found, and after help.

@@ -3,7 +3,7 @@ use Rattle.std.proofs.Math.Seq.{drop-cons}
 use Rattle.std.proofs.lemmas.List.Sums.{sum_by_more}
 use Rattle.std.proofs.lemmas.Option.{slice_get_within, get_or_from_slice_get}
 use Rattle.wcp_model.specs.declared.outcome.Tally.{Tally}
-use Rattle.wcp_cli.specs.ReportText.{process_line, lines_from}
+use Rattle.wcp_report.specs.ReportText.{process_line, lines_from}
 
 -- what is left of a list at an element begins with it
 drop-at : (tallies : List Tally) (p : ℕ) (tally : Tally) → slice_get tallies p ≡ Some tally → drop p tallies ≡ tally ∷ drop (p + 1) tallies

@@ -1,6 +1,6 @@
 use Rattle.std.proofs.Common.{string_bytes}
-use Rattle.wcp_cli.proofs.Lines.{line_more}
-use Rattle.wcp_cli.proofs.report_text.push_processes.Goals as goal
+use Rattle.wcp_report.proofs.Lines.{line_more}
+use Rattle.wcp_report.proofs.report_lines.push_processes.Goals as goal
 
 pub loop-p-preserved : goal.loop-p-preserved
 loop-p-preserved c =

@@ -1,5 +1,5 @@
 use Rattle.std.proofs.Common.{◌≡◌, ◌*◌, ◌^◌, ◌≤◌, take, sum_by}
-use Rattle.wcp_cli.proofs.report_text.push_total.Given as goal
+use Rattle.wcp_report.proofs.report_lines.push_total.Given as goal
 
 abbrev pub invariant-loop-p : goal.invariant-loop-p
 invariant-loop-p l = record {

@@ -1,6 +1,6 @@
 //! The printed text of an outcome.
 ghost use Rattle.std.specs.Prelude.{◌≡◌, ◌++◌, IfOk, OnOk, string_bytes};
-ghost use Rattle.wcp_cli.specs.ReportText.{cut_text, report_line, process_lines, total_line, outcome_text};
+ghost use Rattle.wcp_report.specs.ReportText.{cut_text, report_line, process_lines, total_line, outcome_text};
 
 use std::alloc::{AllocError, Global};
 use wcp_model::{GlobalCut, Outcome, Report, Tallies};
@@ -10,13 +10,20 @@ pub fn report_text(alloc: Global, outcome: &Outcome) -> Result<Vec<u8>, AllocErr
     ensures { IfOk result (λ text. text.items ≡ outcome_text outcome.now) }
 {
     let mut text = String::new(alloc);
-    push_report(&mut text, &outcome.report)?;
-    push_processes(&mut text, &outcome.tallies)?;
-    push_total(&mut text, &outcome.tallies)?;
+    push_report(&mut text, outcome)?;
     Ok(text.into_bytes())
 }
 
-fn push_report(text: &mut String, report: &Report) -> Result<(), AllocError>
+/// Adds the text of an outcome to a text.
+pub fn push_report(text: &mut String, outcome: &Outcome) -> Result<(), AllocError>
+    ensures { OnOk result (string_bytes text.new ≡ string_bytes text.old ++ outcome_text outcome.now) }
+{
+    push_report_line(text, &outcome.report)?;
+    push_processes(text, &outcome.tallies)?;
+    push_total(text, &outcome.tallies)
+}
+
+fn push_report_line(text: &mut String, report: &Report) -> Result<(), AllocError>
     ensures { OnOk result (string_bytes text.new ≡ string_bytes text.old ++ report_line report.now) }
 {
     match report {

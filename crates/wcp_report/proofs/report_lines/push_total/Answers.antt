@@ -1,6 +1,6 @@
 use Rattle.std.proofs.Common.{arith}
-use Rattle.wcp_cli.proofs.Lines.{sum_more}
-use Rattle.wcp_cli.proofs.report_text.push_total.Goals as goal
+use Rattle.wcp_report.proofs.Lines.{sum_more}
+use Rattle.wcp_report.proofs.report_lines.push_total.Goals as goal
 
 pub loop-p-preserved : goal.loop-p-preserved
 loop-p-preserved c =

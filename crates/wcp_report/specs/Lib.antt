@@ -1,0 +1,2 @@
+pub mod ReplyText
+pub mod ReportText
