@@ -1,6 +1,6 @@
-use Rattle.std.proofs.Common.{◌≡◌, ◌&&◌, Bool, true, false, List, [], ◌∷◌, ◌++◌, drop, fold, codes, ap, ◌∙◌, append_assoc, append-nil, Some, sym, refl, subst, None, inl, inr, ◌⊎◌, ⊎_elim}
+use Rattle.std.proofs.Common.{◌≡◌, true, false, List, [], ◌∷◌, ◌++◌, drop, fold, codes, ap, ◌∙◌, append_assoc, append-nil, Some, sym, refl, subst, None, inl, inr, ⊎_elim}
 use Rattle.clap.proofs.OnLiterals.{clap_on_literals}
-use Rattle.clap.specs.Words.{App, IsAmong, Kinds, Text, fault_of, is_simple, is_simple_and_free, takes, built}
+use Rattle.clap.specs.Words.{IsAmong, Kinds, Text, fault_of, is_simple_and_free, takes, built}
 use Rattle.clap.specs.Faults.{built_fault}
 use Rattle.clap.specs.Takes.{built_takes}
 use Rattle.clap.specs.Lexer.{strip_byte}

@@ -1,8 +1,8 @@
-use Rattle.std.proofs.Common.{◌≡◌, ◌∙◌, ◌⊎◌, ap, refl, map, inl, inr, sym, subst, List, [], IfOk, IsErr, Result, Ok, Err}
-use Rattle.clap.specs.Words.{App, HasKind, IsAmong, app_of, fault_of, is_simple_and_free, kind_of, takes}
+use Rattle.std.proofs.Common.{◌≡◌, ◌∙◌, ap, refl, map, inl, inr, sym, subst, IfOk, IsErr, Result, Ok, Err}
+use Rattle.clap.specs.Words.{App, HasKind, IsAmong, app_of, fault_of, is_simple_and_free, takes}
 use Rattle.clap.specs.declared.error.kind.ErrorKind.{ErrorKind}
 use Rattle.clap.specs.declared.error.kind.ErrorKind.TheVariants as kind
-use Rattle.wcp_cli.specs.Words.{AskForHelp, program}
+use Rattle.wcp_cli.specs.Words.{program}
 use Rattle.wcp_cli.proofs.WordLemmas.{single-takes, help-fails, unknown-fails, program_is_free}
 use Rattle.wcp_cli.proofs.words.read_words.Goals as goal
 
