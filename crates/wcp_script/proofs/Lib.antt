@@ -7,3 +7,5 @@ pub mod TaskWords
 pub mod Spelled
 pub mod ReadAgain
 pub mod Answered
+mod Ranges
+mod RingTasks

@@ -3,3 +3,4 @@ pub mod WorkloadText
 pub mod TextFault
 pub mod Seen
 pub mod WorkloadReading
+pub mod Ring

@@ -5,9 +5,11 @@ mod fault;
 mod head;
 mod lines;
 mod number;
+mod ring;
 mod steps;
 mod workload;
 
 pub use fault::{FaultKind, ReadFault, ScriptFault};
+pub use ring::ring_workload;
 pub use wcp_single::single;
 pub use workload::read_workload;
