@@ -1,6 +1,6 @@
 -- The tasks of a ring, as they stand, are a fit order of themselves.
-use Rattle.std.proofs.Common.{◌≡◌, ◌≢◌, ℕ, zero, suc, ◌+◌, ◌*◌, ◌-◌, ◌<◌, ◌≤◌, Bool, true, false, cond, ◌&&◌, eqb, List, [], ◌∷◌, ◌++◌, length, take, refl, sym, ap, subst, ◌∙◌, append_assoc, length-append, mul-suc, arith, eq-eqb, ne_eqb, add-one, ⊎_elim}
-use Rattle.std.specs.List.{flat_map, range_with_len, All, AllByRecursion, count_by}
+use Rattle.std.proofs.Common.{◌≡◌, ◌≢◌, ℕ, zero, suc, ◌+◌, ◌*◌, ◌-◌, ◌<◌, ◌≤◌, Bool, true, false, cond, ◌&&◌, eqb, List, [], ◌∷◌, ◌++◌, length, take, refl, sym, ap, ◌∙◌, append_assoc, length-append, mul-suc, arith, eq-eqb, ne_eqb, add-one, ⊎_elim}
+use Rattle.std.specs.List.{flat_map, range_with_len, All, count_by}
 use Rattle.std.proofs.lemmas.Bool.{and_left, and_right, and_from, and_parts, eqb-true, cases_Bool, cases_lt, cond_both}
 use Rattle.std.proofs.lemmas.List.{append-nil, take-append-le, take_all}
 use Rattle.std.proofs.lemmas.List.Elements.{All-from_recursion, All-append}
@@ -11,7 +11,7 @@ use Rattle.wcp_model.specs.declared.workload.Action.TheVariants.{Observe, Send, 
 use Rattle.wcp_model.specs.declared.workload.Task.{Task}
 use Rattle.wcp_model.specs.WorkloadComputation.{sends, receives, is_task_of, is_receive_from, IsWithin, IsFitOrder, CouldBeRead}
 use Rattle.wcp_model.proofs.SamePlace.{count_by_no, count_by_yes}
-use Rattle.wcp_script.specs.Ring.{before, after, finds_both, received, sent, ring_turn, ring_round, ring_fault, ring_tasks, ring_length}
+use Rattle.wcp_script.specs.Ring.{before, finds_both, received, sent, ring_turn, ring_round, ring_fault, ring_tasks, ring_length}
 use Rattle.wcp_script.proofs.Ranges.{flat_map-range_each, length-flat_map-range}
 
 -- ---- fronts that receive no more than they send

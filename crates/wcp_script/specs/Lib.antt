@@ -4,3 +4,4 @@ pub mod TextFault
 pub mod Seen
 pub mod WorkloadReading
 pub mod Ring
+pub mod PlanText
