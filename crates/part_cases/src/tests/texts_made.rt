@@ -77,23 +77,29 @@ fn a_workload_with_a_tree_of_relays(rt: HostRuntime) -> Result<(), Fail> {
     Ok(())
 }
 
-/// Replies that take no item, with their lines.
-const REPLIES: &[(Reply, &[u8])] = &[
-    (Reply::Done, b"done\n"),
-    (Reply::Refused(Why::NoSuch), b"refused nosuch\n"),
-    (Reply::Refused(Why::Closed), b"refused closed\n"),
-    (Reply::Refused(Why::Backlog), b"refused backlog\n"),
-    (Reply::Refused(Why::Gone), b"refused gone\n"),
-    (Reply::Refused(Why::ClockEnd), b"refused clockend\n"),
-    (Reply::Refused(Why::Empty), b"refused empty\n"),
-    (Reply::Refused(Why::Full), b"refused full\n"),
+/// Why a step was refused, with the line of the reply.
+const REFUSED: &[(Why, &[u8])] = &[
+    (Why::NoSuch, b"refused nosuch\n"),
+    (Why::Closed, b"refused closed\n"),
+    (Why::Backlog, b"refused backlog\n"),
+    (Why::Gone, b"refused gone\n"),
+    (Why::ClockEnd, b"refused clockend\n"),
+    (Why::Empty, b"refused empty\n"),
+    (Why::Full, b"refused full\n"),
 ];
 
 #[test]
 fn lines_of_replies(rt: HostRuntime) -> Result<(), Fail> {
-    for (reply, line) in REPLIES {
-        assert_eq!(rt; reply_text(rt.alloc(), reply)?.as_slice(), *line);
+    for (why, line) in REFUSED {
+        assert_eq!(rt;
+            reply_text(rt.alloc(), &Reply::Refused(*why))?.as_slice(),
+            *line
+        );
     }
+    assert_eq!(rt;
+        reply_text(rt.alloc(), &Reply::Done)?.as_slice(),
+        b"done\n".as_slice()
+    );
     let sent = Clock::new(3).tick(2, 1).ok_or("the clock's end")?;
     assert_eq!(rt; sent.len(), 3);
     let clock = sent.tick(1, 1).ok_or("the clock's end")?;
@@ -135,8 +141,12 @@ fn found() -> Outcome {
 
 #[test]
 fn a_report_and_replies_before_it(rt: HostRuntime) -> Result<(), Fail> {
-    let lines = "found 1 1\nprocess 0 emitted 2 taken 2\nprocess 1 emitted 1 taken 0\ntotal emitted 3 taken 2\n";
-    assert_eq!(rt; report_text(rt.alloc(), &found())?.as_slice(), lines.as_bytes());
+    let lines =
+        "found 1 1\nprocess 0 emitted 2 taken 2\nprocess 1 emitted 1 taken 0\ntotal emitted 3 taken 2\n";
+    assert_eq!(rt;
+        report_text(rt.alloc(), &found())?.as_slice(),
+        lines.as_bytes()
+    );
 
     let mut text = String::new(rt.alloc());
     push_reply(&mut text, &Reply::Done)?;
