@@ -5,3 +5,4 @@ mod outcomes;
 mod plans;
 mod stamps;
 mod texts;
+mod texts_made;

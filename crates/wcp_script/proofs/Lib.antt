@@ -7,3 +7,6 @@ pub mod TaskWords
 pub mod Spelled
 pub mod ReadAgain
 pub mod Answered
+mod PlanLines
+mod Ranges
+mod RingTasks

@@ -3,3 +3,5 @@ pub mod WorkloadText
 pub mod TextFault
 pub mod Seen
 pub mod WorkloadReading
+pub mod Ring
+pub mod PlanText

@@ -1,0 +1,158 @@
+use std::alloc::{AllocError, Global};
+use std::test::Fail;
+use wcp_clock::{Clock, Item, Note};
+use wcp_model::{
+    Action, GlobalCut, Outcome, Parent, Plan, Reply, Report, Tallies, Tally, Task, Why, Workload,
+};
+use wcp_report::{push_reply, push_report, reply_text, report_text};
+use wcp_script::{ring_workload, workload_text};
+
+/// The text of a workload of a ring of two processes and one round.
+fn ring_text(alloc: Global, fault: bool) -> Result<Vec<u8>, AllocError> {
+    let workload = ring_workload(alloc, 2, 1, fault)?;
+    workload_text(alloc, &workload)
+}
+
+#[test]
+fn a_ring_of_two(rt: HostRuntime) -> Result<(), Fail> {
+    assert_eq!(rt;
+        ring_text(rt.alloc(), false)?.as_slice(),
+        b"wcp 1\nprocs 2\np 0 true\np 0 false\np 0 send 1\np 1 recv 0\np 1 true\np 1 false\n".as_slice()
+    );
+    assert_eq!(rt;
+        ring_text(rt.alloc(), true)?.as_slice(),
+        b"wcp 1\nprocs 2\np 1 true\np 1 false\np 0 true\np 0 false\np 0 send 1\np 1 recv 0\np 1 true\np 1 false\n".as_slice()
+    );
+    Ok(())
+}
+
+/// The longest ring's number of tasks.
+#[test]
+fn the_longest_ring(rt: HostRuntime) -> Result<(), Fail> {
+    let workload = ring_workload(rt.alloc(), 16, 1000, true)?;
+    assert_eq!(rt; workload.tasks.len(), 64_028);
+    Ok(())
+}
+
+#[test]
+fn a_workload_with_a_tree_of_relays(rt: HostRuntime) -> Result<(), Fail> {
+    let alloc = rt.alloc();
+    let parents = [
+        Parent::Root,
+        Parent::Relay(0),
+        Parent::Relay(0),
+        Parent::Relay(0),
+    ];
+    let plan = Plan {
+        n: 3,
+        cap: 1024,
+        hold: 1,
+        parents: Vec::from_slice(alloc, &parents)?,
+        attach: Vec::from_slice(alloc, &[Some(1), Some(2), Some(3)])?,
+    };
+    let tasks = [
+        Task {
+            p: 0,
+            action: Action::Observe(true),
+        },
+        Task {
+            p: 0,
+            action: Action::Send(2),
+        },
+        Task {
+            p: 2,
+            action: Action::Recv(0),
+        },
+        Task {
+            p: 1,
+            action: Action::Observe(false),
+        },
+    ];
+    let tasks = Vec::from_slice(alloc, &tasks)?;
+    let text = workload_text(alloc, &Workload { plan, tasks })?;
+    assert_eq!(rt;
+        text.as_slice(),
+        b"wcp 1\nprocs 3\ncap 1024\nhold 1\nrelay 0 root\nrelay 1 0\nrelay 2 0\nrelay 3 0\nattach 0 1\nattach 1 2\nattach 2 3\np 0 true\np 0 send 2\np 2 recv 0\np 1 false\n".as_slice()
+    );
+    Ok(())
+}
+
+/// Why a step was refused, with the line of the reply.
+const REFUSED: &[(Why, &[u8])] = &[
+    (Why::NoSuch, b"refused nosuch\n"),
+    (Why::Closed, b"refused closed\n"),
+    (Why::Backlog, b"refused backlog\n"),
+    (Why::Gone, b"refused gone\n"),
+    (Why::ClockEnd, b"refused clockend\n"),
+    (Why::Empty, b"refused empty\n"),
+    (Why::Full, b"refused full\n"),
+];
+
+#[test]
+fn lines_of_replies(rt: HostRuntime) -> Result<(), Fail> {
+    for (why, line) in REFUSED {
+        assert_eq!(rt;
+            reply_text(rt.alloc(), &Reply::Refused(*why))?.as_slice(),
+            *line
+        );
+    }
+    assert_eq!(rt;
+        reply_text(rt.alloc(), &Reply::Done)?.as_slice(),
+        b"done\n".as_slice()
+    );
+    let sent = Clock::new(3).tick(2, 1).ok_or("the clock's end")?;
+    assert_eq!(rt; sent.len(), 3);
+    let clock = sent.tick(1, 1).ok_or("the clock's end")?;
+    let snapshot = Item {
+        from: 1,
+        note: Note::Snap { number: 4, clock },
+    };
+    assert_eq!(rt;
+        reply_text(rt.alloc(), &Reply::Took(snapshot))?.as_slice(),
+        b"took 1 snap 4 0 1 1\n".as_slice()
+    );
+    let close = Item {
+        from: 0,
+        note: Note::Close { count: 2 },
+    };
+    assert_eq!(rt;
+        reply_text(rt.alloc(), &Reply::Took(close))?.as_slice(),
+        b"took 0 close 2\n".as_slice()
+    );
+    Ok(())
+}
+
+/// The outcome of two processes of which the first emitted twice, and the cut at their second
+/// intervals was found.
+fn found() -> Outcome {
+    let twice = Tally {
+        emitted: 2,
+        taken: 2,
+    };
+    let once = Tally {
+        emitted: 1,
+        taken: 0,
+    };
+    Outcome {
+        report: Report::Found(GlobalCut::new(&[1, 1])),
+        tallies: Tallies::new(&[twice, once]),
+    }
+}
+
+#[test]
+fn a_report_and_replies_before_it(rt: HostRuntime) -> Result<(), Fail> {
+    let lines =
+        "found 1 1\nprocess 0 emitted 2 taken 2\nprocess 1 emitted 1 taken 0\ntotal emitted 3 taken 2\n";
+    assert_eq!(rt;
+        report_text(rt.alloc(), &found())?.as_slice(),
+        lines.as_bytes()
+    );
+
+    let mut text = String::new(rt.alloc());
+    push_reply(&mut text, &Reply::Done)?;
+    push_reply(&mut text, &Reply::Refused(Why::Full))?;
+    push_report(&mut text, &found())?;
+    let both = format!(in rt.alloc(); "done\nrefused full\n{lines}")?;
+    assert_eq!(rt; text.as_str(), both.as_str());
+    Ok(())
+}

@@ -1,0 +1,32 @@
+-- What a range of numbers gives, piece by piece.
+use Rattle.std.proofs.Common.{◌≡◌, ℕ, zero, suc, ◌+◌, ◌*◌, ◌<◌, ◌≤◌, List, [], ◌++◌, length, sym, ap, ◌∙◌, append_assoc, length-append, mul-suc, arith}
+use Rattle.std.specs.List.{flat_map, range_with_len}
+use Rattle.std.proofs.lemmas.List.{append-nil}
+
+-- one more piece
+pub flat_map-range_more : {X : Type 0} (f : ℕ → List X) (a n : ℕ) → flat_map f (range_with_len a (n + 1)) ≡ flat_map f (range_with_len a n) ++ f (a + n)
+flat_map-range_more f a zero = append-nil (f a) ∙ ap f (omega arith)
+flat_map-range_more f a (suc n) =
+    let more : flat_map f (range_with_len (a + 1) (n + 1)) ≡ flat_map f (range_with_len (a + 1) n) ++ f (a + suc n) = flat_map-range_more f (a + 1) n ∙ ap (λ last. flat_map f (range_with_len (a + 1) n) ++ f last) (omega arith) in
+    let whole : f a ++ flat_map f (range_with_len (a + 1) (n + 1)) ≡ (f a ++ flat_map f (range_with_len (a + 1) n)) ++ f (a + suc n) = ap (λ rest. f a ++ rest) more
+    ∙ sym (append_assoc (f a) (flat_map f (range_with_len (a + 1) n)) (f (a + suc n))) in
+    let size : suc n + 1 ≡ suc (n + 1) = omega arith in
+    rw size whole
+
+-- the same behind what was there
+pub pieces_more : {X : Type 0} (f : ℕ → List X) (a n i : ℕ) (old before new : List X) → a + n ≡ i → before ≡ old ++ flat_map f (range_with_len a n) → new ≡ before ++ f i → new ≡ old ++ flat_map f (range_with_len a (n + 1))
+pieces_more f a n i old before new here was is =
+    is ∙ ap (λ j. before ++ f j) (sym here) ∙ ap (λ front. front ++ f (a + n)) was ∙ append_assoc old (flat_map f (range_with_len a n)) (f (a + n)) ∙ ap (λ rest. old ++ rest) (sym (flat_map-range_more f a n))
+
+-- what is so of each piece, of nothing and of two such lists together is so of the whole
+pub flat_map-range_each : {X : Type 0} (f : ℕ → List X) (P : List X → Type 0) → P [] → ((xs ys : List X) → P xs → P ys → P (xs ++ ys)) → (a n : ℕ) → ((i : ℕ) → a ≤ i → i < a + n → P (f i)) → P (flat_map f (range_with_len a n))
+flat_map-range_each f P none both a zero each = none
+flat_map-range_each f P none both a (suc n) each =
+    both (f a) (flat_map f (range_with_len (a + 1) n)) (each a (omega arith) (omega arith)) (flat_map-range_each f P none both (a + 1) n (λ i low high. each i (omega arith) (omega arith)))
+
+-- pieces of one length
+pub length-flat_map-range : {X : Type 0} (f : ℕ → List X) (size a n : ℕ) → ((i : ℕ) → a ≤ i → i < a + n → length (f i) ≡ size) → length (flat_map f (range_with_len a n)) ≡ size * n
+length-flat_map-range f size a zero each = omega arith
+length-flat_map-range f size a (suc n) each =
+    let rest = length-flat_map-range f size (a + 1) n (λ i low high. each i (omega arith) (omega arith)) in
+    omega (arith, length-append (f a) (flat_map f (range_with_len (a + 1) n)), each a (omega arith) (omega arith), rest, mul-suc size n)

@@ -1,0 +1,247 @@
+-- The tasks of a ring, as they stand, are a fit order of themselves.
+use Rattle.std.proofs.Common.{◌≡◌, ◌≢◌, ℕ, zero, suc, ◌+◌, ◌*◌, ◌-◌, ◌<◌, ◌≤◌, Bool, true, false, cond, ◌&&◌, eqb, List, [], ◌∷◌, ◌++◌, length, take, refl, sym, ap, ◌∙◌, append_assoc, length-append, mul-suc, arith, eq-eqb, ne_eqb, add-one, ⊎_elim}
+use Rattle.std.specs.List.{flat_map, range_with_len, All, count_by}
+use Rattle.std.proofs.lemmas.Bool.{and_left, and_right, and_from, and_parts, eqb-true, cases_Bool, cases_lt, cond_both}
+use Rattle.std.proofs.lemmas.List.{append-nil, take-append-le, take_all}
+use Rattle.std.proofs.lemmas.List.Elements.{All-from_recursion, All-append}
+use Rattle.std.proofs.lemmas.List.Sums.{sum_by-append}
+use Rattle.std.proofs.lemmas.Nat.{mul-le}
+use Rattle.std.proofs.Math.Seq.{take-append-add}
+use Rattle.wcp_model.specs.declared.workload.Action.TheVariants.{Observe, Send, Recv}
+use Rattle.wcp_model.specs.declared.workload.Task.{Task}
+use Rattle.wcp_model.specs.WorkloadComputation.{sends, receives, is_task_of, is_receive_from, IsWithin, IsFitOrder, CouldBeRead}
+use Rattle.wcp_model.proofs.SamePlace.{count_by_no, count_by_yes}
+use Rattle.wcp_script.specs.Ring.{before, finds_both, received, sent, ring_turn, ring_round, ring_fault, ring_tasks, ring_length}
+use Rattle.wcp_script.proofs.Ranges.{flat_map-range_each, length-flat_map-range}
+
+-- ---- fronts that receive no more than they send
+
+abbrev Fits : List Task → Type 0
+Fits tasks = (place p q : ℕ) → count_by (receives p q) (take place tasks) ≤ count_by (sends p q) (take place tasks)
+
+count_by-append : (test : Task → Bool) (xs ys : List Task) → count_by test (xs ++ ys) ≡ count_by test xs + count_by test ys
+count_by-append test xs ys = sum_by-append (λ x. cond (test x) 1 0) xs ys
+
+fits_both : (xs ys : List Task) → Fits xs → Fits ys → Fits (xs ++ ys)
+fits_both xs ys one other place p q =
+    ⊎_elim (λ (inside : place < length xs).
+    let front : take place (xs ++ ys) ≡ take place xs = take-append-le place xs ys (omega arith) in
+    rw front (one place p q))
+    (λ (past : length xs ≤ place).
+    let here : place ≡ length xs + (place - length xs) = omega arith in
+    let front : take place (xs ++ ys) ≡ xs ++ take (place - length xs) ys = ap (λ i. take i (xs ++ ys)) here ∙ take-append-add xs ys (place - length xs) in
+    let whole : take (length xs) xs ≡ xs = take_all (length xs) xs (omega arith) in
+    let first : count_by (receives p q) xs ≤ count_by (sends p q) xs = rw whole at (one (length xs) p q) in
+    let rest = other (place - length xs) p q in
+    let both : count_by (receives p q) (xs ++ take (place - length xs) ys) ≤ count_by (sends p q) (xs ++ take (place - length xs) ys) =
+    omega (arith, count_by-append (receives p q) xs (take (place - length xs) ys), count_by-append (sends p q) xs (take (place - length xs) ys), first, rest) in
+    rw front both)
+    (cases_lt place (length xs))
+
+nothing_taken : (place : ℕ) → ◌≡◌ {A = List Task} (take place []) []
+nothing_taken zero = refl
+nothing_taken (suc place) = refl
+
+fits_nothing : Fits []
+fits_nothing place p q = rw (nothing_taken place) (omega arith)
+
+fits_observation : (p : ℕ) (holds : Bool) → Fits (record { p = p; action = Observe holds } ∷ [])
+fits_observation by holds zero p q = omega arith
+fits_observation by holds (suc place) p q =
+    omega (arith, count_by_no (receives p q) (record { p = by; action = Observe holds }) (take place []) (and_right _ _ refl), ap (count_by (receives p q)) (nothing_taken place))
+
+fits_findings : (p : ℕ) → Fits (finds_both p)
+fits_findings p = fits_both (record { p = p; action = Observe true } ∷ []) (record { p = p; action = Observe false } ∷ []) (fits_observation p true) (fits_observation p false)
+
+-- a message from one process to another
+abbrev passed : ℕ → ℕ → List Task
+passed a b = record { p = a; action = Send b } ∷ record { p = b; action = Recv a } ∷ []
+
+fits_passed : (a b : ℕ) → Fits (passed a b)
+fits_passed a b zero p q = omega arith
+fits_passed a b (suc zero) p q = omega (arith, count_by_no (receives p q) (record { p = a; action = Send b }) [] (and_right _ _ refl))
+fits_passed a b (suc (suc place)) p q =
+    let send : Task = record { p = a; action = Send b } in
+    let receive : Task = record { p = b; action = Recv a } in
+    let rest : List Task = take place [] in
+    let first = count_by_no (receives p q) send (receive ∷ rest) (and_right _ _ refl) in
+    ⊎_elim (λ (is : receives p q receive ≡ true).
+    let parts = and_parts (is_task_of q receive) (is_receive_from p receive.action) is in
+    let sends_it : sends p q send ≡ true = and_from _ _ (eq-eqb a p (eqb-true a p parts.1)) (eq-eqb b q (eqb-true b q parts.0)) in
+    omega (arith, first, count_by_yes (receives p q) receive rest is, ap (count_by (receives p q)) (nothing_taken place), count_by_yes (sends p q) send (receive ∷ rest) sends_it))
+    (λ (not : receives p q receive ≡ false). omega (arith, first, count_by_no (receives p q) receive rest not, ap (count_by (receives p q)) (nothing_taken place)))
+    (cases_Bool (receives p q receive))
+
+-- ---- each receive beside its send
+
+-- what was sent before the turn of p in a round, and is received in it
+abbrev pending : ℕ → ℕ → ℕ → ℕ → List Task
+pending n rounds round (suc p) = sent n rounds round p
+pending n rounds zero zero = []
+pending n rounds (suc round) zero = sent n rounds round (n - 1)
+
+abbrev block : ℕ → ℕ → ℕ → ℕ → List Task
+block n rounds round p = pending n rounds round p ++ (received n round p ++ finds_both p)
+
+regroup : (a b c d e : List Task) → a ++ (((b ++ c) ++ d) ++ e) ≡ (a ++ (b ++ c)) ++ (d ++ e)
+regroup a b c d e = simp append_assoc refl
+
+turns_regrouped : (n rounds round p len : ℕ) → pending n rounds round p ++ flat_map (ring_turn n rounds round) (range_with_len p len) ≡ flat_map (block n rounds round) (range_with_len p len) ++ pending n rounds round (p + len)
+turns_regrouped n rounds round p zero = append-nil (pending n rounds round p) ∙ ap (pending n rounds round) (omega arith)
+turns_regrouped n rounds round p (suc len) =
+    let rest = flat_map (ring_turn n rounds round) (range_with_len (p + 1) len) in
+    let blocks = flat_map (block n rounds round) (range_with_len (p + 1) len) in
+    let next : sent n rounds round p ≡ pending n rounds round (p + 1) = ap (pending n rounds round) (sym (add-one p)) in
+    let inner : sent n rounds round p ++ rest ≡ blocks ++ pending n rounds round (p + suc len) =
+    ap (λ front. front ++ rest) next ∙ turns_regrouped n rounds round (p + 1) len ∙ ap (λ last. blocks ++ pending n rounds round last) (omega arith) in
+    regroup (pending n rounds round p) (received n round p) (finds_both p) (sent n rounds round p) rest
+    ∙ ap (λ others. block n rounds round p ++ others) inner
+    ∙ sym (append_assoc (block n rounds round p) blocks (pending n rounds round (p + suc len)))
+
+abbrev block_round : ℕ → ℕ → ℕ → List Task
+block_round n rounds round = flat_map (block n rounds round) (range_with_len 0 n)
+
+next_round : (n rounds round : ℕ) → 1 ≤ n → pending n rounds round (0 + n) ≡ pending n rounds (suc round) 0
+next_round zero rounds round some = absurd (omega arith)
+next_round (suc n) rounds round some =
+    let here : 0 + suc n ≡ suc n = omega arith in
+    let same : suc n - 1 ≡ n = omega arith in
+    ap (pending (suc n) rounds round) here ∙ ap (sent (suc n) rounds round) (sym same)
+
+rounds_regrouped : (n rounds round len : ℕ) → 1 ≤ n → pending n rounds round 0 ++ flat_map (ring_round n rounds) (range_with_len round len) ≡ flat_map (block_round n rounds) (range_with_len round len) ++ pending n rounds (round + len) 0
+rounds_regrouped n rounds round zero some = append-nil (pending n rounds round 0) ∙ ap (λ r. pending n rounds r 0) (omega arith)
+rounds_regrouped n rounds round (suc len) some =
+    let rest = flat_map (ring_round n rounds) (range_with_len (round + 1) len) in
+    let blocks = flat_map (block_round n rounds) (range_with_len (round + 1) len) in
+    let next : pending n rounds round (0 + n) ≡ pending n rounds (round + 1) 0 = next_round n rounds round some ∙ ap (λ r. pending n rounds r 0) (sym (add-one round)) in
+    let inner : pending n rounds (round + 1) 0 ++ rest ≡ blocks ++ pending n rounds (round + suc len) 0 = rounds_regrouped n rounds (round + 1) len some ∙ ap (λ last. blocks ++ pending n rounds last 0) (omega arith) in
+    sym (append_assoc (pending n rounds round 0) (ring_round n rounds round) rest)
+    ∙ ap (λ front. front ++ rest) (turns_regrouped n rounds round 0 n)
+    ∙ append_assoc (block_round n rounds round) (pending n rounds round (0 + n)) rest
+    ∙ ap (λ front. block_round n rounds round ++ (front ++ rest)) next
+    ∙ ap (λ others. block_round n rounds round ++ others) inner
+    ∙ sym (append_assoc (block_round n rounds round) blocks (pending n rounds (round + suc len) 0))
+
+nothing_left : (n rounds : ℕ) → 1 ≤ n → pending n rounds rounds 0 ≡ []
+nothing_left n zero some = refl
+nothing_left n (suc rounds) some = rw (eq-eqb (rounds + 1) (suc rounds) (omega arith), eq-eqb (n - 1 + 1) n (omega arith)) refl
+
+rounds_are : (n rounds : ℕ) → 1 ≤ n → flat_map (ring_round n rounds) (range_with_len 0 rounds) ≡ flat_map (block_round n rounds) (range_with_len 0 rounds)
+rounds_are n rounds some =
+    let blocks = flat_map (block_round n rounds) (range_with_len 0 rounds) in
+    let all : 0 + rounds ≡ rounds = omega arith in
+    rounds_regrouped n rounds 0 rounds some ∙ ap (λ last. blocks ++ pending n rounds last 0) all ∙ ap (λ last. blocks ++ last) (nothing_left n rounds some) ∙ append-nil blocks
+
+-- a block is a message that is passed, and what its receiver finds; but for the first
+block_is : (n rounds round p : ℕ) → 2 ≤ n → round < rounds → p < n → block n rounds round p ≡ cond (eqb round 0 && eqb p 0) (finds_both p) (passed (before n p) p ++ finds_both p)
+block_is n rounds zero zero several early inside = refl
+block_is n rounds (suc round) zero several early inside =
+    let not_last : eqb (round + 1) rounds ≡ false = ne_eqb (round + 1) rounds (λ e. absurd (omega arith)) in
+    let last : eqb (n - 1 + 1) n ≡ true = eq-eqb (n - 1 + 1) n (omega arith) in
+    let later : eqb (suc round) 0 ≡ false = ne_eqb (suc round) 0 (λ e. absurd (omega arith)) in
+    rw (not_last, last, later) refl
+block_is n rounds round (suc p) several early inside =
+    let inner : eqb (p + 1) n ≡ false = ne_eqb (p + 1) n (λ e. absurd (omega arith)) in
+    let next : eqb (suc p) 0 ≡ false = ne_eqb (suc p) 0 (λ e. absurd (omega arith)) in
+    let not_last : (eqb (round + 1) rounds && eqb (p + 1) n) ≡ false = and_right _ _ inner in
+    let not_first : (eqb round 0 && eqb (suc p) 0) ≡ false = and_right _ _ next in
+    let back : suc p - 1 ≡ p = omega arith in
+    let more : p + 1 ≡ suc p = add-one p in
+    rw (not_last, not_first, inner, next, back, more) refl
+
+-- ---- what is so of each block
+
+each_block : (P : List Task → Type 0) → P [] → ((xs ys : List Task) → P xs → P ys → P (xs ++ ys)) → (n rounds : ℕ) → 2 ≤ n → ((p : ℕ) → p < n → P (finds_both p)) → ((p : ℕ) → p < n → P (passed (before n p) p)) → P (flat_map (ring_round n rounds) (range_with_len 0 rounds))
+each_block P none both n rounds several findings message =
+    let one : (round p : ℕ) → round < rounds → p < n → P (block n rounds round p) = λ round p early inside.
+    let is = block_is n rounds round p several early inside in
+    let whole : P (passed (before n p) p ++ finds_both p) = both (passed (before n p) p) (finds_both p) (message p inside) (findings p inside) in
+    rw is (cond_both (eqb round 0 && eqb p 0) (finds_both p) (passed (before n p) p ++ finds_both p) P (λ _. findings p inside) (λ _. whole)) in
+    let round : (r : ℕ) → 0 ≤ r → r < 0 + rounds → P (block_round n rounds r) = λ r low early.
+    flat_map-range_each (block n rounds r) P none both 0 n (λ p low inside. one r p (omega arith) (omega arith)) in
+    rw (rounds_are n rounds (omega arith)) (flat_map-range_each (block_round n rounds) P none both 0 rounds round)
+
+each_ring : (P : List Task → Type 0) → P [] → ((xs ys : List Task) → P xs → P ys → P (xs ++ ys)) → (n rounds : ℕ) (fault : Bool) → 2 ≤ n → ((p : ℕ) → p < n → P (finds_both p)) → ((p : ℕ) → p < n → P (passed (before n p) p)) → P (ring_tasks n rounds fault)
+unfolding ring_tasks
+each_ring P none both n rounds true several findings message =
+    both (flat_map finds_both (range_with_len 1 (n - 1))) (flat_map (ring_round n rounds) (range_with_len 0 rounds))
+    (flat_map-range_each finds_both P none both 1 (n - 1) (λ p low inside. findings p (omega arith)))
+    (each_block P none both n rounds several findings message)
+each_ring P none both n rounds false several findings message = each_block P none both n rounds several findings message
+
+-- in no front are more messages received than sent
+pub ring_fits : (n rounds : ℕ) (fault : Bool) → 2 ≤ n → IsFitOrder (ring_tasks n rounds fault) (ring_tasks n rounds fault)
+ring_fits n rounds fault several = record {
+  same_tasks = λ p. refl;
+  sent_first = each_ring Fits fits_nothing fits_both n rounds fault several (λ p inside. fits_findings p) (λ p inside. fits_passed (before n p) p);
+}
+
+before_within : (n p : ℕ) → 2 ≤ n → p < n → (before n p < n) × (before n p ≢ p)
+before_within n zero several inside = (omega arith, λ e. absurd (omega arith))
+before_within n (suc p) several inside =
+    let next : eqb (suc p) 0 ≡ false = ne_eqb (suc p) 0 (λ e. absurd (omega arith)) in
+    let is : before n (suc p) ≡ suc p - 1 = rw next refl in
+    (omega (arith, is), λ e. absurd (omega (arith, is, e)))
+
+findings_within : (n p : ℕ) → p < n → All (IsWithin n) (finds_both p)
+findings_within n p inside = All-from_recursion (IsWithin n) (finds_both p) ((inside, tt), ((inside, tt), tt))
+
+passed_within : (n p : ℕ) → 2 ≤ n → p < n → All (IsWithin n) (passed (before n p) p)
+passed_within n p several inside =
+    let from = before_within n p several inside in
+    All-from_recursion (IsWithin n) (passed (before n p) p) ((from.0, (inside, λ e. from.1 (sym e))), ((inside, (from.0, from.1)), tt))
+
+pub ring_within : (n rounds : ℕ) (fault : Bool) → 2 ≤ n → All (IsWithin n) (ring_tasks n rounds fault)
+ring_within n rounds fault several =
+    each_ring (All (IsWithin n)) (All-from_recursion (IsWithin n) [] tt) (λ xs ys one other. All-append (IsWithin n) xs ys one other) n rounds fault several (findings_within n) (λ p inside. passed_within n p several inside)
+
+-- ---- how many they are
+
+length-block : (n rounds round p : ℕ) → 2 ≤ n → round < rounds → p < n → 0 < round + p → length (block n rounds round p) ≡ 4
+length-block n rounds round p several early inside later =
+    let not_first : (eqb round 0 && eqb p 0) ≡ false =
+    ⊎_elim (λ (some : 0 < round). and_left _ _ (ne_eqb round 0 (λ e. absurd (omega arith)))) (λ (none : round ≤ 0). and_right _ _ (ne_eqb p 0 (λ e. absurd (omega arith)))) (cases_lt 0 round) in
+    ap length (block_is n rounds round p several early inside) ∙ rw not_first refl
+
+length-round : (n rounds round : ℕ) → 2 ≤ n → round < rounds → 0 < round → length (block_round n rounds round) ≡ 4 * n
+length-round n rounds round several early later = length-flat_map-range (block n rounds round) 4 0 n (λ p low inside. length-block n rounds round p several early (omega arith) (omega arith))
+
+length-first_round : (n rounds : ℕ) → 2 ≤ n → 0 < rounds → length (block_round n rounds 0) + 2 ≡ 4 * n
+length-first_round zero rounds several early = absurd (omega arith)
+length-first_round (suc m) rounds several early =
+    let n : ℕ = suc m in
+    let first : length (block n rounds 0 0) ≡ 2 = ap length (block_is n rounds 0 0 several early (omega arith)) in
+    let rest = length-flat_map-range (block n rounds 0) 4 1 m (λ p low inside. length-block n rounds 0 p several early (omega arith) (omega arith)) in
+    omega (arith, length-append (block n rounds 0 0) (flat_map (block n rounds 0) (range_with_len 1 m)), first, rest)
+
+length-rounds : (n rounds : ℕ) → 2 ≤ n → 1 ≤ rounds → length (flat_map (ring_round n rounds) (range_with_len 0 rounds)) + 2 ≡ 4 * n * rounds
+length-rounds n zero several some = absurd (omega arith)
+length-rounds n (suc more) several some =
+    let rounds : ℕ = suc more in
+    let is = ap length (rounds_are n rounds (omega arith)) in
+    let first = length-first_round n rounds several (omega arith) in
+    let rest = length-flat_map-range (block_round n rounds) (4 * n) 1 more (λ r low early. length-round n rounds r several (omega arith) (omega arith)) in
+    omega (arith, is, length-append (block_round n rounds 0) (flat_map (block_round n rounds) (range_with_len 1 more)), first, rest, mul-suc (4 * n) more)
+
+length-ring_fault : (n : ℕ) → length (ring_fault n true) ≡ 2 * (n - 1)
+length-ring_fault n = length-flat_map-range finds_both 2 1 (n - 1) (λ p low inside. refl)
+
+pub length-ring_tasks : (n rounds : ℕ) (fault : Bool) → 2 ≤ n → 1 ≤ rounds → length (ring_tasks n rounds fault) ≡ ring_length n rounds fault
+unfolding ring_tasks
+length-ring_tasks n rounds true several some =
+    omega (arith, length-append (ring_fault n true) (flat_map (ring_round n rounds) (range_with_len 0 rounds)), length-ring_fault n, length-rounds n rounds several some)
+length-ring_tasks n rounds false several some = omega (arith, length-rounds n rounds several some)
+
+few_tasks : (n rounds : ℕ) (fault : Bool) → n ≤ 16 → rounds ≤ 1000 → ring_length n rounds fault ≤ 65536
+few_tasks n rounds true few few_rounds = omega (arith, mul-le (4 * n) rounds 64 1000 (omega arith) few_rounds)
+few_tasks n rounds false few few_rounds = omega (arith, mul-le (4 * n) rounds 64 1000 (omega arith) few_rounds)
+
+pub ring_could_be_read : (n rounds : ℕ) (fault : Bool) → 2 ≤ n → n ≤ 16 → 1 ≤ rounds → rounds ≤ 1000 → CouldBeRead n (ring_tasks n rounds fault)
+ring_could_be_read n rounds fault several few some few_rounds = record {
+  some = omega arith;
+  few_processes = few;
+  few_tasks = omega (arith, length-ring_tasks n rounds fault several some, few_tasks n rounds fault few few_rounds);
+  within = ring_within n rounds fault several;
+  order = ring_tasks n rounds fault;
+  fit = ring_fits n rounds fault several;
+}

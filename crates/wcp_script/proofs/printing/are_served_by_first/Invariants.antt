@@ -1,0 +1,7 @@
+use Rattle.std.proofs.Common.{◌≡◌, drop}
+use Rattle.std.specs.List.{list_all}
+use Rattle.wcp_script.specs.PlanText.{is_first}
+use Rattle.wcp_script.proofs.printing.are_served_by_first.Given as goal
+
+abbrev pub invariant-loop-entry : goal.invariant-loop-entry
+invariant-loop-entry l = list_all is_first l.attach ≡ list_all is_first (drop l.entry-index l.attach)

@@ -1,0 +1,7 @@
+use Rattle.std.proofs.Common.{◌≡◌, ◌++◌}
+use Rattle.std.specs.List.{flat_map, range_with_len}
+use Rattle.wcp_script.specs.Ring.{ring_turn}
+use Rattle.wcp_script.proofs.ring.push_round.Given as goal
+
+abbrev pub invariant-loop-p : goal.invariant-loop-p
+invariant-loop-p l = l.tasks.items ≡ l.fn.tasks.items ++ flat_map (ring_turn l.n l.rounds l.round) (range_with_len 0 l.p)

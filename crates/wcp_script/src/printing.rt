@@ -1,0 +1,145 @@
+//! The text of a workload.
+ghost use Rattle.std.specs.Prelude.{◌≡◌, ◌++◌, IfOk, OnOk, string_bytes};
+ghost use Rattle.std.specs.List.{flat_map, list_all};
+ghost use Rattle.wcp_script.specs.WorkloadText.{task_line};
+ghost use Rattle.wcp_script.specs.PlanText.{attach_text, cap_text, has_one_relay, head_text, hold_text, is_first, numbered, opening_text, relay_text, text_of_workload, tree_text};
+
+use std::alloc::{AllocError, Global};
+use wcp_model::{Action, Parent, Plan, Task, Workload};
+
+/// How many notes each link and each inbox has room for, where the text doesn't say.
+const PLAIN_CAP: u32 = 8;
+
+/// How many notes the hold of each relay has room for, where the text doesn't say.
+const PLAIN_HOLD: u32 = 4;
+
+/// The text that spells a workload: the lines of its head, and a line for each task in turn. `Err`
+/// where memory runs out.
+pub fn workload_text(alloc: Global, workload: &Workload) -> Result<Vec<u8>, AllocError>
+    ensures { IfOk result (λ text. text.items ≡ text_of_workload workload.now.plan workload.now.tasks.items) }
+{
+    let mut text = String::new(alloc);
+    push_head(&mut text, &workload.plan)?;
+    push_tasks(&mut text, &workload.tasks)?;
+    Ok(text.into_bytes())
+}
+
+fn push_head(text: &mut String, plan: &Plan) -> Result<(), AllocError>
+    ensures { OnOk result (string_bytes text.new ≡ string_bytes text.old ++ head_text plan.now) }
+{
+    push_opening(text, plan.n)?;
+    push_cap(text, plan.cap)?;
+    push_hold(text, plan.hold)?;
+    push_tree(text, plan)
+}
+
+fn push_opening(text: &mut String, n: u32) -> Result<(), AllocError>
+    ensures { OnOk result (string_bytes text.new ≡ string_bytes text.old ++ opening_text n) }
+{
+    write!(text, "wcp 1\nprocs {n}\n")
+}
+
+fn push_cap(text: &mut String, cap: u32) -> Result<(), AllocError>
+    ensures { OnOk result (string_bytes text.new ≡ string_bytes text.old ++ cap_text cap) }
+{
+    if cap == PLAIN_CAP {
+        return Ok(());
+    }
+    writeln!(text, "cap {cap}")
+}
+
+fn push_hold(text: &mut String, hold: u32) -> Result<(), AllocError>
+    ensures { OnOk result (string_bytes text.new ≡ string_bytes text.old ++ hold_text hold) }
+{
+    if hold == PLAIN_HOLD {
+        return Ok(());
+    }
+    writeln!(text, "hold {hold}")
+}
+
+fn push_tree(text: &mut String, plan: &Plan) -> Result<(), AllocError>
+    ensures { OnOk result (string_bytes text.new ≡ string_bytes text.old ++ tree_text plan.now) }
+{
+    if has_one_relay(plan) {
+        return Ok(());
+    }
+    push_relays(text, &plan.parents)?;
+    push_attachments(text, &plan.attach)
+}
+
+/// Whether the plan has one relay, under the root, which serves every process.
+fn has_one_relay(plan: &Plan) -> bool
+    ensures { result ≡ has_one_relay plan.now }
+{
+    plan.parents.as_slice() == [Parent::Root].as_slice()
+        && plan.attach.len() == plan.n as usize
+        && are_served_by_first(&plan.attach)
+}
+
+fn are_served_by_first(attach: &[Option<u32>]) -> bool
+    ensures { result ≡ list_all is_first attach.now }
+{
+    for entry in attach {
+        if *entry != Some(0) {
+            return false;
+        }
+    }
+    true
+}
+
+fn push_relays(text: &mut String, parents: &[Parent]) -> Result<(), AllocError>
+    ensures { OnOk result (string_bytes text.new ≡ string_bytes text.old ++ numbered relay_text 0 parents.now) }
+{
+    for (relay, parent) in parents.iter().enumerate() {
+        push_relay(text, relay, *parent)?;
+    }
+    Ok(())
+}
+
+fn push_relay(text: &mut String, relay: usize, parent: Parent) -> Result<(), AllocError>
+    ensures { OnOk result (string_bytes text.new ≡ string_bytes text.old ++ relay_text relay parent) }
+{
+    match parent {
+        Parent::Root => writeln!(text, "relay {relay} root"),
+        Parent::Relay(above) => writeln!(text, "relay {relay} {above}"),
+    }
+}
+
+fn push_attachments(text: &mut String, attach: &[Option<u32>]) -> Result<(), AllocError>
+    ensures { OnOk result (string_bytes text.new ≡ string_bytes text.old ++ numbered attach_text 0 attach.now) }
+{
+    for (p, entry) in attach.iter().enumerate() {
+        push_attachment(text, p, *entry)?;
+    }
+    Ok(())
+}
+
+fn push_attachment(text: &mut String, p: usize, entry: Option<u32>) -> Result<(), AllocError>
+    ensures { OnOk result (string_bytes text.new ≡ string_bytes text.old ++ attach_text p entry) }
+{
+    match entry {
+        Some(relay) => writeln!(text, "attach {p} {relay}"),
+        None => Ok(()),
+    }
+}
+
+fn push_tasks(text: &mut String, tasks: &[Task]) -> Result<(), AllocError>
+    ensures { OnOk result (string_bytes text.new ≡ string_bytes text.old ++ flat_map task_line tasks.now) }
+{
+    for task in tasks {
+        push_task(text, *task)?;
+    }
+    Ok(())
+}
+
+fn push_task(text: &mut String, task: Task) -> Result<(), AllocError>
+    ensures { OnOk result (string_bytes text.new ≡ string_bytes text.old ++ task_line task) }
+{
+    let p = task.p;
+    match task.action {
+        Action::Observe(true) => writeln!(text, "p {p} true"),
+        Action::Observe(false) => writeln!(text, "p {p} false"),
+        Action::Send(to) => writeln!(text, "p {p} send {to}"),
+        Action::Recv(from) => writeln!(text, "p {p} recv {from}"),
+    }
+}
