@@ -1,9 +1,13 @@
 pub mod Lines
 pub mod WorkloadText
+pub mod Judgement
+pub mod Head
+pub mod WorkloadLines
+pub mod ScheduleLines
 pub mod TextFault
 pub mod Stuck
 pub mod Seen
-pub mod WorkloadReading
+pub mod Reading
 pub mod Progress
 pub mod Messages
 pub mod Heads

@@ -6,18 +6,25 @@ mod computing;
 mod elimination;
 mod fault;
 mod head;
+mod head_line;
 mod lines;
 mod messages;
 mod number;
+mod opening;
 mod order;
-mod steps;
+mod schedule;
+mod schedule_line;
+mod step_line;
+mod task_line;
+mod text;
 mod true_states;
 mod workload;
 mod workload_outcome;
 
 pub use computing::computation;
 pub use fault::{FaultKind, ReadFault, ScriptFault};
-pub use order::{Schedule, fit_order};
+pub use order::fit_order;
+pub use schedule::{Schedule, read_schedule};
 pub use workload::read_workload;
 pub use workload_outcome::single;
 

@@ -7,7 +7,8 @@ ghost use Rattle.wcp_script.specs.Rows.{row_of, AreRows};
 
 use crate::elimination::eliminate;
 use crate::true_states::{TrueStates, true_states};
-use crate::{Schedule, computation, fit_order};
+use crate::order::Schedule;
+use crate::{computation, fit_order};
 use std::alloc::{AllocError, Global};
 use wcp_model::{GlobalCut, Outcome, Report, Step, Tallies, Tally, Workload, fit_order_law};
 
