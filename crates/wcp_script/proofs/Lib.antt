@@ -1,5 +1,6 @@
 pub mod Cuts
 pub mod Numbers
+pub mod StepLines
 pub mod Questions
 pub mod Joins
 mod Advancing
