@@ -3,8 +3,6 @@
 
 mod clock;
 mod note;
-#[cfg(test)]
-mod tests;
 
 pub use clock::{CLOCK_LIMIT, Clock, MAX_PROCS};
 pub use note::{Item, Note};

@@ -231,6 +231,3 @@ fn member(cut: &[u64], p: usize) -> State
         interval: cut[p],
     }
 }
-
-#[cfg(test)]
-mod tests;

@@ -213,6 +213,3 @@ fn path_length(parents: &[Parent], relay: usize) -> usize
         Parent::Relay(above) => path_length(parents, above as usize) + 1,
     }
 }
-
-#[cfg(test)]
-mod tests;

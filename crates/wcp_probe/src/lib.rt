@@ -3,8 +3,6 @@
 
 mod probe;
 mod stamp;
-#[cfg(test)]
-mod tests;
 
 pub use probe::{ProbeCore, Refusal};
 pub use stamp::Stamped;

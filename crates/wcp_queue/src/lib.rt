@@ -4,7 +4,5 @@
 mod checker;
 mod elimination;
 mod queue;
-#[cfg(test)]
-mod tests;
 
 pub use checker::Checker;

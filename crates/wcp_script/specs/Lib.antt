@@ -5,10 +5,5 @@ pub mod Head
 pub mod WorkloadLines
 pub mod ScheduleLines
 pub mod TextFault
-pub mod Stuck
 pub mod Seen
 pub mod Reading
-pub mod Progress
-pub mod Messages
-pub mod Heads
-pub mod Rows

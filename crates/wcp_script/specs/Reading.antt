@@ -6,7 +6,7 @@ use Rattle.wcp_script.specs.declared.fault.FaultKind.TheVariants as kind
 use Rattle.wcp_script.specs.declared.fault.ScriptFault.{ScriptFault}
 use Rattle.wcp_script.specs.declared.fault.ReadFault.{ReadFault}
 use Rattle.wcp_script.specs.declared.fault.ReadFault.TheVariants.{Script, NoMemory}
-use Rattle.wcp_script.specs.Stuck.{IsStuckAt}
+use Rattle.wcp_order.specs.Stuck.{IsStuckAt}
 use Rattle.wcp_script.specs.TextFault.{workloads, Spells, HasFault}
 
 -- The fault of the text of a workload: that of its lines or its plan; or else that the step of a line is the first that can

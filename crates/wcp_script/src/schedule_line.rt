@@ -62,7 +62,7 @@ fn step_of_none(word: &[u8]) -> Result<Step, FaultKind>
 }
 
 fn step_of_one(first: &[u8], number: &[u8]) -> Result<Step, FaultKind>
-    ensures { result ≡ step_of_one first.now number.now }
+    ensures { result ≡ step_of (first.now ∷ number.now ∷ []) }
 {
     if first == b"close".as_slice() {
         Ok(Step::Close(number_in(number)?))
@@ -78,7 +78,7 @@ fn step_of_one(first: &[u8], number: &[u8]) -> Result<Step, FaultKind>
 }
 
 fn step_of_two(first: &[u8], second: &[u8], third: &[u8]) -> Result<Step, FaultKind>
-    ensures { result ≡ step_of_two first.now second.now third.now }
+    ensures { result ≡ step_of (first.now ∷ second.now ∷ third.now ∷ []) }
 {
     if first == b"observe".as_slice() {
         observation(second, third)

@@ -9,10 +9,10 @@ ghost use Rattle.wcp_script.specs.Reading.{HasWorkloadFault, IsSamePlan, IsReadA
 ghost use Rattle.wcp_script.specs.Seen.{ReadsWorkload};
 
 use crate::fault::{FaultKind, ReadFault, ScriptFault};
-use crate::order::{Schedule, fit_order};
 use crate::text::{Text, read_text};
 use std::alloc::Global;
 use wcp_model::Workload;
+use wcp_order::{FitOrder, fit_order};
 
 /// The workload that a text spells. `Err` says which fault the text has, or that memory ran out.
 pub fn read_workload(alloc: Global, bytes: &[u8]) -> Result<Workload, ReadFault>
@@ -37,8 +37,8 @@ fn read(alloc: Global, bytes: &[u8]) -> Result<Workload, ReadFault>
 {
     let Text { plan, last, steps } = read_text(alloc, bytes)?;
     match fit_order(alloc, plan.n, &steps)? {
-        Schedule::Order(_) => Ok(Workload { plan, tasks: steps }),
-        Schedule::Stuck(place) => {
+        FitOrder::Order(_) => Ok(Workload { plan, tasks: steps }),
+        FitOrder::Stuck(place) => {
             let line = last + place as u32 + 1;
             let kind = FaultKind::Stuck;
             Err(ReadFault::Script(ScriptFault { line, kind }))

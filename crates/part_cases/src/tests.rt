@@ -1,0 +1,7 @@
+mod checker;
+mod clocks;
+mod computations;
+mod outcomes;
+mod plans;
+mod stamps;
+mod texts;

@@ -1,0 +1,185 @@
+use Step::{Close, Observe, Recv, Send};
+use std::alloc::{AllocError, Global};
+use std::process::Abort;
+use wcp_model::{State, Step, happened_before, is_satisfying_cut, is_true_state};
+
+/// A computation, and what was worked out by hand of it: the pairs of states of which the first
+/// happened before the second, the true states, and the satisfying cuts. A state is a process and an
+/// interval. What isn't named is denied.
+#[derive(Drop)]
+struct Example<'a> {
+    name: &'a str,
+    processes: u32,
+    steps: &'a [Step],
+    before: &'a [((u32, u64), (u32, u64))],
+    true_states: &'a [(u32, u64)],
+    satisfying: &'a [&'a [u64]],
+}
+
+/// How many intervals of each process are tried: one more than a process of an example has at most.
+const TRIED: u64 = 4;
+
+fn state((process, interval): (u32, u64)) -> State {
+    State { process, interval }
+}
+
+fn tried_states(alloc: Global, processes: u32) -> Result<Vec<(u32, u64)>, AllocError> {
+    let mut states = Vec::new(alloc);
+    for process in 0..processes {
+        for interval in 0..TRIED {
+            states.push((process, interval))?;
+        }
+    }
+    Ok(states)
+}
+
+fn check_states(rt: &impl Abort, alloc: Global, example: &Example<'_>) -> Result<(), AllocError> {
+    let name = example.name;
+    let states = tried_states(alloc, example.processes)?;
+    for from in &states {
+        let is_true = example.true_states.contains(from);
+        assert_eq!(rt;
+            is_true_state(example.steps, state(*from)),
+            is_true,
+            "{name}: {from:?}"
+        );
+        for to in &states {
+            let is_before = example.before.contains(&(*from, *to));
+            let answer = happened_before(alloc, example.steps, state(*from), state(*to))?;
+            assert_eq!(rt; answer, is_before, "{name}: {from:?} {to:?}");
+        }
+    }
+    Ok(())
+}
+
+fn check_cuts(rt: &impl Abort, alloc: Global, example: &Example<'_>) -> Result<(), AllocError> {
+    let name = example.name;
+    for code in 0..TRIED * TRIED * TRIED {
+        let intervals = [code % TRIED, code / TRIED % TRIED, code / TRIED / TRIED];
+        let cut = &intervals[..example.processes.min(3) as usize];
+        let mut is_satisfying = false;
+        for satisfying in example.satisfying {
+            is_satisfying |= *satisfying == cut;
+        }
+        let answer = is_satisfying_cut(alloc, example.steps, cut)?;
+        assert_eq!(rt; answer, is_satisfying, "{name}: {cut:?}");
+    }
+    Ok(())
+}
+
+static EXAMPLES: [Example<'static>; 5] = [
+    Example {
+        name: "only_pair_ordered",
+        processes: 2,
+        steps: &[
+            Observe(0, true),
+            Send(0, 1),
+            Recv(1, 0),
+            Observe(1, true),
+            Close(0),
+            Close(1),
+        ],
+        before: &[((0, 0), (0, 1)), ((0, 0), (1, 1)), ((1, 0), (1, 1))],
+        true_states: &[(0, 0), (1, 1)],
+        satisfying: &[],
+    },
+    Example {
+        name: "true_again_after_send",
+        processes: 2,
+        steps: &[
+            Observe(0, true),
+            Send(0, 1),
+            Observe(0, true),
+            Recv(1, 0),
+            Observe(1, true),
+            Close(0),
+            Close(1),
+        ],
+        before: &[((0, 0), (0, 1)), ((0, 0), (1, 1)), ((1, 0), (1, 1))],
+        true_states: &[(0, 0), (0, 1), (1, 1)],
+        satisfying: &[&[1, 1]],
+    },
+    Example {
+        name: "order_through_third",
+        processes: 3,
+        steps: &[
+            Observe(0, true),
+            Send(0, 1),
+            Observe(1, true),
+            Recv(1, 0),
+            Send(1, 2),
+            Recv(2, 1),
+            Observe(2, true),
+            Close(0),
+            Close(1),
+            Close(2),
+        ],
+        before: &[
+            ((0, 0), (0, 1)),
+            ((0, 0), (1, 1)),
+            ((0, 0), (1, 2)),
+            ((0, 0), (2, 1)),
+            ((1, 0), (1, 1)),
+            ((1, 0), (1, 2)),
+            ((1, 0), (2, 1)),
+            ((1, 1), (1, 2)),
+            ((1, 1), (2, 1)),
+            ((2, 0), (2, 1)),
+        ],
+        true_states: &[(0, 0), (1, 0), (2, 1)],
+        satisfying: &[],
+    },
+    Example {
+        name: "least_of_two_cuts",
+        processes: 2,
+        steps: &[
+            Observe(0, true),
+            Send(0, 1),
+            Observe(0, true),
+            Observe(1, true),
+            Recv(1, 0),
+            Close(0),
+            Close(1),
+        ],
+        before: &[((0, 0), (0, 1)), ((0, 0), (1, 1)), ((1, 0), (1, 1))],
+        true_states: &[(0, 0), (0, 1), (1, 0)],
+        satisfying: &[&[0, 0], &[1, 0]],
+    },
+    Example {
+        name: "messages_overtake",
+        processes: 2,
+        steps: &[
+            Send(0, 1),
+            Observe(0, true),
+            Send(0, 1),
+            Recv(1, 1),
+            Observe(1, true),
+            Recv(1, 0),
+            Close(0),
+            Close(1),
+        ],
+        before: &[
+            ((0, 0), (0, 1)),
+            ((0, 0), (0, 2)),
+            ((0, 0), (1, 1)),
+            ((0, 0), (1, 2)),
+            ((0, 1), (0, 2)),
+            ((0, 1), (1, 1)),
+            ((0, 1), (1, 2)),
+            ((1, 0), (1, 1)),
+            ((1, 0), (1, 2)),
+            ((1, 1), (1, 2)),
+        ],
+        true_states: &[(0, 1), (1, 1)],
+        satisfying: &[],
+    },
+];
+
+#[test]
+fn answers_are_those_worked_out_by_hand(rt: HostRuntime) -> Result<(), AllocError> {
+    for example in &EXAMPLES {
+        check_states(&rt, rt.alloc(), example)?;
+        check_cuts(&rt, rt.alloc(), example)?;
+    }
+    Ok(())
+}

@@ -1,0 +1,167 @@
+use Rattle.std.proofs.Common.{◌≡◌, ◌⊎◌, ℕ, ◌+◌, ◌<◌, ◌≤◌, true, List, [], ◌∷◌, ◌++◌, length, take, count_by, Some, refl, sym, ◌∙◌, ap, arith, ⊎_elim, get_or, set, get_or-set_same, get_or-set_other}
+use Rattle.std.specs.List.{slice_get, slice_index, filter, All}
+use Rattle.std.proofs.lemmas.Bool.{cases_eq, cases_lt, cases_order, ne_eqb}
+use Rattle.std.proofs.lemmas.List.{append-nil, length-set, length-take, take-take, take-append-le, take_all, length_push}
+use Rattle.std.proofs.lemmas.List.Elements.{All-push, filter-append, filter_more}
+use Rattle.std.proofs.lemmas.List.Sums.{count_by_more_yes}
+use Rattle.std.proofs.lemmas.Option.{slice_get_within, get_or_from_slice_get}
+use Rattle.wcp_model.specs.declared.workload.Action.{Action}
+use Rattle.wcp_model.specs.declared.workload.Action.TheVariants as action
+use Rattle.wcp_model.specs.declared.workload.Task.{Task}
+use Rattle.wcp_model.specs.WorkloadComputation.{is_task_of, sends, receives, IsWithin}
+use Rattle.wcp_order.specs.Stuck.{IsMessage, CanBeDone}
+use Rattle.wcp_order.specs.Stuck.CanBeDone.{Observing, Sending, Receiving}
+use Rattle.wcp_order.specs.declared.order.Progress.{Progress}
+use Rattle.wcp_order.specs.Progress.{IsProgress, IsNextPlace, IsReady, IsSound, AreLinks, in_transit_after}
+use Rattle.wcp_order.proofs.Places.{same_count, count_by-take-le, place_of_passing, slice_get-take, filter_passing, filter_failing}
+use Rattle.wcp_order.proofs.Tasks.{at_place, is_task_of_itself, sends_is, sends_by, receives_by}
+use Rattle.wcp_order.proofs.Counting.{IsCounted, counted_after, length-in_transit_after, sent_at_end}
+
+-- between a place and the next one of a process stands no task of it
+pub none_skipped : (tasks : List Task) (p start next i : ℕ) (task : Task) → IsNextPlace tasks p start next → start ≤ i → i < next → slice_get tasks i ≡ Some task → task.p ≡ p → ⊥
+none_skipped tasks p start next i task step from below at of_process =
+    let within : i < length tasks = slice_get_within tasks i task at in
+    let passes : is_task_of p (get_or tasks i task) ≡ true = rw (get_or_from_slice_get tasks i task task at, ← of_process) (is_task_of_itself task) in
+    let same : count_by (is_task_of p) (take next tasks) ≡ count_by (is_task_of p) (take start tasks) = same_count (is_task_of p) (is_task_of p) (λ _ h. h) (take next tasks) (take start tasks) step.skipped in
+    omega (arith, same, count_by_more_yes (is_task_of p) tasks i task within passes, count_by-take-le (is_task_of p) tasks start i from, count_by-take-le (is_task_of p) tasks (i + 1) next (omega arith))
+
+module _ (n : ℕ) (tasks order : List Task) (fronts in_transit : List ℕ) (within : All (IsWithin n) tasks) (progress : IsProgress n tasks order fronts in_transit) where
+  -- the first task of a process that isn't done can be done if it is ready
+  front_can : (p : ℕ) (act : Action) → slice_get tasks (slice_index fronts p) ≡ Some (record { p = p; action = act }) → IsReady n in_transit p act → CanBeDone tasks (slice_index fronts p)
+  front_can p (action.Observe holds) at ready = Observing _ p holds at (λ j earlier. progress.can_be_done j _ earlier.same_process earlier.before)
+  front_can p (action.Send to) at ready = Sending _ p to at (λ j earlier. progress.can_be_done j _ earlier.same_process earlier.before)
+  front_can p (action.Recv from) at ready =
+      let front : ℕ = slice_index fronts p in
+      let front_within = at_place (IsWithin n) tasks front _ within at in
+      let p_within : p < n = front_within.0 in
+      let from_within : from < n = front_within.1.0 in
+      let sent : count_by (sends from p) order ≡ count_by (sends from p) (take (slice_index fronts from) tasks) = same_count (is_task_of from) (sends from p) (sends_by from p) order (take (slice_index fronts from) tasks) (progress.done from from_within) in
+      let received : count_by (receives from p) order ≡ count_by (receives from p) (take front tasks) = same_count (is_task_of p) (receives from p) (receives_by from p) order (take front tasks) (progress.done p p_within) in
+      let number : ℕ = count_by (receives from p) (take front tasks) in
+      let from_front : ℕ = slice_index fronts from in
+      let send = place_of_passing (sends from p) (take from_front tasks) number (omega (arith, ready, sent, received, progress.counted from p from_within p_within)) in
+      let task : Task = record { p = from; action = action.Send p } in
+      let is_send : slice_get (take from_front tasks) send.0 ≡ Some task = send.2 ∙ ap Some (sends_is from p send.1 send.3) in
+      let send_within : send.0 < length (take from_front tasks) = slice_get_within (take from_front tasks) send.0 task is_send in
+      let done : send.0 < from_front = omega (arith, send_within, length-take from_front tasks) in
+      let sent_at : slice_get tasks send.0 ≡ Some task = sym (slice_get-take tasks from_front send.0 done) ∙ is_send in
+      let same_front : count_by (sends from p) (take send.0 tasks) ≡ number = ap (count_by (sends from p)) (sym (take-take send.0 from_front tasks (omega arith))) ∙ send.4 in
+      let message : IsMessage tasks send.0 front = record { from = from; to = p; send = sent_at; receive = at; same_number = sym same_front } in
+      Receiving front send.0 message (progress.can_be_done send.0 task sent_at done) (λ j earlier. progress.can_be_done j _ earlier.same_process earlier.before)
+
+  module _ (p next : ℕ) (act : Action) (at : slice_get tasks (slice_index fronts p) ≡ Some (record { p = p; action = act })) (ready : IsReady n in_transit p act) (step : IsNextPlace tasks p (slice_index fronts p + 1) next) where
+    abbrev advanced : List ℕ
+    advanced = set fronts p next
+
+    front_within : IsWithin n (record { p = p; action = act })
+    front_within = at_place (IsWithin n) tasks (slice_index fronts p) _ within at
+
+    moved : slice_index advanced p ≡ next
+    moved =
+        let inside : p < length fronts = omega (arith, front_within.0, progress.processes) in
+        get_or-set_same fronts p next 0 inside
+
+    stays : (q : ℕ) → (q ≡ p → ⊥) → slice_index advanced q ≡ slice_index fronts q
+    stays q other = get_or-set_other fronts p q next 0 other
+
+    -- what holds of the place behind the task, and of the other processes' fronts, holds of all new fronts
+    at_advanced : (P : ℕ → ℕ → Type 0) → P p next → ((q : ℕ) → (q ≡ p → ⊥) → P q (slice_index fronts q)) → (q : ℕ) → P q (slice_index advanced q)
+    at_advanced P here elsewhere q =
+        ⊎_elim (λ (same : q ≡ p). rw (same, moved) here)
+        (λ (other : q ≡ p → ⊥). rw (stays q other) (elsewhere q other))
+        (cases_eq q p)
+
+    abbrev longer : List Task
+    longer = order ++ record { p = p; action = act } ∷ []
+
+    all_within : All (IsWithin n) longer
+    all_within = All-push (IsWithin n) order _ progress.within front_within
+
+    all_counted : IsCounted n longer (in_transit_after n in_transit p act)
+    all_counted = counted_after n order in_transit progress.channels progress.counted p act front_within ready
+
+    advanced_own : (q : ℕ) (task : Task) → q < n → slice_get tasks (slice_index advanced q) ≡ Some task → task.p ≡ q
+    advanced_own q task q_within here =
+        at_advanced (λ r place. r < n → slice_get tasks place ≡ Some task → task.p ≡ r) (λ _ there. step.own task there) (λ r other r_within there. progress.own r task r_within there) q q_within here
+
+    done_here : p < n → filter (is_task_of p) longer ≡ filter (is_task_of p) (take next tasks)
+    done_here p_within =
+        let task : Task = record { p = p; action = act } in
+        let front : ℕ = slice_index fronts p in
+        let pushed : filter (is_task_of p) (task ∷ []) ≡ task ∷ [] = filter_passing (is_task_of p) task [] (is_task_of_itself task) in
+        let there : get_or tasks front task ≡ task = get_or_from_slice_get tasks front task task at in
+        let passes : is_task_of p (get_or tasks front task) ≡ true = rw there (is_task_of_itself task) in
+        let more : filter (is_task_of p) (take (front + 1) tasks) ≡ filter (is_task_of p) (take front tasks) ++ task ∷ [] =
+        filter_more (is_task_of p) tasks front task (slice_get_within tasks front task at) ∙ rw (passes, there) refl in
+        filter-append (is_task_of p) order (task ∷ []) ∙ rw (pushed, progress.done p p_within) (sym more) ∙ sym step.skipped
+
+    done_elsewhere : (q : ℕ) → (q ≡ p → ⊥) → q < n → filter (is_task_of q) longer ≡ filter (is_task_of q) (take (slice_index fronts q) tasks)
+    done_elsewhere q other q_within =
+        let task : Task = record { p = p; action = act } in
+        let pushed : filter (is_task_of q) (task ∷ []) ≡ [] = filter_failing (is_task_of q) task [] (ne_eqb p q (λ same. other (sym same))) in
+        filter-append (is_task_of q) order (task ∷ []) ∙ rw pushed (append-nil (filter (is_task_of q) order)) ∙ progress.done q q_within
+
+    advanced_done : (q : ℕ) → q < n → filter (is_task_of q) longer ≡ filter (is_task_of q) (take (slice_index advanced q) tasks)
+    advanced_done = at_advanced (λ r place. r < n → filter (is_task_of r) longer ≡ filter (is_task_of r) (take place tasks)) done_here done_elsewhere
+
+    can_here : (i : ℕ) (task : Task) → slice_get tasks i ≡ Some task → task.p ≡ p → i < next → CanBeDone tasks i
+    can_here i task here of_process below =
+        let front : ℕ = slice_index fronts p in
+        ⊎_elim (λ (same : i ≡ front). rw same (front_can p act at ready))
+        (λ (other : (i < front) ⊎ (front < i)).
+        ⊎_elim (λ (before : i < front). progress.can_be_done i task here (rw of_process before))
+        (λ (behind : front < i). absurd (none_skipped tasks p (front + 1) next i task step (omega arith) below here of_process))
+        other)
+        (cases_order i front)
+
+    advanced_can : (i : ℕ) (task : Task) → slice_get tasks i ≡ Some task → i < slice_index advanced task.p → CanBeDone tasks i
+    advanced_can i task here below =
+        at_advanced (λ r place. task.p ≡ r → i < place → CanBeDone tasks i) (can_here i task here)
+        (λ r other of_process before. progress.can_be_done i task here (rw of_process before)) task.p refl below
+
+    advanced_sent_first : (place from to : ℕ) → count_by (receives from to) (take place longer) ≤ count_by (sends from to) (take place longer)
+    advanced_sent_first place from to =
+        ⊎_elim (λ (whole : length order < place).
+        rw (take_all place longer (omega (arith, length_push order (record { p = p; action = act }))))
+        (sent_at_end n longer (in_transit_after n in_transit p act) all_within all_counted from to))
+        (λ (old : place ≤ length order). rw (take-append-le place order (record { p = p; action = act } ∷ []) old) (progress.sent_first place from to))
+        (cases_lt (length order) place)
+
+    pub advance : IsProgress n tasks longer advanced (in_transit_after n in_transit p act)
+    advance = record {
+      processes = length-set fronts p next ∙ progress.processes;
+      channels = length-in_transit_after n in_transit p act ∙ progress.channels;
+      within = all_within;
+      inside = at_advanced (λ r place. r < n → place ≤ length tasks) (λ _. step.inside) (λ r other r_within. progress.inside r r_within);
+      own = advanced_own;
+      done = advanced_done;
+      counted = all_counted;
+      sent_first = advanced_sent_first;
+      can_be_done = advanced_can;
+    }
+
+-- what `perform` leaves after the first task of process p that isn't done, which is ready
+pub record IsPerformed (n p : ℕ) (tasks : List Task) (next : List ℕ) (task : Task) (before after : Progress) : Type 0 where
+  pub at : slice_get tasks (slice_index before.fronts.items p) ≡ Some task
+  pub ready : IsReady n before.in_transit.items p task.action
+  pub order : after.order.items ≡ before.order.items ++ task ∷ []
+  pub fronts : after.fronts.items ≡ set before.fronts.items task.p (slice_index next (slice_index before.fronts.items p))
+  pub in_transit : after.in_transit.items ≡ in_transit_after n before.in_transit.items task.p task.action
+
+module _ (n p : ℕ) (tasks : List Task) (next : List ℕ) (task : Task) (before after : Progress) (within : All (IsWithin n) tasks) (links : AreLinks tasks next) (p_within : p < n) (sound : IsSound n tasks before) (performed : IsPerformed n p tasks next task before after) where
+  of_process : task.p ≡ p
+  of_process = sound.own p task p_within performed.at
+
+  pub IsSound-performed : IsSound n tasks after
+  IsSound-performed =
+      let at : slice_get tasks (slice_index before.fronts.items task.p) ≡ Some task = ap (λ q. slice_get tasks (slice_index before.fronts.items q)) of_process ∙ performed.at in
+      let ready : IsReady n before.in_transit.items task.p task.action = rw (← of_process) at performed.ready in
+      let step = links (slice_index before.fronts.items task.p) task at in
+      rw (performed.order, performed.fronts, performed.in_transit, ← of_process)
+      (advance n tasks before.order.items before.fronts.items before.in_transit.items within sound task.p _ task.action at ready step)
+
+  pub front_rises : slice_index before.fronts.items p < slice_index after.fronts.items p
+  front_rises =
+      let step = links (slice_index before.fronts.items p) task performed.at in
+      let inside : p < length before.fronts.items = omega (arith, sound.processes) in
+      rw (performed.fronts, of_process, get_or-set_same before.fronts.items p (slice_index next (slice_index before.fronts.items p)) 0 inside) (omega (arith, step.ahead))

@@ -1,0 +1,71 @@
+use Rattle.std.proofs.Common.{◌≡◌, ℕ, ◌+◌, ◌<◌, ◌≤◌, List, length, take, count_by, Some, refl, sym, ◌∙◌, ap, arith, ⊎_elim, get_or}
+use Rattle.std.specs.List.{slice_get, slice_index, All}
+use Rattle.std.proofs.lemmas.Bool.{cases_lt}
+use Rattle.std.proofs.lemmas.List.Sums.{count_by_more_yes}
+use Rattle.std.proofs.lemmas.Option.{slice_get_within, get_or_from_slice_get, slice_get-get_or, same_Some}
+use Rattle.wcp_model.specs.declared.workload.Action.TheVariants as action
+use Rattle.wcp_model.specs.declared.workload.Task.{Task}
+use Rattle.wcp_model.specs.WorkloadComputation.{is_task_of, sends, receives, IsWithin}
+use Rattle.wcp_order.specs.Stuck.{IsMessage, IsEarlier, CanBeDone}
+use Rattle.wcp_order.specs.Stuck.CanBeDone.{Observing, Sending, Receiving}
+use Rattle.wcp_order.specs.Progress.{IsProgress, IsBlocked}
+use Rattle.wcp_order.proofs.Places.{same_count, count_by-take-le}
+use Rattle.wcp_order.proofs.Tasks.{at_place, same_task, sends_by, receives_by, send_passes}
+
+-- where each process is blocked, what can be done is done
+module _ (n : ℕ) (tasks order : List Task) (fronts in_transit : List ℕ) (within : All (IsWithin n) tasks) (progress : IsProgress n tasks order fronts in_transit) (blocked : (p : ℕ) → p < n → IsBlocked n tasks fronts in_transit p) where
+  abbrev IsDone : ℕ → Type 0
+  IsDone i = (task : Task) → slice_get tasks i ≡ Some task → i < slice_index fronts task.p
+
+  -- a task that isn't ready at the front of its process is done if all earlier tasks of the process are
+  before_front : (i : ℕ) (task : Task) → slice_get tasks i ≡ Some task → ((j : ℕ) → IsEarlier tasks task.p j i → IsDone j) → (slice_index fronts task.p ≡ i → ⊥) → i < slice_index fronts task.p
+  before_front i task at earlier elsewhere =
+      let front : ℕ = slice_index fronts task.p in
+      let p_within : task.p < n = (at_place (IsWithin n) tasks i task within at).0 in
+      ⊎_elim (λ (done : i < front). done)
+      (λ (left : front ≤ i).
+      ⊎_elim (λ (before : front < i).
+      let inside : front < length tasks = omega (arith, slice_get_within tasks i task at) in
+      let here : Task = get_or tasks front task in
+      let at_front : slice_get tasks front ≡ Some here = slice_get-get_or tasks front task inside in
+      let own : here.p ≡ task.p = progress.own task.p here p_within at_front in
+      let same_process : slice_get tasks front ≡ Some (record { p = task.p; action = here.action }) = at_front ∙ ap Some (same_task here task.p here.action own refl) in
+      let done : front < front = earlier front (record { before = before; act = here.action; same_process = same_process }) (record { p = task.p; action = here.action }) same_process in
+      absurd (omega (arith, done)))
+      (λ (not_before : i ≤ front). absurd (elsewhere (omega arith)))
+      (cases_lt front i))
+      (cases_lt i front)
+
+  -- a receive whose message was sent is ready at its front
+  received_elsewhere : (i sent : ℕ) (message : IsMessage tasks sent i) → IsDone sent → slice_index fronts message.to ≡ i → ⊥
+  received_elsewhere i sent message done here =
+      let from : ℕ = message.from in
+      let to : ℕ = message.to in
+      let send : Task = record { p = from; action = action.Send to } in
+      let receive : Task = record { p = to; action = action.Recv from } in
+      let from_within : from < n = (at_place (IsWithin n) tasks sent send within message.send).0 in
+      let to_within : to < n = (at_place (IsWithin n) tasks i receive within message.receive).0 in
+      let front : ℕ = slice_index fronts from in
+      let sent_done : sent < front = done send message.send in
+      let sent_inside : sent < length tasks = slice_get_within tasks sent send message.send in
+      let sends_order : count_by (sends from to) order ≡ count_by (sends from to) (take front tasks) = same_count (is_task_of from) (sends from to) (sends_by from to) order (take front tasks) (progress.done from from_within) in
+      let receives_order : count_by (receives from to) order ≡ count_by (receives from to) (take (slice_index fronts to) tasks) = same_count (is_task_of to) (receives from to) (receives_by from to) order (take (slice_index fronts to) tasks) (progress.done to to_within) in
+      let receives_here : count_by (receives from to) order ≡ count_by (receives from to) (take i tasks) = receives_order ∙ ap (λ place. count_by (receives from to) (take place tasks)) here in
+      let more : count_by (sends from to) (take (sent + 1) tasks) ≡ count_by (sends from to) (take sent tasks) + 1 = count_by_more_yes (sends from to) tasks sent send sent_inside (rw (get_or_from_slice_get tasks sent send send message.send) (send_passes from to)) in
+      let rising : count_by (sends from to) (take (sent + 1) tasks) ≤ count_by (sends from to) (take front tasks) = count_by-take-le (sends from to) tasks (sent + 1) front (omega arith) in
+      blocked to to_within receive (ap (slice_get tasks) here ∙ message.receive) (omega (arith, progress.counted from to from_within to_within, message.same_number, receives_here, sends_order, more, rising))
+
+  -- what can be done is done
+  pub done_if_can : {i : ℕ} → CanBeDone tasks i → IsDone i
+  done_if_can (Observing i p holds at earlier) task here =
+      let same : record { p = p; action = action.Observe holds } ≡ task = same_Some _ _ (sym at ∙ here) in
+      rw (← same) (before_front i (record { p = p; action = action.Observe holds }) at (λ j before. done_if_can (earlier j before))
+      (λ front. blocked p (at_place (IsWithin n) tasks i _ within at).0 _ (ap (slice_get tasks) front ∙ at) tt))
+  done_if_can (Sending i p to at earlier) task here =
+      let same : record { p = p; action = action.Send to } ≡ task = same_Some _ _ (sym at ∙ here) in
+      rw (← same) (before_front i (record { p = p; action = action.Send to }) at (λ j before. done_if_can (earlier j before))
+      (λ front. blocked p (at_place (IsWithin n) tasks i _ within at).0 _ (ap (slice_get tasks) front ∙ at) tt))
+  done_if_can (Receiving i sent message sent_can earlier) task here =
+      let same : record { p = message.to; action = action.Recv message.from } ≡ task = same_Some _ _ (sym message.receive ∙ here) in
+      rw (← same) (before_front i (record { p = message.to; action = action.Recv message.from }) message.receive (λ j before. done_if_can (earlier j before))
+      (received_elsewhere i sent message (done_if_can sent_can)))

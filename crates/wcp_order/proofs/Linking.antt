@@ -1,0 +1,80 @@
+use Rattle.std.proofs.Common.{◌≡◌, ℕ, ◌+◌, ◌<◌, ◌≤◌, false, List, length, replicate, take, Some, refl, sym, ◌∙◌, ap, arith, ⊎_elim, get_or, set, get_or-set_same, get_or-set_other}
+use Rattle.std.specs.List.{slice_get, slice_index, filter, All}
+use Rattle.std.proofs.lemmas.Bool.{cases_eq, ne_eqb}
+use Rattle.std.proofs.lemmas.List.{append-nil, length-set, length-replicate, get_or-replicate}
+use Rattle.std.proofs.lemmas.List.Elements.{filter_more}
+use Rattle.std.proofs.lemmas.Option.{slice_get_within, slice_get-get_or, get_or_from_slice_get, same_Some}
+use Rattle.wcp_model.specs.declared.workload.Task.{Task}
+use Rattle.wcp_model.specs.WorkloadComputation.{is_task_of, IsWithin}
+use Rattle.wcp_order.specs.Progress.{IsNextPlace}
+
+-- the tasks from a place on are linked, and the first of each process among them is known
+pub record IsLinkedFrom (n : ℕ) (tasks : List Task) (place : ℕ) (first next : List ℕ) : Type 0 where
+  pub processes : length first ≡ n
+  pub places : length next ≡ length tasks
+  pub first_of : (p : ℕ) → p < n → IsNextPlace tasks p place (slice_index first p)
+  pub next_of : (i : ℕ) (task : Task) → place ≤ i → slice_get tasks i ≡ Some task → IsNextPlace tasks task.p (i + 1) (slice_index next i)
+
+-- behind all tasks there is none
+IsNextPlace_end : (tasks : List Task) (p : ℕ) → IsNextPlace tasks p (length tasks) (length tasks)
+IsNextPlace_end tasks p = record {
+  ahead = omega arith;
+  inside = omega arith;
+  skipped = refl;
+  own = λ task at. absurd (omega (arith, slice_get_within tasks (length tasks) task at));
+}
+
+-- a task is the first one of its process from its place on
+IsNextPlace_here : (tasks : List Task) (i : ℕ) (task : Task) → slice_get tasks i ≡ Some task → IsNextPlace tasks task.p i i
+IsNextPlace_here tasks i task at = record {
+  ahead = omega arith;
+  inside = omega (arith, slice_get_within tasks i task at);
+  skipped = refl;
+  own = λ other same. ap (λ (t : Task). t.p) (same_Some other task (sym same ∙ at));
+}
+
+-- the task at a place is skipped by each other process
+IsNextPlace_other : (tasks : List Task) (p i next : ℕ) (task : Task) → slice_get tasks i ≡ Some task → (task.p ≡ p → ⊥) → IsNextPlace tasks p (i + 1) next → IsNextPlace tasks p i next
+IsNextPlace_other tasks p i next task at other step = record {
+  ahead = omega (arith, step.ahead);
+  inside = step.inside;
+  skipped =
+      let fails : is_task_of p (get_or tasks i task) ≡ false = rw (get_or_from_slice_get tasks i task task at) (ne_eqb task.p p other) in
+      step.skipped ∙ filter_more (is_task_of p) tasks i task (slice_get_within tasks i task at) ∙ rw fails (append-nil (filter (is_task_of p) (take i tasks)));
+  own = step.own;
+}
+
+pub linked_none : (n : ℕ) (tasks : List Task) (first next : List ℕ) → first ≡ replicate n (length tasks) → next ≡ replicate (length tasks) (length tasks) → IsLinkedFrom n tasks (length tasks) first next
+linked_none n tasks first next all_first all_next = record {
+  processes = rw all_first (length-replicate n (length tasks));
+  places = rw all_next (length-replicate (length tasks) (length tasks));
+  first_of = λ p within.
+      let here : slice_index first p ≡ length tasks = rw all_first (get_or-replicate n p (length tasks) 0 within) in
+      rw here (IsNextPlace_end tasks p);
+  next_of = λ i task behind at. absurd (omega (arith, slice_get_within tasks i task at));
+}
+
+pub linked_more : (n : ℕ) (tasks : List Task) (place k : ℕ) (first next : List ℕ) (d : Task) → All (IsWithin n) tasks → place ≡ k + 1 → k < length tasks → IsLinkedFrom n tasks place first next → IsLinkedFrom n tasks k (set first (get_or tasks k d).p k) (set next k (get_or first (get_or tasks k d).p 0))
+linked_more n tasks place k first next d within behind inside linked =
+    let task : Task = get_or tasks k d in
+    let p : ℕ = task.p in
+    let at : slice_get tasks k ≡ Some task = slice_get-get_or tasks k d inside in
+    let p_within : p < n = (within k d inside).0 in
+    let p_inside : p < length first = omega (arith, linked.processes) in
+    let k_inside : k < length next = omega (arith, linked.places) in
+    record {
+      processes = length-set first p k ∙ linked.processes;
+      places = length-set next k (slice_index first p) ∙ linked.places;
+      first_of = λ q q_within.
+          ⊎_elim (λ (same : q ≡ p). rw (same, get_or-set_same first p k 0 p_inside) (IsNextPlace_here tasks k task at))
+          (λ (other : q ≡ p → ⊥).
+          rw (get_or-set_other first p q k 0 other)
+          (IsNextPlace_other tasks q k (slice_index first q) task at (λ same. other (sym same)) (rw behind at (linked.first_of q q_within))))
+          (cases_eq q p);
+      next_of = λ i other ahead here.
+          ⊎_elim (λ (same : i ≡ k).
+          let task_here : other ≡ task = same_Some other task (sym here ∙ ap (slice_get tasks) same ∙ at) in
+          rw (same, task_here, get_or-set_same next k (slice_index first p) 0 k_inside) (rw behind at (linked.first_of p p_within)))
+          (λ (apart : i ≡ k → ⊥). rw (get_or-set_other next k i (slice_index first p) 0 apart) (linked.next_of i other (omega arith) here))
+          (cases_eq i k);
+    }

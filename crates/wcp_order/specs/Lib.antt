@@ -1,0 +1,2 @@
+pub mod Stuck
+pub mod Progress
