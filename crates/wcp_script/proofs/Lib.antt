@@ -4,3 +4,8 @@ pub mod StepLines
 pub mod Questions
 pub mod Joins
 pub mod HeadLines
+pub mod ScheduleWords
+pub mod SamePlan
+pub mod Spelled
+pub mod Answered
+pub mod HandedOn

@@ -12,11 +12,12 @@ use Rattle.wcp_script.specs.declared.head.Head.{Head as OwnHead}
 use Rattle.wcp_script.specs.declared.head.HeadRead.{HeadRead as OwnRead}
 use Rattle.wcp_script.specs.declared.head_line.HeadLine.{HeadLine}
 use Rattle.wcp_script.specs.declared.head_line.HeadLine.TheVariants.{Attach}
+use Rattle.wcp_script.specs.declared.schedule.Schedule.{Schedule}
 use Rattle.wcp_script.specs.declared.text.Text.{Text}
 use Rattle.wcp_model.specs.declared.workload.Task.{Task}
 use Rattle.wcp_model.specs.declared.workload.Workload.{Workload}
 use Rattle.wcp_model.specs.WorkloadComputation.{IsFitOrder}
-use Rattle.wcp_script.specs.TextFault.{TextKind, workloads, Spells, HasFault}
+use Rattle.wcp_script.specs.TextFault.{TextKind, workloads, schedules, Spells, HasFault}
 use Rattle.wcp_script.specs.Reading.{HasWorkloadFault, IsFaultOf}
 use Rattle.wcp_script.specs.Lines.{TextLine, lines_of}
 use Rattle.wcp_script.specs.Judgement.{◌>>=◌, at_line}
@@ -77,6 +78,11 @@ Gives view (Err fault) spelled = Fails fault spelled
 abbrev pub ReadsText : {S : Type 0} → TextKind S → List ℕ → Result (Text S) ReadFault → Type 0
 ReadsText text_kind text (Ok read) = (spells : Spells text_kind text read.plan read.steps.items) × (spells.read.last ≡ read.last)
 ReadsText text_kind text (Err fault) = IsFaultOf (HasFault text_kind text) fault
+
+-- What reading the text of a schedule answered, unless memory ran out.
+abbrev pub ReadsSchedule : List ℕ → Result Schedule ReadFault → Type 0
+ReadsSchedule text (Ok schedule) = Spells schedules text schedule.plan schedule.steps.items
+ReadsSchedule text (Err fault) = IsFaultOf (HasFault schedules text) fault
 
 -- A workload was read: the text spells it, and its tasks have a fit order.
 pub record IsRead (text : List ℕ) (workload : Workload) : Type 0 where

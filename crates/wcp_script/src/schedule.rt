@@ -5,6 +5,7 @@ ghost use Rattle.wcp_model.specs.PlanFault.{IsCheckedPlan};
 ghost use Rattle.wcp_script.specs.declared.fault.ScriptFault.{ScriptFault};
 ghost use Rattle.wcp_script.specs.TextFault.{schedules, Spells, HasFault};
 ghost use Rattle.wcp_script.specs.Reading.{IsSamePlan, IsReadAs, IsRefusedFor, IsFaultOf};
+ghost use Rattle.wcp_script.specs.Seen.{ReadsSchedule};
 
 use crate::fault::ReadFault;
 use crate::text::{Text, read_text};
@@ -33,6 +34,12 @@ pub fn read_schedule(alloc: Global, bytes: &[u8]) -> Result<Schedule, ReadFault>
     // A text is refused for the fault that it has, and one that has a fault is refused, unless memory runs out.
     ensures fault { IfErr result (IsFaultOf (HasFault schedules bytes.now)) }
     ensures refused { (fault : ScriptFault) → HasFault schedules bytes.now fault → IsRefusedFor fault result }
+{
+    read(alloc, bytes)
+}
+
+fn read(alloc: Global, bytes: &[u8]) -> Result<Schedule, ReadFault>
+    ensures { ReadsSchedule bytes.now result }
 {
     let Text { plan, steps, .. } = read_text(alloc, bytes)?;
     Ok(Schedule { plan, steps })

@@ -24,11 +24,12 @@ pub(crate) fn read_text<S: StepLine>(alloc: Global, text: &[u8]) -> Result<Text<
     let HeadRead { head, last, after } = read_head::<S>(alloc, text)?;
     let n = head.n;
     let plan = head.into_plan(alloc)?;
-    if plan.check().is_err() {
-        return Err(ReadFault::Script(ScriptFault {
-            line: last,
-            kind: FaultKind::Plan,
-        }));
+    match plan.check() {
+        Ok(()) => {}
+        Err(_) => {
+            let kind = FaultKind::Plan;
+            return Err(ReadFault::Script(ScriptFault { line: last, kind }));
+        }
     }
     let steps = read_steps(alloc, n, last, after)?;
     Ok(Text { plan, last, steps })

@@ -1,0 +1,78 @@
+-- What follows for steps from being spelled.
+use Rattle.std.proofs.Common.{◌≡◌, ℕ, ◌+◌, ◌≤◌, Bool, true, cond, ltb, eqb, not, List, [], ◌∷◌, length, All, Result, Ok, Err, sym, subst, ◌∙◌, arith}
+use Rattle.std.specs.Option.{ok_or}
+use Rattle.std.specs.List.{AllByRecursion}
+use Rattle.std.specs.Prelude.{None}
+use Rattle.std.proofs.lemmas.Bool.{and_parts, ltb-true, eqb-false, not-true}
+use Rattle.std.proofs.lemmas.List.Elements.{All-from_recursion}
+use Rattle.wcp_model.specs.declared.plan.Plan.{Plan}
+use Rattle.wcp_model.specs.declared.workload.Action.{Action}
+use Rattle.wcp_model.specs.declared.workload.Action.TheVariants as action
+use Rattle.wcp_model.specs.declared.workload.Task.{Task}
+use Rattle.wcp_model.specs.WorkloadComputation.{HasPartner, IsWithin, IsFitOrder, CouldBeRead}
+use Rattle.wcp_script.specs.declared.fault.FaultKind.TheVariants as kind
+use Rattle.wcp_script.specs.Lines.{TextLine, words_of}
+use Rattle.wcp_script.specs.Judgement.{◌>>=◌, ask, at_line}
+use Rattle.wcp_script.specs.WorkloadLines.{form_of, task_of, has_partner, is_within, task_in}
+use Rattle.wcp_script.specs.TextFault.{TextKind, workloads, step_after, steps_by, Spells}
+use Rattle.wcp_script.proofs.Questions.{bind_ok, ask_ok, ok_is, at_line_ok}
+use Rattle.wcp_script.proofs.StepLines.{step_after_is}
+use Rattle.wcp_script.proofs.SamePlan.{processes_of_checked}
+
+-- Each of the steps that lines say is one that a line of this kind can say.
+pub steps_by_are : {S : Type 0} (text_kind : TextKind S) (n : ℕ) (P : S → Type 0) → ((line : TextLine) (step : S) → text_kind.said n line ≡ Ok step → P step) → (last earlier : ℕ) (lines : List TextLine) (steps : List S) → steps_by text_kind n last earlier lines ≡ Ok steps
+    → AllByRecursion P steps × (earlier ≤ 65536 → earlier + length steps ≤ 65536)
+unfolding steps_by
+steps_by_are text_kind n P each last earlier [] steps e = subst (λ steps. AllByRecursion P steps × (earlier ≤ 65536 → earlier + length steps ≤ 65536)) (ok_is [] steps e) (tt, λ h. omega arith)
+steps_by_are text_kind n P each last earlier (line ∷ lines) steps e =
+    let first = bind_ok (at_line (last + earlier + 1) (step_after text_kind n earlier line)) (λ step. steps_by text_kind n last (earlier + 1) lines >>= λ steps. Ok (step ∷ steps)) steps e in
+    let others = bind_ok (steps_by text_kind n last (earlier + 1) lines) (λ steps. Ok (first.0 ∷ steps)) steps first.2 in
+    let is = step_after_is text_kind n earlier line first.0 (at_line_ok (last + earlier + 1) (step_after text_kind n earlier line) first.0 first.1) in
+    let rest = steps_by_are text_kind n P each last (earlier + 1) lines others.0 others.1 in
+    subst (λ steps. AllByRecursion P steps × (earlier ≤ 65536 → earlier + length steps ≤ 65536)) (ok_is (first.0 ∷ others.0) steps others.2)
+      ((each line first.0 is.said, rest.0), λ h. omega (arith, is.few, rest.1 (omega (arith, is.few))))
+
+has_partner_is : (n p : ℕ) (said : Action) → has_partner n p said ≡ true → HasPartner n p said
+has_partner_is n p (action.Observe holds) e = tt
+has_partner_is n p (action.Send to) e = let parts = and_parts (ltb to n) (not (eqb to p)) e in (ltb-true to n parts.0, eqb-false to p (not-true (eqb to p) parts.1))
+has_partner_is n p (action.Recv from) e = let parts = and_parts (ltb from n) (not (eqb from p)) e in (ltb-true from n parts.0, eqb-false from p (not-true (eqb from p) parts.1))
+
+is_within_is : (n : ℕ) (task : Task) → is_within n task ≡ true → IsWithin n task
+is_within_is n task e = let parts = and_parts (ltb task.p n) (has_partner n task.p task.action) e in (ltb-true task.p n parts.0, has_partner_is n task.p task.action parts.1)
+
+task_in_within : (n : ℕ) (line : TextLine) (task : Task) → task_in n line ≡ Ok task → IsWithin n task
+unfolding task_in
+task_in_within n line task e =
+    let form = bind_ok (ok_or (cond line.ended (form_of (words_of line.bytes)) None) kind.Line) (λ form. task_of form >>= λ task. ask (is_within n task) kind.Process >>= λ _. Ok task) task e in
+    let said = bind_ok (task_of form.0) (λ task. ask (is_within n task) kind.Process >>= λ _. Ok task) task form.2 in
+    let within = bind_ok (ask (is_within n said.0) kind.Process) (λ _. Ok said.0) task said.2 in
+    subst (IsWithin n) (ok_is said.0 task within.2) (is_within_is n said.0 (ask_ok (is_within n said.0) kind.Process within.0 within.1))
+
+-- The tasks that a text spells are within the limits.
+pub record IsSpelled (n : ℕ) (tasks : List Task) : Type 0 where
+  pub some : 1 ≤ n
+  pub few_processes : n ≤ 16
+  pub few_tasks : length tasks ≤ 65536
+  pub within : All (IsWithin n) tasks
+
+pub few_steps : {S : Type 0} (text_kind : TextKind S) (text : List ℕ) (plan : Plan) (steps : List S) → Spells text_kind text plan steps → length steps ≤ 65536
+few_steps text_kind text plan steps h =
+    let are = steps_by_are text_kind h.read.head.n (λ step. Unit {0}) (λ line step said. tt) h.read.last 0 h.read.after steps h.lines in
+    omega (arith, are.1 (omega arith))
+
+pub spells_is : (text : List ℕ) (plan : Plan) (tasks : List Task) → Spells workloads text plan tasks → IsSpelled plan.n tasks
+spells_is text plan tasks h =
+    let n = h.read.head.n in
+    let are = steps_by_are workloads n (IsWithin n) (task_in_within n) h.read.last 0 h.read.after tasks h.lines in
+    let limits = processes_of_checked plan h.checked in
+    record {
+      some = limits.0;
+      few_processes = limits.1;
+      few_tasks = omega (arith, are.1 (omega arith));
+      within = subst (λ (n : ℕ). All (IsWithin n) tasks) (sym h.plan_of_head.n) (All-from_recursion (IsWithin n) tasks are.0);
+    }
+
+pub could_be_read : (text : List ℕ) (plan : Plan) (tasks order : List Task) → Spells workloads text plan tasks → IsFitOrder tasks order → CouldBeRead plan.n tasks
+could_be_read text plan tasks order h fit =
+    let is = spells_is text plan tasks h in
+    record { some = is.some; few_processes = is.few_processes; few_tasks = is.few_tasks; within = is.within; order = order; fit = fit }
