@@ -72,7 +72,7 @@ attach_line_allows head process number said e =
     let after = bind_ok (ask (is_after head.last_attached p.0) kind.Line) (λ _. ask (ltb p.0 head.n) kind.Process >>= λ _. Ok (Attach p.0 relay.0)) said relay.2 in
     let within = bind_ok (ask (ltb p.0 head.n) kind.Process) (λ _. Ok (Attach p.0 relay.0)) said after.2 in
     subst (IsAllowed head) (ok_is {E = FaultKind} (Attach p.0 relay.0) said within.2)
-      (ask_ok (is_after head.last_attached p.0) kind.Line after.0 after.1, ltb-true p.0 head.n (ask_ok (ltb p.0 head.n) kind.Process within.0 within.1))
+    (ask_ok (is_after head.last_attached p.0) kind.Line after.0 after.1, ltb-true p.0 head.n (ask_ok (ltb p.0 head.n) kind.Process within.0 within.1))
 
 no_line : (head : Head) (said : HeadLine) → (◌≡◌ {A = Result HeadLine FaultKind} (Err kind.Line) (Ok said)) → IsAllowed head said
 no_line head said e = absurd cc
@@ -82,14 +82,14 @@ head_words_allow head [] said e = no_line head said e
 head_words_allow head (first ∷ []) said e = no_line head said e
 head_words_allow head (first ∷ second ∷ []) said e =
     either (bytes_eq first (codes "cap")) (cap_line head second) (cond (bytes_eq first (codes "hold")) (hold_line head second) (Err kind.Line)) said
-      (cap_line_allows head second said)
-      (either (bytes_eq first (codes "hold")) (hold_line head second) (Err kind.Line) said (hold_line_allows head second said) (no_line head said))
-      e
+    (cap_line_allows head second said)
+    (either (bytes_eq first (codes "hold")) (hold_line head second) (Err kind.Line) said (hold_line_allows head second said) (no_line head said))
+    e
 head_words_allow head (first ∷ second ∷ third ∷ []) said e =
     either (bytes_eq first (codes "relay")) (relay_line head second third) (cond (bytes_eq first (codes "attach")) (attach_line head second third) (Err kind.Line)) said
-      (relay_line_allows head second third said)
-      (either (bytes_eq first (codes "attach")) (attach_line head second third) (Err kind.Line) said (attach_line_allows head second third said) (no_line head said))
-      e
+    (relay_line_allows head second third said)
+    (either (bytes_eq first (codes "attach")) (attach_line head second third) (Err kind.Line) said (attach_line_allows head second third said) (no_line head said))
+    e
 head_words_allow head (first ∷ second ∷ third ∷ fourth ∷ words) said e = no_line head said e
 
 pub head_line_allows : (head : Head) (line : TextLine) (said : HeadLine) → head_line head line ≡ Ok said → IsAllowed head said
@@ -135,15 +135,22 @@ first_within n few = record {
 
 pub more_within : (head : Head) (last : ℕ) (said : HeadLine) → IsWithinLimits head last → IsAllowed head said → IsWithinLimits (with_line head said) (last + 1)
 more_within head last (Cap cap) h allowed = record {
-  few = h.few; attached = h.attached; relays = h.relays; next = h.next;
+  few = h.few;
+  attached = h.attached;
+  relays = h.relays;
+  next = h.next;
   lines = omega (arith, h.lines, ap said_once allowed.0);
 }
 more_within head last (Hold hold) h allowed = record {
-  few = h.few; attached = h.attached; relays = h.relays; next = h.next;
+  few = h.few;
+  attached = h.attached;
+  relays = h.relays;
+  next = h.next;
   lines = omega (arith, h.lines, ap said_once allowed.0);
 }
 more_within head last (Relay parent) h allowed = record {
-  few = h.few; attached = h.attached;
+  few = h.few;
+  attached = h.attached;
   relays = omega (arith, length-append head.parents (parent ∷ []), allowed);
   next = h.next;
   lines = omega (arith, h.lines, length-append head.parents (parent ∷ []));

@@ -37,24 +37,24 @@ same_fault_of_plan one other same fault.Hold has = subst (IsOutside 1 64) same.h
 same_fault_of_plan one other same fault.Parent has = subst HasWrongParent same.parents has
 same_fault_of_plan one other same fault.Depth has = (has.0, subst (λ (parents : List Parent). IsPath parents has.0) same.parents has.1, has.2)
 same_fault_of_plan one other same fault.Mixed has = (
-    has.0,
-    subst (λ (parents : List Parent). has.0 < length parents) same.parents has.1,
-    subst (λ (served : List (Option ℕ)). Contains served (Some has.0)) (same_served one other same) has.2,
-    subst (λ (parents : List Parent). Contains parents (Relay has.0)) same.parents has.3,
-  )
+  has.0,
+  subst (λ (parents : List Parent). has.0 < length parents) same.parents has.1,
+  subst (λ (served : List (Option ℕ)). Contains served (Some has.0)) (same_served one other same) has.2,
+  subst (λ (parents : List Parent). Contains parents (Relay has.0)) same.parents has.3,
+)
 same_fault_of_plan one other same fault.Childless has = (
-    has.0,
-    subst (λ (parents : List Parent). has.0 < length parents) same.parents has.1,
-    subst (λ (served : List (Option ℕ)). ¬ Contains served (Some has.0)) (same_served one other same) has.2,
-    subst (λ (parents : List Parent). ¬ Contains parents (Relay has.0)) same.parents has.3,
-  )
+  has.0,
+  subst (λ (parents : List Parent). has.0 < length parents) same.parents has.1,
+  subst (λ (served : List (Option ℕ)). ¬ Contains served (Some has.0)) (same_served one other same) has.2,
+  subst (λ (parents : List Parent). ¬ Contains parents (Relay has.0)) same.parents has.3,
+)
 same_fault_of_plan one other same fault.Unattached has =
     subst (λ (n : ℕ). IsUnattached n other.parents.items other.attach.items) same.n
-      (subst (λ (parents : List Parent). IsUnattached one.n parents other.attach.items) same.parents
-        (subst (IsUnattached one.n one.parents.items) same.attach has))
+    (subst (λ (parents : List Parent). IsUnattached one.n parents other.attach.items) same.parents
+    (subst (IsUnattached one.n one.parents.items) same.attach has))
 
 pub processes_of_checked : (plan : Plan) → IsCheckedPlan plan → (1 ≤ plan.n) × (plan.n ≤ 16)
 processes_of_checked plan checked = (
-    ⊎_elim (λ low. absurd (checked fault.Procs (inl low))) (λ some. some) (cases_lt plan.n 1),
-    ⊎_elim (λ high. absurd (checked fault.Procs (inr high))) (λ few. few) (cases_lt 16 plan.n),
-  )
+  ⊎_elim (λ low. absurd (checked fault.Procs (inl low))) (λ some. some) (cases_lt plan.n 1),
+  ⊎_elim (λ high. absurd (checked fault.Procs (inr high))) (λ few. few) (cases_lt 16 plan.n),
+)

@@ -30,7 +30,7 @@ steps_by_are text_kind n P each last earlier (line ∷ lines) steps e =
     let is = step_after_is text_kind n earlier line first.0 (at_line_ok (last + earlier + 1) (step_after text_kind n earlier line) first.0 first.1) in
     let rest = steps_by_are text_kind n P each last (earlier + 1) lines others.0 others.1 in
     subst (λ steps. AllByRecursion P steps × (earlier ≤ 65536 → earlier + length steps ≤ 65536)) (ok_is (first.0 ∷ others.0) steps others.2)
-      ((each line first.0 is.said, rest.0), λ h. omega (arith, is.few, rest.1 (omega (arith, is.few))))
+    ((each line first.0 is.said, rest.0), λ h. omega (arith, is.few, rest.1 (omega (arith, is.few))))
 
 has_partner_is : (n p : ℕ) (said : Action) → has_partner n p said ≡ true → HasPartner n p said
 has_partner_is n p (action.Observe holds) e = tt

@@ -13,7 +13,7 @@ use Rattle.wcp_script.specs.Judgement.{◌>>=◌, number_in}
 abbrev pub is_schedule_word : List ℕ → Bool
 is_schedule_word word =
     list_any (bytes_eq word)
-      (codes "observe" ∷ codes "send" ∷ codes "recv" ∷ codes "close" ∷ codes "put" ∷ codes "admit" ∷ codes "pull" ∷ codes "pass" ∷ codes "check" ∷ [])
+    (codes "observe" ∷ codes "send" ∷ codes "recv" ∷ codes "close" ∷ codes "put" ∷ codes "admit" ∷ codes "pull" ∷ codes "pass" ∷ codes "check" ∷ [])
 
 -- What `observe P true` and `observe P false` say, by the words after the first.
 abbrev pub observation : List ℕ → List ℕ → Result Step FaultKind

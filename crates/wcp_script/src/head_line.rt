@@ -71,7 +71,10 @@ impl Head {
     fn cap_line(&self, word: &[u8]) -> Result<HeadLine, FaultKind>
         ensures { result ≡ cap_line (seen_head self.now) word.now }
     {
-        ask(self.cap.is_none() && self.hold.is_none() && self.parents.is_empty(), FaultKind::Line)?;
+        ask(
+            self.cap.is_none() && self.hold.is_none() && self.parents.is_empty(),
+            FaultKind::Line,
+        )?;
         let cap = number_in(word)?;
         ask((1..=MOST_CAP).contains(&cap), FaultKind::Plan)?;
         Ok(HeadLine::Cap(cap))
@@ -80,7 +83,10 @@ impl Head {
     fn hold_line(&self, word: &[u8]) -> Result<HeadLine, FaultKind>
         ensures { result ≡ hold_line (seen_head self.now) word.now }
     {
-        ask(self.hold.is_none() && self.parents.is_empty(), FaultKind::Line)?;
+        ask(
+            self.hold.is_none() && self.parents.is_empty(),
+            FaultKind::Line,
+        )?;
         let hold = number_in(word)?;
         ask((1..=MOST_HOLD).contains(&hold), FaultKind::Plan)?;
         Ok(HeadLine::Hold(hold))
@@ -93,7 +99,10 @@ impl Head {
         let relay = number_in(number)?;
         let parent = parent_in(above)?;
         ask(relay as usize == self.parents.len(), FaultKind::Line)?;
-        ask(relay <= LAST_RELAY && is_above(relay, parent), FaultKind::Plan)?;
+        ask(
+            relay <= LAST_RELAY && is_above(relay, parent),
+            FaultKind::Plan,
+        )?;
         Ok(HeadLine::Relay(parent))
     }
 

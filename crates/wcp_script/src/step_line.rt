@@ -24,7 +24,12 @@ pub(crate) trait StepLine: Copy {
 }
 
 /// The steps of the lines behind a head with this last line.
-pub(crate) fn read_steps<S: StepLine>(alloc: Global, n: u32, last: u32, text: &[u8]) -> Result<Vec<S>, ReadFault>
+pub(crate) fn read_steps<S: StepLine>(
+    alloc: Global,
+    n: u32,
+    last: u32,
+    text: &[u8],
+) -> Result<Vec<S>, ReadFault>
     requires { last ≤ 35 }
     ensures { Gives (λ steps. steps.items) result (steps_by S.text_kind n last 0 (lines_of text.now)) }
 {
