@@ -1,49 +1,80 @@
 -- What follows for a text from what reading it answered.
-use Rattle.std.proofs.Common.{◌≡◌, ℕ, List, Result, Ok, Err, sym, ap, subst, ◌∙◌, inl, inr}
+use Rattle.std.proofs.Common.{◌≡◌, ℕ, ◌+◌, ◌≤◌, List, length, Result, Ok, Err, refl, sym, ap, subst, ◌∙◌, inl, inr}
 use Rattle.std.specs.Prelude.{IfOk, IfErr}
 use Rattle.std.proofs.lemmas.Bool.{cases_order}
+use Rattle.wcp_model.specs.declared.plan.Plan.{Plan}
+use Rattle.wcp_model.specs.declared.step.Step.{Step}
 use Rattle.wcp_model.specs.declared.workload.Task.{Task}
 use Rattle.wcp_model.specs.declared.workload.Workload.{Workload}
+use Rattle.wcp_model.specs.PlanFault.{IsCheckedPlan}
 use Rattle.wcp_model.specs.WorkloadComputation.{IsFitOrder, CouldBeRead}
 use Rattle.wcp_script.specs.declared.fault.ScriptFault.{ScriptFault}
 use Rattle.wcp_script.specs.declared.fault.ReadFault.{ReadFault}
 use Rattle.wcp_script.specs.declared.fault.ReadFault.TheVariants.{Script, NoMemory}
-use Rattle.wcp_script.specs.WorkloadText.{workload_text}
-use Rattle.wcp_script.specs.TextFault.{spelled_by, HasFault, AtLine, AtEnd}
+use Rattle.wcp_script.specs.declared.schedule.Schedule.{Schedule}
 use Rattle.wcp_order.specs.Stuck.{IsStuckAt}
-use Rattle.wcp_script.specs.WorkloadReading.{IsPlainPlan, IsFaultOf, IsReadAs, IsRefusedFor, Reads}
+use Rattle.wcp_script.specs.Head.{HeadRead, head_of, IsPlanOf}
+use Rattle.wcp_script.specs.TextFault.{TextKind, workloads, schedules, steps_by, Spells, HasFault, InHead, OfPlan, InStep}
+use Rattle.wcp_script.specs.Reading.{HasWorkloadFault, InText, AtEnd, IsSamePlan, IsReadAs, IsRefusedFor, IsFaultOf}
+use Rattle.wcp_script.specs.Seen.{ReadsSchedule, ReadsWorkload}
 use Rattle.wcp_script.proofs.Questions.{ok_is}
-use Rattle.wcp_script.proofs.Spelled.{spelled_by_is}
-use Rattle.wcp_script.proofs.ReadAgain.{spelled_by-workload_text}
+use Rattle.wcp_script.proofs.SamePlan.{same_plan, same_fault_of_plan}
+use Rattle.wcp_script.proofs.Spelled as spelled
 
-pub is_spelled : (text : List ℕ) (r : Result Workload ReadFault) → Reads text r → IfOk r (λ w. text ≡ workload_text w.plan.n w.tasks.items)
-is_spelled text (Ok w) h = (spelled_by_is text w.plan.n w.tasks.items h.lines).spelled
-is_spelled text (Err fault) h = tt
+same_head : {S : Type 0} (text_kind : TextKind S) (text : List ℕ) (one other : HeadRead) → head_of text_kind.is_step_word text ≡ Ok one → head_of text_kind.is_step_word text ≡ Ok other → one ≡ other
+same_head text_kind text one other e d = ok_is {E = ScriptFault} one other (sym e ∙ d)
 
-pub could_be_read : (text : List ℕ) (r : Result Workload ReadFault) → Reads text r → IfOk r (λ w. CouldBeRead w.plan.n w.tasks.items)
-could_be_read text (Ok w) h =
-    let is = spelled_by_is text w.plan.n w.tasks.items h.lines in
-    record { some = is.some; few_processes = is.few_processes; few_tasks = is.few_tasks; within = is.within; order = h.order; fit = h.fit }
-could_be_read text (Err fault) h = tt
+-- The steps after a head.
+abbrev steps_after : {S : Type 0} → TextKind S → HeadRead → Result (List S) ScriptFault
+steps_after text_kind read = steps_by text_kind read.head.n read.last 0 read.after
 
-pub has_plain_plan : (text : List ℕ) (r : Result Workload ReadFault) → Reads text r → IfOk r (λ w. IsPlainPlan w.plan)
-has_plain_plan text (Ok w) h = h.plan
-has_plain_plan text (Err fault) h = tt
+same_steps_after : {S : Type 0} (text_kind : TextKind S) (one other : HeadRead) → one ≡ other → steps_after text_kind one ≡ steps_after text_kind other
+same_steps_after text_kind one other same = ap (steps_after text_kind) same
 
-pub has_fault : (text : List ℕ) (r : Result Workload ReadFault) → Reads text r → IfErr r (IsFaultOf text)
-has_fault text (Ok w) h = tt
-has_fault text (Err fault) h = h
+-- A text spells one plan and one list of steps.
+same_reading : {S : Type 0} (text_kind : TextKind S) (text : List ℕ) (plan plan' : Plan) (steps steps' : List S) → Spells text_kind text plan steps → Spells text_kind text plan' steps' → IsSamePlan plan plan' × (steps ≡ steps')
+same_reading text_kind text plan plan' steps steps' h k =
+    let same = same_head text_kind text h.read k.read h.head k.head in (
+      same_plan h.read k.read plan plan' same h.plan_of_head k.plan_of_head,
+      ok_is {E = ScriptFault} steps steps' (sym h.lines ∙ same_steps_after text_kind h.read k.read same ∙ k.lines),
+    )
 
-same_tasks : (spelled : Result (ℕ × List Task) ScriptFault) (m n : ℕ) (xs ys : List Task) → spelled ≡ Ok (m, xs) → spelled ≡ Ok (n, ys) → (m ≡ n) × (xs ≡ ys)
-same_tasks spelled m n xs ys one other =
-    let pairs : ◌≡◌ {A = ℕ × List Task} (m, xs) (n, ys) = ok_is {E = ScriptFault} (m, xs) (n, ys) (sym one ∙ other) in
-    (ap (λ (p : ℕ × List Task). p.0) pairs, ap (λ (p : ℕ × List Task). p.1) pairs)
+-- A plan of one head is without fault where another plan of the head is.
+no_plan_fault : {S : Type 0} (text_kind : TextKind S) (text : List ℕ) (one other : HeadRead) (plan plan' : Plan) → head_of text_kind.is_step_word text ≡ Ok one → head_of text_kind.is_step_word text ≡ Ok other → IsPlanOf one.head plan → IsPlanOf other.head plan' → IsCheckedPlan plan' → IsCheckedPlan plan
+no_plan_fault text_kind text one other plan plan' e d h k checked first has =
+    checked first (same_fault_of_plan plan plan' (same_plan one other plan plan' (same_head text_kind text one other e d) h k) first has)
 
--- A text whose lines spell tasks with a fit order has no fault.
-no_fault : (text : List ℕ) (fault : ScriptFault) (n : ℕ) (tasks order : List Task) → spelled_by text ≡ Ok (n, tasks) → IsFitOrder tasks order → HasFault text fault → ⊥
-no_fault text fault n tasks order spelled fit (AtLine refused) = absurd cc
-no_fault text fault n tasks order spelled fit (AtEnd m others place said stuck line) =
-    stuck.no_order order (subst (λ (tasks : List Task). IsFitOrder tasks order) (same_tasks (spelled_by text) n m tasks others spelled said).1 fit)
+-- What spells steps has no fault.
+no_fault : {S : Type 0} (text_kind : TextKind S) (text : List ℕ) (fault : ScriptFault) (plan : Plan) (steps : List S) → Spells text_kind text plan steps → HasFault text_kind text fault → ⊥
+no_fault text_kind text fault plan steps h (InHead refused) = let head = h.head in absurd cc
+no_fault text_kind text fault plan steps h (OfPlan read plan' first head of_head has line) =
+    no_plan_fault text_kind text read h.read plan' plan head h.head of_head h.plan_of_head h.checked first has
+no_fault text_kind text fault plan steps h (InStep read plan' head of_head checked refused) =
+    let same = same_steps_after text_kind h.read read (same_head text_kind text h.read read h.head head) in
+    let lines = h.lines in
+    absurd cc
+
+-- A text has at most one fault.
+same_fault : {S : Type 0} (text_kind : TextKind S) (text : List ℕ) (one other : ScriptFault) → HasFault text_kind text one → HasFault text_kind text other → one ≡ other
+same_fault text_kind text one other (InHead refused) (InHead refused') = cc
+same_fault text_kind text one other (InHead refused) (OfPlan read plan first head of_head has line) = absurd cc
+same_fault text_kind text one other (InHead refused) (InStep read plan head of_head checked refused') = absurd cc
+same_fault text_kind text one other (OfPlan read plan first head of_head has line) (InHead refused) = absurd cc
+same_fault text_kind text one other (OfPlan read plan first head of_head has line) (OfPlan read' plan' first' head' of_head' has' line') =
+    let same = same_head text_kind text read read' head head' in cc
+same_fault text_kind text one other (OfPlan read plan first head of_head has line) (InStep read' plan' head' of_head' checked refused') =
+    absurd (no_plan_fault text_kind text read read' plan plan' head head' of_head of_head' checked first has)
+same_fault text_kind text one other (InStep read plan head of_head checked refused) (InHead refused') = absurd cc
+same_fault text_kind text one other (InStep read plan head of_head checked refused) (OfPlan read' plan' first head' of_head' has line) =
+    absurd (no_plan_fault text_kind text read' read plan' plan head' head of_head' of_head checked first has)
+same_fault text_kind text one other (InStep read plan head of_head checked refused) (InStep read' plan' head' of_head' checked' refused') =
+    let same = same_steps_after text_kind read read' (same_head text_kind text read read' head head') in cc
+
+-- What spells tasks that have a fit order has no fault.
+no_workload_fault : (text : List ℕ) (fault : ScriptFault) (plan : Plan) (tasks order : List Task) → Spells workloads text plan tasks → IsFitOrder tasks order → HasWorkloadFault text fault → ⊥
+no_workload_fault text fault plan tasks order h fit (InText has) = no_fault workloads text fault plan tasks h has
+no_workload_fault text fault plan tasks order h fit (AtEnd plan' tasks' spells place stuck line) =
+    stuck.no_order order (subst (λ (tasks : List Task). IsFitOrder tasks order) (same_reading workloads text plan plan' tasks tasks' h spells).1 fit)
 
 same_place : (tasks : List Task) (one other : ℕ) → IsStuckAt tasks one → IsStuckAt tasks other → one ≡ other
 same_place tasks one other h k =
@@ -53,26 +84,65 @@ same_place tasks one other h k =
       | inr (inr after) ↦ absurd (k.first.stuck (h.first.before other after))
     ]
 
--- A text has at most one fault.
-same_fault : (text : List ℕ) (one other : ScriptFault) → HasFault text one → HasFault text other → one ≡ other
-same_fault text one other (AtLine refused) (AtLine refused') = cc
-same_fault text one other (AtLine refused) (AtEnd n tasks place said stuck line) = absurd cc
-same_fault text one other (AtEnd n tasks place said stuck line) (AtLine refused) = absurd cc
-same_fault text one other (AtEnd m tasks place said stuck line) (AtEnd n others place' said' stuck' line') =
-    let same = same_tasks (spelled_by text) m n tasks others said said' in
-    let places = same_place others place place' (subst (λ (tasks : List Task). IsStuckAt tasks place) same.1 stuck) stuck' in
+same_workload_fault : (text : List ℕ) (one other : ScriptFault) → HasWorkloadFault text one → HasWorkloadFault text other → one ≡ other
+same_workload_fault text one other (InText has) (InText has') = same_fault workloads text one other has has'
+same_workload_fault text one other (InText has) (AtEnd plan tasks spells place stuck line) = absurd (no_fault workloads text one plan tasks spells has)
+same_workload_fault text one other (AtEnd plan tasks spells place stuck line) (InText has) = absurd (no_fault workloads text other plan tasks spells has)
+same_workload_fault text one other (AtEnd plan tasks spells place stuck line) (AtEnd plan' tasks' spells' place' stuck' line') =
+    let same = same_head workloads text spells.read spells'.read spells.head spells'.head in
+    let reading = same_reading workloads text plan plan' tasks tasks' spells spells' in
+    let places = same_place tasks' place place' (subst (λ (tasks : List Task). IsStuckAt tasks place) reading.1 stuck) stuck' in
+    let last : spells.read.last ≡ spells'.read.last = ap (λ (read : HeadRead). read.last) same in
     cc
 
-pub is_read_as : (text : List ℕ) (r : Result Workload ReadFault) → Reads text r → (n : ℕ) (tasks : List Task) → CouldBeRead n tasks → text ≡ workload_text n tasks → IsReadAs n tasks r
-is_read_as text (Ok w) h n tasks could e =
-    let again : spelled_by text ≡ Ok (n, tasks) = ap spelled_by e ∙ spelled_by-workload_text n tasks could.some could.few_processes could.few_tasks could.within in
-    same_tasks (spelled_by text) w.plan.n n w.tasks.items tasks h.lines again
-is_read_as text (Err (Script fault)) h n tasks could e =
-    let again : spelled_by text ≡ Ok (n, tasks) = ap spelled_by e ∙ spelled_by-workload_text n tasks could.some could.few_processes could.few_tasks could.within in
-    no_fault text fault n tasks could.order again could.fit h
-is_read_as text (Err NoMemory) h n tasks could e = tt
+pub schedule_is_spelled : (text : List ℕ) (r : Result Schedule ReadFault) → ReadsSchedule text r → IfOk r (λ schedule. Spells schedules text schedule.plan schedule.steps.items)
+schedule_is_spelled text (Ok schedule) h = h
+schedule_is_spelled text (Err fault) h = tt
 
-pub is_refused_for : (text : List ℕ) (r : Result Workload ReadFault) → Reads text r → (fault : ScriptFault) → HasFault text fault → IsRefusedFor fault r
-is_refused_for text (Ok w) h fault has = no_fault text fault w.plan.n w.tasks.items h.order h.lines h.fit has
-is_refused_for text (Err (Script given)) h fault has = same_fault text given fault h has
-is_refused_for text (Err NoMemory) h fault has = tt
+pub schedule_is_checked : (text : List ℕ) (r : Result Schedule ReadFault) → ReadsSchedule text r → IfOk r (λ schedule. IsCheckedPlan schedule.plan)
+schedule_is_checked text (Ok schedule) h = h.checked
+schedule_is_checked text (Err fault) h = tt
+
+pub schedule_is_short : (text : List ℕ) (r : Result Schedule ReadFault) → ReadsSchedule text r → IfOk r (λ schedule. length schedule.steps.items ≤ 65536)
+schedule_is_short text (Ok schedule) h = spelled.few_steps schedules text schedule.plan schedule.steps.items h
+schedule_is_short text (Err fault) h = tt
+
+pub schedule_is_read_as : (text : List ℕ) (r : Result Schedule ReadFault) → ReadsSchedule text r → (plan : Plan) (steps : List Step) → Spells schedules text plan steps → IsReadAs (λ schedule. IsSamePlan schedule.plan plan × (schedule.steps.items ≡ steps)) r
+schedule_is_read_as text (Ok schedule) h plan steps spells = same_reading schedules text schedule.plan plan schedule.steps.items steps h spells
+schedule_is_read_as text (Err (Script fault)) h plan steps spells = no_fault schedules text fault plan steps spells h
+schedule_is_read_as text (Err NoMemory) h plan steps spells = tt
+
+pub schedule_has_fault : (text : List ℕ) (r : Result Schedule ReadFault) → ReadsSchedule text r → IfErr r (IsFaultOf (HasFault schedules text))
+schedule_has_fault text (Ok schedule) h = tt
+schedule_has_fault text (Err fault) h = h
+
+pub schedule_is_refused_for : (text : List ℕ) (r : Result Schedule ReadFault) → ReadsSchedule text r → (fault : ScriptFault) → HasFault schedules text fault → IsRefusedFor fault r
+schedule_is_refused_for text (Ok schedule) h fault has = no_fault schedules text fault schedule.plan schedule.steps.items h has
+schedule_is_refused_for text (Err (Script given)) h fault has = same_fault schedules text given fault h has
+schedule_is_refused_for text (Err NoMemory) h fault has = tt
+
+pub workload_is_spelled : (text : List ℕ) (r : Result Workload ReadFault) → ReadsWorkload text r → IfOk r (λ workload. Spells workloads text workload.plan workload.tasks.items)
+workload_is_spelled text (Ok workload) h = h.spells
+workload_is_spelled text (Err fault) h = tt
+
+pub workload_could_be_read : (text : List ℕ) (r : Result Workload ReadFault) → ReadsWorkload text r → IfOk r (λ workload. CouldBeRead workload.plan.n workload.tasks.items)
+workload_could_be_read text (Ok workload) h = spelled.could_be_read text workload.plan workload.tasks.items h.order h.spells h.fit
+workload_could_be_read text (Err fault) h = tt
+
+pub workload_is_checked : (text : List ℕ) (r : Result Workload ReadFault) → ReadsWorkload text r → IfOk r (λ workload. IsCheckedPlan workload.plan)
+workload_is_checked text (Ok workload) h = h.spells.checked
+workload_is_checked text (Err fault) h = tt
+
+pub workload_is_read_as : (text : List ℕ) (r : Result Workload ReadFault) → ReadsWorkload text r → (plan : Plan) (tasks : List Task) → Spells workloads text plan tasks → CouldBeRead plan.n tasks → IsReadAs (λ workload. IsSamePlan workload.plan plan × (workload.tasks.items ≡ tasks)) r
+workload_is_read_as text (Ok workload) h plan tasks spells could = same_reading workloads text workload.plan plan workload.tasks.items tasks h.spells spells
+workload_is_read_as text (Err (Script fault)) h plan tasks spells could = no_workload_fault text fault plan tasks could.order spells could.fit h
+workload_is_read_as text (Err NoMemory) h plan tasks spells could = tt
+
+pub workload_has_fault : (text : List ℕ) (r : Result Workload ReadFault) → ReadsWorkload text r → IfErr r (IsFaultOf (HasWorkloadFault text))
+workload_has_fault text (Ok workload) h = tt
+workload_has_fault text (Err fault) h = h
+
+pub workload_is_refused_for : (text : List ℕ) (r : Result Workload ReadFault) → ReadsWorkload text r → (fault : ScriptFault) → HasWorkloadFault text fault → IsRefusedFor fault r
+workload_is_refused_for text (Ok workload) h fault has = no_workload_fault text fault workload.plan workload.tasks.items h.order h.spells h.fit has
+workload_is_refused_for text (Err (Script given)) h fault has = same_workload_fault text given fault h has
+workload_is_refused_for text (Err NoMemory) h fault has = tt

@@ -3,10 +3,15 @@ pub mod Numbers
 pub mod StepLines
 pub mod Questions
 pub mod Joins
-pub mod TaskWords
+pub mod HeadLines
+pub mod ScheduleWords
+pub mod SamePlan
 pub mod Spelled
-pub mod ReadAgain
 pub mod Answered
+pub mod HandedOn
 mod PlanLines
+mod PrintedTasks
+mod PrintedHead
+mod Printed
 mod Ranges
 mod RingTasks

@@ -2,7 +2,7 @@
 use Rattle.std.proofs.Common.{◌≡◌, ℕ, Bool, true, false, cond, Option, Some, None, Result, Ok, Err, refl}
 use Rattle.std.specs.Option.{ok_or}
 use Rattle.wcp_script.specs.declared.fault.FaultKind.{FaultKind}
-use Rattle.wcp_script.specs.TextFault.{◌>>=◌, at_line}
+use Rattle.wcp_script.specs.Judgement.{◌>>=◌, ask, at_line}
 
 pub bind_ok : {A B E : Type 0} (r : Result A E) (f : A → Result B E) (y : B) → (r >>= f) ≡ Ok y → (x : A) × (r ≡ Ok x) × (f x ≡ Ok y)
 bind_ok (Ok x) f y e = (x, refl, e)
@@ -29,3 +29,7 @@ ok_is x y e = cc
 pub at_line_ok : {A : Type 0} (line : ℕ) (r : Result A FaultKind) (y : A) → at_line line r ≡ Ok y → r ≡ Ok y
 at_line_ok line (Ok x) y e = cc
 at_line_ok line (Err d) y e = absurd cc
+
+pub ask_ok : (holds : Bool) (what : FaultKind) (y : Unit {0}) → ask holds what ≡ Ok y → holds ≡ true
+ask_ok true what y e = refl
+ask_ok false what y e = absurd cc

@@ -1,53 +1,46 @@
 -- Step lines, one after another.
-use Rattle.std.proofs.Common.{◌≡◌, ℕ, ◌+◌, ◌<◌, cond, ltb, List, [], ◌∷◌, ◌++◌, true, Some, None, Result, Ok, Err, refl, sym, ap, subst, append_assoc}
-use Rattle.std.specs.Option.{ok_or}
+use Rattle.std.proofs.Common.{◌≡◌, ℕ, ◌+◌, ◌<◌, ltb, List, [], ◌∷◌, ◌++◌, true, Result, Ok, Err, refl, sym, ap, subst, append_assoc}
 use Rattle.std.proofs.lemmas.List.{append-nil}
 use Rattle.std.proofs.lemmas.Bool.{ltb-true}
-use Rattle.wcp_model.specs.declared.workload.Task.{Task}
 use Rattle.wcp_script.specs.declared.fault.FaultKind.{FaultKind}
 use Rattle.wcp_script.specs.declared.fault.FaultKind.TheVariants as kind
 use Rattle.wcp_script.specs.declared.fault.ScriptFault.{ScriptFault}
-use Rattle.wcp_script.specs.Lines.{TextLine, words_of}
-use Rattle.wcp_script.specs.TextFault.{◌>>=◌, StepForm, form_of, task_of, is_within, step_in, steps_by}
-use Rattle.wcp_script.proofs.Questions.{bind_ok, guard_ok, ok_or_ok, ok_is, ended_is}
+use Rattle.wcp_script.specs.Lines.{TextLine}
+use Rattle.wcp_script.specs.Judgement.{◌>>=◌, ask}
+use Rattle.wcp_script.specs.TextFault.{TextKind, step_after, steps_by}
+use Rattle.wcp_script.proofs.Questions.{bind_ok, ask_ok, ok_is}
 
-abbrev pub with_front : List Task → Result (List Task) ScriptFault → Result (List Task) ScriptFault
-with_front front spelled = spelled >>= λ tasks. Ok (front ++ tasks)
+abbrev pub with_front : {S : Type 0} → List S → Result (List S) ScriptFault → Result (List S) ScriptFault
+with_front front spelled = spelled >>= λ steps. Ok (front ++ steps)
 
-regroup : (front : List Task) (task : Task) (spelled : Result (List Task) ScriptFault) → with_front front (spelled >>= λ tasks. Ok (task ∷ tasks)) ≡ with_front (front ++ task ∷ []) spelled
-regroup front task (Ok tasks) = ap (λ (all : List Task). Ok all) (sym (append_assoc front (task ∷ []) tasks))
-regroup front task (Err fault) = refl
+regroup : {S : Type 0} (front : List S) (step : S) (spelled : Result (List S) ScriptFault) → with_front front (spelled >>= λ steps. Ok (step ∷ steps)) ≡ with_front (front ++ step ∷ []) spelled
+regroup {S = S} front step (Ok steps) = ap (λ (all : List S). Ok all) (sym (append_assoc front (step ∷ []) steps))
+regroup front step (Err fault) = refl
 
-pub steps_more : (n earlier : ℕ) (front : List Task) (line : TextLine) (task : Task) (lines after : List TextLine) → lines ≡ line ∷ after → step_in n earlier line ≡ Ok task → with_front front (steps_by n earlier lines) ≡ with_front (front ++ task ∷ []) (steps_by n (earlier + 1) after)
+pub steps_more : {S : Type 0} (text_kind : TextKind S) (n last earlier : ℕ) (front : List S) (line : TextLine) (step : S) (lines after : List TextLine) → lines ≡ line ∷ after → step_after text_kind n earlier line ≡ Ok step
+    → with_front front (steps_by text_kind n last earlier lines) ≡ with_front (front ++ step ∷ []) (steps_by text_kind n last (earlier + 1) after)
 unfolding steps_by
-steps_more n earlier front line task lines after cut read = rw (cut, read) (regroup front task (steps_by n (earlier + 1) after))
+steps_more text_kind n last earlier front line step lines after cut read = rw (cut, read) (regroup front step (steps_by text_kind n last (earlier + 1) after))
 
-pub steps_fail : (n earlier : ℕ) (front : List Task) (line : TextLine) (what : FaultKind) (lines after : List TextLine) → lines ≡ line ∷ after → step_in n earlier line ≡ Err what → with_front front (steps_by n earlier lines) ≡ Err (record { line = earlier + 3; kind = what })
+pub steps_fail : {S : Type 0} (text_kind : TextKind S) (n last earlier : ℕ) (front : List S) (line : TextLine) (what : FaultKind) (lines after : List TextLine) → lines ≡ line ∷ after → step_after text_kind n earlier line ≡ Err what
+    → with_front front (steps_by text_kind n last earlier lines) ≡ Err (record { line = last + earlier + 1; kind = what })
 unfolding steps_by
-steps_fail n earlier front line what lines after cut read = rw (cut, read) refl
+steps_fail text_kind n last earlier front line what lines after cut read = rw (cut, read) refl
 
-pub steps_end : (n earlier : ℕ) (front : List Task) (lines : List TextLine) → lines ≡ [] → with_front front (steps_by n earlier lines) ≡ Ok front
+pub steps_end : {S : Type 0} (text_kind : TextKind S) (n last earlier : ℕ) (front : List S) (lines : List TextLine) → lines ≡ [] → with_front front (steps_by text_kind n last earlier lines) ≡ Ok front
 unfolding steps_by
-steps_end n earlier front lines none = rw none (ap (λ (all : List Task). Ok all) (append-nil front))
+steps_end {S = S} text_kind n last earlier front lines none = rw none (ap (λ (all : List S). Ok all) (append-nil front))
 
 -- A line that is read as a step passed each question.
-pub record IsStep (n earlier : ℕ) (line : TextLine) (task : Task) : Type 0 where
-  pub form : StepForm
-  pub ended : line.ended ≡ true
-  pub formed : form_of (words_of line.bytes) ≡ Some form
-  pub numbered : task_of form ≡ Ok task
-  pub within : is_within n task ≡ true
+pub record IsStep {S : Type 0} (text_kind : TextKind S) (n earlier : ℕ) (line : TextLine) (step : S) : Type 0 where
+  pub said : text_kind.said n line ≡ Ok step
   pub few : earlier < 65536
 
-pub step_in_is : (n earlier : ℕ) (line : TextLine) (task : Task) → step_in n earlier line ≡ Ok task → IsStep n earlier line task
-unfolding step_in
-step_in_is n earlier line task e =
-    let form = bind_ok (ok_or (cond line.ended (form_of (words_of line.bytes)) None) kind.Line) (λ form. task_of form >>= λ task. cond (is_within n task) (cond (ltb earlier 65536) (Ok task) (Err kind.TooLong)) (Err kind.Process)) task e in
-    let formed = ended_is line.ended (form_of (words_of line.bytes)) form.0 (ok_or_ok (cond line.ended (form_of (words_of line.bytes)) None) kind.Line form.0 form.1) in
-    let said = bind_ok (task_of form.0) (λ task. cond (is_within n task) (cond (ltb earlier 65536) (Ok task) (Err kind.TooLong)) (Err kind.Process)) task form.2 in
-    let within = guard_ok (is_within n said.0) (cond (ltb earlier 65536) (Ok said.0) (Err kind.TooLong)) kind.Process task said.2 in
-    let few = guard_ok (ltb earlier 65536) (Ok said.0) kind.TooLong task within.1 in
-    subst (IsStep n earlier line) (ok_is said.0 task few.1) (record { form = form.0; ended = formed.0; formed = formed.1; numbered = said.1; within = within.0; few = ltb-true _ _ few.0 })
+pub step_after_is : {S : Type 0} (text_kind : TextKind S) (n earlier : ℕ) (line : TextLine) (step : S) → step_after text_kind n earlier line ≡ Ok step → IsStep text_kind n earlier line step
+step_after_is text_kind n earlier line step e =
+    let said = bind_ok (text_kind.said n line) (λ step. ask (ltb earlier 65536) kind.TooLong >>= λ _. Ok step) step e in
+    let few = bind_ok (ask (ltb earlier 65536) kind.TooLong) (λ _. Ok said.0) step said.2 in
+    subst (IsStep text_kind n earlier line) (ok_is said.0 step few.2) (record { said = said.1; few = ltb-true _ _ (ask_ok (ltb earlier 65536) kind.TooLong few.0 few.1) })
 
-pub few_before : (n earlier : ℕ) (line : TextLine) (task : Task) → step_in n earlier line ≡ Ok task → earlier < 65536
-few_before n earlier line task e = (step_in_is n earlier line task e).few
+pub few_before : {S : Type 0} (text_kind : TextKind S) (n earlier : ℕ) (line : TextLine) (step : S) → step_after text_kind n earlier line ≡ Ok step → earlier < 65536
+few_before text_kind n earlier line step e = (step_after_is text_kind n earlier line step e).few

@@ -1,7 +1,11 @@
 pub mod Lines
 pub mod WorkloadText
+pub mod PlanText
+pub mod Judgement
+pub mod Head
+pub mod WorkloadLines
+pub mod ScheduleLines
 pub mod TextFault
 pub mod Seen
-pub mod WorkloadReading
+pub mod Reading
 pub mod Ring
-pub mod PlanText

@@ -1,125 +1,57 @@
 -- What a text spells, or which fault it has: lines are judged from the top, and the first fault is the text's.
-use Rattle.std.specs.Prelude.{◌≡◌, ◌==◌, ◌&&◌, ℕ, ◌+◌, Bool, true, false, not, List, [], ◌∷◌, drop, nat_lt, nat_le, Option, Some, None, Result, Ok, Err, codes, if◌then◌else◌}
-use Rattle.std.specs.Str.{bytes_eq}
-use Rattle.std.specs.Option.{ok_or}
-use Rattle.wcp_model.specs.declared.workload.Action.{Action}
-use Rattle.wcp_model.specs.declared.workload.Action.TheVariants as action
+use Rattle.std.specs.Prelude.{◌≡◌, ℕ, ◌+◌, Bool, List, [], ◌∷◌, nat_lt, Result, Ok, Err}
+use Rattle.wcp_model.specs.declared.plan.Plan.{Plan}
+use Rattle.wcp_model.specs.declared.plan.PlanFault.{PlanFault}
+use Rattle.wcp_model.specs.declared.step.Step.{Step}
 use Rattle.wcp_model.specs.declared.workload.Task.{Task}
+use Rattle.wcp_model.specs.PlanFault.{IsCheckedPlan}
+use Rattle.wcp_model.specs.PlanFault as faults
 use Rattle.wcp_script.specs.declared.fault.FaultKind.{FaultKind}
 use Rattle.wcp_script.specs.declared.fault.FaultKind.TheVariants as kind
 use Rattle.wcp_script.specs.declared.fault.ScriptFault.{ScriptFault}
-use Rattle.wcp_script.specs.Lines.{TextLine, lines_of, words_of, number_of}
-use Rattle.wcp_order.specs.Stuck.{IsStuckAt}
+use Rattle.wcp_script.specs.Lines.{TextLine}
+use Rattle.wcp_script.specs.Judgement.{◌>>=◌, ask, at_line}
+use Rattle.wcp_script.specs.Head.{HeadRead, head_of, IsPlanOf}
+use Rattle.wcp_script.specs.WorkloadLines.{is_task_word, task_in}
+use Rattle.wcp_script.specs.ScheduleLines.{is_schedule_word, step_in}
 
--- The next question is asked where the one before it found no fault.
-infixl 10 ◌>>=◌
-abbrev pub ◌>>=◌ : {A B E : Type 0} → Result A E → (A → Result B E) → Result B E
-(Ok found) >>= next = next found
-(Err fault) >>= next = Err fault
+-- A kind of text: the words that its step lines begin with, and what such a line says under n processes.
+pub record TextKind (S : Type 0) : Type 0 where
+  pub is_step_word : List ℕ → Bool
+  pub said : ℕ → TextLine → Result S FaultKind
 
--- A fault of a line, with the line's number.
-abbrev pub at_line : {A : Type 0} → ℕ → Result A FaultKind → Result A ScriptFault
-at_line line (Ok found) = Ok found
-at_line line (Err what) = Err (record { line = line; kind = what })
+abbrev pub workloads : TextKind Task
+workloads = record { is_step_word = is_task_word; said = task_in }
 
--- A word in the place of a number.
-abbrev pub number_in : List ℕ → Result ℕ FaultKind
-number_in word = ok_or (number_of word) kind.Number
+abbrev pub schedules : TextKind Step
+schedules = record { is_step_word = is_schedule_word; said = λ n line. step_in line }
 
--- Line 1 is `wcp 1`.
-abbrev pub is_version : TextLine → Bool
-is_version line = line.ended && bytes_eq line.bytes (codes "wcp 1")
+-- A line behind this many step lines, of which a text may have 65,536.
+abbrev pub step_after : {S : Type 0} → TextKind S → ℕ → ℕ → TextLine → Result S FaultKind
+step_after text_kind n earlier line = do
+  step ← text_kind.said n line
+  _ ← ask (nat_lt earlier 65536) kind.TooLong
+  Ok step
 
--- The word in the place of N, where the words have the form `procs N`.
-abbrev pub count_word : List (List ℕ) → Option (List ℕ)
-count_word (first ∷ count ∷ []) = if bytes_eq first (codes "procs") then Some count else None
-count_word words = None
+-- The steps of the lines after a head with this last line, the first of them behind this many step lines.
+unfoldable pub steps_by : {S : Type 0} → TextKind S → ℕ → ℕ → ℕ → List TextLine → Result (List S) ScriptFault
+steps_by text_kind n last earlier [] = Ok []
+steps_by text_kind n last earlier (line ∷ lines) = do
+  step ← at_line (last + earlier + 1) (step_after text_kind n earlier line)
+  steps ← steps_by text_kind n last (earlier + 1) lines
+  Ok (step ∷ steps)
 
--- Line 2 is `procs N`, with N from 1 to 16.
-unfoldable pub processes_in : TextLine → Result ℕ FaultKind
-processes_in line = do
-  word ← ok_or (if line.ended then count_word (words_of line.bytes) else None) kind.Header
-  n ← number_in word
-  if nat_le 1 n && nat_le n 16 then Ok n else Err kind.Plan
+-- The text spells these steps under this plan, which has no fault.
+pub record Spells {S : Type 0} (text_kind : TextKind S) (text : List ℕ) (plan : Plan) (steps : List S) : Type 0 where
+  pub read : HeadRead
+  pub head : head_of text_kind.is_step_word text ≡ Ok read
+  pub plan_of_head : IsPlanOf read.head plan
+  pub checked : IsCheckedPlan plan
+  pub lines : steps_by text_kind read.head.n read.last 0 read.after ≡ Ok steps
 
--- The number of processes, by the head of the text. A line that is missing is wrong.
-unfoldable pub processes_by : List TextLine → Result ℕ ScriptFault
-processes_by [] = at_line 1 (Err kind.Header)
-processes_by (version ∷ []) = at_line (if is_version version then 2 else 1) (Err kind.Header)
-processes_by (version ∷ processes ∷ steps) = if is_version version then at_line 2 (processes_in processes) else at_line 1 (Err kind.Header)
-
--- A form of step lines, with words in the places of its numbers: `p I true` and `p I false`, `p I send J`, `p I recv J`.
-pub data StepForm : Type 0 where
-  Observes : List ℕ → Bool → StepForm
-  Sends : List ℕ → List ℕ → StepForm
-  Receives : List ℕ → List ℕ → StepForm
-
--- The form of an observation, by its word.
-abbrev pub observation_form : List ℕ → List ℕ → Option StepForm
-observation_form process keyword =
-    if bytes_eq keyword (codes "true") then Some (Observes process true)
-    else (if bytes_eq keyword (codes "false") then Some (Observes process false) else None)
-
--- The form of a send or a receive, by its word.
-abbrev pub message_form : List ℕ → List ℕ → List ℕ → Option StepForm
-message_form process keyword partner =
-    if bytes_eq keyword (codes "send") then Some (Sends process partner)
-    else (if bytes_eq keyword (codes "recv") then Some (Receives process partner) else None)
-
--- The form that the words of a line have, if they have one.
-unfoldable pub form_of : List (List ℕ) → Option StepForm
-form_of (first ∷ process ∷ keyword ∷ []) = if bytes_eq first (codes "p") then observation_form process keyword else None
-form_of (first ∷ process ∷ keyword ∷ partner ∷ []) = if bytes_eq first (codes "p") then message_form process keyword partner else None
-form_of words = None
-
--- The task of a step line, by its numbers.
-abbrev pub task_of : StepForm → Result Task FaultKind
-task_of (Observes process holds) = do
-  p ← number_in process
-  Ok (record { p = p; action = action.Observe holds })
-task_of (Sends process partner) = do
-  p ← number_in process
-  to ← number_in partner
-  Ok (record { p = p; action = action.Send to })
-task_of (Receives process partner) = do
-  p ← number_in process
-  from ← number_in partner
-  Ok (record { p = p; action = action.Recv from })
-
--- The partner of process p, if it has one, is another of the n processes.
-abbrev pub has_partner : ℕ → ℕ → Action → Bool
-has_partner n p (action.Observe holds) = true
-has_partner n p (action.Send to) = nat_lt to n && not (to == p)
-has_partner n p (action.Recv from) = nat_lt from n && not (from == p)
-
--- The task is one of the n processes, and so is its partner.
-abbrev pub is_within : ℕ → Task → Bool
-is_within n task = nat_lt task.p n && has_partner n task.p task.action
-
--- A line after the head, behind this many step lines: it has its LF and a form, its numbers are numbers, its processes are
--- within the plan, and it isn't beyond the 65,536 step lines that a text may have.
-unfoldable pub step_in : ℕ → ℕ → TextLine → Result Task FaultKind
-step_in n earlier line = do
-  form ← ok_or (if line.ended then form_of (words_of line.bytes) else None) kind.Line
-  task ← task_of form
-  if is_within n task then (if nat_lt earlier 65536 then Ok task else Err kind.TooLong) else Err kind.Process
-
--- The tasks of the lines after a head of two lines, the first of them behind this many step lines.
-unfoldable pub steps_by : ℕ → ℕ → List TextLine → Result (List Task) ScriptFault
-steps_by n earlier [] = Ok []
-steps_by n earlier (line ∷ lines) = do
-  task ← at_line (earlier + 3) (step_in n earlier line)
-  tasks ← steps_by n (earlier + 1) lines
-  Ok (task ∷ tasks)
-
--- The number of processes and the tasks that the lines spell, or the first line's fault.
-unfoldable pub spelled_by : List ℕ → Result (ℕ × List Task) ScriptFault
-spelled_by text = do
-  n ← processes_by (lines_of text)
-  tasks ← steps_by n 0 (drop 2 (lines_of text))
-  Ok (n, tasks)
-
--- The fault of a text: that of its first faulty line, or else that its tasks are stuck.
-pub data HasFault (text : List ℕ) (fault : ScriptFault) : Type 0 where
-  AtLine : spelled_by text ≡ Err fault → HasFault text fault
-  AtEnd : (n : ℕ) (tasks : List Task) (place : ℕ) → spelled_by text ≡ Ok (n, tasks) → IsStuckAt tasks place → fault ≡ record { line = place + 3; kind = kind.Stuck } → HasFault text fault
+-- The fault of a text: that of a line of its head; or else that of the plan, at the head's last line; or else that of a
+-- step line.
+pub data HasFault {S : Type 0} (text_kind : TextKind S) (text : List ℕ) (fault : ScriptFault) : Type 0 where
+  InHead : head_of text_kind.is_step_word text ≡ Err fault → HasFault text_kind text fault
+  OfPlan : (read : HeadRead) (plan : Plan) (first : PlanFault) → head_of text_kind.is_step_word text ≡ Ok read → IsPlanOf read.head plan → faults.HasFault plan first → fault ≡ record { line = read.last; kind = kind.Plan } → HasFault text_kind text fault
+  InStep : (read : HeadRead) (plan : Plan) → head_of text_kind.is_step_word text ≡ Ok read → IsPlanOf read.head plan → IsCheckedPlan plan → steps_by text_kind read.head.n read.last 0 read.after ≡ Err fault → HasFault text_kind text fault

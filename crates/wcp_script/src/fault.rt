@@ -1,4 +1,5 @@
 ghost use Rattle.std.specs.Prelude.{◌≡◌};
+ghost use Rattle.wcp_script.specs.Judgement.{ask};
 ghost use Rattle.wcp_script.specs.declared.fault.ReadFault.TheVariants.{Script, NoMemory};
 
 use std::alloc::{AllocError, AllocFailed};
@@ -71,4 +72,11 @@ impl<T: Drop> From<AllocFailed<T>> for ReadFault {
     fn from(_error: AllocFailed<T>) -> ReadFault {
         ReadFault::NoMemory
     }
+}
+
+/// A question about a line, and the fault where its answer is no.
+pub(crate) fn ask(holds: bool, kind: FaultKind) -> Result<(), FaultKind>
+    ensures { result ≡ ask holds kind }
+{
+    if holds { Ok(()) } else { Err(kind) }
 }

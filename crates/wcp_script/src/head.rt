@@ -1,73 +1,143 @@
-ghost use Rattle.std.specs.Prelude.{◌≡◌, ◌≤◌, drop, MatchResult, IfOk};
+ghost use Rattle.std.specs.Prelude.{◌≡◌, ◌≤◌, ◌<◌, length, IfOk, IfSome, MatchOption};
 ghost use Rattle.wcp_script.specs.Lines.{lines_of};
-ghost use Rattle.wcp_script.specs.TextFault.{is_version, processes_in, processes_by};
-ghost use Rattle.wcp_script.specs.Seen.{seen_line};
+ghost use Rattle.wcp_script.specs.Head.{IsPlanOf, first_head, with_line, head_by, head_of};
+ghost use Rattle.wcp_script.specs.Seen.{seen_line, seen_head, seen_read, HasPlace, EndsHead, GoesOn, Gives};
 
-use crate::fault::{FaultKind, ScriptFault};
-use crate::lines::{Line, Words, next_line, words_of};
-use crate::number::number;
+use crate::fault::{ReadFault, ScriptFault};
+use crate::head_line::HeadLine;
+use crate::lines::{Line, first_word, next_line};
+use crate::opening::{OPENING_LINES, read_opening};
+use crate::step_line::StepLine;
+use std::alloc::{AllocError, Global};
+use wcp_model::{Parent, Plan, plain_plan};
 
-/// The most processes that a plan may have.
-const MOST_PROCESSES: u32 = 16;
+/// How many notes each link and each inbox has room for, where the text doesn't say.
+pub(crate) const PLAIN_CAP: u32 = 8;
 
-/// The number of processes, and the text after the head.
-#[tactic(auto, unfolding(crate::specs::TextFault::processes_by))]
-pub(crate) fn read_head(text: &[u8]) -> Result<(u32, &[u8]), ScriptFault>
-    ensures exact { MatchResult result
-        (λ head. (processes_by (lines_of text.now) ≡ Ok head.0) × (lines_of head.1.now ≡ drop 2 (lines_of text.now)))
-        (λ fault. processes_by (lines_of text.now) ≡ Err fault) }
-    ensures some { IfOk result (λ head. 1 ≤ head.0) }
-    ensures few { IfOk result (λ head. head.0 ≤ 16) }
-{
-    let Some((version, rest)) = next_line(text) else {
-        return Err(ScriptFault {
-            line: 1,
-            kind: FaultKind::Header,
-        });
-    };
-    if !is_version(version) {
-        return Err(ScriptFault {
-            line: 1,
-            kind: FaultKind::Header,
-        });
-    }
-    let Some((processes, rest)) = next_line(rest) else {
-        return Err(ScriptFault {
-            line: 2,
-            kind: FaultKind::Header,
-        });
-    };
-    match processes_in(processes) {
-        Ok(n) => Ok((n, rest)),
-        Err(kind) => Err(ScriptFault { line: 2, kind }),
-    }
+/// How many notes the hold of each relay has room for, where the text doesn't say.
+pub(crate) const PLAIN_HOLD: u32 = 4;
+
+/// What the lines of a head said so far.
+#[derive(Drop)]
+pub(crate) struct Head {
+    pub n: u32,
+    pub cap: Option<u32>,
+    pub hold: Option<u32>,
+    pub parents: Vec<Parent>,
+    /// The relay of each process.
+    pub attach: Vec<Option<u32>>,
+    /// The process of the last attach line.
+    pub last_attached: Option<u32>,
 }
 
-fn is_version(line: Line<'_>) -> bool
-    ensures { result ≡ is_version (seen_line line.entry) }
-{
-    line.ended && line.bytes == b"wcp 1".as_slice()
+/// A head, the number of its last line, and the text after it.
+#[derive(Drop)]
+pub(crate) struct HeadRead<'a> {
+    pub head: Head,
+    pub last: u32,
+    pub after: &'a [u8],
 }
 
-#[tactic(auto, unfolding(crate::specs::TextFault::processes_in))]
-fn processes_in(line: Line<'_>) -> Result<u32, FaultKind>
-    ensures exact { result ≡ processes_in (seen_line line.entry) }
-    ensures some { IfOk result (λ n. 1 ≤ n) }
-    ensures few { IfOk result (λ n. n ≤ 16) }
+/// The head of a text whose step lines are such ones.
+#[tactic(auto, unfolding(crate::specs::Head::head_of))]
+pub(crate) fn read_head<S: StepLine>(alloc: Global, text: &[u8]) -> Result<HeadRead<'_>, ReadFault>
+    ensures exact { Gives seen_read result (head_of S.text_kind.is_step_word text.now) }
+    ensures short { IfOk result (λ read. read.last ≤ 35) }
 {
-    if !line.ended {
-        return Err(FaultKind::Header);
+    let (n, rest) = read_opening(text)?;
+    let head = Head::new(alloc, n)?;
+    read_head_lines::<S>(head, rest)
+}
+
+fn read_head_lines<S: StepLine>(mut head: Head, text: &[u8]) -> Result<HeadRead<'_>, ReadFault>
+    requires few { head.n ≤ 16 }
+    requires new { seen_head head ≡ first_head head.n }
+    ensures exact { Gives seen_read result (head_by S.text_kind.is_step_word (seen_head head) 2 (lines_of text.now)) }
+    ensures short { IfOk result (λ read. read.last ≤ 35) }
+{
+    let mut last = OPENING_LINES;
+    let mut rest = text;
+    while let Some((line, after)) = next_head_line::<S>(rest) {
+        let said = match head.judge(line) {
+            Ok(said) => said,
+            Err(kind) => {
+                let line = last + 1;
+                return Err(ReadFault::Script(ScriptFault { line, kind }));
+            }
+        };
+        head.add(said)?;
+        last += 1;
+        rest = after;
     }
-    let Words::Two(first, count) = words_of(line.bytes) else {
-        return Err(FaultKind::Header);
-    };
-    if first != b"procs".as_slice() {
-        return Err(FaultKind::Header);
-    }
-    let n = number(count).ok_or(FaultKind::Number)?;
-    if (1..=MOST_PROCESSES).contains(&n) {
-        Ok(n)
+    Ok(HeadRead {
+        head,
+        last,
+        after: rest,
+    })
+}
+
+/// The next line of the head, unless a step line or the end of the text comes next.
+#[tactic(auto, unfolding(crate::specs::Head::head_by))]
+fn next_head_line<S: StepLine>(text: &[u8]) -> Option<(Line<'_>, &[u8])>
+    ensures line { MatchOption result
+        (EndsHead S.text_kind.is_step_word (lines_of text.now))
+        (λ next. GoesOn S.text_kind.is_step_word (lines_of text.now) (seen_line next.0) (lines_of next.1.now)) }
+    ensures shorter { IfSome result (λ next. length next.1.now < length text.now) }
+{
+    let (line, after) = next_line(text)?;
+    if S::is_step_word(first_word(line.bytes)) {
+        None
     } else {
-        Err(FaultKind::Plan)
+        Some((line, after))
+    }
+}
+
+impl Head {
+    fn new(alloc: Global, n: u32) -> Result<Head, AllocError>
+        ensures { IfOk result (λ head. seen_head head ≡ first_head n) }
+    {
+        Ok(Head {
+            n,
+            cap: None,
+            hold: None,
+            parents: Vec::new(alloc),
+            attach: vec![in alloc; None; n as usize]?,
+            last_attached: None,
+        })
+    }
+
+    /// Adds what a line says. `Err` where memory runs out.
+    fn add(&mut self, line: HeadLine) -> Result<(), AllocError>
+        requires { HasPlace (seen_head self.old) line }
+        ensures { IfOk result (λ _. seen_head self.new ≡ with_line (seen_head self.old) line) }
+    {
+        match line {
+            HeadLine::Cap(cap) => self.cap = Some(cap),
+            HeadLine::Hold(hold) => self.hold = Some(hold),
+            HeadLine::Relay(parent) => self.parents.push(parent)?,
+            HeadLine::Attach(p, relay) => {
+                self.attach[p as usize] = Some(relay);
+                self.last_attached = Some(p);
+            }
+        }
+        Ok(())
+    }
+
+    /// The plan that the head describes.
+    pub(crate) fn into_plan(self, alloc: Global) -> Result<Plan, AllocError>
+        ensures { IfOk result (IsPlanOf (seen_head self)) }
+    {
+        let cap = self.cap.unwrap_or(PLAIN_CAP);
+        let hold = self.hold.unwrap_or(PLAIN_HOLD);
+        if self.parents.is_empty() {
+            return plain_plan(alloc, self.n, cap, hold);
+        }
+        Ok(Plan {
+            n: self.n,
+            cap,
+            hold,
+            parents: self.parents,
+            attach: self.attach,
+        })
     }
 }

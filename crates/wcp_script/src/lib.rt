@@ -1,18 +1,25 @@
-//! What a text means: the workload that it spells, or the fault that it has; and the text of a
-//! workload.
+//! What a text means: the workload or the schedule that it spells, or the fault that it has; and the
+//! text of a workload.
 #![tactic(auto)]
 
 mod fault;
 mod head;
+mod head_line;
 mod lines;
 mod number;
+mod opening;
 mod printing;
 mod ring;
-mod steps;
+mod schedule;
+mod schedule_line;
+mod step_line;
+mod task_line;
+mod text;
 mod workload;
 
 pub use fault::{FaultKind, ReadFault, ScriptFault};
 pub use printing::workload_text;
 pub use ring::ring_workload;
+pub use schedule::{Schedule, read_schedule};
 pub use wcp_single::single;
 pub use workload::read_workload;

@@ -1,6 +1,7 @@
 ghost use Rattle.std.specs.Prelude.{◌≡◌, ◌==◌, ◌<◌, [], ◌∷◌, length, position, MatchOption, IfSome};
 ghost use Rattle.std.specs.List.{slice_split};
 ghost use Rattle.wcp_script.specs.Lines.{lines_of, words_of};
+ghost use Rattle.wcp_script.specs.Head.{first_word};
 ghost use Rattle.wcp_script.specs.Seen.{seen_line, AreWords};
 
 /// A line of a text, without its LF.
@@ -59,6 +60,17 @@ pub(crate) fn words_of(line: &[u8]) -> Words<'_>
     match cut(rest, b' ') {
         None => Words::Four(first, second, third, rest),
         Some(_) => Words::More,
+    }
+}
+
+/// The first word of a line.
+#[tactic(auto, unfolding(crate::specs::Lines::words_of))]
+pub(crate) fn first_word(line: &[u8]) -> &[u8]
+    ensures { result.now ≡ first_word (words_of line.now) }
+{
+    match cut(line, b' ') {
+        Some((first, _)) => first,
+        None => line,
     }
 }
 

@@ -1,9 +1,19 @@
 ghost use Rattle.std.specs.Prelude.{◌≡◌, ◌^◌, ◌<◌, ◌≤◌, ◌↔◌, length, slice_index, IsTrue, MatchOption};
 ghost use Rattle.std.specs.Str.Parse.{digits_value, AllDigits};
 ghost use Rattle.wcp_script.specs.Lines.{number_of};
+ghost use Rattle.wcp_script.specs.Judgement.{number_in};
+
+use crate::fault::FaultKind;
+
+/// The number that stands in the place of one.
+pub(crate) fn number_in(word: &[u8]) -> Result<u32, FaultKind>
+    ensures { result ≡ number_in word.now }
+{
+    number(word).ok_or(FaultKind::Number)
+}
 
 /// The number that a word is, if it is one.
-pub(crate) fn number(word: &[u8]) -> Option<u32>
+fn number(word: &[u8]) -> Option<u32>
     ensures { result ≡ number_of word.now }
 {
     if word.is_empty() || is_padded(word) {

@@ -1,22 +1,24 @@
 //! The text of a workload.
 ghost use Rattle.std.specs.Prelude.{◌≡◌, ◌++◌, IfOk, OnOk, string_bytes};
 ghost use Rattle.std.specs.List.{flat_map, list_all};
+ghost use Rattle.wcp_model.specs.PlanFault.{IsCheckedPlan};
+ghost use Rattle.wcp_model.specs.WorkloadComputation.{CouldBeRead};
+ghost use Rattle.wcp_script.specs.TextFault.{workloads, Spells};
 ghost use Rattle.wcp_script.specs.WorkloadText.{task_line};
 ghost use Rattle.wcp_script.specs.PlanText.{attach_text, cap_text, has_one_relay, head_text, hold_text, is_first, numbered, opening_text, relay_text, text_of_workload, tree_text};
 
+use crate::head::{PLAIN_CAP, PLAIN_HOLD};
 use std::alloc::{AllocError, Global};
 use wcp_model::{Action, Parent, Plan, Task, Workload};
-
-/// How many notes each link and each inbox has room for, where the text doesn't say.
-const PLAIN_CAP: u32 = 8;
-
-/// How many notes the hold of each relay has room for, where the text doesn't say.
-const PLAIN_HOLD: u32 = 4;
 
 /// The text that spells a workload: the lines of its head, and a line for each task in turn. `Err`
 /// where memory runs out.
 pub fn workload_text(alloc: Global, workload: &Workload) -> Result<Vec<u8>, AllocError>
-    ensures { IfOk result (λ text. text.items ≡ text_of_workload workload.now.plan workload.now.tasks.items) }
+    ensures text { IfOk result (λ text. text.items ≡ text_of_workload workload.now.plan workload.now.tasks.items) }
+
+    // Where the plan passes its check and the workload could be read, reading the text gives it back.
+    ensures spells { IfOk result (λ text. IsCheckedPlan workload.now.plan → CouldBeRead workload.now.plan.n workload.now.tasks.items →
+        Spells workloads text.items workload.now.plan workload.now.tasks.items) }
 {
     let mut text = String::new(alloc);
     push_head(&mut text, &workload.plan)?;

@@ -5,14 +5,9 @@ ghost use Rattle.wcp_model.specs.WorkloadComputation.{CouldBeRead};
 ghost use Rattle.std.specs.List.{flat_map, range_with_len};
 ghost use Rattle.wcp_script.specs.Ring.{IsRingPlan, finds_both, received, sent, ring_turn, ring_round, ring_fault, ring_length, ring_tasks};
 
+use crate::head::{PLAIN_CAP, PLAIN_HOLD};
 use std::alloc::{AllocError, Global};
 use wcp_model::{Action, Task, Workload, plain_plan};
-
-/// How many notes each link and each inbox has room for.
-const RING_CAP: u32 = 8;
-
-/// How many notes the hold of the relay has room for.
-const RING_HOLD: u32 = 4;
 
 /// The workload of a ring of `n` processes: in each round each process receives from the one before
 /// it, finds its condition true and then false, and sends to the one after it. With `fault` each
@@ -34,7 +29,7 @@ pub fn ring_workload(
     ensures count { IfOk result (λ workload. length workload.tasks.items ≡ ring_length n rounds fault) }
     ensures could_be_read { IfOk result (λ workload. CouldBeRead n workload.tasks.items) }
 {
-    let plan = plain_plan(alloc, n, RING_CAP, RING_HOLD)?;
+    let plan = plain_plan(alloc, n, PLAIN_CAP, PLAIN_HOLD)?;
     let mut tasks = Vec::new(alloc);
     push_fault(&mut tasks, n, fault)?;
     push_rounds(&mut tasks, n, rounds)?;

@@ -1,7 +1,18 @@
-use Rattle.std.proofs.Common.{rules, append_assoc}
+use Rattle.std.proofs.Common.{◌≡◌, rules, subst, sym, append_assoc}
 use Rattle.wcp_script.specs.PlanText.{text_of_workload}
+use Rattle.wcp_script.specs.TextFault.{workloads, Spells}
+use Rattle.wcp_script.proofs.Printed.{text_spells}
 use Rattle.wcp_script.proofs.printing.workload_text.Goals as goal
 
-pub returns : goal.returns
+is_text : (c : goal.In_ok-push_tasks) → c.into_bytes.result.items ≡ text_of_workload c.args.workload.now.plan c.args.workload.now.tasks.items
 unfolding text_of_workload
-returns c = search (rules, append_assoc)
+is_text c = search (rules, append_assoc)
+
+pub returns-clause-text : goal.returns-clause-text
+returns-clause-text c = is_text c
+
+pub returns-clause-spells : goal.returns-clause-spells
+returns-clause-spells c checked could =
+    let plan = c.args.workload.now.plan in
+    let tasks = c.args.workload.now.tasks.items in
+    subst (λ text. Spells workloads text plan tasks) (sym (is_text c)) (text_spells plan tasks checked could)

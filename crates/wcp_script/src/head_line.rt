@@ -1,0 +1,147 @@
+ghost use Rattle.std.specs.Prelude.{◌≡◌, [], ◌∷◌};
+ghost use Rattle.wcp_script.specs.Head.{parent_in, is_above, is_after, cap_line, hold_line, relay_line, attach_line, head_words, head_line};
+ghost use Rattle.wcp_script.specs.Seen.{seen_line, seen_head};
+
+use crate::fault::{FaultKind, ask};
+use crate::head::Head;
+use crate::lines::{Line, Words, words_of};
+use crate::number::number_in;
+use wcp_model::Parent;
+
+/// The most notes that a link or an inbox has room for.
+const MOST_CAP: u32 = 1024;
+
+/// The most notes that a relay's hold has room for.
+const MOST_HOLD: u32 = 64;
+
+/// The greatest number of a relay.
+const LAST_RELAY: u32 = 14;
+
+/// What a line of the head says, behind its first two lines.
+#[derive(Clone, Copy)]
+pub(crate) enum HeadLine {
+    /// The capacity of each link and inbox.
+    Cap(u32),
+    /// The capacity of each relay's hold.
+    Hold(u32),
+    /// The parent of the next relay.
+    Relay(Parent),
+    /// Process `.0` is served by relay `.1`.
+    Attach(u32, u32),
+}
+
+impl Head {
+    /// What a further line says.
+    #[tactic(auto, unfolding(crate::specs::Head::head_line))]
+    pub(crate) fn judge(&self, line: Line<'_>) -> Result<HeadLine, FaultKind>
+        ensures { result ≡ head_line (seen_head self.now) (seen_line line.entry) }
+    {
+        ask(line.ended, FaultKind::Line)?;
+        match words_of(line.bytes) {
+            Words::Two(first, second) => self.capacity_line(first, second),
+            Words::Three(first, second, third) => self.tree_line(first, second, third),
+            _ => Err(FaultKind::Line),
+        }
+    }
+
+    fn capacity_line(&self, first: &[u8], second: &[u8]) -> Result<HeadLine, FaultKind>
+        ensures { result ≡ head_words (seen_head self.now) (first.now ∷ second.now ∷ []) }
+    {
+        if first == b"cap".as_slice() {
+            self.cap_line(second)
+        } else if first == b"hold".as_slice() {
+            self.hold_line(second)
+        } else {
+            Err(FaultKind::Line)
+        }
+    }
+
+    fn tree_line(&self, first: &[u8], second: &[u8], third: &[u8]) -> Result<HeadLine, FaultKind>
+        ensures { result ≡ head_words (seen_head self.now) (first.now ∷ second.now ∷ third.now ∷ []) }
+    {
+        if first == b"relay".as_slice() {
+            self.relay_line(second, third)
+        } else if first == b"attach".as_slice() {
+            self.attach_line(second, third)
+        } else {
+            Err(FaultKind::Line)
+        }
+    }
+
+    fn cap_line(&self, word: &[u8]) -> Result<HeadLine, FaultKind>
+        ensures { result ≡ cap_line (seen_head self.now) word.now }
+    {
+        ask(
+            self.cap.is_none() && self.hold.is_none() && self.parents.is_empty(),
+            FaultKind::Line,
+        )?;
+        let cap = number_in(word)?;
+        ask((1..=MOST_CAP).contains(&cap), FaultKind::Plan)?;
+        Ok(HeadLine::Cap(cap))
+    }
+
+    fn hold_line(&self, word: &[u8]) -> Result<HeadLine, FaultKind>
+        ensures { result ≡ hold_line (seen_head self.now) word.now }
+    {
+        ask(
+            self.hold.is_none() && self.parents.is_empty(),
+            FaultKind::Line,
+        )?;
+        let hold = number_in(word)?;
+        ask((1..=MOST_HOLD).contains(&hold), FaultKind::Plan)?;
+        Ok(HeadLine::Hold(hold))
+    }
+
+    fn relay_line(&self, number: &[u8], above: &[u8]) -> Result<HeadLine, FaultKind>
+        ensures { result ≡ relay_line (seen_head self.now) number.now above.now }
+    {
+        ask(self.last_attached.is_none(), FaultKind::Line)?;
+        let relay = number_in(number)?;
+        let parent = parent_in(above)?;
+        ask(relay as usize == self.parents.len(), FaultKind::Line)?;
+        ask(
+            relay <= LAST_RELAY && is_above(relay, parent),
+            FaultKind::Plan,
+        )?;
+        Ok(HeadLine::Relay(parent))
+    }
+
+    fn attach_line(&self, process: &[u8], number: &[u8]) -> Result<HeadLine, FaultKind>
+        ensures { result ≡ attach_line (seen_head self.now) process.now number.now }
+    {
+        ask(!self.parents.is_empty(), FaultKind::Line)?;
+        let p = number_in(process)?;
+        let relay = number_in(number)?;
+        ask(is_after(self.last_attached, p), FaultKind::Line)?;
+        ask(p < self.n, FaultKind::Process)?;
+        Ok(HeadLine::Attach(p, relay))
+    }
+}
+
+fn parent_in(word: &[u8]) -> Result<Parent, FaultKind>
+    ensures { result ≡ parent_in word.now }
+{
+    if word == b"root".as_slice() {
+        return Ok(Parent::Root);
+    }
+    let above = number_in(word)?;
+    Ok(Parent::Relay(above))
+}
+
+fn is_above(relay: u32, parent: Parent) -> bool
+    ensures { result ≡ is_above relay parent }
+{
+    match parent {
+        Parent::Root => true,
+        Parent::Relay(above) => above < relay,
+    }
+}
+
+fn is_after(last: Option<u32>, p: u32) -> bool
+    ensures { result ≡ is_after last p }
+{
+    match last {
+        None => true,
+        Some(last) => last < p,
+    }
+}
