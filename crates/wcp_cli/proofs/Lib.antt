@@ -1,3 +1,6 @@
+mod FoundWords
 mod Fronts
 mod Lines
+mod NumberWords
+mod RingWords
 mod WordLemmas

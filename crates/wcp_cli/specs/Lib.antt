@@ -1,4 +1,5 @@
 pub mod Bytes
 pub mod ReportText
+pub mod RingOptions
 pub mod Run
 pub mod Words
