@@ -92,6 +92,7 @@ fn answer<S: AsStr, I: Read, O: Write>(
 {
     match read_words(alloc, words)? {
         Request::Single => give_outcome(alloc, input, output),
+        Request::Replay | Request::Ring(_) => Err(Fault::Usage),
         Request::Help(text) => {
             write_whole(output, text.as_bytes())?;
             Ok(FOUND)
