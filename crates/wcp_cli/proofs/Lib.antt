@@ -1,5 +1,6 @@
 mod FoundWords
 mod Fronts
 mod NumberWords
+mod RingText
 mod RingWords
 mod WordLemmas
