@@ -1,7 +1,9 @@
-//! Makes many calls of a probe, so that their cost can be measured: `probe_calls WORD CALLS`, where
-//! the word is observe, stamp or receive. A receive is a stamp of one probe and its receive by another.
+//! Makes many calls of probes, so that their cost can be measured: `probe_calls WORD CALLS`, where the
+//! word is observe, stamp or receive. Each call is of one of sixteen probes, in no regular order. A
+//! receive is a stamp of one probe and its receive by another.
 #![tactic(auto)]
 
+use std::alloc::{AllocError, Global};
 use std::{env, io};
 use wcp_clock::CLOCK_LIMIT;
 use wcp_probe::ProbeCore;
@@ -9,22 +11,68 @@ use wcp_probe::ProbeCore;
 /// The processes of the watch.
 const PROCS: u32 = 16;
 
-fn observe(probe: &mut ProbeCore, calls: u32) {
-    for _ in 0..calls {
-        let _ = probe.observe(false);
+fn probes(alloc: Global) -> Result<Vec<ProbeCore>, AllocError> {
+    let mut probes = Vec::with_capacity(alloc, PROCS as usize)?;
+    for id in 0..PROCS {
+        probes.push(ProbeCore::new(0, id, PROCS, CLOCK_LIMIT))?;
+    }
+    Ok(probes)
+}
+
+/// Numbers below 2 ^ 28 in no regular order, by a linear congruence.
+#[derive(Drop)]
+struct Numbers(u32);
+
+impl Numbers {
+    fn next(&mut self) -> u32 {
+        self.0 = self.0.wrapping_mul(1_664_525).wrapping_add(1_013_904_223);
+        self.0 >> 4
     }
 }
 
-fn stamp(probe: &mut ProbeCore, calls: u32) {
-    for _ in 0..calls {
-        let _ = probe.stamp(1, ());
+/// A process, and another one.
+fn pair(numbers: &mut Numbers) -> (u32, u32) {
+    let number = numbers.next() >> 8;
+    let process = number % PROCS;
+    let other = (process + 1 + number / PROCS % (PROCS - 1)) % PROCS;
+    (process, other)
+}
+
+fn observe(probes: &mut [ProbeCore], numbers: &mut Numbers) {
+    let (process, other) = pair(numbers);
+    if let Some(probe) = probes.get_mut(process as usize) {
+        let _ = probe.observe(other < process);
     }
 }
 
-fn receive(from: &mut ProbeCore, to: &mut ProbeCore, calls: u32) {
+fn stamp(probes: &mut [ProbeCore], numbers: &mut Numbers) {
+    let (process, other) = pair(numbers);
+    if let Some(probe) = probes.get_mut(process as usize) {
+        let _ = probe.stamp(other, ());
+    }
+}
+
+fn receive(probes: &mut [ProbeCore], numbers: &mut Numbers) {
+    let (process, other) = pair(numbers);
+    let Some(sender) = probes.get_mut(process as usize) else {
+        return;
+    };
+    let Ok(message) = sender.stamp(other, ()) else {
+        return;
+    };
+    if let Some(receiver) = probes.get_mut(other as usize) {
+        let _ = receiver.receive(message);
+    }
+}
+
+fn make_calls(word: &str, calls: u32, probes: &mut [ProbeCore]) {
+    let mut numbers = Numbers(1);
     for _ in 0..calls {
-        if let Ok(message) = from.stamp(1, ()) {
-            let _ = to.receive(message);
+        match word {
+            "observe" => observe(probes, &mut numbers),
+            "stamp" => stamp(probes, &mut numbers),
+            "receive" => receive(probes, &mut numbers),
+            _ => {}
         }
     }
 }
@@ -37,17 +85,17 @@ fn main(rt: HostRuntime) -> io::Result<()> {
         Some(text) => text.as_str().parse().unwrap_or(0),
         None => 0,
     };
-    let mut one = ProbeCore::new(0, 0, PROCS, CLOCK_LIMIT);
-    let mut other = ProbeCore::new(0, 1, PROCS, CLOCK_LIMIT);
+    let mut probes = probes(rt.alloc())?;
     if let Some(word) = word {
-        match word.as_str() {
-            "observe" => observe(&mut one, calls),
-            "stamp" => stamp(&mut one, calls),
-            "receive" => receive(&mut one, &mut other, calls),
-            _ => {}
-        }
+        make_calls(word.as_str(), calls, &mut probes);
     }
-    let sent = one.clock().get(0);
-    let received = other.clock().get(1);
-    println!(rt; "sent {sent} received {received}")
+    let mut events: u64 = 0;
+    let mut emitted: u64 = 0;
+    for probe in &probes {
+        for p in 0..PROCS {
+            events = events.wrapping_add(u64::from(probe.clock().get(p)));
+        }
+        emitted = emitted.wrapping_add(u64::from(probe.emitted()));
+    }
+    println!(rt; "known {events} emitted {emitted}")
 }

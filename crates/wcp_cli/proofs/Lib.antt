@@ -1,2 +1,5 @@
+mod FoundWords
 mod Fronts
+mod NumberWords
+mod RingWords
 mod WordLemmas

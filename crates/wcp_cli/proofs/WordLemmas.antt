@@ -1,6 +1,6 @@
-use Rattle.std.proofs.Common.{◌≡◌, ◌&&◌, Bool, true, false, List, [], ◌∷◌, ◌++◌, drop, fold, codes, ap, ◌∙◌, append_assoc, append-nil, Some, sym, refl, subst, None, inl, inr, ◌⊎◌, ⊎_elim}
+use Rattle.std.proofs.Common.{◌≡◌, true, false, List, [], ◌∷◌, ◌++◌, drop, fold, codes, ap, ◌∙◌, append_assoc, append-nil, Some, sym, refl, subst, None, inl, inr, ⊎_elim}
 use Rattle.clap.proofs.OnLiterals.{clap_on_literals}
-use Rattle.clap.specs.Words.{App, IsAmong, Kinds, Text, fault_of, is_simple, is_simple_and_free, takes, built}
+use Rattle.clap.specs.Words.{IsAmong, Kinds, Text, fault_of, is_simple_and_free, takes, built}
 use Rattle.clap.specs.Faults.{built_fault}
 use Rattle.clap.specs.Takes.{built_takes}
 use Rattle.clap.specs.Lexer.{strip_byte}
@@ -11,11 +11,15 @@ use Rattle.std.proofs.lemmas.Bool.{false_from_ne_true}
 use Rattle.std.proofs.lemmas.Slice.Eq.{bytes_eq-Decides}
 use Rattle.clap.specs.declared.error.kind.ErrorKind.TheVariants as kind
 use Rattle.std.specs.Str.{bytes_eq}
-use Rattle.wcp_cli.specs.Words.{AskForSingle, AskForHelp, AskForUnknown, Unknown, Further, is_flag, program}
+use Rattle.wcp_cli.specs.Words.{AskForSingle, AskForHelp, AskForReplay, AskForUnknown, Unknown, Further, FurtherReplay, is_flag, program}
 
 pub program_is_free : is_simple_and_free program ≡ true
 unfolding clap_on_literals
 program_is_free = refl
+
+pub program_is_simple : is_simple program ≡ true
+unfolding clap_on_literals
+program_is_simple = refl
 
 no_word_is_taken : built_takes (built program) nothing_held [] ≡ true
 unfolding clap_on_literals
@@ -31,6 +35,14 @@ single-takes words asked =
     ⊎_elim (λ (none : drop 1 words ≡ []). subst (λ (ws : List Text). (built_takes (built program) nothing_held ws ≡ true)) (sym none) no_word_is_taken)
     (λ (one : drop 1 words ≡ codes "single" ∷ []). subst (λ (ws : List Text). (built_takes (built program) nothing_held ws ≡ true)) (sym one) single_is_taken)
     asked
+
+replay_is_taken : built_fault (built program) nothing_held (codes "replay" ∷ []) ≡ []
+unfolding clap_on_literals
+replay_is_taken = refl
+
+-- the words that ask for a replay make no parse fail
+pub replay-passes : (words : List Text) → AskForReplay words → fault_of program words ≡ []
+replay-passes words asked = ap (built_fault (built program) nothing_held) asked ∙ replay_is_taken
 
 -- the kinds that a parse may fail by are not none, at words that ask for help
 help_fails : built_fault (built program) nothing_held (codes "help" ∷ []) ≡ [] → ⊥
@@ -67,19 +79,23 @@ not_equal : (name word : Text) → (word ≡ name → ⊥) → bytes_eq name wor
 not_equal name word differs = false_from_ne_true (bytes_eq name word) (λ same. differs (sym ((bytes_eq-Decides name word).0 same)))
 
 -- the first word is unknown
-unknown_first : (word : Text) (rest : List Text) → strip_byte 45 word ≡ None → bytes_eq (codes "single") word ≡ false → bytes_eq (codes "help") word ≡ false
-    → bytes_eq word (45 ∷ 45 ∷ []) ≡ false
+unknown_first : (word : Text) (rest : List Text) → strip_byte 45 word ≡ None → bytes_eq (codes "single") word ≡ false → bytes_eq (codes "replay") word ≡ false
+    → bytes_eq (codes "ring") word ≡ false → bytes_eq (codes "help") word ≡ false → bytes_eq word (45 ∷ 45 ∷ []) ≡ false
     → built_fault (built program) nothing_held (word ∷ rest) ≡ kind.UnknownArgument ∷ kind.InvalidSubcommand ∷ []
 unfolding clap_on_literals
-unknown_first word rest no_flag not_single not_help not_end = simp (not_single, not_help, not_end, no_flag) refl
+unknown_first word rest no_flag not_single not_replay not_ring not_help not_end = simp (not_single, not_replay, not_ring, not_help, not_end, no_flag) refl
 
 -- what follows the name of a subcommand is left to it
+pub stays_as_stopped : (rules : List Rule) (names : Names) (w : Walk) (name : Text) (before words : List Text)
+    → fold (walked rules names) (record w { stopped = Some (name, before) }) words ≡ record w { stopped = Some (name, before ++ words) }
+unfolding walked
+stays_as_stopped rules names w name before [] = ap (λ ws. record w { stopped = Some (name, ws) }) (sym (append-nil before))
+stays_as_stopped rules names w name before (word ∷ words) =
+    stays_as_stopped rules names w name (before ++ word ∷ []) words ∙ ap (λ ws. record w { stopped = Some (name, ws) }) (append_assoc before (word ∷ []) words)
+
 stays_stopped : (rules : List Rule) (names : Names) (w : Walk) (name : Text) (before words : List Text)
     → (fold (walked rules names) (record w { stopped = Some (name, before) }) words).stopped ≡ Some (name, before ++ words)
-unfolding walked
-stays_stopped rules names w name before [] = ap (λ ws. Some (name, ws)) (sym (append-nil before))
-stays_stopped rules names w name before (word ∷ words) =
-    stays_stopped rules names w name (before ++ word ∷ []) words ∙ ap (λ ws. Some (name, ws)) (append_assoc before (word ∷ []) words)
+stays_stopped rules names w name before words = ap (λ (after : Walk). after.stopped) (stays_as_stopped rules names w name before words)
 
 -- `single` has a further word
 further_word : (word : Text) (rest : List Text) → strip_byte 45 word ≡ None → bytes_eq word (45 ∷ 45 ∷ []) ≡ false
@@ -88,6 +104,15 @@ unfolding clap_on_literals
 further_word word rest no_flag not_end =
     let stops = stays_stopped (built program).top.rules (names_of (built program)) (walk_from nothing_held) (codes "single") (word ∷ []) rest in
     let passes = stopped_fault (built program).top (names_of (built program)) (walk_from nothing_held) (codes "single", word ∷ []) rest in
+    simp (stops, passes, not_end, no_flag) refl
+
+-- `replay` has a further word
+further_word_of_replay : (word : Text) (rest : List Text) → strip_byte 45 word ≡ None → bytes_eq word (45 ∷ 45 ∷ []) ≡ false
+    → built_fault (built program) nothing_held (codes "replay" ∷ word ∷ rest) ≡ kind.UnknownArgument ∷ []
+unfolding clap_on_literals
+further_word_of_replay word rest no_flag not_end =
+    let stops = stays_stopped (built program).top.rules (names_of (built program)) (walk_from nothing_held) (codes "replay") (word ∷ []) rest in
+    let passes = stopped_fault (built program).top (names_of (built program)) (walk_from nothing_held) (codes "replay", word ∷ []) rest in
     simp (stops, passes, not_end, no_flag) refl
 
 -- A parse fails, and not for help.
@@ -108,8 +133,12 @@ fails_by_argument = record { fails = λ bad. cc; no_help = λ among. elim among 
 pub unknown-fails : (words : List Text) → AskForUnknown words → FailsPlainly (fault_of program words)
 unknown-fails words (Unknown word rest is unknown) =
     let fault = unknown_first word rest (no_hyphen word unknown.no_flag) (not_equal (codes "single") word unknown.not_single)
+    (not_equal (codes "replay") word unknown.not_replay) (not_equal (codes "ring") word unknown.not_ring)
     (not_equal (codes "help") word unknown.not_help) (not_end_of_flags word unknown.no_flag) in
     subst FailsPlainly (sym (ap (built_fault (built program) nothing_held) is ∙ fault)) fails_by_word
 unknown-fails words (Further word rest is no_flag) =
     let fault = further_word word rest (no_hyphen word no_flag) (not_end_of_flags word no_flag) in
+    subst FailsPlainly (sym (ap (built_fault (built program) nothing_held) is ∙ fault)) fails_by_argument
+unknown-fails words (FurtherReplay word rest is no_flag) =
+    let fault = further_word_of_replay word rest (no_hyphen word no_flag) (not_end_of_flags word no_flag) in
     subst FailsPlainly (sym (ap (built_fault (built program) nothing_held) is ∙ fault)) fails_by_argument

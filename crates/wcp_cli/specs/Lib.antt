@@ -1,3 +1,4 @@
 pub mod Bytes
+pub mod RingOptions
 pub mod Run
 pub mod Words

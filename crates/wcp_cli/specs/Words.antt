@@ -1,16 +1,59 @@
-use Rattle.std.specs.Prelude.{◌≡◌, ◌≢◌, ◌⊎◌, ◌==◌, Bool, false, List, [], ◌∷◌, drop, codes}
-use Rattle.clap.specs.Words.{App, Text, new_app, with_subcommand}
+use Rattle.std.specs.Prelude.{◌≡◌, ◌≢◌, ◌⊎◌, ◌==◌, ◌≤◌, ℕ, Bool, true, false, List, [], ◌∷◌, Some, pos, drop, codes, if◌then◌else◌}
+use Rattle.std.specs.Fmt.{decimal}
+use Rattle.clap.specs.Words.{App, Rule, Shape, Text, new_app, new_rule, with_subcommand}
 use Rattle.clap.specs.Simple.{new_shape}
+use Rattle.clap.specs.declared.builder.action.ArgAction.TheVariants.{SetTrue}
+use Rattle.clap.specs.declared.builder.value_parser.ValueParser.{ValueParser}
+use Rattle.clap.specs.declared.builder.value_parser.ValueParser.TheVariants.{Signed}
 use Rattle.wcp_cli.specs.declared.words.Request.{Request}
-use Rattle.wcp_cli.specs.declared.words.Request.TheVariants.{Single, Help}
+use Rattle.wcp_cli.specs.declared.words.Request.TheVariants.{Single, Replay, Ring, Help}
+use Rattle.wcp_cli.specs.declared.words.Ring.{Ring as RingOptions}
 
--- The command line of the program: no word but `single`, and what clap adds for help.
+-- An option that is required and takes one number from a range.
+abbrev pub number_option : Text → ℕ → ℕ → Rule
+number_option name least most = record (new_rule name) {
+  long = Some name;
+  value_names = 1;
+  parser = Some (Signed (pos least) (pos most));
+  required = true;
+}
+
+-- An option that takes no value and may be left out.
+abbrev pub flag_option : Text → Rule
+flag_option name = record (new_rule name) {
+  long = Some name;
+  action = Some SetTrue;
+}
+
+-- The word `ring` with its options.
+abbrev pub ring_shape : Shape
+ring_shape = record (new_shape (codes "ring")) {
+  rules = number_option (codes "procs") 2 16 ∷ number_option (codes "rounds") 1 1000 ∷ flag_option (codes "fault") ∷ [];
+}
+
+-- The command line of the program: the words `single`, `replay` and `ring`, and what clap adds for help.
 abbrev pub program : App
-program = with_subcommand (new_app (codes "wcpwatch")) (new_shape (codes "single"))
+program = with_subcommand (with_subcommand (with_subcommand (new_app (codes "wcpwatch")) (new_shape (codes "single"))) (new_shape (codes "replay"))) ring_shape
 
 -- The words ask for the outcome of a workload: after the program's name there is none, or `single` alone.
 abbrev pub AskForSingle : List Text → Type 0
 AskForSingle words = (drop 1 words ≡ []) ⊎ (drop 1 words ≡ codes "single" ∷ [])
+
+-- The words ask for the replies to a schedule: after the program's name there is `replay` alone.
+abbrev pub AskForReplay : List Text → Type 0
+AskForReplay words = drop 1 words ≡ codes "replay" ∷ []
+
+-- The words ask for the workload of a ring of n processes: after the program's name there is `ring` with both numbers, and the flag where there shall be a fault.
+abbrev pub AskForRing : ℕ → ℕ → Bool → List Text → Type 0
+AskForRing n rounds fault words = drop 1 words
+    ≡ codes "ring" ∷ codes "--procs" ∷ decimal n ∷ codes "--rounds" ∷ decimal rounds ∷ (if fault then codes "--fault" ∷ [] else [])
+
+-- There are rings of 2 to 16 processes and 1 to 1000 rounds.
+pub record IsRing (n rounds : ℕ) : Type 0 where
+  pub more_than_one : 2 ≤ n
+  pub few : n ≤ 16
+  pub some_rounds : 1 ≤ rounds
+  pub few_rounds : rounds ≤ 1000
 
 -- The words ask for help.
 abbrev pub AskForHelp : List Text → Type 0
@@ -25,14 +68,22 @@ is_flag (byte ∷ bytes) = byte == 45
 pub record IsUnknown (word : Text) : Type 0 where
   pub no_flag : is_flag word ≡ false
   pub not_single : word ≢ codes "single"
+  pub not_replay : word ≢ codes "replay"
+  pub not_ring : word ≢ codes "ring"
   pub not_help : word ≢ codes "help"
 
--- The words ask for what the program doesn't know: their first is unknown, or it is `single` and a word that is no flag follows it.
+-- The words ask for what the program doesn't know: their first is unknown, or it is `single` or `replay` and a word that is no flag follows it.
 pub data AskForUnknown (words : List Text) : Type 0 where
   Unknown : (word : Text) (rest : List Text) → drop 1 words ≡ word ∷ rest → IsUnknown word → AskForUnknown words
   Further : (word : Text) (rest : List Text) → drop 1 words ≡ codes "single" ∷ word ∷ rest → is_flag word ≡ false → AskForUnknown words
+  FurtherReplay : (word : Text) (rest : List Text) → drop 1 words ≡ codes "replay" ∷ word ∷ rest → is_flag word ≡ false → AskForUnknown words
 
 -- The request is for help.
 abbrev pub IsHelp : Request → Type 0
 IsHelp (Help text) = Unit {0}
-IsHelp Single = ⊥
+IsHelp _ = ⊥
+
+-- A request for a ring is for one that there is.
+abbrev pub HasRing : Request → Type 0
+HasRing (Ring ring) = IsRing ring.procs ring.rounds
+HasRing _ = Unit {0}

@@ -7,45 +7,158 @@ pub const ABOUT: &str =
 /// What `single` does.
 pub const SINGLE: &str = "Reads a workload and prints its outcome; done where no word is given";
 
-/// An example, the exit statuses and the fault lines.
+/// What `replay` does.
+pub const REPLAY: &str =
+    "Reads a schedule and prints the reply to each of its steps, and then the outcome";
+
+/// What `ring` does.
+pub const RING: &str =
+    "Reads nothing and prints a workload in which a message goes round all processes";
+
+/// What `--procs` says.
+pub const PROCS: &str = "How many processes there are, from 2 to 16";
+
+/// What `--rounds` says.
+pub const ROUNDS: &str = "How often each process has its turn, from 1 to 1000";
+
+/// What `--fault` says.
+pub const FAULT: &str =
+    "Adds a moment, at the very beginning, at which all conditions could have held";
+
+/// An example of each word, the head of a text, the exit statuses and the fault lines.
 pub const MORE: &str = "\
-The workload is read from standard input, to its end. For example
+single
+  A workload says what each process does, in order. It is read from standard input,
+  to its end. For example
 
-    wcp 1
-    procs 2
-    p 0 true
-    p 0 send 1
-    p 0 true
-    p 1 recv 0
-    p 1 true
+      wcp 1
+      procs 2
+      p 0 true
+      p 0 send 1
+      p 0 true
+      p 1 recv 0
+      p 1 true
 
-says what each of two processes does, in order. Process 0 finds its condition true,
-sends a message to process 1, and finds its condition true again. Process 1 receives
-the message from process 0, and then finds its condition true. The answer is
+  Process 0 finds its condition true, sends a message to process 1, and finds its
+  condition true again. Process 1 receives the message from process 0, and then finds
+  its condition true. A condition that is found false is told by `p 0 false`. The
+  answer is
 
-    found 1 1
-    process 0 emitted 2 taken 2
-    process 1 emitted 1 taken 1
-    total emitted 3 taken 3
+      found 1 1
+      process 0 emitted 2 taken 2
+      process 1 emitted 1 taken 1
+      total emitted 3 taken 3
 
-Both conditions could hold at once, at the earliest when each process has made one
-send or receive. Where they never could, the first line is `none`. The other lines
-say in how many states of a process its condition was true. A condition that is
-found false is told by `p 0 false`. Each line ends in a line feed, and its words are
-separated by one space.
+  Both conditions could have held at once, at the earliest when each process had made
+  one send or receive. Where they never could, the first line is `none`. The other
+  lines count the snapshots of each process: one is emitted where its condition is
+  true for the first time since its last send or receive, and in the end all of them
+  are taken.
+
+replay
+  A schedule says step by step how the snapshots go from the processes through links
+  and relays to the checker, which takes them. It is read from standard input, to its
+  end. For example
+
+      wcp 1
+      procs 2
+      observe 0 true
+      put 0
+      observe 1 true
+      put 1
+      admit 0 0
+      pass 0
+      admit 0 1
+      pass 0
+      check
+      check
+
+  Each of the two processes finds its condition true and puts its snapshot into its
+  link. Relay 0 admits the snapshot of process 0 and passes it on, and then that of
+  process 1. The checker takes both. There is one reply to each step, and then the
+  outcome so far:
+
+      done
+      done
+      done
+      done
+      done
+      done
+      done
+      done
+      took 0 snap 0 0 0
+      took 1 snap 0 0 0
+      found 0 0
+      process 0 emitted 1 taken 1
+      process 1 emitted 1 taken 1
+      total emitted 2 taken 2
+
+  `took 1 snap 0 0 0` names the process, the number of its snapshot, and the clock of
+  the snapshot. Where no moment is found and not all has been taken, the first line of
+  the outcome is `undecided`. A step that can't be done changes nothing, and its reply
+  is `refused` with the reason. The steps are
+
+      observe P true    process P finds its condition true (or `false`)
+      send P Q          P sends a message to Q; messages are numbered from 0
+      recv P M          P receives message number M
+      close P           P ends; this makes a close mark, which goes the way of a snapshot
+      put P             P puts the snapshot that waits into its link
+      admit R P         relay R takes the first snapshot in the link of P
+      pull R            relay R takes the first snapshot in its inbox
+      pass R            relay R passes on the first snapshot that it holds
+      check             the checker takes the first snapshot in its inbox
+
+  and the reasons
+
+      nosuch    there is no such process, relay or message
+      closed    the process has ended
+      backlog   a snapshot of the process waits to be put
+      gone      the message was received before
+      clockend  the process can make no more sends and receives
+      empty     there is nothing to put, take or pass on
+      full      there is no room where it would go
+
+ring
+  Prints a workload for `single`, in which the processes take turns and each turn ends
+  with a message to the next process. `ring --procs 2 --rounds 1` prints
+
+      wcp 1
+      procs 2
+      p 0 true
+      p 0 false
+      p 0 send 1
+      p 1 recv 0
+      p 1 true
+      p 1 false
+
+  and the outcome of such a workload is `none`. With `--fault` the lines `p 1 true`
+  and `p 1 false` stand before the others, and the outcome is `found 0 0`.
+
+The head of a text
+  Each text begins with the lines `wcp 1` and `procs N`, N from 1 to 16. Then there
+  may be, in this order,
+
+      cap C           how much each link and each inbox has room for, 1 to 1024, else 8
+      hold H          how much each relay may hold, 1 to 64, else 4
+      relay R root    relay R = 0, 1, 2, .. passes on to the checker; or `relay R S`: to
+                      relay S, which is below R
+      attach P R      relay R takes from process P; P = 0, 1, 2, ..
+
+  With no relay lines one relay takes from all processes and passes on to the checker.
+  Each line ends in a line feed, and its words are separated by one space.
 
 Exit status:
-  0  found, or this help
-  1  none
+  0  found, a ring was printed, or this help
+  1  none or undecided
   2  there is no answer, and one line on standard error says why:
        wcpwatch: usage         the words are none of those above
        wcpwatch: read          standard input could not be read
        wcpwatch: toolarge      the text has more than 2,097,152 bytes
        wcpwatch: line L: KIND  line L of the text is wrong, and KIND says how:
            header   the text begins with the lines `wcp 1` and `procs N`
-           line     the line has not the form of any line, or no line feed
+           line     the line has not the form of any line here, or no line feed
            number   a number is decimal, without leading zeros
-           plan     the number of processes is from 1 to 16
+           plan     a number of the head is out of its range, or the relays don't fit
            process  the number of a process is below N, and not its partner's
            stuck    no order of the steps has a send before this receive
            toolong  a text has at most 65,536 steps

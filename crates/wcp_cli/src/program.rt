@@ -1,7 +1,7 @@
 //! The program, over any reader and writers.
 ghost use Rattle.std.specs.Prelude.{◌≡◌, ◌≤◌, map, IfOk, MatchResult};
 ghost use Rattle.std.specs.Io.KnownBytes.{Keeps};
-ghost use Rattle.wcp_cli.specs.Run.{Answers, IsRun, Refuses, Shows, TurnsAway, status_of};
+ghost use Rattle.wcp_cli.specs.Run.{Answers, IsHelpText, IsOutcomeAnswer, IsRun, Refuses, Shows, TurnsAway, status_of};
 ghost use Rattle.wcp_cli.specs.Words.{AskForSingle, AskForHelp, AskForUnknown};
 
 use crate::fault::Fault;
@@ -43,13 +43,13 @@ pub fn drive<R: AllocGlobal, S: AsStr, I: Read, O: Write, E: Write>(
 
     // With no word after the program's name, or `single` alone.
     ensures answers { AskForSingle (map S.text words.now) → result ≤ 1
-        → Answers (I.remaining input.old) (I.remaining input.new) (O.contents output.old) (O.contents output.new) result }
+        → Answers IsOutcomeAnswer (I.remaining input.old) (I.remaining input.new) (O.contents output.old) (O.contents output.new) result }
     ensures refuses { AskForSingle (map S.text words.now) → result ≡ 2
-        → Refuses (I.remaining input.old) (I.remaining input.new) (O.contents output.old) (O.contents output.new) }
+        → Refuses IsOutcomeAnswer (I.remaining input.old) (I.remaining input.new) (O.contents output.old) (O.contents output.new) }
 
     // With a word for help.
     ensures help { AskForHelp (map S.text words.now)
-        → Shows (I.remaining input.old) (I.remaining input.new) (O.contents output.old) (O.contents output.new) result }
+        → Shows IsHelpText (I.remaining input.old) (I.remaining input.new) (O.contents output.old) (O.contents output.new) result }
 
     // With words that the program doesn't know.
     ensures unknown { AskForUnknown (map S.text words.now)
@@ -82,16 +82,17 @@ fn answer<S: AsStr, I: Read, O: Write>(
         (IsRun (I.remaining input.old) (I.remaining input.new) (O.contents output.old) (O.contents output.new))
         (λ fault. IsRun (I.remaining input.old) (I.remaining input.new) (O.contents output.old) (O.contents output.new) 2) }
     ensures single { AskForSingle (map S.text words.now) → MatchResult result
-        (Answers (I.remaining input.old) (I.remaining input.new) (O.contents output.old) (O.contents output.new))
-        (λ fault. Refuses (I.remaining input.old) (I.remaining input.new) (O.contents output.old) (O.contents output.new)) }
+        (Answers IsOutcomeAnswer (I.remaining input.old) (I.remaining input.new) (O.contents output.old) (O.contents output.new))
+        (λ fault. Refuses IsOutcomeAnswer (I.remaining input.old) (I.remaining input.new) (O.contents output.old) (O.contents output.new)) }
     ensures help { AskForHelp (map S.text words.now) → MatchResult result
-        (Shows (I.remaining input.old) (I.remaining input.new) (O.contents output.old) (O.contents output.new))
-        (λ fault. Shows (I.remaining input.old) (I.remaining input.new) (O.contents output.old) (O.contents output.new) 2) }
+        (Shows IsHelpText (I.remaining input.old) (I.remaining input.new) (O.contents output.old) (O.contents output.new))
+        (λ fault. Shows IsHelpText (I.remaining input.old) (I.remaining input.new) (O.contents output.old) (O.contents output.new) 2) }
     ensures unknown { AskForUnknown (map S.text words.now) → MatchResult result (λ status. ⊥)
         (λ fault. TurnsAway (I.remaining input.old) (I.remaining input.new) (O.contents output.old) (O.contents output.new) 2) }
 {
     match read_words(alloc, words)? {
         Request::Single => give_outcome(alloc, input, output),
+        Request::Replay | Request::Ring(_) => Err(Fault::Usage),
         Request::Help(text) => {
             write_whole(output, text.as_bytes())?;
             Ok(FOUND)
@@ -107,8 +108,8 @@ fn give_outcome<I: Read, O: Write>(
 ) -> Result<u8, Fault>
     ensures status { IfOk result (λ status. status ≤ 1) }
     ensures run { MatchResult result
-        (Answers (I.remaining input.old) (I.remaining input.new) (O.contents output.old) (O.contents output.new))
-        (λ fault. Refuses (I.remaining input.old) (I.remaining input.new) (O.contents output.old) (O.contents output.new)) }
+        (Answers IsOutcomeAnswer (I.remaining input.old) (I.remaining input.new) (O.contents output.old) (O.contents output.new))
+        (λ fault. Refuses IsOutcomeAnswer (I.remaining input.old) (I.remaining input.new) (O.contents output.old) (O.contents output.new)) }
 {
     let text = read_text(alloc, input)?;
     let workload = read_workload(alloc, text.as_slice())?;

@@ -3,16 +3,12 @@ use Rattle.std.proofs.Common.{◌≡◌, ◌≢◌, ℕ, suc, zero, ◌+◌, ◌
 use Rattle.std.proofs.lemmas.Bool.{cases_lt, cases_eq, false≢true}
 use Rattle.std.proofs.lemmas.List.{get_or-set_same, get_or-set_other, length-set, length-replicate, get_or-replicate, get_or_past, get_or_read}
 use Rattle.std.proofs.lemmas.List.Sums.{sum_by-set}
-use Rattle.wcp_model.specs.declared.state.State.{State}
-use Rattle.wcp_model.specs.Computation.{Computation}
-use Rattle.wcp_model.specs.Order.{HappenedBefore}
-use Rattle.wcp_model.proofs.IntervalOrder.{IntervalPrecedes}
 use Rattle.wcp_model.proofs.Elimination.{IsEliminatedBelow-start, IsEliminatedBelow-set, least_choice_at_heads, no_choice_without_head}
-use Rattle.wcp_single.specs.Rows.{row_of}
-use Rattle.wcp_single.specs.Heads.{AreOrderedRows, AreLeastHeads, HasNoHeads, HasHead, HeadPrecedes, IsSettled, IsElimination, IsTurn, head_of, candidates_left, work_left}
+use Rattle.wcp_single.specs.Emissions.{row_of}
+use Rattle.wcp_single.specs.Heads.{ClockPrecedes, AreOrderedRows, AreLeastHeads, HasNoHeads, HasHead, HeadPrecedes, IsSettled, IsElimination, IsTurn, head_of, candidates_left, work_left}
 
 -- only a row that exists has a head
-pub has_head-within : (rows : List (List ℕ)) (heads : List ℕ) (p : ℕ) → HasHead rows heads p → p < length rows
+pub has_head-within : (rows : List (List (List ℕ))) (heads : List ℕ) (p : ℕ) → HasHead rows heads p → p < length rows
 has_head-within rows heads p head = ⊎_elim
     (λ (within : p < length rows). within)
     (λ (past : length rows ≤ p). absurd (omega (arith, head, ap length (get_or_past rows p [] past))))
@@ -36,16 +32,16 @@ other_head : (heads : List ℕ) (p r place : ℕ) → r ≢ p → slice_index (s
 other_head heads p r place other = get_or-set_other heads p r place 0 other
 
 -- whether one head happened before another depends on the two heads alone
-same_heads : (c : Computation) (rows : List (List ℕ)) (heads moved : List ℕ) (p q : ℕ) → slice_index moved p ≡ slice_index heads p → slice_index moved q ≡ slice_index heads q → HeadPrecedes c rows moved p q → HeadPrecedes c rows heads p q
-same_heads c rows heads moved p q one other before = rw (← one, ← other) before
+same_heads : (rows : List (List (List ℕ))) (heads moved : List ℕ) (p q : ℕ) → slice_index moved p ≡ slice_index heads p → slice_index moved q ≡ slice_index heads q → HeadPrecedes rows moved p q → HeadPrecedes rows heads p q
+same_heads rows heads moved p q one other before = rw (← one, ← other) before
 
 -- elimination starts with the first places, and no head settled
-pub IsElimination-start : (c : Computation) (rows : List (List ℕ)) (heads : List ℕ) (settled : List Bool) → heads ≡ replicate (length rows) 0 → settled ≡ replicate (length rows) false → IsElimination c rows heads settled
-IsElimination-start c rows heads settled zeros none = record {
+pub IsElimination-start : (rows : List (List (List ℕ))) (heads : List ℕ) (settled : List Bool) → heads ≡ replicate (length rows) 0 → settled ≡ replicate (length rows) false → IsElimination rows heads settled
+IsElimination-start rows heads settled zeros none = record {
   places = ap length zeros ∙ length-replicate (length rows) 0;
   flags = ap length none ∙ length-replicate (length rows) false;
   inside = λ p within. omega (arith, first p within);
-  eliminated = IsEliminatedBelow-start 0 (IntervalPrecedes c) (length rows) (row_of rows) (slice_index heads) first;
+  eliminated = IsEliminatedBelow-start [] ClockPrecedes (length rows) (row_of rows) (slice_index heads) first;
   has_head = λ p is. absurd (unsettled p is);
   concurrent = λ p q is also apart before. unsettled p is;
 }
@@ -59,15 +55,15 @@ IsElimination-start c rows heads settled zeros none = record {
         false≢true (sym (get_or-replicate (length rows) p false false within) ∙ ap (λ xs. get_or xs p false) (sym none) ∙ is)
 
 -- a head that happened before another moves on, and is not settled any more
-pub IsElimination-move : (c : Computation) (rows : List (List ℕ)) (heads : List ℕ) (settled : List Bool) (p q : ℕ) → IsElimination c rows heads settled → p ≢ q → HasHead rows heads p → HasHead rows heads q → HeadPrecedes c rows heads p q → IsElimination c rows (slice_set heads p (slice_index heads p + 1)) (slice_set settled p false)
-IsElimination-move c rows heads settled p q state apart head other_has before = record {
+pub IsElimination-move : (rows : List (List (List ℕ))) (heads : List ℕ) (settled : List Bool) (p q : ℕ) → IsElimination rows heads settled → p ≢ q → HasHead rows heads p → HasHead rows heads q → HeadPrecedes rows heads p q → IsElimination rows (slice_set heads p (slice_index heads p + 1)) (slice_set settled p false)
+IsElimination-move rows heads settled p q state apart head other_has before = record {
   places = length-set heads p (slice_index heads p + 1) ∙ state.places;
   flags = length-set settled p false ∙ state.flags;
   inside = λ r within. ⊎_elim
       (λ (same : r ≡ p). omega (arith, ap (slice_index moved) same, moved_place, ap (λ s. length (row_of rows s)) same))
       (λ (other : r ≢ p). omega (arith, other_head heads p r (slice_index heads p + 1) other, state.inside r within))
       (cases_eq r p);
-  eliminated = IsEliminatedBelow-set 0 (IntervalPrecedes c) (length rows) (row_of rows) heads p q (slice_index heads q) state.eliminated p_within (has_head-within rows heads q other_has) apart p_listed head other_has (omega arith) before;
+  eliminated = IsEliminatedBelow-set [] ClockPrecedes (length rows) (row_of rows) heads p q (slice_index heads q) state.eliminated p_within (has_head-within rows heads q other_has) apart p_listed head other_has (omega arith) before;
   has_head = λ r is.
       let other : r ≢ p = not_settled settled p r p_flagged is in
       omega (arith, other_head heads p r (slice_index heads p + 1) other, state.has_head r (other_settled settled p r false other is));
@@ -75,7 +71,7 @@ IsElimination-move c rows heads settled p q state apart head other_has before = 
       let r_other : r ≢ p = not_settled settled p r p_flagged is in
       let s_other : s ≢ p = not_settled settled p s p_flagged also in
       state.concurrent r s (other_settled settled p r false r_other is) (other_settled settled p s false s_other also) r_s
-      (same_heads c rows heads moved r s (other_head heads p r (slice_index heads p + 1) r_other) (other_head heads p s (slice_index heads p + 1) s_other) precedes);
+      (same_heads rows heads moved r s (other_head heads p r (slice_index heads p + 1) r_other) (other_head heads p s (slice_index heads p + 1) s_other) precedes);
 }
   where
     moved : List ℕ
@@ -94,8 +90,8 @@ IsElimination-move c rows heads settled p q state apart head other_has before = 
     moved_place = get_or-set_same heads p (slice_index heads p + 1) 0 p_listed
 
 -- a head that was compared with all settled heads is settled
-pub IsElimination-settle : (c : Computation) (rows : List (List ℕ)) (heads : List ℕ) (settled : List Bool) (p n : ℕ) → n ≡ length rows → IsElimination c rows heads settled → IsTurn c rows heads settled p n → IsElimination c rows heads (slice_set settled p true)
-IsElimination-settle c rows heads settled p n all state turn = record {
+pub IsElimination-settle : (rows : List (List (List ℕ))) (heads : List ℕ) (settled : List Bool) (p n : ℕ) → n ≡ length rows → IsElimination rows heads settled → IsTurn rows heads settled p n → IsElimination rows heads (slice_set settled p true)
+IsElimination-settle rows heads settled p n all state turn = record {
   places = state.places;
   flags = length-set settled p true ∙ state.flags;
   inside = state.inside;
@@ -110,23 +106,23 @@ IsElimination-settle c rows heads settled p n all state turn = record {
     within : (r : ℕ) → IsSettled settled r → r < n
     within r is = omega (arith, settled-within settled r is, state.flags)
 
-    concurrent : (r s : ℕ) → IsSettled (slice_set settled p true) r → IsSettled (slice_set settled p true) s → r ≢ s → HeadPrecedes c rows heads r s → ⊥
+    concurrent : (r s : ℕ) → IsSettled (slice_set settled p true) r → IsSettled (slice_set settled p true) s → r ≢ s → HeadPrecedes rows heads r s → ⊥
     concurrent r s is also apart before = ⊎_elim
         (λ (r_same : r ≡ p).
         let s_other : s ≢ p = λ s_same. apart (r_same ∙ sym s_same) in
         let s_settled : IsSettled settled s = other_settled settled p s true s_other also in
-        turn.before_none s (within s s_settled) s_settled (subst (λ q. HeadPrecedes c rows heads q s) r_same before))
+        turn.before_none s (within s s_settled) s_settled (subst (λ q. HeadPrecedes rows heads q s) r_same before))
         (λ (r_other : r ≢ p).
         let r_settled : IsSettled settled r = other_settled settled p r true r_other is in
         ⊎_elim
-        (λ (s_same : s ≡ p). turn.after_none r (within r r_settled) r_settled (subst (λ q. HeadPrecedes c rows heads r q) s_same before))
+        (λ (s_same : s ≡ p). turn.after_none r (within r r_settled) r_settled (subst (λ q. HeadPrecedes rows heads r q) s_same before))
         (λ (s_other : s ≢ p). state.concurrent r s r_settled (other_settled settled p s true s_other also) apart before)
         (cases_eq s p))
         (cases_eq r p)
 
 -- the turn of a head begins
-pub IsTurn-start : (c : Computation) (rows : List (List ℕ)) (heads : List ℕ) (settled : List Bool) (p : ℕ) → get_or settled p false ≡ false → HasHead rows heads p → IsTurn c rows heads settled p 0
-IsTurn-start c rows heads settled p unsettled head = record {
+pub IsTurn-start : (rows : List (List (List ℕ))) (heads : List ℕ) (settled : List Bool) (p : ℕ) → get_or settled p false ≡ false → HasHead rows heads p → IsTurn rows heads settled p 0
+IsTurn-start rows heads settled p unsettled head = record {
   unsettled = unsettled;
   has_head = head;
   before_none = λ r below. absurd (omega arith);
@@ -134,8 +130,8 @@ IsTurn-start c rows heads settled p unsettled head = record {
 }
 
 -- it goes on past a head that is not settled
-pub IsTurn-skip : (c : Computation) (rows : List (List ℕ)) (heads : List ℕ) (settled : List Bool) (p q : ℕ) → get_or settled q false ≡ false → IsTurn c rows heads settled p q → IsTurn c rows heads settled p (q + 1)
-IsTurn-skip c rows heads settled p q skipped turn = record {
+pub IsTurn-skip : (rows : List (List (List ℕ))) (heads : List ℕ) (settled : List Bool) (p q : ℕ) → get_or settled q false ≡ false → IsTurn rows heads settled p q → IsTurn rows heads settled p (q + 1)
+IsTurn-skip rows heads settled p q skipped turn = record {
   unsettled = turn.unsettled;
   has_head = turn.has_head;
   before_none = λ r below is. ⊎_elim
@@ -152,31 +148,31 @@ IsTurn-skip c rows heads settled p q skipped turn = record {
     skips r same is = false≢true (sym skipped ∙ ap (λ s. get_or settled s false) (sym same) ∙ is)
 
 -- past one that is concurrent
-pub IsTurn-concurrent : (c : Computation) (rows : List (List ℕ)) (heads : List ℕ) (settled : List Bool) (p q : ℕ) → (HeadPrecedes c rows heads p q → ⊥) → (HeadPrecedes c rows heads q p → ⊥) → IsTurn c rows heads settled p q → IsTurn c rows heads settled p (q + 1)
-IsTurn-concurrent c rows heads settled p q not_before not_after turn = record {
+pub IsTurn-concurrent : (rows : List (List (List ℕ))) (heads : List ℕ) (settled : List Bool) (p q : ℕ) → (HeadPrecedes rows heads p q → ⊥) → (HeadPrecedes rows heads q p → ⊥) → IsTurn rows heads settled p q → IsTurn rows heads settled p (q + 1)
+IsTurn-concurrent rows heads settled p q not_before not_after turn = record {
   unsettled = turn.unsettled;
   has_head = turn.has_head;
   before_none = λ r below is. ⊎_elim
       (λ (earlier : r < q). turn.before_none r earlier is)
-      (λ (last : q ≤ r). let same : r ≡ q = omega arith in λ before. not_before (subst (λ s. HeadPrecedes c rows heads p s) same before))
+      (λ (last : q ≤ r). let same : r ≡ q = omega arith in λ before. not_before (subst (λ s. HeadPrecedes rows heads p s) same before))
       (cases_lt r q);
   after_none = λ r below is. ⊎_elim
       (λ (earlier : r < q). turn.after_none r earlier is)
-      (λ (last : q ≤ r). let same : r ≡ q = omega arith in λ before. not_after (subst (λ s. HeadPrecedes c rows heads s p) same before))
+      (λ (last : q ≤ r). let same : r ≡ q = omega arith in λ before. not_after (subst (λ s. HeadPrecedes rows heads s p) same before))
       (cases_lt r q);
 }
 
 -- and past one that moves on
-pub IsTurn-move : (c : Computation) (rows : List (List ℕ)) (heads : List ℕ) (settled : List Bool) (p q : ℕ) → p ≢ q → q < length settled → IsTurn c rows heads settled p q → IsTurn c rows (slice_set heads q (slice_index heads q + 1)) (slice_set settled q false) p (q + 1)
-IsTurn-move c rows heads settled p q apart flagged turn = record {
+pub IsTurn-move : (rows : List (List (List ℕ))) (heads : List ℕ) (settled : List Bool) (p q : ℕ) → p ≢ q → q < length settled → IsTurn rows heads settled p q → IsTurn rows (slice_set heads q (slice_index heads q + 1)) (slice_set settled q false) p (q + 1)
+IsTurn-move rows heads settled p q apart flagged turn = record {
   unsettled = get_or-set_other settled q p false false apart ∙ turn.unsettled;
   has_head = omega (arith, same_place p apart, turn.has_head);
   before_none = λ r below is before.
       let other : r ≢ q = not_settled settled q r flagged is in
-      turn.before_none r (omega arith) (other_settled settled q r false other is) (same_heads c rows heads moved p r (same_place p apart) (same_place r other) before);
+      turn.before_none r (omega arith) (other_settled settled q r false other is) (same_heads rows heads moved p r (same_place p apart) (same_place r other) before);
   after_none = λ r below is before.
       let other : r ≢ q = not_settled settled q r flagged is in
-      turn.after_none r (omega arith) (other_settled settled q r false other is) (same_heads c rows heads moved r p (same_place r other) (same_place p apart) before);
+      turn.after_none r (omega arith) (other_settled settled q r false other is) (same_heads rows heads moved r p (same_place r other) (same_place p apart) before);
 }
   where
     moved : List ℕ
@@ -186,70 +182,69 @@ IsTurn-move c rows heads settled p q apart flagged turn = record {
     same_place r other = other_head heads q r (slice_index heads q + 1) other
 
 -- a head that moves on leaves one candidate less
-candidates_left-set : (rows : List (List ℕ)) (heads : List ℕ) (p : ℕ) → length heads ≡ length rows → HasHead rows heads p → candidates_left rows (slice_set heads p (slice_index heads p + 1)) + 1 ≡ candidates_left rows heads
+candidates_left-set : (rows : List (List (List ℕ))) (heads : List ℕ) (p : ℕ) → length heads ≡ length rows → HasHead rows heads p → candidates_left rows (slice_set heads p (slice_index heads p + 1)) + 1 ≡ candidates_left rows heads
 candidates_left-set [] heads p same head = absurd (omega (arith, head))
 candidates_left-set (row ∷ rows) [] p same head = absurd (omega arith)
 candidates_left-set (row ∷ rows) (place ∷ heads) zero same head = omega (arith, head)
 candidates_left-set (row ∷ rows) (place ∷ heads) (suc p) same head = omega (arith, candidates_left-set rows heads p (omega arith) head)
 
 -- so the work gets less
-pub work_left-move : (c : Computation) (rows : List (List ℕ)) (heads : List ℕ) (settled : List Bool) (p : ℕ) → IsElimination c rows heads settled → HasHead rows heads p → work_left rows (slice_set heads p (slice_index heads p + 1)) (slice_set settled p false) < work_left rows heads settled
-work_left-move c rows heads settled p state head =
+pub work_left-move : (rows : List (List (List ℕ))) (heads : List ℕ) (settled : List Bool) (p : ℕ) → IsElimination rows heads settled → HasHead rows heads p → work_left rows (slice_set heads p (slice_index heads p + 1)) (slice_set settled p false) < work_left rows heads settled
+work_left-move rows heads settled p state head =
     let p_flagged : p < length settled = omega (arith, has_head-within rows heads p head, state.flags) in
     omega (arith, candidates_left-set rows heads p state.places head, sum_by-set (λ flag. cond (not flag) 1 0) settled p false true p_flagged)
 
-pub work_left-settle : (c : Computation) (rows : List (List ℕ)) (heads : List ℕ) (settled : List Bool) (p : ℕ) → IsElimination c rows heads settled → HasHead rows heads p → get_or settled p false ≡ false → work_left rows heads (slice_set settled p true) < work_left rows heads settled
-work_left-settle c rows heads settled p state head unsettled =
+pub work_left-settle : (rows : List (List (List ℕ))) (heads : List ℕ) (settled : List Bool) (p : ℕ) → IsElimination rows heads settled → HasHead rows heads p → get_or settled p false ≡ false → work_left rows heads (slice_set settled p true) < work_left rows heads settled
+work_left-settle rows heads settled p state head unsettled =
     let p_flagged : p < length settled = omega (arith, has_head-within rows heads p head, state.flags) in
     let counted : ◌≡◌ {A = ℕ} (cond (not (get_or settled p false)) 1 0) 1 = ap (λ flag. cond (not flag) 1 0) unsettled in
     omega (arith, sum_by-set (λ flag. cond (not flag) 1 0) settled p true false p_flagged, counted)
 
 -- where all heads are settled, they are the least
-pub AreLeastHeads-settled : (c : Computation) (rows : List (List ℕ)) (heads : List ℕ) (settled : List Bool) → AreOrderedRows c rows → IsElimination c rows heads settled → ((p : ℕ) → p < length settled → IsSettled settled p) → AreLeastHeads c rows heads
-AreLeastHeads-settled c rows heads settled in_order state all = record {
+pub AreLeastHeads-settled : (rows : List (List (List ℕ))) (heads : List ℕ) (settled : List Bool) → AreOrderedRows rows → IsElimination rows heads settled → ((p : ℕ) → p < length settled → IsSettled settled p) → AreLeastHeads rows heads
+AreLeastHeads-settled rows heads settled in_order state all = record {
   places = state.places;
-  least = least_choice_at_heads 0 (IntervalPrecedes c) (length rows) (row_of rows) (slice_index heads) in_order state.eliminated (record {
+  least = least_choice_at_heads [] ClockPrecedes (length rows) (row_of rows) (slice_index heads) in_order state.eliminated (record {
     within = λ p within. state.has_head p (all p (omega (arith, state.flags)));
     concurrent = λ p q p_within q_within apart before. state.concurrent p q (all p (omega (arith, state.flags))) (all q (omega (arith, state.flags))) apart before;
   });
 }
 
 -- where a row has no head left, there are none
-pub HasNoHeads-past : (c : Computation) (rows : List (List ℕ)) (heads : List ℕ) (settled : List Bool) (p : ℕ) → AreOrderedRows c rows → IsElimination c rows heads settled → p < length rows → length (row_of rows p) ≤ slice_index heads p → HasNoHeads c rows
-HasNoHeads-past c rows heads settled p in_order state within past = λ choice satisfying.
-    no_choice_without_head 0 (IntervalPrecedes c) (length rows) (row_of rows) (slice_index heads) choice p in_order state.eliminated within past satisfying
+pub HasNoHeads-past : (rows : List (List (List ℕ))) (heads : List ℕ) (settled : List Bool) (p : ℕ) → AreOrderedRows rows → IsElimination rows heads settled → p < length rows → length (row_of rows p) ≤ slice_index heads p → HasNoHeads rows
+HasNoHeads-past rows heads settled p in_order state within past = λ choice satisfying.
+    no_choice_without_head [] ClockPrecedes (length rows) (row_of rows) (slice_index heads) choice p in_order state.eliminated within past satisfying
 
--- what the answer on two states says of the heads that they are
-pub head_precedes : (c : Computation) (rows : List (List ℕ)) (heads : List ℕ) (p q : ℕ) (s t : State) (answer : Bool) → s ≡ head_of rows heads p → t ≡ head_of rows heads q → IsTrue answer ↔ HappenedBefore c s t → answer ≡ true → HeadPrecedes c rows heads p q
-head_precedes c rows heads p q s t answer one other says is =
-    subst (λ u. HappenedBefore c u (head_of rows heads q)) one (subst (HappenedBefore c s) other (says.0 is))
+-- what the answer on two clocks says of the heads that they are
+pub head_precedes : (rows : List (List (List ℕ))) (heads : List ℕ) (p q : ℕ) (one other : List ℕ) (answer : Bool) → one ≡ head_of rows heads p → other ≡ head_of rows heads q → IsTrue answer ↔ (slice_index one p < slice_index other p) → answer ≡ true → HeadPrecedes rows heads p q
+head_precedes rows heads p q one other answer first second says is = omega (arith, says.0 is, ap (λ (clock : List ℕ). slice_index clock p) first, ap (λ (clock : List ℕ). slice_index clock p) second)
 
-pub head_precedes_not : (c : Computation) (rows : List (List ℕ)) (heads : List ℕ) (p q : ℕ) (s t : State) (answer : Bool) → s ≡ head_of rows heads p → t ≡ head_of rows heads q → IsTrue answer ↔ HappenedBefore c s t → answer ≡ false → HeadPrecedes c rows heads p q → ⊥
-head_precedes_not c rows heads p q s t answer one other says is before =
-    false≢true (sym is ∙ says.1 (subst (HappenedBefore c s) (sym other) (subst (λ u. HappenedBefore c u (head_of rows heads q)) (sym one) before)))
+pub head_precedes_not : (rows : List (List (List ℕ))) (heads : List ℕ) (p q : ℕ) (one other : List ℕ) (answer : Bool) → one ≡ head_of rows heads p → other ≡ head_of rows heads q → IsTrue answer ↔ (slice_index one p < slice_index other p) → answer ≡ false → HeadPrecedes rows heads p q → ⊥
+head_precedes_not rows heads p q one other answer first second says is before =
+    false≢true (sym is ∙ says.1 (omega (arith, before, ap (λ (clock : List ℕ). slice_index clock p) first, ap (λ (clock : List ℕ). slice_index clock p) second)))
 
 -- a head that is not settled is another than one that is
 pub settled_apart : (settled : List Bool) (p q : ℕ) → get_or settled p false ≡ false → IsSettled settled q → p ≢ q
 settled_apart settled p q unsettled is same = false≢true (sym unsettled ∙ ap (λ r. get_or settled r false) same ∙ is)
 
 -- the elimination and its work after a head has moved on
-pub record IsMoved (c : Computation) (rows : List (List ℕ)) (heads moved : List ℕ) (settled flags : List Bool) : Type 0 where
-  pub elimination : IsElimination c rows moved flags
+pub record IsMoved (rows : List (List (List ℕ))) (heads moved : List ℕ) (settled flags : List Bool) : Type 0 where
+  pub elimination : IsElimination rows moved flags
   pub work : work_left rows moved flags < work_left rows heads settled
 
-pub IsMoved-by : (c : Computation) (rows : List (List ℕ)) (heads moved : List ℕ) (settled flags : List Bool) (p q : ℕ) → moved ≡ slice_set heads p (slice_index heads p + 1) → flags ≡ slice_set settled p false → IsElimination c rows heads settled → p ≢ q → HasHead rows heads p → HasHead rows heads q → HeadPrecedes c rows heads p q → IsMoved c rows heads moved settled flags
-IsMoved-by c rows heads moved settled flags p q moved_is flags_is state apart head other before = record {
-  elimination = subst (λ places. IsElimination c rows places flags) (sym moved_is)
-      (subst (IsElimination c rows (slice_set heads p (slice_index heads p + 1))) (sym flags_is)
-      (IsElimination-move c rows heads settled p q state apart head other before));
-  work = omega (arith, ap (λ places. work_left rows places flags) moved_is, ap (work_left rows (slice_set heads p (slice_index heads p + 1))) flags_is, work_left-move c rows heads settled p state head);
+pub IsMoved-by : (rows : List (List (List ℕ))) (heads moved : List ℕ) (settled flags : List Bool) (p q : ℕ) → moved ≡ slice_set heads p (slice_index heads p + 1) → flags ≡ slice_set settled p false → IsElimination rows heads settled → p ≢ q → HasHead rows heads p → HasHead rows heads q → HeadPrecedes rows heads p q → IsMoved rows heads moved settled flags
+IsMoved-by rows heads moved settled flags p q moved_is flags_is state apart head other before = record {
+  elimination = subst (λ places. IsElimination rows places flags) (sym moved_is)
+      (subst (IsElimination rows (slice_set heads p (slice_index heads p + 1))) (sym flags_is)
+      (IsElimination-move rows heads settled p q state apart head other before));
+  work = omega (arith, ap (λ places. work_left rows places flags) moved_is, ap (work_left rows (slice_set heads p (slice_index heads p + 1))) flags_is, work_left-move rows heads settled p state head);
 }
 
-pub IsTurn-moved : (c : Computation) (rows : List (List ℕ)) (heads moved : List ℕ) (settled flags : List Bool) (p q : ℕ) → moved ≡ slice_set heads q (slice_index heads q + 1) → flags ≡ slice_set settled q false → p ≢ q → q < length settled → IsTurn c rows heads settled p q → IsTurn c rows moved flags p (q + 1)
-IsTurn-moved c rows heads moved settled flags p q moved_is flags_is apart flagged turn =
-    subst (λ places. IsTurn c rows places flags p (q + 1)) (sym moved_is)
-    (subst (λ now. IsTurn c rows (slice_set heads q (slice_index heads q + 1)) now p (q + 1)) (sym flags_is)
-    (IsTurn-move c rows heads settled p q apart flagged turn))
+pub IsTurn-moved : (rows : List (List (List ℕ))) (heads moved : List ℕ) (settled flags : List Bool) (p q : ℕ) → moved ≡ slice_set heads q (slice_index heads q + 1) → flags ≡ slice_set settled q false → p ≢ q → q < length settled → IsTurn rows heads settled p q → IsTurn rows moved flags p (q + 1)
+IsTurn-moved rows heads moved settled flags p q moved_is flags_is apart flagged turn =
+    subst (λ places. IsTurn rows places flags p (q + 1)) (sym moved_is)
+    (subst (λ now. IsTurn rows (slice_set heads q (slice_index heads q + 1)) now p (q + 1)) (sym flags_is)
+    (IsTurn-move rows heads settled p q apart flagged turn))
 
 -- a flag that was read
 pub read_flag : (settled : List Bool) (q : ℕ) (flag value : Bool) → q < length settled → flag ≡ get_or settled q flag → flag ≡ value → get_or settled q false ≡ value

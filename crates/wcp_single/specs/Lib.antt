@@ -1,3 +1,4 @@
-pub mod Messages
+pub mod Emissions
+pub mod Process
+pub mod Probing
 pub mod Heads
-pub mod Rows

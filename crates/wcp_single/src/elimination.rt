@@ -1,23 +1,23 @@
-//! The least states, one of each process, of which none happened before another.
-ghost use Rattle.std.specs.Prelude.{◌≡◌, ℕ, ◌+◌, ◌^◌, ◌<◌, ◌≤◌, ◌↔◌, List, length, replicate, true, false, slice_index, slice_index_or, slice_set, IfOk, OnOk, IsTrue, MatchOption, MatchBool};
+//! The least snapshots, one of each process, of which none precedes another by their clocks.
+ghost use Rattle.std.specs.Prelude.{◌≡◌, ℕ, ◌+◌, ◌^◌, ◌<◌, ◌≤◌, ◌↔◌, List, length, replicate, true, false, slice_index, slice_index_or, slice_set, IfOk, MatchOption, MatchBool};
 ghost use Rattle.wcp_single.specs.Heads.{AreLeastHeads, AreOrderedRows, HasHead, HasNoHeads, IsElimination, IsSettled, IsTurn, head_of, work_left};
-ghost use Rattle.wcp_single.specs.Rows.{row_of};
+ghost use Rattle.wcp_single.specs.Emissions.{row_of};
 
-use crate::true_states::TrueStates;
+use crate::snapshots::Snapshots;
 use std::alloc::{AllocError, Global};
-use wcp_model::{State, Step, happened_before};
+use wcp_clock::Clock;
 
-/// The heads of the rows: the first state of each process that is not eliminated.
+/// The heads of the rows: the first snapshot of each process that is not eliminated.
 #[derive(Drop)]
 struct Heads {
-    /// The place of the head in each row, which is past the end where no state is left.
+    /// The place of the head in each row, which is past the end where no snapshot is left.
     places: Vec<usize>,
     /// Which heads were compared with each other, and are concurrent.
     settled: Vec<bool>,
 }
 
 impl Heads {
-    /// The first state of each row.
+    /// The first snapshot of each row.
     fn new(alloc: Global, n: usize) -> Result<Heads, AllocError>
         ensures places { IfOk result (λ heads. heads.places.items ≡ replicate n 0) }
         ensures settled { IfOk result (λ heads. heads.settled.items ≡ replicate n false) }
@@ -28,19 +28,14 @@ impl Heads {
         })
     }
 
-    /// The state at the head of the row of a process.
-    fn head(&self, rows: &[TrueStates], p: usize) -> State
-        requires few { length rows.now ≤ 16 }
-        requires places { length self.now.places.items ≡ length rows.now }
+    /// The clock at the head of the row of a process.
+    fn head(&self, rows: &[Snapshots], p: usize) -> Clock
         requires head { HasHead rows.now self.now.places.items p }
-        ensures state { result ≡ head_of rows.now self.now.places.items p }
+        requires places { length self.now.places.items ≡ length rows.now }
+        ensures clock { result ≡ head_of rows.now self.now.places.items p }
         ensures small { length (row_of rows.now p) < 2 ^ 64 }
     {
-        let place = self.places[p];
-        State {
-            process: p as u32,
-            interval: u64::from(rows[p].interval(place)),
-        }
+        rows[p].clock(self.places[p])
     }
 
     /// The first process whose head is not settled.
@@ -54,7 +49,7 @@ impl Heads {
         self.settled.iter().position(|settled| !settled)
     }
 
-    /// Eliminates the head of p: the next state of its row becomes the head, which is not settled.
+    /// Eliminates the head of p: the next snapshot of its row becomes the head, which is not settled.
     fn move_on(&mut self, p: usize)
         requires place { p < length self.old.places.items }
         requires flag { p < length self.old.settled.items }
@@ -68,94 +63,71 @@ impl Heads {
     }
 
     /// Compares the head of p with that of q, if that is settled, and eliminates the one that
-    /// happened before the other. Whether that was the head of p.
-    fn compare(
-        &mut self,
-        alloc: Global,
-        steps: &[Step],
-        rows: &[TrueStates],
-        p: usize,
-        q: usize,
-    ) -> Result<bool, AllocError>
+    /// precedes the other. Whether that was the head of p.
+    fn compare(&mut self, rows: &[Snapshots], p: usize, q: usize) -> bool
         requires few { length rows.now ≤ 16 }
         requires other { q < length rows.now }
-        requires elimination { IsElimination steps.now rows.now self.old.places.items self.old.settled.items }
-        requires turn { IsTurn steps.now rows.now self.old.places.items self.old.settled.items p q }
-        ensures elimination { OnOk result
-            (IsElimination steps.now rows.now self.new.places.items self.new.settled.items) }
-        ensures turn { IfOk result
-            (λ moved. MatchBool
-            moved
+        requires elimination { IsElimination rows.now self.old.places.items self.old.settled.items }
+        requires turn { IsTurn rows.now self.old.places.items self.old.settled.items p q }
+        ensures elimination { IsElimination rows.now self.new.places.items self.new.settled.items }
+        ensures turn { MatchBool
+            result
             (work_left rows.now self.new.places.items self.new.settled.items
             < work_left rows.now self.old.places.items self.old.settled.items)
-            (IsTurn steps.now rows.now self.new.places.items self.new.settled.items p (q + 1))) }
-        ensures work { OnOk result
-            (work_left rows.now self.new.places.items self.new.settled.items
-            ≤ work_left rows.now self.old.places.items self.old.settled.items) }
+            (IsTurn rows.now self.new.places.items self.new.settled.items p (q + 1)) }
+        ensures work { work_left rows.now self.new.places.items self.new.settled.items
+            ≤ work_left rows.now self.old.places.items self.old.settled.items }
     {
         if !self.settled[q] {
-            return Ok(false);
+            return false;
         }
         let head = self.head(rows, p);
         let other = self.head(rows, q);
-        if happened_before(alloc, steps, head, other)? {
+        if head.precedes(p as u32, &other) {
             self.move_on(p);
-            return Ok(true);
+            return true;
         }
-        if happened_before(alloc, steps, other, head)? {
+        if other.precedes(q as u32, &head) {
             self.move_on(q);
         }
-        Ok(false)
+        false
     }
 
     /// Compares the head of p with all settled heads, until it is eliminated or settled itself.
-    fn settle(
-        &mut self,
-        alloc: Global,
-        steps: &[Step],
-        rows: &[TrueStates],
-        p: usize,
-    ) -> Result<(), AllocError>
+    fn settle(&mut self, rows: &[Snapshots], p: usize)
         requires few { length rows.now ≤ 16 }
-        requires elimination { IsElimination steps.now rows.now self.old.places.items self.old.settled.items }
-        requires turn { IsTurn steps.now rows.now self.old.places.items self.old.settled.items p 0 }
-        ensures elimination { OnOk result
-            (IsElimination steps.now rows.now self.new.places.items self.new.settled.items) }
-        ensures work { OnOk result
-            (work_left rows.now self.new.places.items self.new.settled.items
-            < work_left rows.now self.old.places.items self.old.settled.items) }
+        requires elimination { IsElimination rows.now self.old.places.items self.old.settled.items }
+        requires turn { IsTurn rows.now self.old.places.items self.old.settled.items p 0 }
+        ensures elimination { IsElimination rows.now self.new.places.items self.new.settled.items }
+        ensures work { work_left rows.now self.new.places.items self.new.settled.items
+            < work_left rows.now self.old.places.items self.old.settled.items }
     {
         for q in 0..rows.len() {
-            if self.compare(alloc, steps, rows, p, q)? {
-                return Ok(());
+            if self.compare(rows, p, q) {
+                return;
             }
         }
         self.settled[p] = true;
-        Ok(())
     }
 }
 
-/// The least places of the rows at which no state happened before another, or `None` where there are
+/// The least places of the rows at which no snapshot precedes another, or `None` where there are
 /// none such. `Err` where memory runs out.
-pub fn eliminate(
-    alloc: Global,
-    steps: &[Step],
-    rows: &[TrueStates],
-) -> Result<Option<Vec<usize>>, AllocError>
+pub fn eliminate(alloc: Global, rows: &[Snapshots]) -> Result<Option<Vec<usize>>, AllocError>
     requires few { length rows.now ≤ 16 }
-    requires ordered { AreOrderedRows steps.now rows.now }
+    requires ordered { AreOrderedRows rows.now }
     ensures { IfOk result
         (λ found. MatchOption
         found
-        (HasNoHeads steps.now rows.now)
-        (λ heads. AreLeastHeads steps.now rows.now heads.items)) }
+        (HasNoHeads rows.now)
+        (λ heads. AreLeastHeads rows.now heads.items)) }
 {
     let mut heads = Heads::new(alloc, rows.len())?;
     while let Some(p) = heads.first_unsettled() {
         if heads.places[p] == rows[p].len() {
             return Ok(None);
         }
-        heads.settle(alloc, steps, rows, p)?;
+        heads.settle(rows, p);
     }
     Ok(Some(heads.places))
 }

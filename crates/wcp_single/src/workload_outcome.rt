@@ -1,19 +1,23 @@
-//! The outcome of a workload, by its definition.
-ghost use Rattle.std.specs.Prelude.{◌≡◌, ℕ, ◌+◌, ◌^◌, ◌<◌, ◌≤◌, length, map, slice_index, IfOk};
+//! The outcome of a workload, from what the probe of each of its processes emits.
+ghost use Rattle.std.specs.Prelude.{◌≡◌, ℕ, ◌<◌, ◌≤◌, length, map, slice_index, All, IfOk};
+ghost use Rattle.wcp_clock.specs.declared.clock.TheConstants.{CLOCK_LIMIT};
+ghost use Rattle.wcp_model.specs.Computation.{Computation};
 ghost use Rattle.wcp_model.specs.Outcome.{IsOutcomeOf, IsReportOf, IsWorkloadOutcome};
-ghost use Rattle.wcp_model.specs.WorkloadComputation.{CouldBeRead};
-ghost use Rattle.wcp_single.specs.Heads.{HasHead};
-ghost use Rattle.wcp_single.specs.Rows.{row_of, AreRows};
+ghost use Rattle.wcp_model.specs.WorkloadComputation.{CouldBeRead, IsFitOrder, IsWithin, computation_of};
+ghost use Rattle.wcp_single.specs.Emissions.{HaveEmitted};
+ghost use Rattle.wcp_single.specs.Heads.{HasHead, head_of};
 
-use crate::computing::computation;
 use crate::elimination::eliminate;
-use crate::true_states::{TrueStates, true_states};
+use crate::probing::emissions;
+use crate::snapshots::Snapshots;
 use std::alloc::{AllocError, Global};
-use wcp_model::{GlobalCut, Outcome, Report, Step, Tallies, Tally, Workload, fit_order_law};
+use wcp_model::{
+    GlobalCut, Outcome, Report, Tallies, Tally, Task, Workload, clock_law, fit_order_law,
+};
 use wcp_order::{FitOrder, fit_order};
 
 /// The cut at these heads of the rows.
-fn cut_at(alloc: Global, rows: &[TrueStates], heads: &[usize]) -> Result<GlobalCut, AllocError>
+fn cut_at(alloc: Global, rows: &[Snapshots], heads: &[usize]) -> Result<GlobalCut, AllocError>
     requires some { 0 < length rows.now }
     requires few { length rows.now ≤ 16 }
     requires places { length heads.now ≡ length rows.now }
@@ -22,30 +26,32 @@ fn cut_at(alloc: Global, rows: &[TrueStates], heads: &[usize]) -> Result<GlobalC
     ensures intervals { IfOk result
         (λ cut. (p : ℕ)
         → p < length rows.now
-        → slice_index cut p ≡ slice_index (row_of rows.now p) (slice_index heads.now p)) }
+        → slice_index cut p ≡ slice_index (head_of rows.now heads.now p) p) }
 {
     let mut intervals = Vec::with_capacity(alloc, rows.len())?;
     for p in 0..rows.len() {
-        intervals.push(rows[p].interval(heads[p]))?;
+        intervals.push(rows[p].clock(heads[p]).get(p as u32))?;
     }
     Ok(GlobalCut::new(&intervals))
 }
 
-/// The report on a computation with these true states.
-fn report(alloc: Global, steps: &[Step], rows: &[TrueStates]) -> Result<Report, AllocError>
+/// The report on a computation in which the processes emitted these snapshots.
+fn report(alloc: Global, rows: &[Snapshots]) -> Result<Report, AllocError>
     requires some { 0 < length rows.now }
     requires few { length rows.now ≤ 16 }
-    requires rows { AreRows (length rows.now) steps.now rows.now }
-    ensures { IfOk result (IsReportOf (length rows.now) steps.now) }
+    requires emitted { (c : Computation) × HaveEmitted (length rows.now) c rows.now }
+    ensures { (c : Computation) → HaveEmitted (length rows.now) c rows.now
+        → IfOk result (IsReportOf (length rows.now) c) }
 {
-    match eliminate(alloc, steps, rows)? {
+    clock_law();
+    match eliminate(alloc, rows)? {
         Some(heads) => Ok(Report::Found(cut_at(alloc, rows, &heads)?)),
         None => Ok(Report::Nothing),
     }
 }
 
-/// The tally of each process with these true states, where all were emitted and taken.
-fn tallies(alloc: Global, rows: &[TrueStates]) -> Result<Vec<Tally>, AllocError>
+/// The tally of each process that emitted these snapshots, where all of them were taken.
+fn tallies(alloc: Global, rows: &[Snapshots]) -> Result<Vec<Tally>, AllocError>
     ensures { IfOk result
         (λ tallies. tallies.items
         ≡ map (λ row. record { emitted = length row; taken = length row }) rows.now) }
@@ -58,16 +64,18 @@ fn tallies(alloc: Global, rows: &[TrueStates]) -> Result<Vec<Tally>, AllocError>
         .collect(alloc)
 }
 
-/// The outcome of a computation of n processes.
-fn outcome(alloc: Global, n: u32, steps: &[Step]) -> Result<Outcome, AllocError>
+/// The outcome of a fit order of n processes.
+fn outcome(alloc: Global, n: u32, order: &[Task]) -> Result<Outcome, AllocError>
     requires some { 1 ≤ n }
     requires few { n ≤ 16 }
-    requires few_steps { length steps.now < 2 ^ 32 }
-    ensures { IfOk result (IsOutcomeOf n steps.now) }
+    requires few_tasks { length order.now < CLOCK_LIMIT }
+    requires within { All (IsWithin n) order.now }
+    requires fit { IsFitOrder order.now order.now }
+    ensures { IfOk result (IsOutcomeOf n (computation_of n order.now)) }
 {
-    let rows = true_states(alloc, n, steps)?;
+    let rows = emissions(alloc, n, order)?;
     Ok(Outcome {
-        report: report(alloc, steps, &rows)?,
+        report: report(alloc, &rows)?,
         tallies: Tallies::new(&tallies(alloc, &rows)?),
     })
 }
@@ -80,7 +88,7 @@ pub fn single(alloc: Global, workload: &Workload) -> Result<Outcome, AllocError>
     fit_order_law();
     let n = workload.plan.n;
     match fit_order(alloc, n, &workload.tasks)? {
-        FitOrder::Order(order) => outcome(alloc, n, &computation(alloc, n, &order)?),
+        FitOrder::Order(order) => outcome(alloc, n, &order),
         FitOrder::Stuck(_) => unreachable!(),
     }
 }

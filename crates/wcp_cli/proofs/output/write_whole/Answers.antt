@@ -1,6 +1,4 @@
-use Rattle.std.proofs.Common.{◌≤◌, length, take, subst, sym, arith}
 use Rattle.std.proofs.KnownBytes.{Appends-kept}
-use Rattle.std.specs.Io.KnownBytes.{Appends}
 use Rattle.wcp_cli.proofs.Fronts.{front_more, front_within}
 use Rattle.wcp_cli.proofs.output.write_whole.Goals as goal
 use Rattle.wcp_cli.proofs.output.write_whole.Goals.{in-Ok, in-Err+else-ne}

@@ -8,7 +8,7 @@ use Rattle.wcp_cli.proofs.program.answer.Goals as goal
 
 pub returns-in_err-read_words-clause-help : goal.returns-in_err-read_words-clause-help
 returns-in_err-read_words-clause-help g c asked =
-    MatchResult-from_err _ _ _ c.from_residual.ensures.0 (λ fault. Front [] (Keeps-refl _) (0, Appends-nil _) refl)
+    MatchResult-from_err _ _ _ c.from_residual.ensures.0 (λ fault. Front [] tt (Keeps-refl _) (0, Appends-nil _) refl)
 
 -- ---- `single`
 
@@ -23,21 +23,21 @@ returns-in-Single-clause-unknown g c asked = absurd (true≢false (sym (c.in_ok-
 pub returns-in_err-write_whole-in-Help-clause-any : goal.returns-in_err-write_whole-in-Help-clause-any
 returns-in_err-write_whole-in-Help-clause-any g c =
     MatchResult-from_err _ _ _ c.from_residual-in_err-write_whole-in-Help.ensures.0 (λ fault.
-    Helped (Front c.as_bytes.result.now (Keeps-refl _) c.in_err-write_whole-in-Help.ensures.err refl))
+    Helped (Front c.as_bytes.result.now tt (Keeps-refl _) c.in_err-write_whole-in-Help.ensures.err refl))
 
 pub returns-in_err-write_whole-in-Help-clause-help : goal.returns-in_err-write_whole-in-Help-clause-help
 returns-in_err-write_whole-in-Help-clause-help g c asked =
     MatchResult-from_err _ _ _ c.from_residual-in_err-write_whole-in-Help.ensures.0 (λ fault.
-    Front c.as_bytes.result.now (Keeps-refl _) c.in_err-write_whole-in-Help.ensures.err refl)
+    Front c.as_bytes.result.now tt (Keeps-refl _) c.in_err-write_whole-in-Help.ensures.err refl)
 
 pub returns-in_err-write_whole-in-Help-clause-unknown : goal.returns-in_err-write_whole-in-Help-clause-unknown
 returns-in_err-write_whole-in-Help-clause-unknown g c asked = absurd (true≢false (sym (c.in_ok-read_words.ensures.unknown asked)))
 
 pub returns-in_ok-write_whole-in-Help-clause-any : goal.returns-in_ok-write_whole-in-Help-clause-any
-returns-in_ok-write_whole-in-Help-clause-any g c = Helped (Whole c.as_bytes.result.now (Keeps-refl _) c.in_ok-write_whole-in-Help.ensures.ok refl)
+returns-in_ok-write_whole-in-Help-clause-any g c = Helped (Whole c.as_bytes.result.now tt (Keeps-refl _) c.in_ok-write_whole-in-Help.ensures.ok refl)
 
 pub returns-in_ok-write_whole-in-Help-clause-help : goal.returns-in_ok-write_whole-in-Help-clause-help
-returns-in_ok-write_whole-in-Help-clause-help g c asked = Whole c.as_bytes.result.now (Keeps-refl _) c.in_ok-write_whole-in-Help.ensures.ok refl
+returns-in_ok-write_whole-in-Help-clause-help g c asked = Whole c.as_bytes.result.now tt (Keeps-refl _) c.in_ok-write_whole-in-Help.ensures.ok refl
 
 pub returns-in_ok-write_whole-in-Help-clause-unknown : goal.returns-in_ok-write_whole-in-Help-clause-unknown
 returns-in_ok-write_whole-in-Help-clause-unknown g c asked = absurd (true≢false (sym (c.in_ok-read_words.ensures.unknown asked)))

@@ -1,29 +1,33 @@
-use Rattle.std.proofs.Common.{sym, ◌∙◌, subst, arith}
+use Rattle.std.proofs.Common.{sym, refl, ◌∙◌, arith}
 use Rattle.std.proofs.lemmas.Result.{MatchResult-from_err}
-use Rattle.wcp_cli.specs.Bytes.{AppendsFront}
-use Rattle.wcp_cli.specs.Run.{Answers, Refuses, Broken}
+use Rattle.wcp_cli.specs.Run.{Answers, IsOutcomeAnswer, Refuses, Broken, status_of}
 use Rattle.wcp_cli.proofs.program.give_outcome.Goals as goal
 
 pub returns-in_err-write_whole-clause-run : goal.returns-in_err-write_whole-clause-run
 returns-in_err-write_whole-clause-run g c =
     let workload = c.in_ok-workload.workload in
+    let outcome = c.in_ok-outcome.outcome in
     let is_report = c.as_slice-2.ensures.value ∙ c.in_ok-report.ensures in
     let input = g.I.Read.remaining c.args.input.now in
     let input_after = g.I.Read.remaining c.read_text.new.input in
     let output = g.O.Write.contents c.args.output.now in
     let output_after = g.O.Write.contents c.write_whole.new.output in
-    MatchResult-from_err c.from_residual-in_err-write_whole.result (Answers input input_after output output_after)
-    (λ fault. Refuses input input_after output output_after) c.from_residual-in_err-write_whole.ensures.0 (λ fault.
-    Broken c.in_ok-outcome.outcome
+    MatchResult-from_err c.from_residual-in_err-write_whole.result (Answers IsOutcomeAnswer input input_after output output_after)
+    (λ fault. Refuses IsOutcomeAnswer input input_after output output_after) c.from_residual-in_err-write_whole.ensures.0 (λ fault.
+    Broken c.in_ok-text.text.items c.as_slice-2.result.now (status_of outcome.report)
     (record {
-      text = c.in_ok-text.text.items;
-      n = workload.plan.n;
-      tasks = workload.tasks.items;
       consumed = c.in_ok-text.ensures.consumed;
       ended = c.in_ok-text.ensures.ended;
       within = omega (arith, c.in_ok-text.ensures.within, c.in_ok-text.text.ok.0);
+    })
+    (record {
+      n = workload.plan.n;
+      tasks = workload.tasks.items;
+      outcome = outcome;
       spelled = sym c.as_slice.ensures.value ∙ c.in_ok-workload.ensures.spelled;
       could_be_read = c.in_ok-workload.ensures.could_be_read;
       right = c.in_ok-outcome.ensures;
+      print = is_report;
+      status_is = refl;
     })
-    (subst (AppendsFront output output_after) is_report c.in_err-write_whole.ensures.err))
+    c.in_err-write_whole.ensures.err)

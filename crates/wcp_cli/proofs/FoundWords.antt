@@ -1,0 +1,41 @@
+use Rattle.std.proofs.Common.{◌≡◌, ◌∙◌, ◌⊎◌, ℕ, List, [], ◌∷◌, codes, ap, Some, None, Option, refl, inl, inr, option_map}
+use Rattle.clap.proofs.OnLiterals.{clap_on_literals}
+use Rattle.clap.specs.Words.{Text, Row, found_of, rows_of, subcommand_of, subcommand_name_of, subcommand_rows, subcommand_rows_of}
+use Rattle.clap.specs.declared.parser.matches.ArgMatches.{ArgMatches}
+use Rattle.clap.specs.declared.parser.matches.ArgMatches.TheViews.{out-ArgMatches, out-SubCommand}
+use Rattle.clap.specs.declared.parser.matches.SubCommand.{SubCommand}
+use Rattle.std.specs.Box.{box_value}
+use Rattle.std.specs.Prelude.{Box}
+use Rattle.wcp_cli.specs.Words.{AskForSingle, AskForReplay, program}
+use Rattle.wcp_cli.proofs.RingWords.{found_by}
+
+abbrev pub name_of : Option (Text × List Row) → Option Text
+name_of = option_map (λ p. p.0)
+
+name_of_rows : {Z : Type 0} (sub : Option (Box SubCommand Z)) → option_map (λ b. (out-SubCommand (box_value b)).name.now) sub ≡ name_of (subcommand_rows sub)
+name_of_rows None = refl
+name_of_rows (Some sub) = refl
+
+-- the name of the subcommand that a parse met stands with its rows
+pub name-from_rows : (m : ArgMatches) → subcommand_name_of m ≡ name_of (subcommand_rows_of m)
+name-from_rows m = name_of_rows (out-ArgMatches m).subcommand
+
+nothing_found : name_of (found_by []) ≡ None
+unfolding clap_on_literals
+nothing_found = refl
+
+single_found : name_of (found_by (codes "single" ∷ [])) ≡ Some (codes "single")
+unfolding clap_on_literals
+single_found = refl
+
+replay_found : name_of (found_by (codes "replay" ∷ [])) ≡ Some (codes "replay")
+unfolding clap_on_literals
+replay_found = refl
+
+pub single-found : (words : List Text) → AskForSingle words
+    → (name_of (subcommand_of program words) ≡ None) ⊎ (name_of (subcommand_of program words) ≡ Some (codes "single"))
+single-found words (inl none) = inl (ap (λ ws. name_of (found_by ws)) none ∙ nothing_found)
+single-found words (inr one) = inr (ap (λ ws. name_of (found_by ws)) one ∙ single_found)
+
+pub replay-found : (words : List Text) → AskForReplay words → name_of (subcommand_of program words) ≡ Some (codes "replay")
+replay-found words asked = ap (λ ws. name_of (found_by ws)) asked ∙ replay_found

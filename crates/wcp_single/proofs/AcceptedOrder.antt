@@ -1,0 +1,56 @@
+use Rattle.std.proofs.Common.{◌≡◌, ℕ, ◌+◌, ◌-◌, ◌<◌, ◌≤◌, List, length, take, slice_get, Some, sym, ap, ◌∙◌, arith, ⊎_elim}
+use Rattle.std.proofs.lemmas.Bool.{cases_lt, ne_eqb}
+use Rattle.std.proofs.lemmas.Option.{slice_get_within, same_Some}
+use Rattle.wcp_model.specs.declared.step.Step.{Step}
+use Rattle.wcp_model.specs.declared.step.Step.TheVariants.{Recv, Close}
+use Rattle.wcp_model.specs.declared.workload.Action.{Action}
+use Rattle.wcp_model.specs.declared.workload.Action.TheVariants as action
+use Rattle.wcp_model.specs.declared.workload.Task.{Task}
+use Rattle.wcp_model.specs.Computation.{message_at}
+use Rattle.wcp_model.specs.ProbeLog.{is_step_of, IsAccepted}
+use Rattle.wcp_model.specs.WorkloadComputation.{step_of, computation_of, IsFitOrder}
+use Rattle.wcp_model.proofs.SamePlace.{element_within}
+use Rattle.wcp_model.proofs.StepsOfOrder.{step_at, close_step, length-computation_of, receive_task}
+use Rattle.wcp_model.proofs.MessagesOfOrder.{send_of_receive, delivery_step, message_sent_before}
+
+-- no task closes its process
+no_close : (order earlier : List Task) (q : ℕ) (a : Action) (p : ℕ) → step_of order earlier q a ≡ Close p → ⊥
+no_close order earlier q (action.Observe holds) p same = cc
+no_close order earlier q (action.Send to) p same = cc
+no_close order earlier q (action.Recv from) p same = cc
+
+module _ (n : ℕ) (order : List Task) where
+  -- behind the tasks, each step is the close of the process of that number
+  closes_behind : (place : ℕ) (x : Step) → length order ≤ place → slice_get (computation_of n order) place ≡ Some x → (p : ℕ) × (place ≡ length order + p) × (x ≡ Close p)
+  closes_behind place x behind at =
+      let p : ℕ = place - length order in
+      let here : place ≡ length order + p = omega arith in
+      let within : p < n = omega (arith, slice_get_within (computation_of n order) place x at, length-computation_of n order) in
+      (p, here, same_Some _ _ (sym at ∙ ap (slice_get (computation_of n order)) here ∙ close_step n order p within))
+
+  -- so a process closes there
+  closes_at : (place p : ℕ) → slice_get (computation_of n order) place ≡ Some (Close p) → place ≡ length order + p
+  closes_at place p at = ⊎_elim
+      (λ (before : place < length order).
+      let task = element_within order place before in
+      absurd (no_close order (take place order) task.0.p task.0.action p (same_Some _ _ (sym (step_at n order place task.0 task.1) ∙ at))))
+      (λ (behind : length order ≤ place).
+      let close = closes_behind place (Close p) behind at in
+      let same : p ≡ close.0 = cc close.2 in
+      omega (arith, close.1))
+      (cases_lt place (length order))
+
+  -- the computation of a fit order is accepted
+  pub order_accepted : IsFitOrder order order → IsAccepted (computation_of n order)
+  order_accepted fit = record {
+    sent_first = λ place p message at.
+        let receive = receive_task n order place p message at in
+        let earlier = send_of_receive fit receive.0 p place receive.1 in
+        let taken : Recv p message ≡ Recv p (message_at (computation_of n order) earlier.0) = same_Some _ _ (sym at ∙ delivery_step n earlier.2) in
+        let same : message ≡ message_at (computation_of n order) earlier.0 = cc taken in
+        omega (arith, message_sent_before n fit earlier.2);
+    close_last = λ place later p x below at also.
+        let here : place ≡ length order + p = closes_at place p at in
+        let close = closes_behind later x (omega arith) also in
+        ap (is_step_of p) close.2 ∙ ne_eqb close.0 p (λ same. omega (arith, close.1));
+  }

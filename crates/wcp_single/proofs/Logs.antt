@@ -1,0 +1,60 @@
+use Rattle.std.proofs.Common.{◌≡◌, ℕ, ◌+◌, List, [], ◌∷◌, ◌++◌, slice_get, Some, refl, sym, ◌∙◌, subst, arith}
+use Rattle.std.specs.List.{filter}
+use Rattle.std.proofs.lemmas.List.Elements.{filter-append}
+use Rattle.wcp_model.specs.declared.step.Step.{Step}
+use Rattle.wcp_model.specs.declared.step.Step.TheVariants.{Observe, Send, Recv, Close}
+use Rattle.wcp_model.specs.Computation.{Computation, interval_at}
+use Rattle.wcp_model.specs.ProbeLog.{Call, Observed, Sent, Received, Closed, is_step_of, IsStampOf, IsCallOf, AreCallsOf, IsLogOf, IsAccepted}
+use Rattle.wcp_model.specs.StateClock.{IsStateClock}
+use Rattle.wcp_model.proofs.EventPlaces.{event_of_send, event_below}
+use Rattle.wcp_model.proofs.Predecessors.{local_state}
+use Rattle.wcp_model.proofs.Growth.{at_grows, interval_grows, message_grows, clock_grows}
+
+-- the clock after a send stays that of its state
+pub send_clock_grows : (n : ℕ) (c e : Computation) (p to sent : ℕ) (clock : List ℕ) → slice_get c sent ≡ Some (Send p to) → IsStateClock n c (local_state p (interval_at c p sent + 1)) clock → IsStateClock n (c ++ e) (local_state p (interval_at (c ++ e) p sent + 1)) clock
+send_clock_grows n c e p to sent clock send is =
+    subst (λ k. IsStateClock n (c ++ e) (local_state p (k + 1)) clock) (sym (interval_grows c e p sent (Send p to) send))
+    (clock_grows n c e (local_state p (interval_at c p sent + 1)) clock (omega (arith, event_below c p (interval_at c p sent) sent (event_of_send c p (interval_at c p sent) to sent send refl))) is)
+
+-- a stamp stays that of its message
+stamp_grows : (n : ℕ) (c e : Computation) (message : ℕ) (stamp : List ℕ) → IsStampOf n c message stamp → IsStampOf n (c ++ e) message stamp
+stamp_grows n c e message stamp is = record {
+  sent = is.sent;
+  from = is.from;
+  to = is.to;
+  send = at_grows c e is.sent (Send is.from is.to) is.send;
+  number = message_grows c e is.sent (Send is.from is.to) is.send ∙ is.number;
+  clock = send_clock_grows n c e is.from is.to is.sent stamp is.send is.clock;
+}
+
+-- a call stays that of its step
+call_grows : (n : ℕ) (c e : Computation) (x : Step) (call : Call) → IsCallOf n c x call → IsCallOf n (c ++ e) x call
+call_grows n c e (Observe p holds) (Observed seen) is = is
+call_grows n c e (Send p to) Sent is = is
+call_grows n c e (Recv p message) (Received stamp) is = stamp_grows n c e message stamp is
+call_grows n c e (Close p) Closed is = is
+call_grows n c e x call is = absurd is
+
+calls_grow : (n : ℕ) (c e : Computation) (steps : List Step) (log : List Call) → AreCallsOf n c steps log → AreCallsOf n (c ++ e) steps log
+calls_grow n c e [] [] are = are
+calls_grow n c e [] (call ∷ log) are = absurd are
+calls_grow n c e (x ∷ steps) [] are = absurd are
+calls_grow n c e (x ∷ steps) (call ∷ log) are = (call_grows n c e x call are.0, calls_grow n c e steps log are.1)
+
+calls_append : (n : ℕ) (c : Computation) (steps others : List Step) (log more : List Call) → AreCallsOf n c steps log → AreCallsOf n c others more → AreCallsOf n c (steps ++ others) (log ++ more)
+calls_append n c [] others [] more are also = also
+calls_append n c [] others (call ∷ log) more are also = absurd are
+calls_append n c (x ∷ steps) others [] more are also = absurd are
+calls_append n c (x ∷ steps) others (call ∷ log) more are also = (are.0, calls_append n c steps others log more are.1 also)
+
+-- the log of a longer computation
+pub log_grows : (n : ℕ) (c e : Computation) (p : ℕ) (log more : List Call) → IsLogOf n c p log → AreCallsOf n (c ++ e) (filter (is_step_of p) e) more → IsLogOf n (c ++ e) p (log ++ more)
+log_grows n c e p log more is also =
+    rw (filter-append (is_step_of p) c e) (calls_append n (c ++ e) (filter (is_step_of p) c) (filter (is_step_of p) e) log more (calls_grow n c e (filter (is_step_of p) c) log is) also)
+
+-- the front of accepted steps is accepted
+pub accepted_front : (c e : Computation) → IsAccepted (c ++ e) → IsAccepted c
+accepted_front c e accepted = record {
+  sent_first = λ place p message at. omega (arith, accepted.sent_first place p message (at_grows c e place (Recv p message) at), message_grows c e place (Recv p message) at);
+  close_last = λ place later p x below at also. accepted.close_last place later p x below (at_grows c e place (Close p) at) (at_grows c e later x also);
+}

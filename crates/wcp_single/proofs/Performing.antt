@@ -1,0 +1,216 @@
+use Rattle.std.proofs.Common.{◌≡◌, ◌≢◌, ℕ, ◌+◌, ◌*◌, ◌<◌, ◌≤◌, Bool, true, false, List, [], ◌∷◌, ◌++◌, length, take, drop, set, get_or, count_by, slice_index, refl, sym, ap, ◌∙◌, subst, ⊎_elim, arith, eq-eqb, get_or-set_same, get_or-set_other}
+use Rattle.std.proofs.lemmas.Bool.{cases_Bool, both_ways}
+use Rattle.std.proofs.lemmas.List.{length-set, take_at}
+use Rattle.std.proofs.lemmas.Nat.{mul-add-lt}
+use Rattle.wcp_model.specs.declared.step.Step.TheVariants as step
+use Rattle.wcp_model.specs.declared.workload.Action.TheVariants as action
+use Rattle.wcp_model.specs.declared.workload.Task.{Task}
+use Rattle.wcp_model.specs.Computation.{Computation, is_communication_of, is_send, message_at}
+use Rattle.wcp_model.specs.ProbeLog.{Observed, Sent, Received, IsStampOf}
+use Rattle.wcp_model.specs.StateClock.{IsStateClock}
+use Rattle.wcp_model.specs.WorkloadComputation.{sends, receives, message_number}
+use Rattle.wcp_model.proofs.Growth.{get_behind}
+use Rattle.wcp_model.proofs.MessagesOfOrder.{message_number_is}
+use Rattle.wcp_model.proofs.Predecessors.{local_state}
+use Rattle.wcp_model.proofs.RunningEmissions.{interval_at_seam}
+use Rattle.wcp_model.proofs.StepsOfOrder.{message_at_is}
+use Rattle.wcp_probe.specs.Seal.{Seal}
+use Rattle.wcp_single.specs.Process.{ProcessState, Runs}
+use Rattle.wcp_single.specs.Probing.{Follows, IsSealOf, front, IsChannel, IsRun, IsNext, queue_at}
+use Rattle.wcp_order.proofs.Counting.{count_by_push_passing, count_by_push_failing, channels_differ}
+use Rattle.wcp_single.proofs.Running.{last_clock, own_component, not_ahead}
+use Rattle.wcp_single.proofs.Runs.{next_within, here_accepted, next_accepted, has_room, order_next, follows_call, seal_grows, in_transit_first, follow_next, channel_stays, channel_pushed, channel_popped}
+use Rattle.wcp_order.proofs.Tasks.{sends_ends, receives_ends, send_passes, receive_passes, send_is_no_receive, receive_is_no_send, observe_is_no_send, observe_is_no_receive}
+
+-- a process that was read
+pub read_follows : (n : ℕ) (order : List Task) (place : ℕ) (processes : List ProcessState) (queues : List (List Seal)) → IsRun n order place processes queues → (p : ℕ) (old : ProcessState) → p < n → old ≡ get_or processes p old → Follows n (front n order place) p old
+read_follows n order place processes queues run p old within read = subst (Follows n (front n order place) p) (sym read) (run.follows p old within)
+
+-- its clock has room for one more event
+pub room_next : (n : ℕ) (order : List Task) (place : ℕ) (task : Task) → IsNext n order place task → (processes : List ProcessState) (queues : List (List Seal)) → IsRun n order place processes queues → (old : ProcessState) → old ≡ get_or processes task.p old → slice_index old.probe.clock old.probe.id < old.probe.limit
+room_next n order place task next processes queues run old read =
+    has_room n order place task.p task.action next old (read_follows n order place processes queues run task.p old (next_within n order place task.p task.action next).0 read)
+
+-- the run after an observation
+module _ (n : ℕ) (order : List Task) (place a : ℕ) (holds : Bool) (next : IsNext n order place (record { p = a; action = action.Observe holds })) (processes : List ProcessState) (queues : List (List Seal)) (run : IsRun n order place processes queues) (old new : ProcessState) (read : old ≡ get_or processes a old) (runs : Runs old (Observed holds) new) where
+  run_observed : IsRun n order (place + 1) (set processes a new) queues
+  run_observed = record {
+    processes_are = length-set processes a new ∙ run.processes_are;
+    channels_are = run.channels_are;
+    follows = follow_next n order place a (action.Observe holds) next processes new run.processes_are run.follows
+        (follows_call n (front n order place) (step.Observe a holds) a old new (Observed holds) (eq-eqb a a refl) refl runs (read_follows n order place processes queues run a old (next_within n order place a (action.Observe holds) next).0 read));
+    channels = λ p q p_within q_within. channel_stays n order place a (action.Observe holds) next p q _ (observe_is_no_send p q a holds) (observe_is_no_receive p q a holds) (run.channels p q p_within q_within);
+  }
+
+pub performs_observe : (n : ℕ) (order : List Task) (place : ℕ) (task : Task) (holds : Bool) → task.action ≡ action.Observe holds → IsNext n order place task → (processes : List ProcessState) (queues : List (List Seal)) → IsRun n order place processes queues → (old new : ProcessState) → old ≡ get_or processes task.p old → Runs old (Observed holds) new → IsRun n order (place + 1) (set processes task.p new) queues
+performs_observe n order place task holds acts next processes queues run old new read runs =
+    run_observed n order place task.p holds (subst (λ act. IsNext n order place (record { p = task.p; action = act })) acts next) processes queues run old new read runs
+
+-- the run after a send
+module _ (n : ℕ) (order : List Task) (place a b : ℕ) (next : IsNext n order place (record { p = a; action = action.Send b })) (processes : List ProcessState) (queues : List (List Seal)) (run : IsRun n order place processes queues) (old new : ProcessState) (read : old ≡ get_or processes a old) (runs : Runs old Sent new) where
+  a_within : a < n
+  a_within = (next_within n order place a (action.Send b) next).0
+
+  b_within : b < n
+  b_within = (next_within n order place a (action.Send b) next).1.0
+
+  abbrev behind : Computation
+  behind = front n order place ++ step.Send a b ∷ []
+
+  sender_follows : Follows n behind a new
+  sender_follows = follows_call n (front n order place) (step.Send a b) a old new Sent (eq-eqb a a refl) tt runs (read_follows n order place processes queues run a old a_within read)
+
+  -- the number of the message is the number of sends before it
+  number_is : message_at behind (length (front n order place)) ≡ message_number order a b (count_by (sends a b) (take place order))
+  number_is =
+      ap (count_by is_send) (take_at (front n order place) (step.Send a b ∷ []) (length (front n order place)) refl)
+      ∙ message_at_is n order place
+      ∙ sym (message_number_is order a b _ place next.at refl)
+
+  seal_is : (seal : Seal) → seal ≡ record { watch = old.probe.watch; from = old.probe.id; to = b; clock = new.probe.clock } → IsSealOf n behind a b (message_number order a b (count_by (sends a b) (take place order))) seal
+  seal_is seal is = subst (IsSealOf n behind a b (message_number order a b (count_by (sends a b) (take place order)))) (sym is) (record {
+    watch = (read_follows n order place processes queues run a old a_within read).running.watch;
+    to = refl;
+    sent = length (front n order place);
+    send = get_behind (front n order place) (step.Send a b) [];
+    number = number_is;
+    clock = subst (λ k. IsStateClock n behind (local_state a k) new.probe.clock)
+        (omega (arith, interval_at_seam (front n order place) (step.Send a b ∷ []) a, count_by_push_passing (is_communication_of a) (front n order place) (step.Send a b) (eq-eqb a a refl)))
+        (last_clock n behind (next_accepted n order place a (action.Send b) next) a a_within new sender_follows);
+  })
+
+  module _ (seal : Seal) (is : seal ≡ record { watch = old.probe.watch; from = old.probe.id; to = b; clock = new.probe.clock }) where
+    abbrev longer : List Seal
+    longer = queue_at queues (a * n + b) ++ seal ∷ []
+
+    inside : a * n + b < length queues
+    inside = omega (arith, run.channels_are, mul-add-lt a n b n a_within b_within)
+
+    channel_after : (p q : ℕ) → p < n → q < n → IsChannel n order (place + 1) p q (queue_at (set queues (a * n + b) longer) (p * n + q))
+    channel_after p q p_within q_within =
+        ⊎_elim (λ (sending : sends p q (record { p = a; action = action.Send b }) ≡ true).
+        let ends = sends_ends p q a b sending in
+        subst (λ r. IsChannel n order (place + 1) r q (queue_at (set queues (a * n + b) longer) (r * n + q))) ends.0
+        (subst (λ r. IsChannel n order (place + 1) a r (queue_at (set queues (a * n + b) longer) (a * n + r))) ends.1
+        (subst (IsChannel n order (place + 1) a b) (sym (get_or-set_same queues (a * n + b) longer [] inside))
+        (channel_pushed n order place a (action.Send b) next a b _ seal (send_passes a b) (send_is_no_receive a b a b) (seal_is seal is) (run.channels a b a_within b_within)))))
+        (λ (other : sends p q (record { p = a; action = action.Send b }) ≡ false).
+        let elsewhere : p * n + q ≢ a * n + b = channels_differ n p q a b q_within b_within (λ same_p same_q. both_ways (sends p q (record { p = a; action = action.Send b })) other (rw (same_p, same_q) (send_passes a b))) in
+        subst (IsChannel n order (place + 1) p q) (sym (get_or-set_other queues (a * n + b) (p * n + q) longer [] elsewhere))
+        (channel_stays n order place a (action.Send b) next p q _ other (send_is_no_receive p q a b) (run.channels p q p_within q_within)))
+        (cases_Bool (sends p q (record { p = a; action = action.Send b })))
+
+    run_sent : IsRun n order (place + 1) (set processes a new) (set queues (a * n + b) longer)
+    run_sent = record {
+      processes_are = length-set processes a new ∙ run.processes_are;
+      channels_are = length-set queues (a * n + b) longer ∙ run.channels_are;
+      follows = follow_next n order place a (action.Send b) next processes new run.processes_are run.follows sender_follows;
+      channels = channel_after;
+    }
+
+pub performs_send : (n : ℕ) (order : List Task) (place : ℕ) (task : Task) (to : ℕ) → task.action ≡ action.Send to → IsNext n order place task → (processes : List ProcessState) (queues : List (List Seal)) → IsRun n order place processes queues → (old new : ProcessState) → old ≡ get_or processes task.p old → Runs old Sent new →
+    (seal : Seal) → seal ≡ record { watch = old.probe.watch; from = old.probe.id; to = to; clock = new.probe.clock } → (channel : ℕ) → channel ≡ task.p * n + to → IsRun n order (place + 1) (set processes task.p new) (set queues channel (queue_at queues channel ++ seal ∷ []))
+performs_send n order place task to acts next processes queues run old new read runs seal is channel here =
+    subst (λ i. IsRun n order (place + 1) (set processes task.p new) (set queues i (queue_at queues i ++ seal ∷ []))) (sym here)
+    (run_sent n order place task.p to (subst (λ act. IsNext n order place (record { p = task.p; action = act })) acts next) processes queues run old new read runs seal is)
+
+-- what a process may receive
+pub record IsAcceptable (process : ProcessState) (seal : Seal) : Type 0 where
+  pub watch : seal.watch ≡ process.probe.watch
+  pub components : length seal.clock ≡ length process.probe.clock
+  pub addressed : seal.to ≡ process.probe.id
+  pub not_ahead : slice_index seal.clock process.probe.id ≤ slice_index process.probe.clock process.probe.id
+
+-- the run before a receive, and after it
+module _ (n : ℕ) (order : List Task) (place a b : ℕ) (next : IsNext n order place (record { p = a; action = action.Recv b })) (processes : List ProcessState) (queues : List (List Seal)) (run : IsRun n order place processes queues) where
+  receiver_within : a < n
+  receiver_within = (next_within n order place a (action.Recv b) next).0
+
+  sender_within : b < n
+  sender_within = (next_within n order place a (action.Recv b) next).1.0
+
+  abbrev received : ℕ
+  received = count_by (receives b a) (take place order)
+
+  -- its message is in transit
+  waits : 0 < length (queue_at queues (b * n + a))
+  waits =
+      let more : count_by (receives b a) (take (place + 1) order) ≡ received + 1 = ap (count_by (receives b a)) (order_next n order place a (action.Recv b) next) ∙ count_by_push_passing (receives b a) (take place order) _ (receive_passes b a) in
+      let same : count_by (sends b a) (take (place + 1) order) ≡ count_by (sends b a) (take place order) = ap (count_by (sends b a)) (order_next n order place a (action.Recv b) next) ∙ count_by_push_failing (sends b a) (take place order) _ (receive_is_no_send b a a b) in
+      omega (arith, more, same, next.fit.sent_first (place + 1) b a, (run.channels b a sender_within receiver_within).waiting)
+
+  module _ (seal : Seal) (first : seal ≡ get_or (queue_at queues (b * n + a)) 0 seal) (old : ProcessState) (read : old ≡ get_or processes a old) where
+    first_is : IsSealOf n (front n order place) b a (message_number order b a received) seal
+    first_is = subst (IsSealOf n (front n order place) b a (message_number order b a received)) (sym first)
+        (in_transit_first n order (front n order place) b a received (queue_at queues (b * n + a)) seal waits (run.channels b a sender_within receiver_within).in_order)
+
+    receiver_follows : Follows n (front n order place) a old
+    receiver_follows = read_follows n order place processes queues run a old receiver_within read
+
+    acceptable : IsAcceptable old seal
+    acceptable = record {
+      watch = first_is.watch ∙ sym receiver_follows.running.watch;
+      components = first_is.clock.components ∙ sym receiver_follows.running.components;
+      addressed = first_is.to ∙ sym receiver_follows.running.id;
+      not_ahead = omega (
+        arith,
+        ap (slice_index seal.clock) receiver_follows.running.id,
+        not_ahead n (front n order place) b a _ seal receiver_within (λ same. (next_within n order place a (action.Recv b) next).1.1 (sym same)) first_is,
+        own_component n (front n order place) (here_accepted n order place a (action.Recv b) next) a receiver_within old receiver_follows,
+      );
+    }
+
+    stamp_is : IsStampOf n (front n order place ++ step.Recv a (message_number order b a received) ∷ []) (message_number order b a received) seal.clock
+    stamp_is =
+        let is = seal_grows n (front n order place) (step.Recv a (message_number order b a received) ∷ []) b a _ seal first_is in
+        record { sent = is.sent; from = b; to = a; send = is.send; number = is.number; clock = is.clock }
+
+    module _ (new : ProcessState) (runs : Runs old (Received seal.clock) new) where
+      abbrev shorter : List Seal
+      shorter = drop 1 (queue_at queues (b * n + a))
+
+      inside_queues : b * n + a < length queues
+      inside_queues = omega (arith, run.channels_are, mul-add-lt b n a n sender_within receiver_within)
+
+      channel_behind : (p q : ℕ) → p < n → q < n → IsChannel n order (place + 1) p q (queue_at (set queues (b * n + a) shorter) (p * n + q))
+      channel_behind p q p_within q_within =
+          ⊎_elim (λ (receiving : receives p q (record { p = a; action = action.Recv b }) ≡ true).
+          let ends = receives_ends p q a b receiving in
+          subst (λ r. IsChannel n order (place + 1) r q (queue_at (set queues (b * n + a) shorter) (r * n + q))) ends.1
+          (subst (λ r. IsChannel n order (place + 1) b r (queue_at (set queues (b * n + a) shorter) (b * n + r))) ends.0
+          (subst (IsChannel n order (place + 1) b a) (sym (get_or-set_same queues (b * n + a) shorter [] inside_queues))
+          (channel_popped n order place a (action.Recv b) next b a _ (receive_is_no_send b a a b) (receive_passes b a) waits (run.channels b a sender_within receiver_within)))))
+          (λ (other : receives p q (record { p = a; action = action.Recv b }) ≡ false).
+          let elsewhere : p * n + q ≢ b * n + a = channels_differ n p q b a q_within receiver_within (λ same_p same_q. both_ways (receives p q (record { p = a; action = action.Recv b })) other (rw (same_p, same_q) (receive_passes b a))) in
+          subst (IsChannel n order (place + 1) p q) (sym (get_or-set_other queues (b * n + a) (p * n + q) shorter [] elsewhere))
+          (channel_stays n order place a (action.Recv b) next p q _ (receive_is_no_send p q a b) other (run.channels p q p_within q_within)))
+          (cases_Bool (receives p q (record { p = a; action = action.Recv b })))
+
+      run_received : IsRun n order (place + 1) (set processes a new) (set queues (b * n + a) shorter)
+      run_received = record {
+        processes_are = length-set processes a new ∙ run.processes_are;
+        channels_are = length-set queues (b * n + a) shorter ∙ run.channels_are;
+        follows = follow_next n order place a (action.Recv b) next processes new run.processes_are run.follows
+            (follows_call n (front n order place) (step.Recv a (message_number order b a received)) a old new (Received seal.clock) (eq-eqb a a refl) stamp_is runs receiver_follows);
+        channels = channel_behind;
+      }
+
+-- the same of a task that receives
+module _ (n : ℕ) (order : List Task) (place : ℕ) (task : Task) (from : ℕ) (acts : task.action ≡ action.Recv from) (next : IsNext n order place task) (processes : List ProcessState) (queues : List (List Seal)) (run : IsRun n order place processes queues) (channel : ℕ) (here : channel ≡ from * n + task.p) where
+  next_receive : IsNext n order place (record { p = task.p; action = action.Recv from })
+  next_receive = subst (λ act. IsNext n order place (record { p = task.p; action = act })) acts next
+
+  pub message_waits : 0 < length (queue_at queues channel)
+  message_waits = subst (λ i. 0 < length (queue_at queues i)) (sym here) (waits n order place task.p from next_receive processes queues run)
+
+  module _ (seal : Seal) (first : seal ≡ get_or (queue_at queues channel) 0 seal) (old : ProcessState) (read : old ≡ get_or processes task.p old) where
+    first_there : seal ≡ get_or (queue_at queues (from * n + task.p)) 0 seal
+    first_there = first ∙ ap (λ i. get_or (queue_at queues i) 0 seal) here
+
+    pub message_acceptable : IsAcceptable old seal
+    message_acceptable = acceptable n order place task.p from next_receive processes queues run seal first_there old read
+
+    pub performs_receive : (new : ProcessState) → Runs old (Received seal.clock) new → IsRun n order (place + 1) (set processes task.p new) (set queues channel (drop 1 (queue_at queues channel)))
+    performs_receive new runs =
+        subst (λ i. IsRun n order (place + 1) (set processes task.p new) (set queues i (drop 1 (queue_at queues i)))) (sym here)
+        (run_received n order place task.p from next_receive processes queues run seal first_there old read new runs)

@@ -1,0 +1,37 @@
+use Rattle.std.proofs.Common.{◌≡◌, ℕ, ◌<◌, List, [], ◌∷◌, ◌++◌, length, map, drop, Option, Some, refl, sym, ◌∙◌, ap, arith, get_or, set}
+use Rattle.std.proofs.lemmas.List.{get_or-map, map-set, map-append, length-map}
+use Rattle.std.proofs.lemmas.Option.{same_Some}
+
+map-rest : {M S : Type 0} (seal : M → S) (xs : List M) → map seal (drop 1 xs) ≡ drop 1 (map seal xs)
+map-rest seal [] = refl
+map-rest seal (x ∷ xs) = refl
+
+module _ {Q M S : Type 0} (items : Q → List M) (seal : M → S) (queues : List Q) (i : ℕ) (queue : Q) (inside : i < length queues) (read : queue ≡ get_or queues i queue) where
+  abbrev seals : Q → List S
+  seals q = map seal (items q)
+
+  -- a queue that was read is that of the list of queues
+  pub seals_read : get_or (map seals queues) i [] ≡ seals queue
+  seals_read = get_or-map seals queues i queue [] inside ∙ ap seals (sym read)
+
+  -- after a write of a longer queue
+  pub seals_pushed : (message : M) (written : Q) → items written ≡ items queue ++ message ∷ [] → map seals (set queues i written) ≡ set (map seals queues) i (get_or (map seals queues) i [] ++ seal message ∷ [])
+  seals_pushed message written longer =
+      map-set seals queues i written
+      ∙ ap (set (map seals queues) i) (ap (map seal) longer ∙ map-append seal (items queue) (message ∷ []) ∙ ap (λ front. front ++ seal message ∷ []) (sym seals_read))
+
+  -- after a write of a queue without its first
+  pub seals_popped : (written : Q) → items written ≡ drop 1 (items queue) → map seals (set queues i written) ≡ set (map seals queues) i (drop 1 (get_or (map seals queues) i []))
+  seals_popped written shorter =
+      map-set seals queues i written
+      ∙ ap (set (map seals queues) i) (ap (map seal) shorter ∙ map-rest seal (items queue) ∙ ap (drop 1) (sym seals_read))
+
+  -- the first message of a queue has its first seal
+  pub first_seal : (first : Option M) (message : M) (len : ℕ) → len ≡ length (items queue) → 0 < len → ((d : M) → 0 < len → first ≡ Some (get_or (items queue) 0 d)) → first ≡ Some message → seal message ≡ get_or (get_or (map seals queues) i []) 0 (seal message)
+  first_seal first message len counted some answers is =
+      let here : message ≡ get_or (items queue) 0 message = same_Some _ _ (sym is ∙ answers message some) in
+      ap seal here ∙ sym (get_or-map seal (items queue) 0 message (seal message) (omega arith)) ∙ ap (λ xs. get_or xs 0 (seal message)) (sym seals_read)
+
+  -- a queue has as many seals as messages
+  pub some_seals : (len : ℕ) → len ≡ length (items queue) → 0 < length (get_or (map seals queues) i []) → 0 < len
+  some_seals len counted some = omega (arith, some, ap length seals_read, length-map (items queue) seal)

@@ -1,0 +1,12 @@
+use Rattle.std.proofs.Common.{◌≡◌, ◌+◌, ◌*◌, [], replicate, sym, ap, ◌∙◌, subst, arith}
+use Rattle.wcp_single.specs.Probing.{queues_of}
+use Rattle.wcp_single.proofs.Starting.{AreNew, one_more_new, run_starts}
+use Rattle.wcp_single.proofs.probing.Run.new.Goals as goal
+
+pub loop-id-preserved : goal.loop-id-preserved
+loop-id-preserved c = subst (AreNew c.args.n (c.loop-id.id + 1)) (sym c.in_ok-push.ensures.items) (one_more_new c.args.n c.loop-id.id c.loop-id.processes.items c.new.result c.loop-id.invariant c.new.ensures)
+
+pub returns : goal.returns
+returns c = λ order.
+    let counted : c.loop.counter ≡ c.args.n * c.args.n = omega arith in
+    run_starts c.args.n order c.loop-id.processes.items (queues_of (record { processes = c.loop-id.processes; in_transit = c.loop.in_transit })) c.loop.invariant.0 (c.loop.invariant.1 ∙ ap (λ count. replicate count []) counted)

@@ -1,0 +1,62 @@
+use Rattle.std.specs.Prelude.{◌≡◌, ℕ, ◌+◌, ◌*◌, ◌<◌, List, [], ◌∷◌, length, take, map, count_by, slice_get, slice_index_or, All, Some}
+use Rattle.wcp_clock.specs.declared.clock.TheConstants.{CLOCK_LIMIT}
+use Rattle.wcp_model.specs.declared.step.Step.TheVariants as step
+use Rattle.wcp_model.specs.declared.workload.Task.{Task}
+use Rattle.wcp_model.specs.Computation.{Computation, interval_at, message_at}
+use Rattle.wcp_model.specs.ProbeLog.{Call, IsLogOf}
+use Rattle.wcp_model.specs.StateClock.{IsStateClock}
+use Rattle.wcp_model.specs.WorkloadComputation.{sends, receives, message_number, computation_of, IsWithin, IsFitOrder}
+use Rattle.wcp_probe.specs.Seal.{Seal, seal_of}
+use Rattle.wcp_single.specs.declared.probing.Run.{Run}
+use Rattle.wcp_single.specs.Process.{ProcessState, IsRunning}
+
+-- The process runs by its log in the computation.
+pub record Follows (n : ℕ) (c : Computation) (p : ℕ) (process : ProcessState) : Type 0 where
+  pub log : List Call
+  pub log_is : IsLogOf n c p log
+  pub running : IsRunning n p log process
+
+-- The seals of the messages in transit on each channel.
+abbrev pub queues_of : Run → List (List Seal)
+queues_of run = map (λ queue. map seal_of queue.items) run.in_transit.items
+
+-- Those on the channel of this number.
+abbrev pub queue_at : List (List Seal) → ℕ → List Seal
+queue_at queues channel = slice_index_or queues channel []
+
+-- The seal is that of the message of this number, which p sent to q: it carries the clock of p after the send.
+pub record IsSealOf (n : ℕ) (c : Computation) (p q message : ℕ) (seal : Seal) : Type 0 where
+  pub watch : seal.watch ≡ 0
+  pub to : seal.to ≡ q
+  pub sent : ℕ
+  pub send : slice_get c sent ≡ Some (step.Send p q)
+  pub number : message_at c sent ≡ message
+  pub clock : IsStateClock n c (record { process = p; interval = interval_at c p sent + 1 }) seal.clock
+
+-- These are the messages from p to q, in order, behind the first that were received.
+abbrev pub AreInTransit : ℕ → List Task → Computation → ℕ → ℕ → ℕ → List Seal → Type 0
+AreInTransit n order c p q received [] = Unit {0}
+AreInTransit n order c p q received (seal ∷ seals) = IsSealOf n c p q (message_number order p q received) seal × AreInTransit n order c p q (received + 1) seals
+
+-- The front of the computation of an order: the steps of its first tasks.
+abbrev pub front : ℕ → List Task → ℕ → Computation
+front n order place = take place (computation_of n order)
+
+-- At a place of an order, the messages that p sent to q and q has not received are in transit.
+pub record IsChannel (n : ℕ) (order : List Task) (place p q : ℕ) (seals : List Seal) : Type 0 where
+  pub waiting : length seals + count_by (receives p q) (take place order) ≡ count_by (sends p q) (take place order)
+  pub in_order : AreInTransit n order (front n order place) p q (count_by (receives p q) (take place order)) seals
+
+-- The run of an order has come to a place: each process runs by its log, and each channel has its messages.
+pub record IsRun (n : ℕ) (order : List Task) (place : ℕ) (processes : List ProcessState) (queues : List (List Seal)) : Type 0 where
+  pub processes_are : length processes ≡ n
+  pub channels_are : length queues ≡ n * n
+  pub follows : (p : ℕ) (process : ProcessState) → p < n → Follows n (front n order place) p (slice_index_or processes p process)
+  pub channels : (p q : ℕ) → p < n → q < n → IsChannel n order place p q (queue_at queues (p * n + q))
+
+-- The task is next at this place of a fit order.
+pub record IsNext (n : ℕ) (order : List Task) (place : ℕ) (task : Task) : Type 0 where
+  pub few_tasks : length order < CLOCK_LIMIT
+  pub within : All (IsWithin n) order
+  pub fit : IsFitOrder order order
+  pub at : slice_get order place ≡ Some task
