@@ -1,6 +1,7 @@
 mod checker;
 mod clocks;
 mod computations;
+mod heads;
 mod outcomes;
 mod plans;
 mod stamps;
