@@ -1,15 +1,15 @@
-use Rattle.std.proofs.Common.{◌≡◌, ◌∙◌, ◌⊎◌, ◌<◌, ◌^◌, ℕ, Bool, true, false, List, [], ◌∷◌, codes, ap, ap₂, None, Some, refl, decimal, inl, inr, ⊎_elim}
+use Rattle.std.proofs.Common.{◌≡◌, ◌∙◌, ◌⊎◌, ◌<◌, ◌^◌, ℕ, Bool, true, false, List, [], ◌∷◌, codes, ap, ap₂, None, Some, refl, decimal, inl, inr}
 use Rattle.clap.proofs.OnLiterals.{clap_on_literals}
 use Rattle.clap.specs.declared.builder.value_parser.Reading.TheVariants.{AsWritten}
 use Rattle.clap.specs.declared.parser.matches.ValueSource.TheVariants.{CommandLine}
 use Rattle.clap.specs.Words.{Row, Text, built, fault_of}
 use Rattle.clap.specs.Faults.{built_fault, level_fault, walk_fault}
 use Rattle.clap.specs.Kinds.{Kinds, or_else}
-use Rattle.clap.specs.Walk.{Held, Walk, idle, nothing_held, walk, walk_from}
+use Rattle.clap.specs.Walk.{Walk, nothing_held, walk}
 use Rattle.clap.specs.declared.error.kind.ErrorKind.TheVariants as kind
-use Rattle.wcp_cli.specs.Words.{AskForNoRing, AskForRing, IsRing, NoNumber, OnlyProcs, OnlyRounds, OutOfRange, flag_words, program}
+use Rattle.wcp_cli.specs.Words.{AskForNoRing, IsRing, NoNumber, OnlyProcs, OnlyRounds, OutOfRange, flag_words, program}
 use Rattle.wcp_cli.proofs.NumberWords.{IsNumberIn, decimal-cases}
-use Rattle.wcp_cli.proofs.RingWords.{end_fault, fault_walk, given, held_at_end, number_row, numbers_walked, plain_walk, ring_built, top_fails, value_step, ended}
+use Rattle.wcp_cli.proofs.RingWords.{end_fault, given, held_at_end, number_row, numbers_walked, plain_walk, ring_built, top_fails, value_step, ended}
 
 -- what `ring` itself finds wrong with the words after it
 abbrev wrong : List Text → Kinds

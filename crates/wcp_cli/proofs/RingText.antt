@@ -1,29 +1,40 @@
-use Rattle.std.proofs.Common.{◌≡◌, ℕ, suc, ◌==◌, Bool, true, List, [], ◌++◌, length, replicate, Some, refl, sym, ap, ◌∙◌, append-nil}
+use Rattle.std.proofs.Common.{◌≡◌, ℕ, zero, suc, ◌==◌, ◌&&◌, Bool, true, cond, List, [], ◌++◌, length, replicate, Option, Some, refl, ap, ◌∙◌, append-nil, eq-eqb}
 use Rattle.std.specs.List.{flat_map, list_all}
 use Rattle.std.proofs.lemmas.List.{length-replicate}
 use Rattle.wcp_model.specs.declared.plan.Plan.{Plan}
 use Rattle.wcp_model.specs.declared.workload.Task.{Task}
-use Rattle.wcp_script.specs.PlanText.{has_one_relay, head_text, is_first, opening_text, text_of_workload}
+use Rattle.wcp_script.specs.PlanText.{attach_text, cap_text, has_one_relay, head_text, hold_text, is_first, is_root_alone, numbered, opening_text, relay_text, text_of_workload, tree_text}
 use Rattle.wcp_script.specs.Ring.{IsRingPlan, ring_tasks}
 use Rattle.wcp_script.specs.WorkloadText.{task_line}
 use Rattle.wcp_cli.specs.Run.{ring_text}
 
 -- the first relay serves each process of such a list
 all_served : (n : ℕ) → list_all is_first (replicate n (Some 0)) ≡ true
-all_served 0 = refl
+all_served zero = refl
 all_served (suc n) = all_served n
-
-same : (n : ℕ) → (n == n) ≡ true
-same 0 = refl
-same (suc n) = same n
 
 -- the plan of a ring has one relay, which serves every process
 has_one : (n : ℕ) (plan : Plan) → IsRingPlan n plan → has_one_relay plan ≡ true
-has_one n plan ring = rw (ring.parents, ring.attach, ring.processes, length-replicate n (Some 0), same n, all_served n) refl
+has_one n plan ring =
+    let entries : List (Option ℕ) = replicate n (Some 0) in
+    ap (λ parents. is_root_alone parents && (length plan.attach.items == plan.n && list_all is_first plan.attach.items)) ring.parents
+    ∙ ap (λ attach. length attach == plan.n && list_all is_first attach) ring.attach
+    ∙ ap (λ m. length entries == m && list_all is_first entries) ring.processes
+    ∙ ap (λ l. l == n && list_all is_first entries) (length-replicate {A = Option ℕ} n (Some 0))
+    ∙ ap (λ equal. equal && list_all is_first entries) (eq-eqb n n refl)
+    ∙ all_served n
+
+tree_none : (plan : Plan) → has_one_relay plan ≡ true → tree_text plan ≡ []
+tree_none plan one = ap (λ is. cond is [] (numbered relay_text 0 plan.parents.items ++ numbered attach_text 0 plan.attach.items)) one
 
 -- so its head has no line beyond the first two
 short_head : (n : ℕ) (plan : Plan) → IsRingPlan n plan → head_text plan ≡ opening_text n
-short_head n plan ring = rw (ring.processes, ring.cap, ring.hold, has_one n plan ring) (append-nil (opening_text n))
+short_head n plan ring =
+    ap (λ k. opening_text k ++ (cap_text plan.cap ++ (hold_text plan.hold ++ tree_text plan))) ring.processes
+    ∙ ap (λ cap. opening_text n ++ (cap_text cap ++ (hold_text plan.hold ++ tree_text plan))) ring.cap
+    ∙ ap (λ hold. opening_text n ++ (hold_text hold ++ tree_text plan)) ring.hold
+    ∙ ap (λ tree. opening_text n ++ tree) (tree_none plan (has_one n plan ring))
+    ∙ append-nil (opening_text n)
 
 pub ring_is_printed : (n rounds : ℕ) (fault : Bool) (plan : Plan) (tasks : List Task) → IsRingPlan n plan → tasks ≡ ring_tasks n rounds fault
     → text_of_workload plan tasks ≡ ring_text n rounds fault

@@ -1,14 +1,14 @@
-use Rattle.std.proofs.Common.{◌≡◌, ◌∙◌, ◌<◌, ◌^◌, ◌≤◌, ◌&&◌, ℕ, Bool, true, false, List, [], ◌∷◌, codes, ap, ap₂, Some, None, Option, sym, refl, subst, decimal, arith, get_or, le-leb, nat_le}
+use Rattle.std.proofs.Common.{◌≡◌, ◌∙◌, ℕ, Bool, true, false, List, [], ◌∷◌, codes, ap, ap₂, Some, None, Option, refl, decimal, arith, get_or}
 use Rattle.clap.proofs.OnLiterals.{clap_on_literals}
 use Rattle.std.specs.Str.{bytes_eq}
 use Rattle.clap.specs.Kinds.{Kinds, or_else}
 use Rattle.clap.specs.Lexer.{strip_byte}
 use Rattle.clap.specs.declared.error.kind.ErrorKind.{ErrorKind}
 use Rattle.clap.proofs.FaultLemmas.{stopped_fault}
-use Rattle.clap.specs.Words.{App, Rule, Shape, Text, Row, built, fault_of, subcommand_of}
+use Rattle.clap.specs.Words.{Rule, Shape, Text, Row, built, fault_of, subcommand_of}
 use Rattle.clap.specs.Faults.{built_fault, check_fault, defaults_fault, level_fault, settle_fault, walk_fault}
 use Rattle.clap.specs.Simple.{entered, names_of}
-use Rattle.clap.specs.Walk.{Held, Walk, arg_by_id, finished, idle, nothing_held, one_of, option, option_word, settled, stop_after, walk, walk_from, walked}
+use Rattle.clap.specs.Walk.{Held, Walk, arg_by_id, finished, idle, nothing_held, option, option_word, settled, stop_after, walk, walk_from, walked}
 use Rattle.clap.specs.Values.{bool_text}
 use Rattle.clap.specs.declared.builder.value_parser.Reading.TheVariants.{AsWritten, WithoutMinus}
 use Rattle.clap.specs.declared.parser.matches.ValueSource.{ValueSource}

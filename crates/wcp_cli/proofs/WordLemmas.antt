@@ -1,11 +1,11 @@
-use Rattle.std.proofs.Common.{◌≡◌, true, false, List, [], ◌∷◌, ◌++◌, drop, fold, codes, ap, ◌∙◌, append_assoc, append-nil, Some, sym, refl, subst, None, inl, inr, ⊎_elim}
+use Rattle.std.proofs.Common.{◌≡◌, true, false, List, [], ◌∷◌, drop, codes, ap, ◌∙◌, sym, refl, subst, None, inl, inr, ⊎_elim}
 use Rattle.clap.proofs.OnLiterals.{clap_on_literals}
-use Rattle.clap.specs.Words.{IsAmong, Kinds, Text, fault_of, is_simple_and_free, takes, built}
+use Rattle.clap.specs.Words.{IsAmong, Kinds, Text, fault_of, is_simple, is_simple_and_free, takes, built}
 use Rattle.clap.specs.Faults.{built_fault}
 use Rattle.clap.specs.Takes.{built_takes}
 use Rattle.clap.specs.Lexer.{strip_byte}
 use Rattle.clap.specs.Simple.{names_of}
-use Rattle.clap.specs.Walk.{Names, Rule, Walk, nothing_held, walk_from, walked}
+use Rattle.clap.specs.Walk.{nothing_held, walk_from}
 use Rattle.clap.proofs.FaultLemmas.{stopped_fault}
 use Rattle.std.proofs.lemmas.Bool.{false_from_ne_true}
 use Rattle.std.proofs.lemmas.Slice.Eq.{bytes_eq-Decides}

@@ -3,11 +3,9 @@ use Rattle.std.specs.Fmt.{decimal}
 use Rattle.clap.specs.Words.{App, Rule, Shape, Text, new_app, new_rule, with_subcommand}
 use Rattle.clap.specs.Simple.{new_shape}
 use Rattle.clap.specs.declared.builder.action.ArgAction.TheVariants.{SetTrue}
-use Rattle.clap.specs.declared.builder.value_parser.ValueParser.{ValueParser}
 use Rattle.clap.specs.declared.builder.value_parser.ValueParser.TheVariants.{Signed}
 use Rattle.wcp_cli.specs.declared.words.Request.{Request}
-use Rattle.wcp_cli.specs.declared.words.Request.TheVariants.{Single, Replay, Ring, Help}
-use Rattle.wcp_cli.specs.declared.words.Ring.{Ring as RingOptions}
+use Rattle.wcp_cli.specs.declared.words.Request.TheVariants.{Ring, Help}
 
 -- An option that is required and takes one number from a range.
 abbrev pub number_option : Text → ℕ → ℕ → Rule

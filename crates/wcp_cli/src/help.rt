@@ -94,15 +94,16 @@ replay
       total emitted 2 taken 2
 
   `took 1 snap 0 0 0` names the process, the number of its snapshot, and the clock of
-  the snapshot. Where no moment is found and not all has been taken, the first line of
-  the outcome is `undecided`. A step that can't be done changes nothing, and its reply
-  is `refused` with the reason. The steps are
+  the snapshot; `took 1 close 1` is the close mark of a process, with the number of its
+  snapshots. Where no moment is found, the first line of the outcome is `none` once the
+  close mark of every process was taken, and `undecided` until then. A step that can't
+  be done changes nothing, and its reply is `refused` with the reason. The steps are
 
       observe P true    process P finds its condition true (or `false`)
-      send P Q          P sends a message to Q; messages are numbered from 0
+      send P Q          P sends a message to Q; the messages sent are numbered 0, 1, 2, ..
       recv P M          P receives message number M
       close P           P ends; this makes a close mark, which goes the way of a snapshot
-      put P             P puts the snapshot that waits into its link
+      put P             P puts the snapshot that waits there into its link
       admit R P         relay R takes the first snapshot in the link of P
       pull R            relay R takes the first snapshot in its inbox
       pass R            relay R passes on the first snapshot that it holds
@@ -140,12 +141,14 @@ The head of a text
 
       cap C           how much each link and each inbox has room for, 1 to 1024, else 8
       hold H          how much each relay may hold, 1 to 64, else 4
-      relay R root    relay R = 0, 1, 2, .. passes on to the checker; or `relay R S`: to
-                      relay S, which is below R
-      attach P R      relay R takes from process P; P = 0, 1, 2, ..
+      relay R root    relay R = 0, 1, 2, .. up to 14 passes on to the checker; or
+                      `relay R S`: it passes on to relay S, and S is below R
+      attach P R      relay R takes from process P; P = 0, 1, 2, .. up to N - 1
 
   With no relay lines one relay takes from all processes and passes on to the checker.
-  Each line ends in a line feed, and its words are separated by one space.
+  A relay takes from processes alone or from relays alone, and each from one at least;
+  there are at most 8 relays on the way to the checker. Each line ends in a line feed,
+  and its words are separated by one space.
 
 Exit status:
   0  found, a ring was printed, or this help

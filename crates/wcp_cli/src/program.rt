@@ -1,5 +1,5 @@
 //! The program, over any reader and writers.
-ghost use Rattle.std.specs.Prelude.{◌≡◌, ℕ, ◌≤◌, Bool, map, IfOk, OnOk, OnErr, MatchResult};
+ghost use Rattle.std.specs.Prelude.{◌≡◌, ℕ, ◌≤◌, Bool, map, IfOk, MatchResult};
 ghost use Rattle.std.specs.Io.KnownBytes.{Keeps, Appends};
 ghost use Rattle.wcp_cli.specs.Run.{Answers, IsHelpText, IsOutcomeAnswer, IsRingText, IsRun, Refuses, Shows, TurnsAway, ring_text, status_of};
 ghost use Rattle.wcp_cli.specs.Bytes.{AppendsFront};
@@ -91,7 +91,7 @@ fn answer<S: AsStr, I: Read, O: Write>(
         (λ fault. Refuses IsOutcomeAnswer (I.remaining input.old) (I.remaining input.new) (O.contents output.old) (O.contents output.new)) }
     ensures ring { (n rounds : ℕ) (fault : Bool) → IsRing n rounds → AskForRing n rounds fault (map S.text words.now) → MatchResult result
         (Shows (IsRingText n rounds fault) (I.remaining input.old) (I.remaining input.new) (O.contents output.old) (O.contents output.new))
-        (λ fault. Shows (IsRingText n rounds fault) (I.remaining input.old) (I.remaining input.new) (O.contents output.old) (O.contents output.new) 2) }
+        (λ _. Shows (IsRingText n rounds fault) (I.remaining input.old) (I.remaining input.new) (O.contents output.old) (O.contents output.new) 2) }
     ensures help { AskForHelp (map S.text words.now) → MatchResult result
         (Shows IsHelpText (I.remaining input.old) (I.remaining input.new) (O.contents output.old) (O.contents output.new))
         (λ fault. Shows IsHelpText (I.remaining input.old) (I.remaining input.new) (O.contents output.old) (O.contents output.new) 2) }
@@ -132,8 +132,9 @@ fn give_outcome<I: Read, O: Write>(
 fn give_ring<O: Write>(alloc: Global, ring: Ring, output: &mut O) -> Result<u8, Fault>
     requires { IsRing ring.procs ring.rounds }
     ensures status { IfOk result (λ status. status ≡ 0) }
-    ensures written { OnOk result (Appends (O.contents output.old) (O.contents output.new) (ring_text ring.procs ring.rounds ring.fault)) }
-    ensures front { OnErr result (AppendsFront (O.contents output.old) (O.contents output.new) (ring_text ring.procs ring.rounds ring.fault)) }
+    ensures run { MatchResult result
+        (λ status. Appends (O.contents output.old) (O.contents output.new) (ring_text ring.procs ring.rounds ring.fault) × (status ≡ 0))
+        (λ fault. AppendsFront (O.contents output.old) (O.contents output.new) (ring_text ring.procs ring.rounds ring.fault)) }
 {
     let workload = ring_workload(alloc, ring.procs, ring.rounds, ring.fault)?;
     let text = workload_text(alloc, &workload)?;

@@ -36,7 +36,7 @@ pub struct Ring {
     pub procs: u32,
     /// How often each process has its turn, from 1 to 1000.
     pub rounds: u32,
-    /// Whether all processes find their conditions true at once, before the first message.
+    /// Whether all processes find their conditions true before the first message.
     pub fault: bool,
 }
 
@@ -84,6 +84,7 @@ fn ring_of(options: &ArgMatches) -> Result<Ring, Fault>
         → result ≡ Ok (record { procs = n; rounds = rounds; fault = fault }) }
     ensures in_ranges { IfOk result (λ ring. IsRing ring.procs ring.rounds) }
 {
+    // clap tests these ranges too, but promises nothing of them at a subcommand.
     let (Some(procs @ 2..=16), Some(rounds @ 1..=1000)) = (
         number_of(options, "procs"),
         number_of(options, "rounds"),

@@ -11,3 +11,6 @@ returns-in-Err-clause-help g c asked = rw c.refuse.ensures (c.in-Err.ensures.hel
 
 pub returns-in-Err-clause-unknown : goal.returns-in-Err-clause-unknown
 returns-in-Err-clause-unknown g c asked = rw c.refuse.ensures (c.in-Err.ensures.unknown asked)
+
+pub returns-in-Err-clause-ring : goal.returns-in-Err-clause-ring
+returns-in-Err-clause-ring g c n rounds fault ring asked = rw c.refuse.ensures (c.in-Err.ensures.ring n rounds fault ring asked)

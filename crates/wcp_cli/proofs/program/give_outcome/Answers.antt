@@ -1,4 +1,4 @@
-use Rattle.std.proofs.Common.{sym, refl, ◌∙◌, arith}
+use Rattle.std.proofs.Common.{subst, refl, ◌∙◌, arith}
 use Rattle.std.proofs.lemmas.Result.{MatchResult-from_err}
 use Rattle.wcp_script.specs.TextFault.{workloads, Spells}
 use Rattle.wcp_cli.specs.Run.{Answers, IsOutcomeAnswer, Refuses, Broken, status_of}
@@ -32,3 +32,27 @@ returns-in_err-write_whole-clause-run g c =
       status_is = refl;
     })
     c.in_err-write_whole.ensures.err)
+
+pub returns-clause-run : goal.returns-clause-run
+returns-clause-run g c =
+    let workload = c.in_ok-workload.workload in
+    record {
+      text = c.in_ok-text.text.items;
+      printed = c.as_slice-2.result.now;
+      of_input = record {
+        consumed = c.in_ok-text.ensures.consumed;
+        ended = c.in_ok-text.ensures.ended;
+        within = omega (arith, c.in_ok-text.ensures.within, c.in_ok-text.text.ok.0);
+      };
+      right = record {
+        plan = workload.plan;
+        tasks = workload.tasks.items;
+        outcome = c.in_ok-outcome.outcome;
+        spelled = subst (λ text. Spells workloads text workload.plan workload.tasks.items) c.as_slice.ensures.value c.in_ok-workload.ensures.spelled;
+        could_be_read = c.in_ok-workload.ensures.could_be_read;
+        right = c.in_ok-outcome.ensures;
+        print = c.as_slice-2.ensures.value ∙ c.in_ok-report.ensures;
+        status_is = c.status_of.ensures;
+      };
+      written = c.in_ok-write_whole.ensures.ok;
+    }

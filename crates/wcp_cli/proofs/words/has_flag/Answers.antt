@@ -1,5 +1,5 @@
 use Rattle.std.proofs.Common.{◌≡◌, ◌∙◌, Bool, true, false, Some, List, ℕ, Option, codes}
-use Rattle.clap.specs.Words.{found_of, one_text}
+use Rattle.clap.specs.Words.{found_of}
 use Rattle.clap.specs.Values.{bool_text}
 use Rattle.clap.proofs.WalkLemmas.{one_text-rows}
 use Rattle.wcp_cli.proofs.words.has_flag.Goals as goal

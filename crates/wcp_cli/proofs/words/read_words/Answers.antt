@@ -1,9 +1,9 @@
-use Rattle.std.proofs.Common.{◌≡◌, ◌∙◌, ◌⊎◌, ap, refl, map, inl, inr, sym, subst, ⊎_elim, List, [], IfOk, IsErr, Result, Ok, Err}
+use Rattle.std.proofs.Common.{◌≡◌, ◌∙◌, ap, refl, map, inl, inr, sym, subst, ⊎_elim, List, [], IfOk, IsErr, Result, Ok, Err}
 use Rattle.clap.specs.Words.{App, HasKind, IsAmong, Kinds, Text, app_of, fault_of, is_simple, is_simple_and_free, kind_of, subcommand_of, takes}
 use Rattle.clap.specs.declared.error.Error.{Error}
 use Rattle.clap.specs.declared.error.kind.ErrorKind.{ErrorKind}
 use Rattle.clap.specs.declared.error.kind.ErrorKind.TheVariants as kind
-use Rattle.wcp_cli.specs.Words.{AskForHelp, program}
+use Rattle.wcp_cli.specs.Words.{program}
 use Rattle.wcp_cli.specs.RingOptions.{AsksForRing}
 use Rattle.wcp_cli.proofs.FoundWords.{name_of, name-from_rows, single-found, replay-found}
 use Rattle.wcp_cli.proofs.RingWords.{ring-passes, ring-found}
