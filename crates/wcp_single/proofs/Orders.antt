@@ -1,13 +1,9 @@
-use Rattle.std.proofs.Common.{◌≡◌, ℕ, suc, ◌+◌, true, false, List, [], ◌∷◌, ◌++◌, length, All, map, refl, sym, ap, subst, ⊎_elim, arith, length-append, eq-eqb}
-use Rattle.std.specs.List.{filter, range_with_len}
+use Rattle.std.proofs.Common.{◌≡◌, ℕ, true, false, List, [], ◌∷◌, All, refl, sym, subst, ⊎_elim, eq-eqb}
+use Rattle.std.specs.List.{filter}
 use Rattle.std.proofs.lemmas.Bool.{cases_Bool}
-use Rattle.std.proofs.lemmas.List.{length-map}
 use Rattle.std.proofs.lemmas.List.Elements.{All-nil, All-cons, All-head, All-tail, All-same, All-filter}
-use Rattle.std.proofs.lemmas.List.FromFn.{length-range_with_len}
-use Rattle.wcp_model.specs.declared.step.Step.TheVariants as step
 use Rattle.wcp_model.specs.declared.workload.Task.{Task}
-use Rattle.wcp_model.specs.Computation.{Computation}
-use Rattle.wcp_model.specs.WorkloadComputation.{is_task_of, IsWithin, IsFitOrder, steps_from, computation_of}
+use Rattle.wcp_model.specs.WorkloadComputation.{is_task_of, IsWithin, IsFitOrder}
 
 -- a fit order of tasks is one of itself
 pub IsFitOrder-itself : (tasks order : List Task) → IsFitOrder tasks order → IsFitOrder order order
@@ -40,15 +36,6 @@ All-from_processes P (task ∷ tasks) each = All-cons P task tasks here (All-fro
 pub All-fit_order : (P : Task → Type 0) (tasks order : List Task) → IsFitOrder tasks order → All P tasks → All P order
 All-fit_order P tasks order fit all = All-from_processes P order (λ p. All-same P (filter (is_task_of p) order) (filter (is_task_of p) tasks) (fit.same_tasks p) (All-filter (is_task_of p) P tasks all))
 
--- the computation of an order has a step for each task, and a close of each process
-length-steps : (order earlier tasks : List Task) → length (steps_from order earlier tasks) ≡ length tasks
-length-steps order earlier [] = refl
-length-steps order earlier (task ∷ tasks) = ap suc (length-steps order (earlier ++ task ∷ []) tasks)
-
-pub length-computation_of : (n : ℕ) (order : List Task) → length (computation_of n order) ≡ length order + n
-length-computation_of n order =
-    omega (arith, length-append (steps_from order [] order) (map step.Close (range_with_len 0 n)), length-steps order [] order, length-map (range_with_len 0 n) step.Close, length-range_with_len 0 n)
-
 -- an order that was found for tasks that were read, and is read itself
 module _ (n : ℕ) (tasks given order read : List Task) (same_tasks : given ≡ tasks) (fit : IsFitOrder given order) (same_order : read ≡ order) where
   pub fit_order_read : IsFitOrder tasks read
@@ -56,8 +43,3 @@ module _ (n : ℕ) (tasks given order read : List Task) (same_tasks : given ≡ 
 
   pub within_read : All (IsWithin n) tasks → All (IsWithin n) read
   within_read within = All-fit_order (IsWithin n) tasks read fit_order_read within
-
--- how many steps its computation has
-pub length-steps_read : (n : ℕ) (tasks given order read : List Task) (steps : Computation) → given ≡ tasks → length order ≡ length given → read ≡ order → steps ≡ computation_of n read → length steps ≡ length tasks + n
-length-steps_read n tasks given order read steps same_tasks counted same_order is =
-    omega (arith, ap length same_tasks, counted, ap length same_order, ap length is, length-computation_of n read)

@@ -1,6 +1,5 @@
-use Rattle.std.proofs.Common.{◌≡◌, ℕ, ◌<◌, List, [], ◌∷◌, ◌++◌, length, map, drop, Option, Some, refl, sym, ◌∙◌, ap, arith, get_or, set}
+use Rattle.std.proofs.Common.{◌≡◌, ℕ, ◌<◌, List, [], ◌∷◌, ◌++◌, length, map, drop, refl, sym, ◌∙◌, ap, arith, get_or, set}
 use Rattle.std.proofs.lemmas.List.{get_or-map, map-set, map-append, length-map}
-use Rattle.std.proofs.lemmas.Option.{same_Some}
 
 map-rest : {M S : Type 0} (seal : M → S) (xs : List M) → map seal (drop 1 xs) ≡ drop 1 (map seal xs)
 map-rest seal [] = refl
@@ -27,11 +26,10 @@ module _ {Q M S : Type 0} (items : Q → List M) (seal : M → S) (queues : List
       ∙ ap (set (map seals queues) i) (ap (map seal) shorter ∙ map-rest seal (items queue) ∙ ap (drop 1) (sym seals_read))
 
   -- the first message of a queue has its first seal
-  pub first_seal : (first : Option M) (message : M) (len : ℕ) → len ≡ length (items queue) → 0 < len → ((d : M) → 0 < len → first ≡ Some (get_or (items queue) 0 d)) → first ≡ Some message → seal message ≡ get_or (get_or (map seals queues) i []) 0 (seal message)
-  first_seal first message len counted some answers is =
-      let here : message ≡ get_or (items queue) 0 message = same_Some _ _ (sym is ∙ answers message some) in
-      ap seal here ∙ sym (get_or-map seal (items queue) 0 message (seal message) (omega arith)) ∙ ap (λ xs. get_or xs 0 (seal message)) (sym seals_read)
+  pub first_seal : (message : M) → 0 < length (items queue) → message ≡ get_or (items queue) 0 message → seal message ≡ get_or (get_or (map seals queues) i []) 0 (seal message)
+  first_seal message some first =
+      ap seal first ∙ sym (get_or-map seal (items queue) 0 message (seal message) some) ∙ ap (λ xs. get_or xs 0 (seal message)) (sym seals_read)
 
   -- a queue has as many seals as messages
-  pub some_seals : (len : ℕ) → len ≡ length (items queue) → 0 < length (get_or (map seals queues) i []) → 0 < len
-  some_seals len counted some = omega (arith, some, ap length seals_read, length-map (items queue) seal)
+  pub some_seals : 0 < length (get_or (map seals queues) i []) → 0 < length (items queue)
+  some_seals some = omega (arith, some, ap length seals_read, length-map (items queue) seal)

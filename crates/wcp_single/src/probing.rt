@@ -1,5 +1,5 @@
 //! The run of a workload: one probe for each process, and a queue for each channel between two.
-ghost use Rattle.std.specs.Prelude.{◌≡◌, ℕ, ◌+◌, ◌*◌, ◌<◌, ◌≤◌, List, length, map, All, IfOk, OnOk};
+ghost use Rattle.std.specs.Prelude.{◌≡◌, ℕ, ◌+◌, ◌*◌, ◌<◌, ◌≤◌, List, length, drop, map, slice_index_or, All, IfOk, OnOk};
 ghost use Rattle.wcp_clock.specs.declared.clock.TheConstants.{CLOCK_LIMIT};
 ghost use Rattle.wcp_model.specs.declared.workload.Task.{Task};
 ghost use Rattle.wcp_model.specs.WorkloadComputation.{IsFitOrder, IsWithin, computation_of};
@@ -59,9 +59,7 @@ impl Run {
                 self.in_transit[channel(n, task.p, to)].push_back(message)?;
             }
             Action::Recv(from) => {
-                let message = self.in_transit[channel(n, from, task.p)]
-                    .pop_front()
-                    .unwrap();
+                let message = oldest(&mut self.in_transit[channel(n, from, task.p)]);
                 self.processes[p].receive(message);
             }
         }
@@ -77,6 +75,15 @@ impl Run {
             .map(|process| process.end())
             .collect(alloc)
     }
+}
+
+/// Takes the message that was sent first from those that are in transit.
+fn oldest(messages: &mut VecDeque<Stamped<()>>) -> Stamped<()>
+    requires { 0 < length messages.old.items }
+    ensures first { result ≡ slice_index_or messages.old.items 0 result }
+    ensures rest { messages.new.items ≡ drop 1 messages.old.items }
+{
+    messages.pop_front().unwrap()
 }
 
 /// What each of n processes emits in the run of a fit order, one probe for each: its snapshots. `Err`

@@ -44,14 +44,14 @@ index_mut-requires-in-Recv c =
     let inside : c.channel-in-Recv.result < length queues = omega (arith, c.channel-in-Recv.ensures, run.channels_are, length-map queues (λ queue. map seal_of queue.items), mul-add-lt c.in-Recv.from c.args.n c.args.task.p c.args.n within.1.0 within.0) in
     omega (arith, inside, c.args.self.now.in_transit.ok.0)
 
-pub unwrap-message-requires : goal.unwrap-message-requires
-unwrap-message-requires c =
+pub oldest-message-requires : goal.oldest-message-requires
+oldest-message-requires c =
     let queues = c.args.self.now.in_transit.items in
     let run = c.requires.next.3 in
     let within = rw c.in-Recv.is at (next_within c.args.n c.requires.next.0 c.requires.next.1 c.args.task.p c.args.task.action c.requires.next.2) in
     let inside : c.channel-in-Recv.result < length queues = omega (arith, c.channel-in-Recv.ensures, run.channels_are, length-map queues (λ queue. map seal_of queue.items), mul-add-lt c.in-Recv.from c.args.n c.args.task.p c.args.n within.1.0 within.0) in
-    let some = some_seals (λ queue. queue.items) seal_of queues c.channel-in-Recv.result c.index_mut-in-Recv.result.now inside c.index_mut-in-Recv.ensures.value c.index_mut-in-Recv.result.now.len c.index_mut-in-Recv.result.now.ok.0 (message_waits c.args.n c.requires.next.0 c.requires.next.1 c.args.task c.in-Recv.from c.in-Recv.is c.requires.next.2 c.args.self.now.processes.items (queues_of c.args.self.now) c.requires.next.3 c.channel-in-Recv.result c.channel-in-Recv.ensures) in
-    c.pop_front.ensures.variant.1 some
+    let some = some_seals (λ queue. queue.items) seal_of queues c.channel-in-Recv.result c.index_mut-in-Recv.result.now inside c.index_mut-in-Recv.ensures.value (message_waits c.args.n c.requires.next.0 c.requires.next.1 c.args.task c.in-Recv.from c.in-Recv.is c.requires.next.2 c.args.self.now.processes.items (queues_of c.args.self.now) c.requires.next.3 c.channel-in-Recv.result c.channel-in-Recv.ensures) in
+    some
 
 pub index_mut-requires-in-Recv-2 : goal.index_mut-requires-in-Recv-2
 index_mut-requires-in-Recv-2 c =
@@ -74,9 +74,9 @@ receive-requires-clause-watch c =
     let run = c.requires.next.3 in
     let within = rw c.in-Recv.is at (next_within c.args.n c.requires.next.0 c.requires.next.1 c.args.task.p c.args.task.action c.requires.next.2) in
     let inside : c.channel-in-Recv.result < length queues = omega (arith, c.channel-in-Recv.ensures, run.channels_are, length-map queues (λ queue. map seal_of queue.items), mul-add-lt c.in-Recv.from c.args.n c.args.task.p c.args.n within.1.0 within.0) in
-    let some = some_seals (λ queue. queue.items) seal_of queues c.channel-in-Recv.result c.index_mut-in-Recv.result.now inside c.index_mut-in-Recv.ensures.value c.index_mut-in-Recv.result.now.len c.index_mut-in-Recv.result.now.ok.0 (message_waits c.args.n c.requires.next.0 c.requires.next.1 c.args.task c.in-Recv.from c.in-Recv.is c.requires.next.2 c.args.self.now.processes.items (queues_of c.args.self.now) c.requires.next.3 c.channel-in-Recv.result c.channel-in-Recv.ensures) in
-    let first = first_seal (λ queue. queue.items) seal_of queues c.channel-in-Recv.result c.index_mut-in-Recv.result.now inside c.index_mut-in-Recv.ensures.value c.pop_front.result c.unwrap-message.result c.index_mut-in-Recv.result.now.len c.index_mut-in-Recv.result.now.ok.0 some c.pop_front.ensures.value c.unwrap-message.ensures in
-    let acceptable = message_acceptable c.args.n c.requires.next.0 c.requires.next.1 c.args.task c.in-Recv.from c.in-Recv.is c.requires.next.2 c.args.self.now.processes.items (queues_of c.args.self.now) c.requires.next.3 c.channel-in-Recv.result c.channel-in-Recv.ensures (seal_of c.unwrap-message.result) first c.index_mut-in-Recv-2.result.now c.index_mut-in-Recv-2.ensures.value in
+    let some = some_seals (λ queue. queue.items) seal_of queues c.channel-in-Recv.result c.index_mut-in-Recv.result.now inside c.index_mut-in-Recv.ensures.value (message_waits c.args.n c.requires.next.0 c.requires.next.1 c.args.task c.in-Recv.from c.in-Recv.is c.requires.next.2 c.args.self.now.processes.items (queues_of c.args.self.now) c.requires.next.3 c.channel-in-Recv.result c.channel-in-Recv.ensures) in
+    let first = first_seal (λ queue. queue.items) seal_of queues c.channel-in-Recv.result c.index_mut-in-Recv.result.now inside c.index_mut-in-Recv.ensures.value c.oldest-message.result some c.oldest-message.ensures.first in
+    let acceptable = message_acceptable c.args.n c.requires.next.0 c.requires.next.1 c.args.task c.in-Recv.from c.in-Recv.is c.requires.next.2 c.args.self.now.processes.items (queues_of c.args.self.now) c.requires.next.3 c.channel-in-Recv.result c.channel-in-Recv.ensures (seal_of c.oldest-message.result) first c.index_mut-in-Recv-2.result.now c.index_mut-in-Recv-2.ensures.value in
     acceptable.watch
 
 pub receive-requires-clause-components : goal.receive-requires-clause-components
@@ -85,9 +85,9 @@ receive-requires-clause-components c =
     let run = c.requires.next.3 in
     let within = rw c.in-Recv.is at (next_within c.args.n c.requires.next.0 c.requires.next.1 c.args.task.p c.args.task.action c.requires.next.2) in
     let inside : c.channel-in-Recv.result < length queues = omega (arith, c.channel-in-Recv.ensures, run.channels_are, length-map queues (λ queue. map seal_of queue.items), mul-add-lt c.in-Recv.from c.args.n c.args.task.p c.args.n within.1.0 within.0) in
-    let some = some_seals (λ queue. queue.items) seal_of queues c.channel-in-Recv.result c.index_mut-in-Recv.result.now inside c.index_mut-in-Recv.ensures.value c.index_mut-in-Recv.result.now.len c.index_mut-in-Recv.result.now.ok.0 (message_waits c.args.n c.requires.next.0 c.requires.next.1 c.args.task c.in-Recv.from c.in-Recv.is c.requires.next.2 c.args.self.now.processes.items (queues_of c.args.self.now) c.requires.next.3 c.channel-in-Recv.result c.channel-in-Recv.ensures) in
-    let first = first_seal (λ queue. queue.items) seal_of queues c.channel-in-Recv.result c.index_mut-in-Recv.result.now inside c.index_mut-in-Recv.ensures.value c.pop_front.result c.unwrap-message.result c.index_mut-in-Recv.result.now.len c.index_mut-in-Recv.result.now.ok.0 some c.pop_front.ensures.value c.unwrap-message.ensures in
-    let acceptable = message_acceptable c.args.n c.requires.next.0 c.requires.next.1 c.args.task c.in-Recv.from c.in-Recv.is c.requires.next.2 c.args.self.now.processes.items (queues_of c.args.self.now) c.requires.next.3 c.channel-in-Recv.result c.channel-in-Recv.ensures (seal_of c.unwrap-message.result) first c.index_mut-in-Recv-2.result.now c.index_mut-in-Recv-2.ensures.value in
+    let some = some_seals (λ queue. queue.items) seal_of queues c.channel-in-Recv.result c.index_mut-in-Recv.result.now inside c.index_mut-in-Recv.ensures.value (message_waits c.args.n c.requires.next.0 c.requires.next.1 c.args.task c.in-Recv.from c.in-Recv.is c.requires.next.2 c.args.self.now.processes.items (queues_of c.args.self.now) c.requires.next.3 c.channel-in-Recv.result c.channel-in-Recv.ensures) in
+    let first = first_seal (λ queue. queue.items) seal_of queues c.channel-in-Recv.result c.index_mut-in-Recv.result.now inside c.index_mut-in-Recv.ensures.value c.oldest-message.result some c.oldest-message.ensures.first in
+    let acceptable = message_acceptable c.args.n c.requires.next.0 c.requires.next.1 c.args.task c.in-Recv.from c.in-Recv.is c.requires.next.2 c.args.self.now.processes.items (queues_of c.args.self.now) c.requires.next.3 c.channel-in-Recv.result c.channel-in-Recv.ensures (seal_of c.oldest-message.result) first c.index_mut-in-Recv-2.result.now c.index_mut-in-Recv-2.ensures.value in
     acceptable.components
 
 pub receive-requires-clause-addressed : goal.receive-requires-clause-addressed
@@ -96,9 +96,9 @@ receive-requires-clause-addressed c =
     let run = c.requires.next.3 in
     let within = rw c.in-Recv.is at (next_within c.args.n c.requires.next.0 c.requires.next.1 c.args.task.p c.args.task.action c.requires.next.2) in
     let inside : c.channel-in-Recv.result < length queues = omega (arith, c.channel-in-Recv.ensures, run.channels_are, length-map queues (λ queue. map seal_of queue.items), mul-add-lt c.in-Recv.from c.args.n c.args.task.p c.args.n within.1.0 within.0) in
-    let some = some_seals (λ queue. queue.items) seal_of queues c.channel-in-Recv.result c.index_mut-in-Recv.result.now inside c.index_mut-in-Recv.ensures.value c.index_mut-in-Recv.result.now.len c.index_mut-in-Recv.result.now.ok.0 (message_waits c.args.n c.requires.next.0 c.requires.next.1 c.args.task c.in-Recv.from c.in-Recv.is c.requires.next.2 c.args.self.now.processes.items (queues_of c.args.self.now) c.requires.next.3 c.channel-in-Recv.result c.channel-in-Recv.ensures) in
-    let first = first_seal (λ queue. queue.items) seal_of queues c.channel-in-Recv.result c.index_mut-in-Recv.result.now inside c.index_mut-in-Recv.ensures.value c.pop_front.result c.unwrap-message.result c.index_mut-in-Recv.result.now.len c.index_mut-in-Recv.result.now.ok.0 some c.pop_front.ensures.value c.unwrap-message.ensures in
-    let acceptable = message_acceptable c.args.n c.requires.next.0 c.requires.next.1 c.args.task c.in-Recv.from c.in-Recv.is c.requires.next.2 c.args.self.now.processes.items (queues_of c.args.self.now) c.requires.next.3 c.channel-in-Recv.result c.channel-in-Recv.ensures (seal_of c.unwrap-message.result) first c.index_mut-in-Recv-2.result.now c.index_mut-in-Recv-2.ensures.value in
+    let some = some_seals (λ queue. queue.items) seal_of queues c.channel-in-Recv.result c.index_mut-in-Recv.result.now inside c.index_mut-in-Recv.ensures.value (message_waits c.args.n c.requires.next.0 c.requires.next.1 c.args.task c.in-Recv.from c.in-Recv.is c.requires.next.2 c.args.self.now.processes.items (queues_of c.args.self.now) c.requires.next.3 c.channel-in-Recv.result c.channel-in-Recv.ensures) in
+    let first = first_seal (λ queue. queue.items) seal_of queues c.channel-in-Recv.result c.index_mut-in-Recv.result.now inside c.index_mut-in-Recv.ensures.value c.oldest-message.result some c.oldest-message.ensures.first in
+    let acceptable = message_acceptable c.args.n c.requires.next.0 c.requires.next.1 c.args.task c.in-Recv.from c.in-Recv.is c.requires.next.2 c.args.self.now.processes.items (queues_of c.args.self.now) c.requires.next.3 c.channel-in-Recv.result c.channel-in-Recv.ensures (seal_of c.oldest-message.result) first c.index_mut-in-Recv-2.result.now c.index_mut-in-Recv-2.ensures.value in
     acceptable.addressed
 
 pub receive-requires-clause-not_ahead : goal.receive-requires-clause-not_ahead
@@ -107,9 +107,9 @@ receive-requires-clause-not_ahead c =
     let run = c.requires.next.3 in
     let within = rw c.in-Recv.is at (next_within c.args.n c.requires.next.0 c.requires.next.1 c.args.task.p c.args.task.action c.requires.next.2) in
     let inside : c.channel-in-Recv.result < length queues = omega (arith, c.channel-in-Recv.ensures, run.channels_are, length-map queues (λ queue. map seal_of queue.items), mul-add-lt c.in-Recv.from c.args.n c.args.task.p c.args.n within.1.0 within.0) in
-    let some = some_seals (λ queue. queue.items) seal_of queues c.channel-in-Recv.result c.index_mut-in-Recv.result.now inside c.index_mut-in-Recv.ensures.value c.index_mut-in-Recv.result.now.len c.index_mut-in-Recv.result.now.ok.0 (message_waits c.args.n c.requires.next.0 c.requires.next.1 c.args.task c.in-Recv.from c.in-Recv.is c.requires.next.2 c.args.self.now.processes.items (queues_of c.args.self.now) c.requires.next.3 c.channel-in-Recv.result c.channel-in-Recv.ensures) in
-    let first = first_seal (λ queue. queue.items) seal_of queues c.channel-in-Recv.result c.index_mut-in-Recv.result.now inside c.index_mut-in-Recv.ensures.value c.pop_front.result c.unwrap-message.result c.index_mut-in-Recv.result.now.len c.index_mut-in-Recv.result.now.ok.0 some c.pop_front.ensures.value c.unwrap-message.ensures in
-    let acceptable = message_acceptable c.args.n c.requires.next.0 c.requires.next.1 c.args.task c.in-Recv.from c.in-Recv.is c.requires.next.2 c.args.self.now.processes.items (queues_of c.args.self.now) c.requires.next.3 c.channel-in-Recv.result c.channel-in-Recv.ensures (seal_of c.unwrap-message.result) first c.index_mut-in-Recv-2.result.now c.index_mut-in-Recv-2.ensures.value in
+    let some = some_seals (λ queue. queue.items) seal_of queues c.channel-in-Recv.result c.index_mut-in-Recv.result.now inside c.index_mut-in-Recv.ensures.value (message_waits c.args.n c.requires.next.0 c.requires.next.1 c.args.task c.in-Recv.from c.in-Recv.is c.requires.next.2 c.args.self.now.processes.items (queues_of c.args.self.now) c.requires.next.3 c.channel-in-Recv.result c.channel-in-Recv.ensures) in
+    let first = first_seal (λ queue. queue.items) seal_of queues c.channel-in-Recv.result c.index_mut-in-Recv.result.now inside c.index_mut-in-Recv.ensures.value c.oldest-message.result some c.oldest-message.ensures.first in
+    let acceptable = message_acceptable c.args.n c.requires.next.0 c.requires.next.1 c.args.task c.in-Recv.from c.in-Recv.is c.requires.next.2 c.args.self.now.processes.items (queues_of c.args.self.now) c.requires.next.3 c.channel-in-Recv.result c.channel-in-Recv.ensures (seal_of c.oldest-message.result) first c.index_mut-in-Recv-2.result.now c.index_mut-in-Recv-2.ensures.value in
     acceptable.not_ahead
 
 pub receive-requires-clause-room : goal.receive-requires-clause-room
@@ -134,8 +134,8 @@ returns-in-Recv c = λ order place next run.
     let queues = c.args.self.now.in_transit.items in
     let within = rw c.in-Recv.is at (next_within c.args.n order place c.args.task.p c.args.task.action next) in
     let inside : c.channel-in-Recv.result < length queues = omega (arith, c.channel-in-Recv.ensures, run.channels_are, length-map queues (λ queue. map seal_of queue.items), mul-add-lt c.in-Recv.from c.args.n c.args.task.p c.args.n within.1.0 within.0) in
-    let some = some_seals (λ queue. queue.items) seal_of queues c.channel-in-Recv.result c.index_mut-in-Recv.result.now inside c.index_mut-in-Recv.ensures.value c.index_mut-in-Recv.result.now.len c.index_mut-in-Recv.result.now.ok.0 (message_waits c.args.n order place c.args.task c.in-Recv.from c.in-Recv.is next c.args.self.now.processes.items (queues_of c.args.self.now) run c.channel-in-Recv.result c.channel-in-Recv.ensures) in
-    let first = first_seal (λ queue. queue.items) seal_of queues c.channel-in-Recv.result c.index_mut-in-Recv.result.now inside c.index_mut-in-Recv.ensures.value c.pop_front.result c.unwrap-message.result c.index_mut-in-Recv.result.now.len c.index_mut-in-Recv.result.now.ok.0 some c.pop_front.ensures.value c.unwrap-message.ensures in
+    let some = some_seals (λ queue. queue.items) seal_of queues c.channel-in-Recv.result c.index_mut-in-Recv.result.now inside c.index_mut-in-Recv.ensures.value (message_waits c.args.n order place c.args.task c.in-Recv.from c.in-Recv.is next c.args.self.now.processes.items (queues_of c.args.self.now) run c.channel-in-Recv.result c.channel-in-Recv.ensures) in
+    let first = first_seal (λ queue. queue.items) seal_of queues c.channel-in-Recv.result c.index_mut-in-Recv.result.now inside c.index_mut-in-Recv.ensures.value c.oldest-message.result some c.oldest-message.ensures.first in
     subst (IsRun c.args.n order (place + 1) (set c.args.self.now.processes.items c.args.task.p c.receive.new.self))
-    (sym (seals_popped (λ queue. queue.items) seal_of queues c.channel-in-Recv.result c.index_mut-in-Recv.result.now inside c.index_mut-in-Recv.ensures.value c.pop_front.new.self c.pop_front.ensures.rest))
-    (performs_receive c.args.n order place c.args.task c.in-Recv.from c.in-Recv.is next c.args.self.now.processes.items (queues_of c.args.self.now) run c.channel-in-Recv.result c.channel-in-Recv.ensures (seal_of c.unwrap-message.result) first c.index_mut-in-Recv-2.result.now c.index_mut-in-Recv-2.ensures.value c.receive.new.self c.receive.ensures)
+    (sym (seals_popped (λ queue. queue.items) seal_of queues c.channel-in-Recv.result c.index_mut-in-Recv.result.now inside c.index_mut-in-Recv.ensures.value c.oldest-message.new.messages c.oldest-message.ensures.rest))
+    (performs_receive c.args.n order place c.args.task c.in-Recv.from c.in-Recv.is next c.args.self.now.processes.items (queues_of c.args.self.now) run c.channel-in-Recv.result c.channel-in-Recv.ensures (seal_of c.oldest-message.result) first c.index_mut-in-Recv-2.result.now c.index_mut-in-Recv-2.ensures.value c.receive.new.self c.receive.ensures)
