@@ -1,11 +1,10 @@
 -- The text of a workload that could be read spells it.
-use Rattle.std.proofs.Common.{◌≡◌, ◌≢◌, ℕ, zero, suc, ◌+◌, ◌^◌, ◌<◌, ◌≤◌, Bool, true, false, cond, ◌&&◌, eqb, leb, ltb, List, [], ◌∷◌, ◌++◌, length, Option, Some, None, Result, Ok, Err, refl, sym, ap, subst, ◌∙◌, append_assoc, arith, le-leb, ne_eqb, eqb-true, inl, inr, ⊎_elim, drop}
-use Rattle.std.specs.Prelude.{codes, replicate, slice_get, All}
+use Rattle.std.proofs.Common.{◌≡◌, ◌≢◌, ℕ, ◌<◌, ◌≤◌, Bool, true, false, cond, ◌&&◌, eqb, List, [], ◌∷◌, ◌++◌, length, Option, Some, None, Ok, refl, sym, ap, subst, ◌∙◌, append_assoc, arith, le-leb, ne_eqb, eqb-true, inl, inr, ⊎_elim, drop}
+use Rattle.std.specs.Prelude.{codes, replicate, slice_get}
 use Rattle.std.specs.List.{flat_map, list_all, AllByRecursion}
 use Rattle.std.specs.Fmt.{decimal}
-use Rattle.std.specs.Option.{unwrap_or}
-use Rattle.std.proofs.lemmas.Bool.{and_parts, cases_Bool, cases_lt, cases_eq}
-use Rattle.std.proofs.lemmas.List.Elements.{All-from_recursion, recursion_from_All, All-append}
+use Rattle.std.proofs.lemmas.Bool.{and_parts, cases_lt, cases_eq}
+use Rattle.std.proofs.lemmas.List.Elements.{All-from_recursion, recursion_from_All}
 use Rattle.std.proofs.lemmas.Option.{slice_get_within, get_or_from_slice_get}
 use Rattle.wcp_model.specs.declared.plan.Parent.{Parent}
 use Rattle.wcp_model.specs.declared.plan.Parent.TheVariants.{Root, Relay}
@@ -14,15 +13,15 @@ use Rattle.wcp_model.specs.declared.plan.PlanFault.TheVariants as fault
 use Rattle.wcp_model.specs.declared.workload.Task.{Task}
 use Rattle.wcp_model.specs.PlanFault.{IsCheckedPlan, IsOutside}
 use Rattle.wcp_model.specs.WorkloadComputation.{IsWithin, CouldBeRead}
-use Rattle.wcp_script.specs.Lines.{TextLine, lines_of, words_of}
+use Rattle.wcp_script.specs.Lines.{TextLine, lines_of}
 use Rattle.wcp_script.specs.WorkloadText.{task_line}
-use Rattle.wcp_script.specs.PlanText.{cap_text, hold_text, relay_text, attach_text, numbered, is_first, is_root_alone, has_one_relay, tree_text, opening_text, head_text, text_of_workload}
+use Rattle.wcp_script.specs.PlanText.{cap_text, hold_text, relay_text, attach_text, numbered, is_first, is_root_alone, has_one_relay, tree_text, opening_text, text_of_workload}
 use Rattle.wcp_script.specs.WorkloadLines.{is_task_word}
-use Rattle.wcp_script.specs.Head.{Head, HeadRead, first_head, first_word, processes_in, processes_by, head_by, head_of, IsPlanOf}
+use Rattle.wcp_script.specs.Head.{Head, HeadRead, first_head, processes_in, processes_by, head_by, head_of, IsPlanOf}
 use Rattle.wcp_script.specs.TextFault.{workloads, steps_by, Spells}
 use Rattle.wcp_script.proofs.Joins.{Lacks, lines_of-append, lines_of_nothing}
-use Rattle.wcp_script.proofs.PrintedTasks.{Lacks-decimal, IsWord, IsWord-decimal, word_from, number_in-decimal, worded, line_bytes, lines_of-line_bytes, words_of-worded, task_words, words_of_task, lines_of-task_line, steps_by-task_lines}
-use Rattle.wcp_script.proofs.PrintedHead.{GoesOn, further, capacities, with_relays, with_attach, unwrap_or-said_unless, said_unless, cap_read, hold_read, relays_read, attaches_read}
+use Rattle.wcp_script.proofs.PrintedTasks.{IsWord, IsWord-decimal, word_from, number_in-decimal, worded, line_bytes, lines_of-line_bytes, words_of-worded, task_words, words_of_task, lines_of-task_line, steps_by-task_lines}
+use Rattle.wcp_script.proofs.PrintedHead.{GoesOn, capacities, with_attach, unwrap_or-said_unless, cap_read, hold_read, relays_read, attaches_read}
 
 -- ---- what a plan that is checked has
 
@@ -63,8 +62,8 @@ sound_from plan checked =
       lower = λ i above is. ⊎_elim (λ (less : above < i). less) (λ (not : i ≤ above). absurd (checked fault.Parent (inr (i, above, is, not)))) (cases_lt above i);
       entries = ⊎_elim (λ (same : length plan.attach.items ≡ plan.n). same) (λ (other : length plan.attach.items ≢ plan.n). absurd (checked fault.Unattached (inl other))) (cases_eq (length plan.attach.items) plan.n);
       served = λ i relay is. ⊎_elim (λ (less : relay < length plan.parents.items). omega (arith, size.1))
-      (λ (not : length plan.parents.items ≤ relay). absurd (checked fault.Unattached (inr (i, Some relay, slice_get_within plan.attach.items i (Some relay) is, get_or_from_slice_get plan.attach.items i (Some relay) (Some relay) is, not))))
-      (cases_lt relay (length plan.parents.items));
+          (λ (not : length plan.parents.items ≤ relay). absurd (checked fault.Unattached (inr (i, Some relay, slice_get_within plan.attach.items i (Some relay) is, get_or_from_slice_get plan.attach.items i (Some relay) (Some relay) is, not))))
+          (cases_lt relay (length plan.parents.items));
     }
 
 -- ---- one relay that serves every process
@@ -96,14 +95,17 @@ HasHead plan last text rest = (head : Head) × GoesOn (capacities plan.n plan.ca
 tree_read : (plan : Plan) (last : ℕ) (rest : List ℕ) (one : Bool) → has_one_relay plan ≡ one → Sound plan → HasHead plan last (cond one [] (numbered relay_text 0 plan.parents.items ++ numbered attach_text 0 plan.attach.items) ++ rest) rest
 tree_read plan last rest true is sound =
     let parts = and_parts (is_root_alone plan.parents.items) (eqb (length plan.attach.items) plan.n && list_all is_first plan.attach.items) is in
-    let all = and_parts (eqb (length plan.attach.items) plan.n) (list_all is_first plan.attach.items) parts.1 in
-    (capacities plan.n plan.cap plan.hold, (last, refl), record {
-      n = refl;
-      cap = unwrap_or-said_unless 8 plan.cap;
-      hold = unwrap_or-said_unless 4 plan.hold;
-      parents = is_root plan.parents.items parts.0;
-      attach = all_first plan.attach.items all.1 ∙ ap (λ k. replicate k (Some 0)) sound.entries;
-    })
+    let all = and_parts (eqb (length plan.attach.items) plan.n) (list_all is_first plan.attach.items) parts.1 in (
+      capacities plan.n plan.cap plan.hold,
+      (last, refl),
+      record {
+        n = refl;
+        cap = unwrap_or-said_unless 8 plan.cap;
+        hold = unwrap_or-said_unless 4 plan.hold;
+        parents = is_root plan.parents.items parts.0;
+        attach = all_first plan.attach.items all.1 ∙ ap (λ k. replicate k (Some 0)) sound.entries;
+      },
+    )
 tree_read plan last rest false is sound =
     let n = plan.n in
     let parents = plan.parents.items in
@@ -115,14 +117,17 @@ tree_read plan last rest false is sound =
     let begun = subst (λ (k : ℕ). GoesOn (with_attach n plan.cap plan.hold parents (replicate k None) None) relays.0 after_relays head rest) sound.entries attached.1 in
     let whole : GoesOn (capacities n plan.cap plan.hold) last (numbered relay_text 0 parents ++ after_relays) head rest = (begun.0, relays.1 ∙ begun.1) in
     let text = subst (λ (text : List ℕ). GoesOn (capacities n plan.cap plan.hold) last text head rest) (sym (append_assoc (numbered relay_text 0 parents) (numbered attach_text 0 attach) rest)) whole in
-    let some : eqb (length parents) 0 ≡ false = ne_eqb (length parents) 0 (λ e. absurd (omega (arith, sound.relays))) in
-    (head, text, record {
-      n = refl;
-      cap = unwrap_or-said_unless 8 plan.cap;
-      hold = unwrap_or-said_unless 4 plan.hold;
-      parents = rw some refl;
-      attach = rw some refl;
-    })
+    let some : eqb (length parents) 0 ≡ false = ne_eqb (length parents) 0 (λ e. absurd (omega (arith, sound.relays))) in (
+      head,
+      text,
+      record {
+        n = refl;
+        cap = unwrap_or-said_unless 8 plan.cap;
+        hold = unwrap_or-said_unless 4 plan.hold;
+        parents = rw some refl;
+        attach = rw some refl;
+      },
+    )
 
 further_lines : (plan : Plan) (rest : List ℕ) → Sound plan → (head : Head) × GoesOn (first_head plan.n) 2 (cap_text plan.cap ++ (hold_text plan.hold ++ (tree_text plan ++ rest))) head rest × IsPlanOf head plan
 further_lines plan rest sound =

@@ -1,29 +1,24 @@
 -- The lines of a plan's head are read as that head.
-use Rattle.std.proofs.Common.{◌≡◌, ℕ, zero, suc, ◌+◌, ◌^◌, ◌<◌, ◌≤◌, Bool, true, false, cond, ◌&&◌, eqb, leb, ltb, List, [], ◌∷◌, ◌++◌, length, Option, Some, None, Result, Ok, Err, refl, sym, ap, subst, ◌∙◌, append_assoc, length-append, arith, lt-ltb, le-leb, eq-eqb, ne_eqb, set, eqb-true, ⊎_elim}
+use Rattle.std.proofs.Common.{◌≡◌, ℕ, suc, ◌+◌, ◌^◌, ◌<◌, ◌≤◌, Bool, true, false, cond, eqb, List, [], ◌∷◌, ◌++◌, length, Option, Some, None, Ok, refl, sym, ap, subst, ◌∙◌, append_assoc, length-append, arith, lt-ltb, le-leb, eq-eqb, ne_eqb, eqb-true, ⊎_elim}
 use Rattle.std.specs.Prelude.{codes, replicate, slice_get}
-use Rattle.std.specs.List.{join_with_byte, flat_map, AllByRecursion}
+use Rattle.std.specs.List.{AllByRecursion}
 use Rattle.std.specs.Fmt.{decimal}
 use Rattle.std.specs.Option.{unwrap_or}
 use Rattle.std.specs.Str.{bytes_eq}
 use Rattle.std.proofs.Math.Seq.{set-append_seam}
-use Rattle.std.proofs.lemmas.Bool.{and_from, cases_Bool, ltb-true, true≢false}
+use Rattle.std.proofs.lemmas.Bool.{cases_Bool, ltb-true, true≢false}
 use Rattle.std.proofs.lemmas.List.{append-nil}
 use Rattle.std.proofs.lemmas.Slice.Eq.{bytes_eq-Decides}
 use Rattle.wcp_model.specs.declared.plan.Parent.{Parent}
 use Rattle.wcp_model.specs.declared.plan.Parent.TheVariants.{Root, Relay}
-use Rattle.wcp_model.specs.declared.plan.Plan.{Plan}
-use Rattle.wcp_model.specs.declared.workload.Task.{Task}
-use Rattle.wcp_model.specs.WorkloadComputation.{IsWithin}
-use Rattle.wcp_script.specs.declared.fault.ScriptFault.{ScriptFault}
 use Rattle.wcp_script.specs.declared.head_line.HeadLine.{HeadLine}
 use Rattle.wcp_script.specs.declared.head_line.HeadLine.TheVariants as said
-use Rattle.wcp_script.specs.Lines.{TextLine, lines_of, words_of}
-use Rattle.wcp_script.specs.WorkloadText.{task_line}
+use Rattle.wcp_script.specs.Lines.{lines_of}
 use Rattle.wcp_script.specs.PlanText.{cap_text, hold_text, parent_word, relay_text, attach_text, numbered}
 use Rattle.wcp_script.specs.WorkloadLines.{is_task_word}
-use Rattle.wcp_script.specs.Head.{Head, HeadRead, first_head, first_word, head_words, head_line, with_line, head_by, parent_in, is_above, is_after, has_no_relay}
+use Rattle.wcp_script.specs.Head.{Head, first_head, head_words, head_line, with_line, head_by, parent_in, is_above, is_after}
 use Rattle.wcp_script.proofs.Joins.{Lacks}
-use Rattle.wcp_script.proofs.PrintedTasks.{Lacks-decimal, IsWord, IsWord-decimal, word_from, number_in-decimal, worded, line_bytes, lines_of-line_bytes, words_of-worded, task_words, lines_of-task_line}
+use Rattle.wcp_script.proofs.PrintedTasks.{Lacks-decimal, IsWord, IsWord-decimal, word_from, number_in-decimal, line_bytes, lines_of-line_bytes, words_of-worded}
 
 -- The head so far, and what follows in the text, is read as the other head and what follows then.
 abbrev pub GoesOn : Head → ℕ → List ℕ → Head → List ℕ → Type 0

@@ -1,5 +1,5 @@
 -- The step of a line with its LF.
-use Rattle.std.proofs.Common.{◌≡◌, ℕ, true, List, Result, refl}
+use Rattle.std.proofs.Common.{◌≡◌, ℕ, true, List, Result}
 use Rattle.wcp_model.specs.declared.step.Step.{Step}
 use Rattle.wcp_script.specs.declared.fault.FaultKind.{FaultKind}
 use Rattle.wcp_script.specs.Lines.{TextLine, words_of}
