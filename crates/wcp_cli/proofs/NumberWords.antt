@@ -1,4 +1,4 @@
-use Rattle.std.proofs.Common.{◌≡◌, ◌∙◌, ◌==◌, ◌&&◌, ◌<◌, ◌^◌, ℕ, Bool, true, false, List, [], ◌∷◌, length, pos, refl, ap, subst, sym, arith, nat_le, nat_lt, lt-ltb, ne_eqb, decimal, None}
+use Rattle.std.proofs.Common.{◌≡◌, ◌∙◌, ◌==◌, ◌&&◌, ◌<◌, ◌≤◌, ◌⊎◌, ◌^◌, ℕ, Bool, true, false, List, [], ◌∷◌, length, pos, refl, ap, subst, sym, arith, nat_le, nat_lt, lt-ltb, le-leb, leb-true, inl, inr, ne_eqb, decimal, None}
 use Rattle.std.specs.List.{list_all}
 use Rattle.std.specs.Str.{bytes_eq}
 use Rattle.std.specs.Char.{digit_value}
@@ -25,21 +25,42 @@ all_digits : (digits : List ℕ) → AllDigits 10 digits → list_all (λ d. nat
 all_digits [] are = refl
 all_digits (byte ∷ bytes) are = rw (lt-ltb (digit_value byte) 10 are.0) (all_digits bytes are.1)
 
-digits_in : (least most : ℕ) (digits : List ℕ) → IsNumeral 10 digits → digits_value 10 digits < 2 ^ 63
-    → IsNumberIn least most (nat_le least (digits_value 10 digits) && nat_le (digits_value 10 digits) most) digits
-digits_in least most [] are small = absurd (omega (arith, are.0))
-digits_in least most (byte ∷ bytes) are small =
+-- clap reads a number of 64 bits with a sign
+abbrev is_in : ℕ → ℕ → ℕ → Bool
+is_in least most n = nat_lt n (2 ^ 63) && (nat_le least n && nat_le n most)
+
+digits_in : (least most : ℕ) (digits : List ℕ) → IsNumeral 10 digits → IsNumberIn least most (is_in least most (digits_value 10 digits)) digits
+digits_in least most [] are = absurd (omega (arith, are.0))
+digits_in least most (byte ∷ bytes) are =
     let hyphen = no_hyphen_first byte are.1.0 in
     let plus = no_plus_first byte are.1.0 in
     record {
       no_hyphen = rw hyphen refl;
       no_end = rw hyphen refl;
-      tested = rw (hyphen, plus, lt-ltb 0 (length (byte ∷ bytes)) (omega arith), lt-ltb (digit_value byte) 10 are.1.0, all_digits bytes are.1.1, lt-ltb (digits_value 10 (byte ∷ bytes)) (2 ^ 63) small) refl;
+      tested = rw (hyphen, plus, lt-ltb 0 (length (byte ∷ bytes)) (omega arith), lt-ltb (digit_value byte) 10 are.1.0, all_digits bytes are.1.1) refl;
     }
 
--- the decimal text of a number is such a word
-pub decimal_in : (least most n : ℕ) → n < 2 ^ 63 → IsNumberIn least most (nat_le least n && nat_le n most) (decimal n)
+decimal_in : (least most n : ℕ) → n < 2 ^ 64 → IsNumberIn least most (is_in least most n) (decimal n)
 decimal_in least most n small =
-    let numeral = decimal_is_IsNumeral n (omega arith) in
-    subst (λ m. IsNumberIn least most (nat_le least m && nat_le m most) (decimal n)) numeral.1
-    (digits_in least most (decimal n) numeral.0 (omega (arith, numeral.1)))
+    let numeral = decimal_is_IsNumeral n small in
+    subst (λ m. IsNumberIn least most (is_in least most m) (decimal n)) numeral.1 (digits_in least most (decimal n) numeral.0)
+
+both_true : (a b : Bool) → (a && b) ≡ true → (a ≡ true) × (b ≡ true)
+both_true true b e = (refl, e)
+both_true false b e = cc
+
+-- the decimal text of a number in a range is a word that clap takes
+pub decimal-taken : (least most n : ℕ) → least ≤ n → n ≤ most → most < 2 ^ 63 → IsNumberIn least most true (decimal n)
+decimal-taken least most n low high small =
+    let inside : is_in least most n ≡ true = rw (lt-ltb n (2 ^ 63) (omega arith), le-leb least n low, le-leb n most high) refl in
+    subst (λ b. IsNumberIn least most b (decimal n)) inside (decimal_in least most n (omega arith))
+
+-- a number is in the range and clap takes its text, or clap refuses it
+pub decimal-cases : (least most n : ℕ) → n < 2 ^ 64 → ((least ≤ n) × (n ≤ most) × IsNumberIn least most true (decimal n)) ⊎ IsNumberIn least most false (decimal n)
+decimal-cases least most n small = go (is_in least most n) refl
+  where
+    go : (inside : Bool) → is_in least most n ≡ inside → ((least ≤ n) × (n ≤ most) × IsNumberIn least most true (decimal n)) ⊎ IsNumberIn least most false (decimal n)
+    go true is =
+        let parts = both_true (nat_le least n) (nat_le n most) (both_true (nat_lt n (2 ^ 63)) _ is).1 in
+        inl (leb-true least n parts.0, leb-true n most parts.1, subst (λ b. IsNumberIn least most b (decimal n)) is (decimal_in least most n small))
+    go false is = inr (subst (λ b. IsNumberIn least most b (decimal n)) is (decimal_in least most n small))

@@ -3,6 +3,7 @@ use Rattle.clap.proofs.OnLiterals.{clap_on_literals}
 use Rattle.std.specs.Str.{bytes_eq}
 use Rattle.clap.specs.Kinds.{Kinds, or_else}
 use Rattle.clap.specs.Lexer.{strip_byte}
+use Rattle.clap.specs.declared.error.kind.ErrorKind.{ErrorKind}
 use Rattle.clap.proofs.FaultLemmas.{stopped_fault}
 use Rattle.clap.specs.Words.{App, Rule, Shape, Text, Row, built, fault_of, subcommand_of}
 use Rattle.clap.specs.Faults.{built_fault, check_fault, defaults_fault, level_fault, settle_fault, walk_fault}
@@ -13,15 +14,15 @@ use Rattle.clap.specs.declared.builder.value_parser.Reading.TheVariants.{AsWritt
 use Rattle.clap.specs.declared.parser.matches.ValueSource.{ValueSource}
 use Rattle.clap.specs.declared.parser.matches.ValueSource.TheVariants.{CommandLine, DefaultValue}
 use Rattle.wcp_cli.specs.Words.{AskForRing, IsRing, program, ring_shape}
-use Rattle.wcp_cli.proofs.WordLemmas.{stays_as_stopped}
+use Rattle.wcp_cli.proofs.StoppedWalk.{stays_as_stopped}
 use Rattle.wcp_cli.specs.RingOptions.{AsksForRing, HasOptions}
-use Rattle.wcp_cli.proofs.NumberWords.{IsNumberIn, decimal_in}
+use Rattle.wcp_cli.proofs.NumberWords.{IsNumberIn, decimal-taken}
 
 -- the subcommand that clap finds by the words after the program's name
 abbrev pub found_by : List Text → Option (Text × List Row)
 found_by words = entered (built program) (stop_after (built program).top.rules (names_of (built program)) words)
 
-abbrev number_row : Text → Text → Row
+abbrev pub number_row : Text → Text → Row
 number_row name word = record {
   id = name;
   values = word ∷ [];
@@ -30,7 +31,7 @@ number_row name word = record {
   reading = WithoutMinus;
 }
 
-abbrev ring_rows : Text → Text → Bool → ValueSource → List Row
+abbrev pub ring_rows : Text → Text → Bool → ValueSource → List Row
 ring_rows procs rounds fault source = number_row (codes "procs") procs ∷ number_row (codes "rounds") rounds ∷ record {
   id = codes "fault";
   values = bool_text fault ∷ [];
@@ -42,22 +43,22 @@ ring_rows procs rounds fault source = number_row (codes "procs") procs ∷ numbe
 -- ---- a parse of the words with both numbers passes
 
 -- the word `ring` as clap builds it
-abbrev ring_built : Shape
+abbrev pub ring_built : Shape
 ring_built = get_or (built program).subs 2 ring_shape
 
 -- a walk at which an option waits for its value
-abbrev waits_for : Text → Held → Walk
+abbrev pub waits_for : Text → Held → Walk
 waits_for id h = record { held = h; waiting = option id; position = 1; is_trailing = false; stopped = None }
 
 -- and that walk after the value
-abbrev given : List Rule → Text → Text → Held → Walk
+abbrev pub given : List Rule → Text → Text → Held → Walk
 given rules id word h = record (waits_for id h) {
   held = (option_word (arg_by_id rules id) id word h).0;
   waiting = (option_word (arg_by_id rules id) id word h).1;
 }
 
 -- a word that is no flag is the value of the option that waits
-value_step : (s : Shape) (id word : Text) (h : Held) (rest : List Text) → strip_byte 45 word ≡ None → bytes_eq word (45 ∷ 45 ∷ []) ≡ false
+pub value_step : (s : Shape) (id word : Text) (h : Held) (rest : List Text) → strip_byte 45 word ≡ None → bytes_eq word (45 ∷ 45 ∷ []) ≡ false
     → walk_fault s [] (waits_for id h) (word ∷ rest) ≡ walk_fault s [] (given s.rules id word h) rest
 unfolding walk_fault walked
 value_step s id word h rest no_hyphen no_end = simp (no_hyphen, no_end) refl
@@ -69,14 +70,14 @@ second_option : (procs rounds : Text) (rest : List Text) → IsNumberIn 2 16 tru
 unfolding clap_on_literals
 second_option procs rounds rest p = simp (p.tested) refl
 
-abbrev held_at_end : Text → Text → Held
+abbrev pub held_at_end : Text → Text → Held
 held_at_end procs rounds = record { rows = number_row (codes "procs") procs ∷ []; pending = Some (codes "rounds", rounds ∷ []); skip = 0 }
 
-numbers_walked : (procs rounds : Text) (rest : List Text) → IsNumberIn 2 16 true procs → IsNumberIn 1 1000 true rounds
+pub numbers_walked : (procs rounds : Text) (rest : List Text) (inside : Bool) → IsNumberIn 2 16 true procs → IsNumberIn 1 1000 inside rounds
     → walk_fault ring_built [] (walk_from nothing_held) (codes "--procs" ∷ procs ∷ codes "--rounds" ∷ rounds ∷ rest)
     ≡ walk_fault ring_built [] (record { held = held_at_end procs rounds; waiting = idle; position = 1; is_trailing = false; stopped = None }) rest
 unfolding clap_on_literals
-numbers_walked procs rounds rest p r =
+numbers_walked procs rounds rest inside p r =
     value_step ring_built (codes "procs") procs (record { rows = []; pending = Some (codes "procs", []); skip = 0 }) (codes "--rounds" ∷ rounds ∷ rest) p.no_hyphen p.no_end
     ∙ second_option procs rounds rest p
     ∙ value_step ring_built (codes "rounds") rounds (record { rows = number_row (codes "procs") procs ∷ []; pending = Some (codes "rounds", []); skip = 0 }) rest r.no_hyphen r.no_end
@@ -87,23 +88,23 @@ unfolding clap_on_literals
 fault_walked procs rounds r = simp (r.tested) refl
 
 -- what is tested after the last word
-abbrev end_fault : Held → Kinds
+abbrev pub end_fault : Held → Kinds
 end_fault end = or_else (settle_fault ring_built.rules ring_built.args_override_self end)
     (or_else (defaults_fault (settled ring_built.rules end).rows ring_built.rules) (check_fault ring_built (finished ring_built.rules end) false))
 
-abbrev ended : Held → Walk
+abbrev pub ended : Held → Walk
 ended h = record { held = h; waiting = idle; position = 1; is_trailing = false; stopped = None }
 
-plain_walk : (procs rounds : Text) → IsNumberIn 2 16 true procs → IsNumberIn 1 1000 true rounds
+pub plain_walk : (procs rounds : Text) (inside : Bool) → IsNumberIn 2 16 true procs → IsNumberIn 1 1000 inside rounds
     → walk ring_built.rules [] nothing_held (codes "--procs" ∷ procs ∷ codes "--rounds" ∷ rounds ∷ []) ≡ ended (held_at_end procs rounds)
 unfolding clap_on_literals
-plain_walk procs rounds p r = simp (p.no_hyphen, p.no_end, r.no_hyphen, r.no_end) refl
+plain_walk procs rounds inside p r = simp (p.no_hyphen, p.no_end, r.no_hyphen, r.no_end) refl
 
-fault_walk : (procs rounds : Text) → IsNumberIn 2 16 true procs → IsNumberIn 1 1000 true rounds
+pub fault_walk : (procs rounds : Text) (inside : Bool) → IsNumberIn 2 16 true procs → IsNumberIn 1 1000 inside rounds
     → walk ring_built.rules [] nothing_held (codes "--procs" ∷ procs ∷ codes "--rounds" ∷ rounds ∷ codes "--fault" ∷ [])
     ≡ ended (record { rows = ring_rows procs rounds true CommandLine; pending = None; skip = 0 })
 unfolding clap_on_literals
-fault_walk procs rounds p r = simp (p.no_hyphen, p.no_end, r.no_hyphen, r.no_end) refl
+fault_walk procs rounds inside p r = simp (p.no_hyphen, p.no_end, r.no_hyphen, r.no_end) refl
 
 plain_end : (procs rounds : Text) → IsNumberIn 1 1000 true rounds → end_fault (held_at_end procs rounds) ≡ []
 unfolding clap_on_literals
@@ -113,25 +114,33 @@ fault_end : (procs rounds : Text) → end_fault (record { rows = ring_rows procs
 unfolding clap_on_literals
 fault_end procs rounds = refl
 
--- the command above `ring` refuses nothing that `ring` takes
-top_passes : (words : List Text) → level_fault ring_built [] nothing_held words false [] ≡ [] → built_fault (built program) nothing_held (codes "ring" ∷ words) ≡ []
+-- the command above `ring` refuses just what `ring` refuses
+pub top_passes : (words : List Text) → level_fault ring_built [] nothing_held words false [] ≡ [] → built_fault (built program) nothing_held (codes "ring" ∷ words) ≡ []
 unfolding clap_on_literals
 top_passes words passes =
     let stops = stays_as_stopped (built program).top.rules (names_of (built program)) (walk_from nothing_held) (codes "ring") [] words in
     let passed = stopped_fault (built program).top (names_of (built program)) (walk_from nothing_held) (codes "ring", []) words in
     simp (stops, passed, passes) refl
 
+pub top_fails : (words : List Text) (why : ErrorKind) → level_fault ring_built [] nothing_held words false [] ≡ why ∷ []
+    → built_fault (built program) nothing_held (codes "ring" ∷ words) ≡ why ∷ []
+unfolding clap_on_literals
+top_fails words why fails =
+    let stops = stays_as_stopped (built program).top.rules (names_of (built program)) (walk_from nothing_held) (codes "ring") [] words in
+    let passed = stopped_fault (built program).top (names_of (built program)) (walk_from nothing_held) (codes "ring", []) words in
+    simp (stops, passed, fails) refl
+
 plain_passes : (procs rounds : Text) → IsNumberIn 2 16 true procs → IsNumberIn 1 1000 true rounds
     → built_fault (built program) nothing_held (codes "ring" ∷ codes "--procs" ∷ procs ∷ codes "--rounds" ∷ rounds ∷ []) ≡ []
 unfolding walk_fault
 plain_passes procs rounds p r = top_passes (codes "--procs" ∷ procs ∷ codes "--rounds" ∷ rounds ∷ [])
-    (ap₂ or_else (numbers_walked procs rounds [] p r) (ap (λ (w : Walk). end_fault w.held) (plain_walk procs rounds p r) ∙ plain_end procs rounds r))
+    (ap₂ or_else (numbers_walked procs rounds [] true p r) (ap (λ (w : Walk). end_fault w.held) (plain_walk procs rounds true p r) ∙ plain_end procs rounds r))
 
 fault_passes : (procs rounds : Text) → IsNumberIn 2 16 true procs → IsNumberIn 1 1000 true rounds
     → built_fault (built program) nothing_held (codes "ring" ∷ codes "--procs" ∷ procs ∷ codes "--rounds" ∷ rounds ∷ codes "--fault" ∷ []) ≡ []
 unfolding walk_fault
 fault_passes procs rounds p r = top_passes (codes "--procs" ∷ procs ∷ codes "--rounds" ∷ rounds ∷ codes "--fault" ∷ [])
-    (ap₂ or_else (numbers_walked procs rounds (codes "--fault" ∷ []) p r ∙ fault_walked procs rounds r) (ap (λ (w : Walk). end_fault w.held) (fault_walk procs rounds p r) ∙ fault_end procs rounds))
+    (ap₂ or_else (numbers_walked procs rounds (codes "--fault" ∷ []) true p r ∙ fault_walked procs rounds r) (ap (λ (w : Walk). end_fault w.held) (fault_walk procs rounds true p r) ∙ fault_end procs rounds))
 
 -- ---- and finds the options
 
@@ -155,33 +164,27 @@ rows_have n rounds fault source p r = record {
 
 -- ---- words that ask for a ring
 
-procs_word : (n : ℕ) → 2 ≤ n → n ≤ 16 → IsNumberIn 2 16 true (decimal n)
-procs_word n more few = subst (λ b. IsNumberIn 2 16 b (decimal n)) (ap₂ (λ a b. a && b) (le-leb 2 n more) (le-leb n 16 few)) (decimal_in 2 16 n (omega arith))
-
-rounds_word : (n : ℕ) → 1 ≤ n → n ≤ 1000 → IsNumberIn 1 1000 true (decimal n)
-rounds_word n more few = subst (λ b. IsNumberIn 1 1000 b (decimal n)) (ap₂ (λ a b. a && b) (le-leb 1 n more) (le-leb n 1000 few)) (decimal_in 1 1000 n (omega arith))
-
 pub ring-passes : (n rounds : ℕ) (fault : Bool) (words : List Text) → IsRing n rounds → AskForRing n rounds fault words → fault_of program words ≡ []
 ring-passes n rounds true words is asked =
     ap (built_fault (built program) nothing_held) asked
-    ∙ fault_passes (decimal n) (decimal rounds) (procs_word n is.more_than_one is.few) (rounds_word rounds is.some_rounds is.few_rounds)
+    ∙ fault_passes (decimal n) (decimal rounds) (decimal-taken 2 16 n is.more_than_one is.few (omega arith)) (decimal-taken 1 1000 rounds is.some_rounds is.few_rounds (omega arith))
 ring-passes n rounds false words is asked =
     ap (built_fault (built program) nothing_held) asked
-    ∙ plain_passes (decimal n) (decimal rounds) (procs_word n is.more_than_one is.few) (rounds_word rounds is.some_rounds is.few_rounds)
+    ∙ plain_passes (decimal n) (decimal rounds) (decimal-taken 2 16 n is.more_than_one is.few (omega arith)) (decimal-taken 1 1000 rounds is.some_rounds is.few_rounds (omega arith))
 
 pub ring-found : (n rounds : ℕ) (fault : Bool) (words : List Text) → IsRing n rounds → AskForRing n rounds fault words
     → AsksForRing n rounds fault (subcommand_of program words)
 ring-found n rounds true words is asked =
-    let p = procs_word n is.more_than_one is.few in
-    let r = rounds_word rounds is.some_rounds is.few_rounds in
+    let p = decimal-taken 2 16 n is.more_than_one is.few (omega arith) in
+    let r = decimal-taken 1 1000 rounds is.some_rounds is.few_rounds (omega arith) in
     record {
       rows = ring_rows (decimal n) (decimal rounds) true CommandLine;
       is = ap found_by asked ∙ fault_found (decimal n) (decimal rounds) p r;
       options = rows_have n rounds true CommandLine p r;
     }
 ring-found n rounds false words is asked =
-    let p = procs_word n is.more_than_one is.few in
-    let r = rounds_word rounds is.some_rounds is.few_rounds in
+    let p = decimal-taken 2 16 n is.more_than_one is.few (omega arith) in
+    let r = decimal-taken 1 1000 rounds is.some_rounds is.few_rounds (omega arith) in
     record {
       rows = ring_rows (decimal n) (decimal rounds) false DefaultValue;
       is = ap found_by asked ∙ plain_found (decimal n) (decimal rounds) p r;

@@ -11,7 +11,9 @@ use Rattle.std.proofs.lemmas.Bool.{false_from_ne_true}
 use Rattle.std.proofs.lemmas.Slice.Eq.{bytes_eq-Decides}
 use Rattle.clap.specs.declared.error.kind.ErrorKind.TheVariants as kind
 use Rattle.std.specs.Str.{bytes_eq}
-use Rattle.wcp_cli.specs.Words.{AskForSingle, AskForHelp, AskForReplay, AskForUnknown, Unknown, Further, FurtherReplay, is_flag, program}
+use Rattle.wcp_cli.proofs.NoRingWords.{no_ring-fails}
+use Rattle.wcp_cli.proofs.StoppedWalk.{stays_stopped}
+use Rattle.wcp_cli.specs.Words.{AskForSingle, AskForHelp, AskForReplay, AskForUnknown, Unknown, Further, FurtherReplay, NoRing, is_flag, program}
 
 pub program_is_free : is_simple_and_free program ≡ true
 unfolding clap_on_literals
@@ -85,18 +87,6 @@ unknown_first : (word : Text) (rest : List Text) → strip_byte 45 word ≡ None
 unfolding clap_on_literals
 unknown_first word rest no_flag not_single not_replay not_ring not_help not_end = simp (not_single, not_replay, not_ring, not_help, not_end, no_flag) refl
 
--- what follows the name of a subcommand is left to it
-pub stays_as_stopped : (rules : List Rule) (names : Names) (w : Walk) (name : Text) (before words : List Text)
-    → fold (walked rules names) (record w { stopped = Some (name, before) }) words ≡ record w { stopped = Some (name, before ++ words) }
-unfolding walked
-stays_as_stopped rules names w name before [] = ap (λ ws. record w { stopped = Some (name, ws) }) (sym (append-nil before))
-stays_as_stopped rules names w name before (word ∷ words) =
-    stays_as_stopped rules names w name (before ++ word ∷ []) words ∙ ap (λ ws. record w { stopped = Some (name, ws) }) (append_assoc before (word ∷ []) words)
-
-stays_stopped : (rules : List Rule) (names : Names) (w : Walk) (name : Text) (before words : List Text)
-    → (fold (walked rules names) (record w { stopped = Some (name, before) }) words).stopped ≡ Some (name, before ++ words)
-stays_stopped rules names w name before words = ap (λ (after : Walk). after.stopped) (stays_as_stopped rules names w name before words)
-
 -- `single` has a further word
 further_word : (word : Text) (rest : List Text) → strip_byte 45 word ≡ None → bytes_eq word (45 ∷ 45 ∷ []) ≡ false
     → built_fault (built program) nothing_held (codes "single" ∷ word ∷ rest) ≡ kind.UnknownArgument ∷ []
@@ -129,6 +119,12 @@ fails_by_word = record {
 fails_by_argument : FailsPlainly (kind.UnknownArgument ∷ [])
 fails_by_argument = record { fails = λ bad. cc; no_help = λ among. elim among [ inl bad ↦ cc | inr none ↦ none ] }
 
+fails_by_value : FailsPlainly (kind.ValueValidation ∷ [])
+fails_by_value = record { fails = λ bad. cc; no_help = λ among. elim among [ inl bad ↦ cc | inr none ↦ none ] }
+
+fails_by_want : FailsPlainly (kind.MissingRequiredArgument ∷ [])
+fails_by_want = record { fails = λ bad. cc; no_help = λ among. elim among [ inl bad ↦ cc | inr none ↦ none ] }
+
 -- words that ask for what the program doesn't know are refused, and not as a wish for help
 pub unknown-fails : (words : List Text) → AskForUnknown words → FailsPlainly (fault_of program words)
 unknown-fails words (Unknown word rest is unknown) =
@@ -142,3 +138,7 @@ unknown-fails words (Further word rest is no_flag) =
 unknown-fails words (FurtherReplay word rest is no_flag) =
     let fault = further_word_of_replay word rest (no_hyphen word no_flag) (not_end_of_flags word no_flag) in
     subst FailsPlainly (sym (ap (built_fault (built program) nothing_held) is ∙ fault)) fails_by_argument
+unknown-fails words (NoRing asked) = elim (no_ring-fails words asked) [
+  | inl fault ↦ subst FailsPlainly (sym fault) fails_by_value
+  | inr fault ↦ subst FailsPlainly (sym fault) fails_by_want
+]

@@ -1,4 +1,5 @@
-use Rattle.std.specs.Prelude.{◌≡◌, ℕ, ◌≤◌, List, Option, length}
+use Rattle.std.specs.Prelude.{◌≡◌, ℕ, ◌≤◌, Bool, List, ◌++◌, Option, length}
+use Rattle.std.specs.List.{flat_map}
 use Rattle.std.specs.Io.KnownBytes.{Keeps, Appends, Consumes, IsAtEnd}
 use Rattle.wcp_model.specs.declared.outcome.Outcome.{Outcome}
 use Rattle.wcp_model.specs.declared.outcome.Report.{Report}
@@ -7,7 +8,11 @@ use Rattle.wcp_model.specs.declared.workload.Task.{Task}
 use Rattle.wcp_model.specs.Outcome.{IsWorkloadOutcome}
 use Rattle.wcp_model.specs.WorkloadComputation.{CouldBeRead}
 use Rattle.wcp_report.specs.ReportText.{outcome_text}
-use Rattle.wcp_script.specs.WorkloadText.{workload_text}
+use Rattle.wcp_model.specs.declared.plan.Plan.{Plan}
+use Rattle.wcp_script.specs.PlanText.{opening_text}
+use Rattle.wcp_script.specs.Ring.{ring_tasks}
+use Rattle.wcp_script.specs.TextFault.{workloads, Spells}
+use Rattle.wcp_script.specs.WorkloadText.{task_line}
 use Rattle.wcp_cli.specs.declared.input.TheConstants.{MOST_BYTES}
 use Rattle.wcp_cli.specs.Bytes.{AppendsFront}
 
@@ -23,12 +28,12 @@ status_of Undecided = 1
 
 -- The answer to the text of a workload: its outcome, printed, with the status of the report.
 pub record IsOutcomeAnswer (text printed : List ℕ) (status : ℕ) : Type 0 where
-  pub n : ℕ
+  pub plan : Plan
   pub tasks : List Task
   pub outcome : Outcome
-  pub spelled : text ≡ workload_text n tasks
-  pub could_be_read : CouldBeRead n tasks
-  pub right : IsWorkloadOutcome n tasks outcome
+  pub spelled : Spells workloads text plan tasks
+  pub could_be_read : CouldBeRead plan.n tasks
+  pub right : IsWorkloadOutcome plan.n tasks outcome
   pub print : printed ≡ outcome_text outcome
   pub status_is : status ≡ status_of outcome.report
 
@@ -60,11 +65,20 @@ pub data Shows (IsShown : List ℕ → Type 0) (input input_after output output_
 abbrev pub IsHelpText : List ℕ → Type 0
 IsHelpText text = Unit {0}
 
+-- The text of a ring workload: two lines of head, and a line for each task.
+abbrev pub ring_text : ℕ → ℕ → Bool → List ℕ
+ring_text n rounds fault = opening_text n ++ flat_map task_line (ring_tasks n rounds fault)
+
+-- The text is that of this ring.
+abbrev pub IsRingText : ℕ → ℕ → Bool → List ℕ → Type 0
+IsRingText n rounds fault text = text ≡ ring_text n rounds fault
+
 -- What the program may do, whatever its words: answer, be refused, or show a text of its own.
 pub data IsRun (input input_after output output_after : Known) (status : ℕ) : Type 0 where
   Answered : Answers IsOutcomeAnswer input input_after output output_after status → IsRun input input_after output output_after status
   Refused : Refuses IsOutcomeAnswer input input_after output output_after → status ≡ 2 → IsRun input input_after output output_after status
   Helped : Shows IsHelpText input input_after output output_after status → IsRun input input_after output output_after status
+  Printed : (n rounds : ℕ) (fault : Bool) → Shows (IsRingText n rounds fault) input input_after output output_after status → IsRun input input_after output output_after status
 
 -- A run that is turned away reads nothing and writes nothing, and its status is 2.
 pub record TurnsAway (input input_after output output_after : Known) (status : ℕ) : Type 0 where

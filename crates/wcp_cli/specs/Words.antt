@@ -1,4 +1,4 @@
-use Rattle.std.specs.Prelude.{◌≡◌, ◌≢◌, ◌⊎◌, ◌==◌, ◌≤◌, ℕ, Bool, true, false, List, [], ◌∷◌, Some, pos, drop, codes, if◌then◌else◌}
+use Rattle.std.specs.Prelude.{◌≡◌, ◌≢◌, ◌⊎◌, ◌==◌, ◌≤◌, ◌<◌, ◌^◌, ℕ, Bool, true, false, List, [], ◌∷◌, Some, pos, drop, codes, if◌then◌else◌}
 use Rattle.std.specs.Fmt.{decimal}
 use Rattle.clap.specs.Words.{App, Rule, Shape, Text, new_app, new_rule, with_subcommand}
 use Rattle.clap.specs.Simple.{new_shape}
@@ -43,10 +43,14 @@ AskForSingle words = (drop 1 words ≡ []) ⊎ (drop 1 words ≡ codes "single" 
 abbrev pub AskForReplay : List Text → Type 0
 AskForReplay words = drop 1 words ≡ codes "replay" ∷ []
 
+-- The word after the numbers of a ring, where there shall be a fault.
+abbrev pub flag_words : Bool → List Text
+flag_words fault = if fault then codes "--fault" ∷ [] else []
+
 -- The words ask for the workload of a ring of n processes: after the program's name there is `ring` with both numbers, and the flag where there shall be a fault.
 abbrev pub AskForRing : ℕ → ℕ → Bool → List Text → Type 0
 AskForRing n rounds fault words = drop 1 words
-    ≡ codes "ring" ∷ codes "--procs" ∷ decimal n ∷ codes "--rounds" ∷ decimal rounds ∷ (if fault then codes "--fault" ∷ [] else [])
+    ≡ codes "ring" ∷ codes "--procs" ∷ decimal n ∷ codes "--rounds" ∷ decimal rounds ∷ flag_words fault
 
 -- There are rings of 2 to 16 processes and 1 to 1000 rounds.
 pub record IsRing (n rounds : ℕ) : Type 0 where
@@ -54,6 +58,13 @@ pub record IsRing (n rounds : ℕ) : Type 0 where
   pub few : n ≤ 16
   pub some_rounds : 1 ≤ rounds
   pub few_rounds : rounds ≤ 1000
+
+-- The words ask for a ring that there isn't, or leave out one of its numbers or both.
+pub data AskForNoRing (words : List Text) : Type 0 where
+  OutOfRange : (n rounds : ℕ) (fault : Bool) → n < 2 ^ 64 → rounds < 2 ^ 64 → (IsRing n rounds → ⊥) → AskForRing n rounds fault words → AskForNoRing words
+  OnlyProcs : (n : ℕ) (fault : Bool) → n < 2 ^ 64 → drop 1 words ≡ codes "ring" ∷ codes "--procs" ∷ decimal n ∷ flag_words fault → AskForNoRing words
+  OnlyRounds : (rounds : ℕ) (fault : Bool) → rounds < 2 ^ 64 → drop 1 words ≡ codes "ring" ∷ codes "--rounds" ∷ decimal rounds ∷ flag_words fault → AskForNoRing words
+  NoNumber : (fault : Bool) → drop 1 words ≡ codes "ring" ∷ flag_words fault → AskForNoRing words
 
 -- The words ask for help.
 abbrev pub AskForHelp : List Text → Type 0
@@ -72,11 +83,12 @@ pub record IsUnknown (word : Text) : Type 0 where
   pub not_ring : word ≢ codes "ring"
   pub not_help : word ≢ codes "help"
 
--- The words ask for what the program doesn't know: their first is unknown, or it is `single` or `replay` and a word that is no flag follows it.
+-- The words ask for what the program doesn't know: their first is unknown, or it is `single` or `replay` and a word that is no flag follows it, or there is no such ring.
 pub data AskForUnknown (words : List Text) : Type 0 where
   Unknown : (word : Text) (rest : List Text) → drop 1 words ≡ word ∷ rest → IsUnknown word → AskForUnknown words
   Further : (word : Text) (rest : List Text) → drop 1 words ≡ codes "single" ∷ word ∷ rest → is_flag word ≡ false → AskForUnknown words
   FurtherReplay : (word : Text) (rest : List Text) → drop 1 words ≡ codes "replay" ∷ word ∷ rest → is_flag word ≡ false → AskForUnknown words
+  NoRing : AskForNoRing words → AskForUnknown words
 
 -- The request is for help.
 abbrev pub IsHelp : Request → Type 0

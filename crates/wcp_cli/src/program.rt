@@ -1,19 +1,20 @@
 //! The program, over any reader and writers.
-ghost use Rattle.std.specs.Prelude.{◌≡◌, ◌≤◌, map, IfOk, MatchResult};
-ghost use Rattle.std.specs.Io.KnownBytes.{Keeps};
-ghost use Rattle.wcp_cli.specs.Run.{Answers, IsHelpText, IsOutcomeAnswer, IsRun, Refuses, Shows, TurnsAway, status_of};
-ghost use Rattle.wcp_cli.specs.Words.{AskForSingle, AskForHelp, AskForUnknown};
+ghost use Rattle.std.specs.Prelude.{◌≡◌, ℕ, ◌≤◌, Bool, map, IfOk, OnOk, OnErr, MatchResult};
+ghost use Rattle.std.specs.Io.KnownBytes.{Keeps, Appends};
+ghost use Rattle.wcp_cli.specs.Run.{Answers, IsHelpText, IsOutcomeAnswer, IsRingText, IsRun, Refuses, Shows, TurnsAway, ring_text, status_of};
+ghost use Rattle.wcp_cli.specs.Bytes.{AppendsFront};
+ghost use Rattle.wcp_cli.specs.Words.{AskForSingle, AskForRing, AskForHelp, AskForUnknown, IsRing};
 
 use crate::fault::Fault;
 use crate::input::read_text;
 use crate::output::write_whole;
-use crate::words::{Request, read_words};
+use crate::words::{Request, Ring, read_words};
 use std::alloc::Global;
 use std::convert::AsStr;
 use std::io::{Read, Write};
 use wcp_model::Report;
 use wcp_report::report_text;
-use wcp_script::{read_workload, single};
+use wcp_script::{read_workload, ring_workload, single, workload_text};
 
 /// The status where a bad moment was found, and after help.
 const FOUND: u8 = 0;
@@ -46,6 +47,10 @@ pub fn drive<R: AllocGlobal, S: AsStr, I: Read, O: Write, E: Write>(
         → Answers IsOutcomeAnswer (I.remaining input.old) (I.remaining input.new) (O.contents output.old) (O.contents output.new) result }
     ensures refuses { AskForSingle (map S.text words.now) → result ≡ 2
         → Refuses IsOutcomeAnswer (I.remaining input.old) (I.remaining input.new) (O.contents output.old) (O.contents output.new) }
+
+    // With the words for a ring.
+    ensures ring { (n rounds : ℕ) (fault : Bool) → IsRing n rounds → AskForRing n rounds fault (map S.text words.now)
+        → Shows (IsRingText n rounds fault) (I.remaining input.old) (I.remaining input.new) (O.contents output.old) (O.contents output.new) result }
 
     // With a word for help.
     ensures help { AskForHelp (map S.text words.now)
@@ -84,6 +89,9 @@ fn answer<S: AsStr, I: Read, O: Write>(
     ensures single { AskForSingle (map S.text words.now) → MatchResult result
         (Answers IsOutcomeAnswer (I.remaining input.old) (I.remaining input.new) (O.contents output.old) (O.contents output.new))
         (λ fault. Refuses IsOutcomeAnswer (I.remaining input.old) (I.remaining input.new) (O.contents output.old) (O.contents output.new)) }
+    ensures ring { (n rounds : ℕ) (fault : Bool) → IsRing n rounds → AskForRing n rounds fault (map S.text words.now) → MatchResult result
+        (Shows (IsRingText n rounds fault) (I.remaining input.old) (I.remaining input.new) (O.contents output.old) (O.contents output.new))
+        (λ fault. Shows (IsRingText n rounds fault) (I.remaining input.old) (I.remaining input.new) (O.contents output.old) (O.contents output.new) 2) }
     ensures help { AskForHelp (map S.text words.now) → MatchResult result
         (Shows IsHelpText (I.remaining input.old) (I.remaining input.new) (O.contents output.old) (O.contents output.new))
         (λ fault. Shows IsHelpText (I.remaining input.old) (I.remaining input.new) (O.contents output.old) (O.contents output.new) 2) }
@@ -92,7 +100,8 @@ fn answer<S: AsStr, I: Read, O: Write>(
 {
     match read_words(alloc, words)? {
         Request::Single => give_outcome(alloc, input, output),
-        Request::Replay | Request::Ring(_) => Err(Fault::Usage),
+        Request::Ring(ring) => give_ring(alloc, ring, output),
+        Request::Replay => Err(Fault::Usage),
         Request::Help(text) => {
             write_whole(output, text.as_bytes())?;
             Ok(FOUND)
@@ -117,6 +126,19 @@ fn give_outcome<I: Read, O: Write>(
     let report = report_text(alloc, &outcome)?;
     write_whole(output, report.as_slice())?;
     Ok(status_of(&outcome.report))
+}
+
+/// Writes the text of a ring workload.
+fn give_ring<O: Write>(alloc: Global, ring: Ring, output: &mut O) -> Result<u8, Fault>
+    requires { IsRing ring.procs ring.rounds }
+    ensures status { IfOk result (λ status. status ≡ 0) }
+    ensures written { OnOk result (Appends (O.contents output.old) (O.contents output.new) (ring_text ring.procs ring.rounds ring.fault)) }
+    ensures front { OnErr result (AppendsFront (O.contents output.old) (O.contents output.new) (ring_text ring.procs ring.rounds ring.fault)) }
+{
+    let workload = ring_workload(alloc, ring.procs, ring.rounds, ring.fault)?;
+    let text = workload_text(alloc, &workload)?;
+    write_whole(output, text.as_slice())?;
+    Ok(FOUND)
 }
 
 /// The status after a report.

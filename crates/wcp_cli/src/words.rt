@@ -84,9 +84,10 @@ fn ring_of(options: &ArgMatches) -> Result<Ring, Fault>
         → result ≡ Ok (record { procs = n; rounds = rounds; fault = fault }) }
     ensures in_ranges { IfOk result (λ ring. IsRing ring.procs ring.rounds) }
 {
-    let (Some(procs @ 2..=16), Some(rounds @ 1..=1000)) =
-        (number_of(options, "procs"), number_of(options, "rounds"))
-    else {
+    let (Some(procs @ 2..=16), Some(rounds @ 1..=1000)) = (
+        number_of(options, "procs"),
+        number_of(options, "rounds"),
+    ) else {
         return Err(Fault::Usage);
     };
     let fault = has_flag(options, "fault");

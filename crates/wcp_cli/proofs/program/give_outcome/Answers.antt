@@ -1,5 +1,6 @@
 use Rattle.std.proofs.Common.{sym, refl, ◌∙◌, arith}
 use Rattle.std.proofs.lemmas.Result.{MatchResult-from_err}
+use Rattle.wcp_script.specs.TextFault.{workloads, Spells}
 use Rattle.wcp_cli.specs.Run.{Answers, IsOutcomeAnswer, Refuses, Broken, status_of}
 use Rattle.wcp_cli.proofs.program.give_outcome.Goals as goal
 
@@ -21,10 +22,10 @@ returns-in_err-write_whole-clause-run g c =
       within = omega (arith, c.in_ok-text.ensures.within, c.in_ok-text.text.ok.0);
     })
     (record {
-      n = workload.plan.n;
+      plan = workload.plan;
       tasks = workload.tasks.items;
       outcome = outcome;
-      spelled = sym c.as_slice.ensures.value ∙ c.in_ok-workload.ensures.spelled;
+      spelled = subst (λ text. Spells workloads text workload.plan workload.tasks.items) c.as_slice.ensures.value c.in_ok-workload.ensures.spelled;
       could_be_read = c.in_ok-workload.ensures.could_be_read;
       right = c.in_ok-outcome.ensures;
       print = is_report;
