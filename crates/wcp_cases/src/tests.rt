@@ -1,6 +1,7 @@
 mod answers;
 mod help;
 mod reads;
+mod rings;
 mod rows;
 mod streams;
 mod writes;

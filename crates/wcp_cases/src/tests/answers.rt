@@ -18,17 +18,19 @@ fn agrees<R: AllocGlobal + Abort>(rt: &R, words: &[&str], row: &Row) {
 }
 
 #[test]
-fn workloads_are_answered(rt: HostRuntime) {
+fn texts_are_answered(rt: HostRuntime) {
     for row in ANSWERED.iter() {
-        agrees(&rt, ["wcpwatch", "single"].as_slice(), row);
-        agrees(&rt, ["wcpwatch"].as_slice(), row);
+        agrees(&rt, ["wcpwatch", row.word].as_slice(), row);
+        if row.word == "single" {
+            agrees(&rt, ["wcpwatch"].as_slice(), row);
+        }
     }
 }
 
 #[test]
 fn other_texts_are_refused(rt: HostRuntime) {
     for row in REFUSED.iter() {
-        agrees(&rt, ["wcpwatch", "single"].as_slice(), row);
+        agrees(&rt, ["wcpwatch", row.word].as_slice(), row);
     }
 }
 

@@ -15,6 +15,15 @@ fn other_words_are_refused(rt: HostRuntime) {
         ["wcpwatch", "single", "double"].as_slice(),
         ["wcpwatch", "single", "--verbose"].as_slice(),
         ["wcpwatch", "double", "single"].as_slice(),
+        ["wcpwatch", "replay", "double"].as_slice(),
+        ["wcpwatch", "ring"].as_slice(),
+        ["wcpwatch", "ring", "--procs", "2"].as_slice(),
+        ["wcpwatch", "ring", "--rounds", "1"].as_slice(),
+        ["wcpwatch", "ring", "--procs", "1", "--rounds", "1"].as_slice(),
+        ["wcpwatch", "ring", "--procs", "17", "--rounds", "1"].as_slice(),
+        ["wcpwatch", "ring", "--procs", "2", "--rounds", "0"].as_slice(),
+        ["wcpwatch", "ring", "--procs", "2", "--rounds", "1001"].as_slice(),
+        ["wcpwatch", "ring", "--procs", "two", "--rounds", "1"].as_slice(),
     ] {
         let mut input = TEXT;
         let mut output = Vec::new(rt.alloc());
@@ -42,6 +51,8 @@ fn help_tells_what_a_newcomer_needs(rt: HostRuntime) -> Result<(), Fail> {
         let text = std::str::from_utf8(output.as_slice())?;
         for part in [
             "single",
+            "replay",
+            "ring",
             "p 0 send 1",
             "found 1 1",
             "wcpwatch: usage",

@@ -1,18 +1,21 @@
-//! Worked workloads, with what the program answers.
+//! Worked texts, with what the program answers.
 
 /// A text, and what it gives.
 pub struct Row {
     pub name: &'static str,
+    /// The word of the program that reads it.
+    pub word: &'static str,
     pub text: &'static str,
     pub output: &'static str,
     pub errors: &'static str,
     pub status: u8,
 }
 
-/// Workloads that are answered.
-pub static ANSWERED: [Row; 11] = [
+/// Texts that are answered.
+pub static ANSWERED: [Row; 12] = [
     Row {
         name: "true again after a send",
+        word: "single",
         text: "wcp 1\nprocs 2\np 0 true\np 0 send 1\np 0 true\np 1 recv 0\np 1 true\n",
         output: "found 1 1\nprocess 0 emitted 2 taken 2\nprocess 1 emitted 1 taken 1\ntotal emitted 3 taken 3\n",
         errors: "",
@@ -20,6 +23,7 @@ pub static ANSWERED: [Row; 11] = [
     },
     Row {
         name: "the least of two cuts",
+        word: "single",
         text: "wcp 1\nprocs 2\np 0 true\np 0 send 1\np 0 true\np 1 true\np 1 recv 0\n",
         output: "found 0 0\nprocess 0 emitted 2 taken 2\nprocess 1 emitted 1 taken 1\ntotal emitted 3 taken 3\n",
         errors: "",
@@ -27,6 +31,7 @@ pub static ANSWERED: [Row; 11] = [
     },
     Row {
         name: "one true state",
+        word: "single",
         text: "wcp 1\nprocs 1\np 0 true\n",
         output: "found 0\nprocess 0 emitted 1 taken 1\ntotal emitted 1 taken 1\n",
         errors: "",
@@ -34,6 +39,7 @@ pub static ANSWERED: [Row; 11] = [
     },
     Row {
         name: "two concurrent states",
+        word: "single",
         text: "wcp 1\nprocs 2\np 0 true\np 1 true\n",
         output: "found 0 0\nprocess 0 emitted 1 taken 1\nprocess 1 emitted 1 taken 1\ntotal emitted 2 taken 2\n",
         errors: "",
@@ -41,6 +47,7 @@ pub static ANSWERED: [Row; 11] = [
     },
     Row {
         name: "repeats emit once",
+        word: "single",
         text: "wcp 1\nprocs 2\np 0 true\np 0 true\np 0 true\np 1 true\n",
         output: "found 0 0\nprocess 0 emitted 1 taken 1\nprocess 1 emitted 1 taken 1\ntotal emitted 2 taken 2\n",
         errors: "",
@@ -48,6 +55,7 @@ pub static ANSWERED: [Row; 11] = [
     },
     Row {
         name: "the only pair is ordered",
+        word: "single",
         text: "wcp 1\nprocs 2\np 0 true\np 0 send 1\np 1 recv 0\np 1 true\n",
         output: "none\nprocess 0 emitted 1 taken 1\nprocess 1 emitted 1 taken 1\ntotal emitted 2 taken 2\n",
         errors: "",
@@ -55,6 +63,7 @@ pub static ANSWERED: [Row; 11] = [
     },
     Row {
         name: "ordered through a third process",
+        word: "single",
         text: "wcp 1\nprocs 3\np 0 true\np 0 send 1\np 1 true\np 1 recv 0\np 1 send 2\np 2 recv 1\np 2 true\n",
         output: "none\nprocess 0 emitted 1 taken 1\nprocess 1 emitted 1 taken 1\nprocess 2 emitted 1 taken 1\ntotal emitted 3 taken 3\n",
         errors: "",
@@ -62,6 +71,7 @@ pub static ANSWERED: [Row; 11] = [
     },
     Row {
         name: "no steps",
+        word: "single",
         text: "wcp 1\nprocs 1\n",
         output: "none\nprocess 0 emitted 0 taken 0\ntotal emitted 0 taken 0\n",
         errors: "",
@@ -69,6 +79,7 @@ pub static ANSWERED: [Row; 11] = [
     },
     Row {
         name: "a ring with a fault",
+        word: "single",
         text: "wcp 1\nprocs 2\np 1 true\np 1 false\np 0 true\np 0 false\np 0 send 1\np 1 recv 0\np 1 true\np 1 false\n",
         output: "found 0 0\nprocess 0 emitted 1 taken 1\nprocess 1 emitted 2 taken 2\ntotal emitted 3 taken 3\n",
         errors: "",
@@ -76,6 +87,7 @@ pub static ANSWERED: [Row; 11] = [
     },
     Row {
         name: "a ring of three processes and two rounds",
+        word: "single",
         text: "wcp 1\nprocs 3\np 0 true\np 0 false\np 0 send 1\np 1 recv 0\np 1 true\np 1 false\np 1 send 2\np 2 recv 1\np 2 true\np 2 false\np 2 send 0\np 0 recv 2\np 0 true\np 0 false\np 0 send 1\np 1 recv 0\np 1 true\np 1 false\np 1 send 2\np 2 recv 1\np 2 true\np 2 false\n",
         output: "none\nprocess 0 emitted 2 taken 2\nprocess 1 emitted 2 taken 2\nprocess 2 emitted 2 taken 2\ntotal emitted 6 taken 6\n",
         errors: "",
@@ -83,17 +95,27 @@ pub static ANSWERED: [Row; 11] = [
     },
     Row {
         name: "true before and after a receive",
+        word: "single",
         text: "wcp 1\nprocs 2\np 0 send 1\np 1 true\np 1 recv 0\np 1 true\np 0 true\n",
         output: "found 1 0\nprocess 0 emitted 1 taken 1\nprocess 1 emitted 2 taken 2\ntotal emitted 3 taken 3\n",
         errors: "",
         status: 0,
     },
+    Row {
+        name: "a chain of eight relays",
+        word: "single",
+        text: "wcp 1\nprocs 2\ncap 1\nrelay 0 root\nrelay 1 0\nrelay 2 1\nrelay 3 2\nrelay 4 3\nrelay 5 4\nrelay 6 5\nrelay 7 6\nattach 0 7\nattach 1 7\np 0 true\np 0 send 1\np 0 true\np 1 recv 0\np 1 true\n",
+        output: "found 1 1\nprocess 0 emitted 2 taken 2\nprocess 1 emitted 1 taken 1\ntotal emitted 3 taken 3\n",
+        errors: "",
+        status: 0,
+    },
 ];
 
-/// Texts that spell no workload.
-pub static REFUSED: [Row; 13] = [
+/// Texts that are refused.
+pub static REFUSED: [Row; 17] = [
     Row {
         name: "an empty text",
+        word: "single",
         text: "",
         output: "",
         errors: "wcpwatch: line 1: header\n",
@@ -101,6 +123,7 @@ pub static REFUSED: [Row; 13] = [
     },
     Row {
         name: "another version",
+        word: "single",
         text: "wcp 2\nprocs 2\n",
         output: "",
         errors: "wcpwatch: line 1: header\n",
@@ -108,6 +131,7 @@ pub static REFUSED: [Row; 13] = [
     },
     Row {
         name: "only the version",
+        word: "single",
         text: "wcp 1\n",
         output: "",
         errors: "wcpwatch: line 2: header\n",
@@ -115,6 +139,7 @@ pub static REFUSED: [Row; 13] = [
     },
     Row {
         name: "a leading zero",
+        word: "single",
         text: "wcp 1\nprocs 02\n",
         output: "",
         errors: "wcpwatch: line 2: number\n",
@@ -122,6 +147,7 @@ pub static REFUSED: [Row; 13] = [
     },
     Row {
         name: "seventeen processes",
+        word: "single",
         text: "wcp 1\nprocs 17\n",
         output: "",
         errors: "wcpwatch: line 2: plan\n",
@@ -129,6 +155,7 @@ pub static REFUSED: [Row; 13] = [
     },
     Row {
         name: "no truth value",
+        word: "single",
         text: "wcp 1\nprocs 2\np 0 maybe\n",
         output: "",
         errors: "wcpwatch: line 3: line\n",
@@ -136,6 +163,7 @@ pub static REFUSED: [Row; 13] = [
     },
     Row {
         name: "a head line after a step",
+        word: "single",
         text: "wcp 1\nprocs 1\np 0 true\ncap 8\n",
         output: "",
         errors: "wcpwatch: line 4: line\n",
@@ -143,6 +171,7 @@ pub static REFUSED: [Row; 13] = [
     },
     Row {
         name: "a last line without its line feed",
+        word: "single",
         text: "wcp 1\nprocs 2\np 0 true",
         output: "",
         errors: "wcpwatch: line 3: line\n",
@@ -150,6 +179,7 @@ pub static REFUSED: [Row; 13] = [
     },
     Row {
         name: "a process that is no number",
+        word: "single",
         text: "wcp 1\nprocs 2\np x true\n",
         output: "",
         errors: "wcpwatch: line 3: number\n",
@@ -157,6 +187,7 @@ pub static REFUSED: [Row; 13] = [
     },
     Row {
         name: "no such process",
+        word: "single",
         text: "wcp 1\nprocs 2\np 2 true\n",
         output: "",
         errors: "wcpwatch: line 3: process\n",
@@ -164,6 +195,7 @@ pub static REFUSED: [Row; 13] = [
     },
     Row {
         name: "a send to itself",
+        word: "single",
         text: "wcp 1\nprocs 2\np 0 send 0\n",
         output: "",
         errors: "wcpwatch: line 3: process\n",
@@ -171,6 +203,7 @@ pub static REFUSED: [Row; 13] = [
     },
     Row {
         name: "a mutual receive",
+        word: "single",
         text: "wcp 1\nprocs 2\np 0 recv 1\np 1 recv 0\n",
         output: "",
         errors: "wcpwatch: line 3: stuck\n",
@@ -178,9 +211,42 @@ pub static REFUSED: [Row; 13] = [
     },
     Row {
         name: "a receive of a message that is never sent",
+        word: "single",
         text: "wcp 1\nprocs 2\np 1 send 0\np 0 recv 1\np 0 recv 1\n",
         output: "",
         errors: "wcpwatch: line 5: stuck\n",
+        status: 2,
+    },
+    Row {
+        name: "cap too large",
+        word: "single",
+        text: "wcp 1\nprocs 2\ncap 1025\n",
+        output: "",
+        errors: "wcpwatch: line 3: plan\n",
+        status: 2,
+    },
+    Row {
+        name: "a head out of its order",
+        word: "single",
+        text: "wcp 1\nprocs 2\nhold 4\ncap 8\n",
+        output: "",
+        errors: "wcpwatch: line 4: line\n",
+        status: 2,
+    },
+    Row {
+        name: "an unattached process",
+        word: "single",
+        text: "wcp 1\nprocs 2\nrelay 0 root\nattach 0 0\np 0 true\n",
+        output: "",
+        errors: "wcpwatch: line 4: plan\n",
+        status: 2,
+    },
+    Row {
+        name: "a step of a schedule in a workload",
+        word: "single",
+        text: "wcp 1\nprocs 2\ncheck\n",
+        output: "",
+        errors: "wcpwatch: line 3: line\n",
         status: 2,
     },
 ];

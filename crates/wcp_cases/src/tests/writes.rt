@@ -18,7 +18,7 @@ fn taking(alloc: std::alloc::Global, most: usize, trouble: Trouble) -> Sink {
 /// The status of a run on the row's text.
 fn run_row<R: AllocGlobal>(rt: &R, row: &Row, output: &mut Sink, errors: &mut Sink) -> u8 {
     let mut input = row.text.as_bytes();
-    let words = ["wcpwatch", "single"];
+    let words = ["wcpwatch", row.word];
     run(rt, words.as_slice(), &mut input, output, errors)
 }
 
