@@ -1,0 +1,140 @@
+use Rattle.std.proofs.Common.{◌≡◌, ◌≢◌, ℕ, ◌+◌, ◌-◌, ◌<◌, ◌≤◌, ◌⊎◌, Bool, true, false, cond, not, ◌||◌, nat_lt, nat_le, is_some, IsTrue, List, [], ◌∷◌, ◌++◌, length, take, slice_get, slice_index, slice_index_or, slice_set, count_by, get_or, set, eqb, Option, None, Some, if◌then◌else◌, refl, sym, ap, ap₂, ◌∙◌, subst, ⊎_elim, append-nil, eqb-true, eq-eqb, true≢false, le_refl, add-zero, map, arith}
+use Rattle.std.proofs.lemmas.Bool.{cases_Bool, cases_eq, ne_eqb}
+use Rattle.std.proofs.lemmas.Bool.Decides.{nat_tests}
+use Rattle.std.proofs.lemmas.List.{length_push, get_or-set_same}
+use Rattle.wcp_clock.specs.declared.clock.TheConstants.{CLOCK_LIMIT}
+use Rattle.wcp_clock.specs.declared.note.Item.{Item}
+use Rattle.wcp_clock.specs.declared.note.Note.{Note}
+use Rattle.wcp_clock.specs.declared.note.Note.TheVariants as note
+use Rattle.wcp_model.specs.declared.plan.Plan.{Plan}
+use Rattle.wcp_model.specs.declared.step.Step.{Step}
+use Rattle.wcp_model.specs.declared.step.Step.TheVariants as step
+use Rattle.wcp_model.specs.declared.step.Reply.{Reply}
+use Rattle.wcp_model.specs.declared.step.Reply.TheVariants.{Done, Refused}
+use Rattle.wcp_model.specs.declared.step.Why.{Why}
+use Rattle.wcp_model.specs.declared.step.Why.TheVariants as why
+use Rattle.wcp_model.specs.Computation.{Computation, communications, is_send}
+use Rattle.wcp_model.specs.Emission.{is_closed}
+use Rattle.wcp_model.specs.ProbeLog.{Call, Observed, Sent, Received, Closed, ProbeState, after_call, state_of_log}
+use Rattle.wcp_model.specs.Replies.{computation, IsReply}
+use Rattle.wcp_probe.specs.Core.{Core, StandsFor, Accepts, IsSameProbe}
+use Rattle.std.specs.Option.{option_map}
+use Rattle.wcp_model.specs.Replies.{first_of_reasons}
+use Rattle.wcp_probe.specs.Refusals.{first_reason, at_clock_end}
+use Rattle.wcp_world.specs.Messages.{why_of}
+use Rattle.wcp_probe.specs.declared.probe.Refusal.{Refusal}
+use Rattle.wcp_probe.proofs.AcceptedCalls.{state_after}
+use Rattle.wcp_world.specs.Network.{NetworkState, IsProbeOf, Stands}
+use Rattle.wcp_world.proofs.Probing.{same_state, closed_is, events_are, clock_end_is, backlog_is, reply_from, refused_from}
+use Rattle.wcp_world.proofs.Events.{Advances, event_stands}
+use Rattle.wcp_world.proofs.Mail.{letters_stay}
+
+one_reason : (b : Bool) (reason : Refusal) (rest : Option Refusal) (others : Option Why) → others ≡ option_map why_of rest → (if b then Some (why_of reason) else others) ≡ option_map why_of (if b then Some reason else rest)
+one_reason true reason rest others same = refl
+one_reason false reason rest others same = same
+
+-- the reasons of a step are those of its probe
+pub first_maps : (reasons : List (Bool × Refusal)) → first_of_reasons (map (λ r. (r.0, why_of r.1)) reasons) ≡ option_map why_of (first_reason reasons)
+first_maps [] = refl
+first_maps (reason ∷ reasons) = one_reason reason.0 reason.1 (first_reason reasons) _ (first_maps reasons)
+
+abbrev bit : Bool → ℕ
+bit b = cond b 1 0
+
+bit_small : (b : Bool) → bit b ≤ 1
+bit_small true = omega arith
+bit_small false = omega arith
+
+-- a probe that refuses for no reason
+pub no_reason : (test : Bool) (reason : Refusal) (rest : List (Bool × Refusal)) → first_reason ((test, reason) ∷ rest) ≡ None → (test ≡ false) × (first_reason rest ≡ None)
+no_reason true reason rest none = cc
+no_reason false reason rest none = (refl, none)
+
+-- what the probe observed
+pub observation_advances : (n : ℕ) (steps : List Step) (p : ℕ) (log : List Call) (old new : Core) (holds emitted : Bool) → IsProbeOf n steps p log old → old.closed ≡ false → Accepts old (Observed holds) new →
+    (emitted ≡ true → (holds ≡ true) × (old.flag ≡ false)) → ((holds ≡ true) × (old.flag ≡ false) → emitted ≡ true) →
+    new ≡ (if emitted then record old { flag = true; emitted = old.emitted + 1; pending = Some (note.Snap old.emitted old.clock) } else old) → Advances n p log old new (Observed holds)
+observation_advances n steps p log old new holds true is is_open accepted emits emitted_if new_is =
+    let told = emits refl in
+    let s = state_of_log n p log in
+    let s_flag : s.flag ≡ false = sym (ap (λ (s : ProbeState). s.flag) (same_state n steps p log old is)) ∙ sym is.stands.flag ∙ told.1 in
+    let nothing : is_some old.pending ≡ false = none_pending (is_some old.pending) is.flagged told.1 in
+    subst (λ core. Advances n p log old core (Observed holds)) (sym new_is) (record {
+      accepted = subst (Accepts old (Observed holds)) new_is accepted;
+      same = record { watch = refl; id = refl; limit = refl; components = refl };
+      events = is.events;
+      few = let unset : bit old.flag ≡ 0 = ap bit told.1 in omega (arith, is.few, unset);
+      flagged = λ some. refl;
+      extra = note.Snap s.snapshots s.clock ∷ [];
+      notes = rw (told.0, s_flag) refl;
+      pending = let none : bit (is_some old.pending) ≡ 0 = ap bit nothing in omega (arith, none);
+    })
+  where
+    none_pending : (b : Bool) → (IsTrue b → IsTrue (old.flag || old.closed)) → old.flag ≡ false → b ≡ false
+    none_pending false flagged clear = refl
+    none_pending true flagged clear = absurd (true≢false (sym (flagged refl) ∙ ap₂ (λ a b. a || b) clear is_open))
+observation_advances n steps p log old new holds false is is_open accepted emits emitted_if new_is =
+    subst (λ core. Advances n p log old core (Observed holds)) (sym new_is) (record {
+      accepted = subst (Accepts old (Observed holds)) new_is accepted;
+      same = record { watch = refl; id = refl; limit = refl; components = refl };
+      events = is.events;
+      few = is.few;
+      flagged = is.flagged;
+      extra = [];
+      notes = quiet holds refl ∙ sym (append-nil (state_of_log n p log).notes);
+      pending = omega arith;
+    })
+  where
+    quiet : (b : Bool) → holds ≡ b → (after_call p (state_of_log n p log) (Observed b)).notes ≡ (state_of_log n p log).notes
+    quiet false same = refl
+    quiet true same = ⊎_elim
+        (λ (set : (state_of_log n p log).flag ≡ true). rw set refl)
+        (λ (clear : (state_of_log n p log).flag ≡ false).
+        absurd (true≢false (sym (emitted_if (same, is.stands.flag ∙ ap (λ (s : ProbeState). s.flag) (same_state n steps p log old is) ∙ clear)))))
+        (cases_Bool (state_of_log n p log).flag)
+
+-- the probe closed
+pub close_advances : (n : ℕ) (steps : List Step) (p : ℕ) (log : List Call) (old new : Core) → IsProbeOf n steps p log old → is_some old.pending ≡ false → Accepts old Closed new →
+    new ≡ record old { closed = true; pending = Some (note.Close old.emitted) } → Advances n p log old new Closed
+close_advances n steps p log old new is nothing accepted new_is =
+    subst (λ core. Advances n p log old core Closed) (sym new_is) (record {
+      accepted = subst (Accepts old Closed) new_is accepted;
+      same = record { watch = refl; id = refl; limit = refl; components = refl };
+      events = is.events;
+      few = is.few;
+      flagged = λ some. or_true_right old.flag;
+      extra = note.Close (state_of_log n p log).snapshots ∷ [];
+      notes = refl;
+      pending = let none : bit (is_some old.pending) ≡ 0 = ap bit nothing in omega (arith, none);
+    })
+  where
+    or_true_right : (b : Bool) → (b || true) ≡ true
+    or_true_right true = refl
+    or_true_right false = refl
+
+-- the probe made an event that its clock counts
+pub event_advances : (n : ℕ) (steps : List Step) (p : ℕ) (log : List Call) (old new : Core) (call : Call) → IsProbeOf n steps p log old → is_some old.pending ≡ false → at_clock_end old ≡ false → Accepts old call new → IsSameProbe old new → new.pending ≡ old.pending →
+    slice_index (after_call p (state_of_log n p log) call).clock p ≡ slice_index (state_of_log n p log).clock p + 1 → (after_call p (state_of_log n p log) call).flag ≡ false →
+    (after_call p (state_of_log n p log) call).snapshots ≡ (state_of_log n p log).snapshots → (after_call p (state_of_log n p log) call).notes ≡ (state_of_log n p log).notes → Advances n p log old new call
+event_advances n steps p log old new call is nothing more accepted same pending ticked unset same_snapshots same_notes =
+    let now : StandsFor new (log ++ call ∷ []) = accepted log is.stands in
+    let was = same_state n steps p log old is in
+    let state : state_of_log (length new.clock) new.id (log ++ call ∷ []) ≡ after_call p (state_of_log n p log) call = ap₂ (λ m q. state_of_log m q (log ++ call ∷ [])) (same.components ∙ is.components) (same.id ∙ is.id) ∙ state_after n p log call in
+    let clock : slice_index new.clock p ≡ slice_index old.clock p + 1 = ap (λ v. slice_index v p) (now.clock ∙ ap (λ (s : ProbeState). s.clock) state) ∙ ticked ∙ ap (λ v. slice_index v p + 1) (sym (is.stands.clock ∙ ap (λ (s : ProbeState). s.clock) was)) in
+    let emitted : new.emitted ≡ old.emitted = now.emitted ∙ ap (λ (s : ProbeState). s.snapshots) state ∙ same_snapshots ∙ sym (is.stands.emitted ∙ ap (λ (s : ProbeState). s.snapshots) was) in
+    let below : nat_le CLOCK_LIMIT (slice_index old.clock p) ≡ false = ap₂ nat_le (sym is.limit) (ap (slice_index old.clock) (sym is.id)) ∙ more in
+    let room : slice_index old.clock p < CLOCK_LIMIT = grind (arith, nat_tests, below) in
+    let flag : bit old.flag ≤ 1 = bit_small old.flag in
+    record {
+      accepted = accepted;
+      same = same;
+      events = omega (arith, clock, room);
+      few = omega (arith, clock, emitted, is.few, flag);
+      flagged = λ some. absurd (true≢false (sym some ∙ ap is_some pending ∙ nothing));
+      extra = [];
+      notes = same_notes ∙ sym (append-nil (state_of_log n p log).notes);
+      pending = let none : bit (is_some new.pending) ≡ bit (is_some old.pending) = ap (λ o. bit (is_some o)) pending in omega (arith, none);
+    }
+-- the probe of a process that there is
+pub probe_at : (plan : Plan) (steps : List Step) (taken : List Item) (w : NetworkState) (stands : Stands plan steps taken w) (p : ℕ) (core : Core) → p < plan.n → core ≡ get_or w.probes p core → IsProbeOf plan.n steps p (stands.logs p) core
+probe_at plan steps taken w stands p core in_range here = subst (IsProbeOf plan.n steps p (stands.logs p)) (sym here) (stands.probes.each p core in_range)

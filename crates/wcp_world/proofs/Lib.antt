@@ -1,0 +1,5 @@
+pub mod Growing
+pub mod Probing
+pub mod Events
+pub mod Mail
+pub mod Accepting
