@@ -1,7 +1,7 @@
 use Rattle.std.proofs.Common.{◌≡◌, ◌≢◌, ℕ, ◌+◌, ◌-◌, ◌<◌, ◌≤◌, ◌⊎◌, Bool, true, false, cond, not, ◌||◌, nat_lt, nat_le, is_some, IsTrue, List, [], ◌∷◌, ◌++◌, length, take, slice_get, slice_index, slice_index_or, slice_set, count_by, get_or, set, eqb, Option, None, Some, if◌then◌else◌, refl, sym, ap, ap₂, ◌∙◌, subst, ⊎_elim, append-nil, eqb-true, eq-eqb, true≢false, le_refl, add-zero, map, arith}
-use Rattle.std.proofs.lemmas.Bool.{cases_Bool, cases_eq, ne_eqb}
+use Rattle.std.proofs.lemmas.Bool.{cases_Bool, cases_lt, cases_eq, ne_eqb}
 use Rattle.std.proofs.lemmas.Bool.Decides.{nat_tests}
-use Rattle.std.proofs.lemmas.List.{length_push, get_or-set_same}
+use Rattle.std.proofs.lemmas.List.{length_push, get_or-set_same, set-get_or, take_at}
 use Rattle.wcp_clock.specs.declared.clock.TheConstants.{CLOCK_LIMIT}
 use Rattle.wcp_clock.specs.declared.note.Item.{Item}
 use Rattle.wcp_clock.specs.declared.note.Note.{Note}
@@ -13,19 +13,25 @@ use Rattle.wcp_model.specs.declared.step.Reply.{Reply}
 use Rattle.wcp_model.specs.declared.step.Reply.TheVariants.{Done, Refused}
 use Rattle.wcp_model.specs.declared.step.Why.{Why}
 use Rattle.wcp_model.specs.declared.step.Why.TheVariants as why
-use Rattle.wcp_model.specs.Computation.{Computation, communications, is_send}
+use Rattle.wcp_model.specs.Computation.{Computation, communications, interval_at, is_communication_of, is_send}
 use Rattle.wcp_model.specs.Emission.{is_closed}
-use Rattle.wcp_model.specs.ProbeLog.{Call, Observed, Sent, Received, Closed, ProbeState, after_call, state_of_log}
+use Rattle.wcp_model.specs.ProbeLog.{Call, Observed, Sent, Received, Closed, ProbeState, after_call, state_of_log, IsStampOf, IsAccepted}
 use Rattle.wcp_model.specs.Replies.{computation, IsReply}
 use Rattle.wcp_probe.specs.Core.{Core, StandsFor, Accepts, IsSameProbe}
 use Rattle.std.specs.Option.{option_map}
-use Rattle.wcp_model.specs.Replies.{first_of_reasons}
+use Rattle.wcp_model.specs.Replies.{first_of_reasons, reasons}
 use Rattle.wcp_probe.specs.Refusals.{first_reason, at_clock_end}
 use Rattle.wcp_world.specs.Messages.{why_of}
 use Rattle.wcp_probe.specs.declared.probe.Refusal.{Refusal}
-use Rattle.wcp_probe.proofs.AcceptedCalls.{state_after}
+use Rattle.wcp_probe.proofs.AcceptedCalls.{state_after, length-merged}
+use Rattle.wcp_world.specs.declared.messages.Letter.{Letter}
 use Rattle.wcp_world.specs.Network.{NetworkState, IsProbeOf, Stands}
-use Rattle.wcp_world.proofs.Probing.{same_state, closed_is, events_are, clock_end_is, backlog_is, reply_from, refused_from}
+use Rattle.wcp_world.proofs.Probing.{same_state, law_of_probe, closed_is, events_are, clock_end_is, backlog_is, emitted_in, reply_from, refused_from}
+use Rattle.wcp_clock.specs.Merge.{merged}
+use Rattle.wcp_model.specs.StateClock.{IsStateClock}
+use Rattle.wcp_model.proofs.Growth.{get_behind}
+use Rattle.wcp_model.proofs.RunningEmissions.{interval_at_seam}
+use Rattle.wcp_world.proofs.Growing.{computation_push, count_push}
 use Rattle.wcp_world.proofs.Events.{Advances, event_stands}
 use Rattle.wcp_world.proofs.Mail.{letters_stay}
 
@@ -34,9 +40,9 @@ one_reason true reason rest others same = refl
 one_reason false reason rest others same = same
 
 -- the reasons of a step are those of its probe
-pub first_maps : (reasons : List (Bool × Refusal)) → first_of_reasons (map (λ r. (r.0, why_of r.1)) reasons) ≡ option_map why_of (first_reason reasons)
+pub first_maps : (list : List (Bool × Refusal)) → first_of_reasons (map (λ r. (r.0, why_of r.1)) list) ≡ option_map why_of (first_reason list)
 first_maps [] = refl
-first_maps (reason ∷ reasons) = one_reason reason.0 reason.1 (first_reason reasons) _ (first_maps reasons)
+first_maps (reason ∷ list) = one_reason reason.0 reason.1 (first_reason list) _ (first_maps list)
 
 abbrev bit : Bool → ℕ
 bit b = cond b 1 0
@@ -138,3 +144,68 @@ event_advances n steps p log old new call is nothing more accepted same pending 
 -- the probe of a process that there is
 pub probe_at : (plan : Plan) (steps : List Step) (taken : List Item) (w : NetworkState) (stands : Stands plan steps taken w) (p : ℕ) (core : Core) → p < plan.n → core ≡ get_or w.probes p core → IsProbeOf plan.n steps p (stands.logs p) core
 probe_at plan steps taken w stands p core in_range here = subst (IsProbeOf plan.n steps p (stands.logs p)) (sym here) (stands.probes.each p core in_range)
+
+-- a probe that stayed as it was, written back
+pub probe_back : (probes : List Core) (p : ℕ) (old new : Core) → old ≡ get_or probes p old → new ≡ old → set probes p new ≡ probes
+probe_back probes p old new here same = ap (set probes p) (same ∙ here) ∙ set-get_or probes p old
+
+-- a refused step, whose probe and letters are as they were
+pub refused_same : (plan : Plan) (steps : List Step) (taken : List Item) (w : NetworkState) (stands : Stands plan steps taken w) (s : Step) (reason : Why) (probes : List Core) (letters : List Letter) → probes ≡ w.probes → letters ≡ w.letters →
+    first_of_reasons (reasons plan steps (emitted_in plan steps taken w stands) s) ≡ Some reason → IsReply plan steps s (Refused reason) × Stands plan (steps ++ []) (taken ++ []) (record w { probes = probes; letters = letters })
+refused_same plan steps taken w stands s reason probes letters same_probes same_letters first =
+    let told = refused_from plan steps taken w stands s reason first in
+    (told.0, subst (λ (ps : List Core). Stands plan (steps ++ []) (taken ++ []) (record w { probes = ps; letters = letters })) (sym same_probes)
+      (subst (λ (ls : List Letter). Stands plan (steps ++ []) (taken ++ []) (record w { letters = ls })) (sym same_letters) told.1))
+
+-- the clock after a send is that of the state behind it
+pub stamp_of_send : (n : ℕ) (steps : List Step) (p to : ℕ) (log : List Call) (new : Core) → IsAccepted (computation steps ++ step.Send p to ∷ []) → p < n → IsProbeOf n (steps ++ step.Send p to ∷ []) p log new →
+    IsStampOf n (computation steps ++ step.Send p to ∷ []) (count_by is_send (computation steps)) new.clock
+stamp_of_send n steps p to log new order in_range is =
+    let c = computation steps in
+    let s = step.Send p to in
+    let grown : computation (steps ++ s ∷ []) ≡ c ++ s ∷ [] = computation_push steps s in
+    let law : IsStateClock n (c ++ s ∷ []) (record { process = p; interval = communications (c ++ s ∷ []) p }) (state_of_log n p log).clock =
+        subst (λ d. IsStateClock n d (record { process = p; interval = communications d p }) (state_of_log n p log).clock) grown
+        (law_of_probe n (steps ++ s ∷ []) p log new is (subst IsAccepted (sym grown) order) in_range).clock in
+    let clock : (state_of_log n p log).clock ≡ new.clock = sym (is.stands.clock ∙ ap (λ (t : ProbeState). t.clock) (same_state n (steps ++ s ∷ []) p log new is)) in
+    let seam : interval_at (c ++ s ∷ []) p (length c) ≡ communications c p = interval_at_seam c (s ∷ []) p in
+    let own : bit (eqb p p) ≡ 1 = ap bit (eq-eqb p p refl) in
+    let last : communications (c ++ s ∷ []) p ≡ interval_at (c ++ s ∷ []) p (length c) + 1 = omega (arith, count_push (is_communication_of p) c s, own, seam) in
+    record {
+      sent = length c;
+      from = p;
+      to = to;
+      send = get_behind c s [];
+      number = ap (count_by is_send) (take_at c (s ∷ []) (length c) refl);
+      clock = subst (λ k. IsStateClock n (c ++ s ∷ []) (record { process = p; interval = k }) new.clock) last
+          (subst (IsStateClock n (c ++ s ∷ []) (record { process = p; interval = communications (c ++ s ∷ []) p })) clock law);
+    }
+
+-- a process that sends to itself, or to none that there is, is refused by its probe
+pub partner_is : (p to n m q : ℕ) → m ≡ n → q ≡ p → nat_lt p n ≡ true → (not (nat_lt p n) || not (nat_lt to n) || eqb p to) ≡ (nat_le m to || eqb to q)
+partner_is p to n m q same_n same_p within =
+    rw (within, same_n, same_p) (ap₂ (λ a b. a || b) (not_less to n) (turned p to))
+  where
+    not_less : (a b : ℕ) → not (nat_lt a b) ≡ nat_le b a
+    not_less a b = ⊎_elim (λ (lt : a < b). let yes : nat_lt a b ≡ true = grind (arith, nat_tests) in let no : nat_le b a ≡ false = grind (arith, nat_tests) in rw (yes, no) refl)
+        (λ (ge : b ≤ a). let no : nat_lt a b ≡ false = grind (arith, nat_tests) in let yes : nat_le b a ≡ true = grind (arith, nat_tests) in rw (yes, no) refl)
+        (cases_lt a b)
+
+    turned : (a b : ℕ) → eqb a b ≡ eqb b a
+    turned a b = ⊎_elim (λ (same : a ≡ b). rw same refl) (λ (other : a ≢ b). ne_eqb a b other ∙ sym (ne_eqb b a (λ e. other (sym e)))) (cases_eq a b)
+
+-- the probe sent a message
+pub send_advances : (n : ℕ) (steps : List Step) (p : ℕ) (log : List Call) (old new : Core) → p < n → IsProbeOf n steps p log old → is_some old.pending ≡ false → at_clock_end old ≡ false → Accepts old Sent new → IsSameProbe old new → new.pending ≡ old.pending → Advances n p log old new Sent
+send_advances n steps p log old new in_range is nothing more accepted same pending =
+    let inside : length (state_of_log n p log).clock ≡ n = ap length (sym (is.stands.clock ∙ ap (λ (t : ProbeState). t.clock) (same_state n steps p log old is))) ∙ is.components in
+    event_advances n steps p log old new Sent is nothing more accepted same pending
+    (get_or-set_same (state_of_log n p log).clock p (slice_index (state_of_log n p log).clock p + 1) 0 (omega arith)) refl refl refl
+
+-- the probe received a message
+pub receive_advances : (n : ℕ) (steps : List Step) (p : ℕ) (log : List Call) (old new : Core) (stamp : List ℕ) → p < n → IsProbeOf n steps p log old → length stamp ≡ n → is_some old.pending ≡ false → at_clock_end old ≡ false → Accepts old (Received stamp) new → IsSameProbe old new → new.pending ≡ old.pending →
+    Advances n p log old new (Received stamp)
+receive_advances n steps p log old new stamp in_range is components nothing more accepted same pending =
+    let inside : length (state_of_log n p log).clock ≡ n = ap length (sym (is.stands.clock ∙ ap (λ (t : ProbeState). t.clock) (same_state n steps p log old is))) ∙ is.components in
+    let joined : length (merged (state_of_log n p log).clock stamp) ≡ n = length-merged (state_of_log n p log).clock stamp (inside ∙ sym components) ∙ inside in
+    event_advances n steps p log old new (Received stamp) is nothing more accepted same pending
+    (get_or-set_same (merged (state_of_log n p log).clock stamp) p (slice_index (state_of_log n p log).clock p + 1) 0 (omega arith)) refl refl refl

@@ -74,23 +74,24 @@ module _ (plan : Plan) (steps : List Step) (taken : List Item) (w : NetworkState
   -- an event of a process was accepted
   pub event_stands : computation (s ∷ []) ≡ s ∷ [] → ((x : Place) → takes_from x s ≡ false) → ((x : Place) → puts_into plan x s ≡ false) → ((q : ℕ) → is_step_of q s ≡ eqb p q) →
       p < plan.n → old ≡ get_or w.probes p old → is_closed (computation steps) p ≡ false → ((r message : ℕ) → s ≡ Recv r message → message < count_by is_send (computation steps)) →
-      IsCallOf plan.n (computation steps ++ s ∷ []) s call → Advances plan.n p (stands.logs p) old new call → AreLettersOf plan.n (computation steps ++ s ∷ []) letters →
+      IsCallOf plan.n (computation steps ++ s ∷ []) s call → Advances plan.n p (stands.logs p) old new call → (IsAccepted (computation steps ++ s ∷ []) → IsProbeOf plan.n (steps ++ s ∷ []) p (stands.logs p ++ call ∷ []) new → AreLettersOf plan.n (computation steps ++ s ∷ []) letters) →
       Stands plan (steps ++ s ∷ []) (taken ++ []) (record w { probes = set w.probes p new; letters = letters })
   event_stands event no_take no_put owner in_range here is_open was_sent is_call advances letters_are =
       let grown : computation (steps ++ s ∷ []) ≡ computation steps ++ s ∷ [] = computation_push steps s ∙ ap (λ e. computation steps ++ e) event in
+      let was : IsProbeOf plan.n steps p (stands.logs p) old = subst (IsProbeOf plan.n steps p (stands.logs p)) (sym here) (stands.probes.each p old in_range) in
+      let now : IsProbeOf plan.n (steps ++ s ∷ []) p (stands.logs p ++ call ∷ []) new = probe_advances plan.n steps s p (stands.logs p) call old new grown (no_take (Pending p)) (owner p ∙ eq-eqb p p refl) is_call advances was in
+      let accepted : IsAccepted (computation steps ++ s ∷ []) = accepted_push (computation steps) s stands.order
+          (λ q own. subst (λ r. is_closed (computation steps) r ≡ false) (eqb-true p q (sym (owner q) ∙ own)) is_open) was_sent in
       record {
         checked = stands.checked;
         network = record { n = stands.network.n; parents = stands.network.parents; attach = stands.network.attach };
-        order = subst IsAccepted (sym grown) (accepted_push (computation steps) s stands.order
-            (λ q own. subst (λ r. is_closed (computation steps) r ≡ false) (eqb-true p q (sym (owner q) ∙ own)) is_open) was_sent);
+        order = subst IsAccepted (sym grown) accepted;
         logs = logs_after;
         probes = record {
           members = length-set w.probes p new ∙ stands.probes.members;
           each = λ q default q_in_range. ⊎_elim
               (λ (same : q ≡ p).
               let inside : p < length w.probes = omega (arith, stands.probes.members) in
-              let was : IsProbeOf plan.n steps p (stands.logs p) old = subst (IsProbeOf plan.n steps p (stands.logs p)) (sym here) (stands.probes.each p old in_range) in
-              let now : IsProbeOf plan.n (steps ++ s ∷ []) p (stands.logs p ++ call ∷ []) new = probe_advances plan.n steps s p (stands.logs p) call old new grown (no_take (Pending p)) (owner p ∙ eq-eqb p p refl) is_call advances was in
               subst (λ r. IsProbeOf plan.n (steps ++ s ∷ []) r (logs_after r) (get_or (set w.probes p new) r default)) (sym same)
               (subst (λ log. IsProbeOf plan.n (steps ++ s ∷ []) p log (get_or (set w.probes p new) p default)) (sym logs_own)
               (subst (IsProbeOf plan.n (steps ++ s ∷ []) p (stands.logs p ++ call ∷ [])) (sym (get_or-set_same w.probes p new default inside)) now)))
@@ -102,7 +103,7 @@ module _ (plan : Plan) (steps : List Step) (taken : List Item) (w : NetworkState
               (count_same (takes_from (Pending q)) steps s (no_take (Pending q))) (stands.probes.each q default q_in_range))))
               (cases_eq q p);
         };
-        letters = subst (λ c. AreLettersOf plan.n c letters) (sym grown) letters_are;
+        letters = subst (λ c. AreLettersOf plan.n c letters) (sym grown) (letters_are accepted now);
         places = record {
           members = stands.places.members;
           each = λ x default is_place.

@@ -3,3 +3,4 @@ pub mod Probing
 pub mod Events
 pub mod Mail
 pub mod Accepting
+pub mod Receiving
