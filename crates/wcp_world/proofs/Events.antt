@@ -108,7 +108,7 @@ module _ (plan : Plan) (steps : List Step) (taken : List Item) (w : NetworkState
           members = stands.places.members;
           each = λ x default is_place.
               let was : IsHeldAt plan steps x (get_or w.places (number_of plan x) default) = stands.places.each x default is_place in
-              record { room = was.room; items = omega (arith, was.items, count_same (takes_from x) steps s (no_take x), count_same (puts_into plan x) steps s (no_put x)) };
+              record { room = was.room; within = was.within; items = omega (arith, was.items, count_same (takes_from x) steps s (no_take x), count_same (puts_into plan x) steps s (no_put x)) };
         };
         kept = record {
           known = stands.kept.known;

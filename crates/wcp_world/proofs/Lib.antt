@@ -4,3 +4,4 @@ pub mod Events
 pub mod Mail
 pub mod Accepting
 pub mod Receiving
+pub mod Moved

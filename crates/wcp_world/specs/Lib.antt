@@ -1,3 +1,4 @@
 pub mod Messages
+pub mod Moves
 pub mod Network
 pub mod NetworkView

@@ -83,6 +83,7 @@ IsPlaceOf plan (InboxOf relay) = relay < length plan.parents.items
 -- A place holds as many notes as the accepted steps put into it and didn't take from it.
 pub record IsHeldAt (plan : Plan) (steps : List Step) (place : Place) (held : Held) : Type 0 where
   pub room : held.room ≡ room_of plan place
+  pub within : length held.items ≤ held.room
   pub items : length held.items + count_by (takes_from place) steps ≡ count_by (puts_into plan place) steps
 
 pub record ArePlacesOf (plan : Plan) (steps : List Step) (places : List Held) : Type 0 where

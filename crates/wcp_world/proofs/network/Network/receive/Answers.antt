@@ -11,7 +11,7 @@ returns-then-p-len c plan steps taken stands =
     let out : nat_lt c.args.p plan.n ≡ false = grind (arith, nat_tests, c.args.self.now.probes.ok.0, stands.probes.members) in
     refused_from plan steps taken _ stands (step.Recv c.args.p c.args.message) why.NoSuch (rw out refl)
 
-pub returns-else-p-len : goal.returns-else-p-len
-returns-else-p-len c plan steps taken stands =
+pub returns : goal.returns
+returns c plan steps taken stands =
     let in_range : c.args.p < plan.n = omega (arith, c.args.self.now.probes.ok.0, stands.probes.members) in
     receives plan steps taken _ stands c.args.p c.args.message c.index_mut.result.now c.deliver.new.probe c.deliver.new.self in_range c.index_mut.ensures.value c.deliver.result c.deliver.ensures
