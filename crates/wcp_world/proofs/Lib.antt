@@ -5,3 +5,4 @@ pub mod Mail
 pub mod Accepting
 pub mod Receiving
 pub mod Moved
+pub mod Tree

@@ -50,7 +50,10 @@ impl Network {
         requires { IsReached (state_of self.old) }
         ensures { Answers (state_of self.old) (step.Pull relay) result (state_of self.new) }
     {
-        if relay as usize >= self.parents.len() || self.is_leaf(relay) {
+        if relay as usize >= self.parents.len() {
+            return Reply::Refused(Why::NoSuch);
+        }
+        if self.is_leaf(relay) {
             return Reply::Refused(Why::NoSuch);
         }
         let from = self.inbox(Parent::Relay(relay));
