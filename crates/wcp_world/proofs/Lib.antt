@@ -6,3 +6,4 @@ pub mod Accepting
 pub mod Receiving
 pub mod Moved
 pub mod Tree
+pub mod Putting

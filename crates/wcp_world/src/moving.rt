@@ -1,8 +1,9 @@
 ghost use Rattle.std.specs.Prelude.{◌≡◌, ◌≢◌, ◌+◌, ◌<◌, ◌≤◌, length, IfOk, OnErr};
+ghost use Rattle.std.specs.List.{list_any};
 ghost use Rattle.wcp_model.specs.declared.plan.Plan.{Plan};
 ghost use Rattle.wcp_model.specs.declared.step.Step.TheVariants as step;
 ghost use Rattle.wcp_model.specs.Occupancy.{inbox_of};
-ghost use Rattle.wcp_model.specs.Replies.{is_attached, is_leaf};
+ghost use Rattle.wcp_model.specs.Replies.{is_attached, serves};
 ghost use Rattle.wcp_world.specs.Moves.{Shifts};
 ghost use Rattle.wcp_world.specs.Network.{Answers, IsNetworkOf, IsReached, number_of};
 ghost use Rattle.wcp_world.specs.NetworkView.{state_of};
@@ -84,7 +85,7 @@ impl Network {
     }
 
     fn is_leaf(&self, relay: u32) -> bool
-        ensures { (plan : Plan) → IsNetworkOf plan (state_of self.now) → result ≡ is_leaf plan relay }
+        ensures { result ≡ list_any (serves relay) self.now.attach.items }
     {
         self.attach.iter().any(|entry| match entry {
             Some(attached) => *attached == relay,

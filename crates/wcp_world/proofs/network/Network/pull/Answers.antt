@@ -3,6 +3,8 @@ use Rattle.std.proofs.lemmas.Bool.Decides.{nat_tests}
 use Rattle.std.proofs.lemmas.List.{with_items_is}
 use Rattle.wcp_model.specs.declared.step.Step.TheVariants as step
 use Rattle.wcp_model.specs.declared.step.Why.TheVariants as why
+use Rattle.std.specs.List.{list_any}
+use Rattle.wcp_model.specs.Replies.{serves}
 use Rattle.wcp_model.specs.Occupancy.{HoldOf, InboxOf, is_same_place}
 use Rattle.wcp_world.specs.Network.{number_of}
 use Rattle.wcp_world.proofs.Probing.{refused_from}
@@ -18,7 +20,7 @@ returns-then-relay-len c plan steps taken stands =
 pub returns-then-is_leaf : goal.returns-then-is_leaf
 returns-then-is_leaf c plan steps taken stands =
     let within : nat_lt c.args.relay (length plan.parents.items) ≡ true = grind (arith, nat_tests, c.args.self.now.parents.ok.0, ap length stands.network.parents) in
-    let leaf = sym (c.is_leaf.ensures plan stands.network) ∙ c.if-is_leaf.true in
+    let leaf = ap (list_any (serves c.args.relay)) (sym stands.network.attach) ∙ sym c.is_leaf.ensures ∙ c.if-is_leaf.true in
     refused_from plan steps taken _ stands (step.Pull c.args.relay) why.NoSuch (rw (within, leaf) refl)
 
 pub inbox-from-requires : goal.inbox-from-requires
@@ -50,7 +52,7 @@ pub returns : goal.returns
 returns c plan steps taken stands =
     let relays : c.args.relay < length plan.parents.items = omega (arith, c.args.self.now.parents.ok.0, ap length stands.network.parents) in
     let within : nat_lt c.args.relay (length plan.parents.items) ≡ true = grind (arith, nat_tests) in
-    let inner = sym (c.is_leaf.ensures plan stands.network) ∙ c.if-is_leaf.false in
+    let inner = ap (list_any (serves c.args.relay)) (sym stands.network.attach) ∙ sym c.is_leaf.ensures ∙ c.if-is_leaf.false in
     let to_is : c.hold-to.result ≡ number_of plan (HoldOf c.args.relay) = c.hold-to.ensures ∙ ap (λ k. k + c.args.relay) stands.network.n in
     let from_is : c.inbox-from.result ≡ number_of plan (InboxOf c.args.relay) = c.inbox-from.ensures plan stands.network in
     let moved = rw (c.deref_mut.ensures.value, from_is, to_is) at c.shift.ensures in
