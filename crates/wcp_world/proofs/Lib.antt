@@ -7,3 +7,4 @@ pub mod Receiving
 pub mod Moved
 pub mod Tree
 pub mod Putting
+pub mod Checking

@@ -1,17 +1,20 @@
-ghost use Rattle.std.specs.Prelude.{◌≡◌, ◌≢◌, ◌+◌, ◌<◌, ◌≤◌, length, IfOk, OnErr};
+ghost use Rattle.std.specs.Prelude.{◌≡◌, ◌≢◌, ◌+◌, ◌<◌, ◌≤◌, length, IfOk, OnOk, OnErr};
 ghost use Rattle.std.specs.List.{list_any};
 ghost use Rattle.wcp_model.specs.declared.plan.Plan.{Plan};
 ghost use Rattle.wcp_model.specs.declared.step.Step.TheVariants as step;
 ghost use Rattle.wcp_model.specs.Occupancy.{inbox_of};
 ghost use Rattle.wcp_model.specs.Replies.{is_attached, serves};
+ghost use Rattle.wcp_queue.specs.Checker.{TakesItem, processes, taken_of};
 ghost use Rattle.wcp_world.specs.Moves.{Shifts};
 ghost use Rattle.wcp_world.specs.Network.{Answers, IsNetworkOf, IsReached, number_of};
 ghost use Rattle.wcp_world.specs.NetworkView.{state_of};
 
 use crate::network::Network;
+use std::alloc::AllocError;
 use wcp_clock::Item;
 use wcp_hold::{Bag, Hold};
 use wcp_model::{Parent, Reply, Why};
+use wcp_queue::Checker;
 
 impl Network {
     /// The link of process `p` takes its pending note.
@@ -75,6 +78,22 @@ impl Network {
         shift(&mut self.places, from, to)
     }
 
+    /// The checker takes an item from the root inbox. `Err` where memory runs out: nothing has
+    /// changed.
+    pub fn check(&mut self) -> Result<Reply, AllocError>
+        requires { IsReached (state_of self.old) }
+        ensures answered { IfOk result (λ reply. Answers (state_of self.old) step.Check reply (state_of self.new)) }
+        ensures unchanged { OnErr result (state_of self.new ≡ state_of self.old) }
+    {
+        let root = self.root();
+        let Some(item) = self.places[root].front() else {
+            return Ok(Reply::Refused(Why::Empty));
+        };
+        hand_over(&mut self.checker, &item)?;
+        let _ = self.places[root].pop();
+        Ok(Reply::Took(item))
+    }
+
     fn is_attached(&self, relay: u32, p: u32) -> bool
         ensures { (plan : Plan) → IsNetworkOf plan (state_of self.now) → result ≡ is_attached plan relay p }
     {
@@ -100,16 +119,37 @@ impl Network {
         self.n as usize + relay as usize
     }
 
+    /// The number of the root inbox among the places.
+    fn root(&self) -> usize
+        requires { length self.now.parents.items ≤ 15 }
+        ensures { result ≡ self.now.n + length self.now.parents.items }
+    {
+        self.n as usize + self.parents.len()
+    }
+
     /// The number of an inbox among the places.
     pub fn inbox(&self, parent: Parent) -> usize
         requires { length self.now.parents.items ≤ 15 }
         ensures { (plan : Plan) → IsNetworkOf plan (state_of self.now) → result ≡ number_of plan (inbox_of parent) }
     {
-        let root = self.n as usize + self.parents.len();
         match parent {
-            Parent::Root => root,
-            Parent::Relay(relay) => root + 1 + relay as usize,
+            Parent::Root => self.root(),
+            Parent::Relay(relay) => self.root() + 1 + relay as usize,
         }
+    }
+}
+
+/// The checker takes the item. `Err` where memory runs out: nothing has changed.
+fn hand_over(checker: &mut Checker, item: &Item) -> Result<(), AllocError>
+    requires from { item.now.from < processes checker.old }
+    requires few { taken_of checker.old item.now.from < 4294967296 }
+    ensures taken { OnOk result (TakesItem checker.old checker.new item.now) }
+    ensures processes { processes checker.new ≡ processes checker.old }
+    ensures unchanged { OnErr result (checker.new ≡ checker.old) }
+{
+    match checker.take(*item) {
+        Ok(()) => Ok(()),
+        Err((error, _)) => Err(error),
     }
 }
 
