@@ -1,4 +1,4 @@
-use Rattle.std.specs.Prelude.{◌≡◌, ◌==◌, ◌||◌, ℕ, ◌+◌, ◌<◌, Bool, true, false, not, nat_lt, nat_le, Option, Some, None, MatchOption, List, [], ◌∷◌, ◌++◌, length, filter, map, flat_map, slice_get, if◌then◌else◌}
+use Rattle.std.specs.Prelude.{◌≡◌, ◌==◌, ◌||◌, ℕ, ◌+◌, ◌<◌, Bool, true, false, not, nat_lt, nat_le, Option, Some, None, MatchOption, List, [], ◌∷◌, ◌++◌, length, filter, map, flat_map, take, slice_get, if◌then◌else◌}
 use Rattle.std.specs.List.{list_any}
 use Rattle.wcp_clock.specs.declared.clock.TheConstants.{CLOCK_LIMIT}
 use Rattle.wcp_clock.specs.declared.note.Item.{Item}
@@ -144,4 +144,4 @@ pub record IsReply (plan : Plan) (steps : List Step) (s : Step) (answer : Reply)
 
 -- Each step of a history has the reply that the earlier steps and replies lead to.
 abbrev pub AreReplies : Plan → List Answered → Type 0
-AreReplies plan history = (before after : List Answered) (a : Answered) → history ≡ before ++ a ∷ after → IsReply plan (accepted before) a.step a.reply
+AreReplies plan history = (place : ℕ) (a : Answered) → slice_get history place ≡ Some a → IsReply plan (accepted (take place history)) a.step a.reply

@@ -2,3 +2,4 @@ pub mod Messages
 pub mod Moves
 pub mod Network
 pub mod NetworkView
+pub mod Start
