@@ -8,3 +8,4 @@ pub mod Moved
 pub mod Tree
 pub mod Putting
 pub mod Checking
+pub mod Starting

@@ -1,0 +1,1 @@
+use Rattle.wcp_world.proofs.Starting.{fresh_stands}
