@@ -53,3 +53,16 @@ attached_exists plan relay p checked attached = ⊎_elim
               (λ (none : length plan.parents.items ≤ relay). absurd (checked fault.Unattached (inr (p, Some r, within, get_or_from_slice_get plan.attach.items p (Some r) (Some r) at, omega (arith, none, same)))))
               (cases_lt relay (length plan.parents.items)),
         )
+
+-- the numbers of a checked plan are within their limits
+pub within_limits : (plan : Plan) → IsCheckedPlan plan → (0 < plan.n) × (0 < plan.cap) × (plan.cap ≤ 1024) × (0 < plan.hold) × (plan.hold ≤ 1024)
+within_limits plan checked = (
+  from_some plan.n (λ none. checked fault.Procs (inl (omega (arith, none)))),
+  from_some plan.cap (λ none. checked fault.Cap (inl (omega (arith, none)))),
+  ⊎_elim (λ (more : 1024 < plan.cap). absurd (checked fault.Cap (inr more))) (λ (le : plan.cap ≤ 1024). le) (cases_lt 1024 plan.cap),
+  from_some plan.hold (λ none. checked fault.Hold (inl (omega (arith, none)))),
+  ⊎_elim (λ (more : 64 < plan.hold). absurd (checked fault.Hold (inr more))) (λ (le : plan.hold ≤ 64). omega (arith, le)) (cases_lt 64 plan.hold),
+)
+  where
+    from_some : (k : ℕ) → (k ≡ 0 → ⊥) → 0 < k
+    from_some k some = omega (arith, some)

@@ -6,3 +6,6 @@ mod application;
 mod messages;
 mod moving;
 mod network;
+mod world;
+
+pub use world::World;
