@@ -1,20 +1,16 @@
-use Rattle.std.proofs.Common.{◌≡◌, ◌≢◌, ℕ, ◌+◌, ◌-◌, ◌<◌, ◌≤◌, ◌⊎◌, Bool, true, false, cond, not, ◌||◌, nat_lt, nat_le, is_some, IsTrue, List, [], ◌∷◌, ◌++◌, length, take, slice_get, slice_index, slice_index_or, slice_set, count_by, get_or, set, eqb, Option, None, Some, if◌then◌else◌, refl, sym, ap, ap₂, ◌∙◌, subst, ⊎_elim, append-nil, eqb-true, eq-eqb, true≢false, le_refl, add-zero, map, arith}
+use Rattle.std.proofs.Common.{◌≡◌, ◌≢◌, ℕ, ◌+◌, ◌<◌, ◌≤◌, Bool, true, false, cond, not, ◌||◌, nat_lt, nat_le, is_some, IsTrue, List, [], ◌∷◌, ◌++◌, length, slice_index, count_by, get_or, set, eqb, Option, None, Some, if◌then◌else◌, refl, sym, ap, ap₂, ◌∙◌, subst, ⊎_elim, append-nil, eq-eqb, true≢false, map, arith}
 use Rattle.std.proofs.lemmas.Bool.{cases_Bool, cases_lt, cases_eq, ne_eqb}
 use Rattle.std.proofs.lemmas.Bool.Decides.{nat_tests}
-use Rattle.std.proofs.lemmas.List.{length_push, get_or-set_same, set-get_or, take_at}
+use Rattle.std.proofs.lemmas.List.{get_or-set_same, set-get_or, take_at}
 use Rattle.wcp_clock.specs.declared.clock.TheConstants.{CLOCK_LIMIT}
 use Rattle.wcp_clock.specs.declared.note.Item.{Item}
-use Rattle.wcp_clock.specs.declared.note.Note.{Note}
 use Rattle.wcp_clock.specs.declared.note.Note.TheVariants as note
 use Rattle.wcp_model.specs.declared.plan.Plan.{Plan}
 use Rattle.wcp_model.specs.declared.step.Step.{Step}
 use Rattle.wcp_model.specs.declared.step.Step.TheVariants as step
-use Rattle.wcp_model.specs.declared.step.Reply.{Reply}
-use Rattle.wcp_model.specs.declared.step.Reply.TheVariants.{Done, Refused}
+use Rattle.wcp_model.specs.declared.step.Reply.TheVariants.{Refused}
 use Rattle.wcp_model.specs.declared.step.Why.{Why}
-use Rattle.wcp_model.specs.declared.step.Why.TheVariants as why
-use Rattle.wcp_model.specs.Computation.{Computation, communications, interval_at, is_communication_of, is_send}
-use Rattle.wcp_model.specs.Emission.{is_closed}
+use Rattle.wcp_model.specs.Computation.{communications, interval_at, is_communication_of, is_send}
 use Rattle.wcp_model.specs.ProbeLog.{Call, Observed, Sent, Received, Closed, ProbeState, after_call, state_of_log, IsStampOf, IsAccepted}
 use Rattle.wcp_model.specs.Replies.{computation, IsReply}
 use Rattle.wcp_probe.specs.Core.{Core, StandsFor, Accepts, IsSameProbe}
@@ -26,14 +22,13 @@ use Rattle.wcp_probe.specs.declared.probe.Refusal.{Refusal}
 use Rattle.wcp_probe.proofs.AcceptedCalls.{state_after, length-merged}
 use Rattle.wcp_world.specs.declared.messages.Letter.{Letter}
 use Rattle.wcp_world.specs.Network.{NetworkState, IsProbeOf, Stands}
-use Rattle.wcp_world.proofs.Probing.{same_state, law_of_probe, closed_is, events_are, clock_end_is, backlog_is, emitted_in, reply_from, refused_from}
+use Rattle.wcp_world.proofs.Probing.{same_state, law_of_probe, emitted_in, refused_from}
 use Rattle.wcp_clock.specs.Merge.{merged}
 use Rattle.wcp_model.specs.StateClock.{IsStateClock}
 use Rattle.wcp_model.proofs.Growth.{get_behind}
 use Rattle.wcp_model.proofs.RunningEmissions.{interval_at_seam}
 use Rattle.wcp_world.proofs.Growing.{computation_push, count_push}
-use Rattle.wcp_world.proofs.Events.{Advances, event_stands}
-use Rattle.wcp_world.proofs.Mail.{letters_stay}
+use Rattle.wcp_world.proofs.Events.{Advances}
 
 one_reason : (b : Bool) (reason : Refusal) (rest : Option Refusal) (others : Option Why) → others ≡ option_map why_of rest → (if b then Some (why_of reason) else others) ≡ option_map why_of (if b then Some reason else rest)
 one_reason true reason rest others same = refl
@@ -141,6 +136,7 @@ event_advances n steps p log old new call is nothing more accepted same pending 
       notes = same_notes ∙ sym (append-nil (state_of_log n p log).notes);
       pending = let none : bit (is_some new.pending) ≡ bit (is_some old.pending) = ap (λ o. bit (is_some o)) pending in omega (arith, none);
     }
+
 -- the probe of a process that there is
 pub probe_at : (plan : Plan) (steps : List Step) (taken : List Item) (w : NetworkState) (stands : Stands plan steps taken w) (p : ℕ) (core : Core) → p < plan.n → core ≡ get_or w.probes p core → IsProbeOf plan.n steps p (stands.logs p) core
 probe_at plan steps taken w stands p core in_range here = subst (IsProbeOf plan.n steps p (stands.logs p)) (sym here) (stands.probes.each p core in_range)
@@ -153,9 +149,11 @@ probe_back probes p old new here same = ap (set probes p) (same ∙ here) ∙ se
 pub refused_same : (plan : Plan) (steps : List Step) (taken : List Item) (w : NetworkState) (stands : Stands plan steps taken w) (s : Step) (reason : Why) (probes : List Core) (letters : List Letter) → probes ≡ w.probes → letters ≡ w.letters →
     first_of_reasons (reasons plan steps (emitted_in plan steps taken w stands) s) ≡ Some reason → IsReply plan steps s (Refused reason) × Stands plan (steps ++ []) (taken ++ []) (record w { probes = probes; letters = letters })
 refused_same plan steps taken w stands s reason probes letters same_probes same_letters first =
-    let told = refused_from plan steps taken w stands s reason first in
-    (told.0, subst (λ (ps : List Core). Stands plan (steps ++ []) (taken ++ []) (record w { probes = ps; letters = letters })) (sym same_probes)
-      (subst (λ (ls : List Letter). Stands plan (steps ++ []) (taken ++ []) (record w { letters = ls })) (sym same_letters) told.1))
+    let told = refused_from plan steps taken w stands s reason first in (
+      told.0,
+      subst (λ (ps : List Core). Stands plan (steps ++ []) (taken ++ []) (record w { probes = ps; letters = letters })) (sym same_probes)
+          (subst (λ (ls : List Letter). Stands plan (steps ++ []) (taken ++ []) (record w { letters = ls })) (sym same_letters) told.1),
+    )
 
 -- the clock after a send is that of the state behind it
 pub stamp_of_send : (n : ℕ) (steps : List Step) (p to : ℕ) (log : List Call) (new : Core) → IsAccepted (computation steps ++ step.Send p to ∷ []) → p < n → IsProbeOf n (steps ++ step.Send p to ∷ []) p log new →
@@ -165,8 +163,8 @@ stamp_of_send n steps p to log new order in_range is =
     let s = step.Send p to in
     let grown : computation (steps ++ s ∷ []) ≡ c ++ s ∷ [] = computation_push steps s in
     let law : IsStateClock n (c ++ s ∷ []) (record { process = p; interval = communications (c ++ s ∷ []) p }) (state_of_log n p log).clock =
-        subst (λ d. IsStateClock n d (record { process = p; interval = communications d p }) (state_of_log n p log).clock) grown
-        (law_of_probe n (steps ++ s ∷ []) p log new is (subst IsAccepted (sym grown) order) in_range).clock in
+    subst (λ d. IsStateClock n d (record { process = p; interval = communications d p }) (state_of_log n p log).clock) grown
+    (law_of_probe n (steps ++ s ∷ []) p log new is (subst IsAccepted (sym grown) order) in_range).clock in
     let clock : (state_of_log n p log).clock ≡ new.clock = sym (is.stands.clock ∙ ap (λ (t : ProbeState). t.clock) (same_state n (steps ++ s ∷ []) p log new is)) in
     let seam : interval_at (c ++ s ∷ []) p (length c) ≡ communications c p = interval_at_seam c (s ∷ []) p in
     let own : bit (eqb p p) ≡ 1 = ap bit (eq-eqb p p refl) in

@@ -1,9 +1,8 @@
-use Rattle.std.proofs.Common.{◌≡◌, ◌≢◌, ℕ, ◌+◌, ◌-◌, ◌*◌, ◌^◌, ◌<◌, ◌≤◌, ◌⊎◌, ◌&&◌, Bool, true, false, cond, nat_lt, nat_le, List, [], ◌∷◌, ◌++◌, length, drop, take, filter, map, fold, count_by, sum_by, slice_get, slice_index, slice_index_or, get_or, set, eqb, Option, None, Some, if◌then◌else◌, refl, sym, ap, ap₂, ◌∙◌, subst, ⊎_elim, append-nil, eqb-true, eq-eqb, true≢false, arith}
-use Rattle.std.proofs.lemmas.Bool.{cases_Bool, cases_eq, ne_eqb, cases_lt}
+use Rattle.std.proofs.Common.{◌≡◌, ℕ, ◌+◌, ◌<◌, ◌≤◌, ◌&&◌, Bool, true, false, cond, nat_le, List, [], ◌∷◌, ◌++◌, length, drop, take, filter, map, fold, count_by, slice_get, get_or, set, eqb, None, Some, refl, sym, ap, ◌∙◌, subst, ⊎_elim, arith}
+use Rattle.std.proofs.lemmas.Bool.{cases_Bool, cases_lt}
 use Rattle.std.proofs.lemmas.Bool.Decides.{nat_tests}
 use Rattle.std.proofs.lemmas.List.{length-set, get_or-set_same, get_or-set_other}
-use Rattle.std.proofs.lemmas.List.Sums.{sum_by_push, sum_by-cons, sum_by-take-le, get_or-le-sum_by}
-use Rattle.wcp_clock.specs.declared.clock.TheConstants.{CLOCK_LIMIT}
+use Rattle.std.proofs.lemmas.List.Sums.{sum_by_push, sum_by-cons, sum_by-take-le}
 use Rattle.wcp_clock.specs.declared.note.Item.{Item}
 use Rattle.wcp_clock.specs.declared.note.Note.{Note}
 use Rattle.wcp_clock.specs.declared.note.Note.TheVariants.{Snap, Close}
@@ -12,14 +11,13 @@ use Rattle.wcp_model.specs.declared.step.Step.{Step}
 use Rattle.wcp_model.specs.declared.step.Step.TheVariants as step
 use Rattle.wcp_model.specs.ProbeLog.{Call, Observed, Sent, Received, Closed, ProbeState, after_call, state_of_log, IsAccepted}
 use Rattle.wcp_model.specs.Report.{notes_taken, snapshot_clocks, clocks_taken}
-use Rattle.wcp_model.specs.Occupancy.{Place, Pending, RootInbox, is_same_place, takes_from, puts_into}
+use Rattle.wcp_model.specs.Occupancy.{Place, Pending, RootInbox, is_same_place, takes_from}
 use Rattle.wcp_model.specs.Replies.{computation}
 use Rattle.wcp_probe.specs.Core.{Core}
 use Rattle.wcp_hold.specs.Held.{Held}
 use Rattle.wcp_queue.specs.Checker.{CheckerState, processes, taken_of, TakesItem}
-use Rattle.wcp_queue.specs.Checker.{StandsFor as CheckerStandsFor}
 use Rattle.wcp_world.specs.Moves.{held_at}
-use Rattle.wcp_world.specs.Network.{NetworkState, IsProbeOf, AreLettersOf, IsHeldAt, ArePlacesOf, IsPlaceOf, Stands, is_note_of, count_in, number_of}
+use Rattle.wcp_world.specs.Network.{NetworkState, IsProbeOf, AreLettersOf, IsHeldAt, IsPlaceOf, Stands, is_note_of, count_in, number_of}
 use Rattle.wcp_world.proofs.Probing.{same_state}
 use Rattle.wcp_world.proofs.Events.{count_same}
 use Rattle.wcp_world.proofs.Moved.{bit, same_place, number_apart, number_within, count_set, count_rest, length_rest, held_after, held_is, quiet_computation, quiet_probes}
@@ -29,7 +27,7 @@ is_snap (Snap number clock) = true
 is_snap (Close count) = false
 
 -- the snapshots taken of a process are counted
-clocks_counted : (notes : List Note) → length (snapshot_clocks notes) ≡ count_by is_snap notes
+pub clocks_counted : (notes : List Note) → length (snapshot_clocks notes) ≡ count_by is_snap notes
 clocks_counted [] = refl
 clocks_counted (Snap number clock ∷ notes) = omega (arith, clocks_counted notes, sum_by-cons (λ x. cond (is_snap x) 1 0) (Snap number clock) notes)
 clocks_counted (Close count ∷ notes) = omega (arith, clocks_counted notes, sum_by-cons (λ x. cond (is_snap x) 1 0) (Close count) notes)
@@ -111,7 +109,6 @@ module _ (plan : Plan) (steps : List Step) (taken : List Item) (w : NetworkState
 module _ (plan : Plan) (steps : List Step) (taken : List Item) (w : NetworkState) (stands : Stands plan steps taken w) (item : Item) (emptied : Held) (checker : CheckerState)
     (first : slice_get (held_at w.places (number_of plan RootInbox)).items 0 ≡ Some item) (rest : emptied.items ≡ drop 1 (held_at w.places (number_of plan RootInbox)).items) (same_room : emptied.room ≡ (held_at w.places (number_of plan RootInbox)).room)
     (takes : TakesItem w.checker checker item) (same_processes : processes checker ≡ processes w.checker) where
-
   check_place : (x : Place) (default : Held) → IsPlaceOf plan x → IsHeldAt plan (steps ++ step.Check ∷ []) x (get_or (set w.places (number_of plan RootInbox) emptied) (number_of plan x) default)
   check_place x default is_place =
       let within = number_within plan steps w.places RootInbox stands.places tt in
@@ -131,8 +128,11 @@ module _ (plan : Plan) (steps : List Step) (taken : List Item) (w : NetworkState
 
   counts : (test : Item → Bool) → count_in test (set w.places (number_of plan RootInbox) emptied) + bit (test item) ≡ count_in test w.places
   counts test =
-      omega (arith, count_set test w.places (number_of plan RootInbox) emptied (record { items = []; room = 0 }) (number_within plan steps w.places RootInbox stands.places tt),
-      count_rest test (held_at w.places (number_of plan RootInbox)).items emptied.items item first rest)
+      omega (
+        arith,
+        count_set test w.places (number_of plan RootInbox) emptied (record { items = []; room = 0 }) (number_within plan steps w.places RootInbox stands.places tt),
+        count_rest test (held_at w.places (number_of plan RootInbox)).items emptied.items item first rest,
+      )
 
   -- the checker took the item
   pub check_stands : Stands plan (steps ++ step.Check ∷ []) (taken ++ item ∷ []) (record w { places = set w.places (number_of plan RootInbox) emptied; checker = checker })

@@ -1,5 +1,5 @@
-use Rattle.std.proofs.Common.{◌≡◌, ◌≢◌, ℕ, ◌+◌, ◌-◌, ◌<◌, ◌≤◌, ◌⊎◌, Bool, true, false, cond, not, ◌||◌, is_some, IsTrue, List, [], ◌∷◌, ◌++◌, length, filter, take, slice_index, slice_index_or, count_by, get_or, set, eqb, Option, None, Some, if◌then◌else◌, refl, sym, ap, ap₂, ◌∙◌, subst, ⊎_elim, append-nil, add-zero, eqb-true, eq-eqb, true≢false, arith}
-use Rattle.std.proofs.lemmas.Bool.{cases_Bool, cases_eq, ne_eqb}
+use Rattle.std.proofs.Common.{◌≡◌, ◌≢◌, ℕ, ◌+◌, ◌<◌, ◌≤◌, Bool, true, false, cond, ◌||◌, is_some, IsTrue, List, [], ◌∷◌, ◌++◌, length, take, slice_index, count_by, get_or, set, eqb, if◌then◌else◌, refl, sym, ap, ◌∙◌, subst, ⊎_elim, append-nil, add-zero, eqb-true, eq-eqb, arith}
+use Rattle.std.proofs.lemmas.Bool.{cases_eq, ne_eqb}
 use Rattle.std.proofs.lemmas.List.{length-set, length-append, get_or-set_same, get_or-set_other, take-append-le}
 use Rattle.wcp_clock.specs.declared.clock.TheConstants.{CLOCK_LIMIT}
 use Rattle.wcp_clock.specs.declared.note.Item.{Item}
@@ -7,19 +7,18 @@ use Rattle.wcp_clock.specs.declared.note.Note.{Note}
 use Rattle.wcp_model.specs.declared.plan.Plan.{Plan}
 use Rattle.wcp_model.specs.declared.step.Step.{Step}
 use Rattle.wcp_model.specs.declared.step.Step.TheVariants.{Recv}
-use Rattle.wcp_model.specs.Computation.{Computation, is_send}
+use Rattle.wcp_model.specs.Computation.{is_send}
 use Rattle.wcp_model.specs.Emission.{is_closed}
 use Rattle.wcp_model.specs.ProbeLog.{Call, ProbeState, after_call, state_of_log, is_step_of, IsCallOf, IsLogOf, IsAccepted}
 use Rattle.wcp_model.specs.Occupancy.{Place, Pending, takes_from, puts_into}
 use Rattle.wcp_model.specs.Replies.{computation}
-use Rattle.wcp_probe.specs.Core.{Core, StandsFor, Accepts, IsSameProbe}
+use Rattle.wcp_probe.specs.Core.{Core, Accepts, IsSameProbe}
 use Rattle.wcp_probe.proofs.AcceptedCalls.{state_after}
-use Rattle.wcp_hold.specs.Held.{Held}
 use Rattle.wcp_queue.specs.Checker.{StandsFor as CheckerStandsFor}
 use Rattle.wcp_world.specs.declared.messages.Letter.{Letter}
-use Rattle.wcp_world.specs.Network.{NetworkState, IsNetworkOf, IsProbeOf, AreProbesOf, AreLettersOf, IsHeldAt, ArePlacesOf, AreKept, IsPlaceOf, Stands, is_note_of, count_in, number_of}
+use Rattle.wcp_world.specs.Network.{NetworkState, IsProbeOf, AreLettersOf, IsHeldAt, Stands, is_note_of, count_in, number_of}
 use Rattle.wcp_world.proofs.Growing.{log_push, count_push, computation_push, accepted_push}
-use Rattle.wcp_world.proofs.Probing.{same_state, put_is_emitted, probe_stays}
+use Rattle.wcp_world.proofs.Probing.{put_is_emitted, probe_stays}
 
 -- what an accepted call of process p made of its probe
 pub record Advances (n p : ℕ) (log : List Call) (old new : Core) (call : Call) : Type 0 where
@@ -81,7 +80,7 @@ module _ (plan : Plan) (steps : List Step) (taken : List Item) (w : NetworkState
       let was : IsProbeOf plan.n steps p (stands.logs p) old = subst (IsProbeOf plan.n steps p (stands.logs p)) (sym here) (stands.probes.each p old in_range) in
       let now : IsProbeOf plan.n (steps ++ s ∷ []) p (stands.logs p ++ call ∷ []) new = probe_advances plan.n steps s p (stands.logs p) call old new grown (no_take (Pending p)) (owner p ∙ eq-eqb p p refl) is_call advances was in
       let accepted : IsAccepted (computation steps ++ s ∷ []) = accepted_push (computation steps) s stands.order
-          (λ q own. subst (λ r. is_closed (computation steps) r ≡ false) (eqb-true p q (sym (owner q) ∙ own)) is_open) was_sent in
+      (λ q own. subst (λ r. is_closed (computation steps) r ≡ false) (eqb-true p q (sym (owner q) ∙ own)) is_open) was_sent in
       record {
         checked = stands.checked;
         network = record { n = stands.network.n; parents = stands.network.parents; attach = stands.network.attach };

@@ -1,12 +1,10 @@
-use Rattle.std.proofs.Common.{◌≡◌, ◌≢◌, ◌==◌, ℕ, ◌+◌, ◌<◌, ◌≤◌, ◌⊎◌, Bool, true, false, cond, ◌||◌, is_some, IsTrue, MatchOption, List, [], ◌∷◌, ◌++◌, length, filter, map, flat_map, take, slice_get, slice_index, count_by, get_or, set, eqb, Option, None, Some, if◌then◌else◌, refl, sym, ap, ap₂, ◌∙◌, subst, ⊎_elim, inl, inr, append-nil, eqb-true, eq-eqb, le_refl, true≢false, arith}
-use Rattle.std.proofs.lemmas.Bool.{cases_Bool, cases_lt, cases_eq, ne_eqb, false_from_ne_true}
-use Rattle.std.proofs.lemmas.List.{length_push, take-append-le, take_at}
+use Rattle.std.proofs.Common.{◌≡◌, ℕ, ◌+◌, ◌<◌, ◌≤◌, Bool, true, false, cond, List, [], ◌∷◌, ◌++◌, length, filter, slice_get, count_by, Some, refl, sym, ap, ◌∙◌, subst, ⊎_elim, append-nil, eq-eqb, true≢false, arith}
+use Rattle.std.proofs.lemmas.Bool.{cases_lt, false_from_ne_true}
+use Rattle.std.proofs.lemmas.List.{length_push, take_at}
 use Rattle.std.proofs.lemmas.List.Elements.{filter-append}
-use Rattle.std.proofs.lemmas.List.Folds.{list_any-append, list_any_at}
+use Rattle.std.proofs.lemmas.List.Folds.{list_any_at}
 use Rattle.std.proofs.lemmas.List.Sums.{sum_by_push}
 use Rattle.std.proofs.lemmas.Option.{slice_get_within, get_or_from_slice_get}
-use Rattle.std.specs.List.{list_any}
-use Rattle.wcp_model.specs.declared.state.State.{State}
 use Rattle.wcp_model.specs.declared.step.Step.{Step}
 use Rattle.wcp_model.specs.declared.step.Step.TheVariants as step
 use Rattle.wcp_model.specs.Computation.{Computation, is_send, interval_at, message_at}
@@ -15,7 +13,7 @@ use Rattle.wcp_model.specs.ProbeLog.{Call, Observed, Sent, Received, Closed, is_
 use Rattle.wcp_model.specs.StateClock.{IsStateClock}
 use Rattle.wcp_model.specs.Replies.{is_event, computation}
 use Rattle.wcp_model.proofs.EventPlaces.{event_of_send, event_below}
-use Rattle.wcp_model.proofs.Growth.{get_front, get_behind, at_grows, interval_grows, message_grows, clock_grows, count_front}
+use Rattle.wcp_model.proofs.Growth.{get_front, get_behind, at_grows, interval_grows, message_grows, clock_grows}
 
 -- the stamp of a message stays as the computation grows
 pub stamp_grows : (n : ℕ) (c e : Computation) (message : ℕ) (stamp : List ℕ) → IsStampOf n c message stamp → IsStampOf n (c ++ e) message stamp

@@ -9,3 +9,5 @@ pub mod Tree
 pub mod Putting
 pub mod Checking
 pub mod Starting
+pub mod Histories
+pub mod Totals

@@ -1,23 +1,22 @@
-use Rattle.std.proofs.Common.{◌≡◌, ◌≢◌, ℕ, zero, suc, ◌+◌, ◌-◌, ◌<◌, ◌≤◌, ◌⊎◌, Bool, true, false, cond, not, nat_lt, nat_le, List, [], ◌∷◌, ◌++◌, length, drop, take, count_by, sum_by, slice_get, slice_index_or, slice_set, get_or, set, eqb, Option, None, Some, MatchOption, refl, sym, ap, ap₂, ◌∙◌, subst, ⊎_elim, append-nil, eqb-true, eq-eqb, true≢false, arith}
-use Rattle.std.proofs.lemmas.Bool.{cases_Bool, cases_eq, ne_eqb, eqb-false}
+use Rattle.std.proofs.Common.{◌≡◌, ◌≢◌, ℕ, ◌+◌, ◌-◌, ◌<◌, ◌≤◌, Bool, true, false, cond, nat_le, List, [], ◌∷◌, ◌++◌, length, drop, take, count_by, slice_get, get_or, set, eqb, None, Some, MatchOption, refl, sym, ap, ap₂, ◌∙◌, subst, ⊎_elim, append-nil, eqb-true, eq-eqb, true≢false, arith}
+use Rattle.std.proofs.lemmas.Bool.{cases_Bool, eqb-false}
 use Rattle.std.proofs.lemmas.Bool.Decides.{nat_tests}
-use Rattle.std.proofs.lemmas.List.{length-set, length-append, length_push, get_or-set_same, get_or-set_other}
+use Rattle.std.proofs.lemmas.List.{length-set, length-append, get_or-set_same, get_or-set_other}
 use Rattle.std.proofs.lemmas.List.Sums.{sum_by-set, sum_by-append, sum_by-cons}
 use Rattle.wcp_clock.specs.declared.note.Item.{Item}
-use Rattle.wcp_clock.specs.declared.note.Note.{Note}
 use Rattle.wcp_model.specs.declared.plan.Plan.{Plan}
 use Rattle.wcp_model.specs.declared.step.Step.{Step}
 use Rattle.wcp_model.specs.declared.step.Reply.{Reply}
 use Rattle.wcp_model.specs.declared.step.Reply.TheVariants.{Done, Refused}
 use Rattle.wcp_model.specs.declared.step.Why.{Why}
 use Rattle.wcp_model.specs.declared.step.Why.TheVariants as why
-use Rattle.wcp_model.specs.ProbeLog.{Call, state_of_log, IsAccepted}
-use Rattle.wcp_model.specs.Occupancy.{Place, Pending, Link, HoldOf, InboxOf, RootInbox, is_same_place, takes_from, puts_into, notes_in, room_of}
+use Rattle.wcp_model.specs.ProbeLog.{state_of_log, IsAccepted}
+use Rattle.wcp_model.specs.Occupancy.{Place, Pending, Link, HoldOf, InboxOf, RootInbox, is_same_place, takes_from, puts_into, notes_in}
 use Rattle.wcp_model.specs.Replies.{computation, reasons, moving, is_full, first_of_reasons, accepted_by, taken_by, IsAcceptance, IsReply}
 use Rattle.wcp_hold.specs.Held.{Held, PutsIn}
 use Rattle.wcp_queue.specs.Checker.{StandsFor as CheckerStandsFor}
 use Rattle.wcp_world.specs.Moves.{held_at, IsShift, Shifts}
-use Rattle.wcp_world.specs.Network.{NetworkState, AreProbesOf, AreLettersOf, IsHeldAt, ArePlacesOf, AreKept, IsPlaceOf, Stands, is_note_of, count_in, number_of}
+use Rattle.wcp_world.specs.Network.{NetworkState, AreProbesOf, AreLettersOf, IsHeldAt, ArePlacesOf, IsPlaceOf, Stands, is_note_of, count_in, number_of}
 use Rattle.wcp_world.proofs.Growing.{count_push, computation_push}
 use Rattle.wcp_world.proofs.Probing.{probe_stays, emitted_in, reply_from, refused_from}
 use Rattle.wcp_world.proofs.Events.{count_same}

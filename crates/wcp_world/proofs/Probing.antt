@@ -1,10 +1,6 @@
-use Rattle.std.proofs.Common.{◌≡◌, ◌≢◌, ℕ, ◌+◌, ◌-◌, ◌<◌, ◌≤◌, ◌⊎◌, Bool, true, false, cond, not, ◌||◌, nat_lt, nat_le, is_some, IsTrue, MatchOption, List, [], ◌∷◌, ◌++◌, length, filter, take, slice_index, slice_index_or, count_by, get_or, set, eqb, Option, None, Some, if◌then◌else◌, refl, sym, ap, ap₂, ◌∙◌, subst, ⊎_elim, append-nil, eqb-true, eq-eqb, true≢false, arith}
-use Rattle.std.proofs.lemmas.Bool.{cases_Bool, cases_eq, ne_eqb}
+use Rattle.std.proofs.Common.{◌≡◌, ℕ, ◌+◌, ◌-◌, ◌<◌, ◌≤◌, Bool, true, false, not, nat_lt, nat_le, is_some, MatchOption, List, [], ◌++◌, length, filter, slice_index, count_by, eqb, None, Some, if◌then◌else◌, refl, sym, ap, ap₂, ◌∙◌, subst, append-nil, arith}
 use Rattle.std.proofs.lemmas.Bool.Decides.{nat_tests}
-use Rattle.std.proofs.lemmas.List.{length-set, get_or-set_same, get_or-set_other, take-append-le}
-use Rattle.wcp_clock.specs.declared.clock.TheConstants.{CLOCK_LIMIT}
 use Rattle.wcp_clock.specs.declared.note.Item.{Item}
-use Rattle.wcp_clock.specs.declared.note.Note.{Note}
 use Rattle.wcp_model.specs.declared.plan.Plan.{Plan}
 use Rattle.wcp_model.specs.declared.step.Step.{Step}
 use Rattle.wcp_model.specs.declared.step.Reply.{Reply}
@@ -12,15 +8,14 @@ use Rattle.wcp_model.specs.declared.step.Reply.TheVariants.{Refused}
 use Rattle.wcp_model.specs.declared.step.Why.{Why}
 use Rattle.wcp_model.specs.Computation.{Computation, communications}
 use Rattle.wcp_model.specs.Emission.{is_closed}
-use Rattle.wcp_model.specs.ProbeLog.{Call, ProbeState, after_call, state_of_log, is_step_of, IsCallOf, IsLogOf, IsAccepted, HasClockAndEmissions}
-use Rattle.wcp_model.specs.Occupancy.{Place, Pending, takes_from, puts_into, pending_of}
-use Rattle.wcp_model.specs.Replies.{computation, reasons, first_of_reasons, is_backlogged, is_at_clock_end, IsAcceptance, HasEmitted, IsReply}
+use Rattle.wcp_model.specs.ProbeLog.{Call, ProbeState, state_of_log, is_step_of, IsLogOf, IsAccepted, HasClockAndEmissions}
+use Rattle.wcp_model.specs.Occupancy.{Pending, takes_from, pending_of}
+use Rattle.wcp_model.specs.Replies.{computation, reasons, first_of_reasons, is_at_clock_end, IsAcceptance, IsReply}
 use Rattle.wcp_model.proofs.RunningLog.{log_law_holds}
-use Rattle.wcp_probe.specs.Core.{Core, StandsFor}
+use Rattle.wcp_probe.specs.Core.{Core}
 use Rattle.wcp_probe.specs.Refusals.{at_clock_end}
-use Rattle.wcp_hold.specs.Held.{Held}
-use Rattle.wcp_world.specs.Network.{NetworkState, IsProbeOf, AreProbesOf, AreLettersOf, IsHeldAt, ArePlacesOf, AreKept, IsPlaceOf, Stands, is_note_of, count_in}
-use Rattle.wcp_world.proofs.Growing.{log_stays, count_push}
+use Rattle.wcp_world.specs.Network.{NetworkState, IsProbeOf, Stands}
+use Rattle.wcp_world.proofs.Growing.{log_stays}
 
 module _ (n : ℕ) (steps : List Step) (p : ℕ) (log : List Call) (core : Core) (is : IsProbeOf n steps p log core) where
   -- what the probe's log leads to

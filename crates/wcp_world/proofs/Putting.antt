@@ -1,4 +1,4 @@
-use Rattle.std.proofs.Common.{◌≡◌, ◌≢◌, ℕ, ◌+◌, ◌-◌, ◌<◌, ◌≤◌, ◌⊎◌, ◌&&◌, Bool, true, false, cond, not, nat_lt, nat_le, is_some, IsTrue, List, [], ◌∷◌, ◌++◌, length, take, count_by, slice_index_or, get_or, set, eqb, Option, None, Some, MatchOption, refl, sym, ap, ap₂, ◌∙◌, subst, ⊎_elim, append-nil, eqb-true, eq-eqb, true≢false, arith}
+use Rattle.std.proofs.Common.{◌≡◌, ◌≢◌, ℕ, ◌+◌, ◌<◌, ◌&&◌, Bool, true, false, cond, nat_le, is_some, List, [], ◌∷◌, ◌++◌, length, take, count_by, get_or, set, eqb, None, Some, refl, sym, ap, ◌∙◌, subst, ⊎_elim, append-nil, eq-eqb, true≢false, arith}
 use Rattle.std.proofs.lemmas.Bool.{cases_Bool, cases_eq, ne_eqb}
 use Rattle.std.proofs.lemmas.Bool.Decides.{nat_tests}
 use Rattle.std.proofs.lemmas.Option.{MatchOption-at_some}
@@ -9,18 +9,18 @@ use Rattle.wcp_clock.specs.declared.note.Note.{Note}
 use Rattle.wcp_model.specs.declared.plan.Plan.{Plan}
 use Rattle.wcp_model.specs.declared.step.Step.{Step}
 use Rattle.wcp_model.specs.declared.step.Step.TheVariants as step
-use Rattle.wcp_model.specs.ProbeLog.{Call, ProbeState, state_of_log, IsLogOf, IsAccepted}
+use Rattle.wcp_model.specs.ProbeLog.{ProbeState, state_of_log, IsLogOf, IsAccepted}
 use Rattle.wcp_model.specs.Occupancy.{Place, Pending, Link, HoldOf, InboxOf, RootInbox, is_same_place, takes_from, puts_into}
 use Rattle.wcp_model.specs.Replies.{computation}
-use Rattle.wcp_probe.specs.Core.{Core, StandsFor, IsLast}
+use Rattle.wcp_probe.specs.Core.{Core, IsLast}
 use Rattle.wcp_hold.specs.Held.{Held, PutsIn}
 use Rattle.wcp_queue.specs.Checker.{StandsFor as CheckerStandsFor}
 use Rattle.wcp_world.specs.Moves.{held_at}
-use Rattle.wcp_world.specs.Network.{NetworkState, IsProbeOf, AreProbesOf, AreLettersOf, IsHeldAt, ArePlacesOf, AreKept, IsPlaceOf, Stands, is_note_of, count_in, number_of}
+use Rattle.wcp_world.specs.Network.{NetworkState, IsProbeOf, AreLettersOf, IsHeldAt, IsPlaceOf, Stands, is_note_of, count_in, number_of}
 use Rattle.wcp_world.proofs.Growing.{count_push}
 use Rattle.wcp_world.proofs.Probing.{same_state, probe_stays}
 use Rattle.wcp_world.proofs.Events.{count_same}
-use Rattle.wcp_world.proofs.Moved.{bit, same_place, itself, number_apart, number_within, count_set, count_put, length_put, held_after, held_is, quiet_computation}
+use Rattle.wcp_world.proofs.Moved.{bit, same_place, number_apart, number_within, count_set, count_put, length_put, held_after, held_is, quiet_computation}
 
 -- no place of the relays is at a probe
 pub not_pending : (plan : Plan) (x : Place) (p : ℕ) → IsPlaceOf plan x → is_same_place x (Pending p) ≡ false

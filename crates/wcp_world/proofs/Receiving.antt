@@ -1,4 +1,4 @@
-use Rattle.std.proofs.Common.{◌≡◌, ◌<◌, ◌≤◌, ◌||◌, ◌++◌, ℕ, Bool, false, true, not, nat_lt, nat_le, eqb, List, [], ◌∷◌, Option, Some, None, is_some, length, slice_get, slice_index, count_by, get_or, set, refl, sym, ap, ap₂, ◌∙◌, subst, eq-eqb, true≢false, arith}
+use Rattle.std.proofs.Common.{◌≡◌, ◌<◌, ◌≤◌, ◌||◌, ◌++◌, ℕ, Bool, false, true, not, nat_lt, eqb, List, [], ◌∷◌, Some, None, is_some, length, slice_get, slice_index, count_by, get_or, set, refl, sym, ap, ap₂, ◌∙◌, eq-eqb, true≢false, arith}
 use Rattle.std.proofs.lemmas.Bool.Decides.{nat_tests}
 use Rattle.std.proofs.lemmas.Option.{MatchOption-at_some, MatchOption-at_none, slice_get_within}
 use Rattle.wcp_clock.specs.declared.note.Item.{Item}
@@ -11,7 +11,7 @@ use Rattle.wcp_model.specs.declared.step.Why.{Why}
 use Rattle.wcp_model.specs.declared.step.Why.TheVariants as why
 use Rattle.wcp_model.specs.Computation.{is_send}
 use Rattle.wcp_model.specs.ProbeLog.{Received, IsStampOf}
-use Rattle.wcp_model.specs.Replies.{computation, accepted_by, taken_by, IsReply, was_received, was_sent_to, first_of_reasons, reasons}
+use Rattle.wcp_model.specs.Replies.{computation, accepted_by, taken_by, IsReply, was_sent_to, first_of_reasons, reasons}
 use Rattle.wcp_probe.specs.declared.probe.Refusal.{Refusal}
 use Rattle.wcp_probe.specs.declared.probe.Refusal.TheVariants as refusal
 use Rattle.wcp_probe.specs.declared.stamp.Stamped.{Stamped}
@@ -24,7 +24,7 @@ use Rattle.wcp_world.specs.Network.{NetworkState, IsProbeOf, Stands}
 use Rattle.wcp_world.proofs.Growing.{stamp_grows}
 use Rattle.wcp_world.proofs.Probing.{closed_is, events_are, backlog_is, clock_end_is, emitted_in, reply_from}
 use Rattle.wcp_world.proofs.Events.{event_stands}
-use Rattle.wcp_world.proofs.Accepting.{no_reason, receive_advances, probe_at, probe_back, refused_same}
+use Rattle.wcp_world.proofs.Accepting.{receive_advances, probe_at, probe_back, refused_same}
 use Rattle.wcp_world.proofs.Mail.{letter_of, no_letter, letters_delivered, as_many_letters, not_ahead}
 
 -- where none of the first five reasons holds, the last one decides

@@ -1,13 +1,11 @@
-use Rattle.std.proofs.Common.{◌≡◌, ℕ, ◌+◌, ◌-◌, ◌*◌, ◌<◌, ◌≤◌, Bool, true, false, cond, List, [], ◌∷◌, ◌++◌, length, take, count_by, sum_by, slice_index, slice_index_or, get_or, replicate, Some, None, refl, sym, ap, ap₂, ◌∙◌, subst, true≢false, nat_le, arith}
+use Rattle.std.proofs.Common.{◌≡◌, ℕ, ◌+◌, ◌-◌, ◌<◌, Bool, List, [], ◌++◌, length, count_by, slice_index, get_or, replicate, refl, sym, ap, ◌∙◌, subst, true≢false, nat_le, arith}
 use Rattle.std.proofs.lemmas.List.{length-append, length-replicate, get_or-replicate, get_or_append_left, get_or-append_right}
 use Rattle.std.proofs.lemmas.List.Sums.{sum_by-append}
 use Rattle.std.proofs.lemmas.List.Folds.{sum_by-replicate}
 use Rattle.wcp_clock.specs.declared.note.Item.{Item}
 use Rattle.wcp_model.specs.declared.plan.Plan.{Plan}
 use Rattle.wcp_model.specs.PlanFault.{IsCheckedPlan}
-use Rattle.wcp_model.specs.ProbeLog.{Call, state_of_log}
 use Rattle.wcp_model.specs.Occupancy.{Place, Pending, Link, HoldOf, InboxOf, RootInbox, room_of}
-use Rattle.wcp_probe.specs.Core.{Core}
 use Rattle.wcp_hold.specs.Held.{Held}
 use Rattle.wcp_queue.specs.Checker.{processes}
 use Rattle.wcp_queue.specs.Checker.{StandsFor as CheckerStandsFor}
@@ -72,8 +70,14 @@ module _ (plan : Plan) where
 
   none_at_first : (test : Item → Bool) → count_in test first_places ≡ 0
   none_at_first test =
-      omega (arith, sum_by-append (λ (h : Held). count_by test h.items) (links ++ holds) inboxes, sum_by-append (λ (h : Held). count_by test h.items) links holds,
-      none_in test plan.n plan.cap, none_in test (length plan.parents.items) plan.hold, none_in test (length plan.parents.items + 1) plan.cap)
+      omega (
+        arith,
+        sum_by-append (λ (h : Held). count_by test h.items) (links ++ holds) inboxes,
+        sum_by-append (λ (h : Held). count_by test h.items) links holds,
+        none_in test plan.n plan.cap,
+        none_in test (length plan.parents.items) plan.hold,
+        none_in test (length plan.parents.items + 1) plan.cap,
+      )
 
   -- the network of a plan stands for nothing at first
   pub fresh_stands : (w : NetworkState) → IsCheckedPlan plan → IsNetworkOf plan w → AreFirstCores plan.n plan.n w.probes → w.letters ≡ [] → w.places ≡ first_places → processes w.checker ≡ plan.n → CheckerStandsFor w.checker [] → Stands plan [] [] w

@@ -1,4 +1,4 @@
-use Rattle.std.proofs.Common.{◌≡◌, ◌≢◌, ℕ, ◌+◌, ◌<◌, ◌≤◌, ◌⊎◌, Bool, true, false, List, [], ◌∷◌, length, slice_get, get_or, eqb, Option, None, Some, MatchOption, refl, sym, ap, ◌∙◌, subst, inl, inr, ⊎_elim, eqb-true, true≢false, arith}
+use Rattle.std.proofs.Common.{◌≡◌, ◌≢◌, ℕ, ◌<◌, ◌≤◌, true, false, length, slice_get, Option, None, Some, refl, sym, inl, inr, ⊎_elim, eqb-true, true≢false, arith}
 use Rattle.std.proofs.lemmas.Bool.{cases_lt, cases_eq}
 use Rattle.std.proofs.lemmas.Option.{slice_get_within, slice_get_cases, get_or_from_slice_get}
 use Rattle.wcp_model.specs.declared.plan.Parent.{Parent}
@@ -6,7 +6,7 @@ use Rattle.wcp_model.specs.declared.plan.Parent.TheVariants.{Root, Relay}
 use Rattle.wcp_model.specs.declared.plan.Plan.{Plan}
 use Rattle.wcp_model.specs.declared.plan.PlanFault.TheVariants as fault
 use Rattle.wcp_model.specs.PlanFault.{IsCheckedPlan}
-use Rattle.wcp_model.specs.Occupancy.{Place, Link, HoldOf, InboxOf, RootInbox, is_same_place, inbox_of, inbox_above}
+use Rattle.wcp_model.specs.Occupancy.{HoldOf, is_same_place, inbox_of, inbox_above}
 use Rattle.wcp_model.specs.Replies.{is_attached, serves}
 use Rattle.wcp_world.specs.Network.{IsPlaceOf}
 

@@ -1,4 +1,4 @@
-use Rattle.std.specs.Prelude.{◌≡◌, ℕ, Bool, true, false, Option, Some, None, is_some, List, [], ◌∷◌, ◌++◌, slice_get, slice_set}
+use Rattle.std.specs.Prelude.{◌≡◌, ℕ, true, false, Some, None, is_some, List, [], ◌∷◌, ◌++◌, slice_get, slice_set}
 use Rattle.wcp_model.specs.declared.step.Reply.{Reply}
 use Rattle.wcp_model.specs.declared.step.Reply.TheVariants.{Done, Refused}
 use Rattle.wcp_model.specs.declared.step.Why.TheVariants.{NoSuch, Closed, Backlog, Gone, ClockEnd}
@@ -7,7 +7,7 @@ use Rattle.wcp_probe.specs.declared.probe.Refusal.TheVariants as refusal
 use Rattle.wcp_model.specs.declared.step.Why.{Why}
 use Rattle.wcp_model.specs.ProbeLog.{Sent, Received}
 use Rattle.wcp_probe.specs.Core.{Core, Accepts, IsSameProbe}
-use Rattle.wcp_probe.specs.Seal.{Seal, seal_of}
+use Rattle.wcp_probe.specs.Seal.{seal_of}
 use Rattle.wcp_probe.specs.Refusals.{receive_refusal}
 use Rattle.wcp_probe.specs.declared.stamp.Stamped.{Stamped}
 use Rattle.wcp_world.specs.declared.messages.Letter.{Letter}

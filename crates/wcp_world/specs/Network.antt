@@ -1,18 +1,17 @@
-use Rattle.std.specs.Prelude.{◌≡◌, ◌≢◌, ◌==◌, ◌&&◌, ◌||◌, ℕ, ◌+◌, ◌*◌, ◌<◌, ◌≤◌, Bool, true, false, nat_le, IsTrue, is_some, Option, Some, None, MatchOption, List, [], ◌∷◌, ◌++◌, length, map, take, count_by, sum_by, slice_get, slice_index, slice_index_or, if◌then◌else◌}
+use Rattle.std.specs.Prelude.{◌≡◌, ◌==◌, ◌&&◌, ◌||◌, ℕ, ◌+◌, ◌<◌, ◌≤◌, Bool, false, nat_le, IsTrue, is_some, Option, Some, MatchOption, List, ◌++◌, length, map, take, count_by, sum_by, slice_get, slice_index, slice_index_or, if◌then◌else◌}
 use Rattle.wcp_clock.specs.declared.clock.TheConstants.{CLOCK_LIMIT}
 use Rattle.wcp_clock.specs.declared.note.Item.{Item}
 use Rattle.wcp_clock.specs.declared.note.Note.{Note}
 use Rattle.wcp_model.specs.declared.plan.Plan.{Plan}
 use Rattle.wcp_model.specs.declared.step.Step.{Step}
 use Rattle.wcp_model.specs.declared.step.Reply.{Reply}
-use Rattle.wcp_model.specs.declared.step.Reply.TheVariants.{Refused}
 use Rattle.wcp_model.specs.Computation.{Computation}
 use Rattle.wcp_model.specs.PlanFault.{IsCheckedPlan}
 use Rattle.wcp_model.specs.ProbeLog.{Call, state_of_log, IsLogOf, IsStampOf, IsAccepted}
 use Rattle.wcp_model.specs.Occupancy.{Place, Pending, Link, HoldOf, InboxOf, RootInbox, takes_from, puts_into, room_of}
-use Rattle.wcp_model.specs.Replies.{Answered, accepted, items_taken, accepted_by, taken_by, computation, receivers, was_received, IsReply}
+use Rattle.wcp_model.specs.Replies.{accepted_by, taken_by, computation, receivers, was_received, IsReply}
 use Rattle.wcp_probe.specs.Core.{Core, StandsFor}
-use Rattle.wcp_probe.specs.Seal.{Seal, seal_of}
+use Rattle.wcp_probe.specs.Seal.{seal_of}
 use Rattle.wcp_probe.specs.declared.stamp.Stamped.{Stamped}
 use Rattle.wcp_hold.specs.Held.{Held}
 use Rattle.wcp_queue.specs.Checker.{CheckerState, processes}

@@ -1,7 +1,7 @@
-use Rattle.std.proofs.Common.{◌≡◌, ◌<◌, ℕ, [], ◌∷◌, None, Some, length, drop, slice_get, get_or, set, refl, sym, ap, ap₂, ◌∙◌, arith}
+use Rattle.std.proofs.Common.{◌≡◌, [], Some, length, drop, slice_get, get_or, set, refl, sym, ap, ap₂, ◌∙◌, arith}
 use Rattle.std.proofs.lemmas.List.{get_or_default, set-get_or}
 use Rattle.wcp_hold.specs.Held.{Held}
-use Rattle.wcp_world.specs.Moves.{held_at, Shifts}
+use Rattle.wcp_world.specs.Moves.{held_at}
 use Rattle.wcp_world.proofs.Moved.{length_rest, without_first}
 use Rattle.wcp_world.proofs.moving.shift.Goals as goal
 

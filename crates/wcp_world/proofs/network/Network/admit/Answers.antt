@@ -1,12 +1,11 @@
-use Rattle.std.proofs.Common.{◌≡◌, ◌≢◌, ◌+◌, ◌<◌, ◌≤◌, ℕ, true, false, nat_lt, length, slice_get, refl, sym, ap, ◌∙◌, arith}
-use Rattle.std.proofs.lemmas.Bool.Decides.{nat_tests}
+use Rattle.std.proofs.Common.{◌≡◌, ◌+◌, length, refl, sym, ap, ◌∙◌, arith}
 use Rattle.std.proofs.lemmas.List.{with_items_is}
 use Rattle.wcp_model.specs.declared.step.Step.TheVariants as step
 use Rattle.wcp_model.specs.declared.step.Why.TheVariants as why
 use Rattle.wcp_model.specs.Occupancy.{Link, HoldOf}
 use Rattle.wcp_world.specs.Network.{number_of}
 use Rattle.wcp_world.proofs.Probing.{refused_from}
-use Rattle.wcp_world.proofs.Moved.{number_apart, number_within, shifts}
+use Rattle.wcp_world.proofs.Moved.{number_within, shifts}
 use Rattle.wcp_world.proofs.Tree.{attached_exists}
 use Rattle.wcp_world.proofs.network.Network.admit.Goals as goal
 

@@ -1,4 +1,4 @@
-use Rattle.std.proofs.Common.{◌≡◌, ◌++◌, ◌+◌, ◌≤◌, [], length, replicate, refl, sym, ap, ap₂, ◌∙◌, arith}
+use Rattle.std.proofs.Common.{◌≡◌, ◌++◌, ◌+◌, length, replicate, refl, ap, ap₂, ◌∙◌}
 use Rattle.wcp_world.specs.Start.{empty_place}
 use Rattle.wcp_world.proofs.Tree.{few_processes, within_limits}
 use Rattle.wcp_world.proofs.Starting.{fresh_stands}

@@ -1,4 +1,4 @@
-use Rattle.std.proofs.Common.{◌≡◌, ◌<◌, ◌||◌, ℕ, false, true, nat_lt, nat_le, eqb, [], ◌∷◌, Some, None, is_some, length, refl, sym, ap, subst, ◌∙◌, arith}
+use Rattle.std.proofs.Common.{◌≡◌, ◌<◌, ◌||◌, false, true, nat_lt, nat_le, eqb, [], ◌∷◌, Some, None, is_some, length, refl, sym, ap, subst, ◌∙◌, arith}
 use Rattle.std.proofs.lemmas.Bool.Decides.{nat_tests}
 use Rattle.std.specs.Option.{option_map}
 use Rattle.wcp_model.specs.declared.step.Step.TheVariants as step
@@ -54,7 +54,7 @@ returns-in-Some-clause-answered c plan steps taken stands =
     let clock_end = clock_end_is plan.n steps c.args.p _ core is stands.order in_range in
     let partner = partner_is c.args.p c.args.to plan.n (length core.clock) core.id is.components is.id within in
     let first = first_maps ((nat_le (length core.clock) c.args.to || eqb c.args.to core.id, refusal.NoSuch) ∷ (core.closed, refusal.Closed) ∷ (is_some core.pending, refusal.Backlog) ∷ (at_clock_end core, refusal.ClockEnd) ∷ [])
-        ∙ ap (option_map why_of) (sym c.in_ok-refusal.ensures.first ∙ c.in-Some.is) ∙ ap Some (sym c.why_of.ensures) in
+    ∙ ap (option_map why_of) (sym c.in_ok-refusal.ensures.first ∙ c.in-Some.is) ∙ ap Some (sym c.why_of.ensures) in
     let same = c.in_ok-refusal.ensures.refused c.in-Some.refusal c.in-Some.is in
     refused_same plan steps taken _ stands (step.Send c.args.p c.args.to) c.why_of.result _ c.post.new.self
     (probe_back c.args.self.now.probes.items c.args.p core c.post.new.probe c.index_mut.ensures.value same.0) same.1
