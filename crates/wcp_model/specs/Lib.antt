@@ -8,3 +8,5 @@ pub mod Emission
 pub mod ProbeLog
 pub mod PlanFault
 pub mod Report
+pub mod Occupancy
+pub mod Replies

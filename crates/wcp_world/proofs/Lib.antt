@@ -1,0 +1,13 @@
+pub mod Growing
+pub mod Probing
+pub mod Events
+pub mod Mail
+pub mod Accepting
+pub mod Receiving
+pub mod Moved
+pub mod Tree
+pub mod Putting
+pub mod Checking
+pub mod Starting
+pub mod Histories
+pub mod Totals

@@ -1,0 +1,11 @@
+//! The core of the detector: the probes, relays and checker of a plan, in one interleaving of their
+//! steps.
+#![tactic(auto)]
+
+mod application;
+mod messages;
+mod moving;
+mod network;
+mod world;
+
+pub use world::World;
