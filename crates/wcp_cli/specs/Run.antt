@@ -7,11 +7,15 @@ use Rattle.wcp_model.specs.declared.outcome.Report.TheVariants.{Found, Nothing, 
 use Rattle.wcp_model.specs.declared.workload.Task.{Task}
 use Rattle.wcp_model.specs.Outcome.{IsWorkloadOutcome}
 use Rattle.wcp_model.specs.WorkloadComputation.{CouldBeRead}
+use Rattle.wcp_model.specs.declared.step.Reply.{Reply}
+use Rattle.wcp_model.specs.declared.step.Step.{Step}
+use Rattle.wcp_report.specs.ReplyText.{reply_line}
 use Rattle.wcp_report.specs.ReportText.{outcome_text}
 use Rattle.wcp_model.specs.declared.plan.Plan.{Plan}
 use Rattle.wcp_script.specs.PlanText.{opening_text}
 use Rattle.wcp_script.specs.Ring.{ring_tasks}
-use Rattle.wcp_script.specs.TextFault.{workloads, Spells}
+use Rattle.wcp_script.specs.TextFault.{schedules, workloads, Spells}
+use Rattle.wcp_world.specs.Played.{IsPlayed}
 use Rattle.wcp_script.specs.WorkloadText.{task_line}
 use Rattle.wcp_cli.specs.declared.input.TheConstants.{MOST_BYTES}
 use Rattle.wcp_cli.specs.Bytes.{AppendsFront}
@@ -35,6 +39,17 @@ pub record IsOutcomeAnswer (text printed : List ℕ) (status : ℕ) : Type 0 whe
   pub could_be_read : CouldBeRead plan.n tasks
   pub right : IsWorkloadOutcome plan.n tasks outcome
   pub print : printed ≡ outcome_text outcome
+  pub status_is : status ≡ status_of outcome.report
+
+-- The answer to the text of a schedule: a line for the reply to each step, and the outcome so far, with the status of the report.
+pub record IsReplayAnswer (text printed : List ℕ) (status : ℕ) : Type 0 where
+  pub plan : Plan
+  pub steps : List Step
+  pub replies : List Reply
+  pub outcome : Outcome
+  pub spelled : Spells schedules text plan steps
+  pub played : IsPlayed plan steps replies outcome.report outcome.tallies
+  pub print : printed ≡ flat_map reply_line replies ++ outcome_text outcome
   pub status_is : status ≡ status_of outcome.report
 
 -- The text is the whole input, and no longer than a text may be.
@@ -78,6 +93,8 @@ pub data IsRun (input input_after output output_after : Known) (status : ℕ) : 
   Answered : Answers IsOutcomeAnswer input input_after output output_after status → IsRun input input_after output output_after status
   Refused : Refuses IsOutcomeAnswer input input_after output output_after → status ≡ 2 → IsRun input input_after output output_after status
   Helped : Shows IsHelpText input input_after output output_after status → IsRun input input_after output output_after status
+  Replayed : Answers IsReplayAnswer input input_after output output_after status → IsRun input input_after output output_after status
+  NotReplayed : Refuses IsReplayAnswer input input_after output output_after → status ≡ 2 → IsRun input input_after output output_after status
   Printed : (n rounds : ℕ) (fault : Bool) → Shows (IsRingText n rounds fault) input input_after output output_after status → IsRun input input_after output output_after status
 
 -- A run that is turned away reads nothing and writes nothing, and its status is 2.

@@ -6,6 +6,7 @@ mod help;
 mod input;
 mod output;
 mod program;
+mod replay_text;
 mod words;
 
 pub use fault::Fault;

@@ -1,20 +1,22 @@
 //! The program, over any reader and writers.
 ghost use Rattle.std.specs.Prelude.{◌≡◌, ℕ, ◌≤◌, Bool, map, IfOk, MatchResult};
 ghost use Rattle.std.specs.Io.KnownBytes.{Keeps, Appends};
-ghost use Rattle.wcp_cli.specs.Run.{Answers, IsHelpText, IsOutcomeAnswer, IsRingText, IsRun, Refuses, Shows, TurnsAway, ring_text, status_of};
+ghost use Rattle.wcp_cli.specs.Run.{Answers, IsHelpText, IsOutcomeAnswer, IsReplayAnswer, IsRingText, IsRun, Refuses, Shows, TurnsAway, ring_text, status_of};
 ghost use Rattle.wcp_cli.specs.Bytes.{AppendsFront};
-ghost use Rattle.wcp_cli.specs.Words.{AskForSingle, AskForRing, AskForHelp, AskForUnknown, IsRing};
+ghost use Rattle.wcp_cli.specs.Words.{AskForSingle, AskForReplay, AskForRing, AskForHelp, AskForUnknown, IsRing};
 
 use crate::fault::Fault;
 use crate::input::read_text;
 use crate::output::write_whole;
+use crate::replay_text::replay_text;
 use crate::words::{Request, Ring, read_words};
 use std::alloc::Global;
 use std::convert::AsStr;
 use std::io::{Read, Write};
-use wcp_model::Report;
+use wcp_model::{Outcome, Report};
 use wcp_report::report_text;
-use wcp_script::{read_workload, ring_workload, single, workload_text};
+use wcp_script::{read_schedule, read_workload, ring_workload, single, workload_text};
+use wcp_world::play;
 
 /// The status where a bad moment was found, and after help.
 const FOUND: u8 = 0;
@@ -47,6 +49,12 @@ pub fn drive<R: AllocGlobal, S: AsStr, I: Read, O: Write, E: Write>(
         → Answers IsOutcomeAnswer (I.remaining input.old) (I.remaining input.new) (O.contents output.old) (O.contents output.new) result }
     ensures refuses { AskForSingle (map S.text words.now) → result ≡ 2
         → Refuses IsOutcomeAnswer (I.remaining input.old) (I.remaining input.new) (O.contents output.old) (O.contents output.new) }
+
+    // With `replay` alone.
+    ensures replays { AskForReplay (map S.text words.now) → result ≤ 1
+        → Answers IsReplayAnswer (I.remaining input.old) (I.remaining input.new) (O.contents output.old) (O.contents output.new) result }
+    ensures refuses_replay { AskForReplay (map S.text words.now) → result ≡ 2
+        → Refuses IsReplayAnswer (I.remaining input.old) (I.remaining input.new) (O.contents output.old) (O.contents output.new) }
 
     // With the words for a ring.
     ensures ring { (n rounds : ℕ) (fault : Bool) → IsRing n rounds → AskForRing n rounds fault (map S.text words.now)
@@ -89,6 +97,9 @@ fn answer<S: AsStr, I: Read, O: Write>(
     ensures single { AskForSingle (map S.text words.now) → MatchResult result
         (Answers IsOutcomeAnswer (I.remaining input.old) (I.remaining input.new) (O.contents output.old) (O.contents output.new))
         (λ fault. Refuses IsOutcomeAnswer (I.remaining input.old) (I.remaining input.new) (O.contents output.old) (O.contents output.new)) }
+    ensures replay { AskForReplay (map S.text words.now) → MatchResult result
+        (Answers IsReplayAnswer (I.remaining input.old) (I.remaining input.new) (O.contents output.old) (O.contents output.new))
+        (λ fault. Refuses IsReplayAnswer (I.remaining input.old) (I.remaining input.new) (O.contents output.old) (O.contents output.new)) }
     ensures ring { (n rounds : ℕ) (fault : Bool) → IsRing n rounds → AskForRing n rounds fault (map S.text words.now) → MatchResult result
         (Shows (IsRingText n rounds fault) (I.remaining input.old) (I.remaining input.new) (O.contents output.old) (O.contents output.new))
         (λ _. Shows (IsRingText n rounds fault) (I.remaining input.old) (I.remaining input.new) (O.contents output.old) (O.contents output.new) 2) }
@@ -101,7 +112,7 @@ fn answer<S: AsStr, I: Read, O: Write>(
     match read_words(alloc, words)? {
         Request::Single => give_outcome(alloc, input, output),
         Request::Ring(ring) => give_ring(alloc, ring, output),
-        Request::Replay => Err(Fault::Usage),
+        Request::Replay => give_replies(alloc, input, output),
         Request::Help(text) => {
             write_whole(output, text.as_bytes())?;
             Ok(FOUND)
@@ -125,6 +136,29 @@ fn give_outcome<I: Read, O: Write>(
     let outcome = single(alloc, &workload)?;
     let report = report_text(alloc, &outcome)?;
     write_whole(output, report.as_slice())?;
+    Ok(status_of(&outcome.report))
+}
+
+/// Reads a schedule and writes the replies to its steps, and the outcome so far.
+fn give_replies<I: Read, O: Write>(
+    alloc: Global,
+    input: &mut I,
+    output: &mut O,
+) -> Result<u8, Fault>
+    ensures status { IfOk result (λ status. status ≤ 1) }
+    ensures run { MatchResult result
+        (Answers IsReplayAnswer (I.remaining input.old) (I.remaining input.new) (O.contents output.old) (O.contents output.new))
+        (λ fault. Refuses IsReplayAnswer (I.remaining input.old) (I.remaining input.new) (O.contents output.old) (O.contents output.new)) }
+{
+    let text = read_text(alloc, input)?;
+    let schedule = read_schedule(alloc, text.as_slice())?;
+    let played = play(alloc, &schedule.plan, &schedule.steps)?;
+    let outcome = Outcome {
+        report: played.report,
+        tallies: played.tallies,
+    };
+    let answer = replay_text(alloc, &played.replies, &outcome)?;
+    write_whole(output, answer.as_slice())?;
     Ok(status_of(&outcome.report))
 }
 

@@ -4,7 +4,7 @@ use Rattle.std.proofs.lemmas.Result.{MatchResult-from_err, MatchResult-weaker}
 use Rattle.wcp_cli.specs.declared.words.Ring.{Ring}
 use Rattle.wcp_cli.specs.declared.words.Request.{Request}
 use Rattle.wcp_cli.specs.declared.words.Request.TheVariants as request
-use Rattle.wcp_cli.specs.Run.{Answered, Refused, Helped, IsRingText, Printed, Whole, Front, ring_text}
+use Rattle.wcp_cli.specs.Run.{Answered, Refused, Helped, IsRingText, NotReplayed, Printed, Replayed, Whole, Front, ring_text}
 use Rattle.wcp_cli.proofs.program.answer.Goals as goal
 
 -- ---- where no word is understood
@@ -73,3 +73,11 @@ returns-in-Ring-clause-ring g c n rounds fault within asked =
 
 pub returns-in-Ring-clause-unknown : goal.returns-in-Ring-clause-unknown
 returns-in-Ring-clause-unknown g c asked = absurd (true≢false (sym (c.in_ok-read_words.ensures.unknown asked)))
+
+-- ---- `replay`
+
+pub returns-in-Replay-clause-any : goal.returns-in-Replay-clause-any
+returns-in-Replay-clause-any g c = MatchResult-weaker _ c.give_replies.ensures.run (λ status answers. Replayed answers) (λ _ refuses. NotReplayed refuses refl)
+
+pub returns-in-Replay-clause-unknown : goal.returns-in-Replay-clause-unknown
+returns-in-Replay-clause-unknown g c asked = absurd (true≢false (sym (c.in_ok-read_words.ensures.unknown asked)))

@@ -14,3 +14,6 @@ returns-in-Err-clause-unknown g c asked = rw c.refuse.ensures (c.in-Err.ensures.
 
 pub returns-in-Err-clause-ring : goal.returns-in-Err-clause-ring
 returns-in-Err-clause-ring g c n rounds fault ring asked = rw c.refuse.ensures (c.in-Err.ensures.ring n rounds fault ring asked)
+
+pub returns-in-Err-clause-refuses_replay : goal.returns-in-Err-clause-refuses_replay
+returns-in-Err-clause-refuses_replay g c asked = λ _. c.in-Err.ensures.replay asked
