@@ -11,3 +11,4 @@ pub mod Checking
 pub mod Starting
 pub mod Histories
 pub mod Totals
+pub mod Playing

@@ -6,6 +6,8 @@ mod application;
 mod messages;
 mod moving;
 mod network;
+mod played;
 mod world;
 
+pub use played::{Played, play};
 pub use world::World;
