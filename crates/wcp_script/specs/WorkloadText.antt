@@ -1,6 +1,5 @@
--- The text of a workload.
+-- The lines of tasks.
 use Rattle.std.specs.Prelude.{ℕ, true, false, List, [], ◌∷◌, ◌++◌, codes}
-use Rattle.std.specs.List.{flat_map}
 use Rattle.std.specs.Fmt.{decimal}
 use Rattle.wcp_model.specs.declared.workload.Action.{Action}
 use Rattle.wcp_model.specs.declared.workload.Action.TheVariants as action
@@ -16,7 +15,3 @@ action_words (action.Recv from) = codes "recv " ++ decimal from
 -- The line of a task, with its LF.
 abbrev pub task_line : Task → List ℕ
 task_line task = codes "p " ++ decimal task.p ++ codes " " ++ action_words task.action ++ 10 ∷ []
-
--- The text of n processes with these tasks: two lines of head, and a line for each task.
-abbrev pub workload_text : ℕ → List Task → List ℕ
-workload_text n tasks = codes "wcp 1" ++ 10 ∷ [] ++ codes "procs " ++ decimal n ++ 10 ∷ [] ++ flat_map task_line tasks
