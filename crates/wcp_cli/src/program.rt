@@ -152,12 +152,12 @@ fn give_replies<I: Read, O: Write>(
 {
     let text = read_text(alloc, input)?;
     let schedule = read_schedule(alloc, text.as_slice())?;
-    let played = play(alloc, &schedule.plan, &schedule.steps)?;
+    let played = play(alloc, &schedule.plan, schedule.steps.as_slice())?;
     let outcome = Outcome {
         report: played.report,
         tallies: played.tallies,
     };
-    let answer = replay_text(alloc, &played.replies, &outcome)?;
+    let answer = replay_text(alloc, played.replies.as_slice(), &outcome)?;
     write_whole(output, answer.as_slice())?;
     Ok(status_of(&outcome.report))
 }

@@ -1,5 +1,9 @@
-use Rattle.std.proofs.Common.{refl, ◌∙◌, subst, arith}
+use Rattle.std.proofs.Common.{refl, ◌++◌, ◌∙◌, ap, subst, arith}
+use Rattle.std.specs.List.{flat_map}
 use Rattle.std.proofs.lemmas.Result.{MatchResult-from_err}
+use Rattle.wcp_report.specs.ReplyText.{reply_line}
+use Rattle.wcp_report.specs.ReportText.{outcome_text}
+use Rattle.wcp_world.specs.Played.{IsPlayed}
 use Rattle.wcp_script.specs.TextFault.{schedules, Spells}
 use Rattle.wcp_cli.specs.Run.{Answers, IsReplayAnswer, Refuses, Broken, status_of}
 use Rattle.wcp_cli.proofs.program.give_replies.Goals as goal
@@ -14,7 +18,7 @@ returns-in_err-write_whole-clause-run g c =
     let output_after = g.O.Write.contents c.write_whole.new.output in
     MatchResult-from_err c.from_residual-in_err-write_whole.result (Answers IsReplayAnswer input input_after output output_after)
     (λ fault. Refuses IsReplayAnswer input input_after output output_after) c.from_residual-in_err-write_whole.ensures.0 (λ fault.
-    Broken c.in_ok-text.text.items c.as_slice-2.result.now (status_of played.report)
+    Broken c.in_ok-text.text.items c.as_slice-4.result.now (status_of played.report)
     (record {
       consumed = c.in_ok-text.ensures.consumed;
       ended = c.in_ok-text.ensures.ended;
@@ -26,8 +30,8 @@ returns-in_err-write_whole-clause-run g c =
       replies = played.replies.items;
       outcome = record { report = played.report; tallies = played.tallies };
       spelled = subst (λ text. Spells schedules text schedule.plan schedule.steps.items) c.as_slice.ensures.value c.in_ok-schedule.ensures.spelled;
-      played = c.in_ok-played.ensures;
-      print = c.as_slice-2.ensures.value ∙ c.in_ok-answer.ensures;
+      played = subst (λ steps. IsPlayed schedule.plan steps played.replies.items played.report played.tallies) c.as_slice-2.ensures.value c.in_ok-played.ensures;
+      print = c.as_slice-4.ensures.value ∙ c.in_ok-answer.ensures ∙ ap (λ replies. flat_map reply_line replies ++ outcome_text (record { report = played.report; tallies = played.tallies })) c.as_slice-3.ensures.value;
       status_is = refl;
     })
     c.in_err-write_whole.ensures.err)
@@ -38,7 +42,7 @@ returns-clause-run g c =
     let played = c.in_ok-played.played in
     record {
       text = c.in_ok-text.text.items;
-      printed = c.as_slice-2.result.now;
+      printed = c.as_slice-4.result.now;
       of_input = record {
         consumed = c.in_ok-text.ensures.consumed;
         ended = c.in_ok-text.ensures.ended;
@@ -50,8 +54,8 @@ returns-clause-run g c =
         replies = played.replies.items;
         outcome = record { report = played.report; tallies = played.tallies };
         spelled = subst (λ text. Spells schedules text schedule.plan schedule.steps.items) c.as_slice.ensures.value c.in_ok-schedule.ensures.spelled;
-        played = c.in_ok-played.ensures;
-        print = c.as_slice-2.ensures.value ∙ c.in_ok-answer.ensures;
+        played = subst (λ steps. IsPlayed schedule.plan steps played.replies.items played.report played.tallies) c.as_slice-2.ensures.value c.in_ok-played.ensures;
+        print = c.as_slice-4.ensures.value ∙ c.in_ok-answer.ensures ∙ ap (λ replies. flat_map reply_line replies ++ outcome_text (record { report = played.report; tallies = played.tallies })) c.as_slice-3.ensures.value;
         status_is = c.status_of.ensures;
       };
       written = c.in_ok-write_whole.ensures.ok;
