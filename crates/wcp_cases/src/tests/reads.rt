@@ -59,7 +59,7 @@ fn each_read_may_fail(rt: HostRuntime) {
 }
 
 /// The words that read their input.
-const READING: [&str; 1] = ["single"];
+const READING: [&str; 2] = ["single", "replay"];
 
 #[test]
 fn reads_are_tried_so_often(rt: HostRuntime) {

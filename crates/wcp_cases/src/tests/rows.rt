@@ -12,7 +12,7 @@ pub struct Row {
 }
 
 /// Texts that are answered.
-pub static ANSWERED: [Row; 12] = [
+pub static ANSWERED: [Row; 16] = [
     Row {
         name: "true again after a send",
         word: "single",
@@ -109,10 +109,42 @@ pub static ANSWERED: [Row; 12] = [
         errors: "",
         status: 0,
     },
+    Row {
+        name: "a backlog refuses a send",
+        word: "replay",
+        text: "wcp 1\nprocs 2\nobserve 0 true\nsend 0 1\nput 0\nsend 0 1\n",
+        output: "done\nrefused backlog\ndone\ndone\nundecided\nprocess 0 emitted 1 taken 0\nprocess 1 emitted 0 taken 0\ntotal emitted 1 taken 0\n",
+        errors: "",
+        status: 1,
+    },
+    Row {
+        name: "each refusal",
+        word: "replay",
+        text: "wcp 1\nprocs 2\nsend 0 1\nrecv 1 0\nrecv 1 0\nrecv 1 1\nrecv 0 0\nsend 0 0\nput 0\nadmit 0 0\nadmit 1 0\npull 0\npass 0\ncheck\n",
+        output: "done\ndone\nrefused gone\nrefused nosuch\nrefused nosuch\nrefused nosuch\nrefused empty\nrefused empty\nrefused nosuch\nrefused nosuch\nrefused empty\nrefused empty\nundecided\nprocess 0 emitted 0 taken 0\nprocess 1 emitted 0 taken 0\ntotal emitted 0 taken 0\n",
+        errors: "",
+        status: 1,
+    },
+    Row {
+        name: "a full link",
+        word: "replay",
+        text: "wcp 1\nprocs 2\ncap 1\nobserve 0 true\nput 0\nsend 0 1\nobserve 0 true\nput 0\nadmit 0 0\nput 0\n",
+        output: "done\ndone\ndone\ndone\nrefused full\ndone\ndone\nundecided\nprocess 0 emitted 2 taken 0\nprocess 1 emitted 0 taken 0\ntotal emitted 2 taken 0\n",
+        errors: "",
+        status: 1,
+    },
+    Row {
+        name: "a cut is found before all is taken",
+        word: "replay",
+        text: "wcp 1\nprocs 2\nobserve 0 true\nput 0\nobserve 1 true\nput 1\nadmit 0 0\npass 0\nadmit 0 1\npass 0\ncheck\ncheck\nsend 0 1\nobserve 0 true\nput 0\nrecv 1 0\n",
+        output: "done\ndone\ndone\ndone\ndone\ndone\ndone\ndone\ntook 0 snap 0 0 0\ntook 1 snap 0 0 0\ndone\ndone\ndone\ndone\nfound 0 0\nprocess 0 emitted 2 taken 1\nprocess 1 emitted 1 taken 1\ntotal emitted 3 taken 2\n",
+        errors: "",
+        status: 0,
+    },
 ];
 
 /// Texts that are refused.
-pub static REFUSED: [Row; 17] = [
+pub static REFUSED: [Row; 18] = [
     Row {
         name: "an empty text",
         word: "single",
@@ -239,6 +271,14 @@ pub static REFUSED: [Row; 17] = [
         text: "wcp 1\nprocs 2\nrelay 0 root\nattach 0 0\np 0 true\n",
         output: "",
         errors: "wcpwatch: line 4: plan\n",
+        status: 2,
+    },
+    Row {
+        name: "a step of a workload in a schedule",
+        word: "replay",
+        text: "wcp 1\nprocs 2\np 0 true\n",
+        output: "",
+        errors: "wcpwatch: line 3: line\n",
         status: 2,
     },
     Row {
