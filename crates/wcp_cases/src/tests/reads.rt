@@ -63,16 +63,14 @@ const READING: [&str; 2] = ["single", "replay"];
 
 #[test]
 fn reads_are_tried_so_often(rt: HostRuntime) {
-    for word in READING {
-        let mut input = Source {
-            rest: b"",
-            most: 1,
-            trouble: Trouble::Always(ErrorKind::Interrupted),
-            reads: 0,
-        };
-        gives(&rt, word, &mut input, "", "wcpwatch: read\n");
-        assert_eq!(rt; input.reads, 4_194_304);
-    }
+    let mut input = Source {
+        rest: b"",
+        most: 1,
+        trouble: Trouble::Always(ErrorKind::Interrupted),
+        reads: 0,
+    };
+    gives(&rt, "single", &mut input, "", "wcpwatch: read\n");
+    assert_eq!(rt; input.reads, 4_194_304);
 }
 
 #[test]
