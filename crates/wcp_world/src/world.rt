@@ -1,6 +1,8 @@
 ghost use Rattle.std.specs.Prelude.{◌≡◌, ℕ, ◌<◌, [], ◌∷◌, ◌++◌, List, length, IfOk, OnErr};
 ghost use Rattle.wcp_clock.specs.declared.note.Item.{Item};
 ghost use Rattle.wcp_model.specs.declared.outcome.Report.TheVariants.{Found};
+ghost use Rattle.wcp_model.specs.declared.step.Reply.TheVariants.{Refused};
+ghost use Rattle.wcp_model.specs.declared.step.Why.{Why};
 ghost use Rattle.wcp_model.specs.Cut.{IsSatisfyingCut};
 ghost use Rattle.wcp_model.specs.PlanFault.{IsCheckedPlan};
 ghost use Rattle.wcp_model.specs.Replies.{Answered, computation};
@@ -50,6 +52,7 @@ impl World {
         ensures answered { IfOk result (λ reply. (plan : Plan) (history : List Answered)
             → IsWorldOf plan history self.old
             → IsWorldOf plan (history ++ record { step = step; reply = reply } ∷ []) self.new) }
+        ensures refused { IfOk result (λ reply. (why : Why) → reply ≡ Refused why → self.new ≡ self.old) }
         ensures unchanged { OnErr result (self.new ≡ self.old) }
     {
         self.network.step(step)
