@@ -32,7 +32,7 @@ clocks_counted [] = refl
 clocks_counted (Snap number clock ∷ notes) = omega (arith, clocks_counted notes, sum_by-cons (λ x. cond (is_snap x) 1 0) (Snap number clock) notes)
 clocks_counted (Close count ∷ notes) = omega (arith, clocks_counted notes, sum_by-cons (λ x. cond (is_snap x) 1 0) (Close count) notes)
 
-notes_counted : (p : ℕ) (test : Note → Bool) (items : List Item) → count_by test (notes_taken p items) ≡ count_by (is_note_of p test) items
+pub notes_counted : (p : ℕ) (test : Note → Bool) (items : List Item) → count_by test (notes_taken p items) ≡ count_by (is_note_of p test) items
 notes_counted p test [] = refl
 notes_counted p test (item ∷ items) = ⊎_elim
     (λ (own : eqb item.from p ≡ true).

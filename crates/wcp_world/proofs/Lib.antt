@@ -11,4 +11,5 @@ pub mod Checking
 pub mod Starting
 pub mod Histories
 pub mod Totals
+pub mod Found
 pub mod Playing

@@ -5,6 +5,8 @@ use Rattle.wcp_clock.specs.declared.note.Note.{Note}
 use Rattle.wcp_model.specs.declared.plan.Plan.{Plan}
 use Rattle.wcp_model.specs.declared.step.Step.{Step}
 use Rattle.wcp_model.specs.declared.step.Reply.{Reply}
+use Rattle.wcp_model.specs.declared.step.Reply.TheVariants.{Refused}
+use Rattle.wcp_model.specs.declared.step.Why.{Why}
 use Rattle.wcp_model.specs.Computation.{Computation}
 use Rattle.wcp_model.specs.PlanFault.{IsCheckedPlan}
 use Rattle.wcp_model.specs.ProbeLog.{Call, state_of_log, IsLogOf, IsStampOf, IsAccepted}
@@ -125,3 +127,7 @@ IsReached w = (plan : Plan) × (steps : List Step) × (taken : List Item) × Sta
 abbrev pub Answers : NetworkState → Step → Reply → NetworkState → Type 0
 Answers old s answer new = (plan : Plan) (steps : List Step) (taken : List Item) → Stands plan steps taken old →
     IsReply plan steps s answer × Stands plan (steps ++ accepted_by s answer) (taken ++ taken_by answer) new
+
+-- A step that is refused changes nothing.
+abbrev pub KeepsIfRefused : NetworkState → Reply → NetworkState → Type 0
+KeepsIfRefused old answer new = (why : Why) → answer ≡ Refused why → new ≡ old

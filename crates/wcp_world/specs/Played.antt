@@ -2,11 +2,13 @@ use Rattle.std.specs.Prelude.{◌≡◌, ℕ, List, length, map, slice_get, Some
 use Rattle.wcp_clock.specs.declared.note.Item.{Item}
 use Rattle.wcp_clock.specs.declared.note.Note.{Note}
 use Rattle.wcp_model.specs.declared.outcome.Report.{Report}
+use Rattle.wcp_model.specs.declared.outcome.Report.TheVariants.{Found}
 use Rattle.wcp_model.specs.declared.outcome.Tally.{Tally}
 use Rattle.wcp_model.specs.declared.plan.Plan.{Plan}
 use Rattle.wcp_model.specs.declared.step.Step.{Step}
 use Rattle.wcp_model.specs.declared.step.Reply.{Reply}
 use Rattle.wcp_model.specs.Computation.{Computation}
+use Rattle.wcp_model.specs.Cut.{IsSatisfyingCut}
 use Rattle.wcp_model.specs.Emission.{AreEmissions}
 use Rattle.wcp_model.specs.Report.{snapshot_clocks, clocks_taken}
 use Rattle.wcp_model.specs.Replies.{Answered, accepted, items_taken, computation, AreReplies}
@@ -25,13 +27,15 @@ pub record IsTallyOf (n : ℕ) (c : Computation) (items : List Item) (p : ℕ) (
   pub emitted : tally.emitted ≡ length (snapshot_clocks notes)
   pub taken : tally.taken ≡ length (clocks_taken p items)
 
--- What a list of steps leads to: a reply to each of them, a report on what was taken, and the tally of each process.
+-- What a list of steps leads to: a reply to each of them, a report on what was taken, where a cut that is found is a
+-- satisfying one whatever order a hold keeps, and the tally of each process.
 pub record IsPlayed (plan : Plan) (steps : List Step) (replies : List Reply) (report : Report) (tallies : List Tally) : Type 0 where
   pub history : List Answered
   pub steps_are : map (λ (a : Answered). a.step) history ≡ steps
   pub replies_are : map (λ (a : Answered). a.reply) history ≡ replies
   pub exact : AreReplies plan history
   pub reported : IsReportInAnyOrder plan.n (items_taken history) report
+  pub found : (cut : List ℕ) → report ≡ Found cut → IsSatisfyingCut plan.n (computation (accepted history)) cut
   pub processes : length tallies ≡ plan.n
   pub tallied : (p : ℕ) (tally : Tally) → slice_get tallies p ≡ Some tally → IsTallyOf plan.n (computation (accepted history)) (items_taken history) p tally
 

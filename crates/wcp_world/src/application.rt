@@ -2,7 +2,7 @@ ghost use Rattle.std.specs.Prelude.{◌≡◌, IfOk, OnErr};
 ghost use Rattle.wcp_model.specs.declared.step.Step.TheVariants as step;
 ghost use Rattle.wcp_model.specs.declared.step.Reply.TheVariants.{Done, Refused};
 ghost use Rattle.wcp_world.specs.Messages.{why_of};
-ghost use Rattle.wcp_world.specs.Network.{Answers};
+ghost use Rattle.wcp_world.specs.Network.{Answers, KeepsIfRefused};
 ghost use Rattle.wcp_world.specs.NetworkView.{state_of};
 
 use crate::network::Network;
@@ -13,7 +13,8 @@ use wcp_probe::Refusal;
 impl Network {
     /// Process `p` observes its condition.
     pub fn observe(&mut self, p: u32, holds: bool) -> Reply
-        ensures { Answers (state_of self.old) (step.Observe p holds) result (state_of self.new) }
+        ensures answered { Answers (state_of self.old) (step.Observe p holds) result (state_of self.new) }
+        ensures refused { KeepsIfRefused (state_of self.old) result (state_of self.new) }
     {
         if p as usize >= self.probes.len() {
             return Reply::Refused(Why::NoSuch);
@@ -27,6 +28,7 @@ impl Network {
     /// Process `p` sends a message to process `to`.
     pub fn send(&mut self, p: u32, to: u32) -> Result<Reply, AllocError>
         ensures answered { IfOk result (λ reply. Answers (state_of self.old) (step.Send p to) reply (state_of self.new)) }
+        ensures refused { IfOk result (λ reply. KeepsIfRefused (state_of self.old) reply (state_of self.new)) }
         ensures unchanged { OnErr result (state_of self.new ≡ state_of self.old) }
     {
         if p as usize >= self.probes.len() {
@@ -40,7 +42,8 @@ impl Network {
 
     /// Process `p` receives this message.
     pub fn receive(&mut self, p: u32, message: u64) -> Reply
-        ensures { Answers (state_of self.old) (step.Recv p message) result (state_of self.new) }
+        ensures answered { Answers (state_of self.old) (step.Recv p message) result (state_of self.new) }
+        ensures refused { KeepsIfRefused (state_of self.old) result (state_of self.new) }
     {
         if p as usize >= self.probes.len() {
             return Reply::Refused(Why::NoSuch);
@@ -51,7 +54,8 @@ impl Network {
 
     /// Process `p` closes.
     pub fn close(&mut self, p: u32) -> Reply
-        ensures { Answers (state_of self.old) (step.Close p) result (state_of self.new) }
+        ensures answered { Answers (state_of self.old) (step.Close p) result (state_of self.new) }
+        ensures refused { KeepsIfRefused (state_of self.old) result (state_of self.new) }
     {
         if p as usize >= self.probes.len() {
             return Reply::Refused(Why::NoSuch);

@@ -6,7 +6,7 @@ ghost use Rattle.wcp_model.specs.Occupancy.{inbox_of};
 ghost use Rattle.wcp_model.specs.Replies.{is_attached, serves};
 ghost use Rattle.wcp_queue.specs.Checker.{TakesItem, processes, taken_of};
 ghost use Rattle.wcp_world.specs.Moves.{Shifts};
-ghost use Rattle.wcp_world.specs.Network.{Answers, IsNetworkOf, IsReached, number_of};
+ghost use Rattle.wcp_world.specs.Network.{Answers, IsNetworkOf, IsReached, KeepsIfRefused, number_of};
 ghost use Rattle.wcp_world.specs.NetworkView.{state_of};
 
 use crate::network::Network;
@@ -20,7 +20,8 @@ impl Network {
     /// The link of process `p` takes its pending note.
     pub fn put(&mut self, p: u32) -> Reply
         requires { IsReached (state_of self.old) }
-        ensures { Answers (state_of self.old) (step.Put p) result (state_of self.new) }
+        ensures answered { Answers (state_of self.old) (step.Put p) result (state_of self.new) }
+        ensures refused { KeepsIfRefused (state_of self.old) result (state_of self.new) }
     {
         if p as usize >= self.probes.len() {
             return Reply::Refused(Why::NoSuch);
@@ -40,7 +41,8 @@ impl Network {
     /// A relay takes a note from the link of process `p` into its hold.
     pub fn admit(&mut self, relay: u32, p: u32) -> Reply
         requires { IsReached (state_of self.old) }
-        ensures { Answers (state_of self.old) (step.Admit relay p) result (state_of self.new) }
+        ensures answered { Answers (state_of self.old) (step.Admit relay p) result (state_of self.new) }
+        ensures refused { KeepsIfRefused (state_of self.old) result (state_of self.new) }
     {
         if !self.is_attached(relay, p) {
             return Reply::Refused(Why::NoSuch);
@@ -52,7 +54,8 @@ impl Network {
     /// A relay takes an item from its inbox into its hold.
     pub fn pull(&mut self, relay: u32) -> Reply
         requires { IsReached (state_of self.old) }
-        ensures { Answers (state_of self.old) (step.Pull relay) result (state_of self.new) }
+        ensures answered { Answers (state_of self.old) (step.Pull relay) result (state_of self.new) }
+        ensures refused { KeepsIfRefused (state_of self.old) result (state_of self.new) }
     {
         if relay as usize >= self.parents.len() {
             return Reply::Refused(Why::NoSuch);
@@ -68,7 +71,8 @@ impl Network {
     /// A relay passes an item from its hold to its parent's inbox.
     pub fn pass(&mut self, relay: u32) -> Reply
         requires { IsReached (state_of self.old) }
-        ensures { Answers (state_of self.old) (step.Pass relay) result (state_of self.new) }
+        ensures answered { Answers (state_of self.old) (step.Pass relay) result (state_of self.new) }
+        ensures refused { KeepsIfRefused (state_of self.old) result (state_of self.new) }
     {
         if relay as usize >= self.parents.len() {
             return Reply::Refused(Why::NoSuch);
@@ -83,6 +87,7 @@ impl Network {
     pub fn check(&mut self) -> Result<Reply, AllocError>
         requires { IsReached (state_of self.old) }
         ensures answered { IfOk result (λ reply. Answers (state_of self.old) step.Check reply (state_of self.new)) }
+        ensures refused { IfOk result (λ reply. KeepsIfRefused (state_of self.old) reply (state_of self.new)) }
         ensures unchanged { OnErr result (state_of self.new ≡ state_of self.old) }
     {
         let root = self.root();

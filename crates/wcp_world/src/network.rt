@@ -1,6 +1,6 @@
 ghost use Rattle.std.specs.Prelude.{◌≡◌, [], ◌++◌, ◌+◌, ◌<◌, ◌≤◌, length, replicate, IfOk, OnOk, OnErr};
 ghost use Rattle.wcp_model.specs.PlanFault.{IsCheckedPlan};
-ghost use Rattle.wcp_world.specs.Network.{Answers, IsReached, Stands};
+ghost use Rattle.wcp_world.specs.Network.{Answers, IsReached, KeepsIfRefused, Stands};
 ghost use Rattle.wcp_world.specs.NetworkView.{state_of};
 ghost use Rattle.wcp_world.specs.Start.{AreFirstCores, empty_place};
 
@@ -51,6 +51,7 @@ impl Network {
     pub fn step(&mut self, step: Step) -> Result<Reply, AllocError>
         requires { IsReached (state_of self.old) }
         ensures answered { IfOk result (λ reply. Answers (state_of self.old) step reply (state_of self.new)) }
+        ensures refused { IfOk result (λ reply. KeepsIfRefused (state_of self.old) reply (state_of self.new)) }
         ensures unchanged { OnErr result (state_of self.new ≡ state_of self.old) }
     {
         match step {

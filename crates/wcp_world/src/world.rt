@@ -1,5 +1,9 @@
-ghost use Rattle.std.specs.Prelude.{◌≡◌, ◌<◌, [], ◌∷◌, ◌++◌, List, length, IfOk, OnErr};
+ghost use Rattle.std.specs.Prelude.{◌≡◌, ℕ, ◌<◌, [], ◌∷◌, ◌++◌, List, length, IfOk, OnErr};
 ghost use Rattle.wcp_clock.specs.declared.note.Item.{Item};
+ghost use Rattle.wcp_model.specs.declared.outcome.Report.TheVariants.{Found};
+ghost use Rattle.wcp_model.specs.declared.step.Reply.TheVariants.{Refused};
+ghost use Rattle.wcp_model.specs.declared.step.Why.{Why};
+ghost use Rattle.wcp_model.specs.Cut.{IsSatisfyingCut};
 ghost use Rattle.wcp_model.specs.PlanFault.{IsCheckedPlan};
 ghost use Rattle.wcp_model.specs.Replies.{Answered, computation};
 ghost use Rattle.wcp_queue.specs.Checker.{IsReportInAnyOrder};
@@ -48,6 +52,7 @@ impl World {
         ensures answered { IfOk result (λ reply. (plan : Plan) (history : List Answered)
             → IsWorldOf plan history self.old
             → IsWorldOf plan (history ++ record { step = step; reply = reply } ∷ []) self.new) }
+        ensures refused { IfOk result (λ reply. (why : Why) → reply ≡ Refused why → self.new ≡ self.old) }
         ensures unchanged { OnErr result (self.new ≡ self.old) }
     {
         self.network.step(step)
@@ -55,8 +60,12 @@ impl World {
 
     /// What the snapshots taken tell.
     pub fn report(&self) -> Report
-        ensures { (plan : Plan) (steps : List Step) (taken : List Item)
+        ensures reported { (plan : Plan) (steps : List Step) (taken : List Item)
             → Stands plan steps taken self.now → IsReportInAnyOrder plan.n taken result }
+        ensures found { (plan : Plan) (steps : List Step) (taken : List Item) (cut : List ℕ)
+            → Stands plan steps taken self.now
+            → result ≡ Found cut
+            → IsSatisfyingCut plan.n (computation steps) cut }
     {
         self.network.checker.report()
     }

@@ -19,7 +19,8 @@ returns c =
       steps_are = has.steps_are ∙ take_all c.loop-step.step-index c.args.steps.now (omega (arith, c.loop-step-test.false));
       replies_are = has.replies_are;
       exact = has.is.replies;
-      reported = c.report.ensures c.args.plan.now (accepted has.history) (items_taken has.history) has.is.stands;
+      reported = c.report.ensures.reported c.args.plan.now (accepted has.history) (items_taken has.history) has.is.stands;
+      found = λ cut is. c.report.ensures.found c.args.plan.now (accepted has.history) (items_taken has.history) cut has.is.stands is;
       processes = c.in_ok-tallies.ensures.0;
       tallied = c.in_ok-tallies.ensures.1 c.args.plan.now (accepted has.history) (items_taken has.history) has.is.stands;
     }

@@ -9,8 +9,8 @@ use Rattle.wcp_world.proofs.Moved.{number_within, shifts}
 use Rattle.wcp_world.proofs.Tree.{attached_exists}
 use Rattle.wcp_world.proofs.network.Network.admit.Goals as goal
 
-pub returns-then-not-is_attached : goal.returns-then-not-is_attached
-returns-then-not-is_attached c plan steps taken stands =
+pub returns-then-not-is_attached-clause-answered : goal.returns-then-not-is_attached-clause-answered
+returns-then-not-is_attached-clause-answered c plan steps taken stands =
     let not_attached = sym (c.is_attached.ensures plan stands.network) ∙ c.if-not-is_attached.true in
     refused_from plan steps taken _ stands (step.Admit c.args.relay c.args.p) why.NoSuch (rw not_attached refl)
 
@@ -34,8 +34,8 @@ shift-requires-clause-apart c same =
     let there = attached_exists c.requires.0 c.args.relay c.args.p stands.checked (sym (c.is_attached.ensures c.requires.0 stands.network) ∙ c.if-not-is_attached.false) in
     omega (arith, there.0, same, c.hold-to.ensures, stands.network.n)
 
-pub returns : goal.returns
-returns c plan steps taken stands =
+pub returns-clause-answered : goal.returns-clause-answered
+returns-clause-answered c plan steps taken stands =
     let attached = sym (c.is_attached.ensures plan stands.network) ∙ c.if-not-is_attached.false in
     let there = attached_exists plan c.args.relay c.args.p stands.checked attached in
     let to_is : c.hold-to.result ≡ number_of plan (HoldOf c.args.relay) = c.hold-to.ensures ∙ ap (λ k. k + c.args.relay) stands.network.n in

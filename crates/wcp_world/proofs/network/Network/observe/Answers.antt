@@ -13,13 +13,13 @@ use Rattle.wcp_world.proofs.Accepting.{first_maps, no_reason, observation_advanc
 use Rattle.wcp_world.proofs.Mail.{letters_stay}
 use Rattle.wcp_world.proofs.network.Network.observe.Goals as goal
 
-pub returns-then-p-len : goal.returns-then-p-len
-returns-then-p-len c plan steps taken stands =
+pub returns-then-p-len-clause-answered : goal.returns-then-p-len-clause-answered
+returns-then-p-len-clause-answered c plan steps taken stands =
     let out : nat_lt c.args.p plan.n ≡ false = grind (arith, nat_tests, c.args.self.now.probes.ok.0, stands.probes.members) in
     refused_from plan steps taken _ stands (step.Observe c.args.p c.args.holds) why.NoSuch (rw out refl)
 
-pub returns-in-Ok : goal.returns-in-Ok
-returns-in-Ok c plan steps taken stands =
+pub returns-in-Ok-clause-answered : goal.returns-in-Ok-clause-answered
+returns-in-Ok-clause-answered c plan steps taken stands =
     let in_range : c.args.p < plan.n = omega (arith, c.args.self.now.probes.ok.0, stands.probes.members) in
     let within : nat_lt c.args.p plan.n ≡ true = grind (arith, nat_tests) in
     let is = probe_at plan steps taken _ stands c.args.p c.index_mut.result.now in_range c.index_mut.ensures.value in
@@ -32,8 +32,8 @@ returns-in-Ok c plan steps taken stands =
           (λ order now. letters_stay plan.n _ (step.Observe c.args.p c.args.holds) c.args.self.now.letters refl (λ message. refl) stands.letters),
     )
 
-pub returns-in-Err : goal.returns-in-Err
-returns-in-Err c plan steps taken stands =
+pub returns-in-Err-clause-answered : goal.returns-in-Err-clause-answered
+returns-in-Err-clause-answered c plan steps taken stands =
     let in_range : c.args.p < plan.n = omega (arith, c.args.self.now.probes.ok.0, stands.probes.members) in
     let within : nat_lt c.args.p plan.n ≡ true = grind (arith, nat_tests) in
     let is = probe_at plan steps taken _ stands c.args.p c.index_mut.result.now in_range c.index_mut.ensures.value in

@@ -12,8 +12,8 @@ use Rattle.wcp_world.proofs.Moved.{number_apart, number_within, shifts}
 use Rattle.wcp_world.proofs.Tree.{few_relays, inbox_is_place, inbox_above_is, hold_is_no_inbox}
 use Rattle.wcp_world.proofs.network.Network.pass.Goals as goal
 
-pub returns-then-relay-len : goal.returns-then-relay-len
-returns-then-relay-len c plan steps taken stands =
+pub returns-then-relay-len-clause-answered : goal.returns-then-relay-len-clause-answered
+returns-then-relay-len-clause-answered c plan steps taken stands =
     let out : nat_lt c.args.relay (length plan.parents.items) ≡ false = grind (arith, nat_tests, c.args.self.now.parents.ok.0, ap length stands.network.parents) in
     refused_from plan steps taken _ stands (step.Pass c.args.relay) why.NoSuch (rw out refl)
 
@@ -36,8 +36,8 @@ shift-requires-clause-apart c same =
     number_apart c.requires.0 (HoldOf c.args.relay) (inbox_of c.index.result.now) relays (inbox_is_place c.requires.0 c.args.relay c.index.result.now stands.checked at) (hold_is_no_inbox c.args.relay c.index.result.now)
     (ap (λ k. k + c.args.relay) (sym stands.network.n) ∙ sym c.hold-from.ensures ∙ same ∙ c.inbox-to.ensures c.requires.0 stands.network)
 
-pub returns : goal.returns
-returns c plan steps taken stands =
+pub returns-clause-answered : goal.returns-clause-answered
+returns-clause-answered c plan steps taken stands =
     let relays : c.args.relay < length plan.parents.items = omega (arith, c.args.self.now.parents.ok.0, ap length stands.network.parents) in
     let within : nat_lt c.args.relay (length plan.parents.items) ≡ true = grind (arith, nat_tests) in
     let at = ap (λ l. slice_get l c.args.relay) (sym stands.network.parents) ∙ slice_get_read c.args.self.now.parents.items _ c.args.relay c.index.result.now c.args.self.now.parents.ok.0 (omega arith) c.index.ensures in

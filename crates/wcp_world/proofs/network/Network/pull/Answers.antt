@@ -12,13 +12,13 @@ use Rattle.wcp_world.proofs.Moved.{number_apart, number_within, shifts}
 use Rattle.wcp_world.proofs.Tree.{few_relays}
 use Rattle.wcp_world.proofs.network.Network.pull.Goals as goal
 
-pub returns-then-relay-len : goal.returns-then-relay-len
-returns-then-relay-len c plan steps taken stands =
+pub returns-then-relay-len-clause-answered : goal.returns-then-relay-len-clause-answered
+returns-then-relay-len-clause-answered c plan steps taken stands =
     let out : nat_lt c.args.relay (length plan.parents.items) ≡ false = grind (arith, nat_tests, c.args.self.now.parents.ok.0, ap length stands.network.parents) in
     refused_from plan steps taken _ stands (step.Pull c.args.relay) why.NoSuch (rw out refl)
 
-pub returns-then-is_leaf : goal.returns-then-is_leaf
-returns-then-is_leaf c plan steps taken stands =
+pub returns-then-is_leaf-clause-answered : goal.returns-then-is_leaf-clause-answered
+returns-then-is_leaf-clause-answered c plan steps taken stands =
     let within : nat_lt c.args.relay (length plan.parents.items) ≡ true = grind (arith, nat_tests, c.args.self.now.parents.ok.0, ap length stands.network.parents) in
     let leaf = ap (list_any (serves c.args.relay)) (sym stands.network.attach) ∙ sym c.is_leaf.ensures ∙ c.if-is_leaf.true in
     refused_from plan steps taken _ stands (step.Pull c.args.relay) why.NoSuch (rw (within, leaf) refl)
@@ -48,8 +48,8 @@ shift-requires-clause-apart c same =
     number_apart c.requires.0 (InboxOf c.args.relay) (HoldOf c.args.relay) relays relays refl
     (sym (c.inbox-from.ensures c.requires.0 stands.network) ∙ same ∙ c.hold-to.ensures ∙ ap (λ k. k + c.args.relay) stands.network.n)
 
-pub returns : goal.returns
-returns c plan steps taken stands =
+pub returns-clause-answered : goal.returns-clause-answered
+returns-clause-answered c plan steps taken stands =
     let relays : c.args.relay < length plan.parents.items = omega (arith, c.args.self.now.parents.ok.0, ap length stands.network.parents) in
     let within : nat_lt c.args.relay (length plan.parents.items) ≡ true = grind (arith, nat_tests) in
     let inner = ap (list_any (serves c.args.relay)) (sym stands.network.attach) ∙ sym c.is_leaf.ensures ∙ c.if-is_leaf.false in

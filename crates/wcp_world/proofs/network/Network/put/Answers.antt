@@ -16,21 +16,21 @@ use Rattle.wcp_world.proofs.Moved.{number_within, full_is, held_is}
 use Rattle.wcp_world.proofs.Putting.{put_stands}
 use Rattle.wcp_world.proofs.network.Network.put.Goals as goal
 
-pub returns-then-p-len : goal.returns-then-p-len
-returns-then-p-len c plan steps taken stands =
+pub returns-then-p-len-clause-answered : goal.returns-then-p-len-clause-answered
+returns-then-p-len-clause-answered c plan steps taken stands =
     let out : nat_lt c.args.p plan.n ≡ false = grind (arith, nat_tests, c.args.self.now.probes.ok.0, stands.probes.members) in
     refused_from plan steps taken _ stands (step.Put c.args.p) why.NoSuch (rw out refl)
 
-pub returns-in_default : goal.returns-in_default
-returns-in_default c plan steps taken stands =
+pub returns-in_default-clause-answered : goal.returns-in_default-clause-answered
+returns-in_default-clause-answered c plan steps taken stands =
     let in_range : c.args.p < plan.n = omega (arith, c.args.self.now.probes.ok.0, stands.probes.members) in
     let within : nat_lt c.args.p plan.n ≡ true = grind (arith, nat_tests) in
     let is = probe_at plan steps taken _ stands c.args.p c.index.result.now in_range c.index.ensures in
     let nothing = nothing_pending_is plan.n steps c.args.p _ c.index.result.now is ∙ ap (λ o. not (is_some o)) (sym c.pending.ensures ∙ c.in_default.is) in
     refused_from plan steps taken _ stands (step.Put c.args.p) why.Empty (rw (within, nothing) refl)
 
-pub returns-in-Ok : goal.returns-in-Ok
-returns-in-Ok c plan steps taken stands =
+pub returns-in-Ok-clause-answered : goal.returns-in-Ok-clause-answered
+returns-in-Ok-clause-answered c plan steps taken stands =
     let in_range : c.args.p < plan.n = omega (arith, c.args.self.now.probes.ok.0, stands.probes.members) in
     let within : nat_lt c.args.p plan.n ≡ true = grind (arith, nat_tests) in
     let probe_within : c.args.p < length c.args.self.now.probes.items = omega (arith, stands.probes.members) in
@@ -51,8 +51,8 @@ returns-in-Ok c plan steps taken stands =
       put_stands plan steps taken _ stands c.args.p core c.in-Some.note c.push.new.self in_range c.index_mut-in-Ok.ensures.value pending put room space,
     )
 
-pub returns-in-Err : goal.returns-in-Err
-returns-in-Err c plan steps taken stands =
+pub returns-in-Err-clause-answered : goal.returns-in-Err-clause-answered
+returns-in-Err-clause-answered c plan steps taken stands =
     let in_range : c.args.p < plan.n = omega (arith, c.args.self.now.probes.ok.0, stands.probes.members) in
     let within : nat_lt c.args.p plan.n ≡ true = grind (arith, nat_tests) in
     let place_within = number_within plan steps c.args.self.now.places.items (Link c.args.p) stands.places in_range in
@@ -66,3 +66,9 @@ returns-in-Err c plan steps taken stands =
     let full = full_is plan steps taken _ stands (Link c.args.p) in_range ∙ taken_up in
     let told = refused_from plan steps taken _ stands (step.Put c.args.p) why.Full (rw (within, some, full) refl) in
     (told.0, subst (λ (l : List Held). Stands plan (steps ++ []) (taken ++ []) (record (state_of c.args.self.now) { places = l })) (sym same) told.1)
+
+pub returns-in-Err-clause-refused : goal.returns-in-Err-clause-refused
+returns-in-Err-clause-refused c reason is =
+    let back : c.push.new.self ≡ c.index_mut.result.now = ap₂ (λ items room. record { items = items; room = room }) c.in-Err.ensures.err.1 c.in-Err.ensures.room in
+    let same : set c.args.self.now.places.items c.args.p c.push.new.self ≡ c.args.self.now.places.items = ap (set c.args.self.now.places.items c.args.p) (back ∙ c.index_mut.ensures.value) ∙ set-get_or c.args.self.now.places.items c.args.p c.index_mut.result.now in
+    ap (λ (l : List Held). record (state_of c.args.self.now) { places = l }) same
