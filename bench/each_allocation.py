@@ -1,5 +1,5 @@
 #!/usr/bin/env python3
-"""Refuses each allocation of the built program in turn: each_allocation.py PROGRAM TEXT..
+"""Refuses each allocation of the built program in turn: each_allocation.py PROGRAM WORD TEXT..
 
 Each answer must be that of an undisturbed run, or `wcpwatch: memory` with status 2 and no output.
 """
@@ -10,7 +10,7 @@ import sys
 import tempfile
 
 here = pathlib.Path(__file__).resolve().parent
-program, texts = sys.argv[1], sys.argv[2:]
+program, word, texts = sys.argv[1], sys.argv[2], sys.argv[3:]
 room = tempfile.mkdtemp()
 library = f"{room}/refuse.so"
 subprocess.run(["cc", "-shared", "-fPIC", "-O1", "-o", library, f"{here}/refuse_allocation.c", "-ldl"], check=True)
@@ -18,7 +18,7 @@ memory = (b"", b"wcpwatch: memory\n", 2)
 
 
 def answer(text, number, tell=None):
-    words = f'exec env LD_PRELOAD="$1" REFUSE="$2" "$0" single 3>{tell or "/dev/null"}'
+    words = f'exec env LD_PRELOAD="$1" REFUSE="$2" "$0" {word} 3>{tell or "/dev/null"}'
     command = ["sh", "-c", words, os.path.abspath(program), library, str(number)]
     done = subprocess.run(command, input=text, capture_output=True, timeout=60)
     return done.stdout, done.stderr, done.returncode
