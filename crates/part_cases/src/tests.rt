@@ -7,3 +7,4 @@ mod plans;
 mod stamps;
 mod texts;
 mod texts_made;
+mod world;
