@@ -1,4 +1,4 @@
-use Rattle.std.proofs.Common.{◌≡◌, ◌≢◌, ℕ, zero, suc, ◌+◌, ◌<◌, ◌≤◌, ◌&&◌, Bool, true, false, cond, List, [], ◌∷◌, ◌++◌, length, take, slice_index, get_or, count_by, Contains, eqb, None, refl, sym, ap, ap₂, ◌∙◌, subst, ⊎_elim, append-nil, arith}
+use Rattle.std.proofs.Common.{◌≡◌, ℕ, zero, suc, ◌+◌, ◌<◌, ◌≤◌, ◌&&◌, Bool, true, false, cond, List, [], ◌∷◌, ◌++◌, length, take, slice_index, get_or, count_by, Contains, eqb, None, refl, sym, ap, ap₂, ◌∙◌, subst, ⊎_elim, append-nil, arith}
 use Rattle.std.specs.Prelude.{if◌then◌else◌}
 use Rattle.std.proofs.lemmas.Bool.{cases_Bool}
 use Rattle.std.proofs.lemmas.Bool.Decides.{nat_tests}
@@ -23,7 +23,7 @@ use Rattle.wcp_model.specs.StateClock.{IsStateClock}
 use Rattle.wcp_model.proofs.CutLaws.{state}
 use Rattle.wcp_probe.specs.Core.{Core}
 use Rattle.wcp_queue.specs.Checker.{IsReportInAnyOrder}
-use Rattle.wcp_world.specs.Network.{NetworkState, Stands, is_note_of}
+use Rattle.wcp_world.specs.Network.{NetworkState, Stands}
 use Rattle.wcp_world.proofs.Probing.{law_of_probe}
 use Rattle.wcp_world.proofs.Checking.{notes_counted}
 use Rattle.wcp_world.proofs.Moved.{bit}

@@ -1,8 +1,8 @@
-use Rattle.std.proofs.Common.{◌≡◌, ◌≢◌, ℕ, ◌+◌, ◌<◌, ◌&&◌, Bool, true, false, cond, nat_le, is_some, List, [], ◌∷◌, ◌++◌, length, take, count_by, get_or, set, eqb, None, Some, refl, sym, ap, ◌∙◌, subst, ⊎_elim, append-nil, eq-eqb, true≢false, arith}
+use Rattle.std.proofs.Common.{◌≡◌, ◌≢◌, ℕ, ◌+◌, ◌<◌, ◌&&◌, Bool, true, false, cond, nat_le, is_some, List, [], ◌∷◌, ◌++◌, length, take, count_by, get_or, set, eqb, None, Some, refl, sym, ap, ap₂, ◌∙◌, subst, ⊎_elim, append-nil, eq-eqb, true≢false, arith}
 use Rattle.std.proofs.lemmas.Bool.{cases_Bool, cases_eq, ne_eqb}
 use Rattle.std.proofs.lemmas.Bool.Decides.{nat_tests}
 use Rattle.std.proofs.lemmas.Option.{MatchOption-at_some}
-use Rattle.std.proofs.lemmas.List.{length-set, length_push, take_at, take_all, get_or-set_same, get_or-set_other}
+use Rattle.std.proofs.lemmas.List.{length-set, length_push, take_at, take_all, get_or-set_same, get_or-set_other, set-get_or}
 use Rattle.std.proofs.lemmas.List.Sums.{sum_by_push}
 use Rattle.wcp_clock.specs.declared.note.Item.{Item}
 use Rattle.wcp_clock.specs.declared.note.Note.{Note}
@@ -142,3 +142,7 @@ module _ (plan : Plan) (steps : List Step) (taken : List Item) (w : NetworkState
         processes_are = stands.processes_are;
         checker = subst (λ items. CheckerStandsFor w.checker items) (sym (append-nil taken)) stands.checker;
       }
+
+-- a place that stayed as it was, written back
+pub place_back : (places : List Held) (number : ℕ) (old new : Held) → old ≡ get_or places number old → new.items ≡ old.items → new.room ≡ old.room → set places number new ≡ places
+place_back places number old new here same_items same_room = ap (set places number) (ap₂ (λ items room. record { items = items; room = room }) same_items same_room ∙ here) ∙ set-get_or places number old

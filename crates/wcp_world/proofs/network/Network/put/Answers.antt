@@ -1,6 +1,6 @@
-use Rattle.std.proofs.Common.{◌≡◌, ◌≢◌, ◌<◌, true, false, not, nat_lt, nat_le, [], is_some, length, Some, List, ◌++◌, set, true≢false, refl, sym, ap, ap₂, ◌∙◌, subst, arith}
+use Rattle.std.proofs.Common.{◌≡◌, ◌≢◌, ◌<◌, true, false, not, nat_lt, nat_le, [], is_some, length, Some, List, ◌++◌, true≢false, refl, sym, ap, ◌∙◌, subst, arith}
 use Rattle.std.proofs.lemmas.Bool.Decides.{nat_tests}
-use Rattle.std.proofs.lemmas.List.{get_or_default, set-get_or}
+use Rattle.std.proofs.lemmas.List.{get_or_default}
 use Rattle.wcp_model.specs.declared.step.Step.TheVariants as step
 use Rattle.wcp_model.specs.declared.step.Reply.TheVariants.{Done}
 use Rattle.wcp_model.specs.declared.step.Why.TheVariants as why
@@ -13,7 +13,7 @@ use Rattle.wcp_world.specs.NetworkView.{state_of}
 use Rattle.wcp_world.proofs.Probing.{nothing_pending_is, reply_from, refused_from}
 use Rattle.wcp_world.proofs.Accepting.{probe_at}
 use Rattle.wcp_world.proofs.Moved.{number_within, full_is, held_is}
-use Rattle.wcp_world.proofs.Putting.{put_stands}
+use Rattle.wcp_world.proofs.Putting.{place_back, put_stands}
 use Rattle.wcp_world.proofs.network.Network.put.Goals as goal
 
 pub returns-then-p-len-clause-answered : goal.returns-then-p-len-clause-answered
@@ -59,8 +59,7 @@ returns-in-Err-clause-answered c plan steps taken stands =
     let is = probe_at plan steps taken _ stands c.args.p c.index.result.now in_range c.index.ensures in
     let some = nothing_pending_is plan.n steps c.args.p _ c.index.result.now is ∙ ap (λ o. not (is_some o)) (sym c.pending.ensures ∙ c.in-Some.is) in
     let held : c.index_mut.result.now ≡ held_at c.args.self.now.places.items c.args.p = c.index_mut.ensures.value ∙ get_or_default c.args.self.now.places.items c.args.p c.index_mut.result.now (record { items = []; room = 0 }) place_within in
-    let back : c.push.new.self ≡ c.index_mut.result.now = ap₂ (λ items room. record { items = items; room = room }) c.in-Err.ensures.err.1 c.in-Err.ensures.room in
-    let same : set c.args.self.now.places.items c.args.p c.push.new.self ≡ c.args.self.now.places.items = ap (set c.args.self.now.places.items c.args.p) (back ∙ c.index_mut.ensures.value) ∙ set-get_or c.args.self.now.places.items c.args.p c.index_mut.result.now in
+    let same = place_back c.args.self.now.places.items c.args.p c.index_mut.result.now c.push.new.self c.index_mut.ensures.value c.in-Err.ensures.err.1 c.in-Err.ensures.room in
     let equal : length (held_at c.args.self.now.places.items c.args.p).items ≡ (held_at c.args.self.now.places.items c.args.p).room = ap (λ (h : Held). length h.items) (sym held) ∙ c.in-Err.ensures.full.0 refl ∙ ap (λ (h : Held). h.room) held in
     let taken_up : nat_le (held_at c.args.self.now.places.items c.args.p).room (length (held_at c.args.self.now.places.items c.args.p).items) ≡ true = grind (arith, nat_tests, equal) in
     let full = full_is plan steps taken _ stands (Link c.args.p) in_range ∙ taken_up in
@@ -69,6 +68,5 @@ returns-in-Err-clause-answered c plan steps taken stands =
 
 pub returns-in-Err-clause-refused : goal.returns-in-Err-clause-refused
 returns-in-Err-clause-refused c reason is =
-    let back : c.push.new.self ≡ c.index_mut.result.now = ap₂ (λ items room. record { items = items; room = room }) c.in-Err.ensures.err.1 c.in-Err.ensures.room in
-    let same : set c.args.self.now.places.items c.args.p c.push.new.self ≡ c.args.self.now.places.items = ap (set c.args.self.now.places.items c.args.p) (back ∙ c.index_mut.ensures.value) ∙ set-get_or c.args.self.now.places.items c.args.p c.index_mut.result.now in
+    let same = place_back c.args.self.now.places.items c.args.p c.index_mut.result.now c.push.new.self c.index_mut.ensures.value c.in-Err.ensures.err.1 c.in-Err.ensures.room in
     ap (λ (l : List Held). record (state_of c.args.self.now) { places = l }) same
