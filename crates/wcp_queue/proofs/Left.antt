@@ -52,7 +52,7 @@ module _ (n : ℕ) (rows : ℕ → List (List ℕ)) (queues : List Candidates) (
   pub head_at : (p : ℕ) → p < n → get_or (rows p) (left.heads p) [] ≡ head (queue_of queues p)
   head_at p p_within =
       let here : get_or (drop (left.heads p) (rows p)) 0 [] ≡ get_or (rows p) (left.heads p + 0) [] = get_or-drop (left.heads p) (rows p) 0 [] in
-      ap (λ i. get_or (rows p) i []) (sym (add-zero (left.heads p))) ∙ sym here ∙ ap (λ row. get_or row 0 []) (sym (left.rest p p_within))
+      ap (λ i. get_or (rows p) i []) (sym (add-zero (left.heads p))) ∙ sym here ∙ ap (λ clocks. get_or clocks 0 []) (sym (left.rest p p_within))
 
   -- a head that precedes another may be eliminated
   pub AreLeft-drop : (p q : ℕ) → p < n → q < n → p ≢ q → p < length queues → 0 < length (queue_of queues p).clocks → 0 < length (queue_of queues q).clocks →
