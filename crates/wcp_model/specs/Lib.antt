@@ -8,5 +8,7 @@ pub mod Emission
 pub mod ProbeLog
 pub mod PlanFault
 pub mod Report
+pub mod Tree
 pub mod Occupancy
 pub mod Replies
+pub mod Taken

@@ -1,8 +1,10 @@
-use Rattle.std.specs.Prelude.{◌≡◌, ◌==◌, ◌||◌, ℕ, ◌+◌, ◌<◌, Bool, true, false, not, nat_lt, nat_le, Option, Some, None, MatchOption, List, [], ◌∷◌, ◌++◌, length, filter, map, flat_map, take, slice_get, if◌then◌else◌}
+use Rattle.std.specs.Prelude.{◌≡◌, ◌==◌, ◌||◌, ℕ, ◌<◌, Bool, true, false, not, nat_lt, nat_le, Option, Some, None, MatchOption, List, [], ◌∷◌, ◌++◌, length, filter, flat_map, take, slice_get, if◌then◌else◌}
 use Rattle.std.specs.List.{list_any}
+use Rattle.std.specs.Option.{option_map_or}
 use Rattle.wcp_clock.specs.declared.clock.TheConstants.{CLOCK_LIMIT}
 use Rattle.wcp_clock.specs.declared.note.Item.{Item}
 use Rattle.wcp_clock.specs.declared.note.Note.{Note}
+use Rattle.wcp_model.specs.declared.plan.Parent.TheVariants as parent
 use Rattle.wcp_model.specs.declared.plan.Plan.{Plan}
 use Rattle.wcp_model.specs.declared.step.Step.{Step}
 use Rattle.wcp_model.specs.declared.step.Step.TheVariants as step
@@ -12,7 +14,8 @@ use Rattle.wcp_model.specs.declared.step.Why.{Why}
 use Rattle.wcp_model.specs.declared.step.Why.TheVariants as why
 use Rattle.wcp_model.specs.Computation.{Computation, communications}
 use Rattle.wcp_model.specs.Emission.{AreEmissions, is_closed}
-use Rattle.wcp_model.specs.Occupancy.{Place, Link, HoldOf, InboxOf, RootInbox, inbox_above, notes_in, pending_of, room_of}
+use Rattle.wcp_model.specs.Tree.{is_relay, is_leaf, is_attached}
+use Rattle.wcp_model.specs.Occupancy.{Place, Pending, InboxOf, source, target, taken_from, notes_in, room_of, IsEntry}
 
 -- A step with what it was answered; a history is the list of these, in order.
 pub record Answered : Type 0 where
@@ -68,80 +71,60 @@ is_receive_of message _ = false
 abbrev pub was_received : Computation → ℕ → Bool
 was_received c message = list_any (is_receive_of message) c
 
--- The tree: which relay serves a process, and whether a relay serves processes.
-abbrev pub serves : ℕ → Option ℕ → Bool
-serves relay (Some r) = r == relay
-serves relay None = false
+-- Why an event may be refused, after a computation of n processes of which some have a pending note: each reason with its
+-- test, in the order in which they count.
+abbrev pub event_reasons : ℕ → Computation → (ℕ → Bool) → Step → List (Bool × Why)
+event_reasons n c pending (step.Observe p holds) = (not (nat_lt p n), why.NoSuch) ∷ (is_closed c p, why.Closed) ∷ []
+event_reasons n c pending (step.Send p to) =
+    (not (nat_lt p n) || not (nat_lt to n) || p == to, why.NoSuch) ∷ (is_closed c p, why.Closed)
+    ∷ (pending p, why.Backlog) ∷ (nat_le CLOCK_LIMIT (communications c p), why.ClockEnd) ∷ []
+event_reasons n c pending (step.Recv p message) =
+    (not (nat_lt p n) || not (was_sent_to c message p), why.NoSuch) ∷ (is_closed c p, why.Closed)
+    ∷ (pending p, why.Backlog) ∷ (was_received c message, why.Gone)
+    ∷ (nat_le CLOCK_LIMIT (communications c p), why.ClockEnd) ∷ []
+event_reasons n c pending (step.Close p) =
+    (not (nat_lt p n), why.NoSuch) ∷ (is_closed c p, why.Closed) ∷ (pending p, why.Backlog) ∷ []
+event_reasons n c pending s = []
 
-abbrev pub is_attached : Plan → ℕ → ℕ → Bool
-is_attached plan relay p = attached (slice_get plan.attach.items p)
-  where
-    attached : Option (Option ℕ) → Bool
-    attached (Some entry) = serves relay entry
-    attached None = false
+-- A move that names a process, relay or attachment that there isn't. In a checked plan, what is attached exists.
+abbrev pub names_nothing : Plan → Step → Bool
+names_nothing plan (step.Put p) = not (nat_lt p plan.n)
+names_nothing plan (step.Admit relay p) = not (is_attached plan relay p)
+names_nothing plan (step.Pull relay) = not (is_relay plan relay) || is_leaf plan relay
+names_nothing plan (step.Pass relay) = not (is_relay plan relay)
+names_nothing plan s = false
 
-abbrev pub is_leaf : Plan → ℕ → Bool
-is_leaf plan relay = list_any (serves relay) plan.attach.items
+-- Why a move may be refused, where there are so many notes in each place.
+abbrev pub move_reasons : Plan → (Place → ℕ) → Step → List (Bool × Why)
+move_reasons plan notes s =
+    (names_nothing plan s, why.NoSuch) ∷ (option_map_or (λ from. notes from == 0) (source s) false, why.Empty)
+    ∷ (option_map_or (λ to. nat_le (room_of plan to) (notes to)) (target plan s) false, why.Full) ∷ []
 
-abbrev pub is_relay : Plan → ℕ → Bool
-is_relay plan relay = nat_lt relay (length plan.parents.items)
-
--- The tests of a process that makes an event of its own, and of a note that moves from one place to another.
-abbrev pub is_backlogged : List Step → (ℕ → ℕ) → ℕ → Bool
-is_backlogged steps emitted p = nat_lt 0 (pending_of steps p (emitted p))
-
-abbrev pub is_at_clock_end : Computation → ℕ → Bool
-is_at_clock_end c p = nat_le CLOCK_LIMIT (communications c p)
-
-abbrev pub is_full : Plan → List Step → Place → Bool
-is_full plan steps place = nat_le (room_of plan place) (notes_in plan steps place)
-
-abbrev pub moving : Plan → List Step → Place → Place → List (Bool × Why)
-moving plan steps from to = (notes_in plan steps from == 0, why.Empty) ∷ (is_full plan steps to, why.Full) ∷ []
-
--- Why a step may be refused, after these accepted steps, where each process has emitted so many notes: each reason with
--- its test, in the order in which they count. In a checked plan, what is attached exists.
-abbrev pub reasons : Plan → List Step → (ℕ → ℕ) → Step → List (Bool × Why)
-reasons plan steps emitted (step.Observe p holds) =
-    (not (nat_lt p plan.n), why.NoSuch) ∷ (is_closed (computation steps) p, why.Closed) ∷ []
-reasons plan steps emitted (step.Send p to) =
-    (not (nat_lt p plan.n) || not (nat_lt to plan.n) || p == to, why.NoSuch) ∷ (is_closed (computation steps) p, why.Closed)
-    ∷ (is_backlogged steps emitted p, why.Backlog) ∷ (is_at_clock_end (computation steps) p, why.ClockEnd) ∷ []
-reasons plan steps emitted (step.Recv p message) =
-    (not (nat_lt p plan.n) || not (was_sent_to (computation steps) message p), why.NoSuch) ∷ (is_closed (computation steps) p, why.Closed)
-    ∷ (is_backlogged steps emitted p, why.Backlog) ∷ (was_received (computation steps) message, why.Gone)
-    ∷ (is_at_clock_end (computation steps) p, why.ClockEnd) ∷ []
-reasons plan steps emitted (step.Close p) =
-    (not (nat_lt p plan.n), why.NoSuch) ∷ (is_closed (computation steps) p, why.Closed) ∷ (is_backlogged steps emitted p, why.Backlog) ∷ []
-reasons plan steps emitted (step.Put p) =
-    (not (nat_lt p plan.n), why.NoSuch) ∷ (pending_of steps p (emitted p) == 0, why.Empty) ∷ (is_full plan steps (Link p), why.Full) ∷ []
-reasons plan steps emitted (step.Admit relay p) = (not (is_attached plan relay p), why.NoSuch) ∷ moving plan steps (Link p) (HoldOf relay)
-reasons plan steps emitted (step.Pull relay) =
-    (not (is_relay plan relay) || is_leaf plan relay, why.NoSuch) ∷ moving plan steps (InboxOf relay) (HoldOf relay)
-reasons plan steps emitted (step.Pass relay) = (not (is_relay plan relay), why.NoSuch) ∷ moving plan steps (HoldOf relay) (inbox_above plan relay)
-reasons plan steps emitted step.Check = (notes_in plan steps RootInbox == 0, why.Empty) ∷ []
+-- Why a step may be refused, after these accepted steps and where these are the emissions of each process.
+abbrev pub reasons : Plan → (ℕ → List Note) → List Step → Step → List (Bool × Why)
+reasons plan emissions steps s =
+    event_reasons plan.n (computation steps) (λ p. nat_lt 0 (notes_in plan emissions steps (Pending p))) s
+    ++ move_reasons plan (notes_in plan emissions steps) s
 
 abbrev pub first_of_reasons : List (Bool × Why) → Option Why
 first_of_reasons [] = None
 first_of_reasons (reason ∷ reasons) = if reason.0 then Some reason.1 else first_of_reasons reasons
 
--- An accepted step is answered that it was done, but for a check, which is answered with some item.
-abbrev pub IsAcceptance : Step → Reply → Type 0
-IsAcceptance step.Check answer = (item : Item) × (answer ≡ reply.Took item)
-IsAcceptance s answer = answer ≡ reply.Done
-
--- A process of n has emitted so many notes.
-pub record HasEmitted (n : ℕ) (c : Computation) (p count : ℕ) : Type 0 where
-  pub notes : List Note
-  pub are : AreEmissions n c p notes
-  pub counted : length notes ≡ count
+-- An accepted step is answered that it was done; an accepted check takes the item whose turn it is in the root inbox.
+abbrev pub IsAcceptance : Plan → (ℕ → List Note) → List Step → Step → Reply → Type 0
+IsAcceptance plan emissions steps step.Check answer =
+    (item : Item) × (answer ≡ reply.Took item)
+    × IsEntry plan emissions steps (InboxOf parent.Root) (taken_from steps (InboxOf parent.Root)) item
+IsAcceptance plan emissions steps s answer = answer ≡ reply.Done
 
 -- The reply to a step after these accepted steps: the first reason that holds, else acceptance.
 pub record IsReply (plan : Plan) (steps : List Step) (s : Step) (answer : Reply) : Type 0 where
-  pub emitted : ℕ → ℕ
-  pub are_emitted : (p : ℕ) → p < plan.n → HasEmitted plan.n (computation steps) p (emitted p)
-  pub first : MatchOption (first_of_reasons (reasons plan steps emitted s)) (IsAcceptance s answer) (λ why. answer ≡ reply.Refused why)
+  pub emissions : ℕ → List Note
+  pub are : (p : ℕ) → p < plan.n → AreEmissions plan.n (computation steps) p (emissions p)
+  pub first : MatchOption (first_of_reasons (reasons plan emissions steps s))
+      (IsAcceptance plan emissions steps s answer) (λ why. answer ≡ reply.Refused why)
 
 -- Each step of a history has the reply that the earlier steps and replies lead to.
 abbrev pub AreReplies : Plan → List Answered → Type 0
-AreReplies plan history = (place : ℕ) (a : Answered) → slice_get history place ≡ Some a → IsReply plan (accepted (take place history)) a.step a.reply
+AreReplies plan history =
+    (place : ℕ) (a : Answered) → slice_get history place ≡ Some a → IsReply plan (accepted (take place history)) a.step a.reply
