@@ -1,7 +1,6 @@
-ghost use Rattle.std.specs.Prelude.{◌≡◌, ℕ, ◌<◌, ◌≤◌, [], length, IfOk};
+ghost use Rattle.std.specs.Prelude.{◌≡◌, ℕ, ◌<◌, ◌≤◌, ◌↔◌, [], ◌∷◌, ◌++◌, length, drop, slice_get, IsErr, IfOk, OnOk, IfErr};
 ghost use Rattle.wcp_hold.specs.declared.hold.TheConstants.{MAX_ROOM};
 
-use crate::bag::Bag;
 use circular_buffer::HeapCircularBuffer;
 use std::alloc::{AllocError, Global};
 use std::marker::Model;
@@ -10,7 +9,7 @@ use wcp_clock::Item;
 /// The most items that a hold may have room for.
 pub const MAX_ROOM: u32 = 1024;
 
-/// A bounded hold of items, whose memory is taken once, when it is made.
+/// A bounded hold of items, first in, first out. Its memory is taken once, when it is made.
 #[derive(Drop)]
 pub struct Hold {
     queue: HeapCircularBuffer<Item>,
@@ -37,12 +36,13 @@ impl Hold {
             queue: HeapCircularBuffer::with_capacity(alloc, cap as usize)?,
         })
     }
-}
 
-impl Bag for Hold {
-    ghost held = { λ hold. hold };
-
-    fn push(&mut self, item: Item) -> Result<(), Item> {
+    /// Puts an item behind those that are there, or hands it back where the hold is full.
+    pub fn push(&mut self, item: Item) -> Result<(), Item>
+        ensures full { IsErr result ↔ (length self.old.items ≡ self.old.room) }
+        ensures ok { OnOk result (self.new ≡ record self.old { items = self.old.items ++ item ∷ [] }) }
+        ensures err { IfErr result (λ back. (back ≡ item) × (self.new ≡ self.old)) }
+    {
         if self.queue.len() == self.queue.capacity() {
             return Err(item);
         }
@@ -50,15 +50,26 @@ impl Bag for Hold {
         Ok(())
     }
 
-    fn pop(&mut self) -> Option<Item> {
+    /// Takes the first item out, if there is one.
+    pub fn pop(&mut self) -> Option<Item>
+        ensures value { result ≡ slice_get self.old.items 0 }
+        ensures rest { self.new ≡ record self.old { items = drop 1 self.old.items } }
+    {
         self.queue.pop_front()
     }
 
-    fn front(&self) -> Option<Item> {
+    /// Reads the item that the next `pop` gives.
+    pub fn front(&self) -> Option<Item>
+        ensures { result ≡ slice_get self.now.items 0 }
+    {
         self.queue.front().copied()
     }
 
-    fn len(&self) -> usize {
+    /// How many items there are.
+    pub fn len(&self) -> usize
+        ensures count { result ≡ length self.now.items }
+        ensures within { length self.now.items ≤ self.now.room }
+    {
         self.queue.len()
     }
 }

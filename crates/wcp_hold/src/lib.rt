@@ -1,10 +1,6 @@
-//! The bounded hold in which a link, an inbox or a relay keeps items.
+//! The bounded hold in which a link, an inbox or a relay keeps items, first in, first out.
 #![tactic(auto)]
 
-mod bag;
 mod hold;
-#[cfg(test)]
-mod tests;
 
-pub use bag::Bag;
 pub use hold::{Hold, MAX_ROOM};

@@ -1,9 +1,0 @@
-use Rattle.std.proofs.Common.{ap, arith}
-use Rattle.wcp_hold.specs.Held.{Held}
-use Rattle.wcp_hold.proofs.Room.{puts_at_back}
-use Rattle.wcp_hold.proofs.hold.HoldBag.push.Goals as goal
-
-pub returns-clause-ok : goal.returns-clause-ok
-returns-clause-ok c =
-    let put = puts_at_back c.self.inside.queue.items c.args.item c.self.inside.queue.capacity c.push_back-overwritten.new.self.items (omega arith) (ap (λ b. b.items) c.push_back-overwritten.ensures.items) in
-    rw (← ap (λ (h : Held). h.items) c.self.view_is) put
