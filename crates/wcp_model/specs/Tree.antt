@@ -1,4 +1,4 @@
-use Rattle.std.specs.Prelude.{◌==◌, ℕ, Bool, true, false, nat_lt, Option, Some, None, length, slice_get}
+use Rattle.std.specs.Prelude.{◌≡◌, ◌==◌, ℕ, Bool, true, false, nat_lt, Option, Some, None, length, slice_get}
 use Rattle.std.specs.List.{list_any}
 use Rattle.std.specs.Option.{option_flatten}
 use Rattle.wcp_model.specs.declared.plan.Parent.{Parent}
@@ -23,3 +23,11 @@ is_attached plan relay p = is_number relay (leaf_of plan p)
 
 abbrev pub is_leaf : Plan → ℕ → Bool
 is_leaf plan relay = list_any (is_number relay) plan.attach.items
+
+-- Two plans are the same where their numbers and lists are.
+pub record IsSamePlan (one other : Plan) : Type 0 where
+  pub n : one.n ≡ other.n
+  pub cap : one.cap ≡ other.cap
+  pub hold : one.hold ≡ other.hold
+  pub parents : one.parents.items ≡ other.parents.items
+  pub attach : one.attach.items ≡ other.attach.items
