@@ -1,0 +1,67 @@
+use Rattle.std.proofs.Common.{◌≡◌, ℕ, ◌+◌, ◌-◌, ◌<◌, List, [], ◌∷◌, ◌++◌, length, get_or, replicate, Option, None, Some, slice_get, refl, sym, ap, ap₂, ◌∙◌, subst, arith}
+use Rattle.std.proofs.lemmas.List.{length-append, length-replicate, get_or-replicate, get_or_append_left, get_or-append_right}
+use Rattle.wcp_model.specs.declared.plan.Parent.TheVariants.{Root, Relay}
+use Rattle.wcp_model.specs.declared.plan.Plan.{Plan}
+use Rattle.wcp_model.specs.PlanFault.{IsCheckedPlan}
+use Rattle.wcp_model.specs.Tree.{IsSamePlan}
+use Rattle.wcp_model.specs.Occupancy.{Place, Pending, Link, HoldOf, InboxOf, room_of}
+use Rattle.wcp_hold.specs.Held.{Held, empty_hold}
+use Rattle.wcp_world.specs.Transport.{TransportState, IsTransportOf, IsPlaceOf, IsWay, held_at, notes_at, notes_along, number_of}
+use Rattle.wcp_world.proofs.Places.{leaf_exists, next_is_place}
+use Rattle.wcp_world.proofs.Ways.{way_of}
+
+module _ (plan : Plan) where
+  abbrev links : List Held
+  links = replicate plan.n (empty_hold plan.cap)
+
+  abbrev holds : List Held
+  holds = replicate (length plan.parents.items) (empty_hold plan.hold)
+
+  abbrev inboxes : List Held
+  inboxes = replicate (length plan.parents.items + 1) (empty_hold plan.cap)
+
+  abbrev pub first_places : List Held
+  first_places = (links ++ holds) ++ inboxes
+
+  length_front : length (links ++ holds) ≡ plan.n + length plan.parents.items
+  length_front = omega (arith, length-append links holds, length-replicate plan.n (empty_hold plan.cap), length-replicate (length plan.parents.items) (empty_hold plan.hold))
+
+  length_all : length first_places ≡ plan.n + length plan.parents.items + 1 + length plan.parents.items
+  length_all = omega (arith, length_front, length-append (links ++ holds) inboxes, length-replicate (length plan.parents.items + 1) (empty_hold plan.cap))
+
+  -- each place is empty, with its room
+  place_is_empty : (x : Place) (default : Held) → IsPlaceOf plan x → get_or first_places (number_of plan x) default ≡ empty_hold (room_of plan x)
+  place_is_empty (Pending p) default is = absurd is
+  place_is_empty (Link p) default is =
+      get_or_append_left (links ++ holds) inboxes default p (omega (arith, length_front, is))
+      ∙ get_or_append_left links holds default p (omega (arith, length-replicate plan.n (empty_hold plan.cap), is))
+      ∙ get_or-replicate plan.n p (empty_hold plan.cap) default is
+  place_is_empty (HoldOf r) default is =
+      get_or_append_left (links ++ holds) inboxes default (plan.n + r) (omega (arith, length_front, is))
+      ∙ get_or-append_right links holds plan.n (plan.n + r) default (length-replicate plan.n (empty_hold plan.cap)) (omega arith)
+      ∙ get_or-replicate (length plan.parents.items) (plan.n + r - plan.n) (empty_hold plan.hold) default (omega (arith, is))
+  place_is_empty (InboxOf Root) default is =
+      get_or-append_right (links ++ holds) inboxes (plan.n + length plan.parents.items) (plan.n + length plan.parents.items) default length_front (omega arith)
+      ∙ get_or-replicate (length plan.parents.items + 1) (plan.n + length plan.parents.items - (plan.n + length plan.parents.items)) (empty_hold plan.cap) default (omega arith)
+  place_is_empty (InboxOf (Relay r)) default is =
+      get_or-append_right (links ++ holds) inboxes (plan.n + length plan.parents.items) (plan.n + length plan.parents.items + 1 + r) default length_front (omega arith)
+      ∙ get_or-replicate (length plan.parents.items + 1) (plan.n + length plan.parents.items + 1 + r - (plan.n + length plan.parents.items)) (empty_hold plan.cap) default (omega (arith, is))
+
+  none_along : IsCheckedPlan plan → (p : ℕ) (x : Place) (way : List Place) → IsWay plan x way → IsPlaceOf plan x → notes_along (notes_at plan first_places p) (x ∷ way) ≡ []
+  none_along checked p x [] is_way is = rw (place_is_empty x _ is) refl
+  none_along checked p x (y ∷ way) is_way is = ap₂ (λ a b. a ++ b) (none_along checked p y way is_way.1 (next_is_place plan checked x y is_way.0 is)) (rw (place_is_empty x _ is) refl)
+
+  -- the transport of a plan stands for nothing at first
+  pub fresh_stands : (t : TransportState) → IsCheckedPlan plan → IsSamePlan t.plan plan → t.places ≡ first_places → IsTransportOf plan [] (λ p. []) [] t
+  fresh_stands t checked same places_are = record {
+    checked = checked;
+    same_plan = same;
+    members = ap length places_are ∙ length_all;
+    held = λ x is. rw (ap (λ l. held_at l (number_of plan x)) places_are ∙ place_is_empty x _ is) (record { room = refl; within = omega arith; count = refl; entries = λ i item at. cc at });
+    as_many = λ p. refl;
+    known = λ p beyond. refl;
+    in_order = λ p in_range.
+        let leaf = leaf_exists plan checked p in_range in
+        let way = way_of plan checked p leaf.0 leaf.1 in
+        record { way = way.0; is_way = way.1; notes = ap (λ l. notes_along (notes_at plan l p) (Link p ∷ way.0)) places_are ∙ none_along checked p (Link p) way.0 way.1 in_range };
+  }

@@ -1,0 +1,142 @@
+use Rattle.std.proofs.Common.{◌≡◌, ℕ, zero, suc, ◌+◌, ◌-◌, ◌<◌, ◌≤◌, Bool, true, false, cond, ◌⊎◌, length, take, count_by, Option, None, Some, List, [], ◌∷◌, ◌++◌, slice_get, filter, map, refl, sym, ap, ap₂, subst, ◌∙◌, inl, inr, ⊎_elim, append-nil, append_assoc, eq-eqb, true≢false, arith}
+use Rattle.std.proofs.lemmas.Bool.{cases_lt, cases_Bool}
+use Rattle.std.proofs.lemmas.List.{length_push, length-append, map-append, take-append-le, take_at}
+use Rattle.std.proofs.lemmas.List.Elements.{filter-append}
+use Rattle.std.proofs.lemmas.List.Sums.{sum_by_push}
+use Rattle.std.proofs.lemmas.Option.{slice_get_within}
+use Rattle.wcp_clock.specs.declared.note.Item.{Item}
+use Rattle.wcp_clock.specs.declared.note.Note.{Note}
+use Rattle.wcp_model.specs.declared.plan.Plan.{Plan}
+use Rattle.wcp_model.specs.declared.step.Step.{Step}
+use Rattle.wcp_model.specs.Occupancy.{Place, Pending, source, target, is_place, takes_from, puts_into, taken_from, next_place, IsMove, IsEntry, Emitted, Moved}
+use Rattle.wcp_model.specs.Report.{notes_taken}
+use Rattle.wcp_model.proofs.Growth.{get_front, get_behind, at_grows}
+use Rattle.wcp_hold.specs.Held.{Held}
+use Rattle.wcp_world.specs.Transport.{IsHeldAt}
+use Rattle.wcp_world.proofs.Places.{itself}
+use Rattle.wcp_world.proofs.Ways.{IsOnWay, Start, Onward}
+
+abbrev pub bit : Bool → ℕ
+bit b = cond b 1 0
+
+-- the item, if so
+abbrev pub item_if : Bool → Item → List Item
+item_if b item = cond b (item ∷ []) []
+
+pub length_if : (b : Bool) (item : Item) → length (item_if b item) ≡ bit b
+length_if true item = refl
+length_if false item = refl
+
+get_if : (b : Bool) (item y : Item) (i : ℕ) → slice_get (item_if b item) i ≡ Some y → (b ≡ true) × (i ≡ 0) × (item ≡ y)
+get_if true item y zero at = (refl, refl, cc at)
+get_if true item y (suc i) at = absurd (cc at)
+get_if false item y i at = absurd (cc at)
+
+pub get_beyond : {X : Type 0} (xs ys : List X) (i : ℕ) → slice_get (xs ++ ys) (length xs + i) ≡ slice_get ys i
+get_beyond [] ys i = ap (slice_get ys) (omega arith)
+get_beyond (x ∷ xs) ys i = let step : suc (length xs) + i ≡ suc (length xs + i) = omega arith in ap (slice_get (x ∷ (xs ++ ys))) step ∙ get_beyond xs ys i
+
+-- a count over one more step
+pub count_push : (test : Step → Bool) (steps : List Step) (s : Step) → count_by test (steps ++ s ∷ []) ≡ count_by test steps + bit (test s)
+count_push test steps s = sum_by_push (λ x. cond (test x) 1 0) steps s
+
+-- the notes of a process among more items
+pub notes_append : (p : ℕ) (items more : List Item) → notes_taken p (items ++ more) ≡ notes_taken p items ++ notes_taken p more
+notes_append p items more = ap (map (λ (item : Item). item.note)) (filter-append _ items more) ∙ map-append (λ (item : Item). item.note) (filter _ items) (filter _ more)
+
+-- an entry is on the way of its process
+pub entry_on_way : (plan : Plan) (emissions : ℕ → List Note) (steps : List Step) {x : Place} {i : ℕ} {item : Item} → IsEntry plan emissions steps x i item → IsOnWay plan item.from x
+entry_on_way plan emissions steps (Emitted at) = Start
+entry_on_way plan emissions steps (Moved entry move) = Onward (entry_on_way plan emissions steps entry) move.puts
+
+-- an entry is an emission of its process
+pub entry_emitted : (plan : Plan) (emissions : ℕ → List Note) (steps : List Step) {x : Place} {i : ℕ} {item : Item} → IsEntry plan emissions steps x i item → (k : ℕ) × (slice_get (emissions item.from) k ≡ Some item.note)
+entry_emitted plan emissions steps (Emitted {i = i} at) = (i, at)
+entry_emitted plan emissions steps (Moved entry move) = entry_emitted plan emissions steps entry
+
+-- entries stay as emissions and steps grow
+pub entry_grows : (plan : Plan) (emissions grown : ℕ → List Note) (steps more : List Step) → ((p i : ℕ) (note : Note) → slice_get (emissions p) i ≡ Some note → slice_get (grown p) i ≡ Some note) →
+    {x : Place} {i : ℕ} {item : Item} → IsEntry plan emissions steps x i item → IsEntry plan grown (steps ++ more) x i item
+entry_grows plan emissions grown steps more grow (Emitted {p = p} {i = i} {note = note} at) = Emitted (grow p i note at)
+entry_grows plan emissions grown steps more grow (Moved {from = from} {to = to} entry move) =
+    let front : take move.at (steps ++ more) ≡ take move.at steps = take-append-le move.at steps more (let inside = slice_get_within steps move.at move.step move.there in omega (arith, inside)) in
+    Moved (entry_grows plan emissions grown steps more grow entry) (record {
+      at = move.at;
+      step = move.step;
+      there = at_grows steps more move.at move.step move.there;
+      takes = move.takes;
+      puts = move.puts;
+      taken_before = ap (λ l. taken_from l from) front ∙ move.taken_before;
+      put_before = ap (count_by (puts_into plan to)) front ∙ move.put_before;
+    })
+
+-- what a step takes enters the next place behind what entered it before
+pub entry_moves : (plan : Plan) (emissions : ℕ → List Note) (steps : List Step) (s : Step) (from to : Place) (item : Item) → source s ≡ Some from → next_place plan from ≡ Some to →
+    IsEntry plan emissions (steps ++ s ∷ []) from (taken_from steps from) item → IsEntry plan emissions (steps ++ s ∷ []) to (count_by (puts_into plan to) steps) item
+entry_moves plan emissions steps s from to item takes puts entry =
+    let front : take (length steps) (steps ++ s ∷ []) ≡ steps = take_at steps (s ∷ []) (length steps) refl in
+    Moved entry (record {
+      at = length steps;
+      step = s;
+      there = get_behind steps s [];
+      takes = takes;
+      puts = puts;
+      taken_before = ap (λ l. taken_from l from) front;
+      put_before = ap (count_by (puts_into plan to)) front;
+    })
+
+-- what a step that moves this item does to a place
+pub record IsStirred (plan : Plan) (s : Step) (item : Item) (x : Place) (old new : Held) : Type 0 where
+  pub items : item_if (takes_from x s) item ++ new.items ≡ old.items ++ item_if (puts_into plan x s) item
+  pub room : new.room ≡ old.room
+  pub fits : puts_into plan x s ≡ true → length old.items < old.room
+
+module _ (plan : Plan) (s : Step) (item : Item) (x : Place) (old new : Held) (same_room : new.room ≡ old.room) where
+  pub gains : takes_from x s ≡ false → puts_into plan x s ≡ true → new.items ≡ old.items ++ item ∷ [] → length old.items < old.room → IsStirred plan s item x old new
+  gains takes puts items fits = record { items = rw (takes, puts) items; room = same_room; fits = λ yes. fits }
+
+  pub loses : (left : List Item) → takes_from x s ≡ true → puts_into plan x s ≡ false → old.items ≡ item ∷ left → new.items ≡ left → IsStirred plan s item x old new
+  loses left takes puts first items = record {
+    items = rw (takes, puts) (ap (λ l. item ∷ l) items ∙ sym first ∙ sym (append-nil old.items));
+    room = same_room;
+    fits = λ yes. absurd (true≢false (sym yes ∙ puts));
+  }
+
+  pub stays : takes_from x s ≡ false → puts_into plan x s ≡ false → new.items ≡ old.items → IsStirred plan s item x old new
+  stays takes puts items = record {
+    items = rw (takes, puts) (items ∙ sym (append-nil old.items));
+    room = same_room;
+    fits = λ yes. absurd (true≢false (sym yes ∙ puts));
+  }
+
+pub held_after : (plan : Plan) (steps : List Step) (s : Step) (put more : ℕ → List Note) (item : Item) (x : Place) (old new : Held) →
+    ((p i : ℕ) (note : Note) → slice_get (put p) i ≡ Some note → slice_get (more p) i ≡ Some note) →
+    (puts_into plan x s ≡ true → IsEntry plan more (steps ++ s ∷ []) x (count_by (puts_into plan x) steps) item) →
+    IsStirred plan s item x old new → IsHeldAt plan steps put x old → IsHeldAt plan (steps ++ s ∷ []) more x new
+held_after plan steps s put more item x old new grow entry stirred is = record {
+  room = stirred.room ∙ is.room;
+  within = ⊎_elim
+      (λ (yes : puts_into plan x s ≡ true). omega (arith, lengths, stirred.room, stirred.fits yes, ap bit yes))
+      (λ (no : puts_into plan x s ≡ false). omega (arith, lengths, stirred.room, is.within, ap bit no))
+      (cases_Bool (puts_into plan x s));
+  count = omega (arith, lengths, is.count, count_push (takes_from x) steps s, count_push (puts_into plan x) steps s);
+  entries = λ i y at.
+      let there : slice_get (old.items ++ item_if (puts_into plan x s) item) (bit (takes_from x s) + i) ≡ Some y =
+      ap (λ l. slice_get l (bit (takes_from x s) + i)) (sym stirred.items)
+      ∙ ap (λ k. slice_get (item_if (takes_from x s) item ++ new.items) (k + i)) (sym (length_if (takes_from x s) item))
+      ∙ get_beyond (item_if (takes_from x s) item) new.items i ∙ at in
+      ⊎_elim
+      (λ (old_one : bit (takes_from x s) + i < length old.items).
+      let was = is.entries (bit (takes_from x s) + i) y (sym (get_front old.items (item_if (puts_into plan x s) item) (bit (takes_from x s) + i) old_one) ∙ there) in
+      subst (λ k. IsEntry plan more (steps ++ s ∷ []) x k y) (omega (arith, count_push (takes_from x) steps s)) (entry_grows plan put more steps (s ∷ []) grow was))
+      (λ (new_one : length old.items ≤ bit (takes_from x s) + i).
+      let j : ℕ = bit (takes_from x s) + i - length old.items in
+      let split : bit (takes_from x s) + i ≡ length old.items + j = omega (arith, new_one) in
+      let found = get_if (puts_into plan x s) item y j (sym (get_beyond old.items (item_if (puts_into plan x s) item) j) ∙ ap (slice_get (old.items ++ item_if (puts_into plan x s) item)) (sym split) ∙ there) in
+      subst (λ z. IsEntry plan more (steps ++ s ∷ []) x (taken_from (steps ++ s ∷ []) x + i) z) found.2
+      (subst (λ k. IsEntry plan more (steps ++ s ∷ []) x k item) (omega (arith, split, found.1, is.count, count_push (takes_from x) steps s)) (entry found.0)))
+      (cases_lt (bit (takes_from x s) + i) (length old.items));
+}
+  where
+    lengths : bit (takes_from x s) + length new.items ≡ length old.items + bit (puts_into plan x s)
+    lengths = omega (arith, ap length stirred.items, length-append (item_if (takes_from x s) item) new.items, length-append old.items (item_if (puts_into plan x s) item), length_if (takes_from x s) item, length_if (puts_into plan x s) item)

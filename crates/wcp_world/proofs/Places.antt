@@ -1,0 +1,143 @@
+use Rattle.std.proofs.Common.{◌≡◌, ◌≢◌, ℕ, ◌+◌, ◌<◌, ◌≤◌, true, false, length, get_or, Option, None, Some, List, refl, sym, ap, subst, ◌∙◌, inl, inr, ⊎_elim, eqb-true, eq-eqb, true≢false, arith}
+use Rattle.std.proofs.lemmas.Bool.{eqb-false, cases_lt, cases_eq}
+use Rattle.std.proofs.lemmas.Option.{slice_get_within, slice_get_cases, slice_get-get_or, get_or_from_slice_get}
+use Rattle.std.specs.List.{slice_get}
+use Rattle.std.specs.Option.{option_map, option_flatten}
+use Rattle.wcp_model.specs.declared.plan.Parent.{Parent}
+use Rattle.wcp_model.specs.declared.plan.Parent.TheVariants.{Root, Relay}
+use Rattle.wcp_model.specs.declared.plan.Plan.{Plan}
+use Rattle.wcp_model.specs.declared.plan.PlanFault.TheVariants as fault
+use Rattle.wcp_model.specs.PlanFault.{IsCheckedPlan}
+use Rattle.wcp_model.specs.Tree.{leaf_of, parent_of}
+use Rattle.wcp_model.specs.Occupancy.{Place, Pending, Link, HoldOf, InboxOf, is_same_owner, is_same_place, next_place}
+use Rattle.wcp_world.specs.Transport.{IsPlaceOf, number_of}
+
+-- places that the test takes for one are one
+same_owner : (a b : Parent) → is_same_owner a b ≡ true → a ≡ b
+same_owner Root Root same = refl
+same_owner (Relay r) (Relay s) same = ap Relay (eqb-true r s same)
+same_owner a b same = absurd (true≢false (sym same))
+
+pub same_place : (x y : Place) → is_same_place x y ≡ true → x ≡ y
+same_place (Pending p) (Pending q) same = ap Pending (eqb-true p q same)
+same_place (Link p) (Link q) same = ap Link (eqb-true p q same)
+same_place (HoldOf r) (HoldOf s) same = ap HoldOf (eqb-true r s same)
+same_place (InboxOf a) (InboxOf b) same = ap InboxOf (same_owner a b same)
+same_place x y same = absurd (true≢false (sym same))
+
+pub itself : (x : Place) → is_same_place x x ≡ true
+itself (Pending p) = eq-eqb p p refl
+itself (Link p) = eq-eqb p p refl
+itself (HoldOf r) = eq-eqb r r refl
+itself (InboxOf Root) = refl
+itself (InboxOf (Relay r)) = eq-eqb r r refl
+
+-- places that are two have two numbers
+pub number_apart : (plan : Plan) (x y : Place) → IsPlaceOf plan x → IsPlaceOf plan y → is_same_place x y ≡ false → number_of plan x ≢ number_of plan y
+number_apart plan (Pending p) y is_x is_y apart = absurd is_x
+number_apart plan (Link p) (Pending q) is_x is_y apart = absurd is_y
+number_apart plan (Link p) (Link q) is_x is_y apart = eqb-false p q apart
+number_apart plan (Link p) (HoldOf s) is_x is_y apart = λ e. omega (arith, is_x, e)
+number_apart plan (Link p) (InboxOf Root) is_x is_y apart = λ e. omega (arith, is_x, e)
+number_apart plan (Link p) (InboxOf (Relay s)) is_x is_y apart = λ e. omega (arith, is_x, e)
+number_apart plan (HoldOf r) (Pending q) is_x is_y apart = absurd is_y
+number_apart plan (HoldOf r) (Link q) is_x is_y apart = λ e. omega (arith, is_y, e)
+number_apart plan (HoldOf r) (HoldOf s) is_x is_y apart = λ e. eqb-false r s apart (omega (arith, e))
+number_apart plan (HoldOf r) (InboxOf Root) is_x is_y apart = λ e. omega (arith, is_x, e)
+number_apart plan (HoldOf r) (InboxOf (Relay s)) is_x is_y apart = λ e. omega (arith, is_x, e)
+number_apart plan (InboxOf a) (Pending q) is_x is_y apart = absurd is_y
+number_apart plan (InboxOf Root) (Link q) is_x is_y apart = λ e. omega (arith, is_y, e)
+number_apart plan (InboxOf Root) (HoldOf s) is_x is_y apart = λ e. omega (arith, is_y, e)
+number_apart plan (InboxOf Root) (InboxOf Root) is_x is_y apart = absurd (true≢false apart)
+number_apart plan (InboxOf Root) (InboxOf (Relay s)) is_x is_y apart = λ e. omega (arith, e)
+number_apart plan (InboxOf (Relay r)) (Link q) is_x is_y apart = λ e. omega (arith, is_y, e)
+number_apart plan (InboxOf (Relay r)) (HoldOf s) is_x is_y apart = λ e. omega (arith, is_y, e)
+number_apart plan (InboxOf (Relay r)) (InboxOf Root) is_x is_y apart = λ e. omega (arith, e)
+number_apart plan (InboxOf (Relay r)) (InboxOf (Relay s)) is_x is_y apart = λ e. eqb-false r s apart (omega (arith, e))
+
+-- each place has its number among them
+pub number_within : (plan : Plan) (x : Place) → IsPlaceOf plan x → number_of plan x < plan.n + length plan.parents.items + 1 + length plan.parents.items
+number_within plan (Pending p) is_x = absurd is_x
+number_within plan (Link p) is_x = omega (arith, is_x)
+number_within plan (HoldOf r) is_x = omega (arith, is_x)
+number_within plan (InboxOf Root) is_x = omega arith
+number_within plan (InboxOf (Relay r)) is_x = omega (arith, is_x)
+
+-- what a value that was mapped was
+pub some_of : {A B : Type 0} (f : A → B) (o : Option A) (y : B) → option_map f o ≡ Some y → (x : A) × (o ≡ Some x) × (f x ≡ y)
+some_of f None y e = cc
+some_of f (Some x) y e = (x, refl, cc)
+
+module _ (plan : Plan) (checked : IsCheckedPlan plan) where
+  -- the limits of a checked plan
+  pub few_relays : length plan.parents.items ≤ 15
+  few_relays = ⊎_elim (λ (more : 15 < length plan.parents.items). absurd (checked fault.Parent (inl (inr more)))) (λ (le : length plan.parents.items ≤ 15). le) (cases_lt 15 (length plan.parents.items))
+
+  pub few_processes : plan.n ≤ 16
+  few_processes = ⊎_elim (λ (more : 16 < plan.n). absurd (checked fault.Procs (inr more))) (λ (le : plan.n ≤ 16). le) (cases_lt 16 plan.n)
+
+  -- the parent of a relay is lower
+  pub parent_below : (relay above : ℕ) → parent_of plan relay ≡ Some (Relay above) → above < relay
+  parent_below relay above at = ⊎_elim (λ (less : above < relay). less) (λ (wrong : relay ≤ above). absurd (checked fault.Parent (inr (relay, above, at, wrong)))) (cases_lt above relay)
+
+  attached_all : length plan.attach.items ≡ plan.n
+  attached_all = ⊎_elim (λ (same : length plan.attach.items ≡ plan.n). same) (λ (other : length plan.attach.items ≢ plan.n). absurd (checked fault.Unattached (inl other))) (cases_eq (length plan.attach.items) plan.n)
+
+  -- what is attached exists
+  pub attached_exists : (p relay : ℕ) → leaf_of plan p ≡ Some relay → (p < plan.n) × (relay < length plan.parents.items)
+  attached_exists p relay is = ⊎_elim
+      (λ here. served here.0 here.2 (rw here.2 at is))
+      (λ past. absurd (none_served (rw past.1 at is)))
+      (slice_get_cases plan.attach.items p).1
+    where
+      none_served : None ≡ Some relay → ⊥
+      none_served e = cc
+
+      served : (entry : Option ℕ) → slice_get plan.attach.items p ≡ Some entry → entry ≡ Some relay → (p < plan.n) × (relay < length plan.parents.items)
+      served entry at same =
+          let within : p < length plan.attach.items = slice_get_within plan.attach.items p entry at in
+          let there : slice_get plan.attach.items p ≡ Some (Some relay) = at ∙ ap Some same in (
+            omega (arith, within, attached_all),
+            ⊎_elim (λ (lt : relay < length plan.parents.items). lt)
+                (λ (none : length plan.parents.items ≤ relay). absurd (checked fault.Unattached (inr (p, Some relay, within, get_or_from_slice_get plan.attach.items p (Some relay) (Some relay) there, none))))
+                (cases_lt relay (length plan.parents.items)),
+          )
+
+  -- each process is attached
+  pub leaf_exists : (p : ℕ) → p < plan.n → (relay : ℕ) × (leaf_of plan p ≡ Some relay)
+  leaf_exists p in_range =
+      let within : p < length plan.attach.items = omega (arith, attached_all) in
+      named (get_or plan.attach.items p None) within refl (slice_get-get_or plan.attach.items p None within)
+    where
+      named : (entry : Option ℕ) → p < length plan.attach.items → get_or plan.attach.items p None ≡ entry → slice_get plan.attach.items p ≡ Some (get_or plan.attach.items p None) → (relay : ℕ) × (leaf_of plan p ≡ Some relay)
+      named None within is at = absurd (checked fault.Unattached (inr (p, None, within, is, tt)))
+      named (Some relay) within is at = (relay, ap option_flatten (at ∙ ap Some is))
+
+  -- the numbers of a checked plan are within their limits
+  pub within_limits : (0 < plan.n) × (0 < plan.cap) × (plan.cap ≤ 1024) × (0 < plan.hold) × (plan.hold ≤ 1024)
+  within_limits = (
+    from_some plan.n (λ none. checked fault.Procs (inl (omega (arith, none)))),
+    from_some plan.cap (λ none. checked fault.Cap (inl (omega (arith, none)))),
+    ⊎_elim (λ (more : 1024 < plan.cap). absurd (checked fault.Cap (inr more))) (λ (le : plan.cap ≤ 1024). le) (cases_lt 1024 plan.cap),
+    from_some plan.hold (λ none. checked fault.Hold (inl (omega (arith, none)))),
+    ⊎_elim (λ (more : 64 < plan.hold). absurd (checked fault.Hold (inr more))) (λ (le : plan.hold ≤ 64). omega (arith, le)) (cases_lt 64 plan.hold),
+  )
+    where
+      from_some : (k : ℕ) → (k ≡ 0 → ⊥) → 0 < k
+      from_some k some = omega (arith, some)
+
+  -- the place after a place is a place
+  pub next_is_place : (x y : Place) → next_place plan x ≡ Some y → IsPlaceOf plan x → IsPlaceOf plan y
+  next_is_place (Pending p) y next is = absurd is
+  next_is_place (Link p) y next is =
+      let leaf = some_of HoldOf (leaf_of plan p) y next in
+      subst (IsPlaceOf plan) leaf.2 (attached_exists p leaf.0 leaf.1).1
+  next_is_place (HoldOf r) y next is =
+      let parent = some_of InboxOf (parent_of plan r) y next in
+      subst (IsPlaceOf plan) parent.2 (inbox parent.0 parent.1)
+    where
+      inbox : (owner : Parent) → parent_of plan r ≡ Some owner → IsPlaceOf plan (InboxOf owner)
+      inbox Root at = tt
+      inbox (Relay above) at = omega (arith, parent_below r above at, is)
+  next_is_place (InboxOf Root) y next is = absurd (cc next)
+  next_is_place (InboxOf (Relay r)) y next is = let same : HoldOf r ≡ y = cc next in subst (IsPlaceOf plan) same is

@@ -1,0 +1,32 @@
+use Rattle.std.proofs.Common.{◌≡◌, ◌+◌, ◌++◌, length, replicate, sym, ap, ap₂, ◌∙◌}
+use Rattle.wcp_hold.specs.Held.{empty_hold}
+use Rattle.wcp_world.proofs.Places.{within_limits}
+use Rattle.wcp_world.proofs.EmptyPlaces.{fresh_stands}
+use Rattle.wcp_world.proofs.transport.Transport.new.Goals as goal
+
+pub add_places-requires-clause-some : goal.add_places-requires-clause-some
+add_places-requires-clause-some c = (within_limits c.args.plan.now c.requires).1
+
+pub add_places-requires-clause-within : goal.add_places-requires-clause-within
+add_places-requires-clause-within c = (within_limits c.args.plan.now c.requires).2
+
+pub add_places-requires-2-clause-some : goal.add_places-requires-2-clause-some
+add_places-requires-2-clause-some c = (within_limits c.args.plan.now c.requires).3
+
+pub add_places-requires-2-clause-within : goal.add_places-requires-2-clause-within
+add_places-requires-2-clause-within c = (within_limits c.args.plan.now c.requires).4
+
+pub add_places-requires-3-clause-some : goal.add_places-requires-3-clause-some
+add_places-requires-3-clause-some c = (within_limits c.args.plan.now c.requires).1
+
+pub add_places-requires-3-clause-within : goal.add_places-requires-3-clause-within
+add_places-requires-3-clause-within c = (within_limits c.args.plan.now c.requires).2
+
+pub returns : goal.returns
+returns c =
+    let plan = c.args.plan.now in
+    let relays : c.len-relays.result ≡ length plan.parents.items = c.len-relays.ensures ∙ plan.parents.ok.0 in
+    let links = c.in_ok-add_places.ensures ∙ ap (λ l. l ++ replicate plan.n (empty_hold plan.cap)) c.new-places.ensures.items in
+    let holds = c.in_ok-add_places-2.ensures ∙ ap₂ (λ l k. l ++ replicate k (empty_hold plan.hold)) links relays in
+    let inboxes = c.in_ok-add_places-3.ensures ∙ ap₂ (λ l k. l ++ replicate (k + 1) (empty_hold plan.cap)) holds relays in
+    fresh_stands plan _ c.requires c.in_ok-copy.ensures inboxes

@@ -1,0 +1,180 @@
+ghost use Rattle.std.specs.Prelude.{◌≡◌, ℕ, ◌+◌, ◌<◌, ◌≤◌, [], ◌++◌, length, replicate, IsSome, IfOk, OnOk};
+ghost use Rattle.wcp_model.specs.declared.plan.Plan.{Plan};
+ghost use Rattle.wcp_model.specs.declared.step.Step.TheVariants as step;
+ghost use Rattle.wcp_model.specs.Occupancy.{InboxOf};
+ghost use Rattle.wcp_model.specs.PlanFault.{IsCheckedPlan};
+ghost use Rattle.wcp_hold.specs.Held.{empty_hold};
+ghost use Rattle.wcp_world.specs.Answer.{KeepsIfRefused};
+ghost use Rattle.wcp_world.specs.Shifting.{Shifts};
+ghost use Rattle.wcp_world.specs.Transport.{number_of};
+
+use std::alloc::{AllocError, Global};
+use std::marker::Model;
+use wcp_clock::{Item, Note};
+use wcp_hold::Hold;
+use wcp_model::{Parent, Plan, Reply, Why};
+
+/// The tree of relays of a plan: the links, the holds and the inboxes. A contract sees its plan and
+/// what each place holds.
+#[derive(Drop)]
+pub struct Transport {
+    plan: Plan,
+    /// The links, the holds, the root inbox and the relays' inboxes.
+    places: Vec<Hold>,
+}
+
+impl Model for Transport {
+    ghost use Rattle.wcp_world.specs.Transport.{TransportState};
+
+    ghost Value = { TransportState };
+
+    ghost view = { λ t. record { plan = t.plan; places = t.places.items } };
+}
+
+impl Transport {
+    ghost use Rattle.wcp_world.specs.Transport.{IsTransportOf, IsConveying, Conveys, ReadsNext, TakesNext, Puts, AreNeighbours, next_of};
+
+    /// The transport of a plan, before any step. `Err` where memory runs out.
+    pub fn new(alloc: Global, plan: &Plan) -> Result<Transport, AllocError>
+        requires { IsCheckedPlan plan.now }
+        ensures { IfOk result (λ transport. IsTransportOf plan.now [] (λ p. []) [] transport) }
+    {
+        let relays = plan.parents.len();
+        let mut places = Vec::new(alloc);
+        add_places(alloc, &mut places, plan.n as usize, plan.cap)?;
+        add_places(alloc, &mut places, relays, plan.hold)?;
+        add_places(alloc, &mut places, relays + 1, plan.cap)?;
+        Ok(Transport {
+            plan: plan.copy(alloc)?,
+            places,
+        })
+    }
+
+    /// Puts a note of process `p` on its link, if that has room.
+    pub fn put(&mut self, p: u32, note: Note) -> Reply
+        requires conveying { IsConveying self.old }
+        requires process { p < self.old.plan.n }
+        ensures answered { Puts self.old p note result self.new }
+        ensures refused { KeepsIfRefused self.old result self.new }
+    {
+        match self.places[p as usize].push(Item { from: p, note }) {
+            Ok(()) => Reply::Done,
+            Err(_) => Reply::Refused(Why::Full),
+        }
+    }
+
+    /// A relay takes a note from the link of process `p` into its hold.
+    pub fn admit(&mut self, relay: u32, p: u32) -> Reply
+        requires { IsConveying self.old }
+        ensures answered { Conveys self.old (step.Admit relay p) result self.new }
+        ensures refused { KeepsIfRefused self.old result self.new }
+    {
+        if !self.plan.is_attached(relay, p) {
+            return Reply::Refused(Why::NoSuch);
+        }
+        let to = self.hold(relay);
+        self.convey(p as usize, to)
+    }
+
+    /// A relay takes an item from its inbox into its hold.
+    pub fn pull(&mut self, relay: u32) -> Reply
+        requires { IsConveying self.old }
+        ensures answered { Conveys self.old (step.Pull relay) result self.new }
+        ensures refused { KeepsIfRefused self.old result self.new }
+    {
+        if relay as usize >= self.plan.parents.len() || self.plan.is_leaf(relay) {
+            return Reply::Refused(Why::NoSuch);
+        }
+        let from = self.inbox(Parent::Relay(relay));
+        let to = self.hold(relay);
+        self.convey(from, to)
+    }
+
+    /// A relay passes an item from its hold to its parent's inbox.
+    pub fn pass(&mut self, relay: u32) -> Reply
+        requires { IsConveying self.old }
+        ensures answered { Conveys self.old (step.Pass relay) result self.new }
+        ensures refused { KeepsIfRefused self.old result self.new }
+    {
+        let Some(parent) = self.plan.parent_of(relay) else {
+            return Reply::Refused(Why::NoSuch);
+        };
+        let from = self.hold(relay);
+        let to = self.inbox(parent);
+        self.convey(from, to)
+    }
+
+    /// The item that the checker may take next.
+    pub fn next(&self) -> Option<Item>
+        requires { IsConveying self.now }
+        ensures next { result ≡ next_of self.now }
+        ensures reads { ReadsNext self.now result }
+    {
+        self.places[self.inbox(Parent::Root)].front()
+    }
+
+    /// The checker takes the next item from the root inbox.
+    pub fn take_next(&mut self)
+        requires conveying { IsConveying self.old }
+        requires some { IsSome (next_of self.old) }
+        ensures { TakesNext self.old self.new }
+    {
+        let root = self.inbox(Parent::Root);
+        let _ = self.places[root].pop();
+    }
+
+    /// The first item of one place moves to the next, where there is one and room for it.
+    fn convey(&mut self, from: usize, to: usize) -> Reply
+        requires conveying { IsConveying self.old }
+        requires next { AreNeighbours self.old from to }
+        ensures moved { Shifts self.old.places from to result self.new.places }
+        ensures plan { self.new.plan ≡ self.old.plan }
+    {
+        let Some(item) = self.places[from].front() else {
+            return Reply::Refused(Why::Empty);
+        };
+        match self.places[to].push(item) {
+            Ok(()) => {
+                let _ = self.places[from].pop();
+                Reply::Done
+            }
+            Err(_) => Reply::Refused(Why::Full),
+        }
+    }
+
+    /// The number of a relay's hold among the places.
+    fn hold(&self, relay: u32) -> usize
+        ensures { result ≡ self.now.plan.n + relay }
+    {
+        self.plan.n as usize + relay as usize
+    }
+
+    /// The number of an inbox among the places.
+    fn inbox(&self, owner: Parent) -> usize
+        requires { length self.now.plan.parents.items ≤ 15 }
+        ensures { result ≡ number_of self.now.plan (InboxOf owner) }
+    {
+        let root = self.plan.n as usize + self.plan.parents.len();
+        match owner {
+            Parent::Root => root,
+            Parent::Relay(relay) => root + 1 + relay as usize,
+        }
+    }
+}
+
+/// Adds empty places with this room at the end.
+fn add_places(
+    alloc: Global,
+    places: &mut Vec<Hold>,
+    count: usize,
+    room: u32,
+) -> Result<(), AllocError>
+    requires some { 0 < room }
+    requires within { room ≤ 1024 }
+    ensures { OnOk result (places.new.items ≡ places.old.items ++ replicate count (empty_hold room)) }
+{
+    for _ in 0..count {
+        places.push(Hold::new(alloc, room)?)?;
+    }
+    Ok(())
+}
