@@ -1,4 +1,4 @@
-use Rattle.std.proofs.Common.{◌≡◌, ℕ, zero, suc, ◌<◌, ◌≤◌, Bool, true, false, not, ◌||◌, nat_lt, nat_le, cond, Option, None, Some, MatchOption, List, [], ◌∷◌, ◌++◌, length, take, slice_get, count_by, if◌then◌else◌, refl, sym, ap, ◌∙◌, subst, ⊎_elim, append_assoc, append-nil, eqb-true, true≢false, arith}
+use Rattle.std.proofs.Common.{◌≡◌, ℕ, zero, suc, ◌<◌, ◌≤◌, Bool, true, false, not, ◌||◌, nat_lt, cond, Option, None, Some, MatchOption, List, [], ◌∷◌, ◌++◌, length, slice_get, count_by, if◌then◌else◌, refl, sym, ap, ◌∙◌, subst, ⊎_elim, append_assoc, append-nil, eqb-true, true≢false, arith}
 use Rattle.std.proofs.lemmas.Bool.{cases_lt, cond_both, not-false, or_parts}
 use Rattle.std.proofs.lemmas.Grind.{flat_map-append}
 use Rattle.std.proofs.lemmas.List.{take_at}

@@ -1,4 +1,4 @@
-use Rattle.std.proofs.Common.{◌≡◌, ℕ, ◌<◌, ◌≤◌, Bool, true, false, List, [], ◌∷◌, ◌++◌, length, slice_get, count_by, Some, sym, refl, ap, ◌∙◌, ⊎_elim, eqb-true, eq-eqb, true≢false, arith}
+use Rattle.std.proofs.Common.{◌≡◌, ℕ, ◌<◌, ◌≤◌, true, false, [], ◌∷◌, ◌++◌, length, slice_get, count_by, Some, sym, refl, ap, ◌∙◌, ⊎_elim, eqb-true, eq-eqb, true≢false, arith}
 use Rattle.std.specs.List.{Any}
 use Rattle.std.proofs.lemmas.Bool.{cases_lt, false_from_ne_true}
 use Rattle.std.proofs.lemmas.List.{length_push, take_at}
@@ -6,10 +6,10 @@ use Rattle.std.proofs.lemmas.List.Folds.{list_any_at, Any-from_list_any}
 use Rattle.std.proofs.lemmas.Option.{slice_get_within, slice_get-get_or, get_or_from_slice_get}
 use Rattle.wcp_model.specs.declared.step.Step.{Step}
 use Rattle.wcp_model.specs.declared.step.Step.TheVariants.{Observe, Recv, Close}
-use Rattle.wcp_model.specs.Computation.{Computation, IsTrueState, is_send, message_at}
+use Rattle.wcp_model.specs.Computation.{Computation, is_send, message_at}
 use Rattle.wcp_model.specs.Emission.{is_close_of, is_closed}
 use Rattle.wcp_model.specs.ProbeLog.{is_step_of, IsAccepted}
-use Rattle.wcp_model.proofs.Growth.{get_front, get_behind, at_grows, count_front, message_grows}
+use Rattle.wcp_model.proofs.Growth.{get_front, get_behind, at_grows, message_grows, true_state_of_front}
 use Rattle.wcp_model.proofs.Predecessors.{local_state}
 use Rattle.wcp_model.proofs.RunningEmissions.{NoneNew}
 
@@ -33,11 +33,7 @@ close_stands c p closed =
 pub none_new_after_close : (c e : Computation) (p : ℕ) → IsAccepted (c ++ e) → is_closed c p ≡ true → NoneNew c e p
 none_new_after_close c e p accepted closed k is =
     let close : (place : ℕ) × (place < length c) × (slice_get c place ≡ Some (Close p)) = close_stands c p closed in
-    ⊎_elim (λ (lt : is.place < length c). record {
-      place = is.place;
-      observed = sym (get_front c e is.place lt) ∙ is.observed;
-      within = sym (count_front _ c e is.place (omega arith)) ∙ is.within;
-    })
+    ⊎_elim (λ (lt : is.place < length c). true_state_of_front c e (local_state p k) is lt)
     (λ (ge : length c ≤ is.place).
     absurd (true≢false (sym (eq-eqb p p refl) ∙ accepted.close_last close.0 is.place p (Observe p true) (omega (arith, close.1)) (at_grows c e close.0 (Close p) close.2) is.observed)))
     (cases_lt is.place (length c))

@@ -1,10 +1,10 @@
 use Rattle.std.specs.Prelude.{slice_index}
-use Rattle.std.proofs.Common.{◌≡◌, ℕ, ◌+◌, ◌<◌, ◌≤◌, min, List, ◌++◌, ap, sym, ◌∙◌, subst, ⊎_elim, arith}
+use Rattle.std.proofs.Common.{◌≡◌, ℕ, ◌<◌, ◌≤◌, min, List, ◌++◌, ap, sym, ◌∙◌, subst, ⊎_elim, arith}
 use Rattle.std.proofs.lemmas.Bool.{cases_lt}
 use Rattle.std.proofs.lemmas.Grind.{flat_map-append}
 use Rattle.std.proofs.lemmas.List.Elements.{filter-append}
 use Rattle.wcp_model.specs.Computation.{Computation, IsTrueState}
-use Rattle.wcp_model.specs.Cut.{member, minimum, IsSatisfyingCut, IsLeastCut}
+use Rattle.wcp_model.specs.Cut.{member, minimum, IsSatisfyingCut}
 use Rattle.wcp_model.specs.Growth.{GrowsInto, GrowthLaw, EarlyFindLaw}
 use Rattle.wcp_model.specs.ProbeLog.{IsAccepted}
 use Rattle.wcp_model.specs.Replies.{Answered, accepted, is_event, computation}

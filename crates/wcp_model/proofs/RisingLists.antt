@@ -1,6 +1,5 @@
-use Rattle.std.proofs.Common.{◌≡◌, ℕ, zero, suc, ◌<◌, ◌≤◌, ◌⊎◌, List, [], ◌∷◌, ◌++◌, length, slice_index_or, Contains, refl, sym, ap₂, inl, inr, ⊎_elim, arith}
+use Rattle.std.proofs.Common.{◌≡◌, ℕ, zero, suc, ◌<◌, ◌≤◌, ◌⊎◌, List, [], ◌∷◌, ◌++◌, length, slice_index_or, Contains, refl, ap₂, inl, inr, ⊎_elim, arith}
 use Rattle.std.specs.List.{AllPairs}
-use Rattle.std.proofs.lemmas.List.{get_or_default}
 
 -- each number is below all later ones
 abbrev pub Rises : List ℕ → Type 0
@@ -41,13 +40,13 @@ rising_front (x ∷ xs) [] rise rises kept new = absurd (omega (arith, (kept x (
 rising_front (x ∷ xs) (y ∷ ys) rise rises kept new =
     let above : y ≤ x = at_least_first y ys x rises (kept x (first_within x xs)) in
     let below : x ≤ y = ⊎_elim (λ (old : Contains (x ∷ xs) y). at_least_first x xs y rise old)
-        (λ (late : (j : ℕ) → Contains (x ∷ xs) j → j ≤ y). late x (first_within x xs)) (new y (first_within y ys)) in
+    (λ (late : (j : ℕ) → Contains (x ∷ xs) j → j ≤ y). late x (first_within x xs)) (new y (first_within y ys)) in
     let same : y ≡ x = omega arith in
     let found : (rest : List ℕ) × (ys ≡ xs ++ rest) = rising_front xs ys (rest_rises x xs rise) (rest_rises y ys rises)
-        (λ k within. ⊎_elim (λ (first : y ≡ k). absurd (omega (arith, first_below x xs k rise within))) (λ (other : Contains ys k). other)
-        (first_or_other y ys k (kept k (other_within x xs k within))))
-        (λ k within. ⊎_elim
-        (λ (old : Contains (x ∷ xs) k). ⊎_elim (λ (first : x ≡ k). absurd (omega (arith, first_below y ys k rises within))) (λ (other : Contains xs k). inl other) (first_or_other x xs k old))
-        (λ (late : (j : ℕ) → Contains (x ∷ xs) j → j ≤ k). inr (λ j other. late j (other_within x xs j other)))
-        (new k (other_within y ys k within))) in
+    (λ k within. ⊎_elim (λ (first : y ≡ k). absurd (omega (arith, first_below x xs k rise within))) (λ (other : Contains ys k). other)
+    (first_or_other y ys k (kept k (other_within x xs k within))))
+    (λ k within. ⊎_elim
+    (λ (old : Contains (x ∷ xs) k). ⊎_elim (λ (first : x ≡ k). absurd (omega (arith, first_below y ys k rises within))) (λ (other : Contains xs k). inl other) (first_or_other x xs k old))
+    (λ (late : (j : ℕ) → Contains (x ∷ xs) j → j ≤ k). inr (λ j other. late j (other_within x xs j other)))
+    (new k (other_within y ys k within))) in
     (found.0, ap₂ (λ z zs. z ∷ zs) same found.1)
