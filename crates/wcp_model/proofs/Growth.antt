@@ -142,15 +142,17 @@ true_state_grows c e s is = record {
   within = interval_grows c e s.process is.place (Observe s.process true) is.observed ∙ is.within;
 }
 
+-- a state that an observation of the front makes true was true
+pub true_state_of_front : (c e : Computation) (s : State) (is : IsTrueState (c ++ e) s) → is.place < length c → IsTrueState c s
+true_state_of_front c e s is place = record {
+  place = is.place;
+  observed = sym (get_front c e is.place place) ∙ is.observed;
+  within = sym (count_front (is_communication_of s.process) c e is.place (omega arith)) ∙ is.within;
+}
+
 -- a state that was over becomes true no more
 pub true_state_shrinks : (c e : Computation) (s : State) → s.interval < communications c s.process → IsTrueState (c ++ e) s → IsTrueState c s
-true_state_shrinks c e s over is =
-    let place : is.place < length c = in_front (is_communication_of s.process) c e is.place (omega (arith, is.within)) in
-    record {
-      place = is.place;
-      observed = sym (get_front c e is.place place) ∙ is.observed;
-      within = sym (count_front (is_communication_of s.process) c e is.place (omega arith)) ∙ is.within;
-    }
+true_state_shrinks c e s over is = true_state_of_front c e s is (in_front (is_communication_of s.process) c e is.place (omega (arith, is.within)))
 
 -- the stamp of a message that the front sends is settled
 pub stamp_shrinks : (n : ℕ) (c e : Computation) (message : ℕ) (stamp : List ℕ) → message < count_by is_send c → IsStampOf n (c ++ e) message stamp → IsStampOf n c message stamp

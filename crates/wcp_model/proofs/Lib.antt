@@ -23,3 +23,8 @@ pub mod Turns
 pub mod PlanPaths
 pub mod FirstFault
 pub mod PlainPlans
+pub mod RisingLists
+pub mod AcceptedSteps
+pub mod EmissionFronts
+pub mod AcceptedReplies
+pub mod GrowthLaws

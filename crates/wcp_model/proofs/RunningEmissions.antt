@@ -14,7 +14,7 @@ use Rattle.wcp_model.specs.Emission.{is_closed, snapshots_from, AreEmissions}
 use Rattle.wcp_model.specs.StateClock.{IsStateClock}
 use Rattle.wcp_model.proofs.Predecessors.{local_state}
 use Rattle.wcp_model.proofs.Reached.{interval_at-le}
-use Rattle.wcp_model.proofs.Growth.{get_behind, clock_grows, true_state_grows, get_front, count_front}
+use Rattle.wcp_model.proofs.Growth.{get_behind, clock_grows, true_state_grows, true_state_of_front}
 
 -- the process is in its last interval at the end of the front
 pub interval_at_seam : (c e : Computation) (p : ℕ) → interval_at (c ++ e) p (length c) ≡ communications c p
@@ -27,22 +27,21 @@ true_state_exists c s is = omega (arith, is.within, interval_at-le c s.process i
 -- a state is true after one more step if it was before, or if the step is a true observation in it
 pub true_state_cases : (c : Computation) (x : Step) (s : State) → IsTrueState (c ++ x ∷ []) s → IsTrueState c s ⊎ ((x ≡ step.Observe s.process true) × (communications c s.process ≡ s.interval))
 true_state_cases c x s is =
-    ⊎_elim (λ (lt : is.place < length c). inl (record {
-      place = is.place;
-      observed = sym (get_front c (x ∷ []) is.place lt) ∙ is.observed;
-      within = sym (count_front (is_communication_of s.process) c (x ∷ []) is.place (omega arith)) ∙ is.within;
-    }))
+    ⊎_elim (λ (lt : is.place < length c). inl (true_state_of_front c (x ∷ []) s is lt))
     (λ (ge : length c ≤ is.place).
     let last : is.place ≡ length c = omega (arith, slice_get_within (c ++ x ∷ []) is.place (step.Observe s.process true) is.observed, length_push c x) in
     inr (cc (get_behind c x [], is.observed, ap (slice_get (c ++ x ∷ [])) last), sym (interval_at_seam c (x ∷ []) s.process) ∙ ap (interval_at (c ++ x ∷ []) s.process) (sym last) ∙ is.within))
     (cases_lt is.place (length c))
 
--- the snapshots from a number on, and one more
+-- the snapshots of clocks and of more clocks, from a number on
+pub snapshots_append : (number : ℕ) (clocks others : List (List ℕ)) → snapshots_from number (clocks ++ others) ≡ snapshots_from number clocks ++ snapshots_from (number + length clocks) others
+snapshots_append number [] others = ap (λ k. snapshots_from k others) (omega arith)
+snapshots_append number (clock ∷ clocks) others =
+    ap (λ notes. note.Snap number clock ∷ notes) (snapshots_append (number + 1) clocks others ∙ ap (λ k. snapshots_from (number + 1) clocks ++ snapshots_from k others) (omega arith))
+
+-- and of one more
 pub snapshots_push : (number : ℕ) (clocks : List (List ℕ)) (clock : List ℕ) → snapshots_from number (clocks ++ clock ∷ []) ≡ snapshots_from number clocks ++ note.Snap (number + length clocks) clock ∷ []
-snapshots_push number [] clock = ap (λ k. note.Snap k clock ∷ []) (omega arith)
-snapshots_push number (first ∷ clocks) clock =
-    ap (λ notes. note.Snap number first ∷ notes) (snapshots_push (number + 1) clocks clock
-    ∙ ap (λ k. snapshots_from (number + 1) clocks ++ note.Snap k clock ∷ []) (omega arith))
+snapshots_push number clocks clock = snapshots_append number clocks (clock ∷ [])
 
 -- what a process has emitted, and how many of these notes are snapshots
 pub record HasEmitted (n : ℕ) (c : Computation) (p snapshots : ℕ) (notes : List Note) : Type 0 where

@@ -1,10 +1,9 @@
 use Rattle.std.proofs.Common.{◌≡◌, ℕ, ◌+◌, ◌<◌, ◌↔◌, IsTrue, Bool, true, false, true≢false, cond, ◌||◌, List, [], ◌∷◌, ◌++◌, length, fold, filter, slice_get, slice_index, slice_set, count_by, Some, refl, sym, ap, ◌∙◌, subst, inl, inr, ⊎_elim, append_assoc, append-nil, eqb-true, eq-eqb, le_refl, ◌≤◌, arith}
 use Rattle.std.proofs.lemmas.Bool.{cases_Bool, cases_lt, cond_both, false_from_ne_true}
 use Rattle.std.proofs.lemmas.List.{take_at}
-use Rattle.std.proofs.lemmas.List.Folds.{list_any-append, Any-from_list_any}
+use Rattle.std.proofs.lemmas.List.Folds.{list_any-append}
 use Rattle.std.proofs.lemmas.List.Sums.{sum_by_push}
-use Rattle.std.proofs.lemmas.Option.{slice_get-get_or, slice_get_within}
-use Rattle.std.specs.List.{Any}
+use Rattle.std.proofs.lemmas.Option.{slice_get_within}
 use Rattle.wcp_clock.specs.Merge.{merged}
 use Rattle.wcp_clock.specs.declared.note.Note.TheVariants as note
 use Rattle.wcp_model.specs.declared.step.Step.{Step}
@@ -14,6 +13,7 @@ use Rattle.wcp_model.specs.Emission.{is_close_of, is_closed}
 use Rattle.wcp_model.specs.Order.{IsMessage}
 use Rattle.wcp_model.specs.ProbeLog.{Call, Observed, Sent, Received, Closed, ProbeState, after_call, state_of_log, is_step_of, IsStampOf, IsCallOf, AreCallsOf, IsAccepted, LogLaw}
 use Rattle.wcp_model.specs.StateClock.{IsStateClock}
+use Rattle.wcp_model.proofs.AcceptedSteps.{close_stands}
 use Rattle.wcp_model.proofs.EventPlaces.{event_of_send, event_below}
 use Rattle.wcp_model.proofs.Predecessors.{local_state}
 use Rattle.wcp_model.proofs.Growth.{get_behind, at_grows, interval_grows, message_grows, clock_grows, stamp_shrinks, true_state_grows}
@@ -174,13 +174,8 @@ passes_by n c x p s other h = stays n c x p s refl refl (none_new c x p (λ e. c
 -- a process that has another step was open
 was_open : (n : ℕ) (c e : Computation) (x : Step) (p : ℕ) → IsAccepted (c ++ x ∷ e) → is_step_of p x ≡ true → is_closed c p ≡ false
 was_open n c e x p accepted own = false_from_ne_true (is_closed c p) (λ closed.
-    let found : Any (λ y. is_close_of p y ≡ true) c = Any-from_list_any (is_close_of p) c closed in
-    let at : slice_get c found.0 ≡ Some (Close p) = slice_get-get_or c found.0 found.1 found.2 ∙ ap Some (found.3 ∙ close_is p found.1 found.4) in
-    true≢false (sym own ∙ accepted.close_last found.0 (length c) p x found.2 (at_grows c (x ∷ e) found.0 (Close p) at) (get_behind c x e)))
-  where
-    close_is : (p : ℕ) (y : Step) → is_close_of p y ≡ true → y ≡ Close p
-    close_is p (Close q) h = ap Close (eqb-true q p h)
-    close_is p y h = absurd (true≢false (sym h))
+    let close : (place : ℕ) × (place < length c) × (slice_get c place ≡ Some (Close p)) = close_stands c p closed in
+    true≢false (sym own ∙ accepted.close_last close.0 (length c) p x close.1 (at_grows c (x ∷ e) close.0 (Close p) close.2) (get_behind c x e)))
 
 -- a message that is received was sent
 was_sent : (n : ℕ) (c e : Computation) (p message : ℕ) → IsAccepted (c ++ Recv p message ∷ e) → message < count_by is_send c

@@ -12,3 +12,4 @@ pub mod Tree
 pub mod Occupancy
 pub mod Replies
 pub mod Taken
+pub mod Growth

@@ -5,6 +5,7 @@
 mod clock_laws;
 mod cut_laws;
 mod fit_orders;
+mod growth_laws;
 mod outcome;
 mod plain;
 mod plan;
@@ -16,6 +17,7 @@ mod workload;
 pub use clock_laws::{clock_law, states_have_clocks};
 pub use cut_laws::{least_cut_law, minimum_law};
 pub use fit_orders::fit_order_law;
+pub use growth_laws::{early_find_law, growth_law};
 pub use outcome::{GlobalCut, Outcome, Report, Tallies, Tally};
 pub use plain::{happened_before, is_satisfying_cut, is_true_state};
 pub use plan::{Parent, Plan, PlanFault, plain_plan};

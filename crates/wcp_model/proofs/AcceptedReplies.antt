@@ -1,0 +1,100 @@
+use Rattle.std.proofs.Common.{◌≡◌, ℕ, zero, suc, ◌<◌, ◌≤◌, Bool, true, false, not, ◌||◌, nat_lt, cond, Option, None, Some, MatchOption, List, [], ◌∷◌, ◌++◌, length, slice_get, count_by, if◌then◌else◌, refl, sym, ap, ◌∙◌, subst, ⊎_elim, append_assoc, append-nil, eqb-true, true≢false, arith}
+use Rattle.std.proofs.lemmas.Bool.{cases_lt, cond_both, not-false, or_parts}
+use Rattle.std.proofs.lemmas.Grind.{flat_map-append}
+use Rattle.std.proofs.lemmas.List.{take_at}
+use Rattle.std.proofs.lemmas.List.Elements.{filter-append}
+use Rattle.std.proofs.lemmas.List.Sums.{sum_by-cons}
+use Rattle.std.proofs.lemmas.Option.{none-some, same_Some, slice_get_past}
+use Rattle.wcp_model.specs.declared.plan.Plan.{Plan}
+use Rattle.wcp_model.specs.declared.step.Step.{Step}
+use Rattle.wcp_model.specs.declared.step.Step.TheVariants as step
+use Rattle.wcp_model.specs.declared.step.Reply.{Reply}
+use Rattle.wcp_model.specs.declared.step.Reply.TheVariants as reply
+use Rattle.wcp_model.specs.declared.step.Why.{Why}
+use Rattle.wcp_model.specs.declared.step.Why.TheVariants as why
+use Rattle.wcp_model.specs.Computation.{Computation, is_send}
+use Rattle.wcp_model.specs.Emission.{is_closed}
+use Rattle.wcp_model.specs.Occupancy.{Pending, notes_in}
+use Rattle.wcp_model.specs.ProbeLog.{is_step_of, IsAccepted}
+use Rattle.wcp_model.specs.Replies.{Answered, accepted_by, accepted, is_event, computation, receivers, was_sent_to, reasons, event_reasons, move_reasons, first_of_reasons, IsAcceptance, IsReply, AreReplies}
+use Rattle.wcp_model.proofs.AcceptedSteps.{accepted_push}
+use Rattle.wcp_model.proofs.Growth.{get_behind}
+
+-- there are as many receivers as sends
+pub length-receivers : (c : Computation) → length (receivers c) ≡ count_by is_send c
+length-receivers [] = refl
+length-receivers (step.Send p to ∷ c) = ap suc (length-receivers c) ∙ sym (sum_by-cons (λ x. cond (is_send x) 1 0) (step.Send p to) c ∙ omega arith)
+length-receivers (step.Observe p holds ∷ c) = length-receivers c ∙ sym (sum_by-cons (λ x. cond (is_send x) 1 0) (step.Observe p holds) c ∙ omega arith)
+length-receivers (step.Recv p message ∷ c) = length-receivers c ∙ sym (sum_by-cons (λ x. cond (is_send x) 1 0) (step.Recv p message) c ∙ omega arith)
+length-receivers (step.Close p ∷ c) = length-receivers c ∙ sym (sum_by-cons (λ x. cond (is_send x) 1 0) (step.Close p) c ∙ omega arith)
+length-receivers (s ∷ c) = length-receivers c ∙ sym (sum_by-cons (λ x. cond (is_send x) 1 0) s c ∙ omega arith)
+
+-- a message that was sent to a process was sent
+sent_to : (c : Computation) (message p : ℕ) → was_sent_to c message p ≡ true → message < count_by is_send c
+sent_to c message p sent = ⊎_elim
+    (λ (lt : message < length (receivers c)). omega (arith, length-receivers c))
+    (λ (ge : length (receivers c) ≤ message). absurd (true≢false (sym (rw (slice_get_past (receivers c) message ge) at sent))))
+    (cases_lt message (length (receivers c)))
+
+-- where no reason is given, none of them holds
+none_holds : (list : List (Bool × Why)) (i : ℕ) (reason : Bool × Why) → slice_get list i ≡ Some reason → first_of_reasons list ≡ None → reason.0 ≡ false
+none_holds [] i reason at none = cc at
+none_holds (first ∷ list) i reason at none = go first.0 refl none i at (λ k. none_holds list k reason)
+  where
+    go : (holds : Bool) → first.0 ≡ holds → (if holds then Some first.1 else first_of_reasons list) ≡ None → (i : ℕ) → slice_get (first ∷ list) i ≡ Some reason →
+        ((k : ℕ) → slice_get list k ≡ Some reason → first_of_reasons list ≡ None → reason.0 ≡ false) → reason.0 ≡ false
+    go true is some i at later = cc some
+    go false is none zero at later = ap (λ (r : Bool × Why). r.0) (sym (same_Some first reason at)) ∙ is
+    go false is none (suc i) at later = later i at none
+
+-- and none is given where the answer refuses nothing
+none_given : (first : Option Why) (P : Type 0) (answer : Reply) → ((why : Why) → answer ≡ reply.Refused why → ⊥) → MatchOption first P (λ why. answer ≡ reply.Refused why) → first ≡ None
+none_given None P answer accepts is = refl
+none_given (Some why) P answer accepts is = absurd (accepts why is)
+
+module _ (n : ℕ) (c : Computation) (pending : ℕ → Bool) (more : List (Bool × Why)) where
+  -- the second reason against an event is that its process is closed
+  closed_is_second : (s : Step) (p : ℕ) → is_step_of p s ≡ true → slice_get (event_reasons n c pending s ++ more) 1 ≡ Some (is_closed c p, why.Closed)
+  closed_is_second (step.Observe q holds) p own = ap (λ r. Some (is_closed c r, why.Closed)) (eqb-true q p own)
+  closed_is_second (step.Send q to) p own = ap (λ r. Some (is_closed c r, why.Closed)) (eqb-true q p own)
+  closed_is_second (step.Recv q message) p own = ap (λ r. Some (is_closed c r, why.Closed)) (eqb-true q p own)
+  closed_is_second (step.Close q) p own = ap (λ r. Some (is_closed c r, why.Closed)) (eqb-true q p own)
+  closed_is_second s p own = absurd (true≢false (sym own))
+
+  -- a step against which no reason holds keeps the computation an accepted one
+  step_accepted : (s : Step) → first_of_reasons (event_reasons n c pending s ++ more) ≡ None → IsAccepted c → IsAccepted (c ++ computation (s ∷ []))
+  step_accepted s none accepted =
+      cond_both (is_event s) (s ∷ []) [] (λ e. IsAccepted (c ++ e))
+      (λ event. accepted_push c s accepted
+      (λ p own. none_holds (event_reasons n c pending s ++ more) 1 (is_closed c p, why.Closed) (closed_is_second s p own) none)
+      (λ p message is.
+      let known : (not (nat_lt p n) || not (was_sent_to c message p)) ≡ false = none_holds (event_reasons n c pending s ++ more) 0 (not (nat_lt p n) || not (was_sent_to c message p), why.NoSuch)
+      (ap (λ x. slice_get (event_reasons n c pending x ++ more) 0) is) none in
+      sent_to c message p (not-false (was_sent_to c message p) (or_parts (not (nat_lt p n)) (not (was_sent_to c message p)) known).1)))
+      (λ other. subst IsAccepted (sym (append-nil c)) accepted)
+
+-- and so does a step with its reply
+reply_accepted : (plan : Plan) (steps : List Step) (s : Step) (answer : Reply) → IsReply plan steps s answer → IsAccepted (computation steps) → IsAccepted (computation (steps ++ accepted_by s answer))
+reply_accepted plan steps s (reply.Refused why) is accepted = subst (λ all. IsAccepted (computation all)) (sym (append-nil steps)) accepted
+reply_accepted plan steps s answer is accepted =
+    subst IsAccepted (sym (filter-append is_event steps (s ∷ [])))
+    (step_accepted plan.n (computation steps) (λ p. nat_lt 0 (notes_in plan is.emissions steps (Pending p))) (move_reasons plan (notes_in plan is.emissions steps) s) s
+    (none_given (first_of_reasons (reasons plan is.emissions steps s)) (IsAcceptance plan is.emissions steps s answer) answer (λ why same. cc same) is.first) accepted)
+
+-- one more step of a history, and then the rest
+goes_on : (plan : Plan) (rest history : List Answered) → AreReplies plan (history ++ rest) → IsAccepted (computation (accepted history)) → IsAccepted (computation (accepted (history ++ rest)))
+goes_on plan [] history are accepted_yet = subst (λ all. IsAccepted (computation (accepted all))) (sym (append-nil history)) accepted_yet
+goes_on plan (a ∷ rest) history are accepted_yet =
+    let together : (history ++ a ∷ []) ++ rest ≡ history ++ a ∷ rest = append_assoc history (a ∷ []) rest in
+    let one_more : accepted (history ++ a ∷ []) ≡ accepted history ++ accepted_by a.step a.reply = flat_map-append _ history (a ∷ []) ∙ ap (λ e. accepted history ++ e) (append-nil (accepted_by a.step a.reply)) in
+    let is : IsReply plan (accepted history) a.step a.reply = subst (λ before. IsReply plan (accepted before) a.step a.reply) (take_at history (a ∷ rest) (length history) refl) (are (length history) a (get_behind history a rest)) in
+    subst (λ all. IsAccepted (computation (accepted all))) together
+    (goes_on plan rest (history ++ a ∷ []) (subst (AreReplies plan) (sym together) are)
+    (subst (λ steps. IsAccepted (computation steps)) (sym one_more) (reply_accepted plan (accepted history) a.step a.reply is accepted_yet)))
+
+-- where the replies are those of the definitions, the computation is an accepted one
+pub replies_accepted : (plan : Plan) (history : List Answered) → AreReplies plan history → IsAccepted (computation (accepted history))
+replies_accepted plan history are = goes_on plan history [] are (record {
+  sent_first = λ place p message at. absurd (none-some (step.Recv p message) at);
+  close_last = λ place later p s before at. absurd (none-some (step.Close p) at);
+})

@@ -1,0 +1,63 @@
+use Rattle.std.proofs.Common.{◌≡◌, ℕ, ◌<◌, ◌≤◌, true, false, [], ◌∷◌, ◌++◌, length, slice_get, count_by, Some, sym, refl, ap, ◌∙◌, ⊎_elim, eqb-true, eq-eqb, true≢false, arith}
+use Rattle.std.specs.List.{Any}
+use Rattle.std.proofs.lemmas.Bool.{cases_lt, false_from_ne_true}
+use Rattle.std.proofs.lemmas.List.{length_push, take_at}
+use Rattle.std.proofs.lemmas.List.Folds.{list_any_at, Any-from_list_any}
+use Rattle.std.proofs.lemmas.Option.{slice_get_within, slice_get-get_or, get_or_from_slice_get}
+use Rattle.wcp_model.specs.declared.step.Step.{Step}
+use Rattle.wcp_model.specs.declared.step.Step.TheVariants.{Observe, Recv, Close}
+use Rattle.wcp_model.specs.Computation.{Computation, is_send, message_at}
+use Rattle.wcp_model.specs.Emission.{is_close_of, is_closed}
+use Rattle.wcp_model.specs.ProbeLog.{is_step_of, IsAccepted}
+use Rattle.wcp_model.proofs.Growth.{get_front, get_behind, at_grows, message_grows, true_state_of_front}
+use Rattle.wcp_model.proofs.Predecessors.{local_state}
+use Rattle.wcp_model.proofs.RunningEmissions.{NoneNew}
+
+-- a close that stands in a computation closes its process
+pub close_closes : (c : Computation) (place p : ℕ) → slice_get c place ≡ Some (Close p) → is_closed c p ≡ true
+close_closes c place p at =
+    list_any_at (is_close_of p) c place (Close p) (slice_get_within c place (Close p) at)
+    (ap (is_close_of p) (get_or_from_slice_get c place (Close p) (Close p) at) ∙ eq-eqb p p refl)
+
+-- and where a process is closed, its close stands
+pub close_stands : (c : Computation) (p : ℕ) → is_closed c p ≡ true → (place : ℕ) × (place < length c) × (slice_get c place ≡ Some (Close p))
+close_stands c p closed =
+    let found : Any (λ y. is_close_of p y ≡ true) c = Any-from_list_any (is_close_of p) c closed in
+    (found.0, found.2, slice_get-get_or c found.0 found.1 found.2 ∙ ap Some (found.3 ∙ close_is found.1 found.4))
+  where
+    close_is : (y : Step) → is_close_of p y ≡ true → y ≡ Close p
+    close_is (Close q) h = ap Close (eqb-true q p h)
+    close_is y h = absurd (true≢false (sym h))
+
+-- after the close of a process none of its states becomes true
+pub none_new_after_close : (c e : Computation) (p : ℕ) → IsAccepted (c ++ e) → is_closed c p ≡ true → NoneNew c e p
+none_new_after_close c e p accepted closed k is =
+    let close : (place : ℕ) × (place < length c) × (slice_get c place ≡ Some (Close p)) = close_stands c p closed in
+    ⊎_elim (λ (lt : is.place < length c). true_state_of_front c e (local_state p k) is lt)
+    (λ (ge : length c ≤ is.place).
+    absurd (true≢false (sym (eq-eqb p p refl) ∙ accepted.close_last close.0 is.place p (Observe p true) (omega (arith, close.1)) (at_grows c e close.0 (Close p) close.2) is.observed)))
+    (cases_lt is.place (length c))
+
+-- an accepted computation, and one more step of a process that is open; what it receives was sent
+pub accepted_push : (c : Computation) (s : Step) → IsAccepted c → ((p : ℕ) → is_step_of p s ≡ true → is_closed c p ≡ false) → ((p message : ℕ) → s ≡ Recv p message → message < count_by is_send c) → IsAccepted (c ++ s ∷ [])
+accepted_push c s accepted is_open was_sent = record {
+  sent_first = λ place p message at.
+      ⊎_elim (λ (lt : place < length c).
+      let old : slice_get c place ≡ Some (Recv p message) = sym (get_front c (s ∷ []) place lt) ∙ at in
+      omega (arith, accepted.sent_first place p message old, message_grows c (s ∷ []) place (Recv p message) old))
+      (λ (ge : length c ≤ place).
+      let last : place ≡ length c = omega (arith, slice_get_within (c ++ s ∷ []) place (Recv p message) at, length_push c s) in
+      let is : s ≡ Recv p message = cc (get_behind c s [], at, ap (slice_get (c ++ s ∷ [])) last) in
+      let all : message_at (c ++ s ∷ []) place ≡ count_by is_send c = ap (message_at (c ++ s ∷ [])) last ∙ ap (count_by is_send) (take_at c (s ∷ []) (length c) refl) in
+      omega (arith, was_sent p message is, all))
+      (cases_lt place (length c));
+  close_last = λ place later p x before closes at.
+      let early : place < length c = omega (arith, slice_get_within (c ++ s ∷ []) later x at, length_push c s) in
+      let old : slice_get c place ≡ Some (Close p) = sym (get_front c (s ∷ []) place early) ∙ closes in
+      ⊎_elim (λ (lt : later < length c). accepted.close_last place later p x before old (sym (get_front c (s ∷ []) later lt) ∙ at))
+      (λ (ge : length c ≤ later).
+      let last : later ≡ length c = omega (arith, slice_get_within (c ++ s ∷ []) later x at, length_push c s) in
+      let is : s ≡ x = cc (get_behind c s [], at, ap (slice_get (c ++ s ∷ [])) last) in
+      false_from_ne_true (is_step_of p x) (λ own. true≢false (sym (close_closes c place p old) ∙ is_open p (ap (is_step_of p) is ∙ own))))
+      (cases_lt later (length c));
+}

@@ -1,0 +1,105 @@
+use Rattle.std.proofs.Common.{◌≡◌, ℕ, ◌+◌, ◌<◌, ◌≤◌, Bool, true, false, ◌||◌, if◌then◌else◌, List, [], ◌∷◌, ◌++◌, length, drop, slice_index, slice_index_or, sym, ap, ap₂, ◌∙◌, subst, inl, inr, ⊎_elim, append_assoc, append-nil, length-append, arith}
+use Rattle.std.proofs.lemmas.Bool.{cases_Bool, cases_eq, cases_lt, cases_order}
+use Rattle.std.proofs.lemmas.List.{ext_get_or, get_or_append_left, nil_from_length}
+use Rattle.std.proofs.lemmas.List.Elements.{Contains-get_or}
+use Rattle.std.proofs.lemmas.List.Folds.{list_any-append}
+use Rattle.std.proofs.lemmas.List.Kept.{AllPairs-from_increasing}
+use Rattle.std.proofs.lemmas.List.Prefix.{front_from_reads}
+use Rattle.wcp_clock.specs.declared.note.Note.{Note}
+use Rattle.wcp_clock.specs.declared.note.Note.TheVariants as note
+use Rattle.wcp_model.specs.declared.state.State.{State}
+use Rattle.wcp_model.specs.Computation.{Computation, IsTrueState, communications}
+use Rattle.wcp_model.specs.Emission.{is_close_of, is_closed, snapshots_from, AreEmissions}
+use Rattle.wcp_model.specs.ProbeLog.{IsAccepted}
+use Rattle.wcp_model.specs.StateClock.{CountsBefore, IsStateClock}
+use Rattle.wcp_model.proofs.AcceptedSteps.{none_new_after_close}
+use Rattle.wcp_model.proofs.Growth.{clock_grows, true_state_grows, true_state_shrinks}
+use Rattle.wcp_model.proofs.Predecessors.{local_state}
+use Rattle.wcp_model.proofs.RisingLists.{rising_front}
+use Rattle.wcp_model.proofs.RunningEmissions.{snapshots_append, NoneNew, true_state_exists}
+
+-- one number counts the states of a process before a state
+count_alone : (c : Computation) (s : State) (q one other : ℕ) → CountsBefore c s q one → CountsBefore c s q other → one ≡ other
+count_alone c s q one other is also =
+    ⊎_elim (λ (same : one ≡ other). same)
+    (⊎_elim (λ (lt : one < other). absurd (omega (arith, (is one).0 ((also one).1 lt)))) (λ (gt : other < one). absurd (omega (arith, (also other).0 ((is other).1 gt)))))
+    (cases_order one other)
+
+-- so a state has one clock
+pub clock_alone : (n : ℕ) (c : Computation) (s : State) (one other : List ℕ) → IsStateClock n c s one → IsStateClock n c s other → one ≡ other
+clock_alone n c s one other is also =
+    ext_get_or 0 one other (omega (arith, is.components, also.components))
+    (λ i lt. ⊎_elim (λ (own : i ≡ s.process). ap (slice_index one) own ∙ is.own ∙ sym also.own ∙ ap (slice_index other) (sym own))
+    (λ (differs : i ≡ s.process → ⊥). count_alone c s i (slice_index one i) (slice_index other i) (is.others i (omega (arith, is.components)) differs) (also.others i (omega (arith, is.components)) differs))
+    (cases_eq i s.process))
+
+module _ (n : ℕ) (c e : Computation) (p : ℕ) (notes more : List Note) (is : AreEmissions n c p notes) (grown : AreEmissions n (c ++ e) p more) where
+  -- the true states of a computation come first among those of a longer one
+  intervals_front : (rest : List ℕ) × (grown.intervals ≡ is.intervals ++ rest)
+  intervals_front =
+      rising_front is.intervals grown.intervals (AllPairs-from_increasing is.intervals is.true_states.rising) (AllPairs-from_increasing grown.intervals grown.true_states.rising)
+      (λ k within. (grown.true_states.each k).1 (true_state_grows c e (local_state p k) ((is.true_states.each k).0 within)))
+      (λ k within. ⊎_elim
+      (λ (over : k < communications c p). inl ((is.true_states.each k).1 (true_state_shrinks c e (local_state p k) over ((grown.true_states.each k).0 within))))
+      (λ (last : communications c p ≤ k). inr (λ j old. omega (arith, true_state_exists c (local_state p j) ((is.true_states.each j).0 old))))
+      (cases_lt k (communications c p)))
+
+  -- with the same clocks
+  clocks_front : (rest : List (List ℕ)) × (grown.clocks ≡ is.clocks ++ rest)
+  clocks_front =
+      let longer : length grown.intervals ≡ length is.intervals + length intervals_front.0 = ap length intervals_front.1 ∙ length-append is.intervals intervals_front.0 in (
+        drop (length is.clocks) grown.clocks,
+        front_from_reads [] grown.clocks is.clocks (omega (arith, is.same_length, grown.same_length, longer))
+            (λ i lt.
+            let within : i < length is.intervals = omega (arith, is.same_length) in
+            let k : ℕ = slice_index is.intervals i in
+            let here : slice_index grown.intervals i ≡ k = ap (λ xs. slice_index xs i) intervals_front.1 ∙ get_or_append_left is.intervals intervals_front.0 0 i within in
+            clock_alone n (c ++ e) (local_state p k) (slice_index_or grown.clocks i []) (slice_index_or is.clocks i [])
+            (subst (λ l. IsStateClock n (c ++ e) (local_state p l) (slice_index_or grown.clocks i [])) here (grown.each i (omega (arith, longer))))
+            (clock_grows n c e (local_state p k) (slice_index_or is.clocks i [])
+            (true_state_exists c (local_state p k) ((is.true_states.each k).0 (Contains-get_or is.intervals i 0 within))) (is.each i within))),
+      )
+
+  -- of a process that is closed there are no more
+  none_behind : NoneNew c e p → length clocks_front.0 ≡ 0
+  none_behind none =
+      let all : (rest : List ℕ) × (is.intervals ≡ grown.intervals ++ rest) =
+      rising_front grown.intervals is.intervals (AllPairs-from_increasing grown.intervals grown.true_states.rising) (AllPairs-from_increasing is.intervals is.true_states.rising)
+      (λ k within. (is.true_states.each k).1 (none k ((grown.true_states.each k).0 within)))
+      (λ k within. inl ((grown.true_states.each k).1 (true_state_grows c e (local_state p k) ((is.true_states.each k).0 within)))) in
+      omega (arith, is.same_length, grown.same_length, ap length all.1, length-append grown.intervals all.0, ap length clocks_front.1, length-append is.clocks clocks_front.0)
+
+  -- so the emissions of a computation come first among those of a longer one, if no state of a closed process becomes true
+  pub emissions_front : (is_closed c p ≡ true → NoneNew c e p) → (rest : List Note) × (more ≡ notes ++ rest)
+  emissions_front none = ⊎_elim
+      (λ (closed : is_closed c p ≡ true).
+      let same : grown.clocks ≡ is.clocks = clocks_front.1 ∙ ap (λ clocks. is.clocks ++ clocks) (nil_from_length clocks_front.0 (none_behind (none closed))) ∙ append-nil is.clocks in
+      let still : is_closed (c ++ e) p ≡ is_closed c p = list_any-append (is_close_of p) c e ∙ ap (λ b. b || is_closed e p) closed ∙ sym closed in
+      ([], grown.notes_are ∙ ap₂ noted same still ∙ sym is.notes_are ∙ sym (append-nil notes)))
+      (λ (open_yet : is_closed c p ≡ false).
+      let mark : List Note = if is_closed (c ++ e) p then note.Close (length grown.clocks) ∷ [] else [] in
+      let behind : List Note = snapshots_from (0 + length is.clocks) clocks_front.0 in
+      let front : notes ≡ snapshots_from 0 is.clocks = is.notes_are ∙ ap (noted is.clocks) open_yet ∙ append-nil (snapshots_from 0 is.clocks) in (
+        behind ++ mark,
+        grown.notes_are ∙ ap (λ clocks. snapshots_from 0 clocks ++ mark) clocks_front.1 ∙ ap (λ front. front ++ mark) (snapshots_append 0 is.clocks clocks_front.0)
+            ∙ append_assoc (snapshots_from 0 is.clocks) behind mark ∙ ap (λ front. front ++ (behind ++ mark)) (sym front),
+      ))
+      (cases_Bool (is_closed c p))
+    where
+      noted : List (List ℕ) → Bool → List Note
+      noted clocks closed = snapshots_from 0 clocks ++ (if closed then note.Close (length clocks) ∷ [] else [])
+
+-- a process has one list of emissions
+pub emissions_alone : (n : ℕ) (c : Computation) (p : ℕ) (notes others : List Note) → AreEmissions n c p notes → AreEmissions n c p others → notes ≡ others
+emissions_alone n c p notes others is are =
+    let behind : (rest : List Note) × (others ≡ notes ++ rest) = begins notes others is are in
+    let before : (rest : List Note) × (notes ≡ others ++ rest) = begins others notes are is in
+    sym (behind.1 ∙ ap (λ rest. notes ++ rest) (nil_from_length behind.0 (omega (arith, ap length behind.1, length-append notes behind.0, ap length before.1, length-append others before.0))) ∙ append-nil notes)
+  where
+    begins : (one other : List Note) → AreEmissions n c p one → AreEmissions n c p other → (rest : List Note) × (other ≡ one ++ rest)
+    begins one other is are =
+        emissions_front n c [] p one other is (subst (λ d. AreEmissions n d p other) (sym (append-nil c)) are) (λ closed k. subst (λ d. IsTrueState d (local_state p k)) (append-nil c))
+
+-- in an accepted computation the emissions of each process grow at their end alone
+pub emissions_grow : (n : ℕ) (c e : Computation) (p : ℕ) (notes more : List Note) → IsAccepted (c ++ e) → AreEmissions n c p notes → AreEmissions n (c ++ e) p more → (rest : List Note) × (more ≡ notes ++ rest)
+emissions_grow n c e p notes more accepted is grown = emissions_front n c e p notes more is grown (none_new_after_close c e p accepted)

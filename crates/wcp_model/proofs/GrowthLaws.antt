@@ -1,0 +1,67 @@
+use Rattle.std.specs.Prelude.{slice_index}
+use Rattle.std.proofs.Common.{◌≡◌, ℕ, ◌<◌, ◌≤◌, min, List, ◌++◌, ap, sym, ◌∙◌, subst, ⊎_elim, arith}
+use Rattle.std.proofs.lemmas.Bool.{cases_lt}
+use Rattle.std.proofs.lemmas.Grind.{flat_map-append}
+use Rattle.std.proofs.lemmas.List.Elements.{filter-append}
+use Rattle.wcp_model.specs.Computation.{Computation, IsTrueState}
+use Rattle.wcp_model.specs.Cut.{member, minimum, IsSatisfyingCut}
+use Rattle.wcp_model.specs.Growth.{GrowsInto, GrowthLaw, EarlyFindLaw}
+use Rattle.wcp_model.specs.ProbeLog.{IsAccepted}
+use Rattle.wcp_model.specs.Replies.{Answered, accepted, is_event, computation}
+use Rattle.wcp_model.proofs.AcceptedReplies.{replies_accepted}
+use Rattle.wcp_model.proofs.CutLaws.{state, IsState-true, slice_index-minimum, minimum_is_satisfying}
+use Rattle.wcp_model.proofs.EmissionFronts.{emissions_grow}
+use Rattle.wcp_model.proofs.Growth.{before_grows, before_shrinks, order_settled, true_state_grows, true_state_shrinks}
+
+-- an accepted computation grew from each of its fronts
+pub accepted_grows : (n : ℕ) (c e : Computation) → IsAccepted (c ++ e) → GrowsInto n c (c ++ e)
+accepted_grows n c e accepted = record {
+  order = λ s t first second. order_settled c e s t second;
+  emissions = λ p notes more in_range is grown. emissions_grow n c e p notes more accepted is grown;
+}
+
+-- the computation of a longer history is that of its front and more
+pub computation_append : (history more : List Answered) → computation (accepted (history ++ more)) ≡ computation (accepted history) ++ computation (accepted more)
+computation_append history more = ap computation (flat_map-append _ history more) ∙ filter-append is_event (accepted history) (accepted more)
+
+-- the growth law
+pub growth_holds : GrowthLaw
+growth_holds plan history more are =
+    let grown : computation (accepted (history ++ more)) ≡ computation (accepted history) ++ computation (accepted more) = computation_append history more in
+    subst (GrowsInto plan.n (computation (accepted history))) (sym grown)
+    (accepted_grows plan.n (computation (accepted history)) (computation (accepted more)) (subst IsAccepted grown (replies_accepted plan (history ++ more) are)))
+
+-- a satisfying cut stays one
+pub satisfying_grows : (n : ℕ) (c e : Computation) (cut : List ℕ) → IsSatisfyingCut n c cut → IsSatisfyingCut n (c ++ e) cut
+satisfying_grows n c e cut is = record {
+  members = is.members;
+  consistent = λ p q p_in_range q_in_range apart before.
+      is.consistent p q p_in_range q_in_range apart (before_shrinks c e (member cut p) (IsState-true c (member cut q) (is.true_states q q_in_range)) before);
+  true_states = λ p in_range. true_state_grows c e (member cut p) (is.true_states p in_range);
+}
+
+-- and one that lies at or below it was one before
+satisfying_below : (n : ℕ) (c e : Computation) (cut lower : List ℕ) → IsSatisfyingCut n c cut → ((p : ℕ) → p < n → slice_index lower p ≤ slice_index cut p) → IsSatisfyingCut n (c ++ e) lower → IsSatisfyingCut n c lower
+satisfying_below n c e cut lower is below lower_is = record {
+  members = lower_is.members;
+  consistent = λ p q p_in_range q_in_range apart before. lower_is.consistent p q p_in_range q_in_range apart (before_grows c e (member lower p) before);
+  true_states = λ p in_range. ⊎_elim
+      (λ (less : slice_index lower p < slice_index cut p).
+      true_state_shrinks c e (member lower p) (omega (arith, less, IsState-true c (member cut p) (is.true_states p in_range))) (lower_is.true_states p in_range))
+      (λ (same : slice_index cut p ≤ slice_index lower p). subst (λ k. IsTrueState c (state p k)) (omega (arith, below p in_range)) (is.true_states p in_range))
+      (cases_lt (slice_index lower p) (slice_index cut p));
+}
+
+-- the early-find law
+pub early_find_holds : EarlyFindLaw
+early_find_holds n c more cut least = record {
+  satisfying = in_whole;
+  below = λ other other_is p in_range.
+      let both : (q : ℕ) → slice_index (minimum cut other) q ≡ min (slice_index cut q) (slice_index other q) = λ q. slice_index-minimum cut other q (omega (arith, in_whole.members, other_is.members)) in
+      let at_most : slice_index cut p ≤ slice_index (minimum cut other) p = least.below (minimum cut other)
+      (satisfying_below n c more cut (minimum cut other) least.satisfying (λ q q_in_range. omega (arith, both q)) (minimum_is_satisfying n (c ++ more) cut other in_whole other_is)) p in_range in
+      omega (arith, both p);
+}
+  where
+    in_whole : IsSatisfyingCut n (c ++ more) cut
+    in_whole = satisfying_grows n c more cut least.satisfying
