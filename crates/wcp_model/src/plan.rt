@@ -2,6 +2,7 @@ ghost use Rattle.std.specs.Prelude.{◌≡◌, ◌↔◌, ℕ, ◌+◌, ◌<◌,
 ghost use Rattle.wcp_model.specs.declared.plan.Parent.TheVariants.{Root};
 ghost use Rattle.wcp_model.specs.declared.plan.PlanFault.{PlanFault};
 ghost use Rattle.wcp_model.specs.declared.plan.PlanFault.TheVariants as plan_fault;
+ghost use Rattle.wcp_model.specs.Tree.{IsSamePlan, is_attached, is_leaf, parent_of};
 ghost use Rattle.wcp_model.specs.PlanFault.{HasFault, HasWrongParent, IsFirstFault, IsCheckedPlan, IsPath, ServesProcess, ServesRelay, rank};
 
 use std::alloc::{AllocError, Global};
@@ -192,6 +193,46 @@ impl Plan {
     {
         let served = self.attach.get(..self.n as usize).unwrap_or(&self.attach);
         served.contains(&Some(relay))
+    }
+
+    /// Whether the relay serves process `p`.
+    pub fn is_attached(&self, relay: u32, p: u32) -> bool
+        ensures { result ≡ is_attached self.now relay p }
+    {
+        match self.attach.get(p as usize) {
+            Some(Some(attached)) => *attached == relay,
+            _ => false,
+        }
+    }
+
+    /// Whether the relay serves processes.
+    pub fn is_leaf(&self, relay: u32) -> bool
+        ensures { result ≡ is_leaf self.now relay }
+    {
+        self.attach.iter().any(|entry| match entry {
+            Some(attached) => *attached == relay,
+            None => false,
+        })
+    }
+
+    /// What a relay passes its items to, if there is such a relay.
+    pub fn parent_of(&self, relay: u32) -> Option<Parent>
+        ensures { result ≡ parent_of self.now relay }
+    {
+        self.parents.get(relay as usize).copied()
+    }
+
+    /// The same plan, in memory of its own. `Err` where memory runs out.
+    pub fn copy(&self, alloc: Global) -> Result<Plan, AllocError>
+        ensures { IfOk result (λ copy. IsSamePlan copy self.now) }
+    {
+        Ok(Plan {
+            n: self.n,
+            cap: self.cap,
+            hold: self.hold,
+            parents: Vec::from_slice(alloc, &self.parents)?,
+            attach: Vec::from_slice(alloc, &self.attach)?,
+        })
     }
 
     fn serves_relay(&self, relay: u32) -> bool

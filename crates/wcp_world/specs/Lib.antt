@@ -1,6 +1,4 @@
-pub mod Messages
-pub mod Moves
-pub mod Network
-pub mod NetworkView
-pub mod Played
-pub mod Start
+pub mod Answer
+pub mod Putting
+pub mod Transport
+pub mod Shifting

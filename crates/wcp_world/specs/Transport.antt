@@ -1,4 +1,4 @@
-use Rattle.std.specs.Prelude.{◌≡◌, ℕ, ◌+◌, ◌<◌, ◌≤◌, true, false, Option, Some, None, MatchOption, List, [], ◌∷◌, ◌++◌, length, count_by, slice_get, slice_index_or}
+use Rattle.std.specs.Prelude.{◌≡◌, ℕ, ◌+◌, ◌<◌, ◌≤◌, Option, Some, None, MatchOption, List, [], ◌∷◌, ◌++◌, length, count_by, slice_get, slice_index_or}
 use Rattle.wcp_clock.specs.declared.note.Item.{Item}
 use Rattle.wcp_clock.specs.declared.note.Note.{Note}
 use Rattle.wcp_model.specs.declared.plan.Parent.TheVariants.{Root, Relay}
@@ -6,13 +6,15 @@ use Rattle.wcp_model.specs.declared.plan.Plan.{Plan}
 use Rattle.wcp_model.specs.declared.step.Step.{Step}
 use Rattle.wcp_model.specs.declared.step.Step.TheVariants as step
 use Rattle.wcp_model.specs.declared.step.Reply.{Reply}
+use Rattle.wcp_model.specs.declared.step.Reply.TheVariants.{Done}
 use Rattle.wcp_model.specs.PlanFault.{IsCheckedPlan}
 use Rattle.wcp_model.specs.Tree.{IsSamePlan}
-use Rattle.wcp_model.specs.Occupancy.{Place, Pending, Link, HoldOf, InboxOf, next_place, puts_into, taken_from, room_of, IsEntry}
+use Rattle.wcp_model.specs.Occupancy.{Place, Pending, Link, HoldOf, InboxOf, next_place, puts_into, taken_from, notes_in, room_of, IsEntry}
 use Rattle.wcp_model.specs.Replies.{accepted_by, reasons}
 use Rattle.wcp_model.specs.Report.{notes_taken}
 use Rattle.wcp_hold.specs.Held.{Held}
 use Rattle.wcp_world.specs.Answer.{IsAnswer}
+use Rattle.wcp_world.specs.Putting.{put_more}
 
 -- What a transport has: its plan, and the links, holds and inboxes.
 pub record TransportState : Type 0 where
@@ -82,3 +84,46 @@ abbrev pub Conveys : TransportState → Step → Reply → TransportState → Ty
 Conveys old s answer new = (plan : Plan) (steps : List Step) (put : ℕ → List Note) (taken : List Item) → IsTransportOf plan steps put taken old →
     ((emissions : ℕ → List Note) → IsAnswer (reasons plan emissions steps s) answer)
     × IsTransportOf plan (steps ++ accepted_by s answer) put taken new
+
+-- A note was put on the link of a process that there is and that has one pending, or the link is full.
+abbrev pub Puts : TransportState → ℕ → Note → Reply → TransportState → Type 0
+Puts old p note answer new = (plan : Plan) (steps : List Step) (put : ℕ → List Note) (taken : List Item) →
+    IsTransportOf plan steps put taken old →
+    ((emissions : ℕ → List Note) → 0 < notes_in plan emissions steps (Pending p) → IsAnswer (reasons plan emissions steps (step.Put p)) answer)
+    × (answer ≡ Done → IsTransportOf plan (steps ++ step.Put p ∷ []) (put_more put p note) taken new)
+
+-- The item whose turn it is in the root inbox.
+abbrev pub next_of : TransportState → Option Item
+next_of t = slice_get (held_at t.places (number_of t.plan (InboxOf Root))).items 0
+
+-- It is the next of the items that entered the root inbox, and of what its process put.
+pub record IsNext (plan : Plan) (steps : List Step) (put : ℕ → List Note) (taken : List Item) (item : Item) : Type 0 where
+  pub some : 0 < notes_in plan put steps (InboxOf Root)
+  pub entry : IsEntry plan put steps (InboxOf Root) (taken_from steps (InboxOf Root)) item
+  pub process : item.from < plan.n
+  pub rest : List Note
+  pub front : notes_taken item.from (taken ++ item ∷ []) ++ rest ≡ put item.from
+
+abbrev pub ReadsNext : TransportState → Option Item → Type 0
+ReadsNext t next = (plan : Plan) (steps : List Step) (put : ℕ → List Note) (taken : List Item) →
+    IsTransportOf plan steps put taken t →
+    MatchOption next (notes_in plan put steps (InboxOf Root) ≡ 0) (IsNext plan steps put taken)
+
+-- The checker took the item whose turn it was.
+abbrev pub TakesNext : TransportState → TransportState → Type 0
+TakesNext old new = (plan : Plan) (steps : List Step) (put : ℕ → List Note) (taken : List Item) (item : Item) →
+    IsTransportOf plan steps put taken old → next_of old ≡ Some item →
+    IsTransportOf plan (steps ++ step.Check ∷ []) put (taken ++ item ∷ []) new
+
+-- Two numbers are those of a place and of the next.
+pub record AreNumbersOf (plan : Plan) (i j : ℕ) : Type 0 where
+  pub from : Place
+  pub to : Place
+  pub is_from : IsPlaceOf plan from
+  pub is_next : next_place plan from ≡ Some to
+  pub number_from : i ≡ number_of plan from
+  pub number_to : j ≡ number_of plan to
+
+abbrev pub AreNeighbours : TransportState → ℕ → ℕ → Type 0
+AreNeighbours t i j = (plan : Plan) (steps : List Step) (put : ℕ → List Note) (taken : List Item) →
+    IsTransportOf plan steps put taken t → AreNumbersOf plan i j

@@ -2,12 +2,4 @@
 //! steps.
 #![tactic(auto)]
 
-mod application;
-mod messages;
-mod moving;
-mod network;
-mod played;
-mod world;
-
-pub use played::{Played, play};
-pub use world::World;
+mod transport;
