@@ -1,6 +1,3 @@
+pub mod Answer
+pub mod Application
 pub mod Messages
-pub mod Moves
-pub mod Network
-pub mod NetworkView
-pub mod Played
-pub mod Start

@@ -1,7 +1,9 @@
 ghost use Rattle.std.specs.Prelude.{◌≡◌, [], IfOk, OnErr, Some, None};
+ghost use Rattle.wcp_model.specs.declared.step.Reply.TheVariants.{Done};
 ghost use Rattle.wcp_probe.specs.declared.probe.Refusal.{Refusal};
 ghost use Rattle.wcp_probe.specs.Refusals.{stamp_refusal};
-ghost use Rattle.wcp_world.specs.Messages.{IsPosted, Delivers};
+ghost use Rattle.wcp_world.specs.Answer.{IsAnswer, KeepsIfRefused};
+ghost use Rattle.wcp_world.specs.Messages.{IsPosted, IsDelivered, delivery_reasons};
 
 use std::alloc::{AllocError, Global};
 use std::marker::Model;
@@ -43,7 +45,8 @@ impl Letters {
     pub fn post(&mut self, probe: &mut ProbeCore, to: u32) -> Result<Option<Refusal>, AllocError>
         ensures first { IfOk result (λ refusal. refusal ≡ stamp_refusal probe.old to) }
         ensures posted { IfOk result (λ refusal. refusal ≡ None → IsPosted probe.old probe.new to self.old self.new) }
-        ensures refused { IfOk result (λ refusal. (why : Refusal) → refusal ≡ Some why → (probe.new ≡ probe.old) × (self.new ≡ self.old)) }
+        ensures refused { IfOk result (λ refusal. (why : Refusal) → refusal ≡ Some why →
+            (probe.new ≡ probe.old) × (self.new ≡ self.old)) }
         ensures unchanged { OnErr result ((probe.new ≡ probe.old) × (self.new ≡ self.old)) }
     {
         self.letters.reserve(1)?;
@@ -62,7 +65,10 @@ impl Letters {
 
     /// The probe, which is that of process `p`, receives message `number`.
     pub fn deliver(&mut self, probe: &mut ProbeCore, p: u32, number: u64) -> Reply
-        ensures { Delivers probe.old self.old p number result probe.new self.new }
+        ensures answered { IsAnswer (delivery_reasons probe.old self.old p number) result }
+        ensures delivered { result ≡ Done → IsDelivered probe.old probe.new self.old self.new number }
+        ensures kept { KeepsIfRefused probe.old result probe.new }
+        ensures refused { KeepsIfRefused self.old result self.new }
     {
         let Some(letter) = self.letters.get_mut(number as usize) else {
             return Reply::Refused(Why::NoSuch);
