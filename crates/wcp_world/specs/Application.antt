@@ -1,12 +1,14 @@
-use Rattle.std.specs.Prelude.{◌≡◌, ◌==◌, ◌||◌, ℕ, ◌+◌, ◌<◌, ◌≤◌, false, IsTrue, is_some, Option, None, Some, MatchOption, List, [], ◌∷◌, ◌++◌, length, map, slice_get, slice_index, slice_index_or, if◌then◌else◌}
+use Rattle.std.specs.Prelude.{◌≡◌, ◌==◌, ℕ, ◌≤◌, false, IsTrue, is_some, Option, None, Some, MatchOption, List, [], ◌∷◌, ◌++◌, length, map, slice_get, if◌then◌else◌}
 use Rattle.std.specs.Option.{option_and_then, option_to_list}
 use Rattle.wcp_clock.specs.declared.clock.TheConstants.{CLOCK_LIMIT}
 use Rattle.wcp_clock.specs.declared.note.Note.{Note}
 use Rattle.wcp_model.specs.declared.step.Step.{Step}
 use Rattle.wcp_model.specs.declared.step.Reply.{Reply}
-use Rattle.wcp_model.specs.Computation.{Computation}
+use Rattle.wcp_model.specs.Computation.{Computation, communications}
+use Rattle.wcp_model.specs.Emission.{AreEmissions}
 use Rattle.wcp_model.specs.ProbeLog.{Call, state_of_log, IsLogOf, IsStampOf, IsAccepted}
 use Rattle.wcp_model.specs.Replies.{accepted_by, event_reasons, receivers, was_received}
+use Rattle.wcp_model.specs.Report.{snapshot_clocks}
 use Rattle.wcp_probe.specs.Core.{Core, StandsFor}
 use Rattle.wcp_probe.specs.Seal.{seal_of}
 use Rattle.wcp_probe.specs.declared.stamp.Stamped.{Stamped}
@@ -31,9 +33,6 @@ pub record IsProbeOf (n : ℕ) (c : Computation) (p : ℕ) (put : List Note) (co
   pub id : core.id ≡ p
   pub limit : core.limit ≡ CLOCK_LIMIT
   pub components : length core.clock ≡ n
-  pub events : slice_index core.clock p ≤ CLOCK_LIMIT
-  pub few : core.emitted ≤ slice_index core.clock p + (if core.flag then 1 else 0)
-  pub flagged : IsTrue (is_some core.pending) → IsTrue (core.flag || core.closed)
   pub notes : (state_of_log n p log).notes ≡ put ++ option_to_list core.pending
 
 -- A message that was sent: it is still there, with the clock of its sender behind the send, or it was received.
@@ -52,8 +51,9 @@ pub record AreLettersOf (n : ℕ) (c : Computation) (letters : List Letter) : Ty
 -- An application of n processes stands for its computation, and for the notes of each process that were put on its link.
 pub record IsApplicationOf (n : ℕ) (c : Computation) (put : ℕ → List Note) (app : ApplicationState) : Type 0 where
   pub order : IsAccepted c
+  pub few : (p : ℕ) → communications c p ≤ CLOCK_LIMIT
   pub members : length app.probes ≡ n
-  pub probes : (p : ℕ) (default : Core) → p < n → IsProbeOf n c p (put p) (slice_index_or app.probes p default)
+  pub probes : (p : ℕ) (core : Core) → slice_get app.probes p ≡ Some core → IsProbeOf n c p (put p) core
   pub letters : AreLettersOf n c app.letters
 
 -- An event was answered: the answer is that of the definitions, of whatever computation the application stood for, and the
@@ -70,3 +70,8 @@ put_more put p note q = if q == p then put q ++ note ∷ [] else put q
 abbrev pub WasPut : ApplicationState → ℕ → ApplicationState → Type 0
 WasPut old p new = (n : ℕ) (c : Computation) (put : ℕ → List Note) (note : Note) → IsApplicationOf n c put old →
     pending_at old p ≡ Some note → IsApplicationOf n c (put_more put p note) new
+
+-- A process has emitted so many snapshots.
+abbrev pub HasEmitted : ApplicationState → ℕ → ℕ → Type 0
+HasEmitted app p count = (n : ℕ) (c : Computation) (put : ℕ → List Note) → IsApplicationOf n c put app →
+    (notes : List Note) × AreEmissions n c p notes × (count ≡ length (snapshot_clocks notes))

@@ -1,6 +1,5 @@
-use Rattle.std.specs.Prelude.{◌≡◌, ℕ, true, false, Some, None, is_some, List, [], ◌∷◌, ◌++◌, slice_get, slice_set}
-use Rattle.wcp_model.specs.declared.step.Reply.{Reply}
-use Rattle.wcp_model.specs.declared.step.Reply.TheVariants.{Done, Refused}
+use Rattle.std.specs.Prelude.{◌≡◌, ◌==◌, ℕ, Bool, false, not, Option, Some, None, is_some, List, [], ◌∷◌, ◌++◌, slice_get, slice_set}
+use Rattle.std.specs.Option.{option_and_then, option_map_or}
 use Rattle.wcp_model.specs.declared.step.Why.TheVariants.{NoSuch, Closed, Backlog, Gone, ClockEnd}
 use Rattle.wcp_probe.specs.declared.probe.Refusal.{Refusal}
 use Rattle.wcp_probe.specs.declared.probe.Refusal.TheVariants as refusal
@@ -30,30 +29,27 @@ pub record IsPosted (old new : Core) (to : ℕ) (letters more : List Letter) : T
   pub clock : (seal_of message).clock ≡ new.clock
   pub letters_are : more ≡ letters ++ record { to = to; message = Some message } ∷ []
 
+-- The letter of a number is addressed to a process; its message is there until it is taken.
+abbrev pub is_addressed : List Letter → ℕ → ℕ → Bool
+is_addressed letters number p = option_map_or (λ letter. letter.to == p) (slice_get letters number) false
+
+abbrev pub message_of : List Letter → ℕ → Option (Stamped (Unit {0}))
+message_of letters number = option_and_then (λ letter. letter.message) (slice_get letters number)
+
+-- Why the probe of process p may refuse the message of a letter.
+abbrev pub delivery_reasons : Core → List Letter → ℕ → ℕ → List (Bool × Why)
+delivery_reasons core letters p number =
+    (not (is_addressed letters number p), NoSuch) ∷ (core.closed, Closed) ∷ (is_some core.pending, Backlog)
+    ∷ (not (is_some (message_of letters number)), Gone)
+    ∷ (option_map_or (λ message. is_some (receive_refusal core (seal_of message))) (message_of letters number) false, ClockEnd) ∷ []
+
 -- A probe received the message of a letter, which has it no more.
-pub record IsDelivered (old new : Core) (letters fewer : List Letter) (number : ℕ) (letter : Letter) : Type 0 where
+pub record IsDelivered (old new : Core) (letters fewer : List Letter) (number : ℕ) : Type 0 where
+  pub letter : Letter
+  pub at : slice_get letters number ≡ Some letter
   pub message : Stamped (Unit {0})
   pub was : letter.message ≡ Some message
-  pub willing : receive_refusal old (seal_of message) ≡ None
   pub accepted : Accepts old (Received (seal_of message).clock) new
   pub same : IsSameProbe old new
   pub pending : new.pending ≡ old.pending
   pub emptied : fewer ≡ slice_set letters number (record { to = letter.to; message = None })
-
--- The letter of this number is addressed to process p.
-abbrev pub IsAddressed : List Letter → ℕ → ℕ → Letter → Type 0
-IsAddressed letters number p letter = (slice_get letters number ≡ Some letter) × (letter.to ≡ p)
-
--- A probe refuses the message of a letter.
-abbrev pub Refuses : Core → Letter → Type 0
-Refuses core letter = (message : Stamped (Unit {0})) × (letter.message ≡ Some message) × ((why : Refusal) × (receive_refusal core (seal_of message) ≡ Some why))
-
--- What the answer to a receive of message `number` by the probe of p says of the probe and of the letter.
-abbrev pub Delivers : Core → List Letter → ℕ → ℕ → Reply → Core → List Letter → Type 0
-Delivers old letters p number Done new fewer = (letter : Letter) × IsAddressed letters number p letter × (old.closed ≡ false) × (is_some old.pending ≡ false) × IsDelivered old new letters fewer number letter
-Delivers old letters p number (Refused NoSuch) new fewer = ((letter : Letter) → IsAddressed letters number p letter → ⊥) × (new ≡ old) × (fewer ≡ letters)
-Delivers old letters p number (Refused Closed) new fewer = (letter : Letter) × IsAddressed letters number p letter × (old.closed ≡ true) × (new ≡ old) × (fewer ≡ letters)
-Delivers old letters p number (Refused Backlog) new fewer = (letter : Letter) × IsAddressed letters number p letter × (old.closed ≡ false) × (is_some old.pending ≡ true) × (new ≡ old) × (fewer ≡ letters)
-Delivers old letters p number (Refused Gone) new fewer = (letter : Letter) × IsAddressed letters number p letter × (old.closed ≡ false) × (is_some old.pending ≡ false) × (letter.message ≡ None) × (new ≡ old) × (fewer ≡ letters)
-Delivers old letters p number (Refused ClockEnd) new fewer = (letter : Letter) × IsAddressed letters number p letter × (old.closed ≡ false) × (is_some old.pending ≡ false) × Refuses old letter × (new ≡ old) × (fewer ≡ letters)
-Delivers old letters p number _ new fewer = ⊥
