@@ -1,2 +1,4 @@
-pub mod Probes
 pub mod Mail
+pub mod Probes
+pub mod Events
+pub mod Performing
