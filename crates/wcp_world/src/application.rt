@@ -68,10 +68,11 @@ impl Application {
         let Some(probe) = self.probes.get_mut(p as usize) else {
             return Ok(Reply::Refused(Why::NoSuch));
         };
-        match self.letters.post(probe, to)? {
-            Some(refusal) => Ok(Reply::Refused(why_of(refusal))),
-            None => Ok(Reply::Done),
-        }
+        let refusal = self.letters.post(probe, to)?;
+        Ok(match refusal {
+            Some(refusal) => Reply::Refused(why_of(refusal)),
+            None => Reply::Done,
+        })
     }
 
     /// Process `p` receives this message.
