@@ -14,9 +14,11 @@ pub mod FitOrders
 pub mod EventPlaces
 pub mod Predecessors
 pub mod Growth
+pub mod GrowingLogs
 pub mod RunningClock
 pub mod RunningEmissions
 pub mod RunningLog
+pub mod EmittedSnapshots
 pub mod StateClocks
 pub mod OnePass
 pub mod Turns

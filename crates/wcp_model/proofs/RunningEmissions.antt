@@ -54,7 +54,7 @@ pub record HasEmitted (n : ℕ) (c : Computation) (p snapshots : ℕ) (notes : L
   pub notes_are : notes ≡ snapshots_from 0 clocks ++ (if is_closed c p then note.Close (length clocks) ∷ [] else [])
 
 -- these are the process's emissions
-pub emissions_of : (n : ℕ) (c : Computation) (p snapshots : ℕ) (notes : List Note) → HasEmitted n c p snapshots notes → AreEmissions n c p notes
+abbrev pub emissions_of : (n : ℕ) (c : Computation) (p snapshots : ℕ) (notes : List Note) → HasEmitted n c p snapshots notes → AreEmissions n c p notes
 emissions_of n c p snapshots notes h = record { intervals = h.intervals; true_states = h.true_states; clocks = h.clocks; same_length = h.same_length; each = h.each; notes_are = h.notes_are }
 
 -- no true state is new

@@ -109,6 +109,7 @@ impl ProbeCore {
         ensures first { MatchResult result (λ _. observe_refusal self.old ≡ None) (λ why. observe_refusal self.old ≡ Some why) }
         ensures accepted { OnOk result (Accepts self.old (Observed holds) self.new) }
         ensures emits { IfOk result (λ emitted. IsTrue emitted ↔ (IsTrue holds × (self.old.flag ≡ false))) }
+        ensures spared { IfOk result (λ emitted. IsTrue emitted → self.old.pending ≡ None) }
         ensures pending { IfOk result (λ emitted. self.new ≡ (if emitted
             then record self.old { flag = true; emitted = self.old.emitted + 1; pending = Some (note.Snap self.old.emitted self.old.clock) }
             else self.old)) }

@@ -18,7 +18,7 @@ use Rattle.wcp_single.specs.Emissions.{notes_of, row_of, HaveEmitted}
 use Rattle.wcp_single.specs.Process.{ProcessState}
 use Rattle.wcp_single.specs.Probing.{Follows, front, IsRun}
 use Rattle.wcp_single.proofs.AcceptedOrder.{order_accepted}
-use Rattle.wcp_single.proofs.Logs.{log_grows}
+use Rattle.wcp_model.proofs.GrowingLogs.{log_grows}
 use Rattle.wcp_single.proofs.Running.{log_push, running_count}
 
 -- the closes of n processes

@@ -3,7 +3,6 @@ mod Orders
 mod Heads
 mod Rows
 mod Reports
-mod Logs
 mod AcceptedOrder
 mod Running
 mod Runs

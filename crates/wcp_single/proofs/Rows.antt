@@ -10,18 +10,10 @@ use Rattle.wcp_model.specs.StateClock.{IsStateClock, ClockLaw}
 use Rattle.wcp_model.proofs.CandidateRows.{PrecedesAt, IsSatisfyingChoice, AreInOrder}
 use Rattle.wcp_model.proofs.CutElimination.{rows_in_order}
 use Rattle.wcp_model.proofs.CutLaws.{state}
+use Rattle.wcp_model.proofs.EmittedSnapshots.{emitted_clocks, clocks_back}
 use Rattle.wcp_model.proofs.IntervalOrder.{IntervalPrecedes}
 use Rattle.wcp_single.specs.Emissions.{row_of, notes_of, HaveEmitted}
 use Rattle.wcp_single.specs.Heads.{ClockPrecedes}
-
--- the snapshots of notes have the clocks that they were made of
-clocks_back : (number : ℕ) (clocks : List (List ℕ)) (rest : List Note) → snapshot_clocks (snapshots_from number clocks ++ rest) ≡ clocks ++ snapshot_clocks rest
-clocks_back number [] rest = refl
-clocks_back number (clock ∷ clocks) rest = ap (λ more. clock ∷ more) (clocks_back (number + 1) clocks rest)
-
-no_clock : (closed : Bool) (count : ℕ) → snapshot_clocks (if closed then note.Close count ∷ [] else []) ≡ []
-no_clock true count = refl
-no_clock false count = refl
 
 -- the own components of clocks are the intervals of their states
 own_components : (p : ℕ) (clocks : List (List ℕ)) (intervals : List ℕ) → length clocks ≡ length intervals → ((i : ℕ) → i < length intervals → slice_index (get_or clocks i []) p ≡ slice_index intervals i) → map (λ clock. slice_index clock p) clocks ≡ intervals
@@ -45,10 +37,7 @@ module _ (n : ℕ) (c : Computation) (p : ℕ) (clocks : List (List ℕ)) (is : 
   clocks_are : clocks ≡ is.clocks
   clocks_are =
       sym (clocks_back 0 clocks (note.Close (length clocks) ∷ []) ∙ append-nil clocks)
-      ∙ ap snapshot_clocks is.notes_are
-      ∙ clocks_back 0 is.clocks (if is_closed c p then note.Close (length is.clocks) ∷ [] else [])
-      ∙ ap (λ rest. is.clocks ++ rest) (no_clock (is_closed c p) (length is.clocks))
-      ∙ append-nil is.clocks
+      ∙ emitted_clocks n c p (notes_of clocks) is
 
   intervals_are : map (λ clock. slice_index clock p) clocks ≡ is.intervals
   intervals_are = ap (map (λ clock. slice_index clock p)) clocks_are ∙ own_components p is.clocks is.intervals is.same_length (λ i below. (is.each i below).own)

@@ -18,7 +18,7 @@ use Rattle.wcp_single.specs.Process.{ProcessState, IsRunning, Runs}
 use Rattle.wcp_single.specs.Probing.{Follows, IsSealOf, AreInTransit, front, IsChannel, IsNext}
 use Rattle.wcp_single.proofs.AcceptedOrder.{order_accepted}
 use Rattle.wcp_order.proofs.Counting.{count_by_push_passing, count_by_push_failing}
-use Rattle.wcp_single.proofs.Logs.{log_grows, accepted_front, send_clock_grows}
+use Rattle.wcp_model.proofs.GrowingLogs.{log_grows, accepted_front, send_clock_grows}
 use Rattle.wcp_single.proofs.Running.{own_component}
 
 -- one more element of a front

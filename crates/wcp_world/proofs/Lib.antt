@@ -1,6 +1,13 @@
+pub mod Mail
+pub mod Probes
+pub mod Events
+pub mod Performing
+pub mod Starting
+pub mod Emitting
 pub mod Places
 pub mod Ways
 pub mod Entries
 pub mod Stirring
 pub mod Conveying
 pub mod EmptyPlaces
+pub mod Standing

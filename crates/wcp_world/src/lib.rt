@@ -2,4 +2,11 @@
 //! steps.
 #![tactic(auto)]
 
+mod application;
+mod messages;
+mod played;
 mod transport;
+mod world;
+
+pub use played::{Played, play};
+pub use world::World;

@@ -1,9 +1,14 @@
-use Rattle.std.proofs.Common.{◌≡◌, ℕ, ◌+◌, List, [], ◌∷◌, ◌++◌, slice_get, Some, refl, sym, ◌∙◌, subst, arith}
+use Rattle.std.proofs.Common.{◌≡◌, ℕ, zero, suc, ◌+◌, ◌<◌, ◌≤◌, ◌⊎◌, true, false, List, [], ◌∷◌, ◌++◌, length, slice_get, count_by, Some, refl, sym, ap, ◌∙◌, subst, inl, inr, ⊎_elim, append-nil, eq-eqb, true≢false, arith}
 use Rattle.std.specs.List.{filter}
+use Rattle.std.proofs.lemmas.Bool.{false_from_ne_true}
+use Rattle.std.proofs.lemmas.List.{length_push, take_at}
 use Rattle.std.proofs.lemmas.List.Elements.{filter-append}
+use Rattle.std.proofs.lemmas.List.Folds.{list_any_at}
+use Rattle.std.proofs.lemmas.Option.{slice_get_within, get_or_from_slice_get}
 use Rattle.wcp_model.specs.declared.step.Step.{Step}
 use Rattle.wcp_model.specs.declared.step.Step.TheVariants.{Observe, Send, Recv, Close}
-use Rattle.wcp_model.specs.Computation.{Computation, interval_at}
+use Rattle.wcp_model.specs.Computation.{Computation, is_send, interval_at, message_at}
+use Rattle.wcp_model.specs.Emission.{is_close_of, is_closed}
 use Rattle.wcp_model.specs.ProbeLog.{Call, Observed, Sent, Received, Closed, is_step_of, IsStampOf, IsCallOf, AreCallsOf, IsLogOf, IsAccepted}
 use Rattle.wcp_model.specs.StateClock.{IsStateClock}
 use Rattle.wcp_model.proofs.EventPlaces.{event_of_send, event_below}
@@ -17,7 +22,7 @@ send_clock_grows n c e p to sent clock send is =
     (clock_grows n c e (local_state p (interval_at c p sent + 1)) clock (omega (arith, event_below c p (interval_at c p sent) sent (event_of_send c p (interval_at c p sent) to sent send refl))) is)
 
 -- a stamp stays that of its message
-stamp_grows : (n : ℕ) (c e : Computation) (message : ℕ) (stamp : List ℕ) → IsStampOf n c message stamp → IsStampOf n (c ++ e) message stamp
+pub stamp_grows : (n : ℕ) (c e : Computation) (message : ℕ) (stamp : List ℕ) → IsStampOf n c message stamp → IsStampOf n (c ++ e) message stamp
 stamp_grows n c e message stamp is = record {
   sent = is.sent;
   from = is.from;
@@ -57,4 +62,45 @@ pub accepted_front : (c e : Computation) → IsAccepted (c ++ e) → IsAccepted 
 accepted_front c e accepted = record {
   sent_first = λ place p message at. omega (arith, accepted.sent_first place p message (at_grows c e place (Recv p message) at), message_grows c e place (Recv p message) at);
   close_last = λ place later p x below at also. accepted.close_last place later p x below (at_grows c e place (Close p) at) (at_grows c e later x also);
+}
+
+-- an element of a list with one more at its end is an earlier one, or that
+pub get_push : {X : Type 0} (xs : List X) (y z : X) (i : ℕ) → slice_get (xs ++ y ∷ []) i ≡ Some z →
+    (slice_get xs i ≡ Some z) ⊎ ((i ≡ length xs) × (y ≡ z))
+get_push [] y z zero at = inr (refl, cc)
+get_push [] y z (suc i) at = cc
+get_push (x ∷ xs) y z zero at = inl at
+get_push (x ∷ xs) y z (suc i) at =
+    ⊎_elim inl (λ (last : (i ≡ length xs) × (y ≡ z)). inr (ap suc last.0, last.1)) (get_push xs y z i at)
+
+-- a close that stands in a computation closes its process
+close_closes : (c : Computation) (place p : ℕ) → slice_get c place ≡ Some (Close p) → is_closed c p ≡ true
+close_closes c place p at =
+    list_any_at (is_close_of p) c place (Close p) (slice_get_within c place (Close p) at)
+    (ap (is_close_of p) (get_or_from_slice_get c place (Close p) (Close p) at) ∙ eq-eqb p p refl)
+
+-- accepted steps, and one more of a process that is open, which receives no message that wasn't sent
+pub accepted_push : (c : Computation) (x : Step) → IsAccepted c → ((p : ℕ) → is_step_of p x ≡ true → is_closed c p ≡ false) →
+    ((p message : ℕ) → x ≡ Recv p message → message < count_by is_send c) → IsAccepted (c ++ x ∷ [])
+accepted_push c x accepted is_open was_sent = record {
+  sent_first = λ place p message at.
+      ⊎_elim
+      (λ (old : slice_get c place ≡ Some (Recv p message)).
+      omega (arith, accepted.sent_first place p message old, message_grows c (x ∷ []) place (Recv p message) old))
+      (λ (last : (place ≡ length c) × (x ≡ Recv p message)).
+      let all : message_at (c ++ x ∷ []) place ≡ count_by is_send c =
+      ap (message_at (c ++ x ∷ [])) last.0 ∙ ap (count_by is_send) (take_at c (x ∷ []) (length c) refl) in
+      omega (arith, was_sent p message last.1, all))
+      (get_push c x (Recv p message) place at);
+  close_last = λ place later p y below closes at.
+      ⊎_elim
+      (λ (old : slice_get c place ≡ Some (Close p)).
+      ⊎_elim (λ (also : slice_get c later ≡ Some y). accepted.close_last place later p y below old also)
+      (λ (last : (later ≡ length c) × (x ≡ y)).
+      false_from_ne_true (is_step_of p y)
+      (λ own. true≢false (sym (close_closes c place p old) ∙ is_open p (ap (is_step_of p) last.1 ∙ own))))
+      (get_push c x y later at))
+      (λ (last : (place ≡ length c) × (x ≡ Close p)).
+      absurd (omega (arith, last.0, slice_get_within (c ++ x ∷ []) later y at, length_push c x)))
+      (get_push c x (Close p) place closes);
 }
