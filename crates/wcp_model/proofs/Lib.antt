@@ -1,12 +1,9 @@
-pub mod CutElimination
 pub mod CutLaws
 pub mod Decided
 pub mod Elimination
 pub mod LeastCut
 pub mod Places
 pub mod Reached
-pub mod CandidateRows
-pub mod IntervalOrder
 pub mod SamePlace
 pub mod StepsOfOrder
 pub mod MessagesOfOrder
@@ -23,3 +20,7 @@ pub mod Turns
 pub mod PlanPaths
 pub mod FirstFault
 pub mod PlainPlans
+pub mod Choosing
+pub mod NotesInTurn
+pub mod RisingClocks
+pub mod TakenFronts

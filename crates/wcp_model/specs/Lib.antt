@@ -8,5 +8,6 @@ pub mod Emission
 pub mod ProbeLog
 pub mod PlanFault
 pub mod Report
+pub mod Elimination
 pub mod Occupancy
 pub mod Replies
