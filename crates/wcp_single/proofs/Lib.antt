@@ -1,8 +1,5 @@
 mod Alike
 mod Orders
-mod Heads
-mod Rows
-mod Reports
 mod Logs
 mod AcceptedOrder
 mod Running
