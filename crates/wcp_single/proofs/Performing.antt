@@ -6,7 +6,7 @@ use Rattle.wcp_model.specs.declared.step.Step.TheVariants as step
 use Rattle.wcp_model.specs.declared.workload.Action.TheVariants as action
 use Rattle.wcp_model.specs.declared.workload.Task.{Task}
 use Rattle.wcp_model.specs.Computation.{Computation, is_communication_of, is_send, message_at}
-use Rattle.wcp_model.specs.ProbeLog.{Call, Observed, Sent, Received, IsStampOf, ProbeState, state_of_log}
+use Rattle.wcp_model.specs.ProbeLog.{Observed, Sent, Received, IsStampOf, ProbeState}
 use Rattle.wcp_model.specs.Report.{notes_taken}
 use Rattle.wcp_model.specs.StateClock.{IsStateClock}
 use Rattle.wcp_model.specs.WorkloadComputation.{sends, receives, message_number}
@@ -18,7 +18,7 @@ use Rattle.wcp_model.proofs.StepsOfOrder.{message_at_is}
 use Rattle.wcp_probe.specs.Seal.{Seal}
 use Rattle.wcp_queue.specs.Checker.{CheckerState}
 use Rattle.wcp_single.specs.declared.process.Process.{Process}
-use Rattle.wcp_single.specs.Process.{Runs, Feeds, IsFed, IsFedMore}
+use Rattle.wcp_single.specs.Process.{Runs, Feeds, IsFedMore}
 use Rattle.wcp_single.specs.Probing.{Follows, IsSealOf, front, IsChannel, IsRun, IsNext, queue_at}
 use Rattle.wcp_order.proofs.Counting.{count_by_push_passing, count_by_push_failing, channels_differ}
 use Rattle.wcp_single.proofs.Running.{log_push, last_clock, own_component, not_ahead}

@@ -1,4 +1,4 @@
-use Rattle.std.proofs.Common.{◌≡◌, ◌≢◌, ℕ, ◌+◌, ◌-◌, ◌<◌, ◌≤◌, ◌↔◌, IsTrue, Bool, true, false, cond, List, [], ◌∷◌, ◌++◌, length, slice_index, Option, Some, None, MatchOption, refl, sym, ap, ap₂, ◌∙◌, subst, ⊎_elim, append-nil, arith}
+use Rattle.std.proofs.Common.{◌≡◌, ◌≢◌, ℕ, ◌+◌, ◌-◌, ◌<◌, ◌≤◌, ◌↔◌, IsTrue, Bool, true, false, List, [], ◌∷◌, ◌++◌, length, slice_index, Option, Some, None, MatchOption, refl, sym, ap, ap₂, ◌∙◌, subst, ⊎_elim, append-nil, arith}
 use Rattle.std.specs.List.{list_any}
 use Rattle.std.specs.Prelude.{if◌then◌else◌}
 use Rattle.std.proofs.lemmas.Bool.{cases_Bool, cases_lt, false≢true}
@@ -8,18 +8,18 @@ use Rattle.wcp_clock.specs.declared.note.Note.{Note}
 use Rattle.wcp_clock.specs.declared.note.Note.TheVariants as note
 use Rattle.wcp_model.specs.Computation.{Computation, communications}
 use Rattle.wcp_model.specs.ProbeLog.{Call, Observed, Closed, ProbeState, after_call, state_of_log, IsAccepted}
-use Rattle.wcp_model.specs.Report.{notes_taken, snapshot_clocks, is_close, place_of}
+use Rattle.wcp_model.specs.Report.{snapshot_clocks, is_close, place_of}
 use Rattle.wcp_model.specs.StateClock.{IsStateClock}
 use Rattle.wcp_model.proofs.EventPlaces.{event_below}
 use Rattle.wcp_model.proofs.NotesInTurn.{log_counts_notes}
 use Rattle.wcp_model.proofs.Predecessors.{local_state, span}
 use Rattle.wcp_model.proofs.RunningLog.{log_law_holds}
-use Rattle.wcp_probe.specs.Core.{Core, StandsFor, Accepts}
+use Rattle.wcp_probe.specs.Core.{Core}
 use Rattle.wcp_probe.specs.Seal.{Seal}
 use Rattle.wcp_queue.specs.Checker.{CheckerState, MayTake, TakesItem, processes}
 use Rattle.wcp_queue.proofs.Taking.{notes_taken-push_same, notes_taken-push_other, MayTake-next}
 use Rattle.wcp_single.specs.declared.process.Process.{Process}
-use Rattle.wcp_single.specs.Process.{IsRunning, Runs, IsFed, IsFedMore, IsWatched, HasTaken, Feeds}
+use Rattle.wcp_single.specs.Process.{IsRunning, IsFed, IsFedMore, IsWatched, HasTaken, Feeds}
 use Rattle.wcp_single.specs.Probing.{Follows, IsSealOf}
 
 -- the log with one more call

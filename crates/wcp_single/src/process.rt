@@ -70,7 +70,10 @@ impl Process {
         let Some(note) = self.probe.pending() else {
             return Ok(());
         };
-        match checker.take(Item { from: self.id, note }) {
+        match checker.take(Item {
+            from: self.id,
+            note,
+        }) {
             Ok(()) => {
                 self.probe.was_put();
                 Ok(())
