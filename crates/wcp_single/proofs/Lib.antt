@@ -6,5 +6,6 @@ mod Running
 mod Runs
 mod Performing
 mod SealQueues
+mod PerformedTasks
 mod Starting
 mod Ending

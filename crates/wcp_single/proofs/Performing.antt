@@ -18,7 +18,7 @@ use Rattle.wcp_model.proofs.StepsOfOrder.{message_at_is}
 use Rattle.wcp_probe.specs.Seal.{Seal}
 use Rattle.wcp_queue.specs.Checker.{CheckerState}
 use Rattle.wcp_single.specs.declared.process.Process.{Process}
-use Rattle.wcp_single.specs.Process.{Runs, Feeds, IsFedMore}
+use Rattle.wcp_single.specs.Process.{MayCommunicate, MayReceive, Runs, Feeds, IsFedMore}
 use Rattle.wcp_single.specs.Probing.{Follows, IsSealOf, front, IsChannel, IsRun, IsNext, queue_at}
 use Rattle.wcp_order.proofs.Counting.{count_by_push_passing, count_by_push_failing, channels_differ}
 use Rattle.wcp_single.proofs.Running.{log_push, last_clock, own_component, not_ahead}
@@ -29,10 +29,15 @@ use Rattle.wcp_order.proofs.Tasks.{sends_ends, receives_ends, send_passes, recei
 pub read_follows : (n : ℕ) (order : List Task) (place : ℕ) (processes : List Process) (queues : List (List Seal)) (checker : CheckerState) (run : IsRun n order place processes queues checker) (p : ℕ) (old : Process) → p < n → old ≡ get_or processes p old → Follows n (front n order place) p (notes_taken p run.items) old
 read_follows n order place processes queues checker run p old within read = subst (Follows n (front n order place) p (notes_taken p run.items)) (sym read) (run.follows p old within)
 
--- its clock has room for one more event
-pub room_next : (n : ℕ) (order : List Task) (place : ℕ) (task : Task) → IsNext n order place task → (processes : List Process) (queues : List (List Seal)) (checker : CheckerState) → IsRun n order place processes queues checker → (old : Process) → old ≡ get_or processes task.p old → slice_index old.probe.clock old.probe.id < old.probe.limit
-room_next n order place task next processes queues checker run old read =
-    has_room n order place task.p task.action next (notes_taken task.p run.items) old (read_follows n order place processes queues checker run task.p old (next_within n order place task.p task.action next).0 read)
+-- it may make a communication event
+pub may_communicate : (n : ℕ) (order : List Task) (place : ℕ) (task : Task) → IsNext n order place task → (processes : List Process) (queues : List (List Seal)) (checker : CheckerState) → IsRun n order place processes queues checker → (old : Process) → old ≡ get_or processes task.p old → MayCommunicate old
+may_communicate n order place task next processes queues checker run old read =
+    let follows = read_follows n order place processes queues checker run task.p old (next_within n order place task.p task.action next).0 read in
+    record {
+      not_closed = follows.running.not_closed;
+      none_pending = follows.running.none_pending;
+      room = has_room n order place task.p task.action next (notes_taken task.p run.items) old follows;
+    }
 
 -- the run after an observation
 module _ (n : ℕ) (order : List Task) (place a : ℕ) (holds : Bool) (next : IsNext n order place (record { p = a; action = action.Observe holds })) (processes : List Process) (queues : List (List Seal)) (checker : CheckerState) (run : IsRun n order place processes queues checker) (old new : Process) (read : old ≡ get_or processes a old) (runs : Runs old (Observed holds) new) (after : CheckerState) (feeds : Feeds old (Observed holds) checker after) where
@@ -115,7 +120,7 @@ module _ (n : ℕ) (order : List Task) (place a b : ℕ) (next : IsNext n order 
         (channel_stays n order place a (action.Send b) next p q _ other (send_is_no_receive p q a b) (run.channels p q p_within q_within)))
         (cases_Bool (sends p q (record { p = a; action = action.Send b })))
 
-    run_sent : IsRun n order (place + 1) (set processes a new) (set queues (a * n + b) longer) checker
+    pub run_sent : IsRun n order (place + 1) (set processes a new) (set queues (a * n + b) longer) checker
     run_sent = record {
       processes_are = length-set processes a new ∙ run.processes_are;
       channels_are = length-set queues (a * n + b) longer ∙ run.channels_are;
@@ -124,19 +129,6 @@ module _ (n : ℕ) (order : List Task) (place a b : ℕ) (next : IsNext n order 
       follows = follow_next n order place a (action.Send b) next processes run.items run.items new run.processes_are run.follows (λ q other. refl) sender_follows;
       channels = channel_after;
     }
-
-pub performs_send : (n : ℕ) (order : List Task) (place : ℕ) (task : Task) (to : ℕ) → task.action ≡ action.Send to → IsNext n order place task → (processes : List Process) (queues : List (List Seal)) (checker : CheckerState) → IsRun n order place processes queues checker → (old new : Process) → old ≡ get_or processes task.p old → Runs old Sent new →
-    (seal : Seal) → seal ≡ record { watch = old.probe.watch; from = old.probe.id; to = to; clock = new.probe.clock } → (channel : ℕ) → channel ≡ task.p * n + to → IsRun n order (place + 1) (set processes task.p new) (set queues channel (queue_at queues channel ++ seal ∷ [])) checker
-performs_send n order place task to acts next processes queues checker run old new read runs seal is channel here =
-    subst (λ i. IsRun n order (place + 1) (set processes task.p new) (set queues i (queue_at queues i ++ seal ∷ [])) checker) (sym here)
-    (run_sent n order place task.p to (subst (λ act. IsNext n order place (record { p = task.p; action = act })) acts next) processes queues checker run old new read runs seal is)
-
--- what a process may receive
-pub record IsAcceptable (process : Process) (seal : Seal) : Type 0 where
-  pub watch : seal.watch ≡ process.probe.watch
-  pub components : length seal.clock ≡ length process.probe.clock
-  pub addressed : seal.to ≡ process.probe.id
-  pub not_ahead : slice_index seal.clock process.probe.id ≤ slice_index process.probe.clock process.probe.id
 
 -- the run before a receive, and after it
 module _ (n : ℕ) (order : List Task) (place a b : ℕ) (next : IsNext n order place (record { p = a; action = action.Recv b })) (processes : List Process) (queues : List (List Seal)) (checker : CheckerState) (run : IsRun n order place processes queues checker) where
@@ -150,7 +142,7 @@ module _ (n : ℕ) (order : List Task) (place a b : ℕ) (next : IsNext n order 
   received = count_by (receives b a) (take place order)
 
   -- its message is in transit
-  waits : 0 < length (queue_at queues (b * n + a))
+  pub waits : 0 < length (queue_at queues (b * n + a))
   waits =
       let more : count_by (receives b a) (take (place + 1) order) ≡ received + 1 = ap (count_by (receives b a)) (order_next n order place a (action.Recv b) next) ∙ count_by_push_passing (receives b a) (take place order) _ (receive_passes b a) in
       let same : count_by (sends b a) (take (place + 1) order) ≡ count_by (sends b a) (take place order) = ap (count_by (sends b a)) (order_next n order place a (action.Recv b) next) ∙ count_by_push_failing (sends b a) (take place order) _ (receive_is_no_send b a a b) in
@@ -164,8 +156,9 @@ module _ (n : ℕ) (order : List Task) (place a b : ℕ) (next : IsNext n order 
     receiver_follows : Follows n (front n order place) a (notes_taken a run.items) old
     receiver_follows = read_follows n order place processes queues checker run a old receiver_within read
 
-    acceptable : IsAcceptable old seal
-    acceptable = record {
+    pub may_receive : MayReceive old seal
+    may_receive = record {
+      communicate = may_communicate n order place (record { p = a; action = action.Recv b }) next processes queues checker run old read;
       watch = first_is.watch ∙ sym receiver_follows.running.watch;
       components = first_is.clock.components ∙ sym receiver_follows.running.components;
       addressed = first_is.to ∙ sym receiver_follows.running.id;
@@ -203,7 +196,7 @@ module _ (n : ℕ) (order : List Task) (place a b : ℕ) (next : IsNext n order 
           (channel_stays n order place a (action.Recv b) next p q _ (receive_is_no_send p q a b) other (run.channels p q p_within q_within)))
           (cases_Bool (receives p q (record { p = a; action = action.Recv b })))
 
-      run_received : IsRun n order (place + 1) (set processes a new) (set queues (b * n + a) shorter) checker
+      pub run_received : IsRun n order (place + 1) (set processes a new) (set queues (b * n + a) shorter) checker
       run_received = record {
         processes_are = length-set processes a new ∙ run.processes_are;
         channels_are = length-set queues (b * n + a) shorter ∙ run.channels_are;
@@ -214,23 +207,3 @@ module _ (n : ℕ) (order : List Task) (place a b : ℕ) (next : IsNext n order 
             (receiver_follows.notes_are ∙ ap (λ (s : ProbeState). s.notes) (sym (log_push n a receiver_follows.log (Received seal.clock)))));
         channels = channel_behind;
       }
-
--- the same of a task that receives
-module _ (n : ℕ) (order : List Task) (place : ℕ) (task : Task) (from : ℕ) (acts : task.action ≡ action.Recv from) (next : IsNext n order place task) (processes : List Process) (queues : List (List Seal)) (checker : CheckerState) (run : IsRun n order place processes queues checker) (channel : ℕ) (here : channel ≡ from * n + task.p) where
-  next_receive : IsNext n order place (record { p = task.p; action = action.Recv from })
-  next_receive = subst (λ act. IsNext n order place (record { p = task.p; action = act })) acts next
-
-  pub message_waits : 0 < length (queue_at queues channel)
-  message_waits = subst (λ i. 0 < length (queue_at queues i)) (sym here) (waits n order place task.p from next_receive processes queues checker run)
-
-  module _ (seal : Seal) (first : seal ≡ get_or (queue_at queues channel) 0 seal) (old : Process) (read : old ≡ get_or processes task.p old) where
-    first_there : seal ≡ get_or (queue_at queues (from * n + task.p)) 0 seal
-    first_there = first ∙ ap (λ i. get_or (queue_at queues i) 0 seal) here
-
-    pub message_acceptable : IsAcceptable old seal
-    message_acceptable = acceptable n order place task.p from next_receive processes queues checker run seal first_there old read
-
-    pub performs_receive : (new : Process) → Runs old (Received seal.clock) new → IsRun n order (place + 1) (set processes task.p new) (set queues channel (drop 1 (queue_at queues channel))) checker
-    performs_receive new runs =
-        subst (λ i. IsRun n order (place + 1) (set processes task.p new) (set queues i (drop 1 (queue_at queues i))) checker) (sym here)
-        (run_received n order place task.p from next_receive processes queues checker run seal first_there old read new runs)

@@ -1,9 +1,10 @@
-use Rattle.std.specs.Prelude.{◌≡◌, ◌≢◌, ℕ, ◌<◌, List, [], ◌∷◌, ◌++◌, length, None, false}
+use Rattle.std.specs.Prelude.{◌≡◌, ◌≢◌, ℕ, ◌<◌, ◌≤◌, List, [], ◌∷◌, ◌++◌, length, slice_index, None, false}
 use Rattle.wcp_clock.specs.declared.clock.TheConstants.{CLOCK_LIMIT}
 use Rattle.wcp_clock.specs.declared.note.Item.{Item}
 use Rattle.wcp_model.specs.ProbeLog.{Call, state_of_log}
 use Rattle.wcp_model.specs.Report.{notes_taken}
 use Rattle.wcp_probe.specs.Core.{StandsFor as ProbeStandsFor}
+use Rattle.wcp_probe.specs.Seal.{Seal}
 use Rattle.wcp_queue.specs.Checker.{CheckerState, processes, StandsFor as CheckerStandsFor}
 use Rattle.wcp_single.specs.declared.process.Process.{Process}
 
@@ -21,6 +22,20 @@ pub record IsRunning (n p : ℕ) (log : List Call) (process : Process) : Type 0 
 -- The process makes a call of its probe: whatever log it ran by, it now runs by that log with the call at its end.
 abbrev pub Runs : Process → Call → Process → Type 0
 Runs old call new = (n p : ℕ) (log : List Call) → IsRunning n p log old → IsRunning n p (log ++ call ∷ []) new
+
+-- The process may make a communication event: its probe is open with nothing pending, and its clock has room.
+pub record MayCommunicate (process : Process) : Type 0 where
+  pub not_closed : process.probe.closed ≡ false
+  pub none_pending : process.probe.pending ≡ None
+  pub room : slice_index process.probe.clock process.probe.id < process.probe.limit
+
+-- The process may receive a message with this seal.
+pub record MayReceive (process : Process) (seal : Seal) : Type 0 where
+  pub communicate : MayCommunicate process
+  pub watch : seal.watch ≡ process.probe.watch
+  pub components : length seal.clock ≡ length process.probe.clock
+  pub addressed : seal.to ≡ process.probe.id
+  pub not_ahead : slice_index seal.clock process.probe.id ≤ slice_index process.probe.clock process.probe.id
 
 -- A checker of n processes has taken these items.
 pub record HasTaken (n : ℕ) (items : List Item) (checker : CheckerState) : Type 0 where

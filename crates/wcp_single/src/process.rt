@@ -3,7 +3,7 @@ ghost use Rattle.wcp_clock.specs.declared.note.Note.{Note};
 ghost use Rattle.wcp_model.specs.ProbeLog.{Observed, Sent, Received, Closed};
 ghost use Rattle.wcp_probe.specs.Seal.{seal_of};
 ghost use Rattle.wcp_queue.specs.Checker.{MayTake, TakesItem, processes};
-ghost use Rattle.wcp_single.specs.Process.{Feeds, IsRunning, IsWatched, Runs};
+ghost use Rattle.wcp_single.specs.Process.{Feeds, IsRunning, IsWatched, MayCommunicate, MayReceive, Runs};
 
 use std::alloc::AllocError;
 use wcp_clock::{CLOCK_LIMIT, Item};
@@ -84,11 +84,9 @@ impl Process {
 
     /// The process sends a message to another.
     pub fn send(&mut self, to: u32) -> Stamped<()>
-        requires running { self.old.probe.closed ≡ false }
-        requires taken { self.old.probe.pending ≡ None }
+        requires may { MayCommunicate self.old }
         requires within { to < length self.old.probe.clock }
         requires other { to ≢ self.old.probe.id }
-        requires room { slice_index self.old.probe.clock self.old.probe.id < self.old.probe.limit }
         ensures runs { Runs self.old Sent self.new }
         ensures seal { seal_of result ≡ record {
           watch = self.old.probe.watch;
@@ -105,13 +103,7 @@ impl Process {
 
     /// The process receives a message.
     pub fn receive(&mut self, message: Stamped<()>)
-        requires running { self.old.probe.closed ≡ false }
-        requires taken { self.old.probe.pending ≡ None }
-        requires watch { (seal_of message).watch ≡ self.old.probe.watch }
-        requires components { length (seal_of message).clock ≡ length self.old.probe.clock }
-        requires addressed { (seal_of message).to ≡ self.old.probe.id }
-        requires not_ahead { slice_index (seal_of message).clock self.old.probe.id ≤ slice_index self.old.probe.clock self.old.probe.id }
-        requires room { slice_index self.old.probe.clock self.old.probe.id < self.old.probe.limit }
+        requires { MayReceive self.old (seal_of message) }
         ensures { Runs self.old (Received (seal_of message).clock) self.new }
     {
         match self.probe.receive(message) {
