@@ -1,9 +1,9 @@
 ghost use Rattle.std.specs.Prelude.{◌≡◌, true, false, ℕ, ◌+◌, ◌-◌, ◌*◌, ◌^◌, ◌<◌, ◌≤◌, [], ◌∷◌, ◌++◌, List, length, count_by, IfOk, IfErr, IsOk, OnOk, OnErr};
-ghost use Rattle.std.specs.List.{list_all};
+ghost use Rattle.std.specs.List.{list_all, list_any};
 ghost use Rattle.wcp_clock.specs.declared.note.Item.{Item};
 ghost use Rattle.wcp_clock.specs.declared.note.Note.TheVariants.{Snap};
 ghost use Rattle.wcp_model.specs.declared.outcome.Report.TheVariants.{Found};
-ghost use Rattle.wcp_model.specs.Report.{ClocksRise, IsReportByClocks, clocks_taken, is_close};
+ghost use Rattle.wcp_model.specs.Report.{ClocksRise, IsReportByClocks, clocks_taken, is_close, notes_taken};
 
 use crate::elimination::add_candidate;
 use crate::queue::Queue;
@@ -145,6 +145,15 @@ impl Checker {
         ensures snapshots { (items : List Item) → StandsFor self.now items → result ≡ length (clocks_taken p items) }
     {
         self.taken[p as usize]
+    }
+
+    /// Whether the close mark of process `p` was taken.
+    pub fn closed(&self, p: u32) -> bool
+        requires { p < processes self.now }
+        ensures value { result ≡ closed_of self.now p }
+        ensures mark { (items : List Item) → StandsFor self.now items → result ≡ list_any is_close (notes_taken p items) }
+    {
+        self.closed[p as usize]
     }
 }
 
