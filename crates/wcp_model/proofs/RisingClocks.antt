@@ -59,7 +59,7 @@ clock_never_falls n c p k l one other up exists earlier later q = ⊎_elim
     (cases_eq q p)
 
 -- so the clocks that a process emits rise
-emissions_rise : (n : ℕ) (c : Computation) (p : ℕ) (notes : List Note) → AreEmissions n c p notes → AreRising p (snapshot_clocks notes)
+pub emissions_rise : (n : ℕ) (c : Computation) (p : ℕ) (notes : List Note) → AreEmissions n c p notes → AreRising p (snapshot_clocks notes)
 emissions_rise n c p notes emitted = subst (AreRising p) (sym (emitted_clocks n c p notes emitted)) (record {
   never_fall = λ i j q up within.
       let below : j < length emitted.intervals = omega (arith, emitted.same_length) in

@@ -101,22 +101,29 @@ module _ (n : ℕ) (c : Computation) (items : List Item) (fronts : AreFrontsOfEm
   report_of_taken Nothing none = (λ cut is. none.0 cut (cut_by_clocks cut is), none.1)
   report_of_taken Undecided none = (λ cut is. none.0 cut (cut_by_clocks cut is), none.1)
 
-  -- each true state below a named one is named
+  -- a true state has a place among the snapshots, and is named once that one is taken
+  place_of : (p k : ℕ) (within : p < n) → IsTrueState c (state p k) → (i : ℕ) × (i < length (fronts p within).1.intervals) × (slice_index (fronts p within).1.intervals i ≡ k)
+  place_of p k within true_state =
+      let (i, below, here) = ((fronts p within).1.true_states.each k).1 true_state in
+      (i, below, get_or_default (fronts p within).1.intervals i 0 k below ∙ here)
+
+  named_by : (p k i : ℕ) (within : p < n) → slice_index (fronts p within).1.intervals i ≡ k → i < length (clocks_taken p items) → IsNamed items (state p k)
+  named_by p k i within here taken = record {
+    clock = get_or (clocks_taken p items) i [];
+    taken = Contains-get_or (clocks_taken p items) i [] taken;
+    own = (state_at p i within taken).clock_is.own ∙ here;
+  }
+
+  -- so each true state below a named one is named
   named_below : (p k l : ℕ) → p < n → IsNamed items (state p k) → IsTrueState c (state p l) → l ≤ k → IsNamed items (state p l)
   named_below p k l within named true_state order =
       let emitted = (fronts p within).1 in
       let (i, i_below, interval, at) = named_at p k within named in
-      let (j, j_below, here) = (emitted.true_states.each l).1 true_state in
-      let there : slice_index emitted.intervals j ≡ l = get_or_default emitted.intervals j 0 l j_below ∙ here in
-      let taken : j < length (clocks_taken p items) = ⊎_elim
+      let (j, j_below, here) = place_of p l within true_state in
+      named_by p l j within here (⊎_elim
       (λ (past : i < j). absurd (omega (arith, rises_above emitted.intervals i j emitted.true_states.rising past j_below)))
       (λ (at_most : j ≤ i). omega arith)
-      (cases_lt i j) in
-      record {
-        clock = get_or (clocks_taken p items) j [];
-        taken = Contains-get_or (clocks_taken p items) j [] taken;
-        own = (state_at p j within taken).clock_is.own ∙ there;
-      }
+      (cases_lt i j))
 
   -- so the least cut of those named is the least cut of the whole computation, before all is drained and after
   pub found_is_least : (cut : List ℕ) → IsReportByClocks n items (Found cut) → IsLeastCut n c cut
@@ -151,14 +158,8 @@ module _ (n : ℕ) (c : Computation) (items : List Item) (fronts : AreFrontsOfEm
 
   named_when_drained : IsDrained n items → (p k : ℕ) → p < n → IsTrueState c (state p k) → IsNamed items (state p k)
   named_when_drained drained p k within true_state =
-      let emitted = (fronts p within).1 in
-      let (i, i_below, here) = (emitted.true_states.each k).1 true_state in
-      let taken : i < length (clocks_taken p items) = omega (arith, all_states_taken drained p within) in
-      record {
-        clock = get_or (clocks_taken p items) i [];
-        taken = Contains-get_or (clocks_taken p items) i [] taken;
-        own = (state_at p i within taken).clock_is.own ∙ get_or_default emitted.intervals i 0 k i_below ∙ here;
-      }
+      let (i, below, here) = place_of p k within true_state in
+      named_by p k i within here (omega (arith, all_states_taken drained p within))
 
   -- and the report is that of the whole computation
   pub report_when_drained : IsDrained n items → (report : Report) → IsReportByClocks n items report → IsReportOf n c report

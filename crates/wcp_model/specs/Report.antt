@@ -49,9 +49,11 @@ AreFrontsOfEmissions n c items = (p : ℕ) → p < n → (rest : List Note) × A
 
 -- All is drained if the notes taken of each process end with its close mark.
 abbrev pub IsDrained : ℕ → List Item → Type 0
-IsDrained n items = (p : ℕ) → p < n → (count : ℕ) × (before : List Note) × (notes_taken p items ≡ before ++ note.Close count ∷ [])
+IsDrained n items = (p : ℕ) → p < n →
+    (count : ℕ) × (before : List Note) × (notes_taken p items ≡ before ++ note.Close count ∷ [])
 
--- A taken snapshot of a process names its state in the interval that is the clock's own component (Garg and Waldecker 1994).
+-- A taken snapshot of a process names its state in the interval that is the clock's own component (Garg and Waldecker
+-- 1994).
 pub record IsNamed (items : List Item) (s : State) : Type 0 where
   pub clock : List ℕ
   pub taken : Contains (clocks_taken s.process items) clock
@@ -90,10 +92,13 @@ IsReportOfTaken n c items = IsReportOn n (IsNamedCut n c items) (IsDrained n ite
 abbrev pub IsReportByClocks : ℕ → List Item → Report → Type 0
 IsReportByClocks n items = IsReportOn n (IsCutByClocks n items) (IsDrained n items)
 
--- These clocks of process p never fall in a component, and rise in its own (Fidge 1988; Mattern 1989: clocks grow along a process).
+-- These clocks of process p never fall in a component, and rise in its own (Fidge 1988; Mattern 1989: clocks grow along a
+-- process).
 pub record AreRising (p : ℕ) (clocks : List (List ℕ)) : Type 0 where
-  pub never_fall : (i j q : ℕ) → i ≤ j → j < length clocks → slice_index (slice_index_or clocks i []) q ≤ slice_index (slice_index_or clocks j []) q
-  pub rise : (i j : ℕ) → i < j → j < length clocks → slice_index (slice_index_or clocks i []) p < slice_index (slice_index_or clocks j []) p
+  pub never_fall : (i j q : ℕ) → i ≤ j → j < length clocks →
+      slice_index (slice_index_or clocks i []) q ≤ slice_index (slice_index_or clocks j []) q
+  pub rise : (i j : ℕ) → i < j → j < length clocks →
+      slice_index (slice_index_or clocks i []) p < slice_index (slice_index_or clocks j []) p
 
 -- The clocks taken of each process never fall in a component, and rise in its own.
 abbrev pub ClocksRise : ℕ → List Item → Type 0

@@ -45,15 +45,16 @@ is_snapshot item = is_snap item.note
     is_snap (Snap number clock) = true
     is_snap (Close count) = false
 
--- A checker may take an item that is the next of its process: its place is the number of snapshots taken of that process,
--- whose close mark wasn't taken.
+-- A checker may take an item that is the next of its process: its place is the number of snapshots taken of that
+-- process, whose close mark wasn't taken.
 pub record MayTake (checker : CheckerState) (item : Item) : Type 0 where
   pub from : item.from < processes checker
   pub place : place_of item.note ≡ taken_of checker item.from
   pub still_open : closed_of checker item.from ≡ false
 
--- A checker stands for the list of items that it took, those of each process in turn: it has counted them, and its queues
--- are what elimination leaves of their snapshots' clocks, until a cut was found among these (Garg and Waldecker 1994).
+-- A checker stands for the list of items that it took, those of each process in turn: it has counted them, and its
+-- queues are what elimination leaves of their snapshots' clocks, until a cut was found among these (Garg and Waldecker
+-- 1994).
 pub record StandsFor (checker : CheckerState) (items : List Item) : Type 0 where
   pub taken : (p : ℕ) → p < processes checker → taken_of checker p ≡ length (clocks_taken p items)
   pub snapshots : sum checker.taken ≡ count_by is_snapshot items
@@ -74,8 +75,8 @@ KeepsFound old new = (cut : List ℕ) → report_of old ≡ Found cut → report
 abbrev pub HasFound : CheckerState → Type 0
 HasFound checker = (cut : List ℕ) × (report_of checker ≡ Found cut)
 
--- What holds of the report whatever the clocks are: a found cut is one of taken snapshots of which none precedes another by
--- its clock, and otherwise it says whether all is drained.
+-- What holds of the report whatever the clocks are: a found cut is one of taken snapshots of which none precedes another
+-- by its clock, and otherwise it says whether all is drained.
 abbrev pub IsReportOfAnyClocks : ℕ → List Item → Report → Type 0
 IsReportOfAnyClocks n items (Found cut) = IsCutByClocks n items cut
 IsReportOfAnyClocks n items Nothing = IsDrained n items

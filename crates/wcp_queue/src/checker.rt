@@ -97,7 +97,8 @@ impl Checker {
         requires within { p < processes self.old }
         requires few { taken_of self.old p < 4294967296 }
         requires still_open { closed_of self.old p ≡ false }
-        ensures taken { OnOk result (TakesItem self.old self.new (record { from = p; note = Snap (taken_of self.old p) clock })) }
+        ensures taken { OnOk result
+            (TakesItem self.old self.new (record { from = p; note = Snap (taken_of self.old p) clock })) }
         ensures found_stays { KeepsFound self.old self.new }
         ensures processes { processes self.new ≡ processes self.old }
         ensures unchanged { OnErr result (self.new ≡ self.old) }
@@ -151,7 +152,8 @@ impl Checker {
     pub fn closed(&self, p: u32) -> bool
         requires { p < processes self.now }
         ensures value { result ≡ closed_of self.now p }
-        ensures mark { (items : List Item) → StandsFor self.now items → result ≡ list_any is_close (notes_taken p items) }
+        ensures mark { (items : List Item) → StandsFor self.now items
+            → result ≡ list_any is_close (notes_taken p items) }
     {
         self.closed[p as usize]
     }

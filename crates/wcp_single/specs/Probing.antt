@@ -55,14 +55,16 @@ pub record IsChannel (n : ℕ) (order : List Task) (place p q : ℕ) (seals : Li
   pub waiting : length seals + count_by (receives p q) (take place order) ≡ count_by (sends p q) (take place order)
   pub in_order : AreInTransit n order (front n order place) p q (count_by (receives p q) (take place order)) seals
 
--- The run of an order has come to a place: each process runs by its log, the checker has taken what they emitted, and each
--- channel has its messages.
-pub record IsRun (n : ℕ) (order : List Task) (place : ℕ) (processes : List Process) (queues : List (List Seal)) (checker : CheckerState) : Type 0 where
+-- The run of an order has come to a place: each process runs by its log, the checker has taken what they emitted, and
+-- each channel has its messages.
+pub record IsRun (n : ℕ) (order : List Task) (place : ℕ) (processes : List Process) (queues : List (List Seal))
+    (checker : CheckerState) : Type 0 where
   pub processes_are : length processes ≡ n
   pub channels_are : length queues ≡ n * n
   pub items : List Item
   pub has_taken : HasTaken n items checker
-  pub follows : (p : ℕ) (process : Process) → p < n → Follows n (front n order place) p (notes_taken p items) (slice_index_or processes p process)
+  pub follows : (p : ℕ) (process : Process) → p < n →
+      Follows n (front n order place) p (notes_taken p items) (slice_index_or processes p process)
   pub channels : (p q : ℕ) → p < n → q < n → IsChannel n order place p q (queue_at queues (p * n + q))
 
 -- The task is next at this place of a fit order.
@@ -78,11 +80,14 @@ pub record HasEnded (n : ℕ) (order : List Task) (p : ℕ) (notes : List Note) 
   pub counted : process.probe.emitted ≡ length (snapshot_clocks notes)
   pub closed : (count : ℕ) × (before : List Note) × (notes ≡ before ++ note.Close count ∷ [])
 
--- The run of an order ends: so many processes have closed, the others have only done their tasks, and the checker has taken
--- what they emitted.
-pub record IsEnding (n : ℕ) (order : List Task) (ended : ℕ) (processes : List Process) (checker : CheckerState) : Type 0 where
+-- The run of an order ends: so many processes have closed, the others have only done their tasks, and the checker has
+-- taken what they emitted.
+pub record IsEnding (n : ℕ) (order : List Task) (ended : ℕ) (processes : List Process)
+    (checker : CheckerState) : Type 0 where
   pub processes_are : length processes ≡ n
   pub items : List Item
   pub has_taken : HasTaken n items checker
-  pub follows : (p : ℕ) (process : Process) → ended ≤ p → p < n → Follows n (front n order (length order)) p (notes_taken p items) (slice_index_or processes p process)
-  pub has_ended : (p : ℕ) (process : Process) → p < ended → HasEnded n order p (notes_taken p items) (slice_index_or processes p process)
+  pub follows : (p : ℕ) (process : Process) → ended ≤ p → p < n →
+      Follows n (front n order (length order)) p (notes_taken p items) (slice_index_or processes p process)
+  pub has_ended : (p : ℕ) (process : Process) → p < ended →
+      HasEnded n order p (notes_taken p items) (slice_index_or processes p process)

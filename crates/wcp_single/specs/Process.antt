@@ -64,4 +64,5 @@ pub record IsFedMore (n p : ℕ) (log : List Call) (items : List Item) (checker 
 
 -- What the probe of a process emits by a call is taken.
 abbrev pub Feeds : Process → Call → CheckerState → CheckerState → Type 0
-Feeds process call old new = (n p : ℕ) (log : List Call) (items : List Item) → IsRunning n p log process → IsFed n p log items old → IsFedMore n p (log ++ call ∷ []) items new
+Feeds process call old new = (n p : ℕ) (log : List Call) (items : List Item) →
+    IsRunning n p log process → IsFed n p log items old → IsFedMore n p (log ++ call ∷ []) items new

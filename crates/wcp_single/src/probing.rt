@@ -32,7 +32,8 @@ impl Run {
     pub fn new(alloc: Global, n: u32) -> Result<Run, AllocError>
         requires some { 0 < n }
         requires few { n ≤ 16 }
-        ensures { IfOk result (λ run. (order : List Task) → IsRun n order 0 run.processes.items (queues_of run) run.checker) }
+        ensures { IfOk result (λ run. (order : List Task)
+            → IsRun n order 0 run.processes.items (queues_of run) run.checker) }
     {
         let mut processes = Vec::with_capacity(alloc, n as usize)?;
         for id in 0..n {

@@ -1,4 +1,4 @@
-ghost use Rattle.std.specs.Prelude.{◌≡◌, ◌≢◌, ℕ, ◌<◌, ◌≤◌, [], MatchOption, length, slice_index, None, false, OnOk};
+ghost use Rattle.std.specs.Prelude.{◌≡◌, ◌≢◌, ℕ, ◌<◌, ◌≤◌, [], MatchOption, length, slice_index, None, true, false, OnOk};
 ghost use Rattle.wcp_clock.specs.declared.note.Note.{Note};
 ghost use Rattle.wcp_model.specs.ProbeLog.{Observed, Sent, Received, Closed};
 ghost use Rattle.wcp_probe.specs.Seal.{seal_of};
@@ -49,7 +49,8 @@ impl Process {
     pub fn close(&mut self, checker: &mut Checker) -> Result<(), AllocError>
         requires { IsWatched self.old checker.old }
         ensures feeds { OnOk result (Feeds self.old Closed checker.old checker.new) }
-        ensures emitted { OnOk result (self.new.probe.emitted ≡ self.old.probe.emitted) }
+        ensures closed { OnOk result
+            (self.new ≡ record self.old { probe = record self.old.probe { closed = true; pending = None } }) }
     {
         match self.probe.close() {
             Ok(()) => self.hand_over(checker),
@@ -59,7 +60,10 @@ impl Process {
 
     /// The checker takes what is pending, if anything is.
     fn hand_over(&mut self, checker: &mut Checker) -> Result<(), AllocError>
-        requires { MatchOption self.old.probe.pending (Unit {0}) (λ note. MayTake checker.old (record { from = self.old.id; note = note })) }
+        requires { MatchOption
+            self.old.probe.pending
+            (Unit {0})
+            (λ note. MayTake checker.old (record { from = self.old.id; note = note })) }
         ensures taken { OnOk result (MatchOption
             self.old.probe.pending
             (checker.new ≡ checker.old)
