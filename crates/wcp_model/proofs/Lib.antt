@@ -1,12 +1,9 @@
-pub mod CutElimination
 pub mod CutLaws
 pub mod Decided
 pub mod Elimination
 pub mod LeastCut
 pub mod Places
 pub mod Reached
-pub mod CandidateRows
-pub mod IntervalOrder
 pub mod SamePlace
 pub mod StepsOfOrder
 pub mod MessagesOfOrder
@@ -30,3 +27,7 @@ pub mod AcceptedSteps
 pub mod EmissionFronts
 pub mod AcceptedReplies
 pub mod GrowthLaws
+pub mod Choosing
+pub mod NotesInTurn
+pub mod RisingClocks
+pub mod TakenFronts

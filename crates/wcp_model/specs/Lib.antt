@@ -9,6 +9,7 @@ pub mod ProbeLog
 pub mod PlanFault
 pub mod Report
 pub mod Tree
+pub mod Elimination
 pub mod Occupancy
 pub mod Replies
 pub mod Taken

@@ -1,4 +1,5 @@
-use Rattle.std.specs.Prelude.{◌≡◌, ◌≢◌, ◌==◌, ℕ, ◌<◌, ◌≤◌, List, [], ◌∷◌, ◌++◌, length, filter, map, slice_index, slice_index_or, Contains}
+use Rattle.std.specs.Prelude.{◌≡◌, ◌≢◌, ◌==◌, ℕ, ◌<◌, ◌≤◌, Bool, true, false, List, [], ◌∷◌, ◌++◌, length, filter, map, slice_index, slice_index_or, Contains}
+use Rattle.std.specs.List.{list_any}
 use Rattle.wcp_clock.specs.declared.note.Item.{Item}
 use Rattle.wcp_clock.specs.declared.note.Note.{Note}
 use Rattle.wcp_clock.specs.declared.note.Note.TheVariants as note
@@ -7,6 +8,7 @@ use Rattle.wcp_model.specs.declared.outcome.Report.TheVariants.{Found, Nothing, 
 use Rattle.wcp_model.specs.declared.state.State.{State}
 use Rattle.wcp_model.specs.Computation.{Computation}
 use Rattle.wcp_model.specs.Cut.{member, IsSatisfyingCut}
+use Rattle.wcp_model.specs.Emission.{AreEmissions}
 
 -- What a checker has taken is the list of its items, in the order in which it took them; the notes taken of one process
 -- are those of its items, in that order (Garg and Waldecker 1994: what the checker process received from each process).
@@ -23,11 +25,35 @@ snapshot_clocks (note.Close count ∷ notes) = snapshot_clocks notes
 abbrev pub clocks_taken : ℕ → List Item → List (List ℕ)
 clocks_taken p items = snapshot_clocks (notes_taken p items)
 
+abbrev pub is_close : Note → Bool
+is_close (note.Snap number clock) = false
+is_close (note.Close count) = true
+
+-- The place of a note among those of its process: a snapshot's number, or a close mark's count.
+abbrev pub place_of : Note → ℕ
+place_of (note.Snap number clock) = number
+place_of (note.Close count) = count
+
+-- A note is next after these of its process if its place is the number of snapshots among them, and no close mark is.
+pub record IsNextNote (notes : List Note) (next : Note) : Type 0 where
+  pub place : place_of next ≡ length (snapshot_clocks notes)
+  pub still_open : list_any is_close notes ≡ false
+
+-- The notes of a process are in turn if each is next after those before it: so nothing follows a close mark.
+abbrev pub AreInTurn : List Note → Type 0
+AreInTurn notes = (before after : List Note) (next : Note) → notes ≡ before ++ next ∷ after → IsNextNote before next
+
+-- What was taken of each process is a front of its emissions in the computation.
+abbrev pub AreFrontsOfEmissions : ℕ → Computation → List Item → Type 0
+AreFrontsOfEmissions n c items = (p : ℕ) → p < n → (rest : List Note) × AreEmissions n c p (notes_taken p items ++ rest)
+
 -- All is drained if the notes taken of each process end with its close mark.
 abbrev pub IsDrained : ℕ → List Item → Type 0
-IsDrained n items = (p : ℕ) → p < n → (count : ℕ) × (before : List Note) × (notes_taken p items ≡ before ++ note.Close count ∷ [])
+IsDrained n items = (p : ℕ) → p < n →
+    (count : ℕ) × (before : List Note) × (notes_taken p items ≡ before ++ note.Close count ∷ [])
 
--- A taken snapshot of a process names its state in the interval that is the clock's own component (Garg and Waldecker 1994).
+-- A taken snapshot of a process names its state in the interval that is the clock's own component (Garg and Waldecker
+-- 1994).
 pub record IsNamed (items : List Item) (s : State) : Type 0 where
   pub clock : List ℕ
   pub taken : Contains (clocks_taken s.process items) clock
@@ -66,11 +92,14 @@ IsReportOfTaken n c items = IsReportOn n (IsNamedCut n c items) (IsDrained n ite
 abbrev pub IsReportByClocks : ℕ → List Item → Report → Type 0
 IsReportByClocks n items = IsReportOn n (IsCutByClocks n items) (IsDrained n items)
 
--- The items of each process were taken in the order in which it emits them: its clocks never fall in a component and rise
--- in its own, and nothing follows its close mark (Fidge 1988, Mattern 1989: clocks grow along a process).
-pub record AreTakenInOrder (n : ℕ) (items : List Item) : Type 0 where
-  pub never_fall : (p i j q : ℕ) → p < n → i ≤ j → j < length (clocks_taken p items) →
-      slice_index (slice_index_or (clocks_taken p items) i []) q ≤ slice_index (slice_index_or (clocks_taken p items) j []) q
-  pub rise : (p i j : ℕ) → p < n → i < j → j < length (clocks_taken p items) →
-      slice_index (slice_index_or (clocks_taken p items) i []) p < slice_index (slice_index_or (clocks_taken p items) j []) p
-  pub close_last : (p count : ℕ) (before after : List Note) → p < n → notes_taken p items ≡ before ++ note.Close count ∷ after → after ≡ []
+-- These clocks of process p never fall in a component, and rise in its own (Fidge 1988; Mattern 1989: clocks grow along a
+-- process).
+pub record AreRising (p : ℕ) (clocks : List (List ℕ)) : Type 0 where
+  pub never_fall : (i j q : ℕ) → i ≤ j → j < length clocks →
+      slice_index (slice_index_or clocks i []) q ≤ slice_index (slice_index_or clocks j []) q
+  pub rise : (i j : ℕ) → i < j → j < length clocks →
+      slice_index (slice_index_or clocks i []) p < slice_index (slice_index_or clocks j []) p
+
+-- The clocks taken of each process never fall in a component, and rise in its own.
+abbrev pub ClocksRise : ℕ → List Item → Type 0
+ClocksRise n items = (p : ℕ) → p < n → AreRising p (clocks_taken p items)

@@ -1,8 +1,9 @@
-use Rattle.std.proofs.Common.{◌≡◌, ◌≢◌, ℕ, ◌+◌, ◌*◌, ◌<◌, ◌≤◌, ◌⊎◌, true, false, List, length, get_or, set, refl, sym, ◌∙◌, ap, subst, ⊎_elim, arith}
+use Rattle.std.proofs.Common.{◌≡◌, ◌≢◌, ℕ, ◌+◌, ◌*◌, ◌<◌, ◌≤◌, true, false, List, length, get_or, set, sym, ◌∙◌, ap, subst, ⊎_elim, arith}
 use Rattle.std.proofs.lemmas.List.{length-set, get_or_default}
-use Rattle.wcp_queue.specs.Queue.{Candidates, no_candidates, head, without_head, with_old_head}
-use Rattle.wcp_queue.specs.Elimination.{queue_of, ClockPrecedes, HasNewHead, IsMeeting, AreConcurrent, AreLeft, uncompared_in}
-use Rattle.wcp_queue.proofs.Comparing.{queue_of-set_same, queue_of-set_other, set-queue_of, no_old_head_after, AreConcurrentBut, AreConcurrentBut-itself, AreConcurrentBut-next, AreConcurrentBut-drop, AreConcurrent-drop}
+use Rattle.wcp_queue.specs.Queue.{Candidates, no_candidates, head, without_head}
+use Rattle.wcp_model.specs.Elimination.{ClockPrecedes}
+use Rattle.wcp_queue.specs.Elimination.{queue_of, IsMeeting, AreConcurrent, AreLeft, uncompared_in}
+use Rattle.wcp_queue.proofs.Comparing.{queue_of-set_other, set-queue_of, no_old_head_after, AreConcurrentBut, AreConcurrentBut-itself, AreConcurrentBut-next, AreConcurrentBut-drop, AreConcurrent-drop}
 use Rattle.wcp_queue.proofs.Left.{AreLeft-drop}
 use Rattle.wcp_queue.proofs.Uncompared.{uncompared-without_head, uncompared_in-le}
 

@@ -1,8 +1,9 @@
-use Rattle.std.proofs.Common.{◌≡◌, ◌≢◌, ℕ, ◌+◌, ◌<◌, ◌≤◌, ◌⊎◌, Bool, true, false, List, length, get_or, set, drop, ltb, refl, sym, ◌∙◌, ap, subst, inl, inr, ⊎_elim, arith}
+use Rattle.std.proofs.Common.{◌≡◌, ◌≢◌, ℕ, ◌+◌, ◌<◌, ◌≤◌, ◌⊎◌, List, length, set, subst, inl, inr, ⊎_elim, arith}
 use Rattle.std.proofs.lemmas.Bool.{cases_eq, ltb-false}
 use Rattle.std.proofs.lemmas.List.{length-set, length-drop, get_or-set_same, get_or-set_other, set-get_or}
 use Rattle.wcp_queue.specs.Queue.{Candidates, no_candidates, head, without_head, with_old_head}
-use Rattle.wcp_queue.specs.Elimination.{queue_of, ClockPrecedes, HasOldHead, HasNewHead, IsMeeting, AreConcurrent}
+use Rattle.wcp_model.specs.Elimination.{ClockPrecedes}
+use Rattle.wcp_queue.specs.Elimination.{queue_of, HasOldHead, AreConcurrent}
 
 -- a queue in the list that another one took the place of
 pub queue_of-set_same : (queues : List Candidates) (p : ℕ) (queue : Candidates) → p < length queues → queue_of (set queues p queue) p ≡ queue

@@ -1,13 +1,14 @@
-use Rattle.std.proofs.Common.{◌≡◌, ◌≢◌, ℕ, ◌+◌, ◌<◌, ◌≤◌, List, [], ◌∷◌, ◌++◌, length, get_or, slice_index, drop, sym, ◌∙◌, ap, subst, ⊎_elim, arith}
+use Rattle.std.proofs.Common.{◌≡◌, ◌≢◌, ℕ, ◌<◌, ◌≤◌, List, [], ◌∷◌, ◌++◌, length, get_or, slice_index, sym, ◌∙◌, ap, ⊎_elim, arith}
 use Rattle.std.proofs.lemmas.Bool.{cases_eq}
 use Rattle.std.proofs.lemmas.List.{append-nil, length-drop, get_or_default}
 use Rattle.std.proofs.lemmas.List.Elements.{Contains-get_or}
 use Rattle.wcp_clock.specs.declared.note.Item.{Item}
-use Rattle.wcp_model.specs.Report.{clocks_taken, IsCutByClocks, IsLeastOf, AreTakenInOrder}
-use Rattle.wcp_model.proofs.CandidateRows.{GrowTo, IsSatisfyingChoice, IsLeastChoice, AreInOrder, IsEliminatedBelow}
-use Rattle.wcp_model.proofs.Elimination.{GrowTo-same, get_or-grown, choice_from_each, IsSatisfyingChoice-grown, IsEliminatedBelow-grown, least_choice_at_heads}
-use Rattle.wcp_queue.specs.Queue.{Candidates, head}
-use Rattle.wcp_queue.specs.Elimination.{queue_of, ClockPrecedes, HasOldHead, AreCompared, HaveHeads, IsCutOfHeads, AreLeft, IsFoundAmong, GainCandidate}
+use Rattle.wcp_model.specs.Report.{clocks_taken, IsCutByClocks, IsLeastOf, ClocksRise}
+use Rattle.wcp_model.specs.Elimination.{GrowTo, IsSatisfyingChoice, AreInOrder}
+use Rattle.wcp_model.proofs.Elimination.{GrowTo-same, get_or-grown, IsSatisfyingChoice-grown, IsEliminatedBelow-grown}
+use Rattle.wcp_model.proofs.Choosing.{choice_from_each}
+use Rattle.wcp_queue.specs.Queue.{Candidates}
+use Rattle.wcp_queue.specs.Elimination.{queue_of, HasOldHead, AreCompared, HaveHeads, IsCutOfHeads, AreLeft, IsFoundAmong, GainCandidate}
 use Rattle.wcp_queue.proofs.Left.{head_within, head_at}
 
 -- where each queue has a head, and all were compared, their cut is found
@@ -32,9 +33,9 @@ pub IsFoundAmong-grown : (n : ℕ) (rows longer : ℕ → List (List ℕ)) (cut 
 IsFoundAmong-grown n rows longer cut grow found = record {
   members = found.members;
   choice = found.choice;
-  satisfying = IsSatisfyingChoice-grown [] ClockPrecedes n rows longer found.choice grow found.satisfying;
-  eliminated = IsEliminatedBelow-grown [] ClockPrecedes n rows longer found.choice grow found.eliminated;
-  own = λ p p_within. found.own p p_within ∙ ap (λ (clock : List ℕ). slice_index clock p) (sym (get_or-grown [] n rows longer grow p (found.choice p) p_within (found.satisfying.within p p_within)));
+  satisfying = IsSatisfyingChoice-grown n rows longer found.choice grow found.satisfying;
+  eliminated = IsEliminatedBelow-grown n rows longer found.choice grow found.eliminated;
+  own = λ p p_within. found.own p p_within ∙ ap (λ (clock : List ℕ). slice_index clock p) (sym (get_or-grown n rows longer grow p (found.choice p) p_within (found.satisfying.within p p_within)));
 }
 
 pub IsFoundAmong-gain : (n p : ℕ) (rows longer : ℕ → List (List ℕ)) (clock cut : List ℕ) → GainCandidate n p clock rows longer → IsFoundAmong n rows cut → IsFoundAmong n longer cut
@@ -61,25 +62,25 @@ module _ (n : ℕ) (items : List Item) where
   }
 
   -- clocks that never fall keep the order of candidates
-  rows_in_order : AreTakenInOrder n items → AreInOrder [] ClockPrecedes n (λ p. clocks_taken p items)
+  rows_in_order : ClocksRise n items → AreInOrder n (λ p. clocks_taken p items)
   rows_in_order order = record {
-    later = λ p q i j k p_within q_within apart i_within up k_within before. omega (arith, before, order.never_fall q j k p q_within up k_within);
+    later = λ p q i j k p_within q_within apart i_within up k_within before. omega (arith, before, (order q q_within).never_fall j k p up k_within);
   }
 
   -- the choice of a cut by clocks: the place of each of its snapshots
   choice_of_cut : (cut : List ℕ) (is : IsCutByClocks n items cut) → (choice : ℕ → ℕ) × ((p : ℕ) → p < n → (choice p < length (clocks_taken p items)) × (get_or (clocks_taken p items) (choice p) [] ≡ is.clock p))
-  choice_of_cut cut is = choice_from_each (λ p i. (i < length (clocks_taken p items)) × (get_or (clocks_taken p items) i [] ≡ is.clock p)) n
+  choice_of_cut cut is = choice_from_each 0 (λ p i. (i < length (clocks_taken p items)) × (get_or (clocks_taken p items) i [] ≡ is.clock p)) n
       (λ p p_within. let (i, within, here) = is.taken p p_within in (i, (within, get_or_default (clocks_taken p items) i [] (is.clock p) within ∙ here)))
 
   is_satisfying : (cut : List ℕ) (is : IsCutByClocks n items cut) (choice : ℕ → ℕ) → ((p : ℕ) → p < n → (choice p < length (clocks_taken p items)) × (get_or (clocks_taken p items) (choice p) [] ≡ is.clock p)) →
-      IsSatisfyingChoice [] ClockPrecedes n (λ p. clocks_taken p items) choice
+      IsSatisfyingChoice n (λ p. clocks_taken p items) choice
   is_satisfying cut is choice places = record {
     within = λ p p_within. (places p p_within).0;
     concurrent = λ p q p_within q_within apart before. is.concurrent p q p_within q_within apart (rw (← (places p p_within).1, ← (places q q_within).1) before);
   }
 
   -- it is the least of these, where each process's items were taken in order
-  pub IsLeastOf-found : (cut : List ℕ) → AreTakenInOrder n items → IsFoundAmong n (λ p. clocks_taken p items) cut → IsLeastOf n (IsCutByClocks n items) cut
+  pub IsLeastOf-found : (cut : List ℕ) → ClocksRise n items → IsFoundAmong n (λ p. clocks_taken p items) cut → IsLeastOf n (IsCutByClocks n items) cut
   IsLeastOf-found cut order found = record {
     one = IsCutByClocks-found cut found;
     below = below;
@@ -88,13 +89,12 @@ module _ (n : ℕ) (items : List Item) where
       below : (other : List ℕ) → IsCutByClocks n items other → (p : ℕ) → p < n → slice_index cut p ≤ slice_index other p
       below other is p p_within =
           let (choice, places) = choice_of_cut other is in
-          let least : IsLeastChoice [] ClockPrecedes n (λ q. clocks_taken q items) found.choice = least_choice_at_heads [] ClockPrecedes n (λ q. clocks_taken q items) found.choice (rows_in_order order) found.eliminated found.satisfying in
-          let up : found.choice p ≤ choice p = least.below choice (is_satisfying other is choice places) p p_within in
+          let up : found.choice p ≤ choice p = found.eliminated.at_or_above (λ q. clocks_taken q items) (GrowTo-same n (λ q. clocks_taken q items)) (rows_in_order order) choice (is_satisfying other is choice places) p p_within in
           let here = (places p p_within).1 in
-          omega (arith, found.own p p_within, order.never_fall p (found.choice p) (choice p) p p_within up (places p p_within).0, ap (λ (clock : List ℕ). slice_index clock p) here, is.own p p_within)
+          omega (arith, found.own p p_within, (order p p_within).never_fall (found.choice p) (choice p) p up (places p p_within).0, ap (λ (clock : List ℕ). slice_index clock p) here, is.own p p_within)
 
   -- while a queue has no head there is none
-  pub no_cut_without_heads : (queues : List Candidates) (cut : List ℕ) → length queues ≡ n → AreTakenInOrder n items → AreLeft n (λ p. clocks_taken p items) queues → (HaveHeads queues → ⊥) → IsCutByClocks n items cut → ⊥
+  pub no_cut_without_heads : (queues : List Candidates) (cut : List ℕ) → length queues ≡ n → ClocksRise n items → AreLeft n (λ p. clocks_taken p items) queues → (HaveHeads queues → ⊥) → IsCutByClocks n items cut → ⊥
   no_cut_without_heads queues cut members order left waiting is =
       let (choice, places) = choice_of_cut cut is in
       let satisfying = is_satisfying cut is choice places in

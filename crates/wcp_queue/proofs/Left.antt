@@ -1,10 +1,10 @@
-use Rattle.std.proofs.Common.{◌≡◌, ◌≢◌, ℕ, ◌+◌, ◌<◌, ◌≤◌, false, cond, eqb, List, [], ◌∷◌, ◌++◌, length, get_or, set, drop, refl, sym, ◌∙◌, ap, subst, ⊎_elim, add-zero, arith}
+use Rattle.std.proofs.Common.{◌≡◌, ◌≢◌, ℕ, ◌+◌, ◌<◌, false, cond, eqb, List, [], ◌∷◌, ◌++◌, length, get_or, set, drop, refl, sym, ◌∙◌, ap, subst, ⊎_elim, add-zero, arith}
 use Rattle.std.proofs.lemmas.Bool.{cases_eq, eq-eqb, ne_eqb, eqb-false, or_parts, cond-true, cond-false}
 use Rattle.std.proofs.lemmas.List.{length-append, length-drop, length-set, get_or_default, get_or-drop, drop-drop, drop-append-le, append-nil}
-use Rattle.wcp_model.proofs.CandidateRows.{IsEliminatedBelow, GrowTo}
+use Rattle.wcp_model.specs.Elimination.{ClockPrecedes, GrowTo}
 use Rattle.wcp_model.proofs.Elimination.{IsEliminatedBelow-start, IsEliminatedBelow-grown, IsEliminatedBelow-step}
 use Rattle.wcp_queue.specs.Queue.{Candidates, no_candidates, head, without_head, with_candidate}
-use Rattle.wcp_queue.specs.Elimination.{queue_of, ClockPrecedes, AreLeft, GainCandidate, HaveHeads}
+use Rattle.wcp_queue.specs.Elimination.{queue_of, AreLeft, GainCandidate, HaveHeads}
 use Rattle.wcp_queue.proofs.Comparing.{queue_of-set_same, queue_of-set_other}
 
 -- at the start nothing was taken and nothing is left
@@ -13,7 +13,7 @@ AreLeft-start n rows queues none empty = record {
   heads = λ p. 0;
   within = λ p p_within. omega arith;
   rest = λ p p_within. empty p p_within ∙ sym (none p p_within);
-  eliminated = IsEliminatedBelow-start [] ClockPrecedes n rows (λ p. 0) (λ p p_within. refl);
+  eliminated = IsEliminatedBelow-start n rows (λ p. 0) (λ p p_within. refl);
 }
 
 -- only the clocks of the queues count
@@ -31,7 +31,7 @@ AreLeft-rows n rows others queues same left = record {
   heads = left.heads;
   within = λ p p_within. omega (arith, left.within p p_within, ap length (same p p_within));
   rest = λ p p_within. left.rest p p_within ∙ ap (drop (left.heads p)) (sym (same p p_within));
-  eliminated = IsEliminatedBelow-grown [] ClockPrecedes n rows others left.heads (λ p p_within. ([], same p p_within ∙ sym (append-nil (rows p)))) left.eliminated;
+  eliminated = IsEliminatedBelow-grown n rows others left.heads (λ p p_within. ([], same p p_within ∙ sym (append-nil (rows p)))) left.eliminated;
 }
 
 -- the heads after that of p is eliminated
@@ -67,7 +67,7 @@ module _ (n : ℕ) (rows : ℕ → List (List ℕ)) (queues : List Candidates) (
         (λ (is : k ≡ p). rest_same k is)
         (λ (other : k ≢ p). ap (λ queue. queue.clocks) (queue_of-set_other queues p k (without_head (queue_of queues p)) other) ∙ left.rest k k_within ∙ ap (λ i. drop i (rows k)) (sym (moved-other left.heads p k other)))
         (cases_eq k p);
-    eliminated = IsEliminatedBelow-step [] ClockPrecedes n rows left.heads (moved left.heads p) p q (left.heads q) left.eliminated p_within q_within apart (head_within p p_within p_some) (head_within q q_within q_some) (omega arith)
+    eliminated = IsEliminatedBelow-step n rows left.heads (moved left.heads p) p q (left.heads q) left.eliminated p_within q_within apart (head_within p p_within p_some) (head_within q q_within q_some) (omega arith)
         (rw (head_at p p_within, head_at q q_within) order)
         (omega (arith, moved-same left.heads p p refl))
         (λ k k_within other. omega (arith, moved-other left.heads p k other));
@@ -91,7 +91,7 @@ module _ (n : ℕ) (rows : ℕ → List (List ℕ)) (queues : List Candidates) (
         (λ (is : k ≡ p). rest_same k is)
         (λ (other : k ≢ p). ap (λ queue. queue.clocks) (queue_of-set_other queues p k (with_candidate (queue_of queues p) clock) other) ∙ left.rest k k_within ∙ ap (drop (left.heads k)) (sym (others k k_within other)))
         (cases_eq k p);
-    eliminated = IsEliminatedBelow-grown [] ClockPrecedes n rows longer left.heads grow left.eliminated;
+    eliminated = IsEliminatedBelow-grown n rows longer left.heads grow left.eliminated;
   }
     where
       grow : GrowTo n rows longer

@@ -1,20 +1,18 @@
-use Rattle.std.proofs.Common.{◌≡◌, ◌≢◌, ℕ, ◌+◌, ◌-◌, ◌*◌, ◌^◌, ◌<◌, ◌≤◌, Bool, true, false, Option, Some, None, MatchOption, is_some, List, [], ◌∷◌, ◌++◌, length, get_or, set, take, replicate, sum, count_by, cond, slice_index, refl, sym, ◌∙◌, ap, subst, ⊎_elim, add-one, arith}
-use Rattle.std.specs.List.{list_any, list_all, All}
+use Rattle.std.proofs.Common.{◌≡◌, ◌≢◌, ℕ, ◌+◌, ◌<◌, ◌≤◌, Bool, true, false, Option, Some, None, MatchOption, is_some, List, [], ◌∷◌, ◌++◌, length, get_or, set, replicate, sum, count_by, cond, slice_index, refl, sym, ◌∙◌, ap, subst, ⊎_elim, arith}
+use Rattle.std.specs.List.{list_any}
 use Rattle.std.proofs.lemmas.Bool.{cases_eq, true≢false, false≢true}
-use Rattle.std.proofs.lemmas.Nat.{mul-le}
-use Rattle.std.proofs.lemmas.List.{length-append, length-set, get_or-set_same, get_or-set_other, get_or-replicate, length-replicate, append-nil, get_or_default}
-use Rattle.std.proofs.lemmas.List.Elements.{All-set, All-get_or}
-use Rattle.std.proofs.lemmas.List.Sums.{sum_by-set, sum_by_push, sum_by-le}
-use Rattle.std.proofs.lemmas.List.Folds.{sum_by-replicate}
+use Rattle.std.proofs.lemmas.List.{length-append, get_or-set_same, get_or-set_other, get_or-replicate, length-replicate}
+use Rattle.std.proofs.lemmas.List.Sums.{sum_by-set, sum_by_push}
 use Rattle.wcp_clock.specs.declared.note.Item.{Item}
 use Rattle.wcp_clock.specs.declared.note.Note.TheVariants.{Snap, Close}
-use Rattle.wcp_model.specs.Report.{notes_taken, clocks_taken}
-use Rattle.wcp_queue.specs.Queue.{Candidates, no_candidates}
-use Rattle.wcp_queue.specs.Elimination.{queue_of, AreConcurrent, AreCompared, HaveHeads, IsCutOfHeads, AreLeft, IsFoundAmong, GainCandidate, uncompared, uncompared_in}
-use Rattle.wcp_queue.specs.Checker.{CheckerState, processes, taken_of, is_snapshot, is_close, StandsFor, IsSound}
+use Rattle.wcp_model.specs.Report.{notes_taken, clocks_taken, is_close, AreInTurn}
+use Rattle.wcp_model.proofs.NotesInTurn.{AreInTurn-none}
+use Rattle.wcp_queue.specs.Queue.{no_candidates}
+use Rattle.wcp_queue.specs.Elimination.{AreCompared, HaveHeads, IsCutOfHeads, AreLeft, IsFoundAmong, GainCandidate}
+use Rattle.wcp_queue.specs.Checker.{CheckerState, processes, taken_of, closed_of, is_snapshot, MayTake, StandsFor}
 use Rattle.wcp_queue.proofs.Found.{IsFoundAmong-heads, IsFoundAmong-gain, IsFoundAmong-same}
 use Rattle.wcp_queue.proofs.Left.{AreLeft-start, AreLeft-rows}
-use Rattle.wcp_queue.proofs.Taking.{GainCandidate-snapshot, clocks_taken-push_close, close_taken-push_snapshot, close_taken-push_close, close_taken-push_other}
+use Rattle.wcp_queue.proofs.Taking.{in_turn-push, next_where_MayTake, GainCandidate-snapshot, clocks_taken-push_close, close_taken-push_snapshot, close_taken-push_close, close_taken-push_other}
 
 -- a snapshot more of process p is counted
 pub taken_of-set_same : (taken : List ℕ) (p : ℕ) → p < length taken → slice_index (set taken p (slice_index taken p + 1)) p ≡ slice_index taken p + 1
@@ -27,13 +25,13 @@ none_found : (found : Option (List ℕ)) → is_some found ≡ false → found �
 none_found None none = refl
 none_found (Some cut) none = absurd (true≢false none)
 
-module _ (old new : CheckerState) (items : List Item) (p number : ℕ) (clock : List ℕ) (stands : StandsFor old items)
+module _ (old new : CheckerState) (items : List Item) (p : ℕ) (clock : List ℕ) (stands : StandsFor old items) (p_within : p < processes old) (still_open : closed_of old p ≡ false)
     (within : p < length old.taken) (taken : new.taken ≡ set old.taken p (taken_of old p + 1)) (closed : new.closed ≡ old.closed) (members : length new.queues ≡ length old.queues) where
   abbrev longer : List Item
-  longer = items ++ record { from = p; note = Snap number clock } ∷ []
+  longer = items ++ record { from = p; note = Snap (taken_of old p) clock } ∷ []
 
   gain : GainCandidate (length old.queues) p clock (λ q. clocks_taken q items) (λ q. clocks_taken q longer)
-  gain = GainCandidate-snapshot (length old.queues) items p number clock
+  gain = GainCandidate-snapshot (length old.queues) items p (taken_of old p) clock
 
   -- the counts after a snapshot
   taken-snapshot : (q : ℕ) → q < processes new → taken_of new q ≡ length (clocks_taken q longer)
@@ -46,10 +44,15 @@ module _ (old new : CheckerState) (items : List Item) (p number : ℕ) (clock : 
       (cases_eq q p)
 
   snapshots-snapshot : sum new.taken ≡ count_by is_snapshot longer
-  snapshots-snapshot = ap sum taken ∙ omega (arith, sum-set old.taken p within, stands.snapshots, sum_by_push (λ item. cond (is_snapshot item) 1 0) items (record { from = p; note = Snap number clock }))
+  snapshots-snapshot = ap sum taken ∙ omega (arith, sum-set old.taken p within, stands.snapshots, sum_by_push (λ item. cond (is_snapshot item) 1 0) items (record { from = p; note = Snap (taken_of old p) clock }))
 
   closed-snapshot : (q : ℕ) → q < processes new → get_or new.closed q false ≡ list_any is_close (notes_taken q longer)
-  closed-snapshot q q_within = ap (λ (marks : List Bool). get_or marks q false) closed ∙ stands.closed q (omega arith) ∙ sym (close_taken-push_snapshot items p number q clock)
+  closed-snapshot q q_within = ap (λ (marks : List Bool). get_or marks q false) closed ∙ stands.closed q (omega arith) ∙ sym (close_taken-push_snapshot items p (taken_of old p) q clock)
+
+  in_turn-snapshot : (q : ℕ) → q < processes new → AreInTurn (notes_taken q longer)
+  in_turn-snapshot q q_within =
+      let item : Item = record { from = p; note = Snap (taken_of old p) clock } in
+      in_turn-push items item q (next_where_MayTake old items item stands (record { from = p_within; place = refl; still_open = still_open })) (stands.in_turn q (omega arith))
 
   -- a checker without a cut adds it to its candidates
   pub StandsFor-snapshot : is_some old.found ≡ false → AreCompared new.queues →
@@ -59,6 +62,7 @@ module _ (old new : CheckerState) (items : List Item) (p number : ℕ) (clock : 
     taken = taken-snapshot;
     snapshots = snapshots-snapshot;
     closed = closed-snapshot;
+    in_turn = in_turn-snapshot;
     candidates = candidates new.found cut;
   }
     where
@@ -78,6 +82,7 @@ module _ (old new : CheckerState) (items : List Item) (p number : ℕ) (clock : 
     taken = taken-snapshot;
     snapshots = snapshots-snapshot;
     closed = closed-snapshot;
+    in_turn = in_turn-snapshot;
     candidates = subst (λ found. MatchOption found (AreLeft (processes new) (λ q. clocks_taken q longer) new.queues) (IsFoundAmong (processes new) (λ q. clocks_taken q longer))) (sym still)
         (candidates old.found some stands.candidates);
   }
@@ -92,15 +97,16 @@ module _ (old new : CheckerState) (items : List Item) (p number : ℕ) (clock : 
 abbrev closing : List Item → ℕ → ℕ → List Item
 closing items p count = items ++ record { from = p; note = Close count } ∷ []
 
-pub StandsFor-close : (old new : CheckerState) (items : List Item) (p count : ℕ) → StandsFor old items → p < length old.closed → new.queues ≡ old.queues → new.taken ≡ old.taken → new.found ≡ old.found → new.closed ≡ set old.closed p true →
+pub StandsFor-close : (old new : CheckerState) (items : List Item) (p count : ℕ) → StandsFor old items → MayTake old (record { from = p; note = Close count }) → p < length old.closed → new.queues ≡ old.queues → new.taken ≡ old.taken → new.found ≡ old.found → new.closed ≡ set old.closed p true →
     StandsFor new (closing items p count)
-StandsFor-close old new items p count stands within queues taken found closed = record {
+StandsFor-close old new items p count stands may within queues taken found closed = record {
   taken = λ q q_within. ap (λ (counts : List ℕ). slice_index counts q) taken ∙ stands.taken q (omega (arith, ap length queues)) ∙ ap length (sym (clocks_taken-push_close items p count q));
   snapshots = ap sum taken ∙ omega (arith, stands.snapshots, sum_by_push (λ item. cond (is_snapshot item) 1 0) items (record { from = p; note = Close count }));
   closed = λ q q_within. ap (λ (marks : List Bool). get_or marks q false) closed ∙ ⊎_elim
       (λ (same : q ≡ p). subst (λ r. get_or (set old.closed p true) r false ≡ list_any is_close (notes_taken r (closing items p count))) (sym same) (get_or-set_same old.closed p true false within ∙ sym (close_taken-push_close items p count)))
       (λ (other : q ≢ p). get_or-set_other old.closed p q true false other ∙ stands.closed q (omega (arith, ap length queues)) ∙ sym (close_taken-push_other items p count q other))
       (cases_eq q p);
+  in_turn = λ q q_within. in_turn-push items (record { from = p; note = Close count }) q (next_where_MayTake old items (record { from = p; note = Close count }) stands may) (stands.in_turn q (omega (arith, ap length queues)));
   candidates = subst (λ list. MatchOption new.found (AreLeft (length list) (λ q. clocks_taken q (closing items p count)) list) (IsFoundAmong (length list) (λ q. clocks_taken q (closing items p count)))) (sym queues)
       (subst (λ cut. MatchOption cut (AreLeft (processes old) (λ q. clocks_taken q (closing items p count)) old.queues) (IsFoundAmong (processes old) (λ q. clocks_taken q (closing items p count)))) (sym found) (candidates old.found stands.candidates));
 }
@@ -116,6 +122,7 @@ StandsFor-fresh n few = record {
   taken = λ p p_within. get_or-replicate 16 p 0 0 (omega (arith, members));
   snapshots = refl;
   closed = λ p p_within. get_or-replicate 16 p false false (omega (arith, members));
+  in_turn = λ p p_within. AreInTurn-none;
   candidates = AreLeft-start (length (replicate n no_candidates)) (λ p. []) (replicate n no_candidates) (λ p p_within. refl)
       (λ p p_within. ap (λ queue. queue.clocks) (get_or-replicate n p no_candidates no_candidates (omega (arith, members))));
 }

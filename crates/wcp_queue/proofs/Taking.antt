@@ -1,14 +1,15 @@
-use Rattle.std.proofs.Common.{◌≡◌, ◌≢◌, ◌||◌, ℕ, ◌+◌, Bool, true, false, cond, eqb, List, [], ◌∷◌, ◌++◌, length, filter, map, refl, sym, ◌∙◌, ap, ⊎_elim, inl, inr, arith}
+use Rattle.std.proofs.Common.{◌≡◌, ◌≢◌, ◌||◌, ℕ, Bool, true, false, eqb, List, [], ◌∷◌, ◌++◌, ◌<◌, filter, map, refl, sym, ◌∙◌, ap, subst, ⊎_elim}
 use Rattle.std.specs.List.{list_any}
-use Rattle.std.proofs.lemmas.Bool.{cases_eq, eq-eqb, ne_eqb, cond-true, cond-false, or_right, or_cases, false≢true}
-use Rattle.std.proofs.lemmas.List.{map-append, append-nil, length-append}
+use Rattle.std.proofs.lemmas.Bool.{cases_eq, eq-eqb, ne_eqb, cond-true, cond-false, or_right, false≢true}
+use Rattle.std.proofs.lemmas.List.{map-append, append-nil}
 use Rattle.std.proofs.lemmas.List.Elements.{filter-append}
 use Rattle.std.proofs.lemmas.List.Folds.{list_any-append}
 use Rattle.wcp_clock.specs.declared.note.Item.{Item}
 use Rattle.wcp_clock.specs.declared.note.Note.{Note}
 use Rattle.wcp_clock.specs.declared.note.Note.TheVariants.{Snap, Close}
-use Rattle.wcp_model.specs.Report.{notes_taken, snapshot_clocks, clocks_taken}
-use Rattle.wcp_queue.specs.Checker.{is_close}
+use Rattle.wcp_model.specs.Report.{notes_taken, snapshot_clocks, clocks_taken, is_close, IsNextNote, AreInTurn}
+use Rattle.wcp_model.proofs.NotesInTurn.{snapshot_clocks-append, AreInTurn-push}
+use Rattle.wcp_queue.specs.Checker.{CheckerState, processes, StandsFor, MayTake}
 use Rattle.wcp_queue.specs.Elimination.{GainCandidate}
 
 -- the notes taken of a process, after one more item of it or of another
@@ -23,10 +24,26 @@ notes_taken-push_other items item p other =
     let none : filter (λ (i : Item). eqb i.from p) (item ∷ []) ≡ [] = cond-false (eqb item.from p) (item ∷ []) [] (ne_eqb item.from p other) in
     ap (map (λ (i : Item). i.note)) (filter-append (λ (i : Item). eqb i.from p) items (item ∷ []) ∙ ap (λ (rest : List Item). filter (λ (i : Item). eqb i.from p) items ++ rest) none ∙ append-nil (filter (λ (i : Item). eqb i.from p) items))
 
-pub snapshot_clocks-append : (notes more : List Note) → snapshot_clocks (notes ++ more) ≡ snapshot_clocks notes ++ snapshot_clocks more
-snapshot_clocks-append [] more = refl
-snapshot_clocks-append (Snap number clock ∷ notes) more = ap (λ clocks. clock ∷ clocks) (snapshot_clocks-append notes more)
-snapshot_clocks-append (Close count ∷ notes) more = snapshot_clocks-append notes more
+-- each process's notes stay in turn
+pub in_turn-push : (items : List Item) (item : Item) (p : ℕ) → IsNextNote (notes_taken item.from items) item.note → AreInTurn (notes_taken p items) → AreInTurn (notes_taken p (items ++ item ∷ []))
+in_turn-push items item p next turn = ⊎_elim
+    (λ (same : item.from ≡ p). subst AreInTurn (sym (notes_taken-push_same items item p same)) (AreInTurn-push (notes_taken p items) item.note turn (subst (λ q. IsNextNote (notes_taken q items) item.note) same next)))
+    (λ (other : item.from ≢ p). subst AreInTurn (sym (notes_taken-push_other items item p other)) turn)
+    (cases_eq item.from p)
+
+-- a checker may take an item exactly where its note is the next after those taken of its process
+pub MayTake-next : (checker : CheckerState) (items : List Item) (item : Item) → StandsFor checker items → item.from < processes checker → IsNextNote (notes_taken item.from items) item.note → MayTake checker item
+MayTake-next checker items item stands within next = record {
+  from = within;
+  place = next.place ∙ sym (stands.taken item.from within);
+  still_open = stands.closed item.from within ∙ next.still_open;
+}
+
+pub next_where_MayTake : (checker : CheckerState) (items : List Item) (item : Item) → StandsFor checker items → MayTake checker item → IsNextNote (notes_taken item.from items) item.note
+next_where_MayTake checker items item stands may = record {
+  place = may.place ∙ stands.taken item.from may.from;
+  still_open = sym (stands.closed item.from may.from) ∙ may.still_open;
+}
 
 -- a snapshot's clock comes at the end of its process's row, and the other rows stay
 pub GainCandidate-snapshot : (n : ℕ) (items : List Item) (p number : ℕ) (clock : List ℕ) → GainCandidate n p clock (λ q. clocks_taken q items) (λ q. clocks_taken q (items ++ record { from = p; note = Snap number clock } ∷ []))

@@ -1,8 +1,8 @@
-use Rattle.std.proofs.Common.{◌≡◌, ◌||◌, ℕ, ◌+◌, ◌-◌, ◌<◌, ◌≤◌, Bool, true, false, List, [], ◌∷◌, ◌++◌, length, set, drop, eqb, ltb, ⊎_elim, arith}
+use Rattle.std.proofs.Common.{◌≡◌, ◌||◌, ℕ, ◌+◌, ◌-◌, ◌<◌, ◌≤◌, true, false, List, [], ◌∷◌, ◌++◌, length, set, drop, eqb, ltb, ⊎_elim, arith}
 use Rattle.std.proofs.lemmas.Bool.{cases_Bool, cases_eq, eq-eqb, ne_eqb, or_left, or_right, or_from, cond-true, cond-false}
 use Rattle.std.proofs.lemmas.List.{length-append, length-drop}
 use Rattle.std.proofs.lemmas.List.Sums.{sum_by-set}
-use Rattle.wcp_queue.specs.Queue.{Candidates, no_candidates, head, without_head, with_old_head, with_candidate}
+use Rattle.wcp_queue.specs.Queue.{Candidates, no_candidates, without_head, with_old_head, with_candidate}
 use Rattle.wcp_queue.specs.Elimination.{queue_of, HasNewHead, uncompared, uncompared_in}
 
 -- no elimination adds a candidate to compare

@@ -1,11 +1,11 @@
-use Rattle.std.specs.Prelude.{◌≡◌, ◌+◌, ◌-◌, ◌*◌, ◌^◌, ◌<◌, ◌≤◌, ℕ, Bool, true, false, IsTrue, Option, Some, None, MatchOption, List, [], ◌∷◌, ◌++◌, length, take, sum, count_by, All, slice_index, slice_index_or}
+use Rattle.std.specs.Prelude.{◌≡◌, ◌+◌, ◌^◌, ◌<◌, ◌≤◌, ℕ, Bool, true, false, Option, Some, None, MatchOption, List, [], ◌∷◌, ◌++◌, length, take, sum, count_by, All, slice_index, slice_index_or}
 use Rattle.std.specs.List.{list_any, list_all}
 use Rattle.wcp_clock.specs.declared.note.Item.{Item}
 use Rattle.wcp_clock.specs.declared.note.Note.{Note}
 use Rattle.wcp_clock.specs.declared.note.Note.TheVariants.{Snap, Close}
 use Rattle.wcp_model.specs.declared.outcome.Report.{Report}
 use Rattle.wcp_model.specs.declared.outcome.Report.TheVariants.{Found, Nothing, Undecided}
-use Rattle.wcp_model.specs.Report.{notes_taken, clocks_taken, IsCutByClocks}
+use Rattle.wcp_model.specs.Report.{notes_taken, clocks_taken, is_close, place_of, AreInTurn, IsDrained, IsCutByClocks}
 use Rattle.wcp_queue.specs.Queue.{Candidates}
 use Rattle.wcp_queue.specs.Elimination.{HaveHeads, AreCompared, AreLeft, IsFoundAmong, uncompared_in, most_tests}
 
@@ -25,6 +25,10 @@ processes checker = length checker.queues
 abbrev pub taken_of : CheckerState → ℕ → ℕ
 taken_of checker p = slice_index checker.taken p
 
+-- Whether it took the close mark of one.
+abbrev pub closed_of : CheckerState → ℕ → Bool
+closed_of checker p = slice_index_or checker.closed p false
+
 -- Its report: the cut found; else nothing, once every close mark was taken.
 abbrev pub report_from : Option (List ℕ) → Bool → Report
 report_from (Some cut) closed = Found cut
@@ -41,20 +45,21 @@ is_snapshot item = is_snap item.note
     is_snap (Snap number clock) = true
     is_snap (Close count) = false
 
-abbrev pub is_close : Note → Bool
-is_close (Snap number clock) = false
-is_close (Close count) = true
+-- A checker may take an item that is the next of its process: its place is the number of snapshots taken of that
+-- process, whose close mark wasn't taken.
+pub record MayTake (checker : CheckerState) (item : Item) : Type 0 where
+  pub from : item.from < processes checker
+  pub place : place_of item.note ≡ taken_of checker item.from
+  pub still_open : closed_of checker item.from ≡ false
 
--- The close mark of each process was taken.
-abbrev pub AreAllClosed : ℕ → List Item → Type 0
-AreAllClosed n items = (p : ℕ) → p < n → IsTrue (list_any is_close (notes_taken p items))
-
--- A checker stands for the list of items that it took: it has counted them, and its queues are what elimination leaves of
--- their snapshots' clocks, until a cut was found among these (Garg and Waldecker 1994).
+-- A checker stands for the list of items that it took, those of each process in turn: it has counted them, and its
+-- queues are what elimination leaves of their snapshots' clocks, until a cut was found among these (Garg and Waldecker
+-- 1994).
 pub record StandsFor (checker : CheckerState) (items : List Item) : Type 0 where
   pub taken : (p : ℕ) → p < processes checker → taken_of checker p ≡ length (clocks_taken p items)
   pub snapshots : sum checker.taken ≡ count_by is_snapshot items
-  pub closed : (p : ℕ) → p < processes checker → slice_index_or checker.closed p false ≡ list_any is_close (notes_taken p items)
+  pub closed : (p : ℕ) → p < processes checker → closed_of checker p ≡ list_any is_close (notes_taken p items)
+  pub in_turn : (p : ℕ) → p < processes checker → AreInTurn (notes_taken p items)
   pub candidates : MatchOption checker.found
       (AreLeft (processes checker) (λ p. clocks_taken p items) checker.queues)
       (IsFoundAmong (processes checker) (λ p. clocks_taken p items))
@@ -70,12 +75,12 @@ KeepsFound old new = (cut : List ℕ) → report_of old ≡ Found cut → report
 abbrev pub HasFound : CheckerState → Type 0
 HasFound checker = (cut : List ℕ) × (report_of checker ≡ Found cut)
 
--- What holds of the report whatever order the items came in: a found cut is one of taken snapshots of which none precedes
--- another by its clock, and otherwise it says whether every close mark was taken.
-abbrev pub IsReportInAnyOrder : ℕ → List Item → Report → Type 0
-IsReportInAnyOrder n items (Found cut) = IsCutByClocks n items cut
-IsReportInAnyOrder n items Nothing = AreAllClosed n items
-IsReportInAnyOrder n items Undecided = AreAllClosed n items → ⊥
+-- What holds of the report whatever the clocks are: a found cut is one of taken snapshots of which none precedes another
+-- by its clock, and otherwise it says whether all is drained.
+abbrev pub IsReportOfAnyClocks : ℕ → List Item → Report → Type 0
+IsReportOfAnyClocks n items (Found cut) = IsCutByClocks n items cut
+IsReportOfAnyClocks n items Nothing = IsDrained n items
+IsReportOfAnyClocks n items Undecided = IsDrained n items → ⊥
 
 -- What is true of every checker: its heads were compared, a process without one is waited for until a cut is found, and a
 -- snapshot costs at most two component tests with each other process (Garg and Waldecker 1994: the comparisons made).

@@ -1,13 +1,9 @@
 use Rattle.std.specs.Prelude.{◌≡◌, ◌≢◌, ◌⊎◌, ℕ, ◌-◌, ◌*◌, ◌<◌, ◌≤◌, Bool, true, false, List, [], ◌∷◌, ◌++◌, length, drop, sum_by, slice_index, slice_index_or, if◌then◌else◌}
-use Rattle.wcp_model.proofs.CandidateRows.{IsSatisfyingChoice, IsEliminatedBelow}
+use Rattle.wcp_model.specs.Elimination.{ClockPrecedes, IsSatisfyingChoice, IsEliminatedBelow}
 use Rattle.wcp_queue.specs.Queue.{Candidates, no_candidates, head, without_head}
 
 abbrev pub queue_of : List Candidates → ℕ → Candidates
 queue_of queues p = slice_index_or queues p no_candidates
-
--- A snapshot of p precedes one of q by their clocks if its own component is less than the other's (Fidge 1988; Mattern 1989).
-abbrev pub ClockPrecedes : ℕ → List ℕ → ℕ → List ℕ → Type 0
-ClockPrecedes p one q other = slice_index one p < slice_index other p
 
 -- A queue has a head that was compared with the other heads.
 pub record HasOldHead (queue : Candidates) : Type 0 where
@@ -60,14 +56,14 @@ pub record AreLeft (n : ℕ) (rows : ℕ → List (List ℕ)) (queues : List Can
   pub heads : ℕ → ℕ
   pub within : (p : ℕ) → p < n → heads p ≤ length (rows p)
   pub rest : (p : ℕ) → p < n → (queue_of queues p).clocks ≡ drop (heads p) (rows p)
-  pub eliminated : IsEliminatedBelow [] ClockPrecedes n rows heads
+  pub eliminated : IsEliminatedBelow n rows heads
 
 -- A cut that was found is that of a satisfying choice of the rows below which all is eliminated.
 pub record IsFoundAmong (n : ℕ) (rows : ℕ → List (List ℕ)) (cut : List ℕ) : Type 0 where
   pub members : length cut ≡ n
   pub choice : ℕ → ℕ
-  pub satisfying : IsSatisfyingChoice [] ClockPrecedes n rows choice
-  pub eliminated : IsEliminatedBelow [] ClockPrecedes n rows choice
+  pub satisfying : IsSatisfyingChoice n rows choice
+  pub eliminated : IsEliminatedBelow n rows choice
   pub own : (p : ℕ) → p < n → slice_index cut p ≡ slice_index (slice_index_or (rows p) (choice p) []) p
 
 -- The row of p gains a candidate at its end, and the others stay.

@@ -1,9 +1,9 @@
-ghost use Rattle.std.specs.Prelude.{◌≡◌, true, ℕ, ◌+◌, ◌-◌, ◌*◌, ◌^◌, ◌<◌, ◌≤◌, [], ◌∷◌, ◌++◌, List, length, count_by, IfOk, IfErr, IsOk, OnOk, OnErr};
-ghost use Rattle.std.specs.List.{list_all};
+ghost use Rattle.std.specs.Prelude.{◌≡◌, true, false, ℕ, ◌+◌, ◌-◌, ◌*◌, ◌^◌, ◌<◌, ◌≤◌, [], ◌∷◌, ◌++◌, List, length, count_by, IfOk, IfErr, IsOk, OnOk, OnErr};
+ghost use Rattle.std.specs.List.{list_all, list_any};
 ghost use Rattle.wcp_clock.specs.declared.note.Item.{Item};
 ghost use Rattle.wcp_clock.specs.declared.note.Note.TheVariants.{Snap};
 ghost use Rattle.wcp_model.specs.declared.outcome.Report.TheVariants.{Found};
-ghost use Rattle.wcp_model.specs.Report.{AreTakenInOrder, IsReportByClocks, clocks_taken};
+ghost use Rattle.wcp_model.specs.Report.{ClocksRise, IsReportByClocks, clocks_taken, is_close, notes_taken};
 
 use crate::elimination::add_candidate;
 use crate::queue::Queue;
@@ -36,7 +36,7 @@ impl Model for Checker {
 }
 
 impl Checker {
-    ghost use Rattle.wcp_queue.specs.Checker.{processes, taken_of, report_of, is_snapshot, is_close, StandsFor, TakesItem, KeepsFound, HasFound, IsReportInAnyOrder};
+    ghost use Rattle.wcp_queue.specs.Checker.{processes, taken_of, closed_of, report_of, is_snapshot, MayTake, StandsFor, TakesItem, KeepsFound, HasFound, IsReportOfAnyClocks};
 
     /// A checker of `n` processes that has taken nothing. `Err` where memory runs out.
     pub fn new(alloc: Global, n: u32) -> Result<Checker, AllocError>
@@ -70,8 +70,7 @@ impl Checker {
     /// Takes an item. `Err` where memory runs out: it hands the item back, and nothing has changed.
     /// It grows only while no cut is found.
     pub fn take(&mut self, item: Item) -> Result<(), (AllocError, Item)>
-        requires from { item.from < processes self.old }
-        requires few { taken_of self.old item.from < 4294967296 }
+        requires { MayTake self.old item }
         ensures taken { OnOk result (TakesItem self.old self.new item) }
         ensures found_stays { KeepsFound self.old self.new }
         ensures processes { processes self.new ≡ processes self.old }
@@ -97,7 +96,9 @@ impl Checker {
     fn take_snapshot(&mut self, p: usize, clock: Clock) -> Result<(), AllocError>
         requires within { p < processes self.old }
         requires few { taken_of self.old p < 4294967296 }
-        ensures taken { OnOk result ((number : ℕ) → TakesItem self.old self.new (record { from = p; note = Snap number clock })) }
+        requires still_open { closed_of self.old p ≡ false }
+        ensures taken { OnOk result
+            (TakesItem self.old self.new (record { from = p; note = Snap (taken_of self.old p) clock })) }
         ensures found_stays { KeepsFound self.old self.new }
         ensures processes { processes self.new ≡ processes self.old }
         ensures unchanged { OnErr result (self.new ≡ self.old) }
@@ -113,10 +114,10 @@ impl Checker {
     /// What the snapshots taken tell.
     pub fn report(&self) -> Report
         ensures value { result ≡ report_of self.now }
-        ensures in_any_order { (items : List Item) → StandsFor self.now items
-            → IsReportInAnyOrder (processes self.now) items result }
+        ensures any_clocks { (items : List Item) → StandsFor self.now items
+            → IsReportOfAnyClocks (processes self.now) items result }
         ensures exact { (items : List Item) → StandsFor self.now items
-            → AreTakenInOrder (processes self.now) items → IsReportByClocks (processes self.now) items result }
+            → ClocksRise (processes self.now) items → IsReportByClocks (processes self.now) items result }
     {
         if let Some(cut) = self.found {
             return Report::Found(cut);
@@ -145,6 +146,16 @@ impl Checker {
         ensures snapshots { (items : List Item) → StandsFor self.now items → result ≡ length (clocks_taken p items) }
     {
         self.taken[p as usize]
+    }
+
+    /// Whether the close mark of process `p` was taken.
+    pub fn closed(&self, p: u32) -> bool
+        requires { p < processes self.now }
+        ensures value { result ≡ closed_of self.now p }
+        ensures mark { (items : List Item) → StandsFor self.now items
+            → result ≡ list_any is_close (notes_taken p items) }
+    {
+        self.closed[p as usize]
     }
 }
 

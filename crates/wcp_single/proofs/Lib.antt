@@ -1,12 +1,10 @@
 mod Alike
 mod Orders
-mod Heads
-mod Rows
-mod Reports
 mod AcceptedOrder
 mod Running
 mod Runs
 mod Performing
 mod SealQueues
+mod PerformedTasks
 mod Starting
 mod Ending

@@ -6,7 +6,8 @@ use Rattle.wcp_model.specs.declared.step.Step.TheVariants as step
 use Rattle.wcp_model.specs.declared.workload.Action.TheVariants as action
 use Rattle.wcp_model.specs.declared.workload.Task.{Task}
 use Rattle.wcp_model.specs.Computation.{Computation, is_communication_of, is_send, message_at}
-use Rattle.wcp_model.specs.ProbeLog.{Observed, Sent, Received, IsStampOf}
+use Rattle.wcp_model.specs.ProbeLog.{Observed, Sent, Received, IsStampOf, ProbeState}
+use Rattle.wcp_model.specs.Report.{notes_taken}
 use Rattle.wcp_model.specs.StateClock.{IsStateClock}
 use Rattle.wcp_model.specs.WorkloadComputation.{sends, receives, message_number}
 use Rattle.wcp_model.proofs.Growth.{get_behind}
@@ -15,39 +16,54 @@ use Rattle.wcp_model.proofs.Predecessors.{local_state}
 use Rattle.wcp_model.proofs.RunningEmissions.{interval_at_seam}
 use Rattle.wcp_model.proofs.StepsOfOrder.{message_at_is}
 use Rattle.wcp_probe.specs.Seal.{Seal}
-use Rattle.wcp_single.specs.Process.{ProcessState, Runs}
+use Rattle.wcp_queue.specs.Checker.{CheckerState}
+use Rattle.wcp_single.specs.declared.process.Process.{Process}
+use Rattle.wcp_single.specs.Process.{MayCommunicate, MayReceive, Runs, Feeds, IsFedMore}
 use Rattle.wcp_single.specs.Probing.{Follows, IsSealOf, front, IsChannel, IsRun, IsNext, queue_at}
 use Rattle.wcp_order.proofs.Counting.{count_by_push_passing, count_by_push_failing, channels_differ}
-use Rattle.wcp_single.proofs.Running.{last_clock, own_component, not_ahead}
+use Rattle.wcp_single.proofs.Running.{log_push, last_clock, own_component, not_ahead}
 use Rattle.wcp_single.proofs.Runs.{next_within, here_accepted, next_accepted, has_room, order_next, follows_call, seal_grows, in_transit_first, follow_next, channel_stays, channel_pushed, channel_popped}
 use Rattle.wcp_order.proofs.Tasks.{sends_ends, receives_ends, send_passes, receive_passes, send_is_no_receive, receive_is_no_send, observe_is_no_send, observe_is_no_receive}
 
 -- a process that was read
-pub read_follows : (n : ℕ) (order : List Task) (place : ℕ) (processes : List ProcessState) (queues : List (List Seal)) → IsRun n order place processes queues → (p : ℕ) (old : ProcessState) → p < n → old ≡ get_or processes p old → Follows n (front n order place) p old
-read_follows n order place processes queues run p old within read = subst (Follows n (front n order place) p) (sym read) (run.follows p old within)
+pub read_follows : (n : ℕ) (order : List Task) (place : ℕ) (processes : List Process) (queues : List (List Seal)) (checker : CheckerState) (run : IsRun n order place processes queues checker) (p : ℕ) (old : Process) → p < n → old ≡ get_or processes p old → Follows n (front n order place) p (notes_taken p run.items) old
+read_follows n order place processes queues checker run p old within read = subst (Follows n (front n order place) p (notes_taken p run.items)) (sym read) (run.follows p old within)
 
--- its clock has room for one more event
-pub room_next : (n : ℕ) (order : List Task) (place : ℕ) (task : Task) → IsNext n order place task → (processes : List ProcessState) (queues : List (List Seal)) → IsRun n order place processes queues → (old : ProcessState) → old ≡ get_or processes task.p old → slice_index old.probe.clock old.probe.id < old.probe.limit
-room_next n order place task next processes queues run old read =
-    has_room n order place task.p task.action next old (read_follows n order place processes queues run task.p old (next_within n order place task.p task.action next).0 read)
+-- it may make a communication event
+pub may_communicate : (n : ℕ) (order : List Task) (place : ℕ) (task : Task) → IsNext n order place task → (processes : List Process) (queues : List (List Seal)) (checker : CheckerState) → IsRun n order place processes queues checker → (old : Process) → old ≡ get_or processes task.p old → MayCommunicate old
+may_communicate n order place task next processes queues checker run old read =
+    let follows = read_follows n order place processes queues checker run task.p old (next_within n order place task.p task.action next).0 read in
+    record {
+      not_closed = follows.running.not_closed;
+      none_pending = follows.running.none_pending;
+      room = has_room n order place task.p task.action next (notes_taken task.p run.items) old follows;
+    }
 
 -- the run after an observation
-module _ (n : ℕ) (order : List Task) (place a : ℕ) (holds : Bool) (next : IsNext n order place (record { p = a; action = action.Observe holds })) (processes : List ProcessState) (queues : List (List Seal)) (run : IsRun n order place processes queues) (old new : ProcessState) (read : old ≡ get_or processes a old) (runs : Runs old (Observed holds) new) where
-  run_observed : IsRun n order (place + 1) (set processes a new) queues
+module _ (n : ℕ) (order : List Task) (place a : ℕ) (holds : Bool) (next : IsNext n order place (record { p = a; action = action.Observe holds })) (processes : List Process) (queues : List (List Seal)) (checker : CheckerState) (run : IsRun n order place processes queues checker) (old new : Process) (read : old ≡ get_or processes a old) (runs : Runs old (Observed holds) new) (after : CheckerState) (feeds : Feeds old (Observed holds) checker after) where
+  observed_follows : Follows n (front n order place) a (notes_taken a run.items) old
+  observed_follows = read_follows n order place processes queues checker run a old (next_within n order place a (action.Observe holds) next).0 read
+
+  fed : IsFedMore n a (observed_follows.log ++ Observed holds ∷ []) run.items after
+  fed = feeds n a observed_follows.log run.items observed_follows.running (record { within = (next_within n order place a (action.Observe holds) next).0; has_taken = run.has_taken; all = observed_follows.notes_are })
+
+  run_observed : IsRun n order (place + 1) (set processes a new) queues after
   run_observed = record {
     processes_are = length-set processes a new ∙ run.processes_are;
     channels_are = run.channels_are;
-    follows = follow_next n order place a (action.Observe holds) next processes new run.processes_are run.follows
-        (follows_call n (front n order place) (step.Observe a holds) a old new (Observed holds) (eq-eqb a a refl) refl runs (read_follows n order place processes queues run a old (next_within n order place a (action.Observe holds) next).0 read));
+    items = fed.more;
+    has_taken = fed.fed.has_taken;
+    follows = follow_next n order place a (action.Observe holds) next processes run.items fed.more new run.processes_are run.follows fed.others
+        (follows_call n (front n order place) (step.Observe a holds) a (notes_taken a run.items) (notes_taken a fed.more) old new (Observed holds) (eq-eqb a a refl) refl runs observed_follows fed.fed.all);
     channels = λ p q p_within q_within. channel_stays n order place a (action.Observe holds) next p q _ (observe_is_no_send p q a holds) (observe_is_no_receive p q a holds) (run.channels p q p_within q_within);
   }
 
-pub performs_observe : (n : ℕ) (order : List Task) (place : ℕ) (task : Task) (holds : Bool) → task.action ≡ action.Observe holds → IsNext n order place task → (processes : List ProcessState) (queues : List (List Seal)) → IsRun n order place processes queues → (old new : ProcessState) → old ≡ get_or processes task.p old → Runs old (Observed holds) new → IsRun n order (place + 1) (set processes task.p new) queues
-performs_observe n order place task holds acts next processes queues run old new read runs =
-    run_observed n order place task.p holds (subst (λ act. IsNext n order place (record { p = task.p; action = act })) acts next) processes queues run old new read runs
+pub performs_observe : (n : ℕ) (order : List Task) (place : ℕ) (task : Task) (holds : Bool) → task.action ≡ action.Observe holds → IsNext n order place task → (processes : List Process) (queues : List (List Seal)) (checker : CheckerState) → IsRun n order place processes queues checker → (old new : Process) → old ≡ get_or processes task.p old → Runs old (Observed holds) new → (after : CheckerState) → Feeds old (Observed holds) checker after → IsRun n order (place + 1) (set processes task.p new) queues after
+performs_observe n order place task holds acts next processes queues checker run old new read runs after feeds =
+    run_observed n order place task.p holds (subst (λ act. IsNext n order place (record { p = task.p; action = act })) acts next) processes queues checker run old new read runs after feeds
 
 -- the run after a send
-module _ (n : ℕ) (order : List Task) (place a b : ℕ) (next : IsNext n order place (record { p = a; action = action.Send b })) (processes : List ProcessState) (queues : List (List Seal)) (run : IsRun n order place processes queues) (old new : ProcessState) (read : old ≡ get_or processes a old) (runs : Runs old Sent new) where
+module _ (n : ℕ) (order : List Task) (place a b : ℕ) (next : IsNext n order place (record { p = a; action = action.Send b })) (processes : List Process) (queues : List (List Seal)) (checker : CheckerState) (run : IsRun n order place processes queues checker) (old new : Process) (read : old ≡ get_or processes a old) (runs : Runs old Sent new) where
   a_within : a < n
   a_within = (next_within n order place a (action.Send b) next).0
 
@@ -57,8 +73,12 @@ module _ (n : ℕ) (order : List Task) (place a b : ℕ) (next : IsNext n order 
   abbrev behind : Computation
   behind = front n order place ++ step.Send a b ∷ []
 
-  sender_follows : Follows n behind a new
-  sender_follows = follows_call n (front n order place) (step.Send a b) a old new Sent (eq-eqb a a refl) tt runs (read_follows n order place processes queues run a old a_within read)
+  before_send : Follows n (front n order place) a (notes_taken a run.items) old
+  before_send = read_follows n order place processes queues checker run a old a_within read
+
+  sender_follows : Follows n behind a (notes_taken a run.items) new
+  sender_follows = follows_call n (front n order place) (step.Send a b) a (notes_taken a run.items) (notes_taken a run.items) old new Sent (eq-eqb a a refl) tt runs before_send
+      (before_send.notes_are ∙ ap (λ (s : ProbeState). s.notes) (sym (log_push n a before_send.log Sent)))
 
   -- the number of the message is the number of sends before it
   number_is : message_at behind (length (front n order place)) ≡ message_number order a b (count_by (sends a b) (take place order))
@@ -69,14 +89,14 @@ module _ (n : ℕ) (order : List Task) (place a b : ℕ) (next : IsNext n order 
 
   seal_is : (seal : Seal) → seal ≡ record { watch = old.probe.watch; from = old.probe.id; to = b; clock = new.probe.clock } → IsSealOf n behind a b (message_number order a b (count_by (sends a b) (take place order))) seal
   seal_is seal is = subst (IsSealOf n behind a b (message_number order a b (count_by (sends a b) (take place order)))) (sym is) (record {
-    watch = (read_follows n order place processes queues run a old a_within read).running.watch;
+    watch = before_send.running.watch;
     to = refl;
     sent = length (front n order place);
     send = get_behind (front n order place) (step.Send a b) [];
     number = number_is;
     clock = subst (λ k. IsStateClock n behind (local_state a k) new.probe.clock)
         (omega (arith, interval_at_seam (front n order place) (step.Send a b ∷ []) a, count_by_push_passing (is_communication_of a) (front n order place) (step.Send a b) (eq-eqb a a refl)))
-        (last_clock n behind (next_accepted n order place a (action.Send b) next) a a_within new sender_follows);
+        (last_clock n behind (next_accepted n order place a (action.Send b) next) a a_within (notes_taken a run.items) new sender_follows);
   })
 
   module _ (seal : Seal) (is : seal ≡ record { watch = old.probe.watch; from = old.probe.id; to = b; clock = new.probe.clock }) where
@@ -100,29 +120,18 @@ module _ (n : ℕ) (order : List Task) (place a b : ℕ) (next : IsNext n order 
         (channel_stays n order place a (action.Send b) next p q _ other (send_is_no_receive p q a b) (run.channels p q p_within q_within)))
         (cases_Bool (sends p q (record { p = a; action = action.Send b })))
 
-    run_sent : IsRun n order (place + 1) (set processes a new) (set queues (a * n + b) longer)
+    pub run_sent : IsRun n order (place + 1) (set processes a new) (set queues (a * n + b) longer) checker
     run_sent = record {
       processes_are = length-set processes a new ∙ run.processes_are;
       channels_are = length-set queues (a * n + b) longer ∙ run.channels_are;
-      follows = follow_next n order place a (action.Send b) next processes new run.processes_are run.follows sender_follows;
+      items = run.items;
+      has_taken = run.has_taken;
+      follows = follow_next n order place a (action.Send b) next processes run.items run.items new run.processes_are run.follows (λ q other. refl) sender_follows;
       channels = channel_after;
     }
 
-pub performs_send : (n : ℕ) (order : List Task) (place : ℕ) (task : Task) (to : ℕ) → task.action ≡ action.Send to → IsNext n order place task → (processes : List ProcessState) (queues : List (List Seal)) → IsRun n order place processes queues → (old new : ProcessState) → old ≡ get_or processes task.p old → Runs old Sent new →
-    (seal : Seal) → seal ≡ record { watch = old.probe.watch; from = old.probe.id; to = to; clock = new.probe.clock } → (channel : ℕ) → channel ≡ task.p * n + to → IsRun n order (place + 1) (set processes task.p new) (set queues channel (queue_at queues channel ++ seal ∷ []))
-performs_send n order place task to acts next processes queues run old new read runs seal is channel here =
-    subst (λ i. IsRun n order (place + 1) (set processes task.p new) (set queues i (queue_at queues i ++ seal ∷ []))) (sym here)
-    (run_sent n order place task.p to (subst (λ act. IsNext n order place (record { p = task.p; action = act })) acts next) processes queues run old new read runs seal is)
-
--- what a process may receive
-pub record IsAcceptable (process : ProcessState) (seal : Seal) : Type 0 where
-  pub watch : seal.watch ≡ process.probe.watch
-  pub components : length seal.clock ≡ length process.probe.clock
-  pub addressed : seal.to ≡ process.probe.id
-  pub not_ahead : slice_index seal.clock process.probe.id ≤ slice_index process.probe.clock process.probe.id
-
 -- the run before a receive, and after it
-module _ (n : ℕ) (order : List Task) (place a b : ℕ) (next : IsNext n order place (record { p = a; action = action.Recv b })) (processes : List ProcessState) (queues : List (List Seal)) (run : IsRun n order place processes queues) where
+module _ (n : ℕ) (order : List Task) (place a b : ℕ) (next : IsNext n order place (record { p = a; action = action.Recv b })) (processes : List Process) (queues : List (List Seal)) (checker : CheckerState) (run : IsRun n order place processes queues checker) where
   receiver_within : a < n
   receiver_within = (next_within n order place a (action.Recv b) next).0
 
@@ -133,22 +142,23 @@ module _ (n : ℕ) (order : List Task) (place a b : ℕ) (next : IsNext n order 
   received = count_by (receives b a) (take place order)
 
   -- its message is in transit
-  waits : 0 < length (queue_at queues (b * n + a))
+  pub waits : 0 < length (queue_at queues (b * n + a))
   waits =
       let more : count_by (receives b a) (take (place + 1) order) ≡ received + 1 = ap (count_by (receives b a)) (order_next n order place a (action.Recv b) next) ∙ count_by_push_passing (receives b a) (take place order) _ (receive_passes b a) in
       let same : count_by (sends b a) (take (place + 1) order) ≡ count_by (sends b a) (take place order) = ap (count_by (sends b a)) (order_next n order place a (action.Recv b) next) ∙ count_by_push_failing (sends b a) (take place order) _ (receive_is_no_send b a a b) in
       omega (arith, more, same, next.fit.sent_first (place + 1) b a, (run.channels b a sender_within receiver_within).waiting)
 
-  module _ (seal : Seal) (first : seal ≡ get_or (queue_at queues (b * n + a)) 0 seal) (old : ProcessState) (read : old ≡ get_or processes a old) where
+  module _ (seal : Seal) (first : seal ≡ get_or (queue_at queues (b * n + a)) 0 seal) (old : Process) (read : old ≡ get_or processes a old) where
     first_is : IsSealOf n (front n order place) b a (message_number order b a received) seal
     first_is = subst (IsSealOf n (front n order place) b a (message_number order b a received)) (sym first)
         (in_transit_first n order (front n order place) b a received (queue_at queues (b * n + a)) seal waits (run.channels b a sender_within receiver_within).in_order)
 
-    receiver_follows : Follows n (front n order place) a old
-    receiver_follows = read_follows n order place processes queues run a old receiver_within read
+    receiver_follows : Follows n (front n order place) a (notes_taken a run.items) old
+    receiver_follows = read_follows n order place processes queues checker run a old receiver_within read
 
-    acceptable : IsAcceptable old seal
-    acceptable = record {
+    pub may_receive : MayReceive old seal
+    may_receive = record {
+      communicate = may_communicate n order place (record { p = a; action = action.Recv b }) next processes queues checker run old read;
       watch = first_is.watch ∙ sym receiver_follows.running.watch;
       components = first_is.clock.components ∙ sym receiver_follows.running.components;
       addressed = first_is.to ∙ sym receiver_follows.running.id;
@@ -156,7 +166,7 @@ module _ (n : ℕ) (order : List Task) (place a b : ℕ) (next : IsNext n order 
         arith,
         ap (slice_index seal.clock) receiver_follows.running.id,
         not_ahead n (front n order place) b a _ seal receiver_within (λ same. (next_within n order place a (action.Recv b) next).1.1 (sym same)) first_is,
-        own_component n (front n order place) (here_accepted n order place a (action.Recv b) next) a receiver_within old receiver_follows,
+        own_component n (front n order place) (here_accepted n order place a (action.Recv b) next) a receiver_within (notes_taken a run.items) old receiver_follows,
       );
     }
 
@@ -165,7 +175,7 @@ module _ (n : ℕ) (order : List Task) (place a b : ℕ) (next : IsNext n order 
         let is = seal_grows n (front n order place) (step.Recv a (message_number order b a received) ∷ []) b a _ seal first_is in
         record { sent = is.sent; from = b; to = a; send = is.send; number = is.number; clock = is.clock }
 
-    module _ (new : ProcessState) (runs : Runs old (Received seal.clock) new) where
+    module _ (new : Process) (runs : Runs old (Received seal.clock) new) where
       abbrev shorter : List Seal
       shorter = drop 1 (queue_at queues (b * n + a))
 
@@ -186,31 +196,14 @@ module _ (n : ℕ) (order : List Task) (place a b : ℕ) (next : IsNext n order 
           (channel_stays n order place a (action.Recv b) next p q _ (receive_is_no_send p q a b) other (run.channels p q p_within q_within)))
           (cases_Bool (receives p q (record { p = a; action = action.Recv b })))
 
-      run_received : IsRun n order (place + 1) (set processes a new) (set queues (b * n + a) shorter)
+      pub run_received : IsRun n order (place + 1) (set processes a new) (set queues (b * n + a) shorter) checker
       run_received = record {
         processes_are = length-set processes a new ∙ run.processes_are;
         channels_are = length-set queues (b * n + a) shorter ∙ run.channels_are;
-        follows = follow_next n order place a (action.Recv b) next processes new run.processes_are run.follows
-            (follows_call n (front n order place) (step.Recv a (message_number order b a received)) a old new (Received seal.clock) (eq-eqb a a refl) stamp_is runs receiver_follows);
+        items = run.items;
+        has_taken = run.has_taken;
+        follows = follow_next n order place a (action.Recv b) next processes run.items run.items new run.processes_are run.follows (λ q other. refl)
+            (follows_call n (front n order place) (step.Recv a (message_number order b a received)) a (notes_taken a run.items) (notes_taken a run.items) old new (Received seal.clock) (eq-eqb a a refl) stamp_is runs receiver_follows
+            (receiver_follows.notes_are ∙ ap (λ (s : ProbeState). s.notes) (sym (log_push n a receiver_follows.log (Received seal.clock)))));
         channels = channel_behind;
       }
-
--- the same of a task that receives
-module _ (n : ℕ) (order : List Task) (place : ℕ) (task : Task) (from : ℕ) (acts : task.action ≡ action.Recv from) (next : IsNext n order place task) (processes : List ProcessState) (queues : List (List Seal)) (run : IsRun n order place processes queues) (channel : ℕ) (here : channel ≡ from * n + task.p) where
-  next_receive : IsNext n order place (record { p = task.p; action = action.Recv from })
-  next_receive = subst (λ act. IsNext n order place (record { p = task.p; action = act })) acts next
-
-  pub message_waits : 0 < length (queue_at queues channel)
-  message_waits = subst (λ i. 0 < length (queue_at queues i)) (sym here) (waits n order place task.p from next_receive processes queues run)
-
-  module _ (seal : Seal) (first : seal ≡ get_or (queue_at queues channel) 0 seal) (old : ProcessState) (read : old ≡ get_or processes task.p old) where
-    first_there : seal ≡ get_or (queue_at queues (from * n + task.p)) 0 seal
-    first_there = first ∙ ap (λ i. get_or (queue_at queues i) 0 seal) here
-
-    pub message_acceptable : IsAcceptable old seal
-    message_acceptable = acceptable n order place task.p from next_receive processes queues run seal first_there old read
-
-    pub performs_receive : (new : ProcessState) → Runs old (Received seal.clock) new → IsRun n order (place + 1) (set processes task.p new) (set queues channel (drop 1 (queue_at queues channel)))
-    performs_receive new runs =
-        subst (λ i. IsRun n order (place + 1) (set processes task.p new) (set queues i (drop 1 (queue_at queues i)))) (sym here)
-        (run_received n order place task.p from next_receive processes queues run seal first_there old read new runs)

@@ -3,18 +3,22 @@ use Rattle.std.proofs.lemmas.Bool.{cases_eq, ne_eqb}
 use Rattle.std.proofs.lemmas.List.{take_more, length-take, take-append-drop, length_push, length-drop}
 use Rattle.std.proofs.lemmas.List.Sums.{count_by-le-length}
 use Rattle.std.proofs.lemmas.Option.{get_or_from_slice_get, slice_get_within}
+use Rattle.wcp_clock.specs.declared.note.Item.{Item}
+use Rattle.wcp_clock.specs.declared.note.Note.{Note}
 use Rattle.wcp_model.specs.declared.step.Step.{Step}
 use Rattle.wcp_model.specs.declared.step.Step.TheVariants as step
 use Rattle.wcp_model.specs.declared.workload.Action.{Action}
 use Rattle.wcp_model.specs.declared.workload.Action.TheVariants as action
 use Rattle.wcp_model.specs.declared.workload.Task.{Task}
 use Rattle.wcp_model.specs.Computation.{Computation, is_communication_of}
-use Rattle.wcp_model.specs.ProbeLog.{Call, is_step_of, IsCallOf, AreCallsOf, IsAccepted}
+use Rattle.wcp_model.specs.ProbeLog.{Call, is_step_of, IsCallOf, AreCallsOf, IsAccepted, state_of_log}
+use Rattle.wcp_model.specs.Report.{notes_taken}
 use Rattle.wcp_model.specs.WorkloadComputation.{sends, receives, message_number, step_of, computation_of, IsWithin}
 use Rattle.wcp_model.proofs.Growth.{at_grows, message_grows}
 use Rattle.wcp_model.proofs.StepsOfOrder.{step_at}
 use Rattle.wcp_probe.specs.Seal.{Seal}
-use Rattle.wcp_single.specs.Process.{ProcessState, IsRunning, Runs}
+use Rattle.wcp_single.specs.declared.process.Process.{Process}
+use Rattle.wcp_single.specs.Process.{IsRunning, Runs}
 use Rattle.wcp_single.specs.Probing.{Follows, IsSealOf, AreInTransit, front, IsChannel, IsNext}
 use Rattle.wcp_single.proofs.AcceptedOrder.{order_accepted}
 use Rattle.wcp_order.proofs.Counting.{count_by_push_passing, count_by_push_failing}
@@ -32,22 +36,25 @@ step_owner order earlier p q (action.Send to) = refl
 step_owner order earlier p q (action.Recv from) = refl
 
 -- a step of another process, and one of the process itself
-follows_pass : (n : ℕ) (c : Computation) (x : Step) (p : ℕ) (process : ProcessState) → is_step_of p x ≡ false → Follows n c p process → Follows n (c ++ x ∷ []) p process
-follows_pass n c x p process other follows =
+follows_pass : (n : ℕ) (c : Computation) (x : Step) (p : ℕ) (notes : List Note) (process : Process) → is_step_of p x ≡ false → Follows n c p notes process → Follows n (c ++ x ∷ []) p notes process
+follows_pass n c x p notes process other follows =
     let d : Computation = c ++ x ∷ [] in
     record {
       log = follows.log ++ [];
       log_is = log_grows n c (x ∷ []) p follows.log [] follows.log_is (subst (λ b. AreCallsOf n d (cond b (x ∷ []) []) []) (sym other) tt);
       running = subst (λ log. IsRunning n p log process) (sym (append-nil follows.log)) follows.running;
+      notes_are = follows.notes_are ∙ ap (λ log. (state_of_log n p log).notes) (sym (append-nil follows.log));
     }
 
-pub follows_call : (n : ℕ) (c : Computation) (x : Step) (p : ℕ) (old new : ProcessState) (call : Call) → is_step_of p x ≡ true → IsCallOf n (c ++ x ∷ []) x call → Runs old call new → Follows n c p old → Follows n (c ++ x ∷ []) p new
-follows_call n c x p old new call own is runs follows =
+pub follows_call : (n : ℕ) (c : Computation) (x : Step) (p : ℕ) (before after : List Note) (old new : Process) (call : Call) → is_step_of p x ≡ true → IsCallOf n (c ++ x ∷ []) x call → Runs old call new → (follows : Follows n c p before old) →
+    after ≡ (state_of_log n p (follows.log ++ call ∷ [])).notes → Follows n (c ++ x ∷ []) p after new
+follows_call n c x p before after old new call own is runs follows emits =
     let d : Computation = c ++ x ∷ [] in
     record {
       log = follows.log ++ call ∷ [];
       log_is = log_grows n c (x ∷ []) p follows.log (call ∷ []) follows.log_is (subst (λ b. AreCallsOf n d (cond b (x ∷ []) []) (call ∷ [])) (sym own) (is, tt));
       running = runs n p follows.log follows.running;
+      notes_are = emits;
     }
 
 -- a seal stays that of its message
@@ -109,21 +116,23 @@ module _ (n : ℕ) (order : List Task) (place : ℕ) (a : ℕ) (act : Action) (n
   next_accepted = subst IsAccepted front_next (accepted_front (front n order (place + 1)) (drop (place + 1) (computation_of n order)) (subst IsAccepted (sym (take-append-drop (place + 1) (computation_of n order))) (order_accepted n order next.fit)))
 
   -- the clock of the process has room for one more event
-  pub has_room : (process : ProcessState) → Follows n here a process → slice_index process.probe.clock process.probe.id < process.probe.limit
-  has_room process follows =
-      omega (arith, own_component n here here_accepted a next_within.0 process follows, count_by-le-length (is_communication_of a) here, length-take place (computation_of n order), next_inside, next.few_tasks, follows.running.limit)
+  pub has_room : (notes : List Note) (process : Process) → Follows n here a notes process → slice_index process.probe.clock process.probe.id < process.probe.limit
+  has_room notes process follows =
+      omega (arith, own_component n here here_accepted a next_within.0 notes process follows, count_by-le-length (is_communication_of a) here, length-take place (computation_of n order), next_inside, next.few_tasks, follows.running.limit)
 
   -- the processes after the step
-  module _ (processes : List ProcessState) (new : ProcessState) (all : length processes ≡ n) (follow : (p : ℕ) (d : ProcessState) → p < n → Follows n here p (get_or processes p d)) (own : Follows n (here ++ next_step ∷ []) a new) where
-    pub follow_next : (p : ℕ) (d : ProcessState) → p < n → Follows n (front n order (place + 1)) p (get_or (set processes a new) p d)
+  module _ (processes : List Process) (items more : List Item) (new : Process) (all : length processes ≡ n) (follow : (p : ℕ) (d : Process) → p < n → Follows n here p (notes_taken p items) (get_or processes p d))
+      (others : (q : ℕ) → q ≢ a → notes_taken q more ≡ notes_taken q items) (own : Follows n (here ++ next_step ∷ []) a (notes_taken a more) new) where
+    pub follow_next : (p : ℕ) (d : Process) → p < n → Follows n (front n order (place + 1)) p (notes_taken p more) (get_or (set processes a new) p d)
     follow_next p d within =
-        subst (λ c. Follows n c p (get_or (set processes a new) p d)) (sym front_next)
+        subst (λ c. Follows n c p (notes_taken p more) (get_or (set processes a new) p d)) (sym front_next)
         (⊎_elim (λ (same : p ≡ a).
-        subst (λ q. Follows n (here ++ next_step ∷ []) q (get_or (set processes a new) q d)) (sym same)
-        (subst (Follows n (here ++ next_step ∷ []) a) (sym (get_or-set_same processes a new d (omega (arith, next_within.0, all)))) own))
+        subst (λ q. Follows n (here ++ next_step ∷ []) q (notes_taken q more) (get_or (set processes a new) q d)) (sym same)
+        (subst (Follows n (here ++ next_step ∷ []) a (notes_taken a more)) (sym (get_or-set_same processes a new d (omega (arith, next_within.0, all)))) own))
         (λ (other : p ≢ a).
-        subst (Follows n (here ++ next_step ∷ []) p) (sym (get_or-set_other processes a p new d other))
-        (follows_pass n here next_step p (get_or processes p d) (step_owner order (take place order) a p act ∙ ne_eqb a p (λ same. other (sym same))) (follow p d within)))
+        subst (Follows n (here ++ next_step ∷ []) p (notes_taken p more)) (sym (get_or-set_other processes a p new d other))
+        (subst (λ notes. Follows n (here ++ next_step ∷ []) p notes (get_or processes p d)) (sym (others p other))
+        (follows_pass n here next_step p (notes_taken p items) (get_or processes p d) (step_owner order (take place order) a p act ∙ ne_eqb a p (λ same. other (sym same))) (follow p d within))))
         (cases_eq p a))
 
   -- a channel that the step leaves alone

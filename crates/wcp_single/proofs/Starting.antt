@@ -1,4 +1,4 @@
-use Rattle.std.proofs.Common.{◌≡◌, ℕ, ◌+◌, ◌*◌, ◌<◌, ◌≤◌, List, [], ◌∷◌, ◌++◌, length, replicate, get_or, All, sym, ap, ◌∙◌, subst, ⊎_elim, arith}
+use Rattle.std.proofs.Common.{◌≡◌, ℕ, ◌+◌, ◌*◌, ◌<◌, ◌≤◌, List, [], ◌∷◌, ◌++◌, length, replicate, get_or, All, refl, sym, ap, ◌∙◌, subst, ⊎_elim, arith}
 use Rattle.std.proofs.lemmas.Bool.{cases_lt}
 use Rattle.std.proofs.lemmas.List.{length_push, length-replicate, get_or-replicate, get_or_append_left, get_or_push}
 use Rattle.std.proofs.lemmas.Nat.{mul-add-lt}
@@ -7,14 +7,16 @@ use Rattle.wcp_clock.specs.declared.clock.TheConstants.{CLOCK_LIMIT}
 use Rattle.wcp_model.specs.declared.workload.Task.{Task}
 use Rattle.wcp_model.specs.WorkloadComputation.{IsWithin, IsFitOrder}
 use Rattle.wcp_probe.specs.Seal.{Seal}
-use Rattle.wcp_single.specs.Process.{ProcessState, IsRunning}
+use Rattle.wcp_queue.specs.Checker.{CheckerState}
+use Rattle.wcp_single.specs.declared.process.Process.{Process}
+use Rattle.wcp_single.specs.Process.{IsRunning, HasTaken}
 use Rattle.wcp_single.specs.Probing.{IsRun, IsNext, AreInTransit}
 
 -- the first processes run, with nothing in their logs
-abbrev pub AreNew : ℕ → ℕ → List ProcessState → Type 0
-AreNew n count processes = (length processes ≡ count) × ((p : ℕ) (d : ProcessState) → p < count → IsRunning n p [] (get_or processes p d))
+abbrev pub AreNew : ℕ → ℕ → List Process → Type 0
+AreNew n count processes = (length processes ≡ count) × ((p : ℕ) (d : Process) → p < count → IsRunning n p [] (get_or processes p d))
 
-pub one_more_new : (n count : ℕ) (processes : List ProcessState) (new : ProcessState) → AreNew n count processes → IsRunning n count [] new → AreNew n (count + 1) (processes ++ new ∷ [])
+pub one_more_new : (n count : ℕ) (processes : List Process) (new : Process) → AreNew n count processes → IsRunning n count [] new → AreNew n (count + 1) (processes ++ new ∷ [])
 one_more_new n count processes new are is = (
   omega (arith, length_push processes new, are.0),
   λ p d below. ⊎_elim
@@ -26,11 +28,13 @@ one_more_new n count processes new are is = (
 )
 
 -- the run of an order starts there, with no message in transit
-pub run_starts : (n : ℕ) (order : List Task) (processes : List ProcessState) (queues : List (List Seal)) → AreNew n n processes → queues ≡ replicate (n * n) [] → IsRun n order 0 processes queues
-run_starts n order processes queues are none = record {
+pub run_starts : (n : ℕ) (order : List Task) (processes : List Process) (queues : List (List Seal)) (checker : CheckerState) → AreNew n n processes → queues ≡ replicate (n * n) [] → HasTaken n [] checker → IsRun n order 0 processes queues checker
+run_starts n order processes queues checker are none has_taken = record {
   processes_are = are.0;
   channels_are = ap length none ∙ length-replicate (n * n) [];
-  follows = λ p d within. record { log = []; log_is = tt; running = are.1 p d within };
+  follows = λ p d within. record { log = []; log_is = tt; running = are.1 p d within; notes_are = refl };
+  items = [];
+  has_taken = has_taken;
   channels = λ p q p_within q_within.
       let empty : get_or queues (p * n + q) [] ≡ [] = ap (λ xs. get_or xs (p * n + q) []) none ∙ get_or-replicate (n * n) (p * n + q) [] [] (mul-add-lt p n q n p_within q_within) in
       record {

@@ -1,4 +1,2 @@
-pub mod Emissions
 pub mod Process
 pub mod Probing
-pub mod Heads

@@ -1,20 +1,28 @@
-use Rattle.std.specs.Prelude.{◌≡◌, ℕ, ◌+◌, ◌*◌, ◌<◌, List, [], ◌∷◌, length, take, map, count_by, slice_get, slice_index_or, All, Some}
+use Rattle.std.specs.Prelude.{◌≡◌, ℕ, ◌+◌, ◌*◌, ◌<◌, ◌≤◌, List, [], ◌∷◌, ◌++◌, length, take, map, count_by, slice_get, slice_index_or, All, Some}
 use Rattle.wcp_clock.specs.declared.clock.TheConstants.{CLOCK_LIMIT}
+use Rattle.wcp_clock.specs.declared.note.Item.{Item}
+use Rattle.wcp_clock.specs.declared.note.Note.{Note}
+use Rattle.wcp_clock.specs.declared.note.Note.TheVariants as note
 use Rattle.wcp_model.specs.declared.step.Step.TheVariants as step
 use Rattle.wcp_model.specs.declared.workload.Task.{Task}
 use Rattle.wcp_model.specs.Computation.{Computation, interval_at, message_at}
-use Rattle.wcp_model.specs.ProbeLog.{Call, IsLogOf}
+use Rattle.wcp_model.specs.Emission.{AreEmissions}
+use Rattle.wcp_model.specs.ProbeLog.{Call, IsLogOf, state_of_log}
+use Rattle.wcp_model.specs.Report.{notes_taken, snapshot_clocks}
 use Rattle.wcp_model.specs.StateClock.{IsStateClock}
 use Rattle.wcp_model.specs.WorkloadComputation.{sends, receives, message_number, computation_of, IsWithin, IsFitOrder}
 use Rattle.wcp_probe.specs.Seal.{Seal, seal_of}
+use Rattle.wcp_queue.specs.Checker.{CheckerState}
 use Rattle.wcp_single.specs.declared.probing.Run.{Run}
-use Rattle.wcp_single.specs.Process.{ProcessState, IsRunning}
+use Rattle.wcp_single.specs.declared.process.Process.{Process}
+use Rattle.wcp_single.specs.Process.{IsRunning, HasTaken}
 
--- The process runs by its log in the computation.
-pub record Follows (n : ℕ) (c : Computation) (p : ℕ) (process : ProcessState) : Type 0 where
+-- The process runs by its log in the computation, and these are the notes that it has emitted.
+pub record Follows (n : ℕ) (c : Computation) (p : ℕ) (notes : List Note) (process : Process) : Type 0 where
   pub log : List Call
   pub log_is : IsLogOf n c p log
   pub running : IsRunning n p log process
+  pub notes_are : notes ≡ (state_of_log n p log).notes
 
 -- The seals of the messages in transit on each channel.
 abbrev pub queues_of : Run → List (List Seal)
@@ -47,11 +55,16 @@ pub record IsChannel (n : ℕ) (order : List Task) (place p q : ℕ) (seals : Li
   pub waiting : length seals + count_by (receives p q) (take place order) ≡ count_by (sends p q) (take place order)
   pub in_order : AreInTransit n order (front n order place) p q (count_by (receives p q) (take place order)) seals
 
--- The run of an order has come to a place: each process runs by its log, and each channel has its messages.
-pub record IsRun (n : ℕ) (order : List Task) (place : ℕ) (processes : List ProcessState) (queues : List (List Seal)) : Type 0 where
+-- The run of an order has come to a place: each process runs by its log, the checker has taken what they emitted, and
+-- each channel has its messages.
+pub record IsRun (n : ℕ) (order : List Task) (place : ℕ) (processes : List Process) (queues : List (List Seal))
+    (checker : CheckerState) : Type 0 where
   pub processes_are : length processes ≡ n
   pub channels_are : length queues ≡ n * n
-  pub follows : (p : ℕ) (process : ProcessState) → p < n → Follows n (front n order place) p (slice_index_or processes p process)
+  pub items : List Item
+  pub has_taken : HasTaken n items checker
+  pub follows : (p : ℕ) (process : Process) → p < n →
+      Follows n (front n order place) p (notes_taken p items) (slice_index_or processes p process)
   pub channels : (p q : ℕ) → p < n → q < n → IsChannel n order place p q (queue_at queues (p * n + q))
 
 -- The task is next at this place of a fit order.
@@ -60,3 +73,21 @@ pub record IsNext (n : ℕ) (order : List Task) (place : ℕ) (task : Task) : Ty
   pub within : All (IsWithin n) order
   pub fit : IsFitOrder order order
   pub at : slice_get order place ≡ Some task
+
+-- A process has closed at the end of the order: these notes are all that it emits, with its close mark last.
+pub record HasEnded (n : ℕ) (order : List Task) (p : ℕ) (notes : List Note) (process : Process) : Type 0 where
+  pub emissions : AreEmissions n (computation_of n order) p notes
+  pub counted : process.probe.emitted ≡ length (snapshot_clocks notes)
+  pub closed : (count : ℕ) × (before : List Note) × (notes ≡ before ++ note.Close count ∷ [])
+
+-- The run of an order ends: so many processes have closed, the others have only done their tasks, and the checker has
+-- taken what they emitted.
+pub record IsEnding (n : ℕ) (order : List Task) (ended : ℕ) (processes : List Process)
+    (checker : CheckerState) : Type 0 where
+  pub processes_are : length processes ≡ n
+  pub items : List Item
+  pub has_taken : HasTaken n items checker
+  pub follows : (p : ℕ) (process : Process) → ended ≤ p → p < n →
+      Follows n (front n order (length order)) p (notes_taken p items) (slice_index_or processes p process)
+  pub has_ended : (p : ℕ) (process : Process) → p < ended →
+      HasEnded n order p (notes_taken p items) (slice_index_or processes p process)

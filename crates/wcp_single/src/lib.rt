@@ -1,10 +1,8 @@
 //! The outcome of a workload: the least cut of its computation, or that no satisfying cut exists.
 #![tactic(auto)]
 
-mod elimination;
 mod probing;
 mod process;
-mod snapshots;
 mod workload_outcome;
 
 pub use workload_outcome::single;

@@ -1,18 +1,22 @@
-//! The run of a workload: one probe for each process, and a queue for each channel between two.
-ghost use Rattle.std.specs.Prelude.{◌≡◌, ℕ, ◌+◌, ◌*◌, ◌<◌, ◌≤◌, List, length, drop, map, slice_index_or, All, IfOk, OnOk};
-ghost use Rattle.wcp_clock.specs.declared.clock.TheConstants.{CLOCK_LIMIT};
+//! The run of a workload: one probe for each process, a queue for each channel between two, and a
+//! checker of what the probes emit.
+ghost use Rattle.std.specs.Prelude.{◌≡◌, ℕ, ◌+◌, ◌*◌, ◌<◌, ◌≤◌, List, length, drop, map, slice_get, slice_index_or, Some, IfOk, OnOk};
+ghost use Rattle.wcp_model.specs.declared.outcome.Tally.{Tally};
 ghost use Rattle.wcp_model.specs.declared.workload.Task.{Task};
-ghost use Rattle.wcp_model.specs.WorkloadComputation.{IsFitOrder, IsWithin, computation_of};
-ghost use Rattle.wcp_single.specs.Emissions.{HaveEmitted};
-ghost use Rattle.wcp_single.specs.Probing.{IsNext, IsRun, queues_of};
+ghost use Rattle.wcp_model.specs.Outcome.{IsOutcomeOf};
+ghost use Rattle.wcp_model.specs.WorkloadComputation.{IsFitOrder, computation_of};
+ghost use Rattle.wcp_queue.specs.Checker.{processes, taken_of};
+ghost use Rattle.wcp_single.specs.declared.process.Process.{Process};
+ghost use Rattle.wcp_single.specs.Probing.{IsEnding, IsNext, IsRun, queues_of};
 
 use crate::process::Process;
-use crate::snapshots::Snapshots;
 use std::alloc::{AllocError, Global};
 use std::collections::VecDeque;
-use wcp_model::{Action, Task};
+use wcp_clock::MAX_PROCS;
+use wcp_model::{Action, Outcome, Tallies, Tally, Task};
 use wcp_order::channel;
 use wcp_probe::Stamped;
+use wcp_queue::Checker;
 
 /// How far the run of a workload has come.
 #[derive(Drop)]
@@ -20,17 +24,20 @@ pub struct Run {
     processes: Vec<Process>,
     /// For each channel, the messages that were sent on it and not received.
     in_transit: Vec<VecDeque<Stamped<()>>>,
+    checker: Checker,
 }
 
 impl Run {
     /// The run before the first task.
-    fn new(alloc: Global, n: u32) -> Result<Run, AllocError>
-        requires { n ≤ 16 }
-        ensures { IfOk result (λ run. (order : List Task) → IsRun n order 0 run.processes.items (queues_of run)) }
+    pub fn new(alloc: Global, n: u32) -> Result<Run, AllocError>
+        requires some { 0 < n }
+        requires few { n ≤ 16 }
+        ensures { IfOk result (λ run. (order : List Task)
+            → IsRun n order 0 run.processes.items (queues_of run) run.checker) }
     {
         let mut processes = Vec::with_capacity(alloc, n as usize)?;
         for id in 0..n {
-            processes.push(Process::new(alloc, id, n))?;
+            processes.push(Process::new(id, n))?;
         }
         let mut in_transit = Vec::with_capacity(alloc, (n * n) as usize)?;
         for _ in 0..n * n {
@@ -39,21 +46,22 @@ impl Run {
         Ok(Run {
             processes,
             in_transit,
+            checker: Checker::new(alloc, n)?,
         })
     }
 
     /// Does the next task.
-    fn perform(&mut self, n: u32, task: Task) -> Result<(), AllocError>
+    pub fn perform(&mut self, n: u32, task: Task) -> Result<(), AllocError>
         requires few { n ≤ 16 }
         requires next { (order : List Task) × (place : ℕ) × IsNext n order place task
-            × IsRun n order place self.old.processes.items (queues_of self.old) }
+            × IsRun n order place self.old.processes.items (queues_of self.old) self.old.checker }
         ensures { OnOk result ((order : List Task) (place : ℕ) → IsNext n order place task
-            → IsRun n order place self.old.processes.items (queues_of self.old)
-            → IsRun n order (place + 1) self.new.processes.items (queues_of self.new)) }
+            → IsRun n order place self.old.processes.items (queues_of self.old) self.old.checker
+            → IsRun n order (place + 1) self.new.processes.items (queues_of self.new) self.new.checker) }
     {
         let p = task.p as usize;
         match task.action {
-            Action::Observe(holds) => self.processes[p].observe(holds)?,
+            Action::Observe(holds) => self.processes[p].observe(holds, &mut self.checker)?,
             Action::Send(to) => {
                 let message = self.processes[p].send(to);
                 self.in_transit[channel(n, task.p, to)].push_back(message)?;
@@ -66,14 +74,54 @@ impl Run {
         Ok(())
     }
 
-    /// The snapshots of each process.
-    fn end(self, alloc: Global) -> Result<Vec<Snapshots>, AllocError>
-        ensures { IfOk result (λ rows. rows.items ≡ map (λ process. process.clocks) self.processes.items) }
+    /// Closes process `p`, after all tasks.
+    pub fn close(&mut self, p: u32) -> Result<(), AllocError>
+        requires next { (n : ℕ) × (order : List Task) × (p < n)
+            × IsEnding n order p self.old.processes.items self.old.checker }
+        ensures { OnOk result ((n : ℕ) (order : List Task) → p < n → IsFitOrder order order
+            → IsEnding n order p self.old.processes.items self.old.checker
+            → IsEnding n order (p + 1) self.new.processes.items self.new.checker) }
     {
-        self.processes
-            .into_iter()
-            .map(|process| process.end())
-            .collect(alloc)
+        self.processes[p as usize].close(&mut self.checker)?;
+        Ok(())
+    }
+
+    /// The outcome, once each process has closed.
+    pub fn outcome(&self) -> Outcome
+        requires some { 0 < length self.now.processes.items }
+        requires few { length self.now.processes.items ≤ 16 }
+        requires watched { processes self.now.checker ≡ length self.now.processes.items }
+        ensures { (n : ℕ) (order : List Task) → IsEnding n order n self.now.processes.items self.now.checker
+            → IsOutcomeOf n (computation_of n order) result }
+    {
+        Outcome {
+            report: self.checker.report(),
+            tallies: self.tallies(),
+        }
+    }
+
+    /// How many snapshots each process has emitted, and the checker has taken of it.
+    fn tallies(&self) -> Tallies
+        requires some { 0 < length self.now.processes.items }
+        requires few { length self.now.processes.items ≤ 16 }
+        requires watched { processes self.now.checker ≡ length self.now.processes.items }
+        ensures processes { length result ≡ length self.now.processes.items }
+        ensures emitted { (p : ℕ) (tally : Tally) (process : Process) → slice_get result p ≡ Some tally
+            → tally.emitted ≡ (slice_index_or self.now.processes.items p process).probe.emitted }
+        ensures taken { (p : ℕ) (tally : Tally) → slice_get result p ≡ Some tally
+            → tally.taken ≡ taken_of self.now.checker p }
+    {
+        let mut tallies = [Tally {
+            emitted: 0,
+            taken: 0,
+        }; MAX_PROCS];
+        for (p, process) in self.processes.iter().enumerate() {
+            tallies[p] = Tally {
+                emitted: u64::from(process.emitted()),
+                taken: self.checker.taken(p as u32),
+            };
+        }
+        Tallies::new(&tallies[..self.processes.len()])
     }
 }
 
@@ -84,20 +132,4 @@ fn oldest(messages: &mut VecDeque<Stamped<()>>) -> Stamped<()>
     ensures rest { messages.new.items ≡ drop 1 messages.old.items }
 {
     messages.pop_front().unwrap()
-}
-
-/// What each of n processes emits in the run of a fit order, one probe for each: its snapshots. `Err`
-/// where memory runs out.
-pub fn emissions(alloc: Global, n: u32, order: &[Task]) -> Result<Vec<Snapshots>, AllocError>
-    requires few { n ≤ 16 }
-    requires few_tasks { length order.now < CLOCK_LIMIT }
-    requires within { All (IsWithin n) order.now }
-    requires fit { IsFitOrder order.now order.now }
-    ensures { IfOk result (λ rows. HaveEmitted n (computation_of n order.now) rows.items) }
-{
-    let mut run = Run::new(alloc, n)?;
-    for task in order {
-        run.perform(n, *task)?;
-    }
-    run.end(alloc)
 }

@@ -1,81 +1,96 @@
-ghost use Rattle.std.specs.Prelude.{◌≡◌, ◌≢◌, ℕ, ◌+◌, ◌<◌, ◌≤◌, [], ◌∷◌, ◌++◌, length, slice_index, None, Some, false, OnOk};
-ghost use Rattle.wcp_clock.specs.declared.note.Note.TheVariants as note;
-ghost use Rattle.wcp_model.specs.ProbeLog.{Observed, Sent, Received};
+ghost use Rattle.std.specs.Prelude.{◌≡◌, ◌≢◌, ℕ, ◌<◌, ◌≤◌, [], MatchOption, length, slice_index, None, true, false, OnOk};
+ghost use Rattle.wcp_clock.specs.declared.note.Note.{Note};
+ghost use Rattle.wcp_model.specs.ProbeLog.{Observed, Sent, Received, Closed};
 ghost use Rattle.wcp_probe.specs.Seal.{seal_of};
-ghost use Rattle.wcp_single.specs.Process.{IsRunning, Runs};
+ghost use Rattle.wcp_queue.specs.Checker.{MayTake, TakesItem, processes};
+ghost use Rattle.wcp_single.specs.Process.{Feeds, IsRunning, IsWatched, MayCommunicate, MayReceive, Runs};
 
-use crate::snapshots::Snapshots;
-use std::alloc::{AllocError, Global};
-use std::marker::Model;
-use wcp_clock::{CLOCK_LIMIT, Note};
+use std::alloc::AllocError;
+use wcp_clock::{CLOCK_LIMIT, Item};
 use wcp_probe::{ProbeCore, Stamped};
+use wcp_queue::Checker;
 
 /// The watch of every probe of a workload.
 const WATCH: u64 = 0;
 
-/// A process of a workload: its probe, and the snapshots that its link took of it.
+/// A process of a workload: its number, and its probe, which feeds the checker.
 #[derive(Drop)]
 pub struct Process {
+    id: u32,
     probe: ProbeCore,
-    snapshots: Snapshots,
-}
-
-impl Model for Process {
-    ghost use Rattle.wcp_single.specs.Process.{ProcessState};
-
-    ghost Value = { ProcessState };
-
-    ghost view = { λ process. record { probe = process.probe; clocks = process.snapshots } };
 }
 
 impl Process {
     /// Process `id` of `n`, before its first step.
-    pub fn new(alloc: Global, id: u32, n: u32) -> Process
+    pub fn new(id: u32, n: u32) -> Process
         requires process { id < n }
         requires few { n ≤ 16 }
         ensures { IsRunning n id [] result }
     {
         Process {
+            id,
             probe: ProbeCore::new(WATCH, id, n, CLOCK_LIMIT),
-            snapshots: Snapshots::new(alloc),
         }
     }
 
-    /// The process observes its condition, and its link takes the snapshot that the probe emits.
-    pub fn observe(&mut self, holds: bool) -> Result<(), AllocError>
-        requires running { self.old.probe.closed ≡ false }
-        ensures { OnOk result (Runs self.old (Observed holds) self.new) }
+    /// The process observes its condition.
+    pub fn observe(&mut self, holds: bool, checker: &mut Checker) -> Result<(), AllocError>
+        requires { IsWatched self.old checker.old }
+        ensures runs { OnOk result (Runs self.old (Observed holds) self.new) }
+        ensures feeds { OnOk result (Feeds self.old (Observed holds) checker.old checker.new) }
     {
         match self.probe.observe(holds) {
-            Ok(true) => self.take(),
-            Ok(false) => Ok(()),
+            Ok(_) => self.hand_over(checker),
             Err(_) => unreachable!(),
         }
     }
 
-    /// The link takes the pending snapshot.
-    fn take(&mut self) -> Result<(), AllocError>
-        requires { (number : ℕ) × (self.old.probe.pending ≡ Some (note.Snap number self.old.probe.clock)) }
-        ensures { OnOk result (self.new ≡ record {
-          probe = record self.old.probe { pending = None };
-          clocks = self.old.clocks ++ self.old.probe.clock ∷ [];
-        }) }
+    /// The process makes no more steps.
+    pub fn close(&mut self, checker: &mut Checker) -> Result<(), AllocError>
+        requires { IsWatched self.old checker.old }
+        ensures feeds { OnOk result (Feeds self.old Closed checker.old checker.new) }
+        ensures closed { OnOk result
+            (self.new ≡ record self.old { probe = record self.old.probe { closed = true; pending = None } }) }
     {
-        let pending = self.probe.pending();
-        if let Some(Note::Snap { clock, .. }) = &pending {
-            self.snapshots.push(*clock)?;
-            self.probe.was_put();
+        match self.probe.close() {
+            Ok(()) => self.hand_over(checker),
+            Err(_) => unreachable!(),
         }
-        Ok(())
+    }
+
+    /// The checker takes what is pending, if anything is.
+    fn hand_over(&mut self, checker: &mut Checker) -> Result<(), AllocError>
+        requires { MatchOption
+            self.old.probe.pending
+            (Unit {0})
+            (λ note. MayTake checker.old (record { from = self.old.id; note = note })) }
+        ensures taken { OnOk result (MatchOption
+            self.old.probe.pending
+            (checker.new ≡ checker.old)
+            (λ note. TakesItem checker.old checker.new (record { from = self.old.id; note = note }))) }
+        ensures processes { processes checker.new ≡ processes checker.old }
+        ensures put { OnOk result (self.new ≡ record self.old { probe = record self.old.probe { pending = None } }) }
+    {
+        let Some(note) = self.probe.pending() else {
+            return Ok(());
+        };
+        match checker.take(Item {
+            from: self.id,
+            note,
+        }) {
+            Ok(()) => {
+                self.probe.was_put();
+                Ok(())
+            }
+            Err((error, _)) => Err(error),
+        }
     }
 
     /// The process sends a message to another.
     pub fn send(&mut self, to: u32) -> Stamped<()>
-        requires running { self.old.probe.closed ≡ false }
-        requires taken { self.old.probe.pending ≡ None }
+        requires may { MayCommunicate self.old }
         requires within { to < length self.old.probe.clock }
         requires other { to ≢ self.old.probe.id }
-        requires room { slice_index self.old.probe.clock self.old.probe.id < self.old.probe.limit }
         ensures runs { Runs self.old Sent self.new }
         ensures seal { seal_of result ≡ record {
           watch = self.old.probe.watch;
@@ -92,13 +107,7 @@ impl Process {
 
     /// The process receives a message.
     pub fn receive(&mut self, message: Stamped<()>)
-        requires running { self.old.probe.closed ≡ false }
-        requires taken { self.old.probe.pending ≡ None }
-        requires watch { (seal_of message).watch ≡ self.old.probe.watch }
-        requires components { length (seal_of message).clock ≡ length self.old.probe.clock }
-        requires addressed { (seal_of message).to ≡ self.old.probe.id }
-        requires not_ahead { slice_index (seal_of message).clock self.old.probe.id ≤ slice_index self.old.probe.clock self.old.probe.id }
-        requires room { slice_index self.old.probe.clock self.old.probe.id < self.old.probe.limit }
+        requires { MayReceive self.old (seal_of message) }
         ensures { Runs self.old (Received (seal_of message).clock) self.new }
     {
         match self.probe.receive(message) {
@@ -107,10 +116,10 @@ impl Process {
         }
     }
 
-    /// The snapshots of the process, where it makes no more steps.
-    pub fn end(self) -> Snapshots
-        ensures { result ≡ self.clocks }
+    /// How many snapshots the process has emitted.
+    pub fn emitted(&self) -> u32
+        ensures { result ≡ self.now.probe.emitted }
     {
-        self.snapshots
+        self.probe.emitted()
     }
 }

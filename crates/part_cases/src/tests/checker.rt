@@ -13,11 +13,15 @@ fn checker_of_two(alloc: Global) -> Result<Checker, AllocError> {
     }
 }
 
-/// Takes an item. Where memory runs out it comes back, and asking again takes it.
-fn take(rt: &impl Abort, checker: &mut Checker, from: u32, note: Note) {
-    let item = Item { from, note };
+/// Takes a snapshot. Where memory runs out it comes back, and asking again takes it.
+fn take(rt: &impl Abort, checker: &mut Checker, from: u32, number: u32, clock: Clock) {
+    let item = Item {
+        from,
+        note: Note::Snap { number, clock },
+    };
     assert!(rt; from < checker.processes());
-    assert!(rt; checker.taken(from) < 4_294_967_296);
+    assert!(rt; !checker.closed(from));
+    assert_eq!(rt; u64::from(number), checker.taken(from));
     match checker.take(item) {
         Ok(()) => {}
         Err((_, handed_back)) => {
@@ -37,32 +41,14 @@ fn a_head_that_precedes_another_is_dropped(rt: HostRuntime) -> Result<(), Fail> 
         assert_eq!(rt; checker.report(), Report::Undecided);
         let mut sent = Clock::new(2);
         for number in 0..sends {
-            take(
-                &rt,
-                &mut checker,
-                0,
-                Note::Snap {
-                    number,
-                    clock: sent,
-                },
-            );
+            take(&rt, &mut checker, 0, number, sent);
             assert_eq!(rt; sent.len(), 2);
             sent = sent.tick(0, sends).ok_or("the clock's end")?;
         }
-        let number = sends;
-        take(
-            &rt,
-            &mut checker,
-            0,
-            Note::Snap {
-                number,
-                clock: sent,
-            },
-        );
+        take(&rt, &mut checker, 0, sends, sent);
         let first = Clock::new(2).tick(1, 1).ok_or("the clock's end")?;
         assert!(rt; first.len() == 2 && sent.len() == 2);
-        let clock = first.merge(&sent);
-        take(&rt, &mut checker, 1, Note::Snap { number: 0, clock });
+        take(&rt, &mut checker, 1, 0, first.merge(&sent));
         assert_eq!(rt;
             checker.report(),
             Report::Found(GlobalCut::new(&[sends, 1]))

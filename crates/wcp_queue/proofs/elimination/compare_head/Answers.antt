@@ -1,6 +1,5 @@
-use Rattle.std.proofs.Common.{◌≢◌, List, length, set, sym, subst, arith}
-use Rattle.wcp_queue.specs.Queue.{Candidates}
-use Rattle.wcp_queue.proofs.ComparedHead.{IsComparing, IsComparing-itself, IsComparing-met, IsEliminated, IsEliminated-precedes}
+use Rattle.std.proofs.Common.{set, arith}
+use Rattle.wcp_queue.proofs.ComparedHead.{IsComparing-itself, IsComparing-met, IsEliminated, IsEliminated-precedes}
 use Rattle.wcp_queue.proofs.elimination.compare_head.Goals as goal
 use Rattle.wcp_queue.proofs.elimination.compare_head.Goals.{After-drop_head, else-q-p-via-then-q-p+else-meet, else-q-p-via-else-q-p}
 

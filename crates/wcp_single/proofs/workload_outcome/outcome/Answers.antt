@@ -1,9 +1,23 @@
-use Rattle.std.proofs.Common.{◌∙◌}
-use Rattle.wcp_model.specs.WorkloadComputation.{computation_of}
-use Rattle.wcp_single.proofs.Reports.{IsOutcomeOf-rows}
+use Rattle.std.proofs.Common.{◌≡◌, length, subst, arith}
+use Rattle.wcp_single.specs.Probing.{IsEnding, queues_of}
+use Rattle.wcp_single.proofs.Starting.{next_at}
+use Rattle.wcp_single.proofs.Ending.{begins_to_end}
 use Rattle.wcp_single.proofs.workload_outcome.outcome.Goals as goal
+
+pub perform-requires-clause-next : goal.perform-requires-clause-next
+perform-requires-clause-next c =
+    (c.args.order.now, c.loop-task.task-index, next_at c.args.n c.args.order.now c.loop-task.task-index _ c.requires.few_tasks c.requires.within c.requires.fit c.loop-task-test.true, c.loop-task.invariant)
+
+pub loop-task-preserved : goal.loop-task-preserved
+loop-task-preserved c =
+    c.in_ok-perform.ensures c.args.order.now c.loop-task.task-index (next_at c.args.n c.args.order.now c.loop-task.task-index _ c.requires.few_tasks c.requires.within c.requires.fit c.loop-task-test.true) c.loop-task.invariant
+
+pub loop-p-init : goal.loop-p-init
+loop-p-init c =
+    let all : c.loop-task.task-index ≡ length c.args.order.now = omega arith in
+    begins_to_end c.args.n c.args.order.now c.loop-task.task-index c.loop-task.run.processes.items (queues_of c.loop-task.run) c.loop-task.run.checker all c.loop-task.invariant
 
 pub returns : goal.returns
 returns c =
-    IsOutcomeOf-rows c.args.n (computation_of c.args.n c.args.order.now) c.in_ok-rows.rows.items c.deref.result.now c.deref-2.result.now _ c.in_ok-rows.ensures
-    c.deref.ensures.value (c.in_ok-report.ensures (computation_of c.args.n c.args.order.now)) c.deref-2.ensures.value (c.new.ensures ∙ c.deref-3.ensures.value ∙ c.in_ok-tallies.ensures)
+    let all : c.loop-p.p ≡ c.args.n = omega arith in
+    c.outcome.ensures c.args.n c.args.order.now (subst (λ p. IsEnding c.args.n c.args.order.now p c.loop-p.run.processes.items c.loop-p.run.checker) all c.loop-p.invariant)

@@ -1,7 +1,6 @@
-use Rattle.std.proofs.Common.{◌≡◌, ◌+◌, ◌<◌, length, set, slice_index, refl, ap, sym, ◌∙◌, arith}
+use Rattle.std.proofs.Common.{◌+◌, length, set, slice_index, refl, ap, arith}
 use Rattle.std.proofs.lemmas.List.{with_items_is}
 use Rattle.std.proofs.lemmas.Option.{MatchOption-at_none}
-use Rattle.wcp_queue.specs.Checker.{CheckerState}
 use Rattle.wcp_queue.specs.CheckerView.{state_of}
 use Rattle.wcp_queue.proofs.Sound.{room_for_tests, IsSound-snapshot}
 use Rattle.wcp_queue.proofs.Standing.{StandsFor-snapshot, StandsFor-found}
@@ -36,19 +35,20 @@ invariant_of-self-2 c =
 pub returns-clause-taken : goal.returns-clause-taken
 returns-clause-taken c =
     let within = rw (← c.self.view_is) at c.requires.within in
+    let still_open = rw (← c.self.view_is) at c.requires.still_open in
     elim c.if-is_none.branch [
       | then-is_none+in_ok-self-inside w ↦
           let shown = w.deref_mut.ensures.value in
           let items = with_items_is c.self.inside.queues w.add_candidate.new.queues (omega arith) in
           let added = w.in_ok-self-inside.ensures in
           rw (w.self-inside-is, items, ← c.self.view_is)
-          (λ number list stands. StandsFor-snapshot (state_of c.self.inside)
+          (λ list stands. StandsFor-snapshot (state_of c.self.inside)
           (record { queues = w.add_candidate.new.queues; taken = set c.self.inside.taken c.args.p (slice_index c.self.inside.taken c.args.p + 1); closed = c.self.inside.closed; found = w.in_ok-self-inside.field-0; tests = w.add_candidate.new.tests })
-          list c.args.p number c.args.clock stands (omega (arith, within, c.self.invariant.few, c.self.invariant.counts)) refl refl (omega (arith, ap length shown))
+          list c.args.p c.args.clock stands within still_open (omega (arith, within, c.self.invariant.few, c.self.invariant.counts)) refl refl (omega (arith, ap length shown))
           w.if-is_none.ensures added.compared (rw shown at added.left) added.cut)
       | else-is_none w ↦
           rw (w.self-inside-is, ← c.self.view_is)
-          (λ number list stands. StandsFor-found (state_of c.self.inside)
+          (λ list stands. StandsFor-found (state_of c.self.inside)
           (record { queues = c.self.inside.queues.items; taken = set c.self.inside.taken c.args.p (slice_index c.self.inside.taken c.args.p + 1); closed = c.self.inside.closed; found = c.self.inside.found; tests = c.self.inside.tests })
-          list c.args.p number c.args.clock stands (omega (arith, within, c.self.invariant.few, c.self.invariant.counts)) refl refl refl w.if-is_none.ensures refl)
+          list c.args.p c.args.clock stands within still_open (omega (arith, within, c.self.invariant.few, c.self.invariant.counts)) refl refl refl w.if-is_none.ensures refl)
     ]

@@ -1,5 +1,5 @@
-use Rattle.std.proofs.Common.{◌≡◌, ◌+◌, ◌*◌, [], replicate, sym, ap, ◌∙◌, subst, arith}
-use Rattle.wcp_single.specs.Probing.{queues_of}
+use Rattle.std.proofs.Common.{◌≡◌, ◌+◌, ◌*◌, [], map, replicate, sym, ap, ◌∙◌, subst, arith}
+use Rattle.wcp_probe.specs.Seal.{seal_of}
 use Rattle.wcp_single.proofs.Starting.{AreNew, one_more_new, run_starts}
 use Rattle.wcp_single.proofs.probing.Run.new.Goals as goal
 
@@ -9,4 +9,5 @@ loop-id-preserved c = subst (AreNew c.args.n (c.loop-id.id + 1)) (sym c.in_ok-pu
 pub returns : goal.returns
 returns c = λ order.
     let counted : c.loop.counter ≡ c.args.n * c.args.n = omega arith in
-    run_starts c.args.n order c.loop-id.processes.items (queues_of (record { processes = c.loop-id.processes; in_transit = c.loop.in_transit })) c.loop.invariant.0 (c.loop.invariant.1 ∙ ap (λ count. replicate count []) counted)
+    run_starts c.args.n order c.loop-id.processes.items (map (λ queue. map seal_of queue.items) c.loop.in_transit.items) c.in_ok-new.field-0 c.loop.invariant.0 (c.loop.invariant.1 ∙ ap (λ count. replicate count []) counted)
+    (record { watched = c.in_ok-new.ensures.processes; stands = c.in_ok-new.ensures.empty })

@@ -1,12 +1,12 @@
 use Rattle.std.proofs.lemmas.Result.{on_ok_weaker}
-use Rattle.wcp_single.proofs.Running.{observes_inside, is_pending}
+use Rattle.wcp_single.proofs.Running.{may_take_observed, feeds_observed}
 use Rattle.wcp_single.proofs.process.Process.observe.Goals as goal
 
-pub take-requires : goal.take-requires
-take-requires c = is_pending c.in-Ok-true.field-0 c.self.inside.probe c.observe.new.self c.in-Ok-true.field-0-test c.in-Ok-true.ensures.pending
+pub hand_over-requires : goal.hand_over-requires
+hand_over-requires c = may_take_observed c.in-Ok.field-0 c.args.self.now c.observe.new.self c.args.checker.now c.requires c.in-Ok.ensures.pending
 
-pub returns-in-Ok-true : goal.returns-in-Ok-true
-returns-in-Ok-true c =
-    on_ok_weaker c.take.result
-    (observes_inside c.args.holds c.in-Ok-true.field-0 c.self.inside.probe c.observe.new.self c.self.inside.snapshots c.args.self.now c.take.new.self c.self.view_is c.in-Ok-true.field-0-test c.in-Ok-true.ensures.emits c.in-Ok-true.ensures.pending c.in-Ok-true.ensures.accepted)
-    c.take.ensures
+pub returns-clause-feeds : goal.returns-clause-feeds
+returns-clause-feeds c =
+    on_ok_weaker c.hand_over.result
+    (λ takes. feeds_observed c.args.holds c.in-Ok.field-0 c.args.self.now c.observe.new.self c.args.checker.now c.hand_over.new.checker c.in-Ok.ensures.emits c.in-Ok.ensures.pending takes c.hand_over.ensures.processes)
+    c.hand_over.ensures.taken

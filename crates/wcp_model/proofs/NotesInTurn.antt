@@ -1,0 +1,115 @@
+use Rattle.std.proofs.Common.{◌≡◌, ◌||◌, ℕ, ◌+◌, ◌⊎◌, Bool, true, false, List, [], ◌∷◌, ◌++◌, length, fold, refl, sym, ap, ◌∙◌, subst, inl, inr, ⊎_elim, append-nil, arith}
+use Rattle.std.specs.List.{list_any}
+use Rattle.std.specs.Prelude.{if◌then◌else◌}
+use Rattle.std.proofs.lemmas.Bool.{cases_Bool, or_right, true≢false}
+use Rattle.std.proofs.lemmas.List.{length-append}
+use Rattle.std.proofs.lemmas.List.Folds.{list_any-append}
+use Rattle.wcp_clock.specs.declared.note.Note.{Note}
+use Rattle.wcp_clock.specs.declared.note.Note.TheVariants as note
+use Rattle.wcp_model.specs.Computation.{Computation}
+use Rattle.wcp_model.specs.Emission.{snapshots_from, is_closed, AreEmissions}
+use Rattle.wcp_model.specs.ProbeLog.{Call, Observed, Sent, Received, Closed, ProbeState, after_call, state_of_log}
+use Rattle.wcp_model.specs.Report.{snapshot_clocks, is_close, place_of, IsNextNote, AreInTurn}
+
+pub snapshot_clocks-append : (notes more : List Note) → snapshot_clocks (notes ++ more) ≡ snapshot_clocks notes ++ snapshot_clocks more
+snapshot_clocks-append [] more = refl
+snapshot_clocks-append (note.Snap number clock ∷ notes) more = ap (λ clocks. clock ∷ clocks) (snapshot_clocks-append notes more)
+snapshot_clocks-append (note.Close count ∷ notes) more = snapshot_clocks-append notes more
+
+-- snapshots that are numbered from a number on, and a mark that counts them or none, are in turn
+in_turn_from : (number count : ℕ) (closed : Bool) (clocks : List (List ℕ)) (before after : List Note) (next : Note) → count ≡ number + length clocks → snapshots_from number clocks ++ (if closed then note.Close count ∷ [] else []) ≡ before ++ next ∷ after →
+    (place_of next ≡ number + length (snapshot_clocks before)) × (list_any is_close before ≡ false)
+in_turn_from number count false [] [] after next counted is = absurd (cc is)
+in_turn_from number count false [] (x ∷ before) after next counted is = absurd (cc is)
+in_turn_from number count true [] [] after next counted is =
+    let same : note.Close count ≡ next = cc is in
+    (omega (arith, ap place_of same), refl)
+in_turn_from number count true [] (x ∷ before) after next counted is = absurd (omega (arith, ap length is, length-append before (next ∷ after)))
+in_turn_from number count closed (clock ∷ clocks) [] after next counted is =
+    let same : note.Snap number clock ≡ next = cc is in
+    (omega (arith, ap place_of same), refl)
+in_turn_from number count closed (clock ∷ clocks) (x ∷ before) after next counted is =
+    let first : note.Snap number clock ≡ x = cc is in
+    let rest = in_turn_from (number + 1) count closed clocks before after next (omega arith) (cc is) in
+    subst (λ y. (place_of next ≡ number + length (snapshot_clocks (y ∷ before))) × (list_any is_close (y ∷ before) ≡ false)) first (omega (arith, rest.0), rest.1)
+
+-- what a process emits is in turn
+pub emissions_in_turn : (n : ℕ) (c : Computation) (p : ℕ) (notes : List Note) → AreEmissions n c p notes → AreInTurn notes
+emissions_in_turn n c p notes emitted before after next is =
+    let turn = in_turn_from 0 (length emitted.clocks) (is_closed c p) emitted.clocks before after next (omega arith) (sym emitted.notes_are ∙ is) in
+    record { place = omega (arith, turn.0); still_open = turn.1 }
+
+-- so the note behind a front of the emissions is the next that a checker may take
+pub next_of_emissions : (n : ℕ) (c : Computation) (p : ℕ) (before after : List Note) (next : Note) → AreEmissions n c p (before ++ next ∷ after) → IsNextNote before next
+next_of_emissions n c p before after next emitted = emissions_in_turn n c p (before ++ next ∷ after) emitted before after next refl
+
+-- a note of a list with one more is the last, or stood there before
+split_push : (xs before after : List Note) (x y : Note) → xs ++ x ∷ [] ≡ before ++ y ∷ after → ((before ≡ xs) × (y ≡ x)) ⊎ ((more : List Note) × (xs ≡ before ++ y ∷ more))
+split_push [] [] after x y is = inl (refl, cc is)
+split_push [] (b ∷ before) after x y is = absurd (omega (arith, ap length is, length-append before (y ∷ after)))
+split_push (a ∷ xs) [] after x y is =
+    let first : a ≡ y = cc is in
+    inr (xs, ap (λ z. z ∷ xs) first)
+split_push (a ∷ xs) (b ∷ before) after x y is =
+    let first : a ≡ b = cc is in
+    ⊎_elim
+    (λ (t : (before ≡ xs) × (y ≡ x)). inl (let tail = t.0 in cc, t.1))
+    (λ (t : (more : List Note) × (xs ≡ before ++ y ∷ more)). inr (t.0, let tail = t.1 in cc))
+    (split_push xs before after x y (cc is))
+
+-- none is in turn, and one more is
+pub AreInTurn-none : AreInTurn []
+AreInTurn-none [] after next is = absurd (cc is)
+AreInTurn-none (x ∷ before) after next is = absurd (cc is)
+
+pub AreInTurn-push : (notes : List Note) (next : Note) → AreInTurn notes → IsNextNote notes next → AreInTurn (notes ++ next ∷ [])
+AreInTurn-push notes next turn is before after other at = ⊎_elim
+    (λ (t : (before ≡ notes) × (other ≡ next)). subst (λ xs. IsNextNote xs other) (sym t.0) (subst (IsNextNote notes) (sym t.1) is))
+    (λ (t : (more : List Note) × (notes ≡ before ++ other ∷ more)). turn before t.0 other t.1)
+    (split_push notes before after next other at)
+
+-- nothing follows a close mark
+pub nothing_follows : (before after : List Note) (count : ℕ) → AreInTurn (before ++ note.Close count ∷ after) → after ≡ []
+nothing_follows before [] count turn = refl
+nothing_follows before (x ∷ after) count turn =
+    let open_still = (turn (before ++ note.Close count ∷ []) after x (sym (append_mark before))).still_open in
+    absurd (true≢false (sym (list_any-append is_close before (note.Close count ∷ []) ∙ or_right (list_any is_close before) true refl) ∙ open_still))
+  where
+    append_mark : (xs : List Note) → (xs ++ note.Close count ∷ []) ++ x ∷ after ≡ xs ++ note.Close count ∷ x ∷ after
+    append_mark [] = refl
+    append_mark (y ∷ xs) = ap (λ zs. y ∷ zs) (append_mark xs)
+
+-- what a log leads to counts the snapshots among its notes, and is closed where a close mark is among them
+pub record CountsNotes (s : ProbeState) : Type 0 where
+  pub snapshots : s.snapshots ≡ length (snapshot_clocks s.notes)
+  pub closed : s.closed ≡ list_any is_close s.notes
+
+abbrev with_snapshot : ProbeState → ProbeState
+with_snapshot s = record s { flag = true; snapshots = s.snapshots + 1; notes = s.notes ++ note.Snap s.snapshots s.clock ∷ [] }
+
+counts_after : (p : ℕ) (s : ProbeState) (call : Call) → CountsNotes s → CountsNotes (after_call p s call)
+counts_after p s (Observed false) is = is
+counts_after p s (Observed true) is = ⊎_elim
+    (λ (set : s.flag ≡ true). subst (λ flag. CountsNotes (if flag then s else with_snapshot s)) (sym set) is)
+    (λ (clear : s.flag ≡ false). subst (λ flag. CountsNotes (if flag then s else with_snapshot s)) (sym clear) (record {
+      snapshots = omega (arith, is.snapshots, ap length (snapshot_clocks-append s.notes (note.Snap s.snapshots s.clock ∷ [])), length-append (snapshot_clocks s.notes) (s.clock ∷ []));
+      closed = is.closed ∙ sym (list_any-append is_close s.notes (note.Snap s.snapshots s.clock ∷ []) ∙ or_false (list_any is_close s.notes));
+    }))
+    (cases_Bool s.flag)
+  where
+    or_false : (b : Bool) → (b || false) ≡ b
+    or_false true = refl
+    or_false false = refl
+counts_after p s Sent is = record { snapshots = is.snapshots; closed = is.closed }
+counts_after p s (Received stamp) is = record { snapshots = is.snapshots; closed = is.closed }
+counts_after p s Closed is = record {
+  snapshots = is.snapshots ∙ ap length (sym (snapshot_clocks-append s.notes (note.Close s.snapshots ∷ []) ∙ append-nil (snapshot_clocks s.notes)));
+  closed = sym (list_any-append is_close s.notes (note.Close s.snapshots ∷ []) ∙ or_right (list_any is_close s.notes) true refl);
+}
+
+counts_from : (p : ℕ) (s : ProbeState) (log : List Call) → CountsNotes s → CountsNotes (fold (after_call p) s log)
+counts_from p s [] is = is
+counts_from p s (call ∷ log) is = counts_from p (after_call p s call) log (counts_after p s call is)
+
+pub log_counts_notes : (n p : ℕ) (log : List Call) → CountsNotes (state_of_log n p log)
+log_counts_notes n p log = counts_from p (state_of_log n p []) log (record { snapshots = refl; closed = refl })

@@ -1,0 +1,91 @@
+use Rattle.std.specs.List.Sorted.{IsStrictlyIncreasing}
+use Rattle.std.specs.Prelude.{if◌then◌else◌}
+use Rattle.std.proofs.Common.{◌≡◌, ◌≢◌, ℕ, zero, suc, ◌+◌, ◌-◌, ◌<◌, ◌≤◌, Bool, true, false, List, [], ◌∷◌, ◌++◌, length, slice_index, get_or, refl, sym, ap, ◌∙◌, subst, ⊎_elim, append-nil, arith}
+use Rattle.std.proofs.lemmas.Bool.{cases_eq, cases_lt}
+use Rattle.std.proofs.lemmas.List.{length-append, get_or_append_left, get_or_past}
+use Rattle.std.proofs.lemmas.List.Elements.{Contains-get_or}
+use Rattle.wcp_clock.specs.declared.note.Item.{Item}
+use Rattle.wcp_clock.specs.declared.note.Note.{Note}
+use Rattle.wcp_clock.specs.declared.note.Note.TheVariants as note
+use Rattle.wcp_model.specs.Computation.{Computation, IsState}
+use Rattle.wcp_model.specs.Emission.{snapshots_from, is_closed, AreEmissions}
+use Rattle.wcp_model.specs.Report.{notes_taken, snapshot_clocks, clocks_taken, AreRising, ClocksRise, AreFrontsOfEmissions}
+use Rattle.wcp_model.specs.StateClock.{IsStateClock}
+use Rattle.wcp_model.proofs.CutLaws.{state, happened_before_later, IsState-true}
+use Rattle.wcp_model.proofs.NotesInTurn.{snapshot_clocks-append}
+
+-- an increasing list rises from each place to each later one
+pub rises_to : (xs : List ℕ) (i j : ℕ) → IsStrictlyIncreasing xs → i ≤ j → j < length xs → slice_index xs i ≤ slice_index xs j
+rises_to xs i j rising order within = go (j - i) i (omega arith)
+  where
+    go : (steps i : ℕ) → i + steps ≡ j → slice_index xs i ≤ slice_index xs j
+    go zero i end =
+        let same : i ≡ j = omega arith in
+        omega (arith, ap (slice_index xs) same)
+    go (suc steps) i end = omega (arith, rising i (omega arith), go steps (i + 1) (omega arith))
+
+pub rises_above : (xs : List ℕ) (i j : ℕ) → IsStrictlyIncreasing xs → i < j → j < length xs → slice_index xs i < slice_index xs j
+rises_above xs i j rising order within = omega (arith, rising i (omega arith), rises_to xs (i + 1) j rising (omega arith) within)
+
+-- the snapshots that a process emits have the clocks of its states
+clocks_back : (number : ℕ) (clocks : List (List ℕ)) (rest : List Note) → snapshot_clocks (snapshots_from number clocks ++ rest) ≡ clocks ++ snapshot_clocks rest
+clocks_back number [] rest = refl
+clocks_back number (clock ∷ clocks) rest = ap (λ more. clock ∷ more) (clocks_back (number + 1) clocks rest)
+
+no_clock : (closed : Bool) (count : ℕ) → snapshot_clocks (if closed then note.Close count ∷ [] else []) ≡ []
+no_clock true count = refl
+no_clock false count = refl
+
+pub emitted_clocks : (n : ℕ) (c : Computation) (p : ℕ) (notes : List Note) (emitted : AreEmissions n c p notes) → snapshot_clocks notes ≡ emitted.clocks
+emitted_clocks n c p notes emitted =
+    ap snapshot_clocks emitted.notes_are
+    ∙ clocks_back 0 emitted.clocks (if is_closed c p then note.Close (length emitted.clocks) ∷ [] else [])
+    ∙ ap (λ rest. emitted.clocks ++ rest) (no_clock (is_closed c p) (length emitted.clocks))
+    ∙ append-nil emitted.clocks
+
+-- the clocks of later states of a process are nowhere less
+clock_never_falls : (n : ℕ) (c : Computation) (p k l : ℕ) (one other : List ℕ) → k ≤ l → IsState c (state p l) → IsStateClock n c (state p k) one → IsStateClock n c (state p l) other → (q : ℕ) → slice_index one q ≤ slice_index other q
+clock_never_falls n c p k l one other up exists earlier later q = ⊎_elim
+    (λ (own : q ≡ p). omega (arith, up, ap (slice_index one) own, ap (slice_index other) own, earlier.own, later.own))
+    (λ (apart : q ≢ p). ⊎_elim
+    (λ (within : q < n). ⊎_elim
+    (λ (falls : slice_index other q < slice_index one q).
+    let before = (earlier.others q within apart (slice_index other q)).1 falls in
+    absurd (omega (arith, (later.others q within apart (slice_index other q)).0 (happened_before_later c (state q (slice_index other q)) p k l up exists before))))
+    (λ (order : slice_index one q ≤ slice_index other q). order)
+    (cases_lt (slice_index other q) (slice_index one q)))
+    (λ (past : n ≤ q). omega (arith, get_or_past one q 0 (omega (arith, earlier.components))))
+    (cases_lt q n))
+    (cases_eq q p)
+
+-- so the clocks that a process emits rise
+pub emissions_rise : (n : ℕ) (c : Computation) (p : ℕ) (notes : List Note) → AreEmissions n c p notes → AreRising p (snapshot_clocks notes)
+emissions_rise n c p notes emitted = subst (AreRising p) (sym (emitted_clocks n c p notes emitted)) (record {
+  never_fall = λ i j q up within.
+      let below : j < length emitted.intervals = omega (arith, emitted.same_length) in
+      clock_never_falls n c p (slice_index emitted.intervals i) (slice_index emitted.intervals j) (get_or emitted.clocks i []) (get_or emitted.clocks j [])
+      (rises_to emitted.intervals i j emitted.true_states.rising up below)
+      (IsState-true c (state p (slice_index emitted.intervals j)) ((emitted.true_states.each (slice_index emitted.intervals j)).0 (Contains-get_or emitted.intervals j 0 below)))
+      (emitted.each i (omega arith)) (emitted.each j below) q;
+  rise = λ i j up within.
+      let below : j < length emitted.intervals = omega (arith, emitted.same_length) in
+      omega (arith, (emitted.each i (omega arith)).own, (emitted.each j below).own, rises_above emitted.intervals i j emitted.true_states.rising up below);
+})
+
+AreRising-front : (p : ℕ) (clocks more : List (List ℕ)) → AreRising p (clocks ++ more) → AreRising p clocks
+AreRising-front p clocks more rising = record {
+  never_fall = λ i j q up within. omega (arith, rising.never_fall i j q up (longer j within), here i q (omega arith), here j q within);
+  rise = λ i j up within. omega (arith, rising.rise i j up (longer j within), here i p (omega arith), here j p within);
+}
+  where
+    longer : (j : ℕ) → j < length clocks → j < length (clocks ++ more)
+    longer j within = omega (arith, length-append clocks more)
+
+    here : (i q : ℕ) → i < length clocks → slice_index (get_or (clocks ++ more) i []) q ≡ slice_index (get_or clocks i []) q
+    here i q within = ap (λ (clock : List ℕ). slice_index clock q) (get_or_append_left clocks more [] i within)
+
+-- and those of a front of its emissions
+pub clocks_rise : (n : ℕ) (c : Computation) (items : List Item) → AreFrontsOfEmissions n c items → ClocksRise n items
+clocks_rise n c items fronts p within =
+    let (rest, emitted) = fronts p within in
+    AreRising-front p (clocks_taken p items) (snapshot_clocks rest) (subst (AreRising p) (snapshot_clocks-append (notes_taken p items) rest) (emissions_rise n c p (notes_taken p items ++ rest) emitted))

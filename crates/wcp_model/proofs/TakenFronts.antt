@@ -1,0 +1,169 @@
+use Rattle.std.proofs.Common.{◌≡◌, ℕ, ◌<◌, ◌≤◌, List, [], ◌∷◌, ◌++◌, length, slice_index, get_or, Contains, refl, sym, ap, ◌∙◌, subst, ⊎_elim, arith}
+use Rattle.std.proofs.lemmas.Bool.{cases_lt}
+use Rattle.std.proofs.lemmas.List.{length-append, append_assoc, get_or_append_left, get_or_default}
+use Rattle.std.proofs.lemmas.List.Elements.{Contains-get_or}
+use Rattle.wcp_clock.specs.declared.note.Item.{Item}
+use Rattle.wcp_clock.specs.declared.note.Note.TheVariants as note
+use Rattle.wcp_model.specs.declared.outcome.Report.{Report}
+use Rattle.wcp_model.specs.declared.outcome.Report.TheVariants.{Found, Nothing, Undecided}
+use Rattle.wcp_model.specs.Computation.{Computation, IsTrueState}
+use Rattle.wcp_model.specs.Cut.{member, minimum, IsSatisfyingCut, IsLeastCut}
+use Rattle.wcp_model.specs.Outcome.{IsReportOf}
+use Rattle.wcp_model.specs.Report.{notes_taken, snapshot_clocks, clocks_taken, IsDrained, IsNamed, IsNamedCut, IsCutByClocks, IsLeastOf, IsReportOfTaken, IsReportByClocks, AreFrontsOfEmissions, AreInTurn}
+use Rattle.wcp_model.specs.StateClock.{IsStateClock}
+use Rattle.wcp_model.proofs.Choosing.{choice_from_each}
+use Rattle.wcp_model.proofs.CutLaws.{state, slice_index-minimum, minimum_is_satisfying}
+use Rattle.wcp_model.proofs.NotesInTurn.{snapshot_clocks-append, emissions_in_turn, nothing_follows}
+use Rattle.wcp_model.proofs.RisingClocks.{emitted_clocks, rises_above}
+
+-- What was taken of each process is a front of its emissions.
+module _ (n : ℕ) (c : Computation) (items : List Item) (fronts : AreFrontsOfEmissions n c items) where
+  -- a taken clock is that of a true state
+  record IsOfState (p : ℕ) (clock : List ℕ) (interval : ℕ) : Type 0 where
+    pub clock_is : IsStateClock n c (state p interval) clock
+    pub true_state : IsTrueState c (state p interval)
+
+  all_clocks : (p : ℕ) (within : p < n) → clocks_taken p items ++ snapshot_clocks (fronts p within).0 ≡ (fronts p within).1.clocks
+  all_clocks p within =
+      let (rest, emitted) = fronts p within in
+      sym (snapshot_clocks-append (notes_taken p items) rest) ∙ emitted_clocks n c p (notes_taken p items ++ rest) emitted
+
+  fewer : (p : ℕ) (within : p < n) → length (clocks_taken p items) ≤ length (fronts p within).1.intervals
+  fewer p within = omega (arith, length-append (clocks_taken p items) (snapshot_clocks (fronts p within).0), ap length (all_clocks p within), (fronts p within).1.same_length)
+
+  state_at : (p i : ℕ) (within : p < n) → i < length (clocks_taken p items) → IsOfState p (get_or (clocks_taken p items) i []) (slice_index (fronts p within).1.intervals i)
+  state_at p i within below =
+      let emitted = (fronts p within).1 in
+      let inside : i < length emitted.intervals = omega (arith, fewer p within) in
+      record {
+        clock_is = subst (IsStateClock n c (state p (slice_index emitted.intervals i)))
+            (sym (ap (λ clocks. get_or clocks i []) (all_clocks p within)) ∙ get_or_append_left (clocks_taken p items) (snapshot_clocks (fronts p within).0) [] i below)
+            (emitted.each i inside);
+        true_state = (emitted.true_states.each (slice_index emitted.intervals i)).0 (Contains-get_or emitted.intervals i 0 inside);
+      }
+
+  -- the place of the snapshot that names a state
+  named_at : (p k : ℕ) (within : p < n) (named : IsNamed items (state p k)) → (i : ℕ) × (i < length (clocks_taken p items)) × (slice_index (fronts p within).1.intervals i ≡ k) × (get_or (clocks_taken p items) i [] ≡ named.clock)
+  named_at p k within named =
+      let (i, below, here) = named.taken in
+      let at : get_or (clocks_taken p items) i [] ≡ named.clock = get_or_default (clocks_taken p items) i [] named.clock below ∙ here in
+      (i, below, sym (state_at p i within below).clock_is.own ∙ ap (λ (clock : List ℕ). slice_index clock p) at ∙ named.own, at)
+
+  named_state : (p k : ℕ) → p < n → (named : IsNamed items (state p k)) → IsOfState p named.clock k
+  named_state p k within named =
+      let (i, below, interval, at) = named_at p k within named in
+      let is = state_at p i within below in
+      record {
+        clock_is = subst (IsStateClock n c (state p k)) at (subst (λ j. IsStateClock n c (state p j) (get_or (clocks_taken p items) i [])) interval is.clock_is);
+        true_state = subst (λ j. IsTrueState c (state p j)) interval is.true_state;
+      }
+
+  -- a cut by clocks is one of named states, and the other way round
+  cut_by_states : (cut : List ℕ) → IsCutByClocks n items cut → IsNamedCut n c items cut
+  cut_by_states cut is = record {
+    satisfying = record {
+      members = is.members;
+      consistent = λ p q p_within q_within apart before.
+          is.concurrent p q p_within q_within apart (omega (arith, is.own p p_within, ((named_state q (slice_index cut q) q_within (named q q_within)).clock_is.others p p_within apart (slice_index cut p)).0 before));
+      true_states = λ p p_within. (named_state p (slice_index cut p) p_within (named p p_within)).true_state;
+    };
+    named = named;
+  }
+    where
+      named : (p : ℕ) → p < n → IsNamed items (member cut p)
+      named p p_within = record { clock = is.clock p; taken = is.taken p p_within; own = is.own p p_within }
+
+  cut_by_clocks : (cut : List ℕ) → IsNamedCut n c items cut → IsCutByClocks n items cut
+  cut_by_clocks cut is =
+      let (clock, each) = choice_from_each [] (λ p clock. (named : IsNamed items (member cut p)) × (named.clock ≡ clock)) n (λ p within. ((is.named p within).clock, (is.named p within, refl))) in
+      record {
+        members = is.satisfying.members;
+        clock = clock;
+        taken = λ p within. subst (Contains (clocks_taken p items)) (each p within).1 (each p within).0.taken;
+        own = λ p within. ap (λ (v : List ℕ). slice_index v p) (sym (each p within).1) ∙ (each p within).0.own;
+        concurrent = λ p q p_within q_within apart less.
+            let one = (each p p_within).0 in
+            let other = (each q q_within).0 in
+            is.satisfying.consistent p q p_within q_within apart
+            (((named_state q (slice_index cut q) q_within other).clock_is.others p p_within apart (slice_index cut p)).1
+            (omega (arith, less, one.own, ap (λ (v : List ℕ). slice_index v p) (each p p_within).1, ap (λ (v : List ℕ). slice_index v p) (each q q_within).1)));
+      }
+
+  least_by_states : (cut : List ℕ) → IsLeastOf n (IsCutByClocks n items) cut → IsLeastOf n (IsNamedCut n c items) cut
+  least_by_states cut least = record {
+    one = cut_by_states cut least.one;
+    below = λ other is. least.below other (cut_by_clocks other is);
+  }
+
+  -- the report by clocks is the report of what was taken
+  pub report_of_taken : (report : Report) → IsReportByClocks n items report → IsReportOfTaken n c items report
+  report_of_taken (Found cut) least = least_by_states cut least
+  report_of_taken Nothing none = (λ cut is. none.0 cut (cut_by_clocks cut is), none.1)
+  report_of_taken Undecided none = (λ cut is. none.0 cut (cut_by_clocks cut is), none.1)
+
+  -- a true state has a place among the snapshots, and is named once that one is taken
+  place_of : (p k : ℕ) (within : p < n) → IsTrueState c (state p k) → (i : ℕ) × (i < length (fronts p within).1.intervals) × (slice_index (fronts p within).1.intervals i ≡ k)
+  place_of p k within true_state =
+      let (i, below, here) = ((fronts p within).1.true_states.each k).1 true_state in
+      (i, below, get_or_default (fronts p within).1.intervals i 0 k below ∙ here)
+
+  named_by : (p k i : ℕ) (within : p < n) → slice_index (fronts p within).1.intervals i ≡ k → i < length (clocks_taken p items) → IsNamed items (state p k)
+  named_by p k i within here taken = record {
+    clock = get_or (clocks_taken p items) i [];
+    taken = Contains-get_or (clocks_taken p items) i [] taken;
+    own = (state_at p i within taken).clock_is.own ∙ here;
+  }
+
+  -- so each true state below a named one is named
+  named_below : (p k l : ℕ) → p < n → IsNamed items (state p k) → IsTrueState c (state p l) → l ≤ k → IsNamed items (state p l)
+  named_below p k l within named true_state order =
+      let emitted = (fronts p within).1 in
+      let (i, i_below, interval, at) = named_at p k within named in
+      let (j, j_below, here) = place_of p l within true_state in
+      named_by p l j within here (⊎_elim
+      (λ (past : i < j). absurd (omega (arith, rises_above emitted.intervals i j emitted.true_states.rising past j_below)))
+      (λ (at_most : j ≤ i). omega arith)
+      (cases_lt i j))
+
+  -- so the least cut of those named is the least cut of the whole computation, before all is drained and after
+  pub found_is_least : (cut : List ℕ) → IsReportByClocks n items (Found cut) → IsLeastCut n c cut
+  found_is_least cut found = record {
+    satisfying = least.one.satisfying;
+    below = below;
+  }
+    where
+      least : IsLeastOf n (IsNamedCut n c items) cut
+      least = least_by_states cut found
+
+      below : (other : List ℕ) → IsSatisfyingCut n c other → (p : ℕ) → p < n → slice_index cut p ≤ slice_index other p
+      below other also p within =
+          let same : length cut ≡ length other = least.one.satisfying.members ∙ sym also.members in
+          let both : IsSatisfyingCut n c (minimum cut other) = minimum_is_satisfying n c cut other least.one.satisfying also in
+          let named : (q : ℕ) → q < n → IsNamed items (member (minimum cut other) q) = λ q q_within.
+          named_below q (slice_index cut q) (slice_index (minimum cut other) q) q_within (least.one.named q q_within) (both.true_states q q_within) (omega (arith, slice_index-minimum cut other q same)) in
+          omega (arith, least.below (minimum cut other) (record { satisfying = both; named = named }) p within, slice_index-minimum cut other p same)
+
+  -- where all is drained, all emissions were taken
+  nothing_left : IsDrained n items → (p : ℕ) (within : p < n) → (fronts p within).0 ≡ []
+  nothing_left drained p within =
+      let (rest, emitted) = fronts p within in
+      let (count, before, is) = drained p within in
+      let all : notes_taken p items ++ rest ≡ before ++ note.Close count ∷ rest = ap (λ notes. notes ++ rest) is ∙ append_assoc before (note.Close count ∷ []) rest in
+      nothing_follows before rest count (subst AreInTurn all (emissions_in_turn n c p (notes_taken p items ++ rest) emitted))
+
+  -- a process's true states are as many as its snapshots taken
+  pub all_states_taken : IsDrained n items → (p : ℕ) (within : p < n) → length (fronts p within).1.intervals ≡ length (clocks_taken p items)
+  all_states_taken drained p within =
+      omega (arith, (fronts p within).1.same_length, ap length (all_clocks p within), length-append (clocks_taken p items) (snapshot_clocks (fronts p within).0), ap (λ notes. length (snapshot_clocks notes)) (nothing_left drained p within))
+
+  named_when_drained : IsDrained n items → (p k : ℕ) → p < n → IsTrueState c (state p k) → IsNamed items (state p k)
+  named_when_drained drained p k within true_state =
+      let (i, below, here) = place_of p k within true_state in
+      named_by p k i within here (omega (arith, all_states_taken drained p within))
+
+  -- and the report is that of the whole computation
+  pub report_when_drained : IsDrained n items → (report : Report) → IsReportByClocks n items report → IsReportOf n c report
+  report_when_drained drained (Found cut) found = found_is_least cut found
+  report_when_drained drained Nothing none = λ cut satisfying.
+      none.0 cut (cut_by_clocks cut (record { satisfying = satisfying; named = λ p within. named_when_drained drained p (slice_index cut p) within (satisfying.true_states p within) }))
+  report_when_drained drained Undecided none = none.1 drained
