@@ -12,5 +12,5 @@ pub mod Tree
 pub mod Elimination
 pub mod Occupancy
 pub mod Replies
-pub mod Taken
 pub mod Growth
+pub mod Headline

@@ -11,3 +11,7 @@ pub mod Stirring
 pub mod Conveying
 pub mod EmptyPlaces
 pub mod Standing
+pub mod Answering
+pub mod Histories
+pub mod Playing
+pub mod Reported

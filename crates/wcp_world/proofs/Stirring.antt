@@ -12,7 +12,7 @@ use Rattle.wcp_model.specs.Occupancy.{Place, Pending, Link, HoldOf, InboxOf, sou
 use Rattle.wcp_model.specs.Report.{notes_taken}
 use Rattle.wcp_model.proofs.Growth.{get_front}
 use Rattle.wcp_hold.specs.Held.{Held}
-use Rattle.wcp_world.specs.Transport.{TransportState, IsPlaceOf, IsWay, number_of, held_at, notes_along, notes_at, AreInOrder, IsTransportOf}
+use Rattle.wcp_world.specs.Transport.{TransportState, IsPlaceOf, IsWay, number_of, held_at, notes_along, notes_at, AreConveyedInOrder, IsTransportOf}
 use Rattle.wcp_world.proofs.Places.{same_place, itself, next_is_place}
 use Rattle.wcp_world.proofs.Ways.{IsOnWay, Start, Onward, one_before}
 use Rattle.wcp_world.proofs.Entries.{bit, item_if, count_push, notes_append, entry_on_way, entry_moves, held_after, IsStirred}
@@ -30,7 +30,7 @@ one_of : (p : ℕ) (item : Item) (b : Bool) → (b ≡ true → item.from ≡ p)
 one_of p item true own = rw (eq-eqb item.from p (own refl)) refl
 one_of p item false own = refl
 
-get_grows : {X : Type 0} (xs ys : List X) (i : ℕ) (x : X) → slice_get xs i ≡ Some x → slice_get (xs ++ ys) i ≡ Some x
+pub get_grows : {X : Type 0} (xs ys : List X) (i : ℕ) (x : X) → slice_get xs i ≡ Some x → slice_get (xs ++ ys) i ≡ Some x
 get_grows xs ys i x at = get_front xs ys i (slice_get_within xs i x at) ∙ at
 
 module _ (plan : Plan) (steps : List Step) (put : ℕ → List Note) (taken : List Item) (t : TransportState) (stands : IsTransportOf plan steps put taken t)

@@ -5,4 +5,5 @@ pub mod Application
 pub mod Transport
 pub mod Shifting
 pub mod World
+pub mod WorldView
 pub mod Played

@@ -60,7 +60,7 @@ abbrev pub notes_at : Plan → List Held → ℕ → Place → List Note
 notes_at plan places p place = notes_taken p (held_at places (number_of plan place)).items
 
 -- What was taken of a process, and then its notes on the way from its link, from the checker outward, are the notes put of it.
-pub record AreInOrder (plan : Plan) (places : List Held) (taken : List Item) (p : ℕ) (put : List Note) : Type 0 where
+pub record AreConveyedInOrder (plan : Plan) (places : List Held) (taken : List Item) (p : ℕ) (put : List Note) : Type 0 where
   pub way : List Place
   pub is_way : IsWay plan (Link p) way
   pub notes : notes_taken p taken ++ notes_along (notes_at plan places p) (Link p ∷ way) ≡ put
@@ -73,7 +73,7 @@ pub record IsTransportOf (plan : Plan) (steps : List Step) (put : ℕ → List N
   pub held : (place : Place) → IsPlaceOf plan place → IsHeldAt plan steps put place (held_at t.places (number_of plan place))
   pub as_many : (p : ℕ) → length (put p) ≡ taken_from steps (Pending p)
   pub known : (p : ℕ) → plan.n ≤ p → put p ≡ []
-  pub in_order : (p : ℕ) → p < plan.n → AreInOrder plan t.places taken p (put p)
+  pub in_order : (p : ℕ) → p < plan.n → AreConveyedInOrder plan t.places taken p (put p)
 
 abbrev pub IsConveying : TransportState → Type 0
 IsConveying t = (plan : Plan) × (steps : List Step) × (put : ℕ → List Note) × (taken : List Item) × IsTransportOf plan steps put taken t

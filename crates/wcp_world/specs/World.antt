@@ -1,4 +1,4 @@
-use Rattle.std.specs.Prelude.{◌≡◌, ℕ, ◌<◌, Bool, true, false, List, ◌++◌, take}
+use Rattle.std.specs.Prelude.{◌≡◌, ℕ, Bool, true, false, List, ◌++◌, take}
 use Rattle.wcp_clock.specs.declared.note.Item.{Item}
 use Rattle.wcp_clock.specs.declared.note.Note.{Note}
 use Rattle.wcp_model.specs.declared.plan.Plan.{Plan}
@@ -6,7 +6,7 @@ use Rattle.wcp_model.specs.declared.step.Step.{Step}
 use Rattle.wcp_model.specs.declared.step.Step.TheVariants as step
 use Rattle.wcp_model.specs.declared.step.Reply.{Reply}
 use Rattle.wcp_model.specs.Replies.{Answered, accepted_by, taken_by, accepted, items_taken, computation, IsReply, AreReplies}
-use Rattle.wcp_model.specs.Taken.{IsFrontOfEmissions}
+use Rattle.wcp_model.specs.Report.{AreFrontsOfEmissions}
 use Rattle.wcp_queue.specs.Checker.{CheckerState, processes}
 use Rattle.wcp_queue.specs.Checker.{StandsFor as CheckerStandsFor}
 use Rattle.wcp_world.specs.Application.{ApplicationState, IsApplicationOf}
@@ -36,23 +36,19 @@ abbrev pub Answers : WorldState → Step → Reply → WorldState → Type 0
 Answers old s answer new = (plan : Plan) (steps : List Step) (taken : List Item) → Stands plan steps taken old →
     IsReply plan steps s answer × Stands plan (steps ++ accepted_by s answer) (taken ++ taken_by answer) new
 
--- After each front of a history, what was taken of each process is a front of what it emitted.
-abbrev pub AreFronts : Plan → List Answered → Type 0
-AreFronts plan history = (place p : ℕ) → p < plan.n →
-    IsFrontOfEmissions plan.n (computation (accepted (take place history))) (items_taken (take place history)) p
-
--- A world stands for a history: the steps so far, each with its reply, which is that of the definitions.
+-- A world stands for a history: the steps so far, each with its reply, which is that of the definitions; after each of them
+-- what was taken of each process is a front of what it emitted.
 pub record IsWorldOf (plan : Plan) (history : List Answered) (w : WorldState) : Type 0 where
   pub replies : AreReplies plan history
-  pub fronts : AreFronts plan history
+  pub fronts : (place : ℕ) → AreFrontsOfEmissions plan.n (computation (accepted (take place history))) (items_taken (take place history))
   pub stands : Stands plan (accepted history) (items_taken history) w
+
+-- How many processes a world has.
+abbrev pub processes_of : WorldState → ℕ
+processes_of w = processes w.checker
 
 -- Of the nine steps only a send and a check may want memory.
 abbrev pub may_grow : Step → Bool
 may_grow (step.Send p to) = true
 may_grow step.Check = true
 may_grow s = false
-
--- How many processes a world has.
-abbrev pub processes_of : WorldState → ℕ
-processes_of w = processes w.checker

@@ -3,6 +3,7 @@
 #![tactic(auto)]
 
 mod application;
+mod detector;
 mod messages;
 mod played;
 mod transport;

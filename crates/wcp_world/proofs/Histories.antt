@@ -1,0 +1,72 @@
+use Rattle.std.proofs.Common.{◌≡◌, ℕ, ◌+◌, ◌<◌, ◌≤◌, Result, Ok, Err, IfOk, OnErr, List, [], ◌∷◌, ◌++◌, length, take, slice_get, sym, ap, ◌∙◌, subst, ⊎_elim, append-nil, arith}
+use Rattle.std.proofs.lemmas.Bool.{cases_lt}
+use Rattle.std.proofs.lemmas.Grind.{flat_map-append}
+use Rattle.std.proofs.lemmas.List.{length_push, take-append-le, take_at, take_all}
+use Rattle.std.proofs.lemmas.Option.{slice_get_within}
+use Rattle.wcp_model.specs.declared.plan.Plan.{Plan}
+use Rattle.wcp_model.specs.declared.step.Step.{Step}
+use Rattle.wcp_model.specs.declared.step.Reply.{Reply}
+use Rattle.wcp_model.specs.Replies.{Answered, accepted, items_taken, accepted_by, taken_by, computation, IsReply, AreReplies}
+use Rattle.wcp_model.specs.Report.{AreFrontsOfEmissions}
+use Rattle.wcp_model.proofs.Growth.{get_front, get_behind}
+use Rattle.wcp_world.specs.World.{WorldState, Stands, IsReached, Answers, IsWorldOf}
+use Rattle.wcp_world.proofs.Standing.{taken_fronts}
+
+-- a history with one more step and its reply
+accepted_push : (history : List Answered) (a : Answered) → accepted (history ++ a ∷ []) ≡ accepted history ++ accepted_by a.step a.reply
+accepted_push history a = flat_map-append _ history (a ∷ []) ∙ ap (λ e. accepted history ++ e) (append-nil (accepted_by a.step a.reply))
+
+taken_push : (history : List Answered) (a : Answered) → items_taken (history ++ a ∷ []) ≡ items_taken history ++ taken_by a.reply
+taken_push history a = flat_map-append _ history (a ∷ []) ∙ ap (λ e. items_taken history ++ e) (append-nil (taken_by a.reply))
+
+pub replies_push : (plan : Plan) (history : List Answered) (a : Answered) → AreReplies plan history → IsReply plan (accepted history) a.step a.reply → AreReplies plan (history ++ a ∷ [])
+replies_push plan history a are is place b at =
+    ⊎_elim
+    (λ (lt : place < length history).
+    subst (λ before. IsReply plan (accepted before) b.step b.reply) (sym (take-append-le place history (a ∷ []) (omega (arith, lt)))) (are place b (sym (get_front history (a ∷ []) place lt) ∙ at)))
+    (λ (ge : length history ≤ place).
+    let last : place ≡ length history = omega (arith, ge, slice_get_within (history ++ a ∷ []) place b at, length_push history a) in
+    let same : a ≡ b = cc (get_behind history a [], at, ap (slice_get (history ++ a ∷ [])) last) in
+    subst (λ before. IsReply plan (accepted before) b.step b.reply) (sym (take_at history (a ∷ []) place (sym last)))
+    (subst (λ (c : Answered). IsReply plan (accepted history) c.step c.reply) same is))
+    (cases_lt place (length history))
+
+-- after each front of a longer history what was taken is a front of what was emitted
+abbrev pub HasFronts : Plan → List Answered → Type 0
+HasFronts plan history = AreFrontsOfEmissions plan.n (computation (accepted history)) (items_taken history)
+
+fronts_push : (plan : Plan) (history : List Answered) (a : Answered) → ((place : ℕ) → HasFronts plan (take place history)) → HasFronts plan (history ++ a ∷ []) → (place : ℕ) → HasFronts plan (take place (history ++ a ∷ []))
+fronts_push plan history a before now place = ⊎_elim
+    (λ (lt : place < length history + 1). subst (HasFronts plan) (sym (take-append-le place history (a ∷ []) (omega (arith, lt)))) (before place))
+    (λ (ge : length history + 1 ≤ place). subst (HasFronts plan) (sym (take_all place (history ++ a ∷ []) (omega (arith, ge, length_push history a)))) now)
+    (cases_lt place (length history + 1))
+
+-- a world after a step that was answered
+pub world_push : (plan : Plan) (history : List Answered) (old new : WorldState) (s : Step) (reply : Reply) → Answers old s reply new → IsWorldOf plan history old → IsWorldOf plan (history ++ record { step = s; reply = reply } ∷ []) new
+world_push plan history old new s reply answers is =
+    let a : Answered = record { step = s; reply = reply } in
+    let told = answers plan (accepted history) (items_taken history) is.stands in
+    let stands = subst (λ steps. Stands plan steps (items_taken (history ++ a ∷ [])) new) (sym (accepted_push history a)) (subst (λ items. Stands plan (accepted history ++ accepted_by s reply) items new) (sym (taken_push history a)) told.1) in
+    record {
+      replies = replies_push plan history a is.replies told.0;
+      fronts = fronts_push plan history a is.fronts (taken_fronts plan (accepted (history ++ a ∷ [])) (items_taken (history ++ a ∷ [])) new stands);
+      stands = stands;
+    }
+
+-- a world before any step
+pub fresh_world : (plan : Plan) (w : WorldState) → Stands plan [] [] w → IsWorldOf plan [] w
+fresh_world plan w stands = record {
+  replies = λ place a at. cc at;
+  fronts = λ place. subst (HasFronts plan) (sym (take_all place [] (omega arith))) (taken_fronts plan [] [] w stands);
+  stands = stands;
+}
+
+pub world_after : {E : Type 0} (result : Result Reply E) (old new : WorldState) (s : Step) → IfOk result (λ reply. Answers old s reply new) →
+    IfOk result (λ reply. (plan : Plan) (history : List Answered) → IsWorldOf plan history old → IsWorldOf plan (history ++ record { step = s; reply = reply } ∷ []) new)
+world_after (Ok reply) old new s answers = λ plan history is. world_push plan history old new s reply answers is
+world_after (Err e) old new s answers = answers
+
+-- a network stays one that stands for something
+pub reached_after : {E : Type 0} (result : Result Reply E) (old new : WorldState) (s : Step) → IfOk result (λ reply. Answers old s reply new) → OnErr result (new ≡ old) → IsReached old → IsReached new
+reached_after (Ok reply) old new s answers same reached = (reached.0, reached.1 ++ accepted_by s reply, reached.2 ++ taken_by reply, (answers reached.0 reached.1 reached.2 reached.3).1)
+reached_after (Err e) old new s answers same reached = subst IsReached (sym same) reached
