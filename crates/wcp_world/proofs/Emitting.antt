@@ -1,4 +1,4 @@
-use Rattle.std.proofs.Common.{◌≡◌, ◌≢◌, ℕ, ◌+◌, ◌<◌, ◌≤◌, IsSome, is_some, List, [], ◌∷◌, ◌++◌, length, slice_get, get_or, set, eqb, Option, None, Some, refl, sym, ap, ◌∙◌, subst, subst₂, ⊎_elim, append-nil, eq-eqb, arith}
+use Rattle.std.proofs.Common.{◌≡◌, ◌≢◌, ℕ, ◌+◌, ◌<◌, ◌≤◌, IsSome, is_some, List, [], ◌∷◌, ◌++◌, length, slice_get, get_or, set, None, Some, refl, sym, ap, ◌∙◌, subst, subst₂, ⊎_elim, append-nil, eq-eqb, arith}
 use Rattle.std.specs.Option.{option_and_then, option_to_list}
 use Rattle.std.proofs.lemmas.Bool.{ne_eqb}
 use Rattle.std.proofs.lemmas.List.{length-set}
@@ -13,7 +13,7 @@ use Rattle.wcp_model.proofs.EmittedSnapshots.{few_snapshots, snapshots_counted}
 use Rattle.wcp_probe.specs.Core.{Core}
 use Rattle.wcp_world.specs.Application.{ApplicationState, IsApplicationOf, IsProbeOf, HasEmitted, WasPut, pending_at, put_more}
 use Rattle.wcp_world.proofs.Mail.{get_set}
-use Rattle.wcp_world.proofs.Probes.{probe_is, in_range, same_state, law_of_probe}
+use Rattle.wcp_world.proofs.Probes.{in_range, same_state, law_of_probe}
 
 module _ (n : ℕ) (c : Computation) (put : ℕ → List Note) (app : ApplicationState) (stands : IsApplicationOf n c put app) (p : ℕ) (within : p < n) where
   -- the notes that were put of a process, followed by what is pending, are its emissions

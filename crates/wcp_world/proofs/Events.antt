@@ -1,4 +1,4 @@
-use Rattle.std.proofs.Common.{◌≡◌, ◌≢◌, ℕ, ◌+◌, ◌<◌, ◌≤◌, Bool, true, false, cond, nat_le, List, [], ◌∷◌, ◌++◌, length, slice_get, count_by, set, eqb, Option, None, Some, refl, sym, ap, ◌∙◌, subst, subst₂, ⊎_elim, append-nil, eqb-true, eq-eqb, arith}
+use Rattle.std.proofs.Common.{◌≡◌, ◌≢◌, ℕ, ◌+◌, ◌<◌, Bool, true, false, cond, List, [], ◌∷◌, ◌++◌, length, slice_get, count_by, set, eqb, Some, refl, sym, ap, ◌∙◌, subst, subst₂, ⊎_elim, append-nil, eqb-true, eq-eqb, arith}
 use Rattle.std.specs.Option.{option_to_list}
 use Rattle.std.proofs.lemmas.Bool.{cases_Bool, ne_eqb}
 use Rattle.std.proofs.lemmas.List.{length-set, take_at}
@@ -7,12 +7,9 @@ use Rattle.wcp_clock.specs.declared.clock.TheConstants.{CLOCK_LIMIT}
 use Rattle.wcp_clock.specs.declared.note.Note.{Note}
 use Rattle.wcp_model.specs.declared.step.Step.{Step}
 use Rattle.wcp_model.specs.declared.step.Step.TheVariants.{Send, Recv}
-use Rattle.wcp_model.specs.declared.step.Reply.TheVariants.{Done}
-use Rattle.wcp_model.specs.declared.step.Why.{Why}
 use Rattle.wcp_model.specs.Computation.{Computation, is_communication_of, is_send, communications, interval_at}
 use Rattle.wcp_model.specs.Emission.{is_closed}
 use Rattle.wcp_model.specs.ProbeLog.{Call, ProbeState, after_call, state_of_log, is_step_of, IsStampOf, IsCallOf, IsLogOf, IsAccepted}
-use Rattle.wcp_model.specs.Replies.{event_reasons, first_of_reasons}
 use Rattle.wcp_model.specs.StateClock.{IsStateClock}
 use Rattle.wcp_model.proofs.Growth.{get_behind}
 use Rattle.wcp_model.proofs.GrowingLogs.{log_grows, accepted_push}
@@ -21,7 +18,6 @@ use Rattle.wcp_model.proofs.RunningEmissions.{interval_at_seam}
 use Rattle.wcp_probe.specs.Core.{Core, Accepts, IsSameProbe}
 use Rattle.wcp_probe.proofs.AcceptedCalls.{state_after}
 use Rattle.wcp_world.specs.declared.messages.Letter.{Letter}
-use Rattle.wcp_world.specs.Answer.{IsAnswer}
 use Rattle.wcp_world.specs.Application.{ApplicationState, IsApplicationOf, IsProbeOf, AreLettersOf}
 use Rattle.wcp_world.proofs.Probes.{probe_is, in_range, law_of_probe, clock_is}
 use Rattle.wcp_world.proofs.Mail.{get_set}

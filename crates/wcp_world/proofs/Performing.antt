@@ -1,4 +1,4 @@
-use Rattle.std.proofs.Common.{◌≡◌, ◌≢◌, ℕ, ◌+◌, ◌<◌, ◌≤◌, ◌↔◌, Bool, true, false, nat_le, IsTrue, is_some, List, [], ◌∷◌, ◌++◌, slice_get, slice_index, count_by, set, Option, None, Some, if◌then◌else◌, refl, sym, ap, ◌∙◌, subst, subst₂, ⊎_elim, append-nil, eqb, eqb-true, true≢false, MatchOption, arith}
+use Rattle.std.proofs.Common.{◌≡◌, ℕ, ◌+◌, ◌<◌, ◌↔◌, Bool, true, false, nat_le, IsTrue, is_some, List, [], ◌∷◌, ◌++◌, slice_get, count_by, set, Option, None, Some, if◌then◌else◌, refl, sym, ap, ◌∙◌, subst, ⊎_elim, append-nil, eqb, eqb-true, true≢false, MatchOption, arith}
 use Rattle.std.specs.Option.{option_and_then, option_map, option_to_list}
 use Rattle.std.proofs.lemmas.Bool.{cases_Bool}
 use Rattle.std.proofs.lemmas.Bool.Decides.{nat_tests}
@@ -13,7 +13,7 @@ use Rattle.wcp_model.specs.declared.step.Reply.{Reply}
 use Rattle.wcp_model.specs.declared.step.Reply.TheVariants.{Done, Refused}
 use Rattle.wcp_model.specs.declared.step.Why.{Why}
 use Rattle.wcp_model.specs.Computation.{Computation, is_send, communications}
-use Rattle.wcp_model.specs.ProbeLog.{Observed, Sent, Received, Closed, ProbeState, after_call, state_of_log, IsStampOf}
+use Rattle.wcp_model.specs.ProbeLog.{Observed, Sent, Received, Closed, ProbeState, after_call, state_of_log}
 use Rattle.wcp_model.specs.Replies.{accepted_by, event_reasons, first_of_reasons}
 use Rattle.wcp_model.proofs.GrowingLogs.{stamp_grows}
 use Rattle.wcp_probe.specs.Core.{Core, Accepts, IsSameProbe}

@@ -1,4 +1,4 @@
-use Rattle.std.specs.Prelude.{◌≡◌, ◌==◌, ℕ, ◌≤◌, false, IsTrue, is_some, Option, None, Some, MatchOption, List, [], ◌∷◌, ◌++◌, length, map, slice_get, if◌then◌else◌}
+use Rattle.std.specs.Prelude.{◌≡◌, ◌==◌, ℕ, ◌≤◌, false, IsTrue, is_some, Option, Some, MatchOption, List, [], ◌∷◌, ◌++◌, length, map, slice_get, if◌then◌else◌}
 use Rattle.std.specs.Option.{option_and_then, option_to_list}
 use Rattle.wcp_clock.specs.declared.clock.TheConstants.{CLOCK_LIMIT}
 use Rattle.wcp_clock.specs.declared.note.Note.{Note}
