@@ -1,6 +1,6 @@
 pub mod Mail
 pub mod Probes
-pub mod Events
+pub mod Reasons
 pub mod Performing
-pub mod Starting
 pub mod Emitting
+pub mod Starting
