@@ -46,7 +46,8 @@ IsLetterOf n c message letter = MatchOption letter.message (IsTrue (was_received
 
 pub record AreLettersOf (n : ℕ) (c : Computation) (letters : List Letter) : Type 0 where
   pub receivers_are : map (λ letter. letter.to) letters ≡ receivers c
-  pub each : (message : ℕ) (letter : Letter) → slice_get letters message ≡ Some letter → IsLetterOf n c message letter
+  pub each : (message : ℕ) (letter : Letter) → slice_get letters message ≡ Some letter →
+      IsLetterOf n c message letter
 
 -- An application of n processes stands for its computation, and for the notes of each process that were put on its
 -- link; no process has more communication events than its clock can count.
