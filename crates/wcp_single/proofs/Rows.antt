@@ -1,11 +1,8 @@
-use Rattle.std.proofs.Common.{◌≡◌, ◌≢◌, ℕ, suc, ◌+◌, ◌<◌, ◌↔◌, Bool, true, false, List, [], ◌∷◌, ◌++◌, length, map, slice_index, get_or, refl, sym, ap, ap₂, ◌∙◌, subst, append-nil, arith}
-use Rattle.std.specs.Prelude.{if◌then◌else◌}
+use Rattle.std.proofs.Common.{◌≡◌, ◌≢◌, ℕ, suc, ◌<◌, ◌↔◌, List, [], ◌∷◌, length, map, slice_index, get_or, refl, sym, ap, ap₂, ◌∙◌, subst, append-nil, arith}
 use Rattle.std.proofs.lemmas.List.{length-map, get_or-map}
-use Rattle.wcp_clock.specs.declared.note.Note.{Note}
 use Rattle.wcp_clock.specs.declared.note.Note.TheVariants as note
 use Rattle.wcp_model.specs.Computation.{Computation, AreTrueStates}
-use Rattle.wcp_model.specs.Emission.{snapshots_from, is_closed, AreEmissions}
-use Rattle.wcp_model.specs.Report.{snapshot_clocks}
+use Rattle.wcp_model.specs.Emission.{AreEmissions}
 use Rattle.wcp_model.specs.StateClock.{IsStateClock, ClockLaw}
 use Rattle.wcp_model.proofs.CandidateRows.{PrecedesAt, IsSatisfyingChoice, AreInOrder}
 use Rattle.wcp_model.proofs.CutElimination.{rows_in_order}
