@@ -1,20 +1,19 @@
-use Rattle.std.proofs.Common.{◌≡◌, ◌≢◌, ℕ, ◌+◌, ◌<◌, ◌≤◌, IsSome, is_some, List, [], ◌∷◌, ◌++◌, length, slice_get, get_or, set, eqb, Option, None, Some, refl, sym, ap, ◌∙◌, subst, subst₂, ⊎_elim, append-nil, eq-eqb, arith}
+use Rattle.std.proofs.Common.{◌≡◌, ◌≢◌, ℕ, ◌+◌, ◌<◌, ◌≤◌, IsSome, is_some, List, [], ◌∷◌, ◌++◌, length, slice_get, get_or, set, None, Some, refl, sym, ap, ◌∙◌, subst, subst₂, ⊎_elim, append-nil, eq-eqb, arith}
 use Rattle.std.specs.Option.{option_and_then, option_to_list}
 use Rattle.std.proofs.lemmas.Bool.{ne_eqb}
 use Rattle.std.proofs.lemmas.List.{length-set}
-use Rattle.std.proofs.lemmas.Option.{slice_get_cases}
+use Rattle.std.proofs.lemmas.Option.{slice_get_cases, slice_get_within}
 use Rattle.wcp_clock.specs.declared.clock.TheConstants.{CLOCK_LIMIT}
 use Rattle.wcp_clock.specs.declared.note.Note.{Note}
 use Rattle.wcp_model.specs.Computation.{Computation}
 use Rattle.wcp_model.specs.Emission.{AreEmissions}
-use Rattle.wcp_model.specs.ProbeLog.{ProbeState, state_of_log}
 use Rattle.wcp_model.specs.Report.{snapshot_clocks}
 use Rattle.wcp_model.proofs.EmittedSnapshots.{few_snapshots, snapshots_counted}
 use Rattle.wcp_probe.specs.Core.{Core}
 use Rattle.wcp_world.specs.Application.{ApplicationState, IsApplicationOf, IsProbeOf, HasEmitted, WasPut, pending_at}
 use Rattle.wcp_world.specs.Putting.{put_more}
 use Rattle.wcp_world.proofs.Mail.{get_set}
-use Rattle.wcp_world.proofs.Probes.{probe_is, in_range, same_state, law_of_probe}
+use Rattle.wcp_world.proofs.Probes.{state, emitted_is, law_of_probe}
 
 module _ (n : ℕ) (c : Computation) (put : ℕ → List Note) (app : ApplicationState) (stands : IsApplicationOf n c put app) (p : ℕ) (within : p < n) where
   -- the notes that were put of a process, followed by what is pending, are its emissions
@@ -35,10 +34,10 @@ module _ (app : ApplicationState) (p : ℕ) (core : Core) (at : slice_get app.pr
   pub emitted_counts : HasEmitted app p core.emitted
   emitted_counts n c put stands =
       let is = stands.probes p core at in
-      let within = in_range n c put app stands p core at in (
-        (state_of_log n p is.log).notes,
+      let within : p < n = omega (arith, slice_get_within app.probes p core at, stands.members) in (
+        (state n c p (put p) core is).notes,
         (law_of_probe n c p (put p) core is stands.order within).emissions,
-        is.stands.emitted ∙ ap (λ (s : ProbeState). s.snapshots) (same_state n c p (put p) core is) ∙ snapshots_counted n c p is.log stands.order within is.is_log,
+        emitted_is n c p (put p) core is ∙ snapshots_counted n c p is.log stands.order within is.is_log,
       )
 
   -- the probe whose pending note was put

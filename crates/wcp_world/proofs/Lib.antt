@@ -1,9 +1,9 @@
 pub mod Mail
 pub mod Probes
-pub mod Events
+pub mod Reasons
 pub mod Performing
-pub mod Starting
 pub mod Emitting
+pub mod Starting
 pub mod Places
 pub mod Ways
 pub mod Entries

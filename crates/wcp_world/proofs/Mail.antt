@@ -1,4 +1,4 @@
-use Rattle.std.proofs.Common.{◌≡◌, ◌≢◌, ℕ, zero, suc, ◌+◌, ◌<◌, ◌≤◌, ◌⊎◌, Bool, true, false, cond, not, ◌||◌, is_some, IsTrue, MatchOption, List, [], ◌∷◌, ◌++◌, length, map, slice_get, slice_index, count_by, set, eqb, Option, None, Some, refl, sym, ap, ◌∙◌, subst, subst₂, inl, inr, ⊎_elim, append-nil, eqb-true, eq-eqb, true≢false, le_refl, arith}
+use Rattle.std.proofs.Common.{◌≡◌, ◌≢◌, ℕ, zero, suc, ◌+◌, ◌<◌, ◌≤◌, ◌⊎◌, Bool, true, false, cond, ◌||◌, IsTrue, MatchOption, List, [], ◌∷◌, ◌++◌, length, slice_get, slice_index, count_by, set, eqb, Option, None, Some, refl, sym, ap, ◌∙◌, subst₂, inl, inr, ⊎_elim, append-nil, eqb-true, eq-eqb, true≢false, le_refl, arith}
 use Rattle.std.proofs.Math.Seq.{map-set_same}
 use Rattle.std.specs.Option.{option_map, option_map_or}
 use Rattle.std.proofs.lemmas.Bool.{cases_lt, ne_eqb, false_from_ne_true}
@@ -6,7 +6,7 @@ use Rattle.std.proofs.lemmas.Grind.{flat_map-append}
 use Rattle.std.proofs.lemmas.List.{length-map, map-append}
 use Rattle.std.proofs.lemmas.List.Folds.{list_any-append, Any-from_list_any}
 use Rattle.std.proofs.lemmas.List.Sums.{sum_by-cons, sum_by-take-le}
-use Rattle.std.proofs.lemmas.Option.{slice_get_within, slice_get-get_or, slice_get-map, get_or_from_slice_get}
+use Rattle.std.proofs.lemmas.Option.{slice_get-get_or, slice_get-map, get_or_from_slice_get}
 use Rattle.wcp_model.specs.declared.step.Step.{Step}
 use Rattle.wcp_model.specs.declared.step.Step.TheVariants.{Observe, Send, Recv, Close}
 use Rattle.wcp_model.specs.Computation.{Computation, IsState, is_send, interval_at, communications}

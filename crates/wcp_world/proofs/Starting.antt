@@ -1,9 +1,8 @@
-use Rattle.std.proofs.Common.{◌≡◌, ℕ, ◌<◌, ◌≤◌, false, None, List, [], length, replicate, slice_get, Some, refl, sym, ap, ◌∙◌, subst, ⊎_elim, arith}
+use Rattle.std.proofs.Common.{◌≡◌, ℕ, false, None, List, [], length, replicate, slice_get, Some, refl, sym, ap, subst, arith}
 use Rattle.std.proofs.lemmas.List.{length-replicate}
-use Rattle.std.proofs.lemmas.Option.{slice_get_within}
 use Rattle.wcp_clock.specs.declared.clock.TheConstants.{CLOCK_LIMIT}
 use Rattle.wcp_probe.specs.Core.{Core}
-use Rattle.wcp_world.specs.Application.{ApplicationState, IsApplicationOf, IsProbeOf, AreLettersOf}
+use Rattle.wcp_world.specs.Application.{IsApplicationOf, IsProbeOf}
 
 -- the probe of a process before its first event
 abbrev pub first_core : ℕ → ℕ → Core

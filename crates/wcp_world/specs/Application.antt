@@ -47,9 +47,11 @@ IsLetterOf n c message letter = MatchOption letter.message (IsTrue (was_received
 
 pub record AreLettersOf (n : ℕ) (c : Computation) (letters : List Letter) : Type 0 where
   pub receivers_are : map (λ letter. letter.to) letters ≡ receivers c
-  pub each : (message : ℕ) (letter : Letter) → slice_get letters message ≡ Some letter → IsLetterOf n c message letter
+  pub each : (message : ℕ) (letter : Letter) → slice_get letters message ≡ Some letter →
+      IsLetterOf n c message letter
 
--- An application of n processes stands for its computation, and for the notes of each process that were put on its link.
+-- An application of n processes stands for its computation, and for the notes of each process that were put on its
+-- link; no process has more communication events than its clock can count.
 pub record IsApplicationOf (n : ℕ) (c : Computation) (put : ℕ → List Note) (app : ApplicationState) : Type 0 where
   pub order : IsAccepted c
   pub few : (p : ℕ) → communications c p ≤ CLOCK_LIMIT
@@ -57,11 +59,12 @@ pub record IsApplicationOf (n : ℕ) (c : Computation) (put : ℕ → List Note)
   pub probes : (p : ℕ) (core : Core) → slice_get app.probes p ≡ Some core → IsProbeOf n c p (put p) core
   pub letters : AreLettersOf n c app.letters
 
--- An event was answered: the answer is that of the definitions, of whatever computation the application stood for, and the
--- application now stands for it with the event that was accepted.
+-- An event was answered: the answer is that of the definitions, of whatever computation the application stood for, and
+-- the application now stands for it with the event that was accepted.
 abbrev pub Performs : ApplicationState → Step → Reply → ApplicationState → Type 0
 Performs old s answer new = (n : ℕ) (c : Computation) (put : ℕ → List Note) → IsApplicationOf n c put old →
-    IsAnswer (event_reasons n c (λ p. is_some (pending_at old p)) s) answer × IsApplicationOf n (c ++ accepted_by s answer) put new
+    IsAnswer (event_reasons n c (λ p. is_some (pending_at old p)) s) answer
+    × IsApplicationOf n (c ++ accepted_by s answer) put new
 
 -- The pending note of a process was put.
 abbrev pub WasPut : ApplicationState → ℕ → ApplicationState → Type 0

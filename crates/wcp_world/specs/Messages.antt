@@ -41,7 +41,8 @@ abbrev pub delivery_reasons : Core → List Letter → ℕ → ℕ → List (Boo
 delivery_reasons core letters p number =
     (not (is_addressed letters number p), NoSuch) ∷ (core.closed, Closed) ∷ (is_some core.pending, Backlog)
     ∷ (not (is_some (message_of letters number)), Gone)
-    ∷ (option_map_or (λ message. is_some (receive_refusal core (seal_of message))) (message_of letters number) false, ClockEnd) ∷ []
+    ∷ (option_map_or (λ m. is_some (receive_refusal core (seal_of m))) (message_of letters number) false, ClockEnd)
+    ∷ []
 
 -- A probe received the message of a letter, which has it no more.
 pub record IsDelivered (old new : Core) (letters fewer : List Letter) (number : ℕ) : Type 0 where

@@ -4,8 +4,7 @@ use Rattle.std.proofs.lemmas.Option.{slice_get_read}
 use Rattle.wcp_model.specs.declared.step.Step.TheVariants as step
 use Rattle.wcp_world.specs.Application.{ApplicationState}
 use Rattle.wcp_world.specs.Messages.{why_of}
-use Rattle.wcp_world.proofs.Probes.{close_reasons}
-use Rattle.wcp_world.proofs.Performing.{refuses, closes}
+use Rattle.wcp_world.proofs.Performing.{close_reasons, refuses, closes}
 use Rattle.wcp_world.proofs.application.Application.close.Goals as goal
 use Rattle.wcp_world.proofs.application.Application.close.Goals.{in-Ok, in-Err}
 
@@ -16,9 +15,9 @@ returns-clause-answered c =
     let p = c.args.p in
     let core = c.in-Some.probe.now in
     let at : slice_get probes.items p ≡ Some core = slice_get_read probes.items _ p core probes.ok.0 (c.in-Some.ensures.variant.0 refl) c.in-Some.ensures.value in
-    rw (← c.self.view_is) (elim c.match-close.branch [
-      | in-Ok w ↦ rw w.result-is (closes app p core c.close.new.self at w.in-Ok.ensures.first w.in-Ok.ensures.accepted w.in-Ok.ensures.pending)
-      | in-Err w ↦ rw w.result-is (λ n c' put stands.
-          refuses app p core c.close.new.self at (step.Close p) w.why_of.result app.letters w.in-Err.ensures.refused refl n c' put stands
+    rw (← c.self.view_is) (λ n c' put stands. elim c.match-close.branch [
+      | in-Ok w ↦ rw w.result-is (closes n c' put app stands p core at c.close.new.self w.in-Ok.ensures.first w.in-Ok.ensures.accepted w.in-Ok.ensures.pending)
+      | in-Err w ↦ rw w.result-is
+          (refuses n c' put app stands p core at c.close.new.self (step.Close p) w.why_of.result app.letters w.in-Err.ensures.refused refl
           (close_reasons n c' put app stands p core at ∙ ap (option_map why_of) w.in-Err.ensures.first ∙ ap Some (sym w.why_of.ensures)))
     ])

@@ -1,5 +1,5 @@
-use Rattle.std.proofs.Common.{◌≡◌, sym, subst, arith}
-use Rattle.wcp_world.proofs.Starting.{AreFirstCores, fresh_stands}
+use Rattle.std.proofs.Common.{◌≡◌, arith}
+use Rattle.wcp_world.proofs.Starting.{fresh_stands}
 use Rattle.wcp_world.proofs.application.Application.new.Goals as goal
 
 pub returns : goal.returns

@@ -4,8 +4,7 @@ use Rattle.std.proofs.lemmas.Option.{slice_get_read}
 use Rattle.wcp_model.specs.declared.step.Step.TheVariants as step
 use Rattle.wcp_world.specs.Application.{ApplicationState}
 use Rattle.wcp_world.specs.Messages.{why_of}
-use Rattle.wcp_world.proofs.Probes.{observe_reasons}
-use Rattle.wcp_world.proofs.Performing.{refuses, observes}
+use Rattle.wcp_world.proofs.Performing.{observe_reasons, refuses, observes}
 use Rattle.wcp_world.proofs.application.Application.observe.Goals as goal
 use Rattle.wcp_world.proofs.application.Application.observe.Goals.{in-Ok, in-Err}
 
@@ -16,10 +15,10 @@ returns-clause-answered c =
     let p = c.args.p in
     let core = c.in-Some.probe.now in
     let at : slice_get probes.items p ≡ Some core = slice_get_read probes.items _ p core probes.ok.0 (c.in-Some.ensures.variant.0 refl) c.in-Some.ensures.value in
-    rw (← c.self.view_is) (elim c.match-observe.branch [
+    rw (← c.self.view_is) (λ n c' put stands. elim c.match-observe.branch [
       | in-Ok w ↦ rw w.result-is
-          (observes app p core c.observe.new.self at c.args.holds w.in-Ok.field-0 w.in-Ok.ensures.first w.in-Ok.ensures.accepted w.in-Ok.ensures.emits w.in-Ok.ensures.spared w.in-Ok.ensures.pending)
-      | in-Err w ↦ rw w.result-is (λ n c' put stands.
-          refuses app p core c.observe.new.self at (step.Observe p c.args.holds) w.why_of.result app.letters w.in-Err.ensures.refused refl n c' put stands
+          (observes n c' put app stands p core at c.observe.new.self c.args.holds w.in-Ok.field-0 w.in-Ok.ensures.first w.in-Ok.ensures.accepted w.in-Ok.ensures.emits w.in-Ok.ensures.spared w.in-Ok.ensures.pending)
+      | in-Err w ↦ rw w.result-is
+          (refuses n c' put app stands p core at c.observe.new.self (step.Observe p c.args.holds) w.why_of.result app.letters w.in-Err.ensures.refused refl
           (observe_reasons n c' put app stands p core at c.args.holds ∙ ap (option_map why_of) w.in-Err.ensures.first ∙ ap Some (sym w.why_of.ensures)))
     ])

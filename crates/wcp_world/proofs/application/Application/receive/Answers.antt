@@ -10,5 +10,5 @@ returns-clause-answered c =
     let app : ApplicationState = record { probes = probes.items; letters = c.self.inside.letters } in
     let core = c.in-Some.probe.now in
     let at : slice_get probes.items c.args.p ≡ Some core = slice_get_read probes.items _ c.args.p core probes.ok.0 (c.in-Some.ensures.variant.0 refl) c.in-Some.ensures.value in
-    rw (← c.self.view_is)
-    (receives app c.args.p core c.deliver.new.probe at c.args.message c.deliver.result c.deliver.new.self c.deliver.ensures.answered c.deliver.ensures.delivered c.deliver.ensures.kept c.deliver.ensures.refused)
+    rw (← c.self.view_is) (λ n c' put stands.
+    receives n c' put app stands c.args.p core at c.deliver.new.probe c.args.message c.deliver.result c.deliver.new.self c.deliver.ensures.answered c.deliver.ensures.delivered c.deliver.ensures.kept c.deliver.ensures.refused)

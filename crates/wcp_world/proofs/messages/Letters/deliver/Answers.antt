@@ -1,6 +1,5 @@
-use Rattle.std.proofs.Common.{◌≡◌, false, is_some, Some, None, slice_get, set, refl, sym, ◌∙◌, ap, eq-eqb}
+use Rattle.std.proofs.Common.{◌≡◌, false, is_some, Some, slice_get, set, refl, sym, ◌∙◌, ap, eq-eqb}
 use Rattle.std.proofs.lemmas.Option.{slice_get_read}
-use Rattle.wcp_world.specs.declared.messages.Letter.{Letter}
 use Rattle.wcp_world.proofs.messages.Letters.deliver.Goals as goal
 use Rattle.wcp_world.proofs.messages.Letters.deliver.Goals.{in-Ok, in-Err}
 
@@ -25,14 +24,14 @@ returns-clause-delivered c done =
     let at : slice_get letters.items c.args.number ≡ Some letter = slice_get_read letters.items _ c.args.number letter letters.ok.0 (c.in-Some.ensures.variant.0 refl) c.in-Some.ensures.value in
     rw (← c.self.view_is) (elim c.match-receive.branch [
       | in-Ok w ↦ rw w.self-inside-is (record {
-          letter = letter;
-          at = at;
-          message = c.in-Some-take.message;
-          was = sym c.take.ensures.value ∙ c.in-Some-take.is;
-          accepted = w.in-Ok.ensures.accepted;
-          same = w.in-Ok.ensures.same;
-          pending = w.in-Ok.ensures.pending;
-          emptied = ap (λ m. set letters.items c.args.number (record { to = letter.to; message = m })) c.take.ensures.after;
-        })
+        letter = letter;
+        at = at;
+        message = c.in-Some-take.message;
+        was = sym c.take.ensures.value ∙ c.in-Some-take.is;
+        accepted = w.in-Ok.ensures.accepted;
+        same = w.in-Ok.ensures.same;
+        pending = w.in-Ok.ensures.pending;
+        emptied = ap (λ m. set letters.items c.args.number (record { to = letter.to; message = m })) c.take.ensures.after;
+      })
       | in-Err w ↦ cc (done, w.result-is)
     ])
