@@ -7,4 +7,4 @@ mod process;
 mod snapshots;
 mod workload_outcome;
 
-pub use workload_outcome::single;
+pub use workload_outcome::{single, single_in_order};
