@@ -6,8 +6,9 @@ ghost use Rattle.wcp_script.specs.TextFault.{workloads};
 ghost use Rattle.wcp_script.specs.Seen.{seen_line, seen_form};
 
 use crate::fault::{FaultKind, ask};
-use crate::lines::{Line, Words, words_of};
+use crate::lines::{Line, Words, next_line, words_of};
 use crate::number::number_in;
+use crate::printed_line::printed_task;
 use crate::step_line::StepLine;
 use wcp_model::{Action, Task};
 
@@ -18,8 +19,13 @@ impl StepLine for Task {
         is_task_word(word)
     }
 
-    fn judge(n: u32, line: Line<'_>) -> Result<Task, FaultKind> {
-        task_in(n, line)
+    #[tactic(auto, using(crate::proofs::PrintedTasks::task_is_said))]
+    fn first(n: u32, text: &[u8]) -> Option<(Result<Task, FaultKind>, &[u8])> {
+        if let Some((task, rest)) = printed_task(n, text) {
+            return Some((Ok(task), rest));
+        }
+        let (line, rest) = next_line(text)?;
+        Some((task_in(n, line), rest))
     }
 }
 
@@ -119,7 +125,7 @@ fn task_of(form: StepForm<'_>) -> Result<Task, FaultKind>
     }
 }
 
-fn is_within(n: u32, task: &Task) -> bool
+pub(crate) fn is_within(n: u32, task: &Task) -> bool
     ensures { result ≡ is_within n task.now }
 {
     let partner = match task.action {
