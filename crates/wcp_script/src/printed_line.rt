@@ -9,6 +9,7 @@ use wcp_model::{Action, Task};
 
 /// The task of the first line of a text, where it is printed as that of a task of n processes, and
 /// the text after it.
+#[inline(always)]
 pub(crate) fn printed_task(n: u32, text: &[u8]) -> Option<(Task, &[u8])>
     ensures line { IfSome result (λ found. text.now ≡ task_line found.0 ++ found.1.now) }
     ensures within { IfSome result (λ found. IsWithin n found.0) }
@@ -30,6 +31,7 @@ pub(crate) fn printed_task(n: u32, text: &[u8]) -> Option<(Task, &[u8])>
 }
 
 /// What a process does by the words that a line ends with, and the text after the line.
+#[inline(always)]
 fn printed_action(text: &[u8]) -> Option<(Action, &[u8])>
     ensures { IfSome result (λ found. text.now ≡ action_words found.0 ++ 10 ∷ found.1.now) }
 {
@@ -49,6 +51,7 @@ fn printed_action(text: &[u8]) -> Option<(Action, &[u8])>
 }
 
 /// The number that a line ends with, and the text after the line.
+#[inline(always)]
 fn printed_partner(text: &[u8]) -> Option<(u32, &[u8])>
     ensures { IfSome result (λ found. text.now ≡ decimal found.0 ++ 10 ∷ found.1.now) }
 {
@@ -61,6 +64,7 @@ fn printed_partner(text: &[u8]) -> Option<(u32, &[u8])>
 
 /// The number below 20 that a text begins with, and the text after it.
 #[tactic(auto, using(crate::proofs::Numbers::decimal_unit, crate::proofs::Numbers::decimal_teen))]
+#[inline(always)]
 fn printed_number(text: &[u8]) -> Option<(u32, &[u8])>
     ensures { IfSome result (λ found. text.now ≡ decimal found.0 ++ found.1.now) }
 {
@@ -75,6 +79,7 @@ fn printed_number(text: &[u8]) -> Option<(u32, &[u8])>
 }
 
 /// The digit that a text begins with, and the text after it.
+#[inline(always)]
 fn printed_digit(text: &[u8]) -> Option<(u32, &[u8])>
     ensures digit { IfSome result (λ found. found.0 < 10) }
     ensures spelled { IfSome result (λ found. text.now ≡ (48 + found.0) ∷ found.1.now) }

@@ -27,6 +27,7 @@ pub(crate) trait StepLine: Copy {
 }
 
 /// The steps of the lines behind a head with this last line.
+#[inline(never)]
 pub(crate) fn read_steps<S: StepLine>(
     alloc: Global,
     n: u32,
