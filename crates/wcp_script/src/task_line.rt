@@ -1,6 +1,6 @@
-ghost use Rattle.std.specs.Prelude.{◌≡◌};
+ghost use Rattle.std.specs.Prelude.{◌≡◌, ◌<◌, [], ◌∷◌, length, IfSome, MatchOption};
 ghost use Rattle.std.specs.Option.{option_map};
-ghost use Rattle.wcp_script.specs.Lines.{words_of};
+ghost use Rattle.wcp_script.specs.Lines.{TextLine, lines_of, words_of};
 ghost use Rattle.wcp_script.specs.WorkloadLines.{is_task_word, observation_form, message_form, form_of, task_of, is_within, task_in};
 ghost use Rattle.wcp_script.specs.TextFault.{workloads};
 ghost use Rattle.wcp_script.specs.Seen.{seen_line, seen_form};
@@ -21,12 +21,24 @@ impl StepLine for Task {
 
     #[tactic(auto, using(crate::proofs::PrintedTasks::task_is_said))]
     fn first(n: u32, text: &[u8]) -> Option<(Result<Task, FaultKind>, &[u8])> {
-        if let Some((task, rest)) = printed_task(n, text) {
-            return Some((Ok(task), rest));
+        match printed_task(n, text) {
+            Some((task, rest)) => Some((Ok(task), rest)),
+            None => first_judged(n, text),
         }
-        let (line, rest) = next_line(text)?;
-        Some((task_in(n, line), rest))
     }
+}
+
+/// What the first line of a text says under n processes, judged word by word, and the text after it.
+#[cold]
+#[inline(never)]
+fn first_judged(n: u32, text: &[u8]) -> Option<(Result<Task, FaultKind>, &[u8])>
+    ensures line { MatchOption result
+        (lines_of text.now ≡ [])
+        (λ next. (line : TextLine) × (lines_of text.now ≡ line ∷ lines_of next.1.now) × (next.0 ≡ task_in n line)) }
+    ensures shorter { IfSome result (λ next. length next.1.now < length text.now) }
+{
+    let (line, rest) = next_line(text)?;
+    Some((task_in(n, line), rest))
 }
 
 /// Whether a step line of a workload begins with this word.
