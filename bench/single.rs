@@ -17,27 +17,35 @@ struct Probe {
     snapshots: Vec<[u32; 16]>,
 }
 
-fn parse(text: &str) -> Option<(usize, Vec<(usize, Action)>)> {
-    let mut lines = text.lines();
-    if lines.next()? != "wcp 1" {
+fn number(word: &[u8]) -> Option<usize> {
+    if word.is_empty() || word.len() > 2 || (word.len() == 2 && word[0] == b'0') {
         return None;
     }
-    let n = lines.next()?.strip_prefix("procs ")?.parse().ok()?;
+    word.iter().try_fold(0, |value, byte| byte.is_ascii_digit().then(|| value * 10 + usize::from(byte - b'0')))
+}
+
+fn parse(text: &[u8]) -> Option<(usize, Vec<(usize, Action)>)> {
+    let mut lines = text.strip_suffix(b"\n")?.split(|byte| *byte == b'\n');
+    if lines.next()? != b"wcp 1" {
+        return None;
+    }
+    let n = number(lines.next()?.strip_prefix(b"procs ")?).filter(|n| (1..=16).contains(n))?;
     let mut tasks = Vec::new();
     for line in lines {
-        let mut words = line.split(' ');
-        if words.next()? != "p" {
-            return None;
-        }
-        let p: usize = words.next()?.parse().ok()?;
+        let mut words = line.strip_prefix(b"p ")?.split(|byte| *byte == b' ');
+        let p = number(words.next()?)?;
         let action = match words.next()? {
-            "true" => Action::Observe(true),
-            "false" => Action::Observe(false),
-            "send" => Action::Send(words.next()?.parse().ok()?),
-            "recv" => Action::Recv(words.next()?.parse().ok()?),
+            b"true" => Action::Observe(true),
+            b"false" => Action::Observe(false),
+            b"send" => Action::Send(number(words.next()?)?),
+            b"recv" => Action::Recv(number(words.next()?)?),
             _ => return None,
         };
-        if p >= n || words.next().is_some() {
+        let partner_within = match action {
+            Action::Observe(_) => true,
+            Action::Send(q) | Action::Recv(q) => q < n && q != p,
+        };
+        if p >= n || !partner_within || words.next().is_some() {
             return None;
         }
         tasks.push((p, action));
@@ -45,49 +53,75 @@ fn parse(text: &str) -> Option<(usize, Vec<(usize, Action)>)> {
     Some((n, tasks))
 }
 
-/// Runs all tasks, and gives the snapshots of each process, or nothing where the workload is stuck.
-fn run(n: usize, tasks: &[(usize, Action)]) -> Option<Vec<Vec<[u32; 16]>>> {
+/// The tasks in a fit order: as they are listed, or else as far as each process can go, in turn. Nothing where they are stuck.
+fn in_order(n: usize, tasks: Vec<(usize, Action)>) -> Option<Vec<(usize, Action)>> {
+    let mut counts = vec![0; n * n];
+    if tasks.iter().all(|(p, action)| counted(&mut counts, n, *p, *action)) {
+        return Some(tasks);
+    }
+    counts.fill(0);
     let mut own: Vec<VecDeque<Action>> = vec![VecDeque::new(); n];
-    for (p, action) in tasks {
+    for (p, action) in &tasks {
         own[*p].push_back(*action);
     }
+    let mut order = Vec::with_capacity(tasks.len());
+    while order.len() < tasks.len() {
+        let before = order.len();
+        for p in 0..n {
+            while let Some(action) = own[p].front().copied() {
+                if !counted(&mut counts, n, p, action) {
+                    break;
+                }
+                order.push((p, action));
+                own[p].pop_front();
+            }
+        }
+        if order.len() == before {
+            return None;
+        }
+    }
+    Some(order)
+}
+
+/// Counts the messages in transit after an action, if it can be done.
+fn counted(counts: &mut [usize], n: usize, p: usize, action: Action) -> bool {
+    match action {
+        Action::Observe(_) => {}
+        Action::Send(to) => counts[p * n + to] += 1,
+        Action::Recv(from) if counts[from * n + p] == 0 => return false,
+        Action::Recv(from) => counts[from * n + p] -= 1,
+    }
+    true
+}
+
+/// The snapshots of each process, where all tasks are done in this order.
+fn run(n: usize, order: &[(usize, Action)]) -> Option<Vec<Vec<[u32; 16]>>> {
     let mut probes: Vec<Probe> =
         (0..n).map(|_| Probe { clock: [0; 16], flag: false, snapshots: Vec::new() }).collect();
     let mut channels: Vec<VecDeque<[u32; 16]>> = vec![VecDeque::new(); n * n];
-    let mut left = tasks.len();
-    while left > 0 {
-        let before = left;
-        for p in 0..n {
-            while let Some(action) = own[p].front().copied() {
-                let probe = &mut probes[p];
-                match action {
-                    Action::Observe(holds) => {
-                        if holds && !probe.flag {
-                            probe.flag = true;
-                            probe.snapshots.push(probe.clock);
-                        }
-                    }
-                    Action::Send(to) => {
-                        probe.clock[p] += 1;
-                        probe.flag = false;
-                        channels[p * n + to].push_back(probe.clock);
-                    }
-                    Action::Recv(from) => {
-                        let Some(stamp) = channels[from * n + p].pop_front() else { break };
-                        let own_events = probe.clock[p] + 1;
-                        for (mine, theirs) in probe.clock.iter_mut().zip(&stamp) {
-                            *mine = (*mine).max(*theirs);
-                        }
-                        probe.clock[p] = own_events;
-                        probe.flag = false;
-                    }
+    for (p, action) in order {
+        let probe = &mut probes[*p];
+        match action {
+            Action::Observe(holds) => {
+                if *holds && !probe.flag {
+                    probe.flag = true;
+                    probe.snapshots.push(probe.clock);
                 }
-                own[p].pop_front();
-                left -= 1;
             }
-        }
-        if left == before {
-            return None;
+            Action::Send(to) => {
+                probe.clock[*p] += 1;
+                probe.flag = false;
+                channels[p * n + to].push_back(probe.clock);
+            }
+            Action::Recv(from) => {
+                let stamp = channels[from * n + p].pop_front()?;
+                let own_events = probe.clock[*p] + 1;
+                for (mine, theirs) in probe.clock.iter_mut().zip(&stamp) {
+                    *mine = (*mine).max(*theirs);
+                }
+                probe.clock[*p] = own_events;
+                probe.flag = false;
+            }
         }
     }
     Some(probes.into_iter().map(|probe| probe.snapshots).collect())
@@ -111,11 +145,11 @@ fn eliminate(rows: &[Vec<[u32; 16]>]) -> Option<Vec<usize>> {
 }
 
 fn main() {
-    let mut text = String::new();
-    if std::io::stdin().read_to_string(&mut text).is_err() {
+    let mut text = Vec::new();
+    if std::io::stdin().read_to_end(&mut text).is_err() {
         std::process::exit(2);
     }
-    let Some(rows) = parse(&text).and_then(|(n, tasks)| run(n, &tasks)) else {
+    let Some(rows) = parse(&text).and_then(|(n, tasks)| run(n, &in_order(n, tasks)?)) else {
         std::process::exit(2);
     };
     let mut answer = String::new();

@@ -15,7 +15,7 @@ use std::convert::AsStr;
 use std::io::{Read, Write};
 use wcp_model::{Outcome, Report};
 use wcp_report::report_text;
-use wcp_script::{read_schedule, read_workload, ring_workload, single, workload_text};
+use wcp_script::{read_ordered, read_schedule, ring_workload, single_in_order, workload_text};
 use wcp_world::play;
 
 /// The status where a bad moment was found, and after help.
@@ -131,9 +131,11 @@ fn give_outcome<I: Read, O: Write>(
         (Answers IsOutcomeAnswer (I.remaining input.old) (I.remaining input.new) (O.contents output.old) (O.contents output.new))
         (λ fault. Refuses IsOutcomeAnswer (I.remaining input.old) (I.remaining input.new) (O.contents output.old) (O.contents output.new)) }
 {
-    let text = read_text(alloc, input)?;
-    let workload = read_workload(alloc, text.as_slice())?;
-    let outcome = single(alloc, &workload)?;
+    let read = {
+        let text = read_text(alloc, input)?;
+        read_ordered(alloc, text.as_slice())?
+    };
+    let outcome = single_in_order(alloc, &read.workload, read.in_order())?;
     let report = report_text(alloc, &outcome)?;
     write_whole(output, report.as_slice())?;
     Ok(status_of(&outcome.report))

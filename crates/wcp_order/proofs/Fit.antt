@@ -25,7 +25,7 @@ module _ (tasks order : List Task) (fit : IsFitOrder tasks order) where
       below there.0 j p earlier.act (omega (arith, there.1)) there.2 earlier.same_process (sym there.3)
 
   -- before a receive in a fit order stands the send of its message
-  sent_before : (place from to : ℕ) → slice_get order place ≡ Some (record { p = to; action = action.Recv from }) → count_by (receives from to) (take place order) < count_by (sends from to) (take place order)
+  pub sent_before : (place from to : ℕ) → slice_get order place ≡ Some (record { p = to; action = action.Recv from }) → count_by (receives from to) (take place order) < count_by (sends from to) (take place order)
   sent_before place from to at =
       let task : Task = record { p = to; action = action.Recv from } in
       let within : place < length order = slice_get_within order place task at in

@@ -3,8 +3,9 @@ mod Blocked
 mod Concluding
 pub mod Counting
 mod Fit
-mod Lengths
+pub mod Lengths
 mod Linking
+mod Following
 pub mod Places
 mod Rounds
 pub mod Tasks

@@ -34,13 +34,21 @@ pub record IsFirstStuck (tasks : List Task) (i : ℕ) : Type 0 where
   pub stuck : CanBeDone tasks i → ⊥
   pub before : (j : ℕ) → j < i → CanBeDone tasks j
 
--- Where a fit order was found, P holds of its tasks.
-abbrev pub IfOrder : FitOrder → (List Task → Type 0) → Type 0
-IfOrder (found.Order order) P = P order.items
-IfOrder (found.Stuck place) P = Unit {0}
+-- Where a fit order of tasks was found, which may be that in which they are listed, P holds of it.
+abbrev pub IfOrder : List Task → FitOrder → (List Task → Type 0) → Type 0
+IfOrder tasks found.AsListed P = P tasks
+IfOrder tasks (found.Order order) P = P order.items
+IfOrder tasks (found.Stuck place) P = Unit {0}
+
+-- The order that was found is that in which the tasks are listed.
+abbrev pub IsAsListed : FitOrder → Type 0
+IsAsListed found.AsListed = Unit {0}
+IsAsListed (found.Order order) = ⊥
+IsAsListed (found.Stuck place) = ⊥
 
 -- Where a stuck task was found, P holds of its place.
 abbrev pub IfStuck : FitOrder → (ℕ → Type 0) → Type 0
+IfStuck found.AsListed P = Unit {0}
 IfStuck (found.Order order) P = Unit {0}
 IfStuck (found.Stuck place) P = P place
 

@@ -2,7 +2,9 @@
 #![tactic(auto)]
 
 mod channels;
+mod listing;
 mod order;
 
 pub use channels::channel;
+pub use listing::is_fit;
 pub use order::{FitOrder, fit_order};

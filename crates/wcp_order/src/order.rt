@@ -1,18 +1,21 @@
 ghost use Rattle.std.specs.Prelude.{◌≡◌, ◌≢◌, ℕ, ◌+◌, ◌*◌, ◌<◌, ◌≤◌, ◌↔◌, ◌⊎◌, ◌^◌, List, [], ◌∷◌, ◌++◌, length, replicate, slice_get, slice_set, slice_index, Some, All, Contains, IfOk, OnOk, IsTrue, MatchOption, IfNone, IfSome};
 ghost use Rattle.wcp_model.specs.WorkloadComputation.{IsFitOrder, IsWithin};
 ghost use Rattle.wcp_order.specs.Progress.{AreLinks, HasGrown, IsBlocked, IsNextPlace, IsReady, IsSound, IsStuck, IsUnchanged, in_transit_after};
-ghost use Rattle.wcp_order.specs.Stuck.{IfOrder, IfStuck, IsFirstStuck};
+ghost use Rattle.wcp_order.specs.Stuck.{IfOrder, IfStuck, IsAsListed, IsFirstStuck};
 ghost use Rattle.std.specs.Bool.{MatchBool};
 ghost use Rattle.wcp_model.specs.declared.workload.Task.{Task};
 
-use crate::channels::channel;
+use crate::channels::{count, is_ready};
+use crate::listing::is_fit;
 use std::alloc::{AllocError, Global};
-use wcp_model::{Action, Task};
+use wcp_model::Task;
 
 /// What the search for a fit order of a workload's tasks found.
 #[derive(Debug, Drop)]
 pub enum FitOrder {
-    /// A fit order of all tasks.
+    /// The tasks are in a fit order as they are listed.
+    AsListed,
+    /// A fit order of all tasks, which is another one than they are listed in.
     Order(Vec<Task>),
     /// No order is fit. The task at this place is the first that can never be done.
     Stuck(usize),
@@ -74,19 +77,6 @@ impl Progress {
         })
     }
 
-    /// Whether a process can do this action now.
-    fn is_ready(&self, n: u32, p: u32, action: Action) -> bool
-        requires few { n ≤ 16 }
-        requires channels { length self.now.in_transit.items ≡ n * n }
-        requires within { IsWithin n (record { p = p; action = action }) }
-        ensures { IsTrue result ↔ IsReady n self.now.in_transit.items p action }
-    {
-        match action {
-            Action::Recv(from) => self.in_transit[channel(n, from, p)] > 0,
-            Action::Observe(_) | Action::Send(_) => true,
-        }
-    }
-
     /// The next task of a process, if it can be done now.
     fn next_ready(&self, n: u32, tasks: &[Task], p: u32) -> Option<Task>
         requires few { n ≤ 16 }
@@ -103,7 +93,7 @@ impl Progress {
         ensures ready { IfSome result (λ task. IsReady n self.now.in_transit.items p task.action) }
     {
         let task = *tasks.get(self.fronts[p as usize])?;
-        if self.is_ready(n, p, task.action) {
+        if is_ready(&self.in_transit, n, p, task.action) {
             Some(task)
         } else {
             None
@@ -172,8 +162,9 @@ impl Progress {
         requires within { All (IsWithin n) tasks.now }
         requires sound { IsSound n tasks.now self }
         requires stuck { (p : ℕ) → p < n → IsStuck n tasks.now self p }
-        ensures order { IfOrder result (IsFitOrder tasks.now) }
-        ensures all_tasks { IfOrder result (λ order. length order ≡ length tasks.now) }
+        ensures other { IsAsListed result → ⊥ }
+        ensures order { IfOrder tasks.now result (IsFitOrder tasks.now) }
+        ensures all_tasks { IfOrder tasks.now result (λ order. length order ≡ length tasks.now) }
         ensures stuck { IfStuck result (IsFirstStuck tasks.now) }
         ensures no_order { IfStuck result
             (λ _. (order : List Task) → IsFitOrder tasks.now order → ⊥) }
@@ -196,29 +187,33 @@ fn least(places: &[usize]) -> Option<usize>
     places.iter().copied().min()
 }
 
-/// Counts the messages in transit after an action of process p, of n.
-fn count(in_transit: &mut [usize], n: u32, p: u32, action: Action)
-    requires few { n ≤ 16 }
-    requires channels { length in_transit.old ≡ n * n }
-    requires within { IsWithin n (record { p = p; action = action }) }
-    requires ready { IsReady n in_transit.old p action }
-    requires fits { (q : ℕ) → q < n → slice_index in_transit.old (p * n + q) + 1 < 2 ^ 64 }
-    ensures { in_transit.new ≡ in_transit_after n in_transit.old p action }
-{
-    match action {
-        Action::Observe(_) => {}
-        Action::Send(to) => in_transit[channel(n, p, to)] += 1,
-        Action::Recv(from) => in_transit[channel(n, from, p)] -= 1,
-    }
-}
-
-/// A fit order of the tasks of n processes, or the first task that can never be done. Each process
-/// does its tasks as far as it can, in turn, until none can go on: at most n looks for each task.
+/// A fit order of the tasks of n processes, or the first task that can never be done. Where they
+/// are in a fit order as they are listed, this takes one look at each. Else each process does its
+/// tasks as far as it can, in turn, until none can go on: at most n looks for each task.
 pub fn fit_order(alloc: Global, n: u32, tasks: &[Task]) -> Result<FitOrder, AllocError>
     requires few { n ≤ 16 }
     requires within { All (IsWithin n) tasks.now }
-    ensures order { IfOk result (λ found. IfOrder found (IsFitOrder tasks.now)) }
-    ensures all_tasks { IfOk result (λ found. IfOrder found
+    ensures order { IfOk result (λ found. IfOrder tasks.now found (IsFitOrder tasks.now)) }
+    ensures all_tasks { IfOk result (λ found. IfOrder tasks.now found
+        (λ order. length order ≡ length tasks.now)) }
+    ensures as_listed { IfOk result (λ found. IsAsListed found ↔ IsFitOrder tasks.now tasks.now) }
+    ensures stuck { IfOk result (λ found. IfStuck found (IsFirstStuck tasks.now)) }
+    ensures no_order { IfOk result (λ found. IfStuck found
+        (λ _. (order : List Task) → IsFitOrder tasks.now order → ⊥)) }
+{
+    if is_fit(n, tasks) {
+        return Ok(FitOrder::AsListed);
+    }
+    search(alloc, n, tasks)
+}
+
+/// A fit order of tasks that aren't listed in one.
+fn search(alloc: Global, n: u32, tasks: &[Task]) -> Result<FitOrder, AllocError>
+    requires few { n ≤ 16 }
+    requires within { All (IsWithin n) tasks.now }
+    ensures other { IfOk result (λ found. IsAsListed found → ⊥) }
+    ensures order { IfOk result (λ found. IfOrder tasks.now found (IsFitOrder tasks.now)) }
+    ensures all_tasks { IfOk result (λ found. IfOrder tasks.now found
         (λ order. length order ≡ length tasks.now)) }
     ensures stuck { IfOk result (λ found. IfStuck found (IsFirstStuck tasks.now)) }
     ensures no_order { IfOk result (λ found. IfStuck found

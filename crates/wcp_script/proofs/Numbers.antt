@@ -1,12 +1,12 @@
 -- Which words are numbers.
-use Rattle.std.proofs.Common.{◌≡◌, ℕ, ◌+◌, ◌*◌, ◌^◌, ◌<◌, ◌≤◌, true, ltb, ◌&&◌, List, length, get_or, take, Option, Some, None, MatchOption, refl, sym, ap, ◌∙◌, arith, inl, inr}
+use Rattle.std.proofs.Common.{◌≡◌, ℕ, ◌+◌, ◌*◌, ◌^◌, ◌<◌, ◌≤◌, true, ltb, ◌&&◌, ◌/◌, ◌%◌, List, ◌∷◌, ◌++◌, length, get_or, take, Option, Some, None, MatchOption, refl, sym, ap, ◌∙◌, arith, inl, inr}
 use Rattle.std.specs.Str.{bytes_eq}
 use Rattle.std.specs.Str.Parse.{digits_value, AllDigits}
 use Rattle.std.specs.Fmt.{decimal}
 use Rattle.std.proofs.lemmas.Bool.{ltb-true, lt-ltb, and_parts, cases_lt}
 use Rattle.std.proofs.lemmas.Slice.Eq.{bytes_eq-Decides}
 use Rattle.std.proofs.lemmas.Str.Parse.{IsNumeralModel, numerals_by_value, tells_digits, digit_at, digits_value-take-le}
-use Rattle.std.proofs.lemmas.Fmt.{digits_decimal, digits_value-decimal, decimal-digits_value, first_decimal, decimal_nonempty, decimal_digit}
+use Rattle.std.proofs.lemmas.Fmt.{decimal_step, digits_decimal, digits_value-decimal, decimal-digits_value, first_decimal, decimal_nonempty, decimal_digit}
 use Rattle.std.proofs.lemmas.Option.{cond_some}
 use Rattle.std.proofs.lemmas.Int.Digits.{digits_value_more}
 use Rattle.std.proofs.lemmas.Str.{digit_value_digit}
@@ -77,3 +77,13 @@ too_large ds i value lt same large = omega (arith, digits_value_more 10 ds i lt,
 pub number_by_value : (word : List ℕ) (o : Option ℕ) → 0 < length word → ((1 < length word) × (get_or word 0 0 ≡ 48) → ⊥) → MatchOption o (AllDigits 10 word → 2 ^ 32 ≤ digits_value 10 word) (λ value. AllDigits 10 word × (value ≡ digits_value 10 word) × (value < 2 ^ 32)) → o ≡ number_of word
 number_by_value word None some canonical h = no_number_in_digits word h
 number_by_value word (Some value) some canonical h = number_from_digits word value h.0 h.1 h.2 some (λ zeroed. elim (cases_lt 1 (length word)) [ inl long ↦ absurd (canonical (long, zeroed)) | inr short ↦ omega arith ])
+
+-- The text of a number of one digit, and of one from 10 to 19.
+pub decimal_unit : (n : ℕ) (text rest : List ℕ) → text ≡ (48 + n) ∷ rest → n < 10 → text ≡ decimal n ++ rest
+decimal_unit n text rest same small = rw (decimal_digit n small) same
+
+pub decimal_teen : (n : ℕ) (text after rest : List ℕ) → text ≡ 49 ∷ after → after ≡ (48 + n) ∷ rest → n < 10 → text ≡ decimal (10 + n) ++ rest
+decimal_teen n text after rest same more small =
+    let tens : ◌≡◌ {A = ℕ} ((10 + n) / 10) 1 = omega arith in
+    let units : ◌≡◌ {A = ℕ} ((10 + n) % 10) n = omega arith in
+    rw (decimal_step (10 + n) (omega arith) (omega arith), tens, units, decimal_digit 1 (omega arith)) (same ∙ ap (λ (rest : List ℕ). 49 ∷ rest) more)

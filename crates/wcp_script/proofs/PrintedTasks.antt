@@ -157,3 +157,7 @@ steps_by-task_lines n last earlier [] few within room = rw lines_of_nothing refl
 steps_by-task_lines n last earlier (task ∷ tasks) few within room =
     let rest = steps_by-task_lines n last (earlier + 1) tasks few within.1 (omega arith) in
     ap (steps_by workloads n last earlier) (lines_of-task_line n task (flat_map task_line tasks) few within.0) ∙ rw (task_in-worded n task few within.0, lt-ltb earlier 65536 (omega arith), rest) refl
+
+-- So the first line of a text that begins with the line of a task says that task.
+pub task_is_said : (n : ℕ) (task : Task) (text rest : List ℕ) → text ≡ task_line task ++ rest → IsWithin n task → n ≤ 16 → (line : TextLine) × (lines_of text ≡ line ∷ lines_of rest) × (Ok task ≡ task_in n line)
+task_is_said n task text rest same within few = (worded (task_words task), ap lines_of same ∙ lines_of-task_line n task rest few within, sym (task_in-worded n task few within))

@@ -1,5 +1,5 @@
 -- What the reader's values show.
-use Rattle.std.specs.Prelude.{◌≡◌, ℕ, ◌+◌, Bool, ◌<◌, ◌≤◌, List, [], ◌∷◌, length, Result, Ok, Err}
+use Rattle.std.specs.Prelude.{◌≡◌, ℕ, ◌+◌, Bool, ◌<◌, ◌≤◌, List, [], ◌∷◌, length, Option, Some, None, Result, Ok, Err}
 use Rattle.wcp_script.specs.declared.fault.ReadFault.{ReadFault}
 use Rattle.wcp_script.specs.declared.fault.ReadFault.TheVariants.{Script, NoMemory}
 use Rattle.wcp_script.specs.declared.fault.ScriptFault.{ScriptFault}
@@ -14,6 +14,8 @@ use Rattle.wcp_script.specs.declared.head_line.HeadLine.{HeadLine}
 use Rattle.wcp_script.specs.declared.head_line.HeadLine.TheVariants.{Attach}
 use Rattle.wcp_script.specs.declared.schedule.Schedule.{Schedule}
 use Rattle.wcp_script.specs.declared.text.Text.{Text}
+use Rattle.wcp_script.specs.declared.workload.OrderedWorkload.{OrderedWorkload}
+use Rattle.std.specs.declared.vec.Vec.{Vec}
 use Rattle.wcp_model.specs.declared.workload.Task.{Task}
 use Rattle.wcp_model.specs.declared.workload.Workload.{Workload}
 use Rattle.wcp_model.specs.WorkloadComputation.{IsFitOrder}
@@ -94,3 +96,21 @@ pub record IsRead (text : List ℕ) (workload : Workload) : Type 0 where
 abbrev pub ReadsWorkload : List ℕ → Result Workload ReadFault → Type 0
 ReadsWorkload text (Ok workload) = IsRead text workload
 ReadsWorkload text (Err fault) = IsFaultOf (HasWorkloadFault text) fault
+
+-- The fit order of the tasks of a workload that was read: that in which they are listed, where it has no other.
+abbrev listed_or : {A : Type 0} → List Task → Option (Vec Task A) → List Task
+listed_or tasks None = tasks
+listed_or tasks (Some order) = order.items
+
+abbrev pub order_of : OrderedWorkload → List Task
+order_of ordered = listed_or ordered.workload.tasks.items ordered.order
+
+-- A workload was read with a fit order of its tasks.
+pub record IsReadInOrder (text : List ℕ) (ordered : OrderedWorkload) : Type 0 where
+  pub spells : Spells workloads text ordered.workload.plan ordered.workload.tasks.items
+  pub fit : IsFitOrder ordered.workload.tasks.items (order_of ordered)
+
+-- What reading the text of a workload with a fit order answered, unless memory ran out.
+abbrev pub ReadsInOrder : List ℕ → Result OrderedWorkload ReadFault → Type 0
+ReadsInOrder text (Ok ordered) = IsReadInOrder text ordered
+ReadsInOrder text (Err fault) = IsFaultOf (HasWorkloadFault text) fault

@@ -5,7 +5,7 @@ ghost use Rattle.wcp_script.specs.TextFault.{schedules};
 ghost use Rattle.wcp_script.specs.Seen.{seen_line};
 
 use crate::fault::{FaultKind, ask};
-use crate::lines::{Line, Words, words_of};
+use crate::lines::{Line, Words, next_line, words_of};
 use crate::number::number_in;
 use crate::step_line::StepLine;
 use wcp_model::Step;
@@ -17,8 +17,9 @@ impl StepLine for Step {
         is_schedule_word(word)
     }
 
-    fn judge(_n: u32, line: Line<'_>) -> Result<Step, FaultKind> {
-        step_in(line)
+    fn first(_n: u32, text: &[u8]) -> Option<(Result<Step, FaultKind>, &[u8])> {
+        let (line, rest) = next_line(text)?;
+        Some((step_in(line), rest))
     }
 }
 

@@ -1,10 +1,9 @@
-ghost use Rattle.std.specs.Prelude.{◌≡◌, ℕ, ◌+◌, ◌≤◌, length, IfOk};
-ghost use Rattle.wcp_script.specs.Lines.{lines_of};
-ghost use Rattle.wcp_script.specs.TextFault.{TextKind, steps_by, step_after};
-ghost use Rattle.wcp_script.specs.Seen.{seen_line, Gives};
+ghost use Rattle.std.specs.Prelude.{◌≡◌, ℕ, ◌<◌, ◌≤◌, [], ◌∷◌, length, IfSome, MatchOption};
+ghost use Rattle.wcp_script.specs.Lines.{TextLine, lines_of};
+ghost use Rattle.wcp_script.specs.TextFault.{TextKind, step_after, steps_by};
+ghost use Rattle.wcp_script.specs.Seen.{Gives};
 
 use crate::fault::{FaultKind, ReadFault, ScriptFault, ask};
-use crate::lines::{Line, next_line};
 use std::alloc::Global;
 
 /// The most steps that a text may have.
@@ -18,25 +17,31 @@ pub(crate) trait StepLine: Copy {
     fn is_step_word(word: &[u8]) -> bool
         ensures { result ≡ text_kind.is_step_word word.now };
 
-    /// What a step line says under n processes.
-    fn judge(n: u32, line: Line<'_>) -> Result<Self, FaultKind>
-        ensures { result ≡ text_kind.said n (seen_line line.entry) };
+    /// What the first line of a text says under n processes, and the text after it.
+    fn first(n: u32, text: &[u8]) -> Option<(Result<Self, FaultKind>, &[u8])>
+        requires { n ≤ 16 }
+        ensures line { MatchOption result
+            (lines_of text.now ≡ [])
+            (λ next. (line : TextLine) × (lines_of text.now ≡ line ∷ lines_of next.1.now) × (next.0 ≡ text_kind.said n line)) }
+        ensures shorter { IfSome result (λ next. length next.1.now < length text.now) };
 }
 
 /// The steps of the lines behind a head with this last line.
+#[inline(never)]
 pub(crate) fn read_steps<S: StepLine>(
     alloc: Global,
     n: u32,
     last: u32,
     text: &[u8],
 ) -> Result<Vec<S>, ReadFault>
-    requires { last ≤ 35 }
+    requires few { n ≤ 16 }
+    requires short { last ≤ 35 }
     ensures { Gives (λ steps. steps.items) result (steps_by S.text_kind n last 0 (lines_of text.now)) }
 {
     let mut steps = Vec::new(alloc);
     let mut rest = text;
-    while let Some((line, after)) = next_line(rest) {
-        let step = match step_after(n, steps.len(), line) {
+    while let Some((said, after)) = S::first(n, rest) {
+        let step = match step_after(steps.len(), said) {
             Ok(step) => step,
             Err(kind) => {
                 let line = last + steps.len() as u32 + 1;
@@ -49,11 +54,12 @@ pub(crate) fn read_steps<S: StepLine>(
     Ok(steps)
 }
 
-/// What a step line says that stands after this many others.
-fn step_after<S: StepLine>(n: u32, earlier: usize, line: Line<'_>) -> Result<S, FaultKind>
-    ensures { result ≡ step_after S.text_kind n earlier (seen_line line.entry) }
+/// A step that is said after this many others, of which there may be so many.
+fn step_after<S: Copy>(earlier: usize, said: Result<S, FaultKind>) -> Result<S, FaultKind>
+    ensures { (text_kind : TextKind S) (n : ℕ) (line : TextLine) → said ≡ text_kind.said n line
+        → result ≡ step_after text_kind n earlier line }
 {
-    let step = S::judge(n, line)?;
+    let step = said?;
     ask(earlier < MOST_STEPS, FaultKind::TooLong)?;
     Ok(step)
 }

@@ -1,13 +1,14 @@
-ghost use Rattle.std.specs.Prelude.{◌≡◌};
+ghost use Rattle.std.specs.Prelude.{◌≡◌, ◌<◌, [], ◌∷◌, length, IfSome, MatchOption};
 ghost use Rattle.std.specs.Option.{option_map};
-ghost use Rattle.wcp_script.specs.Lines.{words_of};
+ghost use Rattle.wcp_script.specs.Lines.{TextLine, lines_of, words_of};
 ghost use Rattle.wcp_script.specs.WorkloadLines.{is_task_word, observation_form, message_form, form_of, task_of, is_within, task_in};
 ghost use Rattle.wcp_script.specs.TextFault.{workloads};
 ghost use Rattle.wcp_script.specs.Seen.{seen_line, seen_form};
 
 use crate::fault::{FaultKind, ask};
-use crate::lines::{Line, Words, words_of};
+use crate::lines::{Line, Words, next_line, words_of};
 use crate::number::number_in;
+use crate::printed_line::printed_task;
 use crate::step_line::StepLine;
 use wcp_model::{Action, Task};
 
@@ -18,9 +19,26 @@ impl StepLine for Task {
         is_task_word(word)
     }
 
-    fn judge(n: u32, line: Line<'_>) -> Result<Task, FaultKind> {
-        task_in(n, line)
+    #[tactic(auto, using(crate::proofs::PrintedTasks::task_is_said))]
+    fn first(n: u32, text: &[u8]) -> Option<(Result<Task, FaultKind>, &[u8])> {
+        match printed_task(n, text) {
+            Some((task, rest)) => Some((Ok(task), rest)),
+            None => first_judged(n, text),
+        }
     }
+}
+
+/// What the first line of a text says under n processes, judged word by word, and the text after it.
+#[cold]
+#[inline(never)]
+fn first_judged(n: u32, text: &[u8]) -> Option<(Result<Task, FaultKind>, &[u8])>
+    ensures line { MatchOption result
+        (lines_of text.now ≡ [])
+        (λ next. (line : TextLine) × (lines_of text.now ≡ line ∷ lines_of next.1.now) × (next.0 ≡ task_in n line)) }
+    ensures shorter { IfSome result (λ next. length next.1.now < length text.now) }
+{
+    let (line, rest) = next_line(text)?;
+    Some((task_in(n, line), rest))
 }
 
 /// Whether a step line of a workload begins with this word.
@@ -119,7 +137,7 @@ fn task_of(form: StepForm<'_>) -> Result<Task, FaultKind>
     }
 }
 
-fn is_within(n: u32, task: &Task) -> bool
+pub(crate) fn is_within(n: u32, task: &Task) -> bool
     ensures { result ≡ is_within n task.now }
 {
     let partner = match task.action {

@@ -6,12 +6,12 @@ ghost use Rattle.wcp_model.specs.WorkloadComputation.{CouldBeRead};
 ghost use Rattle.wcp_script.specs.declared.fault.ScriptFault.{ScriptFault};
 ghost use Rattle.wcp_script.specs.TextFault.{workloads, Spells};
 ghost use Rattle.wcp_script.specs.Reading.{HasWorkloadFault, IsSamePlan, IsReadAs, IsRefusedFor, IsFaultOf};
-ghost use Rattle.wcp_script.specs.Seen.{ReadsWorkload};
+ghost use Rattle.wcp_script.specs.Seen.{ReadsInOrder, ReadsWorkload, order_of};
 
 use crate::fault::{FaultKind, ReadFault, ScriptFault};
 use crate::text::{Text, read_text};
 use std::alloc::Global;
-use wcp_model::Workload;
+use wcp_model::{Task, Workload};
 use wcp_order::{FitOrder, fit_order};
 
 /// The workload that a text spells. `Err` says which fault the text has, or that memory ran out.
@@ -35,13 +35,48 @@ pub fn read_workload(alloc: Global, bytes: &[u8]) -> Result<Workload, ReadFault>
 fn read(alloc: Global, bytes: &[u8]) -> Result<Workload, ReadFault>
     ensures { ReadsWorkload bytes.now result }
 {
+    let ordered = read_ordered(alloc, bytes)?;
+    Ok(ordered.workload)
+}
+
+/// A workload that was read, with a fit order of its tasks.
+#[derive(Debug, Drop)]
+pub struct OrderedWorkload {
+    pub workload: Workload,
+    /// A fit order of the tasks; none where they are listed in one.
+    order: Option<Vec<Task>>,
+}
+
+impl OrderedWorkload {
+    /// The tasks in the fit order.
+    pub fn in_order(&self) -> &[Task]
+        ensures { result.now ≡ order_of self.now }
+    {
+        match &self.order {
+            Some(order) => order.as_slice(),
+            None => self.workload.tasks.as_slice(),
+        }
+    }
+}
+
+/// What `read_workload` reads, with the fit order that shows that it could be read.
+pub fn read_ordered(alloc: Global, bytes: &[u8]) -> Result<OrderedWorkload, ReadFault>
+    ensures exact { ReadsInOrder bytes.now result }
+    ensures could_be_read { IfOk result (λ ordered. CouldBeRead ordered.workload.plan.n ordered.workload.tasks.items) }
+{
     let Text { plan, last, steps } = read_text(alloc, bytes)?;
-    match fit_order(alloc, plan.n, &steps)? {
-        FitOrder::Order(_) => Ok(Workload { plan, tasks: steps }),
+    let order = match fit_order(alloc, plan.n, &steps)? {
+        FitOrder::AsListed => None,
+        FitOrder::Order(order) => Some(order),
         FitOrder::Stuck(place) => {
             let line = last + place as u32 + 1;
             let kind = FaultKind::Stuck;
-            Err(ReadFault::Script(ScriptFault { line, kind }))
+            return Err(ReadFault::Script(ScriptFault { line, kind }));
         }
-    }
+    };
+    let tasks = steps;
+    Ok(OrderedWorkload {
+        workload: Workload { plan, tasks },
+        order,
+    })
 }

@@ -1,9 +1,9 @@
-use Rattle.std.proofs.Common.{◌≡◌, ℕ, true, false, List, [], ◌∷◌, All, refl, sym, subst, ⊎_elim, eq-eqb}
+use Rattle.std.proofs.Common.{◌≡◌, ℕ, true, false, List, [], ◌∷◌, All, refl, sym, ⊎_elim, eq-eqb}
 use Rattle.std.specs.List.{filter}
 use Rattle.std.proofs.lemmas.Bool.{cases_Bool}
 use Rattle.std.proofs.lemmas.List.Elements.{All-nil, All-cons, All-head, All-tail, All-same, All-filter}
 use Rattle.wcp_model.specs.declared.workload.Task.{Task}
-use Rattle.wcp_model.specs.WorkloadComputation.{is_task_of, IsWithin, IsFitOrder}
+use Rattle.wcp_model.specs.WorkloadComputation.{is_task_of, IsFitOrder}
 
 -- a fit order of tasks is one of itself
 pub IsFitOrder-itself : (tasks order : List Task) → IsFitOrder tasks order → IsFitOrder order order
@@ -35,11 +35,3 @@ All-from_processes P (task ∷ tasks) each = All-cons P task tasks here (All-fro
 -- so what holds of all tasks holds of a fit order of them
 pub All-fit_order : (P : Task → Type 0) (tasks order : List Task) → IsFitOrder tasks order → All P tasks → All P order
 All-fit_order P tasks order fit all = All-from_processes P order (λ p. All-same P (filter (is_task_of p) order) (filter (is_task_of p) tasks) (fit.same_tasks p) (All-filter (is_task_of p) P tasks all))
-
--- an order that was found for tasks that were read, and is read itself
-module _ (n : ℕ) (tasks given order read : List Task) (same_tasks : given ≡ tasks) (fit : IsFitOrder given order) (same_order : read ≡ order) where
-  pub fit_order_read : IsFitOrder tasks read
-  fit_order_read = subst (IsFitOrder tasks) (sym same_order) (subst (λ ts. IsFitOrder ts order) same_tasks fit)
-
-  pub within_read : All (IsWithin n) tasks → All (IsWithin n) read
-  within_read within = All-fit_order (IsWithin n) tasks read fit_order_read within

@@ -5,4 +5,4 @@ mod probing;
 mod process;
 mod workload_outcome;
 
-pub use workload_outcome::single;
+pub use workload_outcome::{single, single_in_order};

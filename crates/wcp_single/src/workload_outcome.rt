@@ -33,10 +33,25 @@ pub fn single(alloc: Global, workload: &Workload) -> Result<Outcome, AllocError>
     requires { CouldBeRead workload.now.plan.n workload.now.tasks.items }
     ensures { IfOk result (IsWorkloadOutcome workload.now.plan.n workload.now.tasks.items) }
 {
-    fit_order_law();
-    let n = workload.plan.n;
-    match fit_order(alloc, n, &workload.tasks)? {
-        FitOrder::Order(order) => outcome(alloc, n, &order),
+    match fit_order(alloc, workload.plan.n, &workload.tasks)? {
+        FitOrder::AsListed => single_in_order(alloc, workload, &workload.tasks),
+        FitOrder::Order(order) => single_in_order(alloc, workload, &order),
         FitOrder::Stuck(_) => unreachable!(),
     }
+}
+
+/// The outcome of a workload whose tasks have this fit order: what `single` answers where a fit order
+/// is known already.
+#[inline(never)]
+pub fn single_in_order(
+    alloc: Global,
+    workload: &Workload,
+    order: &[Task],
+) -> Result<Outcome, AllocError>
+    requires read { CouldBeRead workload.now.plan.n workload.now.tasks.items }
+    requires fit { IsFitOrder workload.now.tasks.items order.now }
+    ensures { IfOk result (IsWorkloadOutcome workload.now.plan.n workload.now.tasks.items) }
+{
+    fit_order_law();
+    outcome(alloc, workload.plan.n, order)
 }

@@ -6,7 +6,7 @@ use Rattle.wcp_cli.proofs.program.give_outcome.Goals as goal
 
 pub returns-in_err-write_whole-clause-run : goal.returns-in_err-write_whole-clause-run
 returns-in_err-write_whole-clause-run g c =
-    let workload = c.in_ok-workload.workload in
+    let workload = c.in_ok-read.read.workload in
     let outcome = c.in_ok-outcome.outcome in
     let is_report = c.as_slice-2.ensures.value ∙ c.in_ok-report.ensures in
     let input = g.I.Read.remaining c.args.input.now in
@@ -25,8 +25,8 @@ returns-in_err-write_whole-clause-run g c =
       plan = workload.plan;
       tasks = workload.tasks.items;
       outcome = outcome;
-      spelled = subst (λ text. Spells workloads text workload.plan workload.tasks.items) c.as_slice.ensures.value c.in_ok-workload.ensures.spelled;
-      could_be_read = c.in_ok-workload.ensures.could_be_read;
+      spelled = subst (λ text. Spells workloads text workload.plan workload.tasks.items) c.as_slice.ensures.value c.in_ok-read.ensures.exact.spells;
+      could_be_read = c.in_ok-read.ensures.could_be_read;
       right = c.in_ok-outcome.ensures;
       print = is_report;
       status_is = refl;
@@ -35,7 +35,7 @@ returns-in_err-write_whole-clause-run g c =
 
 pub returns-clause-run : goal.returns-clause-run
 returns-clause-run g c =
-    let workload = c.in_ok-workload.workload in
+    let workload = c.in_ok-read.read.workload in
     record {
       text = c.in_ok-text.text.items;
       printed = c.as_slice-2.result.now;
@@ -48,8 +48,8 @@ returns-clause-run g c =
         plan = workload.plan;
         tasks = workload.tasks.items;
         outcome = c.in_ok-outcome.outcome;
-        spelled = subst (λ text. Spells workloads text workload.plan workload.tasks.items) c.as_slice.ensures.value c.in_ok-workload.ensures.spelled;
-        could_be_read = c.in_ok-workload.ensures.could_be_read;
+        spelled = subst (λ text. Spells workloads text workload.plan workload.tasks.items) c.as_slice.ensures.value c.in_ok-read.ensures.exact.spells;
+        could_be_read = c.in_ok-read.ensures.could_be_read;
         right = c.in_ok-outcome.ensures;
         print = c.as_slice-2.ensures.value ∙ c.in_ok-report.ensures;
         status_is = c.status_of.ensures;

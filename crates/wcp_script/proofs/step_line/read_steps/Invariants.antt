@@ -4,11 +4,11 @@ use Rattle.wcp_script.specs.TextFault.{steps_by}
 use Rattle.wcp_script.proofs.StepLines.{with_front}
 use Rattle.wcp_script.proofs.step_line.read_steps.Given as goal
 
-abbrev pub invariant-loop-line : goal.invariant-loop-line
-invariant-loop-line g l = record {
+abbrev pub invariant-loop-said : goal.invariant-loop-said
+invariant-loop-said g l = record {
   few : vec_len l.steps ≤ 65536;
   so_far : with_front l.steps.items (steps_by g.S.StepLine.text_kind l.n l.last (vec_len l.steps) (lines_of l.rest)) ≡ steps_by g.S.StepLine.text_kind l.n l.last 0 (lines_of l.text);
 }
 
-abbrev pub decreases-loop-line : goal.decreases-loop-line
-decreases-loop-line g l = length l.rest
+abbrev pub decreases-loop-said : goal.decreases-loop-said
+decreases-loop-said g l = length l.rest

@@ -1,6 +1,6 @@
 use Rattle.std.proofs.Common.{◌-◌, length}
 use Rattle.wcp_order.specs.Progress.{IsSound}
-use Rattle.wcp_order.proofs.order.fit_order.Given as goal
+use Rattle.wcp_order.proofs.order.search.Given as goal
 
 abbrev pub invariant-loop-progress : goal.invariant-loop-progress
 invariant-loop-progress l = IsSound l.n l.tasks l.progress

@@ -1,18 +1,18 @@
 use Rattle.std.proofs.Common.{ℕ, ◌+◌, ◌<◌, List, sym, ap, subst, arith}
 use Rattle.wcp_model.specs.declared.workload.Task.{Task}
 use Rattle.wcp_model.specs.WorkloadComputation.{IsFitOrder}
-use Rattle.wcp_order.specs.Stuck.{IfStuck, IsFirstStuck, IsStuckAt}
+use Rattle.wcp_order.specs.Stuck.{IfOrder, IfStuck, IsFirstStuck, IsStuckAt}
 use Rattle.wcp_script.specs.declared.fault.FaultKind.TheVariants as kind
 use Rattle.wcp_script.specs.declared.fault.ScriptFault.{ScriptFault}
-use Rattle.wcp_script.specs.Seen.{ReadsWorkload}
+use Rattle.wcp_script.specs.Seen.{ReadsInOrder}
 use Rattle.wcp_script.proofs.HandedOn.{handed_on, fault_in_text}
 use Rattle.wcp_script.specs.Reading.{AtEnd}
-use Rattle.wcp_script.proofs.Spelled.{spells_is}
-use Rattle.wcp_script.proofs.workload.read.Goals as goal
-use Rattle.wcp_script.proofs.workload.read.Goals.{In-Stuck}
+use Rattle.wcp_script.proofs.Spelled.{could_be_read, spells_is}
+use Rattle.wcp_script.proofs.workload.read_ordered.Goals as goal
+use Rattle.wcp_script.proofs.workload.read_ordered.Goals.{In-Stuck, in-AsListed, in-Order}
 
-pub returns-in_err-plan : goal.returns-in_err-plan
-returns-in_err-plan c = handed_on (ReadsWorkload c.args.bytes.now) c.from_residual.result c.in_err-plan.field-0.0 c.from_residual.ensures (fault_in_text c.args.bytes.now c.in_err-plan.field-0.0 c.in_err-plan.ensures.exact)
+pub returns-in_err-plan-clause-exact : goal.returns-in_err-plan-clause-exact
+returns-in_err-plan-clause-exact c = handed_on (ReadsInOrder c.args.bytes.now) c.from_residual.result c.in_err-plan.field-0.0 c.from_residual.ensures (fault_in_text c.args.bytes.now c.in_err-plan.field-0.0 c.in_err-plan.ensures.exact)
 
 pub fit_order-requires-clause-few : goal.fit_order-requires-clause-few
 fit_order-requires-clause-few c = (spells_is _ _ _ c.in_ok-plan.ensures.exact.0).few_processes
@@ -43,8 +43,18 @@ overflow_add-line c = omega (arith, low c, c.in_ok-plan.ensures.short)
 pub overflow_add-line-in-Stuck : goal.overflow_add-line-in-Stuck
 overflow_add-line-in-Stuck c = omega (arith, low c, c.in_ok-plan.ensures.short)
 
-pub returns-in-Stuck : goal.returns-in-Stuck
-returns-in-Stuck c =
+pub returns-in-Stuck-clause-exact : goal.returns-in-Stuck-clause-exact
+returns-in-Stuck-clause-exact c =
     let exact = c.in_ok-plan.ensures.exact in
     let line = ap (λ (last : ℕ). fault_at (last + c.in-Stuck.place + 1)) (sym exact.1) in
-    AtEnd c.in_ok-plan.field-0.plan c.in_ok-plan.field-0.steps.items exact.0 c.in-Stuck.place (is_stuck (goal.at.returns-in-Stuck c).In-Stuck) line
+    AtEnd c.in_ok-plan.field-0.plan c.in_ok-plan.field-0.steps.items exact.0 c.in-Stuck.place (is_stuck (goal.at.returns-in-Stuck-clause-exact c).In-Stuck) line
+
+pub returns-clause-could_be_read : goal.returns-clause-could_be_read
+returns-clause-could_be_read c =
+    let exact = c.in_ok-plan.ensures.exact in
+    let tasks = c.in_ok-plan.field-0.steps.items in
+    let found : IfOrder tasks c.in_ok-fit_order.field-0 (IsFitOrder tasks) = rw c.deref.ensures.value at c.in_ok-fit_order.ensures.order in
+    elim c.match-branch-3.branch [
+      | in-AsListed w ↦ could_be_read _ _ tasks tasks exact.0 (rw w.in-AsListed.is at found)
+      | in-Order w ↦ could_be_read _ _ tasks w.in-Order.order.items exact.0 (rw w.in-Order.is at found)
+    ]

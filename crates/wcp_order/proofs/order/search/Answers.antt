@@ -2,7 +2,7 @@ use Rattle.std.proofs.Common.{arith}
 use Rattle.wcp_order.specs.Progress.{HasGrown}
 use Rattle.wcp_order.proofs.Concluding.{IsProgress_none}
 use Rattle.wcp_order.proofs.Lengths.{length_order-le}
-use Rattle.wcp_order.proofs.order.fit_order.Goals as goal
+use Rattle.wcp_order.proofs.order.search.Goals as goal
 
 pub loop-progress-init : goal.loop-progress-init
 loop-progress-init c =

@@ -1,0 +1,91 @@
+//! The step lines of a workload as they are printed: each byte of them is looked at once.
+ghost use Rattle.std.specs.Prelude.{◌≡◌, ◌+◌, ◌<◌, ◌++◌, ◌∷◌, IfSome};
+ghost use Rattle.std.specs.Fmt.{decimal};
+ghost use Rattle.wcp_model.specs.WorkloadComputation.{IsWithin};
+ghost use Rattle.wcp_script.specs.WorkloadText.{action_words, task_line};
+
+use crate::task_line::is_within;
+use wcp_model::{Action, Task};
+
+/// The task of the first line of a text, where it is printed as that of a task of n processes, and
+/// the text after it.
+#[inline(always)]
+pub(crate) fn printed_task(n: u32, text: &[u8]) -> Option<(Task, &[u8])>
+    ensures line { IfSome result (λ found. text.now ≡ task_line found.0 ++ found.1.now) }
+    ensures within { IfSome result (λ found. IsWithin n found.0) }
+{
+    let (p, rest) = match text {
+        [b'p', b' ', rest @ ..] => printed_number(rest)?,
+        _ => return None,
+    };
+    let (action, rest) = match rest {
+        [b' ', rest @ ..] => printed_action(rest)?,
+        _ => return None,
+    };
+    let task = Task { p, action };
+    if is_within(n, &task) {
+        Some((task, rest))
+    } else {
+        None
+    }
+}
+
+/// What a process does by the words that a line ends with, and the text after the line.
+#[inline(always)]
+fn printed_action(text: &[u8]) -> Option<(Action, &[u8])>
+    ensures { IfSome result (λ found. text.now ≡ action_words found.0 ++ 10 ∷ found.1.now) }
+{
+    match text {
+        [b't', b'r', b'u', b'e', b'\n', rest @ ..] => Some((Action::Observe(true), rest)),
+        [b'f', b'a', b'l', b's', b'e', b'\n', rest @ ..] => Some((Action::Observe(false), rest)),
+        [b's', b'e', b'n', b'd', b' ', rest @ ..] => {
+            let (to, rest) = printed_partner(rest)?;
+            Some((Action::Send(to), rest))
+        }
+        [b'r', b'e', b'c', b'v', b' ', rest @ ..] => {
+            let (from, rest) = printed_partner(rest)?;
+            Some((Action::Recv(from), rest))
+        }
+        _ => None,
+    }
+}
+
+/// The number that a line ends with, and the text after the line.
+#[inline(always)]
+fn printed_partner(text: &[u8]) -> Option<(u32, &[u8])>
+    ensures { IfSome result (λ found. text.now ≡ decimal found.0 ++ 10 ∷ found.1.now) }
+{
+    let (number, rest) = printed_number(text)?;
+    match rest {
+        [b'\n', rest @ ..] => Some((number, rest)),
+        _ => None,
+    }
+}
+
+/// The number below 20 that a text begins with, and the text after it.
+#[tactic(auto, using(crate::proofs::Numbers::decimal_unit, crate::proofs::Numbers::decimal_teen))]
+#[inline(always)]
+fn printed_number(text: &[u8]) -> Option<(u32, &[u8])>
+    ensures { IfSome result (λ found. text.now ≡ decimal found.0 ++ found.1.now) }
+{
+    let (first, rest) = printed_digit(text)?;
+    if first != 1 {
+        return Some((first, rest));
+    }
+    match printed_digit(rest) {
+        Some((unit, rest)) => Some((10 + unit, rest)),
+        None => Some((first, rest)),
+    }
+}
+
+/// The digit that a text begins with, and the text after it.
+#[inline(always)]
+fn printed_digit(text: &[u8]) -> Option<(u32, &[u8])>
+    ensures digit { IfSome result (λ found. found.0 < 10) }
+    ensures spelled { IfSome result (λ found. text.now ≡ (48 + found.0) ∷ found.1.now) }
+{
+    match text {
+        [byte @ b'0'..=b'9', rest @ ..] => Some((u32::from(*byte - b'0'), rest)),
+        _ => None,
+    }
+}
