@@ -1,0 +1,29 @@
+use Rattle.std.specs.Prelude.{ℕ, List}
+use denote.RawPtr.{Ptr}
+use Rattle.std.specs.declared.alloc.Global.{Global}
+use Rattle.wcp_clock.specs.declared.note.Note.{Note}
+
+-- Which ring it is: where its words and its slots lie, the names of it in the logic, and whose memory it is in.
+pub record Ring : Type 0 where
+  pub words : Ptr
+  pub slots : Ptr
+  pub names : ℕ × (ℕ × ℕ)
+  pub heap : Global
+
+-- The end that puts: its ring, all notes that were put, oldest first, and how many slots it knows to be free.
+pub record PutSide : Type 0 where
+  pub ring : Ring
+  pub put : List Note
+  pub free : ℕ
+
+-- What is left of an end that puts no more: its ring, and all notes that were put.
+pub record EndedSide : Type 0 where
+  pub ring : Ring
+  pub put : List Note
+
+-- The end that takes: its ring, all notes that were taken, oldest first, and the notes that it has seen in the ring,
+-- which it takes next.
+pub record TakeSide : Type 0 where
+  pub ring : Ring
+  pub taken : List Note
+  pub seen : List Note
