@@ -1,6 +1,6 @@
 use crossbeam_utils::sync::Unparker;
 
-/// Wakes the thread that parks beside a ring, and does so once more when it is dropped.
+/// Wakes the thread that parks while its rings are empty, and does so once more when it is dropped.
 pub(crate) struct Bell {
     unparker: Unparker,
 }

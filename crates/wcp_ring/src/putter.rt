@@ -29,8 +29,9 @@ impl RingPutter {
     pub fn with_waker(self, unparker: Unparker) -> RingPutter
         ensures { result ≡ self }
     {
+        let RingPutter { producer, bell: _ } = self;
         RingPutter {
-            producer: self.producer,
+            producer,
             bell: Some(Bell::new(unparker)),
         }
     }
