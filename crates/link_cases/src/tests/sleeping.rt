@@ -46,7 +46,12 @@ fn put_late<R: Wait + Clock>(rt: &R, putter: RingPutter, leaving: Leaving, step:
 }
 
 /// Takes what is there and parks, until the putter has left.
-fn take_parked<R: Wait>(rt: &R, parker: Parker, taker: RingTaker, step: &AtomicU64) -> Option<Note> {
+fn take_parked<R: Wait>(
+    rt: &R,
+    parker: Parker,
+    taker: RingTaker,
+    step: &AtomicU64,
+) -> Option<Note> {
     let mut taker = taker;
     let mut taken = None;
     for _ in rt.forever() {
