@@ -1,6 +1,7 @@
 use Rattle.std.specs.Prelude.{ℕ, List}
 use denote.RawPtr.{Ptr}
 use Rattle.std.specs.declared.alloc.Global.{Global}
+use Rattle.rtrb.specs.declared.end.End.{End}
 use Rattle.wcp_clock.specs.declared.note.Note.{Note}
 
 -- Which ring it is: where its words and its slots lie, the names of it in the logic, and whose memory it is in.
@@ -9,6 +10,10 @@ pub record Ring : Type 0 where
   pub slots : Ptr
   pub names : ℕ × (ℕ × ℕ)
   pub heap : Global
+
+-- The ring of an end of `rtrb`.
+abbrev pub ring_of : {T P : Type 0} → End T Global P → Ring
+ring_of e = record { words = e.words; slots = e.slots; names = e.names; heap = e.heap }
 
 -- The end that puts: its ring, all notes that were put, oldest first, and how many slots it knows to be free.
 pub record PutSide : Type 0 where

@@ -1,4 +1,4 @@
-ghost use Rattle.std.specs.Prelude.{◌≡◌, ℕ, ◌+◌, ◌<◌, ◌≤◌, [], ◌∷◌, ◌++◌, IsOk, OnOk, IfErr};
+ghost use Rattle.std.specs.Prelude.{◌≡◌, ◌+◌, ◌<◌, ◌≤◌, [], ◌∷◌, ◌++◌, IsOk, OnOk, IfErr};
 
 use crate::bell::Bell;
 use crossbeam_utils::sync::Unparker;
@@ -16,11 +16,11 @@ pub struct RingPutter {
 
 impl Model for RingPutter {
     ghost use Rattle.rtrb.specs.Ring.{sent, known_free};
-    ghost use Rattle.wcp_ring.specs.Ends.{PutSide};
+    ghost use Rattle.wcp_ring.specs.Ends.{ring_of, PutSide};
 
     ghost Value = { PutSide };
 
-    ghost view = { λ p. record { ring = record { words = p.producer.end.words; slots = p.producer.end.slots; names = p.producer.end.names; heap = p.producer.end.heap }; put = sent p.producer; free = known_free p.producer } };
+    ghost view = { λ p. record { ring = ring_of p.producer.end; put = sent p.producer; free = known_free p.producer } };
 }
 
 impl RingPutter {
@@ -72,9 +72,9 @@ pub struct PutterEnd {
 
 impl Model for PutterEnd {
     ghost use Rattle.rtrb.specs.Ring.{sent};
-    ghost use Rattle.wcp_ring.specs.Ends.{EndedSide};
+    ghost use Rattle.wcp_ring.specs.Ends.{ring_of, EndedSide};
 
     ghost Value = { EndedSide };
 
-    ghost view = { λ p. record { ring = record { words = p.producer.end.words; slots = p.producer.end.slots; names = p.producer.end.names; heap = p.producer.end.heap }; put = sent p.producer } };
+    ghost view = { λ p. record { ring = ring_of p.producer.end; put = sent p.producer } };
 }

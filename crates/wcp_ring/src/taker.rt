@@ -13,18 +13,19 @@ pub struct RingTaker {
 
 impl Model for RingTaker {
     ghost use Rattle.rtrb.specs.Ring.{received, known_items};
-    ghost use Rattle.wcp_ring.specs.Ends.{TakeSide};
+    ghost use Rattle.wcp_ring.specs.Ends.{ring_of, TakeSide};
 
     ghost Value = { TakeSide };
 
-    ghost view = { λ t. record { ring = record { words = t.consumer.end.words; slots = t.consumer.end.slots; names = t.consumer.end.names; heap = t.consumer.end.heap }; taken = received t.consumer; seen = known_items t.consumer } };
+    ghost view = { λ t. record { ring = ring_of t.consumer.end; taken = received t.consumer; seen = known_items t.consumer } };
 }
 
 impl RingTaker {
     /// The ring's next note, if it has one.
     pub fn try_take(&mut self) -> Option<Note>
         ensures ring { self.new.ring ≡ self.old.ring }
-        ensures some { IfSome result (λ note. (self.new.taken ≡ self.old.taken ++ note ∷ []) × IsPrefix self.old.seen (note ∷ self.new.seen)) }
+        ensures some { IfSome result (λ note. self.new.taken ≡ self.old.taken ++ note ∷ []) }
+        ensures next { IfSome result (λ note. IsPrefix self.old.seen (note ∷ self.new.seen)) }
         ensures none { IfNone result ((self.new.taken ≡ self.old.taken) × (self.new.seen ≡ [])) }
         ensures gives { 0 < length self.old.seen → IsSome result }
     {
