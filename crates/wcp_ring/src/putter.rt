@@ -15,12 +15,11 @@ pub struct RingPutter {
 }
 
 impl Model for RingPutter {
-    ghost use Rattle.rtrb.specs.Ring.{sent, known_free};
-    ghost use Rattle.wcp_ring.specs.Ends.{ring_of, PutSide};
+    ghost use Rattle.wcp_ring.specs.Ends.{PutSide, put_side};
 
     ghost Value = { PutSide };
 
-    ghost view = { λ p. record { ring = ring_of p.producer.end; put = sent p.producer; free = known_free p.producer } };
+    ghost view = { λ p. put_side p.producer };
 }
 
 impl RingPutter {
@@ -71,10 +70,9 @@ pub struct PutterEnd {
 }
 
 impl Model for PutterEnd {
-    ghost use Rattle.rtrb.specs.Ring.{sent};
-    ghost use Rattle.wcp_ring.specs.Ends.{ring_of, EndedSide};
+    ghost use Rattle.wcp_ring.specs.Ends.{EndedSide, ended_side};
 
     ghost Value = { EndedSide };
 
-    ghost view = { λ p. record { ring = ring_of p.producer.end; put = sent p.producer } };
+    ghost view = { λ p. ended_side p.producer };
 }

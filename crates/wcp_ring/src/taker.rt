@@ -12,12 +12,11 @@ pub struct RingTaker {
 }
 
 impl Model for RingTaker {
-    ghost use Rattle.rtrb.specs.Ring.{received, known_items};
-    ghost use Rattle.wcp_ring.specs.Ends.{ring_of, TakeSide};
+    ghost use Rattle.wcp_ring.specs.Ends.{TakeSide, take_side};
 
     ghost Value = { TakeSide };
 
-    ghost view = { λ t. record { ring = ring_of t.consumer.end; taken = received t.consumer; seen = known_items t.consumer } };
+    ghost view = { λ t. take_side t.consumer };
 }
 
 impl RingTaker {
