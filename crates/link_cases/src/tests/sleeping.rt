@@ -1,0 +1,95 @@
+use crossbeam_utils::sync::Parker;
+use std::alloc::{AllocError, Global};
+use std::sync::Wait;
+use std::sync::atomic::AtomicU64;
+use std::sync::atomic::Ordering::SeqCst;
+use std::test::Fail;
+use std::thread;
+use std::thread::Threads;
+use std::time::{Clock, Duration};
+use wcp_clock::Note;
+use wcp_ring::{RingPutter, RingTaker, ring};
+
+/// How the putter leaves after its note.
+#[derive(Clone, Copy, Debug)]
+enum Leaving {
+    Ended,
+    Dropped,
+}
+
+const TAKEN: u64 = 1;
+
+const LEFT: u64 = 2;
+
+/// A while in which the other thread falls asleep.
+fn wait_a_while<R: Clock>(rt: &R) {
+    let _ = thread::sleep(rt, Duration::from_millis(30));
+}
+
+/// Puts a note and leaves, each late.
+fn put_late<R: Wait + Clock>(rt: &R, putter: RingPutter, leaving: Leaving, step: &AtomicU64) {
+    let mut putter = putter;
+    wait_a_while(rt);
+    let _ = putter.try_put(Note::Close { count: 7 });
+    for _ in rt.forever() {
+        if step.load(SeqCst) == TAKEN {
+            break;
+        }
+        thread::yield_now();
+    }
+    wait_a_while(rt);
+    step.store(LEFT, SeqCst);
+    match leaving {
+        Leaving::Ended => drop(putter.end()),
+        Leaving::Dropped => drop(putter),
+    }
+}
+
+/// Takes what is there and parks, until the putter has left.
+fn take_parked<R: Wait>(
+    rt: &R,
+    parker: Parker,
+    taker: RingTaker,
+    step: &AtomicU64,
+) -> Option<Note> {
+    let mut taker = taker;
+    let mut taken = None;
+    for _ in rt.forever() {
+        if let Some(note) = taker.try_take() {
+            taken = Some(note);
+            step.store(TAKEN, SeqCst);
+        }
+        if step.load(SeqCst) == LEFT {
+            break;
+        }
+        parker.park(rt);
+    }
+    taken
+}
+
+fn taken_asleep<R: Threads + Wait + Clock + Sync>(
+    rt: &R,
+    alloc: Global,
+    leaving: Leaving,
+) -> Result<Option<Note>, AllocError> {
+    let (putter, taker) = ring(alloc, 4)?;
+    let parker = Parker::new(alloc)?;
+    let putter = putter.with_waker(parker.unparker().clone()?);
+    let step = AtomicU64::new(0);
+    let shared = &step;
+    let (_, taken) = thread::join(
+        rt,
+        move || put_late(rt, putter, leaving, shared),
+        move || take_parked(rt, parker, taker, shared),
+    );
+    Ok(taken)
+}
+
+#[test]
+fn a_parked_taker_wakes(rt: HostRuntime) -> Result<(), Fail> {
+    for leaving in [Leaving::Ended, Leaving::Dropped] {
+        let taken = taken_asleep(&rt, rt.alloc(), leaving)?;
+        assert_eq!(rt; taken, Some(Note::Close { count: 7 }), "{leaving:?}");
+    }
+    Ok(())
+}

@@ -1,0 +1,33 @@
+ghost use Rattle.std.specs.Prelude.{◌≡◌, ◌<◌, [], ◌∷◌, ◌++◌, length, IsSome, IfSome, IfNone};
+ghost use mathlib.Core.List.{IsPrefix};
+
+use rtrb::Consumer;
+use std::marker::Model;
+use wcp_clock::Note;
+
+/// The end of a ring that takes notes. None of its calls takes memory, and none waits.
+#[derive(Drop)]
+pub struct RingTaker {
+    pub(crate) consumer: Consumer<Note>,
+}
+
+impl Model for RingTaker {
+    ghost use Rattle.wcp_ring.specs.Ends.{TakeSide, take_side};
+
+    ghost Value = { TakeSide };
+
+    ghost view = { λ t. take_side t.consumer };
+}
+
+impl RingTaker {
+    /// The ring's next note, if it has one.
+    pub fn try_take(&mut self) -> Option<Note>
+        ensures ring { self.new.ring ≡ self.old.ring }
+        ensures some { IfSome result (λ note. self.new.taken ≡ self.old.taken ++ note ∷ []) }
+        ensures next { IfSome result (λ note. IsPrefix self.old.seen (note ∷ self.new.seen)) }
+        ensures none { IfNone result ((self.new.taken ≡ self.old.taken) × (self.new.seen ≡ [])) }
+        ensures gives { 0 < length self.old.seen → IsSome result }
+    {
+        self.consumer.pop().ok()
+    }
+}
