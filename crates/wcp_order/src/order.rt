@@ -207,7 +207,7 @@ pub fn fit_order(alloc: Global, n: u32, tasks: &[Task]) -> Result<FitOrder, Allo
     search(alloc, n, tasks)
 }
 
-/// A fit order of tasks that aren't listed in one.
+/// The search for a fit order, whether or not the tasks are listed in one.
 fn search(alloc: Global, n: u32, tasks: &[Task]) -> Result<FitOrder, AllocError>
     requires few { n ≤ 16 }
     requires within { All (IsWithin n) tasks.now }
