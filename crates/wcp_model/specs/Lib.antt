@@ -10,3 +10,4 @@ pub mod PlanFault
 pub mod Report
 pub mod Occupancy
 pub mod Replies
+pub mod LaneRule
