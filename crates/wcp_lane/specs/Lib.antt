@@ -1,2 +1,4 @@
+pub mod Message
 pub mod Notes
 pub mod Numbers
+pub mod Passes

@@ -4,6 +4,7 @@
 
 mod message;
 mod origins;
+mod passes;
 
 pub use message::Origin;
 pub use origins::Origins;
