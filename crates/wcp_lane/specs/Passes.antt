@@ -2,6 +2,7 @@
 use Rattle.std.specs.Prelude.{◌≡◌, ◌-◌, ℕ, zero, suc, ◌<◌, Bool, true, false, List, [], ◌∷◌, ◌++◌, map}
 use Rattle.std.specs.Ordering.{nat_cmp}
 use Rattle.std.specs.FinSet as set
+use Rattle.std.specs.Coded.{Coded, coded_ℕ}
 use mathlib.Core.Option.{some}
 use lib.ListN.{get_elem?}
 use Rattle.wcp_clock.specs.declared.clock.TheConstants.{MAX_PROCS}
@@ -12,6 +13,9 @@ use Rattle.wcp_lane.specs.declared.passes.Home.{Home}
 
 abbrev pub Numbers : Type 0
 Numbers = set.FinSet nat_cmp
+
+abbrev pub numbers_code : Coded Numbers
+numbers_code = set.code coded_ℕ
 
 -- the numbers below n
 unfoldable pub numbers_below : ℕ → Numbers

@@ -2,9 +2,20 @@
 //! put of it, at every step of every schedule.
 #![tactic(auto)]
 
+mod counts;
+mod fault;
+mod opening;
 mod message;
 mod origins;
 mod passes;
+mod putter;
+mod receipts;
+mod taker;
 
+pub use fault::{Cut, LaneFault, Unfinished};
+pub use opening::{MAX_CAPACITY, lane};
 pub use message::Origin;
 pub use origins::Origins;
+pub use putter::{PutReceipt, Putter};
+pub use receipts::reconcile;
+pub use taker::{TakeReceipt, Taker};

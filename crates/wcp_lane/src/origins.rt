@@ -1,6 +1,7 @@
-ghost use Rattle.std.specs.Prelude.{◌≡◌, ℕ, ◌<◌, ◌↔◌, true, IsTrue};
+ghost use Rattle.std.specs.Prelude.{◌≡◌, ℕ, ◌<◌, ◌↔◌, ◌||◌, true, false, length, slice_index_or, IsTrue};
 ghost use Rattle.std.specs.FinSet as set;
 ghost use Rattle.wcp_clock.specs.declared.clock.TheConstants.{MAX_PROCS};
+ghost use Rattle.wcp_lane.specs.Within.{IsWithin};
 
 use std::marker::Model;
 use wcp_clock::MAX_PROCS;
@@ -56,8 +57,43 @@ impl Origins {
     pub fn has(&self, p: u32) -> bool
         requires { p < MAX_PROCS }
         ensures value { result ≡ set.contains self.now p }
-        ensures within { (q : ℕ) → set.contains self.now q ≡ true → q < MAX_PROCS }
+        ensures within { IsWithin self.now }
     {
         self.has[p as usize]
     }
+
+    /// Whether the two sets share a number.
+    pub(crate) fn meets(&self, other: &Origins) -> bool
+        ensures { IsTrue result ↔ ((p : ℕ) × (set.contains self.now p ≡ true) × (set.contains other.now p ≡ true)) }
+    {
+        for p in 0..MAX_PROCS {
+            if self.has[p] && other.has[p] {
+                return true;
+            }
+        }
+        false
+    }
+
+    /// The numbers of either set.
+    pub(crate) fn joined(&self, other: &Origins) -> Origins
+        ensures value { result ≡ set.union self.now other.now }
+        ensures within { IsWithin other.now }
+    {
+        Origins {
+            has: either(&self.has, &other.has),
+        }
+    }
+}
+
+/// The marks that are set in either.
+fn either(mine: &[bool; MAX_PROCS], theirs: &[bool; MAX_PROCS]) -> [bool; MAX_PROCS]
+    ensures { (p : ℕ) → slice_index_or result p false ≡ (slice_index_or mine.now p false || slice_index_or theirs.now p false) }
+{
+    let mut either = *mine;
+    for (p, marked) in theirs.iter().enumerate() {
+        if *marked {
+            either[p] = true;
+        }
+    }
+    either
 }
