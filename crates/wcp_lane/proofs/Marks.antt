@@ -36,3 +36,9 @@ pub set_of-set : (marks : List Bool) (p : ℕ) → p < length marks → set_of (
 set_of-set marks p within =
     sets.same_set nat_cmp_total nat_cmp-IsAntisymmetric _ _ (λ q.
       contains-marks (set marks p true) q ∙ marks_with marks p q within ∙ ap (λ b. nat_eq q p || b) (sym (contains-marks marks q)) ∙ sym (contains_with (set_of marks) p q))
+
+-- the marks of either set are the marks of their union
+pub set_of-either : (marks mine theirs : List Bool) → ((p : ℕ) → get_or marks p false ≡ (get_or mine p false || get_or theirs p false)) → set_of marks ≡ sets.union (set_of mine) (set_of theirs)
+set_of-either marks mine theirs each =
+    sets.same_set nat_cmp_total nat_cmp-IsAntisymmetric _ _ (λ q.
+      contains-marks marks q ∙ each q ∙ (λ i. sym (contains-marks mine q) i || sym (contains-marks theirs q) i) ∙ sym (sets.contains-union nat_cmp_total (set_of mine) (set_of theirs) q))
