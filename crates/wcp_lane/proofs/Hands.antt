@@ -2,15 +2,14 @@
 use Rattle.std.proofs.Common.{◌≡◌, ℕ, ◌<◌, Bool, true, false, true≢false, not, List, [], ◌∷◌, ◌++◌, length, refl, sym, ap, ◌∙◌, subst, arith, length-append}
 use Rattle.std.specs.FinSet as sets
 use Rattle.std.proofs.lemmas.List.{append-nil}
-use Rattle.crossbeam_channel.specs.Fifo.{Pushes, Pops, Forks, Merges, Learns}
+use Rattle.crossbeam_channel.specs.Fifo.{Pushes, Forks, Merges}
 use Rattle.wcp_clock.specs.declared.clock.TheConstants.{MAX_PROCS}
 use Rattle.wcp_model.specs.LaneRule.{IsNext}
 use Rattle.wcp_lane.specs.declared.passes.Hand.{Hand}
-use Rattle.wcp_lane.specs.declared.passes.Home.{Home}
 use Rattle.wcp_lane.specs.Message.{items_from}
-use Rattle.wcp_lane.specs.Passes.{Numbers, home, putter, taker, nobody, without, joined, with_put, with_taken, IsPut, IsTaken, IsFresh, IsBalanced, IsRuled}
-use Rattle.wcp_lane.specs.Ends.{put_by, unowned_by, IsRest}
-use Rattle.wcp_lane.proofs.Steps.{puts, takes, gives, joins, balances}
+use Rattle.wcp_lane.specs.Passes.{Numbers, home, putter, taker, nobody, without, joined, with_put, with_taken, IsPut, IsBalanced, IsRuled}
+use Rattle.wcp_lane.specs.Ends.{put_by, unowned_by}
+use Rattle.wcp_lane.proofs.Steps.{puts, gives, joins}
 
 -- what isn't outside is inside
 pub inside_unless : (b c : Bool) → c ≡ not b → c ≡ false → b ≡ true

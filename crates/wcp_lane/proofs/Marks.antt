@@ -1,7 +1,7 @@
 -- Sets of numbers, by the marks that say which numbers are in them.
 use Rattle.std.proofs.Common.{◌≡◌, ◌≢◌, ◌⊎◌, ℕ, ◌<◌, ◌≤◌, Bool, true, false, true≢false, ◌||◌, List, length, get_or, set, sym, ap, ◌∙◌, arith, ⊎_elim}
 use Rattle.std.specs.Prelude.{nat_eq}
-use Rattle.std.specs.Ordering.{nat_cmp, eq_by_cmp}
+use Rattle.std.specs.Ordering.{nat_cmp}
 use Rattle.std.specs.Cmp.{unsigned_tied, nat_cmp_total}
 use Rattle.std.specs.FinSet as sets
 use Rattle.std.proofs.lemmas.Bool.{cases_lt}
@@ -26,19 +26,19 @@ marks_with : (marks : List Bool) (p q : ℕ) → p < length marks → get_or (se
 marks_with marks p q within =
     ⊎_elim
     (λ (same : q ≡ p). let is : nat_eq q p ≡ true = grind (arith, nat_tests) in
-      ap (λ i. get_or (set marks p true) i false) same ∙ get_or-set_same marks p true false within ∙ sym (ap (λ b. b || get_or marks q false) is))
+    ap (λ i. get_or (set marks p true) i false) same ∙ get_or-set_same marks p true false within ∙ sym (ap (λ b. b || get_or marks q false) is))
     (λ (apart : q ≢ p). let not_it : nat_eq q p ≡ false = grind (arith, nat_tests) in
-      get_or-set_other marks p q true false apart ∙ sym (ap (λ b. b || get_or marks q false) not_it))
+    get_or-set_other marks p q true false apart ∙ sym (ap (λ b. b || get_or marks q false) not_it))
     (let either : (q ≡ p) ⊎ (q ≢ p) = grind arith in either)
 
 -- a mark more is a number more
 pub set_of-set : (marks : List Bool) (p : ℕ) → p < length marks → set_of (set marks p true) ≡ sets.insert (set_of marks) p
 set_of-set marks p within =
     sets.same_set nat_cmp_total nat_cmp-IsAntisymmetric _ _ (λ q.
-      contains-marks (set marks p true) q ∙ marks_with marks p q within ∙ ap (λ b. nat_eq q p || b) (sym (contains-marks marks q)) ∙ sym (contains_with (set_of marks) p q))
+    contains-marks (set marks p true) q ∙ marks_with marks p q within ∙ ap (λ b. nat_eq q p || b) (sym (contains-marks marks q)) ∙ sym (contains_with (set_of marks) p q))
 
 -- the marks of either set are the marks of their union
 pub set_of-either : (marks mine theirs : List Bool) → ((p : ℕ) → get_or marks p false ≡ (get_or mine p false || get_or theirs p false)) → set_of marks ≡ sets.union (set_of mine) (set_of theirs)
 set_of-either marks mine theirs each =
     sets.same_set nat_cmp_total nat_cmp-IsAntisymmetric _ _ (λ q.
-      contains-marks marks q ∙ each q ∙ (λ i. sym (contains-marks mine q) i || sym (contains-marks theirs q) i) ∙ sym (sets.contains-union nat_cmp_total (set_of mine) (set_of theirs) q))
+    contains-marks marks q ∙ each q ∙ (λ i. sym (contains-marks mine q) i || sym (contains-marks theirs q) i) ∙ sym (sets.contains-union nat_cmp_total (set_of mine) (set_of theirs) q))

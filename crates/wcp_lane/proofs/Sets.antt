@@ -1,12 +1,13 @@
 -- The sets of a lane's putters.
-use Rattle.std.proofs.Common.{◌≡◌, ◌≢◌, ◌⊎◌, ℕ, zero, suc, ◌+◌, ◌<◌, ◌≤◌, Bool, true, false, true≢false, ◌||◌, not, ◌&&◌, List, [], ◌∷◌, length, get_or, take, map, refl, sym, ap, ◌∙◌, subst, inl, inr, ⊎_elim, arith}
+use Rattle.std.proofs.Common.{◌≡◌, ℕ, suc, ◌+◌, ◌<◌, ◌≤◌, Bool, true, false, true≢false, ◌||◌, not, ◌&&◌, List, [], ◌∷◌, length, get_or, take, refl, sym, ap, ◌∙◌, subst, arith}
 use Rattle.std.specs.List.{list_any}
 use Rattle.std.specs.FinSet as sets
 use Rattle.std.specs.Cmp.{nat_cmp_total}
 use Rattle.std.proofs.lemmas.List.{get_or-take, length-take-le}
-use Rattle.std.proofs.lemmas.List.Folds.{list_any_more}
-use Rattle.wcp_clock.specs.declared.clock.TheConstants.{MAX_PROCS}
-use Rattle.wcp_lane.specs.Passes.{Numbers}
+use Rattle.std.proofs.lemmas.List.Folds.{list_any_more, list_any_at}
+use Rattle.std.specs.Ordering.{nat_cmp}
+use Rattle.wcp_lane.specs.Passes.{Numbers, all_numbers}
+use Rattle.wcp_lane.proofs.Steps.{all_numbers-contains}
 use Rattle.wcp_lane.specs.Ends.{IsRest}
 
 -- some element passes the test
@@ -45,3 +46,17 @@ rest_more seen rest given so_far p below =
     sets.contains-difference nat_cmp_total rest given p
     ∙ rest_of (sets.contains rest p) (sets.contains seen p) (sets.contains given p) (so_far p below)
     ∙ ap not (sym (sets.contains-union nat_cmp_total seen given p))
+
+-- no number is in no set
+pub none_has : (p : ℕ) → sets.contains (sets.empty {R = nat_cmp}) p ≡ false
+none_has p = sets.contains-empty nat_cmp p
+
+-- a lane with no set yet: every number is left
+pub rest_of_none : IsRest sets.empty all_numbers
+rest_of_none p below = all_numbers-contains p below ∙ ap not (sym (none_has p))
+
+-- a number of one of the first sets is one of theirs
+pub owned_by_one : (owners : List Numbers) (k p i : ℕ) (d : Numbers) → k ≤ length owners → i < k → sets.contains (get_or owners i d) p ≡ true → list_any (λ (s : Numbers). sets.contains s p) (take k owners) ≡ true
+owned_by_one owners k p i d within below e =
+    let long : length (take k owners) ≡ k = length-take-le k owners within in
+    list_any_at (λ (s : Numbers). sets.contains s p) (take k owners) i d (omega arith) (ap (λ (s : Numbers). sets.contains s p) (get_or-take k owners i d below) ∙ e)

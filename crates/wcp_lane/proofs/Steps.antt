@@ -1,6 +1,6 @@
 -- Each step on a lane keeps the lane rule.
-use Rattle.std.proofs.Common.{◌≡◌, ◌≢◌, ◌⊎◌, ℕ, zero, suc, ◌<◌, ◌≤◌, Bool, true, false, true≢false, not, ◌&&◌, ◌||◌, List, [], ◌∷◌, ◌++◌, length, set, get_or, cond, sym, refl, ap, ◌∙◌, subst, inl, inr, ⊎_elim, arith, append_assoc, length-append}
-use Rattle.std.specs.Prelude.{◌==◌, All, slice_index_or, nat_eq}
+use Rattle.std.proofs.Common.{◌≡◌, ◌≢◌, ◌⊎◌, ℕ, zero, suc, ◌<◌, Bool, true, false, true≢false, not, ◌&&◌, ◌||◌, List, [], ◌∷◌, ◌++◌, length, set, cond, sym, refl, ap, ◌∙◌, subst, ⊎_elim, arith, append_assoc}
+use Rattle.std.specs.Prelude.{All, nat_eq}
 use Rattle.std.specs.FinSet as sets
 use Rattle.std.specs.Cmp.{nat_cmp_total}
 use Rattle.std.specs.List.{flat_map}
@@ -13,11 +13,11 @@ use lib.ListN.{get_elem?}
 use Rattle.atomic_table.proofs.Lists.{at_set}
 use Rattle.crossbeam_channel.specs.Fifo.{Pushes, Pops, Forks, Merges, Learns}
 use Rattle.wcp_clock.specs.declared.clock.TheConstants.{MAX_PROCS}
-use Rattle.wcp_model.specs.LaneRule.{LaneRule, IsNext, IsRun}
+use Rattle.wcp_model.specs.LaneRule.{IsNext, IsRun}
 use Rattle.wcp_lane.specs.declared.passes.Hand.{Hand}
 use Rattle.wcp_lane.specs.declared.passes.Home.{Home}
 use Rattle.wcp_lane.specs.Message.{items_of, items_from}
-use Rattle.wcp_lane.specs.Passes.{Numbers, numbers_below, all_numbers, home, putter, taker, nobody, without, joined, with_put, with_taken, IsPut, IsTaken, IsFresh, IsBalanced, Fits, IsRuled}
+use Rattle.wcp_lane.specs.Passes.{Numbers, numbers_below, all_numbers, home, putter, taker, nobody, without, joined, with_taken, IsPut, IsTaken, IsBalanced, Fits, IsRuled}
 use Rattle.wcp_lane.proofs.Marks.{contains_with}
 use Rattle.wcp_lane.proofs.Lists.{not_empty, only_one, of_snoc, at_snoc_place, items_from-append, items_from-own, items_from-other}
 
@@ -86,7 +86,7 @@ module _ {M : Type 0} (origin place : M → ℕ) (is_last : M → Bool) where
         put = λ p. [];
         rule = record { numbered = λ k d none. absurd (omega arith); whole = λ p below. refl; runs = λ p below before item behind e. absurd (not_empty before item behind e) };
         each = λ j u e. let it = only_end (taker all_numbers []) j u e in
-          subst (λ (y : ℕ × Hand M). Fits origin 0 (λ p. 0) [] (λ p. []) y.0 y.1) (λ i. (sym it.0 i, it.1 i))
+            subst (λ (y : ℕ × Hand M). Fits origin 0 (λ p. 0) [] (λ p. []) y.0 y.1) (λ i. (sym it.0 i, it.1 i))
             record {
               takes = λ reads. (refl, refl);
               stands = λ before h behind is p below own. (refl, ap (λ (x : Home M). items_from origin p x.put) (sym (only_one (home all_numbers []) before h behind is)));
@@ -125,18 +125,18 @@ module _ {M : Type 0} (origin place : M → ℕ) (is_last : M → Bool) where
               record {
                 takes = λ reads. absurd (true≢false (sym reads));
                 stands = λ before k behind is q below member.
-                  let it : home numbers (put ++ m ∷ []) ≡ k = only_one (home numbers (put ++ m ∷ [])) before k behind is in
-                  let in_mine = standing q below (ap (λ (x : Home M). sets.contains x.numbers q) it ∙ member) in
-                  (in_mine.0, ap (λ (x : Home M). items_from origin q x.put) (sym it) ∙ items_from-append origin q put (m ∷ []) ∙ ap (λ xs. xs ++ items_from origin q (m ∷ [])) in_mine.1);
+                    let it : home numbers (put ++ m ∷ []) ≡ k = only_one (home numbers (put ++ m ∷ [])) before k behind is in
+                    let in_mine = standing q below (ap (λ (x : Home M). sets.contains x.numbers q) it ∙ member) in
+                    (in_mine.0, ap (λ (x : Home M). items_from origin q x.put) (sym it) ∙ items_from-append origin q put (m ∷ []) ∙ ap (λ xs. xs ++ items_from origin q (m ∷ [])) in_mine.1);
               }
               (λ j u other e.
-                let theirs = h.each j u e in
-                record {
-                  takes = theirs.takes;
-                  stands = λ before k behind is q below member.
+              let theirs = h.each j u e in
+              record {
+                takes = theirs.takes;
+                stands = λ before k behind is q below member.
                     let t = theirs.stands before k behind is q below member in
                     (t.0, t.1 ∙ sym (same q (λ here. other (sym t.0 ∙ ap h.seat here ∙ seated))));
-                });
+              });
         },
         refl,
       )
@@ -164,29 +164,29 @@ module _ {M : Type 0} (origin place : M → ℕ) (is_last : M → Bool) where
           rule = record {
             numbered = λ k d below. h.rule.numbered (suc k) d (omega arith);
             whole = λ q below.
-              ap (λ xs. xs ++ items_from origin q items) (items_from-append origin q h.taken (m ∷ []))
-              ∙ append_assoc (items_from origin q h.taken) (items_from origin q (m ∷ [])) (items_from origin q items)
-              ∙ ap (λ xs. items_from origin q h.taken ++ xs) (sym (items_from-append origin q (m ∷ []) items))
-              ∙ h.rule.whole q below;
+                ap (λ xs. xs ++ items_from origin q items) (items_from-append origin q h.taken (m ∷ []))
+                ∙ append_assoc (items_from origin q h.taken) (items_from origin q (m ∷ [])) (items_from origin q items)
+                ∙ ap (λ xs. items_from origin q h.taken ++ xs) (sym (items_from-append origin q (m ∷ []) items))
+                ∙ h.rule.whole q below;
             runs = h.rule.runs;
           };
           each = all_set (Fits origin h.reader h.seat (h.taken ++ m ∷ []) h.put) ends pass w
               record { takes = λ _. (reads.0, ap (λ xs. xs ++ m ∷ []) reads.1); stands = mine.stands }
               (λ j u other e.
-                let theirs = h.each j u e in
-                record { takes = λ r. absurd (other ((theirs.takes r).0 ∙ sym reads.0)); stands = theirs.stands });
+              let theirs = h.each j u e in
+              record { takes = λ r. absurd (other ((theirs.takes r).0 ∙ sym reads.0)); stands = theirs.stands });
         },
         (
           refl,
           λ unowned taken is.
-            let as_taken : h.taken ≡ taken = sym reads.1 ∙ ap (λ (x : Hand M). x.taken) is in
-            record {
-              numbered = within;
-              owned = false_unless (sets.contains unowned p) (λ member.
-                let nothing : [] ≡ h.put p = (mine.stands [] (home unowned []) [] (ap (λ (x : Hand M). x.home) is) p within member).1 in
-                not_empty (items_from origin p h.taken) m (items_from origin p items) (nothing ∙ whole));
-              next = subst (λ xs. IsNext place is_last (items_from origin p xs) m) as_taken (h.rule.runs p within (items_from origin p h.taken) m (items_from origin p items) whole);
-            },
+              let as_taken : h.taken ≡ taken = sym reads.1 ∙ ap (λ (x : Hand M). x.taken) is in
+              record {
+                numbered = within;
+                owned = false_unless (sets.contains unowned p) (λ member.
+                    let nothing : [] ≡ h.put p = (mine.stands [] (home unowned []) [] (ap (λ (x : Hand M). x.home) is) p within member).1 in
+                    not_empty (items_from origin p h.taken) m (items_from origin p items) (nothing ∙ whole));
+                next = subst (λ xs. IsNext place is_last (items_from origin p xs) m) as_taken (h.rule.runs p within (items_from origin p h.taken) m (items_from origin p items) whole);
+              },
         ),
       )
 
@@ -203,23 +203,23 @@ module _ {M : Type 0} (origin place : M → ℕ) (is_last : M → Bool) where
       let stays : (p : ℕ) → sets.contains numbers p ≡ false → seat p ≡ h.seat p = λ p out. ap (λ b. cond b (length was) (h.seat p)) out in
       let Old : ℕ → Hand M → Type 0 = Fits origin h.reader seat h.taken h.put in
       let old : (j : ℕ) (u : Hand M) → get_elem? was j ≡ some u → Old j u =
-        all_set Old ends pass left
-          record {
-            takes = mine.takes;
-            stands = λ before k behind is p below member.
-              let it : home (sets.difference unowned numbers) [] ≡ k = only_one (home (sets.difference unowned numbers) []) before k behind is in
-              let parts = both_true (sets.contains unowned p) (sets.contains numbers p) (sym (contains_without unowned numbers p) ∙ ap (λ (x : Home M). sets.contains x.numbers p) it ∙ member) in
-              let in_mine = standing p below parts.0 in
-              (stays p parts.1 ∙ in_mine.0, ap (λ (x : Home M). items_from origin p x.put) (sym it) ∙ in_mine.1);
-          }
-          (λ j u other e.
-            let theirs = h.each j u e in
-            record {
-              takes = theirs.takes;
-              stands = λ before k behind is p below member.
-                let t = theirs.stands before k behind is p below member in
-                (stays p (false_unless (sets.contains numbers p) (λ given. other (sym t.0 ∙ (standing p below (among p below given)).0))) ∙ t.0, t.1);
-            }) in
+      all_set Old ends pass left
+      record {
+        takes = mine.takes;
+        stands = λ before k behind is p below member.
+            let it : home (sets.difference unowned numbers) [] ≡ k = only_one (home (sets.difference unowned numbers) []) before k behind is in
+            let parts = both_true (sets.contains unowned p) (sets.contains numbers p) (sym (contains_without unowned numbers p) ∙ ap (λ (x : Home M). sets.contains x.numbers p) it ∙ member) in
+            let in_mine = standing p below parts.0 in
+            (stays p parts.1 ∙ in_mine.0, ap (λ (x : Home M). items_from origin p x.put) (sym it) ∙ in_mine.1);
+      }
+      (λ j u other e.
+      let theirs = h.each j u e in
+      record {
+        takes = theirs.takes;
+        stands = λ before k behind is p below member.
+            let t = theirs.stands before k behind is p below member in
+            (stays p (false_unless (sets.contains numbers p) (λ given. other (sym t.0 ∙ (standing p below (among p below given)).0))) ∙ t.0, t.1);
+      }) in
       record {
         reader = h.reader;
         seat = seat;
@@ -228,14 +228,14 @@ module _ {M : Type 0} (origin place : M → ℕ) (is_last : M → Bool) where
         rule = h.rule;
         each = λ j u e. ⊎_elim (λ (there : get_elem? was j ≡ some u). old j u there)
             (λ (new : (j ≡ length was) × (right ≡ u)).
-              subst (λ (y : ℕ × Hand M). Old y.0 y.1) (λ i. (sym new.0 i, new.1 i))
-                record {
-                  takes = λ reads. absurd (true≢false (sym reads));
-                  stands = λ before k behind is p below member.
-                    let it : home numbers [] ≡ k = only_one (home numbers []) before k behind is in
-                    let given : sets.contains numbers p ≡ true = ap (λ (x : Home M). sets.contains x.numbers p) it ∙ member in
-                    (ap (λ b. cond b (length was) (h.seat p)) given, ap (λ (x : Home M). items_from origin p x.put) (sym it) ∙ (standing p below (among p below given)).1);
-                })
+            subst (λ (y : ℕ × Hand M). Old y.0 y.1) (λ i. (sym new.0 i, new.1 i))
+            record {
+              takes = λ reads. absurd (true≢false (sym reads));
+              stands = λ before k behind is p below member.
+                  let it : home numbers [] ≡ k = only_one (home numbers []) before k behind is in
+                  let given : sets.contains numbers p ≡ true = ap (λ (x : Home M). sets.contains x.numbers p) it ∙ member in
+                  (ap (λ b. cond b (length was) (h.seat p)) given, ap (λ (x : Home M). items_from origin p x.put) (sym it) ∙ (standing p below (among p below given)).1);
+            })
             (at_snoc_place was right u j e);
       }
 
@@ -246,7 +246,7 @@ module _ {M : Type 0} (origin place : M → ℕ) (is_last : M → Bool) where
       let was : List (Hand M) = set ends pass both in
       let mine = h.each pass v at in
       let there : get_elem? ends other ≡ some (putter numbers put) =
-        ⊎_elim (λ (here : (other ≡ pass) × (both ≡ putter numbers put)). absurd (apart here.0)) (λ (x : (other ≢ pass) × (get_elem? ends other ≡ some (putter numbers put))). x.1) (at_set ends pass other both (putter numbers put) at_other) in
+      ⊎_elim (λ (here : (other ≡ pass) × (both ≡ putter numbers put)). absurd (apart here.0)) (λ (x : (other ≢ pass) × (get_elem? ends other ≡ some (putter numbers put))). x.1) (at_set ends pass other both (putter numbers put) at_other) in
       let theirs = (h.each other (putter numbers put) there).stands [] (home numbers put) [] refl in
       let seat : ℕ → ℕ = λ p. cond (nat_eq (h.seat p) other) pass (h.seat p) in
       let stays : (p : ℕ) → h.seat p ≢ other → seat p ≡ h.seat p = λ p away. ap (λ b. cond b pass (h.seat p)) (not_eq (h.seat p) other away) in
@@ -261,31 +261,32 @@ module _ {M : Type 0} (origin place : M → ℕ) (is_last : M → Bool) where
         each = all_set New was other nobody
             record { takes = λ reads. absurd (true≢false (sym reads)); stands = λ before k behind is. absurd (not_empty before k behind is) }
             (λ j u elsewhere e.
-              ⊎_elim
-              (λ (here : (j ≡ pass) × (both ≡ u)). subst (λ (y : ℕ × Hand M). New y.0 y.1) (λ i. (sym here.0 i, here.1 i))
-                record {
-                  takes = mine.takes;
-                  stands = λ before k behind is p below member.
-                    ⊎_elim
-                    (λ (old : (rest : List (Home M)) × (v.home ≡ before ++ k ∷ rest)).
-                      let t = mine.stands before k old.0 old.1 p below member in
-                      (stays p (λ it. apart (sym it ∙ t.0)) ∙ t.0, t.1))
-                    (λ (new : (v.home ≡ before) × (home numbers put ≡ k)).
-                      let t = theirs p below (ap (λ (x : Home M). sets.contains x.numbers p) new.1 ∙ member) in
-                      (goes p t.0, ap (λ (x : Home M). items_from origin p x.put) (sym new.1) ∙ t.1))
-                    (of_snoc v.home (home numbers put) before k behind is);
-                })
-              (λ (x : (j ≢ pass) × (get_elem? ends j ≡ some u)).
-                let t = h.each j u x.1 in
-                record {
-                  takes = t.takes;
-                  stands = λ before k behind is p below member. let s = t.stands before k behind is p below member in (stays p (λ it. elsewhere (sym s.0 ∙ it)) ∙ s.0, s.1);
-                })
-              (at_set ends pass j both u e));
+            ⊎_elim
+            (λ (here : (j ≡ pass) × (both ≡ u)). subst (λ (y : ℕ × Hand M). New y.0 y.1) (λ i. (sym here.0 i, here.1 i))
+            record {
+              takes = mine.takes;
+              stands = λ before k behind is p below member.
+                  ⊎_elim
+                  (λ (old : (rest : List (Home M)) × (v.home ≡ before ++ k ∷ rest)).
+                  let t = mine.stands before k old.0 old.1 p below member in
+                  (stays p (λ it. apart (sym it ∙ t.0)) ∙ t.0, t.1))
+                  (λ (new : (v.home ≡ before) × (home numbers put ≡ k)).
+                  let t = theirs p below (ap (λ (x : Home M). sets.contains x.numbers p) new.1 ∙ member) in
+                  (goes p t.0, ap (λ (x : Home M). items_from origin p x.put) (sym new.1) ∙ t.1))
+                  (of_snoc v.home (home numbers put) before k behind is);
+            })
+            (λ (x : (j ≢ pass) × (get_elem? ends j ≡ some u)).
+            let t = h.each j u x.1 in
+            record {
+              takes = t.takes;
+              stands = λ before k behind is p below member. let s = t.stands before k behind is p below member in (stays p (λ it. elsewhere (sym s.0 ∙ it)) ∙ s.0, s.1);
+            })
+            (at_set ends pass j both u e));
       }
     where
       not_eq : (a b : ℕ) → a ≢ b → nat_eq a b ≡ false
       not_eq a b apart = grind (arith, nat_tests)
+
       is_eq : (a b : ℕ) → a ≡ b → nat_eq a b ≡ true
       is_eq a b same = grind (arith, nat_tests)
 

@@ -4,8 +4,8 @@
 
 mod counts;
 mod fault;
-mod opening;
 mod message;
+mod opening;
 mod origins;
 mod passes;
 mod putter;
@@ -13,8 +13,8 @@ mod receipts;
 mod taker;
 
 pub use fault::{Cut, LaneFault, Unfinished};
-pub use opening::{MAX_CAPACITY, lane};
 pub use message::Origin;
+pub use opening::{MAX_CAPACITY, lane};
 pub use origins::Origins;
 pub use putter::{PutReceipt, Putter};
 pub use receipts::reconcile;

@@ -74,19 +74,21 @@ fn open<M: Origin>(
     ensures empty { IfOk result (λ ends. ends.1.taken ≡ []) }
 {
     let mut putters = Vec::with_capacity(alloc, owners.len())?;
-    let (sender, receiver, mut pass) =
-        bounded_with::<M, Hand<M>, Ruled, Global>(alloc, cap as usize)?;
+    let (sender, receiver, mut pass) = bounded_with::<M, Hand<M>, Ruled, Global>(
+        alloc,
+        cap as usize,
+    )?;
     let mut origins = Origins::none();
     for numbers in owners {
         let sender = sender.try_clone()?;
         let own = give::<M, Brand>(&sender, &mut pass, numbers);
+        origins = origins.joined(numbers);
         putters.push(Putter {
             sender,
             pass: own,
             origins: *numbers,
             counts: [0; MAX_PROCS],
         })?;
-        origins = origins.joined(numbers);
     }
     let taker = Taker {
         receiver,

@@ -1,6 +1,5 @@
-use Rattle.std.proofs.Common.{ap, sym, ◌∙◌}
+use Rattle.std.proofs.Common.{ap, ◌∙◌}
 use Rattle.std.specs.FinSet as set
-use Rattle.wcp_lane.specs.Passes.{without, taker}
 use Rattle.wcp_lane.proofs.Hands.{gives_as}
 use Rattle.wcp_lane.proofs.opening.give.Goals as goal
 

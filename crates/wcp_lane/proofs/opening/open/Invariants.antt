@@ -1,4 +1,4 @@
-use Rattle.std.proofs.Common.{◌≡◌, ℕ, ◌<◌, [], map, take}
+use Rattle.std.proofs.Common.{◌≡◌, ℕ, [], map, take}
 use Rattle.std.specs.List.{list_any}
 use Rattle.std.specs.FinSet as set
 use Rattle.crossbeam_channel.specs.Ends.{sends_on}

@@ -1,4 +1,4 @@
-use Rattle.std.proofs.Common.{sym, ap, ◌∙◌, arith, subst, true, ◌≡◌, ◌<◌}
+use Rattle.std.proofs.Common.{sym, ap, ◌∙◌, arith}
 use Rattle.std.specs.FinSet as set
 use Rattle.wcp_lane.specs.Numbers.{contains-marks}
 use Rattle.wcp_lane.proofs.Marks.{contains_below}

@@ -1,4 +1,4 @@
-use Rattle.std.proofs.Common.{ap, sym, ◌∙◌, arith}
+use Rattle.std.proofs.Common.{ap, ◌∙◌, arith}
 use Rattle.std.specs.FinSet as set
 use Rattle.wcp_lane.proofs.Marks.{contains_below, set_of-either}
 use Rattle.wcp_lane.proofs.origins.Origins.joined.Goals as goal

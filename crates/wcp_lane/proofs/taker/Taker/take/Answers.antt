@@ -1,4 +1,4 @@
-use Rattle.std.proofs.Common.{◌≡◌, ◌<◌, ap, sym, ◌∙◌, true, subst, arith, ◌++◌, ◌∷◌, []}
+use Rattle.std.proofs.Common.{◌<◌, ap, sym, ◌∙◌, subst, ◌++◌, ◌∷◌, []}
 use Rattle.std.specs.FinSet as set
 use Rattle.wcp_clock.specs.declared.clock.TheConstants.{MAX_PROCS}
 use Rattle.wcp_model.specs.LaneRule.{IsNext}
@@ -24,8 +24,7 @@ returns-in-Ok-clause-ok g c =
     let m = c.in-Ok.message in
     let fresh = c.in-Ok.ensures.rule.1 _ _ c.self.invariant.1 in
     let old = c.self.invariant.0 in
-    let new = c.recv_as.ensures.channel.0 in
-    (
+    let new = c.recv_as.ensures.channel.0 in (
       record {
         owned = ap (λ (e : TakeEnd _). set.contains e.members (origin m)) (sym c.self.view_is) ∙ inside_unless _ _ (c.self.invariant.2 (origin m) fresh.numbered) fresh.owned;
         next = subst (λ xs. IsNext g.M.Origin.place g.M.Origin.last (items_from origin (origin m) xs) m) (ap (λ (e : TakeEnd _). e.taken) c.self.view_is) fresh.next;
