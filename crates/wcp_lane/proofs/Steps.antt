@@ -1,5 +1,5 @@
 -- Each step on a lane keeps the lane rule.
-use Rattle.std.proofs.Common.{◌≡◌, ◌≢◌, ◌⊎◌, ℕ, zero, suc, ◌<◌, Bool, true, false, true≢false, not, ◌&&◌, ◌||◌, List, [], ◌∷◌, ◌++◌, length, set, cond, sym, refl, ap, ◌∙◌, subst, ⊎_elim, arith, append_assoc}
+use Rattle.std.proofs.Common.{inl, inr, ◌≡◌, ◌≢◌, ◌⊎◌, ℕ, zero, suc, ◌<◌, Bool, true, false, true≢false, not, ◌&&◌, ◌||◌, List, [], ◌∷◌, ◌++◌, length, set, cond, sym, refl, ap, ◌∙◌, subst, ⊎_elim, arith, append_assoc}
 use Rattle.std.specs.Prelude.{All, nat_eq}
 use Rattle.std.specs.FinSet as sets
 use Rattle.std.specs.Cmp.{nat_cmp_total}
@@ -10,14 +10,14 @@ use Rattle.std.proofs.lemmas.List.{append-nil}
 use Rattle.std.proofs.lemmas.List.Elements.{All-append}
 use mathlib.Core.Option.{some, some-injective, some-ne-none}
 use lib.ListN.{get_elem?}
-use Rattle.atomic_table.proofs.Lists.{at_set}
+use Rattle.atomic_table.proofs.Lists.{at_set, at_last, at_longer, set_here, set_else}
 use Rattle.crossbeam_channel.specs.Fifo.{Pushes, Pops, Forks, Merges, Learns}
 use Rattle.wcp_clock.specs.declared.clock.TheConstants.{MAX_PROCS}
 use Rattle.wcp_model.specs.LaneRule.{IsNext, IsRun}
 use Rattle.wcp_lane.specs.declared.passes.Hand.{Hand}
 use Rattle.wcp_lane.specs.declared.passes.Home.{Home}
 use Rattle.wcp_lane.specs.Message.{items_of, items_from}
-use Rattle.wcp_lane.specs.Passes.{Numbers, numbers_below, all_numbers, home, putter, taker, nobody, without, joined, with_taken, IsPut, IsTaken, IsBalanced, Fits, IsRuled}
+use Rattle.wcp_lane.specs.Passes.{Numbers, numbers_below, all_numbers, home, putter, taker, nobody, without, joined, with_taken, IsPut, IsTaken, IsBalanced, Fits, StandsFor, IsSeated, IsRuled}
 use Rattle.wcp_lane.proofs.Marks.{contains_with}
 use Rattle.wcp_lane.proofs.Lists.{not_empty, only_one, of_snoc, at_snoc_place, items_from-append, items_from-own, items_from-other}
 
@@ -27,6 +27,10 @@ false_unless false h = refl
 
 either_number : (p q : ℕ) → (p ≡ q) ⊎ (p ≢ q)
 either_number p q = grind arith
+
+either_bool : (b : Bool) → (b ≡ true) ⊎ (b ≡ false)
+either_bool true = inl refl
+either_bool false = inr refl
 
 all_set : {M : Type 0} (F : ℕ → Hand M → Type 0) (ends : List (Hand M)) (pass : ℕ) (w : Hand M) → F pass w → ((j : ℕ) (u : Hand M) → j ≢ pass → get_elem? ends j ≡ some u → F j u)
     → (j : ℕ) (u : Hand M) → get_elem? (set ends pass w) j ≡ some u → F j u
@@ -59,6 +63,22 @@ both_true true true e = absurd (true≢false (sym e))
 both_true true false e = (refl, refl)
 both_true false b e = absurd (true≢false (sym e))
 
+module _ {M : Type 0} where
+  in_place : (ends : List (Hand M)) (pass : ℕ) (v : Hand M) → get_elem? ends pass ≡ some v → pass < length ends
+  in_place [] pass v e = absurd (some-ne-none v (sym e))
+  in_place (x ∷ xs) zero v e = omega arith
+  in_place (x ∷ xs) (suc pass) v e = let rest = in_place xs pass v e in omega arith
+
+  -- an end that stands for as much afterwards
+  IsSeated-set : (ends : List (Hand M)) (pass : ℕ) (v w : Hand M) → get_elem? ends pass ≡ some v → (p : ℕ) → (StandsFor v p → StandsFor w p) → (j : ℕ) → IsSeated ends j p → IsSeated (set ends pass w) j p
+  IsSeated-set ends pass v w at p keeps j old =
+      ⊎_elim
+      (λ (here : j ≡ pass).
+        let same : old.0 ≡ v = some-injective _ _ (sym old.1 ∙ ap (get_elem? ends) here ∙ at) in
+        (w, ap (get_elem? (set ends pass w)) here ∙ set_here ends pass w (in_place ends pass v at), keeps (subst (λ u. StandsFor u p) same old.2)))
+      (λ (there : j ≢ pass). (old.0, set_else ends pass j w there ∙ old.1, old.2))
+      (either_number j pass)
+
 module _ {I : Type 0} (place : I → ℕ) (is_last : I → Bool) where
   -- a run with its next item is a run
   IsRun-push : (xs : List I) (x : I) → IsRun place is_last xs → IsNext place is_last xs x → IsRun place is_last (xs ++ x ∷ [])
@@ -85,6 +105,7 @@ module _ {M : Type 0} (origin place : M → ℕ) (is_last : M → Bool) where
         taken = [];
         put = λ p. [];
         rule = record { numbered = λ k d none. absurd (omega arith); whole = λ p below. refl; runs = λ p below before item behind e. absurd (not_empty before item behind e) };
+        seated = λ p below. (taker all_numbers [], refl, record { before = []; own = home all_numbers []; behind = []; is = refl; member = all_numbers-contains p below });
         each = λ j u e. let it = only_end (taker all_numbers []) j u e in
             subst (λ (y : ℕ × Hand M). Fits origin 0 (λ p. 0) [] (λ p. []) y.0 y.1) (λ i. (sym it.0 i, it.1 i))
             record {
@@ -121,6 +142,9 @@ module _ {M : Type 0} (origin place : M → ℕ) (is_last : M → Bool) where
                 (λ (apart : q ≢ origin m). subst (IsRun place is_last) (sym (same q apart)) (h.rule.runs q below))
                 (either_number q (origin m));
           };
+          seated = λ q below. IsSeated-set ends pass (putter numbers put) w at q
+              (λ s. record { before = []; own = home numbers (put ++ m ∷ []); behind = []; is = refl; member = ap (λ (x : Home M). sets.contains x.numbers q) (only_one (home numbers put) s.before s.own s.behind s.is) ∙ s.member })
+              (h.seat q) (h.seated q below);
           each = all_set (Fits origin h.reader h.seat h.taken more) ends pass w
               record {
                 takes = λ reads. absurd (true≢false (sym reads));
@@ -170,6 +194,7 @@ module _ {M : Type 0} (origin place : M → ℕ) (is_last : M → Bool) where
                 ∙ h.rule.whole q below;
             runs = h.rule.runs;
           };
+          seated = λ q below. IsSeated-set ends pass v w at q (λ s. record { before = s.before; own = s.own; behind = s.behind; is = s.is; member = s.member }) (h.seat q) (h.seated q below);
           each = all_set (Fits origin h.reader h.seat (h.taken ++ m ∷ []) h.put) ends pass w
               record { takes = λ _. (reads.0, ap (λ xs. xs ++ m ∷ []) reads.1); stands = mine.stands }
               (λ j u other e.
@@ -226,6 +251,21 @@ module _ {M : Type 0} (origin place : M → ℕ) (is_last : M → Bool) where
         taken = h.taken;
         put = h.put;
         rule = h.rule;
+        seated = λ p below. ⊎_elim
+            (λ (given : sets.contains numbers p ≡ true).
+              (right, ap (get_elem? (was ++ right ∷ [])) (ap (λ b. cond b (length was) (h.seat p)) given) ∙ at_last was right (length was) refl, record { before = []; own = home numbers []; behind = []; is = refl; member = given }))
+            (λ (out : sets.contains numbers p ≡ false).
+              let there = IsSeated-set ends pass (taker unowned taken) left at p
+                (λ s. record {
+                  before = [];
+                  own = home (sets.difference unowned numbers) [];
+                  behind = [];
+                  is = refl;
+                  member = contains_without unowned numbers p ∙ (λ i. (ap (λ (x : Home M). sets.contains x.numbers p) (only_one (home unowned []) s.before s.own s.behind s.is) ∙ s.member) i && not (out i));
+                })
+                (h.seat p) (h.seated p below) in
+              (there.0, ap (get_elem? (was ++ right ∷ [])) (stays p out) ∙ at_longer was (right ∷ []) (h.seat p) there.0 there.1, there.2))
+            (either_bool (sets.contains numbers p));
         each = λ j u e. ⊎_elim (λ (there : get_elem? was j ≡ some u). old j u there)
             (λ (new : (j ≡ length was) × (right ≡ u)).
             subst (λ (y : ℕ × Hand M). Old y.0 y.1) (λ i. (sym new.0 i, new.1 i))
@@ -258,6 +298,22 @@ module _ {M : Type 0} (origin place : M → ℕ) (is_last : M → Bool) where
         taken = h.taken;
         put = h.put;
         rule = h.rule;
+        seated = λ p below. ⊎_elim
+            (λ (it : h.seat p ≡ other).
+              let old = h.seated p below in
+              let same : old.0 ≡ putter numbers put = some-injective _ _ (sym old.1 ∙ ap (get_elem? ends) it ∙ there) in
+              let stood = subst (λ u. StandsFor u p) same old.2 in
+              (
+                both,
+                ap (get_elem? (set was other nobody)) (goes p it) ∙ set_else was other pass nobody (λ e. apart (sym e)) ∙ set_here ends pass both (in_place ends pass v at),
+                record { before = v.home; own = home numbers put; behind = []; is = refl; member = ap (λ (x : Home M). sets.contains x.numbers p) (only_one (home numbers put) stood.before stood.own stood.behind stood.is) ∙ stood.member },
+              ))
+            (λ (away : h.seat p ≢ other).
+              let stood = IsSeated-set ends pass v both at p
+                (λ s. record { before = s.before; own = s.own; behind = s.behind ++ home numbers put ∷ []; is = ap (λ l. l ++ home numbers put ∷ []) s.is ∙ append_assoc s.before (s.own ∷ s.behind) (home numbers put ∷ []); member = s.member })
+                (h.seat p) (h.seated p below) in
+              (stood.0, ap (get_elem? (set was other nobody)) (stays p away) ∙ set_else was other (h.seat p) nobody away ∙ stood.1, stood.2))
+            (either_number (h.seat p) other);
         each = all_set New was other nobody
             record { takes = λ reads. absurd (true≢false (sym reads)); stands = λ before k behind is. absurd (not_empty before k behind is) }
             (λ j u elsewhere e.

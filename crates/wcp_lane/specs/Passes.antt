@@ -60,6 +60,18 @@ module _ {M : Type 0} where
   abbrev pub IsPut : Hand M → M → Hand M → Type 0
   IsPut v message w = w ≡ with_put message v
 
+-- an end stands for a number
+pub record StandsFor {M : Type 0} (v : Hand M) (p : ℕ) : Type 0 where
+  pub before : List (Home M)
+  pub own : Home M
+  pub behind : List (Home M)
+  pub is : v.home ≡ before ++ own ∷ behind
+  pub member : set.contains own.numbers p ≡ true
+
+-- the end with this pass stands for a number
+abbrev pub IsSeated : {M : Type 0} → List (Hand M) → ℕ → ℕ → Type 0
+IsSeated {M} ends pass p = (v : Hand M) × (get_elem? ends pass ≡ some v) × StandsFor v p
+
 module _ {M : Type 0} (origin place : M → ℕ) (is_last : M → Bool) where
   -- an item that was taken: of a number below 16 that stands elsewhere, and the next one after those taken of its number
   pub record IsFresh (unowned : Numbers) (taken : List M) (item : M) : Type 0 where
@@ -84,11 +96,12 @@ module _ {M : Type 0} (origin : M → ℕ) where
     pub stands : (before : List (Home M)) (h : Home M) (behind : List (Home M)) → v.home ≡ before ++ h ∷ behind
         → (p : ℕ) → p < MAX_PROCS → set.contains h.numbers p ≡ true → (seat p ≡ pass) × (items_from origin p h.put ≡ put p)
 
--- the lane rule over what the lane holds and what the ends know
+-- the lane rule over what the lane holds and what the ends know: for each number there is one end that stands for it
 pub record IsRuled {M : Type 0} (origin place : M → ℕ) (is_last : M → Bool) (within : List M) (ends : List (Hand M)) : Type 0 where
   pub reader : ℕ
   pub seat : ℕ → ℕ
   pub taken : List M
   pub put : ℕ → List M
   pub rule : LaneRule items_of origin place is_last taken within put
+  pub seated : (p : ℕ) → p < MAX_PROCS → IsSeated ends (seat p) p
   pub each : (pass : ℕ) (v : Hand M) → get_elem? ends pass ≡ some v → Fits origin reader seat taken put pass v

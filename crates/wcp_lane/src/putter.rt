@@ -54,6 +54,7 @@ impl<M: Origin> Putter<M> {
     pub fn put<R: Wait>(&mut self, rt: &R, message: M) -> Result<(), (Cut, M)>
         requires origin { set.contains self.old.members (M.origin message) ≡ true }
         requires next { IsNext M.place M.last (items_from M.origin (M.origin message) self.old.put) message }
+        ensures same { (self.new.lane ≡ self.old.lane) × (self.new.members ≡ self.old.members) }
         ensures ok { OnOk result (self.new ≡ record self.old { put = self.old.put ++ message ∷ [] }) }
         ensures err { IfErr result (λ e. (e.1 ≡ message) × (self.new ≡ self.old)) }
     {

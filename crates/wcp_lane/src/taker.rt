@@ -51,6 +51,7 @@ impl<M: Origin> Taker<M> {
 
     /// Takes the next message, and waits for one.
     pub fn take<R: Wait>(&mut self, rt: &R) -> Result<M, Cut>
+        ensures same { (self.new.lane ≡ self.old.lane) × (self.new.members ≡ self.old.members) }
         ensures ok { IfOk result (λ message. IsNextTaken M.origin M.place M.last self.old message × (self.new ≡ record self.old { taken = self.old.taken ++ message ∷ [] })) }
         ensures err { OnErr result (self.new ≡ self.old) }
     {
@@ -65,6 +66,7 @@ impl<M: Origin> Taker<M> {
 
     /// Takes the next message, if there is one.
     pub fn try_take<R: Wait>(&mut self, rt: &R) -> Result<Option<M>, Cut>
+        ensures same { (self.new.lane ≡ self.old.lane) × (self.new.members ≡ self.old.members) }
         ensures some { IfOk result (λ found. IfSome found (λ message. IsNextTaken M.origin M.place M.last self.old message × (self.new ≡ record self.old { taken = self.old.taken ++ message ∷ [] }))) }
         ensures none { IfOk result (λ found. IfNone found (self.new ≡ self.old)) }
         ensures err { OnErr result (self.new ≡ self.old) }
