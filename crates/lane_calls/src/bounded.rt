@@ -10,7 +10,7 @@ pub fn one_thread<R: Wait>(rt: &R, alloc: Global, items: u32) -> Result<Sum, All
     let (sender, receiver) = bounded(alloc, ROOM as usize)?;
     let mut sum = Sum(0);
     for number in 0..items {
-        if sender.send(rt, snap(number)).is_err() {
+        if sender.send(rt, snap(0, number)).is_err() {
             return Ok(sum);
         }
         match receiver.recv(rt) {
@@ -23,7 +23,7 @@ pub fn one_thread<R: Wait>(rt: &R, alloc: Global, items: u32) -> Result<Sum, All
 
 fn send_all<R: Wait>(rt: &R, sender: Sender<Item>, items: u32) {
     for number in 0..items {
-        if sender.send(rt, snap(number)).is_err() {
+        if sender.send(rt, snap(0, number)).is_err() {
             return;
         }
     }

@@ -20,11 +20,16 @@ fn ends(alloc: Global) -> Result<(Putter<Item>, Taker<Item>), AllocError>
     Ok((putter, taker))
 }
 
-fn put<R: Wait>(rt: &R, putter: &mut Putter<Item>, number: u32) -> Result<(), Item>
-    requires { HasPut 0 number putter.old }
-    ensures { OnOk result (HasPut 0 (number + 1) putter.new) }
+fn put<R: Wait>(
+    rt: &R,
+    putter: &mut Putter<Item>,
+    from: u32,
+    number: u32,
+) -> Result<(), Item>
+    requires { HasPut from number putter.old }
+    ensures { OnOk result (HasPut from (number + 1) putter.new) }
 {
-    match putter.put(rt, snap(number)) {
+    match putter.put(rt, snap(from, number)) {
         Ok(()) => Ok(()),
         Err((_, item)) => Err(item),
     }
@@ -35,7 +40,7 @@ pub fn one_thread<R: Wait>(rt: &R, alloc: Global, items: u32) -> Result<Sum, All
     let (mut putter, mut taker) = ends(alloc)?;
     let mut sum = Sum(0);
     for number in 0..items {
-        if put(rt, &mut putter, number).is_err() {
+        if put(rt, &mut putter, 0, number).is_err() {
             return Ok(sum);
         }
         match taker.take(rt) {
@@ -50,7 +55,7 @@ fn put_all<R: Wait>(rt: &R, mut putter: Putter<Item>, items: u32)
     requires { HasPut 0 0 putter }
 {
     for number in 0..items {
-        if put(rt, &mut putter, number).is_err() {
+        if put(rt, &mut putter, 0, number).is_err() {
             return;
         }
     }

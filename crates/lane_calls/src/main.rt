@@ -18,14 +18,14 @@ use wcp_clock::{Clock, Item, MAX_PROCS, Note};
 /// How many items each channel has room for.
 const ROOM: u32 = 64;
 
-/// Snapshot `number` of process 0, with a clock of all processes.
-fn snap(number: u32) -> Item
-    ensures from { result.from ≡ 0 }
+/// Snapshot `number` of process `from`, with a clock of all processes.
+fn snap(from: u32, number: u32) -> Item
+    ensures from { result.from ≡ from }
     ensures place { place_of result.note ≡ number }
     ensures unended { is_close result.note ≡ false }
 {
     Item {
-        from: 0,
+        from,
         note: Note::Snap {
             number,
             clock: Clock::new(MAX_PROCS as u32),
