@@ -74,8 +74,8 @@ module _ {M : Type 0} where
   IsSeated-set ends pass v w at p keeps j old =
       ⊎_elim
       (λ (here : j ≡ pass).
-        let same : old.0 ≡ v = some-injective _ _ (sym old.1 ∙ ap (get_elem? ends) here ∙ at) in
-        (w, ap (get_elem? (set ends pass w)) here ∙ set_here ends pass w (in_place ends pass v at), keeps (subst (λ u. StandsFor u p) same old.2)))
+      let same : old.0 ≡ v = some-injective _ _ (sym old.1 ∙ ap (get_elem? ends) here ∙ at) in
+      (w, ap (get_elem? (set ends pass w)) here ∙ set_here ends pass w (in_place ends pass v at), keeps (subst (λ u. StandsFor u p) same old.2)))
       (λ (there : j ≢ pass). (old.0, set_else ends pass j w there ∙ old.1, old.2))
       (either_number j pass)
 
@@ -253,18 +253,18 @@ module _ {M : Type 0} (origin place : M → ℕ) (is_last : M → Bool) where
         rule = h.rule;
         seated = λ p below. ⊎_elim
             (λ (given : sets.contains numbers p ≡ true).
-              (right, ap (get_elem? (was ++ right ∷ [])) (ap (λ b. cond b (length was) (h.seat p)) given) ∙ at_last was right (length was) refl, record { before = []; own = home numbers []; behind = []; is = refl; member = given }))
+            (right, ap (get_elem? (was ++ right ∷ [])) (ap (λ b. cond b (length was) (h.seat p)) given) ∙ at_last was right (length was) refl, record { before = []; own = home numbers []; behind = []; is = refl; member = given }))
             (λ (out : sets.contains numbers p ≡ false).
-              let there = IsSeated-set ends pass (taker unowned taken) left at p
-                (λ s. record {
-                  before = [];
-                  own = home (sets.difference unowned numbers) [];
-                  behind = [];
-                  is = refl;
-                  member = contains_without unowned numbers p ∙ (λ i. (ap (λ (x : Home M). sets.contains x.numbers p) (only_one (home unowned []) s.before s.own s.behind s.is) ∙ s.member) i && not (out i));
-                })
-                (h.seat p) (h.seated p below) in
-              (there.0, ap (get_elem? (was ++ right ∷ [])) (stays p out) ∙ at_longer was (right ∷ []) (h.seat p) there.0 there.1, there.2))
+            let there = IsSeated-set ends pass (taker unowned taken) left at p
+            (λ s. record {
+              before = [];
+              own = home (sets.difference unowned numbers) [];
+              behind = [];
+              is = refl;
+              member = contains_without unowned numbers p ∙ (λ i. (ap (λ (x : Home M). sets.contains x.numbers p) (only_one (home unowned []) s.before s.own s.behind s.is) ∙ s.member) i && not (out i));
+            })
+            (h.seat p) (h.seated p below) in
+            (there.0, ap (get_elem? (was ++ right ∷ [])) (stays p out) ∙ at_longer was (right ∷ []) (h.seat p) there.0 there.1, there.2))
             (either_bool (sets.contains numbers p));
         each = λ j u e. ⊎_elim (λ (there : get_elem? was j ≡ some u). old j u there)
             (λ (new : (j ≡ length was) × (right ≡ u)).
@@ -300,19 +300,18 @@ module _ {M : Type 0} (origin place : M → ℕ) (is_last : M → Bool) where
         rule = h.rule;
         seated = λ p below. ⊎_elim
             (λ (it : h.seat p ≡ other).
-              let old = h.seated p below in
-              let same : old.0 ≡ putter numbers put = some-injective _ _ (sym old.1 ∙ ap (get_elem? ends) it ∙ there) in
-              let stood = subst (λ u. StandsFor u p) same old.2 in
-              (
-                both,
-                ap (get_elem? (set was other nobody)) (goes p it) ∙ set_else was other pass nobody (λ e. apart (sym e)) ∙ set_here ends pass both (in_place ends pass v at),
-                record { before = v.home; own = home numbers put; behind = []; is = refl; member = ap (λ (x : Home M). sets.contains x.numbers p) (only_one (home numbers put) stood.before stood.own stood.behind stood.is) ∙ stood.member },
-              ))
+            let old = h.seated p below in
+            let same : old.0 ≡ putter numbers put = some-injective _ _ (sym old.1 ∙ ap (get_elem? ends) it ∙ there) in
+            let stood = subst (λ u. StandsFor u p) same old.2 in (
+              both,
+              ap (get_elem? (set was other nobody)) (goes p it) ∙ set_else was other pass nobody (λ e. apart (sym e)) ∙ set_here ends pass both (in_place ends pass v at),
+              record { before = v.home; own = home numbers put; behind = []; is = refl; member = ap (λ (x : Home M). sets.contains x.numbers p) (only_one (home numbers put) stood.before stood.own stood.behind stood.is) ∙ stood.member },
+            ))
             (λ (away : h.seat p ≢ other).
-              let stood = IsSeated-set ends pass v both at p
-                (λ s. record { before = s.before; own = s.own; behind = s.behind ++ home numbers put ∷ []; is = ap (λ l. l ++ home numbers put ∷ []) s.is ∙ append_assoc s.before (s.own ∷ s.behind) (home numbers put ∷ []); member = s.member })
-                (h.seat p) (h.seated p below) in
-              (stood.0, ap (get_elem? (set was other nobody)) (stays p away) ∙ set_else was other (h.seat p) nobody away ∙ stood.1, stood.2))
+            let stood = IsSeated-set ends pass v both at p
+            (λ s. record { before = s.before; own = s.own; behind = s.behind ++ home numbers put ∷ []; is = ap (λ l. l ++ home numbers put ∷ []) s.is ∙ append_assoc s.before (s.own ∷ s.behind) (home numbers put ∷ []); member = s.member })
+            (h.seat p) (h.seated p below) in
+            (stood.0, ap (get_elem? (set was other nobody)) (stays p away) ∙ set_else was other (h.seat p) nobody away ∙ stood.1, stood.2))
             (either_number (h.seat p) other);
         each = all_set New was other nobody
             record { takes = λ reads. absurd (true≢false (sym reads)); stands = λ before k behind is. absurd (not_empty before k behind is) }
