@@ -14,3 +14,4 @@ pub mod Occupancy
 pub mod Replies
 pub mod Growth
 pub mod Headline
+pub mod LaneRule

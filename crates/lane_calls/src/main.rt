@@ -1,0 +1,82 @@
+//! Sends many items through a lane and through the bare channels under it, so that their cost can be measured: `lane_calls WORD
+//! ITEMS`, where the word is lane, ruled or bounded; with a 2 behind it, one thread puts and another takes.
+#![tactic(auto)]
+
+ghost use Rattle.std.specs.Prelude.{◌≡◌, false};
+ghost use Rattle.wcp_lane.specs.Notes.{place_of, is_close};
+
+mod bounded;
+mod lanes;
+mod ruled;
+
+use std::alloc::{AllocError, Global};
+use std::sync::Wait;
+use std::thread::Threads;
+use std::{env, io};
+use wcp_clock::{Clock, Item, MAX_PROCS, Note};
+
+/// How many items each channel has room for.
+const ROOM: u32 = 64;
+
+/// Snapshot `number` of process `from`, with a clock of all processes.
+fn snap(from: u32, number: u32) -> Item
+    ensures from { result.from ≡ from }
+    ensures place { place_of result.note ≡ number }
+    ensures unended { is_close result.note ≡ false }
+{
+    Item {
+        from,
+        note: Note::Snap {
+            number,
+            clock: Clock::new(MAX_PROCS as u32),
+        },
+    }
+}
+
+/// What was taken, added up, so that nothing is left out.
+#[derive(Clone, Copy)]
+struct Sum(u64);
+
+impl Sum {
+    fn with(self, item: &Item) -> Sum {
+        match item.note {
+            Note::Snap { number, clock } => {
+                Sum(self.0.wrapping_add(u64::from(number)).wrapping_add(u64::from(clock.len())))
+            }
+            Note::Close { count } => Sum(self.0.wrapping_add(u64::from(count))),
+        }
+    }
+}
+
+fn hops<R: Threads + Wait + Sync>(
+    rt: &R,
+    alloc: Global,
+    word: &str,
+    items: u32,
+) -> Result<Sum, AllocError> {
+    match word {
+        "lane" => lanes::one_thread(rt, alloc, items),
+        "lane2" => lanes::two_threads(rt, alloc, items),
+        "ruled" => ruled::one_thread(rt, alloc, items),
+        "ruled2" => ruled::two_threads(rt, alloc, items),
+        "bounded" => bounded::one_thread(rt, alloc, items),
+        "bounded2" => bounded::two_threads(rt, alloc, items),
+        _ => Ok(Sum(0)),
+    }
+}
+
+fn main(rt: HostRuntime) -> io::Result<()> {
+    let mut args = env::args(&rt)?;
+    let _program = args.next();
+    let word = args.next();
+    let items = match args.next() {
+        Some(text) => text.as_str().parse().unwrap_or(0),
+        None => 0,
+    };
+    let mut sum = Sum(0);
+    if let Some(word) = word {
+        sum = hops(&rt, rt.alloc(), word.as_str(), items)?;
+    }
+    let Sum(sum) = sum;
+    println!(rt; "sum {sum}")
+}

@@ -1,0 +1,14 @@
+use Rattle.std.proofs.Common.{◌≡◌, sym, ap, subst, rules, arith}
+use Rattle.std.proofs.lemmas.Grind.{common_steps}
+use Rattle.wcp_clock.specs.declared.note.Item.{Item}
+use Rattle.wcp_lane.specs.Ends.{PutEnd, new_putter}
+use Rattle.lane_cases.specs.Snapshots.{HasPut}
+use Rattle.lane_cases.proofs.Opened.{alone, new_HasPut}
+use Rattle.lane_cases.proofs.tests.lanes.lane_of_two.Goals as goal
+
+pub returns-clause-new : goal.returns-clause-new
+returns-clause-new c =
+    let name = c.in_ok-putters.taker.lane in
+    let second : c.in-Some.second ≡ new_putter name (alone 1) = first_of (search rules, grind (arith, common_steps)) in
+    let first : c.in-Some-pop.first ≡ new_putter name (alone 0) = first_of (search rules, grind (arith, common_steps)) in
+    (subst (HasPut 0 0) (sym first) (new_HasPut name 0), subst (HasPut 1 0) (sym second) (new_HasPut name 1))

@@ -1,0 +1,6 @@
+use Rattle.std.proofs.Common.{◌≡◌}
+use Rattle.lane_cases.specs.Snapshots.{HasPut}
+use Rattle.lane_cases.proofs.tests.threads.put_all.Given as goal
+
+abbrev pub invariant-loop-number : goal.invariant-loop-number
+invariant-loop-number g l = HasPut l.from l.number l.putter × (l.putter.lane ≡ l.initial.putter.lane)

@@ -1,0 +1,3 @@
+mod lanes;
+mod one_thread;
+mod threads;

@@ -1,0 +1,94 @@
+//! Lanes of snapshots, for the tests.
+ghost use Rattle.std.specs.Prelude.{◌≡◌, ◌+◌, false, IfOk, OnOk};
+ghost use Rattle.wcp_lane.specs.Notes.{place_of, is_close};
+ghost use Rattle.lane_cases.specs.Snapshots.{HasPut};
+
+use std::alloc::Global;
+use std::sync::Wait;
+use wcp_clock::{Clock, Item, Note};
+use wcp_lane::{LaneFault, Origins, Putter, Taker, lane};
+
+/// Snapshot `number` of process `from`.
+pub fn snap(from: u32, number: u32) -> Item
+    ensures from { result.from ≡ from }
+    ensures place { place_of result.note ≡ number }
+    ensures unended { is_close result.note ≡ false }
+{
+    Item {
+        from,
+        note: Note::Snap {
+            number,
+            clock: Clock::new(1),
+        },
+    }
+}
+
+/// Puts the next snapshot of a process. `Err` hands it back.
+pub fn put_snap<R: Wait>(
+    rt: &R,
+    putter: &mut Putter<Item>,
+    from: u32,
+    number: u32,
+) -> Result<(), Item>
+    requires { HasPut from number putter.old }
+    ensures lane { putter.new.lane ≡ putter.old.lane }
+    ensures ok { OnOk result (HasPut from (number + 1) putter.new) }
+{
+    match putter.put(rt, snap(from, number)) {
+        Ok(()) => Ok(()),
+        Err((_, item)) => Err(item),
+    }
+}
+
+/// A lane with a putter of process 0 alone.
+pub fn lane_of_one(alloc: Global, cap: u32) -> Result<(Putter<Item>, Taker<Item>), LaneFault>
+    ensures lane { IfOk result (λ ends. ends.0.lane ≡ ends.1.lane) }
+    ensures new { IfOk result (λ ends. HasPut 0 0 ends.0) }
+{
+    let (mut putters, taker) = lane(alloc, cap, &[Origins::none().with(0)])?;
+    let Some(putter) = putters.pop() else {
+        return Err(LaneFault::Owners);
+    };
+    Ok((putter, taker))
+}
+
+/// A lane with a putter of process 0 and one of process 1.
+pub fn lane_of_two(
+    alloc: Global,
+    cap: u32,
+) -> Result<(Putter<Item>, Putter<Item>, Taker<Item>), LaneFault>
+    ensures lane { IfOk result (λ ends. (ends.0.lane ≡ ends.2.lane) × (ends.1.lane ≡ ends.2.lane)) }
+    ensures new { IfOk result (λ ends. HasPut 0 0 ends.0 × HasPut 1 0 ends.1) }
+{
+    let owners = [Origins::none().with(0), Origins::none().with(1)];
+    let (mut putters, taker) = lane(alloc, cap, &owners)?;
+    let Some(second) = putters.pop() else {
+        return Err(LaneFault::Owners);
+    };
+    let Some(first) = putters.pop() else {
+        return Err(LaneFault::Owners);
+    };
+    Ok((first, second, taker))
+}
+
+/// A lane with a putter of each of the processes 0, 1 and 2.
+pub fn lane_of_three(
+    alloc: Global,
+    cap: u32,
+) -> Result<(Putter<Item>, Putter<Item>, Putter<Item>, Taker<Item>), LaneFault>
+    ensures lane { IfOk result (λ ends. (ends.0.lane ≡ ends.3.lane) × (ends.1.lane ≡ ends.3.lane) × (ends.2.lane ≡ ends.3.lane)) }
+    ensures new { IfOk result (λ ends. HasPut 0 0 ends.0 × HasPut 1 0 ends.1 × HasPut 2 0 ends.2) }
+{
+    let none = Origins::none();
+    let (mut putters, taker) = lane(alloc, cap, &[none.with(0), none.with(1), none.with(2)])?;
+    let Some(third) = putters.pop() else {
+        return Err(LaneFault::Owners);
+    };
+    let Some(second) = putters.pop() else {
+        return Err(LaneFault::Owners);
+    };
+    let Some(first) = putters.pop() else {
+        return Err(LaneFault::Owners);
+    };
+    Ok((first, second, third, taker))
+}

@@ -1,0 +1,6 @@
+pub mod Counting
+pub mod Hands
+pub mod Lists
+pub mod Marks
+pub mod Sets
+pub mod Steps

@@ -1,0 +1,7 @@
+pub mod Ends
+pub mod Message
+pub mod Notes
+pub mod Numbers
+pub mod Owners
+pub mod Passes
+pub mod Within

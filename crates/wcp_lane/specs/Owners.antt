@@ -1,0 +1,24 @@
+-- When a lane can be made.
+use Rattle.std.specs.Prelude.{◌≡◌, ℕ, ◌<◌, ◌≤◌, true, List, length, AllPairs}
+use Rattle.std.specs.FinSet as set
+use Rattle.wcp_lane.specs.declared.fault.LaneFault.{LaneFault}
+use Rattle.wcp_lane.specs.declared.fault.LaneFault.TheVariants.{Cap, Owners, NoMemory}
+use Rattle.wcp_lane.specs.declared.opening.TheConstants.{MAX_CAPACITY}
+use Rattle.wcp_lane.specs.Passes.{Numbers}
+
+abbrev pub IsCapacity : ℕ → Type 0
+IsCapacity cap = (0 < cap) × (cap ≤ MAX_CAPACITY)
+
+-- No number is in two of these sets.
+abbrev pub AreApart : List Numbers → Type 0
+AreApart owners = AllPairs (λ a b. (p : ℕ) → set.contains a p ≡ true → set.contains b p ≡ true → ⊥) owners
+
+-- The owners of a lane are some sets, no two of which share a number.
+abbrev pub AreOwners : List Numbers → Type 0
+AreOwners owners = (0 < length owners) × AreApart owners
+
+-- What each fault says, where those before it don't apply.
+abbrev pub IsFirstFault : ℕ → List Numbers → LaneFault → Type 0
+IsFirstFault cap owners Cap = ¬ IsCapacity cap
+IsFirstFault cap owners Owners = IsCapacity cap × ¬ AreOwners owners
+IsFirstFault cap owners NoMemory = IsCapacity cap × AreOwners owners

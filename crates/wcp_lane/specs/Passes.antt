@@ -1,0 +1,107 @@
+-- What each end of a lane knows, and how this goes on at each step.
+use Rattle.std.specs.Prelude.{◌≡◌, ℕ, zero, suc, ◌<◌, Bool, true, false, List, [], ◌∷◌, ◌++◌, map}
+use Rattle.std.specs.Ordering.{nat_cmp}
+use Rattle.std.specs.FinSet as set
+use Rattle.std.specs.Coded.{Coded, coded_ℕ}
+use mathlib.Core.Option.{some}
+use lib.ListN.{get_elem?}
+use Rattle.wcp_clock.specs.declared.clock.TheConstants.{MAX_PROCS}
+use Rattle.wcp_model.specs.LaneRule.{LaneRule, IsNext}
+use Rattle.wcp_lane.specs.Message.{items_of, items_from}
+use Rattle.wcp_lane.specs.declared.passes.Hand.{Hand}
+use Rattle.wcp_lane.specs.declared.passes.Home.{Home}
+
+abbrev pub Numbers : Type 0
+Numbers = set.FinSet nat_cmp
+
+abbrev pub numbers_code : Coded Numbers
+numbers_code = set.code coded_ℕ
+
+-- the numbers below n
+unfoldable pub numbers_below : ℕ → Numbers
+numbers_below zero = set.empty
+numbers_below (suc n) = set.insert (numbers_below n) n
+
+-- every number that an item in a lane may have
+unfoldable pub all_numbers : Numbers
+all_numbers = numbers_below MAX_PROCS
+
+module _ {M : Type 0} where
+  abbrev pub home : Numbers → List M → Home M
+  home numbers put = record { numbers = numbers; put = put }
+
+  -- an end that has put these messages, of these numbers
+  abbrev pub putter : Numbers → List M → Hand M
+  putter numbers put = record { takes = false; taken = []; home = home numbers put ∷ [] }
+
+  -- the end that has taken these messages, and stands for the numbers of no putter
+  abbrev pub taker : Numbers → List M → Hand M
+  taker unowned taken = record { takes = true; taken = taken; home = home unowned [] ∷ [] }
+
+  -- an end whose numbers went to another
+  abbrev pub nobody : Hand M
+  nobody = record { takes = false; taken = []; home = [] }
+
+  -- without the numbers of a set
+  abbrev pub without : Numbers → Hand M → Hand M
+  without numbers v = record { takes = v.takes; taken = v.taken; home = map (λ h. home (set.difference h.numbers numbers) h.put) v.home }
+
+  -- with the numbers of another end too
+  abbrev pub joined : Hand M → Hand M → Hand M
+  joined v w = record { takes = v.takes; taken = v.taken; home = v.home ++ w.home }
+
+  -- an end has put the message, or taken it
+  abbrev pub with_put : M → Hand M → Hand M
+  with_put message v = record { takes = v.takes; taken = v.taken; home = map (λ h. home h.numbers (h.put ++ message ∷ [])) v.home }
+
+  abbrev pub with_taken : M → Hand M → Hand M
+  with_taken message v = record { takes = v.takes; taken = v.taken ++ message ∷ []; home = v.home }
+
+  abbrev pub IsPut : Hand M → M → Hand M → Type 0
+  IsPut v message w = w ≡ with_put message v
+
+-- an end stands for a number
+pub record StandsFor {M : Type 0} (v : Hand M) (p : ℕ) : Type 0 where
+  pub before : List (Home M)
+  pub own : Home M
+  pub behind : List (Home M)
+  pub is : v.home ≡ before ++ own ∷ behind
+  pub member : set.contains own.numbers p ≡ true
+
+-- the end with this pass stands for a number
+abbrev pub IsSeated : {M : Type 0} → List (Hand M) → ℕ → ℕ → Type 0
+IsSeated {M} ends pass p = (v : Hand M) × (get_elem? ends pass ≡ some v) × StandsFor v p
+
+module _ {M : Type 0} (origin place : M → ℕ) (is_last : M → Bool) where
+  -- an item that was taken: of a number below 16 that stands elsewhere, and the next one after those taken of its number
+  pub record IsFresh (unowned : Numbers) (taken : List M) (item : M) : Type 0 where
+    pub numbered : origin item < MAX_PROCS
+    pub owned : set.contains unowned (origin item) ≡ false
+    pub next : IsNext place is_last (items_from origin (origin item) taken) item
+
+  abbrev pub IsTaken : Hand M → M → Hand M → Type 0
+  IsTaken v message w = (w ≡ with_taken message v) × ((unowned : Numbers) (taken : List M) → v ≡ taker unowned taken → IsFresh unowned taken message)
+
+module _ {M : Type 0} (origin : M → ℕ) where
+  -- of each number that this end stands for, what was put is what this end took and then what the lane holds
+  abbrev pub IsBalanced : Hand M → List M → Type 0
+  IsBalanced v within =
+      v.takes ≡ true
+      → (before : List (Home M)) (h : Home M) (behind : List (Home M)) → v.home ≡ before ++ h ∷ behind
+      → (p : ℕ) → p < MAX_PROCS → set.contains h.numbers p ≡ true → items_from origin p h.put ≡ items_from origin p v.taken ++ items_from origin p within
+
+  -- what one end knows fits: the end that takes is the reader, and it has taken what was taken; the end that stands for a number has that number's seat, and has put what was put of it
+  pub record Fits (reader : ℕ) (seat : ℕ → ℕ) (taken : List M) (put : ℕ → List M) (pass : ℕ) (v : Hand M) : Type 0 where
+    pub takes : v.takes ≡ true → (pass ≡ reader) × (v.taken ≡ taken)
+    pub stands : (before : List (Home M)) (h : Home M) (behind : List (Home M)) → v.home ≡ before ++ h ∷ behind
+        → (p : ℕ) → p < MAX_PROCS → set.contains h.numbers p ≡ true → (seat p ≡ pass) × (items_from origin p h.put ≡ put p)
+
+-- the lane rule over what the lane holds and what the ends know: for each number there is one end that stands for it
+pub record IsRuled {M : Type 0} (origin place : M → ℕ) (is_last : M → Bool) (within : List M) (ends : List (Hand M)) : Type 0 where
+  pub reader : ℕ
+  pub seat : ℕ → ℕ
+  pub taken : List M
+  pub put : ℕ → List M
+  pub rule : LaneRule items_of origin place is_last taken within put
+  pub seated : (p : ℕ) → p < MAX_PROCS → IsSeated ends (seat p) p
+  pub each : (pass : ℕ) (v : Hand M) → get_elem? ends pass ≡ some v → Fits origin reader seat taken put pass v

@@ -1,0 +1,29 @@
+ghost use Rattle.std.specs.Prelude.{◌≡◌, ℕ, ◌+◌, ◌<◌, ◌↔◌, true, length, slice_index, slice_set, IsTrue};
+ghost use Rattle.std.specs.FinSet as set;
+ghost use Rattle.wcp_clock.specs.declared.clock.TheConstants.{MAX_PROCS};
+
+use crate::origins::Origins;
+use wcp_clock::MAX_PROCS;
+
+/// How many items of each number were put or taken. The place of the last one is a u64, so a count may be one more than that.
+pub type Counts = [u128; MAX_PROCS];
+
+/// Counts a message that is the next one of its origin.
+pub fn count(counts: &mut Counts, origin: u32, place: u64)
+    requires { origin < MAX_PROCS }
+    ensures { counts.new ≡ slice_set counts.old origin (place + 1) }
+{
+    counts[origin as usize] = u128::from(place) + 1;
+}
+
+/// Whether the counts of all these numbers are the same.
+pub fn agree(numbers: &Origins, put: &Counts, taken: &Counts) -> bool
+    ensures { IsTrue result ↔ ((p : ℕ) → p < MAX_PROCS → set.contains numbers.now p ≡ true → slice_index put.now p ≡ slice_index taken.now p) }
+{
+    for p in 0..MAX_PROCS {
+        if numbers.has(p as u32) && put[p] != taken[p] {
+            return false;
+        }
+    }
+    true
+}

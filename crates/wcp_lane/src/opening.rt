@@ -1,0 +1,117 @@
+ghost use Rattle.std.specs.Prelude.{◌≡◌, ℕ, ◌<◌, ◌≤◌, ◌↔◌, true, [], length, map, IsTrue, IfOk, IfErr, OnOk};
+ghost use Rattle.std.specs.List.{list_any};
+ghost use Rattle.std.specs.FinSet as set;
+ghost use Rattle.crossbeam_channel.specs.Ends.{sends_on};
+ghost use Rattle.crossbeam_channel.specs.Claims.{view, IsSeatAt};
+ghost use Rattle.wcp_clock.specs.declared.clock.TheConstants.{MAX_PROCS};
+ghost use Rattle.wcp_lane.specs.declared.opening.TheConstants.{MAX_CAPACITY};
+ghost use Rattle.wcp_lane.specs.Passes.{taker, putter, without};
+ghost use Rattle.wcp_lane.specs.Ends.{new_putter, unowned_by, lane_of};
+ghost use Rattle.wcp_lane.specs.Owners.{AreApart, AreOwners, IsCapacity, IsFirstFault};
+
+use crate::fault::LaneFault;
+use crate::message::Origin;
+use crate::origins::Origins;
+use crate::passes::{Given, Hand, LanePass, LaneSender, Numbers, Ruled};
+use crate::putter::Putter;
+use crate::taker::Taker;
+use crossbeam_channel::bounded_with;
+use std::alloc::{AllocError, Global};
+use std::marker::Brand;
+use wcp_clock::MAX_PROCS;
+
+/// The most messages that a lane may have room for.
+pub const MAX_CAPACITY: u32 = 65_536;
+
+/// A lane with room for `cap` messages, with a putter for each of these sets, in their order. It takes all the memory that its
+/// ends will ever use. No two sets may share a number, and there is at least one; a set may be empty.
+pub fn lane<M: Origin>(
+    alloc: Global,
+    cap: u32,
+    owners: &[Origins],
+) -> Result<(Vec<Putter<M>>, Taker<M>), LaneFault>
+    ensures fault { IfErr result (λ fault. IsFirstFault cap owners.now fault) }
+    ensures fit { OnOk result (IsCapacity cap × AreOwners owners.now) }
+    ensures putters { IfOk result (λ ends. ends.0.items ≡ map (new_putter ends.1.lane) owners.now) }
+    ensures members { IfOk result (λ ends. (p : ℕ) → set.contains ends.1.members p ≡ list_any (λ numbers. set.contains numbers p) owners.now) }
+    ensures empty { IfOk result (λ ends. ends.1.taken ≡ []) }
+{
+    if cap == 0 || cap > MAX_CAPACITY {
+        return Err(LaneFault::Cap);
+    }
+    if owners.is_empty() || !are_apart(owners) {
+        return Err(LaneFault::Owners);
+    }
+    match open(alloc, cap, owners) {
+        Ok(ends) => Ok(ends),
+        Err(AllocError) => Err(LaneFault::NoMemory),
+    }
+}
+
+/// Whether no number is in two of these sets.
+fn are_apart(owners: &[Origins]) -> bool
+    ensures { IsTrue result ↔ AreApart owners.now }
+{
+    let mut seen = Origins::none();
+    for numbers in owners {
+        if seen.meets(numbers) {
+            return false;
+        }
+        seen = seen.joined(numbers);
+    }
+    true
+}
+
+fn open<M: Origin>(
+    alloc: Global,
+    cap: u32,
+    owners: &[Origins],
+) -> Result<(Vec<Putter<M>>, Taker<M>), AllocError>
+    requires some { 0 < cap }
+    requires apart { AreApart owners.now }
+    ensures putters { IfOk result (λ ends. ends.0.items ≡ map (new_putter ends.1.lane) owners.now) }
+    ensures members { IfOk result (λ ends. (p : ℕ) → set.contains ends.1.members p ≡ list_any (λ numbers. set.contains numbers p) owners.now) }
+    ensures empty { IfOk result (λ ends. ends.1.taken ≡ []) }
+{
+    let mut putters = Vec::with_capacity(alloc, owners.len())?;
+    let (sender, receiver, mut pass) = bounded_with::<M, Hand<M>, Ruled, Global>(
+        alloc,
+        cap as usize,
+    )?;
+    let mut origins = Origins::none();
+    for numbers in owners {
+        let sender = sender.try_clone()?;
+        let own = give::<M, Brand>(&sender, &mut pass, numbers);
+        origins = origins.joined(numbers);
+        putters.push(Putter {
+            sender,
+            pass: own,
+            origins: *numbers,
+            counts: [0; MAX_PROCS],
+        })?;
+    }
+    let taker = Taker {
+        receiver,
+        pass,
+        origins,
+        counts: [0; MAX_PROCS],
+    };
+    Ok((putters, taker))
+}
+
+/// Splits the pass of some numbers off the taker's.
+fn give<M: Origin, N: Numbers>(
+    sender: &LaneSender<M>,
+    pass: &mut LanePass<M>,
+    numbers: &Origins,
+) -> LanePass<M>
+    requires lane { IsSeatAt (sends_on sender.now) pass.old }
+    requires numbers { numbers.now ≡ N.numbers }
+    requires taker { view pass.old ≡ taker (unowned_by (view pass.old)) [] }
+    requires among { (p : ℕ) → p < MAX_PROCS → set.contains numbers.now p ≡ true → set.contains (unowned_by (view pass.old)) p ≡ true }
+    ensures lane { IsSeatAt (sends_on sender.now) pass.new × IsSeatAt (sends_on sender.now) result }
+    ensures taker { view pass.new ≡ taker (set.difference (unowned_by (view pass.old)) numbers.now) [] }
+    ensures putter { view result ≡ putter numbers.now [] }
+{
+    sender.another::<Given<N>>(pass)
+}

@@ -1,0 +1,105 @@
+ghost use Rattle.std.specs.Prelude.{◌≡◌, ◌<◌, true, ◌∷◌, [], ◌++◌, OnOk, IfErr};
+ghost use Rattle.std.specs.FinSet as set;
+ghost use Rattle.wcp_model.specs.LaneRule.{IsNext};
+ghost use Rattle.wcp_lane.specs.Message.{items_from};
+ghost use Rattle.wcp_lane.specs.Ends.{PutEnd};
+
+use crate::counts::{Counts, count};
+use crate::fault::Cut;
+use crate::message::Origin;
+use crate::origins::Origins;
+use crate::passes::{LanePass, LaneSender, Puts};
+use std::marker::Model;
+use std::sync::Wait;
+
+/// An end of a lane that puts messages of the origins of a set.
+///
+/// A contract sees it as its lane, its set and what it has put.
+#[derive(Drop)]
+pub struct Putter<M: Origin> {
+    pub(crate) sender: LaneSender<M>,
+    pub(crate) pass: LanePass<M>,
+    pub(crate) origins: Origins,
+    pub(crate) counts: Counts,
+}
+
+impl<M: Origin> Model for Putter<M> {
+    ghost use Rattle.std.specs.Prelude.{◌≡◌};
+    ghost use Rattle.crossbeam_channel.specs.Ends.{sends_on};
+    ghost use Rattle.crossbeam_channel.specs.Claims.{IsSeatAt};
+    ghost use Rattle.wcp_lane.specs.Passes.{putter};
+    ghost use Rattle.wcp_lane.specs.Within.{IsWithin};
+    ghost use Rattle.wcp_lane.specs.Ends.{PutEnd, lane_of, hand_of, put_by, AreCounts};
+    ghost use Rattle.std.specs.Coded.{codes};
+    ghost use Rattle.wcp_lane.specs.Passes.{numbers_code};
+
+    ghost Value = { PutEnd M };
+
+    ghost coded = { Prim.hlevel (codes, numbers_code) };
+
+    ghost view = { λ s. record { lane = lane_of s.pass; members = s.origins; put = put_by (hand_of s.pass) } };
+
+    ghost invariant = { λ s. IsSeatAt (sends_on s.sender) s.pass × (hand_of s.pass ≡ putter s.origins (put_by (hand_of s.pass))) × IsWithin s.origins × AreCounts M.origin s.counts (put_by (hand_of s.pass)) };
+}
+
+impl<M: Origin> Putter<M> {
+    /// The numbers of which it puts.
+    pub fn origins(&self) -> Origins
+        ensures { result ≡ self.now.members }
+    {
+        self.origins
+    }
+
+    /// Puts a message, and waits while the lane is full. `Err` hands the message back.
+    pub fn put<R: Wait>(&mut self, rt: &R, message: M) -> Result<(), (Cut, M)>
+        requires origin { set.contains self.old.members (M.origin message) ≡ true }
+        requires next { IsNext M.place M.last (items_from M.origin (M.origin message) self.old.put) message }
+        ensures same { (self.new.lane ≡ self.old.lane) × (self.new.members ≡ self.old.members) }
+        ensures ok { OnOk result (self.new ≡ record self.old { put = self.old.put ++ message ∷ [] }) }
+        ensures err { IfErr result (λ e. (e.1 ≡ message) × (self.new ≡ self.old)) }
+    {
+        let origin = message.origin();
+        let place = message.place();
+        match self.sender.send_as::<Puts, R>(rt, &mut self.pass, message) {
+            Ok(()) => {
+                count(&mut self.counts, origin, place);
+                Ok(())
+            }
+            Err(error) => Err((Cut(()), error.into_inner())),
+        }
+    }
+
+    /// Ends it. The receipt keeps the lane open.
+    pub fn end(self) -> PutReceipt<M>
+        ensures { result ≡ self }
+    {
+        PutReceipt { putter: self }
+    }
+}
+
+/// What is left of a putter.
+#[derive(Drop)]
+pub struct PutReceipt<M: Origin> {
+    pub(crate) putter: Putter<M>,
+}
+
+impl<M: Origin> Model for PutReceipt<M> {
+    ghost use Rattle.wcp_lane.specs.Ends.{PutEnd};
+    ghost use Rattle.std.specs.Coded.{codes};
+    ghost use Rattle.wcp_lane.specs.Passes.{numbers_code};
+
+    ghost Value = { PutEnd M };
+
+    ghost coded = { Prim.hlevel (codes, numbers_code) };
+
+    ghost view = { λ s. s.putter };
+}
+
+impl<M: Origin> PutReceipt<M> {
+    /// The numbers of which the putter put.
+    pub fn origins(&self) -> Origins
+        ensures { result ≡ self.now.members }
+    {
+        self.putter.origins()
+    }
+}

@@ -1,0 +1,148 @@
+ghost use Rattle.std.specs.Prelude.{◌≡◌, ℕ, ◌<◌, true, ◌∷◌, [], ◌++◌, IfOk, IfSome, IfNone, OnErr, MatchResult, MatchOption};
+ghost use Rattle.std.specs.FinSet as set;
+ghost use Rattle.wcp_clock.specs.declared.clock.TheConstants.{MAX_PROCS};
+ghost use Rattle.wcp_lane.specs.Ends.{IsNextTaken};
+
+use crate::counts::{Counts, count};
+use crate::fault::Cut;
+use crate::message::Origin;
+use crate::origins::Origins;
+use crate::passes::{LanePass, LaneReceiver, Takes};
+use crossbeam_channel::TryRecvError;
+use std::marker::Model;
+use std::sync::Wait;
+
+/// The end of a lane that takes.
+///
+/// A contract sees it as its lane, the numbers of the lane's sets and what it has taken.
+#[derive(Drop)]
+pub struct Taker<M: Origin> {
+    pub(crate) receiver: LaneReceiver<M>,
+    pub(crate) pass: LanePass<M>,
+    pub(crate) origins: Origins,
+    pub(crate) counts: Counts,
+}
+
+impl<M: Origin> Model for Taker<M> {
+    ghost use Rattle.std.specs.Prelude.{◌≡◌};
+    ghost use Rattle.crossbeam_channel.specs.Ends.{receives_on};
+    ghost use Rattle.crossbeam_channel.specs.Claims.{IsSeatAt};
+    ghost use Rattle.wcp_lane.specs.Passes.{taker};
+    ghost use Rattle.wcp_lane.specs.Ends.{TakeEnd, lane_of, hand_of, unowned_by, IsRest, AreCounts};
+    ghost use Rattle.std.specs.Coded.{codes};
+    ghost use Rattle.wcp_lane.specs.Passes.{numbers_code};
+
+    ghost Value = { TakeEnd M };
+
+    ghost coded = { Prim.hlevel (codes, numbers_code) };
+
+    ghost view = { λ s. record { lane = lane_of s.pass; members = s.origins; taken = (hand_of s.pass).taken } };
+
+    ghost invariant = { λ s. IsSeatAt (receives_on s.receiver) s.pass × (hand_of s.pass ≡ taker (unowned_by (hand_of s.pass)) (hand_of s.pass).taken) × IsRest s.origins (unowned_by (hand_of s.pass)) × AreCounts M.origin s.counts (hand_of s.pass).taken };
+}
+
+impl<M: Origin> Taker<M> {
+    /// The numbers of all putters of the lane.
+    pub fn origins(&self) -> Origins
+        ensures { result ≡ self.now.members }
+    {
+        self.origins
+    }
+
+    /// Takes the next message, and waits for one.
+    pub fn take<R: Wait>(&mut self, rt: &R) -> Result<M, Cut>
+        ensures same { (self.new.lane ≡ self.old.lane) × (self.new.members ≡ self.old.members) }
+        ensures ok { IfOk result (λ message. IsNextTaken M.origin M.place M.last self.old message × (self.new ≡ record self.old { taken = self.old.taken ++ message ∷ [] })) }
+        ensures err { OnErr result (self.new ≡ self.old) }
+    {
+        match self.receiver.recv_as::<Takes, R>(rt, &mut self.pass) {
+            Ok(message) => {
+                count(&mut self.counts, message.origin(), message.place());
+                Ok(message)
+            }
+            Err(_) => Err(Cut(())),
+        }
+    }
+
+    /// Takes the next message, if there is one.
+    pub fn try_take<R: Wait>(&mut self, rt: &R) -> Result<Option<M>, Cut>
+        ensures same { (self.new.lane ≡ self.old.lane) × (self.new.members ≡ self.old.members) }
+        ensures some { IfOk result (λ found. IfSome found (λ message. IsNextTaken M.origin M.place M.last self.old message × (self.new ≡ record self.old { taken = self.old.taken ++ message ∷ [] }))) }
+        ensures none { IfOk result (λ found. IfNone found (self.new ≡ self.old)) }
+        ensures err { OnErr result (self.new ≡ self.old) }
+    {
+        match self.receiver.try_recv_as::<Takes, R>(rt, &mut self.pass) {
+            Ok(message) => {
+                count(&mut self.counts, message.origin(), message.place());
+                Ok(Some(message))
+            }
+            Err(TryRecvError::Empty) => Ok(None),
+            Err(TryRecvError::Disconnected) => Err(Cut(())),
+        }
+    }
+
+    /// Ends it. What is still put is handed back.
+    pub fn end(self) -> TakeReceipt<M>
+        ensures lane { result.lane ≡ self.lane }
+        ensures members { result.members ≡ self.members }
+        ensures matched { result.matched ≡ set.empty }
+        ensures taken { result.taken ≡ self.taken }
+    {
+        let Taker {
+            receiver: _,
+            pass,
+            origins,
+            counts,
+        } = self;
+        TakeReceipt {
+            pass,
+            origins,
+            counts,
+            matched: Origins::none(),
+        }
+    }
+}
+
+/// What is left of a taker.
+///
+/// A contract sees it as its lane, the numbers of the lane's sets, those of the putters that it was reconciled with, and what
+/// was taken.
+#[derive(Drop)]
+pub struct TakeReceipt<M: Origin> {
+    pub(crate) pass: LanePass<M>,
+    pub(crate) origins: Origins,
+    pub(crate) counts: Counts,
+    pub(crate) matched: Origins,
+}
+
+impl<M: Origin> Model for TakeReceipt<M> {
+    ghost use Rattle.std.specs.Prelude.{◌≡◌, true, []};
+    ghost use Rattle.wcp_lane.specs.Ends.{TakenEnd, lane_of, hand_of, AreCounts};
+    ghost use Rattle.std.specs.Coded.{codes};
+    ghost use Rattle.wcp_lane.specs.Passes.{numbers_code};
+
+    ghost Value = { TakenEnd M };
+
+    ghost coded = { Prim.hlevel (codes, numbers_code) };
+
+    ghost view = { λ s. record { lane = lane_of s.pass; members = s.origins; matched = s.matched; taken = (hand_of s.pass).taken } };
+
+    ghost invariant = { λ s. ((hand_of s.pass).takes ≡ true) × (s.pass.me.1 ≡ []) × AreCounts M.origin s.counts (hand_of s.pass).taken };
+}
+
+impl<M: Origin> TakeReceipt<M> {
+    /// The numbers of all putters of the lane.
+    pub fn origins(&self) -> Origins
+        ensures { result ≡ self.now.members }
+    {
+        self.origins
+    }
+
+    /// Whether `p` is a number of a putter that it was reconciled with.
+    pub fn matched(&self, p: u32) -> bool
+        requires { p < MAX_PROCS }
+        ensures { result ≡ set.contains self.now.matched p }
+    {
+        self.matched.has(p)
+    }
+}

@@ -1,0 +1,26 @@
+use Rattle.std.specs.Prelude.{◌≡◌, ◌==◌, ℕ, ◌<◌, Bool, false, List, ◌∷◌, ◌++◌, length, filter, All}
+use Rattle.std.specs.List.{flat_map}
+use Rattle.wcp_clock.specs.declared.clock.TheConstants.{MAX_PROCS}
+
+-- A lane carries messages, each with one item or more, and an item has an origin, the number of a process: here are the
+-- items of one origin among these messages, in order.
+abbrev pub items_from : {M I : Type 0} → (M → List I) → (I → ℕ) → ℕ → List M → List I
+items_from items_of origin p messages = filter (λ item. origin item == p) (flat_map items_of messages)
+
+-- An item is the next one after these if its place is their number and none of them is a last one.
+pub record IsNext {I : Type 0} (place : I → ℕ) (is_last : I → Bool) (before : List I) (item : I) : Type 0 where
+  pub numbered : place item ≡ length before
+  pub unended : All (λ earlier. is_last earlier ≡ false) before
+
+-- In a run each item is the next one after those before it: their places are 0, 1, 2, .., and nothing follows a last one.
+abbrev pub IsRun : {I : Type 0} → (I → ℕ) → (I → Bool) → List I → Type 0
+IsRun {I} place is_last items =
+    (before : List I) (item : I) (behind : List I) → items ≡ before ++ item ∷ behind → IsNext place is_last before item
+
+-- The lane rule, over the messages that the taker took, the messages in the lane, oldest first, and the items put of each
+-- number: each item in the lane is of a number below 16, and the items taken of a number, followed by those of it in the
+-- lane, are the items put of it, which are a run.
+pub record LaneRule {M I : Type 0} (items_of : M → List I) (origin place : I → ℕ) (is_last : I → Bool) (taken within : List M) (put : ℕ → List I) : Type 0 where
+  pub numbered : All (λ item. origin item < MAX_PROCS) (flat_map items_of within)
+  pub whole : (p : ℕ) → p < MAX_PROCS → items_from items_of origin p taken ++ items_from items_of origin p within ≡ put p
+  pub runs : (p : ℕ) → p < MAX_PROCS → IsRun place is_last (put p)
