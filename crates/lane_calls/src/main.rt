@@ -41,7 +41,11 @@ impl Sum {
     fn with(self, item: &Item) -> Sum {
         match item.note {
             Note::Snap { number, clock } => {
-                Sum(self.0.wrapping_add(u64::from(number)).wrapping_add(u64::from(clock.len())))
+                Sum(
+                    self.0
+                        .wrapping_add(u64::from(number))
+                        .wrapping_add(u64::from(clock.len())),
+                )
             }
             Note::Close { count } => Sum(self.0.wrapping_add(u64::from(count))),
         }

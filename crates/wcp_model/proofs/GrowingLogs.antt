@@ -72,35 +72,3 @@ get_push [] y z (suc i) at = cc
 get_push (x ∷ xs) y z zero at = inl at
 get_push (x ∷ xs) y z (suc i) at =
     ⊎_elim inl (λ (last : (i ≡ length xs) × (y ≡ z)). inr (ap suc last.0, last.1)) (get_push xs y z i at)
-
--- a close that stands in a computation closes its process
-close_closes : (c : Computation) (place p : ℕ) → slice_get c place ≡ Some (Close p) → is_closed c p ≡ true
-close_closes c place p at =
-    list_any_at (is_close_of p) c place (Close p) (slice_get_within c place (Close p) at)
-    (ap (is_close_of p) (get_or_from_slice_get c place (Close p) (Close p) at) ∙ eq-eqb p p refl)
-
--- accepted steps, and one more of a process that is open, which receives no message that wasn't sent
-pub accepted_push : (c : Computation) (x : Step) → IsAccepted c → ((p : ℕ) → is_step_of p x ≡ true → is_closed c p ≡ false) →
-    ((p message : ℕ) → x ≡ Recv p message → message < count_by is_send c) → IsAccepted (c ++ x ∷ [])
-accepted_push c x accepted is_open was_sent = record {
-  sent_first = λ place p message at.
-      ⊎_elim
-      (λ (old : slice_get c place ≡ Some (Recv p message)).
-      omega (arith, accepted.sent_first place p message old, message_grows c (x ∷ []) place (Recv p message) old))
-      (λ (last : (place ≡ length c) × (x ≡ Recv p message)).
-      let all : message_at (c ++ x ∷ []) place ≡ count_by is_send c =
-      ap (message_at (c ++ x ∷ [])) last.0 ∙ ap (count_by is_send) (take_at c (x ∷ []) (length c) refl) in
-      omega (arith, was_sent p message last.1, all))
-      (get_push c x (Recv p message) place at);
-  close_last = λ place later p y below closes at.
-      ⊎_elim
-      (λ (old : slice_get c place ≡ Some (Close p)).
-      ⊎_elim (λ (also : slice_get c later ≡ Some y). accepted.close_last place later p y below old also)
-      (λ (last : (later ≡ length c) × (x ≡ y)).
-      false_from_ne_true (is_step_of p y)
-      (λ own. true≢false (sym (close_closes c place p old) ∙ is_open p (ap (is_step_of p) last.1 ∙ own))))
-      (get_push c x y later at))
-      (λ (last : (place ≡ length c) × (x ≡ Close p)).
-      absurd (omega (arith, last.0, slice_get_within (c ++ x ∷ []) later y at, length_push c x)))
-      (get_push c x (Close p) place closes);
-}

@@ -15,7 +15,6 @@ pub mod GrowingLogs
 pub mod RunningClock
 pub mod RunningEmissions
 pub mod RunningLog
-pub mod EmittedSnapshots
 pub mod StateClocks
 pub mod OnePass
 pub mod Turns

@@ -8,7 +8,7 @@ use Rattle.wcp_clock.specs.declared.note.Note.{Note}
 use Rattle.wcp_model.specs.Computation.{Computation}
 use Rattle.wcp_model.specs.Emission.{AreEmissions}
 use Rattle.wcp_model.specs.Report.{snapshot_clocks}
-use Rattle.wcp_model.proofs.EmittedSnapshots.{few_snapshots, snapshots_counted}
+use Rattle.wcp_model.proofs.NotesInTurn.{log_counts_notes}
 use Rattle.wcp_probe.specs.Core.{Core}
 use Rattle.wcp_world.specs.Application.{ApplicationState, IsApplicationOf, IsProbeOf, HasEmitted, WasPut, pending_at}
 use Rattle.wcp_world.specs.Putting.{put_more}
@@ -25,10 +25,6 @@ module _ (n : ℕ) (c : Computation) (put : ℕ → List Note) (app : Applicatio
       (λ (past : (length app.probes ≤ p) × _). absurd (omega (arith, past.0, stands.members)))
       (slice_get_cases app.probes p).1
 
-  -- a process has emitted as many snapshots as its clock counts events, or one more
-  pub few_emitted : length (snapshot_clocks (put p ++ option_to_list (pending_at app p))) ≤ CLOCK_LIMIT + 1
-  few_emitted = omega (arith, few_snapshots n c p (put p ++ option_to_list (pending_at app p)) put_and_pending, stands.few p)
-
 module _ (app : ApplicationState) (p : ℕ) (core : Core) (at : slice_get app.probes p ≡ Some core) where
   -- a probe counts the snapshots among the emissions of its process
   pub emitted_counts : HasEmitted app p core.emitted
@@ -37,7 +33,7 @@ module _ (app : ApplicationState) (p : ℕ) (core : Core) (at : slice_get app.pr
       let within : p < n = omega (arith, slice_get_within app.probes p core at, stands.members) in (
         (state n c p (put p) core is).notes,
         (law_of_probe n c p (put p) core is stands.order within).emissions,
-        emitted_is n c p (put p) core is ∙ snapshots_counted n c p is.log stands.order within is.is_log,
+        emitted_is n c p (put p) core is ∙ (log_counts_notes n p is.log).snapshots,
       )
 
   -- the probe whose pending note was put

@@ -15,6 +15,7 @@ use Rattle.wcp_model.specs.Replies.{receivers, is_receive_of, was_received, was_
 use Rattle.wcp_model.proofs.EventPlaces.{event_of_send, event_below}
 use Rattle.wcp_model.proofs.Predecessors.{span, local_state}
 use Rattle.wcp_model.proofs.RunningClock.{clock_counts}
+use Rattle.wcp_model.proofs.AcceptedReplies.{length-receivers}
 use Rattle.wcp_model.proofs.GrowingLogs.{stamp_grows, get_push}
 use Rattle.wcp_probe.specs.Seal.{seal_of}
 use Rattle.wcp_probe.specs.declared.stamp.Stamped.{Stamped}
@@ -71,16 +72,8 @@ received_now c p message = list_any-append (is_receive_of message) c (Recv p mes
     or_one true = refl
     or_one false = refl
 
--- there are as many letters as sends
-length-receivers : (c : Computation) → length (receivers c) ≡ count_by is_send c
-length-receivers [] = refl
-length-receivers (Send p to ∷ c) = ap suc (length-receivers c) ∙ sym (sum_by-cons (λ x. cond (is_send x) 1 0) (Send p to) c ∙ omega arith)
-length-receivers (Observe p holds ∷ c) = length-receivers c ∙ sym (sum_by-cons (λ x. cond (is_send x) 1 0) (Observe p holds) c ∙ omega arith)
-length-receivers (Recv p message ∷ c) = length-receivers c ∙ sym (sum_by-cons (λ x. cond (is_send x) 1 0) (Recv p message) c ∙ omega arith)
-length-receivers (Close p ∷ c) = length-receivers c ∙ sym (sum_by-cons (λ x. cond (is_send x) 1 0) (Close p) c ∙ omega arith)
-length-receivers (s ∷ c) = length-receivers c ∙ sym (sum_by-cons (λ x. cond (is_send x) 1 0) s c ∙ omega arith)
-
 module _ (n : ℕ) (c : Computation) (letters : List Letter) (are : AreLettersOf n c letters) where
+  -- there are as many letters as sends
   pub as_many_letters : length letters ≡ count_by is_send c
   as_many_letters = sym (length-map letters (λ (l : Letter). l.to)) ∙ ap length are.receivers_are ∙ length-receivers c
 

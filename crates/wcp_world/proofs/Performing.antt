@@ -19,7 +19,8 @@ use Rattle.wcp_model.specs.ProbeLog.{Call, Observed, Sent, Received, Closed, Pro
 use Rattle.wcp_model.specs.Replies.{accepted_by, event_reasons, first_of_reasons}
 use Rattle.wcp_model.specs.StateClock.{IsStateClock}
 use Rattle.wcp_model.proofs.Growth.{get_behind}
-use Rattle.wcp_model.proofs.GrowingLogs.{stamp_grows, log_grows, accepted_push}
+use Rattle.wcp_model.proofs.GrowingLogs.{stamp_grows, log_grows}
+use Rattle.wcp_model.proofs.AcceptedSteps.{accepted_push}
 use Rattle.wcp_model.proofs.Predecessors.{local_state}
 use Rattle.wcp_model.proofs.RunningEmissions.{interval_at_seam}
 use Rattle.wcp_probe.specs.declared.probe.Refusal.TheVariants as refusal

@@ -31,8 +31,11 @@ returns-clause-answered c plan steps put taken stands =
           λ e. true≢false (sym (w.in-Ok.ensures.full.1 (ap (λ (h : Held). length h.items) there ∙ e ∙ ap (λ (h : Held). h.room) (sym there)))) in
           let pushed = ap₂ (λ l h. set l c.args.p h) same (w.in-Ok.ensures.ok ∙ ap (λ (h : Held). record h { items = h.items ++ record { from = c.args.p; note = c.args.note } ∷ [] }) there) in
           let told = puts plan steps put taken t stands c.args.p c.args.note _ in_range space pushed in
-          rw w.result-is (told.0, λ done. subst (λ (p : Plan). IsTransportOf plan (steps ++ step.Put c.args.p ∷ []) (put_more put c.args.p c.args.note) taken (record { plan = p; places = set c.self.inside.places.items c.args.p c.push.new.self }))
-          (sym (ap (λ (s : TransportState). s.plan) c.self.view_is)) told.1)
+          rw w.result-is (
+            told.0,
+            λ done. subst (λ (p : Plan). IsTransportOf plan (steps ++ step.Put c.args.p ∷ []) (put_more put c.args.p c.args.note) taken (record { plan = p; places = set c.self.inside.places.items c.args.p c.push.new.self }))
+                (sym (ap (λ (s : TransportState). s.plan) c.self.view_is)) told.1,
+          )
       | in-Err w ↦
           let full = ap (λ (h : Held). length h.items) (sym there) ∙ w.in-Err.ensures.full.0 refl ∙ ap (λ (h : Held). h.room) there in
           rw w.result-is (put_refused plan steps put taken t stands c.args.p in_range full, λ done. cc done)
