@@ -20,12 +20,7 @@ fn ends(alloc: Global) -> Result<(Putter<Item>, Taker<Item>), AllocError>
     Ok((putter, taker))
 }
 
-fn put<R: Wait>(
-    rt: &R,
-    putter: &mut Putter<Item>,
-    from: u32,
-    number: u32,
-) -> Result<(), Item>
+fn put<R: Wait>(rt: &R, putter: &mut Putter<Item>, from: u32, number: u32) -> Result<(), Item>
     requires { HasPut from number putter.old }
     ensures { OnOk result (HasPut from (number + 1) putter.new) }
 {

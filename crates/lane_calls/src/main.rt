@@ -1,5 +1,6 @@
-//! Sends many items through a lane and through the bare channels under it, so that their cost can be measured: `lane_calls WORD
-//! ITEMS`, where the word is lane, ruled or bounded; with a 2 behind it, one thread puts and another takes.
+//! Sends many items through a lane and through the bare channels under it, so that their cost can be
+//! measured: `lane_calls WORD ITEMS`, where the word is lane, ruled or bounded; with a 2 behind it,
+//! one thread puts and another takes.
 #![tactic(auto)]
 
 ghost use Rattle.std.specs.Prelude.{◌≡◌, false};
@@ -41,7 +42,11 @@ impl Sum {
     fn with(self, item: &Item) -> Sum {
         match item.note {
             Note::Snap { number, clock } => {
-                Sum(self.0.wrapping_add(u64::from(number)).wrapping_add(u64::from(clock.len())))
+                Sum(
+                    self.0
+                        .wrapping_add(u64::from(number))
+                        .wrapping_add(u64::from(clock.len())),
+                )
             }
             Note::Close { count } => Sum(self.0.wrapping_add(u64::from(count))),
         }

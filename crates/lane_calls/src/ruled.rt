@@ -18,10 +18,16 @@ type Both = Pass<Item, ()>;
 
 /// Sends an item and receives it, again and again.
 pub fn one_thread<R: Wait>(rt: &R, alloc: Global, items: u32) -> Result<Sum, AllocError> {
-    let (sender, receiver, mut pass) = bounded_with::<Item, (), Free, Global>(alloc, ROOM as usize)?;
+    let (sender, receiver, mut pass) = bounded_with::<Item, (), Free, Global>(
+        alloc,
+        ROOM as usize,
+    )?;
     let mut sum = Sum(0);
     for number in 0..items {
-        if sender.send_as::<Free, R>(rt, &mut pass, snap(0, number)).is_err() {
+        if sender
+            .send_as::<Free, R>(rt, &mut pass, snap(0, number))
+            .is_err()
+        {
             return Ok(sum);
         }
         match receiver.recv_as::<Free, R>(rt, &mut pass) {
@@ -36,7 +42,10 @@ fn send_all<R: Wait>(rt: &R, sender: Sender, mut pass: Both, items: u32)
     requires { IsSeatAt (sends_on sender) pass }
 {
     for number in 0..items {
-        if sender.send_as::<Free, R>(rt, &mut pass, snap(0, number)).is_err() {
+        if sender
+            .send_as::<Free, R>(rt, &mut pass, snap(0, number))
+            .is_err()
+        {
             return;
         }
     }
@@ -70,7 +79,10 @@ pub fn two_threads<R: Threads + Wait + Sync>(
     alloc: Global,
     items: u32,
 ) -> Result<Sum, AllocError> {
-    let (sender, receiver, mut pass) = bounded_with::<Item, (), Free, Global>(alloc, ROOM as usize)?;
+    let (sender, receiver, mut pass) = bounded_with::<Item, (), Free, Global>(
+        alloc,
+        ROOM as usize,
+    )?;
     let other = sender.another::<Same>(&mut pass);
     let ((), sum) = join(
         rt,
