@@ -1,5 +1,6 @@
-//! Sends many items through a lane and through the bare channels under it, so that their cost can be measured: `lane_calls WORD
-//! ITEMS`, where the word is lane, ruled or bounded; with a 2 behind it, one thread puts and another takes.
+//! Sends many items through a lane and through the bare channels under it, so that their cost can be
+//! measured: `lane_calls WORD ITEMS`, where the word is lane, ruled or bounded; with a 2 behind it,
+//! one thread puts and another takes.
 #![tactic(auto)]
 
 ghost use Rattle.std.specs.Prelude.{◌≡◌, false};

@@ -8,10 +8,7 @@ use Rattle.std.proofs.lemmas.Bool.{cases_lt}
 use Rattle.std.proofs.lemmas.Bool.Decides.{nat_tests}
 use Rattle.std.proofs.lemmas.List.{get_or-set_same, get_or-set_other, get_or_past}
 use Rattle.std.specs.FinMap.{nat_cmp-IsAntisymmetric}
-use Rattle.wcp_lane.specs.Numbers.{numbers_from, contains-marks}
-
-abbrev set_of : List Bool → sets.FinSet nat_cmp
-set_of marks = sets.from_list (numbers_from 0 marks)
+use Rattle.wcp_lane.specs.Numbers.{set_of, contains-marks}
 
 -- a number in the set is below the number of marks
 pub contains_below : (marks : List Bool) (q : ℕ) → sets.contains (set_of marks) q ≡ true → q < length marks

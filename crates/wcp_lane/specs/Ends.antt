@@ -68,9 +68,12 @@ IsRest numbers rest = (p : ℕ) → p < MAX_PROCS → set.contains rest p ≡ no
 
 -- how many of these messages there are of each origin
 abbrev pub AreCounts : {M : Type 0} → (M → ℕ) → List ℕ → List M → Type 0
-AreCounts origin counts messages = (length counts ≡ MAX_PROCS) × ((p : ℕ) → p < MAX_PROCS → slice_index counts p ≡ length (items_from origin p messages))
+AreCounts origin counts messages =
+    (length counts ≡ MAX_PROCS) × ((p : ℕ) → p < MAX_PROCS → slice_index counts p ≡ length (items_from origin p messages))
 
--- A message that the taker takes is of one of the lane's numbers, and the next one after those that it has taken of this number.
-pub record IsNextTaken {M : Type 0} (origin place : M → ℕ) (is_last : M → Bool) (end : TakeEnd M) (message : M) : Type 0 where
+-- A message that the taker takes is of one of the lane's numbers, and the next one after those that it has taken of this
+-- number.
+pub record IsNextTaken
+    {M : Type 0} (origin place : M → ℕ) (is_last : M → Bool) (end : TakeEnd M) (message : M) : Type 0 where
   pub owned : set.contains end.members (origin message) ≡ true
   pub next : IsNext place is_last (items_from origin (origin message) end.taken) message

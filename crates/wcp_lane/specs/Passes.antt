@@ -44,7 +44,8 @@ module _ {M : Type 0} where
 
   -- without the numbers of a set
   abbrev pub without : Numbers → Hand M → Hand M
-  without numbers v = record { takes = v.takes; taken = v.taken; home = map (λ h. home (set.difference h.numbers numbers) h.put) v.home }
+  without numbers v =
+      record { takes = v.takes; taken = v.taken; home = map (λ h. home (set.difference h.numbers numbers) h.put) v.home }
 
   -- with the numbers of another end too
   abbrev pub joined : Hand M → Hand M → Hand M
@@ -52,7 +53,8 @@ module _ {M : Type 0} where
 
   -- an end has put the message, or taken it
   abbrev pub with_put : M → Hand M → Hand M
-  with_put message v = record { takes = v.takes; taken = v.taken; home = map (λ h. home h.numbers (h.put ++ message ∷ [])) v.home }
+  with_put message v =
+      record { takes = v.takes; taken = v.taken; home = map (λ h. home h.numbers (h.put ++ message ∷ [])) v.home }
 
   abbrev pub with_taken : M → Hand M → Hand M
   with_taken message v = record { takes = v.takes; taken = v.taken ++ message ∷ []; home = v.home }
@@ -73,14 +75,16 @@ abbrev pub IsSeated : {M : Type 0} → List (Hand M) → ℕ → ℕ → Type 0
 IsSeated {M} ends pass p = (v : Hand M) × (get_elem? ends pass ≡ some v) × StandsFor v p
 
 module _ {M : Type 0} (origin place : M → ℕ) (is_last : M → Bool) where
-  -- an item that was taken: of a number below 16 that stands elsewhere, and the next one after those taken of its number
+  -- an item that was taken is of a number below 16 that some putter has, and the next one after those taken of it
   pub record IsFresh (unowned : Numbers) (taken : List M) (item : M) : Type 0 where
     pub numbered : origin item < MAX_PROCS
     pub owned : set.contains unowned (origin item) ≡ false
     pub next : IsNext place is_last (items_from origin (origin item) taken) item
 
   abbrev pub IsTaken : Hand M → M → Hand M → Type 0
-  IsTaken v message w = (w ≡ with_taken message v) × ((unowned : Numbers) (taken : List M) → v ≡ taker unowned taken → IsFresh unowned taken message)
+  IsTaken v message w =
+      (w ≡ with_taken message v)
+      × ((unowned : Numbers) (taken : List M) → v ≡ taker unowned taken → IsFresh unowned taken message)
 
 module _ {M : Type 0} (origin : M → ℕ) where
   -- of each number that this end stands for, what was put is what this end took and then what the lane holds
@@ -88,16 +92,21 @@ module _ {M : Type 0} (origin : M → ℕ) where
   IsBalanced v within =
       v.takes ≡ true
       → (before : List (Home M)) (h : Home M) (behind : List (Home M)) → v.home ≡ before ++ h ∷ behind
-      → (p : ℕ) → p < MAX_PROCS → set.contains h.numbers p ≡ true → items_from origin p h.put ≡ items_from origin p v.taken ++ items_from origin p within
+      → (p : ℕ) → p < MAX_PROCS → set.contains h.numbers p ≡ true
+      → items_from origin p h.put ≡ items_from origin p v.taken ++ items_from origin p within
 
-  -- what one end knows fits: the end that takes is the reader, and it has taken what was taken; the end that stands for a number has that number's seat, and has put what was put of it
+  -- what one end knows fits: the end that takes is the reader, and it has taken what was taken; the end that stands for a
+  -- number has that number's seat, and has put what was put of it
   pub record Fits (reader : ℕ) (seat : ℕ → ℕ) (taken : List M) (put : ℕ → List M) (pass : ℕ) (v : Hand M) : Type 0 where
     pub takes : v.takes ≡ true → (pass ≡ reader) × (v.taken ≡ taken)
     pub stands : (before : List (Home M)) (h : Home M) (behind : List (Home M)) → v.home ≡ before ++ h ∷ behind
-        → (p : ℕ) → p < MAX_PROCS → set.contains h.numbers p ≡ true → (seat p ≡ pass) × (items_from origin p h.put ≡ put p)
+        → (p : ℕ) → p < MAX_PROCS → set.contains h.numbers p ≡ true
+        → (seat p ≡ pass) × (items_from origin p h.put ≡ put p)
 
 -- the lane rule over what the lane holds and what the ends know: for each number there is one end that stands for it
-pub record IsRuled {M : Type 0} (origin place : M → ℕ) (is_last : M → Bool) (within : List M) (ends : List (Hand M)) : Type 0 where
+pub record IsRuled
+    {M : Type 0} (origin place : M → ℕ) (is_last : M → Bool)
+    (within : List M) (ends : List (Hand M)) : Type 0 where
   pub reader : ℕ
   pub seat : ℕ → ℕ
   pub taken : List M

@@ -5,7 +5,8 @@ ghost use Rattle.wcp_clock.specs.declared.clock.TheConstants.{MAX_PROCS};
 use crate::origins::Origins;
 use wcp_clock::MAX_PROCS;
 
-/// How many items of each number were put or taken. The place of the last one is a u64, so a count may be one more than that.
+/// How many items of each number were put or taken. The place of the last one is a u64, so a count may
+/// be one more than that.
 pub type Counts = [u128; MAX_PROCS];
 
 /// Counts a message that is the next one of its origin.
@@ -18,7 +19,8 @@ pub fn count(counts: &mut Counts, origin: u32, place: u64)
 
 /// Whether the counts of all these numbers are the same.
 pub fn agree(numbers: &Origins, put: &Counts, taken: &Counts) -> bool
-    ensures { IsTrue result ↔ ((p : ℕ) → p < MAX_PROCS → set.contains numbers.now p ≡ true → slice_index put.now p ≡ slice_index taken.now p) }
+    ensures { IsTrue result
+        ↔ ((p : ℕ) → p < MAX_PROCS → set.contains numbers.now p ≡ true → slice_index put.now p ≡ slice_index taken.now p) }
 {
     for p in 0..MAX_PROCS {
         if numbers.has(p as u32) && put[p] != taken[p] {

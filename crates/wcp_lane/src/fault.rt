@@ -14,8 +14,8 @@ pub enum LaneFault {
     NoMemory,
 }
 
-/// The channel under the lane refused a put, or had nothing left to take. It does so once the other side is gone; only a lane
-/// makes a value of it.
+/// The channel under the lane refused a put, or had nothing left to take. It does so once the other side
+/// is gone; only a lane makes a value of it.
 #[derive(Clone, Copy, Debug, PartialEq, Eq, Error)]
 #[error("the lane is cut")]
 pub struct Cut(pub(crate) ());

@@ -1,5 +1,5 @@
-//! Relay lanes: bounded, many putters, one taker. What is taken of each origin, followed by what is in the lane, is what was
-//! put of it, at every step of every schedule.
+//! Relay lanes: bounded, many putters, one taker. What is taken of each origin, followed by what is in
+//! the lane, is what was put of it, at every step of every schedule.
 #![tactic(auto)]
 
 mod counts;

@@ -2,8 +2,8 @@ ghost use Rattle.std.specs.Prelude.{◌≡◌, ℕ, Bool};
 
 use wcp_clock::{Item, Note};
 
-/// What a lane carries. A message has an origin, which is the number of a process, and a place among the messages of its
-/// origin.
+/// What a lane carries. A message has an origin, which is the number of a process, and a place among the
+/// messages of its origin.
 pub trait Origin: Drop {
     ghost origin: { Self → ℕ };
 

@@ -23,8 +23,9 @@ use wcp_clock::MAX_PROCS;
 /// The most messages that a lane may have room for.
 pub const MAX_CAPACITY: u32 = 65_536;
 
-/// A lane with room for `cap` messages, with a putter for each of these sets, in their order. It takes all the memory that its
-/// ends will ever use. No two sets may share a number, and there is at least one; a set may be empty.
+/// A lane with room for `cap` messages, with a putter for each of these sets, in their order. It takes
+/// all the memory that its ends will ever use. No two sets may share a number, and there is at least
+/// one; a set may be empty.
 pub fn lane<M: Origin>(
     alloc: Global,
     cap: u32,
@@ -33,7 +34,8 @@ pub fn lane<M: Origin>(
     ensures fault { IfErr result (λ fault. IsFirstFault cap owners.now fault) }
     ensures fit { OnOk result (IsCapacity cap × AreOwners owners.now) }
     ensures putters { IfOk result (λ ends. ends.0.items ≡ map (new_putter ends.1.lane) owners.now) }
-    ensures members { IfOk result (λ ends. (p : ℕ) → set.contains ends.1.members p ≡ list_any (λ numbers. set.contains numbers p) owners.now) }
+    ensures members { IfOk result (λ ends.
+        (p : ℕ) → set.contains ends.1.members p ≡ list_any (λ numbers. set.contains numbers p) owners.now) }
     ensures empty { IfOk result (λ ends. ends.1.taken ≡ []) }
 {
     if cap == 0 || cap > MAX_CAPACITY {
@@ -70,7 +72,8 @@ fn open<M: Origin>(
     requires some { 0 < cap }
     requires apart { AreApart owners.now }
     ensures putters { IfOk result (λ ends. ends.0.items ≡ map (new_putter ends.1.lane) owners.now) }
-    ensures members { IfOk result (λ ends. (p : ℕ) → set.contains ends.1.members p ≡ list_any (λ numbers. set.contains numbers p) owners.now) }
+    ensures members { IfOk result (λ ends.
+        (p : ℕ) → set.contains ends.1.members p ≡ list_any (λ numbers. set.contains numbers p) owners.now) }
     ensures empty { IfOk result (λ ends. ends.1.taken ≡ []) }
 {
     let mut putters = Vec::with_capacity(alloc, owners.len())?;
@@ -108,7 +111,8 @@ fn give<M: Origin, N: Numbers>(
     requires lane { IsSeatAt (sends_on sender.now) pass.old }
     requires numbers { numbers.now ≡ N.numbers }
     requires taker { view pass.old ≡ taker (unowned_by (view pass.old)) [] }
-    requires among { (p : ℕ) → p < MAX_PROCS → set.contains numbers.now p ≡ true → set.contains (unowned_by (view pass.old)) p ≡ true }
+    requires among { (p : ℕ) → p < MAX_PROCS → set.contains numbers.now p ≡ true
+        → set.contains (unowned_by (view pass.old)) p ≡ true }
     ensures lane { IsSeatAt (sends_on sender.now) pass.new × IsSeatAt (sends_on sender.now) result }
     ensures taker { view pass.new ≡ taker (set.difference (unowned_by (view pass.old)) numbers.now) [] }
     ensures putter { view result ≡ putter numbers.now [] }

@@ -18,13 +18,13 @@ impl Model for Origins {
     ghost use Rattle.std.specs.FinSet as set;
     ghost use Rattle.std.specs.Coded.{coded_ℕ};
     ghost use Rattle.wcp_clock.specs.declared.clock.TheConstants.{MAX_PROCS};
-    ghost use Rattle.wcp_lane.specs.Numbers.{numbers_from, marks_of, marks_back};
+    ghost use Rattle.wcp_lane.specs.Numbers.{set_of, marks_of, marks_back};
 
     ghost Value = { set.FinSet nat_cmp };
 
     ghost coded = { set.code coded_ℕ };
 
-    ghost view = { λ o. set.from_list (numbers_from 0 o.has) };
+    ghost view = { λ o. set_of o.has };
 
     ghost invariant = { λ o. length o.has ≡ MAX_PROCS };
 
@@ -87,7 +87,8 @@ impl Origins {
 
 /// The marks that are set in either.
 fn either(mine: &[bool; MAX_PROCS], theirs: &[bool; MAX_PROCS]) -> [bool; MAX_PROCS]
-    ensures { (p : ℕ) → slice_index_or result p false ≡ (slice_index_or mine.now p false || slice_index_or theirs.now p false) }
+    ensures { (p : ℕ) → slice_index_or result p false
+        ≡ (slice_index_or mine.now p false || slice_index_or theirs.now p false) }
 {
     let mut either = *mine;
     for (p, marked) in theirs.iter().enumerate() {

@@ -39,7 +39,11 @@ impl<M: Origin> Model for Putter<M> {
 
     ghost view = { λ s. record { lane = lane_of s.pass; members = s.origins; put = put_by (hand_of s.pass) } };
 
-    ghost invariant = { λ s. IsSeatAt (sends_on s.sender) s.pass × (hand_of s.pass ≡ putter s.origins (put_by (hand_of s.pass))) × IsWithin s.origins × AreCounts M.origin s.counts (put_by (hand_of s.pass)) };
+    ghost invariant = { λ s.
+        IsSeatAt (sends_on s.sender) s.pass
+        × (hand_of s.pass ≡ putter s.origins (put_by (hand_of s.pass)))
+        × IsWithin s.origins
+        × AreCounts M.origin s.counts (put_by (hand_of s.pass)) };
 }
 
 impl<M: Origin> Putter<M> {

@@ -38,7 +38,11 @@ impl<M: Origin> Model for Taker<M> {
 
     ghost view = { λ s. record { lane = lane_of s.pass; members = s.origins; taken = (hand_of s.pass).taken } };
 
-    ghost invariant = { λ s. IsSeatAt (receives_on s.receiver) s.pass × (hand_of s.pass ≡ taker (unowned_by (hand_of s.pass)) (hand_of s.pass).taken) × IsRest s.origins (unowned_by (hand_of s.pass)) × AreCounts M.origin s.counts (hand_of s.pass).taken };
+    ghost invariant = { λ s.
+        IsSeatAt (receives_on s.receiver) s.pass
+        × (hand_of s.pass ≡ taker (unowned_by (hand_of s.pass)) (hand_of s.pass).taken)
+        × IsRest s.origins (unowned_by (hand_of s.pass))
+        × AreCounts M.origin s.counts (hand_of s.pass).taken };
 }
 
 impl<M: Origin> Taker<M> {
@@ -52,7 +56,9 @@ impl<M: Origin> Taker<M> {
     /// Takes the next message, and waits for one.
     pub fn take<R: Wait>(&mut self, rt: &R) -> Result<M, Cut>
         ensures same { (self.new.lane ≡ self.old.lane) × (self.new.members ≡ self.old.members) }
-        ensures ok { IfOk result (λ message. IsNextTaken M.origin M.place M.last self.old message × (self.new ≡ record self.old { taken = self.old.taken ++ message ∷ [] })) }
+        ensures ok { IfOk result (λ message.
+            IsNextTaken M.origin M.place M.last self.old message
+            × (self.new ≡ record self.old { taken = self.old.taken ++ message ∷ [] })) }
         ensures err { OnErr result (self.new ≡ self.old) }
     {
         match self.receiver.recv_as::<Takes, R>(rt, &mut self.pass) {
@@ -67,7 +73,9 @@ impl<M: Origin> Taker<M> {
     /// Takes the next message, if there is one.
     pub fn try_take<R: Wait>(&mut self, rt: &R) -> Result<Option<M>, Cut>
         ensures same { (self.new.lane ≡ self.old.lane) × (self.new.members ≡ self.old.members) }
-        ensures some { IfOk result (λ found. IfSome found (λ message. IsNextTaken M.origin M.place M.last self.old message × (self.new ≡ record self.old { taken = self.old.taken ++ message ∷ [] }))) }
+        ensures some { IfOk result (λ found. IfSome found (λ message.
+            IsNextTaken M.origin M.place M.last self.old message
+            × (self.new ≡ record self.old { taken = self.old.taken ++ message ∷ [] }))) }
         ensures none { IfOk result (λ found. IfNone found (self.new ≡ self.old)) }
         ensures err { OnErr result (self.new ≡ self.old) }
     {
@@ -105,8 +113,8 @@ impl<M: Origin> Taker<M> {
 
 /// What is left of a taker.
 ///
-/// A contract sees it as its lane, the numbers of the lane's sets, those of the putters that it was reconciled with, and what
-/// was taken.
+/// A contract sees it as its lane, the numbers of the lane's sets, those of the putters that it was
+/// reconciled with, and what was taken.
 #[derive(Drop)]
 pub struct TakeReceipt<M: Origin> {
     pub(crate) pass: LanePass<M>,
@@ -125,9 +133,13 @@ impl<M: Origin> Model for TakeReceipt<M> {
 
     ghost coded = { Prim.hlevel (codes, numbers_code) };
 
-    ghost view = { λ s. record { lane = lane_of s.pass; members = s.origins; matched = s.matched; taken = (hand_of s.pass).taken } };
+    ghost view = { λ s.
+        record { lane = lane_of s.pass; members = s.origins; matched = s.matched; taken = (hand_of s.pass).taken } };
 
-    ghost invariant = { λ s. ((hand_of s.pass).takes ≡ true) × (s.pass.me.1 ≡ []) × AreCounts M.origin s.counts (hand_of s.pass).taken };
+    ghost invariant = { λ s.
+        ((hand_of s.pass).takes ≡ true)
+        × (s.pass.me.1 ≡ [])
+        × AreCounts M.origin s.counts (hand_of s.pass).taken };
 }
 
 impl<M: Origin> TakeReceipt<M> {

@@ -12,7 +12,8 @@ pub record IsNext {I : Type 0} (place : I → ℕ) (is_last : I → Bool) (befor
   pub numbered : place item ≡ length before
   pub unended : All (λ earlier. is_last earlier ≡ false) before
 
--- In a run each item is the next one after those before it: their places are 0, 1, 2, .., and nothing follows a last one.
+-- In a run each item is the next one after those before it: their places are 0, 1, 2, .., and nothing follows a last
+-- one.
 abbrev pub IsRun : {I : Type 0} → (I → ℕ) → (I → Bool) → List I → Type 0
 IsRun {I} place is_last items =
     (before : List I) (item : I) (behind : List I) → items ≡ before ++ item ∷ behind → IsNext place is_last before item
@@ -20,7 +21,10 @@ IsRun {I} place is_last items =
 -- The lane rule, over the messages that the taker took, the messages in the lane, oldest first, and the items put of each
 -- number: each item in the lane is of a number below 16, and the items taken of a number, followed by those of it in the
 -- lane, are the items put of it, which are a run.
-pub record LaneRule {M I : Type 0} (items_of : M → List I) (origin place : I → ℕ) (is_last : I → Bool) (taken within : List M) (put : ℕ → List I) : Type 0 where
+pub record LaneRule
+    {M I : Type 0} (items_of : M → List I) (origin place : I → ℕ) (is_last : I → Bool)
+    (taken within : List M) (put : ℕ → List I) : Type 0 where
   pub numbered : All (λ item. origin item < MAX_PROCS) (flat_map items_of within)
-  pub whole : (p : ℕ) → p < MAX_PROCS → items_from items_of origin p taken ++ items_from items_of origin p within ≡ put p
+  pub whole : (p : ℕ) → p < MAX_PROCS
+      → items_from items_of origin p taken ++ items_from items_of origin p within ≡ put p
   pub runs : (p : ℕ) → p < MAX_PROCS → IsRun place is_last (put p)

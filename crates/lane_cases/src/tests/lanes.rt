@@ -76,7 +76,8 @@ pub fn lane_of_three(
     alloc: Global,
     cap: u32,
 ) -> Result<(Putter<Item>, Putter<Item>, Putter<Item>, Taker<Item>), LaneFault>
-    ensures lane { IfOk result (λ ends. (ends.0.lane ≡ ends.3.lane) × (ends.1.lane ≡ ends.3.lane) × (ends.2.lane ≡ ends.3.lane)) }
+    ensures lane { IfOk result (λ ends. (ends.0.lane ≡ ends.3.lane) × (ends.1.lane ≡ ends.3.lane)
+        × (ends.2.lane ≡ ends.3.lane)) }
     ensures new { IfOk result (λ ends. HasPut 0 0 ends.0 × HasPut 1 0 ends.1 × HasPut 2 0 ends.2) }
 {
     let none = Origins::none();

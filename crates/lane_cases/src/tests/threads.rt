@@ -71,7 +71,8 @@ fn two_put<R: Threads + Wait + Sync>(
         rt,
         move || -> (Option<PutReceipt<Item>>, Option<PutReceipt<Item>>)
             requires { HasPut 0 0 first × HasPut 1 0 second }
-            ensures { IfSome result.0 (λ receipt. receipt.lane ≡ first.lane) × IfSome result.1 (λ receipt. receipt.lane ≡ second.lane) }
+            ensures { IfSome result.0 (λ receipt. receipt.lane ≡ first.lane)
+                × IfSome result.1 (λ receipt. receipt.lane ≡ second.lane) }
         { put_both(rt, first, second) },
         move || -> TakeReceipt<Item>
             ensures { result.lane ≡ taker.lane }
@@ -96,7 +97,8 @@ fn three_put<R: Threads + Wait + Sync>(
         rt,
         move || -> (Option<PutReceipt<Item>>, Option<PutReceipt<Item>>)
             requires { HasPut 0 0 first × HasPut 1 0 second }
-            ensures { IfSome result.0 (λ receipt. receipt.lane ≡ first.lane) × IfSome result.1 (λ receipt. receipt.lane ≡ second.lane) }
+            ensures { IfSome result.0 (λ receipt. receipt.lane ≡ first.lane)
+                × IfSome result.1 (λ receipt. receipt.lane ≡ second.lane) }
         { put_both(rt, first, second) },
         move || -> (Option<PutReceipt<Item>>, TakeReceipt<Item>)
             requires { HasPut 2 0 third }
