@@ -1,0 +1,212 @@
+use crate::tests::replays::Expected::{Made, Refused, TookClose, TookSnap};
+use crate::tests::replays::{Replay, assert_played, assert_reply};
+use std::alloc::{AllocError, Global};
+use std::process::Abort;
+use std::test::Fail;
+use wcp_model::Step::{Admit, Check, Close, Observe, Pass, Pull, Put, Recv, Send};
+use wcp_model::{GlobalCut, Parent, Plan, Reply, Report, Step, Why};
+use wcp_world::World;
+
+/// Two processes, each with a leaf relay of its own, and an inner relay above both leaves.
+fn tree(alloc: Global, cap: u32, hold: u32) -> Result<Plan, AllocError> {
+    let parents = [Parent::Root, Parent::Relay(0), Parent::Relay(0)];
+    Ok(Plan {
+        n: 2,
+        cap,
+        hold,
+        parents: Vec::from_slice(alloc, &parents)?,
+        attach: Vec::from_slice(alloc, &[Some(1), Some(2)])?,
+    })
+}
+
+/// The true states are 0, 1 and 2 of process 0 and 1 and 2 of process 1. State 0 of process 0
+/// happened before both of process 1; the two states 1 are concurrent.
+static LEAST_CUT: Replay<'static> = Replay {
+    name: "least_cut",
+    steps: &[
+        (Observe(0, true), Made),
+        (Observe(0, true), Made),
+        (Put(0), Made),
+        (Send(0, 1), Made),
+        (Recv(1, 0), Made),
+        (Observe(1, true), Made),
+        (Put(1), Made),
+        (Observe(0, false), Made),
+        (Observe(0, true), Made),
+        (Put(0), Made),
+        (Send(1, 0), Made),
+        (Observe(1, true), Made),
+        (Put(1), Made),
+        (Recv(0, 1), Made),
+        (Observe(0, true), Made),
+        (Admit(1, 0), Made),
+        (Admit(2, 1), Made),
+        (Pass(2), Made),
+        (Pass(1), Made),
+        (Pull(0), Made),
+        (Pull(0), Made),
+        (Pass(0), Made),
+        (Check, TookSnap(1, 0, &[1, 1])),
+        (Pass(0), Made),
+        (Put(0), Made),
+        (Close(0), Made),
+        (Put(0), Made),
+        (Close(1), Made),
+        (Put(1), Made),
+        (Admit(1, 0), Made),
+        (Admit(1, 0), Made),
+        (Admit(1, 0), Made),
+        (Pass(1), Made),
+        (Pass(1), Made),
+        (Pass(1), Made),
+        (Admit(2, 1), Made),
+        (Admit(2, 1), Made),
+        (Pass(2), Made),
+        (Pass(2), Made),
+        (Pull(0), Made),
+        (Pull(0), Made),
+        (Pull(0), Made),
+        (Pull(0), Made),
+        (Pull(0), Refused(Why::Full)),
+        (Pass(0), Made),
+        (Pass(0), Made),
+        (Pass(0), Made),
+        (Pass(0), Made),
+        (Pull(0), Made),
+        (Pass(0), Made),
+        (Check, TookSnap(0, 0, &[0, 0])),
+        (Check, TookSnap(0, 1, &[1, 0])),
+        (Check, TookSnap(0, 2, &[2, 2])),
+        (Check, TookClose(0, 3)),
+        (Check, TookSnap(1, 1, &[1, 2])),
+        (Check, TookClose(1, 2)),
+        (Check, Refused(Why::Empty)),
+    ],
+    tallies: &[(3, 3), (2, 2)],
+};
+
+/// The only pair of true states is ordered by the message.
+static ORDERED_PAIR: Replay<'static> = Replay {
+    name: "ordered_pair",
+    steps: &[
+        (Observe(0, true), Made),
+        (Put(0), Made),
+        (Send(0, 1), Made),
+        (Recv(1, 0), Made),
+        (Observe(1, true), Made),
+        (Put(1), Made),
+        (Close(0), Made),
+        (Put(0), Made),
+        (Close(1), Made),
+        (Put(1), Made),
+        (Admit(1, 0), Made),
+        (Admit(2, 1), Made),
+        (Admit(2, 1), Made),
+        (Pass(2), Made),
+        (Admit(1, 0), Made),
+        (Pass(1), Made),
+        (Pull(0), Made),
+        (Pass(2), Made),
+        (Pass(1), Made),
+        (Pull(0), Made),
+        (Pull(0), Made),
+        (Pull(0), Made),
+        (Pass(0), Made),
+        (Pass(0), Made),
+        (Pass(0), Made),
+        (Pass(0), Made),
+        (Check, TookSnap(1, 0, &[1, 1])),
+        (Check, TookSnap(0, 0, &[0, 0])),
+        (Check, TookClose(1, 1)),
+        (Check, TookClose(0, 1)),
+    ],
+    tallies: &[(1, 1), (1, 1)],
+};
+
+/// Each place of the tree has room for one item.
+static EACH_MOVE_REFUSED: Replay<'static> = Replay {
+    name: "each_move_refused",
+    steps: &[
+        (Pull(1), Refused(Why::NoSuch)),
+        (Pull(3), Refused(Why::NoSuch)),
+        (Pull(0), Refused(Why::Empty)),
+        (Pass(3), Refused(Why::NoSuch)),
+        (Pass(0), Refused(Why::Empty)),
+        (Pass(1), Refused(Why::Empty)),
+        (Admit(2, 0), Refused(Why::NoSuch)),
+        (Admit(0, 0), Refused(Why::NoSuch)),
+        (Admit(3, 0), Refused(Why::NoSuch)),
+        (Admit(1, 2), Refused(Why::NoSuch)),
+        (Admit(1, 0), Refused(Why::Empty)),
+        (Check, Refused(Why::Empty)),
+        (Put(2), Refused(Why::NoSuch)),
+        (Put(0), Refused(Why::Empty)),
+        (Observe(0, true), Made),
+        (Put(0), Made),
+        (Send(0, 1), Made),
+        (Observe(0, true), Made),
+        (Put(0), Refused(Why::Full)),
+        (Admit(1, 0), Made),
+        (Admit(1, 0), Refused(Why::Empty)),
+        (Put(0), Made),
+        (Admit(1, 0), Refused(Why::Full)),
+        (Pass(1), Made),
+        (Admit(1, 0), Made),
+        (Pass(1), Refused(Why::Full)),
+        (Pull(0), Made),
+        (Pull(0), Refused(Why::Empty)),
+        (Pass(1), Made),
+        (Pull(0), Refused(Why::Full)),
+        (Pass(0), Made),
+        (Pull(0), Made),
+        (Pass(0), Refused(Why::Full)),
+        (Check, TookSnap(0, 0, &[0, 0])),
+        (Pass(0), Made),
+        (Check, TookSnap(0, 1, &[1, 0])),
+        (Check, Refused(Why::Empty)),
+    ],
+    tallies: &[(2, 2), (0, 0)],
+};
+
+#[test]
+fn items_go_through_a_tree_of_relays(rt: HostRuntime) -> Result<(), Fail> {
+    for (replay, (cap, hold), report) in [
+        (&LEAST_CUT, (8, 4), Report::Found(GlobalCut::new(&[1, 1]))),
+        (&ORDERED_PAIR, (8, 4), Report::Nothing),
+        (&EACH_MOVE_REFUSED, (1, 1), Report::Undecided),
+    ] {
+        let plan = tree(rt.alloc(), cap, hold)?;
+        assert_played(&rt, rt.alloc(), &plan, replay, report)?;
+    }
+    Ok(())
+}
+
+/// The world of the tree, before any step.
+fn world_of_tree(rt: &impl Abort, alloc: Global) -> Result<World, AllocError> {
+    let plan = tree(alloc, 8, 4)?;
+    assert!(rt; plan.check().is_ok());
+    World::new(alloc, &plan)
+}
+
+/// Makes a step. Where memory runs out, asking again makes it.
+fn step(world: &mut World, step: Step) -> Result<Reply, AllocError> {
+    match world.step(step) {
+        Ok(reply) => Ok(reply),
+        Err(_) => world.step(step),
+    }
+}
+
+#[test]
+fn a_tree_is_drained_step_by_step(rt: HostRuntime) -> Result<(), Fail> {
+    let mut world = match world_of_tree(&rt, rt.alloc()) {
+        Ok(world) => world,
+        Err(_) => world_of_tree(&rt, rt.alloc())?,
+    };
+    assert_eq!(rt; world.report(), Report::Undecided);
+    for row in LEAST_CUT.steps {
+        let reply = step(&mut world, row.0)?;
+        assert_reply(&rt, row.0, reply, &row.1);
+    }
+    assert_eq!(rt; world.report(), Report::Found(GlobalCut::new(&[1, 1])));
+    Ok(())
+}
