@@ -63,9 +63,16 @@ fn the_first_fault_is_answered(rt: HostRuntime) {
         (65_536, [none, none], None),
     ];
     for (cap, owners, fault) in faults {
-        assert_eq!(rt; lane::<Item>(rt.alloc(), cap, &owners).err(), fault, "at {cap}");
+        assert_eq!(rt;
+            lane::<Item>(rt.alloc(), cap, &owners).err(),
+            fault,
+            "at {cap}"
+        );
     }
-    assert_eq!(rt; lane::<Item>(rt.alloc(), 1, &[]).err(), Some(LaneFault::Owners));
+    assert_eq!(rt;
+        lane::<Item>(rt.alloc(), 1, &[]).err(),
+        Some(LaneFault::Owners)
+    );
 }
 
 #[test]

@@ -144,6 +144,8 @@ fn two_threads_put_and_one_takes(rt: HostRuntime) -> Result<(), Fail> {
 fn three_threads_put_and_one_takes(rt: HostRuntime) -> Result<(), Fail> {
     let (first, second, third, taker) = lane_of_three(rt.alloc(), 2)?;
     let taken = three_put(&rt, first, second, third, taker);
-    assert!(rt; taken.is_some_and(|taken| taken.matched(0) && taken.matched(1) && taken.matched(2)));
+    assert!(rt;
+        taken.is_some_and(|taken| taken.matched(0) && taken.matched(1) && taken.matched(2))
+    );
     Ok(())
 }
