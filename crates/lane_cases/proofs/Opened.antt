@@ -6,7 +6,7 @@ use Rattle.std.specs.FinSet as set
 use Rattle.std.proofs.lemmas.Bool.Decides.{nat_tests}
 use Rattle.wcp_clock.specs.declared.note.Item.{Item}
 use Rattle.wcp_lane.specs.Passes.{Numbers}
-use Rattle.wcp_lane.specs.Ends.{PutEnd, LaneName, new_putter}
+use Rattle.wcp_lane.specs.Ends.{LaneName, new_putter}
 use Rattle.wcp_lane.proofs.Marks.{contains_with}
 use Rattle.lane_cases.specs.Snapshots.{HasPut}
 

@@ -1,7 +1,6 @@
-use Rattle.std.proofs.Common.{◌≡◌, sym, ap, subst, rules, arith}
+use Rattle.std.proofs.Common.{◌≡◌, sym, subst, rules, arith}
 use Rattle.std.proofs.lemmas.Grind.{common_steps}
-use Rattle.wcp_clock.specs.declared.note.Item.{Item}
-use Rattle.wcp_lane.specs.Ends.{PutEnd, new_putter}
+use Rattle.wcp_lane.specs.Ends.{new_putter}
 use Rattle.lane_cases.specs.Snapshots.{HasPut}
 use Rattle.lane_cases.proofs.Opened.{alone, new_HasPut}
 use Rattle.lane_cases.proofs.tests.lanes.lane_of_three.Goals as goal
