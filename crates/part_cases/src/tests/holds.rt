@@ -1,3 +1,4 @@
+use std::process::Abort;
 use std::test::Fail;
 use wcp_clock::{Clock, Item, Note};
 use wcp_hold::Hold;
@@ -13,23 +14,35 @@ fn first_snapshot(from: u32) -> Item {
     }
 }
 
+fn close_mark(from: u32) -> Item {
+    Item {
+        from,
+        note: Note::Close { count: 1 },
+    }
+}
+
+/// Whether there was room for an item; else it was handed back.
+fn is_pushed(rt: &impl Abort, hold: &mut Hold, item: Item) -> bool {
+    match hold.push(item) {
+        Ok(()) => true,
+        Err(back) => {
+            assert_eq!(rt; back, item);
+            false
+        }
+    }
+}
+
 #[test]
 fn a_hold_of_two_gives_the_oldest_item_first(rt: HostRuntime) -> Result<(), Fail> {
-    let (a, b) = (first_snapshot(0), first_snapshot(1));
-    let c = Item {
-        from: 0,
-        note: Note::Close { count: 1 },
-    };
     let mut hold = Hold::new(rt.alloc(), 2)?;
     assert_eq!(rt; (hold.len(), hold.front(), hold.pop()), (0, None, None));
-    assert_eq!(rt; hold.push(a), Ok(()));
-    assert_eq!(rt; hold.push(b), Ok(()));
-    assert_eq!(rt; hold.push(c), Err(c));
-    assert_eq!(rt; (hold.len(), hold.front()), (2, Some(a)));
-    assert_eq!(rt; hold.pop(), Some(a));
-    assert_eq!(rt; (hold.len(), hold.front()), (1, Some(b)));
-    assert_eq!(rt; hold.pop(), Some(b));
-    assert_eq!(rt; hold.pop(), None);
-    assert_eq!(rt; hold.len(), 0);
+    assert!(rt; is_pushed(&rt, &mut hold, first_snapshot(0)));
+    assert!(rt; is_pushed(&rt, &mut hold, first_snapshot(1)));
+    assert!(rt; !is_pushed(&rt, &mut hold, close_mark(0)));
+    assert_eq!(rt; (hold.len(), hold.front()), (2, Some(first_snapshot(0))));
+    assert_eq!(rt; hold.pop(), Some(first_snapshot(0)));
+    assert_eq!(rt; (hold.len(), hold.front()), (1, Some(first_snapshot(1))));
+    assert_eq!(rt; hold.pop(), Some(first_snapshot(1)));
+    assert_eq!(rt; (hold.len(), hold.pop()), (0, None));
     Ok(())
 }

@@ -1,5 +1,5 @@
 use crate::tests::replays::Expected::{Made, Refused, TookClose, TookSnap};
-use crate::tests::replays::{Replay, assert_played, assert_reply};
+use crate::tests::replays::{Expected, Replay, assert_played, assert_reply};
 use std::alloc::{AllocError, Global};
 use std::process::Abort;
 use std::test::Fail;
@@ -196,6 +196,18 @@ fn step(world: &mut World, step: Step) -> Result<Reply, AllocError> {
     }
 }
 
+/// Makes a step, and compares its whole reply.
+fn make(
+    rt: &impl Abort,
+    world: &mut World,
+    asked: Step,
+    expected: &Expected,
+) -> Result<(), AllocError> {
+    let reply = step(world, asked)?;
+    assert_reply(rt, asked, reply, expected);
+    Ok(())
+}
+
 #[test]
 fn a_tree_is_drained_step_by_step(rt: HostRuntime) -> Result<(), Fail> {
     let mut world = match world_of_tree(&rt, rt.alloc()) {
@@ -204,8 +216,7 @@ fn a_tree_is_drained_step_by_step(rt: HostRuntime) -> Result<(), Fail> {
     };
     assert_eq!(rt; world.report(), Report::Undecided);
     for row in LEAST_CUT.steps {
-        let reply = step(&mut world, row.0)?;
-        assert_reply(&rt, row.0, reply, &row.1);
+        make(&rt, &mut world, row.0, &row.1)?;
     }
     assert_eq!(rt; world.report(), Report::Found(GlobalCut::new(&[1, 1])));
     Ok(())
