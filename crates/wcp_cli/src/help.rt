@@ -95,9 +95,11 @@ replay
 
   `took 1 snap 0 0 0` names the process, the number of its snapshot, and the clock of
   the snapshot; `took 1 close 1` is the close mark of a process, with the number of its
-  snapshots. Where no moment is found, the first line of the outcome is `none` once the
-  close mark of every process was taken, and `undecided` until then. A step that can't
-  be done changes nothing, and its reply is `refused` with the reason. The steps are
+  snapshots. `found` names the earliest moment of all that happened, and it stays so
+  whatever steps follow. Where no moment is found, the first line of the outcome is
+  `none` once the close mark of every process was taken, and then there was none; until
+  then it is `undecided`. A step that can't be done changes nothing, and its reply is
+  `refused` with the reason. The steps are
 
       observe P true    process P finds its condition true (or `false`)
       send P Q          P sends a message to Q; the messages sent are numbered 0, 1, 2, ..

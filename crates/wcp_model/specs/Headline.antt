@@ -9,11 +9,12 @@ use Rattle.wcp_model.specs.Outcome.{IsReportOf}
 use Rattle.wcp_model.specs.Report.{notes_taken, AreFrontsOfEmissions, IsDrained, IsReportOfTaken}
 use Rattle.wcp_model.specs.Replies.{Answered, accepted, items_taken, computation, AreReplies}
 
--- For every relay tree and every list of probe, relay, checker and close steps, what the checker has taken of each process
--- is a prefix of what that process emitted, each once, in order, none after its close; when all is drained, the report is
--- the least consistent cut of the whole computation at which every conjunct holds, and none only if no such cut exists.
+-- For every relay tree and every list of probe, relay, checker and close steps, what the checker has taken of each
+-- process is a prefix of what that process emitted, each once, in order, none after its close; when all is drained,
+-- the report is the least consistent cut of the whole computation at which every conjunct holds, and none only if no
+-- such cut exists.
 --
---   every relay tree           a plan that passed its check (IsCheckedPlan): the premise of each call that promises this
+--   every relay tree           a plan that passed its check (IsCheckedPlan): the premise of each call with this promise
 --   every list of steps        any steps in any order, refused ones included: a history, each step with its reply
 --   each step, answered        the reply that the definitions give from the steps and replies before it (AreReplies)
 --   what the checker has taken the notes of the items in its replies, in order (items_taken, notes_taken)
@@ -25,7 +26,8 @@ use Rattle.wcp_model.specs.Replies.{Answered, accepted, items_taken, computation
 --   least consistent cut ..    the least satisfying cut of the accepted events, or that there is none (IsReportOf)
 pub record IsHeadline (plan : Plan) (history : List Answered) (report : Report) : Type 0 where
   pub replies : AreReplies plan history
-  pub taken_is_prefix : (place : ℕ) → AreFrontsOfEmissions plan.n (computation (accepted (take place history))) (items_taken (take place history))
+  pub taken_is_prefix : (place : ℕ) →
+      AreFrontsOfEmissions plan.n (computation (accepted (take place history))) (items_taken (take place history))
   pub none_after_close : (p count : ℕ) (before after : List Note) → p < plan.n →
       notes_taken p (items_taken history) ≡ before ++ note.Close count ∷ after → after ≡ []
   pub of_what_was_taken : IsReportOfTaken plan.n (computation (accepted history)) (items_taken history) report

@@ -9,8 +9,8 @@ use Rattle.wcp_model.specs.declared.plan.Parent.TheVariants as parent
 use Rattle.wcp_model.specs.declared.plan.Plan.{Plan}
 use Rattle.wcp_model.specs.Tree.{leaf_of, parent_of}
 
--- Where a note can be on its way to the checker: pending at its probe, on its process's link, in a relay's hold, or in the
--- inbox of a relay or of the root, which is the checker's.
+-- Where a note can be on its way to the checker: pending at its probe, on its process's link, in a relay's hold, or
+-- in the inbox of a relay or of the root, which is the checker's.
 pub data Place : Type 0 where
   Pending : (p : ℕ) → Place
   Link : (p : ℕ) → Place
@@ -59,8 +59,8 @@ takes_from place s = is_place place (source s)
 abbrev pub puts_into : Plan → Place → Step → Bool
 puts_into plan place s = is_place place (target plan s)
 
--- How many notes were taken from a place, and how many entered it, by these accepted steps and where these are the emissions
--- of each process: each emission becomes pending at its probe.
+-- How many notes were taken from a place, and how many entered it, by these accepted steps and where these are the
+-- emissions of each process: each emission becomes pending at its probe.
 abbrev pub taken_from : List Step → Place → ℕ
 taken_from steps place = count_by (takes_from place) steps
 
@@ -76,8 +76,8 @@ abbrev pub room_of : Plan → Place → ℕ
 room_of plan (HoldOf relay) = plan.hold
 room_of plan _ = plan.cap
 
--- A step takes the entry of this number from one place, and puts it into the next as the entry of that number: as many were
--- taken from the one, and put into the other, before.
+-- A step takes the entry of this number from one place, and puts it into the next as the entry of that number: as
+-- many were taken from the one, and put into the other, before.
 pub record IsMove (plan : Plan) (steps : List Step) (from : Place) (i : ℕ) (to : Place) (k : ℕ) : Type 0 where
   pub at : ℕ
   pub step : Step
@@ -87,8 +87,10 @@ pub record IsMove (plan : Plan) (steps : List Step) (from : Place) (i : ℕ) (to
   pub taken_before : taken_from (take at steps) from ≡ i
   pub put_before : count_by (puts_into plan to) (take at steps) ≡ k
 
--- The item that entered a place as the entry of this number: at a probe the emission of this number, and elsewhere what a
--- step took from the place before it. So each place is first in, first out.
+-- The item that entered a place as the entry of this number: at a probe the emission of this number, and elsewhere
+-- what a step took from the place before it. So each place is first in, first out.
 pub data IsEntry (plan : Plan) (emissions : ℕ → List Note) (steps : List Step) : Place → ℕ → Item → Type 0 where
-  Emitted : {p i : ℕ} {note : Note} → slice_get (emissions p) i ≡ Some note → IsEntry plan emissions steps (Pending p) i (record { from = p; note = note })
-  Moved : {from to : Place} {i k : ℕ} {item : Item} → IsEntry plan emissions steps from i item → IsMove plan steps from i to k → IsEntry plan emissions steps to k item
+  Emitted : {p i : ℕ} {note : Note} → slice_get (emissions p) i ≡ Some note →
+      IsEntry plan emissions steps (Pending p) i (record { from = p; note = note })
+  Moved : {from to : Place} {i k : ℕ} {item : Item} → IsEntry plan emissions steps from i item →
+      IsMove plan steps from i to k → IsEntry plan emissions steps to k item

@@ -71,8 +71,8 @@ is_receive_of message _ = false
 abbrev pub was_received : Computation → ℕ → Bool
 was_received c message = list_any (is_receive_of message) c
 
--- Why an event may be refused, after a computation of n processes of which some have a pending note: each reason with its
--- test, in the order in which they count.
+-- Why an event may be refused, after a computation of n processes of which some have a pending note: each reason with
+-- its test, in the order in which they count.
 abbrev pub event_reasons : ℕ → Computation → (ℕ → Bool) → Step → List (Bool × Why)
 event_reasons n c pending (step.Observe p holds) = (not (nat_lt p n), why.NoSuch) ∷ (is_closed c p, why.Closed) ∷ []
 event_reasons n c pending (step.Send p to) =
@@ -127,4 +127,5 @@ pub record IsReply (plan : Plan) (steps : List Step) (s : Step) (answer : Reply)
 -- Each step of a history has the reply that the earlier steps and replies lead to.
 abbrev pub AreReplies : Plan → List Answered → Type 0
 AreReplies plan history =
-    (place : ℕ) (a : Answered) → slice_get history place ≡ Some a → IsReply plan (accepted (take place history)) a.step a.reply
+    (place : ℕ) (a : Answered) → slice_get history place ≡ Some a →
+    IsReply plan (accepted (take place history)) a.step a.reply

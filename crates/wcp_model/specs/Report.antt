@@ -64,8 +64,9 @@ pub record IsNamedCut (n : ℕ) (c : Computation) (items : List Item) (cut : Lis
   pub satisfying : IsSatisfyingCut n c cut
   pub named : (p : ℕ) → p < n → IsNamed items (member cut p)
 
--- The same read by clocks alone, each named state counted as true: one taken snapshot of each process, where none precedes
--- another; it would if its own component were less than the other's there (Mattern 1989; Garg and Waldecker 1994).
+-- The same read by clocks alone, each named state counted as true: one taken snapshot of each process, where none
+-- precedes another; it would if its own component were less than the other's there (Mattern 1989; Garg and Waldecker
+-- 1994).
 pub record IsCutByClocks (n : ℕ) (items : List Item) (cut : List ℕ) : Type 0 where
   pub members : length cut ≡ n
   pub clock : ℕ → List ℕ
@@ -78,7 +79,8 @@ pub record IsLeastOf (n : ℕ) (IsOne : List ℕ → Type 0) (cut : List ℕ) : 
   pub one : IsOne cut
   pub below : (other : List ℕ) → IsOne other → (p : ℕ) → p < n → slice_index cut p ≤ slice_index other p
 
--- The report on the cuts of a kind: the least of them; that there is none, and all is drained; or that there is none yet.
+-- The report on the cuts of a kind: the least of them; that there is none, and all is drained; or that there is none
+-- yet.
 abbrev pub IsReportOn : ℕ → (List ℕ → Type 0) → Type 0 → Report → Type 0
 IsReportOn n IsOne drained (Found cut) = IsLeastOf n IsOne cut
 IsReportOn n IsOne drained Nothing = ((cut : List ℕ) → IsOne cut → ⊥) × drained
@@ -92,8 +94,8 @@ IsReportOfTaken n c items = IsReportOn n (IsNamedCut n c items) (IsDrained n ite
 abbrev pub IsReportByClocks : ℕ → List Item → Report → Type 0
 IsReportByClocks n items = IsReportOn n (IsCutByClocks n items) (IsDrained n items)
 
--- These clocks of process p never fall in a component, and rise in its own (Fidge 1988; Mattern 1989: clocks grow along a
--- process).
+-- These clocks of process p never fall in a component, and rise in its own (Fidge 1988; Mattern 1989: clocks grow
+-- along a process).
 pub record AreRising (p : ℕ) (clocks : List (List ℕ)) : Type 0 where
   pub never_fall : (i j q : ℕ) → i ≤ j → j < length clocks →
       slice_index (slice_index_or clocks i []) q ≤ slice_index (slice_index_or clocks j []) q

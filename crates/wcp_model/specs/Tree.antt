@@ -4,7 +4,8 @@ use Rattle.std.specs.Option.{option_flatten}
 use Rattle.wcp_model.specs.declared.plan.Parent.{Parent}
 use Rattle.wcp_model.specs.declared.plan.Plan.{Plan}
 
--- The tree of a plan: which relay serves a process, whether a relay serves processes, and what a relay passes its items to.
+-- The tree of a plan: which relay serves a process, whether a relay serves processes, and what a relay passes its
+-- items to.
 abbrev pub is_relay : Plan → ℕ → Bool
 is_relay plan relay = nat_lt relay (length plan.parents.items)
 

@@ -32,7 +32,8 @@ pub record IsPlayed (plan : Plan) (steps : List Step) (replies : List Reply) (re
 
 -- The tallies of the first processes of a world.
 abbrev pub AreTalliesOf : WorldState → ℕ → List Tally → Type 0
-AreTalliesOf w count tallies = (length tallies ≡ count) × ((plan : Plan) (history : List Answered) → IsWorldOf plan history w →
+AreTalliesOf w count tallies = (length tallies ≡ count)
+    × ((plan : Plan) (history : List Answered) → IsWorldOf plan history w →
     (p : ℕ) (tally : Tally) → slice_get tallies p ≡ Some tally →
     IsTallyOf plan.n (computation (accepted history)) (items_taken history) p tally)
 

@@ -44,7 +44,8 @@ pub record IsHeldAt (plan : Plan) (steps : List Step) (put : ℕ → List Note) 
   pub room : held.room ≡ room_of plan place
   pub within : length held.items ≤ held.room
   pub count : length held.items + taken_from steps place ≡ count_by (puts_into plan place) steps
-  pub entries : (i : ℕ) (item : Item) → slice_get held.items i ≡ Some item → IsEntry plan put steps place (taken_from steps place + i) item
+  pub entries : (i : ℕ) (item : Item) → slice_get held.items i ≡ Some item →
+      IsEntry plan put steps place (taken_from steps place + i) item
 
 -- The way from a place to the checker: each place is followed by the next, and the last is the root inbox.
 abbrev pub IsWay : Plan → Place → List Place → Type 0
@@ -59,29 +60,34 @@ notes_along notes (place ∷ way) = notes_along notes way ++ notes place
 abbrev pub notes_at : Plan → List Held → ℕ → Place → List Note
 notes_at plan places p place = notes_taken p (held_at places (number_of plan place)).items
 
--- What was taken of a process, and then its notes on the way from its link, from the checker outward, are the notes put of it.
+-- What was taken of a process, and then its notes on the way from its link, from the checker outward, are the notes
+-- put of it.
 pub record AreConveyedInOrder (plan : Plan) (places : List Held) (taken : List Item) (p : ℕ) (put : List Note) : Type 0 where
   pub way : List Place
   pub is_way : IsWay plan (Link p) way
   pub notes : notes_taken p taken ++ notes_along (notes_at plan places p) (Link p ∷ way) ≡ put
 
--- A transport stands for these accepted steps under a checked plan, for the notes put of each process, and for the items taken.
+-- A transport stands for these accepted steps under a checked plan, for the notes put of each process, and for the
+-- items taken.
 pub record IsTransportOf (plan : Plan) (steps : List Step) (put : ℕ → List Note) (taken : List Item) (t : TransportState) : Type 0 where
   pub checked : IsCheckedPlan plan
   pub same_plan : IsSamePlan t.plan plan
   pub members : length t.places ≡ plan.n + length plan.parents.items + 1 + length plan.parents.items
-  pub held : (place : Place) → IsPlaceOf plan place → IsHeldAt plan steps put place (held_at t.places (number_of plan place))
+  pub held : (place : Place) → IsPlaceOf plan place →
+      IsHeldAt plan steps put place (held_at t.places (number_of plan place))
   pub as_many : (p : ℕ) → length (put p) ≡ taken_from steps (Pending p)
   pub known : (p : ℕ) → plan.n ≤ p → put p ≡ []
   pub in_order : (p : ℕ) → p < plan.n → AreConveyedInOrder plan t.places taken p (put p)
 
 abbrev pub IsConveying : TransportState → Type 0
-IsConveying t = (plan : Plan) × (steps : List Step) × (put : ℕ → List Note) × (taken : List Item) × IsTransportOf plan steps put taken t
+IsConveying t = (plan : Plan) × (steps : List Step) × (put : ℕ → List Note) × (taken : List Item)
+    × IsTransportOf plan steps put taken t
 
--- A move was answered: the answer is that of the definitions, of whatever steps the transport stood for, and the transport
--- now stands for them with the move that was accepted.
+-- A move was answered: the answer is that of the definitions, of whatever steps the transport stood for, and the
+-- transport now stands for them with the move that was accepted.
 abbrev pub Conveys : TransportState → Step → Reply → TransportState → Type 0
-Conveys old s answer new = (plan : Plan) (steps : List Step) (put : ℕ → List Note) (taken : List Item) → IsTransportOf plan steps put taken old →
+Conveys old s answer new = (plan : Plan) (steps : List Step) (put : ℕ → List Note) (taken : List Item) →
+    IsTransportOf plan steps put taken old →
     ((emissions : ℕ → List Note) → IsAnswer (reasons plan emissions steps s) answer)
     × IsTransportOf plan (steps ++ accepted_by s answer) put taken new
 
@@ -89,7 +95,8 @@ Conveys old s answer new = (plan : Plan) (steps : List Step) (put : ℕ → List
 abbrev pub Puts : TransportState → ℕ → Note → Reply → TransportState → Type 0
 Puts old p note answer new = (plan : Plan) (steps : List Step) (put : ℕ → List Note) (taken : List Item) →
     IsTransportOf plan steps put taken old →
-    ((emissions : ℕ → List Note) → 0 < notes_in plan emissions steps (Pending p) → IsAnswer (reasons plan emissions steps (step.Put p)) answer)
+    ((emissions : ℕ → List Note) → 0 < notes_in plan emissions steps (Pending p) →
+    IsAnswer (reasons plan emissions steps (step.Put p)) answer)
     × (answer ≡ Done → IsTransportOf plan (steps ++ step.Put p ∷ []) (put_more put p note) taken new)
 
 -- The item whose turn it is in the root inbox.

@@ -30,17 +30,18 @@ pub record Stands (plan : Plan) (steps : List Step) (taken : List Item) (w : Wor
 abbrev pub IsReached : WorldState → Type 0
 IsReached w = (plan : Plan) × (steps : List Step) × (taken : List Item) × Stands plan steps taken w
 
--- A step was answered: of whatever steps and items the world stood for, the reply is that of the definitions, and the world
--- now stands for them with the step and the item that the reply accepts and gives.
+-- A step was answered: of whatever steps and items the world stood for, the reply is that of the definitions, and the
+-- world now stands for them with the step and the item that the reply accepts and gives.
 abbrev pub Answers : WorldState → Step → Reply → WorldState → Type 0
 Answers old s answer new = (plan : Plan) (steps : List Step) (taken : List Item) → Stands plan steps taken old →
     IsReply plan steps s answer × Stands plan (steps ++ accepted_by s answer) (taken ++ taken_by answer) new
 
--- A world stands for a history: the steps so far, each with its reply, which is that of the definitions; after each of them
--- what was taken of each process is a front of what it emitted.
+-- A world stands for a history: the steps so far, each with its reply, which is that of the definitions; after each
+-- of them what was taken of each process is a front of what it emitted.
 pub record IsWorldOf (plan : Plan) (history : List Answered) (w : WorldState) : Type 0 where
   pub replies : AreReplies plan history
-  pub fronts : (place : ℕ) → AreFrontsOfEmissions plan.n (computation (accepted (take place history))) (items_taken (take place history))
+  pub fronts : (place : ℕ) →
+      AreFrontsOfEmissions plan.n (computation (accepted (take place history))) (items_taken (take place history))
   pub stands : Stands plan (accepted history) (items_taken history) w
 
 -- How many processes a world has.

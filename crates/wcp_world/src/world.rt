@@ -56,7 +56,8 @@ impl World {
 
     /// What the snapshots taken tell.
     pub fn report(&self) -> Report
-        ensures { (plan : Plan) (history : List Answered) → IsWorldOf plan history self.now → IsHeadline plan history result }
+        ensures { (plan : Plan) (history : List Answered)
+            → IsWorldOf plan history self.now → IsHeadline plan history result }
     {
         self.detector.checker.report()
     }
