@@ -12,7 +12,7 @@ pub struct Row {
 }
 
 /// Texts that are answered.
-pub static ANSWERED: [Row; 16] = [
+pub static ANSWERED: [Row; 21] = [
     Row {
         name: "true again after a send",
         word: "single",
@@ -140,6 +140,46 @@ pub static ANSWERED: [Row; 16] = [
         output: "done\ndone\ndone\ndone\ndone\ndone\ndone\ndone\ntook 0 snap 0 0 0\ntook 1 snap 0 0 0\ndone\ndone\ndone\ndone\nfound 0 0\nprocess 0 emitted 2 taken 1\nprocess 1 emitted 1 taken 1\ntotal emitted 3 taken 2\n",
         errors: "",
         status: 0,
+    },
+    Row {
+        name: "a clock takes every component",
+        word: "replay",
+        text: "wcp 1\nprocs 3\nobserve 0 true\nput 0\nsend 0 1\nrecv 1 0\nsend 1 2\nrecv 2 1\nobserve 2 true\nput 2\nadmit 0 2\npass 0\ncheck\n",
+        output: "done\ndone\ndone\ndone\ndone\ndone\ndone\ndone\ndone\ndone\ntook 2 snap 0 1 2 1\nundecided\nprocess 0 emitted 1 taken 0\nprocess 1 emitted 0 taken 0\nprocess 2 emitted 1 taken 1\ntotal emitted 2 taken 1\n",
+        errors: "",
+        status: 1,
+    },
+    Row {
+        name: "a close mark goes the same way",
+        word: "replay",
+        text: "wcp 1\nprocs 1\nobserve 0 true\nput 0\nclose 0\nobserve 0 true\nput 0\nadmit 0 0\nadmit 0 0\npass 0\npass 0\ncheck\ncheck\n",
+        output: "done\ndone\ndone\nrefused closed\ndone\ndone\ndone\ndone\ndone\ntook 0 snap 0 0\ntook 0 close 1\nfound 0\nprocess 0 emitted 1 taken 1\ntotal emitted 1 taken 1\n",
+        errors: "",
+        status: 0,
+    },
+    Row {
+        name: "messages overtake",
+        word: "replay",
+        text: "wcp 1\nprocs 2\nsend 0 1\nobserve 0 true\nput 0\nsend 0 1\nrecv 1 1\nobserve 1 true\nput 1\nrecv 1 0\nclose 0\nput 0\nclose 1\nput 1\nadmit 0 0\nadmit 0 0\nadmit 0 1\nadmit 0 1\npass 0\npass 0\npass 0\npass 0\ncheck\ncheck\ncheck\ncheck\n",
+        output: "done\ndone\ndone\ndone\ndone\ndone\ndone\ndone\ndone\ndone\ndone\ndone\ndone\ndone\ndone\ndone\ndone\ndone\ndone\ndone\ntook 0 snap 0 1 0\ntook 0 close 1\ntook 1 snap 0 2 1\ntook 1 close 1\nnone\nprocess 0 emitted 1 taken 1\nprocess 1 emitted 1 taken 1\ntotal emitted 2 taken 2\n",
+        errors: "",
+        status: 1,
+    },
+    Row {
+        name: "a newest-first hold would lose the cut",
+        word: "replay",
+        text: "wcp 1\nprocs 2\nobserve 0 true\nput 0\nobserve 1 true\nput 1\nsend 1 0\nrecv 0 0\nobserve 0 true\nput 0\nadmit 0 0\nadmit 0 1\nadmit 0 0\npass 0\npass 0\npass 0\ncheck\ncheck\ncheck\n",
+        output: "done\ndone\ndone\ndone\ndone\ndone\ndone\ndone\ndone\ndone\ndone\ndone\ndone\ndone\ntook 0 snap 0 0 0\ntook 1 snap 0 0 0\ntook 0 snap 1 1 1\nfound 0 0\nprocess 0 emitted 2 taken 2\nprocess 1 emitted 1 taken 1\ntotal emitted 3 taken 3\n",
+        errors: "",
+        status: 0,
+    },
+    Row {
+        name: "undecided before all is taken",
+        word: "replay",
+        text: "wcp 1\nprocs 2\nobserve 0 true\nput 0\nobserve 1 true\nput 1\nsend 1 0\nrecv 0 0\nobserve 0 true\nput 0\nadmit 0 0\nadmit 0 1\nadmit 0 0\npass 0\npass 0\npass 0\ncheck\n",
+        output: "done\ndone\ndone\ndone\ndone\ndone\ndone\ndone\ndone\ndone\ndone\ndone\ndone\ndone\ntook 0 snap 0 0 0\nundecided\nprocess 0 emitted 2 taken 1\nprocess 1 emitted 1 taken 0\ntotal emitted 3 taken 1\n",
+        errors: "",
+        status: 1,
     },
 ];
 
