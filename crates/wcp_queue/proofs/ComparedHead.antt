@@ -5,7 +5,7 @@ use Rattle.wcp_queue.specs.Queue.{Candidates, no_candidates, head, without_head}
 use Rattle.wcp_model.specs.Elimination.{ClockPrecedes}
 use Rattle.wcp_queue.specs.Elimination.{queue_of, IsMeeting, AreConcurrent, AreOld, AreOldBut, AreLeft, uncompared_in}
 use Rattle.wcp_queue.specs.declared.elimination.Meeting.TheVariants.{Apart, Precedes, Follows}
-use Rattle.wcp_queue.proofs.Comparing.{queue_of-set_same, queue_of-set_other, set-queue_of, AreOld-set, no_old_head_after, AreConcurrentBut, AreConcurrentBut-itself, AreConcurrentBut-next, AreConcurrentBut-drop, AreConcurrent-drop}
+use Rattle.wcp_queue.proofs.Comparing.{queue_of-set_other, set-queue_of, AreOld-set, no_old_head_after, AreConcurrentBut, AreConcurrentBut-itself, AreConcurrentBut-next, AreConcurrentBut-drop, AreConcurrent-drop}
 use Rattle.wcp_queue.proofs.Left.{AreLeft-drop}
 use Rattle.wcp_queue.proofs.Uncompared.{uncompared-without_head, uncompared_in-le}
 
@@ -100,7 +100,6 @@ module _ (first : List Candidates) (start p : ℕ) (one : List ℕ) (queues : Li
     pub concurrent : AreConcurrent list
     pub left : (rows : ℕ → List (List ℕ)) → AreLeft (length first) rows first → AreLeft (length first) rows list
     pub fewer : uncompared_in list < uncompared_in first
-    pub covered : (uncovered || (queue_of list p).head_is_new) ≡ false → AreOldBut p first → AreOld list
 
   pub IsEliminated-precedes : (q : ℕ) (read again new after : Candidates) → IsComparing first start p one queues made uncovered q → p < length first → q < length queues → q ≢ p →
       IsMeeting p one q (get_or queues q read) new Precedes → after ≡ without_head (get_or (set queues q new) p again) → IsEliminated (set (set queues q new) p after)
@@ -127,8 +126,4 @@ module _ (first : List Candidates) (start p : ℕ) (one : List ℕ) (queues : Li
         concurrent = AreConcurrent-drop queues p q (without_head (queue_of queues p)) is.concurrent (no_old_head_after (queue_of queues p));
         left = λ rows before. AreLeft-drop (length first) rows queues (is.left rows before) p q p_within (omega (arith, is.members)) (λ same. other (sym same)) (omega (arith, is.members)) is.some some order;
         fewer = omega (arith, is.fewer, uncompared_in-le queues p (without_head (queue_of queues p)) (omega (arith, is.members)) (uncompared-without_head (queue_of queues p) is.some));
-        covered = λ none but.
-            let parts = or_parts uncovered (queue_of (set queues p (without_head (queue_of queues p))) p).head_is_new none in
-            let at_p = queue_of-set_same queues p (without_head (queue_of queues p)) (omega (arith, is.members)) in
-            AreOld-set queues p (without_head (queue_of queues p)) (λ k k_within k_other. is.covered parts.0 but k k_within) (sym (ap (λ (queue : Candidates). queue.head_is_new) at_p) ∙ parts.1);
       }
