@@ -1,9 +1,9 @@
-use Rattle.std.proofs.Common.{◌≡◌, ◌≢◌, ℕ, ◌+◌, ◌<◌, ◌≤◌, ◌⊎◌, List, length, set, subst, inl, inr, ⊎_elim, arith}
+use Rattle.std.proofs.Common.{◌≡◌, ◌≢◌, ℕ, ◌+◌, ◌<◌, ◌≤◌, ◌⊎◌, List, length, set, false, sym, subst, inl, inr, ⊎_elim, arith}
 use Rattle.std.proofs.lemmas.Bool.{cases_eq, ltb-false}
 use Rattle.std.proofs.lemmas.List.{length-set, length-drop, get_or-set_same, get_or-set_other, set-get_or}
 use Rattle.wcp_queue.specs.Queue.{Candidates, no_candidates, head, without_head, with_old_head}
 use Rattle.wcp_model.specs.Elimination.{ClockPrecedes}
-use Rattle.wcp_queue.specs.Elimination.{queue_of, HasOldHead, AreConcurrent}
+use Rattle.wcp_queue.specs.Elimination.{queue_of, HasOldHead, AreConcurrent, AreOld, AreOldBut}
 
 -- a queue in the list that another one took the place of
 pub queue_of-set_same : (queues : List Candidates) (p : ℕ) (queue : Candidates) → p < length queues → queue_of (set queues p queue) p ≡ queue
@@ -14,6 +14,13 @@ queue_of-set_other queues p k queue other = get_or-set_other queues p k queue no
 
 pub set-queue_of : (queues : List Candidates) (p : ℕ) (queue : Candidates) → queue ≡ queue_of queues p → set queues p queue ≡ queues
 set-queue_of queues p queue same = rw same (set-get_or queues p no_candidates)
+
+-- where no head is new but that of p, none is once its queue has no new head
+pub AreOld-set : (queues : List Candidates) (p : ℕ) (queue : Candidates) → AreOldBut p queues → queue.head_is_new ≡ false → AreOld (set queues p queue)
+AreOld-set queues p queue others old k within = ⊎_elim
+    (λ (is : k ≡ p). rw is (subst (λ q. q.head_is_new ≡ false) (sym (queue_of-set_same queues p queue (omega (arith, length-set queues p queue)))) old))
+    (λ (other : k ≢ p). subst (λ q. q.head_is_new ≡ false) (sym (queue_of-set_other queues p k queue other)) (others k (omega (arith, length-set queues p queue)) other))
+    (cases_eq k p)
 
 -- what comes after a head is no head that was compared
 pub no_old_head_after : (queue : Candidates) → HasOldHead (without_head queue) → ⊥

@@ -1,9 +1,10 @@
-use Rattle.std.proofs.Common.{◌≡◌, ◌||◌, ℕ, ◌+◌, ◌-◌, ◌<◌, ◌≤◌, true, false, List, [], ◌∷◌, ◌++◌, length, set, drop, eqb, ltb, ⊎_elim, arith}
+use Rattle.std.proofs.Common.{◌≡◌, ◌||◌, ℕ, ◌+◌, ◌-◌, ◌*◌, ◌<◌, ◌≤◌, true, false, List, [], ◌∷◌, ◌++◌, length, get_or, set, drop, ◌∙◌, ap, eqb, ltb, ⊎_elim, arith}
 use Rattle.std.proofs.lemmas.Bool.{cases_Bool, cases_eq, eq-eqb, ne_eqb, or_left, or_right, or_from, cond-true, cond-false}
-use Rattle.std.proofs.lemmas.List.{length-append, length-drop}
+use Rattle.std.proofs.lemmas.List.{length-append, length-drop, get_or_default}
 use Rattle.std.proofs.lemmas.List.Sums.{sum_by-set}
+use Rattle.std.proofs.lemmas.Nat.{mul-le}
 use Rattle.wcp_queue.specs.Queue.{Candidates, no_candidates, without_head, with_old_head, with_candidate}
-use Rattle.wcp_queue.specs.Elimination.{queue_of, HasNewHead, uncompared, uncompared_in}
+use Rattle.wcp_queue.specs.Elimination.{queue_of, HasNewHead, uncompared, uncompared_in, most_tests}
 
 -- no elimination adds a candidate to compare
 pub uncompared-without_head : (queue : Candidates) → 0 < length queue.clocks → uncompared (without_head queue) ≤ uncompared queue
@@ -54,3 +55,13 @@ uncompared_in-fewer queues p queue within less = omega (arith, sum_by-set uncomp
 
 pub uncompared_in-more : (queues : List Candidates) (p : ℕ) (queue : Candidates) → p < length queues → uncompared queue ≤ uncompared (queue_of queues p) + 1 → uncompared_in (set queues p queue) ≤ uncompared_in queues + 1
 uncompared_in-more queues p queue within more = omega (arith, sum_by-set uncompared queues p queue no_candidates within)
+
+pub uncompared_in-gain : (queues : List Candidates) (p : ℕ) (clock : List ℕ) (read queue : Candidates) → p < length queues → queue ≡ with_candidate (get_or queues p read) clock → uncompared_in (set queues p queue) ≤ uncompared_in queues + 1
+uncompared_in-gain queues p clock read queue within is =
+    let here : queue ≡ with_candidate (queue_of queues p) clock = is ∙ ap (λ q. with_candidate q clock) (get_or_default queues p read no_candidates within) in
+    rw here (uncompared_in-more queues p (with_candidate (queue_of queues p) clock) within (uncompared-with_candidate (queue_of queues p) clock))
+
+-- what the tests of one candidate cost is saved where fewer are left to compare
+pub most_tests-fewer : (n made start fewer some : ℕ) → made ≤ start + most_tests n 1 → fewer < some → made + most_tests n fewer ≤ start + most_tests n some
+most_tests-fewer n made start fewer some one less =
+    omega (arith, one, mul-le (2 * (n - 1)) (fewer + 1) (2 * (n - 1)) some (omega arith) (omega (arith, less)))

@@ -1,6 +1,8 @@
-use Rattle.std.specs.Prelude.{◌≡◌, ◌≢◌, ◌⊎◌, ℕ, ◌-◌, ◌*◌, ◌<◌, ◌≤◌, Bool, true, false, List, [], ◌∷◌, ◌++◌, length, drop, sum_by, slice_index, slice_index_or, if◌then◌else◌}
+use Rattle.std.specs.Prelude.{◌≡◌, ◌≢◌, ℕ, ◌-◌, ◌*◌, ◌<◌, ◌≤◌, true, false, List, [], ◌∷◌, ◌++◌, length, drop, sum_by, slice_index, slice_index_or, if◌then◌else◌}
 use Rattle.wcp_model.specs.Elimination.{ClockPrecedes, IsSatisfyingChoice, IsEliminatedBelow}
 use Rattle.wcp_queue.specs.Queue.{Candidates, no_candidates, head, without_head}
+use Rattle.wcp_queue.specs.declared.elimination.Meeting.{Meeting}
+use Rattle.wcp_queue.specs.declared.elimination.Meeting.TheVariants.{Apart, Precedes, Follows}
 
 abbrev pub queue_of : List Candidates → ℕ → Candidates
 queue_of queues p = slice_index_or queues p no_candidates
@@ -17,11 +19,11 @@ pub record HasNewHead (queue : Candidates) : Type 0 where
 
 -- How a head of p meets the queue of q: it precedes the head there; or the head there precedes it, and is eliminated; or
 -- neither precedes the other.
-abbrev pub IsMeeting : ℕ → List ℕ → ℕ → Candidates → Candidates → Bool → Type 0
-IsMeeting p one q old new true = (new ≡ old) × (0 < length old.clocks) × ClockPrecedes p one q (head old)
-IsMeeting p one q old new false =
-    ((new ≡ without_head old) × (0 < length old.clocks) × ClockPrecedes q (head old) p one)
-    ⊎ ((new ≡ old) × (0 < length old.clocks → (ClockPrecedes p one q (head old) → ⊥) × (ClockPrecedes q (head old) p one → ⊥)))
+abbrev pub IsMeeting : ℕ → List ℕ → ℕ → Candidates → Candidates → Meeting → Type 0
+IsMeeting p one q old new Precedes = (new ≡ old) × (0 < length old.clocks) × ClockPrecedes p one q (head old)
+IsMeeting p one q old new Follows = (new ≡ without_head old) × (0 < length old.clocks) × ClockPrecedes q (head old) p one
+IsMeeting p one q old new Apart =
+    (new ≡ old) × (0 < length old.clocks → (ClockPrecedes p one q (head old) → ⊥) × (ClockPrecedes q (head old) p one → ⊥))
 
 -- No head precedes another of those that were compared.
 pub record AreConcurrent (queues : List Candidates) : Type 0 where
@@ -35,9 +37,17 @@ uncompared queue = if queue.head_is_new then length queue.clocks else length que
 abbrev pub uncompared_in : List Candidates → ℕ
 uncompared_in queues = sum_by uncompared queues
 
+-- No head is new.
+abbrev pub AreOld : List Candidates → Type 0
+AreOld queues = (p : ℕ) → p < length queues → (queue_of queues p).head_is_new ≡ false
+
+-- No head is new but that of p.
+abbrev pub AreOldBut : ℕ → List Candidates → Type 0
+AreOldBut p queues = (q : ℕ) → q < length queues → q ≢ p → (queue_of queues q).head_is_new ≡ false
+
 -- All heads were compared.
 pub record AreCompared (queues : List Candidates) : Type 0 where
-  pub old : (p : ℕ) → p < length queues → (queue_of queues p).head_is_new ≡ false
+  pub old : AreOld queues
   pub concurrent : AreConcurrent queues
 
 -- Each queue has a head.

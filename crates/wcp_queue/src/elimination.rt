@@ -1,10 +1,21 @@
 ghost use Rattle.std.specs.Prelude.{◌≡◌, ◌↔◌, ℕ, ◌+◌, ◌-◌, ◌*◌, ◌^◌, ◌<◌, ◌≤◌, false, List, length, IsTrue, IfNone, IfSome, IfOk, OnOk, OnErr, MatchOption, slice_index};
-ghost use Rattle.wcp_queue.specs.Elimination.{queue_of, HasNewHead, HaveHeads, IsCutOfHeads, IsMeeting, AreConcurrent, AreCompared, uncompared_in, most_tests, Eliminates, AddsCandidate};
+ghost use Rattle.wcp_queue.specs.Elimination.{queue_of, HasNewHead, HaveHeads, IsCutOfHeads, IsMeeting, AreConcurrent, AreOld, AreOldBut, AreCompared, uncompared_in, most_tests, Eliminates, AddsCandidate};
 
 use crate::queue::Queue;
 use std::alloc::AllocError;
 use wcp_clock::{Clock, MAX_PROCS};
 use wcp_model::GlobalCut;
+
+/// How the head of one process met that of another one.
+#[derive(Clone, Copy)]
+enum Meeting {
+    /// Neither precedes the other, or there is no other.
+    Apart,
+    /// The head precedes the other.
+    Precedes,
+    /// The other precedes the head, and was eliminated.
+    Follows,
+}
 
 /// Adds a snapshot of `p` and eliminates heads. Answers the cut of the heads that are left, if every
 /// process has one. `Err` where memory runs out.
@@ -31,7 +42,9 @@ pub fn add_candidate(
     if !queues[p].head_is_new() {
         return Ok(None);
     }
-    eliminate(queues, tests);
+    if compare_head(queues, p, tests) {
+        eliminate(queues, tests);
+    }
     Ok(cut_of_heads(queues))
 }
 
@@ -76,8 +89,9 @@ fn first_new_head(queues: &[Queue]) -> Option<usize>
     None
 }
 
-/// Compares the new head of `p` with the other heads, and eliminates those that precede one.
-fn compare_head(queues: &mut [Queue], p: usize, tests: &mut u64)
+/// Compares the new head of `p` with the other heads, and eliminates those that precede one. Answers
+/// whether that uncovered a new head.
+fn compare_head(queues: &mut [Queue], p: usize, tests: &mut u64) -> bool
     requires few { length queues.old ≤ 16 }
     requires within { p < length queues.old }
     requires new { HasNewHead (queue_of queues.old p) }
@@ -87,23 +101,32 @@ fn compare_head(queues: &mut [Queue], p: usize, tests: &mut u64)
     ensures left { Eliminates queues.old queues.new }
     ensures fewer { uncompared_in queues.new < uncompared_in queues.old }
     ensures tests { tests.new ≤ tests.old + most_tests (length queues.old) 1 }
+    ensures covered { result ≡ false → AreOldBut p queues.old → AreOld queues.new }
 {
     queues[p].mark_head();
     let head = match queues[p].head() {
         Some(head) => *head,
-        None => return,
+        None => return false,
     };
+    let mut uncovered = false;
     for q in 0..queues.len() {
-        if q != p && meet(p as u32, &head, q as u32, &mut queues[q], tests) {
-            queues[p].drop_head();
-            return;
+        if q != p {
+            match meet(p as u32, &head, q as u32, &mut queues[q], tests) {
+                Meeting::Apart => {}
+                Meeting::Follows => uncovered |= queues[q].head_is_new(),
+                Meeting::Precedes => {
+                    queues[p].drop_head();
+                    return uncovered | queues[p].head_is_new();
+                }
+            }
         }
     }
+    uncovered
 }
 
 /// Compares a head of `p` with the head of the queue of `q`, if there is one, and eliminates that one
-/// if it precedes. Answers whether the head of `p` precedes it.
-fn meet(p: u32, head: &Clock, q: u32, queue: &mut Queue, tests: &mut u64) -> bool
+/// if it precedes.
+fn meet(p: u32, head: &Clock, q: u32, queue: &mut Queue, tests: &mut u64) -> Meeting
     requires p { p < 16 }
     requires q { q < 16 }
     requires room { tests.old + 2 < 2 ^ 64 }
@@ -111,15 +134,16 @@ fn meet(p: u32, head: &Clock, q: u32, queue: &mut Queue, tests: &mut u64) -> boo
     ensures tests { tests.new ≤ tests.old + 2 }
 {
     let Some(other) = queue.head() else {
-        return false;
+        return Meeting::Apart;
     };
     if precedes(p, head, other, tests) {
-        return true;
+        return Meeting::Precedes;
     }
     if precedes(q, other, head, tests) {
         queue.drop_head();
+        return Meeting::Follows;
     }
-    false
+    Meeting::Apart
 }
 
 /// Whether a snapshot of `p` precedes one of another process: one component test, which is counted.
