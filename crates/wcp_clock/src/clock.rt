@@ -1,16 +1,11 @@
 ghost use Rattle.std.specs.Prelude.{◌≡◌, ◌+◌, ◌<◌, ◌≤◌, ◌↔◌, length, replicate, slice_index, slice_set, IsTrue, IsNone, IfSome, nat_eq};
 ghost use Rattle.std.specs.Cmp.{partial_equiv_from_equiv};
 ghost use Rattle.std.specs.Cmp.Lexicographic.{pointwise, nat_list_eq_equiv};
+ghost use Rattle.wcp_clock.specs.Limits.{most_processes};
 ghost use Rattle.wcp_clock.specs.Merge.{merged};
 
+use crate::limits::MAX_PROCS;
 use std::marker::Model;
-
-/// The most processes that a clock has components for.
-pub const MAX_PROCS: usize = 16;
-
-/// The most communication events of one process: one fewer than its number of intervals, which a
-/// component counts.
-pub const CLOCK_LIMIT: u32 = 4_294_967_294;
 
 /// A vector clock of 1 to 16 processes: component q counts the events of process q
 /// that are known (Fidge 1988, Mattern 1989).
@@ -24,7 +19,7 @@ pub struct Clock {
 
 impl Model for Clock {
     ghost use Rattle.std.specs.Prelude.{◌≡◌, ℕ, ◌-◌, ◌<◌, ◌≤◌, List, ◌++◌, length, take, drop, replicate};
-    ghost use Rattle.wcp_clock.specs.declared.clock.TheConstants.{MAX_PROCS};
+    ghost use Rattle.wcp_clock.specs.declared.limits.TheConstants.{MAX_PROCS};
 
     ghost Value = { List ℕ };
 
@@ -48,7 +43,7 @@ impl Clock {
     /// The clock before any event, for `n` processes.
     pub fn new(n: u32) -> Clock
         requires some { 0 < n }
-        requires within { n ≤ MAX_PROCS }
+        requires within { n ≤ most_processes }
         ensures { result ≡ replicate n 0 }
     {
         Clock {
@@ -61,14 +56,14 @@ impl Clock {
     pub fn len(&self) -> u32
         ensures value { result ≡ length self.now }
         ensures some { 0 < length self.now }
-        ensures within { length self.now ≤ MAX_PROCS }
+        ensures within { length self.now ≤ most_processes }
     {
         self.count
     }
 
     /// Component `p`, and 0 where the clock has no such component.
     pub fn get(&self, p: u32) -> u32
-        requires { p < MAX_PROCS }
+        requires { p < most_processes }
         ensures { result ≡ slice_index self.now p }
     {
         self.components[p as usize]
@@ -103,7 +98,7 @@ impl Clock {
     /// Whether this clock's state of process `p` happened before the other clock's state, which is
     /// of another process: one comparison.
     pub fn precedes(&self, p: u32, other: &Clock) -> bool
-        requires { p < MAX_PROCS }
+        requires { p < most_processes }
         ensures { IsTrue result ↔ (slice_index self.now p < slice_index other.now p) }
     {
         self.get(p) < other.get(p)

@@ -1,8 +1,13 @@
-//! Vector clocks, and what a probe emits: snapshots and close marks.
+//! Vector clocks, what a probe emits (snapshots and close marks), and the limits of the product.
 #![tactic(auto)]
 
 mod clock;
+mod limits;
 mod note;
 
-pub use clock::{CLOCK_LIMIT, Clock, MAX_PROCS};
+pub use clock::Clock;
+pub use limits::{
+    CLOCK_LIMIT, MAX_BYTES, MAX_CAP, MAX_HOLD, MAX_LANE, MAX_PATH, MAX_PROCS, MAX_READS,
+    MAX_RELAYS, MAX_STEPS,
+};
 pub use note::{Item, Note};

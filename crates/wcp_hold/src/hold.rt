@@ -1,13 +1,10 @@
 ghost use Rattle.std.specs.Prelude.{◌≡◌, ℕ, ◌<◌, ◌≤◌, ◌↔◌, [], ◌∷◌, ◌++◌, length, drop, slice_get, IsErr, IfOk, OnOk, IfErr};
-ghost use Rattle.wcp_hold.specs.declared.hold.TheConstants.{MAX_ROOM};
+ghost use Rattle.wcp_clock.specs.Limits.{most_cap};
 
 use circular_buffer::HeapCircularBuffer;
 use std::alloc::{AllocError, Global};
 use std::marker::Model;
 use wcp_clock::Item;
-
-/// The most items that a hold may have room for.
-pub const MAX_ROOM: u32 = 1024;
 
 /// A bounded hold of items, first in, first out. Its memory is taken once, when it is made.
 #[derive(Drop)]
@@ -28,7 +25,7 @@ impl Hold {
     /// An empty hold with room for `cap` items. `Err` where memory runs out.
     pub fn new(alloc: Global, cap: u32) -> Result<Hold, AllocError>
         requires some { 0 < cap }
-        requires within { cap ≤ MAX_ROOM }
+        requires within { cap ≤ most_cap }
         ensures items { IfOk result (λ hold. hold.items ≡ []) }
         ensures room { IfOk result (λ hold. hold.room ≡ cap) }
     {

@@ -3,4 +3,4 @@
 
 mod hold;
 
-pub use hold::{Hold, MAX_ROOM};
+pub use hold::Hold;

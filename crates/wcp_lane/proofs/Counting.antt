@@ -1,7 +1,7 @@
 -- How many items of each number were put or taken.
 use Rattle.std.proofs.Common.{◌≡◌, ◌≢◌, ◌⊎◌, ℕ, ◌+◌, ◌<◌, List, [], ◌∷◌, ◌++◌, length, get_or, set, replicate, refl, sym, ap, ◌∙◌, ⊎_elim, arith, length-append}
 use Rattle.std.proofs.lemmas.List.{length-set, get_or-set_same, get_or-set_other, get_or-replicate, append-nil}
-use Rattle.wcp_clock.specs.declared.clock.TheConstants.{MAX_PROCS}
+use Rattle.wcp_clock.specs.Limits.{most_processes}
 use Rattle.wcp_lane.specs.Message.{items_from}
 use Rattle.wcp_lane.specs.Ends.{AreCounts}
 use Rattle.wcp_lane.proofs.Lists.{items_from-append, items_from-own, items_from-other}
@@ -12,7 +12,7 @@ module _ {M : Type 0} (origin : M → ℕ) where
   counts_of_none = (refl, λ p below. get_or-replicate 16 p 0 0 below)
 
   -- a message more, and the count of its number
-  pub counted : (counts : List ℕ) (messages : List M) (m : M) (p count : ℕ) → AreCounts origin counts messages → p ≡ origin m → p < MAX_PROCS → count ≡ length (items_from origin (origin m) messages) + 1
+  pub counted : (counts : List ℕ) (messages : List M) (m : M) (p count : ℕ) → AreCounts origin counts messages → p ≡ origin m → p < most_processes → count ≡ length (items_from origin (origin m) messages) + 1
       → AreCounts origin (set counts p count) (messages ++ m ∷ [])
   counted counts messages m p count old own below next = (
     (length-set counts p count ∙ old.0),

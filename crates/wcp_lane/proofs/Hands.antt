@@ -3,7 +3,7 @@ use Rattle.std.proofs.Common.{◌≡◌, ℕ, ◌<◌, Bool, true, false, true�
 use Rattle.std.specs.FinSet as sets
 use Rattle.std.proofs.lemmas.List.{append-nil}
 use Rattle.crossbeam_channel.specs.Fifo.{Pushes, Forks, Merges}
-use Rattle.wcp_clock.specs.declared.clock.TheConstants.{MAX_PROCS}
+use Rattle.wcp_clock.specs.Limits.{most_processes}
 use Rattle.wcp_model.specs.LaneRule.{IsNext}
 use Rattle.wcp_lane.specs.declared.passes.Hand.{Hand}
 use Rattle.wcp_lane.specs.Message.{items_from}
@@ -21,11 +21,11 @@ module _ {M : Type 0} (origin place : M → ℕ) (is_last : M → Bool) where
   Rule = IsRuled origin place is_last
 
   -- the steps, at what an end is known to know
-  pub puts_as : (n pass : ℕ) (v : Hand M) (numbers : Numbers) (put : List M) (m : M) → v ≡ putter numbers put → origin m < MAX_PROCS → sets.contains numbers (origin m) ≡ true
+  pub puts_as : (n pass : ℕ) (v : Hand M) (numbers : Numbers) (put : List M) (m : M) → v ≡ putter numbers put → origin m < most_processes → sets.contains numbers (origin m) ≡ true
       → IsNext place is_last (items_from origin (origin m) put) m → Pushes Rule n pass v m (IsPut v m)
   puts_as n pass v numbers put m is within own next = subst (λ (u : Hand M). Pushes Rule n pass u m (IsPut u m)) (sym is) (puts origin place is_last n pass numbers put m within own next)
 
-  pub gives_as : (pass : ℕ) (v : Hand M) (unowned numbers : Numbers) → v ≡ taker unowned [] → ((p : ℕ) → p < MAX_PROCS → sets.contains numbers p ≡ true → sets.contains unowned p ≡ true)
+  pub gives_as : (pass : ℕ) (v : Hand M) (unowned numbers : Numbers) → v ≡ taker unowned [] → ((p : ℕ) → p < most_processes → sets.contains numbers p ≡ true → sets.contains unowned p ≡ true)
       → Forks Rule pass v (without numbers v) (putter numbers [])
   gives_as pass v unowned numbers is among = subst (λ (u : Hand M). Forks Rule pass u (without numbers u) (putter numbers [])) (sym is) (gives origin place is_last pass unowned [] numbers among)
 
@@ -54,7 +54,7 @@ same_lists put taken (x ∷ left) e as_many = absurd (omega (arith, ap length e,
 
 -- where as many were taken as were put, they are the same
 pub matched : {M : Type 0} (origin : M → ℕ) (v u w : Hand M) (numbers : Numbers) (within : List M) → v.takes ≡ true → u ≡ putter numbers (put_by u) → w ≡ joined v u → IsBalanced origin w within
-    → (p : ℕ) → p < MAX_PROCS → sets.contains numbers p ≡ true → length (items_from origin p v.taken) ≡ length (items_from origin p (put_by u)) → items_from origin p v.taken ≡ items_from origin p (put_by u)
+    → (p : ℕ) → p < most_processes → sets.contains numbers p ≡ true → length (items_from origin p v.taken) ≡ length (items_from origin p (put_by u)) → items_from origin p v.taken ≡ items_from origin p (put_by u)
 matched {M} origin v u w numbers within may is both balanced p below member as_many =
     let homes : w.home ≡ v.home ++ home numbers (put_by u) ∷ [] = ap (λ (x : Hand M). x.home) both ∙ ap (λ (x : Hand M). v.home ++ x.home) is in
     let taken : w.taken ≡ v.taken = ap (λ (x : Hand M). x.taken) both in

@@ -12,7 +12,7 @@ use mathlib.Core.Option.{some, some-injective, some-ne-none}
 use lib.ListN.{get_elem?}
 use Rattle.atomic_table.proofs.Lists.{at_set, at_last, at_longer, set_here, set_else}
 use Rattle.crossbeam_channel.specs.Fifo.{Pushes, Pops, Forks, Merges, Learns}
-use Rattle.wcp_clock.specs.declared.clock.TheConstants.{MAX_PROCS}
+use Rattle.wcp_clock.specs.Limits.{most_processes}
 use Rattle.wcp_model.specs.LaneRule.{IsNext, IsRun}
 use Rattle.wcp_lane.specs.declared.passes.Hand.{Hand}
 use Rattle.wcp_lane.specs.declared.passes.Home.{Home}
@@ -50,9 +50,9 @@ numbers_below-contains (suc n) p below =
     (λ (earlier : p ≢ n). let not_it : nat_eq p n ≡ false = grind (arith, nat_tests) in ap (λ b. b || sets.contains (numbers_below n) p) not_it ∙ numbers_below-contains n p (omega arith))
     (either_number p n)
 
-pub all_numbers-contains : (p : ℕ) → p < MAX_PROCS → sets.contains all_numbers p ≡ true
+pub all_numbers-contains : (p : ℕ) → p < most_processes → sets.contains all_numbers p ≡ true
 unfolding all_numbers
-all_numbers-contains p below = numbers_below-contains MAX_PROCS p below
+all_numbers-contains p below = numbers_below-contains most_processes p below
 
 -- what is left of a set without another
 pub contains_without : (numbers given : Numbers) (p : ℕ) → sets.contains (sets.difference numbers given) p ≡ (sets.contains numbers p && not (sets.contains given p))
@@ -115,7 +115,7 @@ module _ {M : Type 0} (origin place : M → ℕ) (is_last : M → Bool) where
       }
 
   -- a message is put
-  pub puts : (n pass : ℕ) (numbers : Numbers) (put : List M) (m : M) → origin m < MAX_PROCS → sets.contains numbers (origin m) ≡ true → IsNext place is_last (items_from origin (origin m) put) m
+  pub puts : (n pass : ℕ) (numbers : Numbers) (put : List M) (m : M) → origin m < most_processes → sets.contains numbers (origin m) ≡ true → IsNext place is_last (items_from origin (origin m) put) m
       → Pushes Rule n pass (putter numbers put) m (IsPut (putter numbers put) m)
   puts n pass numbers put m within own next items ends room h at =
       let w : Hand M = putter numbers (put ++ m ∷ []) in
@@ -131,8 +131,8 @@ module _ {M : Type 0} (origin place : M → ℕ) (is_last : M → Bool) where
           taken = h.taken;
           put = more;
           rule = record {
-            numbered = subst (All (λ x. origin x < MAX_PROCS)) (sym (flat_map-append items_of items (m ∷ [])))
-                (All-append (λ x. origin x < MAX_PROCS) (flat_map items_of items) (m ∷ []) h.rule.numbered (only_numbered m within));
+            numbered = subst (All (λ x. origin x < most_processes)) (sym (flat_map-append items_of items (m ∷ [])))
+                (All-append (λ x. origin x < most_processes) (flat_map items_of items) (m ∷ []) h.rule.numbered (only_numbered m within));
             whole = λ q below. ap (λ xs. items_from origin q h.taken ++ xs) (items_from-append origin q items (m ∷ [])) ∙ sym (append_assoc (items_from origin q h.taken) (items_from origin q items) (items_from origin q (m ∷ []))) ∙ ap (λ xs. xs ++ items_from origin q (m ∷ [])) (h.rule.whole q below);
             runs = λ q below. ⊎_elim
                 (λ (here : q ≡ origin m).
@@ -165,7 +165,7 @@ module _ {M : Type 0} (origin place : M → ℕ) (is_last : M → Bool) where
         refl,
       )
     where
-      only_numbered : (x : M) → origin x < MAX_PROCS → All (λ y. origin y < MAX_PROCS) (x ∷ [])
+      only_numbered : (x : M) → origin x < most_processes → All (λ y. origin y < most_processes) (x ∷ [])
       only_numbered x below zero d k = below
       only_numbered x below (suc i) d k = absurd (omega arith)
 
@@ -176,7 +176,7 @@ module _ {M : Type 0} (origin place : M → ℕ) (is_last : M → Bool) where
       let mine = h.each pass v at in
       let reads = mine.takes may in
       let p : ℕ = origin m in
-      let within : p < MAX_PROCS = h.rule.numbered 0 m (omega arith) in
+      let within : p < most_processes = h.rule.numbered 0 m (omega arith) in
       let split : items_from origin p (m ∷ items) ≡ m ∷ items_from origin p items = items_from-append origin p (m ∷ []) items ∙ ap (λ xs. xs ++ items_from origin p items) (items_from-own origin p m refl) in
       let whole : h.put p ≡ items_from origin p h.taken ++ m ∷ items_from origin p items = sym (h.rule.whole p within) ∙ ap (λ xs. items_from origin p h.taken ++ xs) split in (
         w,
@@ -216,7 +216,7 @@ module _ {M : Type 0} (origin place : M → ℕ) (is_last : M → Bool) where
       )
 
   -- an end is given the numbers of a set
-  pub gives : (pass : ℕ) (unowned : Numbers) (taken : List M) (numbers : Numbers) → ((p : ℕ) → p < MAX_PROCS → sets.contains numbers p ≡ true → sets.contains unowned p ≡ true)
+  pub gives : (pass : ℕ) (unowned : Numbers) (taken : List M) (numbers : Numbers) → ((p : ℕ) → p < most_processes → sets.contains numbers p ≡ true → sets.contains unowned p ≡ true)
       → Forks Rule pass (taker unowned taken) (without numbers (taker unowned taken)) (putter numbers [])
   gives pass unowned taken numbers among items ends h at =
       let left : Hand M = without numbers (taker unowned taken) in

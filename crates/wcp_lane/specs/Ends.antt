@@ -5,7 +5,7 @@ use Rattle.atomic_table.specs.Seated.{TableId}
 use Rattle.atomic_table.specs.declared.badge.Badge.{Badge}
 use Rattle.crossbeam_channel.specs.declared.flavors.array.Key.{Key}
 use Rattle.crossbeam_channel.specs.Claims.{Pass}
-use Rattle.wcp_clock.specs.declared.clock.TheConstants.{MAX_PROCS}
+use Rattle.wcp_clock.specs.Limits.{most_processes}
 use Rattle.wcp_model.specs.LaneRule.{IsNext}
 use Rattle.wcp_lane.specs.declared.passes.Hand.{Hand}
 use Rattle.wcp_lane.specs.declared.passes.Home.{Home}
@@ -64,12 +64,12 @@ module _ {M : Type 0} where
 
 -- all numbers below 16 but these
 abbrev pub IsRest : Numbers → Numbers → Type 0
-IsRest numbers rest = (p : ℕ) → p < MAX_PROCS → set.contains rest p ≡ not (set.contains numbers p)
+IsRest numbers rest = (p : ℕ) → p < most_processes → set.contains rest p ≡ not (set.contains numbers p)
 
 -- how many of these messages there are of each origin
 abbrev pub AreCounts : {M : Type 0} → (M → ℕ) → List ℕ → List M → Type 0
 AreCounts origin counts messages =
-    (length counts ≡ MAX_PROCS) × ((p : ℕ) → p < MAX_PROCS → slice_index counts p ≡ length (items_from origin p messages))
+    (length counts ≡ most_processes) × ((p : ℕ) → p < most_processes → slice_index counts p ≡ length (items_from origin p messages))
 
 -- A message that the taker takes is of one of the lane's numbers, and the next one after those that it has taken of this
 -- number.

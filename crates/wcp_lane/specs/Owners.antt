@@ -3,11 +3,11 @@ use Rattle.std.specs.Prelude.{◌≡◌, ℕ, ◌<◌, ◌≤◌, true, List, le
 use Rattle.std.specs.FinSet as set
 use Rattle.wcp_lane.specs.declared.fault.LaneFault.{LaneFault}
 use Rattle.wcp_lane.specs.declared.fault.LaneFault.TheVariants.{Cap, Owners, NoMemory}
-use Rattle.wcp_lane.specs.declared.opening.TheConstants.{MAX_CAPACITY}
+use Rattle.wcp_clock.specs.Limits.{most_lane}
 use Rattle.wcp_lane.specs.Passes.{Numbers}
 
 abbrev pub IsCapacity : ℕ → Type 0
-IsCapacity cap = (0 < cap) × (cap ≤ MAX_CAPACITY)
+IsCapacity cap = (0 < cap) × (cap ≤ most_lane)
 
 -- No number is in two of these sets.
 abbrev pub AreApart : List Numbers → Type 0

@@ -5,7 +5,7 @@ use Rattle.std.specs.FinSet as set
 use Rattle.std.specs.Coded.{Coded, coded_ℕ}
 use mathlib.Core.Option.{some}
 use lib.ListN.{get_elem?}
-use Rattle.wcp_clock.specs.declared.clock.TheConstants.{MAX_PROCS}
+use Rattle.wcp_clock.specs.Limits.{most_processes}
 use Rattle.wcp_model.specs.LaneRule.{LaneRule, IsNext}
 use Rattle.wcp_lane.specs.Message.{items_of, items_from}
 use Rattle.wcp_lane.specs.declared.passes.Hand.{Hand}
@@ -24,7 +24,7 @@ numbers_below (suc n) = set.insert (numbers_below n) n
 
 -- every number that an item in a lane may have
 unfoldable pub all_numbers : Numbers
-all_numbers = numbers_below MAX_PROCS
+all_numbers = numbers_below most_processes
 
 module _ {M : Type 0} where
   abbrev pub home : Numbers → List M → Home M
@@ -77,7 +77,7 @@ IsSeated {M} ends pass p = (v : Hand M) × (get_elem? ends pass ≡ some v) × S
 module _ {M : Type 0} (origin place : M → ℕ) (is_last : M → Bool) where
   -- an item that was taken is of a number below 16 that some putter has, and the next one after those taken of it
   pub record IsFresh (unowned : Numbers) (taken : List M) (item : M) : Type 0 where
-    pub numbered : origin item < MAX_PROCS
+    pub numbered : origin item < most_processes
     pub owned : set.contains unowned (origin item) ≡ false
     pub next : IsNext place is_last (items_from origin (origin item) taken) item
 
@@ -92,7 +92,7 @@ module _ {M : Type 0} (origin : M → ℕ) where
   IsBalanced v within =
       v.takes ≡ true
       → (before : List (Home M)) (h : Home M) (behind : List (Home M)) → v.home ≡ before ++ h ∷ behind
-      → (p : ℕ) → p < MAX_PROCS → set.contains h.numbers p ≡ true
+      → (p : ℕ) → p < most_processes → set.contains h.numbers p ≡ true
       → items_from origin p h.put ≡ items_from origin p v.taken ++ items_from origin p within
 
   -- what one end knows fits: the end that takes is the reader, and it has taken what was taken; the end that stands for a
@@ -100,7 +100,7 @@ module _ {M : Type 0} (origin : M → ℕ) where
   pub record Fits (reader : ℕ) (seat : ℕ → ℕ) (taken : List M) (put : ℕ → List M) (pass : ℕ) (v : Hand M) : Type 0 where
     pub takes : v.takes ≡ true → (pass ≡ reader) × (v.taken ≡ taken)
     pub stands : (before : List (Home M)) (h : Home M) (behind : List (Home M)) → v.home ≡ before ++ h ∷ behind
-        → (p : ℕ) → p < MAX_PROCS → set.contains h.numbers p ≡ true
+        → (p : ℕ) → p < most_processes → set.contains h.numbers p ≡ true
         → (seat p ≡ pass) × (items_from origin p h.put ≡ put p)
 
 -- the lane rule over what the lane holds and what the ends know: for each number there is one end that stands for it
@@ -112,5 +112,5 @@ pub record IsRuled
   pub taken : List M
   pub put : ℕ → List M
   pub rule : LaneRule items_of origin place is_last taken within put
-  pub seated : (p : ℕ) → p < MAX_PROCS → IsSeated ends (seat p) p
+  pub seated : (p : ℕ) → p < most_processes → IsSeated ends (seat p) p
   pub each : (pass : ℕ) (v : Hand M) → get_elem? ends pass ≡ some v → Fits origin reader seat taken put pass v

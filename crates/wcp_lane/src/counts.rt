@@ -1,6 +1,6 @@
 ghost use Rattle.std.specs.Prelude.{◌≡◌, ℕ, ◌+◌, ◌<◌, ◌↔◌, true, length, slice_index, slice_set, IsTrue};
 ghost use Rattle.std.specs.FinSet as set;
-ghost use Rattle.wcp_clock.specs.declared.clock.TheConstants.{MAX_PROCS};
+ghost use Rattle.wcp_clock.specs.Limits.{most_processes};
 
 use crate::origins::Origins;
 use wcp_clock::MAX_PROCS;
@@ -11,7 +11,7 @@ pub type Counts = [u128; MAX_PROCS];
 
 /// Counts a message that is the next one of its origin.
 pub fn count(counts: &mut Counts, origin: u32, place: u64)
-    requires { origin < MAX_PROCS }
+    requires { origin < most_processes }
     ensures { counts.new ≡ slice_set counts.old origin (place + 1) }
 {
     counts[origin as usize] = u128::from(place) + 1;
@@ -20,7 +20,7 @@ pub fn count(counts: &mut Counts, origin: u32, place: u64)
 /// Whether the counts of all these numbers are the same.
 pub fn agree(numbers: &Origins, put: &Counts, taken: &Counts) -> bool
     ensures { IsTrue result
-        ↔ ((p : ℕ) → p < MAX_PROCS → set.contains numbers.now p ≡ true → slice_index put.now p ≡ slice_index taken.now p) }
+        ↔ ((p : ℕ) → p < most_processes → set.contains numbers.now p ≡ true → slice_index put.now p ≡ slice_index taken.now p) }
 {
     for p in 0..MAX_PROCS {
         if numbers.has(p as u32) && put[p] != taken[p] {

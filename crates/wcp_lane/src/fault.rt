@@ -3,7 +3,7 @@ use thiserror::Error;
 /// Why a lane wasn't made.
 #[derive(Clone, Copy, Debug, PartialEq, Eq, Error)]
 pub enum LaneFault {
-    /// The capacity isn't within 1 to [`MAX_CAPACITY`](crate::MAX_CAPACITY).
+    /// The capacity isn't within 1 to [`MAX_LANE`](wcp_clock::MAX_LANE).
     #[error("the capacity is out of range")]
     Cap,
     /// There is no set of origins, or two of them share a number.

@@ -14,7 +14,7 @@ mod taker;
 
 pub use fault::{Cut, LaneFault, Unfinished};
 pub use message::Origin;
-pub use opening::{MAX_CAPACITY, lane};
+pub use opening::lane;
 pub use origins::Origins;
 pub use putter::{PutReceipt, Putter};
 pub use receipts::reconcile;

@@ -3,8 +3,7 @@ ghost use Rattle.std.specs.List.{list_any};
 ghost use Rattle.std.specs.FinSet as set;
 ghost use Rattle.crossbeam_channel.specs.Ends.{sends_on};
 ghost use Rattle.crossbeam_channel.specs.Claims.{view, IsSeatAt};
-ghost use Rattle.wcp_clock.specs.declared.clock.TheConstants.{MAX_PROCS};
-ghost use Rattle.wcp_lane.specs.declared.opening.TheConstants.{MAX_CAPACITY};
+ghost use Rattle.wcp_clock.specs.Limits.{most_processes};
 ghost use Rattle.wcp_lane.specs.Passes.{taker, putter, without};
 ghost use Rattle.wcp_lane.specs.Ends.{new_putter, unowned_by, lane_of};
 ghost use Rattle.wcp_lane.specs.Owners.{AreApart, AreOwners, IsCapacity, IsFirstFault};
@@ -18,10 +17,7 @@ use crate::taker::Taker;
 use crossbeam_channel::bounded_with;
 use std::alloc::{AllocError, Global};
 use std::marker::Brand;
-use wcp_clock::MAX_PROCS;
-
-/// The most messages that a lane may have room for.
-pub const MAX_CAPACITY: u32 = 65_536;
+use wcp_clock::{MAX_LANE, MAX_PROCS};
 
 /// A lane with room for `cap` messages, with a putter for each of these sets, in their order. It takes
 /// all the memory that its ends will ever use. No two sets may share a number, and there is at least
@@ -38,7 +34,7 @@ pub fn lane<M: Origin>(
         (p : ℕ) → set.contains ends.1.members p ≡ list_any (λ numbers. set.contains numbers p) owners.now) }
     ensures empty { IfOk result (λ ends. ends.1.taken ≡ []) }
 {
-    if cap == 0 || cap > MAX_CAPACITY {
+    if cap == 0 || cap > MAX_LANE {
         return Err(LaneFault::Cap);
     }
     if owners.is_empty() || !are_apart(owners) {
@@ -111,7 +107,7 @@ fn give<M: Origin, N: Numbers>(
     requires lane { IsSeatAt (sends_on sender.now) pass.old }
     requires numbers { numbers.now ≡ N.numbers }
     requires taker { view pass.old ≡ taker (unowned_by (view pass.old)) [] }
-    requires among { (p : ℕ) → p < MAX_PROCS → set.contains numbers.now p ≡ true
+    requires among { (p : ℕ) → p < most_processes → set.contains numbers.now p ≡ true
         → set.contains (unowned_by (view pass.old)) p ≡ true }
     ensures lane { IsSeatAt (sends_on sender.now) pass.new × IsSeatAt (sends_on sender.now) result }
     ensures taker { view pass.new ≡ taker (set.difference (unowned_by (view pass.old)) numbers.now) [] }

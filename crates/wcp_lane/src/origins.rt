@@ -1,6 +1,6 @@
 ghost use Rattle.std.specs.Prelude.{◌≡◌, ℕ, ◌<◌, ◌↔◌, ◌||◌, true, false, length, slice_index_or, IsTrue};
 ghost use Rattle.std.specs.FinSet as set;
-ghost use Rattle.wcp_clock.specs.declared.clock.TheConstants.{MAX_PROCS};
+ghost use Rattle.wcp_clock.specs.Limits.{most_processes};
 ghost use Rattle.wcp_lane.specs.Within.{IsWithin};
 
 use std::marker::Model;
@@ -17,7 +17,7 @@ impl Model for Origins {
     ghost use Rattle.std.specs.Ordering.{nat_cmp};
     ghost use Rattle.std.specs.FinSet as set;
     ghost use Rattle.std.specs.Coded.{coded_ℕ};
-    ghost use Rattle.wcp_clock.specs.declared.clock.TheConstants.{MAX_PROCS};
+    ghost use Rattle.wcp_clock.specs.Limits.{most_processes};
     ghost use Rattle.wcp_lane.specs.Numbers.{set_of, marks_of, marks_back};
 
     ghost Value = { set.FinSet nat_cmp };
@@ -26,11 +26,11 @@ impl Model for Origins {
 
     ghost view = { λ o. set_of o.has };
 
-    ghost invariant = { λ o. length o.has ≡ MAX_PROCS };
+    ghost invariant = { λ o. length o.has ≡ most_processes };
 
-    ghost inverse = { λ numbers. record { has = marks_of numbers 0 MAX_PROCS } };
+    ghost inverse = { λ numbers. record { has = marks_of numbers 0 most_processes } };
 
-    ghost inverse_ok = { λ o full i. record { has = marks_back o.has MAX_PROCS full i } };
+    ghost inverse_ok = { λ o full i. record { has = marks_back o.has most_processes full i } };
 }
 
 impl Origins {
@@ -45,7 +45,7 @@ impl Origins {
 
     /// These numbers and `p`.
     pub fn with(&self, p: u32) -> Origins
-        requires { p < MAX_PROCS }
+        requires { p < most_processes }
         ensures { result ≡ set.insert self.now p }
     {
         let mut more = *self;
@@ -55,7 +55,7 @@ impl Origins {
 
     /// Whether `p` is one of these numbers.
     pub fn has(&self, p: u32) -> bool
-        requires { p < MAX_PROCS }
+        requires { p < most_processes }
         ensures value { result ≡ set.contains self.now p }
         ensures within { IsWithin self.now }
     {

@@ -1,6 +1,6 @@
 ghost use Rattle.std.specs.Prelude.{◌≡◌, ℕ, ◌<◌, true, ◌∷◌, [], ◌++◌, IfOk, IfSome, IfNone, OnErr, MatchResult, MatchOption};
 ghost use Rattle.std.specs.FinSet as set;
-ghost use Rattle.wcp_clock.specs.declared.clock.TheConstants.{MAX_PROCS};
+ghost use Rattle.wcp_clock.specs.Limits.{most_processes};
 ghost use Rattle.wcp_lane.specs.Ends.{IsNextTaken};
 
 use crate::counts::{Counts, count};
@@ -152,7 +152,7 @@ impl<M: Origin> TakeReceipt<M> {
 
     /// Whether `p` is a number of a putter that it was reconciled with.
     pub fn matched(&self, p: u32) -> bool
-        requires { p < MAX_PROCS }
+        requires { p < most_processes }
         ensures { result ≡ set.contains self.now.matched p }
     {
         self.matched.has(p)

@@ -1,14 +1,14 @@
 use Rattle.std.proofs.Common.{◌≡◌, ◌==◌, ℕ, zero, suc, ◌+◌, ◌<◌, ◌≤◌, ◌⊎◌, ◌↔◌, Bool, true, false, List, [], ◌∷◌, ◌++◌, length, slice_get, Some, Contains, IsTrue, if◌then◌else◌, refl, sym, ◌∙◌, ap, subst, inl, inr, ⊎_elim, arith}
-use Rattle.std.proofs.lemmas.Bool.{false≢true, cases_lt, cases_eq, cases_Bool, eqb-true, eqb-false, eq-eqb, ne_eqb, cond-true, cond-false}
+use Rattle.std.proofs.lemmas.Bool.{false≢true, cases_lt, cases_eq, cases_Bool, eq-eqb, ne_eqb, cond-true, cond-false}
 use Rattle.std.proofs.lemmas.List.{length_push}
 use Rattle.std.proofs.lemmas.Option.{slice_get_within, same_Some}
 use Rattle.wcp_model.specs.declared.state.State.{State}
 use Rattle.wcp_model.specs.declared.step.Step.{Step}
 use Rattle.wcp_model.specs.declared.step.Step.TheVariants.{Send, Recv}
-use Rattle.wcp_model.specs.Computation.{Computation, is_communication_of, is_send, communications, interval_at, message_at}
+use Rattle.wcp_model.specs.Computation.{Computation, is_communication_of, is_send, interval_at, message_at}
 use Rattle.wcp_model.specs.Order.{HappenedBefore}
 use Rattle.wcp_model.proofs.Places.{count_before-yes, count_before-no, count_before-mono}
-use Rattle.wcp_model.proofs.Reached.{state_at, AtOrAfter, Carries, IsSentAfter, same_state, interval_at-event, interval_at-other, interval_at-end, before_next, before_receive, before_to_state, before_to_later, comes_from}
+use Rattle.wcp_model.proofs.Reached.{state_at, AtOrAfter, Carries, same_state, interval_at-event, interval_at-other, before_next, before_receive, before_to_later, comes_from}
 
 -- an element before the one that was pushed
 slice_get-push_before : {X : Type 0} (xs : List X) (y : X) (i : ℕ) → i < length xs → slice_get (xs ++ y ∷ []) i ≡ slice_get xs i

@@ -1,6 +1,6 @@
 use Rattle.std.specs.Prelude.{◌≡◌, ◌==◌, ℕ, ◌<◌, Bool, false, List, ◌∷◌, ◌++◌, length, filter, All}
 use Rattle.std.specs.List.{flat_map}
-use Rattle.wcp_clock.specs.declared.clock.TheConstants.{MAX_PROCS}
+use Rattle.wcp_clock.specs.Limits.{most_processes}
 
 -- A lane carries messages, each with one item or more, and an item has an origin, the number of a process: here are the
 -- items of one origin among these messages, in order.
@@ -24,7 +24,7 @@ IsRun {I} place is_last items =
 pub record LaneRule
     {M I : Type 0} (items_of : M → List I) (origin place : I → ℕ) (is_last : I → Bool)
     (taken within : List M) (put : ℕ → List I) : Type 0 where
-  pub numbered : All (λ item. origin item < MAX_PROCS) (flat_map items_of within)
-  pub whole : (p : ℕ) → p < MAX_PROCS
+  pub numbered : All (λ item. origin item < most_processes) (flat_map items_of within)
+  pub whole : (p : ℕ) → p < most_processes
       → items_from items_of origin p taken ++ items_from items_of origin p within ≡ put p
-  pub runs : (p : ℕ) → p < MAX_PROCS → IsRun place is_last (put p)
+  pub runs : (p : ℕ) → p < most_processes → IsRun place is_last (put p)

@@ -1,7 +1,7 @@
-use Rattle.std.specs.Prelude.{◌≡◌, ◌==◌, ◌||◌, ℕ, ◌<◌, Bool, true, false, not, nat_lt, nat_le, Option, Some, None, MatchOption, List, [], ◌∷◌, ◌++◌, length, filter, flat_map, take, slice_get, if◌then◌else◌}
+use Rattle.std.specs.Prelude.{◌≡◌, ◌==◌, ◌||◌, ℕ, ◌<◌, Bool, true, false, not, nat_lt, nat_le, Option, Some, None, MatchOption, List, [], ◌∷◌, ◌++◌, filter, flat_map, take, slice_get, if◌then◌else◌}
 use Rattle.std.specs.List.{list_any}
 use Rattle.std.specs.Option.{option_map_or}
-use Rattle.wcp_clock.specs.declared.clock.TheConstants.{CLOCK_LIMIT}
+use Rattle.wcp_clock.specs.Limits.{most_events}
 use Rattle.wcp_clock.specs.declared.note.Item.{Item}
 use Rattle.wcp_clock.specs.declared.note.Note.{Note}
 use Rattle.wcp_model.specs.declared.plan.Parent.TheVariants as parent
@@ -77,11 +77,11 @@ abbrev pub event_reasons : ℕ → Computation → (ℕ → Bool) → Step → L
 event_reasons n c pending (step.Observe p holds) = (not (nat_lt p n), why.NoSuch) ∷ (is_closed c p, why.Closed) ∷ []
 event_reasons n c pending (step.Send p to) =
     (not (nat_lt p n) || not (nat_lt to n) || p == to, why.NoSuch) ∷ (is_closed c p, why.Closed)
-    ∷ (pending p, why.Backlog) ∷ (nat_le CLOCK_LIMIT (communications c p), why.ClockEnd) ∷ []
+    ∷ (pending p, why.Backlog) ∷ (nat_le most_events (communications c p), why.ClockEnd) ∷ []
 event_reasons n c pending (step.Recv p message) =
     (not (nat_lt p n) || not (was_sent_to c message p), why.NoSuch) ∷ (is_closed c p, why.Closed)
     ∷ (pending p, why.Backlog) ∷ (was_received c message, why.Gone)
-    ∷ (nat_le CLOCK_LIMIT (communications c p), why.ClockEnd) ∷ []
+    ∷ (nat_le most_events (communications c p), why.ClockEnd) ∷ []
 event_reasons n c pending (step.Close p) =
     (not (nat_lt p n), why.NoSuch) ∷ (is_closed c p, why.Closed) ∷ (pending p, why.Backlog) ∷ []
 event_reasons n c pending s = []

@@ -1,5 +1,6 @@
 use Rattle.std.specs.Prelude.{◌≡◌, ◌==◌, ◌&&◌, ◌≢◌, ℕ, ◌+◌, ◌-◌, ◌<◌, ◌≤◌, ◌↔◌, Bool, true, false, List, [], ◌∷◌, ◌++◌, length, take, count_by, filter, map, All, if◌then◌else◌}
 use Rattle.std.specs.List.{range_with_len}
+use Rattle.wcp_clock.specs.Limits.{most_processes, most_steps}
 use Rattle.wcp_model.specs.declared.step.Step.{Step}
 use Rattle.wcp_model.specs.declared.step.Step.TheVariants as step
 use Rattle.wcp_model.specs.declared.workload.Action.{Action}
@@ -49,8 +50,8 @@ IsWithin n task = (task.p < n) × HasPartner n task.p task.action
 -- A workload of n processes could be read: its numbers are within the limits, and its tasks have a fit order.
 pub record CouldBeRead (n : ℕ) (tasks : List Task) : Type 0 where
   pub some : 1 ≤ n
-  pub few_processes : n ≤ 16
-  pub few_tasks : length tasks ≤ 65536
+  pub few_processes : n ≤ most_processes
+  pub few_tasks : length tasks ≤ most_steps
   pub within : All (IsWithin n) tasks
   pub order : List Task
   pub fit : IsFitOrder tasks order

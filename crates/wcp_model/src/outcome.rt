@@ -1,4 +1,5 @@
 ghost use Rattle.std.specs.Prelude.{◌≡◌, ℕ, ◌<◌, ◌≤◌, List, length, slice_get, slice_index, Some};
+ghost use Rattle.wcp_clock.specs.Limits.{most_processes};
 
 use std::marker::Model;
 use wcp_clock::MAX_PROCS;
@@ -12,15 +13,15 @@ pub struct GlobalCut {
 
 impl Model for GlobalCut {
     ghost use Rattle.std.specs.Prelude.{◌≡◌, ℕ, ◌-◌, ◌<◌, ◌≤◌, List, ◌++◌, length, take, drop, replicate};
-    ghost use Rattle.wcp_clock.specs.declared.clock.TheConstants.{MAX_PROCS};
+    ghost use Rattle.wcp_clock.specs.Limits.{most_processes};
 
     ghost Value = { List ℕ };
 
     ghost view = { λ c. take c.count c.intervals };
 
-    ghost invariant = { λ c. (0 < c.count) × (c.count ≤ MAX_PROCS) × (length c.intervals ≡ MAX_PROCS) × (drop c.count c.intervals ≡ replicate (MAX_PROCS - c.count) 0) };
+    ghost invariant = { λ c. (0 < c.count) × (c.count ≤ most_processes) × (length c.intervals ≡ most_processes) × (drop c.count c.intervals ≡ replicate (most_processes - c.count) 0) };
 
-    ghost inverse = { λ v. record { count = length v; intervals = v ++ replicate (MAX_PROCS - length v) 0 } };
+    ghost inverse = { λ v. record { count = length v; intervals = v ++ replicate (most_processes - length v) 0 } };
 
     ghost use Rattle.std.proofs.Common.{arith};
     ghost use Rattle.std.proofs.lemmas.List.{length-take-le};
@@ -28,7 +29,7 @@ impl Model for GlobalCut {
 
     ghost inverse_ok = { λ a h i. record {
       count = length-take-le a.count a.intervals (Prim.omega (arith, h.1, h.2)) i;
-      intervals = padded_front 0 a.count MAX_PROCS a.intervals h.1 h.2 h.3 i;
+      intervals = padded_front 0 a.count most_processes a.intervals h.1 h.2 h.3 i;
     } };
 }
 
@@ -36,7 +37,7 @@ impl GlobalCut {
     /// The cut of these intervals, one for each process.
     pub fn new(intervals: &[u32]) -> GlobalCut
         requires some { 0 < length intervals.now }
-        requires within { length intervals.now ≤ MAX_PROCS }
+        requires within { length intervals.now ≤ most_processes }
         ensures { result ≡ intervals.now }
     {
         let mut padded = [0; MAX_PROCS];
@@ -51,7 +52,7 @@ impl GlobalCut {
     pub fn len(&self) -> u32
         ensures value { result ≡ length self.now }
         ensures some { 0 < length self.now }
-        ensures within { length self.now ≤ MAX_PROCS }
+        ensures within { length self.now ≤ most_processes }
     {
         self.count
     }
@@ -82,16 +83,16 @@ pub struct Tallies {
 
 impl Model for Tallies {
     ghost use Rattle.std.specs.Prelude.{◌≡◌, ℕ, ◌-◌, ◌<◌, ◌≤◌, List, ◌++◌, length, take, drop, replicate};
-    ghost use Rattle.wcp_clock.specs.declared.clock.TheConstants.{MAX_PROCS};
+    ghost use Rattle.wcp_clock.specs.Limits.{most_processes};
     ghost use Rattle.wcp_model.specs.declared.outcome.Tally.{Tally};
 
     ghost Value = { List Tally };
 
     ghost view = { λ t. take t.processes t.tallies };
 
-    ghost invariant = { λ t. (0 < t.processes) × (t.processes ≤ MAX_PROCS) × (length t.tallies ≡ MAX_PROCS) × (drop t.processes t.tallies ≡ replicate (MAX_PROCS - t.processes) (record { emitted = 0; taken = 0 })) };
+    ghost invariant = { λ t. (0 < t.processes) × (t.processes ≤ most_processes) × (length t.tallies ≡ most_processes) × (drop t.processes t.tallies ≡ replicate (most_processes - t.processes) (record { emitted = 0; taken = 0 })) };
 
-    ghost inverse = { λ v. record { processes = length v; tallies = v ++ replicate (MAX_PROCS - length v) (record { emitted = 0; taken = 0 }) } };
+    ghost inverse = { λ v. record { processes = length v; tallies = v ++ replicate (most_processes - length v) (record { emitted = 0; taken = 0 }) } };
 
     ghost use Rattle.std.proofs.Common.{arith};
     ghost use Rattle.std.proofs.lemmas.List.{length-take-le};
@@ -99,7 +100,7 @@ impl Model for Tallies {
 
     ghost inverse_ok = { λ a h i. record {
       processes = length-take-le a.processes a.tallies (Prim.omega (arith, h.1, h.2)) i;
-      tallies = padded_front (record { emitted = 0; taken = 0 }) a.processes MAX_PROCS a.tallies h.1 h.2 h.3 i;
+      tallies = padded_front (record { emitted = 0; taken = 0 }) a.processes most_processes a.tallies h.1 h.2 h.3 i;
     } };
 }
 
@@ -107,7 +108,7 @@ impl Tallies {
     /// These tallies, one for each process.
     pub fn new(tallies: &[Tally]) -> Tallies
         requires some { 0 < length tallies.now }
-        requires within { length tallies.now ≤ MAX_PROCS }
+        requires within { length tallies.now ≤ most_processes }
         ensures { result ≡ tallies.now }
     {
         let mut padded = [Tally {
@@ -125,7 +126,7 @@ impl Tallies {
     pub fn len(&self) -> u32
         ensures value { result ≡ length self.now }
         ensures some { 0 < length self.now }
-        ensures within { length self.now ≤ MAX_PROCS }
+        ensures within { length self.now ≤ most_processes }
     {
         self.processes
     }

@@ -1,4 +1,5 @@
 ghost use Rattle.std.specs.Prelude.{◌≡◌, ◌↔◌, ℕ, ◌+◌, ◌<◌, ◌≤◌, List, [], ◌∷◌, length, replicate, IsTrue, IsOk, IfOk, Some, Err};
+ghost use Rattle.wcp_clock.specs.Limits.{most_processes, most_cap, most_hold};
 ghost use Rattle.wcp_model.specs.declared.plan.Parent.TheVariants.{Root};
 ghost use Rattle.wcp_model.specs.declared.plan.PlanFault.{PlanFault};
 ghost use Rattle.wcp_model.specs.declared.plan.PlanFault.TheVariants as plan_fault;
@@ -6,15 +7,7 @@ ghost use Rattle.wcp_model.specs.Tree.{IsSamePlan, is_attached, is_leaf, parent_
 ghost use Rattle.wcp_model.specs.PlanFault.{HasFault, HasWrongParent, IsFirstFault, IsCheckedPlan, IsPath, ServesProcess, ServesRelay, rank};
 
 use std::alloc::{AllocError, Global};
-use wcp_clock::MAX_PROCS;
-
-const MAX_CAP: u32 = 1024;
-
-const MAX_HOLD: u32 = 64;
-
-const MAX_RELAYS: usize = 15;
-/// The most relays on a path to the root.
-const MAX_PATH: usize = 8;
+use wcp_clock::{MAX_CAP, MAX_HOLD, MAX_PATH, MAX_PROCS, MAX_RELAYS};
 
 /// What a relay passes its items to.
 #[derive(Clone, Copy, Debug, PartialEq, Eq)]
@@ -47,7 +40,8 @@ pub fn plain_plan(alloc: Global, n: u32, cap: u32, hold: u32) -> Result<Plan, Al
     ensures hold { IfOk result (λ plan. plan.hold ≡ hold) }
     ensures parents { IfOk result (λ plan. plan.parents.items ≡ Root ∷ []) }
     ensures attach { IfOk result (λ plan. plan.attach.items ≡ replicate n (Some 0)) }
-    ensures checked { IfOk result (λ plan. 1 ≤ n → n ≤ 16 → 1 ≤ cap → cap ≤ 1024 → 1 ≤ hold → hold ≤ 64 → IsCheckedPlan plan) }
+    ensures checked { IfOk result (λ plan.
+        1 ≤ n → n ≤ most_processes → 1 ≤ cap → cap ≤ most_cap → 1 ≤ hold → hold ≤ most_hold → IsCheckedPlan plan) }
 {
     Ok(Plan {
         n,

@@ -1,5 +1,5 @@
 ghost use Rattle.std.specs.Prelude.{◌≡◌, ℕ, ◌+◌, ◌<◌, ◌≤◌, ◌↔◌, [], List, length, replicate, slice_index, slice_set, IsTrue, IsSome, IfOk, OnOk, OnErr, IfErr, MatchResult, Option, true, false, if◌then◌else◌};
-ghost use Rattle.wcp_clock.specs.declared.clock.TheConstants.{MAX_PROCS, CLOCK_LIMIT};
+ghost use Rattle.wcp_clock.specs.Limits.{most_processes, most_events};
 ghost use Rattle.wcp_clock.specs.declared.note.Note.TheVariants as note;
 ghost use Rattle.wcp_model.specs.ProbeLog.{Call, Observed, Sent, Received};
 ghost use Rattle.wcp_model.specs.ProbeLog.{Closed as closed_call};
@@ -46,7 +46,7 @@ pub struct ProbeCore {
 
 impl Model for ProbeCore {
     ghost use Rattle.std.specs.Prelude.{ℕ, ◌≡◌, ◌+◌, ◌<◌, ◌≤◌, ◌||◌, length, slice_index, is_some, IsTrue, if◌then◌else◌};
-    ghost use Rattle.wcp_clock.specs.declared.clock.TheConstants.{MAX_PROCS, CLOCK_LIMIT};
+    ghost use Rattle.wcp_clock.specs.Limits.{most_processes, most_events};
     ghost use Rattle.wcp_probe.specs.Core.{Core};
 
     ghost Value = { Core };
@@ -64,8 +64,8 @@ impl Model for ProbeCore {
 
     ghost invariant = { λ p. record {
       process : p.id < length p.clock;
-      processes : length p.clock ≤ MAX_PROCS;
-      limit : p.limit ≤ CLOCK_LIMIT;
+      processes : length p.clock ≤ most_processes;
+      limit : p.limit ≤ most_events;
       events : slice_index p.clock p.id ≤ p.limit;
       emitted : p.emitted ≤ slice_index p.clock p.id + (if p.flag then 1 else 0);
       pending : IsTrue (is_some p.pending) → IsTrue (p.flag || p.closed);
@@ -77,8 +77,8 @@ impl ProbeCore {
     /// communication events.
     pub fn new(watch: u64, id: u32, n: u32, limit: u32) -> ProbeCore
         requires process { id < n }
-        requires processes { n ≤ MAX_PROCS }
-        requires limit { limit ≤ CLOCK_LIMIT }
+        requires processes { n ≤ most_processes }
+        requires limit { limit ≤ most_events }
         ensures fresh { result ≡ record {
           watch = watch;
           id = id;

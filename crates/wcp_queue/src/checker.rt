@@ -41,7 +41,7 @@ impl Checker {
     /// A checker of `n` processes that has taken nothing. `Err` where memory runs out.
     pub fn new(alloc: Global, n: u32) -> Result<Checker, AllocError>
         requires some { 0 < n }
-        requires few { n ≤ MAX_PROCS }
+        requires few { n ≤ most_processes }
         ensures processes { IfOk result (λ checker. processes checker ≡ n) }
         ensures empty { IfOk result (λ checker. StandsFor checker []) }
     {
@@ -62,7 +62,7 @@ impl Checker {
     pub fn processes(&self) -> u32
         ensures value { result ≡ processes self.now }
         ensures some { 0 < processes self.now }
-        ensures few { processes self.now ≤ MAX_PROCS }
+        ensures few { processes self.now ≤ most_processes }
     {
         self.queues.len() as u32
     }

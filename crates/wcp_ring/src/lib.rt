@@ -8,6 +8,6 @@ mod putter;
 mod taker;
 
 pub use matching::{Matched, Unfinished, match_ends};
-pub use opening::{MAX_SLOTS, ring};
+pub use opening::ring;
 pub use putter::{PutterEnd, RingPutter};
 pub use taker::RingTaker;

@@ -3,7 +3,7 @@ use Rattle.std.proofs.lemmas.Bool.{cases_lt}
 use Rattle.std.proofs.lemmas.List.{length_push, length-replicate, get_or-replicate, get_or_append_left, get_or_push}
 use Rattle.std.proofs.lemmas.Nat.{mul-add-lt}
 use Rattle.std.proofs.lemmas.Option.{slice_get-get_or}
-use Rattle.wcp_clock.specs.declared.clock.TheConstants.{CLOCK_LIMIT}
+use Rattle.wcp_clock.specs.Limits.{most_events}
 use Rattle.wcp_model.specs.declared.workload.Task.{Task}
 use Rattle.wcp_model.specs.WorkloadComputation.{IsWithin, IsFitOrder}
 use Rattle.wcp_probe.specs.Seal.{Seal}
@@ -44,5 +44,5 @@ run_starts n order processes queues checker are none has_taken = record {
 }
 
 -- the task at a place of a fit order is next there
-pub next_at : (n : ℕ) (order : List Task) (place : ℕ) (d : Task) → length order < CLOCK_LIMIT → All (IsWithin n) order → IsFitOrder order order → place < length order → IsNext n order place (get_or order place d)
+pub next_at : (n : ℕ) (order : List Task) (place : ℕ) (d : Task) → length order < most_events → All (IsWithin n) order → IsFitOrder order order → place < length order → IsNext n order place (get_or order place d)
 next_at n order place d few within fit inside = record { few_tasks = few; within = within; fit = fit; at = slice_get-get_or order place d inside }

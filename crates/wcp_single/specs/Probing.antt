@@ -1,5 +1,5 @@
 use Rattle.std.specs.Prelude.{◌≡◌, ℕ, ◌+◌, ◌*◌, ◌<◌, ◌≤◌, List, [], ◌∷◌, ◌++◌, length, take, map, count_by, slice_get, slice_index_or, All, Some}
-use Rattle.wcp_clock.specs.declared.clock.TheConstants.{CLOCK_LIMIT}
+use Rattle.wcp_clock.specs.Limits.{most_events}
 use Rattle.wcp_clock.specs.declared.note.Item.{Item}
 use Rattle.wcp_clock.specs.declared.note.Note.{Note}
 use Rattle.wcp_clock.specs.declared.note.Note.TheVariants as note
@@ -69,7 +69,7 @@ pub record IsRun (n : ℕ) (order : List Task) (place : ℕ) (processes : List P
 
 -- The task is next at this place of a fit order.
 pub record IsNext (n : ℕ) (order : List Task) (place : ℕ) (task : Task) : Type 0 where
-  pub few_tasks : length order < CLOCK_LIMIT
+  pub few_tasks : length order < most_events
   pub within : All (IsWithin n) order
   pub fit : IsFitOrder order order
   pub at : slice_get order place ≡ Some task

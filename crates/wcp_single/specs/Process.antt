@@ -1,5 +1,5 @@
 use Rattle.std.specs.Prelude.{◌≡◌, ◌≢◌, ℕ, ◌<◌, ◌≤◌, List, [], ◌∷◌, ◌++◌, length, slice_index, None, false}
-use Rattle.wcp_clock.specs.declared.clock.TheConstants.{CLOCK_LIMIT}
+use Rattle.wcp_clock.specs.Limits.{most_events}
 use Rattle.wcp_clock.specs.declared.note.Item.{Item}
 use Rattle.wcp_model.specs.ProbeLog.{Call, state_of_log}
 use Rattle.wcp_model.specs.Report.{notes_taken}
@@ -13,7 +13,7 @@ pub record IsRunning (n p : ℕ) (log : List Call) (process : Process) : Type 0 
   pub number : process.id ≡ p
   pub watch : process.probe.watch ≡ 0
   pub id : process.probe.id ≡ p
-  pub limit : process.probe.limit ≡ CLOCK_LIMIT
+  pub limit : process.probe.limit ≡ most_events
   pub components : length process.probe.clock ≡ n
   pub stands : ProbeStandsFor process.probe log
   pub not_closed : process.probe.closed ≡ false

@@ -1,6 +1,6 @@
 //! The outcome of a workload, from what a checker takes of the probes of its processes.
 ghost use Rattle.std.specs.Prelude.{◌<◌, ◌≤◌, length, All, IfOk};
-ghost use Rattle.wcp_clock.specs.declared.clock.TheConstants.{CLOCK_LIMIT};
+ghost use Rattle.wcp_clock.specs.Limits.{most_events};
 ghost use Rattle.wcp_model.specs.Outcome.{IsOutcomeOf, IsWorkloadOutcome};
 ghost use Rattle.wcp_model.specs.WorkloadComputation.{CouldBeRead, IsFitOrder, IsWithin, computation_of};
 
@@ -13,7 +13,7 @@ use wcp_order::{FitOrder, fit_order};
 fn outcome(alloc: Global, n: u32, order: &[Task]) -> Result<Outcome, AllocError>
     requires some { 1 ≤ n }
     requires few { n ≤ 16 }
-    requires few_tasks { length order.now < CLOCK_LIMIT }
+    requires few_tasks { length order.now < most_events }
     requires within { All (IsWithin n) order.now }
     requires fit { IsFitOrder order.now order.now }
     ensures { IfOk result (IsOutcomeOf n (computation_of n order.now)) }

@@ -3,7 +3,7 @@ use Rattle.std.specs.Option.{option_and_then, option_to_list}
 use Rattle.std.proofs.lemmas.Bool.{ne_eqb}
 use Rattle.std.proofs.lemmas.List.{length-set}
 use Rattle.std.proofs.lemmas.Option.{slice_get_cases, slice_get_within}
-use Rattle.wcp_clock.specs.declared.clock.TheConstants.{CLOCK_LIMIT}
+use Rattle.wcp_clock.specs.Limits.{most_events}
 use Rattle.wcp_clock.specs.declared.note.Note.{Note}
 use Rattle.wcp_model.specs.Computation.{Computation}
 use Rattle.wcp_model.specs.Emission.{AreEmissions}

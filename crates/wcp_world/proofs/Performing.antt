@@ -5,7 +5,7 @@ use Rattle.std.proofs.lemmas.Bool.Decides.{nat_tests}
 use Rattle.std.proofs.lemmas.List.{length-set, set-get_or, take_at}
 use Rattle.std.proofs.lemmas.List.Sums.{sum_by_push}
 use Rattle.std.proofs.lemmas.Option.{get_or_from_slice_get, slice_get_within, MatchOption-at_some, MatchOption-at_none}
-use Rattle.wcp_clock.specs.declared.clock.TheConstants.{CLOCK_LIMIT}
+use Rattle.wcp_clock.specs.Limits.{most_events}
 use Rattle.wcp_clock.specs.declared.note.Note.{Note}
 use Rattle.wcp_clock.specs.declared.note.Note.TheVariants as note
 use Rattle.wcp_model.specs.declared.step.Step.{Step}
@@ -78,7 +78,7 @@ module _ (n : ℕ) (c : Computation) (put : ℕ → List Note) (app : Applicatio
   events_are : slice_index core.clock p ≡ communications c p
   events_are = ap (λ v. slice_index v p) (clock_is n c p (put p) core is) ∙ (law_of_probe n c p (put p) core is stands.order in_range).clock.own
 
-  clock_end_is : nat_le CLOCK_LIMIT (communications c p) ≡ at_clock_end core
+  clock_end_is : nat_le most_events (communications c p) ≡ at_clock_end core
   clock_end_is = rw (is.limit, is.id, events_are) refl
 
   -- the reasons to refuse an event are those of the probe
@@ -168,7 +168,7 @@ module _ (n : ℕ) (c : Computation) (put : ℕ → List Note) (app : Applicatio
       }
 
       -- an event that is accepted
-      accepts : (letters : List Letter) → first_of_reasons (reasons s) ≡ None → is_closed c p ≡ false → ((q : ℕ) → is_communication_of q s ≡ true → communications c q < CLOCK_LIMIT) →
+      accepts : (letters : List Letter) → first_of_reasons (reasons s) ≡ None → is_closed c p ≡ false → ((q : ℕ) → is_communication_of q s ≡ true → communications c q < most_events) →
           ((r message : ℕ) → s ≡ Recv r message → message < count_by is_send c) → IsCallOf n grown s call → Accepts core call new → IsSameProbe core new →
           (after_call p (state n c p (put p) core is) call).notes ≡ put p ++ option_to_list new.pending → (IsAccepted grown → IsProbeOf n grown p (put p) new → AreLettersOf n grown letters) →
           IsAnswer (reasons s) Done × IsApplicationOf n grown put (record { probes = set app.probes p new; letters = letters })
@@ -212,8 +212,8 @@ module _ (n : ℕ) (c : Computation) (put : ℕ → List Note) (app : Applicatio
         (λ order now. letters_stay n c app.letters stands.letters (Close p) refl (λ message. refl))
 
     -- the process has room for one more event
-    has_room : nat_le CLOCK_LIMIT (communications c p) ≡ false → (q : ℕ) → eqb p q ≡ true → communications c q < CLOCK_LIMIT
-    has_room more q same = subst (λ r. communications c r < CLOCK_LIMIT) (eqb-true p q same) (grind (arith, nat_tests))
+    has_room : nat_le most_events (communications c p) ≡ false → (q : ℕ) → eqb p q ≡ true → communications c q < most_events
+    has_room more q same = subst (λ r. communications c r < most_events) (eqb-true p q same) (grind (arith, nat_tests))
 
     -- the process sends a message
     pub sends : (to : ℕ) (more : List Letter) → stamp_refusal core to ≡ None → IsPosted core new to app.letters more → Performed (Send p to) Done more

@@ -1,12 +1,12 @@
 use Rattle.std.proofs.Common.{◌≡◌, ℕ, false, None, List, [], length, replicate, slice_get, Some, refl, sym, ap, subst, arith}
 use Rattle.std.proofs.lemmas.List.{length-replicate}
-use Rattle.wcp_clock.specs.declared.clock.TheConstants.{CLOCK_LIMIT}
+use Rattle.wcp_clock.specs.Limits.{most_events}
 use Rattle.wcp_probe.specs.Core.{Core}
 use Rattle.wcp_world.specs.Application.{IsApplicationOf, IsProbeOf}
 
 -- the probe of a process before its first event
 abbrev pub first_core : ℕ → ℕ → Core
-first_core n p = record { watch = 0; id = p; limit = CLOCK_LIMIT; clock = replicate n 0; flag = false; closed = false; emitted = 0; pending = None }
+first_core n p = record { watch = 0; id = p; limit = most_events; clock = replicate n 0; flag = false; closed = false; emitted = 0; pending = None }
 
 -- the first probes of n processes
 pub record AreFirstCores (n count : ℕ) (cores : List Core) : Type 0 where

@@ -1,6 +1,6 @@
 use Rattle.std.specs.Prelude.{◌≡◌, ℕ, ◌≤◌, false, IsTrue, is_some, Option, None, Some, MatchOption, List, [], ◌∷◌, ◌++◌, length, map, slice_get}
 use Rattle.std.specs.Option.{option_and_then, option_to_list}
-use Rattle.wcp_clock.specs.declared.clock.TheConstants.{CLOCK_LIMIT}
+use Rattle.wcp_clock.specs.Limits.{most_events}
 use Rattle.wcp_clock.specs.declared.note.Note.{Note}
 use Rattle.wcp_model.specs.declared.step.Step.{Step}
 use Rattle.wcp_model.specs.declared.step.Reply.{Reply}
@@ -32,7 +32,7 @@ pub record IsProbeOf (n : ℕ) (c : Computation) (p : ℕ) (put : List Note) (co
   pub stands : StandsFor core log
   pub watch : core.watch ≡ 0
   pub id : core.id ≡ p
-  pub limit : core.limit ≡ CLOCK_LIMIT
+  pub limit : core.limit ≡ most_events
   pub components : length core.clock ≡ n
   pub notes : (state_of_log n p log).notes ≡ put ++ option_to_list core.pending
 
@@ -54,7 +54,7 @@ pub record AreLettersOf (n : ℕ) (c : Computation) (letters : List Letter) : Ty
 -- link; no process has more communication events than its clock can count.
 pub record IsApplicationOf (n : ℕ) (c : Computation) (put : ℕ → List Note) (app : ApplicationState) : Type 0 where
   pub order : IsAccepted c
-  pub few : (p : ℕ) → communications c p ≤ CLOCK_LIMIT
+  pub few : (p : ℕ) → communications c p ≤ most_events
   pub members : length app.probes ≡ n
   pub probes : (p : ℕ) (core : Core) → slice_get app.probes p ≡ Some core → IsProbeOf n c p (put p) core
   pub letters : AreLettersOf n c app.letters

@@ -1,5 +1,5 @@
-use Rattle.std.proofs.Common.{◌≡◌, ◌==◌, ◌+◌, ◌<◌, ◌⊎◌, true, false, Some, length, inl, inr, ⊎_elim, subst, sym, ◌∙◌, ap, eq-eqb, arith}
-use Rattle.std.proofs.lemmas.Bool.{false≢true, ne_eqb, cond-true, cond-false}
+use Rattle.std.proofs.Common.{◌≡◌, ◌<◌, ◌⊎◌, Some, length, inl, inr, ⊎_elim, subst, sym, ◌∙◌, ap, arith}
+use Rattle.std.proofs.lemmas.Bool.{false≢true}
 use Rattle.std.proofs.lemmas.Option.{slice_get-get_or}
 use Rattle.wcp_model.specs.Computation.{interval_at}
 use Rattle.wcp_model.proofs.Turns.{Reads, reads_send, reads_receive, entered, pass_by_other, answer_is, never_before}

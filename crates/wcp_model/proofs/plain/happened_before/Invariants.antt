@@ -1,6 +1,5 @@
-use Rattle.std.proofs.Common.{◌≡◌, ℕ, ◌<◌, ◌⊎◌}
-use Rattle.wcp_model.specs.declared.state.State.{State}
-use Rattle.wcp_model.specs.Computation.{Computation, interval_at}
+use Rattle.std.proofs.Common.{◌≡◌, ◌<◌, ◌⊎◌}
+use Rattle.wcp_model.specs.Computation.{interval_at}
 use Rattle.wcp_model.proofs.OnePass.{IsPass}
 use Rattle.wcp_model.proofs.plain.happened_before.Given as goal
 

@@ -1,4 +1,4 @@
-use Rattle.std.proofs.Common.{ℕ, ◌<◌, ◌≢◌, length}
+use Rattle.std.proofs.Common.{ℕ, ◌<◌, ◌≢◌}
 use Rattle.wcp_model.specs.Cut.{member}
 use Rattle.wcp_model.specs.Order.{HappenedBefore}
 use Rattle.wcp_model.proofs.plain.precedes_another.Given as goal

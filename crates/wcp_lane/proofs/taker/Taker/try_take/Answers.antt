@@ -1,6 +1,6 @@
 use Rattle.std.proofs.Common.{◌<◌, ap, sym, ◌∙◌, subst, ◌++◌, ◌∷◌, []}
 use Rattle.std.specs.FinSet as set
-use Rattle.wcp_clock.specs.declared.clock.TheConstants.{MAX_PROCS}
+use Rattle.wcp_clock.specs.Limits.{most_processes}
 use Rattle.wcp_model.specs.LaneRule.{IsNext}
 use Rattle.wcp_lane.specs.declared.passes.Hand.{Hand}
 use Rattle.wcp_lane.specs.Message.{items_from}
@@ -16,7 +16,7 @@ try_recv_as-requires-clause-rule g c =
 pub count-requires : goal.count-requires
 count-requires g c =
     let fresh = c.in-Ok.ensures.rule.1 _ _ c.self.invariant.1 in
-    subst (λ n. n < MAX_PROCS) (sym c.origin.ensures) fresh.numbered
+    subst (λ n. n < most_processes) (sym c.origin.ensures) fresh.numbered
 
 pub returns-in-Ok-clause-some : goal.returns-in-Ok-clause-some
 returns-in-Ok-clause-some g c =
