@@ -69,7 +69,8 @@ IsRest numbers rest = (p : ℕ) → p < most_processes → set.contains rest p �
 -- how many of these messages there are of each origin
 abbrev pub AreCounts : {M : Type 0} → (M → ℕ) → List ℕ → List M → Type 0
 AreCounts origin counts messages =
-    (length counts ≡ most_processes) × ((p : ℕ) → p < most_processes → slice_index counts p ≡ length (items_from origin p messages))
+    (length counts ≡ most_processes)
+    × ((p : ℕ) → p < most_processes → slice_index counts p ≡ length (items_from origin p messages))
 
 -- A message that the taker takes is of one of the lane's numbers, and the next one after those that it has taken of this
 -- number.
