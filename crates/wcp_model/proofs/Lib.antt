@@ -16,8 +16,6 @@ pub mod RunningClock
 pub mod RunningEmissions
 pub mod RunningLog
 pub mod StateClocks
-pub mod OnePass
-pub mod Turns
 pub mod PlanPaths
 pub mod FirstFault
 pub mod PlainPlans

@@ -1,5 +1,5 @@
 //! Words that all crates share: steps, workloads, plans and outcomes, and the definitions and laws
-//! of computations, happened-before and cuts, with plain programs that decide them.
+//! of computations, happened-before and cuts.
 #![tactic(auto)]
 
 mod clock_laws;
@@ -7,7 +7,6 @@ mod cut_laws;
 mod fit_orders;
 mod growth_laws;
 mod outcome;
-mod plain;
 mod plan;
 mod probe_log;
 mod state;
@@ -19,7 +18,6 @@ pub use cut_laws::{least_cut_law, minimum_law};
 pub use fit_orders::fit_order_law;
 pub use growth_laws::{early_find_law, growth_law};
 pub use outcome::{GlobalCut, Outcome, Report, Tallies, Tally};
-pub use plain::{happened_before, is_satisfying_cut, is_true_state};
 pub use plan::{Parent, Plan, PlanFault, plain_plan};
 pub use probe_log::log_law;
 pub use state::State;

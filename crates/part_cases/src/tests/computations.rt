@@ -1,7 +1,8 @@
 use Step::{Close, Observe, Recv, Send};
 use std::alloc::{AllocError, Global};
 use std::process::Abort;
-use wcp_model::{State, Step, happened_before, is_satisfying_cut, is_true_state};
+use wcp_model::{State, Step};
+use wcp_plain::{happened_before, is_satisfying_cut, is_true_state};
 
 /// A computation, and what was worked out by hand of it: the pairs of states of which the first
 /// happened before the second, the true states, and the satisfying cuts. A state is a process and an

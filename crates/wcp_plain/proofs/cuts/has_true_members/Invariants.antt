@@ -1,7 +1,7 @@
 use Rattle.std.proofs.Common.{ℕ, ◌<◌, ◌≤◌, ◌^◌}
 use Rattle.wcp_model.specs.Computation.{IsTrueState}
 use Rattle.wcp_model.specs.Cut.{member}
-use Rattle.wcp_model.proofs.plain.has_true_members.Given as goal
+use Rattle.wcp_plain.proofs.cuts.has_true_members.Given as goal
 
 abbrev pub invariant-loop-p : goal.invariant-loop-p
 invariant-loop-p l =

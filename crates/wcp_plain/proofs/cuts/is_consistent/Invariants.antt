@@ -1,7 +1,7 @@
 use Rattle.std.proofs.Common.{ℕ, ◌<◌, ◌≢◌, length}
 use Rattle.wcp_model.specs.Cut.{member}
 use Rattle.wcp_model.specs.Order.{HappenedBefore}
-use Rattle.wcp_model.proofs.plain.is_consistent.Given as goal
+use Rattle.wcp_plain.proofs.cuts.is_consistent.Given as goal
 
 abbrev pub invariant-loop-p : goal.invariant-loop-p
 invariant-loop-p l =

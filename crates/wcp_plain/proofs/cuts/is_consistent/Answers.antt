@@ -2,7 +2,7 @@ use Rattle.std.proofs.Common.{ℕ, ◌<◌, ◌≢◌, length, below_more, sym, 
 use Rattle.std.proofs.lemmas.Bool.{false≢true}
 use Rattle.wcp_model.specs.Cut.{member}
 use Rattle.wcp_model.specs.Order.{HappenedBefore}
-use Rattle.wcp_model.proofs.plain.is_consistent.Goals as goal
+use Rattle.wcp_plain.proofs.cuts.is_consistent.Goals as goal
 
 pub loop-p-preserved : goal.loop-p-preserved
 loop-p-preserved c =

@@ -1,7 +1,7 @@
 use Rattle.std.proofs.Common.{◌≡◌, ◌<◌, ◌⊎◌}
 use Rattle.wcp_model.specs.Computation.{interval_at}
-use Rattle.wcp_model.proofs.OnePass.{IsPass}
-use Rattle.wcp_model.proofs.plain.happened_before.Given as goal
+use Rattle.wcp_plain.proofs.OnePass.{IsPass}
+use Rattle.wcp_plain.proofs.order.happened_before.Given as goal
 
 abbrev pub invariant-loop-step : goal.invariant-loop-step
 invariant-loop-step l =

@@ -1,7 +1,7 @@
 use Rattle.std.proofs.Common.{ℕ, ◌<◌, ◌≢◌}
 use Rattle.wcp_model.specs.Cut.{member}
 use Rattle.wcp_model.specs.Order.{HappenedBefore}
-use Rattle.wcp_model.proofs.plain.precedes_another.Given as goal
+use Rattle.wcp_plain.proofs.cuts.precedes_another.Given as goal
 
 abbrev pub invariant-loop-q : goal.invariant-loop-q
 invariant-loop-q l =

@@ -3,8 +3,8 @@ use Rattle.std.proofs.lemmas.Bool.{false≢true}
 use Rattle.std.proofs.lemmas.Option.{slice_get-get_or, slice_get_within, same_Some}
 use Rattle.wcp_model.specs.declared.step.Step.TheVariants.{Observe}
 use Rattle.wcp_model.proofs.Reached.{interval_at-event, interval_at-other}
-use Rattle.wcp_model.proofs.plain.is_true_in.Goals as goal
-use Rattle.wcp_model.proofs.plain.is_true_in.Goals.{else-current-interval-via-then-current-interval+else-is_true_observation_of, else-current-interval-via-else-current-interval, then-is_communication_of, else-is_communication_of}
+use Rattle.wcp_plain.proofs.cuts.is_true_in.Goals as goal
+use Rattle.wcp_plain.proofs.cuts.is_true_in.Goals.{else-current-interval-via-then-current-interval+else-is_true_observation_of, else-current-interval-via-else-current-interval, then-is_communication_of, else-is_communication_of}
 
 pub loop-step-preserved : goal.loop-step-preserved
 loop-step-preserved c =
