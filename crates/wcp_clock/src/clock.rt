@@ -5,6 +5,7 @@ ghost use Rattle.wcp_clock.specs.Limits.{most_processes};
 ghost use Rattle.wcp_clock.specs.Merge.{merged};
 
 use crate::limits::MAX_PROCS;
+use crate::per_process::PerProcess;
 use std::marker::Model;
 
 /// A vector clock of 1 to 16 processes: component q counts the events of process q
@@ -13,30 +14,17 @@ use std::marker::Model;
 /// A contract sees it as the list of its components.
 #[derive(Clone, Copy, Debug)]
 pub struct Clock {
-    count: u32,
-    components: [u32; MAX_PROCS],
+    components: PerProcess<u32>,
 }
 
 impl Model for Clock {
-    ghost use Rattle.std.specs.Prelude.{◌≡◌, ℕ, ◌-◌, ◌<◌, ◌≤◌, List, ◌++◌, length, take, drop, replicate};
-    ghost use Rattle.wcp_clock.specs.declared.limits.TheConstants.{MAX_PROCS};
+    ghost use Rattle.std.specs.Prelude.{ℕ, List};
 
     ghost Value = { List ℕ };
 
-    ghost view = { λ c. take c.count c.components };
+    ghost view = { λ c. c.components };
 
-    ghost invariant = { λ c. (0 < c.count) × (c.count ≤ MAX_PROCS) × (length c.components ≡ MAX_PROCS) × (drop c.count c.components ≡ replicate (MAX_PROCS - c.count) 0) };
-
-    ghost inverse = { λ v. record { count = length v; components = v ++ replicate (MAX_PROCS - length v) 0 } };
-
-    ghost use Rattle.std.proofs.Common.{arith};
-    ghost use Rattle.std.proofs.lemmas.List.{length-take-le};
-    ghost use Rattle.wcp_clock.specs.Padding.{padded_front};
-
-    ghost inverse_ok = { λ a h i. record {
-      count = length-take-le a.count a.components (Prim.omega (arith, h.1, h.2)) i;
-      components = padded_front 0 a.count MAX_PROCS a.components h.1 h.2 h.3 i;
-    } };
+    ghost inverse = { λ v. record { components = v } };
 }
 
 impl Clock {
@@ -47,8 +35,10 @@ impl Clock {
         ensures { result ≡ replicate n 0 }
     {
         Clock {
-            count: n,
-            components: [0; MAX_PROCS],
+            components: PerProcess {
+                count: n,
+                values: [0; MAX_PROCS],
+            },
         }
     }
 
@@ -58,7 +48,7 @@ impl Clock {
         ensures some { 0 < length self.now }
         ensures within { length self.now ≤ most_processes }
     {
-        self.count
+        self.components.len()
     }
 
     /// Component `p`, and 0 where the clock has no such component.
@@ -66,7 +56,7 @@ impl Clock {
         requires { p < most_processes }
         ensures { result ≡ slice_index self.now p }
     {
-        self.components[p as usize]
+        self.components.get_or_zero(p)
     }
 
     /// The clock after one more event of process `p`, of which there may be `limit`.
@@ -76,7 +66,7 @@ impl Clock {
         ensures counted { IfSome result (λ c. c ≡ slice_set self.now p (slice_index self.now p + 1)) }
     {
         let mut ticked = *self;
-        let component = &mut ticked.components[p as usize];
+        let component = &mut ticked.components.values[p as usize];
         if *component >= limit {
             return None;
         }
@@ -90,8 +80,7 @@ impl Clock {
         ensures { result ≡ merged self.now other.now }
     {
         Clock {
-            components: greater(&self.components, &other.components),
-            ..*self
+            components: self.components.merge(&other.components),
         }
     }
 
@@ -103,12 +92,6 @@ impl Clock {
     {
         self.get(p) < other.get(p)
     }
-
-    fn components(&self) -> &[u32]
-        ensures { result.now ≡ self.now }
-    {
-        &self.components[..self.len() as usize]
-    }
 }
 
 impl PartialEq for Clock {
@@ -117,21 +100,10 @@ impl PartialEq for Clock {
     ghost laws = { partial_equiv_from_equiv nat_list_eq_equiv };
 
     fn eq(&self, other: &Self) -> bool {
-        self.components() == other.components()
+        self.components.values() == other.components.values()
     }
 }
 
 impl Eq for Clock {
     ghost laws = { nat_list_eq_equiv };
-}
-
-/// The greater of two components, in each place.
-fn greater(mine: &[u32; MAX_PROCS], theirs: &[u32; MAX_PROCS]) -> [u32; MAX_PROCS]
-    ensures { result ≡ merged mine.now theirs.now }
-{
-    let mut greater = *mine;
-    for (place, component) in theirs.iter().enumerate() {
-        greater[place] = greater[place].max(*component);
-    }
-    greater
 }

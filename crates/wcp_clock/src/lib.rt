@@ -4,6 +4,7 @@
 mod clock;
 mod limits;
 mod note;
+mod per_process;
 
 pub use clock::Clock;
 pub use limits::{
@@ -11,3 +12,4 @@ pub use limits::{
     MAX_RELAYS, MAX_STEPS,
 };
 pub use note::{Item, Note};
+pub use per_process::{Padding, PerProcess};

@@ -1,7 +1,7 @@
 use Rattle.std.proofs.Common.{◌≡◌, ◌<◌, ◌≢◌, length, get_or, arith, get_or-set_other, get_or-set_same, below_more}
 use Rattle.std.proofs.lemmas.List.{length-set}
 use Rattle.wcp_clock.proofs.Merging.{merged_by_places}
-use Rattle.wcp_clock.proofs.clock.greater.Goals as goal
+use Rattle.wcp_clock.proofs.per_process.greater.Goals as goal
 
 pub loop-place-preserved : goal.loop-place-preserved
 loop-place-preserved c = record {

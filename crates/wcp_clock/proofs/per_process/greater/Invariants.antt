@@ -1,5 +1,5 @@
 use Rattle.std.proofs.Common.{◌≡◌, ℕ, ◌<◌, ◌≤◌, length, max, get_or}
-use Rattle.wcp_clock.proofs.clock.greater.Given as goal
+use Rattle.wcp_clock.proofs.per_process.greater.Given as goal
 
 abbrev pub invariant-loop-place : goal.invariant-loop-place
 invariant-loop-place l = record {
