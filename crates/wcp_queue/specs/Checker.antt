@@ -1,5 +1,6 @@
 use Rattle.std.specs.Prelude.{◌≡◌, ◌+◌, ◌^◌, ◌<◌, ◌≤◌, ℕ, Bool, true, false, Option, Some, None, MatchOption, List, [], ◌∷◌, ◌++◌, length, take, sum, count_by, All, slice_index, slice_index_or}
 use Rattle.std.specs.List.{list_any, list_all}
+use Rattle.wcp_clock.specs.Limits.{most_processes}
 use Rattle.wcp_clock.specs.declared.note.Item.{Item}
 use Rattle.wcp_clock.specs.declared.note.Note.{Note}
 use Rattle.wcp_clock.specs.declared.note.Note.TheVariants.{Snap, Close}
@@ -86,9 +87,9 @@ IsReportOfAnyClocks n items Undecided = IsDrained n items → ⊥
 -- snapshot costs at most two component tests with each other process (Garg and Waldecker 1994: the comparisons made).
 pub record IsSound (checker : CheckerState) : Type 0 where
   pub some : 0 < processes checker
-  pub few : processes checker ≤ 16
-  pub counts : length checker.taken ≡ 16
-  pub marks : length checker.closed ≡ 16
+  pub few : processes checker ≤ most_processes
+  pub counts : length checker.taken ≡ most_processes
+  pub marks : length checker.closed ≡ most_processes
   pub few_taken : All (λ count. count ≤ 2 ^ 32) checker.taken
   pub compared : AreCompared checker.queues
   pub waiting : checker.found ≡ None → HaveHeads checker.queues → ⊥

@@ -1,5 +1,6 @@
 ghost use Rattle.std.specs.Prelude.{◌≡◌, true, false, ℕ, ◌+◌, ◌-◌, ◌*◌, ◌^◌, ◌<◌, ◌≤◌, [], ◌∷◌, ◌++◌, List, length, count_by, IfOk, IfErr, IsOk, OnOk, OnErr};
 ghost use Rattle.std.specs.List.{list_all, list_any};
+ghost use Rattle.wcp_clock.specs.Limits.{most_processes};
 ghost use Rattle.wcp_clock.specs.declared.note.Item.{Item};
 ghost use Rattle.wcp_clock.specs.declared.note.Note.TheVariants.{Snap};
 ghost use Rattle.wcp_model.specs.declared.outcome.Report.TheVariants.{Found};
@@ -95,7 +96,7 @@ impl Checker {
 
     fn take_snapshot(&mut self, p: usize, clock: Clock) -> Result<(), AllocError>
         requires within { p < processes self.old }
-        requires few { taken_of self.old p < 4294967296 }
+        requires few { taken_of self.old p < 2 ^ 32 }
         requires still_open { closed_of self.old p ≡ false }
         ensures taken { OnOk result
             (TakesItem self.old self.new (record { from = p; note = Snap (taken_of self.old p) clock })) }

@@ -1,4 +1,5 @@
 ghost use Rattle.std.specs.Prelude.{◌≡◌, ◌↔◌, ℕ, ◌+◌, ◌-◌, ◌*◌, ◌^◌, ◌<◌, ◌≤◌, false, List, length, IsTrue, IfNone, IfSome, IfOk, OnOk, OnErr, MatchOption, slice_index};
+ghost use Rattle.wcp_clock.specs.Limits.{most_processes};
 ghost use Rattle.wcp_queue.specs.Elimination.{queue_of, HasNewHead, HaveHeads, IsCutOfHeads, IsMeeting, AreConcurrent, AreOld, AreOldBut, AreCompared, uncompared_in, most_tests, Eliminates, AddsCandidate};
 
 use crate::queue::Queue;
@@ -25,7 +26,7 @@ pub fn add_candidate(
     clock: Clock,
     tests: &mut u64,
 ) -> Result<Option<GlobalCut>, AllocError>
-    requires few { length queues.old ≤ 16 }
+    requires few { length queues.old ≤ most_processes }
     requires within { p < length queues.old }
     requires compared { AreCompared queues.old }
     requires waiting { HaveHeads queues.old → ⊥ }
@@ -51,7 +52,7 @@ pub fn add_candidate(
 /// The cut of the heads, if every process has one.
 fn cut_of_heads(queues: &[Queue]) -> Option<GlobalCut>
     requires some { 0 < length queues.now }
-    requires few { length queues.now ≤ 16 }
+    requires few { length queues.now ≤ most_processes }
     ensures { MatchOption result (HaveHeads queues.now → ⊥) (IsCutOfHeads queues.now) }
 {
     let mut intervals = [0; MAX_PROCS];
@@ -63,7 +64,7 @@ fn cut_of_heads(queues: &[Queue]) -> Option<GlobalCut>
 
 /// Eliminates heads until each was compared with every other head. Counts its component tests.
 fn eliminate(queues: &mut [Queue], tests: &mut u64)
-    requires few { length queues.old ≤ 16 }
+    requires few { length queues.old ≤ most_processes }
     requires concurrent { AreConcurrent queues.old }
     requires room { tests.old + most_tests (length queues.old) (uncompared_in queues.old) < 2 ^ 64 }
     ensures compared { AreCompared queues.new }
@@ -92,7 +93,7 @@ fn first_new_head(queues: &[Queue]) -> Option<usize>
 /// Compares the new head of `p` with the other heads, and eliminates those that precede one. Answers
 /// whether that uncovered a new head.
 fn compare_head(queues: &mut [Queue], p: usize, tests: &mut u64) -> bool
-    requires few { length queues.old ≤ 16 }
+    requires few { length queues.old ≤ most_processes }
     requires within { p < length queues.old }
     requires new { HasNewHead (queue_of queues.old p) }
     requires concurrent { AreConcurrent queues.old }
@@ -127,8 +128,8 @@ fn compare_head(queues: &mut [Queue], p: usize, tests: &mut u64) -> bool
 /// Compares a head of `p` with the head of the queue of `q`, if there is one, and eliminates that one
 /// if it precedes.
 fn meet(p: u32, head: &Clock, q: u32, queue: &mut Queue, tests: &mut u64) -> Meeting
-    requires p { p < 16 }
-    requires q { q < 16 }
+    requires p { p < most_processes }
+    requires q { q < most_processes }
     requires room { tests.old + 2 < 2 ^ 64 }
     ensures meeting { IsMeeting p head.now q queue.old queue.new result }
     ensures tests { tests.new ≤ tests.old + 2 }
@@ -148,7 +149,7 @@ fn meet(p: u32, head: &Clock, q: u32, queue: &mut Queue, tests: &mut u64) -> Mee
 
 /// Whether a snapshot of `p` precedes one of another process: one component test, which is counted.
 fn precedes(p: u32, one: &Clock, other: &Clock, tests: &mut u64) -> bool
-    requires p { p < 16 }
+    requires p { p < most_processes }
     requires room { tests.old + 1 < 2 ^ 64 }
     ensures order { IsTrue result ↔ (slice_index one.now p < slice_index other.now p) }
     ensures counted { tests.new ≡ tests.old + 1 }
