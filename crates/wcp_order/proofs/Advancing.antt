@@ -1,29 +1,28 @@
 use Rattle.std.proofs.Common.{◌≡◌, ◌⊎◌, ℕ, ◌+◌, ◌<◌, ◌≤◌, true, List, [], ◌∷◌, ◌++◌, length, take, count_by, Some, refl, sym, ◌∙◌, ap, arith, ⊎_elim, get_or, set, get_or-set_same, get_or-set_other}
 use Rattle.std.specs.List.{slice_get, slice_index, filter, All}
 use Rattle.std.proofs.lemmas.Bool.{cases_eq, cases_lt, cases_order, ne_eqb}
-use Rattle.std.proofs.lemmas.List.{append-nil, length-set, length-take, take-take, take-append-le, take_all, length_push}
+use Rattle.std.proofs.lemmas.List.{append-nil, length-set, take-append-le, take_all, length_push}
 use Rattle.std.proofs.lemmas.List.Elements.{All-push, filter-append, filter_more}
-use Rattle.std.proofs.lemmas.List.Sums.{count_by_more_yes}
 use Rattle.std.proofs.lemmas.Option.{slice_get_within, get_or_from_slice_get}
 use Rattle.wcp_model.specs.declared.workload.Action.{Action}
 use Rattle.wcp_model.specs.declared.workload.Action.TheVariants as action
 use Rattle.wcp_model.specs.declared.workload.Task.{Task}
 use Rattle.wcp_model.specs.WorkloadComputation.{is_task_of, sends, receives, IsWithin}
-use Rattle.wcp_order.specs.Stuck.{IsMessage, CanBeDone}
+use Rattle.wcp_model.proofs.SamePlace.{filter_yes, filter_no, count_by-take_more, same_count}
+use Rattle.wcp_order.specs.Stuck.{AreSendAndReceive, CanBeDone}
 use Rattle.wcp_order.specs.Stuck.CanBeDone.{Observing, Sending, Receiving}
 use Rattle.wcp_order.specs.declared.order.Progress.{Progress}
-use Rattle.wcp_order.specs.Progress.{IsProgress, IsNextPlace, IsReady, IsSound, AreLinks, in_transit_after}
-use Rattle.wcp_order.proofs.Places.{same_count, count_by-take-le, place_of_passing, slice_get-take, filter_passing, filter_failing}
-use Rattle.wcp_order.proofs.Tasks.{at_place, is_task_of_itself, sends_is, sends_by, receives_by}
+use Rattle.wcp_order.specs.Progress.{IsProgress, IsNextPlace, IsReady, IsSoundProgress, AreLinks, in_transit_after}
+use Rattle.wcp_order.proofs.Places.{count_by-take-le, send_before}
+use Rattle.wcp_order.proofs.Tasks.{at_place, is_task_of_itself, sends_by, receives_by}
 use Rattle.wcp_order.proofs.Counting.{IsCounted, counted_after, length-in_transit_after, sent_at_end}
 
 -- between a place and the next one of a process stands no task of it
 pub none_skipped : (tasks : List Task) (p start next i : ℕ) (task : Task) → IsNextPlace tasks p start next → start ≤ i → i < next → slice_get tasks i ≡ Some task → task.p ≡ p → ⊥
 none_skipped tasks p start next i task step from below at of_process =
-    let within : i < length tasks = slice_get_within tasks i task at in
-    let passes : is_task_of p (get_or tasks i task) ≡ true = rw (get_or_from_slice_get tasks i task task at, ← of_process) (is_task_of_itself task) in
-    let same : count_by (is_task_of p) (take next tasks) ≡ count_by (is_task_of p) (take start tasks) = same_count (is_task_of p) (is_task_of p) (λ _ h. h) (take next tasks) (take start tasks) step.skipped in
-    omega (arith, same, count_by_more_yes (is_task_of p) tasks i task within passes, count_by-take-le (is_task_of p) tasks start i from, count_by-take-le (is_task_of p) tasks (i + 1) next (omega arith))
+    let same = same_count (is_task_of p) (is_task_of p) (take next tasks) (take start tasks) (λ _ h. h) step.skipped in
+    let more = count_by-take_more (is_task_of p) tasks i task at (rw (← of_process) (is_task_of_itself task)) in
+    omega (arith, same, more, count_by-take-le (is_task_of p) tasks start i from, count_by-take-le (is_task_of p) tasks (i + 1) next (omega arith))
 
 module _ (n : ℕ) (tasks order : List Task) (fronts in_transit : List ℕ) (within : All (IsWithin n) tasks) (progress : IsProgress n tasks order fronts in_transit) where
   -- the first task of a process that isn't done can be done if it is ready
@@ -35,19 +34,12 @@ module _ (n : ℕ) (tasks order : List Task) (fronts in_transit : List ℕ) (wit
       let front_within = at_place (IsWithin n) tasks front _ within at in
       let p_within : p < n = front_within.0 in
       let from_within : from < n = front_within.1.0 in
-      let sent : count_by (sends from p) order ≡ count_by (sends from p) (take (slice_index fronts from) tasks) = same_count (is_task_of from) (sends from p) (sends_by from p) order (take (slice_index fronts from) tasks) (progress.done from from_within) in
-      let received : count_by (receives from p) order ≡ count_by (receives from p) (take front tasks) = same_count (is_task_of p) (receives from p) (receives_by from p) order (take front tasks) (progress.done p p_within) in
+      let sent = same_count (is_task_of from) (sends from p) order (take (slice_index fronts from) tasks) (sends_by from p) (progress.done from from_within) in
+      let received = same_count (is_task_of p) (receives from p) order (take front tasks) (receives_by from p) (progress.done p p_within) in
       let number : ℕ = count_by (receives from p) (take front tasks) in
-      let from_front : ℕ = slice_index fronts from in
-      let send = place_of_passing (sends from p) (take from_front tasks) number (omega (arith, ready, sent, received, progress.counted from p from_within p_within)) in
-      let task : Task = record { p = from; action = action.Send p } in
-      let is_send : slice_get (take from_front tasks) send.0 ≡ Some task = send.2 ∙ ap Some (sends_is from p send.1 send.3) in
-      let send_within : send.0 < length (take from_front tasks) = slice_get_within (take from_front tasks) send.0 task is_send in
-      let done : send.0 < from_front = omega (arith, send_within, length-take from_front tasks) in
-      let sent_at : slice_get tasks send.0 ≡ Some task = sym (slice_get-take tasks from_front send.0 done) ∙ is_send in
-      let same_front : count_by (sends from p) (take send.0 tasks) ≡ number = ap (count_by (sends from p)) (sym (take-take send.0 from_front tasks (omega arith))) ∙ send.4 in
-      let message : IsMessage tasks send.0 front = record { from = from; to = p; send = sent_at; receive = at; same_number = sym same_front } in
-      Receiving front send.0 message (progress.can_be_done send.0 task sent_at done) (λ j earlier. progress.can_be_done j _ earlier.same_process earlier.before)
+      let send = send_before from p tasks (slice_index fronts from) number (omega (arith, ready, sent, received, progress.counted from p from_within p_within)) in
+      let message : AreSendAndReceive tasks send.0 front = record { from = from; to = p; send = send.2; receive = at; same_number = sym send.3 } in
+      Receiving front send.0 message (progress.can_be_done send.0 _ send.2 send.1) (λ j earlier. progress.can_be_done j _ earlier.same_process earlier.before)
 
   module _ (p next : ℕ) (act : Action) (at : slice_get tasks (slice_index fronts p) ≡ Some (record { p = p; action = act })) (ready : IsReady n in_transit p act) (step : IsNextPlace tasks p (slice_index fronts p + 1) next) where
     abbrev advanced : List ℕ
@@ -88,7 +80,7 @@ module _ (n : ℕ) (tasks order : List Task) (fronts in_transit : List ℕ) (wit
     done_here p_within =
         let task : Task = record { p = p; action = act } in
         let front : ℕ = slice_index fronts p in
-        let pushed : filter (is_task_of p) (task ∷ []) ≡ task ∷ [] = filter_passing (is_task_of p) task [] (is_task_of_itself task) in
+        let pushed : filter (is_task_of p) (task ∷ []) ≡ task ∷ [] = filter_yes (is_task_of p) task [] (is_task_of_itself task) in
         let there : get_or tasks front task ≡ task = get_or_from_slice_get tasks front task task at in
         let passes : is_task_of p (get_or tasks front task) ≡ true = rw there (is_task_of_itself task) in
         let more : filter (is_task_of p) (take (front + 1) tasks) ≡ filter (is_task_of p) (take front tasks) ++ task ∷ [] =
@@ -98,7 +90,7 @@ module _ (n : ℕ) (tasks order : List Task) (fronts in_transit : List ℕ) (wit
     done_elsewhere : (q : ℕ) → (q ≡ p → ⊥) → q < n → filter (is_task_of q) longer ≡ filter (is_task_of q) (take (slice_index fronts q) tasks)
     done_elsewhere q other q_within =
         let task : Task = record { p = p; action = act } in
-        let pushed : filter (is_task_of q) (task ∷ []) ≡ [] = filter_failing (is_task_of q) task [] (ne_eqb p q (λ same. other (sym same))) in
+        let pushed : filter (is_task_of q) (task ∷ []) ≡ [] = filter_no (is_task_of q) task [] (ne_eqb p q (λ same. other (sym same))) in
         filter-append (is_task_of q) order (task ∷ []) ∙ rw pushed (append-nil (filter (is_task_of q) order)) ∙ progress.done q q_within
 
     advanced_done : (q : ℕ) → q < n → filter (is_task_of q) longer ≡ filter (is_task_of q) (take (slice_index advanced q) tasks)
@@ -148,12 +140,12 @@ pub record IsPerformed (n p : ℕ) (tasks : List Task) (next : List ℕ) (task :
   pub fronts : after.fronts.items ≡ set before.fronts.items task.p (slice_index next (slice_index before.fronts.items p))
   pub in_transit : after.in_transit.items ≡ in_transit_after n before.in_transit.items task.p task.action
 
-module _ (n p : ℕ) (tasks : List Task) (next : List ℕ) (task : Task) (before after : Progress) (within : All (IsWithin n) tasks) (links : AreLinks tasks next) (p_within : p < n) (sound : IsSound n tasks before) (performed : IsPerformed n p tasks next task before after) where
+module _ (n p : ℕ) (tasks : List Task) (next : List ℕ) (task : Task) (before after : Progress) (within : All (IsWithin n) tasks) (links : AreLinks tasks next) (p_within : p < n) (sound : IsSoundProgress n tasks before) (performed : IsPerformed n p tasks next task before after) where
   of_process : task.p ≡ p
   of_process = sound.own p task p_within performed.at
 
-  pub IsSound-performed : IsSound n tasks after
-  IsSound-performed =
+  pub IsSoundProgress-performed : IsSoundProgress n tasks after
+  IsSoundProgress-performed =
       let at : slice_get tasks (slice_index before.fronts.items task.p) ≡ Some task = ap (λ q. slice_get tasks (slice_index before.fronts.items q)) of_process ∙ performed.at in
       let ready : IsReady n before.in_transit.items task.p task.action = rw (← of_process) at performed.ready in
       let step = links (slice_index before.fronts.items task.p) task at in

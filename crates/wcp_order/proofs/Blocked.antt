@@ -1,16 +1,17 @@
 use Rattle.std.proofs.Common.{◌≡◌, ℕ, ◌+◌, ◌<◌, ◌≤◌, List, length, take, count_by, Some, refl, sym, ◌∙◌, ap, arith, ⊎_elim, get_or}
 use Rattle.std.specs.List.{slice_get, slice_index, All}
 use Rattle.std.proofs.lemmas.Bool.{cases_lt}
-use Rattle.std.proofs.lemmas.List.Sums.{count_by_more_yes}
-use Rattle.std.proofs.lemmas.Option.{slice_get_within, get_or_from_slice_get, slice_get-get_or, same_Some}
+use Rattle.std.proofs.lemmas.Option.{slice_get_within, slice_get-get_or, same_Some}
 use Rattle.wcp_model.specs.declared.workload.Action.TheVariants as action
 use Rattle.wcp_model.specs.declared.workload.Task.{Task}
 use Rattle.wcp_model.specs.WorkloadComputation.{is_task_of, sends, receives, IsWithin}
-use Rattle.wcp_order.specs.Stuck.{IsMessage, IsEarlier, CanBeDone}
+use Rattle.wcp_model.proofs.MessagesOfOrder.{sends_yes}
+use Rattle.wcp_model.proofs.SamePlace.{count_by-take_more, same_count}
+use Rattle.wcp_order.specs.Stuck.{AreSendAndReceive, IsEarlier, CanBeDone}
 use Rattle.wcp_order.specs.Stuck.CanBeDone.{Observing, Sending, Receiving}
 use Rattle.wcp_order.specs.Progress.{IsProgress, IsBlocked}
-use Rattle.wcp_order.proofs.Places.{same_count, count_by-take-le}
-use Rattle.wcp_order.proofs.Tasks.{at_place, same_task, sends_by, receives_by, send_passes}
+use Rattle.wcp_order.proofs.Places.{count_by-take-le}
+use Rattle.wcp_order.proofs.Tasks.{at_place, same_task, sends_by, receives_by}
 
 -- where each process is blocked, what can be done is done
 module _ (n : ℕ) (tasks order : List Task) (fronts in_transit : List ℕ) (within : All (IsWithin n) tasks) (progress : IsProgress n tasks order fronts in_transit) (blocked : (p : ℕ) → p < n → IsBlocked n tasks fronts in_transit p) where
@@ -37,7 +38,7 @@ module _ (n : ℕ) (tasks order : List Task) (fronts in_transit : List ℕ) (wit
       (cases_lt i front)
 
   -- a receive whose message was sent is ready at its front
-  received_elsewhere : (i sent : ℕ) (message : IsMessage tasks sent i) → IsDone sent → slice_index fronts message.to ≡ i → ⊥
+  received_elsewhere : (i sent : ℕ) (message : AreSendAndReceive tasks sent i) → IsDone sent → slice_index fronts message.to ≡ i → ⊥
   received_elsewhere i sent message done here =
       let from : ℕ = message.from in
       let to : ℕ = message.to in
@@ -47,11 +48,10 @@ module _ (n : ℕ) (tasks order : List Task) (fronts in_transit : List ℕ) (wit
       let to_within : to < n = (at_place (IsWithin n) tasks i receive within message.receive).0 in
       let front : ℕ = slice_index fronts from in
       let sent_done : sent < front = done send message.send in
-      let sent_inside : sent < length tasks = slice_get_within tasks sent send message.send in
-      let sends_order : count_by (sends from to) order ≡ count_by (sends from to) (take front tasks) = same_count (is_task_of from) (sends from to) (sends_by from to) order (take front tasks) (progress.done from from_within) in
-      let receives_order : count_by (receives from to) order ≡ count_by (receives from to) (take (slice_index fronts to) tasks) = same_count (is_task_of to) (receives from to) (receives_by from to) order (take (slice_index fronts to) tasks) (progress.done to to_within) in
+      let sends_order = same_count (is_task_of from) (sends from to) order (take front tasks) (sends_by from to) (progress.done from from_within) in
+      let receives_order = same_count (is_task_of to) (receives from to) order (take (slice_index fronts to) tasks) (receives_by from to) (progress.done to to_within) in
       let receives_here : count_by (receives from to) order ≡ count_by (receives from to) (take i tasks) = receives_order ∙ ap (λ place. count_by (receives from to) (take place tasks)) here in
-      let more : count_by (sends from to) (take (sent + 1) tasks) ≡ count_by (sends from to) (take sent tasks) + 1 = count_by_more_yes (sends from to) tasks sent send sent_inside (rw (get_or_from_slice_get tasks sent send send message.send) (send_passes from to)) in
+      let more = count_by-take_more (sends from to) tasks sent send message.send (sends_yes from to) in
       let rising : count_by (sends from to) (take (sent + 1) tasks) ≤ count_by (sends from to) (take front tasks) = count_by-take-le (sends from to) tasks (sent + 1) front (omega arith) in
       blocked to to_within receive (ap (slice_get tasks) here ∙ message.receive) (omega (arith, progress.counted from to from_within to_within, message.same_number, receives_here, sends_order, more, rising))
 

@@ -7,10 +7,10 @@ use Rattle.std.proofs.lemmas.List.Elements.{All-head, All-tail, All-nil, All-get
 use Rattle.std.proofs.lemmas.Nat.{mul-add-lt}
 use Rattle.wcp_model.specs.declared.workload.Task.{Task}
 use Rattle.wcp_model.specs.WorkloadComputation.{is_task_of, IsWithin, IsFitOrder}
+use Rattle.wcp_model.proofs.SamePlace.{filter_no, element_within}
 use Rattle.wcp_order.specs.Stuck.{IsFirstStuck}
 use Rattle.wcp_order.specs.Progress.{IsProgress, IsNextPlace, IsBlocked}
-use Rattle.wcp_order.proofs.Places.{filter_failing}
-use Rattle.wcp_order.proofs.Tasks.{at_place, task_at}
+use Rattle.wcp_order.proofs.Tasks.{at_place}
 use Rattle.wcp_order.proofs.Advancing.{none_skipped}
 use Rattle.wcp_order.proofs.Blocked.{done_if_can}
 use Rattle.wcp_order.proofs.Fit.{can_be_done_by_order}
@@ -38,7 +38,7 @@ filter_outside : (n p : ℕ) (tasks : List Task) → All (IsWithin n) tasks → 
 filter_outside n p [] within outside = refl
 filter_outside n p (task ∷ tasks) within outside =
     let below : task.p < n = (All-head (IsWithin n) task tasks within).0 in
-    filter_failing (is_task_of p) task tasks (ne_eqb task.p p (λ same. omega arith)) ∙ filter_outside n p tasks (All-tail (IsWithin n) task tasks within) outside
+    filter_no (is_task_of p) task tasks (ne_eqb task.p p (λ same. omega arith)) ∙ filter_outside n p tasks (All-tail (IsWithin n) task tasks within) outside
 
 module _ (n : ℕ) (tasks order : List Task) (fronts in_transit : List ℕ) (within : All (IsWithin n) tasks) (progress : IsProgress n tasks order fronts in_transit) where
   -- where all tasks are done, their order is fit
@@ -58,12 +58,12 @@ module _ (n : ℕ) (tasks order : List Task) (fronts in_transit : List ℕ) (wit
     stuck = λ can.
         let p : ℕ = found.0 in
         let front : slice_index fronts p ≡ place = get_or_default fronts p 0 place found.1 ∙ found.2 in
-        let task = task_at tasks place inside in
+        let task = element_within tasks place inside in
         let own : task.0.p ≡ p = progress.own p task.0 (omega (arith, found.1, progress.processes)) (ap (slice_get tasks) front ∙ task.1) in
         let done : place < slice_index fronts task.0.p = done_if_can n tasks order fronts in_transit within progress blocked can task.0 task.1 in
         omega (arith, done, front, ap (slice_index fronts) own);
     before = λ j earlier.
-        let task = task_at tasks j (omega arith) in
+        let task = element_within tasks j (omega arith) in
         let p_within : task.0.p < n = (at_place (IsWithin n) tasks j task.0 within task.1).0 in
         let behind : place ≤ slice_index fronts task.0.p = All-get_or (λ front. place ≤ front) fronts task.0.p 0 (omega (arith, progress.processes)) least in
         progress.can_be_done j task.0 task.1 (omega arith);
@@ -72,7 +72,7 @@ module _ (n : ℕ) (tasks order : List Task) (fronts in_transit : List ℕ) (wit
 -- a task that can't be done leaves no fit order
 pub no_fit_order : (tasks : List Task) (place : ℕ) → IsFirstStuck tasks place → (order : List Task) → IsFitOrder tasks order → ⊥
 no_fit_order tasks place first order fit =
-    let task = task_at tasks place first.inside in
+    let task = element_within tasks place first.inside in
     first.stuck (can_be_done_by_order tasks order fit place task.0 task.1)
 
 -- the least place, or another one where there is none

@@ -1,7 +1,7 @@
-use Rattle.std.proofs.Common.{◌≡◌, ℕ, ◌<◌, Bool, true, false, List, length, Some, refl, ap, eq-eqb, get_or}
+use Rattle.std.proofs.Common.{◌≡◌, ℕ, Bool, true, false, List, Some, refl, ap, eq-eqb}
 use Rattle.std.specs.List.{slice_get, All}
-use Rattle.std.proofs.lemmas.Bool.{eqb-true, and_parts, and_from, and_right, false≢true}
-use Rattle.std.proofs.lemmas.Option.{slice_get_within, slice_get-get_or, get_or_from_slice_get}
+use Rattle.std.proofs.lemmas.Bool.{eqb-true, and_parts, and_right, false≢true}
+use Rattle.std.proofs.lemmas.Option.{slice_get_within, get_or_from_slice_get}
 use Rattle.wcp_model.specs.declared.workload.Action.{Action}
 use Rattle.wcp_model.specs.declared.workload.Action.TheVariants as action
 use Rattle.wcp_model.specs.declared.workload.Task.{Task}
@@ -11,22 +11,11 @@ use Rattle.wcp_model.specs.WorkloadComputation.{is_task_of, is_send_to, is_recei
 pub at_place : {X : Type 0} (P : X → Type 0) (xs : List X) (i : ℕ) (x : X) → All P xs → slice_get xs i ≡ Some x → P x
 at_place P xs i x all at = rw (get_or_from_slice_get xs i x x at) at (all i x (slice_get_within xs i x at))
 
--- a task stands at each place
-pub task_at : (tasks : List Task) (i : ℕ) → i < length tasks → (task : Task) × (slice_get tasks i ≡ Some task)
-task_at tasks i inside =
-    let none : Task = record { p = 0; action = action.Observe false } in
-    (get_or tasks i none, slice_get-get_or tasks i none inside)
-
 pub same_task : (task : Task) (p : ℕ) (act : Action) → task.p ≡ p → task.action ≡ act → task ≡ record { p = p; action = act }
 same_task task p act of_process acts = rw (← of_process, ← acts) refl
 
 pub is_task_of_itself : (task : Task) → is_task_of task.p task ≡ true
 is_task_of_itself task = eq-eqb task.p task.p refl
-
-pub is_send : (q : ℕ) (act : Action) → is_send_to q act ≡ true → act ≡ action.Send q
-is_send q (action.Observe holds) passes = absurd (false≢true passes)
-is_send q (action.Send to) passes = ap action.Send (eqb-true to q passes)
-is_send q (action.Recv from) passes = absurd (false≢true passes)
 
 pub is_receive : (q : ℕ) (act : Action) → is_receive_from q act ≡ true → act ≡ action.Recv q
 is_receive q (action.Observe holds) passes = absurd (false≢true passes)
@@ -34,11 +23,6 @@ is_receive q (action.Send to) passes = absurd (false≢true passes)
 is_receive q (action.Recv from) passes = ap action.Recv (eqb-true from q passes)
 
 -- the task that passes is that of the process
-pub sends_is : (p q : ℕ) (task : Task) → sends p q task ≡ true → task ≡ record { p = p; action = action.Send q }
-sends_is p q task passes =
-    let parts = and_parts (is_task_of p task) (is_send_to q task.action) passes in
-    same_task task p (action.Send q) (eqb-true task.p p parts.0) (is_send q task.action parts.1)
-
 pub receives_is : (p q : ℕ) (task : Task) → receives p q task ≡ true → task ≡ record { p = q; action = action.Recv p }
 receives_is p q task passes =
     let parts = and_parts (is_task_of q task) (is_receive_from p task.action) passes in
@@ -50,13 +34,7 @@ sends_by p q task passes = (and_parts (is_task_of p task) (is_send_to q task.act
 pub receives_by : (p q : ℕ) (task : Task) → receives p q task ≡ true → is_task_of q task ≡ true
 receives_by p q task passes = (and_parts (is_task_of q task) (is_receive_from p task.action) passes).0
 
--- a send passes, and so does a receive
-pub send_passes : (p q : ℕ) → sends p q (record { p = p; action = action.Send q }) ≡ true
-send_passes p q = and_from _ _ (eq-eqb p p refl) (eq-eqb q q refl)
-
-pub receive_passes : (p q : ℕ) → receives p q (record { p = q; action = action.Recv p }) ≡ true
-receive_passes p q = and_from _ _ (eq-eqb q q refl) (eq-eqb p p refl)
-
+-- no action passes as another one
 pub receive_is_no_send : (p q r from : ℕ) → sends p q (record { p = r; action = action.Recv from }) ≡ false
 receive_is_no_send p q r from = and_right _ _ refl
 

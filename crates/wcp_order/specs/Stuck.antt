@@ -8,7 +8,7 @@ use Rattle.wcp_order.specs.declared.order.FitOrder.TheVariants as found
 
 -- The task at one place sends the message that the task at another place receives: the m-th receive of a process from
 -- another takes the m-th message sent to it from there (Lamport 1978: channels in order).
-pub record IsMessage (tasks : List Task) (sent received : ℕ) : Type 0 where
+pub record AreSendAndReceive (tasks : List Task) (sent received : ℕ) : Type 0 where
   pub from : ℕ
   pub to : ℕ
   pub send : slice_get tasks sent ≡ Some (record { p = from; action = action.Send to })
@@ -21,12 +21,15 @@ pub record IsEarlier (tasks : List Task) (p j i : ℕ) : Type 0 where
   pub act : Action
   pub same_process : slice_get tasks j ≡ Some (record { p = p; action = act })
 
--- The task at a place can be done: all earlier tasks of its process can, and, if it receives, so can the task that sends its
--- message (the least set that is closed under Lamport's order of events, 1978).
+-- The task at a place can be done: all earlier tasks of its process can, and, if it receives, so can the task that
+-- sends its message (the least set that is closed under Lamport's order of events, 1978).
 pub data CanBeDone (tasks : List Task) : ℕ → Type 0 where
-  Observing : (i p : ℕ) (holds : Bool) → slice_get tasks i ≡ Some (record { p = p; action = action.Observe holds }) → ((j : ℕ) → IsEarlier tasks p j i → CanBeDone tasks j) → CanBeDone tasks i
-  Sending : (i p to : ℕ) → slice_get tasks i ≡ Some (record { p = p; action = action.Send to }) → ((j : ℕ) → IsEarlier tasks p j i → CanBeDone tasks j) → CanBeDone tasks i
-  Receiving : (i sent : ℕ) (message : IsMessage tasks sent i) → CanBeDone tasks sent → ((j : ℕ) → IsEarlier tasks message.to j i → CanBeDone tasks j) → CanBeDone tasks i
+  Observing : (i p : ℕ) (holds : Bool) → slice_get tasks i ≡ Some (record { p = p; action = action.Observe holds }) →
+      ((j : ℕ) → IsEarlier tasks p j i → CanBeDone tasks j) → CanBeDone tasks i
+  Sending : (i p to : ℕ) → slice_get tasks i ≡ Some (record { p = p; action = action.Send to }) →
+      ((j : ℕ) → IsEarlier tasks p j i → CanBeDone tasks j) → CanBeDone tasks i
+  Receiving : (i sent : ℕ) (message : AreSendAndReceive tasks sent i) → CanBeDone tasks sent →
+      ((j : ℕ) → IsEarlier tasks message.to j i → CanBeDone tasks j) → CanBeDone tasks i
 
 -- The task at place i is the first one that can never be done.
 pub record IsFirstStuck (tasks : List Task) (i : ℕ) : Type 0 where

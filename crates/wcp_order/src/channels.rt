@@ -1,4 +1,5 @@
 ghost use Rattle.std.specs.Prelude.{◌≡◌, ℕ, ◌+◌, ◌*◌, ◌<◌, ◌≤◌, ◌↔◌, ◌^◌, length, slice_index, IsTrue};
+ghost use Rattle.wcp_clock.specs.Limits.{most_processes};
 ghost use Rattle.wcp_model.specs.WorkloadComputation.{IsWithin};
 ghost use Rattle.wcp_order.specs.Progress.{IsReady, in_transit_after};
 
@@ -6,7 +7,7 @@ use wcp_model::Action;
 
 /// The number of the channel from one process to another, of n processes.
 pub fn channel(n: u32, from: u32, to: u32) -> usize
-    requires few { n ≤ 16 }
+    requires few { n ≤ most_processes }
     requires from { from < n }
     requires to { to < n }
     ensures { result ≡ from * n + to }
@@ -16,7 +17,7 @@ pub fn channel(n: u32, from: u32, to: u32) -> usize
 
 /// Whether process p, of n, can do this action now: a message that it receives is in transit.
 pub(crate) fn is_ready(in_transit: &[usize], n: u32, p: u32, action: Action) -> bool
-    requires few { n ≤ 16 }
+    requires few { n ≤ most_processes }
     requires channels { length in_transit.now ≡ n * n }
     requires within { IsWithin n (record { p = p; action = action }) }
     ensures { IsTrue result ↔ IsReady n in_transit.now p action }
@@ -29,7 +30,7 @@ pub(crate) fn is_ready(in_transit: &[usize], n: u32, p: u32, action: Action) -> 
 
 /// Counts the messages in transit after an action of process p, of n.
 pub(crate) fn count(in_transit: &mut [usize], n: u32, p: u32, action: Action)
-    requires few { n ≤ 16 }
+    requires few { n ≤ most_processes }
     requires channels { length in_transit.old ≡ n * n }
     requires within { IsWithin n (record { p = p; action = action }) }
     requires ready { IsReady n in_transit.old p action }

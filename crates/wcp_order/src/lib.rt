@@ -1,4 +1,5 @@
-//! Fit orders: the tasks of a workload in an order that keeps that of each process and puts each receive after its send.
+//! Fit orders: the tasks of a workload in an order that keeps that of each process and puts each
+//! receive after its send.
 #![tactic(auto)]
 
 mod channels;

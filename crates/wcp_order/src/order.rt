@@ -1,6 +1,10 @@
-ghost use Rattle.std.specs.Prelude.{◌≡◌, ◌≢◌, ℕ, ◌+◌, ◌*◌, ◌<◌, ◌≤◌, ◌↔◌, ◌⊎◌, ◌^◌, List, [], ◌∷◌, ◌++◌, length, replicate, slice_get, slice_set, slice_index, Some, All, Contains, IfOk, OnOk, IsTrue, MatchOption, IfNone, IfSome};
+ghost use Rattle.std.specs.Prelude.{◌≡◌, ℕ, ◌+◌, ◌*◌, ◌<◌, ◌≤◌, ◌↔◌, ◌⊎◌, List, [], ◌∷◌, ◌++◌, length, replicate, Some};
+ghost use Rattle.std.specs.Prelude.{All, Contains, IfOk, OnOk, IfNone, IfSome};
+ghost use Rattle.std.specs.List.{slice_get, slice_set, slice_index};
+ghost use Rattle.wcp_clock.specs.Limits.{most_processes};
 ghost use Rattle.wcp_model.specs.WorkloadComputation.{IsFitOrder, IsWithin};
-ghost use Rattle.wcp_order.specs.Progress.{AreLinks, HasGrown, IsBlocked, IsNextPlace, IsReady, IsSound, IsStuck, IsUnchanged, in_transit_after};
+ghost use Rattle.wcp_order.specs.Progress.{AreLinks, IsBlocked, IsNextPlace, IsReady, in_transit_after};
+ghost use Rattle.wcp_order.specs.Progress.{HasGrown, IsSoundProgress, IsStuck, IsUnchanged};
 ghost use Rattle.wcp_order.specs.Stuck.{IfOrder, IfStuck, IsAsListed, IsFirstStuck};
 ghost use Rattle.std.specs.Bool.{MatchBool};
 ghost use Rattle.wcp_model.specs.declared.workload.Task.{Task};
@@ -65,7 +69,7 @@ struct Progress {
 impl Progress {
     /// No task is done, and the first ones of the processes are at these places.
     fn new(alloc: Global, n: u32, tasks: usize, first: Vec<usize>) -> Result<Progress, AllocError>
-        requires { n ≤ 16 }
+        requires { n ≤ most_processes }
         ensures order { IfOk result (λ progress. progress.order.items ≡ []) }
         ensures fronts { IfOk result (λ progress. progress.fronts.items ≡ first.items) }
         ensures channels { IfOk result (λ progress. progress.in_transit.items ≡ replicate (n * n) 0) }
@@ -79,7 +83,7 @@ impl Progress {
 
     /// The next task of a process, if it can be done now.
     fn next_ready(&self, n: u32, tasks: &[Task], p: u32) -> Option<Task>
-        requires few { n ≤ 16 }
+        requires few { n ≤ most_processes }
         requires processes { length self.now.fronts.items ≡ n }
         requires channels { length self.now.in_transit.items ≡ n * n }
         requires within { All (IsWithin n) tasks.now }
@@ -102,7 +106,7 @@ impl Progress {
 
     /// Does the next task of its process, after which comes the one at `next`.
     fn perform(&mut self, n: u32, task: Task, next: usize) -> Result<(), AllocError>
-        requires few { n ≤ 16 }
+        requires few { n ≤ most_processes }
         requires processes { length self.old.fronts.items ≡ n }
         requires channels { length self.old.in_transit.items ≡ n * n }
         requires within { IsWithin n task }
@@ -122,13 +126,13 @@ impl Progress {
 
     /// Does the tasks of a process as far as they can be done.
     fn run(&mut self, n: u32, tasks: &[Task], next: &[usize], p: u32) -> Result<(), AllocError>
-        requires few { n ≤ 16 }
+        requires few { n ≤ most_processes }
         requires within { All (IsWithin n) tasks.now }
         requires places { length next.now ≡ length tasks.now }
         requires links { AreLinks tasks.now next.now }
         requires p { p < n }
-        requires sound { IsSound n tasks.now self.old }
-        ensures sound { OnOk result (IsSound n tasks.now self.new) }
+        requires sound { IsSoundProgress n tasks.now self.old }
+        ensures sound { OnOk result (IsSoundProgress n tasks.now self.new) }
         ensures stuck { OnOk result (IsStuck n tasks.now self.new p) }
         ensures grown { OnOk result (HasGrown self.old self.new ⊎ IsUnchanged self.old self.new) }
     {
@@ -141,12 +145,12 @@ impl Progress {
 
     /// Runs each process once, and says whether any task was done.
     fn round(&mut self, n: u32, tasks: &[Task], next: &[usize]) -> Result<bool, AllocError>
-        requires few { n ≤ 16 }
+        requires few { n ≤ most_processes }
         requires within { All (IsWithin n) tasks.now }
         requires places { length next.now ≡ length tasks.now }
         requires links { AreLinks tasks.now next.now }
-        requires sound { IsSound n tasks.now self.old }
-        ensures sound { OnOk result (IsSound n tasks.now self.new) }
+        requires sound { IsSoundProgress n tasks.now self.old }
+        ensures sound { OnOk result (IsSoundProgress n tasks.now self.new) }
         ensures grown { IfOk result (λ grown. MatchBool grown (HasGrown self.old self.new)
             ((p : ℕ) → p < n → IsStuck n tasks.now self.new p)) }
     {
@@ -160,7 +164,7 @@ impl Progress {
     /// What is found where no process can go on.
     fn conclude(self, n: u32, tasks: &[Task]) -> FitOrder
         requires within { All (IsWithin n) tasks.now }
-        requires sound { IsSound n tasks.now self }
+        requires sound { IsSoundProgress n tasks.now self }
         requires stuck { (p : ℕ) → p < n → IsStuck n tasks.now self p }
         ensures other { IsAsListed result → ⊥ }
         ensures order { IfOrder tasks.now result (IsFitOrder tasks.now) }
@@ -191,7 +195,7 @@ fn least(places: &[usize]) -> Option<usize>
 /// are in a fit order as they are listed, this takes one look at each. Else each process does its
 /// tasks as far as it can, in turn, until none can go on: at most n looks for each task.
 pub fn fit_order(alloc: Global, n: u32, tasks: &[Task]) -> Result<FitOrder, AllocError>
-    requires few { n ≤ 16 }
+    requires few { n ≤ most_processes }
     requires within { All (IsWithin n) tasks.now }
     ensures order { IfOk result (λ found. IfOrder tasks.now found (IsFitOrder tasks.now)) }
     ensures all_tasks { IfOk result (λ found. IfOrder tasks.now found
@@ -209,7 +213,7 @@ pub fn fit_order(alloc: Global, n: u32, tasks: &[Task]) -> Result<FitOrder, Allo
 
 /// The search for a fit order, whether or not the tasks are listed in one.
 fn search(alloc: Global, n: u32, tasks: &[Task]) -> Result<FitOrder, AllocError>
-    requires few { n ≤ 16 }
+    requires few { n ≤ most_processes }
     requires within { All (IsWithin n) tasks.now }
     ensures other { IfOk result (λ found. IsAsListed found → ⊥) }
     ensures order { IfOk result (λ found. IfOrder tasks.now found (IsFitOrder tasks.now)) }

@@ -1,7 +1,7 @@
 use Rattle.std.proofs.Common.{◌≡◌, ◌<◌, ◌+◌, length, inl, ⊎_elim, ap, ◌∙◌, arith, slice_index}
 use Rattle.std.proofs.lemmas.List.{get_or_read, length_push}
 use Rattle.wcp_order.specs.Progress.{HasGrown, IsUnchanged}
-use Rattle.wcp_order.proofs.Advancing.{IsPerformed, IsSound-performed, front_rises}
+use Rattle.wcp_order.proofs.Advancing.{IsPerformed, IsSoundProgress-performed, front_rises}
 use Rattle.wcp_order.proofs.order.Progress.run.Goals as goal
 use Rattle.wcp_order.proofs.order.Progress.run.Goals.{In_ok-perform}
 
@@ -20,12 +20,12 @@ performed c =
 
 pub loop-task-smaller : goal.loop-task-smaller
 loop-task-smaller c =
-    let sound = IsSound-performed _ _ _ _ _ _ _ c.requires.within c.requires.links c.requires.p c.loop-task.invariant.sound (performed c) in
+    let sound = IsSoundProgress-performed _ _ _ _ _ _ _ c.requires.within c.requires.links c.requires.p c.loop-task.invariant.sound (performed c) in
     omega (arith, front_rises _ _ _ _ _ _ _ c.requires.within c.requires.links c.requires.p c.loop-task.invariant.sound (performed c), sound.inside c.args.p c.requires.p)
 
 pub loop-task-preserved : goal.loop-task-preserved
 loop-task-preserved c = record {
-  sound = IsSound-performed _ _ _ _ _ _ _ c.requires.within c.requires.links c.requires.p c.loop-task.invariant.sound (performed c);
+  sound = IsSoundProgress-performed _ _ _ _ _ _ _ c.requires.within c.requires.links c.requires.p c.loop-task.invariant.sound (performed c);
   grown =
       let longer : length c.perform.new.self.order.items ≡ length c.loop-task.self.order.items + 1 = ap length (performed c).order ∙ length_push c.loop-task.self.order.items c.in-Some.task in
       ⊎_elim (λ (grown : HasGrown c.args.self.now c.loop-task.self). inl (omega arith))

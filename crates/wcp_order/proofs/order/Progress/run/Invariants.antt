@@ -1,10 +1,10 @@
 use Rattle.std.proofs.Common.{◌-◌, ◌⊎◌, length, slice_index}
-use Rattle.wcp_order.specs.Progress.{HasGrown, IsSound, IsUnchanged}
+use Rattle.wcp_order.specs.Progress.{HasGrown, IsSoundProgress, IsUnchanged}
 use Rattle.wcp_order.proofs.order.Progress.run.Given as goal
 
 abbrev pub invariant-loop-task : goal.invariant-loop-task
 invariant-loop-task l = record {
-  sound : IsSound l.n l.tasks l.self;
+  sound : IsSoundProgress l.n l.tasks l.self;
   grown : HasGrown l.initial.self l.self ⊎ IsUnchanged l.initial.self l.self;
 }
 
