@@ -7,6 +7,7 @@ use Rattle.wcp_model.specs.declared.step.Step.{Step}
 use Rattle.wcp_model.specs.declared.workload.Task.{Task}
 use Rattle.wcp_model.specs.declared.workload.Workload.{Workload}
 use Rattle.wcp_model.specs.PlanFault.{IsCheckedPlan}
+use Rattle.wcp_model.specs.Tree.{IsSamePlan}
 use Rattle.wcp_model.specs.WorkloadComputation.{IsFitOrder, CouldBeRead}
 use Rattle.wcp_script.specs.declared.fault.ScriptFault.{ScriptFault}
 use Rattle.wcp_script.specs.declared.fault.ReadFault.{ReadFault}
@@ -14,9 +15,8 @@ use Rattle.wcp_script.specs.declared.fault.ReadFault.TheVariants.{Script, NoMemo
 use Rattle.wcp_script.specs.declared.schedule.Schedule.{Schedule}
 use Rattle.wcp_order.specs.Stuck.{IsStuckAt}
 use Rattle.wcp_script.specs.Head.{HeadRead, head_of, IsPlanOf}
-use Rattle.wcp_script.specs.TextFault.{TextKind, workloads, schedules, steps_by, Spells, HasFault, InHead, OfPlan, InStep}
-use Rattle.wcp_script.specs.Reading.{HasWorkloadFault, InText, AtEnd, IsSamePlan, IsReadAs, IsRefusedFor, IsFaultOf}
-use Rattle.wcp_script.specs.Seen.{ReadsSchedule, ReadsWorkload}
+use Rattle.wcp_script.specs.TextFault.{TextKind, workloads, schedules, steps_by, Spells, HasTextFault, InHead, OfPlan, InStep, HasWorkloadFault, InText, AtEnd}
+use Rattle.wcp_script.specs.ReadAnswers.{IsReadAs, IsRefusedFor, IsFaultOf, ReadsSchedule, ReadsWorkload}
 use Rattle.wcp_script.proofs.Questions.{ok_is}
 use Rattle.wcp_script.proofs.SamePlan.{same_plan, same_fault_of_plan}
 use Rattle.wcp_script.proofs.Spelled as spelled
@@ -45,7 +45,7 @@ no_plan_fault text_kind text one other plan plan' e d h k checked first has =
     checked first (same_fault_of_plan plan plan' (same_plan one other plan plan' (same_head text_kind text one other e d) h k) first has)
 
 -- What spells steps has no fault.
-no_fault : {S : Type 0} (text_kind : TextKind S) (text : List ℕ) (fault : ScriptFault) (plan : Plan) (steps : List S) → Spells text_kind text plan steps → HasFault text_kind text fault → ⊥
+no_fault : {S : Type 0} (text_kind : TextKind S) (text : List ℕ) (fault : ScriptFault) (plan : Plan) (steps : List S) → Spells text_kind text plan steps → HasTextFault text_kind text fault → ⊥
 no_fault text_kind text fault plan steps h (InHead refused) = let head = h.head in absurd cc
 no_fault text_kind text fault plan steps h (OfPlan read plan' first head of_head has line) =
     no_plan_fault text_kind text read h.read plan' plan head h.head of_head h.plan_of_head h.checked first has
@@ -55,7 +55,7 @@ no_fault text_kind text fault plan steps h (InStep read plan' head of_head check
     absurd cc
 
 -- A text has at most one fault.
-same_fault : {S : Type 0} (text_kind : TextKind S) (text : List ℕ) (one other : ScriptFault) → HasFault text_kind text one → HasFault text_kind text other → one ≡ other
+same_fault : {S : Type 0} (text_kind : TextKind S) (text : List ℕ) (one other : ScriptFault) → HasTextFault text_kind text one → HasTextFault text_kind text other → one ≡ other
 same_fault text_kind text one other (InHead refused) (InHead refused') = cc
 same_fault text_kind text one other (InHead refused) (OfPlan read plan first head of_head has line) = absurd cc
 same_fault text_kind text one other (InHead refused) (InStep read plan head of_head checked refused') = absurd cc
@@ -112,11 +112,11 @@ schedule_is_read_as text (Ok schedule) h plan steps spells = same_reading schedu
 schedule_is_read_as text (Err (Script fault)) h plan steps spells = no_fault schedules text fault plan steps spells h
 schedule_is_read_as text (Err NoMemory) h plan steps spells = tt
 
-pub schedule_has_fault : (text : List ℕ) (r : Result Schedule ReadFault) → ReadsSchedule text r → IfErr r (IsFaultOf (HasFault schedules text))
+pub schedule_has_fault : (text : List ℕ) (r : Result Schedule ReadFault) → ReadsSchedule text r → IfErr r (IsFaultOf (HasTextFault schedules text))
 schedule_has_fault text (Ok schedule) h = tt
 schedule_has_fault text (Err fault) h = h
 
-pub schedule_is_refused_for : (text : List ℕ) (r : Result Schedule ReadFault) → ReadsSchedule text r → (fault : ScriptFault) → HasFault schedules text fault → IsRefusedFor fault r
+pub schedule_is_refused_for : (text : List ℕ) (r : Result Schedule ReadFault) → ReadsSchedule text r → (fault : ScriptFault) → HasTextFault schedules text fault → IsRefusedFor fault r
 schedule_is_refused_for text (Ok schedule) h fault has = no_fault schedules text fault schedule.plan schedule.steps.items h has
 schedule_is_refused_for text (Err (Script given)) h fault has = same_fault schedules text given fault h has
 schedule_is_refused_for text (Err NoMemory) h fault has = tt

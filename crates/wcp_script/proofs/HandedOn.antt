@@ -6,19 +6,18 @@ use Rattle.wcp_model.specs.PlanFault.{IsCheckedPlan}
 use Rattle.wcp_script.specs.declared.fault.ReadFault.{ReadFault}
 use Rattle.wcp_script.specs.declared.fault.ReadFault.TheVariants.{Script, NoMemory}
 use Rattle.wcp_script.specs.Head.{HeadRead, head_of, IsPlanOf}
-use Rattle.wcp_script.specs.TextFault.{TextKind, workloads, steps_by, HasFault, InStep}
-use Rattle.wcp_script.specs.Reading.{HasWorkloadFault, InText, IsFaultOf}
-use Rattle.wcp_script.specs.Seen.{Fails}
+use Rattle.wcp_script.specs.TextFault.{TextKind, workloads, steps_by, HasTextFault, InStep, HasWorkloadFault, InText}
+use Rattle.wcp_script.specs.ReadAnswers.{IsFaultOf, Fails}
 
 pub handed_on : {Y : Type 0} (P : Result Y ReadFault → Type 0) (r : Result Y ReadFault) (fault : ReadFault) → IsErr r × IsErrAnd r (λ given. given ≡ fault) → P (Err fault) → P r
 handed_on P (Ok y) fault h p = absurd cc
 handed_on P (Err given) fault h p = subst (λ (fault : ReadFault). P (Err fault)) (sym h.1) p
 
 -- A fault of a step line is the text's, where its head and its plan have none.
-pub fault_in_step : {S : Type 0} (text_kind : TextKind S) (text : List ℕ) (read : HeadRead) (plan : Plan) (fault : ReadFault) → head_of text_kind.is_step_word text ≡ Ok read → IsPlanOf read.head plan → IsCheckedPlan plan → Fails fault (steps_by text_kind read.head.n read.last 0 read.after) → IsFaultOf (HasFault text_kind text) fault
+pub fault_in_step : {S : Type 0} (text_kind : TextKind S) (text : List ℕ) (read : HeadRead) (plan : Plan) (fault : ReadFault) → head_of text_kind.is_step_word text ≡ Ok read → IsPlanOf read.head plan → IsCheckedPlan plan → Fails fault (steps_by text_kind read.head.n read.last 0 read.after) → IsFaultOf (HasTextFault text_kind text) fault
 fault_in_step text_kind text read plan (Script fault) head of_head checked fails = InStep read plan head of_head checked fails
 fault_in_step text_kind text read plan NoMemory head of_head checked fails = tt
 
-pub fault_in_text : (text : List ℕ) (fault : ReadFault) → IsFaultOf (HasFault workloads text) fault → IsFaultOf (HasWorkloadFault text) fault
+pub fault_in_text : (text : List ℕ) (fault : ReadFault) → IsFaultOf (HasTextFault workloads text) fault → IsFaultOf (HasWorkloadFault text) fault
 fault_in_text text (Script fault) has = InText has
 fault_in_text text NoMemory has = tt

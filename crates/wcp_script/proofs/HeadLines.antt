@@ -11,7 +11,7 @@ use Rattle.wcp_script.specs.declared.head_line.HeadLine.TheVariants.{Cap, Hold, 
 use Rattle.wcp_script.specs.Lines.{TextLine, words_of}
 use Rattle.wcp_script.specs.Judgement.{◌>>=◌, ask, number_in}
 use Rattle.wcp_script.specs.Head.{Head, has_no_relay, cap_line, hold_line, is_above, is_after, parent_in, relay_line, attach_line, head_words, head_line, with_line, first_head, head_by}
-use Rattle.wcp_script.specs.Seen.{HasPlace, GoesOn}
+use Rattle.wcp_script.specs.Views.{HasPlace, GoesOn}
 use Rattle.wcp_script.proofs.Questions.{bind_ok, guard_ok, ask_ok, ok_is}
 
 -- A line that a head allows.
@@ -53,14 +53,14 @@ hold_line_allows head word said e =
 relay_line_allows : (head : Head) (number above : List ℕ) (said : HeadLine) → relay_line head number above ≡ Ok said → IsAllowed head said
 relay_line_allows head number above said e =
     let relays = length head.parents in
-    let asked = bind_ok (ask (is_none head.last_attached) kind.Line) (λ _. number_in number >>= λ relay. parent_in above >>= λ parent. ask (eqb relay relays) kind.Line >>= λ _. ask (leb relay 14 && is_above relay parent) kind.Plan >>= λ _. Ok (Relay parent)) said e in
-    let relay = bind_ok (number_in number) (λ relay. parent_in above >>= λ parent. ask (eqb relay relays) kind.Line >>= λ _. ask (leb relay 14 && is_above relay parent) kind.Plan >>= λ _. Ok (Relay parent)) said asked.2 in
-    let parent = bind_ok (parent_in above) (λ parent. ask (eqb relay.0 relays) kind.Line >>= λ _. ask (leb relay.0 14 && is_above relay.0 parent) kind.Plan >>= λ _. Ok (Relay parent)) said relay.2 in
-    let next = bind_ok (ask (eqb relay.0 relays) kind.Line) (λ _. ask (leb relay.0 14 && is_above relay.0 parent.0) kind.Plan >>= λ _. Ok (Relay parent.0)) said parent.2 in
-    let within = bind_ok (ask (leb relay.0 14 && is_above relay.0 parent.0) kind.Plan) (λ _. Ok (Relay parent.0)) said next.2 in
+    let asked = bind_ok (ask (is_none head.last_attached) kind.Line) (λ _. number_in number >>= λ relay. parent_in above >>= λ parent. ask (eqb relay relays) kind.Line >>= λ _. ask (ltb relay 15 && is_above relay parent) kind.Plan >>= λ _. Ok (Relay parent)) said e in
+    let relay = bind_ok (number_in number) (λ relay. parent_in above >>= λ parent. ask (eqb relay relays) kind.Line >>= λ _. ask (ltb relay 15 && is_above relay parent) kind.Plan >>= λ _. Ok (Relay parent)) said asked.2 in
+    let parent = bind_ok (parent_in above) (λ parent. ask (eqb relay.0 relays) kind.Line >>= λ _. ask (ltb relay.0 15 && is_above relay.0 parent) kind.Plan >>= λ _. Ok (Relay parent)) said relay.2 in
+    let next = bind_ok (ask (eqb relay.0 relays) kind.Line) (λ _. ask (ltb relay.0 15 && is_above relay.0 parent.0) kind.Plan >>= λ _. Ok (Relay parent.0)) said parent.2 in
+    let within = bind_ok (ask (ltb relay.0 15 && is_above relay.0 parent.0) kind.Plan) (λ _. Ok (Relay parent.0)) said next.2 in
     let same = eqb-true relay.0 relays (ask_ok (eqb relay.0 relays) kind.Line next.0 next.1) in
-    let bounds = and_parts (leb relay.0 14) (is_above relay.0 parent.0) (ask_ok (leb relay.0 14 && is_above relay.0 parent.0) kind.Plan within.0 within.1) in
-    subst (IsAllowed head) (ok_is {E = FaultKind} (Relay parent.0) said within.2) (omega (arith, same, leb-true relay.0 14 bounds.0))
+    let bounds = and_parts (ltb relay.0 15) (is_above relay.0 parent.0) (ask_ok (ltb relay.0 15 && is_above relay.0 parent.0) kind.Plan within.0 within.1) in
+    subst (IsAllowed head) (ok_is {E = FaultKind} (Relay parent.0) said within.2) (omega (arith, same, ltb-true relay.0 15 bounds.0))
 
 attach_line_allows : (head : Head) (process number : List ℕ) (said : HeadLine) → attach_line head process number ≡ Ok said → IsAllowed head said
 attach_line_allows head process number said e =

@@ -129,7 +129,7 @@ relay_goes_on n cap hold last front parent rest few lower =
     let head : Head = with_relays n cap hold front in
     let words : List (List ℕ) = decimal relay ∷ parent_word parent ∷ [] in
     let says : head_words head (codes "relay" ∷ words) ≡ Ok (said.Relay parent) =
-    rw (number_in-decimal relay small, parent_in-parent_word relay parent small lower, eq-eqb relay relay refl, le-leb relay 14 few, lower) refl in
+    rw (number_in-decimal relay small, parent_in-parent_word relay parent small lower, eq-eqb relay relay refl, lt-ltb relay 15 (omega arith), lower) refl in
     let line = line_more head (said.Relay parent) last (codes "relay") words rest (relay_word, (IsWord-decimal relay small, (IsWord-parent_word relay parent small lower, tt))) refl says in
     subst (λ (text : List ℕ). GoesOn head last (text ++ rest) (with_relays n cap hold (front ++ parent ∷ [])) rest) (three_words (codes "relay ") (decimal relay) (parent_word parent)) line
 

@@ -18,7 +18,7 @@ use Rattle.wcp_script.specs.WorkloadText.{task_line}
 use Rattle.wcp_script.specs.Judgement.{number_in}
 use Rattle.wcp_script.specs.WorkloadLines.{StepForm, Observes, Sends, Receives, form_of, task_of, has_partner, is_within, task_in}
 use Rattle.wcp_script.specs.TextFault.{workloads, steps_by}
-use Rattle.wcp_script.proofs.Numbers.{own, number_of-decimal}
+use Rattle.wcp_script.proofs.Numbers.{own, number_spelled-decimal}
 use Rattle.wcp_script.proofs.Joins.{Lacks, lines_of-append, lines_of_nothing, words_of-join_with_byte}
 
 -- ---- words
@@ -38,7 +38,7 @@ pub word_from : (word : List ℕ) → AllByRecursion (λ other. eqb other 32 ≡
 word_from word spaces feeds = (All-from_recursion (λ other. eqb other 32 ≡ false) word spaces, All-from_recursion (λ other. eqb other 10 ≡ false) word feeds)
 
 pub number_in-decimal : (n : ℕ) → n < 2 ^ 32 → number_in (decimal n) ≡ Ok n
-number_in-decimal n small = rw (number_of-decimal n small) refl
+number_in-decimal n small = rw (number_spelled-decimal n small) refl
 
 lack_spaces : (words : List (List ℕ)) → AllByRecursion IsWord words → AllByRecursion (Lacks 32) words
 lack_spaces [] each = tt

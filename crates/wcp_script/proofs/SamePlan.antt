@@ -7,10 +7,9 @@ use Rattle.wcp_model.specs.declared.plan.Parent.TheVariants.{Relay}
 use Rattle.wcp_model.specs.declared.plan.Plan.{Plan}
 use Rattle.wcp_model.specs.declared.plan.PlanFault.{PlanFault}
 use Rattle.wcp_model.specs.declared.plan.PlanFault.TheVariants as fault
-use Rattle.wcp_model.specs.PlanFault.{IsOutside, HasWrongParent, IsPath, IsCheckedPlan}
-use Rattle.wcp_model.specs.PlanFault as faults
+use Rattle.wcp_model.specs.PlanFault.{HasFault, IsOutside, HasWrongParent, IsPath, IsCheckedPlan}
+use Rattle.wcp_model.specs.Tree.{IsSamePlan}
 use Rattle.wcp_script.specs.Head.{HeadRead, IsPlanOf}
-use Rattle.wcp_script.specs.Reading.{IsSamePlan}
 
 pub same_plan : (one other : HeadRead) (plan plan' : Plan) → one ≡ other → IsPlanOf one.head plan → IsPlanOf other.head plan' → IsSamePlan plan plan'
 same_plan one other plan plan' same h k =
@@ -30,7 +29,7 @@ same_served one other same = ap (λ (n : ℕ). take n one.attach.items) same.n �
 abbrev IsUnattached : ℕ → List Parent → List (Option ℕ) → Type 0
 IsUnattached n parents attach = (length attach ≢ n) ⊎ Any (λ entry. MatchOption entry (Unit {0}) (λ relay. length parents ≤ relay)) attach
 
-pub same_fault_of_plan : (one other : Plan) → IsSamePlan one other → (first : PlanFault) → faults.HasFault one first → faults.HasFault other first
+pub same_fault_of_plan : (one other : Plan) → IsSamePlan one other → (first : PlanFault) → HasFault one first → HasFault other first
 same_fault_of_plan one other same fault.Procs has = subst (IsOutside 1 16) same.n has
 same_fault_of_plan one other same fault.Cap has = subst (IsOutside 1 1024) same.cap has
 same_fault_of_plan one other same fault.Hold has = subst (IsOutside 1 64) same.hold has

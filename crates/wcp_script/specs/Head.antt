@@ -2,6 +2,7 @@
 use Rattle.std.specs.Prelude.{◌≡◌, ◌==◌, ◌&&◌, ℕ, ◌+◌, Bool, true, not, drop, List, [], ◌∷◌, ◌++◌, length, replicate, slice_set, nat_lt, nat_le, Option, Some, None, is_none, Result, Ok, Err, codes, if◌then◌else◌}
 use Rattle.std.specs.Str.{bytes_eq}
 use Rattle.std.specs.Option.{ok_or, unwrap_or}
+use Rattle.wcp_clock.specs.Limits.{most_processes, most_cap, most_hold, most_relays}
 use Rattle.wcp_model.specs.declared.plan.Parent.{Parent}
 use Rattle.wcp_model.specs.declared.plan.Parent.TheVariants as parent
 use Rattle.wcp_model.specs.declared.plan.Plan.{Plan}
@@ -10,6 +11,7 @@ use Rattle.wcp_script.specs.declared.fault.FaultKind.TheVariants as kind
 use Rattle.wcp_script.specs.declared.fault.ScriptFault.{ScriptFault}
 use Rattle.wcp_script.specs.declared.head_line.HeadLine.{HeadLine}
 use Rattle.wcp_script.specs.declared.head_line.HeadLine.TheVariants.{Cap, Hold, Relay, Attach}
+use Rattle.wcp_script.specs.Capacities.{plain_cap, plain_hold}
 use Rattle.wcp_script.specs.Lines.{TextLine, lines_of, words_of}
 use Rattle.wcp_script.specs.Judgement.{◌>>=◌, ask, number_in, at_line}
 
@@ -27,7 +29,7 @@ unfoldable pub processes_in : TextLine → Result ℕ FaultKind
 processes_in line = do
   word ← ok_or (if line.ended then count_word (words_of line.bytes) else None) kind.Header
   n ← number_in word
-  _ ← ask (nat_le 1 n && nat_le n 16) kind.Plan
+  _ ← ask (nat_le 1 n && nat_le n most_processes) kind.Plan
   Ok n
 
 -- The number of processes, by the first two lines of the text. A line that is missing is wrong.
@@ -59,7 +61,7 @@ abbrev pub cap_line : Head → List ℕ → Result HeadLine FaultKind
 cap_line head word = do
   _ ← ask (is_none head.cap && is_none head.hold && has_no_relay head) kind.Line
   cap ← number_in word
-  _ ← ask (nat_le 1 cap && nat_le cap 1024) kind.Plan
+  _ ← ask (nat_le 1 cap && nat_le cap most_cap) kind.Plan
   Ok (Cap cap)
 
 -- `hold H` stands before the relay and attach lines, and H is 1 to 64.
@@ -67,7 +69,7 @@ abbrev pub hold_line : Head → List ℕ → Result HeadLine FaultKind
 hold_line head word = do
   _ ← ask (is_none head.hold && has_no_relay head) kind.Line
   hold ← number_in word
-  _ ← ask (nat_le 1 hold && nat_le hold 64) kind.Plan
+  _ ← ask (nat_le 1 hold && nat_le hold most_hold) kind.Plan
   Ok (Hold hold)
 
 -- The parent of a relay: `root`, or the number of a relay.
@@ -88,7 +90,7 @@ relay_line head number above = do
   relay ← number_in number
   parent ← parent_in above
   _ ← ask (relay == length head.parents) kind.Line
-  _ ← ask (nat_le relay 14 && is_above relay parent) kind.Plan
+  _ ← ask (nat_lt relay most_relays && is_above relay parent) kind.Plan
   Ok (Relay parent)
 
 -- A process comes after the one before it, if there is one.
@@ -119,6 +121,10 @@ head_words head words = Err kind.Line
 -- What a further line of a head says, if it has its LF.
 unfoldable pub head_line : Head → TextLine → Result HeadLine FaultKind
 head_line head line = if line.ended then head_words head (words_of line.bytes) else Err kind.Line
+
+-- A head has at most 35 lines: the first two, one for each capacity, and one for each relay and each process.
+abbrev pub most_head_lines : ℕ
+most_head_lines = 4 + most_relays + most_processes
 
 -- The head with one line more.
 abbrev pub with_line : Head → HeadLine → Head
@@ -157,7 +163,7 @@ head_of is_step_word text = do
 -- one relay under the root, which serves every process.
 pub record IsPlanOf (head : Head) (plan : Plan) : Type 0 where
   pub n : plan.n ≡ head.n
-  pub cap : plan.cap ≡ unwrap_or head.cap 8
-  pub hold : plan.hold ≡ unwrap_or head.hold 4
+  pub cap : plan.cap ≡ unwrap_or head.cap plain_cap
+  pub hold : plan.hold ≡ unwrap_or head.hold plain_hold
   pub parents : plan.parents.items ≡ (if has_no_relay head then parent.Root ∷ [] else head.parents)
   pub attach : plan.attach.items ≡ (if has_no_relay head then replicate head.n (Some 0) else head.attach)

@@ -4,7 +4,7 @@ use Rattle.std.specs.Option.{ok_or}
 use Rattle.wcp_script.specs.declared.fault.FaultKind.{FaultKind}
 use Rattle.wcp_script.specs.declared.fault.FaultKind.TheVariants as kind
 use Rattle.wcp_script.specs.declared.fault.ScriptFault.{ScriptFault}
-use Rattle.wcp_script.specs.Lines.{number_of}
+use Rattle.wcp_script.specs.Lines.{number_spelled}
 
 -- The next question is asked where the one before it found no fault.
 infixl 10 ◌>>=◌
@@ -18,7 +18,7 @@ ask holds what = if holds then Ok tt else Err what
 
 -- A word in the place of a number.
 abbrev pub number_in : List ℕ → Result ℕ FaultKind
-number_in word = ok_or (number_of word) kind.Number
+number_in word = ok_or (number_spelled word) kind.Number
 
 -- A fault of a line, with the line's number.
 abbrev pub at_line : {A : Type 0} → ℕ → Result A FaultKind → Result A ScriptFault

@@ -1,3 +1,4 @@
+pub mod Capacities
 pub mod Lines
 pub mod WorkloadText
 pub mod PlanText
@@ -6,6 +7,6 @@ pub mod Head
 pub mod WorkloadLines
 pub mod ScheduleLines
 pub mod TextFault
-pub mod Seen
-pub mod Reading
+pub mod Views
+pub mod ReadAnswers
 pub mod Ring

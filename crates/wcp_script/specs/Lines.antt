@@ -25,7 +25,7 @@ unfoldable pub words_of : List ℕ → List (List ℕ)
 words_of line = slice_split (λ byte. byte == 32) line
 
 -- The number that a word is: the one below 2 ^ 32 whose decimal text it is, so without leading zeros.
-unfoldable pub number_of : List ℕ → Option ℕ
-number_of word =
+unfoldable pub number_spelled : List ℕ → Option ℕ
+number_spelled word =
     let value = digits_value 10 word in
     if nat_lt value (2 ^ 32) && bytes_eq word (decimal value) then Some value else None

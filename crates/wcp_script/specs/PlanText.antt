@@ -6,14 +6,15 @@ use Rattle.wcp_model.specs.declared.plan.Parent.{Parent}
 use Rattle.wcp_model.specs.declared.plan.Parent.TheVariants.{Root, Relay}
 use Rattle.wcp_model.specs.declared.plan.Plan.{Plan}
 use Rattle.wcp_model.specs.declared.workload.Task.{Task}
+use Rattle.wcp_script.specs.Capacities.{plain_cap, plain_hold}
 use Rattle.wcp_script.specs.WorkloadText.{task_line}
 
 -- The lines of the capacities, where they aren't 8 for links and inboxes and 4 for holds.
 abbrev pub cap_text : ℕ → List ℕ
-cap_text cap = if cap == 8 then [] else codes "cap " ++ (decimal cap ++ 10 ∷ [])
+cap_text cap = if cap == plain_cap then [] else codes "cap " ++ (decimal cap ++ 10 ∷ [])
 
 abbrev pub hold_text : ℕ → List ℕ
-hold_text hold = if hold == 4 then [] else codes "hold " ++ (decimal hold ++ 10 ∷ [])
+hold_text hold = if hold == plain_hold then [] else codes "hold " ++ (decimal hold ++ 10 ∷ [])
 
 -- The word for what a relay passes its items to.
 abbrev pub parent_word : Parent → List ℕ

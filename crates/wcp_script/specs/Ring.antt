@@ -5,6 +5,11 @@ use Rattle.wcp_model.specs.declared.plan.Parent.TheVariants.{Root}
 use Rattle.wcp_model.specs.declared.plan.Plan.{Plan}
 use Rattle.wcp_model.specs.declared.workload.Action.TheVariants.{Observe, Send, Recv}
 use Rattle.wcp_model.specs.declared.workload.Task.{Task}
+use Rattle.wcp_script.specs.Capacities.{plain_cap, plain_hold}
+
+-- A ring has at most 1,000 rounds.
+abbrev pub most_rounds : ℕ
+most_rounds = 1000
 
 -- The processes before and after process p in a ring of n.
 abbrev pub before : ℕ → ℕ → ℕ
@@ -51,7 +56,7 @@ ring_length n rounds false = 4 * n * rounds - 2
 -- hold for 4.
 pub record IsRingPlan (n : ℕ) (plan : Plan) : Type 0 where
   pub processes : plan.n ≡ n
-  pub cap : plan.cap ≡ 8
-  pub hold : plan.hold ≡ 4
+  pub cap : plan.cap ≡ plain_cap
+  pub hold : plan.hold ≡ plain_hold
   pub parents : plan.parents.items ≡ Root ∷ []
   pub attach : plan.attach.items ≡ replicate n (Some 0)

@@ -45,12 +45,12 @@ step_of_two first second third =
     else (if bytes_eq first (codes "admit") then with_numbers step.Admit second third else Err kind.Line)))
 
 -- What the words of a step line say; `check` stands alone.
-abbrev pub step_of : List (List ℕ) → Result Step FaultKind
-step_of (first ∷ []) = if bytes_eq first (codes "check") then Ok step.Check else Err kind.Line
-step_of (first ∷ second ∷ []) = step_of_one first second
-step_of (first ∷ second ∷ third ∷ []) = step_of_two first second third
-step_of words = Err kind.Line
+abbrev pub step_by_words : List (List ℕ) → Result Step FaultKind
+step_by_words (first ∷ []) = if bytes_eq first (codes "check") then Ok step.Check else Err kind.Line
+step_by_words (first ∷ second ∷ []) = step_of_one first second
+step_by_words (first ∷ second ∷ third ∷ []) = step_of_two first second third
+step_by_words words = Err kind.Line
 
 -- The step of a step line that has its LF; which processes, relays and messages there are isn't asked.
 unfoldable pub step_in : TextLine → Result Step FaultKind
-step_in line = if line.ended then step_of (words_of line.bytes) else Err kind.Line
+step_in line = if line.ended then step_by_words (words_of line.bytes) else Err kind.Line

@@ -1,11 +1,12 @@
 -- What a text spells, or which fault it has: lines are judged from the top, and the first fault is the text's.
 use Rattle.std.specs.Prelude.{◌≡◌, ℕ, ◌+◌, Bool, List, [], ◌∷◌, nat_lt, Result, Ok, Err}
+use Rattle.wcp_clock.specs.Limits.{most_steps}
 use Rattle.wcp_model.specs.declared.plan.Plan.{Plan}
 use Rattle.wcp_model.specs.declared.plan.PlanFault.{PlanFault}
 use Rattle.wcp_model.specs.declared.step.Step.{Step}
 use Rattle.wcp_model.specs.declared.workload.Task.{Task}
-use Rattle.wcp_model.specs.PlanFault.{IsCheckedPlan}
-use Rattle.wcp_model.specs.PlanFault as faults
+use Rattle.wcp_model.specs.PlanFault.{HasFault, IsCheckedPlan}
+use Rattle.wcp_order.specs.Stuck.{IsStuckAt}
 use Rattle.wcp_script.specs.declared.fault.FaultKind.{FaultKind}
 use Rattle.wcp_script.specs.declared.fault.FaultKind.TheVariants as kind
 use Rattle.wcp_script.specs.declared.fault.ScriptFault.{ScriptFault}
@@ -30,7 +31,7 @@ schedules = record { is_step_word = is_schedule_word; said = λ n line. step_in 
 abbrev pub step_after : {S : Type 0} → TextKind S → ℕ → ℕ → TextLine → Result S FaultKind
 step_after text_kind n earlier line = do
   step ← text_kind.said n line
-  _ ← ask (nat_lt earlier 65536) kind.TooLong
+  _ ← ask (nat_lt earlier most_steps) kind.TooLong
   Ok step
 
 -- The steps of the lines after a head with this last line, the first of them behind this many step lines.
@@ -51,7 +52,19 @@ pub record Spells {S : Type 0} (text_kind : TextKind S) (text : List ℕ) (plan 
 
 -- The fault of a text: that of a line of its head; or else that of the plan, at the head's last line; or else that of a
 -- step line.
-pub data HasFault {S : Type 0} (text_kind : TextKind S) (text : List ℕ) (fault : ScriptFault) : Type 0 where
-  InHead : head_of text_kind.is_step_word text ≡ Err fault → HasFault text_kind text fault
-  OfPlan : (read : HeadRead) (plan : Plan) (first : PlanFault) → head_of text_kind.is_step_word text ≡ Ok read → IsPlanOf read.head plan → faults.HasFault plan first → fault ≡ record { line = read.last; kind = kind.Plan } → HasFault text_kind text fault
-  InStep : (read : HeadRead) (plan : Plan) → head_of text_kind.is_step_word text ≡ Ok read → IsPlanOf read.head plan → IsCheckedPlan plan → steps_by text_kind read.head.n read.last 0 read.after ≡ Err fault → HasFault text_kind text fault
+pub data HasTextFault {S : Type 0} (text_kind : TextKind S) (text : List ℕ) (fault : ScriptFault) : Type 0 where
+  InHead : head_of text_kind.is_step_word text ≡ Err fault → HasTextFault text_kind text fault
+  OfPlan : (read : HeadRead) (plan : Plan) (first : PlanFault)
+      → head_of text_kind.is_step_word text ≡ Ok read → IsPlanOf read.head plan → HasFault plan first
+      → fault ≡ record { line = read.last; kind = kind.Plan } → HasTextFault text_kind text fault
+  InStep : (read : HeadRead) (plan : Plan)
+      → head_of text_kind.is_step_word text ≡ Ok read → IsPlanOf read.head plan → IsCheckedPlan plan
+      → steps_by text_kind read.head.n read.last 0 read.after ≡ Err fault → HasTextFault text_kind text fault
+
+-- The fault of the text of a workload: that of its lines or its plan; or else that the step of a line is the first that
+-- can never be done.
+pub data HasWorkloadFault (text : List ℕ) (fault : ScriptFault) : Type 0 where
+  InText : HasTextFault workloads text fault → HasWorkloadFault text fault
+  AtEnd : (plan : Plan) (tasks : List Task) (spells : Spells workloads text plan tasks) (place : ℕ)
+      → IsStuckAt tasks place → fault ≡ record { line = spells.read.last + place + 1; kind = kind.Stuck }
+      → HasWorkloadFault text fault

@@ -1,7 +1,9 @@
 ghost use Rattle.std.specs.Prelude.{◌≡◌, ◌≤◌, ◌<◌, length, IfOk, IfSome, MatchOption};
+ghost use Rattle.wcp_clock.specs.Limits.{most_processes};
 ghost use Rattle.wcp_script.specs.Lines.{lines_of};
-ghost use Rattle.wcp_script.specs.Head.{IsPlanOf, first_head, with_line, head_by, head_of};
-ghost use Rattle.wcp_script.specs.Seen.{seen_line, seen_head, seen_read, HasPlace, EndsHead, GoesOn, Gives};
+ghost use Rattle.wcp_script.specs.Head.{IsPlanOf, most_head_lines, first_head, with_line, head_by, head_of};
+ghost use Rattle.wcp_script.specs.ReadAnswers.{Gives};
+ghost use Rattle.wcp_script.specs.Views.{seen_line, seen_head, seen_read, HasPlace, EndsHead, GoesOn};
 
 use crate::fault::{ReadFault, ScriptFault};
 use crate::head_line::HeadLine;
@@ -42,7 +44,7 @@ pub(crate) struct HeadRead<'a> {
 #[tactic(auto, unfolding(crate::specs::Head::head_of))]
 pub(crate) fn read_head<S: StepLine>(alloc: Global, text: &[u8]) -> Result<HeadRead<'_>, ReadFault>
     ensures exact { Gives seen_read result (head_of S.text_kind.is_step_word text.now) }
-    ensures short { IfOk result (λ read. read.last ≤ 35) }
+    ensures short { IfOk result (λ read. read.last ≤ most_head_lines) }
 {
     let (n, rest) = read_opening(text)?;
     let head = Head::new(alloc, n)?;
@@ -50,10 +52,10 @@ pub(crate) fn read_head<S: StepLine>(alloc: Global, text: &[u8]) -> Result<HeadR
 }
 
 fn read_head_lines<S: StepLine>(mut head: Head, text: &[u8]) -> Result<HeadRead<'_>, ReadFault>
-    requires few { head.n ≤ 16 }
+    requires few { head.n ≤ most_processes }
     requires new { seen_head head ≡ first_head head.n }
     ensures exact { Gives seen_read result (head_by S.text_kind.is_step_word (seen_head head) 2 (lines_of text.now)) }
-    ensures short { IfOk result (λ read. read.last ≤ 35) }
+    ensures short { IfOk result (λ read. read.last ≤ most_head_lines) }
 {
     let mut last = OPENING_LINES;
     let mut rest = text;

@@ -1,21 +1,13 @@
 ghost use Rattle.std.specs.Prelude.{◌≡◌, [], ◌∷◌};
 ghost use Rattle.wcp_script.specs.Head.{parent_in, is_above, is_after, cap_line, hold_line, relay_line, attach_line, head_words, head_line};
-ghost use Rattle.wcp_script.specs.Seen.{seen_line, seen_head};
+ghost use Rattle.wcp_script.specs.Views.{seen_line, seen_head};
 
 use crate::fault::{FaultKind, ask};
 use crate::head::Head;
 use crate::lines::{Line, Words, words_of};
 use crate::number::number_in;
+use wcp_clock::{MAX_CAP, MAX_HOLD, MAX_RELAYS};
 use wcp_model::Parent;
-
-/// The most notes that a link or an inbox has room for.
-const MOST_CAP: u32 = 1024;
-
-/// The most notes that a relay's hold has room for.
-const MOST_HOLD: u32 = 64;
-
-/// The greatest number of a relay.
-const LAST_RELAY: u32 = 14;
 
 /// What a line of the head says, behind its first two lines.
 #[derive(Clone, Copy)]
@@ -76,7 +68,7 @@ impl Head {
             FaultKind::Line,
         )?;
         let cap = number_in(word)?;
-        ask((1..=MOST_CAP).contains(&cap), FaultKind::Plan)?;
+        ask((1..=MAX_CAP).contains(&cap), FaultKind::Plan)?;
         Ok(HeadLine::Cap(cap))
     }
 
@@ -88,7 +80,7 @@ impl Head {
             FaultKind::Line,
         )?;
         let hold = number_in(word)?;
-        ask((1..=MOST_HOLD).contains(&hold), FaultKind::Plan)?;
+        ask((1..=MAX_HOLD).contains(&hold), FaultKind::Plan)?;
         Ok(HeadLine::Hold(hold))
     }
 
@@ -100,7 +92,7 @@ impl Head {
         let parent = parent_in(above)?;
         ask(relay as usize == self.parents.len(), FaultKind::Line)?;
         ask(
-            relay <= LAST_RELAY && is_above(relay, parent),
+            (relay as usize) < MAX_RELAYS && is_above(relay, parent),
             FaultKind::Plan,
         )?;
         Ok(HeadLine::Relay(parent))

@@ -20,7 +20,7 @@ mod workload;
 
 pub use fault::{FaultKind, ReadFault, ScriptFault};
 pub use printing::workload_text;
-pub use ring::ring_workload;
+pub use ring::{MAX_ROUNDS, ring_workload};
 pub use schedule::{Schedule, read_schedule};
 pub use wcp_single::{single, single_in_order};
 pub use workload::{OrderedWorkload, read_ordered, read_workload};

@@ -2,7 +2,7 @@ ghost use Rattle.std.specs.Prelude.{◌≡◌, ◌==◌, ◌<◌, [], ◌∷◌,
 ghost use Rattle.std.specs.List.{slice_split};
 ghost use Rattle.wcp_script.specs.Lines.{lines_of, words_of};
 ghost use Rattle.wcp_script.specs.Head.{first_word};
-ghost use Rattle.wcp_script.specs.Seen.{seen_line, AreWords};
+ghost use Rattle.wcp_script.specs.Views.{seen_line, AreWords};
 
 /// A line of a text, without its LF.
 #[derive(Clone, Copy)]

@@ -1,6 +1,6 @@
 ghost use Rattle.std.specs.Prelude.{◌≡◌, ◌^◌, ◌<◌, ◌≤◌, ◌↔◌, length, slice_index, IsTrue, MatchOption};
 ghost use Rattle.std.specs.Str.Parse.{digits_value, AllDigits};
-ghost use Rattle.wcp_script.specs.Lines.{number_of};
+ghost use Rattle.wcp_script.specs.Lines.{number_spelled};
 ghost use Rattle.wcp_script.specs.Judgement.{number_in};
 
 use crate::fault::FaultKind;
@@ -14,7 +14,7 @@ pub(crate) fn number_in(word: &[u8]) -> Result<u32, FaultKind>
 
 /// The number that a word is, if it is one.
 fn number(word: &[u8]) -> Option<u32>
-    ensures { result ≡ number_of word.now }
+    ensures { result ≡ number_spelled word.now }
 {
     if word.is_empty() || is_padded(word) {
         return None;

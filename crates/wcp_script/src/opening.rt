@@ -1,14 +1,13 @@
 ghost use Rattle.std.specs.Prelude.{◌≡◌, ◌≤◌, drop, MatchResult, IfOk};
+ghost use Rattle.wcp_clock.specs.Limits.{most_processes};
 ghost use Rattle.wcp_script.specs.Lines.{lines_of};
 ghost use Rattle.wcp_script.specs.Head.{is_version, processes_in, processes_by};
-ghost use Rattle.wcp_script.specs.Seen.{seen_line};
+ghost use Rattle.wcp_script.specs.Views.{seen_line};
 
 use crate::fault::{FaultKind, ScriptFault, ask};
 use crate::lines::{Line, Words, next_line, words_of};
 use crate::number::number_in;
-
-/// The most processes that a plan may have.
-const MOST_PROCESSES: u32 = 16;
+use wcp_clock::MAX_PROCS;
 
 /// How many lines every head has.
 pub(crate) const OPENING_LINES: u32 = 2;
@@ -20,7 +19,7 @@ pub(crate) fn read_opening(text: &[u8]) -> Result<(u32, &[u8]), ScriptFault>
         (λ opening. (processes_by (lines_of text.now) ≡ Ok opening.0) × (lines_of opening.1.now ≡ drop 2 (lines_of text.now)))
         (λ fault. processes_by (lines_of text.now) ≡ Err fault) }
     ensures some { IfOk result (λ opening. 1 ≤ opening.0) }
-    ensures few { IfOk result (λ opening. opening.0 ≤ 16) }
+    ensures few { IfOk result (λ opening. opening.0 ≤ most_processes) }
 {
     let Some((version, rest)) = next_line(text) else {
         return Err(ScriptFault {
@@ -56,7 +55,7 @@ fn is_version(line: Line<'_>) -> bool
 fn processes_in(line: Line<'_>) -> Result<u32, FaultKind>
     ensures exact { result ≡ processes_in (seen_line line.entry) }
     ensures some { IfOk result (λ n. 1 ≤ n) }
-    ensures few { IfOk result (λ n. n ≤ 16) }
+    ensures few { IfOk result (λ n. n ≤ most_processes) }
 {
     if !line.ended {
         return Err(FaultKind::Header);
@@ -68,6 +67,6 @@ fn processes_in(line: Line<'_>) -> Result<u32, FaultKind>
         return Err(FaultKind::Header);
     }
     let n = number_in(count)?;
-    ask((1..=MOST_PROCESSES).contains(&n), FaultKind::Plan)?;
+    ask((1..=MAX_PROCS).contains(&(n as usize)), FaultKind::Plan)?;
     Ok(n)
 }

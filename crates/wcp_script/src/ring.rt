@@ -1,13 +1,17 @@
 //! Ring workloads: a message goes around all processes, round after round.
 ghost use Rattle.std.specs.Prelude.{◌≡◌, ◌<◌, ◌≤◌, ◌++◌, length, IfOk, OnOk};
+ghost use Rattle.wcp_clock.specs.Limits.{most_processes};
 ghost use Rattle.wcp_model.specs.PlanFault.{IsCheckedPlan};
 ghost use Rattle.wcp_model.specs.WorkloadComputation.{CouldBeRead};
 ghost use Rattle.std.specs.List.{flat_map, range_with_len};
-ghost use Rattle.wcp_script.specs.Ring.{IsRingPlan, finds_both, received, sent, ring_turn, ring_round, ring_fault, ring_length, ring_tasks};
+ghost use Rattle.wcp_script.specs.Ring.{IsRingPlan, finds_both, most_rounds, received, sent, ring_turn, ring_round, ring_fault, ring_length, ring_tasks};
 
 use crate::head::{PLAIN_CAP, PLAIN_HOLD};
 use std::alloc::{AllocError, Global};
 use wcp_model::{Action, Task, Workload, plain_plan};
+
+/// The most rounds of a ring.
+pub const MAX_ROUNDS: u32 = 1000;
 
 /// The workload of a ring of `n` processes: in each round each process receives from the one before
 /// it, finds its condition true and then false, and sends to the one after it. With `fault` each
@@ -20,9 +24,9 @@ pub fn ring_workload(
     fault: bool,
 ) -> Result<Workload, AllocError>
     requires several { 2 ≤ n }
-    requires few { n ≤ 16 }
+    requires few { n ≤ most_processes }
     requires some_rounds { 1 ≤ rounds }
-    requires few_rounds { rounds ≤ 1000 }
+    requires few_rounds { rounds ≤ most_rounds }
     ensures plan { IfOk result (λ workload. IsRingPlan n workload.plan) }
     ensures checked { IfOk result (λ workload. IsCheckedPlan workload.plan) }
     ensures tasks { IfOk result (λ workload. workload.tasks.items ≡ ring_tasks n rounds fault) }
@@ -51,8 +55,8 @@ fn push_fault(tasks: &mut Vec<Task>, n: u32, fault: bool) -> Result<(), AllocErr
 
 fn push_rounds(tasks: &mut Vec<Task>, n: u32, rounds: u32) -> Result<(), AllocError>
     requires several { 2 ≤ n }
-    requires few { n ≤ 16 }
-    requires few_rounds { rounds ≤ 1000 }
+    requires few { n ≤ most_processes }
+    requires few_rounds { rounds ≤ most_rounds }
     ensures { OnOk result (tasks.new.items ≡ tasks.old.items ++ flat_map (ring_round n rounds) (range_with_len 0 rounds)) }
 {
     for round in 0..rounds {
@@ -63,9 +67,9 @@ fn push_rounds(tasks: &mut Vec<Task>, n: u32, rounds: u32) -> Result<(), AllocEr
 
 fn push_round(tasks: &mut Vec<Task>, n: u32, rounds: u32, round: u32) -> Result<(), AllocError>
     requires several { 2 ≤ n }
-    requires few { n ≤ 16 }
+    requires few { n ≤ most_processes }
     requires round { round < rounds }
-    requires few_rounds { rounds ≤ 1000 }
+    requires few_rounds { rounds ≤ most_rounds }
     ensures { OnOk result (tasks.new.items ≡ tasks.old.items ++ ring_round n rounds round) }
 {
     for p in 0..n {
@@ -82,9 +86,9 @@ fn push_turn(
     p: u32,
 ) -> Result<(), AllocError>
     requires process { p < n }
-    requires few { n ≤ 16 }
+    requires few { n ≤ most_processes }
     requires round { round < rounds }
-    requires few_rounds { rounds ≤ 1000 }
+    requires few_rounds { rounds ≤ most_rounds }
     ensures { OnOk result (tasks.new.items ≡ tasks.old.items ++ ring_turn n rounds round p) }
 {
     if round > 0 || p > 0 {

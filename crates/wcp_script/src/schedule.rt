@@ -1,11 +1,12 @@
 ghost use Rattle.std.specs.Prelude.{◌≡◌, List, IfOk, IfErr, length, ◌≤◌};
 ghost use Rattle.wcp_model.specs.declared.plan.Plan.{Plan};
 ghost use Rattle.wcp_model.specs.declared.step.Step.{Step};
+ghost use Rattle.wcp_clock.specs.Limits.{most_steps};
 ghost use Rattle.wcp_model.specs.PlanFault.{IsCheckedPlan};
+ghost use Rattle.wcp_model.specs.Tree.{IsSamePlan};
 ghost use Rattle.wcp_script.specs.declared.fault.ScriptFault.{ScriptFault};
-ghost use Rattle.wcp_script.specs.TextFault.{schedules, Spells, HasFault};
-ghost use Rattle.wcp_script.specs.Reading.{IsSamePlan, IsReadAs, IsRefusedFor, IsFaultOf};
-ghost use Rattle.wcp_script.specs.Seen.{ReadsSchedule};
+ghost use Rattle.wcp_script.specs.TextFault.{schedules, Spells, HasTextFault};
+ghost use Rattle.wcp_script.specs.ReadAnswers.{IsReadAs, IsRefusedFor, IsFaultOf, ReadsSchedule};
 
 use crate::fault::ReadFault;
 use crate::text::{Text, read_text};
@@ -25,15 +26,15 @@ pub fn read_schedule(alloc: Global, bytes: &[u8]) -> Result<Schedule, ReadFault>
     // What is read is spelled so, and its plan passed the check.
     ensures spelled { IfOk result (λ schedule. Spells schedules bytes.now schedule.plan schedule.steps.items) }
     ensures checked { IfOk result (λ schedule. IsCheckedPlan schedule.plan) }
-    ensures few { IfOk result (λ schedule. length schedule.steps.items ≤ 65536) }
+    ensures few { IfOk result (λ schedule. length schedule.steps.items ≤ most_steps) }
 
     // What spells a schedule is read as it, unless memory runs out.
     ensures only { (plan : Plan) (steps : List Step) → Spells schedules bytes.now plan steps →
         IsReadAs (λ schedule. IsSamePlan schedule.plan plan × (schedule.steps.items ≡ steps)) result }
 
     // A text is refused for the fault that it has, and one that has a fault is refused, unless memory runs out.
-    ensures fault { IfErr result (IsFaultOf (HasFault schedules bytes.now)) }
-    ensures refused { (fault : ScriptFault) → HasFault schedules bytes.now fault → IsRefusedFor fault result }
+    ensures fault { IfErr result (IsFaultOf (HasTextFault schedules bytes.now)) }
+    ensures refused { (fault : ScriptFault) → HasTextFault schedules bytes.now fault → IsRefusedFor fault result }
 {
     read(alloc, bytes)
 }

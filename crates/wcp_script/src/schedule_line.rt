@@ -1,8 +1,8 @@
 ghost use Rattle.std.specs.Prelude.{◌≡◌, [], ◌∷◌};
 ghost use Rattle.wcp_script.specs.Lines.{words_of};
-ghost use Rattle.wcp_script.specs.ScheduleLines.{is_schedule_word, observation, step_of_one, step_of_two, step_of, step_in};
+ghost use Rattle.wcp_script.specs.ScheduleLines.{is_schedule_word, observation, step_of_one, step_of_two, step_by_words, step_in};
 ghost use Rattle.wcp_script.specs.TextFault.{schedules};
-ghost use Rattle.wcp_script.specs.Seen.{seen_line};
+ghost use Rattle.wcp_script.specs.Views.{seen_line};
 
 use crate::fault::{FaultKind, ask};
 use crate::lines::{Line, Words, next_line, words_of};
@@ -53,7 +53,7 @@ fn step_in(line: Line<'_>) -> Result<Step, FaultKind>
 }
 
 fn step_of_none(word: &[u8]) -> Result<Step, FaultKind>
-    ensures { result ≡ step_of (word.now ∷ []) }
+    ensures { result ≡ step_by_words (word.now ∷ []) }
 {
     if word == b"check".as_slice() {
         Ok(Step::Check)
@@ -63,7 +63,7 @@ fn step_of_none(word: &[u8]) -> Result<Step, FaultKind>
 }
 
 fn step_of_one(first: &[u8], number: &[u8]) -> Result<Step, FaultKind>
-    ensures { result ≡ step_of (first.now ∷ number.now ∷ []) }
+    ensures { result ≡ step_by_words (first.now ∷ number.now ∷ []) }
 {
     if first == b"close".as_slice() {
         Ok(Step::Close(number_in(number)?))
@@ -79,7 +79,7 @@ fn step_of_one(first: &[u8], number: &[u8]) -> Result<Step, FaultKind>
 }
 
 fn step_of_two(first: &[u8], second: &[u8], third: &[u8]) -> Result<Step, FaultKind>
-    ensures { result ≡ step_of (first.now ∷ second.now ∷ third.now ∷ []) }
+    ensures { result ≡ step_by_words (first.now ∷ second.now ∷ third.now ∷ []) }
 {
     if first == b"observe".as_slice() {
         observation(second, third)

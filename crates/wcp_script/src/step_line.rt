@@ -1,13 +1,13 @@
 ghost use Rattle.std.specs.Prelude.{◌≡◌, ℕ, ◌<◌, ◌≤◌, [], ◌∷◌, length, IfSome, MatchOption};
+ghost use Rattle.wcp_clock.specs.Limits.{most_processes};
+ghost use Rattle.wcp_script.specs.Head.{most_head_lines};
 ghost use Rattle.wcp_script.specs.Lines.{TextLine, lines_of};
 ghost use Rattle.wcp_script.specs.TextFault.{TextKind, step_after, steps_by};
-ghost use Rattle.wcp_script.specs.Seen.{Gives};
+ghost use Rattle.wcp_script.specs.ReadAnswers.{Gives};
 
 use crate::fault::{FaultKind, ReadFault, ScriptFault, ask};
 use std::alloc::Global;
-
-/// The most steps that a text may have.
-const MOST_STEPS: usize = 65_536;
+use wcp_clock::MAX_STEPS;
 
 /// What a step line of one kind of text says.
 pub(crate) trait StepLine: Copy {
@@ -19,7 +19,7 @@ pub(crate) trait StepLine: Copy {
 
     /// What the first line of a text says under n processes, and the text after it.
     fn first(n: u32, text: &[u8]) -> Option<(Result<Self, FaultKind>, &[u8])>
-        requires { n ≤ 16 }
+        requires { n ≤ most_processes }
         ensures line { MatchOption result
             (lines_of text.now ≡ [])
             (λ next. (line : TextLine) × (lines_of text.now ≡ line ∷ lines_of next.1.now) × (next.0 ≡ text_kind.said n line)) }
@@ -34,8 +34,8 @@ pub(crate) fn read_steps<S: StepLine>(
     last: u32,
     text: &[u8],
 ) -> Result<Vec<S>, ReadFault>
-    requires few { n ≤ 16 }
-    requires short { last ≤ 35 }
+    requires few { n ≤ most_processes }
+    requires short { last ≤ most_head_lines }
     ensures { Gives (λ steps. steps.items) result (steps_by S.text_kind n last 0 (lines_of text.now)) }
 {
     let mut steps = Vec::new(alloc);
@@ -60,6 +60,6 @@ fn step_after<S: Copy>(earlier: usize, said: Result<S, FaultKind>) -> Result<S, 
         → result ≡ step_after text_kind n earlier line }
 {
     let step = said?;
-    ask(earlier < MOST_STEPS, FaultKind::TooLong)?;
+    ask(earlier < MAX_STEPS, FaultKind::TooLong)?;
     Ok(step)
 }

@@ -3,7 +3,7 @@ ghost use Rattle.std.specs.Option.{option_map};
 ghost use Rattle.wcp_script.specs.Lines.{TextLine, lines_of, words_of};
 ghost use Rattle.wcp_script.specs.WorkloadLines.{is_task_word, observation_form, message_form, form_of, task_of, is_within, task_in};
 ghost use Rattle.wcp_script.specs.TextFault.{workloads};
-ghost use Rattle.wcp_script.specs.Seen.{seen_line, seen_form};
+ghost use Rattle.wcp_script.specs.Views.{seen_line, seen_form};
 
 use crate::fault::{FaultKind, ask};
 use crate::lines::{Line, Words, next_line, words_of};

@@ -1,6 +1,7 @@
 ghost use Rattle.std.specs.Prelude.{◌≡◌, ◌≤◌, List, IfOk};
 ghost use Rattle.wcp_script.specs.declared.fault.ReadFault.TheVariants.{Script, NoMemory};
-ghost use Rattle.wcp_script.specs.Seen.{ReadsText};
+ghost use Rattle.wcp_script.specs.Head.{most_head_lines};
+ghost use Rattle.wcp_script.specs.ReadAnswers.{ReadsText};
 
 use crate::fault::{FaultKind, ReadFault, ScriptFault};
 use crate::head::{HeadRead, read_head};
@@ -19,7 +20,7 @@ pub(crate) struct Text<S> {
 /// What a text spells whose step lines are such ones.
 pub(crate) fn read_text<S: StepLine>(alloc: Global, text: &[u8]) -> Result<Text<S>, ReadFault>
     ensures exact { ReadsText S.text_kind text.now result }
-    ensures short { IfOk result (λ read. read.last ≤ 35) }
+    ensures short { IfOk result (λ read. read.last ≤ most_head_lines) }
 {
     let HeadRead { head, last, after } = read_head::<S>(alloc, text)?;
     let n = head.n;

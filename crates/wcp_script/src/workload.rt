@@ -2,11 +2,11 @@ ghost use Rattle.std.specs.Prelude.{◌≡◌, List, IfOk, IfErr};
 ghost use Rattle.wcp_model.specs.declared.plan.Plan.{Plan};
 ghost use Rattle.wcp_model.specs.declared.workload.Task.{Task};
 ghost use Rattle.wcp_model.specs.PlanFault.{IsCheckedPlan};
+ghost use Rattle.wcp_model.specs.Tree.{IsSamePlan};
 ghost use Rattle.wcp_model.specs.WorkloadComputation.{CouldBeRead};
 ghost use Rattle.wcp_script.specs.declared.fault.ScriptFault.{ScriptFault};
-ghost use Rattle.wcp_script.specs.TextFault.{workloads, Spells};
-ghost use Rattle.wcp_script.specs.Reading.{HasWorkloadFault, IsSamePlan, IsReadAs, IsRefusedFor, IsFaultOf};
-ghost use Rattle.wcp_script.specs.Seen.{ReadsInOrder, ReadsWorkload, order_of};
+ghost use Rattle.wcp_script.specs.TextFault.{workloads, Spells, HasWorkloadFault};
+ghost use Rattle.wcp_script.specs.ReadAnswers.{IsReadAs, IsRefusedFor, IsFaultOf, ReadsInOrder, ReadsWorkload, order_of};
 
 use crate::fault::{FaultKind, ReadFault, ScriptFault};
 use crate::text::{Text, read_text};

@@ -1,5 +1,5 @@
 use Rattle.std.proofs.Common.{sym, ◌∙◌}
-use Rattle.wcp_script.specs.Seen.{seen_line, seen_head}
+use Rattle.wcp_script.specs.Views.{seen_line, seen_head}
 use Rattle.wcp_script.proofs.HeadLines.{head_line_allows, has_place, more_within, head_more}
 use Rattle.wcp_script.proofs.head.read_head_lines.Goals as goal
 

@@ -1,7 +1,7 @@
 use Rattle.std.proofs.Common.{◌≡◌, length}
 use Rattle.wcp_script.specs.Lines.{lines_of}
 use Rattle.wcp_script.specs.Head.{head_by}
-use Rattle.wcp_script.specs.Seen.{seen_head}
+use Rattle.wcp_script.specs.Views.{seen_head}
 use Rattle.wcp_script.proofs.HeadLines.{IsWithinLimits}
 use Rattle.wcp_script.proofs.head.read_head_lines.Given as goal
 

@@ -1,6 +1,7 @@
 use Rattle.std.proofs.Common.{refl, arith}
 use Rattle.wcp_script.specs.TextFault.{OfPlan}
-use Rattle.wcp_script.specs.Seen.{seen_read, ReadsText}
+use Rattle.wcp_script.specs.ReadAnswers.{ReadsText}
+use Rattle.wcp_script.specs.Views.{seen_read}
 use Rattle.wcp_script.proofs.HandedOn.{handed_on, fault_in_step}
 use Rattle.wcp_script.proofs.SamePlan.{processes_of_checked}
 use Rattle.wcp_script.proofs.text.read_text.Goals as goal

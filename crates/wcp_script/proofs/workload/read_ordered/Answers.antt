@@ -4,9 +4,9 @@ use Rattle.wcp_model.specs.WorkloadComputation.{IsFitOrder}
 use Rattle.wcp_order.specs.Stuck.{IfOrder, IfStuck, IsFirstStuck, IsStuckAt}
 use Rattle.wcp_script.specs.declared.fault.FaultKind.TheVariants as kind
 use Rattle.wcp_script.specs.declared.fault.ScriptFault.{ScriptFault}
-use Rattle.wcp_script.specs.Seen.{ReadsInOrder}
+use Rattle.wcp_script.specs.ReadAnswers.{ReadsInOrder}
 use Rattle.wcp_script.proofs.HandedOn.{handed_on, fault_in_text}
-use Rattle.wcp_script.specs.Reading.{AtEnd}
+use Rattle.wcp_script.specs.TextFault.{AtEnd}
 use Rattle.wcp_script.proofs.Spelled.{could_be_read, spells_is}
 use Rattle.wcp_script.proofs.workload.read_ordered.Goals as goal
 use Rattle.wcp_script.proofs.workload.read_ordered.Goals.{In-Stuck, in-AsListed, in-Order}
