@@ -42,3 +42,7 @@ most_reads = 4194304
 -- A lane: room for 1 to 65,536 messages.
 abbrev pub most_lane : ℕ
 most_lane = 65536
+
+-- A count of the snapshots of a process is at most 4,294,967,296.
+abbrev pub most_snapshots : ℕ
+most_snapshots = 4294967296

@@ -1,0 +1,106 @@
+ghost use Rattle.std.specs.Prelude.{◌≡◌, ◌≢◌, ◌+◌, ◌<◌, ◌≤◌, ◌↔◌, length, replicate, slice_get, slice_set, Some, None, IsOk, OnOk, OnErr, IsErrOf};
+ghost use Rattle.std.specs.Option.{option_flatten};
+ghost use Rattle.wcp_clock.specs.Limits.{most_processes, most_snapshots};
+ghost use Rattle.wcp_book.specs.declared.book.BookFault.TheVariants.{NoSuch, Twice};
+ghost use Rattle.wcp_book.specs.Totals.{AreTotals};
+
+use std::marker::Model;
+use thiserror::Error;
+use wcp_clock::MAX_PROCS;
+use wcp_model::Tally;
+
+/// The shares that were posted so far, each process at most once, and their totals.
+///
+/// A contract sees it as the list of the shares, one place for each process. It is kept under a lock while a watch
+/// runs: whenever the lock is free, the totals are the sums of the shares.
+#[derive(Drop)]
+pub struct Book {
+    processes: u32,
+    shares: [Option<Tally>; MAX_PROCS],
+    totals: Tally,
+}
+
+impl Model for Book {
+    ghost use Rattle.std.specs.Prelude.{◌≡◌, ◌<◌, ◌≤◌, List, Option, length, take, All};
+    ghost use Rattle.wcp_clock.specs.Limits.{most_processes};
+    ghost use Rattle.wcp_model.specs.declared.outcome.Tally.{Tally};
+    ghost use Rattle.wcp_book.specs.Totals.{AreTotals, IsWithin};
+
+    ghost Value = { List (Option Tally) };
+
+    ghost view = { λ b. take b.processes b.shares };
+
+    ghost invariant = { λ b.
+        (0 < b.processes) × (b.processes ≤ most_processes) × (length b.shares ≡ most_processes)
+        × All IsWithin (take b.processes b.shares)
+        × AreTotals (take b.processes b.shares) b.totals };
+}
+
+/// Why a share isn't posted. Where both apply, the first is given.
+#[derive(Clone, Copy, Debug, PartialEq, Eq, Error)]
+pub enum BookFault {
+    /// There is no such process.
+    #[error("no such process")]
+    NoSuch,
+    /// A share of this process was posted before.
+    #[error("posted twice")]
+    Twice,
+}
+
+impl Book {
+    /// The book of a watch of `n` processes, in which nothing is posted.
+    pub fn new(n: u32) -> Book
+        requires some { 0 < n }
+        requires within { n ≤ most_processes }
+        ensures { result ≡ replicate n None }
+    {
+        Book {
+            processes: n,
+            shares: [None; MAX_PROCS],
+            totals: Tally {
+                emitted: 0,
+                taken: 0,
+            },
+        }
+    }
+
+    /// Posts the share of process `p`: how many snapshots it emitted, and how many of them the checker took.
+    pub fn post(&mut self, p: u32, emitted: u64, taken: u64) -> Result<(), BookFault>
+        requires few_emitted { emitted ≤ most_snapshots }
+        requires few_taken { taken ≤ most_snapshots }
+        ensures ok { IsOk result ↔ (slice_get self.old p ≡ Some None) }
+        ensures no_such { IsErrOf result NoSuch ↔ (length self.old ≤ p) }
+        ensures posted { OnOk result
+            (self.new ≡ slice_set self.old p (Some (record { emitted = emitted; taken = taken }))) }
+        ensures unchanged { OnErr result (self.new ≡ self.old) }
+    {
+        if p >= self.processes {
+            return Err(BookFault::NoSuch);
+        }
+        if self.shares[p as usize].is_some() {
+            return Err(BookFault::Twice);
+        }
+        self.shares[p as usize] = Some(Tally { emitted, taken });
+        self.totals.emitted += emitted;
+        self.totals.taken += taken;
+        Ok(())
+    }
+
+    /// The share of process `p`, if one was posted.
+    pub fn share(&self, p: u32) -> Option<Tally>
+        ensures { result ≡ option_flatten (slice_get self.now p) }
+    {
+        if p < self.processes {
+            self.shares[p as usize]
+        } else {
+            None
+        }
+    }
+
+    /// The sums of all shares that were posted.
+    pub fn totals(&self) -> Tally
+        ensures { AreTotals self.now result }
+    {
+        self.totals
+    }
+}
