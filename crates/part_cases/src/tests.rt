@@ -1,3 +1,4 @@
+mod books;
 mod checker;
 mod clocks;
 mod computations;
