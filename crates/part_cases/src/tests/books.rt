@@ -1,9 +1,8 @@
-use std::process::Abort;
 use wcp_book::{Book, BookFault};
 use wcp_model::Tally;
 
 #[test]
-fn shares_are_posted_once(rt: &impl Abort) {
+fn shares_are_posted_once(rt: HostRuntime) {
     let mut book = Book::new(2);
     assert_eq!(rt; book.post(0, 2, 2), Ok(()));
     assert_eq!(rt; book.post(0, 1, 1), Err(BookFault::Twice));
