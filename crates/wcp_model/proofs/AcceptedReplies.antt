@@ -16,7 +16,8 @@ use Rattle.wcp_model.specs.Computation.{Computation, is_send}
 use Rattle.wcp_model.specs.Emission.{is_closed}
 use Rattle.wcp_model.specs.Occupancy.{Pending, notes_in}
 use Rattle.wcp_model.specs.ProbeLog.{is_step_of, IsAccepted}
-use Rattle.wcp_model.specs.Replies.{Answered, accepted_by, accepted, is_event, computation, receivers, was_sent_to, reasons, event_reasons, move_reasons, first_of_reasons, IsAcceptance, IsReply, AreReplies}
+use Rattle.wcp_model.specs.FirstReason.{first_reason}
+use Rattle.wcp_model.specs.Replies.{Answered, accepted_by, accepted, is_event, computation, receivers, was_sent_to, reasons, event_reasons, move_reasons, IsAcceptance, IsReply, AreReplies}
 use Rattle.wcp_model.proofs.AcceptedSteps.{accepted_push}
 use Rattle.wcp_model.proofs.Growth.{get_behind}
 
@@ -37,12 +38,12 @@ sent_to c message p sent = ⊎_elim
     (cases_lt message (length (receivers c)))
 
 -- where no reason is given, none of them holds
-none_holds : (list : List (Bool × Why)) (i : ℕ) (reason : Bool × Why) → slice_get list i ≡ Some reason → first_of_reasons list ≡ None → reason.0 ≡ false
+none_holds : (list : List (Bool × Why)) (i : ℕ) (reason : Bool × Why) → slice_get list i ≡ Some reason → first_reason list ≡ None → reason.0 ≡ false
 none_holds [] i reason at none = cc at
 none_holds (first ∷ list) i reason at none = go first.0 refl none i at (λ k. none_holds list k reason)
   where
-    go : (holds : Bool) → first.0 ≡ holds → (if holds then Some first.1 else first_of_reasons list) ≡ None → (i : ℕ) → slice_get (first ∷ list) i ≡ Some reason →
-        ((k : ℕ) → slice_get list k ≡ Some reason → first_of_reasons list ≡ None → reason.0 ≡ false) → reason.0 ≡ false
+    go : (holds : Bool) → first.0 ≡ holds → (if holds then Some first.1 else first_reason list) ≡ None → (i : ℕ) → slice_get (first ∷ list) i ≡ Some reason →
+        ((k : ℕ) → slice_get list k ≡ Some reason → first_reason list ≡ None → reason.0 ≡ false) → reason.0 ≡ false
     go true is some i at later = cc some
     go false is none zero at later = ap (λ (r : Bool × Why). r.0) (sym (same_Some first reason at)) ∙ is
     go false is none (suc i) at later = later i at none
@@ -62,7 +63,7 @@ module _ (n : ℕ) (c : Computation) (pending : ℕ → Bool) (more : List (Bool
   closed_is_second s p own = absurd (true≢false (sym own))
 
   -- a step against which no reason holds keeps the computation an accepted one
-  step_accepted : (s : Step) → first_of_reasons (event_reasons n c pending s ++ more) ≡ None → IsAccepted c → IsAccepted (c ++ computation (s ∷ []))
+  step_accepted : (s : Step) → first_reason (event_reasons n c pending s ++ more) ≡ None → IsAccepted c → IsAccepted (c ++ computation (s ∷ []))
   step_accepted s none accepted =
       cond_both (is_event s) (s ∷ []) [] (λ e. IsAccepted (c ++ e))
       (λ event. accepted_push c s accepted
@@ -79,7 +80,7 @@ reply_accepted plan steps s (reply.Refused why) is accepted = subst (λ all. IsA
 reply_accepted plan steps s answer is accepted =
     subst IsAccepted (sym (filter-append is_event steps (s ∷ [])))
     (step_accepted plan.n (computation steps) (λ p. nat_lt 0 (notes_in plan is.emissions steps (Pending p))) (move_reasons plan (notes_in plan is.emissions steps) s) s
-    (none_given (first_of_reasons (reasons plan is.emissions steps s)) (IsAcceptance plan is.emissions steps s answer) answer (λ why same. cc same) is.first) accepted)
+    (none_given (first_reason (reasons plan is.emissions steps s)) (IsAcceptance plan is.emissions steps s answer) answer (λ why same. cc same) is.first) accepted)
 
 -- one more step of a history, and then the rest
 goes_on : (plan : Plan) (rest history : List Answered) → AreReplies plan (history ++ rest) → IsAccepted (computation (accepted history)) → IsAccepted (computation (accepted (history ++ rest)))

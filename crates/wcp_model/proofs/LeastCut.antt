@@ -56,7 +56,7 @@ sum-minimum_lt (k ∷ ks) (l ∷ ls) (suc p) same less = omega (arith, sum-cons 
 -- a satisfying cut is least if none has a lesser sum, since its minimum with another is satisfying
 pub least_by_sum : (n : ℕ) (c : Computation) (cut : List ℕ) → IsSatisfyingCut n c cut → (Smaller (IsSatisfyingCut n c) n (sum cut) → ⊥) → IsLeastCut n c cut
 least_by_sum n c cut satisfying none = record {
-  satisfying = satisfying;
+  one = satisfying;
   below = λ other also p p_within. ⊎_elim
       (λ less. absurd (none (lesser other also p less)))
       (λ order. order)

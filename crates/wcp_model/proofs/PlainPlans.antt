@@ -4,6 +4,8 @@ use Rattle.wcp_model.specs.declared.plan.Parent.{Parent}
 use Rattle.wcp_model.specs.declared.plan.Parent.TheVariants.{Root, Relay}
 use Rattle.wcp_model.specs.declared.plan.Plan.{Plan}
 use Rattle.wcp_model.specs.declared.plan.PlanFault.TheVariants as fault
+use Rattle.wcp_clock.specs.Limits.{most_processes, most_cap, most_hold}
+use Rattle.wcp_model.specs.Tree.{IsPlainPlan}
 use Rattle.wcp_model.specs.PlanFault.{IsOutside, IsPath, IsCheckedPlan}
 
 inside : (least most x : ℕ) → least ≤ x → x ≤ most → ¬ IsOutside least most x
@@ -20,16 +22,16 @@ path_under_root [] path = absurd path
 path_under_root (relay ∷ []) path = omega arith
 path_under_root (relay ∷ above ∷ rest) path = absurd (under_root relay above path.0)
 
--- a plan of one relay, which serves every process, has no fault within the limits
-pub plain_is_checked : (plan : Plan) → plan.parents.items ≡ Root ∷ [] → plan.attach.items ≡ replicate plan.n (Some 0) → 1 ≤ plan.n → plan.n ≤ 16 → 1 ≤ plan.cap → plan.cap ≤ 1024 → 1 ≤ plan.hold → plan.hold ≤ 64 → IsCheckedPlan plan
-plain_is_checked plan parents attach some few cap_low cap_high hold_low hold_high = none
+-- a plain plan has no fault within the limits
+pub plain_is_checked : (n cap hold : ℕ) (plan : Plan) → IsPlainPlan n cap hold plan → 1 ≤ n → n ≤ most_processes → 1 ≤ cap → cap ≤ most_cap → 1 ≤ hold → hold ≤ most_hold → IsCheckedPlan plan
+plain_is_checked n cap hold plan is some few cap_low cap_high hold_low hold_high = none
   where
     none : IsCheckedPlan plan
-    none fault.Procs = inside 1 16 plan.n some few
-    none fault.Cap = inside 1 1024 plan.cap cap_low cap_high
-    none fault.Hold = inside 1 64 plan.hold hold_low hold_high
-    none fault.Parent = λ has. grind (arith, under_root)
-    none fault.Depth = λ has. omega (arith, has.2, path_under_root has.0 (subst (λ (tree : List Parent). IsPath tree has.0) parents has.1))
-    none fault.Mixed = λ has. grind arith
-    none fault.Childless = λ has. grind (arith, length-replicate, get_or-replicate, take_all)
-    none fault.Unattached = λ has. grind (arith, length-replicate, get_or-replicate)
+    none fault.Procs = inside 1 most_processes plan.n (omega (arith, is.processes)) (omega (arith, is.processes))
+    none fault.Cap = inside 1 most_cap plan.cap (omega (arith, is.links)) (omega (arith, is.links))
+    none fault.Hold = inside 1 most_hold plan.hold (omega (arith, is.holds)) (omega (arith, is.holds))
+    none fault.Parent = λ has. grind (arith, under_root, is.tree)
+    none fault.Depth = λ has. omega (arith, has.2, path_under_root has.0 (subst (λ (tree : List Parent). IsPath tree has.0) is.tree has.1))
+    none fault.Mixed = λ has. grind (arith, is.tree)
+    none fault.Childless = λ has. grind (arith, length-replicate, get_or-replicate, take_all, is.tree, is.attached, is.processes)
+    none fault.Unattached = λ has. grind (arith, length-replicate, get_or-replicate, is.tree, is.attached, is.processes)

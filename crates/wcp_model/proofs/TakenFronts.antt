@@ -7,9 +7,9 @@ use Rattle.wcp_clock.specs.declared.note.Note.TheVariants as note
 use Rattle.wcp_model.specs.declared.outcome.Report.{Report}
 use Rattle.wcp_model.specs.declared.outcome.Report.TheVariants.{Found, Nothing, Undecided}
 use Rattle.wcp_model.specs.Computation.{Computation, IsTrueState}
-use Rattle.wcp_model.specs.Cut.{member, minimum, IsSatisfyingCut, IsLeastCut}
+use Rattle.wcp_model.specs.Cut.{member, minimum, IsSatisfyingCut, IsLeastCut, IsLeastOf}
 use Rattle.wcp_model.specs.Outcome.{IsReportOf}
-use Rattle.wcp_model.specs.Report.{notes_taken, snapshot_clocks, clocks_taken, IsDrained, IsNamed, IsNamedCut, IsCutByClocks, IsLeastOf, IsReportOfTaken, IsReportByClocks, AreFrontsOfEmissions, AreInTurn}
+use Rattle.wcp_model.specs.Report.{notes_taken, snapshot_clocks, clocks_taken, IsDrained, IsNamed, IsNamedCut, IsCutByClocks, IsReportOfTaken, IsReportByClocks, AreFrontsOfEmissions, AreInTurn}
 use Rattle.wcp_model.specs.StateClock.{IsStateClock}
 use Rattle.wcp_model.proofs.Choosing.{choice_from_each}
 use Rattle.wcp_model.proofs.CutLaws.{state, slice_index-minimum, minimum_is_satisfying}
@@ -128,7 +128,7 @@ module _ (n : ℕ) (c : Computation) (items : List Item) (fronts : AreFrontsOfEm
   -- so the least cut of those named is the least cut of the whole computation, before all is drained and after
   pub found_is_least : (cut : List ℕ) → IsReportByClocks n items (Found cut) → IsLeastCut n c cut
   found_is_least cut found = record {
-    satisfying = least.one.satisfying;
+    one = least.one.satisfying;
     below = below;
   }
     where
@@ -164,6 +164,9 @@ module _ (n : ℕ) (c : Computation) (items : List Item) (fronts : AreFrontsOfEm
   -- and the report is that of the whole computation
   pub report_when_drained : IsDrained n items → (report : Report) → IsReportByClocks n items report → IsReportOf n c report
   report_when_drained drained (Found cut) found = found_is_least cut found
-  report_when_drained drained Nothing none = λ cut satisfying.
-      none.0 cut (cut_by_clocks cut (record { satisfying = satisfying; named = λ p within. named_when_drained drained p (slice_index cut p) within (satisfying.true_states p within) }))
-  report_when_drained drained Undecided none = none.1 drained
+  report_when_drained drained Nothing none = (
+    λ cut satisfying.
+        none.0 cut (cut_by_clocks cut (record { satisfying = satisfying; named = λ p within. named_when_drained drained p (slice_index cut p) within (satisfying.true_states p within) })),
+    tt,
+  )
+  report_when_drained drained Undecided none = absurd (none.1 drained)

@@ -17,10 +17,14 @@ pub record IsSatisfyingCut (n : ℕ) (c : Computation) (cut : List ℕ) : Type 0
   pub consistent : IsConsistent n c cut
   pub true_states : (p : ℕ) → p < n → IsTrueState c (member cut p)
 
--- The least cut is a satisfying cut that lies at or below every satisfying cut, at each process (Garg and Waldecker 1994).
-pub record IsLeastCut (n : ℕ) (c : Computation) (cut : List ℕ) : Type 0 where
-  pub satisfying : IsSatisfyingCut n c cut
-  pub below : (other : List ℕ) → IsSatisfyingCut n c other → (p : ℕ) → p < n → slice_index cut p ≤ slice_index other p
+-- The least of the cuts of a kind is one that lies at or below each of them, at each process.
+pub record IsLeastOf (n : ℕ) (IsOne : List ℕ → Type 0) (cut : List ℕ) : Type 0 where
+  pub one : IsOne cut
+  pub below : (other : List ℕ) → IsOne other → (p : ℕ) → p < n → slice_index cut p ≤ slice_index other p
+
+-- The least cut of a computation is the least of its satisfying cuts (Garg and Waldecker 1994).
+abbrev pub IsLeastCut : ℕ → Computation → List ℕ → Type 0
+IsLeastCut n c = IsLeastOf n (IsSatisfyingCut n c)
 
 -- The componentwise minimum of two cuts.
 abbrev pub minimum : List ℕ → List ℕ → List ℕ

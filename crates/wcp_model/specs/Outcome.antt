@@ -5,14 +5,20 @@ use Rattle.wcp_model.specs.declared.outcome.Tally.{Tally}
 use Rattle.wcp_model.specs.declared.outcome.Outcome.{Outcome}
 use Rattle.wcp_model.specs.declared.workload.Task.{Task}
 use Rattle.wcp_model.specs.Computation.{Computation, AreTrueStates}
-use Rattle.wcp_model.specs.Cut.{IsSatisfyingCut, IsLeastCut}
+use Rattle.wcp_model.specs.Cut.{IsSatisfyingCut, IsLeastOf}
 use Rattle.wcp_model.specs.WorkloadComputation.{IsFitOrder, computation_of}
 
--- The report on a whole computation: its least cut, or that no satisfying cut exists (Garg and Waldecker 1994).
+-- The report on the cuts of a kind: the least of them; that there is none, and all is drained; or that there is none
+-- yet.
+abbrev pub IsReportOn : ℕ → (List ℕ → Type 0) → Type 0 → Report → Type 0
+IsReportOn n IsOne drained (Found cut) = IsLeastOf n IsOne cut
+IsReportOn n IsOne drained Nothing = ((cut : List ℕ) → IsOne cut → ⊥) × drained
+IsReportOn n IsOne drained Undecided = ((cut : List ℕ) → IsOne cut → ⊥) × (drained → ⊥)
+
+-- The report on a whole computation, where all is drained: its least cut, or that no satisfying cut exists (Garg and
+-- Waldecker 1994).
 abbrev pub IsReportOf : ℕ → Computation → Report → Type 0
-IsReportOf n c (Found cut) = IsLeastCut n c cut
-IsReportOf n c Nothing = (cut : List ℕ) → IsSatisfyingCut n c cut → ⊥
-IsReportOf n c Undecided = ⊥
+IsReportOf n c = IsReportOn n (IsSatisfyingCut n c) (Unit {0})
 
 -- The tally of a process whose snapshots were all emitted and taken: the number of its true states, twice.
 pub record TalliesTrueStates (c : Computation) (p : ℕ) (tally : Tally) : Type 0 where

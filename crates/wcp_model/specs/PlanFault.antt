@@ -1,5 +1,6 @@
 use Rattle.std.specs.Prelude.{◌≡◌, ◌≢◌, ℕ, ◌<◌, ◌≤◌, ◌⊎◌, List, [], ◌∷◌, length, take, slice_get, Some, Any, Contains, MatchOption}
 use Rattle.wcp_clock.specs.Limits.{most_processes, most_cap, most_hold, most_relays, most_path}
+use Rattle.wcp_model.specs.FirstReason.{IsFirstReason}
 use Rattle.wcp_model.specs.declared.plan.Parent.{Parent}
 use Rattle.wcp_model.specs.declared.plan.Parent.TheVariants.{Root, Relay}
 use Rattle.wcp_model.specs.declared.plan.Plan.{Plan}
@@ -37,21 +38,16 @@ HasFault plan fault.Mixed = (relay : ℕ) × (relay < length plan.parents.items)
 HasFault plan fault.Childless = (relay : ℕ) × (relay < length plan.parents.items) × ¬ ServesProcess plan relay × ¬ ServesRelay plan relay
 HasFault plan fault.Unattached = (length plan.attach.items ≢ plan.n) ⊎ Any (λ entry. MatchOption entry (Unit {0}) (λ relay. length plan.parents.items ≤ relay)) plan.attach.items
 
--- The order of the faults.
-abbrev pub rank : PlanFault → ℕ
-rank fault.Procs = 0
-rank fault.Cap = 1
-rank fault.Hold = 2
-rank fault.Parent = 3
-rank fault.Depth = 4
-rank fault.Mixed = 5
-rank fault.Childless = 6
-rank fault.Unattached = 7
+-- The faults that are looked for in a tree, and all faults, in the order in which they count.
+abbrev pub tree_faults : List PlanFault
+tree_faults = fault.Depth ∷ fault.Mixed ∷ fault.Childless ∷ fault.Unattached ∷ []
+
+abbrev pub plan_faults : List PlanFault
+plan_faults = fault.Procs ∷ fault.Cap ∷ fault.Hold ∷ fault.Parent ∷ tree_faults
 
 -- The first fault of a plan: the plan has it, and none before it.
-pub record IsFirstFault (plan : Plan) (first : PlanFault) : Type 0 where
-  pub applies : HasFault plan first
-  pub none_before : (other : PlanFault) → rank other < rank first → ¬ HasFault plan other
+abbrev pub IsFirstFault : Plan → PlanFault → Type 0
+IsFirstFault plan = IsFirstReason (HasFault plan) plan_faults
 
 -- A checked plan has no fault.
 abbrev pub IsCheckedPlan : Plan → Type 0

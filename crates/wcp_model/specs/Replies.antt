@@ -14,6 +14,7 @@ use Rattle.wcp_model.specs.declared.step.Why.{Why}
 use Rattle.wcp_model.specs.declared.step.Why.TheVariants as why
 use Rattle.wcp_model.specs.Computation.{Computation, communications}
 use Rattle.wcp_model.specs.Emission.{AreEmissions, is_closed}
+use Rattle.wcp_model.specs.FirstReason.{first_reason}
 use Rattle.wcp_model.specs.Tree.{is_relay, is_leaf, is_attached}
 use Rattle.wcp_model.specs.Occupancy.{Place, Pending, InboxOf, source, target, taken_from, notes_in, room_of, IsEntry}
 
@@ -106,10 +107,6 @@ reasons plan emissions steps s =
     event_reasons plan.n (computation steps) (λ p. nat_lt 0 (notes_in plan emissions steps (Pending p))) s
     ++ move_reasons plan (notes_in plan emissions steps) s
 
-abbrev pub first_of_reasons : List (Bool × Why) → Option Why
-first_of_reasons [] = None
-first_of_reasons (reason ∷ reasons) = if reason.0 then Some reason.1 else first_of_reasons reasons
-
 -- An accepted step is answered that it was done; an accepted check takes the item whose turn it is in the root inbox.
 abbrev pub IsAcceptance : Plan → (ℕ → List Note) → List Step → Step → Reply → Type 0
 IsAcceptance plan emissions steps step.Check answer =
@@ -121,7 +118,7 @@ IsAcceptance plan emissions steps s answer = answer ≡ reply.Done
 pub record IsReply (plan : Plan) (steps : List Step) (s : Step) (answer : Reply) : Type 0 where
   pub emissions : ℕ → List Note
   pub are : (p : ℕ) → p < plan.n → AreEmissions plan.n (computation steps) p (emissions p)
-  pub first : MatchOption (first_of_reasons (reasons plan emissions steps s))
+  pub first : MatchOption (first_reason (reasons plan emissions steps s))
       (IsAcceptance plan emissions steps s answer) (λ why. answer ≡ reply.Refused why)
 
 -- Each step of a history has the reply that the earlier steps and replies lead to.

@@ -4,11 +4,11 @@ use Rattle.wcp_clock.specs.declared.note.Item.{Item}
 use Rattle.wcp_clock.specs.declared.note.Note.{Note}
 use Rattle.wcp_clock.specs.declared.note.Note.TheVariants as note
 use Rattle.wcp_model.specs.declared.outcome.Report.{Report}
-use Rattle.wcp_model.specs.declared.outcome.Report.TheVariants.{Found, Nothing, Undecided}
 use Rattle.wcp_model.specs.declared.state.State.{State}
 use Rattle.wcp_model.specs.Computation.{Computation}
 use Rattle.wcp_model.specs.Cut.{member, IsSatisfyingCut}
 use Rattle.wcp_model.specs.Emission.{AreEmissions}
+use Rattle.wcp_model.specs.Outcome.{IsReportOn}
 
 -- What a checker has taken is the list of its items, in the order in which it took them; the notes taken of one process
 -- are those of its items, in that order (Garg and Waldecker 1994: what the checker process received from each process).
@@ -73,18 +73,6 @@ pub record IsCutByClocks (n : ℕ) (items : List Item) (cut : List ℕ) : Type 0
   pub taken : (p : ℕ) → p < n → Contains (clocks_taken p items) (clock p)
   pub own : (p : ℕ) → p < n → slice_index (clock p) p ≡ slice_index cut p
   pub concurrent : (p q : ℕ) → p < n → q < n → p ≢ q → slice_index (clock p) p < slice_index (clock q) p → ⊥
-
--- The least of the cuts of a kind is one that lies at or below each of them, at each process.
-pub record IsLeastOf (n : ℕ) (IsOne : List ℕ → Type 0) (cut : List ℕ) : Type 0 where
-  pub one : IsOne cut
-  pub below : (other : List ℕ) → IsOne other → (p : ℕ) → p < n → slice_index cut p ≤ slice_index other p
-
--- The report on the cuts of a kind: the least of them; that there is none, and all is drained; or that there is none
--- yet.
-abbrev pub IsReportOn : ℕ → (List ℕ → Type 0) → Type 0 → Report → Type 0
-IsReportOn n IsOne drained (Found cut) = IsLeastOf n IsOne cut
-IsReportOn n IsOne drained Nothing = ((cut : List ℕ) → IsOne cut → ⊥) × drained
-IsReportOn n IsOne drained Undecided = ((cut : List ℕ) → IsOne cut → ⊥) × (drained → ⊥)
 
 -- The report of what was taken, on the states that it names (Garg and Waldecker 1994: detection of the first cut).
 abbrev pub IsReportOfTaken : ℕ → Computation → List Item → Report → Type 0

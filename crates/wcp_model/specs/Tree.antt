@@ -1,7 +1,8 @@
-use Rattle.std.specs.Prelude.{◌≡◌, ◌==◌, ℕ, Bool, false, nat_lt, Option, Some, None, length, slice_get}
+use Rattle.std.specs.Prelude.{◌≡◌, ◌==◌, ℕ, Bool, false, nat_lt, Option, Some, None, List, [], ◌∷◌, length, replicate, slice_get}
 use Rattle.std.specs.List.{list_any}
 use Rattle.std.specs.Option.{option_flatten}
 use Rattle.wcp_model.specs.declared.plan.Parent.{Parent}
+use Rattle.wcp_model.specs.declared.plan.Parent.TheVariants.{Root}
 use Rattle.wcp_model.specs.declared.plan.Plan.{Plan}
 
 -- The tree of a plan: which relay serves a process, whether a relay serves processes, and what a relay passes its
@@ -24,6 +25,21 @@ is_attached plan relay p = is_number relay (leaf_of plan p)
 
 abbrev pub is_leaf : Plan → ℕ → Bool
 is_leaf plan relay = list_any (is_number relay) plan.attach.items
+
+-- The plain tree has one relay, under the root, which serves each of n processes.
+abbrev pub plain_parents : List Parent
+plain_parents = Root ∷ []
+
+abbrev pub plain_attach : ℕ → List (Option ℕ)
+plain_attach n = replicate n (Some 0)
+
+-- The plan of the plain tree, with these capacities.
+pub record IsPlainPlan (n cap hold : ℕ) (plan : Plan) : Type 0 where
+  pub processes : plan.n ≡ n
+  pub links : plan.cap ≡ cap
+  pub holds : plan.hold ≡ hold
+  pub tree : plan.parents.items ≡ plain_parents
+  pub attached : plan.attach.items ≡ plain_attach n
 
 -- Two plans are the same where their numbers and lists are.
 pub record IsSamePlan (one other : Plan) : Type 0 where

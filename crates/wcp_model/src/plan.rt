@@ -1,10 +1,10 @@
-ghost use Rattle.std.specs.Prelude.{◌≡◌, ◌↔◌, ℕ, ◌+◌, ◌<◌, ◌≤◌, List, [], ◌∷◌, length, replicate, IsTrue, IsOk, IfOk, Some, Err};
+ghost use Rattle.std.specs.Prelude.{◌≡◌, ◌↔◌, ℕ, ◌+◌, ◌<◌, ◌≤◌, List, [], ◌∷◌, length, replicate, Contains, IsTrue, IsOk, IfOk, Some, Err};
 ghost use Rattle.wcp_clock.specs.Limits.{most_processes, most_cap, most_hold};
 ghost use Rattle.wcp_model.specs.declared.plan.Parent.TheVariants.{Root};
 ghost use Rattle.wcp_model.specs.declared.plan.PlanFault.{PlanFault};
 ghost use Rattle.wcp_model.specs.declared.plan.PlanFault.TheVariants as plan_fault;
-ghost use Rattle.wcp_model.specs.Tree.{IsSamePlan, is_attached, is_leaf, parent_of};
-ghost use Rattle.wcp_model.specs.PlanFault.{HasFault, HasWrongParent, IsFirstFault, IsCheckedPlan, IsPath, ServesProcess, ServesRelay, rank};
+ghost use Rattle.wcp_model.specs.Tree.{IsPlainPlan, IsSamePlan, is_attached, is_leaf, parent_of};
+ghost use Rattle.wcp_model.specs.PlanFault.{HasFault, HasWrongParent, IsFirstFault, IsCheckedPlan, IsPath, ServesProcess, ServesRelay, tree_faults};
 
 use std::alloc::{AllocError, Global};
 use wcp_clock::{MAX_CAP, MAX_HOLD, MAX_PATH, MAX_PROCS, MAX_RELAYS};
@@ -35,11 +35,7 @@ pub struct Plan {
 
 /// The plan of one relay, under the root, which serves every process. `Err` where memory runs out.
 pub fn plain_plan(alloc: Global, n: u32, cap: u32, hold: u32) -> Result<Plan, AllocError>
-    ensures n { IfOk result (λ plan. plan.n ≡ n) }
-    ensures cap { IfOk result (λ plan. plan.cap ≡ cap) }
-    ensures hold { IfOk result (λ plan. plan.hold ≡ hold) }
-    ensures parents { IfOk result (λ plan. plan.parents.items ≡ Root ∷ []) }
-    ensures attach { IfOk result (λ plan. plan.attach.items ≡ replicate n (Some 0)) }
+    ensures plain { IfOk result (IsPlainPlan n cap hold) }
     ensures checked { IfOk result (λ plan.
         1 ≤ n → n ≤ most_processes → 1 ≤ cap → cap ≤ most_cap → 1 ≤ hold → hold ≤ most_hold → IsCheckedPlan plan) }
 {
@@ -103,7 +99,7 @@ impl Plan {
 
     /// Whether the plan has this fault. Those after `Parent` are looked for where no parent is wrong.
     fn has_fault(&self, fault: PlanFault) -> bool
-        requires { rank plan_fault.Parent < rank fault → ¬ HasFault self.now plan_fault.Parent }
+        requires { Contains tree_faults fault → ¬ HasFault self.now plan_fault.Parent }
         ensures { IsTrue result ↔ HasFault self.now fault }
     {
         match fault {

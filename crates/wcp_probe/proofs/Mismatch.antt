@@ -5,7 +5,8 @@ use Rattle.wcp_probe.specs.declared.probe.Refusal.{Refusal}
 use Rattle.wcp_probe.specs.declared.probe.Refusal.TheVariants.{Closed, Backlog, Stranger, NotMine, Ahead}
 use Rattle.wcp_probe.specs.Core.{Core}
 use Rattle.wcp_probe.specs.Seal.{Seal}
-use Rattle.wcp_probe.specs.Refusals.{first_reason, stamp_mismatch}
+use Rattle.wcp_model.specs.FirstReason.{first_reason}
+use Rattle.wcp_probe.specs.Refusals.{stamp_mismatch}
 
 -- where none of these reasons holds, the second, the third and the fifth don't
 none_holds : (closed backlog strange other ahead : Bool) → first_reason ((closed, Closed) ∷ (backlog, Backlog) ∷ (strange, Stranger) ∷ (other, NotMine) ∷ (ahead, Ahead) ∷ []) ≡ None → (backlog ≡ false) × (strange ≡ false) × (ahead ≡ false)

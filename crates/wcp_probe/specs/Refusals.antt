@@ -1,13 +1,9 @@
 use Rattle.std.specs.Prelude.{◌==◌, ◌||◌, ℕ, Bool, true, false, not, nat_lt, nat_le, is_some, Option, None, Some, List, [], ◌∷◌, ◌++◌, length, slice_index, if◌then◌else◌}
+use Rattle.wcp_model.specs.FirstReason.{first_reason}
 use Rattle.wcp_probe.specs.declared.probe.Refusal.{Refusal}
 use Rattle.wcp_probe.specs.declared.probe.Refusal.TheVariants.{NoSuch, Closed, Backlog, Stranger, NotMine, Ahead, ClockEnd}
 use Rattle.wcp_probe.specs.Core.{Core}
 use Rattle.wcp_probe.specs.Seal.{Seal}
-
--- The first reason that holds; the reasons stand in the order in which they count.
-abbrev pub first_reason : List (Bool × Refusal) → Option Refusal
-first_reason [] = None
-first_reason (reason ∷ reasons) = if reason.0 then Some reason.1 else first_reason reasons
 
 abbrev pub at_clock_end : Core → Bool
 at_clock_end core = nat_le core.limit (slice_index core.clock core.id)

@@ -3,7 +3,8 @@ use Rattle.std.proofs.lemmas.Bool.{cases_eq}
 use Rattle.std.proofs.lemmas.List.{append-nil, length-drop, get_or_default}
 use Rattle.std.proofs.lemmas.List.Elements.{Contains-get_or}
 use Rattle.wcp_clock.specs.declared.note.Item.{Item}
-use Rattle.wcp_model.specs.Report.{clocks_taken, IsCutByClocks, IsLeastOf, ClocksRise}
+use Rattle.wcp_model.specs.Cut.{IsLeastOf}
+use Rattle.wcp_model.specs.Report.{clocks_taken, IsCutByClocks, ClocksRise}
 use Rattle.wcp_model.specs.Elimination.{GrowTo, IsSatisfyingChoice, AreInOrder}
 use Rattle.wcp_model.proofs.Elimination.{GrowTo-same, get_or-grown, IsSatisfyingChoice-grown, IsEliminatedBelow-grown}
 use Rattle.wcp_model.proofs.Choosing.{choice_from_each}

@@ -6,7 +6,8 @@ use Rattle.std.proofs.lemmas.List.Elements.{All-from_get_or}
 use Rattle.std.proofs.lemmas.List.Sums.{AllPass-from_list_all, list_all-from_AllPass}
 use Rattle.wcp_clock.specs.declared.note.Item.{Item}
 use Rattle.wcp_clock.specs.declared.note.Note.TheVariants.{Close}
-use Rattle.wcp_model.specs.Report.{notes_taken, clocks_taken, IsDrained, IsCutByClocks, IsLeastOf, ClocksRise, AreInTurn}
+use Rattle.wcp_model.specs.Cut.{IsLeastOf}
+use Rattle.wcp_model.specs.Report.{notes_taken, clocks_taken, IsDrained, IsCutByClocks, ClocksRise, AreInTurn}
 use Rattle.wcp_model.proofs.NotesInTurn.{nothing_follows}
 use Rattle.wcp_queue.specs.Elimination.{AreLeft, IsFoundAmong}
 use Rattle.wcp_queue.specs.Checker.{CheckerState, processes, StandsFor, IsSound}

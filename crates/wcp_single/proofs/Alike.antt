@@ -38,11 +38,11 @@ module _ (c d : Computation) (alike : AreAlike c d) where
 
   IsReportOf-along : (n : ℕ) (report : Report) → IsReportOf n c report → IsReportOf n d report
   IsReportOf-along n (Found cut) least = record {
-    satisfying = IsSatisfyingCut-along n cut least.satisfying;
+    one = IsSatisfyingCut-along n cut least.one;
     below = λ other satisfying. least.below other (IsSatisfyingCut-back n other satisfying);
   }
-  IsReportOf-along n Nothing none = λ cut satisfying. none cut (IsSatisfyingCut-back n cut satisfying)
-  IsReportOf-along n Undecided never = never
+  IsReportOf-along n Nothing none = (λ cut satisfying. none.0 cut (IsSatisfyingCut-back n cut satisfying), tt)
+  IsReportOf-along n Undecided never = absurd (never.1 tt)
 
   pub IsOutcomeOf-along : (n : ℕ) (outcome : Outcome) → IsOutcomeOf n c outcome → IsOutcomeOf n d outcome
   IsOutcomeOf-along n outcome is = record {

@@ -12,7 +12,8 @@ use Rattle.wcp_model.specs.declared.step.Reply.TheVariants.{Done, Took, Refused}
 use Rattle.wcp_model.specs.declared.step.Why.{Why}
 use Rattle.wcp_model.specs.declared.step.Why.TheVariants as why
 use Rattle.wcp_model.specs.Occupancy.{Pending, InboxOf, notes_in}
-use Rattle.wcp_model.specs.Replies.{accepted_by, taken_by, reasons, first_of_reasons, IsReply}
+use Rattle.wcp_model.specs.FirstReason.{first_reason}
+use Rattle.wcp_model.specs.Replies.{accepted_by, taken_by, reasons, IsReply}
 use Rattle.wcp_world.specs.Answer.{KeepsIfRefused}
 use Rattle.wcp_world.specs.Application.{ApplicationState, Performs, pending_at}
 use Rattle.wcp_world.specs.Transport.{TransportState, Conveys, Puts, ReadsNext}
@@ -63,7 +64,7 @@ module _ (plan : Plan) (steps : List Step) (taken : List Item) (w : WorldState) 
   pub put_was_not_done : (p : ℕ) (note : Note) (answer : Reply) (new : TransportState) → (answer ≡ Done → ⊥) → pending_at w.application p ≡ Some note → Puts w.transport p note answer new → KeepsIfRefused w.transport answer new →
       IsReply plan steps (step.Put p) answer × Stands plan (steps ++ accepted_by (step.Put p) answer) (taken ++ taken_by answer) (record w { transport = new })
   put_was_not_done p note Done new not_done pending puts keeps = absurd (not_done refl)
-  put_was_not_done p note (Took item) new not_done pending puts keeps = absurd (none_taken (first_of_reasons (reasons plan given steps (step.Put p))) ((puts plan steps stands.put taken stands.transport).0 given some))
+  put_was_not_done p note (Took item) new not_done pending puts keeps = absurd (none_taken (first_reason (reasons plan given steps (step.Put p))) ((puts plan steps stands.put taken stands.transport).0 given some))
     where
       given : ℕ → List Note
       given = emissions plan steps taken w stands

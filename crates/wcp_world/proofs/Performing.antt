@@ -16,7 +16,8 @@ use Rattle.wcp_model.specs.declared.step.Why.{Why}
 use Rattle.wcp_model.specs.Computation.{Computation, is_communication_of, is_send, communications, interval_at}
 use Rattle.wcp_model.specs.Emission.{is_closed}
 use Rattle.wcp_model.specs.ProbeLog.{Call, Observed, Sent, Received, Closed, ProbeState, after_call, is_step_of, IsStampOf, IsCallOf, IsLogOf, IsAccepted}
-use Rattle.wcp_model.specs.Replies.{accepted_by, event_reasons, first_of_reasons}
+use Rattle.wcp_model.specs.FirstReason.{first_reason}
+use Rattle.wcp_model.specs.Replies.{accepted_by, event_reasons}
 use Rattle.wcp_model.specs.StateClock.{IsStateClock}
 use Rattle.wcp_model.proofs.Growth.{get_behind}
 use Rattle.wcp_model.proofs.GrowingLogs.{stamp_grows, log_grows}
@@ -85,20 +86,20 @@ module _ (n : ℕ) (c : Computation) (put : ℕ → List Note) (app : Applicatio
   abbrev reasons : Step → List (Bool × Why)
   reasons s = event_reasons n c (λ q. is_some (pending_at app q)) s
 
-  pub observe_reasons : (holds : Bool) → first_of_reasons (reasons (Observe p holds)) ≡ option_map why_of (observe_refusal core)
+  pub observe_reasons : (holds : Bool) → first_reason (reasons (Observe p holds)) ≡ option_map why_of (observe_refusal core)
   observe_reasons holds = rw (within, closed_is) (first_maps ((core.closed, refusal.Closed) ∷ []))
 
-  pub close_reasons : first_of_reasons (reasons (Close p)) ≡ option_map why_of (close_refusal core)
+  pub close_reasons : first_reason (reasons (Close p)) ≡ option_map why_of (close_refusal core)
   close_reasons = rw (within, closed_is, at) (first_maps ((core.closed, refusal.Closed) ∷ (is_some core.pending, refusal.Backlog) ∷ []))
 
-  pub send_reasons : (to : ℕ) → first_of_reasons (reasons (Send p to)) ≡ option_map why_of (stamp_refusal core to)
+  pub send_reasons : (to : ℕ) → first_reason (reasons (Send p to)) ≡ option_map why_of (stamp_refusal core to)
   send_reasons to =
       rw (within, closed_is, at, clock_end_is, partner_is p to n, ← is.components, ← is.id)
       (first_maps ((nat_le (length core.clock) to || eqb to core.id, refusal.NoSuch) ∷ (core.closed, refusal.Closed)
       ∷ (is_some core.pending, refusal.Backlog) ∷ (at_clock_end core, refusal.ClockEnd) ∷ []))
 
   message_reasons : (number : ℕ) (letter : Letter) → slice_get app.letters number ≡ Some letter → letter.to ≡ p → (o : Option (Stamped (Unit {0}))) → letter.message ≡ o →
-      first_of_reasons (reasons (Recv p number)) ≡ first_of_reasons (delivery_reasons core app.letters p number)
+      first_reason (reasons (Recv p number)) ≡ first_reason (delivery_reasons core app.letters p number)
   message_reasons number letter there mine None gone =
       let received = MatchOption-at_none _ _ gone (stands.letters.each number letter there) in
       rw (within, addressed_is n c app.letters stands.letters number p, there, eq-eqb letter.to p mine, gone, received, closed_is, at) refl
@@ -115,10 +116,10 @@ module _ (n : ℕ) (c : Computation) (put : ℕ → List Note) (app : Applicatio
       (only_clock_end core.closed (is_some core.pending) (at_clock_end core))
 
   -- and those to refuse a message are those of its letter
-  receive_reasons : (number : ℕ) → first_of_reasons (reasons (Recv p number)) ≡ first_of_reasons (delivery_reasons core app.letters p number)
+  receive_reasons : (number : ℕ) → first_reason (reasons (Recv p number)) ≡ first_reason (delivery_reasons core app.letters p number)
   receive_reasons number = go (slice_get app.letters number) refl
     where
-      go : (o : Option Letter) → slice_get app.letters number ≡ o → first_of_reasons (reasons (Recv p number)) ≡ first_of_reasons (delivery_reasons core app.letters p number)
+      go : (o : Option Letter) → slice_get app.letters number ≡ o → first_reason (reasons (Recv p number)) ≡ first_reason (delivery_reasons core app.letters p number)
       go None there = rw (within, addressed_is n c app.letters stands.letters number p, there) refl
       go (Some letter) there = ⊎_elim
           (λ (mine : letter.to ≡ p). message_reasons number letter there mine letter.message refl)
@@ -131,7 +132,7 @@ module _ (n : ℕ) (c : Computation) (put : ℕ → List Note) (app : Applicatio
     Performed s answer letters = IsAnswer (reasons s) answer × IsApplicationOf n (c ++ accepted_by s answer) put (record { probes = set app.probes p new; letters = letters })
 
     -- an event that is refused
-    pub refuses : (s : Step) (why : Why) (letters : List Letter) → new ≡ core → letters ≡ app.letters → first_of_reasons (reasons s) ≡ Some why → Performed s (Refused why) letters
+    pub refuses : (s : Step) (why : Why) (letters : List Letter) → new ≡ core → letters ≡ app.letters → first_reason (reasons s) ≡ Some why → Performed s (Refused why) letters
     refuses s why letters same same_letters first =
         let back : set app.probes p new ≡ app.probes = ap (set app.probes p) (same ∙ sym (get_or_from_slice_get app.probes p core core at)) ∙ set-get_or app.probes p core in
         rw (first, back, same_letters, append-nil c) (refl, stands)
@@ -168,7 +169,7 @@ module _ (n : ℕ) (c : Computation) (put : ℕ → List Note) (app : Applicatio
       }
 
       -- an event that is accepted
-      accepts : (letters : List Letter) → first_of_reasons (reasons s) ≡ None → is_closed c p ≡ false → ((q : ℕ) → is_communication_of q s ≡ true → communications c q < most_events) →
+      accepts : (letters : List Letter) → first_reason (reasons s) ≡ None → is_closed c p ≡ false → ((q : ℕ) → is_communication_of q s ≡ true → communications c q < most_events) →
           ((r message : ℕ) → s ≡ Recv r message → message < count_by is_send c) → IsCallOf n grown s call → Accepts core call new → IsSameProbe core new →
           (after_call p (state n c p (put p) core is) call).notes ≡ put p ++ option_to_list new.pending → (IsAccepted grown → IsProbeOf n grown p (put p) new → AreLettersOf n grown letters) →
           IsAnswer (reasons s) Done × IsApplicationOf n grown put (record { probes = set app.probes p new; letters = letters })
@@ -229,9 +230,9 @@ module _ (n : ℕ) (c : Computation) (put : ℕ → List Note) (app : Applicatio
     pub receives : (number : ℕ) (answer : Reply) (fewer : List Letter) → IsAnswer (delivery_reasons core app.letters p number) answer → (answer ≡ Done → IsDelivered core new app.letters fewer number) →
         KeepsIfRefused core answer new → KeepsIfRefused app.letters answer fewer → Performed (Recv p number) answer fewer
     receives number answer fewer answered delivered kept same_letters =
-        go (first_of_reasons (delivery_reasons core app.letters p number)) (receive_reasons number) answered
+        go (first_reason (delivery_reasons core app.letters p number)) (receive_reasons number) answered
       where
-        go : (o : Option Why) → first_of_reasons (reasons (Recv p number)) ≡ o → MatchOption o (answer ≡ Done) (λ why. answer ≡ Refused why) → Performed (Recv p number) answer fewer
+        go : (o : Option Why) → first_reason (reasons (Recv p number)) ≡ o → MatchOption o (answer ≡ Done) (λ why. answer ≡ Refused why) → Performed (Recv p number) answer fewer
         go (Some why) first is_refused = rw is_refused (refuses (Recv p number) why fewer (kept why is_refused) (same_letters why is_refused) first)
         go None first is_done =
             let d = delivered is_done in

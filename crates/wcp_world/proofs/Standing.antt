@@ -13,7 +13,8 @@ use Rattle.wcp_model.specs.declared.step.Reply.TheVariants.{Done, Took, Refused}
 use Rattle.wcp_model.specs.declared.step.Why.{Why}
 use Rattle.wcp_model.specs.Emission.{AreEmissions}
 use Rattle.wcp_model.specs.Occupancy.{Place, Pending, Link, InboxOf, source, target, is_place, takes_from, puts_into, taken_from, next_place, notes_in, IsEntry}
-use Rattle.wcp_model.specs.Replies.{is_event, computation, accepted_by, taken_by, event_reasons, reasons, first_of_reasons, IsAcceptance, IsReply}
+use Rattle.wcp_model.specs.FirstReason.{first_reason}
+use Rattle.wcp_model.specs.Replies.{is_event, computation, accepted_by, taken_by, event_reasons, reasons, IsAcceptance, IsReply}
 use Rattle.wcp_world.specs.Answer.{IsAnswer}
 use Rattle.wcp_world.specs.Application.{ApplicationState, IsApplicationOf, Performs, WasPut, pending_at}
 use Rattle.wcp_world.specs.Transport.{TransportState, IsTransportOf, IsNext, Conveys, Puts, TakesNext, next_of, notes_along, notes_at}
@@ -95,20 +96,20 @@ module _ (plan : Plan) (steps : List Step) (taken : List Item) (w : WorldState) 
   pub pending_is : (p : ℕ) → nat_lt 0 (notes_in plan emissions steps (Pending p)) ≡ is_some (pending_at w.application p)
   pending_is p = pending_test (pending_at w.application p) _ (pending_count p)
 
-  pub reply_is : (s : Step) (answer : Reply) → MatchOption (first_of_reasons (reasons plan emissions steps s)) (IsAcceptance plan emissions steps s answer) (λ why. answer ≡ Refused why) → IsReply plan steps s answer
+  pub reply_is : (s : Step) (answer : Reply) → MatchOption (first_reason (reasons plan emissions steps s)) (IsAcceptance plan emissions steps s answer) (λ why. answer ≡ Refused why) → IsReply plan steps s answer
   reply_is s answer first = record { emissions = emissions; are = are_emissions; first = first }
 
   -- an event that the application answered
   pub event_answered : (s : Step) (answer : Reply) (new : ApplicationState) → is_event s ≡ true → source s ≡ None →
-      first_of_reasons (reasons plan emissions steps s) ≡ first_of_reasons (event_reasons plan.n (computation steps) (λ p. is_some (pending_at w.application p)) s) →
+      first_reason (reasons plan emissions steps s) ≡ first_reason (event_reasons plan.n (computation steps) (λ p. is_some (pending_at w.application p)) s) →
       (answer ≡ Done → IsAcceptance plan emissions steps s answer) → Performs w.application s answer new →
       IsReply plan steps s answer × Stands plan (steps ++ accepted_by s answer) (taken ++ taken_by answer) (record w { application = new })
   event_answered s answer new event still same accepts performs =
       let told = performs plan.n (computation steps) stands.put stands.application in
-      let first : MatchOption (first_of_reasons (reasons plan emissions steps s)) (answer ≡ Done) (λ why. answer ≡ Refused why) =
+      let first : MatchOption (first_reason (reasons plan emissions steps s)) (answer ≡ Done) (λ why. answer ≡ Refused why) =
       subst (λ o. MatchOption o (answer ≡ Done) (λ why. answer ≡ Refused why)) (sym same) told.0 in (
-        reply_is s answer (accepting (first_of_reasons (reasons plan emissions steps s)) answer _ accepts first),
-        subst (λ items. Stands plan (steps ++ accepted_by s answer) items (record w { application = new })) (sym (ap (λ l. taken ++ l) (no_item (first_of_reasons (reasons plan emissions steps s)) answer first) ∙ append-nil taken)) (record {
+        reply_is s answer (accepting (first_reason (reasons plan emissions steps s)) answer _ accepts first),
+        subst (λ items. Stands plan (steps ++ accepted_by s answer) items (record w { application = new })) (sym (ap (λ l. taken ++ l) (no_item (first_reason (reasons plan emissions steps s)) answer first) ∙ append-nil taken)) (record {
           put = stands.put;
           application = subst (λ c. IsApplicationOf plan.n c stands.put new) (sym (computation_push steps s answer event)) told.1;
           transport = accepted_are s answer (λ l. IsTransportOf plan (steps ++ l) stands.put taken w.transport) (subst (λ l. IsTransportOf plan l stands.put taken w.transport) (sym (append-nil steps)) stands.transport) (idle plan steps stands.put taken w.transport s still stands.transport);
@@ -123,8 +124,8 @@ module _ (plan : Plan) (steps : List Step) (taken : List Item) (w : WorldState) 
   move_answered s answer new quiet accepts conveys =
       let told = conveys plan steps stands.put taken stands.transport in
       let first = told.0 emissions in (
-        reply_is s answer (accepting (first_of_reasons (reasons plan emissions steps s)) answer _ accepts first),
-        subst (λ items. Stands plan (steps ++ accepted_by s answer) items (record w { transport = new })) (sym (ap (λ l. taken ++ l) (no_item (first_of_reasons (reasons plan emissions steps s)) answer first) ∙ append-nil taken)) (record {
+        reply_is s answer (accepting (first_reason (reasons plan emissions steps s)) answer _ accepts first),
+        subst (λ items. Stands plan (steps ++ accepted_by s answer) items (record w { transport = new })) (sym (ap (λ l. taken ++ l) (no_item (first_reason (reasons plan emissions steps s)) answer first) ∙ append-nil taken)) (record {
           put = stands.put;
           application = subst (λ c. IsApplicationOf plan.n c stands.put w.application) (sym (computation_stays steps s answer quiet)) stands.application;
           transport = told.1;
@@ -138,7 +139,7 @@ module _ (plan : Plan) (steps : List Step) (taken : List Item) (w : WorldState) 
   stays = subst (λ all. Stands plan all (taken ++ []) w) (sym (append-nil steps)) (subst (λ items. Stands plan steps items w) (sym (append-nil taken)) stands)
 
   -- a step that is refused for a reason, and changes nothing
-  pub refused_for : (s : Step) (why : Why) → first_of_reasons (reasons plan emissions steps s) ≡ Some why →
+  pub refused_for : (s : Step) (why : Why) → first_reason (reasons plan emissions steps s) ≡ Some why →
       IsReply plan steps s (Refused why) × Stands plan (steps ++ []) (taken ++ []) w
   refused_for s why first = (
     reply_is s (Refused why) (subst (λ o. MatchOption o (IsAcceptance plan emissions steps s (Refused why)) (λ y. Refused why ≡ Refused y)) (sym first) refl),
@@ -166,7 +167,7 @@ module _ (plan : Plan) (steps : List Step) (taken : List Item) (w : WorldState) 
       IsReply plan steps (step.Put p) (Refused why)
   put_was_refused p note why transport pending puts =
       let some : 0 < notes_in plan emissions steps (Pending p) = omega (arith, pending_count p, ap (λ o. length (option_to_list o)) pending) in
-      reply_is (step.Put p) (Refused why) (accepting (first_of_reasons (reasons plan emissions steps (step.Put p))) (Refused why) _ (λ e. cc e) ((puts plan steps stands.put taken stands.transport).0 emissions some))
+      reply_is (step.Put p) (Refused why) (accepting (first_reason (reasons plan emissions steps (step.Put p))) (Refused why) _ (λ e. cc e) ((puts plan steps stands.put taken stands.transport).0 emissions some))
 
   -- what was taken of each process is a front of what it emitted
   pub taken_fronts : AreFrontsOfEmissions plan.n (computation steps) taken

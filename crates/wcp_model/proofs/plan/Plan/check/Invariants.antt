@@ -1,7 +1,7 @@
-use Rattle.std.proofs.Common.{◌<◌}
+use Rattle.std.proofs.Common.{◌≡◌, ℕ, ◌<◌, Some, slice_get}
 use Rattle.wcp_model.specs.declared.plan.PlanFault.{PlanFault}
-use Rattle.wcp_model.specs.PlanFault.{HasFault, rank}
+use Rattle.wcp_model.specs.PlanFault.{HasFault, plan_faults}
 use Rattle.wcp_model.proofs.plan.Plan.check.Given as goal
 
 abbrev pub invariant-loop-fault : goal.invariant-loop-fault
-invariant-loop-fault l = (earlier : PlanFault) → rank earlier < l.fault-index → ¬ HasFault l.self earlier
+invariant-loop-fault l = (k : ℕ) (fault : PlanFault) → k < l.fault-index → slice_get plan_faults k ≡ Some fault → ¬ HasFault l.self fault
