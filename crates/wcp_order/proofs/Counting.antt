@@ -27,12 +27,6 @@ count_by_push_failing f xs x fails =
 abbrev pub IsCounted : ℕ → List Task → List ℕ → Type 0
 IsCounted n order in_transit = (p q : ℕ) → p < n → q < n → count_by (receives p q) order + slice_index in_transit (p * n + q) ≡ count_by (sends p q) order
 
--- channels of different ends have different numbers
-pub channels_differ : (n p q a b : ℕ) → q < n → b < n → ((p ≡ a) → (q ≡ b) → ⊥) → p * n + q ≢ a * n + b
-channels_differ n p q a b q_within b_within differ same =
-    let ends = same_from_place p q a b n q_within b_within same in
-    differ ends.0 ends.1
-
 module _ (n : ℕ) (order : List Task) (in_transit : List ℕ) (channels : length in_transit ≡ n * n) (counted : IsCounted n order in_transit) where
   counted_after_observe : (a : ℕ) (holds : Bool) → IsCounted n (order ++ record { p = a; action = action.Observe holds } ∷ []) in_transit
   counted_after_observe a holds p q p_within q_within =

@@ -5,9 +5,9 @@ use Rattle.wcp_queue.specs.Queue.{Candidates, no_candidates, head, without_head}
 use Rattle.wcp_model.specs.Elimination.{ClockPrecedes}
 use Rattle.wcp_queue.specs.Elimination.{queue_of, IsMeeting, AreConcurrent, AreOld, AreOldBut, AreLeft, uncompared_in}
 use Rattle.wcp_queue.specs.declared.elimination.Meeting.TheVariants.{Apart, Precedes, Follows}
-use Rattle.wcp_queue.proofs.Comparing.{queue_of-set_other, set-queue_of, AreOld-set, no_old_head_after, AreConcurrentBut, AreConcurrentBut-itself, AreConcurrentBut-next, AreConcurrentBut-drop, AreConcurrent-drop}
-use Rattle.wcp_queue.proofs.Left.{AreLeft-drop}
-use Rattle.wcp_queue.proofs.Uncompared.{uncompared-without_head, uncompared_in-le}
+use Rattle.wcp_queue.proofs.ConcurrentHeads.{queue_of-set_other, set-queue_of, AreOld-set, no_old_head_after, AreConcurrentBut, AreConcurrentBut-itself, AreConcurrentBut-next, AreConcurrentBut-drop, AreConcurrent-drop}
+use Rattle.wcp_queue.proofs.LeftQueues.{AreLeft-drop}
+use Rattle.wcp_queue.proofs.UncomparedCandidates.{uncompared-without_head, uncompared_in-le}
 
 -- the head of p, new in the first queues, was compared with the heads of the processes below q
 pub record IsComparing (first : List Candidates) (start p : ℕ) (one : List ℕ) (queues : List Candidates) (made : ℕ) (uncovered : Bool) (q : ℕ) : Type 0 where

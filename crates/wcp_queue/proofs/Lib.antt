@@ -1,9 +1,9 @@
-pub mod Comparing
+pub mod ConcurrentHeads
 pub mod ComparedHead
-pub mod Found
-pub mod Left
+pub mod FoundCuts
+pub mod LeftQueues
 pub mod Reporting
-pub mod Sound
-pub mod Standing
-pub mod Taking
-pub mod Uncompared
+pub mod SoundCheckers
+pub mod StandingForItems
+pub mod NotesTaken
+pub mod UncomparedCandidates

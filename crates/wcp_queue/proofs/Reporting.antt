@@ -10,11 +10,11 @@ use Rattle.wcp_model.specs.Cut.{IsLeastOf}
 use Rattle.wcp_model.specs.Report.{notes_taken, clocks_taken, IsDrained, IsCutByClocks, ClocksRise, AreInTurn}
 use Rattle.wcp_model.proofs.NotesInTurn.{nothing_follows}
 use Rattle.wcp_queue.specs.Elimination.{AreLeft, IsFoundAmong}
-use Rattle.wcp_queue.specs.Checker.{CheckerState, processes, StandsFor, IsSound}
-use Rattle.wcp_queue.proofs.Found.{IsCutByClocks-found, IsLeastOf-found, no_cut_without_heads}
-use Rattle.wcp_queue.proofs.Taking.{close_mark_in, close_mark_taken}
+use Rattle.wcp_queue.specs.Checker.{CheckerState, processes, StandsForItems, IsSoundChecker}
+use Rattle.wcp_queue.proofs.FoundCuts.{IsCutByClocks-found, IsLeastOf-found, no_cut_without_heads}
+use Rattle.wcp_queue.proofs.NotesTaken.{close_mark_in, close_mark_taken}
 
-module _ (checker : CheckerState) (sound : IsSound checker) (items : List Item) (stands : StandsFor checker items) where
+module _ (checker : CheckerState) (sound : IsSoundChecker checker) (items : List Item) (stands : StandsForItems checker items) where
   -- the marks tell whether all is drained
   pub IsDrained-marks : list_all (λ closed. closed) (take (processes checker) checker.closed) ≡ true → IsDrained (processes checker) items
   IsDrained-marks all = λ p p_within.

@@ -1,4 +1,5 @@
-use Rattle.std.specs.Prelude.{◌≡◌, ◌+◌, ◌^◌, ◌<◌, ◌≤◌, ℕ, Bool, true, false, Option, Some, None, MatchOption, List, [], ◌∷◌, ◌++◌, length, take, sum, count_by, All, slice_index, slice_index_or}
+use Rattle.std.specs.Prelude.{◌≡◌, ◌+◌, ◌^◌, ◌<◌, ◌≤◌, ℕ, Bool, true, false, Option, Some, None, MatchOption}
+use Rattle.std.specs.Prelude.{List, [], ◌∷◌, ◌++◌, length, take, sum, count_by, All, slice_index, slice_index_or}
 use Rattle.std.specs.List.{list_any, list_all}
 use Rattle.wcp_clock.specs.Limits.{most_processes}
 use Rattle.wcp_clock.specs.declared.note.Item.{Item}
@@ -10,8 +11,8 @@ use Rattle.wcp_model.specs.Report.{notes_taken, clocks_taken, is_close, place_of
 use Rattle.wcp_queue.specs.Queue.{Candidates}
 use Rattle.wcp_queue.specs.Elimination.{HaveHeads, AreCompared, AreLeft, IsFoundAmong, uncompared_in, most_tests}
 
--- What a checker has come to: the queue of each process, how many snapshots of each it took and whether it took its close
--- mark, the cut that it found, and how many component tests it made.
+-- What a checker has come to: the queue of each process, how many snapshots of each it took and whether it took its
+-- close mark, the cut that it found, and how many component tests it made.
 pub record CheckerState : Type 0 where
   pub queues : List Candidates
   pub taken : List ℕ
@@ -56,7 +57,7 @@ pub record MayTake (checker : CheckerState) (item : Item) : Type 0 where
 -- A checker stands for the list of items that it took, those of each process in turn: it has counted them, and its
 -- queues are what elimination leaves of their snapshots' clocks, until a cut was found among these (Garg and Waldecker
 -- 1994).
-pub record StandsFor (checker : CheckerState) (items : List Item) : Type 0 where
+pub record StandsForItems (checker : CheckerState) (items : List Item) : Type 0 where
   pub taken : (p : ℕ) → p < processes checker → taken_of checker p ≡ length (clocks_taken p items)
   pub snapshots : sum checker.taken ≡ count_by is_snapshot items
   pub closed : (p : ℕ) → p < processes checker → closed_of checker p ≡ list_any is_close (notes_taken p items)
@@ -67,7 +68,7 @@ pub record StandsFor (checker : CheckerState) (items : List Item) : Type 0 where
 
 -- A checker took an item: where it stood for a list, it stands for that list with the item at its end.
 abbrev pub TakesItem : CheckerState → CheckerState → Item → Type 0
-TakesItem old new item = (items : List Item) → StandsFor old items → StandsFor new (items ++ item ∷ [])
+TakesItem old new item = (items : List Item) → StandsForItems old items → StandsForItems new (items ++ item ∷ [])
 
 -- A cut that is found stays the report.
 abbrev pub KeepsFound : CheckerState → CheckerState → Type 0
@@ -76,16 +77,16 @@ KeepsFound old new = (cut : List ℕ) → report_of old ≡ Found cut → report
 abbrev pub HasFound : CheckerState → Type 0
 HasFound checker = (cut : List ℕ) × (report_of checker ≡ Found cut)
 
--- What holds of the report whatever the clocks are: a found cut is one of taken snapshots of which none precedes another
--- by its clock, and otherwise it says whether all is drained.
+-- What holds of the report whatever the clocks are: a found cut is one of taken snapshots of which none precedes
+-- another by its clock, and otherwise it says whether all is drained.
 abbrev pub IsReportOfAnyClocks : ℕ → List Item → Report → Type 0
 IsReportOfAnyClocks n items (Found cut) = IsCutByClocks n items cut
 IsReportOfAnyClocks n items Nothing = IsDrained n items
 IsReportOfAnyClocks n items Undecided = IsDrained n items → ⊥
 
--- What is true of every checker: its heads were compared, a process without one is waited for until a cut is found, and a
--- snapshot costs at most two component tests with each other process (Garg and Waldecker 1994: the comparisons made).
-pub record IsSound (checker : CheckerState) : Type 0 where
+-- What is true of every checker: its heads were compared, a process without one is waited for until a cut is found, and
+-- a snapshot costs at most two component tests with each other process (Garg and Waldecker 1994: the comparisons made).
+pub record IsSoundChecker (checker : CheckerState) : Type 0 where
   pub some : 0 < processes checker
   pub few : processes checker ≤ most_processes
   pub counts : length checker.taken ≡ most_processes
@@ -93,4 +94,5 @@ pub record IsSound (checker : CheckerState) : Type 0 where
   pub few_taken : All (λ count. count ≤ 2 ^ 32) checker.taken
   pub compared : AreCompared checker.queues
   pub waiting : checker.found ≡ None → HaveHeads checker.queues → ⊥
-  pub bound : checker.tests + most_tests (processes checker) (uncompared_in checker.queues) ≤ most_tests (processes checker) (sum checker.taken)
+  pub bound : checker.tests + most_tests (processes checker) (uncompared_in checker.queues)
+      ≤ most_tests (processes checker) (sum checker.taken)

@@ -1,4 +1,5 @@
-use Rattle.std.specs.Prelude.{◌≡◌, ◌≢◌, ℕ, ◌-◌, ◌*◌, ◌<◌, ◌≤◌, true, false, List, [], ◌∷◌, ◌++◌, length, drop, sum_by, slice_index, slice_index_or, if◌then◌else◌}
+use Rattle.std.specs.Prelude.{◌≡◌, ◌≢◌, ℕ, ◌-◌, ◌*◌, ◌<◌, ◌≤◌, true, false, List, [], ◌∷◌, ◌++◌}
+use Rattle.std.specs.Prelude.{length, drop, sum_by, slice_index, slice_index_or, if◌then◌else◌}
 use Rattle.wcp_model.specs.Elimination.{ClockPrecedes, IsSatisfyingChoice, IsEliminatedBelow}
 use Rattle.wcp_queue.specs.Queue.{Candidates, no_candidates, head, without_head}
 use Rattle.wcp_queue.specs.declared.elimination.Meeting.{Meeting}
@@ -17,17 +18,19 @@ pub record HasNewHead (queue : Candidates) : Type 0 where
   pub some : 0 < length queue.clocks
   pub new : queue.head_is_new ≡ true
 
--- How a head of p meets the queue of q: it precedes the head there; or the head there precedes it, and is eliminated; or
--- neither precedes the other.
+-- How a head of p meets the queue of q: it precedes the head there; or the head there precedes it, and is eliminated;
+-- or neither precedes the other.
 abbrev pub IsMeeting : ℕ → List ℕ → ℕ → Candidates → Candidates → Meeting → Type 0
 IsMeeting p one q old new Precedes = (new ≡ old) × (0 < length old.clocks) × ClockPrecedes p one q (head old)
-IsMeeting p one q old new Follows = (new ≡ without_head old) × (0 < length old.clocks) × ClockPrecedes q (head old) p one
-IsMeeting p one q old new Apart =
-    (new ≡ old) × (0 < length old.clocks → (ClockPrecedes p one q (head old) → ⊥) × (ClockPrecedes q (head old) p one → ⊥))
+IsMeeting p one q old new Follows =
+    (new ≡ without_head old) × (0 < length old.clocks) × ClockPrecedes q (head old) p one
+IsMeeting p one q old new Apart = (new ≡ old)
+    × (0 < length old.clocks → (ClockPrecedes p one q (head old) → ⊥) × (ClockPrecedes q (head old) p one → ⊥))
 
 -- No head precedes another of those that were compared.
 pub record AreConcurrent (queues : List Candidates) : Type 0 where
-  pub concurrent : (p q : ℕ) → p < length queues → q < length queues → p ≢ q → HasOldHead (queue_of queues p) → HasOldHead (queue_of queues q) →
+  pub concurrent : (p q : ℕ) → p < length queues → q < length queues → p ≢ q →
+      HasOldHead (queue_of queues p) → HasOldHead (queue_of queues q) →
       ClockPrecedes p (head (queue_of queues p)) q (head (queue_of queues q)) → ⊥
 
 -- How many candidates were not compared yet: all but a head that was.
@@ -60,8 +63,8 @@ pub record IsCutOfHeads (queues : List Candidates) (cut : List ℕ) : Type 0 whe
   pub heads : HaveHeads queues
   pub own : (p : ℕ) → p < length queues → slice_index cut p ≡ slice_index (head (queue_of queues p)) p
 
--- These queues are what elimination leaves of the rows of all candidates taken: a rest of each, where no satisfying choice
--- lies below a head (Garg and Waldecker 1994).
+-- These queues are what elimination leaves of the rows of all candidates taken: a rest of each, where no satisfying
+-- choice lies below a head (Garg and Waldecker 1994).
 pub record AreLeft (n : ℕ) (rows : ℕ → List (List ℕ)) (queues : List Candidates) : Type 0 where
   pub heads : ℕ → ℕ
   pub within : (p : ℕ) → p < n → heads p ≤ length (rows p)
@@ -87,8 +90,10 @@ Eliminates old new = (rows : ℕ → List (List ℕ)) → AreLeft (length old) r
 
 -- The same, once the row of p has gained a candidate.
 abbrev pub AddsCandidate : ℕ → List ℕ → List Candidates → List Candidates → Type 0
-AddsCandidate p clock old new = (rows longer : ℕ → List (List ℕ)) → GainCandidate (length old) p clock rows longer → AreLeft (length old) rows old → AreLeft (length old) longer new
+AddsCandidate p clock old new = (rows longer : ℕ → List (List ℕ)) →
+    GainCandidate (length old) p clock rows longer → AreLeft (length old) rows old → AreLeft (length old) longer new
 
--- The most component tests that so many candidates of n processes cost: each is compared with each other head, by two tests.
+-- The most component tests that so many candidates of n processes cost: each is compared with each other head, by two
+-- tests.
 abbrev pub most_tests : ℕ → ℕ → ℕ
 most_tests n candidates = 2 * (n - 1) * candidates

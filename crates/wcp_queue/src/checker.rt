@@ -1,4 +1,5 @@
-ghost use Rattle.std.specs.Prelude.{◌≡◌, true, false, ℕ, ◌+◌, ◌-◌, ◌*◌, ◌^◌, ◌<◌, ◌≤◌, [], ◌∷◌, ◌++◌, List, length, count_by, IfOk, IfErr, IsOk, OnOk, OnErr};
+ghost use Rattle.std.specs.Prelude.{◌≡◌, true, false, ◌-◌, ◌*◌, ◌^◌, ◌<◌, ◌≤◌, [], List, length, count_by};
+ghost use Rattle.std.specs.Prelude.{IfOk, IfErr, IsOk, OnOk, OnErr};
 ghost use Rattle.std.specs.List.{list_all, list_any};
 ghost use Rattle.wcp_clock.specs.Limits.{most_processes};
 ghost use Rattle.wcp_clock.specs.declared.note.Item.{Item};
@@ -37,14 +38,16 @@ impl Model for Checker {
 }
 
 impl Checker {
-    ghost use Rattle.wcp_queue.specs.Checker.{processes, taken_of, closed_of, report_of, is_snapshot, MayTake, StandsFor, TakesItem, KeepsFound, HasFound, IsReportOfAnyClocks};
+    ghost use Rattle.wcp_queue.specs.Checker.{processes, taken_of, closed_of, report_of, is_snapshot};
+    ghost use Rattle.wcp_queue.specs.Checker.{MayTake, StandsForItems, TakesItem};
+    ghost use Rattle.wcp_queue.specs.Checker.{KeepsFound, HasFound, IsReportOfAnyClocks};
 
     /// A checker of `n` processes that has taken nothing. `Err` where memory runs out.
     pub fn new(alloc: Global, n: u32) -> Result<Checker, AllocError>
         requires some { 0 < n }
         requires few { n ≤ most_processes }
         ensures processes { IfOk result (λ checker. processes checker ≡ n) }
-        ensures empty { IfOk result (λ checker. StandsFor checker []) }
+        ensures empty { IfOk result (λ checker. StandsForItems checker []) }
     {
         let mut queues = Vec::with_capacity(alloc, n as usize)?;
         for _ in 0..n {
@@ -115,9 +118,9 @@ impl Checker {
     /// What the snapshots taken tell.
     pub fn report(&self) -> Report
         ensures value { result ≡ report_of self.now }
-        ensures any_clocks { (items : List Item) → StandsFor self.now items
+        ensures any_clocks { (items : List Item) → StandsForItems self.now items
             → IsReportOfAnyClocks (processes self.now) items result }
-        ensures exact { (items : List Item) → StandsFor self.now items
+        ensures exact { (items : List Item) → StandsForItems self.now items
             → ClocksRise (processes self.now) items → IsReportByClocks (processes self.now) items result }
     {
         if let Some(cut) = self.found {
@@ -134,7 +137,7 @@ impl Checker {
     /// How many component tests were made: comparisons of a component of a head with that of another.
     pub fn tests(&self) -> u64
         ensures value { result ≡ self.now.tests }
-        ensures bound { (items : List Item) → StandsFor self.now items
+        ensures bound { (items : List Item) → StandsForItems self.now items
             → result ≤ 2 * (processes self.now - 1) * count_by is_snapshot items }
     {
         self.tests
@@ -144,7 +147,8 @@ impl Checker {
     pub fn taken(&self, p: u32) -> u64
         requires { p < processes self.now }
         ensures value { result ≡ taken_of self.now p }
-        ensures snapshots { (items : List Item) → StandsFor self.now items → result ≡ length (clocks_taken p items) }
+        ensures snapshots { (items : List Item) → StandsForItems self.now items
+            → result ≡ length (clocks_taken p items) }
     {
         self.taken[p as usize]
     }
@@ -153,7 +157,7 @@ impl Checker {
     pub fn closed(&self, p: u32) -> bool
         requires { p < processes self.now }
         ensures value { result ≡ closed_of self.now p }
-        ensures mark { (items : List Item) → StandsFor self.now items
+        ensures mark { (items : List Item) → StandsForItems self.now items
             → result ≡ list_any is_close (notes_taken p items) }
     {
         self.closed[p as usize]

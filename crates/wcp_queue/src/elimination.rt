@@ -1,6 +1,9 @@
-ghost use Rattle.std.specs.Prelude.{◌≡◌, ◌↔◌, ℕ, ◌+◌, ◌-◌, ◌*◌, ◌^◌, ◌<◌, ◌≤◌, false, List, length, IsTrue, IfNone, IfSome, IfOk, OnOk, OnErr, MatchOption, slice_index};
+ghost use Rattle.std.specs.Prelude.{◌≡◌, ◌↔◌, ℕ, ◌+◌, ◌^◌, ◌<◌, ◌≤◌, false, length, slice_index, IsTrue};
+ghost use Rattle.std.specs.Prelude.{IfNone, IfSome, IfOk, OnOk, OnErr, MatchOption};
 ghost use Rattle.wcp_clock.specs.Limits.{most_processes};
-ghost use Rattle.wcp_queue.specs.Elimination.{queue_of, HasNewHead, HaveHeads, IsCutOfHeads, IsMeeting, AreConcurrent, AreOld, AreOldBut, AreCompared, uncompared_in, most_tests, Eliminates, AddsCandidate};
+ghost use Rattle.wcp_queue.specs.Elimination.{queue_of, uncompared_in, most_tests, HasNewHead, HaveHeads, IsCutOfHeads};
+ghost use Rattle.wcp_queue.specs.Elimination.{IsMeeting, AreConcurrent, AreOld, AreOldBut, AreCompared};
+ghost use Rattle.wcp_queue.specs.Elimination.{Eliminates, AddsCandidate};
 
 use crate::queue::Queue;
 use std::alloc::AllocError;

@@ -1,10 +1,10 @@
-mod Alike
-mod Orders
+mod AlikeOutcomes
+mod FitOrders
 mod AcceptedOrder
-mod Running
-mod Runs
-mod Performing
+mod RunningProcesses
+mod NextTask
+mod RunAfterTask
 mod SealQueues
 mod PerformedTasks
-mod Starting
-mod Ending
+mod StartedRun
+mod EndedRun

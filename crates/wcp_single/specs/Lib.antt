@@ -1,2 +1,2 @@
-pub mod Process
-pub mod Probing
+pub mod WatchedProcess
+pub mod WorkloadRun

@@ -1,10 +1,10 @@
 //! The outcome of a workload, from what a checker takes of the probes of its processes.
 ghost use Rattle.std.specs.Prelude.{◌<◌, ◌≤◌, length, All, IfOk};
-ghost use Rattle.wcp_clock.specs.Limits.{most_events};
+ghost use Rattle.wcp_clock.specs.Limits.{most_events, most_processes};
 ghost use Rattle.wcp_model.specs.Outcome.{IsOutcomeOf, IsWorkloadOutcome};
 ghost use Rattle.wcp_model.specs.WorkloadComputation.{CouldBeRead, IsFitOrder, IsWithin, computation_of};
 
-use crate::probing::Run;
+use crate::workload_run::WorkloadRun;
 use std::alloc::{AllocError, Global};
 use wcp_model::{Outcome, Task, Workload, fit_order_law};
 use wcp_order::{FitOrder, fit_order};
@@ -12,13 +12,13 @@ use wcp_order::{FitOrder, fit_order};
 /// The outcome of a fit order of n processes.
 fn outcome(alloc: Global, n: u32, order: &[Task]) -> Result<Outcome, AllocError>
     requires some { 1 ≤ n }
-    requires few { n ≤ 16 }
+    requires few { n ≤ most_processes }
     requires few_tasks { length order.now < most_events }
     requires within { All (IsWithin n) order.now }
     requires fit { IsFitOrder order.now order.now }
     ensures { IfOk result (IsOutcomeOf n (computation_of n order.now)) }
 {
-    let mut run = Run::new(alloc, n)?;
+    let mut run = WorkloadRun::new(alloc, n)?;
     for task in order {
         run.perform(n, *task)?;
     }

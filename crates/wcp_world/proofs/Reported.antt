@@ -16,7 +16,7 @@ use Rattle.wcp_model.proofs.NotesInTurn.{nothing_follows}
 use Rattle.wcp_model.proofs.RisingClocks.{clocks_rise}
 use Rattle.wcp_model.proofs.TakenFronts.{report_of_taken, found_is_least, report_when_drained}
 use Rattle.wcp_queue.specs.Checker.{processes}
-use Rattle.wcp_queue.specs.Checker.{StandsFor as CheckerStandsFor}
+use Rattle.wcp_queue.specs.Checker.{StandsForItems}
 use Rattle.wcp_clock.specs.declared.note.Item.{Item}
 use Rattle.wcp_world.specs.World.{WorldState, IsWorldOf}
 
@@ -40,7 +40,7 @@ headline_holds plan history w report is by_clocks =
 
 -- and the checker's report is exact, since its clocks rise
 pub report_holds : (plan : Plan) (history : List Answered) (w : WorldState) (report : Report) → IsWorldOf plan history w →
-    ((items : List Item) → CheckerStandsFor w.checker items → ClocksRise (processes w.checker) items → IsReportByClocks (processes w.checker) items report) → IsHeadline plan history report
+    ((items : List Item) → StandsForItems w.checker items → ClocksRise (processes w.checker) items → IsReportByClocks (processes w.checker) items report) → IsHeadline plan history report
 report_holds plan history w report is exact =
     let items = items_taken history in
     headline_holds plan history w report is (subst (λ n. IsReportByClocks n items report) is.stands.processes_are

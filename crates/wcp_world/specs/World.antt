@@ -8,7 +8,7 @@ use Rattle.wcp_model.specs.declared.step.Reply.{Reply}
 use Rattle.wcp_model.specs.Replies.{Answered, accepted_by, taken_by, accepted, items_taken, computation, IsReply, AreReplies}
 use Rattle.wcp_model.specs.Report.{AreFrontsOfEmissions}
 use Rattle.wcp_queue.specs.Checker.{CheckerState, processes}
-use Rattle.wcp_queue.specs.Checker.{StandsFor as CheckerStandsFor}
+use Rattle.wcp_queue.specs.Checker.{StandsForItems}
 use Rattle.wcp_world.specs.Application.{ApplicationState, IsApplicationOf}
 use Rattle.wcp_world.specs.Transport.{TransportState, IsTransportOf}
 
@@ -25,7 +25,7 @@ pub record Stands (plan : Plan) (steps : List Step) (taken : List Item) (w : Wor
   pub application : IsApplicationOf plan.n (computation steps) put w.application
   pub transport : IsTransportOf plan steps put taken w.transport
   pub processes_are : processes w.checker ≡ plan.n
-  pub checker : CheckerStandsFor w.checker taken
+  pub checker : StandsForItems w.checker taken
 
 abbrev pub IsReached : WorldState → Type 0
 IsReached w = (plan : Plan) × (steps : List Step) × (taken : List Item) × Stands plan steps taken w

@@ -1,9 +1,9 @@
-use Rattle.wcp_queue.proofs.Left.{AreLeft-gain, HaveHeads-gain}
+use Rattle.wcp_queue.proofs.LeftQueues.{AreLeft-gain, HaveHeads-gain}
 use Rattle.std.proofs.Common.{◌+◌, length, arith, refl, sym, ◌∙◌, ap}
 use Rattle.std.proofs.lemmas.List.{length-set, get_or-set_same}
 use Rattle.wcp_queue.specs.Queue.{Candidates}
 use Rattle.wcp_queue.specs.Elimination.{uncompared_in}
-use Rattle.wcp_queue.proofs.Uncompared.{uncompared_in-gain, most_tests-fewer}
+use Rattle.wcp_queue.proofs.UncomparedCandidates.{uncompared_in-gain, most_tests-fewer}
 use Rattle.wcp_queue.proofs.elimination.add_candidate.Goals as goal
 use Rattle.wcp_queue.proofs.elimination.add_candidate.Goals.{then-compare_head, else-compare_head}
 

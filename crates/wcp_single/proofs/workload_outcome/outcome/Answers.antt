@@ -1,7 +1,7 @@
 use Rattle.std.proofs.Common.{◌≡◌, length, subst, arith}
-use Rattle.wcp_single.specs.Probing.{IsEnding, queues_of}
-use Rattle.wcp_single.proofs.Starting.{next_at}
-use Rattle.wcp_single.proofs.Ending.{begins_to_end}
+use Rattle.wcp_single.specs.WorkloadRun.{IsEnding, queues_of}
+use Rattle.wcp_single.proofs.StartedRun.{next_at}
+use Rattle.wcp_single.proofs.EndedRun.{begins_to_end}
 use Rattle.wcp_single.proofs.workload_outcome.outcome.Goals as goal
 
 pub perform-requires-clause-next : goal.perform-requires-clause-next

@@ -1,14 +1,14 @@
 use Rattle.std.proofs.Common.{◌++◌, ◌∷◌, [], slice_set, true, sym, ap, ◌∙◌, refl, subst, arith}
 use Rattle.wcp_model.specs.Report.{place_of}
-use Rattle.wcp_queue.specs.Checker.{StandsFor}
+use Rattle.wcp_queue.specs.Checker.{StandsForItems}
 use Rattle.wcp_queue.specs.CheckerView.{state_of}
-use Rattle.wcp_queue.proofs.Standing.{StandsFor-close}
+use Rattle.wcp_queue.proofs.StandingForItems.{StandsForItems-close}
 use Rattle.wcp_queue.proofs.checker.Checker.take.Goals as goal
 
 pub returns-in-Close-clause-taken : goal.returns-in-Close-clause-taken
 returns-in-Close-clause-taken c =
     let may = rw (← c.self.view_is) at c.requires in
     rw (← c.self.view_is)
-    (λ items stands. subst (λ note. StandsFor (state_of (record c.self.inside { closed = slice_set c.self.inside.closed c.args.item.from true })) (items ++ record { from = c.args.item.from; note = note } ∷ [])) (sym c.in-Close.is)
-    (StandsFor-close (state_of c.self.inside) (state_of (record c.self.inside { closed = slice_set c.self.inside.closed c.args.item.from true })) items c.args.item.from c.in-Close.count stands (record { from = may.from; place = sym (ap place_of c.in-Close.is) ∙ may.place; still_open = may.still_open })
+    (λ items stands. subst (λ note. StandsForItems (state_of (record c.self.inside { closed = slice_set c.self.inside.closed c.args.item.from true })) (items ++ record { from = c.args.item.from; note = note } ∷ [])) (sym c.in-Close.is)
+    (StandsForItems-close (state_of c.self.inside) (state_of (record c.self.inside { closed = slice_set c.self.inside.closed c.args.item.from true })) items c.args.item.from c.in-Close.count stands (record { from = may.from; place = sym (ap place_of c.in-Close.is) ∙ may.place; still_open = may.still_open })
     (omega (arith, may.from, c.self.invariant.few, c.self.invariant.marks)) refl refl refl refl))

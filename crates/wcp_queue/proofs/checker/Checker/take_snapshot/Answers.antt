@@ -2,8 +2,8 @@ use Rattle.std.proofs.Common.{◌+◌, length, set, slice_index, refl, ap, arith
 use Rattle.std.proofs.lemmas.List.{with_items_is}
 use Rattle.std.proofs.lemmas.Option.{MatchOption-at_none}
 use Rattle.wcp_queue.specs.CheckerView.{state_of}
-use Rattle.wcp_queue.proofs.Sound.{room_for_tests, IsSound-snapshot}
-use Rattle.wcp_queue.proofs.Standing.{StandsFor-snapshot, StandsFor-found}
+use Rattle.wcp_queue.proofs.SoundCheckers.{room_for_tests, IsSoundChecker-snapshot}
+use Rattle.wcp_queue.proofs.StandingForItems.{StandsForItems-snapshot, StandsForItems-found}
 use Rattle.wcp_queue.proofs.checker.Checker.take_snapshot.Goals as goal
 use Rattle.wcp_queue.proofs.checker.Checker.take_snapshot.Goals.{then-is_none+in_ok-self-inside, else-is_none}
 
@@ -20,13 +20,13 @@ invariant_of-self-2 c =
           let items = with_items_is c.self.inside.queues w.add_candidate.new.queues (omega arith) in
           let added = w.in_ok-self-inside.ensures in
           rw (w.self-inside-is, items)
-          (IsSound-snapshot (state_of c.self.inside) c.self.invariant
+          (IsSoundChecker-snapshot (state_of c.self.inside) c.self.invariant
           (record { queues = w.add_candidate.new.queues; taken = set c.self.inside.taken c.args.p (slice_index c.self.inside.taken c.args.p + 1); closed = c.self.inside.closed; found = w.in_ok-self-inside.field-0; tests = w.add_candidate.new.tests })
           c.args.p (omega (arith, within, c.self.invariant.few, c.self.invariant.counts)) few refl refl (omega (arith, ap length shown))
           added.compared (λ none. MatchOption-at_none _ _ none added.cut) (rw shown at added.tests))
       | else-is_none w ↦
           rw w.self-inside-is
-          (IsSound-snapshot (state_of c.self.inside) c.self.invariant
+          (IsSoundChecker-snapshot (state_of c.self.inside) c.self.invariant
           (record { queues = c.self.inside.queues.items; taken = set c.self.inside.taken c.args.p (slice_index c.self.inside.taken c.args.p + 1); closed = c.self.inside.closed; found = c.self.inside.found; tests = c.self.inside.tests })
           c.args.p (omega (arith, within, c.self.invariant.few, c.self.invariant.counts)) few refl refl refl
           c.self.invariant.compared c.self.invariant.waiting (omega arith))
@@ -42,13 +42,13 @@ returns-clause-taken c =
           let items = with_items_is c.self.inside.queues w.add_candidate.new.queues (omega arith) in
           let added = w.in_ok-self-inside.ensures in
           rw (w.self-inside-is, items, ← c.self.view_is)
-          (λ list stands. StandsFor-snapshot (state_of c.self.inside)
+          (λ list stands. StandsForItems-snapshot (state_of c.self.inside)
           (record { queues = w.add_candidate.new.queues; taken = set c.self.inside.taken c.args.p (slice_index c.self.inside.taken c.args.p + 1); closed = c.self.inside.closed; found = w.in_ok-self-inside.field-0; tests = w.add_candidate.new.tests })
           list c.args.p c.args.clock stands within still_open (omega (arith, within, c.self.invariant.few, c.self.invariant.counts)) refl refl (omega (arith, ap length shown))
           w.if-is_none.ensures added.compared (rw shown at added.left) added.cut)
       | else-is_none w ↦
           rw (w.self-inside-is, ← c.self.view_is)
-          (λ list stands. StandsFor-found (state_of c.self.inside)
+          (λ list stands. StandsForItems-found (state_of c.self.inside)
           (record { queues = c.self.inside.queues.items; taken = set c.self.inside.taken c.args.p (slice_index c.self.inside.taken c.args.p + 1); closed = c.self.inside.closed; found = c.self.inside.found; tests = c.self.inside.tests })
           list c.args.p c.args.clock stands within still_open (omega (arith, within, c.self.invariant.few, c.self.invariant.counts)) refl refl refl w.if-is_none.ensures refl)
     ]

@@ -1,0 +1,104 @@
+use Rattle.std.proofs.Common.{◌≡◌, ◌≢◌, ℕ, ◌<◌, ◌≤◌, List, [], ◌∷◌, ◌++◌, length, get_or, slice_index, sym, ◌∙◌, ap, ⊎_elim, arith}
+use Rattle.std.proofs.lemmas.Bool.{cases_eq}
+use Rattle.std.proofs.lemmas.List.{append-nil, length-drop, get_or_default}
+use Rattle.std.proofs.lemmas.List.Elements.{Contains-get_or}
+use Rattle.wcp_clock.specs.declared.note.Item.{Item}
+use Rattle.wcp_model.specs.Cut.{IsLeastOf}
+use Rattle.wcp_model.specs.Report.{clocks_taken, IsCutByClocks, ClocksRise}
+use Rattle.wcp_model.specs.Elimination.{GrowTo, IsSatisfyingChoice, AreInOrder}
+use Rattle.wcp_model.proofs.Elimination.{GrowTo-same, get_or-grown, IsSatisfyingChoice-grown, IsEliminatedBelow-grown}
+use Rattle.wcp_model.proofs.Choosing.{choice_from_each}
+use Rattle.wcp_queue.specs.Queue.{Candidates}
+use Rattle.wcp_queue.specs.Elimination.{queue_of, HasOldHead, AreCompared, HaveHeads, IsCutOfHeads, AreLeft, IsFoundAmong, GainCandidate}
+use Rattle.wcp_queue.proofs.LeftQueues.{head_within, head_at}
+
+-- where each queue has a head, and all were compared, their cut is found
+pub IsFoundAmong-heads : (n : ℕ) (rows : ℕ → List (List ℕ)) (queues : List Candidates) (cut : List ℕ) → length queues ≡ n → AreLeft n rows queues → AreCompared queues → IsCutOfHeads queues cut → IsFoundAmong n rows cut
+IsFoundAmong-heads n rows queues cut members left compared is = record {
+  members = is.members ∙ members;
+  choice = left.heads;
+  satisfying = record {
+    within = λ p p_within. head_within n rows queues left p p_within (is.heads p (omega arith));
+    concurrent = λ p q p_within q_within apart order. compared.concurrent.concurrent p q (omega arith) (omega arith) apart (old p p_within) (old q q_within)
+        (rw (← head_at n rows queues left p p_within, ← head_at n rows queues left q q_within) order);
+  };
+  eliminated = left.eliminated;
+  own = λ p p_within. is.own p (omega arith) ∙ ap (λ (clock : List ℕ). slice_index clock p) (sym (head_at n rows queues left p p_within));
+}
+  where
+    old : (p : ℕ) → p < n → HasOldHead (queue_of queues p)
+    old p p_within = record { some = is.heads p (omega arith); old = compared.old p (omega arith) }
+
+-- a cut that was found stays so as more is taken
+pub IsFoundAmong-grown : (n : ℕ) (rows longer : ℕ → List (List ℕ)) (cut : List ℕ) → GrowTo n rows longer → IsFoundAmong n rows cut → IsFoundAmong n longer cut
+IsFoundAmong-grown n rows longer cut grow found = record {
+  members = found.members;
+  choice = found.choice;
+  satisfying = IsSatisfyingChoice-grown n rows longer found.choice grow found.satisfying;
+  eliminated = IsEliminatedBelow-grown n rows longer found.choice grow found.eliminated;
+  own = λ p p_within. found.own p p_within ∙ ap (λ (clock : List ℕ). slice_index clock p) (sym (get_or-grown n rows longer grow p (found.choice p) p_within (found.satisfying.within p p_within)));
+}
+
+pub IsFoundAmong-gain : (n p : ℕ) (rows longer : ℕ → List (List ℕ)) (clock cut : List ℕ) → GainCandidate n p clock rows longer → IsFoundAmong n rows cut → IsFoundAmong n longer cut
+IsFoundAmong-gain n p rows longer clock cut gain = IsFoundAmong-grown n rows longer cut grow
+  where
+    grow : GrowTo n rows longer
+    grow q q_within = ⊎_elim
+        (λ (same : q ≡ p). (clock ∷ [], ap longer same ∙ gain.gained ∙ ap (λ r. rows r ++ clock ∷ []) (sym same)))
+        (λ (other : q ≢ p). ([], gain.others q q_within other ∙ sym (append-nil (rows q))))
+        (cases_eq q p)
+
+pub IsFoundAmong-same : (n : ℕ) (rows others : ℕ → List (List ℕ)) (cut : List ℕ) → ((p : ℕ) → p < n → others p ≡ rows p) → IsFoundAmong n rows cut → IsFoundAmong n others cut
+IsFoundAmong-same n rows others cut same = IsFoundAmong-grown n rows others cut (λ p p_within. ([], same p p_within ∙ sym (append-nil (rows p))))
+
+module _ (n : ℕ) (items : List Item) where
+  -- a cut that was found is one of taken snapshots, of which none precedes another
+  pub IsCutByClocks-found : (cut : List ℕ) → IsFoundAmong n (λ p. clocks_taken p items) cut → IsCutByClocks n items cut
+  IsCutByClocks-found cut found = record {
+    members = found.members;
+    clock = λ p. get_or (clocks_taken p items) (found.choice p) [];
+    taken = λ p p_within. Contains-get_or (clocks_taken p items) (found.choice p) [] (found.satisfying.within p p_within);
+    own = λ p p_within. sym (found.own p p_within);
+    concurrent = found.satisfying.concurrent;
+  }
+
+  -- clocks that never fall keep the order of candidates
+  rows_in_order : ClocksRise n items → AreInOrder n (λ p. clocks_taken p items)
+  rows_in_order order = record {
+    later = λ p q i j k p_within q_within apart i_within up k_within before. omega (arith, before, (order q q_within).never_fall j k p up k_within);
+  }
+
+  -- the choice of a cut by clocks: the place of each of its snapshots
+  choice_of_cut : (cut : List ℕ) (is : IsCutByClocks n items cut) → (choice : ℕ → ℕ) × ((p : ℕ) → p < n → (choice p < length (clocks_taken p items)) × (get_or (clocks_taken p items) (choice p) [] ≡ is.clock p))
+  choice_of_cut cut is = choice_from_each 0 (λ p i. (i < length (clocks_taken p items)) × (get_or (clocks_taken p items) i [] ≡ is.clock p)) n
+      (λ p p_within. let (i, within, here) = is.taken p p_within in (i, (within, get_or_default (clocks_taken p items) i [] (is.clock p) within ∙ here)))
+
+  is_satisfying : (cut : List ℕ) (is : IsCutByClocks n items cut) (choice : ℕ → ℕ) → ((p : ℕ) → p < n → (choice p < length (clocks_taken p items)) × (get_or (clocks_taken p items) (choice p) [] ≡ is.clock p)) →
+      IsSatisfyingChoice n (λ p. clocks_taken p items) choice
+  is_satisfying cut is choice places = record {
+    within = λ p p_within. (places p p_within).0;
+    concurrent = λ p q p_within q_within apart before. is.concurrent p q p_within q_within apart (rw (← (places p p_within).1, ← (places q q_within).1) before);
+  }
+
+  -- it is the least of these, where each process's items were taken in order
+  pub IsLeastOf-found : (cut : List ℕ) → ClocksRise n items → IsFoundAmong n (λ p. clocks_taken p items) cut → IsLeastOf n (IsCutByClocks n items) cut
+  IsLeastOf-found cut order found = record {
+    one = IsCutByClocks-found cut found;
+    below = below;
+  }
+    where
+      below : (other : List ℕ) → IsCutByClocks n items other → (p : ℕ) → p < n → slice_index cut p ≤ slice_index other p
+      below other is p p_within =
+          let (choice, places) = choice_of_cut other is in
+          let up : found.choice p ≤ choice p = found.eliminated.at_or_above (λ q. clocks_taken q items) (GrowTo-same n (λ q. clocks_taken q items)) (rows_in_order order) choice (is_satisfying other is choice places) p p_within in
+          let here = (places p p_within).1 in
+          omega (arith, found.own p p_within, (order p p_within).never_fall (found.choice p) (choice p) p up (places p p_within).0, ap (λ (clock : List ℕ). slice_index clock p) here, is.own p p_within)
+
+  -- while a queue has no head there is none
+  pub no_cut_without_heads : (queues : List Candidates) (cut : List ℕ) → length queues ≡ n → ClocksRise n items → AreLeft n (λ p. clocks_taken p items) queues → (HaveHeads queues → ⊥) → IsCutByClocks n items cut → ⊥
+  no_cut_without_heads queues cut members order left waiting is =
+      let (choice, places) = choice_of_cut cut is in
+      let satisfying = is_satisfying cut is choice places in
+      waiting (λ p p_within.
+      let at_or_above : left.heads p ≤ choice p = left.eliminated.at_or_above (λ q. clocks_taken q items) (GrowTo-same n (λ q. clocks_taken q items)) (rows_in_order order) choice satisfying p (omega arith) in
+      omega (arith, (places p (omega arith)).0, ap length (left.rest p (omega arith)), length-drop (left.heads p) (clocks_taken p items)))

@@ -1,0 +1,131 @@
+use Rattle.std.proofs.Common.{◌≡◌, ◌≢◌, ℕ, ◌+◌, ◌<◌, ◌≤◌, Bool, true, false, Option, Some, None, MatchOption, is_some, List, [], ◌∷◌, ◌++◌, length, get_or, set, replicate, sum, count_by, cond, slice_index, refl, sym, ◌∙◌, ap, subst, ⊎_elim, arith}
+use Rattle.std.specs.List.{list_any}
+use Rattle.std.proofs.lemmas.Bool.{cases_eq, true≢false, false≢true}
+use Rattle.std.proofs.lemmas.List.{length-append, get_or-set_same, get_or-set_other, get_or-replicate, length-replicate}
+use Rattle.std.proofs.lemmas.List.Sums.{sum_by-set, sum_by_push}
+use Rattle.wcp_clock.specs.declared.note.Item.{Item}
+use Rattle.wcp_clock.specs.declared.note.Note.TheVariants.{Snap, Close}
+use Rattle.wcp_model.specs.Report.{notes_taken, clocks_taken, is_close, AreInTurn}
+use Rattle.wcp_model.proofs.NotesInTurn.{AreInTurn-none}
+use Rattle.wcp_queue.specs.Queue.{no_candidates}
+use Rattle.wcp_queue.specs.Elimination.{AreCompared, HaveHeads, IsCutOfHeads, AreLeft, IsFoundAmong, GainCandidate}
+use Rattle.wcp_queue.specs.Checker.{CheckerState, processes, taken_of, closed_of, is_snapshot, MayTake, StandsForItems}
+use Rattle.wcp_queue.proofs.FoundCuts.{IsFoundAmong-heads, IsFoundAmong-gain, IsFoundAmong-same}
+use Rattle.wcp_queue.proofs.LeftQueues.{AreLeft-start, AreLeft-rows}
+use Rattle.wcp_queue.proofs.NotesTaken.{in_turn-push, next_where_MayTake, GainCandidate-snapshot, clocks_taken-push_close, close_taken-push_snapshot, close_taken-push_close, close_taken-push_other}
+
+-- a snapshot more of process p is counted
+pub taken_of-set_same : (taken : List ℕ) (p : ℕ) → p < length taken → slice_index (set taken p (slice_index taken p + 1)) p ≡ slice_index taken p + 1
+taken_of-set_same taken p within = get_or-set_same taken p (slice_index taken p + 1) 0 within
+
+pub sum-set : (taken : List ℕ) (p : ℕ) → p < length taken → sum (set taken p (slice_index taken p + 1)) ≡ sum taken + 1
+sum-set taken p within = omega (arith, sum_by-set (λ x. x) taken p (slice_index taken p + 1) 0 within)
+
+none_found : (found : Option (List ℕ)) → is_some found ≡ false → found ≡ None
+none_found None none = refl
+none_found (Some cut) none = absurd (true≢false none)
+
+module _ (old new : CheckerState) (items : List Item) (p : ℕ) (clock : List ℕ) (stands : StandsForItems old items) (p_within : p < processes old) (still_open : closed_of old p ≡ false)
+    (within : p < length old.taken) (taken : new.taken ≡ set old.taken p (taken_of old p + 1)) (closed : new.closed ≡ old.closed) (members : length new.queues ≡ length old.queues) where
+  abbrev longer : List Item
+  longer = items ++ record { from = p; note = Snap (taken_of old p) clock } ∷ []
+
+  gain : GainCandidate (length old.queues) p clock (λ q. clocks_taken q items) (λ q. clocks_taken q longer)
+  gain = GainCandidate-snapshot (length old.queues) items p (taken_of old p) clock
+
+  -- the counts after a snapshot
+  taken-snapshot : (q : ℕ) → q < processes new → taken_of new q ≡ length (clocks_taken q longer)
+  taken-snapshot q q_within = ⊎_elim
+      (λ (same : q ≡ p). subst (λ r. taken_of new r ≡ length (clocks_taken r longer)) (sym same)
+      (ap (λ (counts : List ℕ). slice_index counts p) taken ∙ taken_of-set_same old.taken p within
+      ∙ omega (arith, ap length gain.gained, length-append (clocks_taken p items) (clock ∷ []), stands.taken p (subst (λ r. r < length old.queues) same (omega arith)))))
+      (λ (other : q ≢ p). ap (λ (counts : List ℕ). slice_index counts q) taken ∙ get_or-set_other old.taken p q (taken_of old p + 1) 0 other
+      ∙ stands.taken q (omega arith) ∙ ap length (sym (gain.others q (omega arith) other)))
+      (cases_eq q p)
+
+  snapshots-snapshot : sum new.taken ≡ count_by is_snapshot longer
+  snapshots-snapshot = ap sum taken ∙ omega (arith, sum-set old.taken p within, stands.snapshots, sum_by_push (λ item. cond (is_snapshot item) 1 0) items (record { from = p; note = Snap (taken_of old p) clock }))
+
+  closed-snapshot : (q : ℕ) → q < processes new → get_or new.closed q false ≡ list_any is_close (notes_taken q longer)
+  closed-snapshot q q_within = ap (λ (marks : List Bool). get_or marks q false) closed ∙ stands.closed q (omega arith) ∙ sym (close_taken-push_snapshot items p (taken_of old p) q clock)
+
+  in_turn-snapshot : (q : ℕ) → q < processes new → AreInTurn (notes_taken q longer)
+  in_turn-snapshot q q_within =
+      let item : Item = record { from = p; note = Snap (taken_of old p) clock } in
+      in_turn-push items item q (next_where_MayTake old items item stands (record { from = p_within; place = refl; still_open = still_open })) (stands.in_turn q (omega arith))
+
+  -- a checker without a cut adds it to its candidates
+  pub StandsForItems-snapshot : is_some old.found ≡ false → AreCompared new.queues →
+      ((rows more : ℕ → List (List ℕ)) → GainCandidate (length old.queues) p clock rows more → AreLeft (length old.queues) rows old.queues → AreLeft (length old.queues) more new.queues) →
+      MatchOption new.found (HaveHeads new.queues → ⊥) (IsCutOfHeads new.queues) → StandsForItems new longer
+  StandsForItems-snapshot none compared left cut = record {
+    taken = taken-snapshot;
+    snapshots = snapshots-snapshot;
+    closed = closed-snapshot;
+    in_turn = in_turn-snapshot;
+    candidates = candidates new.found cut;
+  }
+    where
+      now_left : AreLeft (processes new) (λ q. clocks_taken q longer) new.queues
+      now_left = subst (λ n. AreLeft n (λ q. clocks_taken q longer) new.queues) (sym members)
+          (left (λ q. clocks_taken q items) (λ q. clocks_taken q longer) gain
+          (subst (λ found. MatchOption found (AreLeft (processes old) (λ q. clocks_taken q items) old.queues) (IsFoundAmong (processes old) (λ q. clocks_taken q items))) (none_found old.found none) stands.candidates))
+
+      candidates : (found : Option (List ℕ)) → MatchOption found (HaveHeads new.queues → ⊥) (IsCutOfHeads new.queues) →
+          MatchOption found (AreLeft (processes new) (λ q. clocks_taken q longer) new.queues) (IsFoundAmong (processes new) (λ q. clocks_taken q longer))
+      candidates None waiting = now_left
+      candidates (Some cut) is = IsFoundAmong-heads (processes new) (λ q. clocks_taken q longer) new.queues cut refl now_left compared is
+
+  -- a checker with a cut keeps it
+  pub StandsForItems-found : is_some old.found ≡ true → new.found ≡ old.found → StandsForItems new longer
+  StandsForItems-found some still = record {
+    taken = taken-snapshot;
+    snapshots = snapshots-snapshot;
+    closed = closed-snapshot;
+    in_turn = in_turn-snapshot;
+    candidates = subst (λ found. MatchOption found (AreLeft (processes new) (λ q. clocks_taken q longer) new.queues) (IsFoundAmong (processes new) (λ q. clocks_taken q longer))) (sym still)
+        (candidates old.found some stands.candidates);
+  }
+    where
+      candidates : (found : Option (List ℕ)) → is_some found ≡ true → MatchOption found (AreLeft (processes old) (λ q. clocks_taken q items) old.queues) (IsFoundAmong (processes old) (λ q. clocks_taken q items)) →
+          MatchOption found (AreLeft (processes new) (λ q. clocks_taken q longer) new.queues) (IsFoundAmong (processes new) (λ q. clocks_taken q longer))
+      candidates None some left = absurd (false≢true some)
+      candidates (Some cut) some is = subst (λ n. IsFoundAmong n (λ q. clocks_taken q longer) cut) (sym members)
+          (IsFoundAmong-gain (processes old) p (λ q. clocks_taken q items) (λ q. clocks_taken q longer) clock cut gain is)
+
+-- a close mark is noted, and all else stays
+abbrev closing : List Item → ℕ → ℕ → List Item
+closing items p count = items ++ record { from = p; note = Close count } ∷ []
+
+pub StandsForItems-close : (old new : CheckerState) (items : List Item) (p count : ℕ) → StandsForItems old items → MayTake old (record { from = p; note = Close count }) → p < length old.closed → new.queues ≡ old.queues → new.taken ≡ old.taken → new.found ≡ old.found → new.closed ≡ set old.closed p true →
+    StandsForItems new (closing items p count)
+StandsForItems-close old new items p count stands may within queues taken found closed = record {
+  taken = λ q q_within. ap (λ (counts : List ℕ). slice_index counts q) taken ∙ stands.taken q (omega (arith, ap length queues)) ∙ ap length (sym (clocks_taken-push_close items p count q));
+  snapshots = ap sum taken ∙ omega (arith, stands.snapshots, sum_by_push (λ item. cond (is_snapshot item) 1 0) items (record { from = p; note = Close count }));
+  closed = λ q q_within. ap (λ (marks : List Bool). get_or marks q false) closed ∙ ⊎_elim
+      (λ (same : q ≡ p). subst (λ r. get_or (set old.closed p true) r false ≡ list_any is_close (notes_taken r (closing items p count))) (sym same) (get_or-set_same old.closed p true false within ∙ sym (close_taken-push_close items p count)))
+      (λ (other : q ≢ p). get_or-set_other old.closed p q true false other ∙ stands.closed q (omega (arith, ap length queues)) ∙ sym (close_taken-push_other items p count q other))
+      (cases_eq q p);
+  in_turn = λ q q_within. in_turn-push items (record { from = p; note = Close count }) q (next_where_MayTake old items (record { from = p; note = Close count }) stands may) (stands.in_turn q (omega (arith, ap length queues)));
+  candidates = subst (λ list. MatchOption new.found (AreLeft (length list) (λ q. clocks_taken q (closing items p count)) list) (IsFoundAmong (length list) (λ q. clocks_taken q (closing items p count)))) (sym queues)
+      (subst (λ cut. MatchOption cut (AreLeft (processes old) (λ q. clocks_taken q (closing items p count)) old.queues) (IsFoundAmong (processes old) (λ q. clocks_taken q (closing items p count)))) (sym found) (candidates old.found stands.candidates));
+}
+  where
+    candidates : (cut : Option (List ℕ)) → MatchOption cut (AreLeft (processes old) (λ q. clocks_taken q items) old.queues) (IsFoundAmong (processes old) (λ q. clocks_taken q items)) →
+        MatchOption cut (AreLeft (processes old) (λ q. clocks_taken q (closing items p count)) old.queues) (IsFoundAmong (processes old) (λ q. clocks_taken q (closing items p count)))
+    candidates None left = AreLeft-rows (processes old) (λ q. clocks_taken q items) (λ q. clocks_taken q (closing items p count)) old.queues (λ q q_within. clocks_taken-push_close items p count q) left
+    candidates (Some cut) is = IsFoundAmong-same (processes old) (λ q. clocks_taken q items) (λ q. clocks_taken q (closing items p count)) cut (λ q q_within. clocks_taken-push_close items p count q) is
+
+-- a checker that has taken nothing stands for the empty list
+pub StandsForItems-fresh : (n : ℕ) → n ≤ 16 → StandsForItems (record { queues = replicate n no_candidates; taken = replicate 16 0; closed = replicate 16 false; found = None; tests = 0 }) []
+StandsForItems-fresh n few = record {
+  taken = λ p p_within. get_or-replicate 16 p 0 0 (omega (arith, members));
+  snapshots = refl;
+  closed = λ p p_within. get_or-replicate 16 p false false (omega (arith, members));
+  in_turn = λ p p_within. AreInTurn-none;
+  candidates = AreLeft-start (length (replicate n no_candidates)) (λ p. []) (replicate n no_candidates) (λ p p_within. refl)
+      (λ p p_within. ap (λ queue. queue.clocks) (get_or-replicate n p no_candidates no_candidates (omega (arith, members))));
+}
+  where
+    members : length (replicate n no_candidates) ≡ n
+    members = length-replicate n no_candidates

@@ -1,0 +1,159 @@
+use Rattle.std.proofs.Common.{◌≡◌, ◌≢◌, ℕ, ◌+◌, ◌-◌, ◌<◌, ◌≤◌, ◌↔◌, IsTrue, Bool, true, false, List, [], ◌∷◌, ◌++◌, length, slice_index, Option, Some, None, MatchOption, refl, sym, ap, ap₂, ◌∙◌, subst, ⊎_elim, append-nil, arith}
+use Rattle.std.specs.List.{list_any}
+use Rattle.std.specs.Prelude.{if◌then◌else◌}
+use Rattle.std.proofs.lemmas.Bool.{cases_Bool, cases_lt, false≢true}
+use Rattle.std.proofs.lemmas.List.Sums.{fold-append}
+use Rattle.wcp_clock.specs.declared.note.Item.{Item}
+use Rattle.wcp_clock.specs.declared.note.Note.{Note}
+use Rattle.wcp_clock.specs.declared.note.Note.TheVariants as note
+use Rattle.wcp_model.specs.Computation.{Computation, communications}
+use Rattle.wcp_model.specs.ProbeLog.{Call, Observed, Closed, ProbeState, after_call, state_of_log, IsAccepted}
+use Rattle.wcp_model.specs.Report.{snapshot_clocks, is_close, place_of}
+use Rattle.wcp_model.specs.StateClock.{IsStateClock}
+use Rattle.wcp_model.proofs.EventPlaces.{event_below}
+use Rattle.wcp_model.proofs.NotesInTurn.{log_counts_notes}
+use Rattle.wcp_model.proofs.Predecessors.{local_state, span}
+use Rattle.wcp_model.proofs.RunningLog.{log_law_holds}
+use Rattle.wcp_probe.specs.Core.{Core}
+use Rattle.wcp_probe.specs.Seal.{Seal}
+use Rattle.wcp_queue.specs.Checker.{CheckerState, MayTake, TakesItem, processes}
+use Rattle.wcp_queue.proofs.NotesTaken.{notes_taken-push_same, notes_taken-push_other, MayTake-next}
+use Rattle.wcp_single.specs.declared.watched_process.WatchedProcess.{WatchedProcess}
+use Rattle.wcp_single.specs.WatchedProcess.{IsRunning, IsFed, IsFedMore, IsWatched, HasTaken, Feeds}
+use Rattle.wcp_single.specs.WorkloadRun.{Follows, IsSealOf}
+
+-- the log with one more call
+pub log_push : (n p : ℕ) (log : List Call) (call : Call) → state_of_log n p (log ++ call ∷ []) ≡ after_call p (state_of_log n p log) call
+log_push n p log call = fold-append (after_call p) _ log (call ∷ [])
+
+-- the probe that has emitted a snapshot
+abbrev pub with_snapshot : Core → Core
+with_snapshot probe = record probe { flag = true; emitted = probe.emitted + 1; pending = Some (note.Snap probe.emitted probe.clock) }
+
+-- what is pending, as a list
+abbrev pub pending_notes : Option Note → List Note
+pending_notes (Some pending) = pending ∷ []
+pending_notes None = []
+
+module _ (n p : ℕ) (log : List Call) (process : WatchedProcess) (running : IsRunning n p log process) where
+  -- a process that runs has come to what its log leads to
+  abbrev come_to : ProbeState
+  come_to = state_of_log n p log
+
+  abbrev stood : ProbeState
+  stood = state_of_log (length process.probe.clock) process.probe.id log
+
+  same_state : stood ≡ come_to
+  same_state = ap₂ (λ m q. state_of_log m q log) running.components running.id
+
+  pub running_clock : process.probe.clock ≡ come_to.clock
+  running_clock = running.stands.clock ∙ ap (λ (s : ProbeState). s.clock) same_state
+
+  running_flag : process.probe.flag ≡ come_to.flag
+  running_flag = running.stands.flag ∙ ap (λ (s : ProbeState). s.flag) same_state
+
+  pub running_count : process.probe.emitted ≡ come_to.snapshots
+  running_count = running.stands.emitted ∙ ap (λ (s : ProbeState). s.snapshots) same_state
+
+  running_closed : come_to.closed ≡ false
+  running_closed = sym (running.stands.closed ∙ ap (λ (s : ProbeState). s.closed) same_state) ∙ running.not_closed
+
+  -- the checker may take a note that is placed behind all that the process has emitted
+  pub may_take : (items : List Item) (checker : CheckerState) (next : Note) → IsFed n p log items checker → place_of next ≡ process.probe.emitted → MayTake checker (record { from = p; note = next })
+  may_take items checker next fed place =
+      let counts = log_counts_notes n p log in
+      MayTake-next checker items (record { from = p; note = next }) fed.has_taken.stands (omega (arith, fed.within, fed.has_taken.watched)) (record {
+        place = place ∙ running_count ∙ counts.snapshots ∙ ap (λ notes. length (snapshot_clocks notes)) (sym fed.all);
+        still_open = ap (list_any is_close) fed.all ∙ sym counts.closed ∙ running_closed;
+      })
+
+  -- an observation emits what is then pending
+  observed_notes : (holds emitted : Bool) (probe : Core) → IsTrue emitted ↔ (IsTrue holds × (process.probe.flag ≡ false)) → probe ≡ (if emitted then with_snapshot process.probe else process.probe) →
+      (state_of_log n p (log ++ Observed holds ∷ [])).notes ≡ come_to.notes ++ pending_notes probe.pending
+  observed_notes holds true probe emits is =
+      let first = emits.0 refl in
+      let pending : probe.pending ≡ Some (note.Snap process.probe.emitted process.probe.clock) = ap (λ (core : Core). core.pending) is in
+      let grown : (after_call p come_to (Observed true)).notes ≡ come_to.notes ++ note.Snap come_to.snapshots come_to.clock ∷ [] = rw (sym running_flag ∙ first.1) refl in
+      ap (λ b. (state_of_log n p (log ++ Observed b ∷ [])).notes) first.0
+      ∙ ap (λ (s : ProbeState). s.notes) (log_push n p log (Observed true)) ∙ grown
+      ∙ ap₂ (λ number clock. come_to.notes ++ note.Snap number clock ∷ []) (sym running_count) (sym running_clock)
+      ∙ ap (λ notes. come_to.notes ++ pending_notes notes) (sym pending)
+  observed_notes false false probe emits is =
+      ap (λ (s : ProbeState). s.notes) (log_push n p log (Observed false)) ∙ sym (append-nil come_to.notes)
+      ∙ ap (λ notes. come_to.notes ++ pending_notes notes) (sym (ap (λ (core : Core). core.pending) is ∙ running.none_pending))
+  observed_notes true false probe emits is = ⊎_elim
+      (λ (set : process.probe.flag ≡ true).
+      let stays : (after_call p come_to (Observed true)).notes ≡ come_to.notes = rw (sym running_flag ∙ set) refl in
+      ap (λ (s : ProbeState). s.notes) (log_push n p log (Observed true)) ∙ stays ∙ sym (append-nil come_to.notes)
+      ∙ ap (λ notes. come_to.notes ++ pending_notes notes) (sym (ap (λ (core : Core). core.pending) is ∙ running.none_pending)))
+      (λ (clear : process.probe.flag ≡ false). absurd (false≢true (emits.1 (refl, clear))))
+      (cases_Bool process.probe.flag)
+
+  -- and so does a close
+  closed_notes : (probe : Core) → probe ≡ record process.probe { closed = true; pending = Some (note.Close process.probe.emitted) } → (state_of_log n p (log ++ Closed ∷ [])).notes ≡ come_to.notes ++ pending_notes probe.pending
+  closed_notes probe is =
+      ap (λ (s : ProbeState). s.notes) (log_push n p log Closed)
+      ∙ ap (λ count. come_to.notes ++ note.Close count ∷ []) (sym running_count)
+      ∙ ap (λ notes. come_to.notes ++ pending_notes notes) (sym (ap (λ (core : Core). core.pending) is))
+
+  -- what is pending is taken
+  fed_more : (call : Call) (pending : Option Note) (items : List Item) (old new : CheckerState) → IsFed n p log items old → (state_of_log n p (log ++ call ∷ [])).notes ≡ come_to.notes ++ pending_notes pending →
+      MatchOption pending (new ≡ old) (λ next. TakesItem old new (record { from = process.id; note = next })) → processes new ≡ processes old → IsFedMore n p (log ++ call ∷ []) items new
+  fed_more call None items old new fed notes same count = record {
+    more = items;
+    fed = record { within = fed.within; has_taken = subst (HasTaken n items) (sym same) fed.has_taken; all = fed.all ∙ sym (notes ∙ append-nil come_to.notes) };
+    others = λ q other. refl;
+  }
+  fed_more call (Some next) items old new fed notes takes count =
+      let item : Item = record { from = process.id; note = next } in
+      record {
+        more = items ++ item ∷ [];
+        fed = record {
+          within = fed.within;
+          has_taken = record { watched = count ∙ fed.has_taken.watched; stands = takes items fed.has_taken.stands };
+          all = notes_taken-push_same items item p running.number ∙ ap (λ front. front ++ next ∷ []) fed.all ∙ sym notes;
+        };
+        others = λ q other. notes_taken-push_other items item q (λ same. other (sym same ∙ running.number));
+      }
+
+pub feeds_observed : (holds emitted : Bool) (old : WatchedProcess) (probe : Core) (before after : CheckerState) → IsTrue emitted ↔ (IsTrue holds × (old.probe.flag ≡ false)) → probe ≡ (if emitted then with_snapshot old.probe else old.probe) →
+    MatchOption probe.pending (after ≡ before) (λ next. TakesItem before after (record { from = old.id; note = next })) → processes after ≡ processes before → Feeds old (Observed holds) before after
+feeds_observed holds emitted old probe before after emits is takes count n p log items running fed =
+    fed_more n p log old running (Observed holds) probe.pending items before after fed (observed_notes n p log old running holds emitted probe emits is) takes count
+
+pub feeds_closed : (old : WatchedProcess) (probe : Core) (before after : CheckerState) → probe ≡ record old.probe { closed = true; pending = Some (note.Close old.probe.emitted) } →
+    MatchOption probe.pending (after ≡ before) (λ next. TakesItem before after (record { from = old.id; note = next })) → processes after ≡ processes before → Feeds old Closed before after
+feeds_closed old probe before after is takes count n p log items running fed =
+    fed_more n p log old running Closed probe.pending items before after fed (closed_notes n p log old running probe is) takes count
+
+-- the checker may take what is pending
+pub may_take_observed : (emitted : Bool) (old : WatchedProcess) (probe : Core) (checker : CheckerState) → IsWatched old checker → probe ≡ (if emitted then with_snapshot old.probe else old.probe) → MatchOption probe.pending (Unit {0}) (λ next. MayTake checker (record { from = old.id; note = next }))
+may_take_observed true old probe checker watched is = subst (λ (core : Core). MatchOption core.pending (Unit {0}) (λ next. MayTake checker (record { from = old.id; note = next }))) (sym is)
+    (may_take watched.n old.id watched.log old watched.running watched.items checker (note.Snap old.probe.emitted old.probe.clock) watched.fed refl)
+may_take_observed false old probe checker watched is =
+    subst (λ pending. MatchOption pending (Unit {0}) (λ next. MayTake checker (record { from = old.id; note = next }))) (sym (ap (λ (core : Core). core.pending) is ∙ watched.running.none_pending)) tt
+
+pub may_take_closed : (old : WatchedProcess) (probe : Core) (checker : CheckerState) → IsWatched old checker → probe ≡ record old.probe { closed = true; pending = Some (note.Close old.probe.emitted) } → MatchOption probe.pending (Unit {0}) (λ next. MayTake checker (record { from = old.id; note = next }))
+may_take_closed old probe checker watched is = subst (λ (core : Core). MatchOption core.pending (Unit {0}) (λ next. MayTake checker (record { from = old.id; note = next }))) (sym is)
+    (may_take watched.n old.id watched.log old watched.running watched.items checker (note.Close old.probe.emitted) watched.fed refl)
+
+-- what a process knows in a computation that was accepted
+module _ (n : ℕ) (c : Computation) (accepted : IsAccepted c) (p : ℕ) (within : p < n) (notes : List Note) (process : WatchedProcess) (follows : Follows n c p notes process) where
+  -- its clock is that of its last state
+  pub last_clock : IsStateClock n c (local_state p (communications c p)) process.probe.clock
+  last_clock = subst (IsStateClock n c (local_state p (communications c p))) (sym (running_clock n p follows.log process follows.running)) (log_law_holds n c p follows.log accepted within follows.log_is).clock
+
+  -- so it counts the events of the process
+  pub own_component : slice_index process.probe.clock process.probe.id ≡ communications c p
+  own_component = ap (slice_index process.probe.clock) follows.running.id ∙ last_clock.own
+
+-- a seal of another process knows no event of this one that there isn't
+pub not_ahead : (n : ℕ) (c : Computation) (p q message : ℕ) (seal : Seal) → q < n → q ≢ p → IsSealOf n c p q message seal → slice_index seal.clock q ≤ communications c q
+not_ahead n c p q message seal within other is =
+    let known : ℕ = slice_index seal.clock q in
+    ⊎_elim (λ (some : 0 < known).
+    let before = (is.clock.others q within other (known - 1)).1 (omega arith) in
+    let path = span c (local_state q (known - 1)) before in
+    omega (arith, event_below c q (known - 1) path.ended path.ends))
+    (λ (none : known ≤ 0). omega arith)
+    (cases_lt 0 known)

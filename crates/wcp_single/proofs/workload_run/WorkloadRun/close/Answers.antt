@@ -1,0 +1,14 @@
+use Rattle.std.proofs.Common.{ap}
+use Rattle.wcp_single.specs.declared.watched_process.WatchedProcess.{WatchedProcess}
+use Rattle.wcp_single.proofs.EndedRun.{watched_last, ends_next}
+use Rattle.wcp_single.proofs.workload_run.WorkloadRun.close.Goals as goal
+
+pub close-requires : goal.close-requires
+close-requires c =
+    let (n, order, within, ending) = c.requires.next in
+    watched_last n order c.args.p within c.args.self.now.processes.items c.args.self.now.checker ending c.index_mut.result.now c.index_mut.ensures.value
+
+pub returns : goal.returns
+returns c = λ n order within fit ending.
+    ends_next n order c.args.p within c.args.self.now.processes.items c.args.self.now.checker ending fit c.index_mut.result.now c.close.new.self c.index_mut.ensures.value c.close.new.checker
+    c.in_ok-close.ensures.feeds (ap (λ (process : WatchedProcess). process.probe.emitted) c.in_ok-close.ensures.closed)

@@ -1,0 +1,13 @@
+use Rattle.std.proofs.Common.{◌≡◌, ◌+◌, ◌*◌, [], map, replicate, sym, ap, ◌∙◌, subst, arith}
+use Rattle.wcp_probe.specs.Seal.{seal_of}
+use Rattle.wcp_single.proofs.StartedRun.{AreNew, one_more_new, run_starts}
+use Rattle.wcp_single.proofs.workload_run.WorkloadRun.new.Goals as goal
+
+pub loop-id-preserved : goal.loop-id-preserved
+loop-id-preserved c = subst (AreNew c.args.n (c.loop-id.id + 1)) (sym c.in_ok-push.ensures.items) (one_more_new c.args.n c.loop-id.id c.loop-id.processes.items c.new.result c.loop-id.invariant c.new.ensures)
+
+pub returns : goal.returns
+returns c = λ order.
+    let counted : c.loop.counter ≡ c.args.n * c.args.n = omega arith in
+    run_starts c.args.n order c.loop-id.processes.items (map (λ queue. map seal_of queue.items) c.loop.in_transit.items) c.in_ok-new.field-0 c.loop.invariant.0 (c.loop.invariant.1 ∙ ap (λ count. replicate count []) counted)
+    (record { watched = c.in_ok-new.ensures.processes; stands = c.in_ok-new.ensures.empty })

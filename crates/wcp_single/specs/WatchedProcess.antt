@@ -1,0 +1,68 @@
+use Rattle.std.specs.Prelude.{◌≡◌, ◌≢◌, ℕ, ◌<◌, ◌≤◌, List, [], ◌∷◌, ◌++◌, length, slice_index, None, false}
+use Rattle.wcp_clock.specs.Limits.{most_events}
+use Rattle.wcp_clock.specs.declared.note.Item.{Item}
+use Rattle.wcp_model.specs.ProbeLog.{Call, state_of_log}
+use Rattle.wcp_model.specs.Report.{notes_taken}
+use Rattle.wcp_probe.specs.Core.{StandsFor as ProbeStandsFor}
+use Rattle.wcp_probe.specs.Seal.{Seal}
+use Rattle.wcp_queue.specs.Checker.{CheckerState, processes, StandsForItems}
+use Rattle.wcp_single.specs.declared.watched_process.WatchedProcess.{WatchedProcess}
+
+-- Process p of n runs by this log: its probe is open and stands for it, and nothing is pending.
+pub record IsRunning (n p : ℕ) (log : List Call) (process : WatchedProcess) : Type 0 where
+  pub number : process.id ≡ p
+  pub watch : process.probe.watch ≡ 0
+  pub id : process.probe.id ≡ p
+  pub limit : process.probe.limit ≡ most_events
+  pub components : length process.probe.clock ≡ n
+  pub stands : ProbeStandsFor process.probe log
+  pub not_closed : process.probe.closed ≡ false
+  pub none_pending : process.probe.pending ≡ None
+
+-- The process makes a call of its probe: whatever log it ran by, it now runs by that log with the call at its end.
+abbrev pub MakesCall : WatchedProcess → Call → WatchedProcess → Type 0
+MakesCall old call new = (n p : ℕ) (log : List Call) → IsRunning n p log old → IsRunning n p (log ++ call ∷ []) new
+
+-- The process may make a communication event: its probe is open with nothing pending, and its clock has room.
+pub record MayCommunicate (process : WatchedProcess) : Type 0 where
+  pub not_closed : process.probe.closed ≡ false
+  pub none_pending : process.probe.pending ≡ None
+  pub room : slice_index process.probe.clock process.probe.id < process.probe.limit
+
+-- The process may receive a message with this seal.
+pub record MayReceive (process : WatchedProcess) (seal : Seal) : Type 0 where
+  pub communicate : MayCommunicate process
+  pub watch : seal.watch ≡ process.probe.watch
+  pub components : length seal.clock ≡ length process.probe.clock
+  pub addressed : seal.to ≡ process.probe.id
+  pub not_ahead : slice_index seal.clock process.probe.id ≤ slice_index process.probe.clock process.probe.id
+
+-- A checker of n processes has taken these items.
+pub record HasTaken (n : ℕ) (items : List Item) (checker : CheckerState) : Type 0 where
+  pub watched : processes checker ≡ n
+  pub stands : StandsForItems checker items
+
+-- It has taken these items, and with them all that process p emits by this log.
+pub record IsFed (n p : ℕ) (log : List Call) (items : List Item) (checker : CheckerState) : Type 0 where
+  pub within : p < n
+  pub has_taken : HasTaken n items checker
+  pub all : notes_taken p items ≡ (state_of_log n p log).notes
+
+-- It has taken all that a process has emitted.
+pub record IsWatched (process : WatchedProcess) (checker : CheckerState) : Type 0 where
+  pub n : ℕ
+  pub log : List Call
+  pub items : List Item
+  pub running : IsRunning n process.id log process
+  pub fed : IsFed n process.id log items checker
+
+-- It has now taken all that process p emits by a longer log, and nothing else.
+pub record IsFedMore (n p : ℕ) (log : List Call) (items : List Item) (checker : CheckerState) : Type 0 where
+  pub more : List Item
+  pub fed : IsFed n p log more checker
+  pub others : (q : ℕ) → q ≢ p → notes_taken q more ≡ notes_taken q items
+
+-- What the probe of a process emits by a call is taken.
+abbrev pub Feeds : WatchedProcess → Call → CheckerState → CheckerState → Type 0
+Feeds process call old new = (n p : ℕ) (log : List Call) (items : List Item) →
+    IsRunning n p log process → IsFed n p log items old → IsFedMore n p (log ++ call ∷ []) items new

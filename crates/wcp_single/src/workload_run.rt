@@ -1,0 +1,137 @@
+//! The run of a workload: one probe for each process, a queue for each channel between two, and a
+//! checker of what the probes emit.
+ghost use Rattle.std.specs.Prelude.{◌≡◌, ℕ, ◌+◌, ◌<◌, ◌≤◌, List, length, drop, Some, IfOk, OnOk};
+ghost use Rattle.std.specs.List.{slice_get, slice_index_or};
+ghost use Rattle.wcp_clock.specs.Limits.{most_processes};
+ghost use Rattle.wcp_model.specs.declared.outcome.Tally.{Tally};
+ghost use Rattle.wcp_model.specs.declared.workload.Task.{Task};
+ghost use Rattle.wcp_model.specs.Outcome.{IsOutcomeOf};
+ghost use Rattle.wcp_model.specs.WorkloadComputation.{IsFitOrder, computation_of};
+ghost use Rattle.wcp_queue.specs.Checker.{processes, taken_of};
+ghost use Rattle.wcp_single.specs.declared.watched_process.WatchedProcess.{WatchedProcess};
+ghost use Rattle.wcp_single.specs.WorkloadRun.{IsEnding, IsNextTask, HasComeTo, queues_of};
+
+use crate::watched_process::WatchedProcess;
+use std::alloc::{AllocError, Global};
+use std::collections::VecDeque;
+use wcp_clock::MAX_PROCS;
+use wcp_model::{Action, Outcome, Tallies, Tally, Task};
+use wcp_order::channel;
+use wcp_probe::Stamped;
+use wcp_queue::Checker;
+
+/// How far the run of a workload has come.
+#[derive(Drop)]
+pub struct WorkloadRun {
+    processes: Vec<WatchedProcess>,
+    /// For each channel, the messages that were sent on it and not received.
+    in_transit: Vec<VecDeque<Stamped<()>>>,
+    checker: Checker,
+}
+
+impl WorkloadRun {
+    /// The run before the first task.
+    pub fn new(alloc: Global, n: u32) -> Result<WorkloadRun, AllocError>
+        requires some { 0 < n }
+        requires few { n ≤ most_processes }
+        ensures { IfOk result (λ run. (order : List Task)
+            → HasComeTo n order 0 run.processes.items (queues_of run) run.checker) }
+    {
+        let mut processes = Vec::with_capacity(alloc, n as usize)?;
+        for id in 0..n {
+            processes.push(WatchedProcess::new(id, n))?;
+        }
+        let mut in_transit = Vec::with_capacity(alloc, (n * n) as usize)?;
+        for _ in 0..n * n {
+            in_transit.push(VecDeque::new(alloc))?;
+        }
+        Ok(WorkloadRun {
+            processes,
+            in_transit,
+            checker: Checker::new(alloc, n)?,
+        })
+    }
+
+    /// Does the next task.
+    pub fn perform(&mut self, n: u32, task: Task) -> Result<(), AllocError>
+        requires few { n ≤ most_processes }
+        requires next { (order : List Task) × (place : ℕ) × IsNextTask n order place task
+            × HasComeTo n order place self.old.processes.items (queues_of self.old) self.old.checker }
+        ensures { OnOk result ((order : List Task) (place : ℕ) → IsNextTask n order place task
+            → HasComeTo n order place self.old.processes.items (queues_of self.old) self.old.checker
+            → HasComeTo n order (place + 1) self.new.processes.items (queues_of self.new) self.new.checker) }
+    {
+        let p = task.p as usize;
+        match task.action {
+            Action::Observe(holds) => self.processes[p].observe(holds, &mut self.checker)?,
+            Action::Send(to) => {
+                let message = self.processes[p].send(to);
+                self.in_transit[channel(n, task.p, to)].push_back(message)?;
+            }
+            Action::Recv(from) => {
+                let message = oldest(&mut self.in_transit[channel(n, from, task.p)]);
+                self.processes[p].receive(message);
+            }
+        }
+        Ok(())
+    }
+
+    /// Closes process `p`, after all tasks.
+    pub fn close(&mut self, p: u32) -> Result<(), AllocError>
+        requires next { (n : ℕ) × (order : List Task) × (p < n)
+            × IsEnding n order p self.old.processes.items self.old.checker }
+        ensures { OnOk result ((n : ℕ) (order : List Task) → p < n → IsFitOrder order order
+            → IsEnding n order p self.old.processes.items self.old.checker
+            → IsEnding n order (p + 1) self.new.processes.items self.new.checker) }
+    {
+        self.processes[p as usize].close(&mut self.checker)?;
+        Ok(())
+    }
+
+    /// The outcome, once each process has closed.
+    pub fn outcome(&self) -> Outcome
+        requires some { 0 < length self.now.processes.items }
+        requires few { length self.now.processes.items ≤ most_processes }
+        requires watched { processes self.now.checker ≡ length self.now.processes.items }
+        ensures { (n : ℕ) (order : List Task) → IsEnding n order n self.now.processes.items self.now.checker
+            → IsOutcomeOf n (computation_of n order) result }
+    {
+        Outcome {
+            report: self.checker.report(),
+            tallies: self.tallies(),
+        }
+    }
+
+    /// How many snapshots each process has emitted, and the checker has taken of it.
+    fn tallies(&self) -> Tallies
+        requires some { 0 < length self.now.processes.items }
+        requires few { length self.now.processes.items ≤ most_processes }
+        requires watched { processes self.now.checker ≡ length self.now.processes.items }
+        ensures processes { length result ≡ length self.now.processes.items }
+        ensures emitted { (p : ℕ) (tally : Tally) (process : WatchedProcess) → slice_get result p ≡ Some tally
+            → tally.emitted ≡ (slice_index_or self.now.processes.items p process).probe.emitted }
+        ensures taken { (p : ℕ) (tally : Tally) → slice_get result p ≡ Some tally
+            → tally.taken ≡ taken_of self.now.checker p }
+    {
+        let mut tallies = [Tally {
+            emitted: 0,
+            taken: 0,
+        }; MAX_PROCS];
+        for (p, process) in self.processes.iter().enumerate() {
+            tallies[p] = Tally {
+                emitted: u64::from(process.emitted()),
+                taken: self.checker.taken(p as u32),
+            };
+        }
+        Tallies::new(&tallies[..self.processes.len()])
+    }
+}
+
+/// Takes the message that was sent first from those that are in transit.
+fn oldest(messages: &mut VecDeque<Stamped<()>>) -> Stamped<()>
+    requires { 0 < length messages.old.items }
+    ensures first { result ≡ slice_index_or messages.old.items 0 result }
+    ensures rest { messages.new.items ≡ drop 1 messages.old.items }
+{
+    messages.pop_front().unwrap()
+}
