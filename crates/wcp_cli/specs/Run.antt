@@ -15,7 +15,7 @@ use Rattle.wcp_model.specs.declared.plan.Plan.{Plan}
 use Rattle.wcp_script.specs.PlanText.{opening_text}
 use Rattle.wcp_script.specs.Ring.{ring_tasks}
 use Rattle.wcp_script.specs.TextFault.{schedules, workloads, Spells}
-use Rattle.wcp_world.specs.Played.{IsPlayed}
+use Rattle.wcp_world.specs.Plays.{IsPlayed}
 use Rattle.wcp_script.specs.WorkloadText.{task_line}
 use Rattle.wcp_cli.specs.declared.input.TheConstants.{MOST_BYTES}
 use Rattle.wcp_cli.specs.Bytes.{AppendsFront}

@@ -1,4 +1,4 @@
-use Rattle.std.proofs.Common.{◌≡◌, ℕ, ◌+◌, ◌-◌, ◌<◌, List, [], ◌∷◌, ◌++◌, length, get_or, replicate, Option, None, Some, slice_get, refl, sym, ap, ap₂, ◌∙◌, subst, arith}
+use Rattle.std.proofs.Common.{◌≡◌, ℕ, ◌+◌, ◌-◌, List, [], ◌∷◌, ◌++◌, length, get_or, replicate, refl, ap, ap₂, ◌∙◌, arith}
 use Rattle.std.proofs.lemmas.List.{length-append, length-replicate, get_or-replicate, get_or_append_left, get_or-append_right}
 use Rattle.wcp_model.specs.declared.plan.Parent.TheVariants.{Root, Relay}
 use Rattle.wcp_model.specs.declared.plan.Plan.{Plan}
@@ -6,7 +6,7 @@ use Rattle.wcp_model.specs.PlanFault.{IsCheckedPlan}
 use Rattle.wcp_model.specs.Tree.{IsSamePlan}
 use Rattle.wcp_model.specs.Occupancy.{Place, Pending, Link, HoldOf, InboxOf, room_of}
 use Rattle.wcp_hold.specs.Held.{Held, empty_hold}
-use Rattle.wcp_world.specs.Transport.{TransportState, IsTransportOf, IsPlaceOf, IsWay, held_at, notes_at, notes_along, number_of}
+use Rattle.wcp_world.specs.Transport.{TransportState, IsTransportOf, IsPlaceOf, IsWay, held_at, notes_at, notes_along, place_number}
 use Rattle.wcp_world.proofs.Places.{leaf_exists, next_is_place}
 use Rattle.wcp_world.proofs.Ways.{way_of}
 
@@ -30,7 +30,7 @@ module _ (plan : Plan) where
   length_all = omega (arith, length_front, length-append (links ++ holds) inboxes, length-replicate (length plan.parents.items + 1) (empty_hold plan.cap))
 
   -- each place is empty, with its room
-  place_is_empty : (x : Place) (default : Held) → IsPlaceOf plan x → get_or first_places (number_of plan x) default ≡ empty_hold (room_of plan x)
+  place_is_empty : (x : Place) (default : Held) → IsPlaceOf plan x → get_or first_places (place_number plan x) default ≡ empty_hold (room_of plan x)
   place_is_empty (Pending p) default is = absurd is
   place_is_empty (Link p) default is =
       get_or_append_left (links ++ holds) inboxes default p (omega (arith, length_front, is))
@@ -57,7 +57,7 @@ module _ (plan : Plan) where
     checked = checked;
     same_plan = same;
     members = ap length places_are ∙ length_all;
-    held = λ x is. rw (ap (λ l. held_at l (number_of plan x)) places_are ∙ place_is_empty x _ is) (record { room = refl; within = omega arith; count = refl; entries = λ i item at. cc at });
+    held = λ x is. rw (ap (λ l. held_at l (place_number plan x)) places_are ∙ place_is_empty x _ is) (record { room = refl; within = omega arith; count = refl; entries = λ i item at. cc at });
     as_many = λ p. refl;
     known = λ p beyond. refl;
     in_order = λ p in_range.

@@ -1,6 +1,6 @@
-use Rattle.std.proofs.Common.{◌≡◌, ℕ, zero, suc, ◌+◌, ◌-◌, ◌<◌, ◌≤◌, Bool, true, false, cond, ◌⊎◌, length, take, count_by, Option, None, Some, List, [], ◌∷◌, ◌++◌, slice_get, filter, map, refl, sym, ap, ap₂, subst, ◌∙◌, inl, inr, ⊎_elim, append-nil, append_assoc, eq-eqb, true≢false, arith}
+use Rattle.std.proofs.Common.{◌≡◌, ℕ, zero, suc, ◌+◌, ◌-◌, ◌<◌, ◌≤◌, Bool, true, false, cond, length, take, count_by, Some, List, [], ◌∷◌, ◌++◌, slice_get, filter, map, refl, sym, ap, subst, ◌∙◌, ⊎_elim, append-nil, true≢false, arith}
 use Rattle.std.proofs.lemmas.Bool.{cases_lt, cases_Bool}
-use Rattle.std.proofs.lemmas.List.{length_push, length-append, map-append, take-append-le, take_at}
+use Rattle.std.proofs.lemmas.List.{length-append, map-append, take-append-le, take_at}
 use Rattle.std.proofs.lemmas.List.Elements.{filter-append}
 use Rattle.std.proofs.lemmas.List.Sums.{sum_by_push}
 use Rattle.std.proofs.lemmas.Option.{slice_get_within}
@@ -8,12 +8,11 @@ use Rattle.wcp_clock.specs.declared.note.Item.{Item}
 use Rattle.wcp_clock.specs.declared.note.Note.{Note}
 use Rattle.wcp_model.specs.declared.plan.Plan.{Plan}
 use Rattle.wcp_model.specs.declared.step.Step.{Step}
-use Rattle.wcp_model.specs.Occupancy.{Place, Pending, source, target, is_place, takes_from, puts_into, taken_from, next_place, IsMove, IsEntry, Emitted, Moved}
+use Rattle.wcp_model.specs.Occupancy.{Place, source, takes_from, puts_into, taken_from, next_place, IsEntry, Emitted, Moved}
 use Rattle.wcp_model.specs.Report.{notes_taken}
 use Rattle.wcp_model.proofs.Growth.{get_front, get_behind, at_grows}
 use Rattle.wcp_hold.specs.Held.{Held}
 use Rattle.wcp_world.specs.Transport.{IsHeldAt}
-use Rattle.wcp_world.proofs.Places.{itself}
 use Rattle.wcp_world.proofs.Ways.{IsOnWay, Start, Onward}
 
 abbrev pub bit : Bool → ℕ

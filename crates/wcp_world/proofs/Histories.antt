@@ -1,4 +1,4 @@
-use Rattle.std.proofs.Common.{◌≡◌, ℕ, ◌+◌, ◌<◌, ◌≤◌, Result, Ok, Err, IfOk, OnErr, List, [], ◌∷◌, ◌++◌, length, take, slice_get, sym, ap, ◌∙◌, subst, ⊎_elim, append-nil, arith}
+use Rattle.std.proofs.Common.{◌≡◌, ℕ, ◌+◌, ◌<◌, ◌≤◌, Result, Ok, Err, IfOk, OnErr, List, [], ◌∷◌, ◌++◌, length, take, slice_get, Some, sym, ap, ◌∙◌, subst, subst₂, ⊎_elim, append-nil, arith}
 use Rattle.std.proofs.lemmas.Bool.{cases_lt}
 use Rattle.std.proofs.lemmas.Grind.{flat_map-append}
 use Rattle.std.proofs.lemmas.List.{length_push, take-append-le, take_at, take_all}
@@ -8,9 +8,9 @@ use Rattle.wcp_model.specs.declared.step.Step.{Step}
 use Rattle.wcp_model.specs.declared.step.Reply.{Reply}
 use Rattle.wcp_model.specs.Replies.{Answered, accepted, items_taken, accepted_by, taken_by, computation, IsReply, AreReplies}
 use Rattle.wcp_model.specs.Report.{AreFrontsOfEmissions}
-use Rattle.wcp_model.proofs.Growth.{get_front, get_behind}
-use Rattle.wcp_world.specs.World.{WorldState, Stands, IsReached, Answers, IsWorldOf}
-use Rattle.wcp_world.proofs.Standing.{taken_fronts}
+use Rattle.wcp_model.proofs.GrowingLogs.{get_push}
+use Rattle.wcp_world.specs.World.{WorldState, Stands, IsReached, MakesStep, IsWorldOf}
+use Rattle.wcp_world.proofs.WorldAfterStep.{taken_fronts}
 
 -- a history with one more step and its reply
 accepted_push : (history : List Answered) (a : Answered) → accepted (history ++ a ∷ []) ≡ accepted history ++ accepted_by a.step a.reply
@@ -22,14 +22,11 @@ taken_push history a = flat_map-append _ history (a ∷ []) ∙ ap (λ e. items_
 pub replies_push : (plan : Plan) (history : List Answered) (a : Answered) → AreReplies plan history → IsReply plan (accepted history) a.step a.reply → AreReplies plan (history ++ a ∷ [])
 replies_push plan history a are is place b at =
     ⊎_elim
-    (λ (lt : place < length history).
-    subst (λ before. IsReply plan (accepted before) b.step b.reply) (sym (take-append-le place history (a ∷ []) (omega (arith, lt)))) (are place b (sym (get_front history (a ∷ []) place lt) ∙ at)))
-    (λ (ge : length history ≤ place).
-    let last : place ≡ length history = omega (arith, ge, slice_get_within (history ++ a ∷ []) place b at, length_push history a) in
-    let same : a ≡ b = cc (get_behind history a [], at, ap (slice_get (history ++ a ∷ [])) last) in
-    subst (λ before. IsReply plan (accepted before) b.step b.reply) (sym (take_at history (a ∷ []) place (sym last)))
-    (subst (λ (c : Answered). IsReply plan (accepted history) c.step c.reply) same is))
-    (cases_lt place (length history))
+    (λ (old : slice_get history place ≡ Some b).
+    subst (λ before. IsReply plan (accepted before) b.step b.reply) (sym (take-append-le place history (a ∷ []) (omega (arith, slice_get_within history place b old)))) (are place b old))
+    (λ (last : (place ≡ length history) × (a ≡ b)).
+    subst₂ (λ before (c : Answered). IsReply plan (accepted before) c.step c.reply) (sym (take_at history (a ∷ []) place (sym last.0))) last.1 is)
+    (get_push history a b place at)
 
 -- after each front of a longer history what was taken is a front of what was emitted
 abbrev pub HasFronts : Plan → List Answered → Type 0
@@ -42,7 +39,7 @@ fronts_push plan history a before now place = ⊎_elim
     (cases_lt place (length history + 1))
 
 -- a world after a step that was answered
-pub world_push : (plan : Plan) (history : List Answered) (old new : WorldState) (s : Step) (reply : Reply) → Answers old s reply new → IsWorldOf plan history old → IsWorldOf plan (history ++ record { step = s; reply = reply } ∷ []) new
+pub world_push : (plan : Plan) (history : List Answered) (old new : WorldState) (s : Step) (reply : Reply) → MakesStep old s reply new → IsWorldOf plan history old → IsWorldOf plan (history ++ record { step = s; reply = reply } ∷ []) new
 world_push plan history old new s reply answers is =
     let a : Answered = record { step = s; reply = reply } in
     let told = answers plan (accepted history) (items_taken history) is.stands in
@@ -61,12 +58,12 @@ fresh_world plan w stands = record {
   stands = stands;
 }
 
-pub world_after : {E : Type 0} (result : Result Reply E) (old new : WorldState) (s : Step) → IfOk result (λ reply. Answers old s reply new) →
+pub world_after : {E : Type 0} (result : Result Reply E) (old new : WorldState) (s : Step) → IfOk result (λ reply. MakesStep old s reply new) →
     IfOk result (λ reply. (plan : Plan) (history : List Answered) → IsWorldOf plan history old → IsWorldOf plan (history ++ record { step = s; reply = reply } ∷ []) new)
 world_after (Ok reply) old new s answers = λ plan history is. world_push plan history old new s reply answers is
 world_after (Err e) old new s answers = answers
 
 -- a network stays one that stands for something
-pub reached_after : {E : Type 0} (result : Result Reply E) (old new : WorldState) (s : Step) → IfOk result (λ reply. Answers old s reply new) → OnErr result (new ≡ old) → IsReached old → IsReached new
+pub reached_after : {E : Type 0} (result : Result Reply E) (old new : WorldState) (s : Step) → IfOk result (λ reply. MakesStep old s reply new) → OnErr result (new ≡ old) → IsReached old → IsReached new
 reached_after (Ok reply) old new s answers same reached = (reached.0, reached.1 ++ accepted_by s reply, reached.2 ++ taken_by reply, (answers reached.0 reached.1 reached.2 reached.3).1)
 reached_after (Err e) old new s answers same reached = subst IsReached (sym same) reached

@@ -1,8 +1,9 @@
-use Rattle.std.proofs.Common.{◌≡◌, ◌≢◌, ℕ, ◌+◌, ◌<◌, ◌≤◌, true, false, length, get_or, Option, None, Some, List, refl, sym, ap, subst, ◌∙◌, inl, inr, ⊎_elim, eqb-true, eq-eqb, true≢false, arith}
+use Rattle.std.proofs.Common.{◌≡◌, ◌≢◌, ℕ, ◌+◌, ◌<◌, ◌≤◌, true, false, length, get_or, Option, None, Some, refl, sym, ap, subst, ◌∙◌, inl, inr, ⊎_elim, eqb-true, eq-eqb, true≢false, arith}
 use Rattle.std.proofs.lemmas.Bool.{eqb-false, cases_lt, cases_eq}
 use Rattle.std.proofs.lemmas.Option.{slice_get_within, slice_get_cases, slice_get-get_or, get_or_from_slice_get}
 use Rattle.std.specs.List.{slice_get}
 use Rattle.std.specs.Option.{option_map, option_flatten}
+use Rattle.wcp_clock.specs.Limits.{most_processes, most_cap, most_hold}
 use Rattle.wcp_model.specs.declared.plan.Parent.{Parent}
 use Rattle.wcp_model.specs.declared.plan.Parent.TheVariants.{Root, Relay}
 use Rattle.wcp_model.specs.declared.plan.Plan.{Plan}
@@ -10,7 +11,7 @@ use Rattle.wcp_model.specs.declared.plan.PlanFault.TheVariants as fault
 use Rattle.wcp_model.specs.PlanFault.{IsCheckedPlan}
 use Rattle.wcp_model.specs.Tree.{leaf_of, parent_of}
 use Rattle.wcp_model.specs.Occupancy.{Place, Pending, Link, HoldOf, InboxOf, is_same_owner, is_same_place, next_place}
-use Rattle.wcp_world.specs.Transport.{IsPlaceOf, number_of}
+use Rattle.wcp_world.specs.Transport.{IsPlaceOf, place_number}
 
 -- places that the test takes for one are one
 same_owner : (a b : Parent) → is_same_owner a b ≡ true → a ≡ b
@@ -33,35 +34,27 @@ itself (InboxOf Root) = refl
 itself (InboxOf (Relay r)) = eq-eqb r r refl
 
 -- places that are two have two numbers
-pub number_apart : (plan : Plan) (x y : Place) → IsPlaceOf plan x → IsPlaceOf plan y → is_same_place x y ≡ false → number_of plan x ≢ number_of plan y
+pub number_apart : (plan : Plan) (x y : Place) → IsPlaceOf plan x → IsPlaceOf plan y → is_same_place x y ≡ false → place_number plan x ≢ place_number plan y
 number_apart plan (Pending p) y is_x is_y apart = absurd is_x
-number_apart plan (Link p) (Pending q) is_x is_y apart = absurd is_y
+number_apart plan x (Pending q) is_x is_y apart = absurd is_y
 number_apart plan (Link p) (Link q) is_x is_y apart = eqb-false p q apart
-number_apart plan (Link p) (HoldOf s) is_x is_y apart = λ e. omega (arith, is_x, e)
-number_apart plan (Link p) (InboxOf Root) is_x is_y apart = λ e. omega (arith, is_x, e)
-number_apart plan (Link p) (InboxOf (Relay s)) is_x is_y apart = λ e. omega (arith, is_x, e)
-number_apart plan (HoldOf r) (Pending q) is_x is_y apart = absurd is_y
-number_apart plan (HoldOf r) (Link q) is_x is_y apart = λ e. omega (arith, is_y, e)
 number_apart plan (HoldOf r) (HoldOf s) is_x is_y apart = λ e. eqb-false r s apart (omega (arith, e))
-number_apart plan (HoldOf r) (InboxOf Root) is_x is_y apart = λ e. omega (arith, is_x, e)
-number_apart plan (HoldOf r) (InboxOf (Relay s)) is_x is_y apart = λ e. omega (arith, is_x, e)
-number_apart plan (InboxOf a) (Pending q) is_x is_y apart = absurd is_y
-number_apart plan (InboxOf Root) (Link q) is_x is_y apart = λ e. omega (arith, is_y, e)
-number_apart plan (InboxOf Root) (HoldOf s) is_x is_y apart = λ e. omega (arith, is_y, e)
 number_apart plan (InboxOf Root) (InboxOf Root) is_x is_y apart = absurd (true≢false apart)
-number_apart plan (InboxOf Root) (InboxOf (Relay s)) is_x is_y apart = λ e. omega (arith, e)
-number_apart plan (InboxOf (Relay r)) (Link q) is_x is_y apart = λ e. omega (arith, is_y, e)
-number_apart plan (InboxOf (Relay r)) (HoldOf s) is_x is_y apart = λ e. omega (arith, is_y, e)
-number_apart plan (InboxOf (Relay r)) (InboxOf Root) is_x is_y apart = λ e. omega (arith, e)
+number_apart plan (InboxOf Root) (InboxOf (Relay s)) is_x is_y apart = λ e. omega arith
+number_apart plan (InboxOf (Relay r)) (InboxOf Root) is_x is_y apart = λ e. omega arith
 number_apart plan (InboxOf (Relay r)) (InboxOf (Relay s)) is_x is_y apart = λ e. eqb-false r s apart (omega (arith, e))
+number_apart plan x (InboxOf Root) is_x is_y apart = λ e. omega arith
+number_apart plan x (InboxOf (Relay s)) is_x is_y apart = λ e. omega arith
+number_apart plan (InboxOf Root) y is_x is_y apart = λ e. omega arith
+number_apart plan (InboxOf (Relay r)) y is_x is_y apart = λ e. omega arith
+number_apart plan x y is_x is_y apart = λ e. omega arith
 
 -- each place has its number among them
-pub number_within : (plan : Plan) (x : Place) → IsPlaceOf plan x → number_of plan x < plan.n + length plan.parents.items + 1 + length plan.parents.items
+pub number_within : (plan : Plan) (x : Place) → IsPlaceOf plan x → place_number plan x < plan.n + length plan.parents.items + 1 + length plan.parents.items
 number_within plan (Pending p) is_x = absurd is_x
-number_within plan (Link p) is_x = omega (arith, is_x)
-number_within plan (HoldOf r) is_x = omega (arith, is_x)
 number_within plan (InboxOf Root) is_x = omega arith
-number_within plan (InboxOf (Relay r)) is_x = omega (arith, is_x)
+number_within plan (InboxOf (Relay r)) is_x = omega arith
+number_within plan x is_x = omega arith
 
 -- what a value that was mapped was
 pub some_of : {A B : Type 0} (f : A → B) (o : Option A) (y : B) → option_map f o ≡ Some y → (x : A) × (o ≡ Some x) × (f x ≡ y)
@@ -70,11 +63,8 @@ some_of f (Some x) y e = (x, refl, cc)
 
 module _ (plan : Plan) (checked : IsCheckedPlan plan) where
   -- the limits of a checked plan
-  pub few_relays : length plan.parents.items ≤ 15
-  few_relays = ⊎_elim (λ (more : 15 < length plan.parents.items). absurd (checked fault.Parent (inl (inr more)))) (λ (le : length plan.parents.items ≤ 15). le) (cases_lt 15 (length plan.parents.items))
-
-  pub few_processes : plan.n ≤ 16
-  few_processes = ⊎_elim (λ (more : 16 < plan.n). absurd (checked fault.Procs (inr more))) (λ (le : plan.n ≤ 16). le) (cases_lt 16 plan.n)
+  pub few_processes : plan.n ≤ most_processes
+  few_processes = ⊎_elim (λ more. absurd (checked fault.Procs (inr more))) (λ le. le) (cases_lt most_processes plan.n)
 
   -- the parent of a relay is lower
   pub parent_below : (relay above : ℕ) → parent_of plan relay ≡ Some (Relay above) → above < relay
@@ -113,18 +103,23 @@ module _ (plan : Plan) (checked : IsCheckedPlan plan) where
       named None within is at = absurd (checked fault.Unattached (inr (p, None, within, is, tt)))
       named (Some relay) within is at = (relay, ap option_flatten (at ∙ ap Some is))
 
-  -- the numbers of a checked plan are within their limits
-  pub within_limits : (0 < plan.n) × (0 < plan.cap) × (plan.cap ≤ 1024) × (0 < plan.hold) × (plan.hold ≤ 1024)
-  within_limits = (
-    from_some plan.n (λ none. checked fault.Procs (inl (omega (arith, none)))),
-    from_some plan.cap (λ none. checked fault.Cap (inl (omega (arith, none)))),
-    ⊎_elim (λ (more : 1024 < plan.cap). absurd (checked fault.Cap (inr more))) (λ (le : plan.cap ≤ 1024). le) (cases_lt 1024 plan.cap),
-    from_some plan.hold (λ none. checked fault.Hold (inl (omega (arith, none)))),
-    ⊎_elim (λ (more : 64 < plan.hold). absurd (checked fault.Hold (inr more))) (λ (le : plan.hold ≤ 64). omega (arith, le)) (cases_lt 64 plan.hold),
-  )
-    where
-      from_some : (k : ℕ) → (k ≡ 0 → ⊥) → 0 < k
-      from_some k some = omega (arith, some)
+  from_some : (k : ℕ) → (k ≡ 0 → ⊥) → 0 < k
+  from_some k some = omega (arith, some)
+
+  pub some_process : 0 < plan.n
+  some_process = from_some plan.n (λ none. checked fault.Procs (inl (omega (arith, none))))
+
+  pub some_cap : 0 < plan.cap
+  some_cap = from_some plan.cap (λ none. checked fault.Cap (inl (omega (arith, none))))
+
+  pub cap_within : plan.cap ≤ most_cap
+  cap_within = ⊎_elim (λ more. absurd (checked fault.Cap (inr more))) (λ le. le) (cases_lt most_cap plan.cap)
+
+  pub some_hold : 0 < plan.hold
+  some_hold = from_some plan.hold (λ none. checked fault.Hold (inl (omega (arith, none))))
+
+  pub hold_within : plan.hold ≤ most_cap
+  hold_within = ⊎_elim (λ more. absurd (checked fault.Hold (inr more))) (λ (le : plan.hold ≤ most_hold). omega (arith, le)) (cases_lt most_hold plan.hold)
 
   -- the place after a place is a place
   pub next_is_place : (x y : Place) → next_place plan x ≡ Some y → IsPlaceOf plan x → IsPlaceOf plan y
@@ -141,3 +136,6 @@ module _ (plan : Plan) (checked : IsCheckedPlan plan) where
       inbox (Relay above) at = omega (arith, parent_below r above at, is)
   next_is_place (InboxOf Root) y next is = absurd (cc next)
   next_is_place (InboxOf (Relay r)) y next is = let same : HoldOf r ≡ y = cc next in subst (IsPlaceOf plan) same is
+
+-- what the numbers of a checked plan are within
+pub ruleset plan_limits = (few_processes, some_process, some_cap, cap_within, some_hold, hold_within)

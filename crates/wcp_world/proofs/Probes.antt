@@ -8,7 +8,7 @@ use Rattle.wcp_model.specs.Emission.{is_closed}
 use Rattle.wcp_model.specs.ProbeLog.{Observed, Closed, ProbeState, after_call, state_of_log, IsAccepted, HasClockAndEmissions}
 use Rattle.wcp_model.proofs.RunningLog.{log_law_holds}
 use Rattle.wcp_probe.specs.Core.{Core, IsSameProbe}
-use Rattle.wcp_world.specs.Application.{IsProbeOf}
+use Rattle.wcp_world.specs.Processes.{IsProbeOf}
 
 module _ (n : ℕ) (c : Computation) (p : ℕ) (put : List Note) (core : Core) (is : IsProbeOf n c p put core) where
   -- what the probe's log leads to

@@ -1,9 +1,9 @@
+use Rattle.wcp_model.specs.FirstReason.{first_reason}
 use Rattle.std.proofs.Common.{◌≡◌, ℕ, Bool, true, false, not, ◌||◌, nat_lt, nat_le, is_some, List, [], ◌∷◌, map, eqb, Option, None, Some, if◌then◌else◌, refl, ap₂, true≢false, arith}
 use Rattle.std.specs.Option.{option_map}
 use Rattle.std.proofs.lemmas.Bool.Decides.{nat_tests}
 use Rattle.wcp_model.specs.declared.step.Why.{Why}
 use Rattle.wcp_model.specs.declared.step.Why.TheVariants as why
-use Rattle.wcp_model.specs.FirstReason.{first_reason}
 use Rattle.wcp_probe.specs.declared.probe.Refusal.{Refusal}
 use Rattle.wcp_probe.specs.declared.probe.Refusal.TheVariants as refusal
 use Rattle.wcp_world.specs.Messages.{why_of}

@@ -1,16 +1,11 @@
-use Rattle.std.proofs.Common.{◌≡◌, ℕ, ◌<◌, List, [], ◌∷◌, ◌++◌, length, sym, subst, le_refl, arith}
-use Rattle.std.proofs.lemmas.Grind.{flat_map-append}
+use Rattle.std.proofs.Common.{List, length, sym, subst, le_refl, arith}
 use Rattle.std.proofs.lemmas.List.{take_all}
-use Rattle.std.proofs.lemmas.List.Elements.{filter-append}
-use Rattle.wcp_clock.specs.declared.note.Note.{Note}
-use Rattle.wcp_clock.specs.declared.note.Note.TheVariants as note
 use Rattle.wcp_model.specs.declared.outcome.Report.{Report}
-use Rattle.wcp_model.specs.declared.outcome.Report.TheVariants.{Found}
 use Rattle.wcp_model.specs.declared.plan.Plan.{Plan}
 use Rattle.wcp_model.specs.Cut.{IsLeastCut}
 use Rattle.wcp_model.specs.Headline.{IsHeadline}
 use Rattle.wcp_model.specs.Replies.{Answered, accepted, items_taken, computation}
-use Rattle.wcp_model.specs.Report.{notes_taken, AreFrontsOfEmissions, AreInTurn, ClocksRise, IsReportByClocks}
+use Rattle.wcp_model.specs.Report.{AreFrontsOfEmissions, AreInTurn, ClocksRise, IsReportByClocks}
 use Rattle.wcp_model.proofs.GrowthLaws.{computation_append, early_find_holds}
 use Rattle.wcp_model.proofs.NotesInTurn.{nothing_follows}
 use Rattle.wcp_model.proofs.RisingClocks.{clocks_rise}

@@ -1,14 +1,15 @@
-use Rattle.std.proofs.Common.{◌≡◌, ◌≢◌, ℕ, zero, suc, ◌+◌, ◌*◌, ◌<◌, ◌≤◌, ◌⊎◌, length, get_or, Option, None, Some, List, [], ◌∷◌, refl, sym, ap, subst, ◌∙◌, inl, inr, ⊎_elim, false, arith}
-use Rattle.std.proofs.lemmas.Bool.{false_from_ne_true}
-use Rattle.std.proofs.lemmas.Option.{slice_get-get_or}
+use Rattle.std.proofs.Common.{◌≡◌, ℕ, zero, suc, ◌+◌, ◌*◌, ◌<◌, ◌≤◌, length, get_or, Option, Some, List, [], ◌∷◌, refl, ap, subst, ◌∙◌, ⊎_elim, false, arith}
+use Rattle.std.specs.Option.{option_and_then}
+use Rattle.std.proofs.lemmas.Bool.{false_from_ne_true, cases_lt}
+use Rattle.std.proofs.lemmas.Option.{slice_get-get_or, option_and_then_some}
 use Rattle.wcp_model.specs.declared.plan.Parent.{Parent}
 use Rattle.wcp_model.specs.declared.plan.Parent.TheVariants.{Root, Relay}
 use Rattle.wcp_model.specs.declared.plan.Plan.{Plan}
 use Rattle.wcp_model.specs.PlanFault.{IsCheckedPlan}
 use Rattle.wcp_model.specs.Tree.{leaf_of, parent_of}
 use Rattle.wcp_model.specs.Occupancy.{Place, Pending, Link, HoldOf, InboxOf, is_same_place, next_place}
-use Rattle.wcp_world.specs.Transport.{IsPlaceOf, IsWay}
-use Rattle.wcp_world.proofs.Places.{same_place, some_of, parent_below, attached_exists, next_is_place}
+use Rattle.wcp_world.specs.Transport.{IsWay}
+use Rattle.wcp_world.proofs.Places.{same_place, some_of, parent_below, attached_exists}
 
 -- a place on the way of a process to the checker
 pub data IsOnWay (plan : Plan) (p : ℕ) : Place → Type 0 where
@@ -42,49 +43,36 @@ module _ (plan : Plan) (checked : IsCheckedPlan plan) where
   pub next_apart : (x y : Place) → next_place plan x ≡ Some y → is_same_place x y ≡ false
   next_apart x y next = false_from_ne_true (is_same_place x y) (λ same. omega (arith, nearer x y next, ap (distance plan) (same_place x y same)))
 
-  -- one place leads to another in some steps
-  data LeadsTo : Place → Place → Type 0 where
-    Stays : {x : Place} → LeadsTo x x
-    Goes : {x y z : Place} → LeadsTo x y → next_place plan y ≡ Some z → LeadsTo x z
+  -- the place that so many steps lead to
+  abbrev after : ℕ → ℕ → Option Place
+  after p zero = Some (Pending p)
+  after p (suc k) = option_and_then (next_place plan) (after p k)
 
-  not_farther : {x y : Place} → LeadsTo x y → distance plan y ≤ distance plan x
-  not_farther Stays = omega arith
-  not_farther (Goes {y = y} {z = z} leads next) = omega (arith, nearer y z next, not_farther leads)
+  steps_to : (p : ℕ) {x : Place} → IsOnWay plan p x → (k : ℕ) × (after p k ≡ Some x)
+  steps_to p Start = (0, refl)
+  steps_to p (Onward on next) = let before = steps_to p on in (suc before.0, ap (option_and_then (next_place plan)) before.1 ∙ next)
 
-  first_step : {x y : Place} → LeadsTo x y → (x ≡ y) ⊎ ((z : Place) × (next_place plan x ≡ Some z) × LeadsTo z y)
-  first_step Stays = inl refl
-  first_step (Goes {z = z} leads next) = ⊎_elim
-      (λ same. inr (z, ap (next_place plan) same ∙ next, Stays))
-      (λ on. inr (on.0, on.1, Goes on.2 next))
-      (first_step leads)
-
-  -- of two places on one way, one leads to the other
-  one_leads : (p : ℕ) (x y : Place) → IsOnWay plan p x → IsOnWay plan p y → LeadsTo x y ⊎ LeadsTo y x
-  one_leads p x y on_x Start = inr (from_start on_x)
-    where
-      from_start : {z : Place} → IsOnWay plan p z → LeadsTo (Pending p) z
-      from_start Start = Stays
-      from_start (Onward on next) = Goes (from_start on) next
-  one_leads p x y on_x (Onward {x = z} on_z next) = ⊎_elim
-      (λ leads. inl (Goes leads next))
-      (λ leads. ⊎_elim
-      (λ same. inl (Goes (subst (LeadsTo x) (sym same) Stays) next))
-      (λ on. let same : on.0 ≡ y = cc (on.1, next) in inr (subst (λ w. LeadsTo w x) same on.2))
-      (first_step leads))
-      (one_leads p x z on_x on_z)
-
-  meets : (x y z : Place) → LeadsTo x y → next_place plan x ≡ Some z → next_place plan y ≡ Some z → x ≡ y
-  meets x y z leads next_x next_y = ⊎_elim
-      (λ same. same)
-      (λ on. let same : on.0 ≡ z = cc (on.1, next_x) in absurd (omega (arith, not_farther on.2, nearer y z next_y, ap (distance plan) same)))
-      (first_step leads)
+  nearer_later : (p k l : ℕ) (x y : Place) → k < l → after p k ≡ Some x → after p l ≡ Some y → distance plan y < distance plan x
+  nearer_later p k zero x y less at_x at_y = absurd (omega (arith, less))
+  nearer_later p k (suc l) x y less at_x at_y = option_and_then_some (next_place plan) (after p l) y at_y (λ z at_z next. ⊎_elim
+      (λ (more : k < l). omega (arith, nearer_later p k l x z more at_x at_z, nearer z y next))
+      (λ (last : l ≤ k). let now : k ≡ l = omega arith in let same : x ≡ z = cc (at_x, at_z, ap (after p) now) in omega (arith, nearer z y next, ap (distance plan) same))
+      (cases_lt k l))
 
   -- on one way, a place follows one place alone
   pub one_before : (p : ℕ) (x y z : Place) → IsOnWay plan p x → IsOnWay plan p y → next_place plan x ≡ Some z → next_place plan y ≡ Some z → x ≡ y
-  one_before p x y z on_x on_y next_x next_y = ⊎_elim
-      (λ leads. meets x y z leads next_x next_y)
-      (λ leads. sym (meets y x z leads next_y next_x))
-      (one_leads p x y on_x on_y)
+  one_before p x y z on_x on_y next_x next_y =
+      let to_x = steps_to p on_x in
+      let to_y = steps_to p on_y in
+      let by_x = ap (option_and_then (next_place plan)) to_x.1 ∙ next_x in
+      let by_y = ap (option_and_then (next_place plan)) to_y.1 ∙ next_y in
+      ⊎_elim
+      (λ (less : to_x.0 < to_y.0). absurd (omega (arith, nearer_later p (suc to_x.0) (suc to_y.0) z z (omega (arith, less)) by_x by_y)))
+      (λ (ge : to_y.0 ≤ to_x.0). ⊎_elim
+      (λ (more : to_y.0 < to_x.0). absurd (omega (arith, nearer_later p (suc to_y.0) (suc to_x.0) z z (omega (arith, more)) by_y by_x)))
+      (λ (le : to_x.0 ≤ to_y.0). let same : to_x.0 ≡ to_y.0 = omega (arith, ge, le) in cc (to_x.1, to_y.1, ap (after p) same))
+      (cases_lt to_y.0 to_x.0))
+      (cases_lt to_x.0 to_y.0)
 
   -- from each hold there is a way
   way_from_hold : (bound relay : ℕ) → relay < bound → relay < length plan.parents.items → (way : List Place) × IsWay plan (HoldOf relay) way

@@ -1,8 +1,8 @@
+use Rattle.wcp_model.specs.FirstReason.{first_reason}
 use Rattle.std.specs.Prelude.{◌≡◌, Bool, List, MatchOption}
 use Rattle.wcp_model.specs.declared.step.Reply.{Reply}
 use Rattle.wcp_model.specs.declared.step.Reply.TheVariants.{Done, Refused}
 use Rattle.wcp_model.specs.declared.step.Why.{Why}
-use Rattle.wcp_model.specs.FirstReason.{first_reason}
 
 -- The answer is the first reason that holds, else that the step was done.
 abbrev pub IsAnswer : List (Bool × Why) → Reply → Type 0

@@ -1,9 +1,9 @@
 pub mod Answer
-pub mod Putting
+pub mod PutNotes
 pub mod Messages
-pub mod Application
+pub mod Processes
 pub mod Transport
-pub mod Shifting
+pub mod Shifts
 pub mod World
 pub mod WorldView
-pub mod Played
+pub mod Plays

@@ -1,4 +1,5 @@
-use Rattle.std.specs.Prelude.{◌≡◌, ◌==◌, ℕ, Bool, false, not, Option, Some, None, is_some, List, [], ◌∷◌, ◌++◌, slice_get, slice_set}
+use Rattle.std.specs.Prelude.{◌≡◌, ◌==◌, ℕ, Bool, false, not, Option, Some, None, is_some}
+use Rattle.std.specs.Prelude.{List, [], ◌∷◌, ◌++◌, slice_get, slice_set}
 use Rattle.std.specs.Option.{option_and_then, option_map_or}
 use Rattle.wcp_model.specs.declared.step.Why.TheVariants.{NoSuch, Closed, Backlog, Gone, ClockEnd}
 use Rattle.wcp_probe.specs.declared.probe.Refusal.{Refusal}
@@ -11,12 +12,16 @@ use Rattle.wcp_probe.specs.Refusals.{receive_refusal}
 use Rattle.wcp_probe.specs.declared.stamp.Stamped.{Stamped}
 use Rattle.wcp_world.specs.declared.messages.Letter.{Letter}
 
--- Why a step is refused that a probe refuses.
+-- What a step is answered whose event a probe refuses for this reason; no letter is strange, or of another process,
+-- or ahead, so these come to no answer.
 abbrev pub why_of : Refusal → Why
 why_of refusal.NoSuch = NoSuch
 why_of refusal.Closed = Closed
 why_of refusal.Backlog = Backlog
-why_of _ = ClockEnd
+why_of refusal.Stranger = ClockEnd
+why_of refusal.NotMine = ClockEnd
+why_of refusal.Ahead = ClockEnd
+why_of refusal.ClockEnd = ClockEnd
 
 -- A probe sent a message to a process: the letter at the end carries its stamp.
 pub record IsPosted (old new : Core) (to : ℕ) (letters more : List Letter) : Type 0 where

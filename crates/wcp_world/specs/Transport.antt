@@ -1,4 +1,5 @@
-use Rattle.std.specs.Prelude.{◌≡◌, ℕ, ◌+◌, ◌<◌, ◌≤◌, Option, Some, None, MatchOption, List, [], ◌∷◌, ◌++◌, length, count_by, slice_get, slice_index_or}
+use Rattle.std.specs.Prelude.{◌≡◌, ℕ, ◌+◌, ◌<◌, ◌≤◌, Bool, true, if◌then◌else◌, Option, Some, MatchOption}
+use Rattle.std.specs.Prelude.{List, [], ◌∷◌, ◌++◌, length, count_by, slice_get, slice_index_or}
 use Rattle.wcp_clock.specs.declared.note.Item.{Item}
 use Rattle.wcp_clock.specs.declared.note.Note.{Note}
 use Rattle.wcp_model.specs.declared.plan.Parent.TheVariants.{Root, Relay}
@@ -6,28 +7,31 @@ use Rattle.wcp_model.specs.declared.plan.Plan.{Plan}
 use Rattle.wcp_model.specs.declared.step.Step.{Step}
 use Rattle.wcp_model.specs.declared.step.Step.TheVariants as step
 use Rattle.wcp_model.specs.declared.step.Reply.{Reply}
-use Rattle.wcp_model.specs.declared.step.Reply.TheVariants.{Done}
+use Rattle.wcp_model.specs.declared.step.Reply.TheVariants.{Done, Refused}
+use Rattle.wcp_model.specs.declared.step.Why.TheVariants.{Full}
 use Rattle.wcp_model.specs.PlanFault.{IsCheckedPlan}
 use Rattle.wcp_model.specs.Tree.{IsSamePlan}
-use Rattle.wcp_model.specs.Occupancy.{Place, Pending, Link, HoldOf, InboxOf, next_place, puts_into, taken_from, notes_in, room_of, IsEntry}
+use Rattle.wcp_model.specs.Occupancy.{Place, Pending, Link, HoldOf, InboxOf}
+use Rattle.wcp_model.specs.Occupancy.{next_place, puts_into, taken_from, notes_in, room_of, IsEntry}
 use Rattle.wcp_model.specs.Replies.{accepted_by, reasons}
 use Rattle.wcp_model.specs.Report.{notes_taken}
 use Rattle.wcp_hold.specs.Held.{Held}
 use Rattle.wcp_world.specs.Answer.{IsAnswer}
-use Rattle.wcp_world.specs.Putting.{put_more}
+use Rattle.wcp_world.specs.PutNotes.{put_more}
 
 -- What a transport has: its plan, and the links, holds and inboxes.
 pub record TransportState : Type 0 where
   pub plan : Plan
   pub places : List Held
 
--- The places are numbered: first the links, then the holds, then the root inbox and the inboxes of the relays.
-abbrev pub number_of : Plan → Place → ℕ
-number_of plan (Pending p) = p
-number_of plan (Link p) = p
-number_of plan (HoldOf relay) = plan.n + relay
-number_of plan (InboxOf Root) = plan.n + length plan.parents.items
-number_of plan (InboxOf (Relay relay)) = plan.n + length plan.parents.items + 1 + relay
+-- The number of a place among the places: first the links, then the holds, then the root inbox and the inboxes of the
+-- relays.
+abbrev pub place_number : Plan → Place → ℕ
+place_number plan (Pending p) = p
+place_number plan (Link p) = p
+place_number plan (HoldOf relay) = plan.n + relay
+place_number plan (InboxOf Root) = plan.n + length plan.parents.items
+place_number plan (InboxOf (Relay relay)) = plan.n + length plan.parents.items + 1 + relay
 
 abbrev pub IsPlaceOf : Plan → Place → Type 0
 IsPlaceOf plan (Pending p) = ⊥
@@ -40,7 +44,8 @@ abbrev pub held_at : List Held → ℕ → Held
 held_at places i = slice_index_or places i (record { items = []; room = 0 })
 
 -- What a place holds: the entries that were not taken from it yet, in their order, within its room.
-pub record IsHeldAt (plan : Plan) (steps : List Step) (put : ℕ → List Note) (place : Place) (held : Held) : Type 0 where
+pub record IsHeldAt (plan : Plan) (steps : List Step) (put : ℕ → List Note) (place : Place) (held : Held)
+    : Type 0 where
   pub room : held.room ≡ room_of plan place
   pub within : length held.items ≤ held.room
   pub count : length held.items + taken_from steps place ≡ count_by (puts_into plan place) steps
@@ -58,23 +63,25 @@ notes_along notes [] = []
 notes_along notes (place ∷ way) = notes_along notes way ++ notes place
 
 abbrev pub notes_at : Plan → List Held → ℕ → Place → List Note
-notes_at plan places p place = notes_taken p (held_at places (number_of plan place)).items
+notes_at plan places p place = notes_taken p (held_at places (place_number plan place)).items
 
 -- What was taken of a process, and then its notes on the way from its link, from the checker outward, are the notes
 -- put of it.
-pub record AreConveyedInOrder (plan : Plan) (places : List Held) (taken : List Item) (p : ℕ) (put : List Note) : Type 0 where
+pub record AreConveyedInOrder (plan : Plan) (places : List Held) (taken : List Item) (p : ℕ) (put : List Note)
+    : Type 0 where
   pub way : List Place
   pub is_way : IsWay plan (Link p) way
   pub notes : notes_taken p taken ++ notes_along (notes_at plan places p) (Link p ∷ way) ≡ put
 
 -- A transport stands for these accepted steps under a checked plan, for the notes put of each process, and for the
 -- items taken.
-pub record IsTransportOf (plan : Plan) (steps : List Step) (put : ℕ → List Note) (taken : List Item) (t : TransportState) : Type 0 where
+pub record IsTransportOf (plan : Plan) (steps : List Step) (put : ℕ → List Note) (taken : List Item)
+    (t : TransportState) : Type 0 where
   pub checked : IsCheckedPlan plan
   pub same_plan : IsSamePlan t.plan plan
   pub members : length t.places ≡ plan.n + length plan.parents.items + 1 + length plan.parents.items
   pub held : (place : Place) → IsPlaceOf plan place →
-      IsHeldAt plan steps put place (held_at t.places (number_of plan place))
+      IsHeldAt plan steps put place (held_at t.places (place_number plan place))
   pub as_many : (p : ℕ) → length (put p) ≡ taken_from steps (Pending p)
   pub known : (p : ℕ) → plan.n ≤ p → put p ≡ []
   pub in_order : (p : ℕ) → p < plan.n → AreConveyedInOrder plan t.places taken p (put p)
@@ -83,28 +90,30 @@ abbrev pub IsConveying : TransportState → Type 0
 IsConveying t = (plan : Plan) × (steps : List Step) × (put : ℕ → List Note) × (taken : List Item)
     × IsTransportOf plan steps put taken t
 
--- A move was answered: the answer is that of the definitions, of whatever steps the transport stood for, and the
--- transport now stands for them with the move that was accepted.
+-- A move was answered: whatever steps the transport stood for, the answer is that of the definitions, and the transport
+-- now stands for these steps with the move, where it was accepted, at their end.
 abbrev pub Conveys : TransportState → Step → Reply → TransportState → Type 0
 Conveys old s answer new = (plan : Plan) (steps : List Step) (put : ℕ → List Note) (taken : List Item) →
     IsTransportOf plan steps put taken old →
     ((emissions : ℕ → List Note) → IsAnswer (reasons plan emissions steps s) answer)
     × IsTransportOf plan (steps ++ accepted_by s answer) put taken new
 
--- A note was put on the link of a process that there is and that has one pending, or the link is full.
-abbrev pub Puts : TransportState → ℕ → Note → Reply → TransportState → Type 0
-Puts old p note answer new = (plan : Plan) (steps : List Step) (put : ℕ → List Note) (taken : List Item) →
+-- A note that was pending is on the link of its process now, if that had room; the answer to its put is that of the
+-- definitions.
+abbrev pub Puts : TransportState → ℕ → Note → Bool → TransportState → Type 0
+Puts old p note room new = (plan : Plan) (steps : List Step) (put : ℕ → List Note) (taken : List Item) →
     IsTransportOf plan steps put taken old →
     ((emissions : ℕ → List Note) → 0 < notes_in plan emissions steps (Pending p) →
-    IsAnswer (reasons plan emissions steps (step.Put p)) answer)
-    × (answer ≡ Done → IsTransportOf plan (steps ++ step.Put p ∷ []) (put_more put p note) taken new)
+    IsAnswer (reasons plan emissions steps (step.Put p)) (if room then Done else Refused Full))
+    × (room ≡ true → IsTransportOf plan (steps ++ step.Put p ∷ []) (put_more put p note) taken new)
 
 -- The item whose turn it is in the root inbox.
 abbrev pub next_of : TransportState → Option Item
-next_of t = slice_get (held_at t.places (number_of t.plan (InboxOf Root))).items 0
+next_of t = slice_get (held_at t.places (place_number t.plan (InboxOf Root))).items 0
 
--- It is the next of the items that entered the root inbox, and of what its process put.
-pub record IsNext (plan : Plan) (steps : List Step) (put : ℕ → List Note) (taken : List Item) (item : Item) : Type 0 where
+-- An item is the next of the root inbox: of the items that entered it, and of the notes that its process put.
+pub record IsNext (plan : Plan) (steps : List Step) (put : ℕ → List Note) (taken : List Item) (item : Item)
+    : Type 0 where
   pub some : 0 < notes_in plan put steps (InboxOf Root)
   pub entry : IsEntry plan put steps (InboxOf Root) (taken_from steps (InboxOf Root)) item
   pub process : item.from < plan.n
@@ -122,14 +131,14 @@ TakesNext old new = (plan : Plan) (steps : List Step) (put : ℕ → List Note) 
     IsTransportOf plan steps put taken old → next_of old ≡ Some item →
     IsTransportOf plan (steps ++ step.Check ∷ []) put (taken ++ item ∷ []) new
 
--- Two numbers are those of a place and of the next.
+-- Two numbers are those of a place and of the place after it.
 pub record AreNumbersOf (plan : Plan) (i j : ℕ) : Type 0 where
   pub from : Place
   pub to : Place
   pub is_from : IsPlaceOf plan from
   pub is_next : next_place plan from ≡ Some to
-  pub number_from : i ≡ number_of plan from
-  pub number_to : j ≡ number_of plan to
+  pub number_from : i ≡ place_number plan from
+  pub number_to : j ≡ place_number plan to
 
 abbrev pub AreNeighbours : TransportState → ℕ → ℕ → Type 0
 AreNeighbours t i j = (plan : Plan) (steps : List Step) (put : ℕ → List Note) (taken : List Item) →

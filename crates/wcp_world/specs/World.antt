@@ -5,26 +5,31 @@ use Rattle.wcp_model.specs.declared.plan.Plan.{Plan}
 use Rattle.wcp_model.specs.declared.step.Step.{Step}
 use Rattle.wcp_model.specs.declared.step.Step.TheVariants as step
 use Rattle.wcp_model.specs.declared.step.Reply.{Reply}
-use Rattle.wcp_model.specs.Replies.{Answered, accepted_by, taken_by, accepted, items_taken, computation, IsReply, AreReplies}
+use Rattle.wcp_model.specs.Replies.{Answered, accepted_by, taken_by, accepted, items_taken, computation}
+use Rattle.wcp_model.specs.Replies.{IsReply, AreReplies}
 use Rattle.wcp_model.specs.Report.{AreFrontsOfEmissions}
-use Rattle.wcp_queue.specs.Checker.{CheckerState, processes}
-use Rattle.wcp_queue.specs.Checker.{StandsForItems}
-use Rattle.wcp_world.specs.Application.{ApplicationState, IsApplicationOf}
+use Rattle.wcp_queue.specs.Checker.{CheckerState}
+use Rattle.wcp_queue.specs.Checker.{processes as processes_of_checker, StandsForItems}
+use Rattle.wcp_world.specs.Processes.{ProcessesState, AreProcessesOf}
 use Rattle.wcp_world.specs.Transport.{TransportState, IsTransportOf}
 
--- What a world has.
+-- What a world has: its processes, the tree of relays between them and the checker, and the checker.
 pub record WorldState : Type 0 where
-  pub application : ApplicationState
+  pub processes : ProcessesState
   pub transport : TransportState
   pub checker : CheckerState
 
--- The parts of a world stand for the same accepted steps and items taken: the application for their computation, the
--- transport for the notes that were put from the one into the other, and the checker for what it took.
+-- How many processes a world has.
+abbrev pub processes_of : WorldState → ℕ
+processes_of w = processes_of_checker w.checker
+
+-- The parts of a world stand for the same accepted steps and items taken: the processes for the computation of these
+-- steps, the transport for the notes that were put on its links, and the checker for what it took.
 pub record Stands (plan : Plan) (steps : List Step) (taken : List Item) (w : WorldState) : Type 0 where
   pub put : ℕ → List Note
-  pub application : IsApplicationOf plan.n (computation steps) put w.application
+  pub processes : AreProcessesOf plan.n (computation steps) put w.processes
   pub transport : IsTransportOf plan steps put taken w.transport
-  pub processes_are : processes w.checker ≡ plan.n
+  pub processes_are : processes_of w ≡ plan.n
   pub checker : StandsForItems w.checker taken
 
 abbrev pub IsReached : WorldState → Type 0
@@ -32,8 +37,8 @@ IsReached w = (plan : Plan) × (steps : List Step) × (taken : List Item) × Sta
 
 -- A step was answered: of whatever steps and items the world stood for, the reply is that of the definitions, and the
 -- world now stands for them with the step and the item that the reply accepts and gives.
-abbrev pub Answers : WorldState → Step → Reply → WorldState → Type 0
-Answers old s answer new = (plan : Plan) (steps : List Step) (taken : List Item) → Stands plan steps taken old →
+abbrev pub MakesStep : WorldState → Step → Reply → WorldState → Type 0
+MakesStep old s answer new = (plan : Plan) (steps : List Step) (taken : List Item) → Stands plan steps taken old →
     IsReply plan steps s answer × Stands plan (steps ++ accepted_by s answer) (taken ++ taken_by answer) new
 
 -- A world stands for a history: the steps so far, each with its reply, which is that of the definitions; after each
@@ -44,12 +49,14 @@ pub record IsWorldOf (plan : Plan) (history : List Answered) (w : WorldState) : 
       AreFrontsOfEmissions plan.n (computation (accepted (take place history))) (items_taken (take place history))
   pub stands : Stands plan (accepted history) (items_taken history) w
 
--- How many processes a world has.
-abbrev pub processes_of : WorldState → ℕ
-processes_of w = processes w.checker
-
 -- Of the nine steps only a send and a check may want memory.
 abbrev pub may_grow : Step → Bool
+may_grow (step.Observe p holds) = false
 may_grow (step.Send p to) = true
+may_grow (step.Recv p message) = false
+may_grow (step.Close p) = false
+may_grow (step.Put p) = false
+may_grow (step.Admit relay p) = false
+may_grow (step.Pull relay) = false
+may_grow (step.Pass relay) = false
 may_grow step.Check = true
-may_grow s = false

@@ -2,4 +2,4 @@ use Rattle.wcp_world.specs.declared.detector.Detector.{Detector}
 use Rattle.wcp_world.specs.World.{WorldState}
 
 abbrev pub state_of : Detector → WorldState
-state_of d = record { application = d.application; transport = d.transport; checker = d.checker }
+state_of d = record { processes = d.processes; transport = d.transport; checker = d.checker }

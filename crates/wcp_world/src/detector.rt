@@ -3,32 +3,33 @@ ghost use Rattle.wcp_model.specs.declared.step.Step.TheVariants as step;
 ghost use Rattle.wcp_model.specs.PlanFault.{IsCheckedPlan};
 ghost use Rattle.wcp_queue.specs.Checker.{MayTake, TakesItem, processes};
 ghost use Rattle.wcp_world.specs.Answer.{KeepsIfRefused};
-ghost use Rattle.wcp_world.specs.World.{Answers, IsReached, Stands, may_grow};
+ghost use Rattle.wcp_world.specs.World.{MakesStep, IsReached, Stands, may_grow};
 ghost use Rattle.wcp_world.specs.WorldView.{state_of};
 
-use crate::application::Application;
+use crate::processes::Processes;
 use crate::transport::Transport;
 use std::alloc::{AllocError, Global};
 use wcp_clock::Item;
 use wcp_model::{Plan, Reply, Step, Why};
 use wcp_queue::Checker;
 
-/// The application, the transport and the checker of a plan.
+/// The processes, the transport and the checker of a plan.
 #[derive(Drop)]
 pub struct Detector {
-    pub application: Application,
+    pub processes: Processes,
     pub transport: Transport,
     pub checker: Checker,
 }
 
 impl Detector {
     /// The detector of a plan, before any step. `Err` where memory runs out.
+    #[tactic(auto, using(crate::proofs::Places::plan_limits))]
     pub fn new(alloc: Global, plan: &Plan) -> Result<Detector, AllocError>
         requires { IsCheckedPlan plan.now }
         ensures { IfOk result (λ detector. Stands plan.now [] [] (state_of detector)) }
     {
         Ok(Detector {
-            application: Application::new(alloc, plan.n)?,
+            processes: Processes::new(alloc, plan.n)?,
             transport: Transport::new(alloc, plan)?,
             checker: Checker::new(alloc, plan.n)?,
         })
@@ -37,16 +38,16 @@ impl Detector {
     /// Makes a step, or refuses it. `Err` where memory runs out: nothing has changed.
     pub fn step(&mut self, step: Step) -> Result<Reply, AllocError>
         requires { IsReached (state_of self.old) }
-        ensures answered { IfOk result (λ reply. Answers (state_of self.old) step reply (state_of self.new)) }
+        ensures answered { IfOk result (λ reply. MakesStep (state_of self.old) step reply (state_of self.new)) }
         ensures refused { IfOk result (λ reply. KeepsIfRefused (state_of self.old) reply (state_of self.new)) }
         ensures unchanged { OnErr result (state_of self.new ≡ state_of self.old) }
         ensures memory { may_grow step ≡ false → IsOk result }
     {
         match step {
-            Step::Observe(p, holds) => Ok(self.application.observe(p, holds)),
-            Step::Send(p, to) => self.application.send(p, to),
-            Step::Recv(p, message) => Ok(self.application.receive(p, message)),
-            Step::Close(p) => Ok(self.application.close(p)),
+            Step::Observe(p, holds) => Ok(self.processes.observe(p, holds)),
+            Step::Send(p, to) => self.processes.send(p, to),
+            Step::Recv(p, message) => Ok(self.processes.receive(p, message)),
+            Step::Close(p) => Ok(self.processes.close(p)),
             Step::Put(p) => Ok(self.put(p)),
             Step::Admit(relay, p) => Ok(self.transport.admit(relay, p)),
             Step::Pull(relay) => Ok(self.transport.pull(relay)),
@@ -58,29 +59,27 @@ impl Detector {
     /// The link of process `p` takes its pending note.
     fn put(&mut self, p: u32) -> Reply
         requires { IsReached (state_of self.old) }
-        ensures answered { Answers (state_of self.old) (step.Put p) result (state_of self.new) }
+        ensures answered { MakesStep (state_of self.old) (step.Put p) result (state_of self.new) }
         ensures refused { KeepsIfRefused (state_of self.old) result (state_of self.new) }
     {
-        if p as usize >= self.application.processes() {
+        if p as usize >= self.processes.count() {
             return Reply::Refused(Why::NoSuch);
         }
-        let Some(note) = self.application.pending(p) else {
+        let Some(note) = self.processes.pending(p) else {
             return Reply::Refused(Why::Empty);
         };
-        match self.transport.put(p, note) {
-            Reply::Done => {
-                self.application.was_put(p);
-                Reply::Done
-            }
-            refusal => refusal,
+        if !self.transport.put(p, note) {
+            return Reply::Refused(Why::Full);
         }
+        self.processes.was_put(p);
+        Reply::Done
     }
 
     /// The checker takes an item from the root inbox. `Err` where memory runs out: nothing has
     /// changed.
     fn check(&mut self) -> Result<Reply, AllocError>
         requires { IsReached (state_of self.old) }
-        ensures answered { IfOk result (λ reply. Answers (state_of self.old) step.Check reply (state_of self.new)) }
+        ensures answered { IfOk result (λ reply. MakesStep (state_of self.old) step.Check reply (state_of self.new)) }
         ensures refused { IfOk result (λ reply. KeepsIfRefused (state_of self.old) reply (state_of self.new)) }
         ensures unchanged { OnErr result (state_of self.new ≡ state_of self.old) }
     {

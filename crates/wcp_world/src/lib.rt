@@ -2,12 +2,12 @@
 //! steps.
 #![tactic(auto)]
 
-mod application;
 mod detector;
 mod messages;
-mod played;
+mod plays;
+mod processes;
 mod transport;
 mod world;
 
-pub use played::{Played, play};
+pub use plays::{Played, play};
 pub use world::World;

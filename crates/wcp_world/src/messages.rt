@@ -41,10 +41,12 @@ impl Letters {
         }
     }
 
-    /// The probe sends a message to this process. The answer is why it doesn't, if it doesn't.
+    /// The probe sends a message to this process: `Ok(None)`. `Ok(Some(why))` where it refuses to, and
+    /// `Err` where memory runs out: nothing has changed then.
     pub fn post(&mut self, probe: &mut ProbeCore, to: u32) -> Result<Option<Refusal>, AllocError>
         ensures first { IfOk result (λ refusal. refusal ≡ stamp_refusal probe.old to) }
-        ensures posted { IfOk result (λ refusal. refusal ≡ None → IsPosted probe.old probe.new to self.old self.new) }
+        ensures posted { IfOk result (λ refusal. refusal ≡ None →
+            IsPosted probe.old probe.new to self.old self.new) }
         ensures refused { IfOk result (λ refusal. (why : Refusal) → refusal ≡ Some why →
             (probe.new ≡ probe.old) × (self.new ≡ self.old)) }
         ensures unchanged { OnErr result ((probe.new ≡ probe.old) × (self.new ≡ self.old)) }

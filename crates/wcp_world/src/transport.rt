@@ -1,12 +1,14 @@
-ghost use Rattle.std.specs.Prelude.{◌≡◌, ℕ, ◌+◌, ◌<◌, ◌≤◌, [], ◌++◌, length, replicate, IsSome, IfOk, OnOk};
+ghost use Rattle.std.specs.Prelude.{◌≡◌, ℕ, ◌+◌, ◌<◌, ◌≤◌, false, [], ◌++◌, length, replicate};
+ghost use Rattle.std.specs.Prelude.{IsSome, IfOk, OnOk};
+ghost use Rattle.wcp_clock.specs.Limits.{most_cap};
 ghost use Rattle.wcp_model.specs.declared.plan.Plan.{Plan};
 ghost use Rattle.wcp_model.specs.declared.step.Step.TheVariants as step;
 ghost use Rattle.wcp_model.specs.Occupancy.{InboxOf};
 ghost use Rattle.wcp_model.specs.PlanFault.{IsCheckedPlan};
 ghost use Rattle.wcp_hold.specs.Held.{empty_hold};
 ghost use Rattle.wcp_world.specs.Answer.{KeepsIfRefused};
-ghost use Rattle.wcp_world.specs.Shifting.{Shifts};
-ghost use Rattle.wcp_world.specs.Transport.{number_of};
+ghost use Rattle.wcp_world.specs.Shifts.{Shifts};
+ghost use Rattle.wcp_world.specs.Transport.{place_number};
 
 use std::alloc::{AllocError, Global};
 use std::marker::Model;
@@ -32,9 +34,11 @@ impl Model for Transport {
 }
 
 impl Transport {
-    ghost use Rattle.wcp_world.specs.Transport.{IsTransportOf, IsConveying, Conveys, ReadsNext, TakesNext, Puts, AreNeighbours, next_of};
+    ghost use Rattle.wcp_world.specs.Transport.{IsTransportOf, IsConveying, Conveys, ReadsNext, TakesNext, Puts};
+    ghost use Rattle.wcp_world.specs.Transport.{AreNeighbours, next_of};
 
     /// The transport of a plan, before any step. `Err` where memory runs out.
+    #[tactic(auto, using(crate::proofs::Places::plan_limits))]
     pub fn new(alloc: Global, plan: &Plan) -> Result<Transport, AllocError>
         requires { IsCheckedPlan plan.now }
         ensures { IfOk result (λ transport. IsTransportOf plan.now [] (λ p. []) [] transport) }
@@ -50,16 +54,16 @@ impl Transport {
         })
     }
 
-    /// Puts a note of process `p` on its link, if that has room.
-    pub fn put(&mut self, p: u32, note: Note) -> Reply
+    /// Puts a note of process `p` on its link, if that has room, and says whether it had.
+    pub fn put(&mut self, p: u32, note: Note) -> bool
         requires conveying { IsConveying self.old }
         requires process { p < self.old.plan.n }
         ensures answered { Puts self.old p note result self.new }
-        ensures refused { KeepsIfRefused self.old result self.new }
+        ensures full { result ≡ false → self.new ≡ self.old }
     {
         match self.places[p as usize].push(Item { from: p, note }) {
-            Ok(()) => Reply::Done,
-            Err(_) => Reply::Refused(Why::Full),
+            Ok(()) => true,
+            Err(_) => false,
         }
     }
 
@@ -151,8 +155,7 @@ impl Transport {
 
     /// The number of an inbox among the places.
     fn inbox(&self, owner: Parent) -> usize
-        requires { length self.now.plan.parents.items ≤ 15 }
-        ensures { result ≡ number_of self.now.plan (InboxOf owner) }
+        ensures { result ≡ place_number self.now.plan (InboxOf owner) }
     {
         let root = self.plan.n as usize + self.plan.parents.len();
         match owner {
@@ -170,7 +173,7 @@ fn add_places(
     room: u32,
 ) -> Result<(), AllocError>
     requires some { 0 < room }
-    requires within { room ≤ 1024 }
+    requires within { room ≤ most_cap }
     ensures { OnOk result (places.new.items ≡ places.old.items ++ replicate count (empty_hold room)) }
 {
     for _ in 0..count {

@@ -1,9 +1,10 @@
-ghost use Rattle.std.specs.Prelude.{◌≡◌, ◌<◌, false, [], ◌∷◌, ◌++◌, List, IsOk, IfOk, OnErr};
+ghost use Rattle.std.specs.Prelude.{◌≡◌, ◌<◌, ◌≤◌, false, [], ◌∷◌, ◌++◌, List, IsOk, IfOk, OnErr};
+ghost use Rattle.wcp_clock.specs.Limits.{most_processes};
 ghost use Rattle.wcp_model.specs.Headline.{IsHeadline};
 ghost use Rattle.wcp_model.specs.PlanFault.{IsCheckedPlan};
 ghost use Rattle.wcp_model.specs.Replies.{Answered, accepted, computation, items_taken};
 ghost use Rattle.wcp_world.specs.Answer.{KeepsIfRefused};
-ghost use Rattle.wcp_world.specs.Played.{IsTallyOf};
+ghost use Rattle.wcp_world.specs.Plays.{IsTallyOf};
 
 use crate::detector::Detector;
 use std::alloc::{AllocError, Global};
@@ -54,6 +55,15 @@ impl World {
         self.detector.step(step)
     }
 
+    /// How many processes there are.
+    pub fn processes(&self) -> u32
+        ensures value { result ≡ processes_of self.now }
+        ensures some { 0 < processes_of self.now }
+        ensures few { processes_of self.now ≤ most_processes }
+    {
+        self.detector.checker.processes()
+    }
+
     /// What the snapshots taken tell.
     pub fn report(&self) -> Report
         ensures { (plan : Plan) (history : List Answered)
@@ -70,7 +80,7 @@ impl World {
             → IsTallyOf plan.n (computation (accepted history)) (items_taken history) p result }
     {
         Tally {
-            emitted: self.detector.application.emitted(p) as u64,
+            emitted: self.detector.processes.emitted(p) as u64,
             taken: self.detector.checker.taken(p),
         }
     }

@@ -3,7 +3,7 @@ use Rattle.std.specs.List.{flat_map}
 use Rattle.std.proofs.lemmas.Result.{MatchResult-from_err}
 use Rattle.wcp_report.specs.ReplyText.{reply_line}
 use Rattle.wcp_report.specs.ReportText.{outcome_text}
-use Rattle.wcp_world.specs.Played.{IsPlayed}
+use Rattle.wcp_world.specs.Plays.{IsPlayed}
 use Rattle.wcp_script.specs.TextFault.{schedules, Spells}
 use Rattle.wcp_cli.specs.Run.{Answers, IsReplayAnswer, Refuses, Broken, status_of}
 use Rattle.wcp_cli.proofs.program.give_replies.Goals as goal

@@ -1,27 +1,30 @@
+use Rattle.std.proofs.Common.{refl}
+use Rattle.wcp_model.specs.declared.step.Step.TheVariants as step
 use Rattle.wcp_world.specs.WorldView.{state_of}
-use Rattle.wcp_world.proofs.Answering.{observes, sends, receives, closes, admits, pulls, passes}
+use Rattle.wcp_world.proofs.WorldAfterStep.{event_answered, move_answered, pending_is}
+use Rattle.wcp_world.proofs.AnsweredSteps.{sends}
 use Rattle.wcp_world.proofs.detector.Detector.step.Goals as goal
 
 pub returns-in-Observe-clause-answered : goal.returns-in-Observe-clause-answered
-returns-in-Observe-clause-answered c = rw c.in-Observe.is (observes (state_of c.args.self.now) c.in-Observe.p c.in-Observe.holds c.observe.result c.observe.new.self c.observe.ensures.answered)
+returns-in-Observe-clause-answered c = rw c.in-Observe.is (λ plan steps taken stands. event_answered plan steps taken (state_of c.args.self.now) stands (step.Observe c.in-Observe.p c.in-Observe.holds) c.observe.result c.observe.new.self refl refl refl (λ e. e) c.observe.ensures.answered)
 
 pub returns-in-Send-clause-answered : goal.returns-in-Send-clause-answered
 returns-in-Send-clause-answered c = rw c.in-Send.is (sends (state_of c.args.self.now) c.in-Send.p c.in-Send.to c.send.result c.send.new.self c.send.ensures.answered)
 
 pub returns-in-Recv-clause-answered : goal.returns-in-Recv-clause-answered
-returns-in-Recv-clause-answered c = rw c.in-Recv.is (receives (state_of c.args.self.now) c.in-Recv.p c.in-Recv.message c.receive.result c.receive.new.self c.receive.ensures.answered)
+returns-in-Recv-clause-answered c = rw c.in-Recv.is (λ plan steps taken stands. event_answered plan steps taken (state_of c.args.self.now) stands (step.Recv c.in-Recv.p c.in-Recv.message) c.receive.result c.receive.new.self refl refl (rw (pending_is plan steps taken (state_of c.args.self.now) stands c.in-Recv.p) refl) (λ e. e) c.receive.ensures.answered)
 
 pub returns-in-Close-clause-answered : goal.returns-in-Close-clause-answered
-returns-in-Close-clause-answered c = rw c.in-Close.is (closes (state_of c.args.self.now) c.in-Close.p c.close.result c.close.new.self c.close.ensures.answered)
+returns-in-Close-clause-answered c = rw c.in-Close.is (λ plan steps taken stands. event_answered plan steps taken (state_of c.args.self.now) stands (step.Close c.in-Close.p) c.close.result c.close.new.self refl refl (rw (pending_is plan steps taken (state_of c.args.self.now) stands c.in-Close.p) refl) (λ e. e) c.close.ensures.answered)
 
 pub returns-in-Admit-clause-answered : goal.returns-in-Admit-clause-answered
-returns-in-Admit-clause-answered c = rw c.in-Admit.is (admits (state_of c.args.self.now) c.in-Admit.relay c.in-Admit.p c.admit.result c.admit.new.self c.admit.ensures.answered)
+returns-in-Admit-clause-answered c = rw c.in-Admit.is (λ plan steps taken stands. move_answered plan steps taken (state_of c.args.self.now) stands (step.Admit c.in-Admit.relay c.in-Admit.p) c.admit.result c.admit.new.self refl (λ e. e) c.admit.ensures.answered)
 
 pub returns-in-Pull-clause-answered : goal.returns-in-Pull-clause-answered
-returns-in-Pull-clause-answered c = rw c.in-Pull.is (pulls (state_of c.args.self.now) c.in-Pull.relay c.pull.result c.pull.new.self c.pull.ensures.answered)
+returns-in-Pull-clause-answered c = rw c.in-Pull.is (λ plan steps taken stands. move_answered plan steps taken (state_of c.args.self.now) stands (step.Pull c.in-Pull.relay) c.pull.result c.pull.new.self refl (λ e. e) c.pull.ensures.answered)
 
 pub returns-in-Pass-clause-answered : goal.returns-in-Pass-clause-answered
-returns-in-Pass-clause-answered c = rw c.in-Pass.is (passes (state_of c.args.self.now) c.in-Pass.relay c.pass.result c.pass.new.self c.pass.ensures.answered)
+returns-in-Pass-clause-answered c = rw c.in-Pass.is (λ plan steps taken stands. move_answered plan steps taken (state_of c.args.self.now) stands (step.Pass c.in-Pass.relay) c.pass.result c.pass.new.self refl (λ e. e) c.pass.ensures.answered)
 
 pub returns-in-Put-clause-answered : goal.returns-in-Put-clause-answered
 returns-in-Put-clause-answered c = rw c.in-Put.is c.put.ensures.answered

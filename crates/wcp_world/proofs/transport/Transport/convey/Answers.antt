@@ -1,8 +1,8 @@
-use Rattle.std.proofs.Common.{◌≡◌, ◌<◌, List, [], ◌∷◌, ◌++◌, Some, length, drop, slice_get, get_or, set, refl, sym, ap, ap₂, ◌∙◌, subst, true≢false, arith}
-use Rattle.std.proofs.lemmas.List.{length-set, get_or_default, get_or-set_other, set-get_or}
+use Rattle.std.proofs.Common.{◌≡◌, [], ◌∷◌, ◌++◌, length, drop, slice_get, get_or, set, refl, sym, ap, ap₂, ◌∙◌, true≢false, arith}
+use Rattle.std.proofs.lemmas.List.{length-set, get_or-set_other, set-get_or}
 use Rattle.wcp_hold.specs.Held.{Held}
 use Rattle.wcp_world.specs.Transport.{TransportState, held_at}
-use Rattle.wcp_world.proofs.Conveying.{two_places, with_first, without_first, place_read}
+use Rattle.wcp_world.proofs.AnsweredMoves.{two_places, with_first, without_first, place_read}
 use Rattle.wcp_world.proofs.transport.Transport.convey.Goals as goal
 
 pub index-requires : goal.index-requires

@@ -1,26 +1,7 @@
-use Rattle.std.proofs.Common.{◌≡◌, ◌+◌, ◌++◌, length, replicate, sym, ap, ap₂, ◌∙◌}
+use Rattle.std.proofs.Common.{◌≡◌, ◌+◌, ◌++◌, length, replicate, ap, ap₂, ◌∙◌}
 use Rattle.wcp_hold.specs.Held.{empty_hold}
-use Rattle.wcp_world.proofs.Places.{within_limits}
 use Rattle.wcp_world.proofs.EmptyPlaces.{fresh_stands}
 use Rattle.wcp_world.proofs.transport.Transport.new.Goals as goal
-
-pub add_places-requires-clause-some : goal.add_places-requires-clause-some
-add_places-requires-clause-some c = (within_limits c.args.plan.now c.requires).1
-
-pub add_places-requires-clause-within : goal.add_places-requires-clause-within
-add_places-requires-clause-within c = (within_limits c.args.plan.now c.requires).2
-
-pub add_places-requires-2-clause-some : goal.add_places-requires-2-clause-some
-add_places-requires-2-clause-some c = (within_limits c.args.plan.now c.requires).3
-
-pub add_places-requires-2-clause-within : goal.add_places-requires-2-clause-within
-add_places-requires-2-clause-within c = (within_limits c.args.plan.now c.requires).4
-
-pub add_places-requires-3-clause-some : goal.add_places-requires-3-clause-some
-add_places-requires-3-clause-some c = (within_limits c.args.plan.now c.requires).1
-
-pub add_places-requires-3-clause-within : goal.add_places-requires-3-clause-within
-add_places-requires-3-clause-within c = (within_limits c.args.plan.now c.requires).2
 
 pub returns : goal.returns
 returns c =

@@ -1,14 +1,11 @@
-use Rattle.std.proofs.Common.{◌≡◌, ◌<◌, slice_get, get_or, length, sym, ap, ◌∙◌, arith}
+use Rattle.std.proofs.Common.{slice_get, get_or, ap, ◌∙◌, arith}
 use Rattle.wcp_model.specs.declared.plan.Parent.TheVariants.{Root}
 use Rattle.wcp_model.specs.Occupancy.{InboxOf}
 use Rattle.wcp_hold.specs.Held.{Held}
-use Rattle.wcp_world.specs.Transport.{TransportState, held_at, number_of}
+use Rattle.wcp_world.specs.Transport.{TransportState, held_at}
 use Rattle.wcp_world.proofs.Places.{number_within}
-use Rattle.wcp_world.proofs.Conveying.{few_inside, number_same, place_read, next_reads}
+use Rattle.wcp_world.proofs.AnsweredMoves.{number_same, place_read, next_reads}
 use Rattle.wcp_world.proofs.transport.Transport.next.Goals as goal
-
-pub inbox-requires : goal.inbox-requires
-inbox-requires c = few_inside c.args.self.now c.requires
 
 pub returns-clause-reads : goal.returns-clause-reads
 returns-clause-reads c plan steps put taken stands =

@@ -1,23 +1,18 @@
-use Rattle.std.proofs.Common.{◌≡◌, ◌+◌, ◌<◌, ◌≤◌, Some, true, false, not, nat_lt, length, slice_get, refl, sym, ap, ap₂, ◌∙◌, arith}
+use Rattle.std.proofs.Common.{◌≡◌, ◌+◌, Some, true, not, nat_lt, length, slice_get, refl, sym, ap, ◌∙◌, arith}
 use Rattle.std.specs.Option.{option_map}
 use Rattle.std.proofs.lemmas.Bool.Decides.{nat_tests}
 use Rattle.std.proofs.lemmas.Option.{slice_get_within}
-use Rattle.wcp_model.specs.declared.plan.Parent.{Parent}
-use Rattle.wcp_model.specs.declared.plan.Plan.{Plan}
 use Rattle.wcp_model.specs.declared.step.Step.TheVariants as step
 use Rattle.wcp_model.specs.Tree.{parent_of}
 use Rattle.wcp_model.specs.Occupancy.{HoldOf, InboxOf}
-use Rattle.wcp_world.specs.Transport.{TransportState, number_of}
-use Rattle.wcp_world.proofs.Conveying.{few_inside, number_same, no_relay, conveyed, refused_named}
+use Rattle.wcp_world.specs.Transport.{TransportState}
+use Rattle.wcp_world.proofs.AnsweredMoves.{number_same, no_relay, conveyed, refused_named}
 use Rattle.wcp_world.proofs.transport.Transport.pass.Goals as goal
 
 pub returns-in_default-clause-answered : goal.returns-in_default-clause-answered
 returns-in_default-clause-answered c plan steps put taken stands =
     let none = ap (λ l. slice_get l c.args.relay) (sym (ap (λ (t : TransportState). t.plan.parents.items) c.self.view_is ∙ stands.same_plan.parents)) ∙ sym c.parent_of.ensures ∙ c.in_default.is in
     refused_named plan steps put taken c.args.self.now stands (step.Pass c.args.relay) (λ emissions. refl) (ap not (no_relay plan c.args.relay none))
-
-pub inbox-to-requires : goal.inbox-to-requires
-inbox-to-requires c = few_inside c.args.self.now c.requires
 
 pub convey-requires-clause-next : goal.convey-requires-clause-next
 convey-requires-clause-next c plan steps put taken stands =

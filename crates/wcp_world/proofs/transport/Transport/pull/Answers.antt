@@ -1,16 +1,12 @@
-use Rattle.std.proofs.Common.{◌≡◌, ◌+◌, ◌<◌, ◌≤◌, true, false, not, nat_lt, ◌||◌, length, refl, sym, ap, ap₂, ◌∙◌, arith}
+use Rattle.std.proofs.Common.{◌≡◌, ◌+◌, true, nat_lt, length, refl, sym, ap, ◌∙◌, arith}
 use Rattle.std.proofs.lemmas.Bool.Decides.{nat_tests}
 use Rattle.wcp_model.specs.declared.plan.Parent.TheVariants.{Relay}
-use Rattle.wcp_model.specs.declared.plan.Plan.{Plan}
 use Rattle.wcp_model.specs.declared.step.Step.TheVariants as step
 use Rattle.wcp_model.specs.Tree.{is_leaf}
 use Rattle.wcp_model.specs.Occupancy.{HoldOf, InboxOf}
-use Rattle.wcp_world.specs.Transport.{TransportState, number_of}
-use Rattle.wcp_world.proofs.Conveying.{few_inside, relay_inside, leaf_same, number_same, conveyed}
+use Rattle.wcp_world.specs.Transport.{TransportState}
+use Rattle.wcp_world.proofs.AnsweredMoves.{relay_inside, leaf_same, number_same, conveyed}
 use Rattle.wcp_world.proofs.transport.Transport.pull.Goals as goal
-
-pub inbox-from-requires : goal.inbox-from-requires
-inbox-from-requires c = few_inside c.args.self.now c.requires
 
 pub convey-requires-clause-next : goal.convey-requires-clause-next
 convey-requires-clause-next c plan steps put taken stands = record {

@@ -1,14 +1,12 @@
-use Rattle.std.proofs.Common.{◌≡◌, ◌≢◌, ◌<◌, List, [], ◌∷◌, ◌++◌, set, get_or, length, refl, sym, ap, ap₂, subst, ◌∙◌, true≢false, arith}
-use Rattle.wcp_clock.specs.declared.note.Item.{Item}
+use Rattle.std.proofs.Common.{◌≢◌, ◌<◌, [], ◌∷◌, ◌++◌, set, get_or, length, refl, sym, ap, ap₂, subst, ◌∙◌, true≢false, arith}
 use Rattle.wcp_model.specs.declared.plan.Plan.{Plan}
-use Rattle.wcp_model.specs.declared.step.Reply.TheVariants.{Done}
 use Rattle.wcp_model.specs.declared.step.Step.TheVariants as step
 use Rattle.wcp_model.specs.Occupancy.{Link}
 use Rattle.wcp_hold.specs.Held.{Held}
-use Rattle.wcp_world.specs.Putting.{put_more}
-use Rattle.wcp_world.specs.Transport.{TransportState, IsTransportOf, held_at, number_of}
+use Rattle.wcp_world.specs.PutNotes.{put_more}
+use Rattle.wcp_world.specs.Transport.{TransportState, IsTransportOf, held_at}
 use Rattle.wcp_world.proofs.Places.{number_within}
-use Rattle.wcp_world.proofs.Conveying.{place_read, puts, put_refused}
+use Rattle.wcp_world.proofs.AnsweredMoves.{place_read, puts, put_refused}
 use Rattle.wcp_world.proofs.transport.Transport.put.Goals as goal
 use Rattle.wcp_world.proofs.transport.Transport.put.Goals.{in-Ok, in-Err}
 

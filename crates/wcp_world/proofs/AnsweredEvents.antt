@@ -1,0 +1,238 @@
+use Rattle.wcp_model.specs.FirstReason.{first_reason}
+use Rattle.std.proofs.Common.{◌≡◌, ◌≢◌, ℕ, ◌+◌, ◌<◌, ◌≤◌, ◌↔◌, Bool, true, false, cond, ◌||◌, nat_lt, nat_le, IsTrue, is_some, MatchOption, List, [], ◌∷◌, ◌++◌, length, slice_get, slice_index, count_by, set, eqb, Option, None, Some, if◌then◌else◌, refl, sym, ap, ◌∙◌, subst, subst₂, ⊎_elim, append-nil, eqb-true, eq-eqb, arith}
+use Rattle.std.specs.Option.{option_and_then, option_map, option_to_list}
+use Rattle.std.proofs.lemmas.Bool.{cases_eq, ne_eqb}
+use Rattle.std.proofs.lemmas.Bool.Decides.{nat_tests}
+use Rattle.std.proofs.lemmas.List.{length-set, set-get_or, take_at}
+use Rattle.std.proofs.lemmas.List.Sums.{sum_by_push}
+use Rattle.std.proofs.lemmas.Option.{get_or_from_slice_get, slice_get_within, MatchOption-at_some, MatchOption-at_none}
+use Rattle.wcp_clock.specs.Limits.{most_events}
+use Rattle.wcp_clock.specs.declared.note.Note.{Note}
+use Rattle.wcp_clock.specs.declared.note.Note.TheVariants as note
+use Rattle.wcp_model.specs.declared.step.Step.{Step}
+use Rattle.wcp_model.specs.declared.step.Step.TheVariants.{Observe, Send, Recv, Close}
+use Rattle.wcp_model.specs.declared.step.Reply.{Reply}
+use Rattle.wcp_model.specs.declared.step.Reply.TheVariants.{Done, Refused}
+use Rattle.wcp_model.specs.declared.step.Why.{Why}
+use Rattle.wcp_model.specs.Computation.{Computation, is_communication_of, is_send, communications, interval_at}
+use Rattle.wcp_model.specs.Emission.{is_closed}
+use Rattle.wcp_model.specs.ProbeLog.{Call, Observed, Sent, Received, Closed, ProbeState, after_call, is_step_of, IsStampOf, IsCallOf, IsLogOf, IsAccepted}
+use Rattle.wcp_model.specs.Replies.{accepted_by, event_reasons}
+use Rattle.wcp_model.specs.StateClock.{IsStateClock}
+use Rattle.wcp_model.proofs.Growth.{get_behind}
+use Rattle.wcp_model.proofs.GrowingLogs.{stamp_grows, log_grows}
+use Rattle.wcp_model.proofs.AcceptedSteps.{accepted_push}
+use Rattle.wcp_model.proofs.Predecessors.{local_state}
+use Rattle.wcp_model.proofs.RunningEmissions.{interval_at_seam}
+use Rattle.wcp_probe.specs.declared.probe.Refusal.TheVariants as refusal
+use Rattle.wcp_probe.specs.declared.stamp.Stamped.{Stamped}
+use Rattle.wcp_probe.specs.Core.{Core, Accepts, IsSameProbe}
+use Rattle.wcp_probe.specs.Refusals.{at_clock_end, observe_refusal, close_refusal, stamp_refusal}
+use Rattle.wcp_probe.specs.Seal.{seal_of}
+use Rattle.wcp_probe.proofs.AcceptedCalls.{state_after}
+use Rattle.wcp_world.specs.declared.messages.Letter.{Letter}
+use Rattle.wcp_world.specs.Answer.{IsAnswer, KeepsIfRefused}
+use Rattle.wcp_world.specs.Processes.{ProcessesState, AreProcessesOf, IsProbeOf, AreLettersOf, pending_at}
+use Rattle.wcp_world.specs.Messages.{why_of, delivery_reasons, IsPosted, IsDelivered}
+use Rattle.wcp_world.proofs.SentLetters.{get_set, addressed_is, not_ahead, as_many_letters, letters_stay, letters_posted, letters_delivered}
+use Rattle.wcp_world.proofs.Probes.{clock_is, law_of_probe, is_closed_as, state, observed, closed}
+use Rattle.wcp_world.proofs.Reasons.{first_maps, partner_is, only_clock_end, none_holds, no_value}
+
+abbrev bit : Bool → ℕ
+bit b = cond b 1 0
+
+-- one more event of a process
+events_push : (c : Computation) (s : Step) (p : ℕ) → communications (c ++ s ∷ []) p ≡ communications c p + bit (is_communication_of p s)
+events_push c s p = sum_by_push (λ x. bit (is_communication_of p x)) c s
+
+-- the clock after a send is that of the state behind it
+stamp_of_send : (n : ℕ) (c : Computation) (p to : ℕ) (put : List Note) (new : Core) → p < n → IsAccepted (c ++ Send p to ∷ []) →
+    IsProbeOf n (c ++ Send p to ∷ []) p put new → IsStampOf n (c ++ Send p to ∷ []) (count_by is_send c) new.clock
+stamp_of_send n c p to put new in_range order is =
+    let d = c ++ Send p to ∷ [] in
+    let own : bit (eqb p p) ≡ 1 = ap bit (eq-eqb p p refl) in
+    let last : communications d p ≡ interval_at d p (length c) + 1 = omega (arith, events_push c (Send p to) p, own, interval_at_seam c (Send p to ∷ []) p) in
+    record {
+      sent = length c;
+      from = p;
+      to = to;
+      send = get_behind c (Send p to) [];
+      number = ap (count_by is_send) (take_at c (Send p to ∷ []) (length c) refl);
+      clock = subst₂ (λ k clock. IsStateClock n d (local_state p k) clock) last (sym (clock_is n d p put new is)) (law_of_probe n d p put new is order in_range).clock;
+    }
+
+module _ (n : ℕ) (c : Computation) (put : ℕ → List Note) (app : ProcessesState) (stands : AreProcessesOf n c put app)
+    (p : ℕ) (core : Core) (at : slice_get app.probes p ≡ Some core) where
+  abbrev is : IsProbeOf n c p (put p) core
+  is = stands.probes p core at
+
+  in_range : p < n
+  in_range = omega (arith, slice_get_within app.probes p core at, stands.members)
+
+  within : nat_lt p n ≡ true
+  within = let lt : p < n = in_range in grind (arith, nat_tests)
+
+  -- a probe is closed where its process is, and its clock counts the process's events
+  closed_is : is_closed c p ≡ core.closed
+  closed_is = is_closed_as n c p (put p) core is stands.order in_range
+
+  events_are : slice_index core.clock p ≡ communications c p
+  events_are = ap (λ v. slice_index v p) (clock_is n c p (put p) core is) ∙ (law_of_probe n c p (put p) core is stands.order in_range).clock.own
+
+  clock_end_is : nat_le most_events (communications c p) ≡ at_clock_end core
+  clock_end_is = rw (is.limit, is.id, events_are) refl
+
+  -- the reasons to refuse an event are those of the probe
+  abbrev reasons : Step → List (Bool × Why)
+  reasons s = event_reasons n c (λ q. is_some (pending_at app q)) s
+
+  pub observe_reasons : (holds : Bool) → first_reason (reasons (Observe p holds)) ≡ option_map why_of (observe_refusal core)
+  observe_reasons holds = rw (within, closed_is) (first_maps ((core.closed, refusal.Closed) ∷ []))
+
+  pub close_reasons : first_reason (reasons (Close p)) ≡ option_map why_of (close_refusal core)
+  close_reasons = rw (within, closed_is, at) (first_maps ((core.closed, refusal.Closed) ∷ (is_some core.pending, refusal.Backlog) ∷ []))
+
+  pub send_reasons : (to : ℕ) → first_reason (reasons (Send p to)) ≡ option_map why_of (stamp_refusal core to)
+  send_reasons to =
+      rw (within, closed_is, at, clock_end_is, partner_is p to n, ← is.components, ← is.id)
+      (first_maps ((nat_le (length core.clock) to || eqb to core.id, refusal.NoSuch) ∷ (core.closed, refusal.Closed)
+      ∷ (is_some core.pending, refusal.Backlog) ∷ (at_clock_end core, refusal.ClockEnd) ∷ []))
+
+  message_reasons : (number : ℕ) (letter : Letter) → slice_get app.letters number ≡ Some letter → letter.to ≡ p → (o : Option (Stamped (Unit {0}))) → letter.message ≡ o →
+      first_reason (reasons (Recv p number)) ≡ first_reason (delivery_reasons core app.letters p number)
+  message_reasons number letter there mine None gone =
+      let received = MatchOption-at_none _ _ gone (stands.letters.each number letter there) in
+      rw (within, addressed_is n c app.letters stands.letters number p, there, eq-eqb letter.to p mine, gone, received, closed_is, at) refl
+  message_reasons number letter there mine (Some message) was =
+      let mail = MatchOption-at_some _ _ message was (stands.letters.each number letter there) in
+      let seal = seal_of message in
+      let same_watch = eq-eqb seal.watch core.watch (mail.1 ∙ sym is.watch) in
+      let same_length = eq-eqb (length seal.clock) (length core.clock) (mail.3.clock.components ∙ sym is.components) in
+      let same_process = eq-eqb seal.to core.id (mail.2 ∙ mine ∙ sym is.id) in
+      let own : slice_index seal.clock p ≤ slice_index core.clock p = omega (arith, not_ahead n c number p seal.clock in_range mail.3, events_are) in
+      let behind : nat_lt (slice_index core.clock p) (slice_index seal.clock p) ≡ false = grind (arith, nat_tests) in
+      let ahead : nat_lt (slice_index core.clock core.id) (slice_index seal.clock core.id) ≡ false = rw is.id behind in
+      rw (within, addressed_is n c app.letters stands.letters number p, there, eq-eqb letter.to p mine, was, mail.0, closed_is, at, clock_end_is, same_watch, same_length, same_process, ahead)
+      (only_clock_end core.closed (is_some core.pending) (at_clock_end core))
+
+  -- and those to refuse a message are those of its letter
+  receive_reasons : (number : ℕ) → first_reason (reasons (Recv p number)) ≡ first_reason (delivery_reasons core app.letters p number)
+  receive_reasons number = go (slice_get app.letters number) refl
+    where
+      go : (o : Option Letter) → slice_get app.letters number ≡ o → first_reason (reasons (Recv p number)) ≡ first_reason (delivery_reasons core app.letters p number)
+      go None there = rw (within, addressed_is n c app.letters stands.letters number p, there) refl
+      go (Some letter) there = ⊎_elim
+          (λ (mine : letter.to ≡ p). message_reasons number letter there mine letter.message refl)
+          (λ (other : letter.to ≢ p). rw (within, addressed_is n c app.letters stands.letters number p, there, ne_eqb letter.to p other) refl)
+          (cases_eq letter.to p)
+
+  module _ (new : Core) where
+    -- what is to be shown of the answer to an event, and of the processes after it
+    abbrev Performed : Step → Reply → List Letter → Type 0
+    Performed s answer letters = IsAnswer (reasons s) answer × AreProcessesOf n (c ++ accepted_by s answer) put (record { probes = set app.probes p new; letters = letters })
+
+    -- an event that is refused
+    pub refuses : (s : Step) (why : Why) (letters : List Letter) → new ≡ core → letters ≡ app.letters → first_reason (reasons s) ≡ Some why → Performed s (Refused why) letters
+    refuses s why letters same same_letters first =
+        let back : set app.probes p new ≡ app.probes = ap (set app.probes p) (same ∙ sym (get_or_from_slice_get app.probes p core core at)) ∙ set-get_or app.probes p core in
+        rw (first, back, same_letters, append-nil c) (refl, stands)
+
+    module _ (s : Step) (call : Call) (owner : (q : ℕ) → is_step_of q s ≡ eqb p q) where
+      abbrev grown : Computation
+      grown = c ++ s ∷ []
+
+      -- the probe of the process whose event is new
+      own_probe : IsCallOf n grown s call → Accepts core call new → IsSameProbe core new →
+          (after_call p (state n c p (put p) core is) call).notes ≡ put p ++ option_to_list new.pending → IsProbeOf n grown p (put p) new
+      own_probe is_call accepted same notes = record {
+        log = is.log ++ call ∷ [];
+        is_log = log_grows n c (s ∷ []) p is.log (call ∷ []) is.is_log (rw (owner p, eq-eqb p p refl) (is_call, tt));
+        stands = accepted is.log is.stands;
+        watch = same.watch ∙ is.watch;
+        id = same.id ∙ is.id;
+        limit = same.limit ∙ is.limit;
+        components = same.components ∙ is.components;
+        notes = ap (λ (t : ProbeState). t.notes) (state_after n p is.log call) ∙ notes;
+      }
+
+      -- the probe of another process
+      other_probe : (q : ℕ) (other : Core) → q ≢ p → IsProbeOf n c q (put q) other → IsProbeOf n grown q (put q) other
+      other_probe q other apart was = record {
+        log = was.log;
+        is_log = subst (IsLogOf n grown q) (append-nil was.log) (log_grows n c (s ∷ []) q was.log [] was.is_log (rw (owner q, ne_eqb p q (λ e. apart (sym e))) tt));
+        stands = was.stands;
+        watch = was.watch;
+        id = was.id;
+        limit = was.limit;
+        components = was.components;
+        notes = was.notes;
+      }
+
+      -- an event that is accepted
+      accepts : (letters : List Letter) → first_reason (reasons s) ≡ None → is_closed c p ≡ false →
+          ((r message : ℕ) → s ≡ Recv r message → message < count_by is_send c) → IsCallOf n grown s call → Accepts core call new → IsSameProbe core new →
+          (after_call p (state n c p (put p) core is) call).notes ≡ put p ++ option_to_list new.pending → (IsAccepted grown → IsProbeOf n grown p (put p) new → AreLettersOf n grown letters) →
+          IsAnswer (reasons s) Done × AreProcessesOf n grown put (record { probes = set app.probes p new; letters = letters })
+      accepts letters first is_open was_sent is_call accepted same notes letters_are =
+          let order : IsAccepted grown = accepted_push c s stands.order
+          (λ q own. subst (λ r. is_closed c r ≡ false) (eqb-true p q (sym (owner q) ∙ own)) is_open) was_sent in
+          let now : IsProbeOf n grown p (put p) new = own_probe is_call accepted same notes in (
+            rw first refl,
+            record {
+              order = order;
+              members = length-set app.probes p new ∙ stands.members;
+              probes = λ q other there. ⊎_elim
+                  (λ (here : (q ≡ p) × (new ≡ other)). subst₂ (λ r k. IsProbeOf n grown r (put r) k) (sym here.0) here.1 now)
+                  (λ (still : (q ≢ p) × (slice_get app.probes q ≡ Some other)). other_probe q other still.0 (stands.probes q other still.1))
+                  (get_set app.probes new other p q there);
+              letters = letters_are order now;
+            },
+          )
+
+    -- the process observes its condition
+    pub observes : (holds emitted : Bool) → observe_refusal core ≡ None → Accepts core (Observed holds) new → IsTrue emitted ↔ (IsTrue holds × (core.flag ≡ false)) → (IsTrue emitted → core.pending ≡ None) →
+        new ≡ (if emitted then record core { flag = true; emitted = core.emitted + 1; pending = Some (note.Snap core.emitted core.clock) } else core) → Performed (Observe p holds) Done app.letters
+    observes holds emitted willing accepted emits spared new_is =
+        let first = observe_reasons holds ∙ ap (option_map why_of) willing in
+        let told = observed n c p (put p) core is new holds emitted emits spared new_is in
+        accepts (Observe p holds) (Observed holds) (λ q. refl) app.letters first (none_holds (reasons (Observe p holds)) first).1.0 (λ r message e. cc) refl accepted told.0 told.1
+        (λ order now. letters_stay n c app.letters stands.letters (Observe p holds) refl (λ message. refl))
+
+    -- the process closes
+    pub closes : close_refusal core ≡ None → Accepts core Closed new → new ≡ record core { closed = true; pending = Some (note.Close core.emitted) } → Performed (Close p) Done app.letters
+    closes willing accepted new_is =
+        let first = close_reasons ∙ ap (option_map why_of) willing in
+        let none = none_holds (reasons (Close p)) first in
+        let nothing = no_value core.pending (sym (ap (λ o. is_some (option_and_then (λ (k : Core). k.pending) o)) at) ∙ none.1.1.0) in
+        let told = closed n c p (put p) core is new nothing new_is in
+        accepts (Close p) Closed (λ q. refl) app.letters first none.1.0 (λ r message e. cc) tt accepted told.0 told.1
+        (λ order now. letters_stay n c app.letters stands.letters (Close p) refl (λ message. refl))
+
+    -- the process sends a message
+    pub sends : (to : ℕ) (more : List Letter) → stamp_refusal core to ≡ None → IsPosted core new to app.letters more → Performed (Send p to) Done more
+    sends to more willing posted =
+        let first = send_reasons to ∙ ap (option_map why_of) willing in
+        let none = none_holds (reasons (Send p to)) first in
+        accepts (Send p to) Sent (λ q. refl) more first none.1.0 (λ r message e. cc) tt posted.accepted posted.same
+        (is.notes ∙ ap (λ o. put p ++ option_to_list o) (sym posted.pending))
+        (λ order now. rw posted.letters_are (letters_posted n c app.letters stands.letters p to posted.message stands.order (posted.watch ∙ is.watch) posted.addressed
+        (rw posted.clock (stamp_of_send n c p to (put p) new in_range order now))))
+
+    -- the process receives a message, or refuses it
+    pub receives : (number : ℕ) (answer : Reply) (fewer : List Letter) → IsAnswer (delivery_reasons core app.letters p number) answer → (answer ≡ Done → IsDelivered core new app.letters fewer number) →
+        KeepsIfRefused core answer new → KeepsIfRefused app.letters answer fewer → Performed (Recv p number) answer fewer
+    receives number answer fewer answered delivered kept same_letters =
+        go (first_reason (delivery_reasons core app.letters p number)) (receive_reasons number) answered
+      where
+        go : (o : Option Why) → first_reason (reasons (Recv p number)) ≡ o → MatchOption o (answer ≡ Done) (λ why. answer ≡ Refused why) → Performed (Recv p number) answer fewer
+        go (Some why) first is_refused = rw is_refused (refuses (Recv p number) why fewer (kept why is_refused) (same_letters why is_refused) first)
+        go None first is_done =
+            let d = delivered is_done in
+            let none = none_holds (reasons (Recv p number)) first in
+            let mail = MatchOption-at_some _ _ d.message d.was (stands.letters.each number d.letter d.at) in
+            let sent : number < count_by is_send c = omega (arith, slice_get_within app.letters number d.letter d.at, as_many_letters n c app.letters stands.letters) in
+            rw is_done
+            (accepts (Recv p number) (Received (seal_of d.message).clock) (λ q. refl) fewer first none.1.0
+            (λ r message e. let same : number ≡ message = cc e in omega (arith, sent)) (stamp_grows n c (Recv p number ∷ []) number (seal_of d.message).clock mail.3) d.accepted d.same
+            (is.notes ∙ ap (λ o. put p ++ option_to_list o) (sym d.pending))
+            (λ order now. rw d.emptied (letters_delivered n c app.letters stands.letters p number d.letter d.at)))

@@ -1,0 +1,287 @@
+use Rattle.std.proofs.Common.{◌≡◌, ◌≢◌, ℕ, ◌+◌, ◌<◌, ◌≤◌, Bool, true, false, cond, nat_le, nat_lt, length, set, get_or, eqb, Option, None, Some, MatchOption, List, [], ◌∷◌, ◌++◌, slice_get, drop, refl, sym, ap, ap₂, subst, ◌∙◌, ⊎_elim, append-nil, eqb-true, eq-eqb, add-zero, true≢false, arith}
+use Rattle.std.specs.List.{list_any}
+use Rattle.std.specs.Option.{option_and_then, option_flatten}
+use Rattle.std.proofs.lemmas.Bool.{cases_lt, cases_Bool, cases_eq, ne_eqb, false_from_ne_true}
+use Rattle.std.proofs.lemmas.Bool.Decides.{nat_tests}
+use Rattle.std.proofs.lemmas.List.{get_or_default, length-set, get_or-set_same, get_or-set_other}
+use Rattle.std.proofs.lemmas.Option.{slice_get-get_or}
+use Rattle.wcp_clock.specs.declared.note.Item.{Item}
+use Rattle.wcp_clock.specs.declared.note.Note.{Note}
+use Rattle.wcp_model.specs.declared.plan.Parent.TheVariants.{Root, Relay}
+use Rattle.wcp_model.specs.declared.plan.Plan.{Plan}
+use Rattle.wcp_model.specs.declared.step.Step.{Step}
+use Rattle.wcp_model.specs.declared.step.Step.TheVariants as step
+use Rattle.wcp_model.specs.declared.step.Reply.{Reply}
+use Rattle.wcp_model.specs.declared.step.Reply.TheVariants.{Done, Refused}
+use Rattle.wcp_model.specs.declared.step.Why.TheVariants as why
+use Rattle.wcp_model.specs.Tree.{IsSamePlan, is_number, is_attached, is_leaf, leaf_of, parent_of}
+use Rattle.wcp_model.specs.Occupancy.{Place, Pending, Link, HoldOf, InboxOf, is_same_place, source, target, is_place, takes_from, puts_into, taken_from, notes_in, next_place, IsEntry, Emitted}
+use Rattle.wcp_model.specs.Replies.{accepted_by, reasons, move_reasons, names_nothing}
+use Rattle.wcp_model.specs.Report.{notes_taken}
+use Rattle.wcp_model.proofs.Growth.{get_behind}
+use Rattle.wcp_hold.specs.Held.{Held}
+use Rattle.wcp_world.specs.Answer.{IsAnswer}
+use Rattle.wcp_world.specs.PutNotes.{put_more}
+use Rattle.wcp_world.specs.Shifts.{IsShift, Shifts}
+use Rattle.wcp_world.specs.Transport.{TransportState, IsPlaceOf, place_number, held_at, IsTransportOf, IsNext, IsConveying, AreNeighbours, notes_along}
+use Rattle.wcp_world.proofs.Places.{same_place, number_apart, number_within, next_is_place, itself}
+use Rattle.wcp_world.proofs.Entries.{item_if, IsStirred, gains, loses, stays, entry_grows, entry_emitted}
+use Rattle.wcp_world.proofs.Ways.{next_apart}
+use Rattle.wcp_world.proofs.OneItemMoved.{transport_after}
+
+-- what a place holds once one was changed
+held_set : (plan : Plan) (places : List Held) (x y : Place) (new : Held) → length places ≡ plan.n + length plan.parents.items + 1 + length plan.parents.items → IsPlaceOf plan x → IsPlaceOf plan y →
+    held_at (set places (place_number plan y) new) (place_number plan x) ≡ cond (is_same_place x y) new (held_at places (place_number plan x))
+held_set plan places x y new members is_x is_y = ⊎_elim
+    (λ (yes : is_same_place x y ≡ true).
+    rw (yes, same_place x y yes) (get_or-set_same places (place_number plan y) new _ (omega (arith, members, number_within plan y is_y))))
+    (λ (no : is_same_place x y ≡ false).
+    rw no (get_or-set_other places (place_number plan y) (place_number plan x) new _ (number_apart plan x y is_x is_y no)))
+    (cases_Bool (is_same_place x y))
+
+-- a list with a first element, and one without
+pub with_first : {X : Type 0} (xs : List X) (x : X) → slice_get xs 0 ≡ Some x → xs ≡ x ∷ drop 1 xs
+with_first [] x first = cc
+with_first (y ∷ xs) x first = let same : y ≡ x = cc first in ap (λ z. z ∷ xs) same
+
+pub without_first : {X : Type 0} (xs : List X) → slice_get xs 0 ≡ None → xs ≡ []
+without_first [] none = refl
+without_first (x ∷ xs) none = cc
+
+-- a place that was read
+pub place_read : (places : List Held) (i : ℕ) (read : Held) → i < length places → read ≡ get_or places i read → read ≡ held_at places i
+place_read places i read within is = is ∙ get_or_default places i read (record { items = []; room = 0 }) within
+
+-- two plans that are the same number their places alike
+pub number_same : (a b : Plan) → IsSamePlan a b → (x : Place) → place_number a x ≡ place_number b x
+number_same a b same (Pending p) = refl
+number_same a b same (Link p) = refl
+number_same a b same (HoldOf r) = ap (λ k. k + r) same.n
+number_same a b same (InboxOf Root) = ap₂ (λ k l. k + length l) same.n same.parents
+number_same a b same (InboxOf (Relay r)) = ap₂ (λ k l. k + length l + 1 + r) same.n same.parents
+
+-- and they answer questions of the tree alike
+pub attached_same : (a b : Plan) → IsSamePlan a b → (relay p : ℕ) → is_attached a relay p ≡ is_attached b relay p
+attached_same a b same relay p = ap (λ l. is_number relay (option_flatten (slice_get l p))) same.attach
+
+pub leaf_same : (a b : Plan) → IsSamePlan a b → (relay : ℕ) → is_leaf a relay ≡ is_leaf b relay
+leaf_same a b same relay = ap (list_any (is_number relay)) same.attach
+
+pub attached_is : (plan : Plan) (relay p : ℕ) → is_attached plan relay p ≡ true → leaf_of plan p ≡ Some relay
+attached_is plan relay p = named (leaf_of plan p)
+  where
+    named : (o : Option ℕ) → is_number relay o ≡ true → o ≡ Some relay
+    named (Some r) is = ap Some (eqb-true r relay is)
+    named None is = absurd (true≢false (sym is))
+
+-- a place and the next are two of the places
+pub two_places : (t : TransportState) (i j : ℕ) → IsConveying t → AreNeighbours t i j → (i < length t.places) × (j < length t.places) × (i ≢ j)
+two_places t i j conveying next =
+    let stands = conveying.4 in
+    let plan = conveying.0 in
+    let are = next plan conveying.1 conveying.2 conveying.3 stands in
+    let is_to = next_is_place plan stands.checked are.from are.to are.is_next are.is_from in (
+      omega (arith, are.number_from, stands.members, number_within plan are.from are.is_from),
+      omega (arith, are.number_to, stands.members, number_within plan are.to is_to),
+      λ same. number_apart plan are.from are.to are.is_from is_to (next_apart plan stands.checked are.from are.to are.is_next) (sym are.number_from ∙ same ∙ are.number_to),
+    )
+
+-- a relay of the plan inside is one of the plan that a transport stands for
+pub relay_inside : (t : TransportState) (plan : Plan) (inside : Plan) (relay : ℕ) → IsSamePlan t.plan plan → inside ≡ t.plan → relay < length inside.parents.items → relay < length plan.parents.items
+relay_inside t plan inside relay same is within = omega (arith, within, ap (λ (p : Plan). length p.parents.items) is, ap length same.parents)
+
+-- a relay that has no parent isn't there
+pub no_relay : (plan : Plan) (relay : ℕ) → parent_of plan relay ≡ None → nat_lt relay (length plan.parents.items) ≡ false
+no_relay plan relay none = false_from_ne_true (nat_lt relay (length plan.parents.items)) (λ yes.
+    let within : relay < length plan.parents.items = grind (arith, nat_tests, yes) in
+    some_is_none (sym (slice_get-get_or plan.parents.items relay Root within) ∙ none))
+  where
+    some_is_none : Some (get_or plan.parents.items relay Root) ≡ None → ⊥
+    some_is_none e = cc
+
+not_pending : (plan : Plan) (x : Place) (p : ℕ) → IsPlaceOf plan x → is_same_place x (Pending p) ≡ false
+not_pending plan (Pending q) p is = absurd is
+not_pending plan x p is = refl
+
+module _ (plan : Plan) (steps : List Step) (put : ℕ → List Note) (taken : List Item) (t : TransportState) (stands : IsTransportOf plan steps put taken t) where
+  abbrev here : Place → Held
+  here x = held_at t.places (place_number plan x)
+
+  -- what a place has, by the definitions
+  pub notes_are : (emissions : ℕ → List Note) (x : Place) → IsPlaceOf plan x → notes_in plan emissions steps x ≡ length (here x).items
+  notes_are emissions (Pending p) is = absurd is
+  notes_are emissions x is = omega (arith, (stands.held x is).count)
+
+  -- what stays where nothing was accepted
+  pub same_after : (new : List Held) → new ≡ t.places → IsTransportOf plan (steps ++ []) put taken (record t { places = new })
+  same_after new same = subst (λ (places : List Held). IsTransportOf plan (steps ++ []) put taken (record t { places = places })) (sym same)
+      (subst (λ all. IsTransportOf plan all put taken t) (sym (append-nil steps)) stands)
+
+  -- the first item of a place is the entry whose turn it is, and of a process that there is
+  first_entry : (x : Place) → IsPlaceOf plan x → (item : Item) (left : List Item) → (here x).items ≡ item ∷ left → IsEntry plan put steps x (taken_from steps x) item
+  first_entry x is item left first =
+      subst (λ k. IsEntry plan put steps x k item) (add-zero (taken_from steps x)) ((stands.held x is).entries 0 item (ap (λ l. slice_get l 0) first))
+
+  process_of : {x : Place} {i : ℕ} {item : Item} → IsEntry plan put steps x i item → item.from < plan.n
+  process_of {item = item} entry = ⊎_elim (λ (lt : item.from < plan.n). lt)
+      (λ (beyond : plan.n ≤ item.from). let put_one = entry_emitted plan put steps entry in absurd (none_at put_one.0 item.note (ap (λ l. slice_get l put_one.0) (sym (stands.known item.from beyond)) ∙ put_one.1)))
+      (cases_lt item.from plan.n)
+    where
+      none_at : (i : ℕ) (note : Note) → slice_get [] i ≡ Some note → ⊥
+      none_at i note at = cc
+
+  -- one item moved from one place to the next
+  module _ (s : Step) (from to : Place) (takes : source s ≡ Some from) (puts : next_place plan from ≡ Some to) (is_from : IsPlaceOf plan from) (is_to : IsPlaceOf plan to) (apart : is_same_place from to ≡ false) where
+    target_is : target plan s ≡ Some to
+    target_is = ap (option_and_then (next_place plan)) takes ∙ puts
+
+    stirred_by_shift : (new : List Held) (is : IsShift t.places (place_number plan from) (place_number plan to) new) (x : Place) → IsPlaceOf plan x → IsStirred plan s is.item x (here x) (held_at new (place_number plan x))
+    stirred_by_shift new is x is_x =
+        let filled : Held = record (here to) { items = (here to).items ++ is.item ∷ [] } in
+        let emptied : Held = record (here from) { items = is.left } in
+        let now : held_at new (place_number plan x) ≡ cond (is_same_place x from) emptied (cond (is_same_place x to) filled (here x)) =
+        ap (λ l. held_at l (place_number plan x)) is.moved
+        ∙ held_set plan (set t.places (place_number plan to) filled) x from emptied (length-set t.places (place_number plan to) filled ∙ stands.members) is_x is_from
+        ∙ ap (cond (is_same_place x from) emptied) (held_set plan t.places x to filled stands.members is_x is_to) in
+        rw now (by_case (is_same_place x from) (is_same_place x to) refl refl)
+      where
+        by_case : (a b : Bool) → is_same_place x from ≡ a → is_same_place x to ≡ b →
+            IsStirred plan s is.item x (here x) (cond a (record (here from) { items = is.left }) (cond b (record (here to) { items = (here to).items ++ is.item ∷ [] }) (here x)))
+        by_case true b at_from at_to = subst (λ z. IsStirred plan s is.item z (here z) (record (here from) { items = is.left })) (sym (same_place x from at_from))
+            (loses plan s is.item from (here from) _ refl is.left (ap (is_place from) takes ∙ itself from) (ap (is_place from) target_is ∙ apart) is.first refl)
+        by_case false true at_from at_to =
+            let other = subst (λ z. is_same_place z from ≡ false) (same_place x to at_to) at_from in
+            let le = (stands.held to is_to).within in
+            subst (λ z. IsStirred plan s is.item z (here z) (record (here to) { items = (here to).items ++ is.item ∷ [] })) (sym (same_place x to at_to))
+            (gains plan s is.item to (here to) _ refl (ap (is_place to) takes ∙ other) (ap (is_place to) target_is ∙ itself to) refl (omega (arith, le, is.fits)))
+        by_case false false at_from at_to =
+            stays plan s is.item x (here x) (here x) refl (ap (is_place x) takes ∙ at_from) (ap (is_place x) target_is ∙ at_to) refl
+
+    -- the first item of a place is the entry whose turn it is
+    module _ (no_put : (p : ℕ) → takes_from (Pending p) s ≡ false) (no_check : takes_from (InboxOf Root) s ≡ false) where
+      shift_after : (new : List Held) → IsShift t.places (place_number plan from) (place_number plan to) new → IsTransportOf plan (steps ++ s ∷ []) put taken (record t { places = new })
+      shift_after new is =
+          let entry = first_entry from is_from is.item is.left is.first in
+          subst (λ items. IsTransportOf plan (steps ++ s ∷ []) put items (record t { places = new })) (ap (λ b. taken ++ item_if b is.item) no_check ∙ append-nil taken)
+          (transport_after plan steps put taken t stands s from is.item put new takes (process_of entry)
+          (λ p yes. absurd (true≢false (sym yes ∙ no_put p)))
+          (entry_grows plan put put steps (s ∷ []) (λ p i note at. at) entry) (stirred_by_shift new is)
+          (λ p. rw (no_put p) (sym (append-nil (put p)))) (ap length is.moved ∙ length-set _ (place_number plan from) _ ∙ length-set t.places (place_number plan to) _))
+
+      module _ (no_event : (emissions : ℕ → List Note) → reasons plan emissions steps s ≡ move_reasons plan (notes_in plan emissions steps) s) (named : names_nothing plan s ≡ false) where
+        tests_are : (emissions : ℕ → List Note) →
+            reasons plan emissions steps s ≡ (false, why.NoSuch) ∷ (eqb (length (here from).items) 0, why.Empty) ∷ (nat_le (here to).room (length (here to).items), why.Full) ∷ []
+        tests_are emissions = no_event emissions ∙ rw (named, takes, puts, notes_are emissions from is_from, notes_are emissions to is_to, (stands.held to is_to).room) refl
+
+        pub conveys : (answer : Reply) (new : List Held) → Shifts t.places (place_number plan from) (place_number plan to) answer new →
+            ((emissions : ℕ → List Note) → IsAnswer (reasons plan emissions steps s) answer) × IsTransportOf plan (steps ++ accepted_by s answer) put taken (record t { places = new })
+        conveys Done new is =
+            let some : eqb (length (here from).items) 0 ≡ false = grind (arith, nat_tests, ap length is.first) in
+            let room : nat_le (here to).room (length (here to).items) ≡ false = grind (arith, nat_tests, is.fits, (stands.held to is_to).within) in
+            (λ emissions. rw (tests_are emissions, some, room) refl, shift_after new is)
+        conveys (Refused why.Empty) new is =
+            let none : eqb (length (here from).items) 0 ≡ true = ap (λ l. eqb (length l) 0) is.0 in
+            (λ emissions. rw (tests_are emissions, none) refl, same_after new is.1)
+        conveys (Refused why.Full) new is =
+            let some : eqb (length (here from).items) 0 ≡ false = grind (arith, nat_tests, is.0) in
+            let full : nat_le (here to).room (length (here to).items) ≡ true = grind (arith, nat_tests, is.1) in
+            (λ emissions. rw (tests_are emissions, some, full) refl, same_after new is.2)
+        conveys answer new is = absurd is
+
+  -- the same of a transport that was moved, between the places of two numbers
+  pub conveyed : (s : Step) (from to : Place) (i j : ℕ) → source s ≡ Some from → next_place plan from ≡ Some to → IsPlaceOf plan from → i ≡ place_number plan from → j ≡ place_number plan to →
+      ((p : ℕ) → takes_from (Pending p) s ≡ false) → takes_from (InboxOf Root) s ≡ false → ((emissions : ℕ → List Note) → reasons plan emissions steps s ≡ move_reasons plan (notes_in plan emissions steps) s) → names_nothing plan s ≡ false →
+      (answer : Reply) (new : TransportState) → new.plan ≡ t.plan → Shifts t.places i j answer new.places →
+      ((emissions : ℕ → List Note) → IsAnswer (reasons plan emissions steps s) answer) × IsTransportOf plan (steps ++ accepted_by s answer) put taken new
+  conveyed s from to i j takes puts is_from from_is to_is no_put no_check no_event named answer new same_plan shifts =
+      let told = conveys s from to takes puts is_from (next_is_place plan stands.checked from to puts is_from) (next_apart plan stands.checked from to puts) no_put no_check no_event named answer new.places
+      (rw (from_is, to_is) at shifts) in
+      (told.0, subst (λ (p : Plan). IsTransportOf plan (steps ++ accepted_by s answer) put taken (record { plan = p; places = new.places })) (sym same_plan) told.1)
+
+  -- a move that names nothing
+  pub refused_named : (s : Step) → ((emissions : ℕ → List Note) → reasons plan emissions steps s ≡ move_reasons plan (notes_in plan emissions steps) s) → names_nothing plan s ≡ true →
+      ((emissions : ℕ → List Note) → IsAnswer (reasons plan emissions steps s) (Refused why.NoSuch)) × IsTransportOf plan (steps ++ []) put taken t
+  refused_named s no_event named = (λ emissions. rw (no_event emissions, named) refl, same_after t.places refl)
+
+  -- a step that stirs one place alone
+  stirred_at : (s : Step) (item : Item) (y : Place) (changed : Held) (places : List Held) → IsPlaceOf plan y → places ≡ set t.places (place_number plan y) changed →
+      IsStirred plan s item y (here y) changed → ((x : Place) → IsPlaceOf plan x → is_same_place x y ≡ false → (takes_from x s ≡ false) × (puts_into plan x s ≡ false)) →
+      (x : Place) → IsPlaceOf plan x → IsStirred plan s item x (here x) (held_at places (place_number plan x))
+  stirred_at s item y changed places is_y places_are own others x is =
+      rw (ap (λ l. held_at l (place_number plan x)) places_are ∙ held_set plan t.places x y changed stands.members is is_y) (by_case (is_same_place x y) refl)
+    where
+      by_case : (b : Bool) → is_same_place x y ≡ b → IsStirred plan s item x (here x) (cond b changed (here x))
+      by_case true at = subst (λ z. IsStirred plan s item z (here z) changed) (sym (same_place x y at)) own
+      by_case false at = let still = others x is at in stays plan s item x (here x) (here x) refl still.0 still.1 refl
+
+  -- a note was put on the link of its process
+  put_after : (p : ℕ) (note : Note) (places : List Held) → p < plan.n → length (here (Link p)).items < (here (Link p)).room →
+      places ≡ set t.places p (record (here (Link p)) { items = (here (Link p)).items ++ record { from = p; note = note } ∷ [] }) →
+      IsTransportOf plan (steps ++ step.Put p ∷ []) (put_more put p note) taken (record t { places = places })
+  put_after p note places in_range fits places_are =
+      let item : Item = record { from = p; note = note } in
+      subst (λ items. IsTransportOf plan (steps ++ step.Put p ∷ []) (put_more put p note) items (record t { places = places })) (append-nil taken)
+      (transport_after plan steps put taken t stands (step.Put p) (Pending p) item (put_more put p note) places refl in_range
+      (λ q yes. sym (eqb-true q p yes)) (Emitted pending)
+      (stirred_at (step.Put p) item (Link p) _ places in_range places_are
+      (gains plan (step.Put p) item (Link p) (here (Link p)) _ refl refl (eq-eqb p p refl) refl fits) (λ x is at. (not_pending plan x p is, at)))
+      more_is (ap length places_are ∙ length-set t.places p _))
+    where
+      pending : slice_get (put_more put p note p) (taken_from steps (Pending p)) ≡ Some note
+      pending = rw (eq-eqb p p refl, sym (stands.as_many p)) (get_behind (put p) note [])
+
+      more_is : (q : ℕ) → put_more put p note q ≡ put q ++ notes_taken q (item_if (takes_from (Pending q) (step.Put p)) (record { from = p; note = note }))
+      more_is q = ⊎_elim
+          (λ (same : q ≡ p). rw (same, eq-eqb p p refl, eq-eqb p p refl) refl)
+          (λ (other : q ≢ p). rw (ne_eqb q p other) (sym (append-nil (put q))))
+          (cases_eq q p)
+
+  -- whether a link is full is what a put is answered, where a note is pending
+  put_tests : (p : ℕ) → p < plan.n → (emissions : ℕ → List Note) → 0 < notes_in plan emissions steps (Pending p) →
+      reasons plan emissions steps (step.Put p) ≡ (false, why.NoSuch) ∷ (false, why.Empty) ∷ (nat_le (here (Link p)).room (length (here (Link p)).items), why.Full) ∷ []
+  put_tests p in_range emissions some =
+      let within : nat_lt p plan.n ≡ true = grind (arith, nat_tests) in
+      let pending : eqb (notes_in plan emissions steps (Pending p)) 0 ≡ false = grind (arith, nat_tests) in
+      rw (within, pending, notes_are emissions (Link p) in_range, (stands.held (Link p) in_range).room) refl
+
+  pub puts : (p : ℕ) (note : Note) (places : List Held) → p < plan.n → length (here (Link p)).items ≢ (here (Link p)).room →
+      places ≡ set t.places p (record (here (Link p)) { items = (here (Link p)).items ++ record { from = p; note = note } ∷ [] }) →
+      ((emissions : ℕ → List Note) → 0 < notes_in plan emissions steps (Pending p) → IsAnswer (reasons plan emissions steps (step.Put p)) Done)
+      × IsTransportOf plan (steps ++ step.Put p ∷ []) (put_more put p note) taken (record t { places = places })
+  puts p note places in_range other places_are =
+      let le = (stands.held (Link p) in_range).within in
+      let room : nat_le (here (Link p)).room (length (here (Link p)).items) ≡ false = grind (arith, nat_tests, other, le) in
+      (λ emissions some. subst (λ rs. IsAnswer rs Done) (sym (put_tests p in_range emissions some)) (rw room refl), put_after p note places in_range (omega (arith, other, le)) places_are)
+
+  pub put_refused : (p : ℕ) → p < plan.n → length (here (Link p)).items ≡ (here (Link p)).room → (emissions : ℕ → List Note) → 0 < notes_in plan emissions steps (Pending p) →
+      IsAnswer (reasons plan emissions steps (step.Put p)) (Refused why.Full)
+  put_refused p in_range full emissions some =
+      let up : nat_le (here (Link p)).room (length (here (Link p)).items) ≡ true = grind (arith, nat_tests, full) in
+      subst (λ rs. IsAnswer rs (Refused why.Full)) (sym (put_tests p in_range emissions some)) (rw up refl)
+
+  -- the checker took the first item of the root inbox
+  pub taken_after : (item : Item) (left : List Item) (places : List Held) → (here (InboxOf Root)).items ≡ item ∷ left → places ≡ set t.places (place_number plan (InboxOf Root)) (record (here (InboxOf Root)) { items = left }) →
+      IsTransportOf plan (steps ++ step.Check ∷ []) put (taken ++ item ∷ []) (record t { places = places })
+  taken_after item left places first places_are =
+      let entry = first_entry (InboxOf Root) tt item left first in
+      transport_after plan steps put taken t stands step.Check (InboxOf Root) item put places refl (process_of entry)
+      (λ p yes. absurd (true≢false (sym yes))) (entry_grows plan put put steps (step.Check ∷ []) (λ p i note at. at) entry)
+      (stirred_at step.Check item (InboxOf Root) _ places tt places_are
+      (loses plan step.Check item (InboxOf Root) (here (InboxOf Root)) _ refl left refl refl first refl) (λ x is at. (at, refl)))
+      (λ p. sym (append-nil (put p))) (ap length places_are ∙ length-set t.places _ _)
+
+  -- what is read of the root inbox
+  pub next_reads : (next : Option Item) → next ≡ slice_get (here (InboxOf Root)).items 0 → MatchOption next (notes_in plan put steps (InboxOf Root) ≡ 0) (IsNext plan steps put taken)
+  next_reads None is = notes_are put (InboxOf Root) tt ∙ ap length (without_first (here (InboxOf Root)).items (sym is))
+  next_reads (Some item) is =
+      let first = with_first (here (InboxOf Root)).items item (sym is) in
+      let left = drop 1 (here (InboxOf Root)).items in
+      let entry = first_entry (InboxOf Root) tt item left first in
+      let after = taken_after item left (set t.places (place_number plan (InboxOf Root)) (record (here (InboxOf Root)) { items = left })) first refl in
+      record {
+        some = let many = notes_are put (InboxOf Root) tt in omega (arith, many, ap length first);
+        entry = entry;
+        process = process_of entry;
+        rest = notes_along _ (Link item.from ∷ (after.in_order item.from (process_of entry)).way);
+        front = (after.in_order item.from (process_of entry)).notes;
+      }

@@ -1,0 +1,117 @@
+use Rattle.std.proofs.Common.{◌≡◌, ◌≢◌, ℕ, ◌<◌, Bool, true, false, length, count_by, eqb, Option, None, Some, List, [], ◌∷◌, ◌++◌, slice_get, refl, sym, ap, ap₂, subst, ◌∙◌, ⊎_elim, append_assoc, eq-eqb, true≢false, arith}
+use Rattle.std.specs.Option.{option_and_then}
+use Rattle.std.proofs.lemmas.Bool.{cases_Bool, cases_eq, ne_eqb}
+use Rattle.std.proofs.lemmas.List.{length-append}
+use Rattle.std.proofs.lemmas.Option.{slice_get_within}
+use Rattle.wcp_clock.specs.declared.note.Item.{Item}
+use Rattle.wcp_clock.specs.declared.note.Note.{Note}
+use Rattle.wcp_model.specs.declared.plan.Parent.TheVariants.{Root}
+use Rattle.wcp_model.specs.declared.plan.Plan.{Plan}
+use Rattle.wcp_model.specs.declared.step.Step.{Step}
+use Rattle.wcp_model.specs.Occupancy.{Place, Pending, Link, InboxOf, source, target, is_place, takes_from, puts_into, taken_from, next_place, IsEntry}
+use Rattle.wcp_model.specs.Report.{notes_taken}
+use Rattle.wcp_model.proofs.Growth.{get_front}
+use Rattle.wcp_hold.specs.Held.{Held}
+use Rattle.wcp_world.specs.Transport.{TransportState, IsPlaceOf, IsWay, place_number, held_at, notes_along, notes_at, IsTransportOf}
+use Rattle.wcp_world.proofs.Places.{same_place, itself, next_is_place}
+use Rattle.wcp_world.proofs.Ways.{IsOnWay, Start, Onward, one_before}
+use Rattle.wcp_world.proofs.Entries.{bit, item_if, count_push, notes_append, entry_on_way, entry_moves, held_after, IsStirred}
+
+is_that : (x : Place) (o : Option Place) → is_place x o ≡ true → o ≡ Some x
+is_that x None same = absurd (true≢false (sym same))
+is_that x (Some y) same = ap Some (sym (same_place x y same))
+
+-- what is not of a process has no note of it
+none_of : (p : ℕ) (item : Item) (b : Bool) → eqb item.from p ≡ false → notes_taken p (item_if b item) ≡ []
+none_of p item true other = rw other refl
+none_of p item false other = refl
+
+one_of : (p : ℕ) (item : Item) (b : Bool) → (b ≡ true → item.from ≡ p) → length (notes_taken p (item_if b item)) ≡ bit b
+one_of p item true own = rw (eq-eqb item.from p (own refl)) refl
+one_of p item false own = refl
+
+pub get_grows : {X : Type 0} (xs ys : List X) (i : ℕ) (x : X) → slice_get xs i ≡ Some x → slice_get (xs ++ ys) i ≡ Some x
+get_grows xs ys i x at = get_front xs ys i (slice_get_within xs i x at) ∙ at
+
+module _ (plan : Plan) (steps : List Step) (put : ℕ → List Note) (taken : List Item) (t : TransportState) (stands : IsTransportOf plan steps put taken t)
+    (s : Step) (from : Place) (item : Item) (more : ℕ → List Note) (places : List Held)
+    (takes : source s ≡ Some from) (process : item.from < plan.n)
+    (own : (p : ℕ) → takes_from (Pending p) s ≡ true → item.from ≡ p)
+    (entry : IsEntry plan more (steps ++ s ∷ []) from (taken_from steps from) item)
+    (stirred : (x : Place) → IsPlaceOf plan x → IsStirred plan s item x (held_at t.places (place_number plan x)) (held_at places (place_number plan x)))
+    (more_is : (p : ℕ) → more p ≡ put p ++ notes_taken p (item_if (takes_from (Pending p) s) item)) (members : length places ≡ length t.places) where
+  abbrev left : ℕ → Place → List Note
+  left p x = notes_taken p (item_if (takes_from x s) item)
+
+  abbrev came : ℕ → Place → List Note
+  came p x = notes_taken p (item_if (puts_into plan x s) item)
+
+  target_is : target plan s ≡ next_place plan from
+  target_is = ap (option_and_then (next_place plan)) takes
+
+  enters : (x : Place) → puts_into plan x s ≡ true → IsEntry plan more (steps ++ s ∷ []) x (count_by (puts_into plan x) steps) item
+  enters x puts = entry_moves plan more steps s from x item takes (sym target_is ∙ is_that x (target plan s) puts) entry
+
+  -- what leaves a place on the way of its process comes to the next
+  passes_on : (p : ℕ) (x y : Place) → IsOnWay plan p x → next_place plan x ≡ Some y → came p y ≡ left p x
+  passes_on p x y on next = ⊎_elim
+      (λ (mine : item.from ≡ p). ap (λ b. notes_taken p (item_if b item)) (same mine))
+      (λ (other : item.from ≢ p). none_of p item (puts_into plan y s) (ne_eqb item.from p other) ∙ sym (none_of p item (takes_from x s) (ne_eqb item.from p other)))
+      (cases_eq item.from p)
+    where
+      same : item.from ≡ p → puts_into plan y s ≡ takes_from x s
+      same mine = ⊎_elim
+          (λ (yes : takes_from x s ≡ true).
+          let next_is : target plan s ≡ Some y = ap (option_and_then (next_place plan)) (is_that x (source s) yes) ∙ next in
+          ap (is_place y) next_is ∙ itself y ∙ sym yes)
+          (λ (no : takes_from x s ≡ false). ⊎_elim
+          (λ (yes : puts_into plan y s ≡ true).
+          let from_is : from ≡ x = one_before plan stands.checked p from x y (subst (λ q. IsOnWay plan q from) mine (entry_on_way plan more (steps ++ s ∷ []) entry)) on (sym target_is ∙ is_that y (target plan s) yes) next in
+          absurd (true≢false (sym (ap (is_place x) (takes ∙ ap Some from_is) ∙ itself x) ∙ no)))
+          (λ (neither : puts_into plan y s ≡ false). neither ∙ sym no)
+          (cases_Bool (puts_into plan y s)))
+          (cases_Bool (takes_from x s))
+
+  at_place : (p : ℕ) (x : Place) → IsPlaceOf plan x → left p x ++ notes_at plan places p x ≡ notes_at plan t.places p x ++ came p x
+  at_place p x is =
+      sym (notes_append p (item_if (takes_from x s) item) (held_at places (place_number plan x)).items)
+      ∙ ap (notes_taken p) (stirred x is).items
+      ∙ notes_append p (held_at t.places (place_number plan x)).items (item_if (puts_into plan x s) item)
+
+  -- along a way, what comes to its first place is behind what was there, and what leaves its last was the first
+  along_way : (p : ℕ) (x : Place) (way : List Place) → IsWay plan x way → IsOnWay plan p x → IsPlaceOf plan x →
+      left p (InboxOf Root) ++ notes_along (notes_at plan places p) (x ∷ way) ≡ notes_along (notes_at plan t.places p) (x ∷ way) ++ came p x
+  along_way p x [] is_way on is = subst (λ y. left p y ++ notes_at plan places p x ≡ notes_at plan t.places p x ++ came p x) is_way (at_place p x is)
+  along_way p x (y ∷ way) is_way on is =
+      let later = along_way p y way is_way.1 (Onward on is_way.0) (next_is_place plan stands.checked x y is_way.0 is) in
+      let before = notes_along (notes_at plan t.places p) (y ∷ way) in
+      sym (append_assoc (left p (InboxOf Root)) (notes_along (notes_at plan places p) (y ∷ way)) (notes_at plan places p x))
+      ∙ ap (λ l. l ++ notes_at plan places p x) later
+      ∙ append_assoc before (came p y) (notes_at plan places p x)
+      ∙ ap (λ l. before ++ (l ++ notes_at plan places p x)) (passes_on p x y on is_way.0)
+      ∙ ap (λ l. before ++ l) (at_place p x is)
+      ∙ sym (append_assoc before (notes_at plan t.places p x) (came p x))
+
+  pub transport_after : IsTransportOf plan (steps ++ s ∷ []) more (taken ++ item_if (takes_from (InboxOf Root) s) item) (record t { places = places })
+  transport_after = record {
+    checked = stands.checked;
+    same_plan = stands.same_plan;
+    members = members ∙ stands.members;
+    held = λ x is. held_after plan steps s put more item x _ _ (λ p i note at. ap (λ l. slice_get l i) (more_is p) ∙ get_grows (put p) _ i note at) (enters x) (stirred x is) (stands.held x is);
+    as_many = λ p. omega (arith, ap length (more_is p), length-append (put p) (left p (Pending p)), one_of p item (takes_from (Pending p) s) (own p), stands.as_many p, count_push (takes_from (Pending p)) steps s);
+    known = λ p beyond. more_is p ∙ ap₂ (λ a b. a ++ b) (stands.known p beyond) (none_of p item (takes_from (Pending p) s) (ne_eqb item.from p (λ e. omega (arith, process, beyond, e))));
+    in_order = λ p in_range.
+        let order = stands.in_order p in_range in
+        let root = left p (InboxOf Root) in
+        let link = along_way p (Link p) order.way order.is_way (Onward Start refl) in_range in
+        record {
+          way = order.way;
+          is_way = order.is_way;
+          notes = ap (λ l. l ++ notes_along (notes_at plan places p) (Link p ∷ order.way)) (notes_append p taken (item_if (takes_from (InboxOf Root) s) item))
+              ∙ append_assoc (notes_taken p taken) root (notes_along (notes_at plan places p) (Link p ∷ order.way))
+              ∙ ap (λ l. notes_taken p taken ++ l) link
+              ∙ sym (append_assoc (notes_taken p taken) (notes_along (notes_at plan t.places p) (Link p ∷ order.way)) (came p (Link p)))
+              ∙ ap₂ (λ a b. a ++ b) order.notes (passes_on p (Pending p) (Link p) Start refl)
+              ∙ sym (more_is p);
+        };
+  }

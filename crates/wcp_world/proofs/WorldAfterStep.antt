@@ -1,0 +1,211 @@
+use Rattle.wcp_model.specs.FirstReason.{first_reason}
+use Rattle.std.proofs.Common.{◌≡◌, ℕ, ◌+◌, ◌<◌, true, false, nat_lt, is_some, Option, None, Some, MatchOption, List, [], ◌∷◌, ◌++◌, length, eqb, eq-eqb, refl, sym, ap, ◌∙◌, subst, append-nil, append_assoc, add-zero, arith}
+use Rattle.std.specs.Option.{option_and_then, option_to_list}
+use Rattle.std.proofs.lemmas.Bool.Decides.{nat_tests}
+use Rattle.std.proofs.lemmas.List.{length-append}
+use Rattle.std.proofs.lemmas.List.Elements.{filter-append}
+use Rattle.wcp_clock.specs.declared.note.Item.{Item}
+use Rattle.wcp_clock.specs.declared.note.Note.{Note}
+use Rattle.wcp_model.specs.declared.plan.Plan.{Plan}
+use Rattle.wcp_model.specs.declared.step.Step.{Step}
+use Rattle.wcp_model.specs.declared.step.Step.TheVariants as step
+use Rattle.wcp_model.specs.declared.step.Reply.{Reply}
+use Rattle.wcp_model.specs.declared.step.Reply.TheVariants.{Done, Took, Refused}
+use Rattle.wcp_model.specs.declared.step.Why.{Why}
+use Rattle.wcp_model.specs.declared.step.Why.TheVariants as why
+use Rattle.wcp_model.specs.Emission.{AreEmissions}
+use Rattle.wcp_model.specs.Occupancy.{Place, Pending, Link, InboxOf, source, is_place, takes_from, puts_into, taken_from, next_place, notes_in, IsEntry}
+use Rattle.wcp_model.specs.Replies.{is_event, computation, accepted_by, taken_by, event_reasons, reasons, IsAcceptance, IsReply}
+use Rattle.wcp_world.specs.Processes.{ProcessesState, AreProcessesOf, Performs, WasPut, pending_at}
+use Rattle.wcp_world.specs.Transport.{TransportState, IsTransportOf, IsNext, Conveys, Puts, TakesNext, next_of, notes_along, notes_at}
+use Rattle.wcp_world.specs.PutNotes.{put_more}
+use Rattle.wcp_world.specs.World.{WorldState, Stands}
+use Rattle.wcp_queue.specs.Checker.{CheckerState, MayTake, TakesItem, processes}
+use Rattle.wcp_model.specs.Report.{notes_taken, AreFrontsOfEmissions}
+use Rattle.wcp_model.proofs.NotesInTurn.{next_of_emissions}
+use Rattle.wcp_world.proofs.OneItemMoved.{get_grows}
+use Rattle.wcp_model.specs.declared.plan.Parent.TheVariants.{Root}
+use Rattle.wcp_world.proofs.Entries.{bit, notes_append, count_push, entry_grows}
+use Rattle.wcp_world.proofs.PutAndPending.{put_and_pending}
+
+-- what an answer accepts, by what it is
+accepted_are : (s : Step) (answer : Reply) (P : List Step → Type 0) → P [] → P (s ∷ []) → P (accepted_by s answer)
+accepted_are s Done P none one = one
+accepted_are s (Took item) P none one = one
+accepted_are s (Refused why) P none one = none
+
+-- what is answered by reasons gives no item, and is a reply's first clause
+no_item : (o : Option Why) (answer : Reply) → MatchOption o (answer ≡ Done) (λ why. answer ≡ Refused why) → taken_by answer ≡ []
+no_item None answer is = rw is refl
+no_item (Some why) answer is = rw is refl
+
+accepting : (o : Option Why) (answer : Reply) (A : Type 0) → (answer ≡ Done → A) → MatchOption o (answer ≡ Done) (λ why. answer ≡ Refused why) → MatchOption o A (λ why. answer ≡ Refused why)
+accepting None answer A accepts is = accepts is
+accepting (Some why) answer A accepts is = is
+
+pending_test : (o : Option Note) (k : ℕ) → k ≡ length (option_to_list o) → nat_lt 0 k ≡ is_some o
+pending_test None k counts = rw counts refl
+pending_test (Some note) k counts = rw counts refl
+
+-- the computation with what an answer accepts at its end
+computation_push : (steps : List Step) (s : Step) (answer : Reply) → is_event s ≡ true → computation (steps ++ accepted_by s answer) ≡ computation steps ++ accepted_by s answer
+computation_push steps s answer event = filter-append is_event steps (accepted_by s answer)
+    ∙ ap (λ e. computation steps ++ e) (accepted_are s answer (λ l. computation l ≡ l) refl (rw event refl))
+
+computation_stays : (steps : List Step) (s : Step) (answer : Reply) → is_event s ≡ false → computation (steps ++ accepted_by s answer) ≡ computation steps
+computation_stays steps s answer quiet = filter-append is_event steps (accepted_by s answer)
+    ∙ ap (λ e. computation steps ++ e) (accepted_are s answer (λ l. computation l ≡ []) refl (rw quiet refl)) ∙ append-nil (computation steps)
+
+-- a step that moves nothing leaves what a transport stands for
+idle : (plan : Plan) (steps : List Step) (put : ℕ → List Note) (taken : List Item) (t : TransportState) (s : Step) → source s ≡ None →
+    IsTransportOf plan steps put taken t → IsTransportOf plan (steps ++ s ∷ []) put taken t
+idle plan steps put taken t s none stands = record {
+  checked = stands.checked;
+  same_plan = stands.same_plan;
+  members = stands.members;
+  held = λ x is.
+      let was = stands.held x is in
+      record {
+        room = was.room;
+        within = was.within;
+        count = omega (arith, was.count, none_taken x, count_push (puts_into plan x) steps s, ap bit (none_put x));
+        entries = λ i item at. subst (λ k. IsEntry plan put (steps ++ s ∷ []) x (k + i) item) (sym (none_taken x)) (entry_grows plan put put steps (s ∷ []) (λ p i note at. at) (was.entries i item at));
+      };
+  as_many = λ p. stands.as_many p ∙ sym (none_taken (Pending p));
+  known = stands.known;
+  in_order = stands.in_order;
+}
+  where
+    none_taken : (x : Place) → taken_from (steps ++ s ∷ []) x ≡ taken_from steps x
+    none_taken x = count_push (takes_from x) steps s ∙ ap (λ o. taken_from steps x + bit (is_place x o)) none ∙ add-zero (taken_from steps x)
+
+    none_put : (x : Place) → puts_into plan x s ≡ false
+    none_put x = ap (λ o. is_place x (option_and_then (next_place plan) o)) none
+
+module _ (plan : Plan) (steps : List Step) (taken : List Item) (w : WorldState) (stands : Stands plan steps taken w) where
+  -- the emissions of each process: what was put, and what is pending
+  abbrev pub emissions : ℕ → List Note
+  emissions p = stands.put p ++ option_to_list (pending_at w.processes p)
+
+  pub are_emissions : (p : ℕ) → p < plan.n → AreEmissions plan.n (computation steps) p (emissions p)
+  are_emissions p within = put_and_pending plan.n (computation steps) stands.put w.processes stands.processes p within
+
+  pub pending_count : (p : ℕ) → notes_in plan emissions steps (Pending p) ≡ length (option_to_list (pending_at w.processes p))
+  pending_count p = omega (arith, length-append (stands.put p) (option_to_list (pending_at w.processes p)), stands.transport.as_many p)
+
+  pub pending_is : (p : ℕ) → nat_lt 0 (notes_in plan emissions steps (Pending p)) ≡ is_some (pending_at w.processes p)
+  pending_is p = pending_test (pending_at w.processes p) _ (pending_count p)
+
+  pub reply_is : (s : Step) (answer : Reply) → MatchOption (first_reason (reasons plan emissions steps s)) (IsAcceptance plan emissions steps s answer) (λ why. answer ≡ Refused why) → IsReply plan steps s answer
+  reply_is s answer first = record { emissions = emissions; are = are_emissions; first = first }
+
+  -- an event that the processes answered
+  pub event_answered : (s : Step) (answer : Reply) (new : ProcessesState) → is_event s ≡ true → source s ≡ None →
+      first_reason (reasons plan emissions steps s) ≡ first_reason (event_reasons plan.n (computation steps) (λ p. is_some (pending_at w.processes p)) s) →
+      (answer ≡ Done → IsAcceptance plan emissions steps s answer) → Performs w.processes s answer new →
+      IsReply plan steps s answer × Stands plan (steps ++ accepted_by s answer) (taken ++ taken_by answer) (record w { processes = new })
+  event_answered s answer new event still same accepts performs =
+      let told = performs plan.n (computation steps) stands.put stands.processes in
+      let first : MatchOption (first_reason (reasons plan emissions steps s)) (answer ≡ Done) (λ why. answer ≡ Refused why) =
+      subst (λ o. MatchOption o (answer ≡ Done) (λ why. answer ≡ Refused why)) (sym same) told.0 in (
+        reply_is s answer (accepting (first_reason (reasons plan emissions steps s)) answer _ accepts first),
+        subst (λ items. Stands plan (steps ++ accepted_by s answer) items (record w { processes = new })) (sym (ap (λ l. taken ++ l) (no_item (first_reason (reasons plan emissions steps s)) answer first) ∙ append-nil taken)) (record {
+          put = stands.put;
+          processes = subst (λ c. AreProcessesOf plan.n c stands.put new) (sym (computation_push steps s answer event)) told.1;
+          transport = accepted_are s answer (λ l. IsTransportOf plan (steps ++ l) stands.put taken w.transport) (subst (λ l. IsTransportOf plan l stands.put taken w.transport) (sym (append-nil steps)) stands.transport) (idle plan steps stands.put taken w.transport s still stands.transport);
+          processes_are = stands.processes_are;
+          checker = stands.checker;
+        }),
+      )
+
+  -- a move that the transport answered
+  pub move_answered : (s : Step) (answer : Reply) (new : TransportState) → is_event s ≡ false → (answer ≡ Done → IsAcceptance plan emissions steps s answer) → Conveys w.transport s answer new →
+      IsReply plan steps s answer × Stands plan (steps ++ accepted_by s answer) (taken ++ taken_by answer) (record w { transport = new })
+  move_answered s answer new quiet accepts conveys =
+      let told = conveys plan steps stands.put taken stands.transport in
+      let first = told.0 emissions in (
+        reply_is s answer (accepting (first_reason (reasons plan emissions steps s)) answer _ accepts first),
+        subst (λ items. Stands plan (steps ++ accepted_by s answer) items (record w { transport = new })) (sym (ap (λ l. taken ++ l) (no_item (first_reason (reasons plan emissions steps s)) answer first) ∙ append-nil taken)) (record {
+          put = stands.put;
+          processes = subst (λ c. AreProcessesOf plan.n c stands.put w.processes) (sym (computation_stays steps s answer quiet)) stands.processes;
+          transport = told.1;
+          processes_are = stands.processes_are;
+          checker = stands.checker;
+        }),
+      )
+
+  -- a world that nothing was added to
+  pub stays : Stands plan (steps ++ []) (taken ++ []) w
+  stays = subst (λ all. Stands plan all (taken ++ []) w) (sym (append-nil steps)) (subst (λ items. Stands plan steps items w) (sym (append-nil taken)) stands)
+
+  -- a step that is refused for a reason, and changes nothing
+  pub refused_for : (s : Step) (why : Why) → first_reason (reasons plan emissions steps s) ≡ Some why →
+      IsReply plan steps s (Refused why) × Stands plan (steps ++ []) (taken ++ []) w
+  refused_for s why first = (
+    reply_is s (Refused why) (subst (λ o. MatchOption o (IsAcceptance plan emissions steps s (Refused why)) (λ y. Refused why ≡ Refused y)) (sym first) refl),
+    stays,
+  )
+
+  -- a note that was put
+  pub put_answered : (p : ℕ) (note : Note) (processes : ProcessesState) (transport : TransportState) → p < plan.n → pending_at w.processes p ≡ Some note →
+      Puts w.transport p note true transport → WasPut w.processes p processes →
+      IsReply plan steps (step.Put p) Done × Stands plan (steps ++ step.Put p ∷ []) (taken ++ []) (record w { processes = processes; transport = transport })
+  put_answered p note processes transport within pending puts was_put =
+      let told = puts plan steps stands.put taken stands.transport in
+      let some : 0 < notes_in plan emissions steps (Pending p) = omega (arith, pending_count p, ap (λ o. length (option_to_list o)) pending) in (
+        reply_is (step.Put p) Done (told.0 emissions some),
+        subst (λ items. Stands plan (steps ++ step.Put p ∷ []) items (record w { processes = processes; transport = transport })) (sym (append-nil taken)) (record {
+          put = put_more stands.put p note;
+          processes = subst (λ c. AreProcessesOf plan.n c (put_more stands.put p note) processes) (sym (computation_stays steps (step.Put p) Done refl)) (was_put plan.n (computation steps) stands.put note stands.processes pending);
+          transport = told.1 refl;
+          processes_are = stands.processes_are;
+          checker = stands.checker;
+        }),
+      )
+
+  pub put_was_refused : (p : ℕ) (note : Note) (transport : TransportState) → pending_at w.processes p ≡ Some note → Puts w.transport p note false transport →
+      IsReply plan steps (step.Put p) (Refused why.Full)
+  put_was_refused p note transport pending puts =
+      let some : 0 < notes_in plan emissions steps (Pending p) = omega (arith, pending_count p, ap (λ o. length (option_to_list o)) pending) in
+      reply_is (step.Put p) (Refused why.Full) (accepting (first_reason (reasons plan emissions steps (step.Put p))) (Refused why.Full) _ (λ e. cc e) ((puts plan steps stands.put taken stands.transport).0 emissions some))
+
+  -- what was taken of each process is a front of what it emitted
+  pub taken_fronts : AreFrontsOfEmissions plan.n (computation steps) taken
+  taken_fronts p within =
+      let order = stands.transport.in_order p within in
+      let on_the_way = notes_along (notes_at plan w.transport.places p) (Link p ∷ order.way) in (
+        on_the_way ++ option_to_list (pending_at w.processes p),
+        subst (AreEmissions plan.n (computation steps) p) (ap (λ l. l ++ option_to_list (pending_at w.processes p)) (sym order.notes) ∙ append_assoc (notes_taken p taken) on_the_way (option_to_list (pending_at w.processes p))) (are_emissions p within),
+      )
+
+  -- the checker may take the next item of the root inbox
+  next_emissions : (item : Item) (next : IsNext plan steps stands.put taken item) →
+      emissions item.from ≡ notes_taken item.from taken ++ item.note ∷ (next.rest ++ option_to_list (pending_at w.processes item.from))
+  next_emissions item next =
+      let pending = option_to_list (pending_at w.processes item.from) in
+      let one : notes_taken item.from (item ∷ []) ≡ item.note ∷ [] = rw (eq-eqb item.from item.from refl) refl in
+      ap (λ l. l ++ pending) (sym next.front ∙ ap (λ l. l ++ next.rest) (notes_append item.from taken (item ∷ []) ∙ ap (λ l. notes_taken item.from taken ++ l) one))
+      ∙ ap (λ l. l ++ pending) (append_assoc (notes_taken item.from taken) (item.note ∷ []) next.rest) ∙ append_assoc (notes_taken item.from taken) (item.note ∷ next.rest) pending
+
+  pub may_take : (item : Item) → IsNext plan steps stands.put taken item → MayTake w.checker item
+  may_take item next =
+      let within : item.from < processes w.checker = omega (arith, next.process, stands.processes_are) in
+      let turn = next_of_emissions plan.n (computation steps) item.from (notes_taken item.from taken) (next.rest ++ option_to_list (pending_at w.processes item.from)) item.note
+      (subst (AreEmissions plan.n (computation steps) item.from) (next_emissions item next) (are_emissions item.from next.process)) in
+      record { from = within; place = turn.place ∙ sym (stands.checker.taken item.from within); still_open = stands.checker.closed item.from within ∙ turn.still_open }
+
+  pub check_answered : (item : Item) (transport : TransportState) (checker : CheckerState) → IsNext plan steps stands.put taken item → next_of w.transport ≡ Some item →
+      TakesNext w.transport transport → TakesItem w.checker checker item → processes checker ≡ processes w.checker →
+      IsReply plan steps step.Check (Took item) × Stands plan (steps ++ step.Check ∷ []) (taken ++ item ∷ []) (record w { transport = transport; checker = checker })
+  check_answered item transport checker next is_next takes_next takes_item same_processes =
+      let some : eqb (notes_in plan stands.put steps (InboxOf Root)) 0 ≡ false = grind (arith, nat_tests, next.some) in
+      let entry = entry_grows plan stands.put emissions steps [] (λ p i note at. get_grows (stands.put p) (option_to_list (pending_at w.processes p)) i note at) next.entry in (
+        reply_is step.Check (Took item) (rw some (item, refl, subst (λ l. IsEntry plan emissions l (InboxOf Root) (taken_from steps (InboxOf Root)) item) (append-nil steps) entry)),
+        record {
+          put = stands.put;
+          processes = subst (λ c. AreProcessesOf plan.n c stands.put w.processes) (sym (computation_stays steps step.Check (Took item) refl)) stands.processes;
+          transport = takes_next plan steps stands.put taken item stands.transport is_next;
+          processes_are = same_processes ∙ stands.processes_are;
+          checker = takes_item taken stands.checker;
+        },
+      )

@@ -1,8 +1,0 @@
-use Rattle.std.proofs.Common.{◌≡◌, arith}
-use Rattle.wcp_world.proofs.Starting.{fresh_stands}
-use Rattle.wcp_world.proofs.application.Application.new.Goals as goal
-
-pub returns : goal.returns
-returns c =
-    let all : c.loop-id.id ≡ c.args.n = omega arith in
-    rw c.new-2.ensures (fresh_stands c.args.n c.loop-id.probes.items (rw all at c.loop-id.invariant))

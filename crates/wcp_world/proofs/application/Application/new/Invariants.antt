@@ -1,5 +1,0 @@
-use Rattle.wcp_world.proofs.Starting.{AreFirstCores}
-use Rattle.wcp_world.proofs.application.Application.new.Given as goal
-
-abbrev pub invariant-loop-id : goal.invariant-loop-id
-invariant-loop-id l = AreFirstCores l.n l.id l.probes.items

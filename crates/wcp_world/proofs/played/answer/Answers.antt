@@ -1,5 +1,0 @@
-use Rattle.wcp_world.proofs.Playing.{answered_push}
-use Rattle.wcp_world.proofs.played.answer.Goals as goal
-
-pub returns : goal.returns
-returns c plan steps has = rw c.in_ok-extend_from_slice.ensures.items (answered_push plan steps _ _ _ _ _ has c.in_ok-reply.ensures.answered)

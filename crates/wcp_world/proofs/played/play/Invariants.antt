@@ -1,6 +1,0 @@
-use Rattle.std.proofs.Common.{take}
-use Rattle.wcp_world.specs.Played.{HasAnswered}
-use Rattle.wcp_world.proofs.played.play.Given as goal
-
-abbrev pub invariant-loop-step : goal.invariant-loop-step
-invariant-loop-step l = HasAnswered l.plan (take l.step-index l.steps) l.replies.items l.world

@@ -1,5 +1,0 @@
-use Rattle.wcp_world.specs.Played.{AreTalliesOf}
-use Rattle.wcp_world.proofs.played.tallies.Given as goal
-
-abbrev pub invariant-loop-p : goal.invariant-loop-p
-invariant-loop-p l = AreTalliesOf l.world l.p l.tallies.items

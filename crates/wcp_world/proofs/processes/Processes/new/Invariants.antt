@@ -1,0 +1,5 @@
+use Rattle.wcp_world.proofs.FirstProbes.{AreFirstCores}
+use Rattle.wcp_world.proofs.processes.Processes.new.Given as goal
+
+abbrev pub invariant-loop-id : goal.invariant-loop-id
+invariant-loop-id l = AreFirstCores l.n l.id l.probes.items
