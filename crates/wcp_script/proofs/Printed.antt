@@ -1,10 +1,12 @@
 -- The text of a workload that could be read spells it.
-use Rattle.std.proofs.Common.{◌≡◌, ◌≢◌, ℕ, ◌<◌, ◌≤◌, Bool, true, false, cond, ◌&&◌, eqb, List, [], ◌∷◌, ◌++◌, length, Option, Some, None, Ok, refl, sym, ap, subst, ◌∙◌, append_assoc, arith, le-leb, ne_eqb, eqb-true, inl, inr, ⊎_elim, drop}
+use Rattle.std.proofs.Common.{◌≡◌, ◌≢◌, ℕ, ◌<◌, ◌≤◌, Bool, true, false, cond, ◌&&◌, eqb, List, [], ◌∷◌, ◌++◌, length, map, Option, Some, None, Ok, refl, sym, ap, ◌∙◌, append_assoc, arith, le-leb, ne_eqb, eqb-true, inl, inr, ⊎_elim}
 use Rattle.std.specs.Prelude.{codes, replicate, slice_get}
 use Rattle.std.specs.List.{flat_map, list_all, AllByRecursion}
 use Rattle.std.specs.Fmt.{decimal}
 use Rattle.std.proofs.lemmas.Bool.{and_parts, cases_lt, cases_eq}
-use Rattle.std.proofs.lemmas.List.Elements.{All-from_recursion, recursion_from_All}
+use Rattle.std.proofs.lemmas.Grind.{flat_map-append}
+use Rattle.std.proofs.lemmas.List.Elements.{recursion_from_All}
+use Rattle.std.proofs.lemmas.List.Folds.{flat_map-map}
 use Rattle.std.proofs.lemmas.Option.{slice_get_within, get_or_from_slice_get}
 use Rattle.wcp_model.specs.declared.plan.Parent.{Parent}
 use Rattle.wcp_model.specs.declared.plan.Parent.TheVariants.{Root, Relay}
@@ -13,15 +15,15 @@ use Rattle.wcp_model.specs.declared.plan.PlanFault.TheVariants as fault
 use Rattle.wcp_model.specs.declared.workload.Task.{Task}
 use Rattle.wcp_model.specs.PlanFault.{IsCheckedPlan, IsOutside}
 use Rattle.wcp_model.specs.WorkloadComputation.{IsWithin, CouldBeRead}
-use Rattle.wcp_script.specs.Lines.{TextLine, lines_of}
-use Rattle.wcp_script.specs.WorkloadText.{task_line}
-use Rattle.wcp_script.specs.PlanText.{cap_text, hold_text, relay_text, attach_text, numbered, is_first, is_root_alone, has_one_relay, tree_text, opening_text, text_of_workload}
+use Rattle.wcp_script.specs.Lines.{Word, line_text, text_of, lines_of}
+use Rattle.wcp_script.specs.WorkloadText.{action_words, task_words, task_line}
+use Rattle.wcp_script.specs.PlanText.{cap_lines, hold_lines, relay_lines, attach_lines, numbered, is_first, is_root_alone, has_one_relay, tree_lines, opening_lines, head_lines, text_of_workload}
 use Rattle.wcp_script.specs.WorkloadLines.{is_task_word}
 use Rattle.wcp_script.specs.Head.{Head, HeadRead, first_head, processes_in, processes_by, head_by, head_of, IsPlanOf}
 use Rattle.wcp_script.specs.TextFault.{workloads, steps_by, Spells}
-use Rattle.wcp_script.proofs.Joins.{Lacks, lines_of-append, lines_of_nothing}
-use Rattle.wcp_script.proofs.PrintedTasks.{IsWord, IsWord-decimal, word_from, number_in-decimal, worded, line_bytes, lines_of-line_bytes, words_of-worded, task_words, words_of_task, lines_of-task_line, steps_by-task_lines}
-use Rattle.wcp_script.proofs.PrintedHead.{GoesOn, capacities, with_attach, unwrap_or-said_unless, cap_read, hold_read, relays_read, attaches_read}
+use Rattle.wcp_script.proofs.LinesOfWords.{IsWord, IsWord-literal, IsWord-decimal, number_in-decimal, words_of-joined, worded, lines_of-line_text, lines_of_nothing}
+use Rattle.wcp_script.proofs.PrintedTasks.{task_is_words, lines_of-task_line, steps_by-task_lines}
+use Rattle.wcp_script.proofs.PrintedHead.{Makes, Makes-append, made_is_read, said_unless, unwrap_or-said_unless, cap_makes, hold_makes, relays_make, attaches_make}
 
 -- ---- what a plan that is checked has
 
@@ -88,16 +90,20 @@ all_first (entry ∷ attach) each =
 
 -- ---- the head
 
--- What follows the first two lines is read as the head of the plan.
-abbrev HasHead : Plan → ℕ → List ℕ → List ℕ → Type 0
-HasHead plan last text rest = (head : Head) × GoesOn (capacities plan.n plan.cap plan.hold) last text head rest × IsPlanOf head plan
+-- The head after the lines of capacities.
+abbrev capacities : Plan → Head
+capacities plan = record (first_head plan.n) { cap = said_unless 8 plan.cap; hold = said_unless 4 plan.hold }
 
-tree_read : (plan : Plan) (last : ℕ) (rest : List ℕ) (one : Bool) → has_one_relay plan ≡ one → Sound plan → HasHead plan last (cond one [] (numbered relay_text 0 plan.parents.items ++ numbered attach_text 0 plan.attach.items) ++ rest) rest
-tree_read plan last rest true is sound =
+-- Of the capacities the lines make a head of the plan.
+abbrev MakesPlan : Plan → List (List Word) → Type 0
+MakesPlan plan lines = (head : Head) × Makes (capacities plan) lines head × IsPlanOf head plan
+
+tree_makes : (plan : Plan) (one : Bool) → has_one_relay plan ≡ one → Sound plan → MakesPlan plan (cond one [] (numbered relay_lines 0 plan.parents.items ++ numbered attach_lines 0 plan.attach.items))
+tree_makes plan true is sound =
     let parts = and_parts (is_root_alone plan.parents.items) (eqb (length plan.attach.items) plan.n && list_all is_first plan.attach.items) is in
     let all = and_parts (eqb (length plan.attach.items) plan.n) (list_all is_first plan.attach.items) parts.1 in (
-      capacities plan.n plan.cap plan.hold,
-      (last, refl),
+      capacities plan,
+      refl,
       record {
         n = refl;
         cap = unwrap_or-said_unless 8 plan.cap;
@@ -106,20 +112,17 @@ tree_read plan last rest true is sound =
         attach = all_first plan.attach.items all.1 ∙ ap (λ k. replicate k (Some 0)) sound.entries;
       },
     )
-tree_read plan last rest false is sound =
-    let n = plan.n in
+tree_makes plan false is sound =
     let parents = plan.parents.items in
     let attach = plan.attach.items in
-    let after_relays : List ℕ = numbered attach_text 0 attach ++ rest in
-    let relays = relays_read n plan.cap plan.hold last [] parents after_relays (omega (arith, sound.few_relays)) (λ i above here. omega (arith, sound.lower i above here)) in
-    let attached = attaches_read n plan.cap plan.hold relays.0 parents [] attach None rest sound.relays (omega (arith, sound.entries)) sound.few sound.served (λ p past. refl) in
-    let head : Head = with_attach n plan.cap plan.hold parents attach attached.0 in
-    let begun = subst (λ (k : ℕ). GoesOn (with_attach n plan.cap plan.hold parents (replicate k None) None) relays.0 after_relays head rest) sound.entries attached.1 in
-    let whole : GoesOn (capacities n plan.cap plan.hold) last (numbered relay_text 0 parents ++ after_relays) head rest = (begun.0, relays.1 ∙ begun.1) in
-    let text = subst (λ (text : List ℕ). GoesOn (capacities n plan.cap plan.hold) last text head rest) (sym (append_assoc (numbered relay_text 0 parents) (numbered attach_text 0 attach) rest)) whole in
+    let relays = relays_make (capacities plan) [] parents 0 refl refl (omega (arith, sound.few_relays)) (λ i above here. omega (arith, sound.lower i above here)) in
+    let with_relays : Head = record (capacities plan) { parents = parents } in
+    let attached = attaches_make with_relays [] attach (replicate plan.n None) attach None 0 refl (ap (λ k. replicate k None) (sym sound.entries)) refl
+    sound.relays (omega (arith, sound.entries)) sound.few sound.served (λ p past. refl) in
+    let head : Head = record with_relays { attach = attach; last_attached = attached.0 } in
     let some : eqb (length parents) 0 ≡ false = ne_eqb (length parents) 0 (λ e. absurd (omega (arith, sound.relays))) in (
       head,
-      text,
+      Makes-append (capacities plan) with_relays head (numbered relay_lines 0 parents) (numbered attach_lines 0 attach) relays attached.1,
       record {
         n = refl;
         cap = unwrap_or-said_unless 8 plan.cap;
@@ -129,32 +132,34 @@ tree_read plan last rest false is sound =
       },
     )
 
-further_lines : (plan : Plan) (rest : List ℕ) → Sound plan → (head : Head) × GoesOn (first_head plan.n) 2 (cap_text plan.cap ++ (hold_text plan.hold ++ (tree_text plan ++ rest))) head rest × IsPlanOf head plan
-further_lines plan rest sound =
-    let after_cap : List ℕ = hold_text plan.hold ++ (tree_text plan ++ rest) in
-    let cap = cap_read plan.n plan.cap 2 after_cap sound.cap_low sound.cap_high in
-    let hold = hold_read plan.n plan.cap plan.hold cap.0 (tree_text plan ++ rest) sound.hold_low sound.hold_high in
-    let tree = tree_read plan hold.0 rest (has_one_relay plan) refl sound in
-    (tree.0, (tree.1.0, cap.1 ∙ (hold.1 ∙ tree.1.1)), tree.2)
+-- The lines after the first two.
+abbrev further_lines : Plan → List (List Word)
+further_lines plan = cap_lines plan.cap ++ (hold_lines plan.hold ++ tree_lines plan)
+
+further_make : (plan : Plan) → Sound plan → (head : Head) × Makes (first_head plan.n) (further_lines plan) head × IsPlanOf head plan
+further_make plan sound =
+    let with_cap : Head = record (first_head plan.n) { cap = said_unless 8 plan.cap } in
+    let tree = tree_makes plan (has_one_relay plan) refl sound in
+    let hold = hold_makes plan.n plan.hold (said_unless 8 plan.cap) (eqb plan.hold 4) sound.hold_low sound.hold_high in
+    let behind_cap = Makes-append with_cap (capacities plan) tree.0 (hold_lines plan.hold) (tree_lines plan) hold tree.1 in
+    let cap = cap_makes plan.n plan.cap (eqb plan.cap 8) sound.cap_low sound.cap_high in
+    (tree.0, Makes-append (first_head plan.n) with_cap tree.0 (cap_lines plan.cap) (hold_lines plan.hold ++ tree_lines plan) cap behind_cap, tree.2)
 
 -- ---- the whole text
 
-version_lacks : Lacks 10 (codes "wcp 1")
-version_lacks = All-from_recursion (λ other. eqb other 10 ≡ false) (codes "wcp 1") (refl, (refl, (refl, (refl, (refl, tt)))))
+-- The text of a workload is that of its head, and then the lines of its tasks.
+pub text_of-head_and_tasks : (plan : Plan) (tasks : List Task) → text_of_workload plan tasks ≡ text_of (head_lines plan) ++ flat_map task_line tasks
+unfolding text_of_workload
+text_of-head_and_tasks plan tasks =
+    flat_map-append line_text (head_lines plan) (map task_words tasks) ∙ ap (λ (steps : List ℕ). text_of (head_lines plan) ++ steps) (flat_map-map line_text task_words tasks)
 
-procs_word : IsWord (codes "procs")
-procs_word = word_from (codes "procs") (refl, (refl, (refl, (refl, (refl, tt))))) (refl, (refl, (refl, (refl, (refl, tt)))))
-
-lines_of-opening_text : (n : ℕ) (rest : List ℕ) → n ≤ 16 → lines_of (opening_text n ++ rest) ≡ record { bytes = codes "wcp 1"; ended = true } ∷ worded (codes "procs" ∷ decimal n ∷ []) ∷ lines_of rest
-lines_of-opening_text n rest few =
-    let words : List (List ℕ) = codes "procs" ∷ decimal n ∷ [] in
-    let second = lines_of-line_bytes words rest (procs_word, (IsWord-decimal n (omega arith), tt)) in
-    lines_of-append (codes "wcp 1") (line_bytes words ++ rest) version_lacks ∙ ap (λ (others : List TextLine). record { bytes = codes "wcp 1"; ended = true } ∷ others) second
+procs_are_words : (n : ℕ) → n ≤ 16 → AllByRecursion IsWord (codes "procs" ∷ decimal n ∷ [])
+procs_are_words n few = (IsWord-literal (codes "procs") refl, (IsWord-decimal n (omega arith), tt))
 
 processes_in-worded : (n : ℕ) → 1 ≤ n → n ≤ 16 → processes_in (worded (codes "procs" ∷ decimal n ∷ [])) ≡ Ok n
 unfolding processes_in
 processes_in-worded n some few =
-    rw (words_of-worded (codes "procs") (decimal n ∷ []) (procs_word, (IsWord-decimal n (omega arith), tt)), number_in-decimal n (omega arith), le-leb 1 n some, le-leb n 16 few) refl
+    rw (words_of-joined (codes "procs") (decimal n ∷ []) (procs_are_words n few), number_in-decimal n (omega arith), le-leb 1 n some, le-leb n 16 few) refl
 
 -- the head ends where the tasks begin
 head_ends : (n : ℕ) (head : Head) (last : ℕ) (tasks : List Task) → n ≤ 16 → AllByRecursion (IsWithin n) tasks → head_by is_task_word head last (lines_of (flat_map task_line tasks)) ≡ Ok (record { head = head; last = last; after = lines_of (flat_map task_line tasks) })
@@ -162,27 +167,35 @@ unfolding head_by
 head_ends n head last [] few within = rw lines_of_nothing refl
 head_ends n head last (task ∷ tasks) few within =
     let lines = lines_of-task_line n task (flat_map task_line tasks) few within.0 in
-    rw (lines, words_of-worded (codes "p") (drop 1 (task_words task)) (words_of_task n task few within.0)) refl
+    rw (lines, words_of-joined (codes "p") (decimal task.p ∷ action_words task.action) (task_is_words n task few within.0)) refl
 
-regrouped : (opening cap hold tree steps : List ℕ) → (opening ++ (cap ++ (hold ++ tree))) ++ steps ≡ opening ++ (cap ++ (hold ++ (tree ++ steps)))
-regrouped opening cap hold tree steps = simp append_assoc refl
+lines_of-opening : (plan : Plan) (steps : List ℕ) → plan.n ≤ 16
+    → lines_of (text_of (head_lines plan) ++ steps) ≡ worded (codes "wcp" ∷ codes "1" ∷ []) ∷ worded (codes "procs" ∷ decimal plan.n ∷ []) ∷ lines_of (text_of (further_lines plan) ++ steps)
+lines_of-opening plan steps few =
+    let version : List Word = codes "wcp" ∷ codes "1" ∷ [] in
+    let procs : List Word = codes "procs" ∷ decimal plan.n ∷ [] in
+    let rest : List ℕ = text_of (further_lines plan) ++ steps in
+    let regrouped : text_of (head_lines plan) ++ steps ≡ line_text version ++ (line_text procs ++ rest) = simp append_assoc refl in
+    ap lines_of regrouped
+    ∙ lines_of-line_text version (line_text procs ++ rest) (IsWord-literal (codes "wcp") refl, (IsWord-literal (codes "1") refl, tt))
+    ∙ ap (λ others. worded version ∷ others) (lines_of-line_text procs rest (procs_are_words plan.n few))
 
 pub text_spells : (plan : Plan) (tasks : List Task) → IsCheckedPlan plan → CouldBeRead plan.n tasks → Spells workloads (text_of_workload plan tasks) plan tasks
-unfolding text_of_workload head_of processes_by
+unfolding head_of processes_by
 text_spells plan tasks checked could =
     let sound = sound_from plan checked in
     let steps : List ℕ = flat_map task_line tasks in
     let within = recursion_from_All (IsWithin plan.n) tasks could.within in
-    let rest : List ℕ = cap_text plan.cap ++ (hold_text plan.hold ++ (tree_text plan ++ steps)) in
-    let lines = ap lines_of (regrouped (opening_text plan.n) (cap_text plan.cap) (hold_text plan.hold) (tree_text plan) steps) ∙ lines_of-opening_text plan.n rest sound.few in
-    let found = further_lines plan steps sound in
-    let ends = head_ends plan.n found.0 found.1.0 tasks sound.few within in
-    let read : HeadRead = record { head = found.0; last = found.1.0; after = lines_of steps } in
-    let head_is : head_by is_task_word (first_head plan.n) 2 (lines_of rest) ≡ Ok read = found.1.1 ∙ ends in
+    let lines = ap lines_of (text_of-head_and_tasks plan tasks) ∙ lines_of-opening plan steps sound.few in
+    let made = further_make plan sound in
+    let begun = made_is_read (first_head plan.n) made.0 (further_lines plan) 2 steps made.1 in
+    let ends = head_ends plan.n made.0 begun.0 tasks sound.few within in
+    let read : HeadRead = record { head = made.0; last = begun.0; after = lines_of steps } in
+    let head_is : head_by is_task_word (first_head plan.n) 2 (lines_of (text_of (further_lines plan) ++ steps)) ≡ Ok read = begun.1 ∙ ends in
     record {
       read = read;
       head = rw (lines, processes_in-worded plan.n sound.some sound.few) head_is;
-      plan_of_head = found.2;
+      plan_of_head = made.2;
       checked = checked;
-      lines = ap (λ n. steps_by workloads n found.1.0 0 (lines_of steps)) (sym found.2.n) ∙ steps_by-task_lines plan.n found.1.0 0 tasks sound.few within (omega (arith, could.few_tasks));
+      lines = ap (λ n. steps_by workloads n begun.0 0 (lines_of steps)) (sym made.2.n) ∙ steps_by-task_lines plan.n begun.0 0 tasks sound.few within (omega (arith, could.few_tasks));
     }

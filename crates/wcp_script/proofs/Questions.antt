@@ -8,18 +8,6 @@ pub bind_ok : {A B E : Type 0} (r : Result A E) (f : A → Result B E) (y : B) �
 bind_ok (Ok x) f y e = (x, refl, e)
 bind_ok (Err d) f y e = absurd cc
 
-pub guard_ok : {A E : Type 0} (b : Bool) (x : Result A E) (d : E) (y : A) → cond b x (Err d) ≡ Ok y → (b ≡ true) × (x ≡ Ok y)
-guard_ok true x d y e = (refl, e)
-guard_ok false x d y e = absurd cc
-
-pub ok_or_ok : {A E : Type 0} (o : Option A) (d : E) (y : A) → ok_or o d ≡ Ok y → o ≡ Some y
-ok_or_ok None d y e = absurd cc
-ok_or_ok (Some x) d y e = cc
-
-pub ended_is : {A : Type 0} (ended : Bool) (o : Option A) (x : A) → cond ended o None ≡ Some x → (ended ≡ true) × (o ≡ Some x)
-ended_is true o x e = (refl, e)
-ended_is false o x e = absurd cc
-
 abbrev done : {A E : Type 0} → A → Result A E
 done x = Ok x
 

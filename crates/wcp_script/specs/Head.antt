@@ -1,5 +1,5 @@
 -- The head of a text, line by line, and the plan that it describes.
-use Rattle.std.specs.Prelude.{◌≡◌, ◌==◌, ◌&&◌, ℕ, ◌+◌, Bool, true, not, drop, List, [], ◌∷◌, ◌++◌, length, replicate, slice_set, nat_lt, nat_le, Option, Some, None, is_none, Result, Ok, Err, codes, if◌then◌else◌}
+use Rattle.std.specs.Prelude.{◌≡◌, ◌==◌, ◌&&◌, ℕ, ◌+◌, ◌<◌, ◌≤◌, Bool, true, not, drop, List, [], ◌∷◌, ◌++◌, length, replicate, slice_set, nat_lt, nat_le, Option, Some, None, is_none, Result, Ok, Err, codes, if◌then◌else◌}
 use Rattle.std.specs.Str.{bytes_eq}
 use Rattle.std.specs.Option.{ok_or, unwrap_or}
 use Rattle.wcp_clock.specs.Limits.{most_processes, most_cap, most_hold, most_relays}
@@ -121,6 +121,14 @@ head_words head words = Err kind.Line
 -- What a further line of a head says, if it has its LF.
 unfoldable pub head_line : Head → TextLine → Result HeadLine FaultKind
 head_line head line = if line.ended then head_words head (words_of line.bytes) else Err kind.Line
+
+-- Of the lines that a head allows, there is one for each capacity, within its limits, and one for each of at most 15 relays;
+-- and the processes that they attach rise and are below n.
+abbrev pub IsAllowed : Head → HeadLine → Type 0
+IsAllowed head (Cap cap) = (head.cap ≡ None) × (1 ≤ cap) × (cap ≤ most_cap)
+IsAllowed head (Hold hold) = (head.hold ≡ None) × (1 ≤ hold) × (hold ≤ most_hold)
+IsAllowed head (Relay parent) = length head.parents < most_relays
+IsAllowed head (Attach p relay) = (is_after head.last_attached p ≡ true) × (p < head.n)
 
 -- A head has at most 35 lines: the first two, one for each capacity, and one for each relay and each process.
 abbrev pub most_head_lines : ℕ

@@ -1,11 +1,25 @@
--- How a text is cut into lines, and a line into words, and which words are numbers.
-use Rattle.std.specs.Prelude.{◌==◌, ◌&&◌, ◌^◌, ℕ, Bool, true, false, List, [], ◌∷◌, length, nat_lt, Option, Some, None, if◌then◌else◌}
-use Rattle.std.specs.List.{slice_split}
+-- How a text stands in lines and a line in words, how they are cut again, and which words are numbers.
+use Rattle.std.specs.Prelude.{◌==◌, ◌&&◌, ◌^◌, ℕ, Bool, true, false, List, [], ◌∷◌, ◌++◌, length, nat_lt, Option, Some, None, if◌then◌else◌}
+use Rattle.std.specs.List.{flat_map, slice_split}
 use Rattle.std.specs.Str.{bytes_eq}
 use Rattle.std.specs.Str.Parse.{digits_value}
 use Rattle.std.specs.Fmt.{decimal}
 
--- A line of a text: its bytes, and whether its LF follows them.
+-- A word, byte by byte.
+abbrev pub Word : Type 0
+Word = List ℕ
+
+-- The words of a line stand with a space between each two, and a LF ends the line.
+abbrev pub line_text : List Word → List ℕ
+line_text [] = 10 ∷ []
+line_text (word ∷ []) = word ++ 10 ∷ []
+line_text (word ∷ next ∷ words) = word ++ 32 ∷ line_text (next ∷ words)
+
+-- The lines of a text stand one after the other.
+abbrev pub text_of : List (List Word) → List ℕ
+text_of lines = flat_map line_text lines
+
+-- A line that was cut out of a text: its bytes, and whether its LF follows them.
 pub record TextLine : Type 0 where
   pub bytes : List ℕ
   pub ended : Bool

@@ -1,39 +1,44 @@
 -- The text of a workload under its plan.
-use Rattle.std.specs.Prelude.{◌==◌, ◌&&◌, ℕ, ◌+◌, Bool, true, false, List, [], ◌∷◌, ◌++◌, length, Option, Some, None, codes, if◌then◌else◌}
-use Rattle.std.specs.List.{flat_map, list_all}
+use Rattle.std.specs.Prelude.{◌==◌, ◌&&◌, ℕ, ◌+◌, Bool, true, false, List, [], ◌∷◌, ◌++◌, length, map, Option, Some, None, codes, if◌then◌else◌}
+use Rattle.std.specs.List.{list_all}
 use Rattle.std.specs.Fmt.{decimal}
 use Rattle.wcp_model.specs.declared.plan.Parent.{Parent}
 use Rattle.wcp_model.specs.declared.plan.Parent.TheVariants.{Root, Relay}
 use Rattle.wcp_model.specs.declared.plan.Plan.{Plan}
 use Rattle.wcp_model.specs.declared.workload.Task.{Task}
 use Rattle.wcp_script.specs.Capacities.{plain_cap, plain_hold}
-use Rattle.wcp_script.specs.WorkloadText.{task_line}
+use Rattle.wcp_script.specs.Lines.{Word, text_of}
+use Rattle.wcp_script.specs.WorkloadText.{task_words}
 
--- The lines of the capacities, where they aren't 8 for links and inboxes and 4 for holds.
-abbrev pub cap_text : ℕ → List ℕ
-cap_text cap = if cap == plain_cap then [] else codes "cap " ++ (decimal cap ++ 10 ∷ [])
+-- The first two lines: the format with its version, and the number of processes.
+abbrev pub opening_lines : ℕ → List (List Word)
+opening_lines n = (codes "wcp" ∷ codes "1" ∷ []) ∷ (codes "procs" ∷ decimal n ∷ []) ∷ []
 
-abbrev pub hold_text : ℕ → List ℕ
-hold_text hold = if hold == plain_hold then [] else codes "hold " ++ (decimal hold ++ 10 ∷ [])
+-- The lines of the capacities, where they aren't the plain ones.
+abbrev pub cap_lines : ℕ → List (List Word)
+cap_lines cap = if cap == plain_cap then [] else (codes "cap" ∷ decimal cap ∷ []) ∷ []
+
+abbrev pub hold_lines : ℕ → List (List Word)
+hold_lines hold = if hold == plain_hold then [] else (codes "hold" ∷ decimal hold ∷ []) ∷ []
 
 -- The word for what a relay passes its items to.
-abbrev pub parent_word : Parent → List ℕ
+abbrev pub parent_word : Parent → Word
 parent_word Root = codes "root"
 parent_word (Relay above) = decimal above
 
 -- The line of a relay.
-abbrev pub relay_text : ℕ → Parent → List ℕ
-relay_text relay parent = codes "relay " ++ (decimal relay ++ (codes " " ++ (parent_word parent ++ 10 ∷ [])))
+abbrev pub relay_lines : ℕ → Parent → List (List Word)
+relay_lines relay parent = (codes "relay" ∷ decimal relay ∷ parent_word parent ∷ []) ∷ []
 
 -- The line of a process that a relay serves; none for one that is unattached.
-abbrev pub attach_text : ℕ → Option ℕ → List ℕ
-attach_text p None = []
-attach_text p (Some relay) = codes "attach " ++ (decimal p ++ (codes " " ++ (decimal relay ++ 10 ∷ [])))
+abbrev pub attach_lines : ℕ → Option ℕ → List (List Word)
+attach_lines p None = []
+attach_lines p (Some relay) = (codes "attach" ∷ decimal p ∷ decimal relay ∷ []) ∷ []
 
 -- The lines of the elements of a list, numbered on from the given one.
-abbrev pub numbered : {X : Type 0} → (ℕ → X → List ℕ) → ℕ → List X → List ℕ
-numbered line i [] = []
-numbered line i (x ∷ xs) = line i x ++ numbered line (i + 1) xs
+abbrev pub numbered : {X : Type 0} → (ℕ → X → List (List Word)) → ℕ → List X → List (List Word)
+numbered lines i [] = []
+numbered lines i (x ∷ xs) = lines i x ++ numbered lines (i + 1) xs
 
 -- The first relay serves the process.
 abbrev pub is_first : Option ℕ → Bool
@@ -46,20 +51,23 @@ is_root_alone parents = false
 
 -- The plan has one relay, under the root, and it serves every process.
 abbrev pub has_one_relay : Plan → Bool
-has_one_relay plan = is_root_alone plan.parents.items && (length plan.attach.items == plan.n && list_all is_first plan.attach.items)
+has_one_relay plan =
+    is_root_alone plan.parents.items && (length plan.attach.items == plan.n && list_all is_first plan.attach.items)
 
 -- The lines of the tree, where it has more than the one relay that serves every process.
-abbrev pub tree_text : Plan → List ℕ
-tree_text plan = if has_one_relay plan then [] else numbered relay_text 0 plan.parents.items ++ numbered attach_text 0 plan.attach.items
-
--- The first two lines: the format with its version, and the number of processes.
-abbrev pub opening_text : ℕ → List ℕ
-opening_text n = codes "wcp 1\nprocs " ++ (decimal n ++ 10 ∷ [])
+abbrev pub tree_lines : Plan → List (List Word)
+tree_lines plan =
+    if has_one_relay plan then []
+    else numbered relay_lines 0 plan.parents.items ++ numbered attach_lines 0 plan.attach.items
 
 -- The lines of the head.
-abbrev pub head_text : Plan → List ℕ
-head_text plan = opening_text plan.n ++ (cap_text plan.cap ++ (hold_text plan.hold ++ tree_text plan))
+abbrev pub head_lines : Plan → List (List Word)
+head_lines plan = opening_lines plan.n ++ (cap_lines plan.cap ++ (hold_lines plan.hold ++ tree_lines plan))
+
+-- The text of the first two lines.
+abbrev pub opening_text : ℕ → List ℕ
+opening_text n = text_of (opening_lines n)
 
 -- The text of a workload: its head, and a line for each task.
 unfoldable pub text_of_workload : Plan → List Task → List ℕ
-text_of_workload plan tasks = head_text plan ++ flat_map task_line tasks
+text_of_workload plan tasks = text_of (head_lines plan ++ map task_words tasks)

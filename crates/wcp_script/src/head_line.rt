@@ -1,5 +1,5 @@
-ghost use Rattle.std.specs.Prelude.{◌≡◌, [], ◌∷◌};
-ghost use Rattle.wcp_script.specs.Head.{parent_in, is_above, is_after, cap_line, hold_line, relay_line, attach_line, head_words, head_line};
+ghost use Rattle.std.specs.Prelude.{◌≡◌, [], ◌∷◌, IfOk};
+ghost use Rattle.wcp_script.specs.Head.{IsAllowed, parent_in, is_above, is_after, cap_line, hold_line, relay_line, attach_line, head_words, head_line};
 ghost use Rattle.wcp_script.specs.Views.{seen_line, seen_head};
 
 use crate::fault::{FaultKind, ask};
@@ -26,7 +26,8 @@ impl Head {
     /// What a further line says.
     #[tactic(auto, unfolding(crate::specs::Head::head_line))]
     pub(crate) fn judge(&self, line: Line<'_>) -> Result<HeadLine, FaultKind>
-        ensures { result ≡ head_line (seen_head self.now) (seen_line line.entry) }
+        ensures exact { result ≡ head_line (seen_head self.now) (seen_line line.entry) }
+        ensures allowed { IfOk result (IsAllowed (seen_head self.now)) }
     {
         ask(line.ended, FaultKind::Line)?;
         match words_of(line.bytes) {
@@ -37,7 +38,8 @@ impl Head {
     }
 
     fn capacity_line(&self, first: &[u8], second: &[u8]) -> Result<HeadLine, FaultKind>
-        ensures { result ≡ head_words (seen_head self.now) (first.now ∷ second.now ∷ []) }
+        ensures exact { result ≡ head_words (seen_head self.now) (first.now ∷ second.now ∷ []) }
+        ensures allowed { IfOk result (IsAllowed (seen_head self.now)) }
     {
         if first == b"cap".as_slice() {
             self.cap_line(second)
@@ -49,7 +51,8 @@ impl Head {
     }
 
     fn tree_line(&self, first: &[u8], second: &[u8], third: &[u8]) -> Result<HeadLine, FaultKind>
-        ensures { result ≡ head_words (seen_head self.now) (first.now ∷ second.now ∷ third.now ∷ []) }
+        ensures exact { result ≡ head_words (seen_head self.now) (first.now ∷ second.now ∷ third.now ∷ []) }
+        ensures allowed { IfOk result (IsAllowed (seen_head self.now)) }
     {
         if first == b"relay".as_slice() {
             self.relay_line(second, third)
@@ -61,7 +64,8 @@ impl Head {
     }
 
     fn cap_line(&self, word: &[u8]) -> Result<HeadLine, FaultKind>
-        ensures { result ≡ cap_line (seen_head self.now) word.now }
+        ensures exact { result ≡ cap_line (seen_head self.now) word.now }
+        ensures allowed { IfOk result (IsAllowed (seen_head self.now)) }
     {
         ask(
             self.cap.is_none() && self.hold.is_none() && self.parents.is_empty(),
@@ -73,7 +77,8 @@ impl Head {
     }
 
     fn hold_line(&self, word: &[u8]) -> Result<HeadLine, FaultKind>
-        ensures { result ≡ hold_line (seen_head self.now) word.now }
+        ensures exact { result ≡ hold_line (seen_head self.now) word.now }
+        ensures allowed { IfOk result (IsAllowed (seen_head self.now)) }
     {
         ask(
             self.hold.is_none() && self.parents.is_empty(),
@@ -85,7 +90,8 @@ impl Head {
     }
 
     fn relay_line(&self, number: &[u8], above: &[u8]) -> Result<HeadLine, FaultKind>
-        ensures { result ≡ relay_line (seen_head self.now) number.now above.now }
+        ensures exact { result ≡ relay_line (seen_head self.now) number.now above.now }
+        ensures allowed { IfOk result (IsAllowed (seen_head self.now)) }
     {
         ask(self.last_attached.is_none(), FaultKind::Line)?;
         let relay = number_in(number)?;
@@ -99,7 +105,8 @@ impl Head {
     }
 
     fn attach_line(&self, process: &[u8], number: &[u8]) -> Result<HeadLine, FaultKind>
-        ensures { result ≡ attach_line (seen_head self.now) process.now number.now }
+        ensures exact { result ≡ attach_line (seen_head self.now) process.now number.now }
+        ensures allowed { IfOk result (IsAllowed (seen_head self.now)) }
     {
         ask(!self.parents.is_empty(), FaultKind::Line)?;
         let p = number_in(process)?;

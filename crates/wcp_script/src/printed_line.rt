@@ -1,7 +1,8 @@
 //! The step lines of a workload as they are printed: each byte of them is looked at once.
-ghost use Rattle.std.specs.Prelude.{◌≡◌, ◌+◌, ◌<◌, ◌++◌, ◌∷◌, IfSome};
+ghost use Rattle.std.specs.Prelude.{◌≡◌, ◌+◌, ◌<◌, ◌++◌, [], ◌∷◌, IfSome};
 ghost use Rattle.std.specs.Fmt.{decimal};
 ghost use Rattle.wcp_model.specs.WorkloadComputation.{IsWithin};
+ghost use Rattle.wcp_script.specs.Lines.{line_text};
 ghost use Rattle.wcp_script.specs.WorkloadText.{action_words, task_line};
 
 use crate::task_line::is_within;
@@ -9,6 +10,7 @@ use wcp_model::{Action, Task};
 
 /// The task of the first line of a text, where it is printed as that of a task of n processes, and
 /// the text after it.
+#[tactic(auto, using(crate::proofs::PrintedTasks::task_line_from))]
 #[inline(always)]
 pub(crate) fn printed_task(n: u32, text: &[u8]) -> Option<(Task, &[u8])>
     ensures line { IfSome result (λ found. text.now ≡ task_line found.0 ++ found.1.now) }
@@ -33,7 +35,7 @@ pub(crate) fn printed_task(n: u32, text: &[u8]) -> Option<(Task, &[u8])>
 /// What a process does by the words that a line ends with, and the text after the line.
 #[inline(always)]
 fn printed_action(text: &[u8]) -> Option<(Action, &[u8])>
-    ensures { IfSome result (λ found. text.now ≡ action_words found.0 ++ 10 ∷ found.1.now) }
+    ensures { IfSome result (λ found. text.now ≡ line_text (action_words found.0) ++ found.1.now) }
 {
     match text {
         [b't', b'r', b'u', b'e', b'\n', rest @ ..] => Some((Action::Observe(true), rest)),
@@ -53,7 +55,7 @@ fn printed_action(text: &[u8]) -> Option<(Action, &[u8])>
 /// The number that a line ends with, and the text after the line.
 #[inline(always)]
 fn printed_partner(text: &[u8]) -> Option<(u32, &[u8])>
-    ensures { IfSome result (λ found. text.now ≡ decimal found.0 ++ 10 ∷ found.1.now) }
+    ensures { IfSome result (λ found. text.now ≡ line_text (decimal found.0 ∷ []) ++ found.1.now) }
 {
     let (number, rest) = printed_number(text)?;
     match rest {

@@ -5,7 +5,9 @@ ghost use Rattle.wcp_model.specs.PlanFault.{IsCheckedPlan};
 ghost use Rattle.wcp_model.specs.WorkloadComputation.{CouldBeRead};
 ghost use Rattle.wcp_script.specs.TextFault.{workloads, Spells};
 ghost use Rattle.wcp_script.specs.WorkloadText.{task_line};
-ghost use Rattle.wcp_script.specs.PlanText.{attach_text, cap_text, has_one_relay, head_text, hold_text, is_first, numbered, opening_text, relay_text, text_of_workload, tree_text};
+ghost use Rattle.wcp_script.specs.Lines.{text_of};
+ghost use Rattle.wcp_script.specs.PlanText.{attach_lines, cap_lines, has_one_relay, head_lines, hold_lines, is_first, numbered};
+ghost use Rattle.wcp_script.specs.PlanText.{opening_lines, relay_lines, text_of_workload, tree_lines};
 
 use crate::head::{PLAIN_CAP, PLAIN_HOLD};
 use std::alloc::{AllocError, Global};
@@ -27,7 +29,7 @@ pub fn workload_text(alloc: Global, workload: &Workload) -> Result<Vec<u8>, Allo
 }
 
 fn push_head(text: &mut String, plan: &Plan) -> Result<(), AllocError>
-    ensures { OnOk result (string_bytes text.new ≡ string_bytes text.old ++ head_text plan.now) }
+    ensures { OnOk result (string_bytes text.new ≡ string_bytes text.old ++ text_of (head_lines plan.now)) }
 {
     push_opening(text, plan.n)?;
     push_cap(text, plan.cap)?;
@@ -36,13 +38,13 @@ fn push_head(text: &mut String, plan: &Plan) -> Result<(), AllocError>
 }
 
 fn push_opening(text: &mut String, n: u32) -> Result<(), AllocError>
-    ensures { OnOk result (string_bytes text.new ≡ string_bytes text.old ++ opening_text n) }
+    ensures { OnOk result (string_bytes text.new ≡ string_bytes text.old ++ text_of (opening_lines n)) }
 {
     write!(text, "wcp 1\nprocs {n}\n")
 }
 
 fn push_cap(text: &mut String, cap: u32) -> Result<(), AllocError>
-    ensures { OnOk result (string_bytes text.new ≡ string_bytes text.old ++ cap_text cap) }
+    ensures { OnOk result (string_bytes text.new ≡ string_bytes text.old ++ text_of (cap_lines cap)) }
 {
     if cap == PLAIN_CAP {
         return Ok(());
@@ -51,7 +53,7 @@ fn push_cap(text: &mut String, cap: u32) -> Result<(), AllocError>
 }
 
 fn push_hold(text: &mut String, hold: u32) -> Result<(), AllocError>
-    ensures { OnOk result (string_bytes text.new ≡ string_bytes text.old ++ hold_text hold) }
+    ensures { OnOk result (string_bytes text.new ≡ string_bytes text.old ++ text_of (hold_lines hold)) }
 {
     if hold == PLAIN_HOLD {
         return Ok(());
@@ -60,7 +62,7 @@ fn push_hold(text: &mut String, hold: u32) -> Result<(), AllocError>
 }
 
 fn push_tree(text: &mut String, plan: &Plan) -> Result<(), AllocError>
-    ensures { OnOk result (string_bytes text.new ≡ string_bytes text.old ++ tree_text plan.now) }
+    ensures { OnOk result (string_bytes text.new ≡ string_bytes text.old ++ text_of (tree_lines plan.now)) }
 {
     if has_one_relay(plan) {
         return Ok(());
@@ -90,7 +92,7 @@ fn are_served_by_first(attach: &[Option<u32>]) -> bool
 }
 
 fn push_relays(text: &mut String, parents: &[Parent]) -> Result<(), AllocError>
-    ensures { OnOk result (string_bytes text.new ≡ string_bytes text.old ++ numbered relay_text 0 parents.now) }
+    ensures { OnOk result (string_bytes text.new ≡ string_bytes text.old ++ text_of (numbered relay_lines 0 parents.now)) }
 {
     for (relay, parent) in parents.iter().enumerate() {
         push_relay(text, relay, *parent)?;
@@ -99,7 +101,7 @@ fn push_relays(text: &mut String, parents: &[Parent]) -> Result<(), AllocError>
 }
 
 fn push_relay(text: &mut String, relay: usize, parent: Parent) -> Result<(), AllocError>
-    ensures { OnOk result (string_bytes text.new ≡ string_bytes text.old ++ relay_text relay parent) }
+    ensures { OnOk result (string_bytes text.new ≡ string_bytes text.old ++ text_of (relay_lines relay parent)) }
 {
     match parent {
         Parent::Root => writeln!(text, "relay {relay} root"),
@@ -108,7 +110,7 @@ fn push_relay(text: &mut String, relay: usize, parent: Parent) -> Result<(), All
 }
 
 fn push_attachments(text: &mut String, attach: &[Option<u32>]) -> Result<(), AllocError>
-    ensures { OnOk result (string_bytes text.new ≡ string_bytes text.old ++ numbered attach_text 0 attach.now) }
+    ensures { OnOk result (string_bytes text.new ≡ string_bytes text.old ++ text_of (numbered attach_lines 0 attach.now)) }
 {
     for (p, entry) in attach.iter().enumerate() {
         push_attachment(text, p, *entry)?;
@@ -117,7 +119,7 @@ fn push_attachments(text: &mut String, attach: &[Option<u32>]) -> Result<(), All
 }
 
 fn push_attachment(text: &mut String, p: usize, entry: Option<u32>) -> Result<(), AllocError>
-    ensures { OnOk result (string_bytes text.new ≡ string_bytes text.old ++ attach_text p entry) }
+    ensures { OnOk result (string_bytes text.new ≡ string_bytes text.old ++ text_of (attach_lines p entry)) }
 {
     match entry {
         Some(relay) => writeln!(text, "attach {p} {relay}"),

@@ -1,6 +1,7 @@
 use Rattle.std.proofs.Common.{◌≡◌, ◌++◌, string_bytes, drop}
-use Rattle.wcp_script.specs.PlanText.{numbered, relay_text}
+use Rattle.wcp_script.specs.Lines.{text_of}
+use Rattle.wcp_script.specs.PlanText.{numbered, relay_lines}
 use Rattle.wcp_script.proofs.printing.push_relays.Given as goal
 
 abbrev pub invariant-loop-relay : goal.invariant-loop-relay
-invariant-loop-relay l = string_bytes l.text ++ numbered relay_text l.relay (drop l.relay l.parents) ≡ string_bytes l.fn.text ++ numbered relay_text 0 l.parents
+invariant-loop-relay l = string_bytes l.text ++ text_of (numbered relay_lines l.relay (drop l.relay l.parents)) ≡ string_bytes l.fn.text ++ text_of (numbered relay_lines 0 l.parents)
