@@ -22,35 +22,15 @@ same_plan one other plan plan' same h k =
       attach = h'.attach ∙ sym k.attach;
     }
 
-same_served : (one other : Plan) → IsSamePlan one other → take one.n one.attach.items ≡ take other.n other.attach.items
-same_served one other same = ap (λ (n : ℕ). take n one.attach.items) same.n ∙ ap (λ (attach : List (Option ℕ)). take other.n attach) same.attach
-
--- A process is unattached, by the parts of a plan.
-abbrev IsUnattached : ℕ → List Parent → List (Option ℕ) → Type 0
-IsUnattached n parents attach = (length attach ≢ n) ⊎ Any (λ entry. MatchOption entry (Unit {0}) (λ relay. length parents ≤ relay)) attach
-
 pub same_fault_of_plan : (one other : Plan) → IsSamePlan one other → (first : PlanFault) → HasFault one first → HasFault other first
-same_fault_of_plan one other same fault.Procs has = subst (IsOutside 1 16) same.n has
-same_fault_of_plan one other same fault.Cap has = subst (IsOutside 1 1024) same.cap has
-same_fault_of_plan one other same fault.Hold has = subst (IsOutside 1 64) same.hold has
-same_fault_of_plan one other same fault.Parent has = subst HasWrongParent same.parents has
-same_fault_of_plan one other same fault.Depth has = (has.0, subst (λ (parents : List Parent). IsPath parents has.0) same.parents has.1, has.2)
-same_fault_of_plan one other same fault.Mixed has = (
-  has.0,
-  subst (λ (parents : List Parent). has.0 < length parents) same.parents has.1,
-  subst (λ (served : List (Option ℕ)). Contains served (Some has.0)) (same_served one other same) has.2,
-  subst (λ (parents : List Parent). Contains parents (Relay has.0)) same.parents has.3,
-)
-same_fault_of_plan one other same fault.Childless has = (
-  has.0,
-  subst (λ (parents : List Parent). has.0 < length parents) same.parents has.1,
-  subst (λ (served : List (Option ℕ)). ¬ Contains served (Some has.0)) (same_served one other same) has.2,
-  subst (λ (parents : List Parent). ¬ Contains parents (Relay has.0)) same.parents has.3,
-)
-same_fault_of_plan one other same fault.Unattached has =
-    subst (λ (n : ℕ). IsUnattached n other.parents.items other.attach.items) same.n
-    (subst (λ (parents : List Parent). IsUnattached one.n parents other.attach.items) same.parents
-    (subst (IsUnattached one.n one.parents.items) same.attach has))
+same_fault_of_plan one other same fault.Procs has = rw (← same.n) has
+same_fault_of_plan one other same fault.Cap has = rw (← same.cap) has
+same_fault_of_plan one other same fault.Hold has = rw (← same.hold) has
+same_fault_of_plan one other same fault.Parent has = rw (← same.parents) has
+same_fault_of_plan one other same fault.Depth has = rw (← same.parents) has
+same_fault_of_plan one other same fault.Mixed has = rw (← same.parents, ← same.attach, ← same.n) has
+same_fault_of_plan one other same fault.Childless has = rw (← same.parents, ← same.attach, ← same.n) has
+same_fault_of_plan one other same fault.Unattached has = rw (← same.parents, ← same.attach, ← same.n) has
 
 pub processes_of_checked : (plan : Plan) → IsCheckedPlan plan → (1 ≤ plan.n) × (plan.n ≤ 16)
 processes_of_checked plan checked = (

@@ -36,7 +36,8 @@ processes_in line = do
 unfoldable pub processes_by : List TextLine → Result ℕ ScriptFault
 processes_by [] = at_line 1 (Err kind.Header)
 processes_by (version ∷ []) = at_line (if is_version version then 2 else 1) (Err kind.Header)
-processes_by (version ∷ processes ∷ others) = if is_version version then at_line 2 (processes_in processes) else at_line 1 (Err kind.Header)
+processes_by (version ∷ processes ∷ others) =
+    if is_version version then at_line 2 (processes_in processes) else at_line 1 (Err kind.Header)
 
 -- What the lines of a head said so far: the number of processes, the capacities, the parent of each relay, the relay of
 -- each process, and which process the last attach line named.
@@ -122,13 +123,32 @@ head_words head words = Err kind.Line
 unfoldable pub head_line : Head → TextLine → Result HeadLine FaultKind
 head_line head line = if line.ended then head_words head (words_of line.bytes) else Err kind.Line
 
--- Of the lines that a head allows, there is one for each capacity, within its limits, and one for each of at most 15 relays;
--- and the processes that they attach rise and are below n.
+-- A head allows one line for each capacity, within its limits, and one for each of at most 15 relays; and the processes
+-- that its lines attach rise and are below n.
 abbrev pub IsAllowed : Head → HeadLine → Type 0
 IsAllowed head (Cap cap) = (head.cap ≡ None) × (1 ≤ cap) × (cap ≤ most_cap)
 IsAllowed head (Hold hold) = (head.hold ≡ None) × (1 ≤ hold) × (hold ≤ most_hold)
 IsAllowed head (Relay parent) = length head.parents < most_relays
 IsAllowed head (Attach p relay) = (is_after head.last_attached p ≡ true) × (p < head.n)
+
+-- How many lines a head has at most, by what they said: an attach line names a process above that of the one before it.
+abbrev said_once : Option ℕ → ℕ
+said_once None = 0
+said_once (Some capacity) = 1
+
+abbrev next_process : Option ℕ → ℕ
+next_process None = 0
+next_process (Some p) = p + 1
+
+abbrev pub line_count : Head → ℕ
+line_count head = 2 + said_once head.cap + said_once head.hold + length head.parents + next_process head.last_attached
+
+-- The lists of a head are within their limits: an entry for each process, and at most 15 relays.
+pub record IsWithinLimits (head : Head) : Type 0 where
+  pub few : head.n ≤ most_processes
+  pub entries : length head.attach ≡ head.n
+  pub relays : length head.parents ≤ most_relays
+  pub next : next_process head.last_attached ≤ head.n
 
 -- A head has at most 35 lines: the first two, one for each capacity, and one for each relay and each process.
 abbrev pub most_head_lines : ℕ
@@ -152,23 +172,24 @@ abbrev pub first_word : List (List ℕ) → List ℕ
 first_word [] = []
 first_word (word ∷ words) = word
 
--- The head goes on up to the first line that begins with a step word.
+-- The head goes on up to the first step line: the first whose first word passes the test.
 unfoldable pub head_by : (List ℕ → Bool) → Head → ℕ → List TextLine → Result HeadRead ScriptFault
 head_by is_step_word head last [] = Ok (record { head = head; last = last; after = [] })
 head_by is_step_word head last (line ∷ lines) =
-    if is_step_word (first_word (words_of line.bytes)) then Ok (record { head = head; last = last; after = line ∷ lines })
+    if is_step_word (first_word (words_of line.bytes))
+    then Ok (record { head = head; last = last; after = line ∷ lines })
     else (do
       said ← at_line (last + 1) (head_line head line)
       head_by is_step_word (with_line head said) (last + 1) lines)
 
--- The head of a text whose step lines begin with such words.
+-- The head of a text, where a word that passes the test begins a step line.
 unfoldable pub head_of : (List ℕ → Bool) → List ℕ → Result HeadRead ScriptFault
 head_of is_step_word text = do
   n ← processes_by (lines_of text)
   head_by is_step_word (first_head n) 2 (drop 2 (lines_of text))
 
--- The plan that a head describes: 8 places in links and inboxes and 4 in holds where it doesn't say, and without relay lines
--- one relay under the root, which serves every process.
+-- The plan that a head describes: the plain capacities where it doesn't say others, and without relay lines one relay
+-- under the root, which serves every process.
 pub record IsPlanOf (head : Head) (plan : Plan) : Type 0 where
   pub n : plan.n ≡ head.n
   pub cap : plan.cap ≡ unwrap_or head.cap plain_cap

@@ -24,7 +24,8 @@ pub record TextLine : Type 0 where
   pub bytes : List ℕ
   pub ended : Bool
 
--- Of the parts between line feeds each but the last is a line; the last, if it isn't empty, is a line that lacks its LF.
+-- Of the parts between line feeds each but the last is a line; the last, if it isn't empty, is a line that lacks its
+-- LF.
 abbrev pub lines_among : List (List ℕ) → List TextLine
 lines_among [] = []
 lines_among (last ∷ []) = if length last == 0 then [] else record { bytes = last; ended = false } ∷ []

@@ -12,7 +12,7 @@ use Rattle.wcp_script.specs.declared.text.Text.{Text}
 use Rattle.wcp_script.specs.declared.workload.OrderedWorkload.{OrderedWorkload}
 use Rattle.wcp_script.specs.TextFault.{TextKind, workloads, schedules, Spells, HasTextFault, HasWorkloadFault}
 
--- What was read is such a thing, unless memory ran out.
+-- A text was read as something of which this is so, unless memory ran out.
 abbrev pub IsReadAs : {X : Type 0} → (X → Type 0) → Result X ReadFault → Type 0
 IsReadAs is (Ok read) = is read
 IsReadAs is (Err (Script fault)) = ⊥
@@ -39,10 +39,11 @@ abbrev pub Gives : {X Y : Type 0} → (X → Y) → Result X ReadFault → Resul
 Gives view (Ok x) spelled = spelled ≡ Ok (view x)
 Gives view (Err fault) spelled = Fails fault spelled
 
--- What reading a text answered, unless memory ran out: the plan and the steps that it spells, with the number of the last
--- line of its head, or its fault.
+-- What reading a text answered, unless memory ran out: the plan and the steps that it spells, with the number of the
+-- last line of its head, or its fault.
 abbrev pub ReadsText : {S : Type 0} → TextKind S → List ℕ → Result (Text S) ReadFault → Type 0
-ReadsText text_kind text (Ok read) = (spells : Spells text_kind text read.plan read.steps.items) × (spells.read.last ≡ read.last)
+ReadsText text_kind text (Ok read) =
+    (spells : Spells text_kind text read.plan read.steps.items) × (spells.read.last ≡ read.last)
 ReadsText text_kind text (Err fault) = IsFaultOf (HasTextFault text_kind text) fault
 
 -- What reading the text of a schedule answered, unless memory ran out.

@@ -22,13 +22,15 @@ after n p = if p + 1 == n then 0 else p + 1
 abbrev pub finds_both : ℕ → List Task
 finds_both p = record { p = p; action = Observe true } ∷ record { p = p; action = Observe false } ∷ []
 
--- What process p receives in its turn of a round: the message of the process before it, but nothing in the very first turn.
+-- What process p receives in its turn of a round: the message of the process before it, but nothing in the very first
+-- turn.
 abbrev pub received : ℕ → ℕ → ℕ → List Task
 received n round p = if round == 0 && p == 0 then [] else record { p = p; action = Recv (before n p) } ∷ []
 
 -- What process p sends in its turn of a round: a message to the process after it, but nothing in the very last turn.
 abbrev pub sent : ℕ → ℕ → ℕ → ℕ → List Task
-sent n rounds round p = if round + 1 == rounds && p + 1 == n then [] else record { p = p; action = Send (after n p) } ∷ []
+sent n rounds round p =
+    if round + 1 == rounds && p + 1 == n then [] else record { p = p; action = Send (after n p) } ∷ []
 
 -- The turn of process p in a round.
 abbrev pub ring_turn : ℕ → ℕ → ℕ → ℕ → List Task
@@ -52,8 +54,7 @@ abbrev pub ring_length : ℕ → ℕ → Bool → ℕ
 ring_length n rounds true = 4 * n * rounds - 2 + 2 * (n - 1)
 ring_length n rounds false = 4 * n * rounds - 2
 
--- The plan of a ring: one relay, under the root, serves every process; each link and inbox has room for 8 notes, and the
--- hold for 4.
+-- The plan of a ring: one relay, under the root, serves every process, and the capacities are the plain ones.
 pub record IsRingPlan (n : ℕ) (plan : Plan) : Type 0 where
   pub processes : plan.n ≡ n
   pub cap : plan.cap ≡ plain_cap

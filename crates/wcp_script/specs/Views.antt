@@ -1,5 +1,5 @@
--- What the values of the reader's code stand for in a text: a line, the words of a line, the form of a step line, a head.
-use Rattle.std.specs.Prelude.{◌≡◌, ℕ, ◌+◌, Bool, ◌<◌, ◌≤◌, List, [], ◌∷◌, length, Ok}
+-- What the values of the code stand for in a text: a line, the words of a line, the form of a step line, a head.
+use Rattle.std.specs.Prelude.{◌≡◌, ℕ, ◌+◌, Bool, ◌≤◌, List, [], ◌∷◌, length, Ok}
 use Rattle.wcp_script.specs.declared.lines.Line.{Line}
 use Rattle.wcp_script.specs.declared.lines.Words.{Words}
 use Rattle.wcp_script.specs.declared.lines.Words.TheVariants.{One, Two, Three, Four, More}
@@ -7,8 +7,6 @@ use Rattle.wcp_script.specs.declared.task_line.StepForm.{StepForm as Form}
 use Rattle.wcp_script.specs.declared.task_line.StepForm.TheVariants as form
 use Rattle.wcp_script.specs.declared.head.Head.{Head as OwnHead}
 use Rattle.wcp_script.specs.declared.head.HeadRead.{HeadRead as OwnRead}
-use Rattle.wcp_script.specs.declared.head_line.HeadLine.{HeadLine}
-use Rattle.wcp_script.specs.declared.head_line.HeadLine.TheVariants.{Attach}
 use Rattle.wcp_script.specs.Lines.{TextLine, lines_of}
 use Rattle.wcp_script.specs.Judgement.{◌>>=◌, at_line}
 use Rattle.wcp_script.specs.Head.{Head, HeadRead, head_line, with_line, head_by}
@@ -42,11 +40,6 @@ seen_head head = record {
   attach = head.attach.items;
   last_attached = head.last_attached;
 }
-
--- Where a line attaches a process, the head has a place for it.
-abbrev pub HasPlace : Head → HeadLine → Type 0
-HasPlace head (Attach p relay) = p < length head.attach
-HasPlace head said = Unit {0}
 
 -- The head ends before these lines, whatever it is.
 abbrev pub EndsHead : (List ℕ → Bool) → List TextLine → Type 0

@@ -14,7 +14,8 @@ use Rattle.wcp_script.specs.Judgement.{◌>>=◌, ask, number_in}
 abbrev pub is_task_word : List ℕ → Bool
 is_task_word word = bytes_eq word (codes "p")
 
--- A form of step lines, with words in the places of its numbers: `p I true` and `p I false`, `p I send J`, `p I recv J`.
+-- A form of step lines, with words in the places of its numbers: `p I true` and `p I false`, `p I send J`, and
+-- `p I recv J`.
 pub data StepForm : Type 0 where
   Observes : List ℕ → Bool → StepForm
   Sends : List ℕ → List ℕ → StepForm
@@ -35,7 +36,8 @@ message_form process keyword partner =
 -- The form that the words of a line have, if they have one.
 unfoldable pub form_of : List (List ℕ) → Option StepForm
 form_of (first ∷ process ∷ keyword ∷ []) = if is_task_word first then observation_form process keyword else None
-form_of (first ∷ process ∷ keyword ∷ partner ∷ []) = if is_task_word first then message_form process keyword partner else None
+form_of (first ∷ process ∷ keyword ∷ partner ∷ []) =
+    if is_task_word first then message_form process keyword partner else None
 form_of words = None
 
 -- The task of a step line, by its numbers.
@@ -62,8 +64,8 @@ has_partner n p (action.Recv from) = nat_lt from n && not (from == p)
 abbrev pub is_within : ℕ → Task → Bool
 is_within n task = nat_lt task.p n && has_partner n task.p task.action
 
--- The task of a step line under n processes: the line has its LF and a form, its numbers are numbers, and its processes are
--- among the n.
+-- The task of a step line under n processes: the line has its LF and a form, its numbers are numbers, and its processes
+-- are among the n.
 unfoldable pub task_in : ℕ → TextLine → Result Task FaultKind
 task_in n line = do
   form ← ok_or (if line.ended then form_of (words_of line.bytes) else None) kind.Line

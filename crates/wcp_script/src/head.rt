@@ -1,9 +1,9 @@
 ghost use Rattle.std.specs.Prelude.{◌≡◌, ◌≤◌, ◌<◌, length, IfOk, IfSome, MatchOption};
 ghost use Rattle.wcp_clock.specs.Limits.{most_processes};
 ghost use Rattle.wcp_script.specs.Lines.{lines_of};
-ghost use Rattle.wcp_script.specs.Head.{IsPlanOf, most_head_lines, first_head, with_line, head_by, head_of};
+ghost use Rattle.wcp_script.specs.Head.{IsAllowed, IsPlanOf, IsWithinLimits, line_count, most_head_lines, first_head, with_line, head_by, head_of};
 ghost use Rattle.wcp_script.specs.ReadAnswers.{Gives};
-ghost use Rattle.wcp_script.specs.Views.{seen_line, seen_head, seen_read, HasPlace, EndsHead, GoesOn};
+ghost use Rattle.wcp_script.specs.Views.{seen_line, seen_head, seen_read, EndsHead, GoesOn};
 
 use crate::fault::{ReadFault, ScriptFault};
 use crate::head_line::HeadLine;
@@ -40,7 +40,7 @@ pub(crate) struct HeadRead<'a> {
     pub after: &'a [u8],
 }
 
-/// The head of a text whose step lines are such ones.
+/// The head of a text of this kind of step lines.
 #[tactic(auto, unfolding(crate::specs::Head::head_of))]
 pub(crate) fn read_head<S: StepLine>(alloc: Global, text: &[u8]) -> Result<HeadRead<'_>, ReadFault>
     ensures exact { Gives seen_read result (head_of S.text_kind.is_step_word text.now) }
@@ -110,8 +110,11 @@ impl Head {
 
     /// Adds what a line says. `Err` where memory runs out.
     fn add(&mut self, line: HeadLine) -> Result<(), AllocError>
-        requires { HasPlace (seen_head self.old) line }
-        ensures { IfOk result (λ _. seen_head self.new ≡ with_line (seen_head self.old) line) }
+        requires allowed { IsAllowed (seen_head self.old) line }
+        requires within { IsWithinLimits (seen_head self.old) }
+        ensures exact { IfOk result (λ _. seen_head self.new ≡ with_line (seen_head self.old) line) }
+        ensures within { IfOk result (λ _. IsWithinLimits (seen_head self.new)) }
+        ensures longer { IfOk result (λ _. line_count (seen_head self.old) < line_count (seen_head self.new)) }
     {
         match line {
             HeadLine::Cap(cap) => self.cap = Some(cap),

@@ -79,7 +79,8 @@ pub(crate) fn first_word(line: &[u8]) -> &[u8]
 fn cut(bytes: &[u8], separator: u8) -> Option<(&[u8], &[u8])>
     ensures parts { MatchOption result
         (slice_split (λ byte. byte == separator) bytes.now ≡ bytes.now ∷ [])
-        (λ found. slice_split (λ byte. byte == separator) bytes.now ≡ found.0.now ∷ slice_split (λ byte. byte == separator) found.1.now) }
+        (λ found. slice_split (λ byte. byte == separator) bytes.now
+        ≡ found.0.now ∷ slice_split (λ byte. byte == separator) found.1.now) }
     ensures shorter { IfSome result (λ found. length found.1.now < length bytes.now) }
 {
     let at = place(bytes, separator)?;

@@ -5,7 +5,7 @@ ghost use Rattle.wcp_script.specs.Judgement.{number_in};
 
 use crate::fault::FaultKind;
 
-/// The number that stands in the place of one.
+/// The number of a word that stands in the place of a number, or the fault.
 pub(crate) fn number_in(word: &[u8]) -> Result<u32, FaultKind>
     ensures { result ≡ number_in word.now }
 {

@@ -16,7 +16,8 @@ pub(crate) const OPENING_LINES: u32 = 2;
 #[tactic(auto, unfolding(crate::specs::Head::processes_by))]
 pub(crate) fn read_opening(text: &[u8]) -> Result<(u32, &[u8]), ScriptFault>
     ensures exact { MatchResult result
-        (λ opening. (processes_by (lines_of text.now) ≡ Ok opening.0) × (lines_of opening.1.now ≡ drop 2 (lines_of text.now)))
+        (λ opening. (processes_by (lines_of text.now) ≡ Ok opening.0)
+        × (lines_of opening.1.now ≡ drop 2 (lines_of text.now)))
         (λ fault. processes_by (lines_of text.now) ≡ Err fault) }
     ensures some { IfOk result (λ opening. 1 ≤ opening.0) }
     ensures few { IfOk result (λ opening. opening.0 ≤ most_processes) }

@@ -19,8 +19,9 @@ pub fn workload_text(alloc: Global, workload: &Workload) -> Result<Vec<u8>, Allo
     ensures text { IfOk result (λ text. text.items ≡ text_of_workload workload.now.plan workload.now.tasks.items) }
 
     // Where the plan passes its check and the workload could be read, reading the text gives it back.
-    ensures spells { IfOk result (λ text. IsCheckedPlan workload.now.plan → CouldBeRead workload.now.plan.n workload.now.tasks.items →
-        Spells workloads text.items workload.now.plan workload.now.tasks.items) }
+    ensures spells { IfOk result (λ text.
+        IsCheckedPlan workload.now.plan → CouldBeRead workload.now.plan.n workload.now.tasks.items
+        → Spells workloads text.items workload.now.plan workload.now.tasks.items) }
 {
     let mut text = String::new(alloc);
     push_head(&mut text, &workload.plan)?;
@@ -92,7 +93,8 @@ fn are_served_by_first(attach: &[Option<u32>]) -> bool
 }
 
 fn push_relays(text: &mut String, parents: &[Parent]) -> Result<(), AllocError>
-    ensures { OnOk result (string_bytes text.new ≡ string_bytes text.old ++ text_of (numbered relay_lines 0 parents.now)) }
+    ensures { OnOk result (string_bytes text.new
+        ≡ string_bytes text.old ++ text_of (numbered relay_lines 0 parents.now)) }
 {
     for (relay, parent) in parents.iter().enumerate() {
         push_relay(text, relay, *parent)?;
@@ -110,7 +112,8 @@ fn push_relay(text: &mut String, relay: usize, parent: Parent) -> Result<(), All
 }
 
 fn push_attachments(text: &mut String, attach: &[Option<u32>]) -> Result<(), AllocError>
-    ensures { OnOk result (string_bytes text.new ≡ string_bytes text.old ++ text_of (numbered attach_lines 0 attach.now)) }
+    ensures { OnOk result (string_bytes text.new
+        ≡ string_bytes text.old ++ text_of (numbered attach_lines 0 attach.now)) }
 {
     for (p, entry) in attach.iter().enumerate() {
         push_attachment(text, p, *entry)?;

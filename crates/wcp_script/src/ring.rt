@@ -57,7 +57,8 @@ fn push_rounds(tasks: &mut Vec<Task>, n: u32, rounds: u32) -> Result<(), AllocEr
     requires several { 2 ≤ n }
     requires few { n ≤ most_processes }
     requires few_rounds { rounds ≤ most_rounds }
-    ensures { OnOk result (tasks.new.items ≡ tasks.old.items ++ flat_map (ring_round n rounds) (range_with_len 0 rounds)) }
+    ensures { OnOk result (tasks.new.items
+        ≡ tasks.old.items ++ flat_map (ring_round n rounds) (range_with_len 0 rounds)) }
 {
     for round in 0..rounds {
         push_round(tasks, n, rounds, round)?;

@@ -22,11 +22,12 @@ pub(crate) trait StepLine: Copy {
         requires { n ≤ most_processes }
         ensures line { MatchOption result
             (lines_of text.now ≡ [])
-            (λ next. (line : TextLine) × (lines_of text.now ≡ line ∷ lines_of next.1.now) × (next.0 ≡ text_kind.said n line)) }
+            (λ next. (line : TextLine) × (lines_of text.now ≡ line ∷ lines_of next.1.now)
+            × (next.0 ≡ text_kind.said n line)) }
         ensures shorter { IfSome result (λ next. length next.1.now < length text.now) };
 }
 
-/// The steps of the lines behind a head with this last line.
+/// The steps of the lines behind a head, whose last line has this number.
 #[inline(never)]
 pub(crate) fn read_steps<S: StepLine>(
     alloc: Global,
@@ -54,7 +55,7 @@ pub(crate) fn read_steps<S: StepLine>(
     Ok(steps)
 }
 
-/// A step that is said after this many others, of which there may be so many.
+/// The step that a line says behind this many earlier steps, if the text has room for it.
 fn step_after<S: Copy>(earlier: usize, said: Result<S, FaultKind>) -> Result<S, FaultKind>
     ensures { (text_kind : TextKind S) (n : ℕ) (line : TextLine) → said ≡ text_kind.said n line
         → result ≡ step_after text_kind n earlier line }

@@ -17,7 +17,7 @@ pub(crate) struct Text<S> {
     pub steps: Vec<S>,
 }
 
-/// What a text spells whose step lines are such ones.
+/// What a text of this kind of step lines spells.
 pub(crate) fn read_text<S: StepLine>(alloc: Global, text: &[u8]) -> Result<Text<S>, ReadFault>
     ensures exact { ReadsText S.text_kind text.now result }
     ensures short { IfOk result (λ read. read.last ≤ most_head_lines) }

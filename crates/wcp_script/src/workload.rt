@@ -22,7 +22,8 @@ pub fn read_workload(alloc: Global, bytes: &[u8]) -> Result<Workload, ReadFault>
     ensures checked { IfOk result (λ workload. IsCheckedPlan workload.plan) }
 
     // What spells a workload that could be read is read as it, unless memory runs out.
-    ensures only { (plan : Plan) (tasks : List Task) → Spells workloads bytes.now plan tasks → CouldBeRead plan.n tasks →
+    ensures only { (plan : Plan) (tasks : List Task) →
+        Spells workloads bytes.now plan tasks → CouldBeRead plan.n tasks →
         IsReadAs (λ workload. IsSamePlan workload.plan plan × (workload.tasks.items ≡ tasks)) result }
 
     // A text is refused for the fault that it has, and one that has a fault is refused, unless memory runs out.
