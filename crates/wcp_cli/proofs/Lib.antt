@@ -2,6 +2,7 @@ mod FoundWords
 mod Fronts
 mod NoRingWords
 mod NumberWords
+mod Requests
 mod RingText
 mod RingWords
 mod StoppedWalk

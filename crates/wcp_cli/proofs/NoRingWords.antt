@@ -1,15 +1,13 @@
 use Rattle.std.proofs.Common.{◌≡◌, ◌∙◌, ◌⊎◌, ◌<◌, ◌^◌, ℕ, Bool, true, false, List, [], ◌∷◌, codes, ap, ap₂, None, Some, refl, decimal, inl, inr}
 use Rattle.clap.proofs.OnLiterals.{clap_on_literals}
-use Rattle.clap.specs.declared.builder.value_parser.Reading.TheVariants.{AsWritten}
-use Rattle.clap.specs.declared.parser.matches.ValueSource.TheVariants.{CommandLine}
-use Rattle.clap.specs.Words.{Row, Text, built, fault_of}
+use Rattle.clap.specs.Words.{Text, built, fault_of}
 use Rattle.clap.specs.Faults.{built_fault, level_fault, walk_fault}
 use Rattle.clap.specs.Kinds.{Kinds, or_else}
 use Rattle.clap.specs.Walk.{Walk, nothing_held, walk}
 use Rattle.clap.specs.declared.error.kind.ErrorKind.TheVariants as kind
 use Rattle.wcp_cli.specs.Words.{AskForNoRing, IsRing, NoNumber, OnlyProcs, OnlyRounds, OutOfRange, flag_words, program}
 use Rattle.wcp_cli.proofs.NumberWords.{IsNumberIn, decimal-cases}
-use Rattle.wcp_cli.proofs.RingWords.{end_fault, given, held_at_end, number_row, numbers_walked, plain_walk, ring_built, top_fails, value_step, ended}
+use Rattle.wcp_cli.proofs.RingWords.{end_fault, ended, flag_row, given, held_after, number_row, numbers_walked, ring_built, ring_walk, top_fault, value_step}
 
 -- what `ring` itself finds wrong with the words after it
 abbrev wrong : List Text → Kinds
@@ -29,12 +27,12 @@ wrong_procs procs rounds rest p = ap (λ ks. or_else ks (end_fault (walk ring_bu
     (value_step ring_built (codes "procs") procs (record { rows = []; pending = Some (codes "procs", []); skip = 0 }) (codes "--rounds" ∷ rounds ∷ rest) p.no_hyphen p.no_end
     ∙ procs_refused procs rounds rest p)
 
-rounds_refused : (procs rounds : Text) → IsNumberIn 1 1000 false rounds → end_fault (held_at_end procs rounds) ≡ kind.ValueValidation ∷ []
+rounds_refused : (procs rounds : Text) → IsNumberIn 1 1000 false rounds → end_fault (held_after procs rounds false) ≡ kind.ValueValidation ∷ []
 unfolding clap_on_literals
 rounds_refused procs rounds r = simp (r.tested) refl
 
 rounds_refused_at_flag : (procs rounds : Text) → IsNumberIn 1 1000 false rounds
-    → walk_fault ring_built [] (ended (held_at_end procs rounds)) (codes "--fault" ∷ []) ≡ kind.ValueValidation ∷ []
+    → walk_fault ring_built [] (ended (held_after procs rounds false)) (codes "--fault" ∷ []) ≡ kind.ValueValidation ∷ []
 unfolding clap_on_literals
 rounds_refused_at_flag procs rounds r = simp (r.tested) refl
 
@@ -42,21 +40,12 @@ wrong_rounds : (procs rounds : Text) (fault : Bool) → IsNumberIn 2 16 true pro
     → wrong (codes "--procs" ∷ procs ∷ codes "--rounds" ∷ rounds ∷ flag_words fault) ≡ kind.ValueValidation ∷ []
 unfolding walk_fault
 wrong_rounds procs rounds false p r =
-    ap₂ or_else (numbers_walked procs rounds [] false p r) (ap (λ (w : Walk). end_fault w.held) (plain_walk procs rounds false p r) ∙ rounds_refused procs rounds r)
+    ap₂ or_else (numbers_walked procs rounds [] false p r) (ap (λ (w : Walk). end_fault w.held) (ring_walk procs rounds false false p r) ∙ rounds_refused procs rounds r)
 wrong_rounds procs rounds true p r =
     ap (λ ks. or_else ks (end_fault (walk ring_built.rules [] nothing_held (codes "--procs" ∷ procs ∷ codes "--rounds" ∷ rounds ∷ codes "--fault" ∷ [])).held))
     (numbers_walked procs rounds (codes "--fault" ∷ []) false p r ∙ rounds_refused_at_flag procs rounds r)
 
 -- ---- a number is left out
-
-abbrev flag_row : Row
-flag_row = record {
-  id = codes "fault";
-  values = codes "true" ∷ [];
-  count = None;
-  source = Some CommandLine;
-  reading = AsWritten;
-}
 
 no_number : (fault : Bool) → wrong (flag_words fault) ≡ kind.MissingRequiredArgument ∷ []
 unfolding clap_on_literals
@@ -64,7 +53,7 @@ no_number true = refl
 no_number false = refl
 
 only_procs_walk : (procs : Text) (inside : Bool) → IsNumberIn 2 16 inside procs
-    → walk ring_built.rules [] nothing_held (codes "--procs" ∷ procs ∷ codes "--fault" ∷ []) ≡ ended (record { rows = number_row (codes "procs") procs ∷ flag_row ∷ []; pending = None; skip = 0 })
+    → walk ring_built.rules [] nothing_held (codes "--procs" ∷ procs ∷ codes "--fault" ∷ []) ≡ ended (record { rows = number_row (codes "procs") procs ∷ flag_row true ∷ []; pending = None; skip = 0 })
 unfolding clap_on_literals
 only_procs_walk procs inside p = simp (p.no_hyphen, p.no_end) refl
 
@@ -73,7 +62,7 @@ only_procs_flag : (procs : Text) → IsNumberIn 2 16 true procs
 unfolding clap_on_literals
 only_procs_flag procs p = simp (p.tested) refl
 
-only_procs_end : (procs : Text) → end_fault (record { rows = number_row (codes "procs") procs ∷ flag_row ∷ []; pending = None; skip = 0 }) ≡ kind.MissingRequiredArgument ∷ []
+only_procs_end : (procs : Text) → end_fault (record { rows = number_row (codes "procs") procs ∷ flag_row true ∷ []; pending = None; skip = 0 }) ≡ kind.MissingRequiredArgument ∷ []
 unfolding clap_on_literals
 only_procs_end procs = refl
 
@@ -90,7 +79,7 @@ only_wrong_procs procs true p = simp (p.no_hyphen, p.no_end, p.tested) refl
 only_wrong_procs procs false p = simp (p.no_hyphen, p.no_end, p.tested) refl
 
 only_rounds_walk : (rounds : Text) (inside : Bool) → IsNumberIn 1 1000 inside rounds
-    → walk ring_built.rules [] nothing_held (codes "--rounds" ∷ rounds ∷ codes "--fault" ∷ []) ≡ ended (record { rows = number_row (codes "rounds") rounds ∷ flag_row ∷ []; pending = None; skip = 0 })
+    → walk ring_built.rules [] nothing_held (codes "--rounds" ∷ rounds ∷ codes "--fault" ∷ []) ≡ ended (record { rows = number_row (codes "rounds") rounds ∷ flag_row true ∷ []; pending = None; skip = 0 })
 unfolding clap_on_literals
 only_rounds_walk rounds inside r = simp (r.no_hyphen, r.no_end) refl
 
@@ -99,7 +88,7 @@ only_rounds_flag : (rounds : Text) → IsNumberIn 1 1000 true rounds
 unfolding clap_on_literals
 only_rounds_flag rounds r = simp (r.tested) refl
 
-only_rounds_end : (rounds : Text) → end_fault (record { rows = number_row (codes "rounds") rounds ∷ flag_row ∷ []; pending = None; skip = 0 }) ≡ kind.MissingRequiredArgument ∷ []
+only_rounds_end : (rounds : Text) → end_fault (record { rows = number_row (codes "rounds") rounds ∷ flag_row true ∷ []; pending = None; skip = 0 }) ≡ kind.MissingRequiredArgument ∷ []
 unfolding clap_on_literals
 only_rounds_end rounds = refl
 
@@ -121,8 +110,8 @@ abbrev IsWrong : Kinds → Type 0
 IsWrong kinds = (kinds ≡ kind.ValueValidation ∷ []) ⊎ (kinds ≡ kind.MissingRequiredArgument ∷ [])
 
 from_top : (words : List Text) → IsWrong (wrong words) → IsWrong (built_fault (built program) nothing_held (codes "ring" ∷ words))
-from_top words (inl value) = inl (top_fails words kind.ValueValidation value)
-from_top words (inr want) = inr (top_fails words kind.MissingRequiredArgument want)
+from_top words (inl value) = inl (top_fault words _ value)
+from_top words (inr want) = inr (top_fault words _ want)
 
 out_of_range : (n rounds : ℕ) (fault : Bool) → n < 2 ^ 64 → rounds < 2 ^ 64 → (IsRing n rounds → ⊥)
     → IsWrong (wrong (codes "--procs" ∷ decimal n ∷ codes "--rounds" ∷ decimal rounds ∷ flag_words fault))

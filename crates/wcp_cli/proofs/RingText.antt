@@ -8,7 +8,7 @@ use Rattle.wcp_script.specs.PlanText.{attach_lines, cap_lines, has_one_relay, he
 use Rattle.wcp_script.specs.Ring.{IsRingPlan, ring_tasks}
 use Rattle.wcp_script.specs.WorkloadText.{task_line}
 use Rattle.wcp_script.proofs.Printed.{text_of-head_and_tasks}
-use Rattle.wcp_cli.specs.Run.{ring_text}
+use Rattle.wcp_cli.specs.RequestAnswers.{ring_text}
 
 -- the first relay serves each process of such a list
 all_served : (n : ℕ) → list_all is_first (replicate n (Some 0)) ≡ true

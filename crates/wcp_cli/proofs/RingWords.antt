@@ -3,7 +3,6 @@ use Rattle.clap.proofs.OnLiterals.{clap_on_literals}
 use Rattle.std.specs.Str.{bytes_eq}
 use Rattle.clap.specs.Kinds.{Kinds, or_else}
 use Rattle.clap.specs.Lexer.{strip_byte}
-use Rattle.clap.specs.declared.error.kind.ErrorKind.{ErrorKind}
 use Rattle.clap.proofs.FaultLemmas.{stopped_fault}
 use Rattle.clap.specs.Words.{Rule, Shape, Text, Row, built, fault_of, subcommand_of}
 use Rattle.clap.specs.Faults.{built_fault, check_fault, defaults_fault, level_fault, settle_fault, walk_fault}
@@ -13,7 +12,7 @@ use Rattle.clap.specs.Values.{bool_text}
 use Rattle.clap.specs.declared.builder.value_parser.Reading.TheVariants.{AsWritten, WithoutMinus}
 use Rattle.clap.specs.declared.parser.matches.ValueSource.{ValueSource}
 use Rattle.clap.specs.declared.parser.matches.ValueSource.TheVariants.{CommandLine, DefaultValue}
-use Rattle.wcp_cli.specs.Words.{AskForRing, IsRing, program, ring_shape}
+use Rattle.wcp_cli.specs.Words.{AskForRing, IsRing, flag_words, program, ring_shape}
 use Rattle.wcp_cli.proofs.StoppedWalk.{stays_as_stopped}
 use Rattle.wcp_cli.specs.RingOptions.{AsksForRing, HasOptions}
 use Rattle.wcp_cli.proofs.NumberWords.{IsNumberIn, decimal-taken}
@@ -31,14 +30,22 @@ number_row name word = record {
   reading = WithoutMinus;
 }
 
-abbrev pub ring_rows : Text → Text → Bool → ValueSource → List Row
-ring_rows procs rounds fault source = number_row (codes "procs") procs ∷ number_row (codes "rounds") rounds ∷ record {
+-- where clap has the flag from
+abbrev pub flag_source : Bool → ValueSource
+flag_source true = CommandLine
+flag_source false = DefaultValue
+
+abbrev pub flag_row : Bool → Row
+flag_row fault = record {
   id = codes "fault";
   values = bool_text fault ∷ [];
   count = None;
-  source = Some source;
+  source = Some (flag_source fault);
   reading = AsWritten;
-} ∷ []
+}
+
+abbrev pub ring_rows : Text → Text → Bool → List Row
+ring_rows procs rounds fault = number_row (codes "procs") procs ∷ number_row (codes "rounds") rounds ∷ flag_row fault ∷ []
 
 -- ---- a parse of the words with both numbers passes
 
@@ -70,93 +77,75 @@ second_option : (procs rounds : Text) (rest : List Text) → IsNumberIn 2 16 tru
 unfolding clap_on_literals
 second_option procs rounds rest p = simp (p.tested) refl
 
-abbrev pub held_at_end : Text → Text → Held
-held_at_end procs rounds = record { rows = number_row (codes "procs") procs ∷ []; pending = Some (codes "rounds", rounds ∷ []); skip = 0 }
+-- what is held after the last word
+abbrev pub held_after : Text → Text → Bool → Held
+held_after procs rounds false = record { rows = number_row (codes "procs") procs ∷ []; pending = Some (codes "rounds", rounds ∷ []); skip = 0 }
+held_after procs rounds true = record { rows = ring_rows procs rounds true; pending = None; skip = 0 }
+
+abbrev pub ended : Held → Walk
+ended h = record { held = h; waiting = idle; position = 1; is_trailing = false; stopped = None }
 
 pub numbers_walked : (procs rounds : Text) (rest : List Text) (inside : Bool) → IsNumberIn 2 16 true procs → IsNumberIn 1 1000 inside rounds
     → walk_fault ring_built [] (walk_from nothing_held) (codes "--procs" ∷ procs ∷ codes "--rounds" ∷ rounds ∷ rest)
-    ≡ walk_fault ring_built [] (record { held = held_at_end procs rounds; waiting = idle; position = 1; is_trailing = false; stopped = None }) rest
+    ≡ walk_fault ring_built [] (ended (held_after procs rounds false)) rest
 unfolding clap_on_literals
 numbers_walked procs rounds rest inside p r =
     value_step ring_built (codes "procs") procs (record { rows = []; pending = Some (codes "procs", []); skip = 0 }) (codes "--rounds" ∷ rounds ∷ rest) p.no_hyphen p.no_end
     ∙ second_option procs rounds rest p
     ∙ value_step ring_built (codes "rounds") rounds (record { rows = number_row (codes "procs") procs ∷ []; pending = Some (codes "rounds", []); skip = 0 }) rest r.no_hyphen r.no_end
 
-fault_walked : (procs rounds : Text) → IsNumberIn 1 1000 true rounds
-    → walk_fault ring_built [] (record { held = held_at_end procs rounds; waiting = idle; position = 1; is_trailing = false; stopped = None }) (codes "--fault" ∷ []) ≡ []
+flag_walked : (procs rounds : Text) (fault : Bool) → IsNumberIn 1 1000 true rounds
+    → walk_fault ring_built [] (ended (held_after procs rounds false)) (flag_words fault) ≡ []
 unfolding clap_on_literals
-fault_walked procs rounds r = simp (r.tested) refl
+flag_walked procs rounds false r = refl
+flag_walked procs rounds true r = simp (r.tested) refl
 
 -- what is tested after the last word
 abbrev pub end_fault : Held → Kinds
 end_fault end = or_else (settle_fault ring_built.rules ring_built.args_override_self end)
     (or_else (defaults_fault (settled ring_built.rules end).rows ring_built.rules) (check_fault ring_built (finished ring_built.rules end) false))
 
-abbrev pub ended : Held → Walk
-ended h = record { held = h; waiting = idle; position = 1; is_trailing = false; stopped = None }
-
-pub plain_walk : (procs rounds : Text) (inside : Bool) → IsNumberIn 2 16 true procs → IsNumberIn 1 1000 inside rounds
-    → walk ring_built.rules [] nothing_held (codes "--procs" ∷ procs ∷ codes "--rounds" ∷ rounds ∷ []) ≡ ended (held_at_end procs rounds)
+pub ring_walk : (procs rounds : Text) (fault inside : Bool) → IsNumberIn 2 16 true procs → IsNumberIn 1 1000 inside rounds
+    → walk ring_built.rules [] nothing_held (codes "--procs" ∷ procs ∷ codes "--rounds" ∷ rounds ∷ flag_words fault) ≡ ended (held_after procs rounds fault)
 unfolding clap_on_literals
-plain_walk procs rounds inside p r = simp (p.no_hyphen, p.no_end, r.no_hyphen, r.no_end) refl
+ring_walk procs rounds false inside p r = simp (p.no_hyphen, p.no_end, r.no_hyphen, r.no_end) refl
+ring_walk procs rounds true inside p r = simp (p.no_hyphen, p.no_end, r.no_hyphen, r.no_end) refl
 
-pub fault_walk : (procs rounds : Text) (inside : Bool) → IsNumberIn 2 16 true procs → IsNumberIn 1 1000 inside rounds
-    → walk ring_built.rules [] nothing_held (codes "--procs" ∷ procs ∷ codes "--rounds" ∷ rounds ∷ codes "--fault" ∷ [])
-    ≡ ended (record { rows = ring_rows procs rounds true CommandLine; pending = None; skip = 0 })
+ring_end : (procs rounds : Text) (fault : Bool) → IsNumberIn 1 1000 true rounds → end_fault (held_after procs rounds fault) ≡ []
 unfolding clap_on_literals
-fault_walk procs rounds inside p r = simp (p.no_hyphen, p.no_end, r.no_hyphen, r.no_end) refl
-
-plain_end : (procs rounds : Text) → IsNumberIn 1 1000 true rounds → end_fault (held_at_end procs rounds) ≡ []
-unfolding clap_on_literals
-plain_end procs rounds r = simp (r.tested) refl
-
-fault_end : (procs rounds : Text) → end_fault (record { rows = ring_rows procs rounds true CommandLine; pending = None; skip = 0 }) ≡ []
-unfolding clap_on_literals
-fault_end procs rounds = refl
+ring_end procs rounds false r = simp (r.tested) refl
+ring_end procs rounds true r = refl
 
 -- the command above `ring` refuses just what `ring` refuses
-pub top_passes : (words : List Text) → level_fault ring_built [] nothing_held words false [] ≡ [] → built_fault (built program) nothing_held (codes "ring" ∷ words) ≡ []
+pub top_fault : (words : List Text) (kinds : Kinds) → level_fault ring_built [] nothing_held words false [] ≡ kinds → built_fault (built program) nothing_held (codes "ring" ∷ words) ≡ kinds
 unfolding clap_on_literals
-top_passes words passes =
+top_fault words [] found =
     let stops = stays_as_stopped (built program).top.rules (names_of (built program)) (walk_from nothing_held) (codes "ring") [] words in
     let passed = stopped_fault (built program).top (names_of (built program)) (walk_from nothing_held) (codes "ring", []) words in
-    simp (stops, passed, passes) refl
-
-pub top_fails : (words : List Text) (why : ErrorKind) → level_fault ring_built [] nothing_held words false [] ≡ why ∷ []
-    → built_fault (built program) nothing_held (codes "ring" ∷ words) ≡ why ∷ []
-unfolding clap_on_literals
-top_fails words why fails =
+    simp (stops, passed, found) refl
+top_fault words (why ∷ more) found =
     let stops = stays_as_stopped (built program).top.rules (names_of (built program)) (walk_from nothing_held) (codes "ring") [] words in
     let passed = stopped_fault (built program).top (names_of (built program)) (walk_from nothing_held) (codes "ring", []) words in
-    simp (stops, passed, fails) refl
+    simp (stops, passed, found) refl
 
-plain_passes : (procs rounds : Text) → IsNumberIn 2 16 true procs → IsNumberIn 1 1000 true rounds
-    → built_fault (built program) nothing_held (codes "ring" ∷ codes "--procs" ∷ procs ∷ codes "--rounds" ∷ rounds ∷ []) ≡ []
+ring_passes : (procs rounds : Text) (fault : Bool) → IsNumberIn 2 16 true procs → IsNumberIn 1 1000 true rounds
+    → built_fault (built program) nothing_held (codes "ring" ∷ codes "--procs" ∷ procs ∷ codes "--rounds" ∷ rounds ∷ flag_words fault) ≡ []
 unfolding walk_fault
-plain_passes procs rounds p r = top_passes (codes "--procs" ∷ procs ∷ codes "--rounds" ∷ rounds ∷ [])
-    (ap₂ or_else (numbers_walked procs rounds [] true p r) (ap (λ (w : Walk). end_fault w.held) (plain_walk procs rounds true p r) ∙ plain_end procs rounds r))
-
-fault_passes : (procs rounds : Text) → IsNumberIn 2 16 true procs → IsNumberIn 1 1000 true rounds
-    → built_fault (built program) nothing_held (codes "ring" ∷ codes "--procs" ∷ procs ∷ codes "--rounds" ∷ rounds ∷ codes "--fault" ∷ []) ≡ []
-unfolding walk_fault
-fault_passes procs rounds p r = top_passes (codes "--procs" ∷ procs ∷ codes "--rounds" ∷ rounds ∷ codes "--fault" ∷ [])
-    (ap₂ or_else (numbers_walked procs rounds (codes "--fault" ∷ []) true p r ∙ fault_walked procs rounds r) (ap (λ (w : Walk). end_fault w.held) (fault_walk procs rounds true p r) ∙ fault_end procs rounds))
+ring_passes procs rounds fault p r = top_fault (codes "--procs" ∷ procs ∷ codes "--rounds" ∷ rounds ∷ flag_words fault) []
+    (ap₂ or_else (numbers_walked procs rounds (flag_words fault) true p r ∙ flag_walked procs rounds fault r)
+    (ap (λ (w : Walk). end_fault w.held) (ring_walk procs rounds fault true p r) ∙ ring_end procs rounds fault r))
 
 -- ---- and finds the options
 
-plain_found : (procs rounds : Text) → IsNumberIn 2 16 true procs → IsNumberIn 1 1000 true rounds
-    → found_by (codes "ring" ∷ codes "--procs" ∷ procs ∷ codes "--rounds" ∷ rounds ∷ []) ≡ Some (codes "ring", ring_rows procs rounds false DefaultValue)
+ring_found : (procs rounds : Text) (fault : Bool) → IsNumberIn 2 16 true procs → IsNumberIn 1 1000 true rounds
+    → found_by (codes "ring" ∷ codes "--procs" ∷ procs ∷ codes "--rounds" ∷ rounds ∷ flag_words fault) ≡ Some (codes "ring", ring_rows procs rounds fault)
 unfolding clap_on_literals
-plain_found procs rounds p r = simp (p.no_hyphen, p.no_end, r.no_hyphen, r.no_end) refl
+ring_found procs rounds false p r = simp (p.no_hyphen, p.no_end, r.no_hyphen, r.no_end) refl
+ring_found procs rounds true p r = simp (p.no_hyphen, p.no_end, r.no_hyphen, r.no_end) refl
 
-fault_found : (procs rounds : Text) → IsNumberIn 2 16 true procs → IsNumberIn 1 1000 true rounds
-    → found_by (codes "ring" ∷ codes "--procs" ∷ procs ∷ codes "--rounds" ∷ rounds ∷ codes "--fault" ∷ []) ≡ Some (codes "ring", ring_rows procs rounds true CommandLine)
-unfolding clap_on_literals
-fault_found procs rounds p r = simp (p.no_hyphen, p.no_end, r.no_hyphen, r.no_end) refl
-
-rows_have : (n rounds : ℕ) (fault : Bool) (source : ValueSource) → IsNumberIn 2 16 true (decimal n) → IsNumberIn 1 1000 true (decimal rounds)
-    → HasOptions n rounds fault (ring_rows (decimal n) (decimal rounds) fault source)
-rows_have n rounds fault source p r = record {
+rows_have : (n rounds : ℕ) (fault : Bool) → IsNumberIn 2 16 true (decimal n) → IsNumberIn 1 1000 true (decimal rounds)
+    → HasOptions n rounds fault (ring_rows (decimal n) (decimal rounds) fault)
+rows_have n rounds fault p r = record {
   procs_are = rw p.no_hyphen refl;
   rounds_are = rw r.no_hyphen refl;
   fault_is = refl;
@@ -164,29 +153,23 @@ rows_have n rounds fault source p r = record {
 
 -- ---- words that ask for a ring
 
+procs_taken : (n rounds : ℕ) → IsRing n rounds → IsNumberIn 2 16 true (decimal n)
+procs_taken n rounds is = decimal-taken 2 16 n is.more_than_one is.few (omega arith)
+
+rounds_taken : (n rounds : ℕ) → IsRing n rounds → IsNumberIn 1 1000 true (decimal rounds)
+rounds_taken n rounds is = decimal-taken 1 1000 rounds is.some_rounds is.few_rounds (omega arith)
+
 pub ring-passes : (n rounds : ℕ) (fault : Bool) (words : List Text) → IsRing n rounds → AskForRing n rounds fault words → fault_of program words ≡ []
-ring-passes n rounds true words is asked =
-    ap (built_fault (built program) nothing_held) asked
-    ∙ fault_passes (decimal n) (decimal rounds) (decimal-taken 2 16 n is.more_than_one is.few (omega arith)) (decimal-taken 1 1000 rounds is.some_rounds is.few_rounds (omega arith))
-ring-passes n rounds false words is asked =
-    ap (built_fault (built program) nothing_held) asked
-    ∙ plain_passes (decimal n) (decimal rounds) (decimal-taken 2 16 n is.more_than_one is.few (omega arith)) (decimal-taken 1 1000 rounds is.some_rounds is.few_rounds (omega arith))
+ring-passes n rounds fault words is asked =
+    ap (built_fault (built program) nothing_held) asked ∙ ring_passes (decimal n) (decimal rounds) fault (procs_taken n rounds is) (rounds_taken n rounds is)
 
 pub ring-found : (n rounds : ℕ) (fault : Bool) (words : List Text) → IsRing n rounds → AskForRing n rounds fault words
     → AsksForRing n rounds fault (subcommand_of program words)
-ring-found n rounds true words is asked =
-    let p = decimal-taken 2 16 n is.more_than_one is.few (omega arith) in
-    let r = decimal-taken 1 1000 rounds is.some_rounds is.few_rounds (omega arith) in
+ring-found n rounds fault words is asked =
+    let p = procs_taken n rounds is in
+    let r = rounds_taken n rounds is in
     record {
-      rows = ring_rows (decimal n) (decimal rounds) true CommandLine;
-      is = ap found_by asked ∙ fault_found (decimal n) (decimal rounds) p r;
-      options = rows_have n rounds true CommandLine p r;
-    }
-ring-found n rounds false words is asked =
-    let p = decimal-taken 2 16 n is.more_than_one is.few (omega arith) in
-    let r = decimal-taken 1 1000 rounds is.some_rounds is.few_rounds (omega arith) in
-    record {
-      rows = ring_rows (decimal n) (decimal rounds) false DefaultValue;
-      is = ap found_by asked ∙ plain_found (decimal n) (decimal rounds) p r;
-      options = rows_have n rounds false DefaultValue p r;
+      rows = ring_rows (decimal n) (decimal rounds) fault;
+      is = ap found_by asked ∙ ring_found (decimal n) (decimal rounds) fault p r;
+      options = rows_have n rounds fault p r;
     }

@@ -1,8 +1,7 @@
 use Rattle.std.proofs.Common.{◌≡◌, true, false, List, [], ◌∷◌, drop, codes, ap, ◌∙◌, sym, refl, subst, None, inl, inr, ⊎_elim}
 use Rattle.clap.proofs.OnLiterals.{clap_on_literals}
-use Rattle.clap.specs.Words.{IsAmong, Kinds, Text, fault_of, is_simple, is_simple_and_free, takes, built}
+use Rattle.clap.specs.Words.{IsAmong, Kinds, Text, fault_of, is_simple, is_simple_and_free, built}
 use Rattle.clap.specs.Faults.{built_fault}
-use Rattle.clap.specs.Takes.{built_takes}
 use Rattle.clap.specs.Lexer.{strip_byte}
 use Rattle.clap.specs.Simple.{names_of}
 use Rattle.clap.specs.Walk.{nothing_held, walk_from}
@@ -13,7 +12,7 @@ use Rattle.clap.specs.declared.error.kind.ErrorKind.TheVariants as kind
 use Rattle.std.specs.Str.{bytes_eq}
 use Rattle.wcp_cli.proofs.NoRingWords.{no_ring-fails}
 use Rattle.wcp_cli.proofs.StoppedWalk.{stays_stopped}
-use Rattle.wcp_cli.specs.Words.{AskForSingle, AskForHelp, AskForReplay, AskForUnknown, Unknown, Further, FurtherReplay, NoRing, is_flag, program}
+use Rattle.wcp_cli.specs.Words.{AskForSingle, AskForHelp, AskForReplay, AskForUnknown, UnknownWord, Further, FurtherReplay, NoRing, is_flag, program}
 
 pub program_is_free : is_simple_and_free program ≡ true
 unfolding clap_on_literals
@@ -23,30 +22,27 @@ pub program_is_simple : is_simple program ≡ true
 unfolding clap_on_literals
 program_is_simple = refl
 
-no_word_is_taken : built_takes (built program) nothing_held [] ≡ true
+no_word_passes : built_fault (built program) nothing_held [] ≡ []
 unfolding clap_on_literals
-no_word_is_taken = refl
+no_word_passes = refl
 
-single_is_taken : built_takes (built program) nothing_held (codes "single" ∷ []) ≡ true
+single_passes : built_fault (built program) nothing_held (codes "single" ∷ []) ≡ []
 unfolding clap_on_literals
-single_is_taken = refl
+single_passes = refl
 
--- the words that ask for an outcome are taken
-pub single-takes : (words : List Text) → AskForSingle words → takes program words ≡ true
-single-takes words asked =
-    ⊎_elim (λ (none : drop 1 words ≡ []). subst (λ (ws : List Text). (built_takes (built program) nothing_held ws ≡ true)) (sym none) no_word_is_taken)
-    (λ (one : drop 1 words ≡ codes "single" ∷ []). subst (λ (ws : List Text). (built_takes (built program) nothing_held ws ≡ true)) (sym one) single_is_taken)
-    asked
+-- the words that ask for an outcome make no parse fail
+pub single-passes : (words : List Text) → AskForSingle words → fault_of program words ≡ []
+single-passes words (inl none) = ap (built_fault (built program) nothing_held) none ∙ no_word_passes
+single-passes words (inr one) = ap (built_fault (built program) nothing_held) one ∙ single_passes
 
-replay_is_taken : built_fault (built program) nothing_held (codes "replay" ∷ []) ≡ []
+replay_passes : built_fault (built program) nothing_held (codes "replay" ∷ []) ≡ []
 unfolding clap_on_literals
-replay_is_taken = refl
+replay_passes = refl
 
 -- the words that ask for a replay make no parse fail
 pub replay-passes : (words : List Text) → AskForReplay words → fault_of program words ≡ []
-replay-passes words asked = ap (built_fault (built program) nothing_held) asked ∙ replay_is_taken
+replay-passes words asked = ap (built_fault (built program) nothing_held) asked ∙ replay_passes
 
--- the kinds that a parse may fail by are not none, at words that ask for help
 help_fails : built_fault (built program) nothing_held (codes "help" ∷ []) ≡ [] → ⊥
 unfolding clap_on_literals
 help_fails bad = cc
@@ -59,13 +55,11 @@ long_flag_fails : built_fault (built program) nothing_held (codes "--help" ∷ [
 unfolding clap_on_literals
 long_flag_fails bad = cc
 
+-- the words that ask for help make a parse fail
 pub help-fails : (words : List Text) → AskForHelp words → fault_of program words ≡ [] → ⊥
-help-fails words asked =
-    elim asked [
-      | inl e ↦ subst (λ (ws : List Text). (built_fault (built program) nothing_held ws ≡ [] → ⊥)) (sym e) help_fails
-      | inr (inl e) ↦ subst (λ (ws : List Text). (built_fault (built program) nothing_held ws ≡ [] → ⊥)) (sym e) short_flag_fails
-      | inr (inr e) ↦ subst (λ (ws : List Text). (built_fault (built program) nothing_held ws ≡ [] → ⊥)) (sym e) long_flag_fails
-    ]
+help-fails words (inl e) passes = help_fails (sym (ap (built_fault (built program) nothing_held) e) ∙ passes)
+help-fails words (inr (inl e)) passes = short_flag_fails (sym (ap (built_fault (built program) nothing_held) e) ∙ passes)
+help-fails words (inr (inr e)) passes = long_flag_fails (sym (ap (built_fault (built program) nothing_held) e) ∙ passes)
 
 -- ---- words that the command doesn't know
 
@@ -127,7 +121,7 @@ fails_by_want = record { fails = λ bad. cc; no_help = λ among. elim among [ in
 
 -- words that ask for what the program doesn't know are refused, and not as a wish for help
 pub unknown-fails : (words : List Text) → AskForUnknown words → FailsPlainly (fault_of program words)
-unknown-fails words (Unknown word rest is unknown) =
+unknown-fails words (UnknownWord word rest is unknown) =
     let fault = unknown_first word rest (no_hyphen word unknown.no_flag) (not_equal (codes "single") word unknown.not_single)
     (not_equal (codes "replay") word unknown.not_replay) (not_equal (codes "ring") word unknown.not_ring)
     (not_equal (codes "help") word unknown.not_help) (not_end_of_flags word unknown.no_flag) in

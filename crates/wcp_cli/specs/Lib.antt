@@ -1,4 +1,5 @@
-pub mod Bytes
+pub mod Edge
+pub mod Faults
+pub mod RequestAnswers
 pub mod RingOptions
-pub mod Run
 pub mod Words

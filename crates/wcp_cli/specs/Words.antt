@@ -1,11 +1,22 @@
-use Rattle.std.specs.Prelude.{◌≡◌, ◌≢◌, ◌⊎◌, ◌==◌, ◌≤◌, ◌<◌, ◌^◌, ℕ, Bool, true, false, List, [], ◌∷◌, Some, pos, drop, codes, if◌then◌else◌}
+use Rattle.std.specs.Prelude.{◌≡◌, ◌≢◌, ◌⊎◌, ◌==◌, ◌≤◌, ◌<◌, ◌^◌, ℕ, Bool, true, false, List, [], ◌∷◌, Some}
+use Rattle.std.specs.Prelude.{if◌then◌else◌, pos, drop, codes}
 use Rattle.std.specs.Fmt.{decimal}
 use Rattle.clap.specs.Words.{App, Rule, Shape, Text, new_app, new_rule, with_subcommand}
 use Rattle.clap.specs.Simple.{new_shape}
 use Rattle.clap.specs.declared.builder.action.ArgAction.TheVariants.{SetTrue}
 use Rattle.clap.specs.declared.builder.value_parser.ValueParser.TheVariants.{Signed}
+use Rattle.wcp_clock.specs.Limits.{most_processes}
+use Rattle.wcp_script.specs.Ring.{most_rounds}
 use Rattle.wcp_cli.specs.declared.words.Request.{Request}
-use Rattle.wcp_cli.specs.declared.words.Request.TheVariants.{Ring, Help}
+use Rattle.wcp_cli.specs.declared.words.Request.TheVariants.{Single, Replay, Ring, Help, Unknown}
+
+-- A ring has at least 2 processes.
+abbrev pub least_ring : ℕ
+least_ring = 2
+
+-- Each process of a ring has its turn at least once.
+abbrev pub least_rounds : ℕ
+least_rounds = 1
 
 -- An option that is required and takes one number from a range.
 abbrev pub number_option : Text → ℕ → ℕ → Rule
@@ -26,12 +37,16 @@ flag_option name = record (new_rule name) {
 -- The word `ring` with its options.
 abbrev pub ring_shape : Shape
 ring_shape = record (new_shape (codes "ring")) {
-  rules = number_option (codes "procs") 2 16 ∷ number_option (codes "rounds") 1 1000 ∷ flag_option (codes "fault") ∷ [];
+  rules = number_option (codes "procs") least_ring most_processes
+      ∷ number_option (codes "rounds") least_rounds most_rounds
+      ∷ flag_option (codes "fault") ∷ [];
 }
 
 -- The command line of the program: the words `single`, `replay` and `ring`, and what clap adds for help.
 abbrev pub program : App
-program = with_subcommand (with_subcommand (with_subcommand (new_app (codes "wcpwatch")) (new_shape (codes "single"))) (new_shape (codes "replay"))) ring_shape
+program =
+    let with_single = with_subcommand (new_app (codes "wcpwatch")) (new_shape (codes "single")) in
+    with_subcommand (with_subcommand with_single (new_shape (codes "replay"))) ring_shape
 
 -- The words ask for the outcome of a workload: after the program's name there is none, or `single` alone.
 abbrev pub AskForSingle : List Text → Type 0
@@ -45,28 +60,33 @@ AskForReplay words = drop 1 words ≡ codes "replay" ∷ []
 abbrev pub flag_words : Bool → List Text
 flag_words fault = if fault then codes "--fault" ∷ [] else []
 
--- The words ask for the workload of a ring of n processes: after the program's name there is `ring` with both numbers, and the flag where there shall be a fault.
+-- The words ask for the workload of a ring of n processes: after the program's name there is `ring` with both numbers,
+-- and the flag where there shall be a fault.
 abbrev pub AskForRing : ℕ → ℕ → Bool → List Text → Type 0
 AskForRing n rounds fault words = drop 1 words
     ≡ codes "ring" ∷ codes "--procs" ∷ decimal n ∷ codes "--rounds" ∷ decimal rounds ∷ flag_words fault
 
--- There are rings of 2 to 16 processes and 1 to 1000 rounds.
+-- There is a ring of so many processes and rounds.
 pub record IsRing (n rounds : ℕ) : Type 0 where
-  pub more_than_one : 2 ≤ n
-  pub few : n ≤ 16
-  pub some_rounds : 1 ≤ rounds
-  pub few_rounds : rounds ≤ 1000
+  pub more_than_one : least_ring ≤ n
+  pub few : n ≤ most_processes
+  pub some_rounds : least_rounds ≤ rounds
+  pub few_rounds : rounds ≤ most_rounds
 
 -- The words ask for a ring that there isn't, or leave out one of its numbers or both.
 pub data AskForNoRing (words : List Text) : Type 0 where
-  OutOfRange : (n rounds : ℕ) (fault : Bool) → n < 2 ^ 64 → rounds < 2 ^ 64 → (IsRing n rounds → ⊥) → AskForRing n rounds fault words → AskForNoRing words
-  OnlyProcs : (n : ℕ) (fault : Bool) → n < 2 ^ 64 → drop 1 words ≡ codes "ring" ∷ codes "--procs" ∷ decimal n ∷ flag_words fault → AskForNoRing words
-  OnlyRounds : (rounds : ℕ) (fault : Bool) → rounds < 2 ^ 64 → drop 1 words ≡ codes "ring" ∷ codes "--rounds" ∷ decimal rounds ∷ flag_words fault → AskForNoRing words
+  OutOfRange : (n rounds : ℕ) (fault : Bool) → n < 2 ^ 64 → rounds < 2 ^ 64 → (IsRing n rounds → ⊥)
+      → AskForRing n rounds fault words → AskForNoRing words
+  OnlyProcs : (n : ℕ) (fault : Bool) → n < 2 ^ 64
+      → drop 1 words ≡ codes "ring" ∷ codes "--procs" ∷ decimal n ∷ flag_words fault → AskForNoRing words
+  OnlyRounds : (rounds : ℕ) (fault : Bool) → rounds < 2 ^ 64
+      → drop 1 words ≡ codes "ring" ∷ codes "--rounds" ∷ decimal rounds ∷ flag_words fault → AskForNoRing words
   NoNumber : (fault : Bool) → drop 1 words ≡ codes "ring" ∷ flag_words fault → AskForNoRing words
 
 -- The words ask for help.
 abbrev pub AskForHelp : List Text → Type 0
-AskForHelp words = (drop 1 words ≡ codes "help" ∷ []) ⊎ (drop 1 words ≡ codes "-h" ∷ []) ⊎ (drop 1 words ≡ codes "--help" ∷ [])
+AskForHelp words =
+    (drop 1 words ≡ codes "help" ∷ []) ⊎ (drop 1 words ≡ codes "-h" ∷ []) ⊎ (drop 1 words ≡ codes "--help" ∷ [])
 
 -- A flag begins with a hyphen.
 abbrev pub is_flag : Text → Bool
@@ -81,17 +101,34 @@ pub record IsUnknown (word : Text) : Type 0 where
   pub not_ring : word ≢ codes "ring"
   pub not_help : word ≢ codes "help"
 
--- The words ask for what the program doesn't know: their first is unknown, or it is `single` or `replay` and a word that is no flag follows it, or there is no such ring.
+-- The words ask for what the program doesn't know: their first is unknown, or it is `single` or `replay` and a word
+-- that is no flag follows it, or there is no such ring.
 pub data AskForUnknown (words : List Text) : Type 0 where
-  Unknown : (word : Text) (rest : List Text) → drop 1 words ≡ word ∷ rest → IsUnknown word → AskForUnknown words
-  Further : (word : Text) (rest : List Text) → drop 1 words ≡ codes "single" ∷ word ∷ rest → is_flag word ≡ false → AskForUnknown words
-  FurtherReplay : (word : Text) (rest : List Text) → drop 1 words ≡ codes "replay" ∷ word ∷ rest → is_flag word ≡ false → AskForUnknown words
+  UnknownWord : (word : Text) (rest : List Text) → drop 1 words ≡ word ∷ rest → IsUnknown word → AskForUnknown words
+  Further : (word : Text) (rest : List Text) → drop 1 words ≡ codes "single" ∷ word ∷ rest → is_flag word ≡ false
+      → AskForUnknown words
+  FurtherReplay : (word : Text) (rest : List Text) → drop 1 words ≡ codes "replay" ∷ word ∷ rest → is_flag word ≡ false
+      → AskForUnknown words
   NoRing : AskForNoRing words → AskForUnknown words
 
--- The request is for help.
-abbrev pub IsHelp : Request → Type 0
-IsHelp (Help text) = Unit {0}
-IsHelp _ = ⊥
+-- The words ask for this request. A request for help is asked for with any text.
+abbrev pub AskFor : Request → List Text → Type 0
+AskFor Single words = AskForSingle words
+AskFor Replay words = AskForReplay words
+AskFor (Ring ring) words = IsRing ring.procs ring.rounds × AskForRing ring.procs ring.rounds ring.fault words
+AskFor (Help text) words = AskForHelp words
+AskFor Unknown words = AskForUnknown words
+
+-- A request for help, or what the program doesn't know: clap doesn't promise that the word `help` is heard.
+abbrev pub MayHelp : Request → Type 0
+MayHelp (Help text) = Unit {0}
+MayHelp Unknown = Unit {0}
+MayHelp _ = ⊥
+
+-- A request is the one that was asked for; where that is help, it carries any text, or the words are turned away.
+abbrev pub IsSameRequest : Request → Request → Type 0
+IsSameRequest (Help text) request = MayHelp request
+IsSameRequest asked request = request ≡ asked
 
 -- A request for a ring is for one that there is.
 abbrev pub HasRing : Request → Type 0

@@ -1,5 +1,6 @@
 ghost use Rattle.std.specs.Prelude.{◌≡◌};
 ghost use Rattle.wcp_cli.specs.declared.fault.Fault.TheVariants.{Memory};
+ghost use Rattle.wcp_cli.specs.Faults.{fault_of};
 
 use std::alloc::AllocError;
 use thiserror::Error;
@@ -18,9 +19,10 @@ pub enum Fault {
     /// The text is longer than the program reads.
     #[error("toolarge")]
     TooLarge,
-    /// The text spells no workload.
+    /// The text has a fault: it spells no workload, or no schedule.
     #[error(transparent)]
     Script(ScriptFault),
+    /// Memory ran out.
     #[error("memory")]
     Memory,
     /// Writing the output failed.
@@ -37,6 +39,8 @@ impl From<AllocError> for Fault {
 }
 
 impl From<ReadFault> for Fault {
+    ghost from_gives = { λ fault given. given ≡ fault_of fault };
+
     fn from(fault: ReadFault) -> Fault {
         match fault {
             ReadFault::Script(fault) => Fault::Script(fault),

@@ -1,7 +1,7 @@
 //! Writing a text whole.
 ghost use Rattle.std.specs.Prelude.{OnOk, OnErr};
 ghost use Rattle.std.specs.Io.KnownBytes.{Appends};
-ghost use Rattle.wcp_cli.specs.Bytes.{AppendsFront};
+ghost use Rattle.wcp_cli.specs.Edge.{AppendsFront};
 
 use crate::fault::Fault;
 use std::io::{ErrorKind, Write};

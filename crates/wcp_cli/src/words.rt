@@ -1,20 +1,25 @@
 //! What the words of the command line ask for.
-ghost use Rattle.std.specs.Prelude.{◌≡◌, ◌⊎◌, ◌<◌, ◌^◌, ℕ, Bool, Some, None, false, map, codes, IfOk, IfErr, IsErr, MatchResult};
+ghost use Rattle.std.specs.Prelude.{◌≡◌, ◌≢◌, ◌⊎◌, ◌<◌, ◌^◌, ℕ, Bool, Some, None, false, map, codes};
+ghost use Rattle.std.specs.Prelude.{IfOk, IfSome, IsErr};
 ghost use Rattle.std.specs.Fmt.{decimal};
 ghost use Rattle.clap.specs.Words.{app_of, found_of, kind_of, rows_of, rule_of, subcommand_name_of, subcommand_rows_of};
 ghost use Rattle.clap.specs.Values.{bool_text};
 ghost use Rattle.clap.specs.Walk.{one_of};
 ghost use Rattle.clap.specs.declared.builder.command.Command.TheViews.{out-Command as fields_of};
-ghost use Rattle.wcp_cli.specs.Words.{AskForSingle, AskForReplay, AskForRing, AskForHelp, AskForUnknown};
-ghost use Rattle.wcp_cli.specs.Words.{HasRing, IsHelp, IsRing, program, number_option, flag_option, ring_shape};
+ghost use Rattle.wcp_cli.specs.Words.{AskFor, HasRing, IsRing, IsSameRequest, MayHelp};
+ghost use Rattle.wcp_cli.specs.Words.{program, number_option, flag_option, ring_shape};
+ghost use Rattle.wcp_cli.specs.Words.{least_ring, least_rounds};
 ghost use Rattle.wcp_cli.specs.RingOptions.{AsksForRing, HasOptions};
+ghost use Rattle.wcp_clock.specs.Limits.{most_processes};
+ghost use Rattle.wcp_script.specs.Ring.{most_rounds};
 
-use crate::fault::Fault;
 use crate::help;
 use clap::error::ErrorKind;
 use clap::{Arg, ArgAction, ArgMatches, Command, Error, value_parser};
 use std::alloc::{AllocError, Global};
 use std::convert::AsStr;
+use wcp_clock::MAX_PROCS;
+use wcp_script::MAX_ROUNDS;
 
 /// What the words ask for.
 #[derive(Debug, Drop)]
@@ -27,6 +32,8 @@ pub enum Request {
     Ring(Ring),
     /// This help text.
     Help(String),
+    /// Something that the program doesn't know.
+    Unknown,
 }
 
 /// A ring workload: messages go round all processes.
@@ -40,89 +47,96 @@ pub struct Ring {
     pub fault: bool,
 }
 
+/// The fewest processes of a ring.
+const MIN_PROCS: u32 = 2;
+
+/// The fewest turns of each process of a ring.
+const MIN_ROUNDS: u32 = 1;
+
 /// What the words ask for, of which the first is the program's name.
-pub fn read_words<S: AsStr>(alloc: Global, words: &[S]) -> Result<Request, Fault>
-    ensures single { AskForSingle (map S.text words.now)
-        → MatchResult result (λ request. request ≡ Request.Single) (λ fault. fault ≡ Fault.Memory) }
-    ensures replay { AskForReplay (map S.text words.now)
-        → MatchResult result (λ request. request ≡ Request.Replay) (λ fault. fault ≡ Fault.Memory) }
-    ensures ring { (n rounds : ℕ) (fault : Bool) → IsRing n rounds → AskForRing n rounds fault (map S.text words.now)
-        → MatchResult result (λ request. request ≡ Request.Ring (record { procs = n; rounds = rounds; fault = fault }))
-        (λ fault. fault ≡ Fault.Memory) }
+pub fn read_words<S: AsStr>(alloc: Global, words: &[S]) -> Result<Request, AllocError>
+    ensures asked { (asked : Request) → AskFor asked (map S.text words.now) → IfOk result (IsSameRequest asked) }
     ensures in_ranges { IfOk result HasRing }
-    ensures help { AskForHelp (map S.text words.now) → IfOk result IsHelp }
-    ensures unknown { AskForUnknown (map S.text words.now) → IsErr result }
 {
     match command(alloc)?.try_get_matches_from(words) {
-        Ok(matches) => request_of(&matches),
-        Err(error) => refusal(alloc, &error),
+        Ok(matches) => Ok(request_of(&matches)),
+        Err(error) => request_without_matches(alloc, &error),
     }
 }
 
 /// What the matches ask for.
-fn request_of(matches: &ArgMatches) -> Result<Request, Fault>
+fn request_of(matches: &ArgMatches) -> Request
     ensures single { (subcommand_name_of matches.now ≡ None) ⊎ (subcommand_name_of matches.now ≡ Some (codes "single"))
-        → result ≡ Ok Request.Single }
-    ensures replay { subcommand_name_of matches.now ≡ Some (codes "replay") → result ≡ Ok Request.Replay }
-    ensures ring { (n rounds : ℕ) (fault : Bool) → IsRing n rounds → AsksForRing n rounds fault (subcommand_rows_of matches.now)
-        → result ≡ Ok (Request.Ring (record { procs = n; rounds = rounds; fault = fault })) }
-    ensures in_ranges { IfOk result HasRing }
+        → result ≡ Request.Single }
+    ensures replay { subcommand_name_of matches.now ≡ Some (codes "replay") → result ≡ Request.Replay }
+    ensures ring { (ring : Ring) → IsRing ring.procs ring.rounds
+        → AsksForRing ring.procs ring.rounds ring.fault (subcommand_rows_of matches.now) → result ≡ Request.Ring ring }
+    ensures in_ranges { HasRing result }
 {
     if let Some(options) = matches.subcommand_matches("ring") {
-        let ring = ring_of(options)?;
-        return Ok(Request::Ring(ring));
+        return match ring_of(options) {
+            Some(ring) => Request::Ring(ring),
+            None => Request::Unknown,
+        };
     }
     match matches.subcommand_matches("replay") {
-        Some(_) => Ok(Request::Replay),
-        None => Ok(Request::Single),
+        Some(_) => Request::Replay,
+        None => Request::Single,
     }
 }
 
-/// The ring that the options of `ring` ask for.
-fn ring_of(options: &ArgMatches) -> Result<Ring, Fault>
-    ensures asked { (n rounds : ℕ) (fault : Bool) → IsRing n rounds → HasOptions n rounds fault (rows_of (found_of options.now))
-        → result ≡ Ok (record { procs = n; rounds = rounds; fault = fault }) }
-    ensures in_ranges { IfOk result (λ ring. IsRing ring.procs ring.rounds) }
+/// The ring that the options of `ring` ask for, if there is such a ring.
+fn ring_of(options: &ArgMatches) -> Option<Ring>
+    ensures asked { (ring : Ring) → IsRing ring.procs ring.rounds
+        → HasOptions ring.procs ring.rounds ring.fault (rows_of (found_of options.now)) → result ≡ Some ring }
+    ensures in_ranges { IfSome result (λ ring. IsRing ring.procs ring.rounds) }
 {
-    // clap tests these ranges too, but promises nothing of them at a subcommand.
-    let (Some(procs @ 2..=16), Some(rounds @ 1..=1000)) = (
-        number_of(options, "procs"),
-        number_of(options, "rounds"),
-    ) else {
-        return Err(Fault::Usage);
-    };
+    let procs = number_at(options, "procs")?;
+    let rounds = number_at(options, "rounds")?;
     let fault = has_flag(options, "fault");
-    Ok(Ring {
-        procs,
-        rounds,
-        fault,
-    })
+    // clap tests these ranges too, but promises nothing of them at a subcommand.
+    if MIN_PROCS <= procs
+        && procs <= MAX_PROCS as u32
+        && MIN_ROUNDS <= rounds
+        && rounds <= MAX_ROUNDS
+    {
+        Some(Ring {
+            procs,
+            rounds,
+            fault,
+        })
+    } else {
+        None
+    }
 }
 
 /// The number that stands at an option.
-fn number_of(options: &ArgMatches, name: &str) -> Option<u32>
-    ensures { (n : ℕ) → n < 2 ^ 32 → one_of name.now (rows_of (found_of options.now)) ≡ Some (decimal n) → result ≡ Some n }
+fn number_at(options: &ArgMatches, name: &str) -> Option<u32>
+    ensures { (n : ℕ) → n < 2 ^ 32 → one_of name.now (rows_of (found_of options.now)) ≡ Some (decimal n)
+        → result ≡ Some n }
 {
     options.get_one::<u32>(name)
 }
 
 /// Whether a flag was given.
 fn has_flag(options: &ArgMatches, name: &str) -> bool
-    ensures { (given : Bool) → one_of name.now (rows_of (found_of options.now)) ≡ Some (bool_text given) → result ≡ given }
+    ensures { (given : Bool) → one_of name.now (rows_of (found_of options.now)) ≡ Some (bool_text given)
+        → result ≡ given }
 {
     options.get_flag(name)
 }
 
-/// What to do where clap gave no matches.
-fn refusal(alloc: Global, error: &Error) -> Result<Request, Fault>
-    ensures memory { kind_of error.now ≡ ErrorKind.OutOfMemory → result ≡ Err Fault.Memory }
-    ensures help { IfOk result (λ request. IsHelp request × (kind_of error.now ≡ ErrorKind.DisplayHelp)) }
+/// What the words ask for where clap gave no matches but this error.
+fn request_without_matches(alloc: Global, error: &Error) -> Result<Request, AllocError>
+    ensures memory { kind_of error.now ≡ ErrorKind.OutOfMemory → IsErr result }
+    ensures help { IfOk result MayHelp }
+    ensures unknown { kind_of error.now ≢ ErrorKind.DisplayHelp → IfOk result (λ request. request ≡ Request.Unknown) }
     ensures in_ranges { IfOk result HasRing }
 {
     match error.kind() {
         ErrorKind::DisplayHelp => Ok(Request::Help(error.to_string(alloc)?)),
-        ErrorKind::OutOfMemory => Err(Fault::Memory),
-        _ => Err(Fault::Usage),
+        ErrorKind::OutOfMemory => Err(AllocError),
+        _ => Ok(Request::Unknown),
     }
 }
 
@@ -155,27 +169,27 @@ fn ring_command<'a>(alloc: Global) -> Result<Command<'a>, AllocError>
 
 /// How many processes a ring has.
 fn procs_option<'a>(alloc: Global) -> Arg<'a>
-    ensures rule { rule_of result ≡ number_option (codes "procs") 2 16 }
+    ensures rule { rule_of result ≡ number_option (codes "procs") least_ring most_processes }
     ensures local { result.global ≡ false }
 {
     Arg::new(alloc, "procs")
         .long("procs")
         .value_name("N")
         .required(true)
-        .value_parser(value_parser!(u32).range(2..=16))
+        .value_parser(value_parser!(u32).range(i64::from(MIN_PROCS)..=MAX_PROCS as i64))
         .help(help::PROCS)
 }
 
 /// How many rounds a ring has.
 fn rounds_option<'a>(alloc: Global) -> Arg<'a>
-    ensures rule { rule_of result ≡ number_option (codes "rounds") 1 1000 }
+    ensures rule { rule_of result ≡ number_option (codes "rounds") least_rounds most_rounds }
     ensures local { result.global ≡ false }
 {
     Arg::new(alloc, "rounds")
         .long("rounds")
         .value_name("R")
         .required(true)
-        .value_parser(value_parser!(u32).range(1..=1000))
+        .value_parser(value_parser!(u32).range(i64::from(MIN_ROUNDS)..=i64::from(MAX_ROUNDS)))
         .help(help::ROUNDS)
 }
 

@@ -1,2 +1,3 @@
+pub mod ReplayText
 pub mod ReplyText
 pub mod ReportText

@@ -34,7 +34,8 @@ process_lines tallies = lines_from 0 tallies
 
 -- The line of the sums.
 abbrev pub total_line : List Tally → List ℕ
-total_line tallies = codes "total" ++ counts_text (sum_by (λ tally. tally.emitted) tallies) (sum_by (λ tally. tally.taken) tallies)
+total_line tallies =
+    codes "total" ++ counts_text (sum_by (λ tally. tally.emitted) tallies) (sum_by (λ tally. tally.taken) tallies)
 
 -- The text of an outcome: the report, the tally of each process, and the sums.
 unfoldable pub outcome_text : Outcome → List ℕ

@@ -1,8 +1,10 @@
-//! The exact bytes of an answer: the lines of a reply and of an outcome.
+//! The exact bytes of an answer: the lines of a reply, of an outcome and of a replay.
 #![tactic(auto)]
 
+mod replay_lines;
 mod reply_line;
 mod report_lines;
 
+pub use replay_lines::replay_text;
 pub use reply_line::{push_reply, reply_text};
 pub use report_lines::{push_report, report_text};

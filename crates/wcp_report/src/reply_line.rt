@@ -49,7 +49,8 @@ fn push_note(text: &mut String, note: &Note) -> Result<(), AllocError>
 }
 
 fn push_components(text: &mut String, clock: &Clock) -> Result<(), AllocError>
-    ensures { OnOk result (string_bytes text.new ≡ string_bytes text.old ++ flat_map (λ component. 32 ∷ decimal component) clock.now) }
+    ensures { OnOk result (string_bytes text.new
+        ≡ string_bytes text.old ++ flat_map (λ component. 32 ∷ decimal component) clock.now) }
 {
     for p in 0..clock.len() {
         let component = clock.get(p);

@@ -3,7 +3,7 @@ use Rattle.std.specs.Str.Parse.{ParsesUnsigned, ExplainsUnsignedError, HasUnsign
 use Rattle.std.proofs.lemmas.Fmt.{parse-decimal}
 use Rattle.clap.specs.Words.{ReadsOne, found_of}
 use Rattle.clap.proofs.WalkLemmas.{one_text-rows}
-use Rattle.wcp_cli.proofs.words.number_of.Goals as goal
+use Rattle.wcp_cli.proofs.words.number_at.Goals as goal
 
 value_of : {E : Type 0} (r : Result ℕ E) (n : ℕ) → r ≡ Ok n → IfOk r (λ v. v ≡ n)
 value_of r n e = rw e refl

@@ -1,12 +1,13 @@
 //! The printed text of a replay.
 ghost use Rattle.std.specs.Prelude.{◌≡◌, ◌++◌, IfOk, OnOk, string_bytes};
 ghost use Rattle.std.specs.List.{flat_map};
+ghost use Rattle.wcp_report.specs.ReplayText.{replay_text};
 ghost use Rattle.wcp_report.specs.ReplyText.{reply_line};
-ghost use Rattle.wcp_report.specs.ReportText.{outcome_text};
 
+use crate::reply_line::push_reply;
+use crate::report_lines::push_report;
 use std::alloc::{AllocError, Global};
 use wcp_model::{Outcome, Reply};
-use wcp_report::{push_reply, push_report};
 
 /// The line of each reply, and then the text of the outcome so far.
 pub fn replay_text(
@@ -14,7 +15,7 @@ pub fn replay_text(
     replies: &[Reply],
     outcome: &Outcome,
 ) -> Result<Vec<u8>, AllocError>
-    ensures { IfOk result (λ text. text.items ≡ flat_map reply_line replies.now ++ outcome_text outcome.now) }
+    ensures { IfOk result (λ text. text.items ≡ replay_text replies.now outcome.now) }
 {
     let mut text = String::new(alloc);
     push_replies(&mut text, replies)?;

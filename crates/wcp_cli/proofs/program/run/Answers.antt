@@ -1,0 +1,18 @@
+use Rattle.std.proofs.KnownBytes.{Keeps-refl}
+use Rattle.wcp_cli.specs.Edge.{Quiet}
+use Rattle.wcp_cli.proofs.Requests.{reads_nothing, same_request, status_after_err}
+use Rattle.wcp_cli.proofs.program.run.Goals as goal
+
+pub returns-in_err-request-clause-asked : goal.returns-in_err-request-clause-asked
+returns-in_err-request-clause-asked g c asked is = record {
+  request = asked;
+  same = same_request asked;
+  did = Quiet (reads_nothing asked _ _ (Keeps-refl _)) (Keeps-refl _) (status_after_err _ c.from_residual.ensures.0);
+}
+
+pub returns-clause-asked : goal.returns-clause-asked
+returns-clause-asked g c asked is = record {
+  request = c.in_ok-request.request;
+  same = c.in_ok-request.ensures.asked asked is;
+  did = c.fulfil.ensures.does;
+}

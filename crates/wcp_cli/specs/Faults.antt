@@ -1,0 +1,9 @@
+use Rattle.wcp_script.specs.declared.fault.ReadFault.{ReadFault}
+use Rattle.wcp_script.specs.declared.fault.ReadFault.TheVariants as read
+use Rattle.wcp_cli.specs.declared.fault.Fault.{Fault}
+use Rattle.wcp_cli.specs.declared.fault.Fault.TheVariants.{Script, Memory}
+
+-- The program's fault where a text wasn't read: that of the text, or want of memory.
+abbrev pub fault_of : ReadFault → Fault
+fault_of (read.Script fault) = Script fault
+fault_of read.NoMemory = Memory

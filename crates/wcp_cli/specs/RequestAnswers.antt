@@ -1,0 +1,84 @@
+use Rattle.std.specs.Prelude.{◌≡◌, ℕ, ◌≤◌, Bool, List, ◌++◌, Option, length, string_bytes}
+use Rattle.std.specs.List.{flat_map}
+use Rattle.std.specs.Io.KnownBytes.{Keeps, Consumes, IsAtEnd}
+use Rattle.wcp_clock.specs.Limits.{most_bytes}
+use Rattle.wcp_model.specs.declared.outcome.Outcome.{Outcome}
+use Rattle.wcp_model.specs.declared.outcome.Report.{Report}
+use Rattle.wcp_model.specs.declared.outcome.Report.TheVariants.{Found, Nothing, Undecided}
+use Rattle.wcp_model.specs.declared.plan.Plan.{Plan}
+use Rattle.wcp_model.specs.declared.step.Reply.{Reply}
+use Rattle.wcp_model.specs.declared.step.Step.{Step}
+use Rattle.wcp_model.specs.declared.workload.Task.{Task}
+use Rattle.wcp_model.specs.Outcome.{IsWorkloadOutcome}
+use Rattle.wcp_model.specs.WorkloadComputation.{CouldBeRead}
+use Rattle.wcp_report.specs.ReplayText.{replay_text}
+use Rattle.wcp_report.specs.ReportText.{outcome_text}
+use Rattle.wcp_script.specs.PlanText.{opening_text}
+use Rattle.wcp_script.specs.Ring.{ring_tasks}
+use Rattle.wcp_script.specs.TextFault.{schedules, workloads, Spells}
+use Rattle.wcp_script.specs.WorkloadText.{task_line}
+use Rattle.wcp_world.specs.Plays.{IsPlayed}
+use Rattle.wcp_cli.specs.declared.words.Request.{Request}
+use Rattle.wcp_cli.specs.declared.words.Request.TheVariants.{Single, Replay, Ring, Help, Unknown}
+
+-- What is known of the bytes that a reader has left, or of those that a writer holds.
+abbrev pub Known : Type 0
+Known = Option (List ℕ)
+
+-- The exit status after a report: 0 where a bad moment was found.
+abbrev pub status_of : Report → ℕ
+status_of (Found cut) = 0
+status_of Nothing = 1
+status_of Undecided = 1
+
+-- The answer to the text of a workload: its outcome, printed, with the status of the report.
+pub record IsOutcomeAnswer (text printed : List ℕ) (status : ℕ) : Type 0 where
+  pub plan : Plan
+  pub tasks : List Task
+  pub outcome : Outcome
+  pub spelled : Spells workloads text plan tasks
+  pub could_be_read : CouldBeRead plan.n tasks
+  pub right : IsWorkloadOutcome plan.n tasks outcome
+  pub print : printed ≡ outcome_text outcome
+  pub status_is : status ≡ status_of outcome.report
+
+-- The answer to the text of a schedule: a line for the reply to each step, and the outcome so far, with the status of
+-- the report.
+pub record IsReplayAnswer (text printed : List ℕ) (status : ℕ) : Type 0 where
+  pub plan : Plan
+  pub steps : List Step
+  pub replies : List Reply
+  pub outcome : Outcome
+  pub spelled : Spells schedules text plan steps
+  pub played : IsPlayed plan steps replies outcome.report outcome.tallies
+  pub print : printed ≡ replay_text replies outcome
+  pub status_is : status ≡ status_of outcome.report
+
+-- The text of a ring workload: two lines of head, and a line for each task.
+abbrev pub ring_text : ℕ → ℕ → Bool → List ℕ
+ring_text n rounds fault = opening_text n ++ flat_map task_line (ring_tasks n rounds fault)
+
+-- The text is the whole input, and no longer than a text may be.
+pub record IsInput (input input_after : Known) (text : List ℕ) : Type 0 where
+  pub consumed : Consumes input input_after text
+  pub ended : IsAtEnd input_after
+  pub within : length text ≤ most_bytes
+
+-- The answer to a request is printed, with its status. `single` and `replay` answer to their whole input, and the
+-- others read nothing: a ring's answer is its text, and the answer to a request for help is the text that it carries.
+abbrev pub IsAnswerTo : Request → Known → Known → List ℕ → ℕ → Type 0
+IsAnswerTo Single input input_after printed status =
+    (text : List ℕ) × IsInput input input_after text × IsOutcomeAnswer text printed status
+IsAnswerTo Replay input input_after printed status =
+    (text : List ℕ) × IsInput input input_after text × IsReplayAnswer text printed status
+IsAnswerTo (Ring ring) input input_after printed status =
+    Keeps input input_after × (printed ≡ ring_text ring.procs ring.rounds ring.fault) × (status ≡ 0)
+IsAnswerTo (Help text) input input_after printed status =
+    Keeps input input_after × (printed ≡ string_bytes text) × (status ≡ 0)
+IsAnswerTo Unknown input input_after printed status = ⊥
+
+-- What a request may read, answered or not: `single` and `replay` their input, the others nothing.
+abbrev pub Reads : Request → Known → Known → Type 0
+Reads Single input input_after = Unit {0}
+Reads Replay input input_after = Unit {0}
+Reads _ input input_after = Keeps input input_after

@@ -1,0 +1,105 @@
+//! The answer to each request: what is printed, and the exit status.
+ghost use Rattle.std.specs.Prelude.{◌≡◌, ◌≤◌, IfOk};
+ghost use Rattle.wcp_cli.specs.RequestAnswers.{IsAnswerTo, IsOutcomeAnswer, IsReplayAnswer, Reads, ring_text, status_of};
+ghost use Rattle.wcp_cli.specs.Words.{HasRing, IsRing};
+
+use crate::fault::Fault;
+use crate::input::read_text;
+use crate::words::{Request, Ring};
+use std::alloc::Global;
+use std::io::Read;
+use wcp_model::{Outcome, Report};
+use wcp_report::{replay_text, report_text};
+use wcp_script::{read_ordered, read_schedule, ring_workload, single_in_order, workload_text};
+use wcp_world::play;
+
+/// The status where a bad moment was found, and after a text that tells of no computation.
+const FOUND: u8 = 0;
+
+/// The status where there is no bad moment, or none is known.
+const NOT_FOUND: u8 = 1;
+
+/// What a run prints, and its exit status.
+#[derive(Debug, Drop)]
+pub struct Answer {
+    pub text: Vec<u8>,
+    pub status: u8,
+    ghost small: { status ≤ 1 },
+}
+
+/// The answer to a request.
+pub fn answer_to<I: Read>(alloc: Global, request: Request, input: &mut I) -> Result<Answer, Fault>
+    requires { HasRing request }
+    ensures answer { IfOk result (λ answer. IsAnswerTo request
+        (I.remaining input.old) (I.remaining input.new) answer.text.items answer.status) }
+    ensures reads { Reads request (I.remaining input.old) (I.remaining input.new) }
+{
+    match request {
+        Request::Single => {
+            let text = read_text(alloc, input)?;
+            outcome_answer(alloc, text.as_slice())
+        }
+        Request::Replay => {
+            let text = read_text(alloc, input)?;
+            replay_answer(alloc, text.as_slice())
+        }
+        Request::Ring(ring) => ring_answer(alloc, ring),
+        Request::Help(text) => Ok(Answer {
+            text: text.into_bytes(),
+            status: FOUND,
+        }),
+        Request::Unknown => Err(Fault::Usage),
+    }
+}
+
+/// The outcome of the workload that the text spells.
+fn outcome_answer(alloc: Global, text: &[u8]) -> Result<Answer, Fault>
+    ensures { IfOk result (λ answer. IsOutcomeAnswer text.now answer.text.items answer.status) }
+{
+    let read = read_ordered(alloc, text)?;
+    let outcome = single_in_order(alloc, &read.workload, read.in_order())?;
+    Ok(Answer {
+        text: report_text(alloc, &outcome)?,
+        status: status_of(&outcome.report),
+    })
+}
+
+/// The replies to the steps of the schedule that the text spells, and the outcome so far.
+fn replay_answer(alloc: Global, text: &[u8]) -> Result<Answer, Fault>
+    ensures { IfOk result (λ answer. IsReplayAnswer text.now answer.text.items answer.status) }
+{
+    let schedule = read_schedule(alloc, text)?;
+    let played = play(alloc, &schedule.plan, schedule.steps.as_slice())?;
+    let outcome = Outcome {
+        report: played.report,
+        tallies: played.tallies,
+    };
+    Ok(Answer {
+        text: replay_text(alloc, played.replies.as_slice(), &outcome)?,
+        status: status_of(&outcome.report),
+    })
+}
+
+/// The text of a ring workload.
+fn ring_answer(alloc: Global, ring: Ring) -> Result<Answer, Fault>
+    requires { IsRing ring.procs ring.rounds }
+    ensures text { IfOk result (λ answer. answer.text.items ≡ ring_text ring.procs ring.rounds ring.fault) }
+    ensures status { IfOk result (λ answer. answer.status ≡ 0) }
+{
+    let workload = ring_workload(alloc, ring.procs, ring.rounds, ring.fault)?;
+    Ok(Answer {
+        text: workload_text(alloc, &workload)?,
+        status: FOUND,
+    })
+}
+
+/// The status after a report.
+fn status_of(report: &Report) -> u8
+    ensures value { result ≡ status_of report.now }
+    ensures small { result ≤ 1 }
+{
+    match report {
+        Report::Found(_) => FOUND,
+        Report::Nothing | Report::Undecided => NOT_FOUND,
+    }
+}
