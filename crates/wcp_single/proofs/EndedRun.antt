@@ -1,9 +1,7 @@
-use Rattle.std.proofs.Common.{◌≡◌, ◌≢◌, ℕ, zero, suc, ◌+◌, ◌<◌, ◌≤◌, cond, List, [], ◌∷◌, ◌++◌, length, map, get_or, set, slice_get, Some, refl, sym, ap, ap₂, ◌∙◌, subst, subst₂, ⊎_elim, append-nil, arith, eq-eqb, get_or-set_same, get_or-set_other}
+use Rattle.std.proofs.Common.{◌≡◌, ◌≢◌, ℕ, zero, suc, ◌+◌, ◌<◌, ◌≤◌, List, [], ◌∷◌, ◌++◌, length, map, get_or, set, slice_get, Some, refl, sym, ap, ◌∙◌, subst, subst₂, ⊎_elim, inl, inr, append-nil, arith, eq-eqb, get_or-set_same, get_or-set_other}
 use Rattle.std.specs.List.{filter, range_with_len}
-use Rattle.std.proofs.lemmas.Bool.{cases_lt, cases_eq, ne_eqb}
+use Rattle.std.proofs.lemmas.Bool.{cases_eq, ne_eqb}
 use Rattle.std.proofs.lemmas.List.{take_at, length-set}
-use Rattle.std.proofs.lemmas.List.Elements.{filter-append}
-use Rattle.std.proofs.lemmas.List.FromFn.{map-range_with_len_more}
 use Rattle.std.proofs.lemmas.Option.{slice_get_within}
 use Rattle.wcp_clock.specs.declared.note.Item.{Item}
 use Rattle.wcp_clock.specs.declared.note.Note.{Note}
@@ -31,32 +29,22 @@ use Rattle.wcp_single.proofs.AcceptedOrder.{order_accepted}
 use Rattle.wcp_model.proofs.GrowingLogs.{log_grows}
 use Rattle.wcp_single.proofs.RunningProcesses.{log_push, running_count}
 
--- the closes of n processes
-abbrev closes : ℕ → Computation
-closes n = map step.Close (range_with_len 0 n)
+-- the closes of n processes from a number on
+abbrev closes : ℕ → ℕ → Computation
+closes from n = map step.Close (range_with_len from n)
 
-closes_more : (p n : ℕ) → filter (is_step_of p) (closes (suc n)) ≡ filter (is_step_of p) (closes n) ++ filter (is_step_of p) (step.Close n ∷ [])
-closes_more p n =
-    let more : closes (n + 1) ≡ closes n ++ step.Close n ∷ [] = map-range_with_len_more step.Close 0 n n (omega arith) in
-    let next : suc n ≡ n + 1 = omega arith in
-    ap (λ k. filter (is_step_of p) (closes k)) next ∙ ap (filter (is_step_of p)) more ∙ filter-append (is_step_of p) (closes n) (step.Close n ∷ [])
-
--- none of them is of a later process
-no_close_of : (p n : ℕ) → n ≤ p → filter (is_step_of p) (closes n) ≡ []
-no_close_of p zero behind = refl
-no_close_of p (suc n) behind =
-    closes_more p n ∙ ap₂ (λ xs b. xs ++ cond b (step.Close n ∷ []) []) (no_close_of p n (omega arith)) (ne_eqb n p (λ same. omega arith))
+-- none of them is of an earlier process
+no_close_of : (p from n : ℕ) → p < from → filter (is_step_of p) (closes from n) ≡ []
+no_close_of p from zero before = refl
+no_close_of p from (suc n) before = rw (ne_eqb from p (λ same. omega arith)) (no_close_of p (from + 1) n (omega arith))
 
 -- and one of each of these
-one_close_of : (p n : ℕ) → p < n → filter (is_step_of p) (closes n) ≡ step.Close p ∷ []
-one_close_of p zero within = absurd (omega arith)
-one_close_of p (suc n) within =
-    ⊎_elim (λ (earlier : p < n).
-    closes_more p n ∙ ap₂ (λ xs b. xs ++ cond b (step.Close n ∷ []) []) (one_close_of p n earlier) (ne_eqb n p (λ same. omega arith)))
-    (λ (last : n ≤ p).
-    let same : n ≡ p = omega arith in
-    closes_more p n ∙ ap₂ (λ xs b. xs ++ cond b (step.Close n ∷ []) []) (no_close_of p n last) (eq-eqb n p same) ∙ ap (λ q. step.Close q ∷ []) same)
-    (cases_lt p n)
+one_close_of : (p from n : ℕ) → from ≤ p → p < from + n → filter (is_step_of p) (closes from n) ≡ step.Close p ∷ []
+one_close_of p from zero behind within = absurd (omega arith)
+one_close_of p from (suc n) behind within = elim (cases_eq from p) [
+  | inl same ↦ rw (eq-eqb from p same, no_close_of p (from + 1) n (omega arith)) (ap (λ q. step.Close q ∷ []) same)
+  | inr other ↦ rw (ne_eqb from p other) (one_close_of p (from + 1) n (omega arith) (omega arith))
+]
 
 length-steps : (order earlier tasks : List Task) → length (steps_from order earlier tasks) ≡ length tasks
 length-steps order earlier [] = refl
@@ -71,11 +59,11 @@ emits_at_end n order fit p within notes process follows = (log_law_holds n (comp
     steps = steps_from order [] order
 
     all : front n order (length order) ≡ steps
-    all = take_at steps (closes n) (length order) (length-steps order [] order)
+    all = take_at steps (closes 0 n) (length order) (length-steps order [] order)
 
     log_is : IsLogOf n (computation_of n order) p (follows.log ++ Closed ∷ [])
-    log_is = log_grows n steps (closes n) p follows.log (Closed ∷ []) (subst (λ c. IsLogOf n c p follows.log) all follows.log_is)
-        (subst (λ own. AreCallsOf n (steps ++ closes n) own (Closed ∷ [])) (sym (one_close_of p n within)) (tt, tt))
+    log_is = log_grows n steps (closes 0 n) p follows.log (Closed ∷ []) (subst (λ c. IsLogOf n c p follows.log) all follows.log_is)
+        (subst (λ own. AreCallsOf n (steps ++ closes 0 n) own (Closed ∷ [])) (sym (one_close_of p 0 n (omega arith) (omega arith))) (tt, tt))
 
 -- the run of an order begins to end once all its tasks are done
 pub begins_to_end : (n : ℕ) (order : List Task) (place : ℕ) (processes : List WatchedProcess) (queues : List (List Seal)) (checker : CheckerState) → place ≡ length order → HasComeTo n order place processes queues checker → IsEnding n order 0 processes checker

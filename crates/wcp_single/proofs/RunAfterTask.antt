@@ -39,27 +39,26 @@ may_communicate n order place task next processes queues checker run old read =
     }
 
 -- the run after an observation
-module _ (n : ℕ) (order : List Task) (place a : ℕ) (holds : Bool) (next : IsNextTask n order place (record { p = a; action = action.Observe holds })) (processes : List WatchedProcess) (queues : List (List Seal)) (checker : CheckerState) (run : HasComeTo n order place processes queues checker) (old new : WatchedProcess) (read : old ≡ get_or processes a old) (runs : MakesCall old (Observed holds) new) (after : CheckerState) (feeds : Feeds old (Observed holds) checker after) where
-  observed_follows : Follows n (front n order place) a (notes_taken a run.items) old
-  observed_follows = read_follows n order place processes queues checker run a old (next_within n order place a (action.Observe holds) next).0 read
+module _ (n : ℕ) (order : List Task) (place : ℕ) (task : Task) (holds : Bool) (acts : task.action ≡ action.Observe holds) (next : IsNextTask n order place task) (processes : List WatchedProcess) (queues : List (List Seal)) (checker : CheckerState) (run : HasComeTo n order place processes queues checker) (old new : WatchedProcess) (read : old ≡ get_or processes task.p old) (runs : MakesCall old (Observed holds) new) (after : CheckerState) (feeds : Feeds old (Observed holds) checker after) where
+  observing : IsNextTask n order place (record { p = task.p; action = action.Observe holds })
+  observing = subst (λ act. IsNextTask n order place (record { p = task.p; action = act })) acts next
 
-  fed : IsFedMore n a (observed_follows.log ++ Observed holds ∷ []) run.items after
-  fed = feeds n a observed_follows.log run.items observed_follows.running (record { within = (next_within n order place a (action.Observe holds) next).0; has_taken = run.has_taken; all = observed_follows.notes_are })
+  observed_follows : Follows n (front n order place) task.p (notes_taken task.p run.items) old
+  observed_follows = read_follows n order place processes queues checker run task.p old (next_within n order place task.p task.action next).0 read
 
-  run_observed : HasComeTo n order (place + 1) (set processes a new) queues after
-  run_observed = record {
-    processes_are = length-set processes a new ∙ run.processes_are;
+  fed : IsFedMore n task.p (observed_follows.log ++ Observed holds ∷ []) run.items after
+  fed = feeds n task.p observed_follows.log run.items observed_follows.running (record { within = (next_within n order place task.p task.action next).0; has_taken = run.has_taken; all = observed_follows.notes_are })
+
+  pub performs_observe : HasComeTo n order (place + 1) (set processes task.p new) queues after
+  performs_observe = record {
+    processes_are = length-set processes task.p new ∙ run.processes_are;
     channels_are = run.channels_are;
     items = fed.more;
     has_taken = fed.fed.has_taken;
-    follows = follow_next n order place a (action.Observe holds) next processes run.items fed.more new run.processes_are run.follows fed.others
-        (follows_call n (front n order place) (step.Observe a holds) a (notes_taken a run.items) (notes_taken a fed.more) old new (Observed holds) (eq-eqb a a refl) refl runs observed_follows fed.fed.all);
-    channels = λ p q p_within q_within. channel_stays n order place a (action.Observe holds) next p q _ (observe_is_no_send p q a holds) (observe_is_no_receive p q a holds) (run.channels p q p_within q_within);
+    follows = follow_next n order place task.p (action.Observe holds) observing processes run.items fed.more new run.processes_are run.follows fed.others
+        (follows_call n (front n order place) (step.Observe task.p holds) task.p (notes_taken task.p run.items) (notes_taken task.p fed.more) old new (Observed holds) (eq-eqb task.p task.p refl) refl runs observed_follows fed.fed.all);
+    channels = λ p q p_within q_within. channel_stays n order place task.p (action.Observe holds) observing p q _ (observe_is_no_send p q task.p holds) (observe_is_no_receive p q task.p holds) (run.channels p q p_within q_within);
   }
-
-pub performs_observe : (n : ℕ) (order : List Task) (place : ℕ) (task : Task) (holds : Bool) → task.action ≡ action.Observe holds → IsNextTask n order place task → (processes : List WatchedProcess) (queues : List (List Seal)) (checker : CheckerState) → HasComeTo n order place processes queues checker → (old new : WatchedProcess) → old ≡ get_or processes task.p old → MakesCall old (Observed holds) new → (after : CheckerState) → Feeds old (Observed holds) checker after → HasComeTo n order (place + 1) (set processes task.p new) queues after
-performs_observe n order place task holds acts next processes queues checker run old new read runs after feeds =
-    run_observed n order place task.p holds (subst (λ act. IsNextTask n order place (record { p = task.p; action = act })) acts next) processes queues checker run old new read runs after feeds
 
 -- the run after a send
 module _ (n : ℕ) (order : List Task) (place a b : ℕ) (next : IsNextTask n order place (record { p = a; action = action.Send b })) (processes : List WatchedProcess) (queues : List (List Seal)) (checker : CheckerState) (run : HasComeTo n order place processes queues checker) (old new : WatchedProcess) (read : old ≡ get_or processes a old) (runs : MakesCall old Sent new) where
