@@ -1,5 +1,4 @@
-use Rattle.std.proofs.Common.{◌≡◌, ◌≢◌, ℕ, ◌<◌, ◌≤◌, List, [], ◌∷◌, ◌++◌, length, get_or, slice_index, sym, ◌∙◌, ap, ⊎_elim, arith}
-use Rattle.std.proofs.lemmas.Bool.{cases_eq}
+use Rattle.std.proofs.Common.{◌≡◌, ℕ, ◌<◌, ◌≤◌, List, [], length, get_or, slice_index, sym, ◌∙◌, ap, arith}
 use Rattle.std.proofs.lemmas.List.{append-nil, length-drop, get_or_default}
 use Rattle.std.proofs.lemmas.List.Elements.{Contains-get_or}
 use Rattle.wcp_clock.specs.declared.note.Item.{Item}
@@ -10,7 +9,7 @@ use Rattle.wcp_model.proofs.Elimination.{GrowTo-same, get_or-grown, IsSatisfying
 use Rattle.wcp_model.proofs.Choosing.{choice_from_each}
 use Rattle.wcp_queue.specs.Queue.{Candidates}
 use Rattle.wcp_queue.specs.Elimination.{queue_of, HasOldHead, AreCompared, HaveHeads, IsCutOfHeads, AreLeft, IsFoundAmong, GainCandidate}
-use Rattle.wcp_queue.proofs.LeftQueues.{head_within, head_at}
+use Rattle.wcp_queue.proofs.LeftQueues.{GrowTo-gain, head_within, head_at}
 
 -- where each queue has a head, and all were compared, their cut is found
 pub IsFoundAmong-heads : (n : ℕ) (rows : ℕ → List (List ℕ)) (queues : List Candidates) (cut : List ℕ) → length queues ≡ n → AreLeft n rows queues → AreCompared queues → IsCutOfHeads queues cut → IsFoundAmong n rows cut
@@ -40,13 +39,7 @@ IsFoundAmong-grown n rows longer cut grow found = record {
 }
 
 pub IsFoundAmong-gain : (n p : ℕ) (rows longer : ℕ → List (List ℕ)) (clock cut : List ℕ) → GainCandidate n p clock rows longer → IsFoundAmong n rows cut → IsFoundAmong n longer cut
-IsFoundAmong-gain n p rows longer clock cut gain = IsFoundAmong-grown n rows longer cut grow
-  where
-    grow : GrowTo n rows longer
-    grow q q_within = ⊎_elim
-        (λ (same : q ≡ p). (clock ∷ [], ap longer same ∙ gain.gained ∙ ap (λ r. rows r ++ clock ∷ []) (sym same)))
-        (λ (other : q ≢ p). ([], gain.others q q_within other ∙ sym (append-nil (rows q))))
-        (cases_eq q p)
+IsFoundAmong-gain n p rows longer clock cut gain = IsFoundAmong-grown n rows longer cut (GrowTo-gain n p clock rows longer gain)
 
 pub IsFoundAmong-same : (n : ℕ) (rows others : ℕ → List (List ℕ)) (cut : List ℕ) → ((p : ℕ) → p < n → others p ≡ rows p) → IsFoundAmong n rows cut → IsFoundAmong n others cut
 IsFoundAmong-same n rows others cut same = IsFoundAmong-grown n rows others cut (λ p p_within. ([], same p p_within ∙ sym (append-nil (rows p))))

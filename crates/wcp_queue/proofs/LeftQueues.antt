@@ -34,6 +34,13 @@ AreLeft-rows n rows others queues same left = record {
   eliminated = IsEliminatedBelow-grown n rows others left.heads (λ p p_within. ([], same p p_within ∙ sym (append-nil (rows p)))) left.eliminated;
 }
 
+-- rows to which a candidate is added have grown
+pub GrowTo-gain : (n p : ℕ) (clock : List ℕ) (rows longer : ℕ → List (List ℕ)) → GainCandidate n p clock rows longer → GrowTo n rows longer
+GrowTo-gain n p clock rows longer gain q q_within = ⊎_elim
+    (λ (same : q ≡ p). (clock ∷ [], ap longer same ∙ gain.gained ∙ ap (λ r. rows r ++ clock ∷ []) (sym same)))
+    (λ (other : q ≢ p). ([], gain.others q q_within other ∙ sym (append-nil (rows q))))
+    (cases_eq q p)
+
 -- the heads after that of p is eliminated
 abbrev moved : (ℕ → ℕ) → ℕ → ℕ → ℕ
 moved heads p k = cond (eqb k p) (heads k + 1) (heads k)
@@ -78,39 +85,33 @@ module _ (n : ℕ) (rows : ℕ → List (List ℕ)) (queues : List Candidates) (
           ∙ drop-drop 1 (left.heads p) (rows p) ∙ ap (λ i. drop i (rows p)) (sym (moved-same left.heads p p refl))
 
   -- a candidate that is taken comes at the end of its row and of its queue
-  pub AreLeft-push : (longer : ℕ → List (List ℕ)) (p : ℕ) (clock : List ℕ) → p < n → p < length queues → longer p ≡ rows p ++ clock ∷ [] → ((k : ℕ) → k < n → k ≢ p → longer k ≡ rows k) → AreLeft n longer (set queues p (with_candidate (queue_of queues p) clock))
-  AreLeft-push longer p clock p_within p_listed one others = record {
+  pub AreLeft-push : (longer : ℕ → List (List ℕ)) (p : ℕ) (clock : List ℕ) → p < n → p < length queues → GainCandidate n p clock rows longer → AreLeft n longer (set queues p (with_candidate (queue_of queues p) clock))
+  AreLeft-push longer p clock p_within p_listed gain = record {
     heads = left.heads;
-    within = λ k k_within. ⊎_elim
-        (λ (is : k ≡ p). omega (arith, left.within k k_within, ap (λ j. length (longer j)) is, ap length one, length-append (rows p) (clock ∷ []), ap (λ j. length (rows j)) is))
-        (λ (other : k ≢ p). omega (arith, left.within k k_within, ap length (others k k_within other)))
-        (cases_eq k p);
+    within = λ k k_within. omega (arith, left.within k k_within, ap length (grow k k_within).1, length-append (rows k) (grow k k_within).0);
     rest = λ k k_within. ⊎_elim
         (λ (is : k ≡ p). rw is at_p)
-        (λ (other : k ≢ p). ap (λ queue. queue.clocks) (queue_of-set_other queues p k (with_candidate (queue_of queues p) clock) other) ∙ left.rest k k_within ∙ ap (drop (left.heads k)) (sym (others k k_within other)))
+        (λ (other : k ≢ p). ap (λ queue. queue.clocks) (queue_of-set_other queues p k (with_candidate (queue_of queues p) clock) other) ∙ left.rest k k_within ∙ ap (drop (left.heads k)) (sym (gain.others k k_within other)))
         (cases_eq k p);
     eliminated = IsEliminatedBelow-grown n rows longer left.heads grow left.eliminated;
   }
     where
       grow : GrowTo n rows longer
-      grow k k_within = ⊎_elim
-          (λ (is : k ≡ p). (clock ∷ [], ap longer is ∙ one ∙ ap (λ j. rows j ++ clock ∷ []) (sym is)))
-          (λ (other : k ≢ p). ([], others k k_within other ∙ sym (append-nil (rows k))))
-          (cases_eq k p)
+      grow = GrowTo-gain n p clock rows longer gain
 
       at_p : (queue_of (set queues p (with_candidate (queue_of queues p) clock)) p).clocks ≡ drop (left.heads p) (longer p)
       at_p =
           ap (λ queue. queue.clocks) (queue_of-set_same queues p (with_candidate (queue_of queues p) clock) p_listed)
           ∙ ap (λ clocks. clocks ++ clock ∷ []) (left.rest p p_within)
           ∙ sym (drop-append-le (left.heads p) (rows p) (clock ∷ []) (left.within p p_within))
-          ∙ ap (drop (left.heads p)) (sym one)
+          ∙ ap (drop (left.heads p)) (sym gain.gained)
 
 -- a candidate that the row of p gains stands at the end of its queue
 pub AreLeft-gain : (n : ℕ) (rows longer : ℕ → List (List ℕ)) (queues : List Candidates) (p : ℕ) (clock : List ℕ) (read queue : Candidates) → length queues ≡ n → p < n → queue ≡ with_candidate (get_or queues p read) clock →
     GainCandidate n p clock rows longer → AreLeft n rows queues → AreLeft n longer (set queues p queue)
 AreLeft-gain n rows longer queues p clock read queue members within is gain left =
     let here : queue ≡ with_candidate (queue_of queues p) clock = is ∙ ap (λ q. with_candidate q clock) (get_or_default queues p read no_candidates (omega arith)) in
-    rw here (AreLeft-push n rows queues left longer p clock within (omega arith) gain.gained gain.others)
+    rw here (AreLeft-push n rows queues left longer p clock within (omega arith) gain)
 
 -- where the queue of p had a head, a candidate more gives no other queue one
 pub HaveHeads-gain : (queues : List Candidates) (p : ℕ) (clock : List ℕ) (read queue : Candidates) → p < length queues → queue ≡ with_candidate (get_or queues p read) clock → queue.head_is_new ≡ false →

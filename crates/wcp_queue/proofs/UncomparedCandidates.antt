@@ -1,26 +1,22 @@
-use Rattle.std.proofs.Common.{◌≡◌, ◌||◌, ℕ, ◌+◌, ◌-◌, ◌*◌, ◌<◌, ◌≤◌, true, false, List, [], ◌∷◌, ◌++◌, length, get_or, set, drop, ◌∙◌, ap, eqb, ltb, ⊎_elim, arith}
-use Rattle.std.proofs.lemmas.Bool.{cases_Bool, cases_eq, eq-eqb, ne_eqb, or_left, or_right, or_from, cond-true, cond-false}
+use Rattle.std.proofs.Common.{◌≡◌, ◌||◌, ℕ, zero, suc, ◌+◌, ◌-◌, ◌*◌, ◌<◌, ◌≤◌, Bool, true, false, cond, List, [], ◌∷◌, length, get_or, set, drop, ◌∙◌, ap, eqb, ltb, arith}
+use Rattle.std.proofs.lemmas.Bool.{ne_eqb, cond-true}
 use Rattle.std.proofs.lemmas.List.{length-append, length-drop, get_or_default}
 use Rattle.std.proofs.lemmas.List.Sums.{sum_by-set}
 use Rattle.std.proofs.lemmas.Nat.{mul-le}
 use Rattle.wcp_queue.specs.Queue.{Candidates, no_candidates, without_head, with_old_head, with_candidate}
 use Rattle.wcp_queue.specs.Elimination.{queue_of, HasNewHead, uncompared, uncompared_in, most_tests}
 
+-- of so many candidates all, or all but one, were not compared
+all_but_one : (new : Bool) (n : ℕ) → (cond new n (n - 1) ≤ n) × (n ≤ cond new n (n - 1) + 1)
+all_but_one true n = (omega arith, omega arith)
+all_but_one false n = (omega arith, omega arith)
+
 -- no elimination adds a candidate to compare
 pub uncompared-without_head : (queue : Candidates) → 0 < length queue.clocks → uncompared (without_head queue) ≤ uncompared queue
-uncompared-without_head queue some = ⊎_elim
-    (λ (new : queue.head_is_new ≡ true). omega (arith, cond-true queue.head_is_new (length queue.clocks) (length queue.clocks - 1) new, rest))
-    (λ (old : queue.head_is_new ≡ false). omega (arith, cond-false queue.head_is_new (length queue.clocks) (length queue.clocks - 1) old, rest))
-    (cases_Bool queue.head_is_new)
-  where
-    left : length (drop 1 queue.clocks) ≡ length queue.clocks - 1
-    left = length-drop 1 queue.clocks
-
-    rest : uncompared (without_head queue) ≤ length queue.clocks - 1
-    rest = ⊎_elim
-        (λ (new : ltb 1 (length queue.clocks) ≡ true). omega (arith, left, cond-true (ltb 1 (length queue.clocks)) (length (drop 1 queue.clocks)) (length (drop 1 queue.clocks) - 1) new))
-        (λ (old : ltb 1 (length queue.clocks) ≡ false). omega (arith, left, cond-false (ltb 1 (length queue.clocks)) (length (drop 1 queue.clocks)) (length (drop 1 queue.clocks) - 1) old))
-        (cases_Bool (ltb 1 (length queue.clocks)))
+uncompared-without_head queue some =
+    let before = all_but_one queue.head_is_new (length queue.clocks) in
+    let after = all_but_one (ltb 1 (length queue.clocks)) (length (drop 1 queue.clocks)) in
+    omega (arith, before.1, after.0, length-drop 1 queue.clocks)
 
 -- a new head that is marked is one fewer
 pub uncompared-with_old_head : (queue : Candidates) → HasNewHead queue → uncompared (with_old_head queue) + 1 ≡ uncompared queue
@@ -28,23 +24,13 @@ uncompared-with_old_head queue is =
     omega (arith, is.some, cond-true queue.head_is_new (length queue.clocks) (length queue.clocks - 1) is.new)
 
 -- a candidate added is at most one more
+at_most_one_more : (new : Bool) (n : ℕ) → cond (new || eqb n 0) (n + 1) (n + 1 - 1) ≤ cond new n (n - 1) + 1
+at_most_one_more true n = omega arith
+at_most_one_more false zero = omega arith
+at_most_one_more false (suc n) = rw (ne_eqb (suc n) 0 (λ none. omega arith)) (omega arith)
+
 pub uncompared-with_candidate : (queue : Candidates) (clock : List ℕ) → uncompared (with_candidate queue clock) ≤ uncompared queue + 1
-uncompared-with_candidate queue clock = ⊎_elim
-    (λ (new : queue.head_is_new ≡ true).
-    let now : (queue.head_is_new || eqb (length queue.clocks) 0) ≡ true = or_left queue.head_is_new (eqb (length queue.clocks) 0) new in
-    omega (arith, longer, cond-true queue.head_is_new (length queue.clocks) (length queue.clocks - 1) new, cond-true (queue.head_is_new || eqb (length queue.clocks) 0) (length (queue.clocks ++ clock ∷ [])) (length (queue.clocks ++ clock ∷ []) - 1) now))
-    (λ (old : queue.head_is_new ≡ false). ⊎_elim
-    (λ (none : length queue.clocks ≡ 0).
-    let now : (queue.head_is_new || eqb (length queue.clocks) 0) ≡ true = or_right queue.head_is_new (eqb (length queue.clocks) 0) (eq-eqb (length queue.clocks) 0 none) in
-    omega (arith, longer, cond-true (queue.head_is_new || eqb (length queue.clocks) 0) (length (queue.clocks ++ clock ∷ [])) (length (queue.clocks ++ clock ∷ []) - 1) now))
-    (λ (some : length queue.clocks ≡ 0 → ⊥).
-    let now : (queue.head_is_new || eqb (length queue.clocks) 0) ≡ false = or_from queue.head_is_new (eqb (length queue.clocks) 0) old (ne_eqb (length queue.clocks) 0 some) in
-    omega (arith, some, longer, cond-false queue.head_is_new (length queue.clocks) (length queue.clocks - 1) old, cond-false (queue.head_is_new || eqb (length queue.clocks) 0) (length (queue.clocks ++ clock ∷ [])) (length (queue.clocks ++ clock ∷ []) - 1) now))
-    (cases_eq (length queue.clocks) 0))
-    (cases_Bool queue.head_is_new)
-  where
-    longer : length (queue.clocks ++ clock ∷ []) ≡ length queue.clocks + 1
-    longer = length-append queue.clocks (clock ∷ [])
+uncompared-with_candidate queue clock = rw (length-append queue.clocks (clock ∷ [])) (at_most_one_more queue.head_is_new (length queue.clocks))
 
 -- in the list of queues
 pub uncompared_in-le : (queues : List Candidates) (p : ℕ) (queue : Candidates) → p < length queues → uncompared queue ≤ uncompared (queue_of queues p) → uncompared_in (set queues p queue) ≤ uncompared_in queues
