@@ -1,9 +1,5 @@
 use Rattle.std.proofs.Common.{◌≡◌, ℕ, ◌<◌, List, [], ◌∷◌, ◌++◌, length, map, drop, refl, sym, ◌∙◌, ap, arith, get_or, set}
-use Rattle.std.proofs.lemmas.List.{get_or-map, map-set, map-append, length-map}
-
-map-rest : {M S : Type 0} (seal : M → S) (xs : List M) → map seal (drop 1 xs) ≡ drop 1 (map seal xs)
-map-rest seal [] = refl
-map-rest seal (x ∷ xs) = refl
+use Rattle.std.proofs.lemmas.List.{get_or-map, map-set, map-append, drop-map, length-map}
 
 module _ {Q M S : Type 0} (items : Q → List M) (seal : M → S) (queues : List Q) (i : ℕ) (queue : Q) (inside : i < length queues) (read : queue ≡ get_or queues i queue) where
   abbrev seals : Q → List S
@@ -23,7 +19,7 @@ module _ {Q M S : Type 0} (items : Q → List M) (seal : M → S) (queues : List
   pub seals_popped : (written : Q) → items written ≡ drop 1 (items queue) → map seals (set queues i written) ≡ set (map seals queues) i (drop 1 (get_or (map seals queues) i []))
   seals_popped written shorter =
       map-set seals queues i written
-      ∙ ap (set (map seals queues) i) (ap (map seal) shorter ∙ map-rest seal (items queue) ∙ ap (drop 1) (sym seals_read))
+      ∙ ap (set (map seals queues) i) (ap (map seal) shorter ∙ sym (drop-map seal 1 (items queue)) ∙ ap (drop 1) (sym seals_read))
 
   -- the first message of a queue has its first seal
   pub first_seal : (message : M) → 0 < length (items queue) → message ≡ get_or (items queue) 0 message → seal message ≡ get_or (get_or (map seals queues) i []) 0 (seal message)
