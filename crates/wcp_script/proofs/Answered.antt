@@ -95,54 +95,35 @@ same_workload_fault text one other (AtEnd plan tasks spells place stuck line) (A
     let last : spells.read.last ≡ spells'.read.last = ap (λ (read : HeadRead). read.last) same in
     cc
 
-pub schedule_is_spelled : (text : List ℕ) (r : Result Schedule ReadFault) → ReadsSchedule text r → IfOk r (λ schedule. Spells schedules text schedule.plan schedule.steps.items)
-schedule_is_spelled text (Ok schedule) h = h
-schedule_is_spelled text (Err fault) h = tt
+pub schedule_answered : (text : List ℕ) (r : Result Schedule ReadFault) → ReadsSchedule text r → IfOk r (λ schedule. Spells schedules text schedule.plan schedule.steps.items)
+    × IfOk r (λ schedule. IsCheckedPlan schedule.plan)
+    × IfOk r (λ schedule. length schedule.steps.items ≤ 65536)
+    × ((plan : Plan) (steps : List Step) → Spells schedules text plan steps → IsReadAs (λ schedule. IsSamePlan schedule.plan plan × (schedule.steps.items ≡ steps)) r)
+    × IfErr r (IsFaultOf (HasTextFault schedules text))
+    × ((fault : ScriptFault) → HasTextFault schedules text fault → IsRefusedFor fault r)
+schedule_answered text (Ok schedule) h =
+    let steps = schedule.steps.items in
+    (h, h.checked, spelled.few_steps schedules text schedule.plan steps h, λ plan others spells. same_reading schedules text schedule.plan plan steps others h spells, tt, λ fault has. no_fault schedules text fault schedule.plan steps h has)
+schedule_answered text (Err (Script given)) h =
+    (tt, tt, tt, λ plan steps spells. no_fault schedules text given plan steps spells h, h, λ fault has. same_fault schedules text given fault h has)
+schedule_answered text (Err NoMemory) h = (tt, tt, tt, λ plan steps spells. tt, tt, λ fault has. tt)
 
-pub schedule_is_checked : (text : List ℕ) (r : Result Schedule ReadFault) → ReadsSchedule text r → IfOk r (λ schedule. IsCheckedPlan schedule.plan)
-schedule_is_checked text (Ok schedule) h = h.checked
-schedule_is_checked text (Err fault) h = tt
-
-pub schedule_is_short : (text : List ℕ) (r : Result Schedule ReadFault) → ReadsSchedule text r → IfOk r (λ schedule. length schedule.steps.items ≤ 65536)
-schedule_is_short text (Ok schedule) h = spelled.few_steps schedules text schedule.plan schedule.steps.items h
-schedule_is_short text (Err fault) h = tt
-
-pub schedule_is_read_as : (text : List ℕ) (r : Result Schedule ReadFault) → ReadsSchedule text r → (plan : Plan) (steps : List Step) → Spells schedules text plan steps → IsReadAs (λ schedule. IsSamePlan schedule.plan plan × (schedule.steps.items ≡ steps)) r
-schedule_is_read_as text (Ok schedule) h plan steps spells = same_reading schedules text schedule.plan plan schedule.steps.items steps h spells
-schedule_is_read_as text (Err (Script fault)) h plan steps spells = no_fault schedules text fault plan steps spells h
-schedule_is_read_as text (Err NoMemory) h plan steps spells = tt
-
-pub schedule_has_fault : (text : List ℕ) (r : Result Schedule ReadFault) → ReadsSchedule text r → IfErr r (IsFaultOf (HasTextFault schedules text))
-schedule_has_fault text (Ok schedule) h = tt
-schedule_has_fault text (Err fault) h = h
-
-pub schedule_is_refused_for : (text : List ℕ) (r : Result Schedule ReadFault) → ReadsSchedule text r → (fault : ScriptFault) → HasTextFault schedules text fault → IsRefusedFor fault r
-schedule_is_refused_for text (Ok schedule) h fault has = no_fault schedules text fault schedule.plan schedule.steps.items h has
-schedule_is_refused_for text (Err (Script given)) h fault has = same_fault schedules text given fault h has
-schedule_is_refused_for text (Err NoMemory) h fault has = tt
-
-pub workload_is_spelled : (text : List ℕ) (r : Result Workload ReadFault) → ReadsWorkload text r → IfOk r (λ workload. Spells workloads text workload.plan workload.tasks.items)
-workload_is_spelled text (Ok workload) h = h.spells
-workload_is_spelled text (Err fault) h = tt
-
-pub workload_could_be_read : (text : List ℕ) (r : Result Workload ReadFault) → ReadsWorkload text r → IfOk r (λ workload. CouldBeRead workload.plan.n workload.tasks.items)
-workload_could_be_read text (Ok workload) h = spelled.could_be_read text workload.plan workload.tasks.items h.order h.spells h.fit
-workload_could_be_read text (Err fault) h = tt
-
-pub workload_is_checked : (text : List ℕ) (r : Result Workload ReadFault) → ReadsWorkload text r → IfOk r (λ workload. IsCheckedPlan workload.plan)
-workload_is_checked text (Ok workload) h = h.spells.checked
-workload_is_checked text (Err fault) h = tt
-
-pub workload_is_read_as : (text : List ℕ) (r : Result Workload ReadFault) → ReadsWorkload text r → (plan : Plan) (tasks : List Task) → Spells workloads text plan tasks → CouldBeRead plan.n tasks → IsReadAs (λ workload. IsSamePlan workload.plan plan × (workload.tasks.items ≡ tasks)) r
-workload_is_read_as text (Ok workload) h plan tasks spells could = same_reading workloads text workload.plan plan workload.tasks.items tasks h.spells spells
-workload_is_read_as text (Err (Script fault)) h plan tasks spells could = no_workload_fault text fault plan tasks could.order spells could.fit h
-workload_is_read_as text (Err NoMemory) h plan tasks spells could = tt
-
-pub workload_has_fault : (text : List ℕ) (r : Result Workload ReadFault) → ReadsWorkload text r → IfErr r (IsFaultOf (HasWorkloadFault text))
-workload_has_fault text (Ok workload) h = tt
-workload_has_fault text (Err fault) h = h
-
-pub workload_is_refused_for : (text : List ℕ) (r : Result Workload ReadFault) → ReadsWorkload text r → (fault : ScriptFault) → HasWorkloadFault text fault → IsRefusedFor fault r
-workload_is_refused_for text (Ok workload) h fault has = no_workload_fault text fault workload.plan workload.tasks.items h.order h.spells h.fit has
-workload_is_refused_for text (Err (Script given)) h fault has = same_workload_fault text given fault h has
-workload_is_refused_for text (Err NoMemory) h fault has = tt
+pub workload_answered : (text : List ℕ) (r : Result Workload ReadFault) → ReadsWorkload text r → IfOk r (λ workload. Spells workloads text workload.plan workload.tasks.items)
+    × IfOk r (λ workload. CouldBeRead workload.plan.n workload.tasks.items)
+    × IfOk r (λ workload. IsCheckedPlan workload.plan)
+    × ((plan : Plan) (tasks : List Task) → Spells workloads text plan tasks → CouldBeRead plan.n tasks → IsReadAs (λ workload. IsSamePlan workload.plan plan × (workload.tasks.items ≡ tasks)) r)
+    × IfErr r (IsFaultOf (HasWorkloadFault text))
+    × ((fault : ScriptFault) → HasWorkloadFault text fault → IsRefusedFor fault r)
+workload_answered text (Ok workload) h =
+    let plan = workload.plan in
+    let tasks = workload.tasks.items in (
+      h.spells,
+      spelled.could_be_read text plan tasks h.order h.spells h.fit,
+      h.spells.checked,
+      λ other others spells could. same_reading workloads text plan other tasks others h.spells spells,
+      tt,
+      λ fault has. no_workload_fault text fault plan tasks h.order h.spells h.fit has,
+    )
+workload_answered text (Err (Script given)) h =
+    (tt, tt, tt, λ plan tasks spells could. no_workload_fault text given plan tasks could.order spells could.fit h, h, λ fault has. same_workload_fault text given fault h has)
+workload_answered text (Err NoMemory) h = (tt, tt, tt, λ plan tasks spells could. tt, tt, λ fault has. tt)

@@ -13,5 +13,5 @@ mod PrintedLines
 mod PrintedTasks
 mod PrintedHead
 pub mod Printed
-mod Ranges
+pub mod Ranges
 mod RingTasks

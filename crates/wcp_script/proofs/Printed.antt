@@ -17,7 +17,7 @@ use Rattle.wcp_model.specs.PlanFault.{IsCheckedPlan, IsOutside}
 use Rattle.wcp_model.specs.WorkloadComputation.{IsWithin, CouldBeRead}
 use Rattle.wcp_script.specs.Lines.{Word, line_text, text_of, lines_of}
 use Rattle.wcp_script.specs.WorkloadText.{action_words, task_words, task_line}
-use Rattle.wcp_script.specs.PlanText.{cap_lines, hold_lines, relay_lines, attach_lines, numbered, is_first, is_root_alone, has_one_relay, tree_lines, opening_lines, head_lines, text_of_workload}
+use Rattle.wcp_script.specs.PlanText.{cap_lines, hold_lines, relay_lines, attach_lines, numbered, is_first, is_root_alone, has_one_relay, tree_lines, head_lines, text_of_workload}
 use Rattle.wcp_script.specs.WorkloadLines.{is_task_word}
 use Rattle.wcp_script.specs.Head.{Head, HeadRead, first_head, processes_in, processes_by, head_by, head_of, IsPlanOf}
 use Rattle.wcp_script.specs.TextFault.{workloads, steps_by, Spells}

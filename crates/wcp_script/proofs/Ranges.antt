@@ -30,3 +30,13 @@ length-flat_map-range f size a zero each = omega arith
 length-flat_map-range f size a (suc n) each =
     let rest = length-flat_map-range f size (a + 1) n (λ i low high. each i (omega arith) (omega arith)) in
     omega (arith, length-append (f a) (flat_map f (range_with_len (a + 1) n)), each a (omega arith) (omega arith), rest, mul-suc size n)
+
+-- what stands before each piece is cut off at its end, and stands at its front
+pub flat_map-range_shifted : {X : Type 0} (f block front : ℕ → List X) (i len : ℕ) → ((k : ℕ) → k < i + len → front k ++ f k ≡ block k ++ front (k + 1)) → front i ++ flat_map f (range_with_len i len) ≡ flat_map block (range_with_len i len) ++ front (i + len)
+flat_map-range_shifted f block front i zero each = append-nil (front i) ∙ ap front (omega arith)
+flat_map-range_shifted f block front i (suc len) each =
+    let rest = flat_map f (range_with_len (i + 1) len) in
+    let blocks = flat_map block (range_with_len (i + 1) len) in
+    sym (append_assoc (front i) (f i) rest) ∙ ap (λ first. first ++ rest) (each i (omega arith)) ∙ append_assoc (block i) (front (i + 1)) rest
+    ∙ ap (λ others. block i ++ others) (flat_map-range_shifted f block front (i + 1) len (λ k inside. each k (omega arith)) ∙ ap (λ last. blocks ++ front last) (omega arith))
+    ∙ sym (append_assoc (block i) blocks (front (i + suc len)))

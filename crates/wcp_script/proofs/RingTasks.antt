@@ -12,7 +12,7 @@ use Rattle.wcp_model.specs.declared.workload.Task.{Task}
 use Rattle.wcp_model.specs.WorkloadComputation.{sends, receives, is_task_of, is_receive_from, IsWithin, IsFitOrder, CouldBeRead}
 use Rattle.wcp_model.proofs.SamePlace.{count_by_no, count_by_yes}
 use Rattle.wcp_script.specs.Ring.{before, finds_both, received, sent, ring_turn, ring_round, ring_fault, ring_tasks, ring_length}
-use Rattle.wcp_script.proofs.Ranges.{flat_map-range_each, length-flat_map-range}
+use Rattle.wcp_script.proofs.Ranges.{flat_map-range_each, flat_map-range_shifted, length-flat_map-range}
 
 -- ---- fronts that receive no more than they send
 
@@ -83,44 +83,25 @@ pending n rounds (suc round) zero = sent n rounds round (n - 1)
 abbrev block : ℕ → ℕ → ℕ → ℕ → List Task
 block n rounds round p = pending n rounds round p ++ (received n round p ++ finds_both p)
 
-regroup : (a b c d e : List Task) → a ++ (((b ++ c) ++ d) ++ e) ≡ (a ++ (b ++ c)) ++ (d ++ e)
-regroup a b c d e = simp append_assoc refl
-
-turns_regrouped : (n rounds round p len : ℕ) → pending n rounds round p ++ flat_map (ring_turn n rounds round) (range_with_len p len) ≡ flat_map (block n rounds round) (range_with_len p len) ++ pending n rounds round (p + len)
-turns_regrouped n rounds round p zero = append-nil (pending n rounds round p) ∙ ap (pending n rounds round) (omega arith)
-turns_regrouped n rounds round p (suc len) =
-    let rest = flat_map (ring_turn n rounds round) (range_with_len (p + 1) len) in
-    let blocks = flat_map (block n rounds round) (range_with_len (p + 1) len) in
-    let next : sent n rounds round p ≡ pending n rounds round (p + 1) = ap (pending n rounds round) (sym (add-one p)) in
-    let inner : sent n rounds round p ++ rest ≡ blocks ++ pending n rounds round (p + suc len) =
-    ap (λ front. front ++ rest) next ∙ turns_regrouped n rounds round (p + 1) len ∙ ap (λ last. blocks ++ pending n rounds round last) (omega arith) in
-    regroup (pending n rounds round p) (received n round p) (finds_both p) (sent n rounds round p) rest
-    ∙ ap (λ others. block n rounds round p ++ others) inner
-    ∙ sym (append_assoc (block n rounds round p) blocks (pending n rounds round (p + suc len)))
-
 abbrev block_round : ℕ → ℕ → ℕ → List Task
 block_round n rounds round = flat_map (block n rounds round) (range_with_len 0 n)
 
-next_round : (n rounds round : ℕ) → 1 ≤ n → pending n rounds round (0 + n) ≡ pending n rounds (suc round) 0
+turn_shifted : (n rounds round p : ℕ) → pending n rounds round p ++ ring_turn n rounds round p ≡ block n rounds round p ++ pending n rounds round (p + 1)
+turn_shifted n rounds round p =
+    sym (append_assoc (pending n rounds round p) (received n round p ++ finds_both p) (sent n rounds round p))
+    ∙ ap (λ k. block n rounds round p ++ pending n rounds round k) (sym (add-one p))
+
+next_round : (n rounds round : ℕ) → 1 ≤ n → pending n rounds round (0 + n) ≡ pending n rounds (round + 1) 0
 next_round zero rounds round some = absurd (omega arith)
 next_round (suc n) rounds round some =
     let here : 0 + suc n ≡ suc n = omega arith in
-    let same : suc n - 1 ≡ n = omega arith in
-    ap (pending (suc n) rounds round) here ∙ ap (sent (suc n) rounds round) (sym same)
+    let same : n ≡ suc n - 1 = omega arith in
+    ap (pending (suc n) rounds round) here ∙ ap (sent (suc n) rounds round) same ∙ ap (λ r. pending (suc n) rounds r 0) (sym (add-one round))
 
-rounds_regrouped : (n rounds round len : ℕ) → 1 ≤ n → pending n rounds round 0 ++ flat_map (ring_round n rounds) (range_with_len round len) ≡ flat_map (block_round n rounds) (range_with_len round len) ++ pending n rounds (round + len) 0
-rounds_regrouped n rounds round zero some = append-nil (pending n rounds round 0) ∙ ap (λ r. pending n rounds r 0) (omega arith)
-rounds_regrouped n rounds round (suc len) some =
-    let rest = flat_map (ring_round n rounds) (range_with_len (round + 1) len) in
-    let blocks = flat_map (block_round n rounds) (range_with_len (round + 1) len) in
-    let next : pending n rounds round (0 + n) ≡ pending n rounds (round + 1) 0 = next_round n rounds round some ∙ ap (λ r. pending n rounds r 0) (sym (add-one round)) in
-    let inner : pending n rounds (round + 1) 0 ++ rest ≡ blocks ++ pending n rounds (round + suc len) 0 = rounds_regrouped n rounds (round + 1) len some ∙ ap (λ last. blocks ++ pending n rounds last 0) (omega arith) in
-    sym (append_assoc (pending n rounds round 0) (ring_round n rounds round) rest)
-    ∙ ap (λ front. front ++ rest) (turns_regrouped n rounds round 0 n)
-    ∙ append_assoc (block_round n rounds round) (pending n rounds round (0 + n)) rest
-    ∙ ap (λ front. block_round n rounds round ++ (front ++ rest)) next
-    ∙ ap (λ others. block_round n rounds round ++ others) inner
-    ∙ sym (append_assoc (block_round n rounds round) blocks (pending n rounds (round + suc len) 0))
+round_shifted : (n rounds round : ℕ) → 1 ≤ n → pending n rounds round 0 ++ ring_round n rounds round ≡ block_round n rounds round ++ pending n rounds (round + 1) 0
+round_shifted n rounds round some =
+    flat_map-range_shifted (ring_turn n rounds round) (block n rounds round) (pending n rounds round) 0 n (λ p inside. turn_shifted n rounds round p)
+    ∙ ap (λ last. block_round n rounds round ++ last) (next_round n rounds round some)
 
 nothing_left : (n rounds : ℕ) → 1 ≤ n → pending n rounds rounds 0 ≡ []
 nothing_left n zero some = refl
@@ -129,8 +110,8 @@ nothing_left n (suc rounds) some = rw (eq-eqb (rounds + 1) (suc rounds) (omega a
 rounds_are : (n rounds : ℕ) → 1 ≤ n → flat_map (ring_round n rounds) (range_with_len 0 rounds) ≡ flat_map (block_round n rounds) (range_with_len 0 rounds)
 rounds_are n rounds some =
     let blocks = flat_map (block_round n rounds) (range_with_len 0 rounds) in
-    let all : 0 + rounds ≡ rounds = omega arith in
-    rounds_regrouped n rounds 0 rounds some ∙ ap (λ last. blocks ++ pending n rounds last 0) all ∙ ap (λ last. blocks ++ last) (nothing_left n rounds some) ∙ append-nil blocks
+    let none : pending n rounds (0 + rounds) 0 ≡ [] = ap (λ r. pending n rounds r 0) (omega arith) ∙ nothing_left n rounds some in
+    flat_map-range_shifted (ring_round n rounds) (block_round n rounds) (λ r. pending n rounds r 0) 0 rounds (λ r early. round_shifted n rounds r some) ∙ ap (λ last. blocks ++ last) none ∙ append-nil blocks
 
 -- a block is a message that is passed, and what its receiver finds; but for the first
 block_is : (n rounds round p : ℕ) → 2 ≤ n → round < rounds → p < n → block n rounds round p ≡ cond (eqb round 0 && eqb p 0) (finds_both p) (passed (before n p) p ++ finds_both p)

@@ -1,13 +1,10 @@
 -- Plans with the same lists have the same faults.
-use Rattle.std.proofs.Common.{◌≡◌, ℕ, ◌<◌, ◌≤◌, List, length, take, Option, Some, sym, ap, subst, ◌∙◌, inl, inr, ⊎_elim}
-use Rattle.std.specs.Prelude.{◌≢◌, ◌⊎◌, Any, Contains, MatchOption}
+use Rattle.std.proofs.Common.{◌≡◌, ◌≤◌, sym, subst, ◌∙◌, inl, inr, ⊎_elim}
 use Rattle.std.proofs.lemmas.Bool.{cases_lt}
-use Rattle.wcp_model.specs.declared.plan.Parent.{Parent}
-use Rattle.wcp_model.specs.declared.plan.Parent.TheVariants.{Relay}
 use Rattle.wcp_model.specs.declared.plan.Plan.{Plan}
 use Rattle.wcp_model.specs.declared.plan.PlanFault.{PlanFault}
 use Rattle.wcp_model.specs.declared.plan.PlanFault.TheVariants as fault
-use Rattle.wcp_model.specs.PlanFault.{HasFault, IsOutside, HasWrongParent, IsPath, IsCheckedPlan}
+use Rattle.wcp_model.specs.PlanFault.{HasFault, IsCheckedPlan}
 use Rattle.wcp_model.specs.Tree.{IsSamePlan}
 use Rattle.wcp_script.specs.Head.{HeadRead, IsPlanOf}
 

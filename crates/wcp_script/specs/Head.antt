@@ -123,11 +123,11 @@ head_words head words = Err kind.Line
 unfoldable pub head_line : Head → TextLine → Result HeadLine FaultKind
 head_line head line = if line.ended then head_words head (words_of line.bytes) else Err kind.Line
 
--- A head allows one line for each capacity, within its limits, and one for each of at most 15 relays; and the processes
--- that its lines attach rise and are below n.
+-- A head allows one line for each capacity, and one for each of at most 15 relays; and the processes that its lines
+-- attach rise and are below n.
 abbrev pub IsAllowed : Head → HeadLine → Type 0
-IsAllowed head (Cap cap) = (head.cap ≡ None) × (1 ≤ cap) × (cap ≤ most_cap)
-IsAllowed head (Hold hold) = (head.hold ≡ None) × (1 ≤ hold) × (hold ≤ most_hold)
+IsAllowed head (Cap cap) = head.cap ≡ None
+IsAllowed head (Hold hold) = head.hold ≡ None
 IsAllowed head (Relay parent) = length head.parents < most_relays
 IsAllowed head (Attach p relay) = (is_after head.last_attached p ≡ true) × (p < head.n)
 

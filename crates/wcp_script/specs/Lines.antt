@@ -9,11 +9,18 @@ use Rattle.std.specs.Fmt.{decimal}
 abbrev pub Word : Type 0
 Word = List ℕ
 
+-- The bytes between the words of a line and after each line: a space and a line feed (LF).
+abbrev pub space : ℕ
+space = 32
+
+abbrev pub line_feed : ℕ
+line_feed = 10
+
 -- The words of a line stand with a space between each two, and a LF ends the line.
 abbrev pub line_text : List Word → List ℕ
-line_text [] = 10 ∷ []
-line_text (word ∷ []) = word ++ 10 ∷ []
-line_text (word ∷ next ∷ words) = word ++ 32 ∷ line_text (next ∷ words)
+line_text [] = line_feed ∷ []
+line_text (word ∷ []) = word ++ line_feed ∷ []
+line_text (word ∷ next ∷ words) = word ++ space ∷ line_text (next ∷ words)
 
 -- The lines of a text stand one after the other.
 abbrev pub text_of : List (List Word) → List ℕ
@@ -33,11 +40,11 @@ lines_among (part ∷ next ∷ parts) = record { bytes = part; ended = true } �
 
 -- The lines of a text.
 unfoldable pub lines_of : List ℕ → List TextLine
-lines_of text = lines_among (slice_split (λ byte. byte == 10) text)
+lines_of text = lines_among (slice_split (λ byte. byte == line_feed) text)
 
 -- The words of a line: it's cut at each space, so that two spaces have an empty word between them.
 unfoldable pub words_of : List ℕ → List (List ℕ)
-words_of line = slice_split (λ byte. byte == 32) line
+words_of line = slice_split (λ byte. byte == space) line
 
 -- The number that a word is: the one below 2 ^ 32 whose decimal text it is, so without leading zeros.
 unfoldable pub number_spelled : List ℕ → Option ℕ

@@ -53,6 +53,7 @@ fn push_fault(tasks: &mut Vec<Task>, n: u32, fault: bool) -> Result<(), AllocErr
     Ok(())
 }
 
+#[tactic(auto, using(crate::proofs::Ranges::pieces_more))]
 fn push_rounds(tasks: &mut Vec<Task>, n: u32, rounds: u32) -> Result<(), AllocError>
     requires several { 2 ≤ n }
     requires few { n ≤ most_processes }
@@ -66,6 +67,7 @@ fn push_rounds(tasks: &mut Vec<Task>, n: u32, rounds: u32) -> Result<(), AllocEr
     Ok(())
 }
 
+#[tactic(auto, using(crate::proofs::Ranges::pieces_more))]
 fn push_round(tasks: &mut Vec<Task>, n: u32, rounds: u32, round: u32) -> Result<(), AllocError>
     requires several { 2 ≤ n }
     requires few { n ≤ most_processes }

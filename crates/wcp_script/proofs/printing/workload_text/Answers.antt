@@ -1,7 +1,7 @@
 use Rattle.std.proofs.Common.{◌≡◌, ◌++◌, rules, subst, sym, ◌∙◌, append_assoc}
 use Rattle.std.specs.List.{flat_map}
 use Rattle.wcp_script.specs.Lines.{text_of}
-use Rattle.wcp_script.specs.PlanText.{head_lines, text_of_workload}
+use Rattle.wcp_script.specs.PlanText.{head_lines}
 use Rattle.wcp_script.specs.TextFault.{workloads, Spells}
 use Rattle.wcp_script.specs.WorkloadText.{task_line}
 use Rattle.wcp_script.proofs.Printed.{text_of-head_and_tasks, text_spells}

@@ -1,12 +1,7 @@
-use Rattle.wcp_script.proofs.Answered.{workload_is_spelled, workload_could_be_read, workload_is_checked, workload_is_read_as, workload_has_fault, workload_is_refused_for}
+use Rattle.wcp_script.proofs.Answered.{workload_answered}
 use Rattle.wcp_script.proofs.workload.read_workload.Goals as goal
 
 pub returns : goal.returns
-returns c = record {
-  spelled = workload_is_spelled _ _ c.read.ensures;
-  could_be_read = workload_could_be_read _ _ c.read.ensures;
-  checked = workload_is_checked _ _ c.read.ensures;
-  only = workload_is_read_as _ _ c.read.ensures;
-  fault = workload_has_fault _ _ c.read.ensures;
-  refused = workload_is_refused_for _ _ c.read.ensures;
-}
+returns c =
+    let all = workload_answered _ _ c.read.ensures in
+    record { spelled = all.0; could_be_read = all.1; checked = all.2; only = all.3; fault = all.4; refused = all.5 }
