@@ -19,8 +19,8 @@ all_served (suc n) = all_served n
 has_one : (n : ℕ) (plan : Plan) → IsRingPlan n plan → has_one_relay plan ≡ true
 has_one n plan ring =
     let entries : List (Option ℕ) = replicate n (Some 0) in
-    ap (λ parents. is_root_alone parents && (length plan.attach.items == plan.n && list_all is_first plan.attach.items)) ring.parents
-    ∙ ap (λ attach. length attach == plan.n && list_all is_first attach) ring.attach
+    ap (λ parents. is_root_alone parents && (length plan.attach.items == plan.n && list_all is_first plan.attach.items)) ring.tree
+    ∙ ap (λ attach. length attach == plan.n && list_all is_first attach) ring.attached
     ∙ ap (λ m. length entries == m && list_all is_first entries) ring.processes
     ∙ ap (λ l. l == n && list_all is_first entries) (length-replicate {A = Option ℕ} n (Some 0))
     ∙ ap (λ equal. equal && list_all is_first entries) (eq-eqb n n refl)
@@ -33,8 +33,8 @@ tree_none plan one = ap (λ is. cond is [] (numbered relay_lines 0 plan.parents.
 short_head : (n : ℕ) (plan : Plan) → IsRingPlan n plan → head_lines plan ≡ opening_lines n
 short_head n plan ring =
     ap (λ k. opening_lines k ++ (cap_lines plan.cap ++ (hold_lines plan.hold ++ tree_lines plan))) ring.processes
-    ∙ ap (λ cap. opening_lines n ++ (cap_lines cap ++ (hold_lines plan.hold ++ tree_lines plan))) ring.cap
-    ∙ ap (λ hold. opening_lines n ++ (hold_lines hold ++ tree_lines plan)) ring.hold
+    ∙ ap (λ cap. opening_lines n ++ (cap_lines cap ++ (hold_lines plan.hold ++ tree_lines plan))) ring.links
+    ∙ ap (λ hold. opening_lines n ++ (hold_lines hold ++ tree_lines plan)) ring.holds
     ∙ ap (λ tree. opening_lines n ++ tree) (tree_none plan (has_one n plan ring))
     ∙ append-nil (opening_lines n)
 

@@ -6,6 +6,7 @@ use Rattle.wcp_clock.specs.Limits.{most_processes, most_cap, most_hold, most_rel
 use Rattle.wcp_model.specs.declared.plan.Parent.{Parent}
 use Rattle.wcp_model.specs.declared.plan.Parent.TheVariants as parent
 use Rattle.wcp_model.specs.declared.plan.Plan.{Plan}
+use Rattle.wcp_model.specs.Tree.{plain_parents, plain_attach}
 use Rattle.wcp_script.specs.declared.fault.FaultKind.{FaultKind}
 use Rattle.wcp_script.specs.declared.fault.FaultKind.TheVariants as kind
 use Rattle.wcp_script.specs.declared.fault.ScriptFault.{ScriptFault}
@@ -194,5 +195,5 @@ pub record IsPlanOf (head : Head) (plan : Plan) : Type 0 where
   pub n : plan.n ≡ head.n
   pub cap : plan.cap ≡ unwrap_or head.cap plain_cap
   pub hold : plan.hold ≡ unwrap_or head.hold plain_hold
-  pub parents : plan.parents.items ≡ (if has_no_relay head then parent.Root ∷ [] else head.parents)
-  pub attach : plan.attach.items ≡ (if has_no_relay head then replicate head.n (Some 0) else head.attach)
+  pub parents : plan.parents.items ≡ (if has_no_relay head then plain_parents else head.parents)
+  pub attach : plan.attach.items ≡ (if has_no_relay head then plain_attach head.n else head.attach)

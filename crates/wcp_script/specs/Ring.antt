@@ -1,10 +1,10 @@
 -- The workload of a ring: round after round, a message goes once around all processes.
-use Rattle.std.specs.Prelude.{◌≡◌, ◌==◌, ◌&&◌, ℕ, ◌+◌, ◌-◌, ◌*◌, Bool, true, false, List, [], ◌∷◌, ◌++◌, replicate, Some, if◌then◌else◌}
+use Rattle.std.specs.Prelude.{◌≡◌, ◌==◌, ◌&&◌, ℕ, ◌+◌, ◌-◌, ◌*◌, Bool, true, false, List, [], ◌∷◌, ◌++◌, if◌then◌else◌}
 use Rattle.std.specs.List.{flat_map, range_with_len}
-use Rattle.wcp_model.specs.declared.plan.Parent.TheVariants.{Root}
 use Rattle.wcp_model.specs.declared.plan.Plan.{Plan}
 use Rattle.wcp_model.specs.declared.workload.Action.TheVariants.{Observe, Send, Recv}
 use Rattle.wcp_model.specs.declared.workload.Task.{Task}
+use Rattle.wcp_model.specs.Tree.{IsPlainPlan}
 use Rattle.wcp_script.specs.Capacities.{plain_cap, plain_hold}
 
 -- A ring has at most 1,000 rounds.
@@ -55,9 +55,5 @@ ring_length n rounds true = 4 * n * rounds - 2 + 2 * (n - 1)
 ring_length n rounds false = 4 * n * rounds - 2
 
 -- The plan of a ring: one relay, under the root, serves every process, and the capacities are the plain ones.
-pub record IsRingPlan (n : ℕ) (plan : Plan) : Type 0 where
-  pub processes : plan.n ≡ n
-  pub cap : plan.cap ≡ plain_cap
-  pub hold : plan.hold ≡ plain_hold
-  pub parents : plan.parents.items ≡ Root ∷ []
-  pub attach : plan.attach.items ≡ replicate n (Some 0)
+abbrev pub IsRingPlan : ℕ → Plan → Type 0
+IsRingPlan n = IsPlainPlan n plain_cap plain_hold

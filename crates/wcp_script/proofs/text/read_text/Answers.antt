@@ -11,7 +11,7 @@ read_steps-requires-clause-few g c = omega (arith, (processes_of_checked c.in_ok
 
 pub returns-in-Err-clause-exact : goal.returns-in-Err-clause-exact
 returns-in-Err-clause-exact g c =
-    OfPlan (seen_read c.in_ok-head.field-0) c.in_ok-plan.plan c.in-Err.field-0 c.in_ok-head.ensures.exact c.in_ok-plan.ensures ((c.in-Err.ensures.err c.in-Err.field-0).0 refl).applies refl
+    OfPlan (seen_read c.in_ok-head.field-0) c.in_ok-plan.plan c.in-Err.field-0 c.in_ok-head.ensures.exact c.in_ok-plan.ensures ((c.in-Err.ensures.err c.in-Err.field-0).0 refl).holds refl
 
 pub returns-in_err-steps-clause-exact : goal.returns-in_err-steps-clause-exact
 returns-in_err-steps-clause-exact g c =
