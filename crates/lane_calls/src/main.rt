@@ -4,7 +4,7 @@
 #![tactic(auto)]
 
 ghost use Rattle.std.specs.Prelude.{◌≡◌, false};
-ghost use Rattle.wcp_lane.specs.Notes.{place_of, is_close};
+ghost use Rattle.wcp_clock.specs.Notes.{place_of, is_close};
 
 mod bounded;
 mod lanes;

@@ -1,3 +1,4 @@
 pub mod Limits
 pub mod Merge
+pub mod Notes
 pub mod Padding

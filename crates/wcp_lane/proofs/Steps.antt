@@ -13,7 +13,7 @@ use lib.ListN.{get_elem?}
 use Rattle.atomic_table.proofs.Lists.{at_set, at_last, at_longer, set_here, set_else}
 use Rattle.crossbeam_channel.specs.Fifo.{Pushes, Pops, Forks, Merges, Learns}
 use Rattle.wcp_clock.specs.Limits.{most_processes}
-use Rattle.wcp_model.specs.LaneRule.{IsNext, IsRun}
+use Rattle.wcp_model.specs.LaneRule.{IsNext, AreInSequence}
 use Rattle.wcp_lane.specs.declared.passes.Hand.{Hand}
 use Rattle.wcp_lane.specs.declared.passes.Home.{Home}
 use Rattle.wcp_lane.specs.Message.{items_of, items_from}
@@ -81,8 +81,8 @@ module _ {M : Type 0} where
 
 module _ {I : Type 0} (place : I → ℕ) (is_last : I → Bool) where
   -- a run with its next item is a run
-  IsRun-push : (xs : List I) (x : I) → IsRun place is_last xs → IsNext place is_last xs x → IsRun place is_last (xs ++ x ∷ [])
-  IsRun-push xs x run next before item behind e =
+  AreInSequence-push : (xs : List I) (x : I) → AreInSequence place is_last xs → IsNext place is_last xs x → AreInSequence place is_last (xs ++ x ∷ [])
+  AreInSequence-push xs x run next before item behind e =
       ⊎_elim
       (λ (old : (rest : List I) × (xs ≡ before ++ item ∷ rest)). run before item old.0 old.1)
       (λ (new : (xs ≡ before) × (x ≡ item)). subst (λ (y : List I × I). IsNext place is_last y.0 y.1) (λ i. (new.0 i, new.1 i)) next)
@@ -104,7 +104,7 @@ module _ {M : Type 0} (origin place : M → ℕ) (is_last : M → Bool) where
         seat = λ p. 0;
         taken = [];
         put = λ p. [];
-        rule = record { numbered = λ k d none. absurd (omega arith); whole = λ p below. refl; runs = λ p below before item behind e. absurd (not_empty before item behind e) };
+        rule = record { numbered = λ k d none. absurd (omega arith); whole = λ p below. refl; in_sequence = λ p below before item behind e. absurd (not_empty before item behind e) };
         seated = λ p below. (taker all_numbers [], refl, record { before = []; own = home all_numbers []; behind = []; is = refl; member = all_numbers-contains p below });
         each = λ j u e. let it = only_end (taker all_numbers []) j u e in
             subst (λ (y : ℕ × Hand M). Fits origin 0 (λ p. 0) [] (λ p. []) y.0 y.1) (λ i. (sym it.0 i, it.1 i))
@@ -134,12 +134,12 @@ module _ {M : Type 0} (origin place : M → ℕ) (is_last : M → Bool) where
             numbered = subst (All (λ x. origin x < most_processes)) (sym (flat_map-append items_of items (m ∷ [])))
                 (All-append (λ x. origin x < most_processes) (flat_map items_of items) (m ∷ []) h.rule.numbered (only_numbered m within));
             whole = λ q below. ap (λ xs. items_from origin q h.taken ++ xs) (items_from-append origin q items (m ∷ [])) ∙ sym (append_assoc (items_from origin q h.taken) (items_from origin q items) (items_from origin q (m ∷ []))) ∙ ap (λ xs. xs ++ items_from origin q (m ∷ [])) (h.rule.whole q below);
-            runs = λ q below. ⊎_elim
+            in_sequence = λ q below. ⊎_elim
                 (λ (here : q ≡ origin m).
                 let as_own : more q ≡ h.put q ++ m ∷ [] = ap (λ xs. h.put q ++ xs) (items_from-own origin q m (sym here)) in
                 let all_put : items_from origin (origin m) put ≡ h.put q = (standing (origin m) within own).1 ∙ ap h.put (sym here) in
-                subst (IsRun place is_last) (sym as_own) (IsRun-push place is_last (h.put q) m (h.rule.runs q below) (subst (λ xs. IsNext place is_last xs m) all_put next)))
-                (λ (apart : q ≢ origin m). subst (IsRun place is_last) (sym (same q apart)) (h.rule.runs q below))
+                subst (AreInSequence place is_last) (sym as_own) (AreInSequence-push place is_last (h.put q) m (h.rule.in_sequence q below) (subst (λ xs. IsNext place is_last xs m) all_put next)))
+                (λ (apart : q ≢ origin m). subst (AreInSequence place is_last) (sym (same q apart)) (h.rule.in_sequence q below))
                 (either_number q (origin m));
           };
           seated = λ q below. IsSeated-set ends pass (putter numbers put) w at q
@@ -192,7 +192,7 @@ module _ {M : Type 0} (origin place : M → ℕ) (is_last : M → Bool) where
                 ∙ append_assoc (items_from origin q h.taken) (items_from origin q (m ∷ [])) (items_from origin q items)
                 ∙ ap (λ xs. items_from origin q h.taken ++ xs) (sym (items_from-append origin q (m ∷ []) items))
                 ∙ h.rule.whole q below;
-            runs = h.rule.runs;
+            in_sequence = h.rule.in_sequence;
           };
           seated = λ q below. IsSeated-set ends pass v w at q (λ s. record { before = s.before; own = s.own; behind = s.behind; is = s.is; member = s.member }) (h.seat q) (h.seated q below);
           each = all_set (Fits origin h.reader h.seat (h.taken ++ m ∷ []) h.put) ends pass w
@@ -210,7 +210,7 @@ module _ {M : Type 0} (origin place : M → ℕ) (is_last : M → Bool) where
                 owned = false_unless (sets.contains unowned p) (λ member.
                     let nothing : [] ≡ h.put p = (mine.stands [] (home unowned []) [] (ap (λ (x : Hand M). x.home) is) p within member).1 in
                     not_empty (items_from origin p h.taken) m (items_from origin p items) (nothing ∙ whole));
-                next = subst (λ xs. IsNext place is_last (items_from origin p xs) m) as_taken (h.rule.runs p within (items_from origin p h.taken) m (items_from origin p items) whole);
+                next = subst (λ xs. IsNext place is_last (items_from origin p xs) m) as_taken (h.rule.in_sequence p within (items_from origin p h.taken) m (items_from origin p items) whole);
               },
         ),
       )

@@ -1,6 +1,5 @@
 pub mod Ends
 pub mod Message
-pub mod Notes
 pub mod Numbers
 pub mod Owners
 pub mod Passes

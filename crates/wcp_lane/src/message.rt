@@ -25,7 +25,7 @@ pub trait Origin: Drop {
 }
 
 impl Origin for Item {
-    ghost use Rattle.wcp_lane.specs.Notes.{place_of, is_close};
+    ghost use Rattle.wcp_clock.specs.Notes.{place_of, is_close};
 
     ghost origin = { λ item. item.from };
 

@@ -9,7 +9,8 @@ use Rattle.wcp_clock.specs.declared.note.Note.TheVariants as note
 use Rattle.wcp_model.specs.Computation.{Computation}
 use Rattle.wcp_model.specs.Emission.{snapshots_from, is_closed, AreEmissions}
 use Rattle.wcp_model.specs.ProbeLog.{Call, Observed, Sent, Received, Closed, ProbeState, after_call, state_of_log}
-use Rattle.wcp_model.specs.Report.{snapshot_clocks, is_close, place_of, IsNextNote, AreInTurn}
+use Rattle.wcp_clock.specs.Notes.{is_close, place_of}
+use Rattle.wcp_model.specs.Report.{snapshot_clocks, IsNextNote, AreInTurn}
 
 pub snapshot_clocks-append : (notes more : List Note) → snapshot_clocks (notes ++ more) ≡ snapshot_clocks notes ++ snapshot_clocks more
 snapshot_clocks-append [] more = refl

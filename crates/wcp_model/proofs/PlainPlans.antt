@@ -1,11 +1,12 @@
-use Rattle.std.proofs.Common.{◌≡◌, ℕ, zero, suc, ◌≤◌, List, [], ◌∷◌, Some, length, replicate, slice_get, subst, ⊎_elim, arith}
-use Rattle.std.proofs.lemmas.List.{length-replicate, get_or-replicate, take_all}
+use Rattle.std.proofs.Common.{◌≡◌, ℕ, zero, suc, ◌≤◌, List, [], ◌∷◌, Some, length, replicate, slice_get, true, refl, ap, subst, ⊎_elim, arith}
+use Rattle.std.specs.List.{list_any}
+use Rattle.std.proofs.lemmas.List.{length-replicate, get_or-replicate}
 use Rattle.wcp_model.specs.declared.plan.Parent.{Parent}
 use Rattle.wcp_model.specs.declared.plan.Parent.TheVariants.{Root, Relay}
 use Rattle.wcp_model.specs.declared.plan.Plan.{Plan}
 use Rattle.wcp_model.specs.declared.plan.PlanFault.TheVariants as fault
 use Rattle.wcp_clock.specs.Limits.{most_processes, most_cap, most_hold}
-use Rattle.wcp_model.specs.Tree.{IsPlainPlan}
+use Rattle.wcp_model.specs.Tree.{is_number, plain_attach, IsPlainPlan}
 use Rattle.wcp_model.specs.PlanFault.{IsOutside, IsPath, IsCheckedPlan}
 
 inside : (least most x : ℕ) → least ≤ x → x ≤ most → ¬ IsOutside least most x
@@ -22,6 +23,11 @@ path_under_root [] path = absurd path
 path_under_root (relay ∷ []) path = omega arith
 path_under_root (relay ∷ above ∷ rest) path = absurd (under_root relay above path.0)
 
+-- which serves processes, if there are any
+plain_leaf : (n : ℕ) → 1 ≤ n → list_any (is_number 0) (plain_attach n) ≡ true
+plain_leaf zero some = absurd (omega arith)
+plain_leaf (suc n) some = refl
+
 -- a plain plan has no fault within the limits
 pub plain_is_checked : (n cap hold : ℕ) (plan : Plan) → IsPlainPlan n cap hold plan → 1 ≤ n → n ≤ most_processes → 1 ≤ cap → cap ≤ most_cap → 1 ≤ hold → hold ≤ most_hold → IsCheckedPlan plan
 plain_is_checked n cap hold plan is some few cap_low cap_high hold_low hold_high = none
@@ -33,5 +39,7 @@ plain_is_checked n cap hold plan is some few cap_low cap_high hold_low hold_high
     none fault.Parent = λ has. grind (arith, under_root, is.tree)
     none fault.Depth = λ has. omega (arith, has.2, path_under_root has.0 (subst (λ (tree : List Parent). IsPath tree has.0) is.tree has.1))
     none fault.Mixed = λ has. grind (arith, is.tree)
-    none fault.Childless = λ has. grind (arith, length-replicate, get_or-replicate, take_all, is.tree, is.attached, is.processes)
+    none fault.Childless = λ has.
+        let first : has.0 ≡ 0 = omega (arith, has.1, ap length is.tree) in
+        has.2 (rw (is.attached, first) (plain_leaf n some))
     none fault.Unattached = λ has. grind (arith, length-replicate, get_or-replicate, is.tree, is.attached, is.processes)

@@ -4,7 +4,8 @@ use Rattle.wcp_model.specs.declared.state.State.{State}
 use Rattle.wcp_model.specs.declared.step.Step.{Step}
 use Rattle.wcp_model.specs.declared.step.Step.TheVariants.{Observe, Send, Recv}
 
--- A computation is the list of the observe, send, receive and close steps that were accepted, in order (Lamport 1978: events).
+-- A computation is the list of the observe, send, receive and close steps that were accepted, in order (Lamport 1978:
+-- events).
 abbrev pub Computation : Type 0
 Computation = List Step
 
@@ -30,7 +31,8 @@ interval_at c p place = communications (take place c) p
 abbrev pub message_at : Computation → ℕ → ℕ
 message_at c place = count_by is_send (take place c)
 
--- A local state is a process in one of its intervals; the states of a process are its intervals from 0 to the number of its communication events (Garg and Waldecker 1994).
+-- A local state is a process in one of its intervals; the states of a process are its intervals from 0 to the number
+-- of its communication events (Garg and Waldecker 1994).
 abbrev pub IsState : Computation → State → Type 0
 IsState c s = s.interval ≤ communications c s.process
 

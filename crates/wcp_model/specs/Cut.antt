@@ -11,7 +11,8 @@ member cut p = record { process = p; interval = slice_index cut p }
 abbrev pub IsConsistent : ℕ → Computation → List ℕ → Type 0
 IsConsistent n c cut = (p q : ℕ) → p < n → q < n → p ≢ q → HappenedBefore c (member cut p) (member cut q) → ⊥
 
--- A cut is satisfying if it is consistent and each member is true: the weak conjunctive predicate (Garg and Waldecker 1994).
+-- A cut is satisfying if it is consistent and each member is true: the weak conjunctive predicate (Garg and Waldecker
+-- 1994).
 pub record IsSatisfyingCut (n : ℕ) (c : Computation) (cut : List ℕ) : Type 0 where
   pub members : length cut ≡ n
   pub consistent : IsConsistent n c cut
@@ -34,8 +35,11 @@ minimum (k ∷ ks) [] = []
 
 -- The minimum law: satisfying cuts are closed under the minimum (Garg and Waldecker 1994).
 abbrev pub MinimumLaw : Type 0
-MinimumLaw = (n : ℕ) (c : Computation) (one other : List ℕ) → IsSatisfyingCut n c one → IsSatisfyingCut n c other → IsSatisfyingCut n c (minimum one other)
+MinimumLaw =
+    (n : ℕ) (c : Computation) (one other : List ℕ) → IsSatisfyingCut n c one → IsSatisfyingCut n c other →
+    IsSatisfyingCut n c (minimum one other)
 
 -- Where there is a satisfying cut, there is a least one.
 abbrev pub LeastCutLaw : Type 0
-LeastCutLaw = (n : ℕ) (c : Computation) (cut : List ℕ) → IsSatisfyingCut n c cut → (least : List ℕ) × IsLeastCut n c least
+LeastCutLaw =
+    (n : ℕ) (c : Computation) (cut : List ℕ) → IsSatisfyingCut n c cut → (least : List ℕ) × IsLeastCut n c least

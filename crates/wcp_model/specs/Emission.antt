@@ -20,8 +20,8 @@ abbrev pub snapshots_from : ℕ → List (List ℕ) → List Note
 snapshots_from number [] = []
 snapshots_from number (clock ∷ clocks) = note.Snap number clock ∷ snapshots_from (number + 1) clocks
 
--- What a process emits: a snapshot of each of its true states, by rising interval, with the state's clock, and once it is
--- closed a mark that counts them (Garg and Waldecker 1994: the messages to the checker process).
+-- What a process emits: a snapshot of each of its true states, by rising interval, with the state's clock, and once
+-- it is closed a mark that counts them (Garg and Waldecker 1994: the messages to the checker process).
 pub record AreEmissions (n : ℕ) (c : Computation) (p : ℕ) (notes : List Note) : Type 0 where
   pub intervals : List ℕ
   pub true_states : AreTrueStates c p intervals

@@ -12,19 +12,19 @@ pub record IsNext {I : Type 0} (place : I → ℕ) (is_last : I → Bool) (befor
   pub numbered : place item ≡ length before
   pub unended : All (λ earlier. is_last earlier ≡ false) before
 
--- In a run each item is the next one after those before it: their places are 0, 1, 2, .., and nothing follows a last
--- one.
-abbrev pub IsRun : {I : Type 0} → (I → ℕ) → (I → Bool) → List I → Type 0
-IsRun {I} place is_last items =
+-- Items are in sequence if each is the next one after those before it: their places are 0, 1, 2, .., and nothing
+-- follows a last one.
+abbrev pub AreInSequence : {I : Type 0} → (I → ℕ) → (I → Bool) → List I → Type 0
+AreInSequence {I} place is_last items =
     (before : List I) (item : I) (behind : List I) → items ≡ before ++ item ∷ behind → IsNext place is_last before item
 
--- The lane rule, over the messages that the taker took, the messages in the lane, oldest first, and the items put of each
--- number: each item in the lane is of a number below 16, and the items taken of a number, followed by those of it in the
--- lane, are the items put of it, which are a run.
+-- The lane rule, over the messages that the taker took, the messages in the lane, oldest first, and the items put of
+-- each number: each item in the lane is of a number below 16, and the items taken of a number, followed by those of
+-- it in the lane, are the items put of it, which are in sequence.
 pub record LaneRule
     {M I : Type 0} (items_of : M → List I) (origin place : I → ℕ) (is_last : I → Bool)
     (taken within : List M) (put : ℕ → List I) : Type 0 where
   pub numbered : All (λ item. origin item < most_processes) (flat_map items_of within)
   pub whole : (p : ℕ) → p < most_processes
       → items_from items_of origin p taken ++ items_from items_of origin p within ≡ put p
-  pub runs : (p : ℕ) → p < most_processes → IsRun place is_last (put p)
+  pub in_sequence : (p : ℕ) → p < most_processes → AreInSequence place is_last (put p)

@@ -35,4 +35,5 @@ pub record IsOutcomeOf (n : ℕ) (c : Computation) (outcome : Outcome) : Type 0 
 
 -- The outcome of a workload: that of the computation of any fit order.
 abbrev pub IsWorkloadOutcome : ℕ → List Task → Outcome → Type 0
-IsWorkloadOutcome n tasks outcome = (order : List Task) → IsFitOrder tasks order → IsOutcomeOf n (computation_of n order) outcome
+IsWorkloadOutcome n tasks outcome =
+    (order : List Task) → IsFitOrder tasks order → IsOutcomeOf n (computation_of n order) outcome

@@ -15,7 +15,8 @@ pub data Call : Type 0 where
   Received : (stamp : List ℕ) → Call
   Closed : Call
 
--- What a probe has come to: its clock, whether this interval's snapshot was emitted, whether it is closed, and its emissions.
+-- What a probe has come to: its clock, whether this interval's snapshot was emitted, whether it is closed, and its
+-- emissions.
 pub record ProbeState : Type 0 where
   pub clock : List ℕ
   pub flag : Bool
@@ -23,20 +24,23 @@ pub record ProbeState : Type 0 where
   pub snapshots : ℕ
   pub notes : List Note
 
--- A send counts an event; a receive counts one and takes the greater of each other component (Fidge 1988; Mattern 1989).
--- The first true observation of an interval emits a snapshot, and each send and receive begins an interval (Garg and Waldecker 1994).
+-- A send counts an event; a receive counts one and takes the greater of each other component (Fidge 1988; Mattern
+-- 1989). The first true observation of an interval emits a snapshot, and each send and receive begins an interval
+-- (Garg and Waldecker 1994).
 abbrev pub after_call : ℕ → ProbeState → Call → ProbeState
 after_call p s (Observed false) = s
 after_call p s (Observed true) =
     if s.flag then s
     else record s { flag = true; snapshots = s.snapshots + 1; notes = s.notes ++ note.Snap s.snapshots s.clock ∷ [] }
 after_call p s Sent = record s { clock = slice_set s.clock p (slice_index s.clock p + 1); flag = false }
-after_call p s (Received stamp) = record s { clock = slice_set (merged s.clock stamp) p (slice_index s.clock p + 1); flag = false }
+after_call p s (Received stamp) =
+    record s { clock = slice_set (merged s.clock stamp) p (slice_index s.clock p + 1); flag = false }
 after_call p s Closed = record s { closed = true; notes = s.notes ++ note.Close s.snapshots ∷ [] }
 
 -- The probe log: what the probe of process p of n has come to after these calls.
 abbrev pub state_of_log : ℕ → ℕ → List Call → ProbeState
-state_of_log n p log = fold (after_call p) (record { clock = replicate n 0; flag = false; closed = false; snapshots = 0; notes = [] }) log
+state_of_log n p log =
+    fold (after_call p) (record { clock = replicate n 0; flag = false; closed = false; snapshots = 0; notes = [] }) log
 
 abbrev pub is_step_of : ℕ → Step → Bool
 is_step_of p (step.Observe q holds) = q == p
@@ -71,10 +75,12 @@ AreCallsOf n c (s ∷ steps) [] = ⊥
 abbrev pub IsLogOf : ℕ → Computation → ℕ → List Call → Type 0
 IsLogOf n c p log = AreCallsOf n c (filter (is_step_of p) c) log
 
--- What accepted steps keep: each receive stands after the send of its message, and nothing of a process after its close.
+-- What accepted steps keep: each receive stands after the send of its message, and nothing of a process after its
+-- close.
 pub record IsAccepted (c : Computation) : Type 0 where
   pub sent_first : (place p message : ℕ) → slice_get c place ≡ Some (step.Recv p message) → message < message_at c place
-  pub close_last : (place later p : ℕ) (s : Step) → place < later → slice_get c place ≡ Some (step.Close p) → slice_get c later ≡ Some s → is_step_of p s ≡ false
+  pub close_last : (place later p : ℕ) (s : Step) → place < later →
+      slice_get c place ≡ Some (step.Close p) → slice_get c later ≡ Some s → is_step_of p s ≡ false
 
 -- The log law: the log of each process has the clock of its last state, and its emissions.
 pub record HasClockAndEmissions (n : ℕ) (c : Computation) (p : ℕ) (s : ProbeState) : Type 0 where
@@ -84,4 +90,6 @@ pub record HasClockAndEmissions (n : ℕ) (c : Computation) (p : ℕ) (s : Probe
   pub emissions : AreEmissions n c p s.notes
 
 abbrev pub LogLaw : Type 0
-LogLaw = (n : ℕ) (c : Computation) (p : ℕ) (log : List Call) → IsAccepted c → p < n → IsLogOf n c p log → HasClockAndEmissions n c p (state_of_log n p log)
+LogLaw =
+    (n : ℕ) (c : Computation) (p : ℕ) (log : List Call) → IsAccepted c → p < n → IsLogOf n c p log →
+    HasClockAndEmissions n c p (state_of_log n p log)

@@ -25,12 +25,14 @@ pub record Answered : Type 0 where
 
 -- The steps that a reply accepts, and the items that it gives to the checker.
 abbrev pub accepted_by : Step → Reply → List Step
+accepted_by s reply.Done = s ∷ []
+accepted_by s (reply.Took item) = s ∷ []
 accepted_by s (reply.Refused why) = []
-accepted_by s _ = s ∷ []
 
 abbrev pub taken_by : Reply → List Item
+taken_by reply.Done = []
 taken_by (reply.Took item) = item ∷ []
-taken_by _ = []
+taken_by (reply.Refused why) = []
 
 -- The accepted steps of a history, in order, and the items that the checker took.
 abbrev pub accepted : List Answered → List Step

@@ -3,6 +3,7 @@ use Rattle.std.specs.List.{list_any}
 use Rattle.wcp_clock.specs.declared.note.Item.{Item}
 use Rattle.wcp_clock.specs.declared.note.Note.{Note}
 use Rattle.wcp_clock.specs.declared.note.Note.TheVariants as note
+use Rattle.wcp_clock.specs.Notes.{is_close, place_of}
 use Rattle.wcp_model.specs.declared.outcome.Report.{Report}
 use Rattle.wcp_model.specs.declared.state.State.{State}
 use Rattle.wcp_model.specs.Computation.{Computation}
@@ -24,15 +25,6 @@ snapshot_clocks (note.Close count ∷ notes) = snapshot_clocks notes
 -- The clocks of the snapshots taken of one process, in order.
 abbrev pub clocks_taken : ℕ → List Item → List (List ℕ)
 clocks_taken p items = snapshot_clocks (notes_taken p items)
-
-abbrev pub is_close : Note → Bool
-is_close (note.Snap number clock) = false
-is_close (note.Close count) = true
-
--- The place of a note among those of its process: a snapshot's number, or a close mark's count.
-abbrev pub place_of : Note → ℕ
-place_of (note.Snap number clock) = number
-place_of (note.Close count) = count
 
 -- A note is next after these of its process if its place is the number of snapshots among them, and no close mark is.
 pub record IsNextNote (notes : List Note) (next : Note) : Type 0 where

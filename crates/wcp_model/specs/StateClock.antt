@@ -7,7 +7,8 @@ use Rattle.wcp_model.specs.Order.{HappenedBefore}
 abbrev pub CountsBefore : Computation → State → ℕ → ℕ → Type 0
 CountsBefore c s q count = (l : ℕ) → HappenedBefore c (record { process = q; interval = l }) s ↔ (l < count)
 
--- The clock of a state: its own interval, and for each other process how many of its states happened before (Fidge 1988; Mattern 1989).
+-- The clock of a state: its own interval, and for each other process how many of its states happened before (Fidge
+-- 1988; Mattern 1989).
 pub record IsStateClock (n : ℕ) (c : Computation) (s : State) (clock : List ℕ) : Type 0 where
   pub components : length clock ≡ n
   pub own : slice_index clock s.process ≡ s.interval
@@ -16,8 +17,10 @@ pub record IsStateClock (n : ℕ) (c : Computation) (s : State) (clock : List �
 -- The clock law: of states of two processes, one happened before the other exactly if its own component is less there.
 abbrev pub ClockLaw : Type 0
 ClockLaw = (n : ℕ) (c : Computation) (s t : State) (a b : List ℕ) → s.process < n → s.process ≢ t.process →
-    IsStateClock n c s a → IsStateClock n c t b → HappenedBefore c s t ↔ (slice_index a s.process < slice_index b s.process)
+    IsStateClock n c s a → IsStateClock n c t b →
+    HappenedBefore c s t ↔ (slice_index a s.process < slice_index b s.process)
 
 -- Each state has a clock.
 abbrev pub StatesHaveClocks : Type 0
-StatesHaveClocks = (n : ℕ) (c : Computation) (s : State) → s.process < n → IsState c s → (clock : List ℕ) × IsStateClock n c s clock
+StatesHaveClocks =
+    (n : ℕ) (c : Computation) (s : State) → s.process < n → IsState c s → (clock : List ℕ) × IsStateClock n c s clock

@@ -32,18 +32,21 @@ sends p q task = is_task_of p task && is_send_to q task.action
 abbrev pub receives : ℕ → ℕ → Task → Bool
 receives p q task = is_task_of q task && is_receive_from p task.action
 
--- An order of all tasks is fit if it keeps the order of each process, and if no front of it has more receives by q from p
--- than sends by p to q: the m-th receive stands after the m-th send (Lamport 1978: an order that happened-before allows).
+-- An order of all tasks is fit if it keeps the order of each process, and if no front of it has more receives by q
+-- from p than sends by p to q: the m-th receive stands after the m-th send (Lamport 1978: an order that
+-- happened-before allows).
 pub record IsFitOrder (tasks order : List Task) : Type 0 where
   pub same_tasks : (p : ℕ) → filter (is_task_of p) order ≡ filter (is_task_of p) tasks
-  pub sent_first : (place p q : ℕ) → count_by (receives p q) (take place order) ≤ count_by (sends p q) (take place order)
+  pub sent_first : (place p q : ℕ) →
+      count_by (receives p q) (take place order) ≤ count_by (sends p q) (take place order)
 
--- The number of processes is within the limits, and the task names processes below it, and no partner that is its own process.
+-- The partner of a send or a receive by process p is one of the n processes, and another than p.
 abbrev pub HasPartner : ℕ → ℕ → Action → Type 0
 HasPartner n p (action.Observe holds) = Unit {0}
 HasPartner n p (action.Send to) = (to < n) × (to ≢ p)
 HasPartner n p (action.Recv from) = (from < n) × (from ≢ p)
 
+-- The task of a process below n has such a partner, if it is a send or a receive.
 abbrev pub IsWithin : ℕ → Task → Type 0
 IsWithin n task = (task.p < n) × HasPartner n task.p task.action
 
@@ -60,7 +63,8 @@ pub record CouldBeRead (n : ℕ) (tasks : List Task) : Type 0 where
 abbrev pub place_after : (Task → Bool) → ℕ → List Task → ℕ
 place_after test earlier [] = 0
 place_after test earlier (task ∷ tasks) =
-    if test task then (if earlier == 0 then 0 else 1 + place_after test (earlier - 1) tasks) else 1 + place_after test earlier tasks
+    if test task then (if earlier == 0 then 0 else 1 + place_after test (earlier - 1) tasks)
+    else 1 + place_after test earlier tasks
 
 -- The number of the message that p sends to q after `earlier` others to q: its place among all sends of the order.
 abbrev pub message_number : List Task → ℕ → ℕ → ℕ → ℕ
@@ -70,11 +74,13 @@ message_number order p q earlier = place_after (sends p q) earlier (filter (λ t
 abbrev pub step_of : List Task → List Task → ℕ → Action → Step
 step_of order earlier p (action.Observe holds) = step.Observe p holds
 step_of order earlier p (action.Send to) = step.Send p to
-step_of order earlier p (action.Recv from) = step.Recv p (message_number order from p (count_by (receives from p) earlier))
+step_of order earlier p (action.Recv from) =
+    step.Recv p (message_number order from p (count_by (receives from p) earlier))
 
 abbrev pub steps_from : List Task → List Task → List Task → Computation
 steps_from order earlier [] = []
-steps_from order earlier (task ∷ tasks) = step_of order earlier task.p task.action ∷ steps_from order (earlier ++ task ∷ []) tasks
+steps_from order earlier (task ∷ tasks) =
+    step_of order earlier task.p task.action ∷ steps_from order (earlier ++ task ∷ []) tasks
 
 -- The computation of a fit order of n processes: the step of each task, in order, and then each process closes.
 abbrev pub computation_of : ℕ → List Task → Computation
@@ -88,4 +94,6 @@ pub record AreAlike (c d : Computation) : Type 0 where
 
 -- The fit-order law: all fit orders of a workload give the same states, order and truths.
 abbrev pub FitOrderLaw : Type 0
-FitOrderLaw = (n : ℕ) (tasks one other : List Task) → IsFitOrder tasks one → IsFitOrder tasks other → AreAlike (computation_of n one) (computation_of n other)
+FitOrderLaw =
+    (n : ℕ) (tasks one other : List Task) → IsFitOrder tasks one → IsFitOrder tasks other →
+    AreAlike (computation_of n one) (computation_of n other)

@@ -4,7 +4,7 @@ ghost use Rattle.wcp_model.specs.declared.plan.Parent.TheVariants.{Root};
 ghost use Rattle.wcp_model.specs.declared.plan.PlanFault.{PlanFault};
 ghost use Rattle.wcp_model.specs.declared.plan.PlanFault.TheVariants as plan_fault;
 ghost use Rattle.wcp_model.specs.Tree.{IsPlainPlan, IsSamePlan, is_attached, is_leaf, parent_of};
-ghost use Rattle.wcp_model.specs.PlanFault.{HasFault, HasWrongParent, IsFirstFault, IsCheckedPlan, IsPath, ServesProcess, ServesRelay, tree_faults};
+ghost use Rattle.wcp_model.specs.PlanFault.{HasFault, HasWrongParent, IsFirstFault, IsCheckedPlan, IsPath, ServesRelay, tree_faults};
 
 use std::alloc::{AllocError, Global};
 use wcp_clock::{MAX_CAP, MAX_HOLD, MAX_PATH, MAX_PROCS, MAX_RELAYS};
@@ -147,7 +147,7 @@ impl Plan {
         ensures { IsTrue result ↔ HasFault self.now plan_fault.Mixed }
     {
         for relay in 0..self.parents.len() as u32 {
-            if self.serves_process(relay) && self.serves_relay(relay) {
+            if self.is_leaf(relay) && self.serves_relay(relay) {
                 return true;
             }
         }
@@ -159,7 +159,7 @@ impl Plan {
         ensures { IsTrue result ↔ HasFault self.now plan_fault.Childless }
     {
         for relay in 0..self.parents.len() as u32 {
-            if !self.serves_process(relay) && !self.serves_relay(relay) {
+            if !self.is_leaf(relay) && !self.serves_relay(relay) {
                 return true;
             }
         }
@@ -176,13 +176,6 @@ impl Plan {
             Some(relay) => *relay as usize >= self.parents.len(),
             None => true,
         })
-    }
-
-    fn serves_process(&self, relay: u32) -> bool
-        ensures { IsTrue result ↔ ServesProcess self.now relay }
-    {
-        let served = self.attach.get(..self.n as usize).unwrap_or(&self.attach);
-        served.contains(&Some(relay))
     }
 
     /// Whether the relay serves process `p`.

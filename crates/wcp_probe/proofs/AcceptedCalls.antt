@@ -5,7 +5,7 @@ use Rattle.wcp_clock.specs.declared.note.Note.{Note}
 use Rattle.wcp_clock.specs.declared.note.Note.TheVariants as note
 use Rattle.wcp_clock.specs.Merge.{merged}
 use Rattle.wcp_model.specs.ProbeLog.{Call, Observed, Sent, Received, Closed, ProbeState, after_call, state_of_log}
-use Rattle.wcp_probe.specs.Core.{Core, StandsFor, Accepts, IsLast}
+use Rattle.wcp_probe.specs.Core.{Core, StandsForLog, Accepts, IsLast}
 
 -- a log with one more call leads to what the call makes of what the log leads to
 pub state_after : (n p : ℕ) (log : List Call) (call : Call) → state_of_log n p (log ++ call ∷ []) ≡ after_call p (state_of_log n p log) call
@@ -31,7 +31,7 @@ observed_again : (p : ℕ) (s : ProbeState) → s.flag ≡ true → after_call p
 observed_again p s flagged = ap (λ b. cond b s (record s { flag = true; snapshots = s.snapshots + 1; notes = s.notes ++ note.Snap s.snapshots s.clock ∷ [] })) flagged
 
 -- a call that changes nothing of what the log leads to leaves the probe as it is
-pub nothing_accepted : (core : Core) (log : List Call) (call : Call) → after_call core.id (state_of_log (length core.clock) core.id log) call ≡ state_of_log (length core.clock) core.id log → StandsFor core log → StandsFor core (log ++ call ∷ [])
+pub nothing_accepted : (core : Core) (log : List Call) (call : Call) → after_call core.id (state_of_log (length core.clock) core.id log) call ≡ state_of_log (length core.clock) core.id log → StandsForLog core log → StandsForLog core (log ++ call ∷ [])
 nothing_accepted core log call same stands =
     let after = state_after (length core.clock) core.id log call ∙ same in
     record {

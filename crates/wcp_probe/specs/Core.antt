@@ -2,7 +2,8 @@ use Rattle.std.specs.Prelude.{◌≡◌, ℕ, Bool, Option, List, [], ◌∷◌,
 use Rattle.wcp_clock.specs.declared.note.Note.{Note}
 use Rattle.wcp_model.specs.ProbeLog.{Call, state_of_log}
 
--- What a probe has: its watch, its process and the limit of its clock, its clock, and what became of its last emissions.
+-- What a probe has: its watch, its process and the limit of its clock, its clock, and what became of its last
+-- emissions.
 pub record Core : Type 0 where
   pub watch : ℕ
   pub id : ℕ
@@ -17,17 +18,19 @@ pub record Core : Type 0 where
 abbrev pub IsLast : List Note → Note → Type 0
 IsLast notes note = (earlier : List Note) × (notes ≡ earlier ++ note ∷ [])
 
--- A probe stands for a log of accepted calls: it has come to what they lead to, and what is pending is the last emission.
-pub record StandsFor (core : Core) (log : List Call) : Type 0 where
+-- A probe stands for a log of accepted calls: it has come to what they lead to, and what is pending is the last
+-- emission.
+pub record StandsForLog (core : Core) (log : List Call) : Type 0 where
   pub clock : core.clock ≡ (state_of_log (length core.clock) core.id log).clock
   pub flag : core.flag ≡ (state_of_log (length core.clock) core.id log).flag
   pub closed : core.closed ≡ (state_of_log (length core.clock) core.id log).closed
   pub emitted : core.emitted ≡ (state_of_log (length core.clock) core.id log).snapshots
   pub pending : MatchOption core.pending (Unit {0}) (IsLast (state_of_log (length core.clock) core.id log).notes)
 
--- The probe after a call that was accepted: of whatever log it stood for, it now stands for that log with the call at its end.
+-- The probe after a call that was accepted: of whatever log it stood for, it now stands for that log with the call at
+-- its end.
 abbrev pub Accepts : Core → Call → Core → Type 0
-Accepts old call new = (log : List Call) → StandsFor old log → StandsFor new (log ++ call ∷ [])
+Accepts old call new = (log : List Call) → StandsForLog old log → StandsForLog new (log ++ call ∷ [])
 
 -- The probe is still that of the same watch, process, number of processes and limit.
 pub record IsSameProbe (old new : Core) : Type 0 where

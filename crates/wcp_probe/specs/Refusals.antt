@@ -18,7 +18,8 @@ close_refusal core = first_reason ((core.closed, Closed) ∷ (is_some core.pendi
 -- Why a probe refuses to stamp a message to a process.
 abbrev pub stamp_refusal : Core → ℕ → Option Refusal
 stamp_refusal core to = first_reason
-    ((nat_le (length core.clock) to || (to == core.id), NoSuch) ∷ (core.closed, Closed) ∷ (is_some core.pending, Backlog) ∷ (at_clock_end core, ClockEnd) ∷ [])
+    ((nat_le (length core.clock) to || (to == core.id), NoSuch) ∷ (core.closed, Closed)
+    ∷ (is_some core.pending, Backlog) ∷ (at_clock_end core, ClockEnd) ∷ [])
 
 -- Why a probe refuses to receive a message with this seal, but for the end of its clock.
 abbrev pub mismatches : Core → Seal → List (Bool × Refusal)

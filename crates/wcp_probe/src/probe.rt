@@ -3,7 +3,7 @@ ghost use Rattle.wcp_clock.specs.Limits.{most_processes, most_events};
 ghost use Rattle.wcp_clock.specs.declared.note.Note.TheVariants as note;
 ghost use Rattle.wcp_model.specs.ProbeLog.{Call, Observed, Sent, Received};
 ghost use Rattle.wcp_model.specs.ProbeLog.{Closed as closed_call};
-ghost use Rattle.wcp_probe.specs.Core.{Core, StandsFor, Accepts, IsSameProbe};
+ghost use Rattle.wcp_probe.specs.Core.{Core, StandsForLog, Accepts, IsSameProbe};
 ghost use Rattle.wcp_probe.specs.Seal.{Seal, seal_of, value_of, IsSealed};
 ghost use Rattle.wcp_probe.specs.Refusals.{observe_refusal, close_refusal, stamp_refusal, receive_refusal, stamp_mismatch};
 
@@ -89,7 +89,7 @@ impl ProbeCore {
           emitted = 0;
           pending = None;
         } }
-        ensures empty { StandsFor result [] }
+        ensures empty { StandsForLog result [] }
     {
         ProbeCore {
             watch,
@@ -106,12 +106,17 @@ impl ProbeCore {
     /// The process observes its condition. The answer is whether a snapshot was emitted, which then
     /// is pending: the first true observation of an interval emits one.
     pub fn observe(&mut self, holds: bool) -> Result<bool, Refusal>
-        ensures first { MatchResult result (λ _. observe_refusal self.old ≡ None) (λ why. observe_refusal self.old ≡ Some why) }
+        ensures first { MatchResult result (λ _. observe_refusal self.old ≡ None)
+            (λ why. observe_refusal self.old ≡ Some why) }
         ensures accepted { OnOk result (Accepts self.old (Observed holds) self.new) }
         ensures emits { IfOk result (λ emitted. IsTrue emitted ↔ (IsTrue holds × (self.old.flag ≡ false))) }
         ensures spared { IfOk result (λ emitted. IsTrue emitted → self.old.pending ≡ None) }
         ensures pending { IfOk result (λ emitted. self.new ≡ (if emitted
-            then record self.old { flag = true; emitted = self.old.emitted + 1; pending = Some (note.Snap self.old.emitted self.old.clock) }
+            then record self.old {
+              flag = true;
+              emitted = self.old.emitted + 1;
+              pending = Some (note.Snap self.old.emitted self.old.clock);
+            }
             else self.old)) }
         ensures refused { OnErr result (self.new ≡ self.old) }
     {
@@ -132,7 +137,8 @@ impl ProbeCore {
 
     /// The process sends a message: its stamp carries the clock after the send.
     pub fn stamp<T>(&mut self, to: u32, value: T) -> Result<Stamped<T>, (Refusal, T)>
-        ensures first { MatchResult result (λ _. stamp_refusal self.old to ≡ None) (λ back. stamp_refusal self.old to ≡ Some back.0) }
+        ensures first { MatchResult result (λ _. stamp_refusal self.old to ≡ None)
+            (λ back. stamp_refusal self.old to ≡ Some back.0) }
         ensures accepted { OnOk result (Accepts self.old Sent self.new) }
         ensures same { OnOk result (IsSameProbe self.old self.new) }
         ensures pending { OnOk result (self.new.pending ≡ self.old.pending) }
@@ -169,7 +175,8 @@ impl ProbeCore {
 
     /// The process receives a message: its clock then knows what the sender's knew after the send.
     pub fn receive<T>(&mut self, message: Stamped<T>) -> Result<T, (Refusal, Stamped<T>)>
-        ensures first { MatchResult result (λ _. receive_refusal self.old (seal_of message) ≡ None) (λ back. receive_refusal self.old (seal_of message) ≡ Some back.0) }
+        ensures first { MatchResult result (λ _. receive_refusal self.old (seal_of message) ≡ None)
+            (λ back. receive_refusal self.old (seal_of message) ≡ Some back.0) }
         ensures accepted { OnOk result (Accepts self.old (Received (seal_of message).clock) self.new) }
         ensures same { OnOk result (IsSameProbe self.old self.new) }
         ensures pending { OnOk result (self.new.pending ≡ self.old.pending) }
@@ -212,9 +219,11 @@ impl ProbeCore {
     /// The process ends its part: a mark that counts its snapshots is pending, and nothing more is
     /// accepted.
     pub fn close(&mut self) -> Result<(), Refusal>
-        ensures first { MatchResult result (λ _. close_refusal self.old ≡ None) (λ why. close_refusal self.old ≡ Some why) }
+        ensures first { MatchResult result (λ _. close_refusal self.old ≡ None)
+            (λ why. close_refusal self.old ≡ Some why) }
         ensures accepted { OnOk result (Accepts self.old closed_call self.new) }
-        ensures pending { OnOk result (self.new ≡ record self.old { closed = true; pending = Some (note.Close self.old.emitted) }) }
+        ensures pending { OnOk result
+            (self.new ≡ record self.old { closed = true; pending = Some (note.Close self.old.emitted) }) }
         ensures refused { OnErr result (self.new ≡ self.old) }
     {
         if self.closed {

@@ -7,7 +7,8 @@ use Rattle.std.proofs.lemmas.List.Folds.{list_any-append}
 use Rattle.wcp_clock.specs.declared.note.Item.{Item}
 use Rattle.wcp_clock.specs.declared.note.Note.{Note}
 use Rattle.wcp_clock.specs.declared.note.Note.TheVariants.{Snap, Close}
-use Rattle.wcp_model.specs.Report.{notes_taken, snapshot_clocks, clocks_taken, is_close, IsNextNote, AreInTurn}
+use Rattle.wcp_clock.specs.Notes.{is_close}
+use Rattle.wcp_model.specs.Report.{notes_taken, snapshot_clocks, clocks_taken, IsNextNote, AreInTurn}
 use Rattle.wcp_model.proofs.NotesInTurn.{snapshot_clocks-append, AreInTurn-push}
 use Rattle.wcp_queue.specs.Checker.{CheckerState, processes, StandsForItems, MayTake}
 use Rattle.wcp_queue.specs.Elimination.{GainCandidate}

@@ -5,7 +5,8 @@ use Rattle.std.proofs.lemmas.List.{length-append, get_or-set_same, get_or-set_ot
 use Rattle.std.proofs.lemmas.List.Sums.{sum_by-set, sum_by_push}
 use Rattle.wcp_clock.specs.declared.note.Item.{Item}
 use Rattle.wcp_clock.specs.declared.note.Note.TheVariants.{Snap, Close}
-use Rattle.wcp_model.specs.Report.{notes_taken, clocks_taken, is_close, AreInTurn}
+use Rattle.wcp_clock.specs.Notes.{is_close}
+use Rattle.wcp_model.specs.Report.{notes_taken, clocks_taken, AreInTurn}
 use Rattle.wcp_model.proofs.NotesInTurn.{AreInTurn-none}
 use Rattle.wcp_queue.specs.Queue.{no_candidates}
 use Rattle.wcp_queue.specs.Elimination.{AreCompared, HaveHeads, IsCutOfHeads, AreLeft, IsFoundAmong, GainCandidate}

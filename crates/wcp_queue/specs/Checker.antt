@@ -7,7 +7,8 @@ use Rattle.wcp_clock.specs.declared.note.Note.{Note}
 use Rattle.wcp_clock.specs.declared.note.Note.TheVariants.{Snap, Close}
 use Rattle.wcp_model.specs.declared.outcome.Report.{Report}
 use Rattle.wcp_model.specs.declared.outcome.Report.TheVariants.{Found, Nothing, Undecided}
-use Rattle.wcp_model.specs.Report.{notes_taken, clocks_taken, is_close, place_of, AreInTurn, IsDrained, IsCutByClocks}
+use Rattle.wcp_clock.specs.Notes.{is_close, place_of}
+use Rattle.wcp_model.specs.Report.{notes_taken, clocks_taken, AreInTurn, IsDrained, IsCutByClocks}
 use Rattle.wcp_queue.specs.Queue.{Candidates}
 use Rattle.wcp_queue.specs.Elimination.{HaveHeads, AreCompared, AreLeft, IsFoundAmong, uncompared_in, most_tests}
 

@@ -8,7 +8,8 @@ use Rattle.wcp_clock.specs.declared.note.Note.{Note}
 use Rattle.wcp_clock.specs.declared.note.Note.TheVariants as note
 use Rattle.wcp_model.specs.Computation.{Computation, communications}
 use Rattle.wcp_model.specs.ProbeLog.{Call, Observed, Closed, ProbeState, after_call, state_of_log, IsAccepted}
-use Rattle.wcp_model.specs.Report.{snapshot_clocks, is_close, place_of}
+use Rattle.wcp_clock.specs.Notes.{is_close, place_of}
+use Rattle.wcp_model.specs.Report.{snapshot_clocks}
 use Rattle.wcp_model.specs.StateClock.{IsStateClock}
 use Rattle.wcp_model.proofs.EventPlaces.{event_below}
 use Rattle.wcp_model.proofs.NotesInTurn.{log_counts_notes}

@@ -3,7 +3,7 @@ use Rattle.wcp_clock.specs.Limits.{most_events}
 use Rattle.wcp_clock.specs.declared.note.Item.{Item}
 use Rattle.wcp_model.specs.ProbeLog.{Call, state_of_log}
 use Rattle.wcp_model.specs.Report.{notes_taken}
-use Rattle.wcp_probe.specs.Core.{StandsFor as ProbeStandsFor}
+use Rattle.wcp_probe.specs.Core.{StandsForLog}
 use Rattle.wcp_probe.specs.Seal.{Seal}
 use Rattle.wcp_queue.specs.Checker.{CheckerState, processes, StandsForItems}
 use Rattle.wcp_single.specs.declared.watched_process.WatchedProcess.{WatchedProcess}
@@ -15,7 +15,7 @@ pub record IsRunning (n p : ℕ) (log : List Call) (process : WatchedProcess) : 
   pub id : process.probe.id ≡ p
   pub limit : process.probe.limit ≡ most_events
   pub components : length process.probe.clock ≡ n
-  pub stands : ProbeStandsFor process.probe log
+  pub stands : StandsForLog process.probe log
   pub not_closed : process.probe.closed ≡ false
   pub none_pending : process.probe.pending ≡ None
 

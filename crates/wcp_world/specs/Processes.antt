@@ -10,7 +10,7 @@ use Rattle.wcp_model.specs.Emission.{AreEmissions}
 use Rattle.wcp_model.specs.ProbeLog.{Call, state_of_log, IsLogOf, IsStampOf, IsAccepted}
 use Rattle.wcp_model.specs.Replies.{accepted_by, event_reasons, receivers, was_received}
 use Rattle.wcp_model.specs.Report.{snapshot_clocks}
-use Rattle.wcp_probe.specs.Core.{Core, StandsFor}
+use Rattle.wcp_probe.specs.Core.{Core, StandsForLog}
 use Rattle.wcp_probe.specs.Seal.{seal_of}
 use Rattle.wcp_probe.specs.declared.stamp.Stamped.{Stamped}
 use Rattle.wcp_world.specs.declared.messages.Letter.{Letter}
@@ -30,7 +30,7 @@ pending_at app p = option_and_then (λ core. core.pending) (slice_get app.probes
 pub record IsProbeOf (n : ℕ) (c : Computation) (p : ℕ) (put : List Note) (core : Core) : Type 0 where
   pub log : List Call
   pub is_log : IsLogOf n c p log
-  pub stands : StandsFor core log
+  pub stands : StandsForLog core log
   pub watch : core.watch ≡ 0
   pub id : core.id ≡ p
   pub limit : core.limit ≡ most_events

@@ -1,6 +1,6 @@
 //! Lanes of snapshots, for the tests.
 ghost use Rattle.std.specs.Prelude.{◌≡◌, ◌+◌, false, IfOk, OnOk};
-ghost use Rattle.wcp_lane.specs.Notes.{place_of, is_close};
+ghost use Rattle.wcp_clock.specs.Notes.{place_of, is_close};
 ghost use Rattle.lane_cases.specs.Snapshots.{HasPut};
 
 use std::alloc::Global;

@@ -1,6 +1,7 @@
-use Rattle.std.proofs.Common.{ℕ, ◌<◌}
-use Rattle.wcp_model.specs.PlanFault.{ServesProcess, ServesRelay}
+use Rattle.std.proofs.Common.{ℕ, ◌<◌, IsTrue}
+use Rattle.wcp_model.specs.PlanFault.{ServesRelay}
+use Rattle.wcp_model.specs.Tree.{is_leaf}
 use Rattle.wcp_model.proofs.plan.Plan.has_mixed_relay.Given as goal
 
 abbrev pub invariant-loop-relay : goal.invariant-loop-relay
-invariant-loop-relay l = (relay : ℕ) → relay < l.relay → ServesProcess l.self relay → ServesRelay l.self relay → ⊥
+invariant-loop-relay l = (relay : ℕ) → relay < l.relay → IsTrue (is_leaf l.self relay) → ServesRelay l.self relay → ⊥

@@ -1,6 +1,6 @@
 use Rattle.std.proofs.Common.{◌≡◌, refl, false, ◌+◌, ◌<◌, ◌≤◌, is_some, ⊎_elim, length, slice_index, sym, ap, subst, ◌∙◌, arith}
 use Rattle.std.proofs.lemmas.Bool.{cases_lt, true≢false}
-use Rattle.wcp_probe.specs.Core.{Core, StandsFor, IsSameProbe}
+use Rattle.wcp_probe.specs.Core.{Core, StandsForLog, IsSameProbe}
 use Rattle.wcp_probe.specs.Seal.{Seal}
 use Rattle.wcp_probe.proofs.AcceptedCalls.{receive_accepted, received}
 use Rattle.wcp_probe.proofs.Mismatch.{none_from, matching, not_some, flag_bound}
@@ -32,7 +32,7 @@ returns-clause-accepted g c log stands =
     let seal : Seal = record { watch = c.args.message.watch; from = 0; to = c.args.message.to; clock = c.args.message.clock } in
     let fits = subst (λ (k : Core). (is_some k.pending ≡ false) × (length seal.clock ≡ length k.clock) × (slice_index seal.clock k.id ≤ slice_index k.clock k.id)) (sym c.self.view_is) (matching c.args.self.now seal (sym c.why_not.ensures ∙ none_from c.why_not.result c.in_default.not-Some)) in
     let after = received p.clock c.args.message.clock c.in-Some-tick.clock p.id c.self.invariant.process fits.1 fits.2 c.in-Some-tick.ensures.counted in
-    receive_accepted core c.args.message.clock c.merge-self-inside.result (ap length c.merge-self-inside.ensures ∙ after.0) (c.merge-self-inside.ensures ∙ after.2) log (subst (λ (core : Core). StandsFor core log) (sym c.self.view_is) stands)
+    receive_accepted core c.args.message.clock c.merge-self-inside.result (ap length c.merge-self-inside.ensures ∙ after.0) (c.merge-self-inside.ensures ∙ after.2) log (subst (λ (core : Core). StandsForLog core log) (sym c.self.view_is) stands)
 
 pub returns-clause-same : goal.returns-clause-same
 returns-clause-same g c =

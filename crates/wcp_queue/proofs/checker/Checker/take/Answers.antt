@@ -1,5 +1,5 @@
 use Rattle.std.proofs.Common.{◌++◌, ◌∷◌, [], slice_set, true, sym, ap, ◌∙◌, refl, subst, arith}
-use Rattle.wcp_model.specs.Report.{place_of}
+use Rattle.wcp_clock.specs.Notes.{place_of}
 use Rattle.wcp_queue.specs.Checker.{StandsForItems}
 use Rattle.wcp_queue.specs.CheckerView.{state_of}
 use Rattle.wcp_queue.proofs.StandingForItems.{StandsForItems-close}
