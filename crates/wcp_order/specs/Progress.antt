@@ -56,16 +56,18 @@ pub record IsProgress (n : ℕ) (tasks order : List Task) (fronts in_transit : L
 
 -- The tasks are put in order as far as this progress says.
 abbrev pub IsSoundProgress : ℕ → List Task → Progress → Type 0
-IsSoundProgress n tasks progress = IsProgress n tasks progress.order.items progress.fronts.items progress.in_transit.items
+IsSoundProgress n tasks progress =
+    IsProgress n tasks progress.order.items progress.fronts.items progress.in_transit.items
 
 -- A process can't go on.
 abbrev pub IsStuck : ℕ → List Task → Progress → ℕ → Type 0
 IsStuck n tasks progress p = IsBlocked n tasks progress.fronts.items progress.in_transit.items p
 
--- More tasks are done, or nothing has changed.
+-- More tasks are done.
 abbrev pub HasGrown : Progress → Progress → Type 0
 HasGrown before after = length before.order.items < length after.order.items
 
+-- Nothing has changed.
 abbrev pub IsUnchanged : Progress → Progress → Type 0
 IsUnchanged before after =
     (after.order.items ≡ before.order.items)

@@ -13,7 +13,7 @@ pub record HasOldHead (queue : Candidates) : Type 0 where
   pub some : 0 < length queue.clocks
   pub old : queue.head_is_new ≡ false
 
--- A queue has a head that was not.
+-- A queue has a head that was not compared with the other heads yet.
 pub record HasNewHead (queue : Candidates) : Type 0 where
   pub some : 0 < length queue.clocks
   pub new : queue.head_is_new ≡ true
@@ -84,11 +84,12 @@ pub record GainCandidate (n p : ℕ) (clock : List ℕ) (rows longer : ℕ → L
   pub gained : longer p ≡ rows p ++ clock ∷ []
   pub others : (q : ℕ) → q < n → q ≢ p → longer q ≡ rows q
 
--- Heads were eliminated: whatever rows these queues were left of, they are now.
+-- Heads were eliminated: whatever rows of candidates the old queues are what is left of, the new ones are so too.
 abbrev pub Eliminates : List Candidates → List Candidates → Type 0
 Eliminates old new = (rows : ℕ → List (List ℕ)) → AreLeft (length old) rows old → AreLeft (length old) rows new
 
--- The same, once the row of p has gained a candidate.
+-- A candidate of p was added and heads were eliminated: the new queues are what is left of the old rows, where that of
+-- p has gained the candidate.
 abbrev pub AddsCandidate : ℕ → List ℕ → List Candidates → List Candidates → Type 0
 AddsCandidate p clock old new = (rows longer : ℕ → List (List ℕ)) →
     GainCandidate (length old) p clock rows longer → AreLeft (length old) rows old → AreLeft (length old) longer new

@@ -42,13 +42,13 @@ pub record HasTaken (n : ℕ) (items : List Item) (checker : CheckerState) : Typ
   pub watched : processes checker ≡ n
   pub stands : StandsForItems checker items
 
--- It has taken these items, and with them all that process p emits by this log.
+-- A checker of n processes has taken these items, and with them all that process p emits by this log.
 pub record IsFed (n p : ℕ) (log : List Call) (items : List Item) (checker : CheckerState) : Type 0 where
   pub within : p < n
   pub has_taken : HasTaken n items checker
   pub all : notes_taken p items ≡ (state_of_log n p log).notes
 
--- It has taken all that a process has emitted.
+-- The checker has taken all that the process has emitted.
 pub record IsWatched (process : WatchedProcess) (checker : CheckerState) : Type 0 where
   pub n : ℕ
   pub log : List Call
@@ -56,13 +56,13 @@ pub record IsWatched (process : WatchedProcess) (checker : CheckerState) : Type 
   pub running : IsRunning n process.id log process
   pub fed : IsFed n process.id log items checker
 
--- It has now taken all that process p emits by a longer log, and nothing else.
+-- After these items, the checker has taken all else that process p emits by this log, and nothing of another process.
 pub record IsFedMore (n p : ℕ) (log : List Call) (items : List Item) (checker : CheckerState) : Type 0 where
   pub more : List Item
   pub fed : IsFed n p log more checker
   pub others : (q : ℕ) → q ≢ p → notes_taken q more ≡ notes_taken q items
 
--- What the probe of a process emits by a call is taken.
+-- The checker takes what the probe of a process emits by a call, and nothing else.
 abbrev pub Feeds : WatchedProcess → Call → CheckerState → CheckerState → Type 0
 Feeds process call old new = (n p : ℕ) (log : List Call) (items : List Item) →
     IsRunning n p log process → IsFed n p log items old → IsFedMore n p (log ++ call ∷ []) items new

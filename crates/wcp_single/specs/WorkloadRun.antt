@@ -29,7 +29,7 @@ pub record Follows (n : ℕ) (c : Computation) (p : ℕ) (notes : List Note) (pr
 abbrev pub queues_of : WorkloadRun → List (List Seal)
 queues_of run = map (λ queue. map seal_of queue.items) run.in_transit.items
 
--- Those on the channel of this number.
+-- The seals of the messages in transit on the channel of this number.
 abbrev pub queue_at : List (List Seal) → ℕ → List Seal
 queue_at queues channel = slice_index_or queues channel []
 
