@@ -1,1 +1,1 @@
-mod Merging
+pub mod Merging

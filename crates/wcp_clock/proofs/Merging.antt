@@ -1,4 +1,4 @@
-use Rattle.std.proofs.Common.{◌≡◌, ℕ, suc, zero, ◌<◌, ◌≤◌, List, [], ◌∷◌, length, take, drop, replicate, max, get_or, refl, ap, arith}
+use Rattle.std.proofs.Common.{◌≡◌, ℕ, suc, zero, ◌<◌, ◌≤◌, List, [], ◌∷◌, length, take, drop, replicate, max, get_or, slice_index, refl, ap, arith}
 use Rattle.std.proofs.lemmas.List.{length-take-le}
 use Rattle.wcp_clock.specs.Merge.{merged}
 
@@ -7,6 +7,15 @@ pub length-merged : (xs ys : List ℕ) → length xs ≡ length ys → length (m
 length-merged [] ys same = refl
 length-merged (x ∷ xs) [] same = absurd (omega arith)
 length-merged (x ∷ xs) (y ∷ ys) same = ap suc (length-merged xs ys (omega arith))
+
+-- each component of a merge is the greater of two
+pub slice_index-merged : (xs ys : List ℕ) (i : ℕ) → length xs ≡ length ys →
+    slice_index (merged xs ys) i ≡ max (slice_index xs i) (slice_index ys i)
+slice_index-merged [] [] i same = refl
+slice_index-merged [] (y ∷ ys) i same = absurd (omega arith)
+slice_index-merged (x ∷ xs) [] i same = absurd (omega arith)
+slice_index-merged (x ∷ xs) (y ∷ ys) zero same = refl
+slice_index-merged (x ∷ xs) (y ∷ ys) (suc i) same = slice_index-merged xs ys i (omega arith)
 
 -- the front of a merge is the merge of the fronts
 pub take-merged : (n : ℕ) (xs ys : List ℕ) → length xs ≡ length ys → take n (merged xs ys) ≡ merged (take n xs) (take n ys)

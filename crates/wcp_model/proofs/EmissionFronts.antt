@@ -89,17 +89,6 @@ module _ (n : ℕ) (c e : Computation) (p : ℕ) (notes more : List Note) (is : 
       noted : List (List ℕ) → Bool → List Note
       noted clocks closed = snapshots_from 0 clocks ++ (if closed then note.Close (length clocks) ∷ [] else [])
 
--- a process has one list of emissions
-pub emissions_alone : (n : ℕ) (c : Computation) (p : ℕ) (notes others : List Note) → AreEmissions n c p notes → AreEmissions n c p others → notes ≡ others
-emissions_alone n c p notes others is are =
-    let behind : (rest : List Note) × (others ≡ notes ++ rest) = begins notes others is are in
-    let before : (rest : List Note) × (notes ≡ others ++ rest) = begins others notes are is in
-    sym (behind.1 ∙ ap (λ rest. notes ++ rest) (nil_from_length behind.0 (omega (arith, ap length behind.1, length-append notes behind.0, ap length before.1, length-append others before.0))) ∙ append-nil notes)
-  where
-    begins : (one other : List Note) → AreEmissions n c p one → AreEmissions n c p other → (rest : List Note) × (other ≡ one ++ rest)
-    begins one other is are =
-        emissions_front n c [] p one other is (subst (λ d. AreEmissions n d p other) (sym (append-nil c)) are) (λ closed k. subst (λ d. IsTrueState d (local_state p k)) (append-nil c))
-
 -- in an accepted computation the emissions of each process grow at their end alone
 pub emissions_grow : (n : ℕ) (c e : Computation) (p : ℕ) (notes more : List Note) → IsAccepted (c ++ e) → AreEmissions n c p notes → AreEmissions n (c ++ e) p more → (rest : List Note) × (more ≡ notes ++ rest)
 emissions_grow n c e p notes more accepted is grown = emissions_front n c e p notes more is grown (none_new_after_close c e p accepted)

@@ -160,10 +160,3 @@ same_sends : (p q r u : ℕ) → ◌≡◌ {A = Task} (record { p = p; action = 
 same_sends p q r u same =
     let send : action.Send q ≡ action.Send u = ap (λ (task : Task). task.action) same in
     (ap (λ (task : Task). task.p) same, cc send)
-
--- a message is received once
-pub one_receive : {order : List Task} {p q r u sent i j : ℕ} → IsDelivery order p q sent i → IsDelivery order r u sent j → i ≡ j
-one_receive {order} {p} {q} {r} {u} {sent} {i} {j} d e =
-    let same = same_sends p q r u (same_Some _ _ (sym d.send ∙ e.send)) in
-    let other : IsDelivery order p q sent j = subst₂ (λ x y. IsDelivery order x y sent j) (sym same.0) (sym same.1) e in
-    one_place (receives p q) order i j _ _ d.receive (receives_yes p q) other.receive (receives_yes p q) (sym d.same_rank ∙ other.same_rank)

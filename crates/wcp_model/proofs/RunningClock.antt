@@ -2,6 +2,7 @@ use Rattle.std.proofs.Common.{◌≡◌, ◌≢◌, ℕ, zero, suc, ◌+◌, ◌
 use Rattle.std.proofs.lemmas.Bool.{cases_lt, cases_eq}
 use Rattle.std.proofs.lemmas.List.{length-set, length-replicate, get_or-replicate, get_or-set_same, get_or-set_other}
 use Rattle.wcp_clock.specs.Merge.{merged}
+use Rattle.wcp_clock.proofs.Merging.{length-merged, slice_index-merged}
 use Rattle.wcp_model.specs.declared.state.State.{State}
 use Rattle.wcp_model.specs.declared.step.Step.TheVariants.{Send}
 use Rattle.wcp_model.specs.Computation.{Computation, IsState, interval_at}
@@ -10,20 +11,6 @@ use Rattle.wcp_model.specs.StateClock.{CountsBefore, IsStateClock}
 use Rattle.wcp_model.proofs.EventPlaces.{event_of_send, event_below}
 use Rattle.wcp_model.proofs.Predecessors.{local_state, before_rises, before_later, only_before_send, only_before_receive}
 use Rattle.wcp_model.proofs.Reached.{AtOrAfter, one_more_step, before_to_state, before_to_later}
-
--- the merge of two lists of one length has that length
-pub length_merged : (v w : List ℕ) → length v ≡ length w → length (merged v w) ≡ length v
-length_merged [] w same = refl
-length_merged (x ∷ xs) [] same = absurd (omega arith)
-length_merged (x ∷ xs) (y ∷ ys) same = ap suc (length_merged xs ys (omega arith))
-
--- and the greater of each two components
-pub merged_at : (v w : List ℕ) (q : ℕ) → length v ≡ length w → slice_index (merged v w) q ≡ max (slice_index v q) (slice_index w q)
-merged_at [] [] q same = refl
-merged_at [] (y ∷ ys) q same = absurd (omega arith)
-merged_at (x ∷ xs) [] q same = absurd (omega arith)
-merged_at (x ∷ xs) (y ∷ ys) zero same = refl
-merged_at (x ∷ xs) (y ∷ ys) (suc q) same = merged_at xs ys q (omega arith)
 
 -- the first state of a process has a clock of zeros
 pub clock_at_first : (n : ℕ) (c : Computation) (p : ℕ) → p < n → IsStateClock n c (local_state p 0) (replicate n 0)
@@ -97,5 +84,5 @@ pub clock_after_receive : (n : ℕ) (c : Computation) (r : State) (p k : ℕ) (c
     IsStateClock n c (local_state r.process (r.interval + 1)) stamp → IsStateClock n c (local_state p (k + 1)) (slice_set (merged clock stamp) p (slice_index clock p + 1))
 clock_after_receive n c r p k clock stamp in_range m is sent =
     let lengths : length clock ≡ length stamp = is.components ∙ sym sent.components in
-    ticked n c p k clock (merged clock stamp) in_range (length_merged clock stamp lengths ∙ is.components) is.own (λ q q_in_range other.
-    subst (CountsBefore c (local_state p (k + 1)) q) (sym (merged_at clock stamp q lengths)) (λ l. receive_counts n c r p k clock stamp q l m is sent q_in_range other))
+    ticked n c p k clock (merged clock stamp) in_range (length-merged clock stamp lengths ∙ is.components) is.own (λ q q_in_range other.
+    subst (CountsBefore c (local_state p (k + 1)) q) (sym (slice_index-merged clock stamp q lengths)) (λ l. receive_counts n c r p k clock stamp q l m is sent q_in_range other))

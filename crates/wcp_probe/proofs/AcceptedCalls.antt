@@ -4,6 +4,7 @@ use Rattle.std.proofs.lemmas.List.Sums.{fold_push}
 use Rattle.wcp_clock.specs.declared.note.Note.{Note}
 use Rattle.wcp_clock.specs.declared.note.Note.TheVariants as note
 use Rattle.wcp_clock.specs.Merge.{merged}
+use Rattle.wcp_clock.proofs.Merging.{length-merged, slice_index-merged}
 use Rattle.wcp_model.specs.ProbeLog.{Call, Observed, Sent, Received, Closed, ProbeState, after_call, state_of_log}
 use Rattle.wcp_probe.specs.Core.{Core, StandsForLog, Accepts, IsLast}
 
@@ -73,19 +74,6 @@ receive_accepted core stamp clock same_length is log stands =
       emitted = stands.emitted ∙ sym (ap (λ (s : ProbeState). s.snapshots) after);
       pending = subst (λ (notes : List Note). MatchOption core.pending (Unit {0}) (IsLast notes)) (sym (ap (λ (s : ProbeState). s.notes) after)) stands.pending;
     }
-
--- each component of a merge
-pub slice_index-merged : (xs ys : List ℕ) (i : ℕ) → length xs ≡ length ys → slice_index (merged xs ys) i ≡ max (slice_index xs i) (slice_index ys i)
-slice_index-merged [] [] i same = refl
-slice_index-merged [] (y ∷ ys) i same = absurd (omega (arith, same))
-slice_index-merged (x ∷ xs) [] i same = absurd (omega (arith, same))
-slice_index-merged (x ∷ xs) (y ∷ ys) zero same = refl
-slice_index-merged (x ∷ xs) (y ∷ ys) (suc i) same = slice_index-merged xs ys i (omega (arith, same))
-
-pub length-merged : (xs ys : List ℕ) → length xs ≡ length ys → length (merged xs ys) ≡ length xs
-length-merged [] ys same = omega (arith, same)
-length-merged (x ∷ xs) [] same = absurd (omega (arith, same))
-length-merged (x ∷ xs) (y ∷ ys) same = ap (λ n. suc n) (length-merged xs ys (omega (arith, same)))
 
 -- the order of counting and merging is open where the merged clock knows no more of that process
 pub merged-counted : (xs ys : List ℕ) (p k : ℕ) → length xs ≡ length ys → slice_index ys p ≤ k → merged (slice_set xs p k) ys ≡ slice_set (merged xs ys) p k
