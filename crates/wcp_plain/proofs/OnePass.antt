@@ -56,16 +56,6 @@ pub record IsPass (c : Computation) (s : State) (place interval : ℕ) (after : 
   pub messages : length carries ≡ message_at c place
   pub carries_is : (message : ℕ) → (slice_get carries message ≡ Some true) ↔ Carries c s place message
 
--- at the first place nothing is known
-pub pass_none : (c : Computation) (s : State) → IsPass c s 0 0 [] []
-pass_none c s =
-    record {
-      interval_is = refl;
-      after_is = λ p. (λ contains. absurd (omega (arith, contains.1)), λ before. let later = before_to_later before in absurd (omega arith));
-      messages = refl;
-      carries_is = λ message. (λ some. absurd (let within = slice_get_within {A = Bool} [] message true some in omega arith), λ carries. absurd (omega (arith, carries.1)));
-    }
-
 module _ (c : Computation) (s : State) (place interval : ℕ) (after : List ℕ) (carries : List Bool) (pass : IsPass c s place interval after carries) where
   -- the processes that have reached the state are those that are in it or after it
   reached_is : (p : ℕ) → HasReached s interval after p ↔ AtOrAfter c s (state_at c p place)
