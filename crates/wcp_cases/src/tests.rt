@@ -1,4 +1,5 @@
 mod answers;
+mod faults;
 mod help;
 mod reads;
 mod rings;

@@ -56,6 +56,10 @@ pub struct Sink {
     pub trouble: Trouble,
     /// How many writes there were.
     pub writes: usize,
+    /// Which flush fails, and how.
+    pub flush_trouble: Trouble,
+    /// How many flushes there were.
+    pub flushes: usize,
 }
 
 impl Write for Sink {
@@ -68,6 +72,8 @@ impl Write for Sink {
     }
 
     fn flush(&mut self) -> Result<()> {
-        Ok(())
+        let flush = self.flushes;
+        self.flushes = flush.saturating_add(1);
+        self.flush_trouble.at(flush)
     }
 }

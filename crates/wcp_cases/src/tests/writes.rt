@@ -12,6 +12,8 @@ fn taking(alloc: std::alloc::Global, most: usize, trouble: Trouble) -> Sink {
         most,
         trouble,
         writes: 0,
+        flush_trouble: Trouble::No,
+        flushes: 0,
     }
 }
 
@@ -29,6 +31,7 @@ fn one_byte_at_a_time_is_the_same(rt: HostRuntime) {
         let mut errors = taking(rt.alloc(), 1, Trouble::No);
         let status = run_row(&rt, row, &mut output, &mut errors);
         assert_eq!(rt; output.taken.as_slice(), row.output.as_bytes());
+        assert_eq!(rt; output.flushes, 1);
         assert!(rt; errors.taken.is_empty());
         assert_eq!(rt; status, row.status);
     }
@@ -45,6 +48,19 @@ fn each_write_may_fail(rt: HostRuntime) {
             assert_eq!(rt; errors.taken.as_slice(), b"wcpwatch: write\n".as_slice());
             assert_eq!(rt; status, 2);
         }
+    }
+}
+
+#[test]
+fn the_flush_may_fail(rt: HostRuntime) {
+    for row in ANSWERED.iter() {
+        let mut output = taking(rt.alloc(), 1, Trouble::No);
+        output.flush_trouble = Trouble::At(0, ErrorKind::Other);
+        let mut errors = taking(rt.alloc(), 1, Trouble::No);
+        let status = run_row(&rt, row, &mut output, &mut errors);
+        assert_eq!(rt; output.taken.as_slice(), row.output.as_bytes());
+        assert_eq!(rt; errors.taken.as_slice(), b"wcpwatch: write\n".as_slice());
+        assert_eq!(rt; status, 2);
     }
 }
 
