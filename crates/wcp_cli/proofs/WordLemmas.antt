@@ -1,4 +1,4 @@
-use Rattle.std.proofs.Common.{◌≡◌, true, false, List, [], ◌∷◌, codes, ap, ◌∙◌, sym, refl, subst, None, inl, inr}
+use Rattle.std.proofs.Common.{◌≡◌, true, false, List, [], ◌∷◌, drop, codes, ap, ◌∙◌, sym, refl, subst, None, inl, inr, ⊎_elim}
 use Rattle.clap.proofs.OnLiterals.{clap_on_literals}
 use Rattle.clap.specs.Words.{IsAmong, Kinds, Text, fault_of, is_simple, is_simple_and_free, built}
 use Rattle.clap.specs.Faults.{built_fault}
@@ -11,7 +11,7 @@ use Rattle.std.proofs.lemmas.Slice.Eq.{bytes_eq-Decides}
 use Rattle.clap.specs.declared.error.kind.ErrorKind.TheVariants as kind
 use Rattle.std.specs.Str.{bytes_eq}
 use Rattle.wcp_cli.proofs.NoRingWords.{no_ring-fails}
-use Rattle.wcp_cli.proofs.StoppedWalk.{stays_as_stopped}
+use Rattle.wcp_cli.proofs.StoppedWalk.{stays_stopped}
 use Rattle.wcp_cli.specs.Words.{AskForSingle, AskForHelp, AskForReplay, AskForUnknown, UnknownWord, Further, FurtherReplay, NoRing, is_flag, program}
 
 pub program_is_free : is_simple_and_free program ≡ true
@@ -86,7 +86,7 @@ further_word : (word : Text) (rest : List Text) → strip_byte 45 word ≡ None 
     → built_fault (built program) nothing_held (codes "single" ∷ word ∷ rest) ≡ kind.UnknownArgument ∷ []
 unfolding clap_on_literals
 further_word word rest no_flag not_end =
-    let stops = stays_as_stopped (built program).top.rules (names_of (built program)) (walk_from nothing_held) (codes "single") (word ∷ []) rest in
+    let stops = stays_stopped (built program).top.rules (names_of (built program)) (walk_from nothing_held) (codes "single") (word ∷ []) rest in
     let passes = stopped_fault (built program).top (names_of (built program)) (walk_from nothing_held) (codes "single", word ∷ []) rest in
     simp (stops, passes, not_end, no_flag) refl
 
@@ -95,7 +95,7 @@ further_word_of_replay : (word : Text) (rest : List Text) → strip_byte 45 word
     → built_fault (built program) nothing_held (codes "replay" ∷ word ∷ rest) ≡ kind.UnknownArgument ∷ []
 unfolding clap_on_literals
 further_word_of_replay word rest no_flag not_end =
-    let stops = stays_as_stopped (built program).top.rules (names_of (built program)) (walk_from nothing_held) (codes "replay") (word ∷ []) rest in
+    let stops = stays_stopped (built program).top.rules (names_of (built program)) (walk_from nothing_held) (codes "replay") (word ∷ []) rest in
     let passes = stopped_fault (built program).top (names_of (built program)) (walk_from nothing_held) (codes "replay", word ∷ []) rest in
     simp (stops, passes, not_end, no_flag) refl
 
