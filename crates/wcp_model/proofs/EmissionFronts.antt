@@ -8,7 +8,7 @@ use Rattle.std.proofs.lemmas.List.Prefix.{front_from_reads}
 use Rattle.wcp_clock.specs.declared.note.Note.{Note}
 use Rattle.wcp_clock.specs.declared.note.Note.TheVariants as note
 use Rattle.wcp_model.specs.declared.state.State.{State}
-use Rattle.wcp_model.specs.Computation.{Computation, IsTrueState, communications}
+use Rattle.wcp_model.specs.Computation.{Computation, communications}
 use Rattle.wcp_model.specs.Emission.{is_close_of, is_closed, snapshots_from, AreEmissions}
 use Rattle.wcp_model.specs.ProbeLog.{IsAccepted}
 use Rattle.wcp_model.specs.StateClock.{CountsBefore, IsStateClock}

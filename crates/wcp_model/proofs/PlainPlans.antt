@@ -1,4 +1,4 @@
-use Rattle.std.proofs.Common.{◌≡◌, ℕ, zero, suc, ◌≤◌, List, [], ◌∷◌, Some, length, replicate, slice_get, true, refl, ap, subst, ⊎_elim, arith}
+use Rattle.std.proofs.Common.{◌≡◌, ℕ, zero, suc, ◌≤◌, List, [], ◌∷◌, Some, length, take, slice_get, true, refl, ap, subst, ⊎_elim, arith}
 use Rattle.std.specs.List.{list_any}
 use Rattle.std.proofs.lemmas.List.{length-replicate, get_or-replicate}
 use Rattle.wcp_model.specs.declared.plan.Parent.{Parent}
@@ -24,7 +24,7 @@ path_under_root (relay ∷ []) path = omega arith
 path_under_root (relay ∷ above ∷ rest) path = absurd (under_root relay above path.0)
 
 -- which serves processes, if there are any
-plain_leaf : (n : ℕ) → 1 ≤ n → list_any (is_number 0) (plain_attach n) ≡ true
+plain_leaf : (n : ℕ) → 1 ≤ n → list_any (is_number 0) (take n (plain_attach n)) ≡ true
 plain_leaf zero some = absurd (omega arith)
 plain_leaf (suc n) some = refl
 
@@ -41,5 +41,5 @@ plain_is_checked n cap hold plan is some few cap_low cap_high hold_low hold_high
     none fault.Mixed = λ has. grind (arith, is.tree)
     none fault.Childless = λ has.
         let first : has.0 ≡ 0 = omega (arith, has.1, ap length is.tree) in
-        has.2 (rw (is.attached, first) (plain_leaf n some))
+        has.2 (rw (is.attached, is.processes, first) (plain_leaf n some))
     none fault.Unattached = λ has. grind (arith, length-replicate, get_or-replicate, is.tree, is.attached, is.processes)

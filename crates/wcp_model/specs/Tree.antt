@@ -1,4 +1,4 @@
-use Rattle.std.specs.Prelude.{◌≡◌, ◌==◌, ℕ, Bool, false, nat_lt, Option, Some, None, List, [], ◌∷◌, length, replicate, slice_get}
+use Rattle.std.specs.Prelude.{◌≡◌, ◌==◌, ℕ, Bool, false, nat_lt, Option, Some, None, List, [], ◌∷◌, length, replicate, slice_get, take}
 use Rattle.std.specs.List.{list_any}
 use Rattle.std.specs.Option.{option_flatten}
 use Rattle.wcp_model.specs.declared.plan.Parent.{Parent}
@@ -23,8 +23,9 @@ is_number relay None = false
 abbrev pub is_attached : Plan → ℕ → ℕ → Bool
 is_attached plan relay p = is_number relay (leaf_of plan p)
 
+-- A leaf serves one of the n processes, at least.
 abbrev pub is_leaf : Plan → ℕ → Bool
-is_leaf plan relay = list_any (is_number relay) plan.attach.items
+is_leaf plan relay = list_any (is_number relay) (take plan.n plan.attach.items)
 
 -- The plain tree has one relay, under the root, which serves each of n processes.
 abbrev pub plain_parents : List Parent

@@ -1,4 +1,4 @@
-ghost use Rattle.std.specs.Prelude.{◌≡◌, ◌↔◌, ℕ, ◌+◌, ◌<◌, ◌≤◌, List, [], ◌∷◌, length, replicate, Contains, IsTrue, IsOk, IfOk, Some, Err};
+ghost use Rattle.std.specs.Prelude.{◌≡◌, ◌↔◌, ℕ, ◌+◌, ◌<◌, ◌≤◌, List, [], ◌∷◌, length, take, replicate, Contains, IsTrue, IsOk, IfOk, Some, Err};
 ghost use Rattle.wcp_clock.specs.Limits.{most_processes, most_cap, most_hold};
 ghost use Rattle.wcp_model.specs.declared.plan.Parent.TheVariants.{Root};
 ghost use Rattle.wcp_model.specs.declared.plan.PlanFault.{PlanFault};
@@ -192,10 +192,17 @@ impl Plan {
     pub fn is_leaf(&self, relay: u32) -> bool
         ensures { result ≡ is_leaf self.now relay }
     {
-        self.attach.iter().any(|entry| match entry {
+        self.served().iter().any(|entry| match entry {
             Some(attached) => *attached == relay,
             None => false,
         })
+    }
+
+    /// The entries of `attach` for the processes that there are.
+    fn served(&self) -> &[Option<u32>]
+        ensures { result.now ≡ take self.now.n self.now.attach.items }
+    {
+        self.attach.get(..self.n as usize).unwrap_or(&self.attach)
     }
 
     /// What a relay passes its items to, if there is such a relay.

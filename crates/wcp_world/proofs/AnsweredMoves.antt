@@ -1,4 +1,4 @@
-use Rattle.std.proofs.Common.{◌≡◌, ◌≢◌, ℕ, ◌+◌, ◌<◌, ◌≤◌, Bool, true, false, cond, nat_le, nat_lt, length, set, get_or, eqb, Option, None, Some, MatchOption, List, [], ◌∷◌, ◌++◌, slice_get, drop, refl, sym, ap, ap₂, subst, ◌∙◌, ⊎_elim, append-nil, eqb-true, eq-eqb, add-zero, true≢false, arith}
+use Rattle.std.proofs.Common.{◌≡◌, ◌≢◌, ℕ, ◌+◌, ◌<◌, ◌≤◌, Bool, true, false, cond, nat_le, nat_lt, length, set, get_or, eqb, Option, None, Some, MatchOption, List, [], ◌∷◌, ◌++◌, slice_get, drop, take, refl, sym, ap, ap₂, subst, ◌∙◌, ⊎_elim, append-nil, eqb-true, eq-eqb, add-zero, true≢false, arith}
 use Rattle.std.specs.List.{list_any}
 use Rattle.std.specs.Option.{option_and_then, option_flatten}
 use Rattle.std.proofs.lemmas.Bool.{cases_lt, cases_Bool, cases_eq, ne_eqb, false_from_ne_true}
@@ -65,7 +65,7 @@ pub attached_same : (a b : Plan) → IsSamePlan a b → (relay p : ℕ) → is_a
 attached_same a b same relay p = ap (λ l. is_number relay (option_flatten (slice_get l p))) same.attach
 
 pub leaf_same : (a b : Plan) → IsSamePlan a b → (relay : ℕ) → is_leaf a relay ≡ is_leaf b relay
-leaf_same a b same relay = ap (list_any (is_number relay)) same.attach
+leaf_same a b same relay = ap₂ (λ n l. list_any (is_number relay) (take n l)) same.n same.attach
 
 pub attached_is : (plan : Plan) (relay p : ℕ) → is_attached plan relay p ≡ true → leaf_of plan p ≡ Some relay
 attached_is plan relay p = named (leaf_of plan p)

@@ -197,5 +197,18 @@ fn a_step_asked_again_is_answered_as_with_ample_memory(rt: HostRuntime) -> Resul
         make(&rt, &mut world, asked)?;
     }
     assert_eq!(rt; world.report(), Report::Found(GlobalCut::new(&[0, 0])));
+    let both = Tally {
+        emitted: 2,
+        taken: 2,
+    };
+    let one = Tally {
+        emitted: 1,
+        taken: 1,
+    };
+    assert_eq!(rt; world.processes(), 2);
+    for p in 0..world.processes() {
+        let wanted = if p == 0 { both } else { one };
+        assert_eq!(rt; world.tally(p), wanted, "process {p}");
+    }
     Ok(())
 }
