@@ -141,6 +141,7 @@ impl ProbeCore {
             (λ back. stamp_refusal self.old to ≡ Some back.0) }
         ensures accepted { OnOk result (Accepts self.old Sent self.new) }
         ensures same { OnOk result (IsSameProbe self.old self.new) }
+        ensures rest { OnOk result (self.new ≡ record self.old { clock = self.new.clock; flag = false }) }
         ensures pending { OnOk result (self.new.pending ≡ self.old.pending) }
         ensures stamped { IfOk result (λ message. IsSealed message (record {
           watch = self.old.watch;
@@ -179,6 +180,7 @@ impl ProbeCore {
             (λ back. receive_refusal self.old (seal_of message) ≡ Some back.0) }
         ensures accepted { OnOk result (Accepts self.old (Received (seal_of message).clock) self.new) }
         ensures same { OnOk result (IsSameProbe self.old self.new) }
+        ensures rest { OnOk result (self.new ≡ record self.old { clock = self.new.clock; flag = false }) }
         ensures pending { OnOk result (self.new.pending ≡ self.old.pending) }
         ensures value { IfOk result (λ value. value ≡ value_of message) }
         ensures refused { IfErr result (λ back. (back.1 ≡ message) × (self.new ≡ self.old)) }
