@@ -1,2 +1,13 @@
 //! Live probes and relays: the tree of links from the processes to the checker, for every checked plan.
 #![tactic(auto)]
+
+mod feed;
+mod outlet;
+mod relay;
+mod relay_end;
+mod source;
+
+pub use feed::Feed;
+pub use relay::Relay;
+pub use relay_end::{Receipts, RelayEnd, RelayFault};
+pub use source::Source;

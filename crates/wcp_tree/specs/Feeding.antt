@@ -1,0 +1,65 @@
+-- What a relay takes from.
+use Rattle.std.specs.Prelude.{◌≡◌, ◌≢◌, ◌==◌, ℕ, Bool, true, false, List, [], ◌∷◌, ◌++◌, length, map, All, AllPairs, if◌then◌else◌}
+use Rattle.std.specs.List.{list_any}
+use Rattle.std.specs.FinSet as set
+use Rattle.std.proofs.Props.{props}
+use Rattle.wcp_clock.specs.declared.note.Item.{Item}
+use Rattle.wcp_clock.specs.declared.note.Note.{Note}
+use Rattle.wcp_model.specs.LaneRule.{IsNext, IsRun}
+use Rattle.wcp_lane.specs.Passes.{Numbers}
+use Rattle.wcp_lane.specs.Notes.{place_of, is_close}
+use Rattle.wcp_lane.specs.Message as lane
+use Rattle.wcp_tree.specs.declared.feed.Feed.{Feed}
+use Rattle.wcp_tree.specs.declared.source.Source.{Source}
+use Rattle.wcp_tree.specs.declared.source.Source.TheVariants.{Leaf, Inner}
+
+-- A note is the next one after the notes of its process that were taken before.
+abbrev pub IsNextNote : List Note → Note → Type 0
+IsNextNote before note = IsNext place_of is_close before note
+
+-- The last of these items is a last one.
+abbrev pub IsEnded : {I : Type 0} → (I → Bool) → List I → Type 0
+IsEnded {I} is_last items = (before : List I) × (item : I) × (items ≡ before ++ item ∷ []) × (is_last item ≡ true)
+
+-- The notes that a feed took are a run, it counts the snapshots among them, and it knows whether the close mark came.
+pub record IsInOrder (feed : Feed) : Type 0 where
+  pub run : IsRun place_of is_close feed.taker.taken
+  pub counted : feed.closed ≡ false
+      → (feed.next ≡ length feed.taker.taken) × All (λ note. is_close note ≡ false) feed.taker.taken
+  pub ended : feed.closed ≡ true → IsEnded is_close feed.taker.taken
+
+-- Nothing was taken by this feed.
+abbrev pub IsNewFeed : Feed → Type 0
+IsNewFeed feed = (feed.next ≡ 0) × (feed.closed ≡ false) × (length feed.taker.taken ≡ 0)
+
+-- A relay serves the processes of a set: a leaf by one new feed for each of them, and any other relay by a lane of
+-- processes of the set, from which nothing was taken.
+abbrev pub Serves : Source → Numbers → Type 0
+Serves (Leaf feeds parker) members =
+    All IsNewFeed feeds.items
+    × AllPairs (λ a b. a.process ≢ b.process) feeds.items
+    × ((p : ℕ) → set.contains members p ≡ list_any (λ feed. feed.process == p) feeds.items)
+Serves (Inner taker) members =
+    (length taker.taken ≡ 0) × ((p : ℕ) → set.contains taker.members p ≡ true → set.contains members p ≡ true)
+
+pub Serves-prop : (source : Source) (members : Numbers) → IsProp (Serves source members)
+Serves-prop (Leaf feeds parker) members = hlevel props
+Serves-prop (Inner taker) members = hlevel props
+
+-- The notes of process p as items.
+abbrev pub items_by : ℕ → List Note → List Item
+items_by p notes = map (λ note. record { from = p; note = note }) notes
+
+-- The items of process p among these.
+abbrev pub items_of : ℕ → List Item → List Item
+items_of p items = lane.items_from (λ item. item.from) p items
+
+-- The items of process p that its feed took.
+abbrev pub fed : List Feed → ℕ → List Item
+fed [] p = []
+fed (feed ∷ feeds) p = if feed.process == p then items_by p feed.taker.taken else fed feeds p
+
+-- The items of process p that a relay took.
+abbrev pub taken_of : Source → ℕ → List Item
+taken_of (Leaf feeds parker) p = fed feeds.items p
+taken_of (Inner taker) p = items_of p taker.taken

@@ -1,0 +1,60 @@
+ghost use Rattle.std.specs.Prelude.{◌≡◌};
+
+use crate::feed::Feed;
+use crate::source::Source;
+use std::snapshot::Snapshot;
+use wcp_clock::Item;
+use wcp_lane::{Cut, PutReceipt, Putter, TakeReceipt};
+
+/// Why a relay didn't pass on all that it was to.
+#[derive(Clone, Copy, Debug, PartialEq, Eq)]
+pub enum RelayFault {
+    /// A note of this process came that wasn't its next one.
+    Gap(u32),
+    /// A lane was cut.
+    Cut(Cut),
+}
+
+/// What is left of what a relay took from.
+#[derive(Drop)]
+pub enum Receipts {
+    /// The feeds of a leaf.
+    Feeds(Vec<Feed>),
+    /// The receipt of any other relay's lane.
+    Lane(TakeReceipt<Item>),
+}
+
+/// What is left of a relay that ran.
+#[derive(Drop)]
+pub enum RelayEnd {
+    /// It passed all on.
+    Whole {
+        number: u32,
+        watch: u64,
+        taken: Receipts,
+        put: PutReceipt<Item>,
+    },
+    /// It met a fault. It holds no end of a ring or a lane any more, so that no other relay waits
+    /// for it; only contracts see what its ends had taken and put.
+    Faulted {
+        number: u32,
+        watch: u64,
+        fault: RelayFault,
+        source: Snapshot<Source>,
+        putter: Snapshot<Putter<Item>>,
+    },
+}
+
+impl RelayEnd {
+    ghost use Rattle.wcp_tree.specs.RelayEnds.{fault_of};
+
+    /// The first fault that it met.
+    pub fn fault(&self) -> Option<RelayFault>
+        ensures { result ≡ fault_of self.now }
+    {
+        match self {
+            RelayEnd::Whole { .. } => None,
+            RelayEnd::Faulted { fault, .. } => Some(*fault),
+        }
+    }
+}
