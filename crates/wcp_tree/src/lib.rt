@@ -11,3 +11,6 @@ pub use feed::Feed;
 pub use relay::Relay;
 pub use relay_end::{Receipts, RelayEnd, RelayFault};
 pub use source::Source;
+mod live_probe;
+
+pub use live_probe::{LiveProbe, ProbeEnd};

@@ -1,0 +1,59 @@
+-- What a live probe has, and the log of calls that it stands for.
+use Rattle.std.specs.Prelude.{◌≡◌, ℕ, Bool, true, false, not, Option, Some, None, List, [], ◌∷◌, ◌++◌, length, count_by, replicate}
+use Rattle.wcp_clock.specs.Limits.{most_events}
+use Rattle.wcp_clock.specs.declared.note.Note.{Note}
+use Rattle.wcp_model.specs.ProbeLog.{Call, state_of_log}
+use Rattle.wcp_probe.specs.Core.{Core, StandsFor}
+use Rattle.wcp_ring.specs.Ends.{PutSide, EndedSide}
+use Rattle.wcp_lane.specs.Notes.{is_close}
+
+-- A live probe has a core, and the end of its ring that puts.
+pub record LiveSide : Type 0 where
+  pub core : Core
+  pub link : PutSide
+
+-- What is left of a closed one: its watch, its process, and its end of the ring.
+pub record ClosedSide : Type 0 where
+  pub watch : ℕ
+  pub id : ℕ
+  pub link : EndedSide
+
+-- The core of a probe before any call.
+abbrev pub fresh_core : ℕ → ℕ → ℕ → Core
+fresh_core watch id n = record {
+  watch = watch;
+  id = id;
+  limit = most_events;
+  clock = replicate n 0;
+  flag = false;
+  closed = false;
+  emitted = 0;
+  pending = None;
+}
+
+-- The note that is pending, if there is one.
+abbrev pub pending_notes : Option Note → List Note
+pending_notes (Some note) = note ∷ []
+pending_notes None = []
+
+-- What a live probe has emitted: what its end of the ring has put, followed by what is pending.
+abbrev pub emitted_by : LiveSide → List Note
+emitted_by probe = probe.link.put ++ pending_notes probe.core.pending
+
+-- How many of these notes are snapshots.
+abbrev pub snapshots_in : List Note → ℕ
+snapshots_in notes = count_by (λ note. not (is_close note)) notes
+
+-- The emissions of a log, for the process and the number of processes of a core.
+abbrev pub emissions_of : Core → List Call → List Note
+emissions_of core log = (state_of_log (length core.clock) core.id log).notes
+
+-- A live probe stands for a log where its core does, and what it has emitted is the emissions of the log.
+pub record LiveFor (probe : LiveSide) (log : List Call) : Type 0 where
+  pub core : StandsFor probe.core log
+  pub emissions : emitted_by probe ≡ emissions_of probe.core log
+
+-- A live probe after a call that was accepted: of whatever log it stood for, it now stands for that log with the call
+-- at its end.
+abbrev pub LiveAccepts : LiveSide → Call → LiveSide → Type 0
+LiveAccepts old call new = (log : List Call) → LiveFor old log → LiveFor new (log ++ call ∷ [])

@@ -1,0 +1,235 @@
+ghost use Rattle.std.specs.Prelude.{◌≡◌, ◌≢◌, ◌+◌, ◌<◌, ◌≤◌, ◌↔◌, true, false, [], ◌∷◌, ◌++◌, List, IsTrue, IsOk, IfOk, OnOk, IfErr, IsErr, MatchResult, Option, IsSome, if◌then◌else◌};
+ghost use Rattle.wcp_clock.specs.Limits.{most_processes};
+ghost use Rattle.wcp_clock.specs.declared.note.Note.TheVariants as note;
+ghost use Rattle.wcp_model.specs.ProbeLog.{Call, Observed, Sent, Received};
+ghost use Rattle.wcp_model.specs.ProbeLog.{Closed as closed_call};
+ghost use Rattle.wcp_probe.specs.declared.probe.Refusal.TheVariants as refusal;
+ghost use Rattle.wcp_probe.specs.Core.{IsSameProbe};
+ghost use Rattle.wcp_probe.specs.Seal.{seal_of, value_of, IsSealed};
+ghost use Rattle.wcp_probe.specs.Refusals.{stamp_refusal, receive_refusal};
+ghost use Rattle.wcp_tree.specs.LiveProbe.{LiveFor, LiveAccepts, fresh_core, emitted_by, emissions_of, snapshots_in};
+
+use std::marker::Model;
+use wcp_clock::{CLOCK_LIMIT, Note};
+use wcp_probe::{ProbeCore, Refusal, Stamped};
+use wcp_ring::{PutterEnd, RingPutter};
+
+/// The probe of a process that runs: its core, and the end of the ring by which its notes go to its
+/// relay. None of its calls waits, and none takes memory.
+///
+/// A contract sees it as its core and its end of the ring.
+#[derive(Drop)]
+pub struct LiveProbe {
+    watch: u64,
+    id: u32,
+    core: ProbeCore,
+    putter: RingPutter,
+}
+
+impl Model for LiveProbe {
+    ghost use Rattle.std.specs.Prelude.{◌≡◌, false};
+    ghost use Rattle.wcp_tree.specs.LiveProbe.{LiveSide, emitted_by, snapshots_in};
+
+    ghost Value = { LiveSide };
+
+    ghost view = { λ p. record { core = p.core; link = p.putter } };
+
+    ghost invariant = { λ p. record {
+      watch : p.core.watch ≡ p.watch;
+      process : p.core.id ≡ p.id;
+      unclosed : p.core.closed ≡ false;
+      counted : p.core.emitted ≡ snapshots_in (emitted_by (record { core = p.core; link = p.putter }));
+    } };
+}
+
+impl LiveProbe {
+    /// The probe of process `id` of `n`, of a watch of this number, before any call. Its notes go into
+    /// this ring.
+    pub(crate) fn new(watch: u64, id: u32, n: u32, putter: RingPutter) -> LiveProbe
+        requires process { id < n }
+        requires processes { n ≤ most_processes }
+        requires empty { putter.put ≡ [] }
+        ensures fresh { result ≡ record { core = fresh_core watch id n; link = putter } }
+        ensures stands { LiveFor result [] }
+    {
+        LiveProbe {
+            watch,
+            id,
+            core: ProbeCore::new(watch, id, n, CLOCK_LIMIT),
+            putter,
+        }
+    }
+
+    /// The number of its process.
+    pub fn id(&self) -> u32
+        ensures { result ≡ self.now.core.id }
+    {
+        self.id
+    }
+
+    /// The process observes its condition. The answer is whether a snapshot was emitted, which then
+    /// is pending: the first true observation of an interval emits one.
+    pub fn observe(&mut self, holds: bool) -> bool
+        ensures accepted { LiveAccepts self.old (Observed holds) self.new }
+        ensures emits { IsTrue result ↔ (IsTrue holds × (self.old.core.flag ≡ false)) }
+        ensures spared { IsTrue result → self.old.core.pending ≡ None }
+        ensures link { self.new.link ≡ self.old.link }
+        ensures pending { self.new.core ≡ (if result
+            then record self.old.core {
+              flag = true;
+              emitted = self.old.core.emitted + 1;
+              pending = Some (note.Snap self.old.core.emitted self.old.core.clock);
+            }
+            else self.old.core) }
+    {
+        match self.core.observe(holds) {
+            Ok(emitted) => emitted,
+            Err(_) => unreachable!(),
+        }
+    }
+
+    /// Makes one try to put what is pending. The answer is whether nothing is pending afterwards.
+    pub fn flush(&mut self) -> bool
+        ensures done { IsTrue result ↔ (self.new.core.pending ≡ None) }
+        ensures core { self.new.core ≡ record self.old.core { pending = self.new.core.pending } }
+        ensures ring { self.new.link.ring ≡ self.old.link.ring }
+        ensures whole { emitted_by self.new ≡ emitted_by self.old }
+        ensures accepts { 0 < self.old.link.free → IsTrue result }
+        ensures full { result ≡ false → self.new.link.free ≡ 0 }
+        ensures stands { (log : List Call) → LiveFor self.old log → LiveFor self.new log }
+    {
+        let Some(note) = self.core.pending() else {
+            return true;
+        };
+        match self.putter.try_put(note) {
+            Ok(()) => {
+                self.core.was_put();
+                true
+            }
+            Err(_) => false,
+        }
+    }
+
+    /// The process sends a message: its stamp carries the clock after the send.
+    pub fn stamp<T>(&mut self, to: u32, value: T) -> Result<Stamped<T>, (Refusal, T)>
+        ensures first { MatchResult
+            result
+            (λ _. stamp_refusal self.old.core to ≡ None)
+            (λ back. stamp_refusal self.old.core to ≡ Some back.0) }
+        ensures unclosed { IfErr result (λ back. back.0 ≢ refusal.Closed) }
+        ensures accepted { OnOk result (LiveAccepts self.old Sent self.new) }
+        ensures same { OnOk result (IsSameProbe self.old.core self.new.core) }
+        ensures kept { OnOk result
+            ((self.new.core.pending ≡ self.old.core.pending) × (self.new.link ≡ self.old.link)) }
+        ensures stamped { IfOk result (λ message. IsSealed message (record {
+          watch = self.old.core.watch;
+          from = self.old.core.id;
+          to = to;
+          clock = self.new.core.clock;
+        }) value) }
+        ensures refused { IfErr result (λ back. (back.1 ≡ value) × (self.new ≡ self.old)) }
+    {
+        self.core.stamp(to, value)
+    }
+
+    /// The process receives a message: its clock then knows what the sender's knew after the send.
+    pub fn receive<T>(&mut self, message: Stamped<T>) -> Result<T, (Refusal, Stamped<T>)>
+        ensures first { MatchResult
+            result
+            (λ _. receive_refusal self.old.core (seal_of message) ≡ None)
+            (λ back. receive_refusal self.old.core (seal_of message) ≡ Some back.0) }
+        ensures unclosed { IfErr result (λ back. back.0 ≢ refusal.Closed) }
+        ensures accepted { OnOk result (LiveAccepts self.old (Received (seal_of message).clock) self.new) }
+        ensures same { OnOk result (IsSameProbe self.old.core self.new.core) }
+        ensures kept { OnOk result
+            ((self.new.core.pending ≡ self.old.core.pending) × (self.new.link ≡ self.old.link)) }
+        ensures value { IfOk result (λ value. value ≡ value_of message) }
+        ensures refused { IfErr result (λ back. (back.1 ≡ message) × (self.new ≡ self.old)) }
+    {
+        self.core.receive(message)
+    }
+
+    /// The process ends its part: the mark that counts its snapshots goes into the ring. Where a note is
+    /// pending, or the ring has no room for the mark, the probe comes back as it was, and is not closed.
+    pub fn close(mut self) -> Result<ProbeEnd, (Refusal, LiveProbe)>
+        ensures backlog { IsSome self.core.pending → IfErr result (λ back. back.1 ≡ self) }
+        ensures accepts { self.core.pending ≡ None → 0 < self.link.free → IsOk result }
+        ensures reason { IfErr result (λ back. back.0 ≡ refusal.Backlog) }
+        ensures unchanged { IfErr result (λ back.
+            (back.1.core ≡ self.core) × (back.1.link.ring ≡ self.link.ring) × (back.1.link.put ≡ self.link.put)) }
+        ensures full { self.core.pending ≡ None → IfErr result (λ back. back.1.link.free ≡ 0) }
+        ensures closed { IfOk result (λ end. end ≡ record {
+          watch = self.core.watch;
+          id = self.core.id;
+          link = record { ring = self.link.ring; put = self.link.put ++ note.Close self.core.emitted ∷ [] };
+        }) }
+        ensures accepted { IfOk result (λ end. (log : List Call) → LiveFor self log
+            → end.link.put ≡ emissions_of self.core (log ++ closed_call ∷ [])) }
+    {
+        if self.core.pending().is_some() {
+            return Err((Refusal::Backlog, self));
+        }
+        let emitted = self.core.emitted();
+        match self.putter.try_put(Note::Close { count: emitted }) {
+            Ok(()) => Ok(ProbeEnd {
+                watch: self.watch,
+                id: self.id,
+                emitted,
+                link: self.putter.end(),
+            }),
+            Err(_) => Err((Refusal::Backlog, self)),
+        }
+    }
+}
+
+/// What is left of a live probe that is closed. It keeps what was put into its ring.
+///
+/// A contract sees it as its watch, its process and the end of its ring.
+#[derive(Drop)]
+pub struct ProbeEnd {
+    watch: u64,
+    id: u32,
+    emitted: u32,
+    link: PutterEnd,
+}
+
+impl Model for ProbeEnd {
+    ghost use Rattle.std.specs.Prelude.{◌≡◌};
+    ghost use Rattle.wcp_tree.specs.LiveProbe.{ClosedSide, snapshots_in};
+
+    ghost Value = { ClosedSide };
+
+    ghost view = { λ e. record { watch = e.watch; id = e.id; link = e.link } };
+
+    ghost invariant = { λ e. e.emitted ≡ snapshots_in e.link.put };
+}
+
+impl ProbeEnd {
+    /// The number of its watch.
+    pub fn watch(&self) -> u64
+        ensures { result ≡ self.now.watch }
+    {
+        self.watch
+    }
+
+    /// The number of its process.
+    pub fn id(&self) -> u32
+        ensures { result ≡ self.now.id }
+    {
+        self.id
+    }
+
+    /// How many snapshots the process has emitted.
+    pub fn emitted(&self) -> u32
+        ensures { result ≡ snapshots_in self.now.link.put }
+    {
+        self.emitted
+    }
+
+    /// The end of its ring.
+    pub fn into_link(self) -> PutterEnd
+        ensures { result ≡ self.link }
+    {
+        self.link
+    }
+}
