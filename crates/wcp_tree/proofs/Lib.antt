@@ -1,2 +1,5 @@
 pub mod Lists
 pub mod Ordering
+pub mod CheckedPlan
+pub mod Climbs
+pub mod Gathering

@@ -1,3 +1,5 @@
 pub mod Feeding
 pub mod RelayEnds
 pub mod LiveProbe
+pub mod Members
+pub mod Wiring

@@ -12,5 +12,7 @@ pub use relay::Relay;
 pub use relay_end::{Receipts, RelayEnd, RelayFault};
 pub use source::Source;
 mod live_probe;
+mod members;
 
 pub use live_probe::{LiveProbe, ProbeEnd};
+pub use members::processes_below;

@@ -1,0 +1,31 @@
+-- How the parts of a watch hang together before anything runs.
+use Rattle.std.specs.Prelude.{◌≡◌, ◌≢◌, ◌↔◌, ℕ, ◌<◌, true, Some, List, [], length, slice_index_or}
+use Rattle.std.specs.FinSet as set
+use Rattle.wcp_clock.specs.declared.note.Item.{Item}
+use Rattle.wcp_model.specs.declared.plan.Parent.{Parent}
+use Rattle.wcp_model.specs.declared.plan.Plan.{Plan}
+use Rattle.wcp_model.specs.Tree.{parent_of}
+use Rattle.wcp_lane.specs.Ends.{LaneName, PutEnd}
+use Rattle.wcp_lane.specs.Passes.{Numbers}
+use Rattle.wcp_tree.specs.Members.{AreBelow, IsBelow}
+
+-- A relay's set in the lane of an owner: the processes below it where the owner is its parent, and else none.
+pub record IsShareOf (plan : Plan) (owner : Parent) (relay : ℕ) (members : Numbers) : Type 0 where
+  pub child : parent_of plan relay ≡ Some owner → AreBelow plan relay members
+  pub other : parent_of plan relay ≢ Some owner → members ≡ set.empty
+
+-- The sets of a lane: one for each relay, by number.
+abbrev pub AreShares : Plan → Parent → List Numbers → Type 0
+AreShares plan owner sets =
+    (relay : ℕ) (d : Numbers) → relay < length sets → IsShareOf plan owner relay (slice_index_or sets relay d)
+
+-- The numbers of a lane's sets are those of the processes below the owner's children.
+abbrev pub AreBelowChildren : Plan → Parent → Numbers → Type 0
+AreBelowChildren plan owner members = (p : ℕ)
+    → (set.contains members p ≡ true) ↔ ((relay : ℕ) × (parent_of plan relay ≡ Some owner) × IsBelow plan relay p)
+
+-- A relay's end of a lane before any put: it puts for just the processes below the relay.
+pub record IsSeatOf (plan : Plan) (relay : ℕ) (lane : LaneName Item) (putter : PutEnd Item) : Type 0 where
+  pub lane : putter.lane ≡ lane
+  pub members : AreBelow plan relay putter.members
+  pub empty : putter.put ≡ []
