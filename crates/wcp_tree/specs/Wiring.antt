@@ -26,6 +26,6 @@ AreBelowChildren plan owner members = (p : ℕ)
 
 -- A relay's end of a lane before any put: it puts for just the processes below the relay.
 pub record IsSeatOf (plan : Plan) (relay : ℕ) (lane : LaneName Item) (putter : PutEnd Item) : Type 0 where
-  pub lane : putter.lane ≡ lane
+  pub on : putter.lane ≡ lane
   pub members : AreBelow plan relay putter.members
   pub empty : putter.put ≡ []

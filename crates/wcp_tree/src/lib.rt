@@ -11,6 +11,7 @@ pub use feed::Feed;
 pub use relay::Relay;
 pub use relay_end::{Receipts, RelayEnd, RelayFault};
 pub use source::Source;
+mod lanes;
 mod live_probe;
 mod members;
 

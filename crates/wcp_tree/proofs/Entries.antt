@@ -1,0 +1,35 @@
+-- The entries of a list.
+use Rattle.std.proofs.Common.{◌≡◌, ◌≢◌, ℕ, zero, suc, ◌<◌, List, [], ◌∷◌, ◌++◌, length, map, get_or, Some, refl, ap, arith}
+use Rattle.std.specs.Prelude.{slice_get, slice_set}
+
+module _ {X : Type 0} where
+  -- what was written is there
+  pub set_here : (xs : List X) (k : ℕ) (x : X) → k < length xs → slice_get (slice_set xs k x) k ≡ Some x
+  set_here [] k x within = absurd (omega arith)
+  set_here (y ∷ xs) zero x within = refl
+  set_here (y ∷ xs) (suc k) x within = set_here xs k x (omega arith)
+
+  -- and the other entries stay
+  pub set_elsewhere : (xs : List X) (k i : ℕ) (x : X) → i ≢ k → slice_get (slice_set xs k x) i ≡ slice_get xs i
+  set_elsewhere [] k i x apart = refl
+  set_elsewhere (y ∷ xs) zero zero x apart = absurd (apart refl)
+  set_elsewhere (y ∷ xs) zero (suc i) x apart = refl
+  set_elsewhere (y ∷ xs) (suc k) zero x apart = refl
+  set_elsewhere (y ∷ xs) (suc k) (suc i) x apart = set_elsewhere xs k i x (λ e. apart (ap (λ n. suc n) e))
+
+  -- the last entry, and those before it
+  pub last_entry : (xs : List X) (x : X) → slice_get (xs ++ x ∷ []) (length xs) ≡ Some x
+  last_entry [] x = refl
+  last_entry (y ∷ xs) x = last_entry xs x
+
+  pub earlier_entry : (xs ys : List X) (i : ℕ) → i < length xs → slice_get (xs ++ ys) i ≡ slice_get xs i
+  earlier_entry [] ys i within = absurd (omega arith)
+  earlier_entry (x ∷ xs) ys zero within = refl
+  earlier_entry (x ∷ xs) ys (suc i) within = earlier_entry xs ys i (omega arith)
+
+-- an entry of a mapped list
+pub mapped_entry : {X Y : Type 0} (f : X → Y) (xs : List X) (k : ℕ) (d : X) → k < length xs
+    → slice_get (map f xs) k ≡ Some (f (get_or xs k d))
+mapped_entry f [] k d within = absurd (omega arith)
+mapped_entry f (x ∷ xs) zero d within = refl
+mapped_entry f (x ∷ xs) (suc k) d within = mapped_entry f xs k d (omega arith)

@@ -1,0 +1,100 @@
+-- The sets of a lane: they are apart, and together they are the processes below the owner's children.
+use Rattle.std.proofs.Common.{◌≡◌, ◌≢◌, ◌⊎◌, ℕ, ◌+◌, ◌<◌, ◌≤◌, true, true≢false, List, [], ◌∷◌, ◌++◌, length, map, get_or, Some, refl, sym, ap, subst, ◌∙◌, inl, inr, ⊎_elim, arith}
+use Rattle.std.specs.Ordering.{nat_cmp}
+use Rattle.std.specs.FinSet as set
+use Rattle.std.specs.List.{list_any, slice_get}
+use Rattle.std.proofs.lemmas.Bool.{cases_eq}
+use Rattle.std.proofs.lemmas.List.{get_or_push, get_or_append_left, length_push}
+use Rattle.std.proofs.lemmas.List.Folds.{Any-from_list_any, list_any_at}
+use Rattle.std.proofs.lemmas.Option.{slice_get_within, slice_get-get_or}
+use Rattle.wcp_model.specs.declared.plan.Parent.{Parent}
+use Rattle.wcp_model.specs.declared.plan.Parent.TheVariants.{Root, Relay}
+use Rattle.wcp_model.specs.declared.plan.Plan.{Plan}
+use Rattle.wcp_model.specs.PlanFault.{IsCheckedPlan}
+use Rattle.wcp_model.specs.Tree.{parent_of}
+use Rattle.wcp_clock.specs.declared.note.Item.{Item}
+use Rattle.wcp_lane.specs.Ends.{LaneName, PutEnd, new_putter}
+use Rattle.wcp_lane.specs.Owners.{AreApart}
+use Rattle.wcp_lane.specs.Passes.{Numbers}
+use Rattle.wcp_tree.specs.Members.{IsBelow}
+use Rattle.wcp_tree.specs.Wiring.{IsShareOf, AreShares, AreBelowChildren, IsSeatOf}
+use Rattle.wcp_tree.proofs.Entries.{mapped_entry}
+use Rattle.wcp_tree.proofs.Climbs.{siblings_apart}
+
+-- two owners are one, or they aren't
+same_or_other : (a b : Parent) → (a ≡ b) ⊎ (a ≢ b)
+same_or_other Root Root = inl refl
+same_or_other Root (Relay s) = inr (λ e. cc)
+same_or_other (Relay r) Root = inr (λ e. cc)
+same_or_other (Relay r) (Relay s) = ⊎_elim
+    (λ (same : r ≡ s). inl (ap (λ n. Relay n) same))
+    (λ (apart : r ≢ s). inr (λ e. apart cc))
+    (cases_eq r s)
+
+module _ (plan : Plan) (owner : Parent) where
+  pub one_share_more : (sets : List Numbers) (relay : ℕ) (share : Numbers) → length sets ≡ relay
+      → AreShares plan owner sets → IsShareOf plan owner relay share → AreShares plan owner (sets ++ share ∷ [])
+  one_share_more sets relay share count each here = λ k d below. ⊎_elim
+      (λ (same : k ≡ length sets).
+      subst (λ (m : Numbers). IsShareOf plan owner k m)
+      (sym (get_or_push sets share d k (sym same)))
+      (subst (λ n. IsShareOf plan owner n share) (sym (same ∙ count)) here))
+      (λ (apart : k ≢ length sets).
+      let lower : k < length sets = omega (arith, length_push sets share, below, apart) in
+      subst (λ (m : Numbers). IsShareOf plan owner k m)
+      (sym (get_or_append_left sets (share ∷ []) d k lower))
+      (each k d lower))
+      (cases_eq k (length sets))
+
+  module _ (checked : IsCheckedPlan plan) (sets : List Numbers) (count : length sets ≡ length plan.parents.items)
+      (each : AreShares plan owner sets) where
+    -- whose set has a process, is a child of the owner, and the process is below it
+    of_child : (relay : ℕ) (d : Numbers) (p : ℕ) → relay < length sets
+        → set.contains (get_or sets relay d) p ≡ true
+        → (parent_of plan relay ≡ Some owner) × IsBelow plan relay p
+    of_child relay d p within has =
+        let at : parent_of plan relay ≡ Some (get_or plan.parents.items relay Root) =
+        slice_get-get_or plan.parents.items relay Root (omega (arith, count, within)) in
+        ⊎_elim
+        (λ (same : get_or plan.parents.items relay Root ≡ owner).
+        let child : parent_of plan relay ≡ Some owner = at ∙ ap (λ o. Some o) same in
+        (child, ((each relay d within).child child p).0 has))
+        (λ (other : get_or plan.parents.items relay Root ≢ owner).
+        let none = (each relay d within).other (λ is. other cc) in
+        absurd (true≢false (sym has ∙ ap (λ (s : Numbers). set.contains s p) none ∙ set.contains-empty nat_cmp p)))
+        (same_or_other (get_or plan.parents.items relay Root) owner)
+
+    -- the ends of such a lane are the children's seats
+    pub seats_of_shares : (lane : LaneName Item) (ends : List (PutEnd Item)) → ends ≡ map (new_putter lane) sets
+        → (relay : ℕ) → parent_of plan relay ≡ Some owner
+        → (putter : PutEnd Item) × (slice_get ends relay ≡ Some putter) × IsSeatOf plan relay lane putter
+    seats_of_shares lane ends are relay child =
+        let within : relay < length sets =
+        let inside = slice_get_within plan.parents.items relay owner child in omega (arith, count) in (
+          new_putter lane (get_or sets relay set.empty),
+          ap (λ (xs : List (PutEnd Item)). slice_get xs relay) are
+              ∙ mapped_entry (new_putter lane) sets relay set.empty within,
+          record { on = refl; members = (each relay set.empty within).child child; empty = refl },
+        )
+
+    pub shares_apart : AreApart sets
+    shares_apart = λ i j d lower within p in_one in_other.
+        let one = of_child i d p (omega arith) in_one in
+        let other = of_child j d p within in_other in
+        siblings_apart plan checked i j p owner one.0 other.0 (λ e. omega arith) one.1 other.1
+
+    pub shares_together : (members : Numbers)
+        → ((p : ℕ) → set.contains members p ≡ list_any (λ numbers. set.contains numbers p) sets)
+        → AreBelowChildren plan owner members
+    shares_together members all = λ p. (
+      (λ has.
+          let some = Any-from_list_any (λ (numbers : Numbers). set.contains numbers p) sets (sym (all p) ∙ has) in
+          let child = of_child some.0 some.1 p some.2 (ap (λ (s : Numbers). set.contains s p) some.3 ∙ some.4) in
+          (some.0, child.0, child.1)),
+      (λ below.
+          let relay = below.0 in
+          let within : relay < length sets =
+          let inside = slice_get_within plan.parents.items relay owner below.1 in omega (arith, count) in
+          all p ∙ list_any_at (λ (numbers : Numbers). set.contains numbers p) sets relay set.empty within
+          (((each relay set.empty within).child below.1 p).1 below.2)),
+    )

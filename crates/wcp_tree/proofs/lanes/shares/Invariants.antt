@@ -1,0 +1,9 @@
+use Rattle.std.proofs.Common.{◌≡◌, length}
+use Rattle.wcp_tree.specs.Wiring.{AreShares}
+use Rattle.wcp_tree.proofs.lanes.shares.Given as goal
+
+abbrev pub invariant-loop-relay : goal.invariant-loop-relay
+invariant-loop-relay l = record {
+  count : length l.shares.items ≡ l.relay;
+  each : AreShares l.plan l.owner l.shares.items;
+}
