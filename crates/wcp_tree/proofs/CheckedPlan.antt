@@ -1,5 +1,5 @@
 -- What a checked plan keeps.
-use Rattle.std.proofs.Common.{◌≡◌, ◌≢◌, ℕ, ◌+◌, ◌<◌, ◌≤◌, length, get_or, take, List, Option, None, Some, Contains, refl, sym, ap, subst, ◌∙◌, inl, inr, ⊎_elim, arith}
+use Rattle.std.proofs.Common.{◌≡◌, ◌≢◌, ℕ, ◌+◌, ◌<◌, ◌≤◌, length, get_or, take, List, Option, None, Some, Contains, true, false, true≢false, eqb-true, eq-eqb, refl, sym, ap, subst, ◌∙◌, inl, inr, ⊎_elim, arith}
 use Rattle.std.proofs.lemmas.Bool.{cases_lt, cases_eq}
 use Rattle.std.proofs.Math.Seq.{take-length}
 use Rattle.std.proofs.lemmas.Option.{slice_get_within, slice_get_cases, slice_get-get_or, get_or_from_slice_get}
@@ -10,7 +10,16 @@ use Rattle.wcp_model.specs.declared.plan.Parent.TheVariants.{Root, Relay}
 use Rattle.wcp_model.specs.declared.plan.Plan.{Plan}
 use Rattle.wcp_model.specs.declared.plan.PlanFault.TheVariants as fault
 use Rattle.wcp_model.specs.PlanFault.{IsCheckedPlan, ServesProcess, ServesRelay}
-use Rattle.wcp_model.specs.Tree.{leaf_of, parent_of}
+use Rattle.wcp_model.specs.Tree.{is_number, leaf_of, parent_of}
+
+-- which relay a number stands for
+pub is_its_number : (relay : ℕ) (o : Option ℕ) → is_number relay o ≡ true → o ≡ Some relay
+is_its_number relay None is = cc
+is_its_number relay (Some other) is = ap (λ n. Some n) (eqb-true other relay is)
+
+pub is_not_its_number : (relay : ℕ) (o : Option ℕ) → is_number relay o ≡ false → o ≢ Some relay
+is_not_its_number relay o fails same =
+    true≢false (sym (ap (is_number relay) same ∙ eq-eqb relay relay refl) ∙ fails)
 
 module _ (plan : Plan) (checked : IsCheckedPlan plan) where
   pub some_relays : 0 < length plan.parents.items

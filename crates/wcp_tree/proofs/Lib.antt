@@ -6,3 +6,4 @@ pub mod Gathering
 pub mod Entries
 pub mod Seating
 pub mod Shares
+pub mod OpeningRings

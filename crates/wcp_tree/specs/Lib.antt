@@ -3,3 +3,4 @@ pub mod RelayEnds
 pub mod LiveProbe
 pub mod Members
 pub mod Wiring
+pub mod Rings

@@ -2,18 +2,18 @@
 #![tactic(auto)]
 
 mod feed;
-mod outlet;
-mod relay;
-mod relay_end;
-mod source;
-
-pub use feed::Feed;
-pub use relay::Relay;
-pub use relay_end::{Receipts, RelayEnd, RelayFault};
-pub use source::Source;
 mod lanes;
 mod live_probe;
 mod members;
+mod outlet;
+mod relay;
+mod relay_end;
+mod rings;
+mod source;
 
+pub use feed::Feed;
 pub use live_probe::{LiveProbe, ProbeEnd};
 pub use members::processes_below;
+pub use relay::Relay;
+pub use relay_end::{Receipts, RelayEnd, RelayFault};
+pub use source::Source;

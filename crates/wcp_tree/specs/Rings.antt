@@ -1,0 +1,42 @@
+-- The rings of a watch, and the feeds of its leaves, before anything runs.
+use Rattle.std.specs.Prelude.{◌≡◌, ◌≢◌, ◌==◌, ◌↔◌, ℕ, ◌<◌, false, true, Option, Some, List, [], length, slice_get, All, AllPairs}
+use Rattle.std.specs.List.{list_any}
+use Rattle.wcp_model.specs.declared.plan.Plan.{Plan}
+use Rattle.wcp_model.specs.Tree.{leaf_of}
+use Rattle.wcp_ring.specs.Ends.{TakeSide}
+use Rattle.wcp_tree.specs.declared.feed.Feed.{Feed}
+use Rattle.wcp_tree.specs.LiveProbe.{LiveSide, fresh_core}
+
+-- The end that takes from the ring of process p is here to be given to a leaf, and nothing was taken by it.
+abbrev pub IsTakerAt : List (Option TakeSide) → ℕ → TakeSide → Type 0
+IsTakerAt takers p taker = (slice_get takers p ≡ Some (Some taker)) × (taker.taken ≡ [])
+
+-- The ring of process p: its probe is fresh and has put nothing, and the end that takes is of the same ring.
+pub record IsRing (plan : Plan) (watch p : ℕ) (probes : List LiveSide) (takers : List (Option TakeSide)) : Type 0 where
+  pub probe : LiveSide
+  pub taker : TakeSide
+  pub is_probe : slice_get probes p ≡ Some probe
+  pub fresh : probe.core ≡ fresh_core watch p plan.n
+  pub empty : probe.link.put ≡ []
+  pub is_taker : IsTakerAt takers p taker
+  pub one_ring : taker.ring ≡ probe.link.ring
+
+-- The rings of the first k processes.
+pub record AreRings (plan : Plan) (watch k : ℕ) (probes : List LiveSide) (takers : List (Option TakeSide)) : Type 0 where
+  pub probes_count : length probes ≡ k
+  pub takers_count : length takers ≡ k
+  pub each : (p : ℕ) → p < k → IsRing plan watch p probes takers
+
+-- A feed that has taken nothing has the end of its process's ring that was here to be given.
+pub record IsFeed (plan : Plan) (leaf : ℕ) (takers : List (Option TakeSide)) (k : ℕ) (feed : Feed) : Type 0 where
+  pub first : feed.next ≡ 0
+  pub unclosed : feed.closed ≡ false
+  pub taker : IsTakerAt takers feed.process feed.taker
+  pub within : feed.process < k
+  pub served : leaf_of plan feed.process ≡ Some leaf
+
+-- The feeds of a leaf: one for each process that it serves among the first k.
+pub record AreFeeds (plan : Plan) (leaf : ℕ) (takers : List (Option TakeSide)) (k : ℕ) (feeds : List Feed) : Type 0 where
+  pub each : All (IsFeed plan leaf takers k) feeds
+  pub processes : (p : ℕ) → (list_any (λ feed. feed.process == p) feeds ≡ true) ↔ ((p < k) × (leaf_of plan p ≡ Some leaf))
+  pub apart : AllPairs (λ a b. a.process ≢ b.process) feeds
