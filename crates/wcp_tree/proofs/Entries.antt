@@ -1,6 +1,7 @@
 -- The entries of a list.
-use Rattle.std.proofs.Common.{◌≡◌, ◌≢◌, ℕ, zero, suc, ◌<◌, List, [], ◌∷◌, ◌++◌, length, map, get_or, Some, refl, ap, arith}
+use Rattle.std.proofs.Common.{◌≡◌, ◌≢◌, ℕ, zero, suc, ◌<◌, List, [], ◌∷◌, ◌++◌, length, map, get_or, Option, Some, refl, ap, arith}
 use Rattle.std.specs.Prelude.{slice_get, slice_set}
+use Rattle.std.proofs.lemmas.Option.{get_or_from_slice_get}
 
 module _ {X : Type 0} where
   -- what was written is there
@@ -33,3 +34,10 @@ pub mapped_entry : {X Y : Type 0} (f : X → Y) (xs : List X) (k : ℕ) (d : X) 
 mapped_entry f [] k d within = absurd (omega arith)
 mapped_entry f (x ∷ xs) zero d within = refl
 mapped_entry f (x ∷ xs) (suc k) d within = mapped_entry f xs k d (omega arith)
+
+-- what an entry was, where its value is taken out
+pub taken_out : {X : Type 0} (xs : List (Option X)) (k : ℕ) (x : X) → slice_get xs k ≡ Some (Some x)
+    → (entry : Option X) → entry ≡ get_or xs k entry → (found : X) → entry ≡ Some found → x ≡ found
+taken_out xs k x at entry is found some =
+    let same : get_or xs k entry ≡ Some x = get_or_from_slice_get xs k (Some x) entry at in
+    cc

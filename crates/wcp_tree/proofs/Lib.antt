@@ -7,3 +7,4 @@ pub mod Entries
 pub mod Seating
 pub mod Shares
 pub mod OpeningRings
+pub mod Serving

@@ -4,3 +4,4 @@ pub mod LiveProbe
 pub mod Members
 pub mod Wiring
 pub mod Rings
+pub mod Relays

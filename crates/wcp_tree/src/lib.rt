@@ -5,6 +5,7 @@ mod feed;
 mod lanes;
 mod live_probe;
 mod members;
+mod opening;
 mod outlet;
 mod relay;
 mod relay_end;

@@ -1,0 +1,103 @@
+-- Whom a leaf serves, and whom the other relays.
+use Rattle.std.proofs.Common.{◌≡◌, ◌≢◌, ◌==◌, ◌↔◌, ◌⊎◌, ℕ, ◌<◌, Bool, true, false, true≢false, List, length, get_or, Option, Some, None, refl, sym, ap, subst, ◌∙◌, ⊎_elim, eq-eqb, arith}
+use Rattle.std.specs.FinSet as set
+use Rattle.std.specs.List.{list_any, slice_get}
+use Rattle.std.specs.Option.{option_flatten}
+use Rattle.std.proofs.lemmas.Bool.{cases_eq}
+use Rattle.std.proofs.lemmas.List.Elements.{All-weaker}
+use Rattle.std.proofs.lemmas.List.Folds.{Any-from_list_any, list_any_at}
+use Rattle.std.proofs.lemmas.Option.{slice_get_within, slice_get-get_or, get_or_from_slice_get}
+use Rattle.wcp_model.specs.declared.plan.Parent.TheVariants.{Relay}
+use Rattle.wcp_model.specs.declared.plan.Plan.{Plan}
+use Rattle.wcp_model.specs.PlanFault.{IsCheckedPlan}
+use Rattle.wcp_model.specs.Tree.{is_number, is_leaf, leaf_of, parent_of}
+use Rattle.wcp_lane.specs.Passes.{Numbers}
+use Rattle.wcp_tree.specs.Members.{IsMetFrom, Itself, IsBelow, AreBelow}
+use Rattle.wcp_ring.specs.Ends.{TakeSide}
+use Rattle.wcp_tree.specs.declared.feed.Feed.{Feed}
+use Rattle.wcp_tree.specs.declared.source.Source.{Source}
+use Rattle.wcp_tree.specs.declared.source.Source.TheVariants.{Leaf, Inner}
+use Rattle.wcp_tree.specs.Feeding.{IsNewFeed, Serves}
+use Rattle.wcp_tree.specs.Relays.{IsSource}
+use Rattle.wcp_tree.specs.Rings.{IsFeed}
+use Rattle.wcp_tree.specs.Wiring.{AreBelowChildren}
+use Rattle.wcp_tree.proofs.CheckedPlan.{attached_exists, entry_of, is_its_number, not_mixed}
+use Rattle.wcp_tree.proofs.Climbs.{members_pass_up, child_is_met}
+
+module _ (plan : Plan) (checked : IsCheckedPlan plan) (relay : ℕ) where
+  -- a relay that serves a process is a leaf
+  pub is_its_leaf : (p : ℕ) → leaf_of plan p ≡ Some relay → is_leaf plan relay ≡ true
+  is_its_leaf p is =
+      let at = entry_of plan checked p relay is in
+      let within = slice_get_within plan.attach.items p (Some relay) at in
+      list_any_at (is_number relay) plan.attach.items p None within
+      (ap (is_number relay) (get_or_from_slice_get plan.attach.items p (Some relay) None at)
+      ∙ eq-eqb relay relay refl)
+
+  -- a leaf serves some process
+  some_process : is_leaf plan relay ≡ true → (p : ℕ) × (leaf_of plan p ≡ Some relay)
+  some_process leaf =
+      let some = Any-from_list_any (is_number relay) plan.attach.items leaf in
+      let number : some.1 ≡ Some relay = is_its_number relay some.1 some.4 in
+      let at : slice_get plan.attach.items some.0 ≡ Some (get_or plan.attach.items some.0 some.1) =
+      slice_get-get_or plan.attach.items some.0 some.1 some.2 in
+      (some.0, ap option_flatten at ∙ some.3 ∙ number)
+
+  -- so it is no relay's parent
+  pub no_children : is_leaf plan relay ≡ true → (child : ℕ) → parent_of plan child ≡ Some (Relay relay) → ⊥
+  no_children leaf child at =
+      let own = some_process leaf in not_mixed plan checked relay child own.0 own.1 at
+
+  -- a leaf serves its own alone
+  pub own_alone : is_leaf plan relay ≡ true → (p : ℕ) → IsBelow plan relay p → leaf_of plan p ≡ Some relay
+  own_alone leaf p below = ⊎_elim
+      (λ (same : relay ≡ below.0). below.1 ∙ ap (λ n. Some n) (sym same))
+      (λ (apart : relay ≢ below.0).
+      let child = child_is_met plan checked relay below.0 apart below.2 in
+      absurd (no_children leaf child.0 child.1))
+      (cases_eq relay below.0)
+
+  -- below a relay that is no leaf are the processes below its children
+  pub below_by_children : is_leaf plan relay ≡ false → (members : Numbers)
+      → AreBelowChildren plan (Relay relay) members → AreBelow plan relay members
+  below_by_children leaf members are = λ p. (
+    (λ has. let child = (are p).0 has in members_pass_up plan checked child.0 relay p child.1 child.2),
+    (λ below. (are p).1 (child_of p below)),
+  )
+    where
+      child_of : (p : ℕ) → IsBelow plan relay p
+          → (child : ℕ) × (parent_of plan child ≡ Some (Relay relay)) × IsBelow plan child p
+      child_of p below =
+          let apart : relay ≢ below.0 =
+          λ same. true≢false (sym (is_its_leaf p (below.1 ∙ ap (λ n. Some n) (sym same))) ∙ leaf) in
+          let child = child_is_met plan checked relay below.0 apart below.2 in
+          (child.0, child.1, (below.0, below.1, child.2))
+
+-- two tests that pass together are one
+same_test : (a b : Bool) → (a ≡ true) ↔ (b ≡ true) → a ≡ b
+same_test true b both = sym (both.0 refl)
+same_test false true both = both.1 refl
+same_test false false both = refl
+
+-- a source that was opened serves the processes below its relay
+pub source_serves : (plan : Plan) → IsCheckedPlan plan → (relay : ℕ) (takers : List (Option TakeSide)) (source : Source)
+    (members : Numbers) → IsSource plan takers relay source → AreBelow plan relay members → Serves source members
+source_serves plan checked relay takers (Leaf feeds parker) members is below = (
+  All-weaker (IsFeed plan relay takers plan.n) IsNewFeed
+      (λ feed new. (new.first, new.unclosed, ap length new.taker.1))
+      feeds.items is.1.each,
+  is.1.apart,
+  λ p. same_test (set.contains members p) (list_any (λ (feed : Feed). feed.process == p) feeds.items) (
+    (λ has.
+        let own = own_alone plan checked relay is.0 p ((below p).0 has) in
+        let within = (attached_exists plan checked p relay own).0 in
+        (is.1.processes p).1 (within, own)),
+    (λ fed.
+        let own = ((is.1.processes p).0 fed).1 in
+        (below p).1 (relay, own, Itself)),
+  ),
+)
+source_serves plan checked relay takers (Inner taker) members is below = (
+  ap length is.1,
+  λ p has. (below p).1 ((is.2 p).0 has),
+)

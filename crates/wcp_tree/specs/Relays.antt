@@ -1,0 +1,44 @@
+-- The relays of a watch before anything runs.
+use Rattle.std.specs.Prelude.{◌≡◌, ℕ, true, false, Option, Some, None, List, [], slice_get}
+use Rattle.wcp_clock.specs.declared.note.Item.{Item}
+use Rattle.wcp_model.specs.declared.plan.Parent.TheVariants as parent
+use Rattle.wcp_model.specs.declared.plan.Plan.{Plan}
+use Rattle.wcp_model.specs.Tree.{is_leaf, parent_of}
+use Rattle.wcp_ring.specs.Ends.{TakeSide}
+use Rattle.wcp_lane.specs.Ends.{LaneName, PutEnd}
+use Rattle.wcp_tree.specs.declared.relay.Relay.{Relay}
+use Rattle.wcp_tree.specs.declared.source.Source.{Source}
+use Rattle.wcp_tree.specs.declared.source.Source.TheVariants.{Leaf, Inner}
+use Rattle.wcp_tree.specs.Members.{AreBelow}
+use Rattle.wcp_tree.specs.Rings.{AreFeeds}
+use Rattle.wcp_tree.specs.Wiring.{IsSeatOf}
+
+-- What a relay takes from: a leaf has a feed for each process that it serves, and any other relay the lane of just the
+-- processes below it, from which nothing was taken.
+abbrev pub IsSource : Plan → List (Option TakeSide) → ℕ → Source → Type 0
+IsSource plan takers relay (Leaf feeds parker) = (is_leaf plan relay ≡ true) × AreFeeds plan relay takers plan.n feeds.items
+IsSource plan takers relay (Inner taker) =
+    (is_leaf plan relay ≡ false) × (taker.taken ≡ []) × AreBelow plan relay taker.members
+
+-- The lane by which a relay takes, if it serves relays.
+abbrev pub lane_of : Source → Option (LaneName Item)
+lane_of (Leaf feeds parker) = None
+lane_of (Inner taker) = Some taker.lane
+
+-- The relays whose parent this one is are seated on its lane.
+abbrev pub AreSeated : Plan → ℕ → Source → List (Option (PutEnd Item)) → Type 0
+AreSeated plan relay source seats =
+    (child : ℕ) → parent_of plan child ≡ Some (parent.Relay relay)
+    → (lane : LaneName Item) × (lane_of source ≡ Some lane)
+    × (putter : PutEnd Item) × (slice_get seats child ≡ Some (Some putter)) × IsSeatOf plan child lane putter
+
+-- A relay of a watch before it runs: it has its source, an empty hold, and an end of a lane that puts for just the
+-- processes below it.
+pub record IsRelayOf (plan : Plan) (watch_number : ℕ) (takers : List (Option TakeSide)) (place : ℕ) (relay : Relay) : Type 0 where
+  pub number : relay.number ≡ place
+  pub watch : relay.watch ≡ watch_number
+  pub source : IsSource plan takers place relay.source
+  pub members : AreBelow plan place relay.putter.members
+  pub none_put : relay.putter.put ≡ []
+  pub none_held : relay.hold.items ≡ []
+  pub room : relay.hold.room ≡ plan.hold

@@ -1,0 +1,88 @@
+ghost use Rattle.std.specs.Prelude.{◌≡◌, ◌≢◌, ◌<◌, ℕ, [], Some, length, slice_get, IfOk, OnOk};
+ghost use Rattle.wcp_model.specs.declared.plan.Parent.TheVariants as parent;
+ghost use Rattle.wcp_model.specs.PlanFault.{IsCheckedPlan};
+ghost use Rattle.wcp_model.specs.Tree.{leaf_of, parent_of};
+ghost use Rattle.wcp_ring.specs.Ends.{TakeSide};
+ghost use Rattle.wcp_clock.specs.declared.note.Item.{Item};
+ghost use Rattle.wcp_lane.specs.Ends.{PutEnd};
+ghost use Rattle.wcp_tree.specs.Members.{AreBelow};
+ghost use Rattle.wcp_tree.specs.Relays.{AreSeated, IsRelayOf, IsSource};
+ghost use Rattle.wcp_tree.specs.Rings.{IsTakerAt};
+
+use crate::lanes::open_lane;
+use crate::relay::Relay;
+use crate::rings::take_feeds;
+use crate::source::Source;
+use crossbeam_utils::sync::Parker;
+use std::alloc::{AllocError, Global};
+use wcp_clock::Item;
+use wcp_hold::Hold;
+use wcp_lane::Putter;
+use wcp_model::{Parent, Plan};
+use wcp_ring::RingTaker;
+
+/// Opens what a relay takes from: a leaf takes the feeds of its processes, and for any other relay a
+/// lane is opened, on which its children are seated. `Err` where memory runs out.
+fn open_source(
+    alloc: Global,
+    plan: &Plan,
+    relay: u32,
+    parker: Parker,
+    seats: &mut Vec<Option<Putter<Item>>>,
+    takers: &mut Vec<Option<RingTaker>>,
+) -> Result<Source, AllocError>
+    requires checked { IsCheckedPlan plan.now }
+    requires all { length seats.old.items ≡ length plan.now.parents.items }
+    requires there { (p : ℕ) → leaf_of plan.now p ≡ Some relay
+        → (taker : TakeSide) × IsTakerAt takers.old.items p taker }
+    ensures all { OnOk result ((length seats.new.items ≡ length seats.old.items)
+        × (length takers.new.items ≡ length takers.old.items)) }
+    ensures source { IfOk result (λ source. IsSource plan.now takers.old.items relay source) }
+    ensures seated { IfOk result (λ source. AreSeated plan.now relay source seats.new.items) }
+    ensures other_seats { OnOk result ((other : ℕ) → parent_of plan.now other ≢ Some (parent.Relay relay)
+        → slice_get seats.new.items other ≡ slice_get seats.old.items other) }
+    ensures other_takers { OnOk result ((p : ℕ) → leaf_of plan.now p ≢ Some relay
+        → slice_get takers.new.items p ≡ slice_get takers.old.items p) }
+{
+    if plan.is_leaf(relay) {
+        let feeds = take_feeds(alloc, plan, relay, takers)?;
+        return Ok(Source::Leaf { feeds, parker });
+    }
+    let taker = open_lane(alloc, plan, Parent::Relay(relay), seats)?;
+    Ok(Source::Inner { taker })
+}
+
+/// Opens a relay, which leaves its seat. `Err` where memory runs out.
+fn open_relay(
+    alloc: Global,
+    plan: &Plan,
+    watch: u64,
+    relay: u32,
+    parker: Parker,
+    seats: &mut Vec<Option<Putter<Item>>>,
+    takers: &mut Vec<Option<RingTaker>>,
+) -> Result<Relay, AllocError>
+    requires checked { IsCheckedPlan plan.now }
+    requires all { length seats.old.items ≡ length plan.now.parents.items }
+    requires seat { (putter : PutEnd Item) × (slice_get seats.old.items relay ≡ Some (Some putter))
+        × AreBelow plan.now relay putter.members × (putter.put ≡ []) }
+    requires there { (p : ℕ) → leaf_of plan.now p ≡ Some relay
+        → (taker : TakeSide) × IsTakerAt takers.old.items p taker }
+    ensures all { OnOk result ((length seats.new.items ≡ length seats.old.items)
+        × (length takers.new.items ≡ length takers.old.items)) }
+    ensures relay { IfOk result (λ opened. IsRelayOf plan.now watch takers.old.items relay opened) }
+    ensures seat { IfOk result (λ opened. slice_get seats.old.items relay ≡ Some (Some opened.putter)) }
+    ensures seated { IfOk result (λ opened. AreSeated plan.now relay opened.source seats.new.items) }
+    ensures other_seats { OnOk result ((other : ℕ) → other ≢ relay
+        → parent_of plan.now other ≢ Some (parent.Relay relay)
+        → slice_get seats.new.items other ≡ slice_get seats.old.items other) }
+    ensures other_takers { OnOk result ((p : ℕ) → leaf_of plan.now p ≢ Some relay
+        → slice_get takers.new.items p ≡ slice_get takers.old.items p) }
+{
+    let Some(putter) = seats[relay as usize].take() else {
+        unreachable!();
+    };
+    let source = open_source(alloc, plan, relay, parker, seats, takers)?;
+    let hold = Hold::new(alloc, plan.hold)?;
+    Ok(Relay::new(relay, watch, source, putter, hold))
+}
