@@ -1,15 +1,15 @@
 -- What a checked plan keeps.
-use Rattle.std.proofs.Common.{◌≡◌, ◌≢◌, ℕ, ◌+◌, ◌<◌, ◌≤◌, length, get_or, take, List, Option, None, Some, Contains, true, false, true≢false, eqb-true, eq-eqb, refl, sym, ap, subst, ◌∙◌, inl, inr, ⊎_elim, arith}
+use Rattle.std.proofs.Common.{◌≡◌, ◌≢◌, ℕ, ◌<◌, ◌≤◌, length, take, List, Option, None, Some, Contains, true, false, true≢false, eqb-true, eq-eqb, refl, sym, ap, subst, ◌∙◌, inl, inr, ⊎_elim, arith}
 use Rattle.std.proofs.lemmas.Bool.{cases_lt, cases_eq}
 use Rattle.std.proofs.Math.Seq.{take-length}
-use Rattle.std.proofs.lemmas.Option.{slice_get_within, slice_get_cases, slice_get-get_or, get_or_from_slice_get}
+use Rattle.std.proofs.lemmas.Option.{slice_get_within, slice_get_cases, get_or_from_slice_get}
 use Rattle.std.specs.List.{slice_get}
 use Rattle.std.specs.Option.{option_flatten}
-use Rattle.wcp_clock.specs.Limits.{most_processes, most_cap, most_hold, most_lane, most_relays}
-use Rattle.wcp_model.specs.declared.plan.Parent.TheVariants.{Root, Relay}
+use Rattle.wcp_clock.specs.Limits.{most_processes, most_cap, most_hold, most_relays}
+use Rattle.wcp_model.specs.declared.plan.Parent.TheVariants.{Relay}
 use Rattle.wcp_model.specs.declared.plan.Plan.{Plan}
 use Rattle.wcp_model.specs.declared.plan.PlanFault.TheVariants as fault
-use Rattle.wcp_model.specs.PlanFault.{IsCheckedPlan, ServesProcess, ServesRelay}
+use Rattle.wcp_model.specs.PlanFault.{IsCheckedPlan, ServesProcess}
 use Rattle.wcp_model.specs.Tree.{is_number, leaf_of, parent_of}
 
 -- which relay a number stands for

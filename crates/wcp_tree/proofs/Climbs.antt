@@ -5,9 +5,9 @@ use Rattle.wcp_model.specs.declared.plan.Parent.{Parent}
 use Rattle.wcp_model.specs.declared.plan.Parent.TheVariants.{Root, Relay}
 use Rattle.wcp_model.specs.declared.plan.Plan.{Plan}
 use Rattle.wcp_model.specs.PlanFault.{IsCheckedPlan}
-use Rattle.wcp_model.specs.Tree.{leaf_of, parent_of}
+use Rattle.wcp_model.specs.Tree.{parent_of}
 use Rattle.wcp_tree.specs.Members.{IsMetFrom, Itself, Above, IsBelow}
-use Rattle.wcp_tree.proofs.CheckedPlan.{parent_below, not_mixed}
+use Rattle.wcp_tree.proofs.CheckedPlan.{parent_below}
 
 module _ (plan : Plan) (checked : IsCheckedPlan plan) where
   -- a climb goes down in number

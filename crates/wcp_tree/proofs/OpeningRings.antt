@@ -1,11 +1,11 @@
 -- One ring after another is opened, and one feed after another is taken.
-use Rattle.std.proofs.Common.{◌≡◌, ◌≢◌, ◌==◌, ◌||◌, ◌↔◌, ◌⊎◌, ℕ, ◌+◌, ◌<◌, ◌≤◌, true, false, true≢false, List, [], ◌∷◌, ◌++◌, length, get_or, All, Option, Some, None, nat_eq, eqb-true, eq-eqb, refl, sym, ap, subst, ◌∙◌, inl, inr, ⊎_elim, arith}
+use Rattle.std.proofs.Common.{◌≡◌, ◌≢◌, ◌==◌, ◌||◌, ◌⊎◌, ℕ, ◌+◌, ◌<◌, ◌≤◌, true, false, List, [], ◌∷◌, ◌++◌, length, get_or, All, Option, Some, None, eqb-true, eq-eqb, refl, sym, ap, subst, ◌∙◌, inl, inr, ⊎_elim, arith}
 use Rattle.std.specs.Prelude.{slice_get, slice_set}
-use Rattle.std.specs.List.{list_any, AllPairs}
-use Rattle.std.proofs.lemmas.Bool.{cases_eq, cases_lt}
+use Rattle.std.specs.List.{list_any}
+use Rattle.std.proofs.lemmas.Bool.{cases_eq}
 use Rattle.std.proofs.lemmas.List.{length-set, length_push}
 use Rattle.std.proofs.lemmas.Option.{get_or_from_slice_get}
-use Rattle.std.proofs.lemmas.List.Elements.{All-push, All-weaker, All-get_or}
+use Rattle.std.proofs.lemmas.List.Elements.{All-push, All-weaker}
 use Rattle.std.proofs.lemmas.List.Folds.{list_any-append}
 use Rattle.std.proofs.lemmas.List.Quantifiers.{all_pairs_push}
 use Rattle.wcp_model.specs.declared.plan.Plan.{Plan}
@@ -13,7 +13,7 @@ use Rattle.wcp_model.specs.Tree.{leaf_of}
 use Rattle.wcp_ring.specs.Ends.{TakeSide}
 use Rattle.wcp_tree.specs.declared.feed.Feed.{Feed}
 use Rattle.wcp_tree.specs.LiveProbe.{LiveSide, fresh_core}
-use Rattle.wcp_tree.specs.Rings.{IsTakerAt, IsRing, AreRings, IsFeed, AreFeeds}
+use Rattle.wcp_tree.specs.Rings.{IsTakerAt, AreRings, IsFeed, AreFeeds}
 use Rattle.wcp_tree.proofs.Entries.{set_elsewhere, last_entry, earlier_entry}
 
 module _ (plan : Plan) (watch : ℕ) where

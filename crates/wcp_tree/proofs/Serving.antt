@@ -1,5 +1,5 @@
 -- Whom a leaf serves, and whom the other relays.
-use Rattle.std.proofs.Common.{◌≡◌, ◌≢◌, ◌==◌, ◌↔◌, ◌⊎◌, ℕ, ◌<◌, Bool, true, false, true≢false, List, length, get_or, Option, Some, None, refl, sym, ap, subst, ◌∙◌, ⊎_elim, eq-eqb, arith}
+use Rattle.std.proofs.Common.{◌≡◌, ◌≢◌, ◌==◌, ◌↔◌, ℕ, Bool, true, false, true≢false, List, length, get_or, Option, Some, None, refl, sym, ap, ◌∙◌, ⊎_elim, eq-eqb}
 use Rattle.std.specs.FinSet as set
 use Rattle.std.specs.List.{list_any, slice_get}
 use Rattle.std.specs.Option.{option_flatten}
@@ -12,7 +12,7 @@ use Rattle.wcp_model.specs.declared.plan.Plan.{Plan}
 use Rattle.wcp_model.specs.PlanFault.{IsCheckedPlan}
 use Rattle.wcp_model.specs.Tree.{is_number, is_leaf, leaf_of, parent_of}
 use Rattle.wcp_lane.specs.Passes.{Numbers}
-use Rattle.wcp_tree.specs.Members.{IsMetFrom, Itself, IsBelow, AreBelow}
+use Rattle.wcp_tree.specs.Members.{Itself, IsBelow, AreBelow}
 use Rattle.wcp_ring.specs.Ends.{TakeSide}
 use Rattle.wcp_tree.specs.declared.feed.Feed.{Feed}
 use Rattle.wcp_tree.specs.declared.source.Source.{Source}

@@ -16,7 +16,8 @@ use Rattle.wcp_tree.specs.Wiring.{IsSeatOf}
 -- What a relay takes from: a leaf has a feed for each process that it serves, and any other relay the lane of just the
 -- processes below it, from which nothing was taken.
 abbrev pub IsSource : Plan → List (Option TakeSide) → ℕ → Source → Type 0
-IsSource plan takers relay (Leaf feeds parker) = (is_leaf plan relay ≡ true) × AreFeeds plan relay takers plan.n feeds.items
+IsSource plan takers relay (Leaf feeds parker) =
+    (is_leaf plan relay ≡ true) × AreFeeds plan relay takers plan.n feeds.items
 IsSource plan takers relay (Inner taker) =
     (is_leaf plan relay ≡ false) × (taker.taken ≡ []) × AreBelow plan relay taker.members
 
@@ -34,7 +35,8 @@ AreSeated plan relay source seats =
 
 -- A relay of a watch before it runs: it has its source, an empty hold, and an end of a lane that puts for just the
 -- processes below it.
-pub record IsRelayOf (plan : Plan) (watch_number : ℕ) (takers : List (Option TakeSide)) (place : ℕ) (relay : Relay) : Type 0 where
+pub record IsRelayOf (plan : Plan) (watch_number : ℕ) (takers : List (Option TakeSide))
+    (place : ℕ) (relay : Relay) : Type 0 where
   pub number : relay.number ≡ place
   pub watch : relay.watch ≡ watch_number
   pub source : IsSource plan takers place relay.source

@@ -1,5 +1,6 @@
 -- The rings of a watch, and the feeds of its leaves, before anything runs.
-use Rattle.std.specs.Prelude.{◌≡◌, ◌≢◌, ◌==◌, ◌↔◌, ℕ, ◌<◌, false, true, Option, Some, List, [], length, slice_get, All, AllPairs}
+use Rattle.std.specs.Prelude.{◌≡◌, ◌≢◌, ◌==◌, ◌↔◌, ℕ, ◌<◌, false, true}
+use Rattle.std.specs.Prelude.{Option, Some, List, [], length, slice_get, All, AllPairs}
 use Rattle.std.specs.List.{list_any}
 use Rattle.wcp_model.specs.declared.plan.Plan.{Plan}
 use Rattle.wcp_model.specs.Tree.{leaf_of}
@@ -22,7 +23,8 @@ pub record IsRing (plan : Plan) (watch p : ℕ) (probes : List LiveSide) (takers
   pub one_ring : taker.ring ≡ probe.link.ring
 
 -- The rings of the first k processes.
-pub record AreRings (plan : Plan) (watch k : ℕ) (probes : List LiveSide) (takers : List (Option TakeSide)) : Type 0 where
+pub record AreRings (plan : Plan) (watch k : ℕ)
+    (probes : List LiveSide) (takers : List (Option TakeSide)) : Type 0 where
   pub probes_count : length probes ≡ k
   pub takers_count : length takers ≡ k
   pub each : (p : ℕ) → p < k → IsRing plan watch p probes takers
@@ -36,7 +38,9 @@ pub record IsFeed (plan : Plan) (leaf : ℕ) (takers : List (Option TakeSide)) (
   pub served : leaf_of plan feed.process ≡ Some leaf
 
 -- The feeds of a leaf: one for each process that it serves among the first k.
-pub record AreFeeds (plan : Plan) (leaf : ℕ) (takers : List (Option TakeSide)) (k : ℕ) (feeds : List Feed) : Type 0 where
+pub record AreFeeds (plan : Plan) (leaf : ℕ) (takers : List (Option TakeSide)) (k : ℕ)
+    (feeds : List Feed) : Type 0 where
   pub each : All (IsFeed plan leaf takers k) feeds
-  pub processes : (p : ℕ) → (list_any (λ feed. feed.process == p) feeds ≡ true) ↔ ((p < k) × (leaf_of plan p ≡ Some leaf))
+  pub processes : (p : ℕ) → (list_any (λ feed. feed.process == p) feeds ≡ true)
+      ↔ ((p < k) × (leaf_of plan p ≡ Some leaf))
   pub apart : AllPairs (λ a b. a.process ≢ b.process) feeds

@@ -1,13 +1,11 @@
-use Rattle.std.proofs.Common.{◌≡◌, ℕ, ◌<◌, ◌≤◌, List, Option, Some, length, map, sym, ap, subst, ◌∙◌, lit≤, arith}
+use Rattle.std.proofs.Common.{◌≡◌, ◌≤◌, List, map, sym, ap, subst, ◌∙◌, lit≤, arith}
 use Rattle.std.specs.FinSet as set
 use Rattle.std.specs.List.{list_any}
 use Rattle.wcp_clock.specs.Limits.{most_cap, most_lane}
-use Rattle.wcp_clock.specs.declared.note.Item.{Item}
-use Rattle.wcp_model.specs.Tree.{parent_of}
 use Rattle.wcp_lane.specs.declared.fault.LaneFault.{LaneFault}
 use Rattle.wcp_lane.specs.declared.fault.LaneFault.TheVariants.{Cap, Owners}
-use Rattle.wcp_lane.specs.Ends.{PutEnd, new_putter}
-use Rattle.wcp_lane.specs.Owners.{IsCapacity, AreOwners, IsFirstFault}
+use Rattle.wcp_lane.specs.Ends.{new_putter}
+use Rattle.wcp_lane.specs.Owners.{AreOwners, IsFirstFault}
 use Rattle.wcp_lane.specs.Passes.{Numbers}
 use Rattle.wcp_tree.proofs.CheckedPlan.{some_relays, capacity}
 use Rattle.wcp_tree.proofs.Shares.{seats_of_shares, shares_apart, shares_together}

@@ -1,9 +1,7 @@
-use Rattle.std.proofs.Common.{◌≡◌, ◌≢◌, ℕ, ◌++◌, ◌∷◌, [], List, Option, Some, length, sym, ap, subst, ◌∙◌, true≢false, arith}
+use Rattle.std.proofs.Common.{◌≡◌, ◌++◌, ◌∷◌, [], Some, length, sym, ap, subst, ◌∙◌, true≢false, arith}
 use Rattle.std.specs.Prelude.{slice_set}
-use Rattle.wcp_clock.specs.declared.note.Item.{Item}
 use Rattle.wcp_model.specs.Tree.{parent_of}
-use Rattle.wcp_lane.specs.Ends.{PutEnd}
-use Rattle.wcp_tree.proofs.Seating.{AreSeated, all_left, one_seated, none_seated}
+use Rattle.wcp_tree.proofs.Seating.{AreSeated, one_seated, none_seated}
 use Rattle.wcp_tree.proofs.lanes.seat.Goals as goal
 
 pub loop-putter-preserved-then-is_child : goal.loop-putter-preserved-then-is_child

@@ -1,6 +1,5 @@
-use Rattle.std.proofs.Common.{◌≡◌, ◌+◌, ◌++◌, ◌∷◌, [], List, length, sym, ap, subst, ◌∙◌, arith}
+use Rattle.std.proofs.Common.{◌+◌, length, sym, ap, subst, ◌∙◌, arith}
 use Rattle.std.proofs.lemmas.List.{length_push}
-use Rattle.wcp_lane.specs.Passes.{Numbers}
 use Rattle.wcp_tree.specs.Wiring.{AreShares}
 use Rattle.wcp_tree.proofs.CheckedPlan.{few_relays}
 use Rattle.wcp_tree.proofs.Shares.{one_share_more}

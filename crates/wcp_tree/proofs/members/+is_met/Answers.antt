@@ -1,4 +1,4 @@
-use Rattle.std.proofs.Common.{◌≡◌, ◌<◌, Some, sym, ap, ◌∙◌, arith}
+use Rattle.std.proofs.Common.{◌≡◌, Some, arith}
 use Rattle.wcp_model.specs.declared.plan.Parent.TheVariants.{Relay}
 use Rattle.wcp_model.specs.Tree.{parent_of}
 use Rattle.wcp_tree.proofs.CheckedPlan.{parent_below}

@@ -1,4 +1,4 @@
-use Rattle.std.proofs.Common.{◌≡◌, ℕ, ◌+◌, ◌<◌, true≢false, sym, subst, ◌∙◌, arith}
+use Rattle.std.proofs.Common.{◌+◌, ◌<◌, true≢false, sym, subst, ◌∙◌, arith}
 use Rattle.wcp_lane.specs.Passes.{Numbers}
 use Rattle.wcp_tree.specs.Members.{IsBelow}
 use Rattle.wcp_tree.proofs.CheckedPlan.{few_processes, attached_exists}

@@ -1,11 +1,11 @@
-use Rattle.std.proofs.Common.{◌≡◌, ◌≢◌, ◌<◌, ◌≤◌, List, Option, Some, length, sym, ap, subst, ◌∙◌, lit≤, arith}
+use Rattle.std.proofs.Common.{◌≡◌, ◌≤◌, Some, length, sym, ap, subst, ◌∙◌, lit≤, arith}
 use Rattle.wcp_clock.specs.Limits.{most_cap, most_hold}
 use Rattle.wcp_clock.specs.declared.note.Item.{Item}
 use Rattle.wcp_hold.specs.Held.{Held}
 use Rattle.wcp_lane.specs.Ends.{PutEnd}
 use Rattle.wcp_tree.specs.declared.source.Source.{Source}
 use Rattle.wcp_tree.specs.Members.{AreBelow}
-use Rattle.wcp_tree.specs.Relays.{AreSeated, IsRelayOf, IsSource}
+use Rattle.wcp_tree.specs.Relays.{AreSeated, IsSource}
 use Rattle.wcp_tree.proofs.CheckedPlan.{hold_room}
 use Rattle.wcp_tree.proofs.Entries.{set_elsewhere, taken_out}
 use Rattle.wcp_tree.proofs.Serving.{source_serves}
