@@ -28,6 +28,10 @@ pub record IsInOrder (feed : Feed) : Type 0 where
       → (feed.next ≡ length feed.taker.taken) × All (λ note. is_close note ≡ false) feed.taker.taken
   pub ended : feed.closed ≡ true → IsEnded is_close feed.taker.taken
 
+-- The processes of these feeds.
+abbrev pub processes_of : List Feed → List ℕ
+processes_of feeds = map (λ feed. feed.process) feeds
+
 -- Nothing was taken by this feed.
 abbrev pub IsNewFeed : Feed → Type 0
 IsNewFeed feed = (feed.next ≡ 0) × (feed.closed ≡ false) × (length feed.taker.taken ≡ 0)
@@ -37,8 +41,8 @@ IsNewFeed feed = (feed.next ≡ 0) × (feed.closed ≡ false) × (length feed.ta
 abbrev pub Serves : Source → Numbers → Type 0
 Serves (Leaf feeds parker) members =
     All IsNewFeed feeds.items
-    × AllPairs (λ a b. a.process ≢ b.process) feeds.items
-    × ((p : ℕ) → set.contains members p ≡ list_any (λ feed. feed.process == p) feeds.items)
+    × AllPairs (λ p q. p ≢ q) (processes_of feeds.items)
+    × ((p : ℕ) → set.contains members p ≡ list_any (λ q. q == p) (processes_of feeds.items))
 Serves (Inner taker) members =
     (length taker.taken ≡ 0) × ((p : ℕ) → set.contains taker.members p ≡ true → set.contains members p ≡ true)
 

@@ -1,8 +1,61 @@
 -- What is left of a relay.
-use Rattle.std.specs.Prelude.{Option, Some, None}
+use Rattle.std.specs.Prelude.{◌≡◌, ℕ, Option, Some, None, List}
+use Rattle.std.specs.FinSet as set
+use Rattle.wcp_clock.specs.declared.note.Item.{Item}
+use Rattle.wcp_lane.specs.Ends.{PutEnd}
+use Rattle.wcp_tree.specs.declared.source.Source.{Source}
+use Rattle.wcp_tree.specs.declared.source.Source.TheVariants.{Leaf, Inner}
+use Rattle.wcp_tree.specs.declared.relay_end.Receipts.{Receipts}
+use Rattle.wcp_tree.specs.declared.relay_end.Receipts.TheVariants.{Feeds, Lane}
 use Rattle.wcp_tree.specs.declared.relay_end.RelayFault.{RelayFault}
 use Rattle.wcp_tree.specs.declared.relay_end.RelayEnd.{RelayEnd}
 use Rattle.wcp_tree.specs.declared.relay_end.RelayEnd.TheVariants.{Whole, Faulted}
+use Rattle.wcp_tree.specs.Feeding.{fed, items_of, taken_of}
+use Rattle.wcp_tree.specs.RelayWork.{AreSameFeeds}
+
+-- What is left of a source: the feeds of a leaf, or the receipt of a lane, which was matched with no putter yet.
+abbrev pub IsEndOfSource : Source → Receipts → Type 0
+IsEndOfSource (Leaf feeds parker) (Feeds left) = left ≡ feeds
+IsEndOfSource (Inner taker) (Lane receipt) =
+    (receipt.lane ≡ taker.lane) × (receipt.members ≡ taker.members) × (receipt.matched ≡ set.empty)
+    × (receipt.taken ≡ taker.taken)
+IsEndOfSource _ _ = ⊥
+
+-- What is left of a relay's source is of the same rings, or of the same lane.
+abbrev pub IsReceiptOf : Source → Receipts → Type 0
+IsReceiptOf (Leaf feeds parker) (Feeds left) = AreSameFeeds feeds.items left.items
+IsReceiptOf (Inner taker) (Lane receipt) =
+    (receipt.lane ≡ taker.lane) × (receipt.members ≡ taker.members) × (receipt.matched ≡ set.empty)
+IsReceiptOf _ _ = ⊥
+
+-- Where a relay met no fault, its end is of the same source and of the same putter.
+abbrev pub AreReceiptsOf : Source → PutEnd Item → RelayEnd → Type 0
+AreReceiptsOf source putter (Whole number watch taken put) =
+    IsReceiptOf source taken × (put.lane ≡ putter.lane) × (put.members ≡ putter.members)
+AreReceiptsOf source putter (Faulted number watch fault end_source end_putter) = Unit {0}
+
+-- The items of process p that a relay took.
+abbrev pub taken_in : Receipts → ℕ → List Item
+taken_in (Feeds feeds) p = fed feeds.items p
+taken_in (Lane receipt) p = items_of p receipt.taken
+
+abbrev pub taken_by : RelayEnd → ℕ → List Item
+taken_by (Whole number watch taken put) p = taken_in taken p
+taken_by (Faulted number watch fault source putter) p = taken_of source.value p
+
+-- The items of process p that a relay put.
+abbrev pub put_by : RelayEnd → ℕ → List Item
+put_by (Whole number watch taken put) p = items_of p put.put
+put_by (Faulted number watch fault source putter) p = items_of p putter.value.put
+
+-- The number of a relay, and of its watch.
+abbrev pub number_of : RelayEnd → ℕ
+number_of (Whole number watch taken put) = number
+number_of (Faulted number watch fault source putter) = number
+
+abbrev pub watch_of : RelayEnd → ℕ
+watch_of (Whole number watch taken put) = watch
+watch_of (Faulted number watch fault source putter) = watch
 
 -- The fault that a relay met.
 abbrev pub fault_of : RelayEnd → Option RelayFault

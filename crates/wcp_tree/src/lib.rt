@@ -2,7 +2,9 @@
 #![tactic(auto)]
 
 mod feed;
+mod inner;
 mod lanes;
+mod leaf;
 mod live_probe;
 mod members;
 mod opening;

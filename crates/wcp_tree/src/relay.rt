@@ -1,7 +1,12 @@
-ghost use Rattle.std.specs.Prelude.{◌≡◌, ◌<◌, length};
+ghost use Rattle.std.specs.Prelude.{◌≡◌, ◌<◌, ℕ, length, IfSome, IfNone};
+ghost use mathlib.Core.List.{IsPrefix};
 ghost use Rattle.wcp_tree.specs.Feeding.{Serves, Serves-prop};
 
+use crate::outlet::Outlet;
+use crate::relay_end::{RelayEnd, RelayFault};
 use crate::source::Source;
+use std::snapshot::Snapshot;
+use std::sync::Wait;
 use wcp_clock::Item;
 use wcp_hold::Hold;
 use wcp_lane::Putter;
@@ -23,6 +28,9 @@ pub struct Relay {
 }
 
 impl Relay {
+    ghost use Rattle.wcp_tree.specs.RelayWork.{IsFaultAfter, AreClosed};
+    ghost use Rattle.wcp_tree.specs.RelayEnds.{AreReceiptsOf, taken_by, put_by, fault_of, number_of, watch_of};
+
     /// The relay of this number in the plan of a watch.
     pub(crate) fn new(
         number: u32,
@@ -55,5 +63,59 @@ impl Relay {
         ensures { result ≡ self.now.number }
     {
         self.number
+    }
+
+    /// Moves items from its rings, or from its lane, to its parent's lane, until the close mark of each
+    /// process below it was passed on, or until a fault comes. A gap, or a cut as it takes, ends it at
+    /// once. After a cut as it puts it goes on taking, so that nobody below is held up. It passes on what
+    /// it holds before it waits for more, and takes no memory.
+    pub fn run<R: Wait>(self, rt: &R) -> RelayEnd
+        ensures number { number_of result ≡ self.number }
+        ensures watch { watch_of result ≡ self.watch }
+        ensures receipts { AreReceiptsOf self.source self.putter result }
+        ensures front { (p : ℕ) → IsPrefix (put_by result p) (taken_by result p) }
+        ensures whole { IfNone (fault_of result) ((p : ℕ) → put_by result p ≡ taken_by result p) }
+        ensures closed { IfNone (fault_of result) (AreClosed self.putter.members (taken_by result)) }
+        ensures fault { IfSome (fault_of result) (λ met. IsFaultAfter met (taken_by result)) }
+    {
+        let Relay {
+            number,
+            watch,
+            mut source,
+            putter,
+            hold,
+        } = self;
+        let mut outlet = Outlet {
+            putter,
+            hold,
+            cut: None,
+        };
+        let met = source.run(rt, &mut outlet);
+        match first_fault(&outlet, met) {
+            Ok(()) => RelayEnd::Whole {
+                number,
+                watch,
+                taken: source.end(),
+                put: outlet.putter.end(),
+            },
+            Err(fault) => RelayEnd::Faulted {
+                number,
+                watch,
+                fault,
+                source: Snapshot::of(&source),
+                putter: Snapshot::of(&outlet.putter),
+            },
+        }
+    }
+}
+
+/// The fault that came first: a cut of the outlet comes before what ends the relay.
+fn first_fault(outlet: &Outlet, met: Result<(), RelayFault>) -> Result<(), RelayFault>
+    ensures uncut { IfNone outlet.now.cut (result ≡ met) }
+    ensures cut { IfSome outlet.now.cut (λ cut. result ≡ Err (RelayFault.Cut cut)) }
+{
+    match outlet.cut {
+        Some(cut) => Err(RelayFault::Cut(cut)),
+        None => met,
     }
 }

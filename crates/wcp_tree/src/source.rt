@@ -1,5 +1,13 @@
+ghost use Rattle.std.specs.Prelude.{◌≡◌, ℕ, [], IfErr, OnOk, IfNone};
+ghost use mathlib.Core.List.{IsPrefix};
+
 use crate::feed::Feed;
+use crate::inner::run_inner;
+use crate::leaf::run_leaf;
+use crate::outlet::Outlet;
+use crate::relay_end::{Receipts, RelayFault};
 use crossbeam_utils::sync::Parker;
+use std::sync::Wait;
 use wcp_clock::Item;
 use wcp_lane::Taker;
 
@@ -10,4 +18,42 @@ pub enum Source {
     Leaf { feeds: Vec<Feed>, parker: Parker },
     /// Any other relay serves relays, by one lane.
     Inner { taker: Taker<Item> },
+}
+
+impl Source {
+    ghost use Rattle.wcp_tree.specs.Feeding.{items_of, taken_of};
+    ghost use Rattle.wcp_tree.specs.RelayWork.{handed, IsAtWork, IsSameSource, IsSameOutlet, AreClosed, IsFaultAfter};
+    ghost use Rattle.wcp_tree.specs.RelayEnds.{IsEndOfSource};
+
+    /// Passes on what the relay takes, until the close mark of each of its processes was taken.
+    pub(crate) fn run<R: Wait>(&mut self, rt: &R, outlet: &mut Outlet) -> Result<(), RelayFault>
+        requires { IsAtWork self.old outlet.old }
+        ensures same_source { IsSameSource self.old self.new }
+        ensures same_outlet { IsSameOutlet outlet.old outlet.new }
+        ensures front { (p : ℕ) → IsPrefix (items_of p (handed outlet.new)) (taken_of self.new p) }
+        ensures whole { OnOk result (IfNone outlet.new.cut
+            ((p : ℕ) → items_of p outlet.new.putter.put ≡ taken_of self.new p)) }
+        ensures closed { OnOk result (AreClosed outlet.new.putter.members (taken_of self.new)) }
+        ensures fault { IfErr result (λ met. IsFaultAfter met (taken_of self.new)) }
+    {
+        match self {
+            Source::Leaf { feeds, parker } => run_leaf(rt, feeds, parker, outlet),
+            Source::Inner { taker } => {
+                match run_inner(rt, taker, outlet) {
+                    Ok(()) => Ok(()),
+                    Err(cut) => Err(RelayFault::Cut(cut)),
+                }
+            }
+        }
+    }
+
+    /// What is left of it.
+    pub(crate) fn end(self) -> Receipts
+        ensures { IsEndOfSource self result }
+    {
+        match self {
+            Source::Leaf { feeds, parker: _ } => Receipts::Feeds(feeds),
+            Source::Inner { taker } => Receipts::Lane(taker.end()),
+        }
+    }
 }

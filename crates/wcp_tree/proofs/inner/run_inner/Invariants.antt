@@ -1,0 +1,20 @@
+use Rattle.std.proofs.Common.{◌≡◌, ℕ, true}
+use Rattle.std.specs.FinSet as set
+use Rattle.wcp_lane.specs.Within.{IsWithin}
+use Rattle.wcp_tree.specs.Feeding.{items_of}
+use Rattle.wcp_tree.specs.RelayWork.{IsInnerAtWork, IsSameOutlet, IsSameTaker, AreClosed}
+use Rattle.wcp_tree.proofs.inner.run_inner.Given as goal
+
+abbrev pub invariant-loop : goal.invariant-loop
+invariant-loop g l =
+    record {
+      goes_on : (goal.iterator-loop g).can_next l.iterator';
+      ends : (goal.iterator-loop g).is_finite l.iterator';
+      work : IsInnerAtWork l.taker l.outlet;
+      taker : IsSameTaker l.initial.taker l.taker;
+      outlet : IsSameOutlet l.initial.outlet l.outlet;
+      below : l.below ≡ l.outlet.putter.members;
+      within : IsWithin l.below;
+      ended : AreClosed l.closed (λ p. items_of p l.taker.taken);
+      finished : l.finished ≡ true → (p : ℕ) → set.contains l.below p ≡ true → set.contains l.closed p ≡ true;
+    }

@@ -1,0 +1,16 @@
+use Rattle.std.proofs.Common.{◌≡◌, None}
+use Rattle.wcp_tree.specs.RelayWork.{handed, IsSound, IsSameOutlet}
+use Rattle.wcp_tree.proofs.outlet.Outlet.pass_on.Given as goal
+use Rattle.std.proofs.Common.{length}
+
+abbrev pub invariant-loop-item : goal.invariant-loop-item
+invariant-loop-item g l =
+    record {
+      same : IsSameOutlet l.initial.self l.self;
+      sound : IsSound l.self;
+      handed : handed l.self ≡ handed l.initial.self;
+      uncut : l.self.cut ≡ None;
+    }
+
+abbrev pub decreases-loop-item : goal.decreases-loop-item
+decreases-loop-item g l = length l.self.hold.items

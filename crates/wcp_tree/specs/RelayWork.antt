@@ -1,0 +1,103 @@
+-- A relay at work.
+use Rattle.std.specs.Prelude.{◌≡◌, ◌≢◌, ◌==◌, ℕ, ◌<◌, true, List, [], ◌∷◌, ◌++◌, map, All, AllPairs, IfNone, ⊤}
+use mathlib.Core.List.{IsPrefix}
+use Rattle.std.specs.List.{list_any}
+use Rattle.std.specs.FinSet as set
+use Rattle.wcp_clock.specs.declared.note.Item.{Item}
+use Rattle.wcp_model.specs.LaneRule.{IsNext, IsRun}
+use Rattle.wcp_lane.specs.Passes.{Numbers}
+use Rattle.wcp_lane.specs.Ends.{TakeEnd, IsNextTaken}
+use Rattle.wcp_lane.specs.Notes.{place_of, is_close}
+use Rattle.wcp_tree.specs.declared.outlet.Outlet.{Outlet}
+use Rattle.wcp_tree.specs.declared.feed.Feed.{Feed}
+use Rattle.wcp_tree.specs.declared.source.Source.{Source}
+use Rattle.wcp_tree.specs.declared.source.Source.TheVariants.{Leaf, Inner}
+use Rattle.wcp_tree.specs.declared.relay_end.RelayFault.{RelayFault}
+use Rattle.wcp_tree.specs.declared.relay_end.RelayFault.TheVariants.{Gap, Cut}
+use Rattle.wcp_tree.specs.Feeding.{items_of, processes_of, fed, IsInOrder, IsEnded}
+
+-- What was handed to an outlet: what it put, and then what it holds.
+abbrev pub handed : Outlet → List Item
+handed outlet = outlet.putter.put ++ outlet.hold.items
+
+-- An item is the next one after these, which are of its process.
+abbrev pub IsNextAfter : List Item → Item → Type 0
+IsNextAfter before item = IsNext (λ (i : Item). place_of i.note) (λ (i : Item). is_close i.note) before item
+
+-- An item is the next one after those of its process among these.
+abbrev pub IsNextItem : List Item → Item → Type 0
+IsNextItem items item = IsNextAfter (items_of item.from items) item
+
+-- These items are a run.
+abbrev pub IsItemRun : List Item → Type 0
+IsItemRun items = IsRun (λ (i : Item). place_of i.note) (λ (i : Item). is_close i.note) items
+
+-- An outlet's hold has room, it holds items of the processes of its putter alone, and those handed to it are a run of
+-- each process.
+pub record IsSound (outlet : Outlet) : Type 0 where
+  pub room : 0 < outlet.hold.room
+  pub owned : All (λ item. set.contains outlet.putter.members item.from ≡ true) outlet.hold.items
+  pub runs : (p : ℕ) → IsItemRun (items_of p (handed outlet))
+
+-- An outlet keeps its lane and its processes.
+abbrev pub IsSameOutlet : Outlet → Outlet → Type 0
+IsSameOutlet old new = (new.putter.lane ≡ old.putter.lane) × (new.putter.members ≡ old.putter.members)
+
+-- An outlet was handed what was taken of each process, or a front of it once its lane is cut.
+pub record IsFaithful (taken : ℕ → List Item) (outlet : Outlet) : Type 0 where
+  pub whole : IfNone outlet.cut ((p : ℕ) → items_of p (handed outlet) ≡ taken p)
+  pub front : (p : ℕ) → IsPrefix (items_of p (handed outlet)) (taken p)
+
+-- A leaf has one feed for each of its processes, each in order, and its outlet was handed what they took.
+pub record IsLeafAtWork (feeds : List Feed) (outlet : Outlet) : Type 0 where
+  pub apart : AllPairs (λ p q. p ≢ q) (processes_of feeds)
+  pub served : (p : ℕ) → set.contains outlet.putter.members p ≡ list_any (λ q. q == p) (processes_of feeds)
+  pub in_order : All IsInOrder feeds
+  pub sound : IsSound outlet
+  pub faithful : IsFaithful (fed feeds) outlet
+
+-- The feeds are of the same processes and rings.
+abbrev pub AreSameFeeds : List Feed → List Feed → Type 0
+AreSameFeeds old new =
+    (processes_of new ≡ processes_of old) × (map (λ feed. feed.taker.ring) new ≡ map (λ feed. feed.taker.ring) old)
+
+-- The last item that was taken of process p isn't the next one after those before it.
+abbrev pub IsGapAt : ℕ → (ℕ → List Item) → Type 0
+IsGapAt p taken =
+    (before : List Item) × (item : Item) × (taken p ≡ before ++ item ∷ []) × ¬ IsNextAfter before item
+
+-- A relay with a lane takes items of its putter's processes, and its outlet was handed what it took.
+pub record IsInnerAtWork (taker : TakeEnd Item) (outlet : Outlet) : Type 0 where
+  pub among : (p : ℕ) → set.contains taker.members p ≡ true → set.contains outlet.putter.members p ≡ true
+  pub sound : IsSound outlet
+  pub faithful : IsFaithful (λ p. items_of p taker.taken) outlet
+
+-- An item that a taker takes is of its processes, and the next one after those of its process that were taken.
+abbrev pub IsTakenNext : TakeEnd Item → Item → Type 0
+IsTakenNext taker item =
+    IsNextTaken (λ (i : Item). i.from) (λ (i : Item). place_of i.note) (λ (i : Item). is_close i.note) taker item
+
+-- A taker keeps its lane and its processes.
+abbrev pub IsSameTaker : TakeEnd Item → TakeEnd Item → Type 0
+IsSameTaker old new = (new.lane ≡ old.lane) × (new.members ≡ old.members)
+
+-- The items of each process of the set end with its close mark.
+abbrev pub AreClosed : Numbers → (ℕ → List Item) → Type 0
+AreClosed members taken =
+    (p : ℕ) → set.contains members p ≡ true → IsEnded (λ (item : Item). is_close item.note) (taken p)
+
+-- A relay is at work.
+abbrev pub IsAtWork : Source → Outlet → Type 0
+IsAtWork (Leaf feeds parker) outlet = IsLeafAtWork feeds.items outlet
+IsAtWork (Inner taker) outlet = IsInnerAtWork taker outlet
+
+-- A relay takes from the same rings, or from the same lane.
+abbrev pub IsSameSource : Source → Source → Type 0
+IsSameSource (Leaf old parker) (Leaf new same_parker) = AreSameFeeds old.items new.items
+IsSameSource (Inner old) (Inner new) = IsSameTaker old new
+IsSameSource _ _ = ⊥
+
+-- A gap is answered only where such a note came.
+abbrev pub IsFaultAfter : RelayFault → (ℕ → List Item) → Type 0
+IsFaultAfter (Gap p) taken = IsGapAt p taken
+IsFaultAfter (Cut cut) taken = ⊤

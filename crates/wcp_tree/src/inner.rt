@@ -1,0 +1,74 @@
+ghost use Rattle.std.specs.Prelude.{◌≡◌, ℕ, true, [], ◌∷◌, ◌++◌, ◌↔◌, ◌<◌, IsTrue, IfOk, IfSome, IfNone, OnErr, OnOk};
+ghost use Rattle.std.specs.FinSet as set;
+ghost use Rattle.wcp_lane.specs.Within.{IsWithin};
+ghost use Rattle.wcp_tree.specs.Feeding.{items_of};
+ghost use Rattle.wcp_tree.specs.RelayWork.{IsInnerAtWork, IsSameOutlet, IsSameTaker, IsTakenNext, AreClosed};
+
+use crate::outlet::Outlet;
+use std::sync::Wait;
+use wcp_clock::{Item, MAX_PROCS};
+use wcp_lane::{Cut, Origin, Origins, Taker};
+
+/// Passes on what the lane gives, until the close mark of each process of the putter was taken.
+pub(crate) fn run_inner<R: Wait>(
+    rt: &R,
+    taker: &mut Taker<Item>,
+    outlet: &mut Outlet,
+) -> Result<(), Cut>
+    requires { IsInnerAtWork taker.old outlet.old }
+    ensures same_taker { IsSameTaker taker.old taker.new }
+    ensures same_outlet { IsSameOutlet outlet.old outlet.new }
+    ensures work { IsInnerAtWork taker.new outlet.new }
+    ensures closed { OnOk result (AreClosed outlet.new.putter.members (λ p. items_of p taker.new.taken)) }
+    ensures empty { OnOk result (IfNone outlet.new.cut (outlet.new.hold.items ≡ [])) }
+{
+    let below = outlet.putter.origins();
+    let mut closed = Origins::none();
+    let mut finished = are_among(&below, &closed);
+    for _ in rt.forever() {
+        if finished {
+            break;
+        }
+        let Some(item) = next_item(rt, taker, outlet.is_idle())? else {
+            outlet.pass_on(rt);
+            continue;
+        };
+        outlet.accept(rt, item);
+        if item.last() {
+            closed = closed.with(item.from);
+            finished = are_among(&below, &closed);
+        }
+    }
+    outlet.pass_on(rt);
+    Ok(())
+}
+
+/// The lane's next item. Where it has none, this waits for one, or answers `None`.
+fn next_item<R: Wait>(rt: &R, taker: &mut Taker<Item>, waits: bool) -> Result<Option<Item>, Cut>
+    ensures same { IsSameTaker taker.old taker.new }
+    ensures some { IfOk result (λ found. IfSome found (λ item.
+        IsTakenNext taker.old item
+        × (taker.new ≡ record taker.old { taken = taker.old.taken ++ item ∷ [] }))) }
+    ensures none { IfOk result (λ found. IfNone found (taker.new ≡ taker.old)) }
+    ensures err { OnErr result (taker.new ≡ taker.old) }
+{
+    if waits {
+        Ok(Some(taker.take(rt)?))
+    } else {
+        taker.try_take(rt)
+    }
+}
+
+/// Whether each number of one set is in the other.
+fn are_among(numbers: &Origins, all: &Origins) -> bool
+    ensures among { IsTrue result
+        ↔ ((p : ℕ) → set.contains numbers.now p ≡ true → set.contains all.now p ≡ true) }
+    ensures within { IsWithin numbers.now }
+{
+    for p in 0..MAX_PROCS as u32 {
+        if numbers.has(p) && !all.has(p) {
+            return false;
+        }
+    }
+    true
+}

@@ -1,0 +1,64 @@
+ghost use Rattle.std.specs.Prelude.{◌≡◌, ℕ, true, [], All, IfErr, OnOk, OnErr, IfNone, IfSome};
+ghost use mathlib.Core.List.{IsPrefix};
+ghost use Rattle.wcp_tree.specs.Feeding.{fed, items_of};
+ghost use Rattle.wcp_tree.specs.RelayWork.{handed, IsLeafAtWork, AreSameFeeds, IsSameOutlet, IsGapAt};
+ghost use Rattle.wcp_tree.specs.declared.relay_end.RelayFault.TheVariants as fault;
+
+use crate::feed::Feed;
+use crate::outlet::Outlet;
+use crate::relay_end::RelayFault;
+use crossbeam_utils::sync::Parker;
+use std::sync::Wait;
+
+/// Passes on what the feeds take, until each has taken its close mark.
+pub(crate) fn run_leaf<R: Wait>(
+    rt: &R,
+    feeds: &mut [Feed],
+    parker: &Parker,
+    outlet: &mut Outlet,
+) -> Result<(), RelayFault>
+    requires { IsLeafAtWork feeds.old outlet.old }
+    ensures same_feeds { AreSameFeeds feeds.old feeds.new }
+    ensures same_outlet { IsSameOutlet outlet.old outlet.new }
+    ensures work { OnOk result (IsLeafAtWork feeds.new outlet.new) }
+    ensures closed { OnOk result (All (λ feed. feed.closed ≡ true) feeds.new) }
+    ensures empty { OnOk result (IfNone outlet.new.cut (outlet.new.hold.items ≡ [])) }
+    ensures front { OnErr result ((p : ℕ) → IsPrefix (items_of p (handed outlet.new)) (fed feeds.new p)) }
+    ensures gap { IfErr result (λ met. (p : ℕ) × (met ≡ fault.Gap p) × IsGapAt p (fed feeds.new)) }
+{
+    for _ in rt.forever() {
+        let any = take_round(rt, feeds, outlet)?;
+        if feeds.iter().all(|feed| feed.closed) {
+            break;
+        }
+        if any {
+            continue;
+        }
+        if outlet.is_idle() {
+            parker.park(rt);
+        } else {
+            outlet.pass_on(rt);
+        }
+    }
+    outlet.pass_on(rt);
+    Ok(())
+}
+
+/// Takes a note from each feed that has one. `Ok` says whether any had one.
+fn take_round<R: Wait>(rt: &R, feeds: &mut [Feed], outlet: &mut Outlet) -> Result<bool, RelayFault>
+    requires { IsLeafAtWork feeds.old outlet.old }
+    ensures same_feeds { AreSameFeeds feeds.old feeds.new }
+    ensures same_outlet { IsSameOutlet outlet.old outlet.new }
+    ensures work { OnOk result (IsLeafAtWork feeds.new outlet.new) }
+    ensures front { OnErr result ((p : ℕ) → IsPrefix (items_of p (handed outlet.new)) (fed feeds.new p)) }
+    ensures gap { IfErr result (λ met. (p : ℕ) × (met ≡ fault.Gap p) × IsGapAt p (fed feeds.new)) }
+{
+    let mut any = false;
+    for feed in feeds.iter_mut() {
+        if let Some(item) = feed.take()? {
+            outlet.accept(rt, item);
+            any = true;
+        }
+    }
+    Ok(any)
+}
