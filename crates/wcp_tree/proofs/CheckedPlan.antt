@@ -1,16 +1,17 @@
 -- What a checked plan keeps.
-use Rattle.std.proofs.Common.{◌≡◌, ◌≢◌, ℕ, ◌<◌, ◌≤◌, length, take, List, Option, None, Some, Contains, true, false, true≢false, eqb-true, eq-eqb, refl, sym, ap, subst, ◌∙◌, inl, inr, ⊎_elim, arith}
+use Rattle.std.proofs.Common.{◌≡◌, ◌≢◌, ℕ, ◌<◌, ◌≤◌, length, take, Option, None, Some, true, false, true≢false, eqb-true, eq-eqb, refl, sym, ap, ◌∙◌, inl, inr, ⊎_elim, arith}
 use Rattle.std.proofs.lemmas.Bool.{cases_lt, cases_eq}
 use Rattle.std.proofs.Math.Seq.{take-length}
 use Rattle.std.proofs.lemmas.Option.{slice_get_within, slice_get_cases, get_or_from_slice_get}
-use Rattle.std.specs.List.{slice_get}
+use Rattle.std.specs.List.{list_any, slice_get}
+use Rattle.std.proofs.lemmas.List.Folds.{list_any_at}
 use Rattle.std.specs.Option.{option_flatten}
 use Rattle.wcp_clock.specs.Limits.{most_processes, most_cap, most_hold, most_relays}
 use Rattle.wcp_model.specs.declared.plan.Parent.TheVariants.{Relay}
 use Rattle.wcp_model.specs.declared.plan.Plan.{Plan}
 use Rattle.wcp_model.specs.declared.plan.PlanFault.TheVariants as fault
-use Rattle.wcp_model.specs.PlanFault.{IsCheckedPlan, ServesProcess}
-use Rattle.wcp_model.specs.Tree.{is_number, leaf_of, parent_of}
+use Rattle.wcp_model.specs.PlanFault.{IsCheckedPlan}
+use Rattle.wcp_model.specs.Tree.{is_number, is_leaf, leaf_of, parent_of}
 
 -- which relay a number stands for
 pub is_its_number : (relay : ℕ) (o : Option ℕ) → is_number relay o ≡ true → o ≡ Some relay
@@ -108,19 +109,23 @@ module _ (plan : Plan) (checked : IsCheckedPlan plan) where
             (cases_lt relay (length plan.parents.items)),
       )
 
+  -- the plan's entries are just those of its processes
+  pub all_served : take plan.n plan.attach.items ≡ plan.attach.items
+  all_served = ap (λ n. take n plan.attach.items) (sym attached_all) ∙ take-length plan.attach.items
+
+  -- a relay that serves a process is a leaf
+  pub is_its_leaf : (p relay : ℕ) → leaf_of plan p ≡ Some relay → is_leaf plan relay ≡ true
+  is_its_leaf p relay is =
+      let at = entry_of p relay is in
+      let within = slice_get_within plan.attach.items p (Some relay) at in
+      ap (list_any (is_number relay)) all_served
+      ∙ list_any_at (is_number relay) plan.attach.items p None within
+      (ap (is_number relay) (get_or_from_slice_get plan.attach.items p (Some relay) None at)
+      ∙ eq-eqb relay relay refl)
+
   -- a relay that serves a process serves no relay
   pub not_mixed : (relay child p : ℕ) → leaf_of plan p ≡ Some relay → parent_of plan child ≡ Some (Relay relay) → ⊥
   not_mixed relay child p is at =
-      let there = entry_of p relay is in
       let exists = attached_exists p relay is in
-      let whole : plan.attach.items ≡ take plan.n plan.attach.items =
-      sym (ap (λ n. take n plan.attach.items) (sym attached_all) ∙ take-length plan.attach.items) in
-      let in_all : Contains plan.attach.items (Some relay) = (
-        p,
-        slice_get_within plan.attach.items p (Some relay) there,
-        get_or_from_slice_get plan.attach.items p (Some relay) (Some relay) there,
-      ) in
-      let served : ServesProcess plan relay =
-      subst (λ (entries : List (Option ℕ)). Contains entries (Some relay)) whole in_all in
       let within : child < length plan.parents.items = slice_get_within plan.parents.items child (Relay relay) at in
-      checked fault.Mixed (relay, exists.1, served, (child, within, get_or_from_slice_get plan.parents.items child (Relay relay) (Relay relay) at))
+      checked fault.Mixed (relay, exists.1, is_its_leaf p relay is, (child, within, get_or_from_slice_get plan.parents.items child (Relay relay) (Relay relay) at))

@@ -6,8 +6,8 @@ use Rattle.std.proofs.lemmas.List.{append-nil}
 use mathlib.Core.List.{IsPrefix}
 use Rattle.wcp_clock.specs.declared.note.Item.{Item}
 use Rattle.wcp_clock.specs.declared.note.Note.{Note}
-use Rattle.wcp_model.specs.LaneRule.{IsRun}
-use Rattle.wcp_lane.specs.Notes.{place_of, is_close}
+use Rattle.wcp_model.specs.LaneRule.{AreInSequence}
+use Rattle.wcp_clock.specs.Notes.{place_of, is_close}
 use Rattle.wcp_tree.specs.declared.feed.Feed.{Feed}
 use Rattle.wcp_tree.specs.declared.outlet.Outlet.{Outlet}
 use Rattle.wcp_tree.specs.declared.source.Source.{Source}
@@ -15,9 +15,9 @@ use Rattle.wcp_tree.specs.declared.source.Source.TheVariants.{Leaf, Inner}
 use Rattle.wcp_tree.specs.declared.relay_end.Receipts.{Receipts}
 use Rattle.wcp_tree.specs.declared.relay_end.Receipts.TheVariants.{Feeds, Lane}
 use Rattle.wcp_tree.specs.Feeding.{fed, items_by, items_of, taken_of, Serves, IsNewFeed, IsInOrder}
-use Rattle.wcp_tree.specs.RelayWork.{handed, IsItemRun, IsSound, IsFaithful, IsLeafAtWork, IsAtWork, AreClosed}
+use Rattle.wcp_tree.specs.RelayWork.{handed, AreItemsInSequence, IsSound, IsFaithful, IsLeafAtWork, IsAtWork, AreClosed}
 use Rattle.wcp_tree.specs.RelayEnds.{IsEndOfSource, taken_in}
-use Rattle.wcp_tree.proofs.Lists.{IsRun-none, items_of-append}
+use Rattle.wcp_tree.proofs.Lists.{AreInSequence-none, items_of-append}
 use Rattle.wcp_tree.proofs.Faithful.{only_none, prefix_same}
 use Rattle.wcp_tree.proofs.Passing.{if_none}
 use Rattle.wcp_tree.proofs.Fed.{all_ended}
@@ -37,14 +37,14 @@ sound_new outlet room held all =
     record {
       room = room;
       owned = subst (All (λ (i : Item). set.contains outlet.putter.members i.from ≡ true)) (sym held) (none_is (λ i. set.contains outlet.putter.members i.from ≡ true));
-      runs = λ p. subst (λ xs. IsItemRun (items_of p xs)) (sym all) (IsRun-none (λ (i : Item). place_of i.note) (λ (i : Item). is_close i.note));
+      runs = λ p. subst (λ xs. AreItemsInSequence (items_of p xs)) (sym all) (AreInSequence-none (λ (i : Item). place_of i.note) (λ (i : Item). is_close i.note));
     }
 
 feed_new : (feed : Feed) → IsNewFeed feed → IsInOrder feed
 feed_new feed new =
     let none = nothing feed.taker.taken new.2 in
     record {
-      run = subst (IsRun place_of is_close) (sym none) (IsRun-none place_of is_close);
+      run = subst (AreInSequence place_of is_close) (sym none) (AreInSequence-none place_of is_close);
       counted = λ _. (new.0 ∙ sym new.2, subst (All (λ (n : Note). is_close n ≡ false)) (sym none) note_none);
       ended = λ closed. absurd (true≢false (sym closed ∙ new.1));
     }

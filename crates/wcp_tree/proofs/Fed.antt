@@ -9,9 +9,9 @@ use Rattle.std.proofs.Math.ListN.{length-set}
 use Rattle.std.proofs.Math.Seq.{map-set_same}
 use Rattle.wcp_clock.specs.declared.note.Item.{Item}
 use Rattle.wcp_clock.specs.declared.note.Note.{Note}
-use Rattle.wcp_lane.specs.Notes.{is_close}
+use Rattle.wcp_clock.specs.Notes.{is_close}
 use Rattle.wcp_tree.specs.declared.feed.Feed.{Feed}
-use Rattle.wcp_tree.specs.Feeding.{fed, items_by, items_of, processes_of, IsNextNote, IsInOrder, IsEnded}
+use Rattle.wcp_tree.specs.Feeding.{fed, items_by, items_of, processes_of, IsNextOfProcess, IsInOrder, IsEnded}
 use Rattle.wcp_tree.specs.RelayWork.{IsNextAfter, IsGapAt}
 use Rattle.wcp_tree.proofs.Lists.{either_number, items_of-own, items_of-other}
 
@@ -91,14 +91,14 @@ fed-set feeds i new d item below apart same taken from p =
     item_by r n = record { from = r; note = n }
 
 -- the next note of a process is the next item after its notes as items
-pub next_by : (p : ℕ) (before : List Note) (item : Item) → IsNextNote before item.note → IsNextAfter (items_by p before) item
+pub next_by : (p : ℕ) (before : List Note) (item : Item) → IsNextOfProcess before item.note → IsNextAfter (items_by p before) item
 next_by p before item next =
     record {
       numbered = next.numbered ∙ sym (length-map before (λ (n : Note). record { from = p; note = n }));
       unended = All-map (λ (i : Item). is_close i.note ≡ false) (λ (n : Note). record { from = p; note = n }) before next.unended;
     }
 
-pub next_back : (p : ℕ) (before : List Note) (item : Item) → IsNextAfter (items_by p before) item → IsNextNote before item.note
+pub next_back : (p : ℕ) (before : List Note) (item : Item) → IsNextAfter (items_by p before) item → IsNextOfProcess before item.note
 next_back p before item next =
     let f : Note → Item = λ n. record { from = p; note = n } in
     let long : length (map f before) ≡ length before = length-map before f in
@@ -111,7 +111,7 @@ next_back p before item next =
 -- a note came that isn't the next one
 pub fed-gap : (feeds : List Feed) (i : ℕ) (new d : Feed) (note : Note) → i < length feeds → AreApart (processes_of feeds)
     → new.process ≡ (get_or feeds i d).process → new.taker.taken ≡ (get_or feeds i d).taker.taken ++ note ∷ []
-    → (IsNextNote (get_or feeds i d).taker.taken note → ⊥) → IsGapAt (get_or feeds i d).process (fed (set feeds i new))
+    → (IsNextOfProcess (get_or feeds i d).taker.taken note → ⊥) → IsGapAt (get_or feeds i d).process (fed (set feeds i new))
 fed-gap feeds i new d note below apart same taken not_next =
     let old = get_or feeds i d in
     let item : Item = record { from = old.process; note = note } in (

@@ -7,7 +7,7 @@ use Rattle.std.specs.Cmp.{unsigned_tied, nat_cmp_total}
 use Rattle.std.proofs.lemmas.Bool.Decides.{nat_tests}
 use Rattle.std.proofs.lemmas.List.{append-nil}
 use Rattle.wcp_clock.specs.declared.note.Item.{Item}
-use Rattle.wcp_lane.specs.Notes.{is_close}
+use Rattle.wcp_clock.specs.Notes.{is_close}
 use Rattle.wcp_lane.specs.Ends.{TakeEnd}
 use Rattle.wcp_lane.specs.Passes.{Numbers}
 use Rattle.wcp_tree.specs.declared.outlet.Outlet.{Outlet}

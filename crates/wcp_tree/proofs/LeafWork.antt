@@ -7,7 +7,7 @@ use Rattle.std.proofs.lemmas.List.Elements.{All-set}
 use Rattle.wcp_clock.specs.declared.note.Item.{Item}
 use Rattle.wcp_tree.specs.declared.feed.Feed.{Feed}
 use Rattle.wcp_tree.specs.declared.outlet.Outlet.{Outlet}
-use Rattle.wcp_tree.specs.Feeding.{fed, items_of, IsInOrder, IsNextNote}
+use Rattle.wcp_tree.specs.Feeding.{fed, items_of, IsInOrder, IsNextOfProcess}
 use Rattle.wcp_tree.specs.RelayWork.{handed, IsSound, IsNextItem, IsNextAfter, IsSameOutlet, IsLeafAtWork}
 use Rattle.wcp_tree.proofs.Fed.{fed-at, fed-set, fed-quiet, next_by, processes-set, process_served}
 use Rattle.wcp_tree.proofs.Faithful.{faithful_more, faithful_same, only_none}
@@ -21,7 +21,7 @@ pub leaf_owned : (feeds : List Feed) (i : ℕ) (d : Feed) (outlet : Outlet) (p :
 leaf_owned feeds i d outlet p work below is = ap (sets.contains outlet.putter.members) is ∙ work.served (get_or feeds i d).process ∙ process_served feeds i d below
 
 pub leaf_next : (feeds : List Feed) (i : ℕ) (d : Feed) (outlet : Outlet) (item : Item) → IsLeafAtWork feeds outlet → i < length feeds
-    → item.from ≡ (get_or feeds i d).process → IsNextNote (get_or feeds i d).taker.taken item.note → IfNone outlet.cut (IsNextItem (handed outlet) item)
+    → item.from ≡ (get_or feeds i d).process → IsNextOfProcess (get_or feeds i d).taker.taken item.note → IfNone outlet.cut (IsNextItem (handed outlet) item)
 leaf_next feeds i d outlet item work below from next =
     only_none _ outlet.cut (λ none.
     let q = (get_or feeds i d).process in

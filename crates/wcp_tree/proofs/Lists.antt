@@ -6,7 +6,7 @@ use Rattle.std.proofs.lemmas.Grind.{flat_map-append}
 use Rattle.std.proofs.lemmas.Bool.Decides.{nat_tests}
 use Rattle.std.proofs.lemmas.List.Elements.{filter-append}
 use Rattle.wcp_clock.specs.declared.note.Item.{Item}
-use Rattle.wcp_model.specs.LaneRule.{IsNext, IsRun}
+use Rattle.wcp_model.specs.LaneRule.{IsNext, AreInSequence}
 use Rattle.wcp_tree.specs.Feeding.{items_of}
 
 pub either_number : (p q : ℕ) → (p ≡ q) ⊎ (p ≢ q)
@@ -33,16 +33,16 @@ module _ {A : Type 0} where
 
 module _ {I : Type 0} (place : I → ℕ) (is_last : I → Bool) where
   -- a run with its next item is a run
-  pub IsRun-push : (xs : List I) (x : I) → IsRun place is_last xs → IsNext place is_last xs x → IsRun place is_last (xs ++ x ∷ [])
-  IsRun-push xs x run next before item behind e =
+  pub AreInSequence-push : (xs : List I) (x : I) → AreInSequence place is_last xs → IsNext place is_last xs x → AreInSequence place is_last (xs ++ x ∷ [])
+  AreInSequence-push xs x run next before item behind e =
       ⊎_elim
       (λ (old : (rest : List I) × (xs ≡ before ++ item ∷ rest)). run before item old.0 old.1)
       (λ (new : (xs ≡ before) × (x ≡ item)). subst (λ (y : List I × I). IsNext place is_last y.0 y.1) (λ i. (new.0 i, new.1 i)) next)
       (of_snoc xs x before item behind e)
 
   -- no item is a run
-  pub IsRun-none : IsRun place is_last []
-  IsRun-none before item behind e = absurd (not_empty before item behind e)
+  pub AreInSequence-none : AreInSequence place is_last []
+  AreInSequence-none before item behind e = absurd (not_empty before item behind e)
 
 pub items_of-append : (p : ℕ) (xs ys : List Item) → items_of p (xs ++ ys) ≡ items_of p xs ++ items_of p ys
 items_of-append p xs ys = ap (filter (λ (m : Item). m.from == p)) (flat_map-append (λ (m : Item). m ∷ []) xs ys) ∙ filter-append (λ (m : Item). m.from == p) (flat_map (λ (m : Item). m ∷ []) xs) (flat_map (λ (m : Item). m ∷ []) ys)

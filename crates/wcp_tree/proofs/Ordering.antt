@@ -3,18 +3,18 @@ use Rattle.std.proofs.Common.{◌≡◌, zero, suc, ◌+◌, true, false, true�
 use Rattle.std.specs.Prelude.{All}
 use Rattle.std.proofs.lemmas.List.Elements.{All-append}
 use Rattle.wcp_clock.specs.declared.note.Note.{Note}
-use Rattle.wcp_model.specs.LaneRule.{IsRun}
-use Rattle.wcp_lane.specs.Notes.{place_of, is_close}
-use Rattle.wcp_tree.proofs.Lists.{IsRun-push}
+use Rattle.wcp_model.specs.LaneRule.{AreInSequence}
+use Rattle.wcp_clock.specs.Notes.{place_of, is_close}
+use Rattle.wcp_tree.proofs.Lists.{AreInSequence-push}
 use Rattle.wcp_tree.specs.declared.feed.Feed.{Feed}
-use Rattle.wcp_tree.specs.Feeding.{IsInOrder, IsNextNote}
+use Rattle.wcp_tree.specs.Feeding.{IsInOrder, IsNextOfProcess}
 
 only_snap : (note : Note) → is_close note ≡ false → All (λ n. is_close n ≡ false) (note ∷ [])
 only_snap note snap zero d k = snap
 only_snap note snap (suc i) d k = absurd (omega arith)
 
 -- a note at the place that is counted is the next one
-pub next_note : (feed : Feed) (note : Note) → IsInOrder feed → feed.closed ≡ false → place_of note ≡ feed.next → IsNextNote feed.taker.taken note
+pub next_note : (feed : Feed) (note : Note) → IsInOrder feed → feed.closed ≡ false → place_of note ≡ feed.next → IsNextOfProcess feed.taker.taken note
 next_note feed note order not_closed place = let counted = order.counted not_closed in record { numbered = place ∙ counted.0; unended = counted.1 }
 
 -- a snapshot that is the next note is taken
@@ -23,7 +23,7 @@ pub in_order_snap : (feed more : Feed) (note : Note) → IsInOrder feed → feed
 in_order_snap feed more note order not_closed place snap taken next still =
     let counted = order.counted not_closed in
     record {
-      run = subst (IsRun place_of is_close) (sym taken) (IsRun-push place_of is_close feed.taker.taken note order.run (next_note feed note order not_closed place));
+      run = subst (AreInSequence place_of is_close) (sym taken) (AreInSequence-push place_of is_close feed.taker.taken note order.run (next_note feed note order not_closed place));
       counted = λ _. (omega (arith, ap length taken, length-append feed.taker.taken (note ∷ [])), subst (All (λ n. is_close n ≡ false)) (sym taken) (All-append (λ n. is_close n ≡ false) feed.taker.taken (note ∷ []) counted.1 (only_snap note snap)));
       ended = λ closed. absurd (true≢false (sym closed ∙ still));
     }
@@ -33,7 +33,7 @@ pub in_order_close : (feed more : Feed) (note : Note) → IsInOrder feed → fee
     → more.taker.taken ≡ feed.taker.taken ++ note ∷ [] → more.closed ≡ true → IsInOrder more
 in_order_close feed more note order not_closed place close taken closed =
     record {
-      run = subst (IsRun place_of is_close) (sym taken) (IsRun-push place_of is_close feed.taker.taken note order.run (next_note feed note order not_closed place));
+      run = subst (AreInSequence place_of is_close) (sym taken) (AreInSequence-push place_of is_close feed.taker.taken note order.run (next_note feed note order not_closed place));
       counted = λ still. absurd (true≢false (sym closed ∙ still));
       ended = λ _. (feed.taker.taken, note, taken, close);
     }

@@ -7,13 +7,13 @@ use Rattle.std.proofs.lemmas.List.{append-nil}
 use Rattle.std.proofs.lemmas.List.Elements.{All-append}
 use Rattle.wcp_clock.specs.declared.note.Item.{Item}
 use Rattle.wcp_model.specs.LaneRule.{IsNext}
-use Rattle.wcp_lane.specs.Notes.{place_of, is_close}
+use Rattle.wcp_clock.specs.Notes.{place_of, is_close}
 use Rattle.wcp_lane.specs.Ends.{PutEnd}
 use Rattle.wcp_hold.specs.Held.{Held}
 use Rattle.wcp_tree.specs.declared.outlet.Outlet.{Outlet}
 use Rattle.wcp_tree.specs.Feeding.{items_of}
-use Rattle.wcp_tree.specs.RelayWork.{handed, IsNextItem, IsItemRun, IsSound}
-use Rattle.wcp_tree.proofs.Lists.{either_number, IsRun-push, items_of-append, items_of-own, items_of-other}
+use Rattle.wcp_tree.specs.RelayWork.{handed, IsNextItem, AreItemsInSequence, IsSound}
+use Rattle.wcp_tree.proofs.Lists.{either_number, AreInSequence-push, items_of-append, items_of-own, items_of-other}
 
 first_of : (items : List Item) (item : Item) → slice_get items 0 ≡ Some item → items ≡ item ∷ drop 1 items
 first_of [] item first = cc
@@ -61,7 +61,7 @@ sound_passed o new item sound first putter hold =
       room = subst (λ n. 0 < n) (sym (ap (λ (h : Held). h.room) hold)) sound.room;
       owned = subst (λ m. All (λ (i : Item). set.contains m i.from ≡ true) new.hold.items) (sym numbers)
           (subst (All (λ (i : Item). set.contains o.putter.members i.from ≡ true)) (sym (ap (λ (h : Held). h.items) hold)) rest);
-      runs = λ p. subst (λ xs. IsItemRun (items_of p xs)) (sym (handed_passed o new item first putter hold)) (sound.runs p);
+      runs = λ p. subst (λ xs. AreItemsInSequence (items_of p xs)) (sym (handed_passed o new item first putter hold)) (sound.runs p);
     }
 
 shorter : (items : List Item) (item : Item) → slice_get items 0 ≡ Some item → length (drop 1 items) < length items
@@ -90,7 +90,7 @@ unless_err X (Err e) not_err given = absurd (not_err (search rules))
 -- an outlet whose lane is cut has what it had
 pub sound_same : (o new : Outlet) → IsSound o → new.putter ≡ o.putter → new.hold ≡ o.hold → IsSound new
 sound_same o new sound putter hold =
-    let P : PutEnd Item × Held → Type 0 = λ v. (0 < v.1.room) × All (λ (i : Item). set.contains v.0.members i.from ≡ true) v.1.items × ((p : ℕ) → IsItemRun (items_of p (v.0.put ++ v.1.items))) in
+    let P : PutEnd Item × Held → Type 0 = λ v. (0 < v.1.room) × All (λ (i : Item). set.contains v.0.members i.from ≡ true) v.1.items × ((p : ℕ) → AreItemsInSequence (items_of p (v.0.put ++ v.1.items))) in
     let both = subst P (λ i. (sym putter i, sym hold i)) (sound.room, sound.owned, sound.runs) in
     record { room = both.0; owned = both.1; runs = both.2 }
 
@@ -108,9 +108,9 @@ sound_taken o new item sound own next putter hold =
           (All-append (λ (i : Item). set.contains o.putter.members i.from ≡ true) o.hold.items (item ∷ []) sound.owned (All-one (λ i. set.contains o.putter.members i.from ≡ true) item own)));
       runs = λ p. ⊎_elim
           (λ (here : p ≡ item.from).
-          subst IsItemRun (sym (split p ∙ ap (λ xs. items_of p (handed o) ++ xs) (items_of-own p item (sym here))))
-          (IsRun-push (λ (i : Item). place_of i.note) (λ (i : Item). is_close i.note) (items_of p (handed o)) item (sound.runs p) (subst (λ q. IsNext (λ (i : Item). place_of i.note) (λ (i : Item). is_close i.note) (items_of q (handed o)) item) (sym here) next)))
+          subst AreItemsInSequence (sym (split p ∙ ap (λ xs. items_of p (handed o) ++ xs) (items_of-own p item (sym here))))
+          (AreInSequence-push (λ (i : Item). place_of i.note) (λ (i : Item). is_close i.note) (items_of p (handed o)) item (sound.runs p) (subst (λ q. IsNext (λ (i : Item). place_of i.note) (λ (i : Item). is_close i.note) (items_of q (handed o)) item) (sym here) next)))
           (λ (apart : p ≢ item.from).
-          subst IsItemRun (sym (split p ∙ ap (λ xs. items_of p (handed o) ++ xs) (items_of-other p item (λ e. apart (sym e))) ∙ append-nil (items_of p (handed o)))) (sound.runs p))
+          subst AreItemsInSequence (sym (split p ∙ ap (λ xs. items_of p (handed o) ++ xs) (items_of-other p item (λ e. apart (sym e))) ∙ append-nil (items_of p (handed o)))) (sound.runs p))
           (either_number p item.from);
     }

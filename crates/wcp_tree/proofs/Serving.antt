@@ -1,12 +1,13 @@
 -- Whom a leaf serves, and whom the other relays.
-use Rattle.std.proofs.Common.{◌≡◌, ◌≢◌, ◌==◌, ◌↔◌, ℕ, Bool, true, false, true≢false, List, length, get_or, Option, Some, None, refl, sym, ap, ◌∙◌, ⊎_elim, eq-eqb}
+use Rattle.std.proofs.Common.{◌≡◌, ◌≢◌, ◌==◌, ◌↔◌, ℕ, Bool, true, false, true≢false, List, [], ◌∷◌, ◌<◌, ◌||◌, AllPairs, length, get_or, arith, Option, Some, refl, sym, ap, ◌∙◌, ⊎_elim}
 use Rattle.std.specs.FinSet as set
 use Rattle.std.specs.List.{list_any, slice_get}
 use Rattle.std.specs.Option.{option_flatten}
 use Rattle.std.proofs.lemmas.Bool.{cases_eq}
+use Rattle.std.proofs.lemmas.List.{length-map, get_or-map}
 use Rattle.std.proofs.lemmas.List.Elements.{All-weaker}
-use Rattle.std.proofs.lemmas.List.Folds.{Any-from_list_any, list_any_at}
-use Rattle.std.proofs.lemmas.Option.{slice_get_within, slice_get-get_or, get_or_from_slice_get}
+use Rattle.std.proofs.lemmas.List.Folds.{Any-from_list_any}
+use Rattle.std.proofs.lemmas.Option.{slice_get-get_or}
 use Rattle.wcp_model.specs.declared.plan.Parent.TheVariants.{Relay}
 use Rattle.wcp_model.specs.declared.plan.Plan.{Plan}
 use Rattle.wcp_model.specs.PlanFault.{IsCheckedPlan}
@@ -17,27 +18,20 @@ use Rattle.wcp_ring.specs.Ends.{TakeSide}
 use Rattle.wcp_tree.specs.declared.feed.Feed.{Feed}
 use Rattle.wcp_tree.specs.declared.source.Source.{Source}
 use Rattle.wcp_tree.specs.declared.source.Source.TheVariants.{Leaf, Inner}
-use Rattle.wcp_tree.specs.Feeding.{IsNewFeed, Serves}
+use Rattle.wcp_tree.specs.Feeding.{IsNewFeed, Serves, processes_of}
 use Rattle.wcp_tree.specs.Relays.{IsSource}
 use Rattle.wcp_tree.specs.Rings.{IsFeed}
 use Rattle.wcp_tree.specs.Wiring.{AreBelowChildren}
-use Rattle.wcp_tree.proofs.CheckedPlan.{attached_exists, entry_of, is_its_number, not_mixed}
+use Rattle.wcp_tree.proofs.CheckedPlan.{all_served, attached_exists, is_its_leaf, is_its_number, not_mixed}
 use Rattle.wcp_tree.proofs.Climbs.{members_pass_up, child_is_met}
 
 module _ (plan : Plan) (checked : IsCheckedPlan plan) (relay : ℕ) where
-  -- a relay that serves a process is a leaf
-  pub is_its_leaf : (p : ℕ) → leaf_of plan p ≡ Some relay → is_leaf plan relay ≡ true
-  is_its_leaf p is =
-      let at = entry_of plan checked p relay is in
-      let within = slice_get_within plan.attach.items p (Some relay) at in
-      list_any_at (is_number relay) plan.attach.items p None within
-      (ap (is_number relay) (get_or_from_slice_get plan.attach.items p (Some relay) None at)
-      ∙ eq-eqb relay relay refl)
-
   -- a leaf serves some process
   some_process : is_leaf plan relay ≡ true → (p : ℕ) × (leaf_of plan p ≡ Some relay)
   some_process leaf =
-      let some = Any-from_list_any (is_number relay) plan.attach.items leaf in
+      let served : list_any (is_number relay) plan.attach.items ≡ true =
+      sym (ap (list_any (is_number relay)) (all_served plan checked)) ∙ leaf in
+      let some = Any-from_list_any (is_number relay) plan.attach.items served in
       let number : some.1 ≡ Some relay = is_its_number relay some.1 some.4 in
       let at : slice_get plan.attach.items some.0 ≡ Some (get_or plan.attach.items some.0 some.1) =
       slice_get-get_or plan.attach.items some.0 some.1 some.2 in
@@ -69,7 +63,7 @@ module _ (plan : Plan) (checked : IsCheckedPlan plan) (relay : ℕ) where
           → (child : ℕ) × (parent_of plan child ≡ Some (Relay relay)) × IsBelow plan child p
       child_of p below =
           let apart : relay ≢ below.0 =
-          λ same. true≢false (sym (is_its_leaf p (below.1 ∙ ap (λ n. Some n) (sym same))) ∙ leaf) in
+          λ same. true≢false (sym (is_its_leaf plan checked p relay (below.1 ∙ ap (λ n. Some n) (sym same))) ∙ leaf) in
           let child = child_is_met plan checked relay below.0 apart below.2 in
           (child.0, child.1, (below.0, below.1, child.2))
 
@@ -79,6 +73,20 @@ same_test true b both = sym (both.0 refl)
 same_test false true both = both.1 refl
 same_test false false both = refl
 
+-- feeds of different processes
+processes_apart : (feeds : List Feed) → AllPairs (λ a b. a.process ≢ b.process) feeds → AllPairs (λ p q. p ≢ q) (processes_of feeds)
+processes_apart [] apart i j d less within = absurd (omega arith)
+processes_apart (feed ∷ feeds) apart i j d less within =
+    let all = feed ∷ feeds in
+    let few : j < length all = omega (arith, within, length-map all (λ (f : Feed). f.process)) in
+    let one = get_or-map (λ (f : Feed). f.process) all i feed d (omega arith) in
+    let other = get_or-map (λ (f : Feed). f.process) all j feed d few in
+    λ same. apart i j feed less few (sym one ∙ same ∙ other)
+
+feeds_any : (feeds : List Feed) (p : ℕ) → list_any (λ q. q == p) (processes_of feeds) ≡ list_any (λ (feed : Feed). feed.process == p) feeds
+feeds_any [] p = refl
+feeds_any (feed ∷ feeds) p = ap (λ any. (feed.process == p) || any) (feeds_any feeds p)
+
 -- a source that was opened serves the processes below its relay
 pub source_serves : (plan : Plan) → IsCheckedPlan plan → (relay : ℕ) (takers : List (Option TakeSide)) (source : Source)
     (members : Numbers) → IsSource plan takers relay source → AreBelow plan relay members → Serves source members
@@ -86,7 +94,7 @@ source_serves plan checked relay takers (Leaf feeds parker) members is below = (
   All-weaker (IsFeed plan relay takers plan.n) IsNewFeed
       (λ feed new. (new.first, new.unclosed, ap length new.taker.1))
       feeds.items is.1.each,
-  is.1.apart,
+  processes_apart feeds.items is.1.apart,
   λ p. same_test (set.contains members p) (list_any (λ (feed : Feed). feed.process == p) feeds.items) (
     (λ has.
         let own = own_alone plan checked relay is.0 p ((below p).0 has) in
@@ -95,7 +103,7 @@ source_serves plan checked relay takers (Leaf feeds parker) members is below = (
     (λ fed.
         let own = ((is.1.processes p).0 fed).1 in
         (below p).1 (relay, own, Itself)),
-  ),
+  ) ∙ sym (feeds_any feeds.items p),
 )
 source_serves plan checked relay takers (Inner taker) members is below = (
   ap length is.1,

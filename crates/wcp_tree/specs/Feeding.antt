@@ -6,17 +6,17 @@ use Rattle.std.specs.FinSet as set
 use Rattle.std.proofs.Props.{props}
 use Rattle.wcp_clock.specs.declared.note.Item.{Item}
 use Rattle.wcp_clock.specs.declared.note.Note.{Note}
-use Rattle.wcp_model.specs.LaneRule.{IsNext, IsRun}
+use Rattle.wcp_model.specs.LaneRule.{IsNext, AreInSequence}
 use Rattle.wcp_lane.specs.Passes.{Numbers}
-use Rattle.wcp_lane.specs.Notes.{place_of, is_close}
+use Rattle.wcp_clock.specs.Notes.{place_of, is_close}
 use Rattle.wcp_lane.specs.Message as lane
 use Rattle.wcp_tree.specs.declared.feed.Feed.{Feed}
 use Rattle.wcp_tree.specs.declared.source.Source.{Source}
 use Rattle.wcp_tree.specs.declared.source.Source.TheVariants.{Leaf, Inner}
 
 -- A note is the next one after the notes of its process that were taken before.
-abbrev pub IsNextNote : List Note → Note → Type 0
-IsNextNote before note = IsNext place_of is_close before note
+abbrev pub IsNextOfProcess : List Note → Note → Type 0
+IsNextOfProcess before note = IsNext place_of is_close before note
 
 -- The last of these items is a last one.
 abbrev pub IsEnded : {I : Type 0} → (I → Bool) → List I → Type 0
@@ -24,7 +24,7 @@ IsEnded {I} is_last items = (before : List I) × (item : I) × (items ≡ before
 
 -- The notes that a feed took are a run, it counts the snapshots among them, and it knows whether the close mark came.
 pub record IsInOrder (feed : Feed) : Type 0 where
-  pub run : IsRun place_of is_close feed.taker.taken
+  pub run : AreInSequence place_of is_close feed.taker.taken
   pub counted : feed.closed ≡ false
       → (feed.next ≡ length feed.taker.taken) × All (λ note. is_close note ≡ false) feed.taker.taken
   pub ended : feed.closed ≡ true → IsEnded is_close feed.taker.taken

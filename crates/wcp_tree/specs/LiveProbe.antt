@@ -4,9 +4,9 @@ use Rattle.std.specs.Prelude.{List, [], ◌∷◌, ◌++◌, length, count_by, r
 use Rattle.wcp_clock.specs.Limits.{most_events}
 use Rattle.wcp_clock.specs.declared.note.Note.{Note}
 use Rattle.wcp_model.specs.ProbeLog.{Call, state_of_log}
-use Rattle.wcp_probe.specs.Core.{Core, StandsFor}
+use Rattle.wcp_probe.specs.Core.{Core, StandsForLog}
 use Rattle.wcp_ring.specs.Ends.{PutSide, EndedSide}
-use Rattle.wcp_lane.specs.Notes.{is_close}
+use Rattle.wcp_clock.specs.Notes.{is_close}
 
 -- A live probe has a core, and the end of its ring that puts.
 pub record LiveSide : Type 0 where
@@ -51,7 +51,7 @@ emissions_of core log = (state_of_log (length core.clock) core.id log).notes
 
 -- A live probe stands for a log where its core does, and what it has emitted is the emissions of the log.
 pub record LiveFor (probe : LiveSide) (log : List Call) : Type 0 where
-  pub core : StandsFor probe.core log
+  pub core : StandsForLog probe.core log
   pub emissions : emitted_by probe ≡ emissions_of probe.core log
 
 -- A live probe after a call that was accepted: of whatever log it stood for, it now stands for that log with the call

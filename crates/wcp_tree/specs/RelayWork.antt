@@ -4,10 +4,10 @@ use mathlib.Core.List.{IsPrefix}
 use Rattle.std.specs.List.{list_any}
 use Rattle.std.specs.FinSet as set
 use Rattle.wcp_clock.specs.declared.note.Item.{Item}
-use Rattle.wcp_model.specs.LaneRule.{IsNext, IsRun}
+use Rattle.wcp_model.specs.LaneRule.{IsNext, AreInSequence}
 use Rattle.wcp_lane.specs.Passes.{Numbers}
 use Rattle.wcp_lane.specs.Ends.{TakeEnd, IsNextTaken}
-use Rattle.wcp_lane.specs.Notes.{place_of, is_close}
+use Rattle.wcp_clock.specs.Notes.{place_of, is_close}
 use Rattle.wcp_tree.specs.declared.outlet.Outlet.{Outlet}
 use Rattle.wcp_tree.specs.declared.feed.Feed.{Feed}
 use Rattle.wcp_tree.specs.declared.source.Source.{Source}
@@ -29,15 +29,15 @@ abbrev pub IsNextItem : List Item → Item → Type 0
 IsNextItem items item = IsNextAfter (items_of item.from items) item
 
 -- These items are a run.
-abbrev pub IsItemRun : List Item → Type 0
-IsItemRun items = IsRun (λ (i : Item). place_of i.note) (λ (i : Item). is_close i.note) items
+abbrev pub AreItemsInSequence : List Item → Type 0
+AreItemsInSequence items = AreInSequence (λ (i : Item). place_of i.note) (λ (i : Item). is_close i.note) items
 
 -- An outlet's hold has room, it holds items of the processes of its putter alone, and those handed to it are a run of
 -- each process.
 pub record IsSound (outlet : Outlet) : Type 0 where
   pub room : 0 < outlet.hold.room
   pub owned : All (λ item. set.contains outlet.putter.members item.from ≡ true) outlet.hold.items
-  pub runs : (p : ℕ) → IsItemRun (items_of p (handed outlet))
+  pub runs : (p : ℕ) → AreItemsInSequence (items_of p (handed outlet))
 
 -- An outlet keeps its lane and its processes.
 abbrev pub IsSameOutlet : Outlet → Outlet → Type 0

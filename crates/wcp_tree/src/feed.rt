@@ -1,6 +1,6 @@
 ghost use Rattle.std.specs.Prelude.{◌≡◌, [], ◌∷◌, ◌++◌, false, IfOk, IfErr, IfSome, IfNone, List};
 ghost use Rattle.wcp_clock.specs.declared.note.Note.{Note};
-ghost use Rattle.wcp_tree.specs.Feeding.{IsInOrder, IsNextNote};
+ghost use Rattle.wcp_tree.specs.Feeding.{IsInOrder, IsNextOfProcess};
 ghost use Rattle.wcp_tree.specs.declared.relay_end.RelayFault.TheVariants as fault;
 
 use crate::relay_end::RelayFault;
@@ -42,13 +42,13 @@ impl Feed {
         ensures some { IfOk result (λ found. IfSome found (λ item.
             (item.from ≡ self.old.process)
             × (self.new.taker.taken ≡ self.old.taker.taken ++ item.note ∷ [])
-            × IsNextNote self.old.taker.taken item.note)) }
+            × IsNextOfProcess self.old.taker.taken item.note)) }
         ensures none { IfOk result (λ found. IfNone found (self.new.taker.taken ≡ self.old.taker.taken)) }
         ensures in_order { IfOk result (λ found. IsInOrder self.new) }
         ensures gap { IfErr result (λ met. (met ≡ fault.Gap self.old.process)
             × ((note : Note)
             × (self.new.taker.taken ≡ self.old.taker.taken ++ note ∷ [])
-            × ¬ IsNextNote self.old.taker.taken note)) }
+            × ¬ IsNextOfProcess self.old.taker.taken note)) }
     {
         let Some(note) = self.taker.try_take() else {
             return Ok(None);
