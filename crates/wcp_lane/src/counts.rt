@@ -21,7 +21,7 @@ pub fn count(counts: &mut Counts, origin: u32, place: u64)
 pub fn agree(numbers: &Origins, put: &Counts, taken: &Counts) -> bool
     ensures { IsTrue result
         ↔ ((p : ℕ) → p < most_processes → set.contains numbers.now p ≡ true
-            → slice_index put.now p ≡ slice_index taken.now p) }
+        → slice_index put.now p ≡ slice_index taken.now p) }
 {
     for p in 0..MAX_PROCS {
         if numbers.has(p as u32) && put[p] != taken[p] {
