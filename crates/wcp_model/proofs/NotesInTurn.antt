@@ -8,7 +8,7 @@ use Rattle.wcp_clock.specs.declared.note.Note.{Note}
 use Rattle.wcp_clock.specs.declared.note.Note.TheVariants as note
 use Rattle.wcp_model.specs.Computation.{Computation}
 use Rattle.wcp_model.specs.Emission.{snapshots_from, is_closed, AreEmissions}
-use Rattle.wcp_model.specs.ProbeLog.{Call, Observed, Sent, Received, Closed, ProbeState, after_call, state_of_log}
+use Rattle.wcp_model.specs.ProbeLog.{Call, Observed, Sent, Received, Closed, ProbeState, after_call, setup, state_of_log}
 use Rattle.wcp_clock.specs.Notes.{is_close, place_of}
 use Rattle.wcp_model.specs.Report.{snapshot_clocks, IsNextNote, AreInTurn}
 
@@ -112,5 +112,5 @@ counts_from : (p : ℕ) (s : ProbeState) (log : List Call) → CountsNotes s →
 counts_from p s [] is = is
 counts_from p s (call ∷ log) is = counts_from p (after_call p s call) log (counts_after p s call is)
 
-pub log_counts_notes : (n p : ℕ) (log : List Call) → CountsNotes (state_of_log n p log)
-log_counts_notes n p log = counts_from p (state_of_log n p []) log (record { snapshots = refl; closed = refl })
+pub log_counts_notes : (n p : ℕ) (log : List Call) → CountsNotes (state_of_log (setup n p) log)
+log_counts_notes n p log = counts_from p (state_of_log (setup n p) []) log (record { snapshots = refl; closed = refl })

@@ -11,7 +11,7 @@ use Rattle.wcp_model.specs.declared.step.Step.TheVariants.{Observe, Send, Recv, 
 use Rattle.wcp_model.specs.Computation.{Computation, IsTrueState, is_communication_of, is_send, communications, interval_at}
 use Rattle.wcp_model.specs.Emission.{is_close_of, is_closed}
 use Rattle.wcp_model.specs.Order.{IsMessage}
-use Rattle.wcp_model.specs.ProbeLog.{Call, Observed, Sent, Received, Closed, ProbeState, after_call, state_of_log, is_step_of, IsStampOf, IsCallOf, AreCallsOf, IsLogOf, IsAccepted, LogLaw}
+use Rattle.wcp_model.specs.ProbeLog.{Call, Observed, Sent, Received, Closed, ProbeState, after_call, setup, state_of_log, is_step_of, IsStampOf, IsCallOf, AreCallsOf, IsLogOf, IsAccepted, LogLaw}
 use Rattle.wcp_model.specs.StateClock.{IsStateClock}
 use Rattle.wcp_model.proofs.AcceptedSteps.{close_stands}
 use Rattle.wcp_model.proofs.EventPlaces.{event_of_send, event_below}
@@ -224,7 +224,7 @@ runs_on n p (x ∷ e) c s calls accepted in_range are h =
     (cases_Bool (is_step_of p x))
 
 -- before the first step
-at_first : (n p : ℕ) → p < n → IsStateAfter n [] p (state_of_log n p [])
+at_first : (n p : ℕ) → p < n → IsStateAfter n [] p (state_of_log (setup n p) [])
 at_first n p in_range = record {
   clock = clock_at_first n [] p in_range;
   flag = (λ set. absurd (true≢false (sym set)), λ is. absurd (no_step is.place (Observe p true) is.observed));
@@ -244,11 +244,11 @@ at_first n p in_range = record {
     no_step place x at = cc at
 
 -- what the log of a process leads to
-pub log_leads_to : (n : ℕ) (c : Computation) (p : ℕ) (log : List Call) → IsAccepted c → p < n → IsLogOf n c p log → IsStateAfter n c p (state_of_log n p log)
-log_leads_to n c p log accepted in_range is = runs_on n p c [] (state_of_log n p []) log accepted in_range is (at_first n p in_range)
+pub log_leads_to : (n : ℕ) (c : Computation) (p : ℕ) (log : List Call) → IsAccepted c → p < n → IsLogOf n c p log → IsStateAfter n c p (state_of_log (setup n p) log)
+log_leads_to n c p log accepted in_range is = runs_on n p c [] (state_of_log (setup n p) []) log accepted in_range is (at_first n p in_range)
 
 -- the log law
 pub log_law_holds : LogLaw
 log_law_holds n c p log accepted in_range is =
-    let after : IsStateAfter n c p (state_of_log n p log) = log_leads_to n c p log accepted in_range is in
-    record { clock = after.clock; flag = after.flag; closed = after.closed; emissions = emissions_of n c p (state_of_log n p log).snapshots (state_of_log n p log).notes after.emitted }
+    let after : IsStateAfter n c p (state_of_log (setup n p) log) = log_leads_to n c p log accepted in_range is in
+    record { clock = after.clock; flag = after.flag; closed = after.closed; emissions = emissions_of n c p (state_of_log (setup n p) log).snapshots (state_of_log (setup n p) log).notes after.emitted }

@@ -37,10 +37,18 @@ after_call p s (Received stamp) =
     record s { clock = slice_set (merged s.clock stamp) p (slice_index s.clock p + 1); flag = false }
 after_call p s Closed = record s { closed = true; notes = s.notes ++ note.Close s.snapshots ∷ [] }
 
--- The probe log: what the probe of process p of n has come to after these calls.
-abbrev pub state_of_log : ℕ → ℕ → List Call → ProbeState
-state_of_log n p log =
-    fold (after_call p) (record { clock = replicate n 0; flag = false; closed = false; snapshots = 0; notes = [] }) log
+-- What a probe is made with, as far as its log tells: how many processes there are, and which one is its own.
+pub record ProbeSetup : Type 0 where
+  pub processes : ℕ
+  pub process : ℕ
+
+abbrev pub setup : ℕ → ℕ → ProbeSetup
+setup n p = record { processes = n; process = p }
+
+-- The probe log: what a probe has come to after these calls.
+abbrev pub state_of_log : ProbeSetup → List Call → ProbeState
+state_of_log made log = fold (after_call made.process)
+    (record { clock = replicate made.processes 0; flag = false; closed = false; snapshots = 0; notes = [] }) log
 
 abbrev pub is_step_of : ℕ → Step → Bool
 is_step_of p (step.Observe q holds) = q == p
@@ -92,4 +100,4 @@ pub record HasClockAndEmissions (n : ℕ) (c : Computation) (p : ℕ) (s : Probe
 abbrev pub LogLaw : Type 0
 LogLaw =
     (n : ℕ) (c : Computation) (p : ℕ) (log : List Call) → IsAccepted c → p < n → IsLogOf n c p log →
-    HasClockAndEmissions n c p (state_of_log n p log)
+    HasClockAndEmissions n c p (state_of_log (setup n p) log)

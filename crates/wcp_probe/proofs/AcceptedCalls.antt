@@ -5,11 +5,11 @@ use Rattle.wcp_clock.specs.declared.note.Note.{Note}
 use Rattle.wcp_clock.specs.declared.note.Note.TheVariants as note
 use Rattle.wcp_clock.specs.Merge.{merged}
 use Rattle.wcp_clock.proofs.Merging.{length-merged, slice_index-merged}
-use Rattle.wcp_model.specs.ProbeLog.{Call, Observed, Sent, Received, Closed, ProbeState, after_call, state_of_log}
-use Rattle.wcp_probe.specs.Core.{Core, StandsForLog, Accepts, IsLast}
+use Rattle.wcp_model.specs.ProbeLog.{Call, Observed, Sent, Received, Closed, ProbeState, after_call, setup, state_of_log}
+use Rattle.wcp_probe.specs.Core.{Core, StandsForLog, Accepts, IsLast, setup_of}
 
 -- a log with one more call leads to what the call makes of what the log leads to
-pub state_after : (n p : ℕ) (log : List Call) (call : Call) → state_of_log n p (log ++ call ∷ []) ≡ after_call p (state_of_log n p log) call
+pub state_after : (n p : ℕ) (log : List Call) (call : Call) → state_of_log (setup n p) (log ++ call ∷ []) ≡ after_call p (state_of_log (setup n p) log) call
 state_after n p log call = fold_push (after_call p) _ log call
 
 -- closing makes the close mark the last emission
@@ -21,7 +21,7 @@ close_accepted core log stands =
       flag = stands.flag ∙ sym (ap (λ (s : ProbeState). s.flag) after);
       closed = sym (ap (λ (s : ProbeState). s.closed) after);
       emitted = stands.emitted ∙ sym (ap (λ (s : ProbeState). s.snapshots) after);
-      pending = ((state_of_log (length core.clock) core.id log).notes, ap (λ (s : ProbeState). s.notes) after ∙ ap (λ k. (state_of_log (length core.clock) core.id log).notes ++ note.Close k ∷ []) (sym stands.emitted));
+      pending = ((state_of_log (setup_of core) log).notes, ap (λ (s : ProbeState). s.notes) after ∙ ap (λ k. (state_of_log (setup_of core) log).notes ++ note.Close k ∷ []) (sym stands.emitted));
     }
 
 -- what a true observation makes of an interval whose snapshot was not emitted
@@ -32,7 +32,7 @@ observed_again : (p : ℕ) (s : ProbeState) → s.flag ≡ true → after_call p
 observed_again p s flagged = ap (λ b. cond b s (record s { flag = true; snapshots = s.snapshots + 1; notes = s.notes ++ note.Snap s.snapshots s.clock ∷ [] })) flagged
 
 -- a call that changes nothing of what the log leads to leaves the probe as it is
-pub nothing_accepted : (core : Core) (log : List Call) (call : Call) → after_call core.id (state_of_log (length core.clock) core.id log) call ≡ state_of_log (length core.clock) core.id log → StandsForLog core log → StandsForLog core (log ++ call ∷ [])
+pub nothing_accepted : (core : Core) (log : List Call) (call : Call) → after_call core.id (state_of_log (setup_of core) log) call ≡ state_of_log (setup_of core) log → StandsForLog core log → StandsForLog core (log ++ call ∷ [])
 nothing_accepted core log call same stands =
     let after = state_after (length core.clock) core.id log call ∙ same in
     record {
@@ -51,7 +51,7 @@ quiet_accepted core true quiet log stands = nothing_accepted core log (Observed 
 -- the first true observation of an interval emits a snapshot
 pub snapshot_accepted : (core : Core) → core.flag ≡ false → Accepts core (Observed true) (record core { flag = true; emitted = core.emitted + 1; pending = Some (note.Snap core.emitted core.clock) })
 snapshot_accepted core unflagged log stands =
-    let s = state_of_log (length core.clock) core.id log in
+    let s = state_of_log (setup_of core) log in
     let after = state_after (length core.clock) core.id log (Observed true) ∙ observed_first core.id s (sym stands.flag ∙ unflagged) in
     record {
       clock = stands.clock ∙ sym (ap (λ (s : ProbeState). s.clock) after);
@@ -66,7 +66,7 @@ pub receive_accepted : (core : Core) (stamp clock : List ℕ) → length clock �
 receive_accepted core stamp clock same_length is log stands =
     let grown = log ++ Received stamp ∷ [] in
     let pushed = state_after (length core.clock) core.id log (Received stamp) in
-    let after : state_of_log (length clock) core.id grown ≡ after_call core.id (state_of_log (length core.clock) core.id log) (Received stamp) = ap (λ n. state_of_log n core.id grown) same_length ∙ pushed in
+    let after : state_of_log (setup (length clock) core.id) grown ≡ after_call core.id (state_of_log (setup_of core) log) (Received stamp) = ap (λ n. state_of_log (setup n core.id) grown) same_length ∙ pushed in
     record {
       clock = is ∙ ap (λ v. slice_set (merged v stamp) core.id (slice_index v core.id + 1)) stands.clock ∙ sym (ap (λ (s : ProbeState). s.clock) after);
       flag = sym (ap (λ (s : ProbeState). s.flag) after);

@@ -1,6 +1,6 @@
 use Rattle.std.specs.Prelude.{◌≡◌, ℕ, Bool, Option, List, [], ◌∷◌, ◌++◌, length, MatchOption}
 use Rattle.wcp_clock.specs.declared.note.Note.{Note}
-use Rattle.wcp_model.specs.ProbeLog.{Call, state_of_log}
+use Rattle.wcp_model.specs.ProbeLog.{Call, ProbeSetup, setup, state_of_log}
 
 -- What a probe has: its watch, its process and the limit of its clock, its clock, and what became of its last
 -- emissions.
@@ -14,6 +14,10 @@ pub record Core : Type 0 where
   pub emitted : ℕ
   pub pending : Option Note
 
+-- What it was made with.
+abbrev pub setup_of : Core → ProbeSetup
+setup_of core = setup (length core.clock) core.id
+
 -- The note is the last of these.
 abbrev pub IsLast : List Note → Note → Type 0
 IsLast notes note = (earlier : List Note) × (notes ≡ earlier ++ note ∷ [])
@@ -21,11 +25,11 @@ IsLast notes note = (earlier : List Note) × (notes ≡ earlier ++ note ∷ [])
 -- A probe stands for a log of accepted calls: it has come to what they lead to, and what is pending is the last
 -- emission.
 pub record StandsForLog (core : Core) (log : List Call) : Type 0 where
-  pub clock : core.clock ≡ (state_of_log (length core.clock) core.id log).clock
-  pub flag : core.flag ≡ (state_of_log (length core.clock) core.id log).flag
-  pub closed : core.closed ≡ (state_of_log (length core.clock) core.id log).closed
-  pub emitted : core.emitted ≡ (state_of_log (length core.clock) core.id log).snapshots
-  pub pending : MatchOption core.pending (Unit {0}) (IsLast (state_of_log (length core.clock) core.id log).notes)
+  pub clock : core.clock ≡ (state_of_log (setup_of core) log).clock
+  pub flag : core.flag ≡ (state_of_log (setup_of core) log).flag
+  pub closed : core.closed ≡ (state_of_log (setup_of core) log).closed
+  pub emitted : core.emitted ≡ (state_of_log (setup_of core) log).snapshots
+  pub pending : MatchOption core.pending (Unit {0}) (IsLast (state_of_log (setup_of core) log).notes)
 
 -- The probe after a call that was accepted: of whatever log it stood for, it now stands for that log with the call at
 -- its end.

@@ -12,7 +12,7 @@ use Rattle.wcp_model.specs.declared.workload.Task.{Task}
 use Rattle.wcp_model.specs.Computation.{Computation}
 use Rattle.wcp_model.specs.Emission.{AreEmissions}
 use Rattle.wcp_model.specs.Outcome.{IsOutcomeOf}
-use Rattle.wcp_model.specs.ProbeLog.{Closed, ProbeState, state_of_log, is_step_of, AreCallsOf, IsLogOf}
+use Rattle.wcp_model.specs.ProbeLog.{Closed, ProbeState, setup, state_of_log, is_step_of, AreCallsOf, IsLogOf}
 use Rattle.wcp_model.specs.Report.{notes_taken, snapshot_clocks, IsDrained, IsReportByClocks, ClocksRise, AreFrontsOfEmissions}
 use Rattle.wcp_model.specs.WorkloadComputation.{steps_from, computation_of, IsFitOrder}
 use Rattle.wcp_model.proofs.NotesInTurn.{log_counts_notes}
@@ -52,7 +52,7 @@ length-steps order earlier (task ∷ tasks) = ap suc (length-steps order (earlie
 
 -- what a process emits, where it has done all its tasks and closes
 emits_at_end : (n : ℕ) (order : List Task) → IsFitOrder order order → (p : ℕ) → p < n → (notes : List Note) (process : WatchedProcess) (follows : Follows n (front n order (length order)) p notes process) →
-    AreEmissions n (computation_of n order) p (state_of_log n p (follows.log ++ Closed ∷ [])).notes
+    AreEmissions n (computation_of n order) p (state_of_log (setup n p) (follows.log ++ Closed ∷ [])).notes
 emits_at_end n order fit p within notes process follows = (log_law_holds n (computation_of n order) p (follows.log ++ Closed ∷ []) (order_accepted n order fit) within log_is).emissions
   where
     steps : Computation
@@ -107,7 +107,7 @@ module _ (n : ℕ) (order : List Task) (p : ℕ) (within : p < n) (processes : L
       emissions = subst (AreEmissions n (computation_of n order) p) (sym fed.fed.all) (emits_at_end n order fit p within (notes_taken p ending.items) old last);
       counted = counted ∙ running_count n p last.log old last.running ∙ ap (λ (s : ProbeState). s.snapshots) (sym (log_push n p last.log Closed))
           ∙ (log_counts_notes n p (last.log ++ Closed ∷ [])).snapshots ∙ ap (λ notes. length (snapshot_clocks notes)) (sym fed.fed.all);
-      closed = ((state_of_log n p last.log).snapshots, (state_of_log n p last.log).notes, fed.fed.all ∙ ap (λ (s : ProbeState). s.notes) (log_push n p last.log Closed));
+      closed = ((state_of_log (setup n p) last.log).snapshots, (state_of_log (setup n p) last.log).notes, fed.fed.all ∙ ap (λ (s : ProbeState). s.notes) (log_push n p last.log Closed));
     }
 
     pub ends_next : IsEnding n order (p + 1) (set processes p new) after

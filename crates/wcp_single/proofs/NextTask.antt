@@ -12,7 +12,7 @@ use Rattle.wcp_model.specs.declared.workload.Action.{Action}
 use Rattle.wcp_model.specs.declared.workload.Action.TheVariants as action
 use Rattle.wcp_model.specs.declared.workload.Task.{Task}
 use Rattle.wcp_model.specs.Computation.{Computation, is_communication_of}
-use Rattle.wcp_model.specs.ProbeLog.{Call, is_step_of, IsCallOf, AreCallsOf, IsAccepted, state_of_log}
+use Rattle.wcp_model.specs.ProbeLog.{Call, is_step_of, IsCallOf, AreCallsOf, IsAccepted, setup, state_of_log}
 use Rattle.wcp_model.specs.Report.{notes_taken}
 use Rattle.wcp_model.specs.WorkloadComputation.{sends, receives, message_number, step_of, computation_of, IsWithin}
 use Rattle.wcp_model.proofs.Growth.{at_grows, message_grows}
@@ -44,11 +44,11 @@ follows_pass n c x p notes process other follows =
       log = follows.log ++ [];
       log_is = log_grows n c (x ∷ []) p follows.log [] follows.log_is (subst (λ b. AreCallsOf n d (cond b (x ∷ []) []) []) (sym other) tt);
       running = subst (λ log. IsRunning n p log process) (sym (append-nil follows.log)) follows.running;
-      notes_are = follows.notes_are ∙ ap (λ log. (state_of_log n p log).notes) (sym (append-nil follows.log));
+      notes_are = follows.notes_are ∙ ap (λ log. (state_of_log (setup n p) log).notes) (sym (append-nil follows.log));
     }
 
 pub follows_call : (n : ℕ) (c : Computation) (x : Step) (p : ℕ) (before after : List Note) (old new : WatchedProcess) (call : Call) → is_step_of p x ≡ true → IsCallOf n (c ++ x ∷ []) x call → MakesCall old call new → (follows : Follows n c p before old) →
-    after ≡ (state_of_log n p (follows.log ++ call ∷ [])).notes → Follows n (c ++ x ∷ []) p after new
+    after ≡ (state_of_log (setup n p) (follows.log ++ call ∷ [])).notes → Follows n (c ++ x ∷ []) p after new
 follows_call n c x p before after old new call own is runs follows emits =
     let d : Computation = c ++ x ∷ [] in
     record {

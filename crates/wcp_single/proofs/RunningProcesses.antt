@@ -7,7 +7,7 @@ use Rattle.wcp_clock.specs.declared.note.Item.{Item}
 use Rattle.wcp_clock.specs.declared.note.Note.{Note}
 use Rattle.wcp_clock.specs.declared.note.Note.TheVariants as note
 use Rattle.wcp_model.specs.Computation.{Computation, communications}
-use Rattle.wcp_model.specs.ProbeLog.{Call, Observed, Closed, ProbeState, after_call, state_of_log, IsAccepted}
+use Rattle.wcp_model.specs.ProbeLog.{Call, Observed, Closed, ProbeState, after_call, setup, state_of_log, IsAccepted}
 use Rattle.wcp_clock.specs.Notes.{is_close, place_of}
 use Rattle.wcp_model.specs.Report.{snapshot_clocks}
 use Rattle.wcp_model.specs.StateClock.{IsStateClock}
@@ -15,7 +15,7 @@ use Rattle.wcp_model.proofs.EventPlaces.{event_below}
 use Rattle.wcp_model.proofs.NotesInTurn.{log_counts_notes}
 use Rattle.wcp_model.proofs.Predecessors.{local_state, span}
 use Rattle.wcp_model.proofs.RunningLog.{log_law_holds}
-use Rattle.wcp_probe.specs.Core.{Core}
+use Rattle.wcp_probe.specs.Core.{Core, setup_of}
 use Rattle.wcp_probe.specs.Seal.{Seal}
 use Rattle.wcp_queue.specs.Checker.{CheckerState, MayTake, TakesItem, processes}
 use Rattle.wcp_queue.proofs.NotesTaken.{notes_taken-push_same, notes_taken-push_other, MayTake-next}
@@ -24,7 +24,7 @@ use Rattle.wcp_single.specs.WatchedProcess.{IsRunning, IsFed, IsFedMore, IsWatch
 use Rattle.wcp_single.specs.WorkloadRun.{Follows, IsSealOf}
 
 -- the log with one more call
-pub log_push : (n p : ℕ) (log : List Call) (call : Call) → state_of_log n p (log ++ call ∷ []) ≡ after_call p (state_of_log n p log) call
+pub log_push : (n p : ℕ) (log : List Call) (call : Call) → state_of_log (setup n p) (log ++ call ∷ []) ≡ after_call p (state_of_log (setup n p) log) call
 log_push n p log call = fold-append (after_call p) _ log (call ∷ [])
 
 -- the probe that has emitted a snapshot
@@ -39,13 +39,13 @@ pending_notes None = []
 module _ (n p : ℕ) (log : List Call) (process : WatchedProcess) (running : IsRunning n p log process) where
   -- a process that runs has come to what its log leads to
   abbrev come_to : ProbeState
-  come_to = state_of_log n p log
+  come_to = state_of_log (setup n p) log
 
   abbrev stood : ProbeState
-  stood = state_of_log (length process.probe.clock) process.probe.id log
+  stood = state_of_log (setup_of process.probe) log
 
   same_state : stood ≡ come_to
-  same_state = ap₂ (λ m q. state_of_log m q log) running.components running.id
+  same_state = ap₂ (λ m q. state_of_log (setup m q) log) running.components running.id
 
   pub running_clock : process.probe.clock ≡ come_to.clock
   running_clock = running.stands.clock ∙ ap (λ (s : ProbeState). s.clock) same_state
@@ -70,12 +70,12 @@ module _ (n p : ℕ) (log : List Call) (process : WatchedProcess) (running : IsR
 
   -- an observation emits what is then pending
   observed_notes : (holds emitted : Bool) (probe : Core) → IsTrue emitted ↔ (IsTrue holds × (process.probe.flag ≡ false)) → probe ≡ (if emitted then with_snapshot process.probe else process.probe) →
-      (state_of_log n p (log ++ Observed holds ∷ [])).notes ≡ come_to.notes ++ pending_notes probe.pending
+      (state_of_log (setup n p) (log ++ Observed holds ∷ [])).notes ≡ come_to.notes ++ pending_notes probe.pending
   observed_notes holds true probe emits is =
       let first = emits.0 refl in
       let pending : probe.pending ≡ Some (note.Snap process.probe.emitted process.probe.clock) = ap (λ (core : Core). core.pending) is in
       let grown : (after_call p come_to (Observed true)).notes ≡ come_to.notes ++ note.Snap come_to.snapshots come_to.clock ∷ [] = rw (sym running_flag ∙ first.1) refl in
-      ap (λ b. (state_of_log n p (log ++ Observed b ∷ [])).notes) first.0
+      ap (λ b. (state_of_log (setup n p) (log ++ Observed b ∷ [])).notes) first.0
       ∙ ap (λ (s : ProbeState). s.notes) (log_push n p log (Observed true)) ∙ grown
       ∙ ap₂ (λ number clock. come_to.notes ++ note.Snap number clock ∷ []) (sym running_count) (sym running_clock)
       ∙ ap (λ notes. come_to.notes ++ pending_notes notes) (sym pending)
@@ -91,14 +91,14 @@ module _ (n p : ℕ) (log : List Call) (process : WatchedProcess) (running : IsR
       (cases_Bool process.probe.flag)
 
   -- and so does a close
-  closed_notes : (probe : Core) → probe ≡ record process.probe { closed = true; pending = Some (note.Close process.probe.emitted) } → (state_of_log n p (log ++ Closed ∷ [])).notes ≡ come_to.notes ++ pending_notes probe.pending
+  closed_notes : (probe : Core) → probe ≡ record process.probe { closed = true; pending = Some (note.Close process.probe.emitted) } → (state_of_log (setup n p) (log ++ Closed ∷ [])).notes ≡ come_to.notes ++ pending_notes probe.pending
   closed_notes probe is =
       ap (λ (s : ProbeState). s.notes) (log_push n p log Closed)
       ∙ ap (λ count. come_to.notes ++ note.Close count ∷ []) (sym running_count)
       ∙ ap (λ notes. come_to.notes ++ pending_notes notes) (sym (ap (λ (core : Core). core.pending) is))
 
   -- what is pending is taken
-  fed_more : (call : Call) (pending : Option Note) (items : List Item) (old new : CheckerState) → IsFed n p log items old → (state_of_log n p (log ++ call ∷ [])).notes ≡ come_to.notes ++ pending_notes pending →
+  fed_more : (call : Call) (pending : Option Note) (items : List Item) (old new : CheckerState) → IsFed n p log items old → (state_of_log (setup n p) (log ++ call ∷ [])).notes ≡ come_to.notes ++ pending_notes pending →
       MatchOption pending (new ≡ old) (λ next. TakesItem old new (record { from = process.id; note = next })) → processes new ≡ processes old → IsFedMore n p (log ++ call ∷ []) items new
   fed_more call None items old new fed notes same count = record {
     more = items;

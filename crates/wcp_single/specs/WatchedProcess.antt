@@ -1,7 +1,7 @@
 use Rattle.std.specs.Prelude.{◌≡◌, ◌≢◌, ℕ, ◌<◌, ◌≤◌, List, [], ◌∷◌, ◌++◌, length, slice_index, None, false}
 use Rattle.wcp_clock.specs.Limits.{most_events}
 use Rattle.wcp_clock.specs.declared.note.Item.{Item}
-use Rattle.wcp_model.specs.ProbeLog.{Call, state_of_log}
+use Rattle.wcp_model.specs.ProbeLog.{Call, setup, state_of_log}
 use Rattle.wcp_model.specs.Report.{notes_taken}
 use Rattle.wcp_probe.specs.Core.{StandsForLog}
 use Rattle.wcp_probe.specs.Seal.{Seal}
@@ -46,7 +46,7 @@ pub record HasTaken (n : ℕ) (items : List Item) (checker : CheckerState) : Typ
 pub record IsFed (n p : ℕ) (log : List Call) (items : List Item) (checker : CheckerState) : Type 0 where
   pub within : p < n
   pub has_taken : HasTaken n items checker
-  pub all : notes_taken p items ≡ (state_of_log n p log).notes
+  pub all : notes_taken p items ≡ (state_of_log (setup n p) log).notes
 
 -- The checker has taken all that the process has emitted.
 pub record IsWatched (process : WatchedProcess) (checker : CheckerState) : Type 0 where

@@ -8,7 +8,7 @@ use Rattle.wcp_model.specs.declared.step.Step.TheVariants as step
 use Rattle.wcp_model.specs.declared.workload.Task.{Task}
 use Rattle.wcp_model.specs.Computation.{Computation, interval_at, message_at}
 use Rattle.wcp_model.specs.Emission.{AreEmissions}
-use Rattle.wcp_model.specs.ProbeLog.{Call, IsLogOf, state_of_log}
+use Rattle.wcp_model.specs.ProbeLog.{Call, IsLogOf, setup, state_of_log}
 use Rattle.wcp_model.specs.Report.{notes_taken, snapshot_clocks}
 use Rattle.wcp_model.specs.StateClock.{IsStateClock}
 use Rattle.wcp_model.specs.WorkloadComputation.{sends, receives, message_number, computation_of, IsWithin, IsFitOrder}
@@ -23,7 +23,7 @@ pub record Follows (n : ℕ) (c : Computation) (p : ℕ) (notes : List Note) (pr
   pub log : List Call
   pub log_is : IsLogOf n c p log
   pub running : IsRunning n p log process
-  pub notes_are : notes ≡ (state_of_log n p log).notes
+  pub notes_are : notes ≡ (state_of_log (setup n p) log).notes
 
 -- The seals of the messages in transit on each channel.
 abbrev pub queues_of : WorkloadRun → List (List Seal)

@@ -4,7 +4,7 @@ use Rattle.std.specs.Prelude.{List, [], ◌∷◌, ◌++◌, length, count_by, r
 use Rattle.wcp_clock.specs.Limits.{most_events}
 use Rattle.wcp_clock.specs.declared.note.Note.{Note}
 use Rattle.wcp_model.specs.ProbeLog.{Call, state_of_log}
-use Rattle.wcp_probe.specs.Core.{Core, StandsForLog}
+use Rattle.wcp_probe.specs.Core.{Core, StandsForLog, setup_of}
 use Rattle.wcp_ring.specs.Ends.{PutSide, EndedSide}
 use Rattle.wcp_clock.specs.Notes.{is_close}
 
@@ -47,7 +47,7 @@ snapshots_in notes = count_by (λ note. not (is_close note)) notes
 
 -- The emissions of a log, for the process and the number of processes of a core.
 abbrev pub emissions_of : Core → List Call → List Note
-emissions_of core log = (state_of_log (length core.clock) core.id log).notes
+emissions_of core log = (state_of_log (setup_of core) log).notes
 
 -- A live probe stands for a log where its core does, and what it has emitted is the emissions of the log.
 pub record LiveFor (probe : LiveSide) (log : List Call) : Type 0 where

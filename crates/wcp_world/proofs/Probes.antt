@@ -5,18 +5,18 @@ use Rattle.wcp_clock.specs.declared.note.Note.{Note}
 use Rattle.wcp_clock.specs.declared.note.Note.TheVariants as note
 use Rattle.wcp_model.specs.Computation.{Computation}
 use Rattle.wcp_model.specs.Emission.{is_closed}
-use Rattle.wcp_model.specs.ProbeLog.{Observed, Closed, ProbeState, after_call, state_of_log, IsAccepted, HasClockAndEmissions}
+use Rattle.wcp_model.specs.ProbeLog.{Observed, Closed, ProbeState, after_call, setup, state_of_log, IsAccepted, HasClockAndEmissions}
 use Rattle.wcp_model.proofs.RunningLog.{log_law_holds}
-use Rattle.wcp_probe.specs.Core.{Core, IsSameProbe}
+use Rattle.wcp_probe.specs.Core.{Core, IsSameProbe, setup_of}
 use Rattle.wcp_world.specs.Processes.{IsProbeOf}
 
 module _ (n : ℕ) (c : Computation) (p : ℕ) (put : List Note) (core : Core) (is : IsProbeOf n c p put core) where
   -- what the probe's log leads to
   abbrev pub state : ProbeState
-  state = state_of_log n p is.log
+  state = state_of_log (setup n p) is.log
 
-  same_state : state_of_log (length core.clock) core.id is.log ≡ state
-  same_state = ap₂ (λ m q. state_of_log m q is.log) is.components is.id
+  same_state : state_of_log (setup_of core) is.log ≡ state
+  same_state = ap₂ (λ m q. state_of_log (setup m q) is.log) is.components is.id
 
   pub clock_is : core.clock ≡ state.clock
   clock_is = is.stands.clock ∙ ap (λ (s : ProbeState). s.clock) same_state

@@ -7,7 +7,7 @@ use Rattle.wcp_model.specs.declared.step.Step.{Step}
 use Rattle.wcp_model.specs.declared.step.Reply.{Reply}
 use Rattle.wcp_model.specs.Computation.{Computation}
 use Rattle.wcp_model.specs.Emission.{AreEmissions}
-use Rattle.wcp_model.specs.ProbeLog.{Call, state_of_log, IsLogOf, IsStampOf, IsAccepted}
+use Rattle.wcp_model.specs.ProbeLog.{Call, setup, state_of_log, IsLogOf, IsStampOf, IsAccepted}
 use Rattle.wcp_model.specs.Replies.{accepted_by, event_reasons, receivers, was_received}
 use Rattle.wcp_model.specs.Report.{snapshot_clocks}
 use Rattle.wcp_probe.specs.Core.{Core, StandsForLog}
@@ -35,7 +35,7 @@ pub record IsProbeOf (n : ℕ) (c : Computation) (p : ℕ) (put : List Note) (co
   pub id : core.id ≡ p
   pub limit : core.limit ≡ most_events
   pub components : length core.clock ≡ n
-  pub notes : (state_of_log n p log).notes ≡ put ++ option_to_list core.pending
+  pub notes : (state_of_log (setup n p) log).notes ≡ put ++ option_to_list core.pending
 
 -- A message that was sent: it is still there, with the clock of its sender behind the send, or it was received.
 abbrev pub IsLetterOf : ℕ → Computation → ℕ → Letter → Type 0
