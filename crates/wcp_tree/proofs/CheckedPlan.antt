@@ -1,8 +1,8 @@
 -- What a checked plan keeps.
-use Rattle.std.proofs.Common.{◌≡◌, ◌≢◌, ℕ, ◌<◌, ◌≤◌, length, take, Option, None, Some, true, false, true≢false, eqb-true, eq-eqb, refl, sym, ap, ◌∙◌, inl, inr, ⊎_elim, arith}
+use Rattle.std.proofs.Common.{◌≡◌, ◌≢◌, ℕ, ◌<◌, ◌≤◌, length, take, get_or, Option, None, Some, true, false, true≢false, eqb-true, eq-eqb, refl, sym, ap, ◌∙◌, inl, inr, ⊎_elim, arith}
 use Rattle.std.proofs.lemmas.Bool.{cases_lt, cases_eq}
 use Rattle.std.proofs.Math.Seq.{take-length}
-use Rattle.std.proofs.lemmas.Option.{slice_get_within, slice_get_cases, get_or_from_slice_get}
+use Rattle.std.proofs.lemmas.Option.{slice_get_within, slice_get_cases, slice_get-get_or, get_or_from_slice_get}
 use Rattle.std.specs.List.{list_any, slice_get}
 use Rattle.std.proofs.lemmas.List.Folds.{list_any_at}
 use Rattle.std.specs.Option.{option_flatten}
@@ -88,6 +88,19 @@ module _ (plan : Plan) (checked : IsCheckedPlan plan) where
     where
       no_leaf : None ≡ Some relay → ⊥
       no_leaf e = cc
+
+  -- each of the n processes has a leaf
+  pub has_leaf : (p : ℕ) → p < plan.n → (leaf : ℕ) × (leaf_of plan p ≡ Some leaf)
+  has_leaf p below = its_leaf (get_or plan.attach.items p None) refl
+    where
+      within : p < length plan.attach.items
+      within = omega (arith, below, attached_all)
+
+      its_leaf : (entry : Option ℕ) → get_or plan.attach.items p None ≡ entry
+          → (leaf : ℕ) × (leaf_of plan p ≡ Some leaf)
+      its_leaf (Some leaf) is =
+          (leaf, ap option_flatten (slice_get-get_or plan.attach.items p None within ∙ ap Some is))
+      its_leaf None is = absurd (checked fault.Unattached (inr (p, None, within, is, tt)))
 
   -- a process that has a leaf is one of the n, and its leaf is one of the relays
   pub attached_exists : (p relay : ℕ) → leaf_of plan p ≡ Some relay

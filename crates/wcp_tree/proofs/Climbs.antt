@@ -1,6 +1,7 @@
 -- The climbs from relays to the root.
-use Rattle.std.proofs.Common.{◌≡◌, ◌≢◌, ℕ, ◌<◌, ◌≤◌, ◌⊎◌, ◌↔◌, IsTrue, nat_eq, eqb-true, eq-eqb, Some, refl, sym, ap, subst, ◌∙◌, inl, inr, ⊎_elim, arith}
+use Rattle.std.proofs.Common.{◌≡◌, ◌≢◌, ℕ, zero, suc, length, get_or, ◌<◌, ◌≤◌, ◌⊎◌, ◌↔◌, IsTrue, nat_eq, eqb-true, eq-eqb, Some, refl, sym, ap, subst, ◌∙◌, inl, inr, ⊎_elim, arith}
 use Rattle.std.proofs.lemmas.Bool.{cases_eq}
+use Rattle.std.proofs.lemmas.Option.{slice_get-get_or}
 use Rattle.wcp_model.specs.declared.plan.Parent.{Parent}
 use Rattle.wcp_model.specs.declared.plan.Parent.TheVariants.{Root, Relay}
 use Rattle.wcp_model.specs.declared.plan.Plan.{Plan}
@@ -88,3 +89,18 @@ module _ (plan : Plan) (checked : IsCheckedPlan plan) where
       (λ (apart : relay ≢ parent).
       let child = child_is_met relay parent apart met in (child.0, child.1, Above at child.2))
       (cases_eq relay parent)
+
+  -- each climb meets a relay under the root
+  pub root_is_reached : (bound from : ℕ) → from < bound → from < length plan.parents.items
+      → (child : ℕ) × (parent_of plan child ≡ Some Root) × IsMetFrom plan child from
+  root_is_reached zero from below within = absurd (omega (arith, below))
+  root_is_reached (suc bound) from below within =
+      by_owner (λ parent lower. root_is_reached bound parent (omega (arith, lower, below)) (omega (arith, lower, within)))
+      (get_or plan.parents.items from Root) (slice_get-get_or plan.parents.items from Root within)
+    where
+      by_owner : ((parent : ℕ) → parent < from → (child : ℕ) × (parent_of plan child ≡ Some Root) × IsMetFrom plan child parent)
+          → (owner : Parent) → parent_of plan from ≡ Some owner
+          → (child : ℕ) × (parent_of plan child ≡ Some Root) × IsMetFrom plan child from
+      by_owner above Root at = (from, at, Itself)
+      by_owner above (Relay parent) at =
+          let top = above parent (parent_below plan checked from parent at) in (top.0, top.1, Above at top.2)

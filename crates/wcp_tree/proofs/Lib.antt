@@ -3,6 +3,7 @@ pub mod Faithful
 pub mod Fed
 pub mod InnerWork
 pub mod LeafWork
+pub mod Linking
 pub mod Lists
 pub mod Ordering
 pub mod CheckedPlan

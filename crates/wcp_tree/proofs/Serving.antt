@@ -1,5 +1,5 @@
 -- Whom a leaf serves, and whom the other relays.
-use Rattle.std.proofs.Common.{◌≡◌, ◌≢◌, ◌==◌, ◌↔◌, ℕ, Bool, true, false, true≢false, List, [], ◌∷◌, ◌<◌, ◌||◌, AllPairs, length, get_or, arith, Option, Some, refl, sym, ap, ◌∙◌, ⊎_elim}
+use Rattle.std.proofs.Common.{◌≡◌, ◌≢◌, ◌==◌, ◌↔◌, ℕ, suc, Bool, true, false, true≢false, List, [], ◌∷◌, ◌<◌, ◌||◌, AllPairs, length, get_or, arith, Option, Some, refl, sym, ap, ◌∙◌, ⊎_elim}
 use Rattle.std.specs.FinSet as set
 use Rattle.std.specs.List.{list_any, slice_get}
 use Rattle.std.specs.Option.{option_flatten}
@@ -8,7 +8,7 @@ use Rattle.std.proofs.lemmas.List.{length-map, get_or-map}
 use Rattle.std.proofs.lemmas.List.Elements.{All-weaker}
 use Rattle.std.proofs.lemmas.List.Folds.{Any-from_list_any}
 use Rattle.std.proofs.lemmas.Option.{slice_get-get_or}
-use Rattle.wcp_model.specs.declared.plan.Parent.TheVariants.{Relay}
+use Rattle.wcp_model.specs.declared.plan.Parent.TheVariants.{Root, Relay}
 use Rattle.wcp_model.specs.declared.plan.Plan.{Plan}
 use Rattle.wcp_model.specs.PlanFault.{IsCheckedPlan}
 use Rattle.wcp_model.specs.Tree.{is_number, is_leaf, leaf_of, parent_of}
@@ -22,8 +22,8 @@ use Rattle.wcp_tree.specs.Feeding.{IsNewFeed, Serves, processes_of}
 use Rattle.wcp_tree.specs.Relays.{IsSource}
 use Rattle.wcp_tree.specs.Rings.{IsFeed}
 use Rattle.wcp_tree.specs.Wiring.{AreBelowChildren}
-use Rattle.wcp_tree.proofs.CheckedPlan.{all_served, attached_exists, is_its_leaf, is_its_number, not_mixed}
-use Rattle.wcp_tree.proofs.Climbs.{members_pass_up, child_is_met}
+use Rattle.wcp_tree.proofs.CheckedPlan.{all_served, attached_exists, has_leaf, is_its_leaf, is_its_number, not_mixed}
+use Rattle.wcp_tree.proofs.Climbs.{members_pass_up, child_is_met, root_is_reached}
 
 module _ (plan : Plan) (checked : IsCheckedPlan plan) (relay : ℕ) where
   -- a leaf serves some process
@@ -108,4 +108,16 @@ source_serves plan checked relay takers (Leaf feeds parker) members is below = (
 source_serves plan checked relay takers (Inner taker) members is below = (
   ap length is.1,
   λ p has. (below p).1 ((is.2 p).0 has),
+)
+
+-- below the relays under the root are just the processes of the plan
+pub all_below_root : (plan : Plan) → IsCheckedPlan plan → (members : Numbers) → AreBelowChildren plan Root members
+    → (p : ℕ) → (set.contains members p ≡ true) ↔ (p < plan.n)
+all_below_root plan checked members are p = (
+  (λ has. let child = (are p).0 has in (attached_exists plan checked p child.2.0 child.2.1).0),
+  (λ below.
+      let leaf = has_leaf plan checked p below in
+      let there = (attached_exists plan checked p leaf.0 leaf.1).1 in
+      let top = root_is_reached plan checked (suc leaf.0) leaf.0 (omega arith) there in
+      (are p).1 (top.0, top.1, (leaf.0, leaf.1, top.2))),
 )

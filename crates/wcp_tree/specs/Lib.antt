@@ -5,4 +5,5 @@ pub mod Members
 pub mod RelayWork
 pub mod Relays
 pub mod Rings
+pub mod Watches
 pub mod Wiring

@@ -6,7 +6,7 @@ use wcp_lane::Origins;
 use wcp_model::{Parent, Plan};
 
 /// The processes below a relay.
-pub fn processes_below(plan: &Plan, relay: u32) -> Origins
+pub(crate) fn processes_below(plan: &Plan, relay: u32) -> Origins
     requires { IsCheckedPlan plan.now }
     ensures { AreBelow plan.now relay result }
 {

@@ -4,15 +4,18 @@ ghost use Rattle.wcp_model.specs.PlanFault.{IsCheckedPlan};
 ghost use Rattle.wcp_model.specs.Tree.{leaf_of, parent_of};
 ghost use Rattle.wcp_ring.specs.Ends.{TakeSide};
 ghost use Rattle.wcp_clock.specs.declared.note.Item.{Item};
-ghost use Rattle.wcp_lane.specs.Ends.{PutEnd};
+ghost use Rattle.wcp_lane.specs.Ends.{LaneName, PutEnd};
 ghost use Rattle.wcp_tree.specs.Members.{AreBelow};
 ghost use Rattle.wcp_tree.specs.Relays.{AreSeated, IsRelayOf, IsSource};
 ghost use Rattle.wcp_tree.specs.Rings.{IsTakerAt};
+ghost use Rattle.wcp_tree.specs.Watches.{AreLinked, AreSeatedUnder, IsWired};
 
+use crate::checker_inbox::CheckerInbox;
 use crate::lanes::open_lane;
 use crate::relay::Relay;
-use crate::rings::take_feeds;
+use crate::rings::{open_rings, take_feeds};
 use crate::source::Source;
+use crate::watch::Watch;
 use crossbeam_utils::sync::Parker;
 use std::alloc::{AllocError, Global};
 use wcp_clock::Item;
@@ -20,6 +23,76 @@ use wcp_hold::Hold;
 use wcp_lane::Putter;
 use wcp_model::{Parent, Plan};
 use wcp_ring::RingTaker;
+
+/// Opens the tree of a plan: a ring for each process, and a lane for the checker and for each relay
+/// that serves relays. All memory of the watch is taken here. `Err` where memory runs out.
+pub fn watch(alloc: Global, plan: &Plan, watch_number: u64) -> Result<Watch, AllocError>
+    requires { IsCheckedPlan plan.now }
+    ensures { IfOk result (IsWired plan.now watch_number) }
+{
+    let parkers = parkers(alloc, plan)?;
+    let (probes, takers) = open_rings(alloc, plan, watch_number, &parkers)?;
+    let mut seats = seats(alloc, plan)?;
+    let taker = open_lane(alloc, plan, Parent::Root, &mut seats)?;
+    let relays = open_relays(alloc, plan, watch_number, parkers, seats, takers)?;
+    let inbox = CheckerInbox::new(watch_number, taker);
+    Ok(Watch {
+        probes,
+        relays,
+        inbox,
+    })
+}
+
+/// A parker for each relay. `Err` where memory runs out.
+fn parkers(alloc: Global, plan: &Plan) -> Result<Vec<Parker>, AllocError>
+    ensures { IfOk result (λ parkers. length parkers.items ≡ length plan.now.parents.items) }
+{
+    let mut parkers = Vec::with_capacity(alloc, plan.parents.len())?;
+    for _ in 0..plan.parents.len() {
+        parkers.push(Parker::new(alloc)?)?;
+    }
+    Ok(parkers)
+}
+
+/// A seat for each relay, where nobody sits. `Err` where memory runs out.
+fn seats(alloc: Global, plan: &Plan) -> Result<Vec<Option<Putter<Item>>>, AllocError>
+    ensures { IfOk result (λ seats. length seats.items ≡ length plan.now.parents.items) }
+{
+    let mut seats = Vec::with_capacity(alloc, plan.parents.len())?;
+    for _ in 0..plan.parents.len() {
+        seats.push(None)?;
+    }
+    Ok(seats)
+}
+
+/// Opens one relay after another, each with its parker: its parent is lower, so its seat was taken
+/// before, and the seats of the relays under the root are taken from the start. `Err` where memory
+/// runs out.
+fn open_relays(
+    alloc: Global,
+    plan: &Plan,
+    watch: u64,
+    mut parkers: Vec<Parker>,
+    mut seats: Vec<Option<Putter<Item>>>,
+    mut takers: Vec<Option<RingTaker>>,
+) -> Result<Vec<Relay>, AllocError>
+    requires checked { IsCheckedPlan plan.now }
+    requires parkers { length parkers.items ≡ length plan.now.parents.items }
+    requires all { length seats.items ≡ length plan.now.parents.items }
+    requires seated { (root : LaneName Item) × AreSeatedUnder plan.now root seats.items }
+    requires there { (p : ℕ) → p < plan.now.n → (taker : TakeSide) × IsTakerAt takers.items p taker }
+    ensures { IfOk result (λ relays. (root : LaneName Item) → AreSeatedUnder plan.now root seats.items
+        → AreLinked plan.now watch root takers.items relays.items) }
+{
+    let mut relays = Vec::with_capacity(alloc, plan.parents.len())?;
+    while !parkers.is_empty() {
+        let number = relays.len() as u32;
+        let parker = parkers.remove(0);
+        let relay = open_relay(alloc, plan, watch, number, parker, &mut seats, &mut takers)?;
+        relays.push(relay)?;
+    }
+    Ok(relays)
+}
 
 /// Opens what a relay takes from: a leaf takes the feeds of its processes, and for any other relay a
 /// lane is opened, on which its children are seated. `Err` where memory runs out.

@@ -1,0 +1,219 @@
+-- One relay after another is opened, each after its parent.
+use Rattle.std.proofs.Common.{◌≡◌, ◌≢◌, ℕ, ◌<◌, ◌≤◌, List, [], ◌∷◌, ◌++◌, length, Option, Some, refl, sym, ap, subst, ◌∙◌, ⊎_elim, arith}
+use Rattle.std.specs.Prelude.{slice_get}
+use Rattle.std.proofs.lemmas.Bool.{cases_eq}
+use Rattle.std.proofs.lemmas.List.{length_push}
+use Rattle.std.proofs.lemmas.List.Elements.{All-weaker}
+use Rattle.std.proofs.lemmas.Option.{slice_get-get_or}
+use Rattle.wcp_clock.specs.declared.note.Item.{Item}
+use Rattle.wcp_model.specs.declared.plan.Parent.{Parent}
+use Rattle.wcp_model.specs.declared.plan.Parent.TheVariants as parent
+use Rattle.wcp_model.specs.declared.plan.Plan.{Plan}
+use Rattle.wcp_model.specs.PlanFault.{IsCheckedPlan}
+use Rattle.wcp_model.specs.Tree.{leaf_of, parent_of}
+use Rattle.wcp_ring.specs.Ends.{TakeSide}
+use Rattle.wcp_lane.specs.Ends.{LaneName, PutEnd}
+use Rattle.wcp_tree.specs.declared.relay.Relay.{Relay}
+use Rattle.wcp_tree.specs.declared.source.Source.{Source}
+use Rattle.wcp_tree.specs.declared.source.Source.TheVariants.{Leaf, Inner}
+use Rattle.wcp_tree.specs.Relays.{AreSeated, IsRelayOf, IsSource}
+use Rattle.wcp_tree.specs.Rings.{IsFeed}
+use Rattle.wcp_tree.specs.Watches.{AreLinked, AreSeatedUnder, IsLinked, lane_below, lane_to}
+use Rattle.wcp_tree.specs.Wiring.{IsSeatOf}
+use Rattle.wcp_tree.proofs.CheckedPlan.{parent_below}
+use Rattle.wcp_tree.proofs.Entries.{last_entry, earlier_entry}
+
+-- the owner takes from a lane while k relays are open
+abbrev pub IsOpen : ℕ → Parent → Type 0
+IsOpen k parent.Root = Unit {0}
+IsOpen k (parent.Relay above) = above < k
+
+-- feeds of rings that were here before
+same_source : (plan : Plan) (before now : List (Option TakeSide)) (relay : ℕ) (source : Source)
+    → ((p : ℕ) → leaf_of plan p ≡ Some relay → slice_get now p ≡ slice_get before p)
+    → IsSource plan now relay source → IsSource plan before relay source
+same_source plan before now relay (Leaf feeds parker) here is = (
+  is.0,
+  record {
+    each = All-weaker (IsFeed plan relay now plan.n) (IsFeed plan relay before plan.n)
+        (λ feed old. record {
+          first = old.first;
+          unclosed = old.unclosed;
+          taker = (sym (here feed.process old.served) ∙ old.taker.0, old.taker.1);
+          within = old.within;
+          served = old.served;
+        })
+        feeds.items is.1.each;
+    processes = is.1.processes;
+    apart = is.1.apart;
+  },
+)
+same_source plan before now relay (Inner taker) here is = is
+
+module _ (plan : Plan) (watch : ℕ) (root : LaneName Item) (before : List (Option TakeSide)) where
+  -- the relay's seat is taken, on the lane of this owner
+  abbrev pub IsSeated : List Relay → List (Option (PutEnd Item)) → ℕ → Parent → Type 0
+  IsSeated relays seats relay owner =
+      (lane : LaneName Item) × (lane_to root relays owner ≡ Some lane)
+      × (putter : PutEnd Item) × (slice_get seats relay ≡ Some (Some putter)) × IsSeatOf plan relay lane putter
+
+  -- these relays are open, the relays after them whose parents take from a lane are seated, and the feeds of leaves
+  -- after them are here
+  pub record AreOpened (relays : List Relay) (seats : List (Option (PutEnd Item))) (now : List (Option TakeSide)) : Type 0 where
+    pub each : (place : ℕ) → place < length relays → IsLinked plan watch root before relays place
+    pub seated : (relay : ℕ) (owner : Parent) → length relays ≤ relay → parent_of plan relay ≡ Some owner
+        → IsOpen (length relays) owner → IsSeated relays seats relay owner
+    pub here : (p leaf : ℕ) → leaf_of plan p ≡ Some leaf → length relays ≤ leaf → slice_get now p ≡ slice_get before p
+
+  pub none_open : (seats : List (Option (PutEnd Item))) → AreSeatedUnder plan root seats → AreOpened [] seats before
+  none_open seats under = record {
+    each = λ place below. absurd (omega (arith, below));
+    seated = first;
+    here = λ p leaf at past. refl;
+  }
+    where
+      first : (relay : ℕ) (owner : Parent) → 0 ≤ relay → parent_of plan relay ≡ Some owner → IsOpen 0 owner
+          → IsSeated [] seats relay owner
+      first relay parent.Root past at open' = let seat = under relay at in (root, refl, seat.0, seat.1, seat.2)
+      first relay (parent.Relay above) past at open' = absurd (omega (arith, open'))
+
+  -- the lane of an owner that took from one stays
+  lane_stays : (relays : List Relay) (relay : Relay) (owner : Parent) → IsOpen (length relays) owner
+      → lane_to root (relays ++ relay ∷ []) owner ≡ lane_to root relays owner
+  lane_stays relays relay parent.Root open' = refl
+  lane_stays relays relay (parent.Relay above) open' = ap lane_below (earlier_entry relays (relay ∷ []) above open')
+
+  module _ (checked : IsCheckedPlan plan) where
+    -- a parent takes from a lane once the lower relays are open
+    pub owner_is_open : (relay : ℕ) (owner : Parent) → parent_of plan relay ≡ Some owner → IsOpen relay owner
+    owner_is_open relay parent.Root at = tt
+    owner_is_open relay (parent.Relay above) at = parent_below plan checked relay above at
+
+    open_below : (owner : Parent) (low high : ℕ) → low ≤ high → IsOpen low owner → IsOpen high owner
+    open_below parent.Root low high most is = tt
+    open_below (parent.Relay above) low high most is = omega (arith, is, most)
+
+    -- the seat of the next relay
+    pub next_seat : (relays : List Relay) (seats : List (Option (PutEnd Item))) (now : List (Option TakeSide))
+        → AreOpened relays seats now → length relays < length plan.parents.items
+        → (owner : Parent) × (parent_of plan (length relays) ≡ Some owner) × IsSeated relays seats (length relays) owner
+    next_seat relays seats now opened within =
+        let at = slice_get-get_or plan.parents.items (length relays) parent.Root within in
+        (_, at, opened.seated (length relays) _ (omega arith) at (owner_is_open (length relays) _ at))
+
+    module _ (relays : List Relay) (seats new_seats : List (Option (PutEnd Item))) (now new : List (Option TakeSide))
+        (relay : Relay) (opened : AreOpened relays seats now) (within : length relays < length plan.parents.items)
+        (is : IsRelayOf plan watch now (length relays) relay)
+        (seat : slice_get seats (length relays) ≡ Some (Some relay.putter))
+        (children : AreSeated plan (length relays) relay.source new_seats)
+        (other_seats : (other : ℕ) → other ≢ length relays → parent_of plan other ≢ Some (parent.Relay (length relays))
+        → slice_get new_seats other ≡ slice_get seats other)
+        (other_takers : (p : ℕ) → leaf_of plan p ≢ Some (length relays) → slice_get new p ≡ slice_get now p) where
+      abbrev more : List Relay
+      more = relays ++ relay ∷ []
+
+      linked_before : (place : ℕ) → place < length relays → IsLinked plan watch root before more place
+      linked_before place below =
+          let old = opened.each place below in
+          record {
+            relay = old.relay;
+            owner = old.owner;
+            is_relay = earlier_entry relays (relay ∷ []) place below ∙ old.is_relay;
+            is_owner = old.is_owner;
+            of_plan = old.of_plan;
+            above = lane_stays relays relay old.owner
+                (open_below old.owner place (length relays) (omega (arith, below)) (owner_is_open place old.owner old.is_owner))
+                ∙ old.above;
+          }
+
+      linked_here : IsLinked plan watch root before more (length relays)
+      linked_here =
+          let next = next_seat relays seats now opened within in
+          let its : next.2.2 ≡ relay.putter = let e = sym next.2.3 ∙ seat in cc in
+          record {
+            relay = relay;
+            owner = next.0;
+            is_relay = last_entry relays relay;
+            is_owner = next.1;
+            of_plan = record {
+              number = is.number;
+              watch = is.watch;
+              source = same_source plan before now (length relays) relay.source
+                  (λ p at. opened.here p (length relays) at (omega arith)) is.source;
+              members = is.members;
+              none_put = is.none_put;
+              none_held = is.none_held;
+              room = is.room;
+            };
+            above = lane_stays relays relay next.0 (owner_is_open (length relays) next.0 next.1) ∙ next.2.1
+                ∙ ap Some (sym next.2.4.on ∙ ap (λ (p : PutEnd Item). p.lane) its);
+          }
+
+      seated_after : (other : ℕ) (owner : Parent) → length more ≤ other → parent_of plan other ≡ Some owner
+          → IsOpen (length more) owner → IsSeated more new_seats other owner
+      seated_after other parent.Root past at open' =
+          let old = opened.seated other parent.Root (omega (arith, past, length_push relays relay)) at tt in (
+            old.0,
+            old.1,
+            old.2,
+            other_seats other (λ e. omega (arith, e, past, length_push relays relay)) (λ e. no_root (sym at ∙ e)) ∙ old.3,
+            old.4,
+          )
+        where
+          no_root : Some parent.Root ≡ Some (parent.Relay (length relays)) → ⊥
+          no_root e = cc
+      seated_after other (parent.Relay above) past at open' = ⊎_elim
+          (λ (same : above ≡ length relays).
+          let child = children other (at ∙ ap (λ n. Some (parent.Relay n)) same) in
+          (child.0, ap lane_below (ap (slice_get more) same ∙ last_entry relays relay) ∙ child.1, child.2, child.3, child.4))
+          (λ (apart : above ≢ length relays).
+          let low : above < length relays = omega (arith, open', apart, length_push relays relay) in
+          let old = opened.seated other (parent.Relay above) (omega (arith, past, length_push relays relay)) at low in (
+            old.0,
+            lane_stays relays relay (parent.Relay above) low ∙ old.1,
+            old.2,
+            other_seats other (λ e. omega (arith, e, past, length_push relays relay))
+                (λ e. apart (let both = sym at ∙ e in cc)) ∙ old.3,
+            old.4,
+          ))
+          (cases_eq above (length relays))
+
+      pub one_opened : AreOpened (relays ++ relay ∷ []) new_seats new
+      one_opened = record {
+        each = λ place below. ⊎_elim
+            (λ (same : place ≡ length relays).
+            subst (IsLinked plan watch root before more) (sym same) linked_here)
+            (λ (apart : place ≢ length relays).
+            linked_before place (omega (arith, below, apart, length_push relays relay)))
+            (cases_eq place (length relays));
+        seated = seated_after;
+        here = λ p leaf at past.
+            other_takers p (λ e.
+            let same : leaf ≡ length relays = let both = sym at ∙ e in cc in
+            omega (arith, same, past, length_push relays relay))
+            ∙ opened.here p leaf at (omega (arith, past, length_push relays relay));
+      }
+
+    -- the next relay is open, whose number is that of the relays before it
+    pub next_opened : (relays : List Relay) (seats new_seats : List (Option (PutEnd Item))) (now new : List (Option TakeSide))
+        (relay : Relay) → AreOpened relays seats now → length relays < length plan.parents.items
+        → (k : ℕ) → k ≡ length relays → IsRelayOf plan watch now k relay
+        → slice_get seats k ≡ Some (Some relay.putter) → AreSeated plan k relay.source new_seats
+        → ((other : ℕ) → other ≢ k → parent_of plan other ≢ Some (parent.Relay k)
+        → slice_get new_seats other ≡ slice_get seats other)
+        → ((p : ℕ) → leaf_of plan p ≢ Some k → slice_get new p ≡ slice_get now p)
+        → AreOpened (relays ++ relay ∷ []) new_seats new
+    next_opened relays seats new_seats now new relay opened within k is_k =
+        subst
+        (λ k. IsRelayOf plan watch now k relay
+        → slice_get seats k ≡ Some (Some relay.putter) → AreSeated plan k relay.source new_seats
+        → ((other : ℕ) → other ≢ k → parent_of plan other ≢ Some (parent.Relay k)
+        → slice_get new_seats other ≡ slice_get seats other)
+        → ((p : ℕ) → leaf_of plan p ≢ Some k → slice_get new p ≡ slice_get now p)
+        → AreOpened (relays ++ relay ∷ []) new_seats new)
+        (sym is_k)
+        (one_opened relays seats new_seats now new relay opened within)
+
+  pub all_opened : (relays : List Relay) (seats : List (Option (PutEnd Item))) (now : List (Option TakeSide))
+      → AreOpened relays seats now → length relays ≡ length plan.parents.items → AreLinked plan watch root before relays
+  all_opened relays seats now opened count = record { count = count; each = opened.each }

@@ -1,0 +1,81 @@
+use Rattle.std.proofs.Common.{◌≡◌, ◌<◌, ◌≤◌, [], List, Some, length, vec_len, eqb-true, sym, ap, subst, ◌∙◌, lit≤, arith}
+use Rattle.std.proofs.lemmas.List.{length_push}
+use Rattle.wcp_clock.specs.Limits.{most_relays}
+use Rattle.wcp_clock.specs.declared.note.Item.{Item}
+use Rattle.wcp_lane.specs.Ends.{PutEnd}
+use Rattle.std.specs.Prelude.{slice_get}
+use Rattle.wcp_tree.specs.Members.{AreBelow}
+use Rattle.wcp_tree.specs.declared.relay.Relay.{Relay}
+use Rattle.wcp_tree.proofs.CheckedPlan.{attached_exists, few_relays}
+use Rattle.wcp_tree.proofs.Linking.{AreOpened, all_opened, next_seat, none_open, next_opened}
+use Rattle.wcp_tree.proofs.opening.open_relays.Goals as goal
+
+pub loop-alloc-init : goal.loop-alloc-init
+loop-alloc-init c =
+    record {
+      count = omega (arith, ap length c.in_ok-relays.ensures.items, c.requires.parkers);
+      seats = c.requires.all;
+      opened = λ root under.
+          subst
+          (λ (relays : List Relay). AreOpened c.args.plan.now c.args.watch root c.args.takers.items relays c.args.seats.items c.args.takers.items)
+          (sym c.in_ok-relays.ensures.items)
+          (none_open c.args.plan.now c.args.watch root c.args.takers.items c.args.seats.items under);
+    }
+
+pub overflow_cast-number : goal.overflow_cast-number
+overflow_cast-number c =
+    let most : most_relays ≤ 15 = lit≤ tt in
+    omega (arith, few_relays c.args.plan.now c.requires.checked, c.loop-alloc.invariant.count, most)
+
+pub open_relay-requires-clause-seat : goal.open_relay-requires-clause-seat
+open_relay-requires-clause-seat c =
+    let root = c.requires.seated.0 in
+    let within : length c.loop-alloc.relays.items < length c.args.plan.now.parents.items =
+    omega (arith, c.loop-alloc.invariant.count, c.remove-parker.ensures.len) in
+    let next =
+    next_seat c.args.plan.now c.args.watch root c.args.takers.items c.requires.checked c.loop-alloc.relays.items
+    c.loop-alloc.seats.items c.loop-alloc.takers.items (c.loop-alloc.invariant.opened root c.requires.seated.1) within in
+    let number : c.len-number.result ≡ length c.loop-alloc.relays.items = omega arith in
+    subst
+    (λ k. (putter : PutEnd Item) × (slice_get c.loop-alloc.seats.items k ≡ Some (Some putter))
+    × AreBelow c.args.plan.now k putter.members × (putter.put ≡ []))
+    (sym number)
+    (next.2.2, next.2.3, next.2.4.members, next.2.4.empty)
+
+pub open_relay-requires-clause-there : goal.open_relay-requires-clause-there
+open_relay-requires-clause-there c = λ p at.
+    let root = c.requires.seated.0 in
+    let there = c.requires.there p (attached_exists c.args.plan.now c.requires.checked p _ at).0 in
+    let here = (c.loop-alloc.invariant.opened root c.requires.seated.1).here p _ at (omega arith) in
+    (there.0, (here ∙ there.1.0, there.1.1))
+
+pub loop-alloc-preserved : goal.loop-alloc-preserved
+loop-alloc-preserved c =
+    let within : length c.loop-alloc.relays.items < length c.args.plan.now.parents.items =
+    omega (arith, c.loop-alloc.invariant.count, c.remove-parker.ensures.len) in
+    let number : c.len-number.result ≡ length c.loop-alloc.relays.items = omega arith in
+    let ends = c.in_ok-relay.ensures in
+    record {
+      count = omega (
+        arith,
+        c.loop-alloc.invariant.count,
+        c.remove-parker.ensures.len,
+        ap length c.in_ok-push.ensures.items,
+        length_push c.loop-alloc.relays.items c.in_ok-relay.relay,
+      );
+      seats = ends.all.0 ∙ c.loop-alloc.invariant.seats;
+      opened = λ root under.
+          subst
+          (λ (relays : List Relay). AreOpened c.args.plan.now c.args.watch root c.args.takers.items relays c.open_relay.new.seats.items c.open_relay.new.takers.items)
+          (sym c.in_ok-push.ensures.items)
+          (next_opened c.args.plan.now c.args.watch root c.args.takers.items c.requires.checked
+          c.loop-alloc.relays.items c.loop-alloc.seats.items c.open_relay.new.seats.items c.loop-alloc.takers.items
+          c.open_relay.new.takers.items c.in_ok-relay.relay (c.loop-alloc.invariant.opened root under) within
+          c.len-number.result number ends.relay ends.seat ends.seated ends.other_seats ends.other_takers);
+    }
+
+pub returns : goal.returns
+returns c = λ root under.
+    all_opened c.args.plan.now c.args.watch root c.args.takers.items c.loop-alloc.relays.items c.loop-alloc.seats.items
+    c.loop-alloc.takers.items (c.loop-alloc.invariant.opened root under)
+    (omega (arith, c.loop-alloc.invariant.count, eqb-true (vec_len c.loop-alloc.parkers) 0 (sym c.is_empty.ensures ∙ c.loop-alloc-test.false)))

@@ -1,0 +1,18 @@
+use Rattle.std.proofs.Common.{◌≡◌, ◌+◌, length, vec_len}
+use Rattle.wcp_clock.specs.declared.note.Item.{Item}
+use Rattle.wcp_lane.specs.Ends.{LaneName}
+use Rattle.wcp_tree.specs.Watches.{AreSeatedUnder}
+use Rattle.wcp_tree.proofs.Linking.{AreOpened}
+use Rattle.wcp_tree.proofs.opening.open_relays.Given as goal
+
+abbrev pub decreases-loop-alloc : goal.decreases-loop-alloc
+decreases-loop-alloc l = vec_len l.parkers
+
+abbrev pub invariant-loop-alloc : goal.invariant-loop-alloc
+invariant-loop-alloc l =
+    record {
+      count : length l.relays.items + length l.parkers.items ≡ length l.plan.parents.items;
+      seats : length l.seats.items ≡ length l.plan.parents.items;
+      opened : (root : LaneName Item) → AreSeatedUnder l.plan root l.fn.seats.items
+          → AreOpened l.plan l.watch root l.fn.takers.items l.relays.items l.seats.items l.takers.items;
+    }

@@ -1,0 +1,31 @@
+use Rattle.std.proofs.Common.{◌≡◌, ◌↔◌, ◌<◌, ℕ, true, sym, ap, subst, ◌∙◌}
+use Rattle.std.specs.FinSet as set
+use Rattle.wcp_clock.specs.declared.note.Item.{Item}
+use Rattle.wcp_lane.specs.Ends.{TakeEnd}
+use Rattle.wcp_tree.specs.Watches.{AreLinked}
+use Rattle.wcp_tree.proofs.Serving.{all_below_root}
+use Rattle.wcp_tree.proofs.opening.watch.Goals as goal
+
+pub open_relays-requires-clause-seated : goal.open_relays-requires-clause-seated
+open_relays-requires-clause-seated c = (c.in_ok-taker.taker.lane, c.in_ok-taker.ensures.seated)
+
+pub open_relays-requires-clause-there : goal.open_relays-requires-clause-there
+open_relays-requires-clause-there c = λ p below.
+    let ring = c.in_ok-probes.ensures.each p below in (ring.taker, ring.is_taker)
+
+pub returns : goal.returns
+returns c =
+    let same : c.in_ok-taker.taker ≡ c.new-inbox.result.taker = sym c.new-inbox.ensures.taker in
+    record {
+      takers = c.in_ok-probes.takers.items;
+      rings = c.in_ok-probes.ensures;
+      linked = subst
+          (λ (t : TakeEnd Item). AreLinked c.args.plan.now c.args.watch_number t.lane c.in_ok-probes.takers.items c.in_ok-relays.relays.items)
+          same (c.in_ok-relays.ensures c.in_ok-taker.taker.lane c.in_ok-taker.ensures.seated);
+      number = c.new-inbox.ensures.watch;
+      members = subst
+          (λ (t : TakeEnd Item). (p : ℕ) → (set.contains t.members p ≡ true) ↔ (p < c.args.plan.now.n))
+          same
+          (all_below_root c.args.plan.now c.requires c.in_ok-taker.taker.members c.in_ok-taker.ensures.members);
+      none_taken = ap (λ (t : TakeEnd Item). t.taken) (sym same) ∙ c.in_ok-taker.ensures.empty;
+    }

@@ -1,0 +1,58 @@
+-- A watch that is wired as its plan says, before anything runs.
+use Rattle.std.specs.Prelude.{◌≡◌, ◌↔◌, ℕ, ◌<◌, true, Option, Some, None, List, [], length, slice_get}
+use Rattle.std.specs.FinSet as set
+use Rattle.wcp_clock.specs.declared.note.Item.{Item}
+use Rattle.wcp_model.specs.declared.plan.Parent.{Parent}
+use Rattle.wcp_model.specs.declared.plan.Parent.TheVariants as parent
+use Rattle.wcp_model.specs.declared.plan.Plan.{Plan}
+use Rattle.wcp_model.specs.Tree.{parent_of}
+use Rattle.wcp_ring.specs.Ends.{TakeSide}
+use Rattle.wcp_lane.specs.Ends.{LaneName, PutEnd}
+use Rattle.wcp_tree.specs.declared.relay.Relay.{Relay}
+use Rattle.wcp_tree.specs.declared.watch.Watch.{Watch}
+use Rattle.wcp_tree.specs.Relays.{IsRelayOf, lane_of}
+use Rattle.wcp_tree.specs.Rings.{AreRings}
+use Rattle.wcp_tree.specs.Wiring.{IsSeatOf}
+
+-- The lane by which a relay takes, if it is there and serves relays.
+abbrev pub lane_below : Option Relay → Option (LaneName Item)
+lane_below (Some relay) = lane_of relay.source
+lane_below None = None
+
+-- The lane by which an owner takes: the root's, or that of a relay.
+abbrev pub lane_to : LaneName Item → List Relay → Parent → Option (LaneName Item)
+lane_to root relays parent.Root = Some root
+lane_to root relays (parent.Relay above) = lane_below (slice_get relays above)
+
+-- The relays under the root are seated on its lane.
+abbrev pub AreSeatedUnder : Plan → LaneName Item → List (Option (PutEnd Item)) → Type 0
+AreSeatedUnder plan root seats =
+    (relay : ℕ) → parent_of plan relay ≡ Some parent.Root
+    → (putter : PutEnd Item) × (slice_get seats relay ≡ Some (Some putter)) × IsSeatOf plan relay root putter
+
+-- The relay at a place is that of the plan, and puts on the lane that its parent takes from.
+pub record IsLinked (plan : Plan) (watch_number : ℕ) (root : LaneName Item) (takers : List (Option TakeSide))
+    (relays : List Relay) (place : ℕ) : Type 0 where
+  pub relay : Relay
+  pub owner : Parent
+  pub is_relay : slice_get relays place ≡ Some relay
+  pub is_owner : parent_of plan place ≡ Some owner
+  pub of_plan : IsRelayOf plan watch_number takers place relay
+  pub above : lane_to root relays owner ≡ Some relay.putter.lane
+
+-- There is a relay for each of the plan, in rising numbers.
+pub record AreLinked (plan : Plan) (watch_number : ℕ) (root : LaneName Item) (takers : List (Option TakeSide))
+    (relays : List Relay) : Type 0 where
+  pub count : length relays ≡ length plan.parents.items
+  pub each : (place : ℕ) → place < length relays → IsLinked plan watch_number root takers relays place
+
+-- A watch is wired as its plan says: the probe of each process and its leaf's feed are the two ends of one ring, each
+-- relay puts on the lane that its parent takes from, and the checker takes from the root's lane, of just the processes
+-- of the plan. Nothing was put or taken.
+pub record IsWired (plan : Plan) (watch_number : ℕ) (watch : Watch) : Type 0 where
+  pub takers : List (Option TakeSide)
+  pub rings : AreRings plan watch_number plan.n watch.probes.items takers
+  pub linked : AreLinked plan watch_number watch.inbox.taker.lane takers watch.relays.items
+  pub number : watch.inbox.watch ≡ watch_number
+  pub members : (p : ℕ) → (set.contains watch.inbox.taker.members p ≡ true) ↔ (p < plan.n)
+  pub none_taken : watch.inbox.taker.taken ≡ []

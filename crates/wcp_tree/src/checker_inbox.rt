@@ -1,0 +1,36 @@
+ghost use Rattle.std.specs.Prelude.{◌≡◌};
+
+use wcp_clock::Item;
+use wcp_lane::Taker;
+
+/// Where the items of all processes of a watch arrive: the end of the root's lane that takes.
+#[derive(Drop)]
+pub struct CheckerInbox {
+    /// The number of its watch.
+    watch: u64,
+    taker: Taker<Item>,
+}
+
+impl CheckerInbox {
+    /// The inbox of a watch of this number.
+    pub(crate) fn new(watch: u64, taker: Taker<Item>) -> CheckerInbox
+        ensures watch { result.watch ≡ watch }
+        ensures taker { result.taker ≡ taker }
+    {
+        CheckerInbox { watch, taker }
+    }
+
+    /// The number of its watch.
+    pub fn watch(&self) -> u64
+        ensures { result ≡ self.now.watch }
+    {
+        self.watch
+    }
+
+    /// The end of the root's lane that takes.
+    pub fn into_taker(self) -> Taker<Item>
+        ensures { result ≡ self.taker }
+    {
+        self.taker
+    }
+}
