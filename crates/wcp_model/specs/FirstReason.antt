@@ -10,4 +10,5 @@ pub record IsFirstReason {R : Type 0} (Holds : R → Type 0) (reasons : List R) 
   pub place : ℕ
   pub listed : slice_get reasons place ≡ Some first
   pub holds : Holds first
-  pub none_before : (earlier : ℕ) (other : R) → earlier < place → slice_get reasons earlier ≡ Some other → ¬ Holds other
+  pub none_before : (earlier : ℕ) (other : R) → earlier < place → slice_get reasons earlier ≡ Some other →
+      ¬ Holds other

@@ -4,7 +4,8 @@ ghost use Rattle.wcp_model.specs.declared.plan.Parent.TheVariants.{Root};
 ghost use Rattle.wcp_model.specs.declared.plan.PlanFault.{PlanFault};
 ghost use Rattle.wcp_model.specs.declared.plan.PlanFault.TheVariants as plan_fault;
 ghost use Rattle.wcp_model.specs.Tree.{IsPlainPlan, IsSamePlan, is_attached, is_leaf, parent_of};
-ghost use Rattle.wcp_model.specs.PlanFault.{HasFault, HasWrongParent, IsFirstFault, IsCheckedPlan, IsPath, ServesRelay, tree_faults};
+ghost use Rattle.wcp_model.specs.PlanFault.{HasFault, HasWrongParent, IsFirstFault, IsCheckedPlan};
+ghost use Rattle.wcp_model.specs.PlanFault.{IsPath, ServesRelay, tree_faults};
 
 use std::alloc::{AllocError, Global};
 use wcp_clock::{MAX_CAP, MAX_HOLD, MAX_PATH, MAX_PROCS, MAX_RELAYS};
