@@ -117,12 +117,11 @@ module _ (plan : Plan) (watch : ℕ) (root : LaneName Item) (before : List (Opti
           let old = opened.each place below in
           record {
             relay = old.relay;
-            owner = old.owner;
             is_relay = earlier_entry relays (relay ∷ []) place below ∙ old.is_relay;
-            is_owner = old.is_owner;
             of_plan = old.of_plan;
-            above = lane_stays relays relay old.owner
-                (open_below old.owner place (length relays) (omega (arith, below)) (owner_is_open place old.owner old.is_owner))
+            above = lane_stays relays relay old.relay.parent
+                (open_below old.relay.parent place (length relays) (omega (arith, below))
+                (owner_is_open place old.relay.parent old.of_plan.parent))
                 ∙ old.above;
           }
 
@@ -132,12 +131,11 @@ module _ (plan : Plan) (watch : ℕ) (root : LaneName Item) (before : List (Opti
           let its : next.2.2 ≡ relay.putter = let e = sym next.2.3 ∙ seat in cc in
           record {
             relay = relay;
-            owner = next.0;
             is_relay = last_entry relays relay;
-            is_owner = next.1;
             of_plan = record {
               number = is.number;
               watch = is.watch;
+              parent = is.parent;
               source = same_source plan before now (length relays) relay.source
                   (λ p at. opened.here p (length relays) at (omega arith)) is.source;
               members = is.members;
@@ -145,8 +143,10 @@ module _ (plan : Plan) (watch : ℕ) (root : LaneName Item) (before : List (Opti
               none_held = is.none_held;
               room = is.room;
             };
-            above = lane_stays relays relay next.0 (owner_is_open (length relays) next.0 next.1) ∙ next.2.1
-                ∙ ap Some (sym next.2.4.on ∙ ap (λ (p : PutEnd Item). p.lane) its);
+            above = subst (λ owner. lane_to root more owner ≡ Some relay.putter.lane)
+                (let both = sym next.1 ∙ is.parent in cc)
+                (lane_stays relays relay next.0 (owner_is_open (length relays) next.0 next.1) ∙ next.2.1
+                ∙ ap Some (sym next.2.4.on ∙ ap (λ (p : PutEnd Item). p.lane) its));
           }
 
       seated_after : (other : ℕ) (owner : Parent) → length more ≤ other → parent_of plan other ≡ Some owner

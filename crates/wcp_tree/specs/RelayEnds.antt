@@ -2,7 +2,7 @@
 use Rattle.std.specs.Prelude.{◌≡◌, ℕ, Option, Some, None, List}
 use Rattle.std.specs.FinSet as set
 use Rattle.wcp_clock.specs.declared.note.Item.{Item}
-use Rattle.wcp_lane.specs.Ends.{PutEnd}
+use Rattle.wcp_tree.specs.declared.relay.Relay.{Relay}
 use Rattle.wcp_tree.specs.declared.source.Source.{Source}
 use Rattle.wcp_tree.specs.declared.source.Source.TheVariants.{Leaf, Inner}
 use Rattle.wcp_tree.specs.declared.relay_end.Receipts.{Receipts}
@@ -28,11 +28,12 @@ IsReceiptOf (Inner taker) (Lane receipt) =
     (receipt.lane ≡ taker.lane) × (receipt.members ≡ taker.members) × (receipt.matched ≡ set.empty)
 IsReceiptOf _ _ = ⊥
 
--- Where a relay met no fault, its end is of the same source and of the same putter.
-abbrev pub AreReceiptsOf : Source → PutEnd Item → RelayEnd → Type 0
-AreReceiptsOf source putter (Whole number watch taken put) =
-    IsReceiptOf source taken × (put.lane ≡ putter.lane) × (put.members ≡ putter.members)
-AreReceiptsOf source putter (Faulted number watch fault end_source end_putter) = Unit {0}
+-- Where a relay met no fault, its end has the same parent, and is of the same source and of the same putter.
+abbrev pub AreReceiptsOf : Relay → RelayEnd → Type 0
+AreReceiptsOf relay (Whole number watch parent taken put) =
+    (parent ≡ relay.parent) × IsReceiptOf relay.source taken
+    × (put.lane ≡ relay.putter.lane) × (put.members ≡ relay.putter.members)
+AreReceiptsOf relay (Faulted number watch fault source putter) = Unit {0}
 
 -- The items of process p that a relay took.
 abbrev pub taken_in : Receipts → ℕ → List Item
@@ -40,24 +41,24 @@ taken_in (Feeds feeds) p = fed feeds.items p
 taken_in (Lane receipt) p = items_of p receipt.taken
 
 abbrev pub taken_by : RelayEnd → ℕ → List Item
-taken_by (Whole number watch taken put) p = taken_in taken p
+taken_by (Whole number watch parent taken put) p = taken_in taken p
 taken_by (Faulted number watch fault source putter) p = taken_of source.value p
 
 -- The items of process p that a relay put.
 abbrev pub put_by : RelayEnd → ℕ → List Item
-put_by (Whole number watch taken put) p = items_of p put.put
+put_by (Whole number watch parent taken put) p = items_of p put.put
 put_by (Faulted number watch fault source putter) p = items_of p putter.value.put
 
 -- The number of a relay, and of its watch.
 abbrev pub number_of : RelayEnd → ℕ
-number_of (Whole number watch taken put) = number
+number_of (Whole number watch parent taken put) = number
 number_of (Faulted number watch fault source putter) = number
 
 abbrev pub watch_of : RelayEnd → ℕ
-watch_of (Whole number watch taken put) = watch
+watch_of (Whole number watch parent taken put) = watch
 watch_of (Faulted number watch fault source putter) = watch
 
 -- The fault that a relay met.
 abbrev pub fault_of : RelayEnd → Option RelayFault
-fault_of (Whole number watch taken put) = None
+fault_of (Whole number watch parent taken put) = None
 fault_of (Faulted number watch fault source putter) = Some fault

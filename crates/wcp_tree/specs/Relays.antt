@@ -33,12 +33,13 @@ AreSeated plan relay source seats =
     → (lane : LaneName Item) × (lane_of source ≡ Some lane)
     × (putter : PutEnd Item) × (slice_get seats child ≡ Some (Some putter)) × IsSeatOf plan child lane putter
 
--- A relay of a watch before it runs: it has its source, an empty hold, and an end of a lane that puts for just the
--- processes below it.
+-- A relay of a watch before it runs: it knows its parent, and has its source, an empty hold, and an end of a lane that
+-- puts for just the processes below it.
 pub record IsRelayOf (plan : Plan) (watch_number : ℕ) (takers : List (Option TakeSide))
     (place : ℕ) (relay : Relay) : Type 0 where
   pub number : relay.number ≡ place
   pub watch : relay.watch ≡ watch_number
+  pub parent : parent_of plan place ≡ Some relay.parent
   pub source : IsSource plan takers place relay.source
   pub members : AreBelow plan place relay.putter.members
   pub none_put : relay.putter.put ≡ []

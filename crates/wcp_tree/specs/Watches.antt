@@ -34,11 +34,9 @@ AreSeatedUnder plan root seats =
 pub record IsLinked (plan : Plan) (watch_number : ℕ) (root : LaneName Item) (takers : List (Option TakeSide))
     (relays : List Relay) (place : ℕ) : Type 0 where
   pub relay : Relay
-  pub owner : Parent
   pub is_relay : slice_get relays place ≡ Some relay
-  pub is_owner : parent_of plan place ≡ Some owner
   pub of_plan : IsRelayOf plan watch_number takers place relay
-  pub above : lane_to root relays owner ≡ Some relay.putter.lane
+  pub above : lane_to root relays relay.parent ≡ Some relay.putter.lane
 
 -- There is a relay for each of the plan, in rising numbers.
 pub record AreLinked (plan : Plan) (watch_number : ℕ) (root : LaneName Item) (takers : List (Option TakeSide))
@@ -54,5 +52,6 @@ pub record IsWired (plan : Plan) (watch_number : ℕ) (watch : Watch) : Type 0 w
   pub rings : AreRings plan watch_number plan.n watch.probes.items takers
   pub linked : AreLinked plan watch_number watch.inbox.taker.lane takers watch.relays.items
   pub number : watch.inbox.watch ≡ watch_number
+  pub relays : watch.inbox.relays ≡ length plan.parents.items
   pub members : (p : ℕ) → (set.contains watch.inbox.taker.members p ≡ true) ↔ (p < plan.n)
   pub none_taken : watch.inbox.taker.taken ≡ []

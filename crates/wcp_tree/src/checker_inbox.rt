@@ -8,16 +8,23 @@ use wcp_lane::Taker;
 pub struct CheckerInbox {
     /// The number of its watch.
     watch: u64,
+    /// How many relays its watch has.
+    relays: u32,
     taker: Taker<Item>,
 }
 
 impl CheckerInbox {
-    /// The inbox of a watch of this number.
-    pub(crate) fn new(watch: u64, taker: Taker<Item>) -> CheckerInbox
+    /// The inbox of a watch of this number, which has so many relays.
+    pub(crate) fn new(watch: u64, relays: u32, taker: Taker<Item>) -> CheckerInbox
         ensures watch { result.watch ≡ watch }
+        ensures relays { result.relays ≡ relays }
         ensures taker { result.taker ≡ taker }
     {
-        CheckerInbox { watch, taker }
+        CheckerInbox {
+            watch,
+            relays,
+            taker,
+        }
     }
 
     /// The number of its watch.
@@ -25,6 +32,13 @@ impl CheckerInbox {
         ensures { result ≡ self.now.watch }
     {
         self.watch
+    }
+
+    /// How many relays its watch has.
+    pub fn relays(&self) -> u32
+        ensures { result ≡ self.now.relays }
+    {
+        self.relays
     }
 
     /// The end of the root's lane that takes.

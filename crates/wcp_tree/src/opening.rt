@@ -35,7 +35,7 @@ pub fn watch(alloc: Global, plan: &Plan, watch_number: u64) -> Result<Watch, All
     let mut seats = seats(alloc, plan)?;
     let taker = open_lane(alloc, plan, Parent::Root, &mut seats)?;
     let relays = open_relays(alloc, plan, watch_number, parkers, seats, takers)?;
-    let inbox = CheckerInbox::new(watch_number, taker);
+    let inbox = CheckerInbox::new(watch_number, relays.len() as u32, taker);
     Ok(Watch {
         probes,
         relays,
@@ -157,5 +157,6 @@ fn open_relay(
     };
     let source = open_source(alloc, plan, relay, parker, seats, takers)?;
     let hold = Hold::new(alloc, plan.hold)?;
-    Ok(Relay::new(relay, watch, source, putter, hold))
+    let parent = plan.parents[relay as usize];
+    Ok(Relay::new(relay, watch, parent, source, putter, hold))
 }

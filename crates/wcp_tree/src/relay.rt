@@ -10,6 +10,7 @@ use std::sync::Wait;
 use wcp_clock::Item;
 use wcp_hold::Hold;
 use wcp_lane::Putter;
+use wcp_model::Parent;
 
 /// A relay of a tree that didn't run yet: it has what it takes from and the end of its parent's lane
 /// that puts what it took.
@@ -18,6 +19,7 @@ pub struct Relay {
     number: u32,
     /// The number of its watch.
     watch: u64,
+    parent: Parent,
     source: Source,
     putter: Putter<Item>,
     hold: Hold,
@@ -31,10 +33,11 @@ impl Relay {
     ghost use Rattle.wcp_tree.specs.RelayWork.{IsFaultAfter, AreClosed};
     ghost use Rattle.wcp_tree.specs.RelayEnds.{AreReceiptsOf, taken_by, put_by, fault_of, number_of, watch_of};
 
-    /// The relay of this number in the plan of a watch.
+    /// The relay of this number in the plan of a watch, and with this parent.
     pub(crate) fn new(
         number: u32,
         watch: u64,
+        parent: Parent,
         source: Source,
         putter: Putter<Item>,
         hold: Hold,
@@ -45,6 +48,7 @@ impl Relay {
         requires serves { Serves source putter.members }
         ensures number { result.number ≡ number }
         ensures watch { result.watch ≡ watch }
+        ensures parent { result.parent ≡ parent }
         ensures source { result.source ≡ source }
         ensures putter { result.putter ≡ putter }
         ensures hold { result.hold ≡ hold }
@@ -52,6 +56,7 @@ impl Relay {
         Relay {
             number,
             watch,
+            parent,
             source,
             putter,
             hold,
@@ -72,7 +77,7 @@ impl Relay {
     pub fn run<R: Wait>(self, rt: &R) -> RelayEnd
         ensures number { number_of result ≡ self.number }
         ensures watch { watch_of result ≡ self.watch }
-        ensures receipts { AreReceiptsOf self.source self.putter result }
+        ensures receipts { AreReceiptsOf self result }
         ensures front { (p : ℕ) → IsPrefix (put_by result p) (taken_by result p) }
         ensures whole { IfNone (fault_of result) ((p : ℕ) → put_by result p ≡ taken_by result p) }
         ensures closed { IfNone (fault_of result) (AreClosed self.putter.members (taken_by result)) }
@@ -81,6 +86,7 @@ impl Relay {
         let Relay {
             number,
             watch,
+            parent,
             mut source,
             putter,
             hold,
@@ -95,6 +101,7 @@ impl Relay {
             Ok(()) => RelayEnd::Whole {
                 number,
                 watch,
+                parent,
                 taken: source.end(),
                 put: outlet.putter.end(),
             },

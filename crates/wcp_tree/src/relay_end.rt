@@ -5,6 +5,7 @@ use crate::source::Source;
 use std::snapshot::Snapshot;
 use wcp_clock::Item;
 use wcp_lane::{Cut, PutReceipt, Putter, TakeReceipt};
+use wcp_model::Parent;
 
 /// Why a relay didn't pass on all that it was to.
 #[derive(Clone, Copy, Debug, PartialEq, Eq)]
@@ -31,6 +32,7 @@ pub enum RelayEnd {
     Whole {
         number: u32,
         watch: u64,
+        parent: Parent,
         taken: Receipts,
         put: PutReceipt<Item>,
     },
@@ -46,7 +48,25 @@ pub enum RelayEnd {
 }
 
 impl RelayEnd {
-    ghost use Rattle.wcp_tree.specs.RelayEnds.{fault_of};
+    ghost use Rattle.wcp_tree.specs.RelayEnds.{fault_of, number_of, watch_of};
+
+    /// The number of its watch.
+    pub fn watch(&self) -> u64
+        ensures { result ≡ watch_of self.now }
+    {
+        match self {
+            RelayEnd::Whole { watch, .. } | RelayEnd::Faulted { watch, .. } => *watch,
+        }
+    }
+
+    /// The number of the relay in the plan.
+    pub fn number(&self) -> u32
+        ensures { result ≡ number_of self.now }
+    {
+        match self {
+            RelayEnd::Whole { number, .. } | RelayEnd::Faulted { number, .. } => *number,
+        }
+    }
 
     /// The first fault that it met.
     pub fn fault(&self) -> Option<RelayFault>

@@ -1,4 +1,5 @@
 use Rattle.std.proofs.Common.{◌≡◌, ◌≤◌, Some, length, sym, ap, subst, ◌∙◌, lit≤, arith}
+use Rattle.std.proofs.lemmas.Option.{slice_get_within, slice_get-get_or}
 use Rattle.wcp_clock.specs.Limits.{most_cap, most_hold}
 use Rattle.wcp_clock.specs.declared.note.Item.{Item}
 use Rattle.wcp_hold.specs.Held.{Held}
@@ -48,6 +49,9 @@ returns-clause-relay c =
     record {
       number = c.new-2.ensures.number;
       watch = c.new-2.ensures.watch;
+      parent = slice_get-get_or c.args.plan.now.parents.items c.args.relay c.index-parent.result.now
+          (omega (arith, slice_get_within c.args.seats.now.items c.args.relay _ c.requires.seat.1))
+          ∙ ap Some (sym c.index-parent.ensures ∙ sym c.new-2.ensures.parent);
       source = subst (λ (s : Source). IsSource c.args.plan.now c.args.takers.now.items c.args.relay s)
           (sym c.new-2.ensures.source) c.in_ok-source.ensures.source;
       members = subst (λ (p : PutEnd Item). AreBelow c.args.plan.now c.args.relay p.members) its c.requires.seat.2;

@@ -1,8 +1,10 @@
-use Rattle.std.proofs.Common.{◌≡◌, ◌↔◌, ◌<◌, ℕ, true, sym, ap, subst, ◌∙◌}
+use Rattle.std.proofs.Common.{◌≡◌, ◌≤◌, ◌↔◌, ◌<◌, ℕ, true, sym, ap, subst, ◌∙◌, lit≤, arith}
 use Rattle.std.specs.FinSet as set
+use Rattle.wcp_clock.specs.Limits.{most_relays}
 use Rattle.wcp_clock.specs.declared.note.Item.{Item}
 use Rattle.wcp_lane.specs.Ends.{TakeEnd}
 use Rattle.wcp_tree.specs.Watches.{AreLinked}
+use Rattle.wcp_tree.proofs.CheckedPlan.{few_relays}
 use Rattle.wcp_tree.proofs.Serving.{all_below_root}
 use Rattle.wcp_tree.proofs.opening.watch.Goals as goal
 
@@ -13,16 +15,24 @@ pub open_relays-requires-clause-there : goal.open_relays-requires-clause-there
 open_relays-requires-clause-there c = λ p below.
     let ring = c.in_ok-probes.ensures.each p below in (ring.taker, ring.is_taker)
 
+pub overflow_cast-len : goal.overflow_cast-len
+overflow_cast-len c =
+    let most : most_relays ≤ 15 = lit≤ tt in
+    let linked = c.in_ok-relays.ensures c.in_ok-taker.taker.lane c.in_ok-taker.ensures.seated in
+    omega (arith, few_relays c.args.plan.now c.requires, linked.count, most)
+
 pub returns : goal.returns
 returns c =
     let same : c.in_ok-taker.taker ≡ c.new-inbox.result.taker = sym c.new-inbox.ensures.taker in
+    let linked = c.in_ok-relays.ensures c.in_ok-taker.taker.lane c.in_ok-taker.ensures.seated in
     record {
       takers = c.in_ok-probes.takers.items;
       rings = c.in_ok-probes.ensures;
       linked = subst
           (λ (t : TakeEnd Item). AreLinked c.args.plan.now c.args.watch_number t.lane c.in_ok-probes.takers.items c.in_ok-relays.relays.items)
-          same (c.in_ok-relays.ensures c.in_ok-taker.taker.lane c.in_ok-taker.ensures.seated);
+          same linked;
       number = c.new-inbox.ensures.watch;
+      relays = c.new-inbox.ensures.relays ∙ omega (arith, linked.count);
       members = subst
           (λ (t : TakeEnd Item). (p : ℕ) → (set.contains t.members p ≡ true) ↔ (p < c.args.plan.now.n))
           same
