@@ -15,6 +15,7 @@ pub mod GrowingLogs
 pub mod RunningClock
 pub mod RunningEmissions
 pub mod RunningLog
+pub mod TaskLogs
 pub mod StateClocks
 pub mod PlanPaths
 pub mod FirstFault

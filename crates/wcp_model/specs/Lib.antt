@@ -6,6 +6,7 @@ pub mod Outcome
 pub mod StateClock
 pub mod Emission
 pub mod ProbeLog
+pub mod TaskLog
 pub mod FirstReason
 pub mod PlanFault
 pub mod Report

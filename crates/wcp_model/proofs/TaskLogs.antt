@@ -1,0 +1,104 @@
+use Rattle.std.proofs.Common.{◌≡◌, ℕ, suc, Bool, true, false, List, [], ◌∷◌, ◌++◌, length, cond, map, filter, fold, refl, sym, ap, ◌∙◌, arith}
+use Rattle.std.specs.List.{scan, zip}
+use Rattle.std.proofs.lemmas.List.{append-nil, map-append, map_push, length-map}
+use Rattle.std.proofs.lemmas.List.Elements.{filter-append}
+use Rattle.std.proofs.lemmas.List.Sums.{fold-append}
+use Rattle.wcp_model.specs.declared.workload.Action.{Action}
+use Rattle.wcp_model.specs.declared.workload.Task.{Task}
+use Rattle.wcp_model.specs.ProbeLog.{Call, ProbeState, ProbeSetup, after_call, state_of_log}
+use Rattle.wcp_model.specs.TaskLog.{actions_of, IsCallFor, FollowsActions, beside, clocks_after, stamp_of, stamps_sent, stamps_got}
+use Rattle.wcp_model.specs.WorkloadComputation.{is_task_of, is_send_to, is_receive_from}
+
+-- one more element, which is kept or not
+kept-push : {X Y : Type 0} (f : X → Y) (keeps : X → Bool) (xs : List X) (x : X) → map f (filter keeps (xs ++ x ∷ [])) ≡ map f (filter keeps xs) ++ cond (keeps x) (f x ∷ []) []
+kept-push {X} {Y} f keeps xs x =
+    ap (map f) (filter-append keeps xs (x ∷ []))
+    ∙ map-append f (filter keeps xs) (filter keeps (x ∷ []))
+    ∙ ap (λ more. map f (filter keeps xs) ++ more) (sole (keeps x))
+  where
+    sole : (kept : Bool) → map f (cond kept (x ∷ []) []) ≡ cond kept (f x ∷ []) []
+    sole true = refl
+    sole false = refl
+
+zip-push : {X Y : Type 0} (xs : List X) (ys : List Y) (x : X) (y : Y) → length xs ≡ length ys → zip (xs ++ x ∷ []) (ys ++ y ∷ []) ≡ zip xs ys ++ (x, y) ∷ []
+zip-push [] [] x y same = refl
+zip-push [] (other ∷ ys) x y same = absurd (omega (arith, same))
+zip-push (other ∷ xs) [] x y same = absurd (omega (arith, same))
+zip-push (other ∷ xs) (also ∷ ys) x y same = ap (λ rest. (other, also) ∷ rest) (zip-push xs ys x y (omega (arith, same)))
+
+scan-push : {S X Y : Type 0} (next : S → X → S) (out : S → X → Y) (start : S) (xs : List X) (x : X) → scan next out start (xs ++ x ∷ []) ≡ scan next out start xs ++ out (fold next start xs) x ∷ []
+scan-push next out start [] x = refl
+scan-push next out start (other ∷ xs) x = ap (λ rest. out start other ∷ rest) (scan-push next out (next start other) xs x)
+
+length-scan : {S X Y : Type 0} (next : S → X → S) (out : S → X → Y) (start : S) (xs : List X) → length (scan next out start xs) ≡ length xs
+length-scan next out start [] = refl
+length-scan next out start (x ∷ xs) = ap suc (length-scan next out (next start x) xs)
+
+-- one more task is one more action of its process alone
+pub actions_of-push : (p : ℕ) (tasks : List Task) (task : Task) → actions_of p (tasks ++ task ∷ []) ≡ actions_of p tasks ++ cond (is_task_of p task) (task.action ∷ []) []
+actions_of-push p tasks task = kept-push (λ (t : Task). t.action) (is_task_of p) tasks task
+
+-- a log that follows actions has a call for each
+pub same_length : (actions : List Action) (log : List Call) → FollowsActions actions log → length actions ≡ length log
+same_length [] [] follows = refl
+same_length [] (call ∷ log) follows = absurd follows
+same_length (act ∷ actions) [] follows = absurd follows
+same_length (act ∷ actions) (call ∷ log) follows = ap suc (same_length actions log follows.1)
+
+-- with a call for one more action, it follows that too
+pub FollowsActions-push : (actions : List Action) (log : List Call) (act : Action) (call : Call) → FollowsActions actions log → IsCallFor act call → FollowsActions (actions ++ act ∷ []) (log ++ call ∷ [])
+FollowsActions-push [] [] act call follows is = (is, tt)
+FollowsActions-push [] (other ∷ log) act call follows is = absurd follows
+FollowsActions-push (other ∷ actions) [] act call follows is = absurd follows
+FollowsActions-push (other ∷ actions) (also ∷ log) act call follows is = (follows.0, FollowsActions-push actions log act call follows.1 is)
+
+-- what stands beside one more action, where it passes and where not
+beside-push : {X : Type 0} (test : Action → Bool) (actions : List Action) (xs : List X) (act : Action) (x : X) → length actions ≡ length xs → beside test (actions ++ act ∷ []) (xs ++ x ∷ []) ≡ beside test actions xs ++ cond (test act) (x ∷ []) []
+beside-push {X} test actions xs act x same =
+    ap (λ pairs. map (λ (pair : Action × X). pair.1) (filter (λ pair. test pair.0) pairs)) (zip-push actions xs act x same)
+    ∙ kept-push (λ (pair : Action × X). pair.1) (λ pair. test pair.0) (zip actions xs) (act, x)
+
+beside-push_passing : {X : Type 0} (test : Action → Bool) (actions : List Action) (xs : List X) (act : Action) (x : X) → length actions ≡ length xs → test act ≡ true → beside test (actions ++ act ∷ []) (xs ++ x ∷ []) ≡ beside test actions xs ++ x ∷ []
+beside-push_passing {X} test actions xs act x same passes =
+    beside-push test actions xs act x same ∙ ap (λ (b : Bool). beside test actions xs ++ cond b (x ∷ []) []) passes
+
+beside-push_failing : {X : Type 0} (test : Action → Bool) (actions : List Action) (xs : List X) (act : Action) (x : X) → length actions ≡ length xs → test act ≡ false → beside test (actions ++ act ∷ []) (xs ++ x ∷ []) ≡ beside test actions xs
+beside-push_failing {X} test actions xs act x same fails =
+    beside-push test actions xs act x same ∙ ap (λ (b : Bool). beside test actions xs ++ cond b (x ∷ []) []) fails ∙ append-nil (beside test actions xs)
+
+-- one more call of a log that follows actions
+module _ (actions : List Action) (log : List Call) (act : Action) (call : Call) (follows : FollowsActions actions log) where
+  module _ (made : ProbeSetup) (q : ℕ) where
+    clock_pushed : clocks_after made (log ++ call ∷ []) ≡ clocks_after made log ++ (state_of_log made (log ++ call ∷ [])).clock ∷ []
+    clock_pushed =
+        scan-push (after_call made.process) (λ s next. (after_call made.process s next).clock) (state_of_log made []) log call
+        ∙ ap (λ (s : ProbeState). clocks_after made log ++ s.clock ∷ []) (sym (fold-append (after_call made.process) (state_of_log made []) log (call ∷ [])))
+
+    a_clock_each : length actions ≡ length (clocks_after made log)
+    a_clock_each = same_length actions log follows ∙ sym (length-scan (after_call made.process) (λ s next. (after_call made.process s next).clock) (state_of_log made []) log)
+
+    -- one more send to q sends it the clock of the probe after it, and no other call does
+    pub stamps_sent-push : is_send_to q act ≡ true → stamps_sent made q (actions ++ act ∷ []) (log ++ call ∷ []) ≡ stamps_sent made q actions log ++ (state_of_log made (log ++ call ∷ [])).clock ∷ []
+    stamps_sent-push sends =
+        ap (beside (is_send_to q) (actions ++ act ∷ [])) clock_pushed
+        ∙ beside-push_passing (is_send_to q) actions (clocks_after made log) act _ a_clock_each sends
+
+    pub stamps_sent-push_other : is_send_to q act ≡ false → stamps_sent made q (actions ++ act ∷ []) (log ++ call ∷ []) ≡ stamps_sent made q actions log
+    stamps_sent-push_other other =
+        ap (beside (is_send_to q) (actions ++ act ∷ [])) clock_pushed
+        ∙ beside-push_failing (is_send_to q) actions (clocks_after made log) act _ a_clock_each other
+
+  module _ (p : ℕ) where
+    a_stamp_each : length actions ≡ length (map stamp_of log)
+    a_stamp_each = same_length actions log follows ∙ sym (length-map log stamp_of)
+
+    -- one more receive from p gets the stamp that it took, and no other call does
+    pub stamps_got-push : is_receive_from p act ≡ true → stamps_got p (actions ++ act ∷ []) (log ++ call ∷ []) ≡ stamps_got p actions log ++ stamp_of call ∷ []
+    stamps_got-push receives =
+        ap (beside (is_receive_from p) (actions ++ act ∷ [])) (map_push stamp_of log call)
+        ∙ beside-push_passing (is_receive_from p) actions (map stamp_of log) act (stamp_of call) a_stamp_each receives
+
+    pub stamps_got-push_other : is_receive_from p act ≡ false → stamps_got p (actions ++ act ∷ []) (log ++ call ∷ []) ≡ stamps_got p actions log
+    stamps_got-push_other other =
+        ap (beside (is_receive_from p) (actions ++ act ∷ [])) (map_push stamp_of log call)
+        ∙ beside-push_failing (is_receive_from p) actions (map stamp_of log) act (stamp_of call) a_stamp_each other
