@@ -15,7 +15,9 @@ pub mod GrowingLogs
 pub mod RunningClock
 pub mod RunningEmissions
 pub mod RunningLog
+pub mod AcceptedOrder
 pub mod TaskLogs
+pub mod LogsOfTasks
 pub mod StateClocks
 pub mod PlanPaths
 pub mod FirstFault

@@ -34,7 +34,7 @@ slice_get-take (suc n) (x ∷ xs) zero below = refl
 slice_get-take (suc n) (x ∷ xs) (suc place) below = slice_get-take n xs place (omega arith)
 
 -- an element that passes stands in the filtered list behind those before it that pass
-slice_get-filter : {X : Type 0} (P : X → Bool) (xs : List X) (place : ℕ) (x : X) → slice_get xs place ≡ Some x → P x ≡ true → slice_get (filter P xs) (length (filter P (take place xs))) ≡ Some x
+pub slice_get-filter : {X : Type 0} (P : X → Bool) (xs : List X) (place : ℕ) (x : X) → slice_get xs place ≡ Some x → P x ≡ true → slice_get (filter P xs) (length (filter P (take place xs))) ≡ Some x
 slice_get-filter P [] place x found passes = cc
 slice_get-filter P (y ∷ ys) zero x found passes =
     let same : y ≡ x = cc in
@@ -79,7 +79,7 @@ element_after P xs earlier more =
     (kept.0, stands_after P xs earlier kept.0 kept.1)
 
 -- what passes in a front is a front of what passes
-filter_front : {X : Type 0} (P : X → Bool) (place : ℕ) (xs : List X) → filter P (take place xs) ≡ take (length (filter P (take place xs))) (filter P xs)
+pub filter_front : {X : Type 0} (P : X → Bool) (place : ℕ) (xs : List X) → filter P (take place xs) ≡ take (length (filter P (take place xs))) (filter P xs)
 filter_front P zero xs = refl
 filter_front P (suc place) [] = refl
 filter_front P (suc place) (x ∷ xs) = elim (cases_Bool (P x)) [

@@ -39,7 +39,7 @@ step_from order earlier (first ∷ rest) (suc place) task found =
     ∙ ap (λ front. Some (step_of order front task.p task.action)) (append_assoc earlier (first ∷ []) (take place rest))
 
 -- each task has one step
-length-steps_from : (order earlier tasks : List Task) → length (steps_from order earlier tasks) ≡ length tasks
+pub length-steps_from : (order earlier tasks : List Task) → length (steps_from order earlier tasks) ≡ length tasks
 length-steps_from order earlier [] = refl
 length-steps_from order earlier (first ∷ rest) = ap suc (length-steps_from order (earlier ++ first ∷ []) rest)
 

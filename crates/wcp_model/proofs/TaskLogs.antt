@@ -1,5 +1,9 @@
-use Rattle.std.proofs.Common.{◌≡◌, ℕ, suc, Bool, true, false, List, [], ◌∷◌, ◌++◌, length, cond, map, filter, fold, refl, sym, ap, ◌∙◌, arith}
+use Rattle.std.proofs.Common.{◌≡◌, ℕ, zero, suc, Bool, true, false, Some, List, [], ◌∷◌, ◌++◌, length, cond, count_by, map, filter, fold, slice_get, take, refl, sym, ap, subst, inl, inr, ◌∙◌, arith}
 use Rattle.std.specs.List.{scan, zip}
+use Rattle.std.specs.Option.{option_map}
+use Rattle.std.proofs.lemmas.Bool.{cases_Bool}
+use Rattle.std.proofs.lemmas.Option.{slice_get-map}
+use Rattle.wcp_model.proofs.SamePlace.{count_by_yes, count_by_no}
 use Rattle.std.proofs.lemmas.List.{append-nil, map-append, map_push, length-map}
 use Rattle.std.proofs.lemmas.List.Elements.{filter-append}
 use Rattle.std.proofs.lemmas.List.Sums.{fold-append}
@@ -34,6 +38,14 @@ length-scan : {S X Y : Type 0} (next : S → X → S) (out : S → X → Y) (sta
 length-scan next out start [] = refl
 length-scan next out start (x ∷ xs) = ap suc (length-scan next out (next start x) xs)
 
+-- the element of a scan at a place
+scan_at : {S X Y : Type 0} (next : S → X → S) (out : S → X → Y) (start : S) (xs : List X) (place : ℕ) (x : X) → slice_get xs place ≡ Some x → slice_get (scan next out start xs) place ≡ Some (out (fold next start (take place xs)) x)
+scan_at next out start [] place x at = cc
+scan_at next out start (first ∷ xs) zero x at =
+    let same : first ≡ x = cc in
+    ap (λ y. Some (out start y)) same
+scan_at next out start (first ∷ xs) (suc place) x at = scan_at next out (next start first) xs place x at
+
 -- one more task is one more action of its process alone
 pub actions_of-push : (p : ℕ) (tasks : List Task) (task : Task) → actions_of p (tasks ++ task ∷ []) ≡ actions_of p tasks ++ cond (is_task_of p task) (task.action ∷ []) []
 actions_of-push p tasks task = kept-push (λ (t : Task). t.action) (is_task_of p) tasks task
@@ -51,6 +63,43 @@ FollowsActions-push [] [] act call follows is = (is, tt)
 FollowsActions-push [] (other ∷ log) act call follows is = absurd follows
 FollowsActions-push (other ∷ actions) [] act call follows is = absurd follows
 FollowsActions-push (other ∷ actions) (also ∷ log) act call follows is = (follows.0, FollowsActions-push actions log act call follows.1 is)
+
+-- it has a call for the action at each place
+pub call_for : (actions : List Action) (log : List Call) (place : ℕ) (act : Action) → FollowsActions actions log → slice_get actions place ≡ Some act → (call : Call) × (slice_get log place ≡ Some call) × IsCallFor act call
+call_for [] [] place act follows at = cc
+call_for [] (call ∷ log) place act follows at = absurd follows
+call_for (first ∷ actions) [] place act follows at = absurd follows
+call_for (first ∷ actions) (call ∷ log) zero act follows at =
+    let same : first ≡ act = cc in
+    (call, refl, subst (λ a. IsCallFor a call) same follows.0)
+call_for (first ∷ actions) (call ∷ log) (suc place) act follows at = call_for actions log place act follows.1 at
+
+-- what stands beside an action that passes, behind what stands beside those before it that do
+beside_at : {X : Type 0} (test : Action → Bool) (actions : List Action) (xs : List X) (place : ℕ) (act : Action) (x : X) → slice_get actions place ≡ Some act → slice_get xs place ≡ Some x → test act ≡ true → slice_get (beside test actions xs) (count_by test (take place actions)) ≡ Some x
+beside_at test [] xs place act x at here passes = cc
+beside_at test (first ∷ actions) [] place act x at here passes = cc
+beside_at test (first ∷ actions) (y ∷ xs) zero act x at here passes =
+    let same : first ≡ act = cc in
+    let first_passes : test first ≡ true = ap test same ∙ passes in
+    rw first_passes here
+beside_at test (first ∷ actions) (y ∷ xs) (suc place) act x at here passes = elim (cases_Bool (test first)) [
+  | inl also ↦ rw (count_by_yes test first (take place actions) also, also) (beside_at test actions xs place act x at here passes)
+  | inr other ↦ rw (count_by_no test first (take place actions) other, other) (beside_at test actions xs place act x at here passes)
+]
+
+-- the stamp of a send to q is the clock of the probe after it
+pub stamp_sent_at : (made : ProbeSetup) (q : ℕ) (actions : List Action) (log : List Call) (place : ℕ) (act : Action) (call : Call) → slice_get actions place ≡ Some act → slice_get log place ≡ Some call → is_send_to q act ≡ true →
+    slice_get (stamps_sent made q actions log) (count_by (is_send_to q) (take place actions)) ≡ Some (state_of_log made (take place log ++ call ∷ [])).clock
+stamp_sent_at made q actions log place act call at made_call sends =
+    beside_at (is_send_to q) actions (clocks_after made log) place act _ at
+    (scan_at (after_call made.process) (λ s next. (after_call made.process s next).clock) (state_of_log made []) log place call made_call
+    ∙ ap (λ (s : ProbeState). Some s.clock) (sym (fold-append (after_call made.process) (state_of_log made []) (take place log) (call ∷ [])))) sends
+
+-- the stamp of a receive from p is the one that it took
+pub stamp_got_at : (p : ℕ) (actions : List Action) (log : List Call) (place : ℕ) (act : Action) (call : Call) → slice_get actions place ≡ Some act → slice_get log place ≡ Some call → is_receive_from p act ≡ true →
+    slice_get (stamps_got p actions log) (count_by (is_receive_from p) (take place actions)) ≡ Some (stamp_of call)
+stamp_got_at p actions log place act call at made_call receives =
+    beside_at (is_receive_from p) actions (map stamp_of log) place act _ at (slice_get-map stamp_of log place ∙ ap (option_map stamp_of) made_call) receives
 
 -- what stands beside one more action, where it passes and where not
 beside-push : {X : Type 0} (test : Action → Bool) (actions : List Action) (xs : List X) (act : Action) (x : X) → length actions ≡ length xs → beside test (actions ++ act ∷ []) (xs ++ x ∷ []) ≡ beside test actions xs ++ cond (test act) (x ∷ []) []

@@ -11,6 +11,7 @@ mod plan;
 mod probe_log;
 mod state;
 mod step;
+mod task_log;
 mod workload;
 
 pub use clock_laws::{clock_law, states_have_clocks};
@@ -22,4 +23,5 @@ pub use plan::{Parent, Plan, PlanFault, plain_plan};
 pub use probe_log::log_law;
 pub use state::State;
 pub use step::{Reply, Step, Why};
+pub use task_log::task_log_law;
 pub use workload::{Action, Task, Workload};

@@ -25,7 +25,7 @@ use Rattle.wcp_queue.specs.Checker.{CheckerState, processes as watched_by, taken
 use Rattle.wcp_single.specs.declared.watched_process.WatchedProcess.{WatchedProcess}
 use Rattle.wcp_single.specs.WatchedProcess.{IsRunning, IsFed, IsFedMore, IsWatched, Feeds}
 use Rattle.wcp_single.specs.WorkloadRun.{Follows, front, HasComeTo, HasEnded, IsEnding}
-use Rattle.wcp_single.proofs.AcceptedOrder.{order_accepted}
+use Rattle.wcp_model.proofs.AcceptedOrder.{order_accepted}
 use Rattle.wcp_model.proofs.GrowingLogs.{log_grows}
 use Rattle.wcp_single.proofs.RunningProcesses.{log_push, running_count}
 

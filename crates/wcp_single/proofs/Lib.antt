@@ -1,6 +1,4 @@
 mod AlikeOutcomes
-mod FitOrders
-mod AcceptedOrder
 mod RunningProcesses
 mod NextTask
 mod RunAfterTask

@@ -21,7 +21,7 @@ use Rattle.wcp_probe.specs.Seal.{Seal}
 use Rattle.wcp_single.specs.declared.watched_process.WatchedProcess.{WatchedProcess}
 use Rattle.wcp_single.specs.WatchedProcess.{IsRunning, MakesCall}
 use Rattle.wcp_single.specs.WorkloadRun.{Follows, IsSealOf, AreInTransit, front, IsChannel, IsNextTask, queue_at}
-use Rattle.wcp_single.proofs.AcceptedOrder.{order_accepted}
+use Rattle.wcp_model.proofs.AcceptedOrder.{order_accepted}
 use Rattle.wcp_order.proofs.Counting.{count_by_push_passing, count_by_push_failing}
 use Rattle.wcp_model.proofs.GrowingLogs.{log_grows, accepted_front, send_clock_grows}
 use Rattle.wcp_single.proofs.RunningProcesses.{own_component}

@@ -1,7 +1,7 @@
 use Rattle.std.proofs.Common.{refl, arith}
 use Rattle.wcp_model.specs.WorkloadComputation.{IsWithin, computation_of}
 use Rattle.wcp_order.proofs.Lengths.{same_length}
-use Rattle.wcp_single.proofs.FitOrders.{IsFitOrder-itself, All-fit_order}
+use Rattle.wcp_model.proofs.AcceptedOrder.{IsFitOrder-itself, All-fit_order}
 use Rattle.wcp_single.proofs.AlikeOutcomes.{IsWorkloadOutcome-result}
 use Rattle.wcp_single.proofs.workload_outcome.single_in_order.Goals as goal
 

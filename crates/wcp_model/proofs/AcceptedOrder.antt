@@ -1,6 +1,6 @@
-use Rattle.std.proofs.Common.{◌≡◌, ℕ, ◌+◌, ◌-◌, ◌<◌, ◌≤◌, List, length, take, slice_get, Some, sym, ap, ◌∙◌, arith, ⊎_elim}
+use Rattle.std.proofs.Common.{◌≡◌, ℕ, ◌+◌, ◌-◌, ◌<◌, ◌≤◌, List, All, length, take, slice_get, Some, refl, sym, ap, ◌∙◌, subst, eq-eqb, arith, ⊎_elim}
 use Rattle.std.proofs.lemmas.Bool.{cases_lt, ne_eqb}
-use Rattle.std.proofs.lemmas.Option.{slice_get_within, same_Some}
+use Rattle.std.proofs.lemmas.Option.{slice_get_within, get_or_from_slice_get, same_Some}
 use Rattle.wcp_model.specs.declared.step.Step.{Step}
 use Rattle.wcp_model.specs.declared.step.Step.TheVariants.{Recv, Close}
 use Rattle.wcp_model.specs.declared.workload.Action.{Action}
@@ -8,10 +8,21 @@ use Rattle.wcp_model.specs.declared.workload.Action.TheVariants as action
 use Rattle.wcp_model.specs.declared.workload.Task.{Task}
 use Rattle.wcp_model.specs.Computation.{message_at}
 use Rattle.wcp_model.specs.ProbeLog.{is_step_of, IsAccepted}
-use Rattle.wcp_model.specs.WorkloadComputation.{step_of, computation_of, IsFitOrder}
-use Rattle.wcp_model.proofs.SamePlace.{element_within}
+use Rattle.wcp_model.specs.WorkloadComputation.{is_task_of, step_of, computation_of, IsFitOrder}
+use Rattle.wcp_model.proofs.SamePlace.{element_within, same_place}
 use Rattle.wcp_model.proofs.StepsOfOrder.{step_at, close_step, length-computation_of, receive_task}
 use Rattle.wcp_model.proofs.MessagesOfOrder.{send_of_receive, delivery_step, message_sent_before}
+
+-- a fit order of tasks is one of itself
+pub IsFitOrder-itself : (tasks order : List Task) → IsFitOrder tasks order → IsFitOrder order order
+IsFitOrder-itself tasks order fit = record { same_tasks = λ p. refl; sent_first = fit.sent_first }
+
+-- what holds of all tasks holds of a fit order of them
+pub All-fit_order : (P : Task → Type 0) (tasks order : List Task) → IsFitOrder tasks order → All P tasks → All P order
+All-fit_order P tasks order fit all i d inside =
+    let (task, at) = element_within order i inside in
+    let there = same_place (is_task_of task.p) order tasks i task (fit.same_tasks task.p) at (eq-eqb task.p task.p refl) in
+    rw (get_or_from_slice_get order i task d at) (subst P (get_or_from_slice_get tasks there.other task task there.found) (all there.other task (slice_get_within tasks there.other task there.found)))
 
 -- no task closes its process
 no_close : (order earlier : List Task) (q : ℕ) (a : Action) (p : ℕ) → step_of order earlier q a ≡ Close p → ⊥

@@ -1,0 +1,242 @@
+use Rattle.std.proofs.Common.{◌≡◌, ◌≢◌, ◌==◌, ℕ, zero, suc, ◌+◌, ◌<◌, ◌≤◌, ◌&&◌, Bool, false, cond, Some, List, [], ◌∷◌, ◌++◌, length, count_by, filter, map, slice_get, take, drop, All, refl, sym, ap, ap₂, subst, subst₂, inl, inr, ⊎_elim, eq-eqb, append-nil, ◌∙◌, arith}
+use Rattle.std.specs.List.{range_with_len}
+use Rattle.std.specs.Option.{option_map}
+use Rattle.std.proofs.lemmas.Bool.{and_parts, cases_Bool, cases_eq, cases_lt, ne_eqb}
+use Rattle.std.proofs.lemmas.List.{take_all, take_more, take-take, take-map, take-append-drop, length-map, take_at}
+use Rattle.std.proofs.lemmas.List.Sums.{length-filter, sum_by-cons, sum_by-take-le, count_by_more_no}
+use Rattle.std.proofs.lemmas.Option.{slice_get-map, slice_get_within, get_or_from_slice_get, same_Some}
+use Rattle.wcp_model.specs.declared.step.Step.{Step}
+use Rattle.wcp_model.specs.declared.step.Step.TheVariants as step
+use Rattle.wcp_model.specs.declared.workload.Action.{Action}
+use Rattle.wcp_model.specs.declared.workload.Action.TheVariants as action
+use Rattle.wcp_model.specs.declared.workload.Task.{Task}
+use Rattle.wcp_model.specs.Computation.{Computation, is_send, communications}
+use Rattle.wcp_model.specs.StateClock.{IsStateClock}
+use Rattle.wcp_model.specs.ProbeLog.{Call, Observed, Sent, Received, Closed, is_step_of, setup, state_of_log, IsStampOf, IsCallOf, AreCallsOf, IsLogOf, IsAccepted}
+use Rattle.wcp_model.specs.TaskLog.{actions_of, IsCallFor, FollowsActions, stamps_sent, stamps_got, AreLogsOfTasks, TaskLogLaw}
+use Rattle.wcp_model.specs.WorkloadComputation.{is_task_of, is_send_to, is_receive_from, sends, receives, message_number, step_of, steps_from, computation_of, IsWithin, IsFitOrder}
+use Rattle.wcp_model.proofs.AcceptedOrder.{order_accepted}
+use Rattle.wcp_model.proofs.AcceptedOrder.{IsFitOrder-itself, All-fit_order}
+use Rattle.wcp_model.proofs.Reached.{interval_at-event}
+use Rattle.wcp_model.proofs.Growth.{get_front}
+use Rattle.wcp_model.proofs.MessagesOfOrder.{sends_yes, message_number_is, send_of_receive}
+use Rattle.wcp_model.proofs.Predecessors.{local_state}
+use Rattle.wcp_model.proofs.RunningLog.{log_law_holds}
+use Rattle.wcp_model.proofs.GrowingLogs.{log_grows, stamp_grows, accepted_front}
+use Rattle.wcp_model.proofs.SamePlace.{filter_yes, filter_no, count_by-take_more, count_by_no, slice_get-take, slice_get-filter, filter_front, element_within, same_count}
+use Rattle.wcp_model.proofs.StepsOfOrder.{length-steps_from, step_at, message_at_is}
+use Rattle.wcp_model.proofs.TaskLogs.{same_length, call_for, stamp_sent_at, stamp_got_at}
+
+-- the first steps of the computation of an order
+abbrev pub front : ℕ → List Task → ℕ → Computation
+front n order place = take place (computation_of n order)
+
+-- how many tasks of a process stand before a place
+abbrev pub done : List Task → ℕ → ℕ → ℕ
+done order p place = count_by (is_task_of p) (take place order)
+
+-- one more element of a front
+pub take_next : {X : Type 0} (xs : List X) (i : ℕ) (x : X) → slice_get xs i ≡ Some x → take (i + 1) xs ≡ take i xs ++ x ∷ []
+take_next xs i x at = take_more xs i x (slice_get_within xs i x at) ∙ ap (λ y. take i xs ++ y ∷ []) (get_or_from_slice_get xs i x x at)
+
+-- the action of a task stands behind those of its process before it
+action_at : (order : List Task) (place : ℕ) (task : Task) → slice_get order place ≡ Some task → slice_get (actions_of task.p order) (done order task.p place) ≡ Some task.action
+action_at order place task at =
+    slice_get-map (λ (t : Task). t.action) (filter (is_task_of task.p) order) (done order task.p place)
+    ∙ ap (option_map (λ (t : Task). t.action)) (ap (slice_get (filter (is_task_of task.p) order)) (sym (length-filter (is_task_of task.p) (take place order))) ∙ slice_get-filter (is_task_of task.p) order place task at (eq-eqb task.p task.p refl))
+
+-- what a process does before a place
+actions_before : (order : List Task) (p place : ℕ) → take (done order p place) (actions_of p order) ≡ actions_of p (take place order)
+actions_before order p place =
+    take-map (λ (t : Task). t.action) (done order p place) (filter (is_task_of p) order)
+    ∙ ap (map (λ (t : Task). t.action)) (ap (λ k. take k (filter (is_task_of p) order)) (sym (length-filter (is_task_of p) (take place order))) ∙ sym (filter_front (is_task_of p) place order))
+
+-- as many actions of a process pass as tasks of it do
+count_actions : (test : Action → Bool) (p : ℕ) (tasks : List Task) → count_by test (actions_of p tasks) ≡ count_by (λ task. is_task_of p task && test task.action) tasks
+count_actions test p [] = refl
+count_actions test p (task ∷ tasks) =
+    let counts : ℕ → ℕ = λ k. k + count_by (λ task. is_task_of p task && test task.action) tasks in
+    elim (cases_Bool (is_task_of p task)) [
+      | inl own ↦
+          ap (λ kept. count_by test (map (λ (t : Task). t.action) kept)) (filter_yes (is_task_of p) task tasks own)
+          ∙ sum_by-cons (λ act. cond (test act) 1 0) task.action (actions_of p tasks)
+          ∙ ap₂ (λ (b : Bool) k. cond (b && test task.action) 1 0 + k) (sym own) (count_actions test p tasks)
+          ∙ sym (sum_by-cons (λ t. cond (is_task_of p t && test t.action) 1 0) task tasks)
+      | inr other ↦
+          ap (λ kept. count_by test (map (λ (t : Task). t.action) kept)) (filter_no (is_task_of p) task tasks other)
+          ∙ count_actions test p tasks
+          ∙ sym (count_by_no (λ t. is_task_of p t && test t.action) task tasks (ap (λ b. b && test task.action) other))
+    ]
+
+rank_of : (test : Action → Bool) (order : List Task) (p place : ℕ) → count_by test (take (done order p place) (actions_of p order)) ≡ count_by (λ task. is_task_of p task && test task.action) (take place order)
+rank_of test order p place = ap (count_by test) (actions_before order p place) ∙ count_actions test p (take place order)
+
+-- the step of a task is of its process
+pub step_owner : (order earlier : List Task) (p q : ℕ) (a : Action) → is_step_of q (step_of order earlier p a) ≡ is_step_of q (step.Close p)
+step_owner order earlier p q (action.Observe holds) = refl
+step_owner order earlier p q (action.Send to) = refl
+step_owner order earlier p q (action.Recv from) = refl
+
+-- the closes of n processes from a number on
+abbrev closes : ℕ → ℕ → Computation
+closes from n = map step.Close (range_with_len from n)
+
+-- none of them is of an earlier process
+no_close_of : (p from n : ℕ) → p < from → filter (is_step_of p) (closes from n) ≡ []
+no_close_of p from zero before = refl
+no_close_of p from (suc n) before = rw (ne_eqb from p (λ same. omega arith)) (no_close_of p (from + 1) n (omega arith))
+
+-- and one of each of these
+one_close_of : (p from n : ℕ) → from ≤ p → p < from + n → filter (is_step_of p) (closes from n) ≡ step.Close p ∷ []
+one_close_of p from zero behind within = absurd (omega arith)
+one_close_of p from (suc n) behind within = elim (cases_eq from p) [
+  | inl same ↦ rw (eq-eqb from p same, no_close_of p (from + 1) n (omega arith)) (ap (λ q. step.Close q ∷ []) same)
+  | inr other ↦ rw (ne_eqb from p other) (one_close_of p (from + 1) n (omega arith) (omega arith))
+]
+
+-- logs of the tasks of a fit order
+module _ (n : ℕ) (order : List Task) (within : All (IsWithin n) order) (fit : IsFitOrder order order) (logs : ℕ → List Call) (are : AreLogsOfTasks n order logs) where
+  -- what a process has logged at a place
+  abbrev pub log_at : ℕ → ℕ → List Call
+  log_at p place = take (done order p place) (logs p)
+
+  -- at a place, it is the log of the process in the front of the computation
+  abbrev pub AreLogsAt : ℕ → Type 0
+  AreLogsAt place = (p : ℕ) → p < n → IsLogOf n (front n order place) p (log_at p place)
+
+  accepted_at : (place : ℕ) → IsAccepted (front n order place)
+  accepted_at place = accepted_front (front n order place) (drop place (computation_of n order)) (subst IsAccepted (sym (take-append-drop place (computation_of n order))) (order_accepted n order fit))
+
+  -- a task has a call in the log of its process, which is then one longer
+  module _ (place : ℕ) (task : Task) (at : slice_get order place ≡ Some task) (below : task.p < n) where
+    pub call_at : (call : Call) × (slice_get (logs task.p) (done order task.p place) ≡ Some call) × IsCallFor task.action call
+    call_at = call_for (actions_of task.p order) (logs task.p) (done order task.p place) task.action (are.follows task.p below) (action_at order place task at)
+
+    log_next : log_at task.p (place + 1) ≡ log_at task.p place ++ call_at.0 ∷ []
+    log_next =
+        ap (λ k. take k (logs task.p)) (count_by-take_more (is_task_of task.p) order place task at (eq-eqb task.p task.p refl))
+        ∙ take_next (logs task.p) (done order task.p place) call_at.0 call_at.1
+
+  -- the stamp of a message carries the clock of its sender's probe after the send
+  sent_stamp : (sent p q : ℕ) → p < n → slice_get order sent ≡ Some (record { p = p; action = action.Send q }) → AreLogsAt (sent + 1) →
+      IsStampOf n (front n order (sent + 1)) (message_number order p q (count_by (sends p q) (take sent order))) (state_of_log (setup n p) (log_at p (sent + 1))).clock
+  sent_stamp sent p q below at logs_are = record {
+    sent = sent;
+    from = p;
+    to = q;
+    send = slice_get-take (sent + 1) (computation_of n order) sent (omega arith) ∙ send;
+    number = ap (count_by is_send) before ∙ message_at_is n order sent ∙ sym (message_number_is order p q _ sent at refl);
+    clock = subst (λ k. IsStateClock n (front n order (sent + 1)) (local_state p k) (state_of_log (setup n p) (log_at p (sent + 1))).clock)
+        (interval_at-event (computation_of n order) p sent (step.Send p q) send (eq-eqb p p refl) ∙ ap (λ c. communications c p + 1) (sym before))
+        (log_law_holds n (front n order (sent + 1)) p (log_at p (sent + 1)) (accepted_at (sent + 1)) below (logs_are p below)).clock;
+  }
+    where
+      send : slice_get (computation_of n order) sent ≡ Some (step.Send p q)
+      send = step_at n order sent _ at
+
+      before : take sent (front n order (sent + 1)) ≡ front n order sent
+      before = take-take sent (sent + 1) (computation_of n order) (omega arith)
+
+  -- and so does the stamp that its receiver gets
+  received_stamp : (received p q : ℕ) (stamp : List ℕ) → p < n → q < n → slice_get order received ≡ Some (record { p = q; action = action.Recv p }) → slice_get (logs q) (done order q received) ≡ Some (Received stamp) →
+      ((place : ℕ) → place ≤ received → AreLogsAt place) → IsStampOf n (front n order received) (message_number order p q (count_by (receives p q) (take received order))) stamp
+  received_stamp received p q stamp p_below q_below at took logs_are =
+      let (sent, earlier, delivery) = send_of_receive fit p q received at in
+      let send : Task = record { p = p; action = action.Send q } in
+      let receive : Task = record { p = q; action = action.Recv p } in
+      let some : 0 < count_by (sends p q) order = omega (arith, count_by-take_more (sends p q) order sent send delivery.send (sends_yes p q), sum_by-take-le (λ task. cond (sends p q task) 1 0) order (sent + 1)) in
+      let (in_transit, together) = are.in_order p q p_below q_below some in
+      let (call, made_call, is) = call_at sent send delivery.send p_below in
+      let got = stamp_got_at p (actions_of q order) (logs q) (done order q received) (action.Recv p) (Received stamp) (action_at order received receive at) took (eq-eqb p p refl) in
+      let same_rank = rank_of (is_receive_from p) order q received ∙ sym delivery.same_rank ∙ sym (rank_of (is_send_to q) order p sent) in
+      let clock : (state_of_log (setup n p) (log_at p (sent + 1))).clock ≡ stamp = same_Some _ _ (
+      ap (λ log. Some (state_of_log (setup n p) log).clock) (log_next sent send delivery.send p_below)
+      ∙ sym (stamp_sent_at (setup n p) q (actions_of p order) (logs p) (done order p sent) (action.Send q) call (action_at order sent send delivery.send) made_call (eq-eqb q q refl))
+      ∙ ap (slice_get (stamps_sent (setup n p) q (actions_of p order) (logs p))) (sym same_rank)
+      ∙ ap (λ stamps. slice_get stamps (count_by (is_receive_from p) (take (done order q received) (actions_of q order)))) (sym together)
+      ∙ get_front (stamps_got p (actions_of q order) (logs q)) in_transit _ (slice_get_within _ _ _ got)
+      ∙ got) in
+      let number = message_number order p q (count_by (receives p q) (take received order)) in
+      let then : IsStampOf n (front n order (sent + 1)) number stamp = subst₂ (λ rank. IsStampOf n (front n order (sent + 1)) (message_number order p q rank)) delivery.same_rank clock (sent_stamp sent p q p_below delivery.send (logs_are (sent + 1) (omega (arith, earlier)))) in
+      let short : take (sent + 1) (front n order received) ≡ front n order (sent + 1) = take-take (sent + 1) received (computation_of n order) (omega (arith, earlier)) in
+      subst (λ c. IsStampOf n c number stamp) (ap (λ c. c ++ drop (sent + 1) (front n order received)) (sym short) ∙ take-append-drop (sent + 1) (front n order received))
+      (stamp_grows n (front n order (sent + 1)) (drop (sent + 1) (front n order received)) number stamp then)
+
+  -- so the call of a task is that of its step
+  step_call : (place a : ℕ) (act : Action) (call : Call) → a < n → slice_get order place ≡ Some (record { p = a; action = act }) → slice_get (logs a) (done order a place) ≡ Some call → IsCallFor act call →
+      ((k : ℕ) → k ≤ place → AreLogsAt k) → IsCallOf n (front n order place ++ step_of order (take place order) a act ∷ []) (step_of order (take place order) a act) call
+  step_call place a (action.Observe holds) (Observed seen) below at made is logs_are = is
+  step_call place a (action.Send to) Sent below at made is logs_are = tt
+  step_call place a (action.Recv from) (Received stamp) below at made is logs_are =
+      let inside : IsWithin n (record { p = a; action = action.Recv from }) = subst (IsWithin n) (get_or_from_slice_get order place _ (record { p = a; action = action.Recv from }) at) (within place _ (slice_get_within order place _ at)) in
+      stamp_grows n (front n order place) (step_of order (take place order) a (action.Recv from) ∷ []) _ stamp (received_stamp place from a stamp inside.1.0 below at made logs_are)
+  step_call place a act call below at made is logs_are = absurd is
+
+  -- and with the next task each log is that of its process
+  logs_next : (place : ℕ) (task : Task) → slice_get order place ≡ Some task → task.p < n → ((k : ℕ) → k ≤ place → AreLogsAt k) → AreLogsAt (place + 1)
+  logs_next place task at inside logs_are p below =
+      let x : Step = step_of order (take place order) task.p task.action in
+      let c : Computation = front n order place in
+      let (call, made, is) = call_at place task at inside in
+      subst (λ d. IsLogOf n d p (log_at p (place + 1))) (sym (take_next (computation_of n order) place x (step_at n order place task at))) (⊎_elim
+      (λ (own : p ≡ task.p).
+      subst (λ q. IsLogOf n (c ++ x ∷ []) q (log_at q (place + 1))) (sym own)
+      (subst (IsLogOf n (c ++ x ∷ []) task.p) (sym (log_next place task at inside))
+      (log_grows n c (x ∷ []) task.p (log_at task.p place) (call ∷ []) (logs_are place (omega arith) task.p inside)
+      (subst (λ b. AreCallsOf n (c ++ x ∷ []) (cond b (x ∷ []) []) (call ∷ [])) (sym (step_owner order (take place order) task.p task.p task.action ∙ eq-eqb task.p task.p refl)) (step_call place task.p task.action call inside at made is logs_are, tt)))))
+      (λ (other : p ≢ task.p).
+      let apart : (task.p == p) ≡ false = ne_eqb task.p p (λ same. other (sym same)) in
+      let same : log_at p place ++ [] ≡ log_at p (place + 1) = append-nil (log_at p place) ∙ ap (λ k. take k (logs p)) (sym (count_by_more_no (is_task_of p) order place task (slice_get_within order place task at) (ap (is_task_of p) (get_or_from_slice_get order place task task at) ∙ apart))) in
+      subst (IsLogOf n (c ++ x ∷ []) p) same
+      (log_grows n c (x ∷ []) p (log_at p place) [] (logs_are place (omega arith) p below)
+      (subst (λ b. AreCallsOf n (c ++ x ∷ []) (cond b (x ∷ []) []) []) (sym (step_owner order (take place order) task.p p task.action ∙ apart)) tt)))
+      (cases_eq p task.p))
+
+  logs_until : (bound : ℕ) → bound ≤ length order → (place : ℕ) → place ≤ bound → AreLogsAt place
+  logs_until zero inside place le =
+      let first : 0 ≡ place = omega arith in
+      subst AreLogsAt first (λ p below. tt)
+  logs_until (suc bound) inside place le = ⊎_elim
+      (λ (earlier : place < bound + 1). logs_until bound (omega arith) place (omega arith))
+      (λ (last : bound + 1 ≤ place).
+      let (task, at) = element_within order bound (omega arith) in
+      let task_within : IsWithin n task = subst (IsWithin n) (get_or_from_slice_get order bound task task at) (within bound task (omega arith)) in
+      let here : bound + 1 ≡ place = omega arith in
+      subst AreLogsAt here (logs_next bound task at task_within.0 (logs_until bound (omega arith))))
+      (cases_lt place (bound + 1))
+
+  -- at the end they are whole
+  whole : (p : ℕ) → p < n → log_at p (length order) ≡ logs p
+  whole p below = take_all (done order p (length order)) (logs p) (omega (
+    arith,
+    same_length (actions_of p order) (logs p) (are.follows p below),
+    length-map (filter (is_task_of p) order) (λ (t : Task). t.action),
+    length-filter (is_task_of p) order,
+    ap (count_by (is_task_of p)) (take_all (length order) order (omega arith)),
+  ))
+
+  -- and each process closes
+  pub logs_with_close : (p : ℕ) → p < n → IsLogOf n (computation_of n order) p (logs p ++ Closed ∷ [])
+  logs_with_close p below =
+      let steps = steps_from order [] order in
+      let all : front n order (length order) ≡ steps = take_at steps (closes 0 n) (length order) (length-steps_from order [] order) in
+      log_grows n steps (closes 0 n) p (logs p) (Closed ∷ [])
+      (subst₂ (λ c log. IsLogOf n c p log) all (whole p below) (logs_until (length order) (omega arith) (length order) (omega arith) p below))
+      (subst (λ own. AreCallsOf n (steps ++ closes 0 n) own (Closed ∷ [])) (sym (one_close_of p 0 n (omega arith) (omega arith))) (tt, tt))
+
+-- logs of tasks are logs of a fit order of them
+AreLogsOfTasks-along : (n : ℕ) (tasks order : List Task) (logs : ℕ → List Call) → IsFitOrder tasks order → AreLogsOfTasks n tasks logs → AreLogsOfTasks n order logs
+AreLogsOfTasks-along n tasks order logs fit are = record {
+  follows = λ p below. subst (λ actions. FollowsActions actions (logs p)) (sym (same p)) (are.follows p below);
+  in_order = λ p q p_below q_below some.
+      let (in_transit, together) = are.in_order p q p_below q_below (omega (arith, some, same_count (is_task_of p) (sends p q) order tasks (λ t h. (and_parts _ _ h).0) (fit.same_tasks p))) in
+      (in_transit, subst₂ (λ theirs ours. stamps_got p theirs (logs q) ++ in_transit ≡ stamps_sent (setup n p) q ours (logs p)) (sym (same q)) (sym (same p)) together);
+}
+  where
+    same : (p : ℕ) → actions_of p order ≡ actions_of p tasks
+    same p = ap (map (λ (t : Task). t.action)) (fit.same_tasks p)
+
+-- the task log law
+pub task_log_law_holds : TaskLogLaw
+task_log_law_holds n tasks order logs within fit are =
+    logs_with_close n order (All-fit_order (IsWithin n) tasks order fit within) (IsFitOrder-itself tasks order fit) logs (AreLogsOfTasks-along n tasks order logs fit are)
