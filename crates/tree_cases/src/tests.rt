@@ -1,1 +1,4 @@
 mod one_thread;
+mod running;
+mod stamps;
+mod threads;

@@ -1,0 +1,135 @@
+use super::threads::{Arrival, Done, close_waiting, flush_waiting, jobs_of, run_all, take_all};
+use std::alloc::{AllocError, Global};
+use std::sync::Wait;
+use std::test::Fail;
+use std::thread::{Threads, join};
+use wcp_clock::{Item, MAX_PROCS};
+use wcp_lane::Taker;
+use wcp_model::{Parent, Plan, plain_plan};
+use wcp_probe::Refusal;
+use wcp_tree::opening::watch;
+use wcp_tree::{LiveProbe, Relay, RelayFault, Watch};
+
+/// The relay runs, the probe puts what is pending, sends and closes, and a third thread takes all of two processes.
+fn let_one_through<R: Threads + Wait + Sync>(
+    rt: &R,
+    probe: LiveProbe,
+    relay: Relay,
+    taker: Taker<Item>,
+) -> (Option<RelayFault>, bool, [Arrival; MAX_PROCS]) {
+    let (fault, (sent, arrivals)) = join(
+        rt,
+        || relay.run(rt).fault(),
+        || { join(rt, || flush_and_send(rt, probe), || take_all(rt, taker, 2)) },
+    );
+    (fault, sent, arrivals)
+}
+
+/// Puts what is pending, sends and closes; whether the send was accepted.
+fn flush_and_send(rt: &impl Wait, probe: LiveProbe) -> bool {
+    let mut probe = probe;
+    flush_waiting(rt, &mut probe);
+    let sent = probe.stamp(1, 7).is_ok();
+    close_waiting(rt, probe);
+    sent
+}
+
+#[test]
+fn a_full_ring_refuses_until_the_relay_took_a_note(rt: HostRuntime) -> Result<(), Fail> {
+    let plan = plain_plan(rt.alloc(), 2, 1, 4)?;
+    let Watch {
+        mut probes,
+        mut relays,
+        inbox,
+    } = watch(rt.alloc(), &plan, 7)?;
+    let second = probes.pop().expect(&rt, "a probe");
+    assert!(rt; second.close().is_ok());
+    let mut first = probes.pop().expect(&rt, "a probe");
+    assert!(rt; first.observe(true) && first.flush());
+    assert!(rt; first.stamp(1, 5).is_ok());
+    assert!(rt; first.observe(true) && !first.flush());
+    assert_eq!(rt; first.stamp(1, 6).err(), Some((Refusal::Backlog, 6)));
+    let relay = relays.pop().expect(&rt, "a relay");
+    let (fault, sent, arrivals) = let_one_through(&rt, first, relay, inbox.into_taker());
+    assert!(rt; fault.is_none() && sent);
+    assert_eq!(rt; arrivals[0], Arrival::Closed(2));
+    assert_eq!(rt; arrivals[1], Arrival::Closed(0));
+    Ok(())
+}
+
+/// The snapshots of each probe.
+const SNAPSHOTS: u32 = 100;
+
+/// The probes and relays run, each in a thread of its own, and the inbox is emptied.
+fn run_and_take<R: Threads + Wait + Sync>(
+    rt: &R,
+    alloc: Global,
+    watch: Watch,
+    processes: u32,
+) -> Result<(Vec<Done>, [Arrival; MAX_PROCS]), AllocError> {
+    let jobs = jobs_of(alloc, watch.probes, watch.relays)?;
+    let taker = watch.inbox.into_taker();
+    let (done, arrivals) = join(
+        rt,
+        || run_all(rt, jobs, SNAPSHOTS),
+        || take_all(rt, taker, processes),
+    );
+    Ok((done?, arrivals))
+}
+
+#[test]
+fn sixteen_probes_under_three_levels_of_relays(rt: HostRuntime) -> Result<(), Fail> {
+    let mut attach = Vec::new(rt.alloc());
+    for p in 0..16 {
+        attach.push(Some(3 + p / 4))?;
+    }
+    let [left, right] = [Parent::Relay(1), Parent::Relay(2)];
+    let root = Parent::Relay(0);
+    let plan = Plan {
+        n: 16,
+        cap: 2,
+        hold: 3,
+        parents: vec![in rt.alloc(); Parent::Root, root, root, left, left, right, right]?,
+        attach,
+    };
+    assert!(rt; plan.check().is_ok());
+    let watch = watch(rt.alloc(), &plan, 7)?;
+    let (done, arrivals) = run_and_take(&rt, rt.alloc(), watch, 16)?;
+    for (job, done) in done.iter().enumerate() {
+        let whole = if job < 16 {
+            Done::Probe(SNAPSHOTS)
+        } else {
+            Done::Relay(None)
+        };
+        assert_eq!(rt; *done, whole);
+    }
+    assert_eq!(rt; done.len(), 23);
+    assert_eq!(rt; arrivals, [Arrival::Closed(SNAPSHOTS); MAX_PROCS]);
+    Ok(())
+}
+
+#[test]
+fn probes_close_where_the_relay_above_is_gone(rt: HostRuntime) -> Result<(), Fail> {
+    let plan = Plan {
+        n: 2,
+        cap: 1,
+        hold: 1,
+        parents: vec![in rt.alloc(); Parent::Root, Parent::Relay(0)]?,
+        attach: vec![in rt.alloc(); Some(1), Some(1)]?,
+    };
+    assert!(rt; plan.check().is_ok());
+    let mut watch = watch(rt.alloc(), &plan, 7)?;
+    drop(watch.relays.remove(0));
+    let (done, arrivals) = run_and_take(&rt, rt.alloc(), watch, 2)?;
+    assert_eq!(rt; arrivals, [Arrival::Open(0); MAX_PROCS]);
+    for (job, done) in done.iter().enumerate() {
+        let expected = if job < 2 {
+            *done == Done::Probe(SNAPSHOTS)
+        } else {
+            matches!(done, Done::Relay(Some(RelayFault::Cut(_))))
+        };
+        assert!(rt; expected, "job {job}");
+    }
+    assert_eq!(rt; done.len(), 3);
+    Ok(())
+}

@@ -1,0 +1,143 @@
+//! Watches whose probes and relays run in threads of their own.
+use std::alloc::{AllocError, Global};
+use std::sync::Wait;
+use std::thread;
+use std::thread::{Threads, map_vec};
+use wcp_clock::{Item, MAX_PROCS, Note};
+use wcp_lane::Taker;
+use wcp_probe::Refusal;
+use wcp_tree::{LiveProbe, ProbeEnd, Relay, RelayFault};
+
+/// What runs in a thread.
+#[derive(Drop)]
+pub enum Job {
+    Probe(LiveProbe),
+    Relay(Relay),
+}
+
+/// How it ended.
+#[derive(Clone, Copy, Debug, PartialEq, Eq)]
+pub enum Done {
+    /// A probe that emitted so many snapshots.
+    Probe(u32),
+    /// A relay, with its fault.
+    Relay(Option<RelayFault>),
+    /// A probe whose send was refused.
+    Refused(Refusal),
+}
+
+/// Puts what is pending, and waits for room.
+pub fn flush_waiting(rt: &impl Wait, probe: &mut LiveProbe) {
+    for _ in rt.forever() {
+        if probe.flush() {
+            return;
+        }
+        thread::yield_now();
+    }
+    unreachable!()
+}
+
+/// Closes the probe, and waits for room for its close mark.
+pub fn close_waiting(rt: &impl Wait, probe: LiveProbe) -> ProbeEnd {
+    let mut open = probe;
+    for _ in rt.forever() {
+        match open.close() {
+            Ok(end) => return end,
+            Err((_, back)) => open = back,
+        }
+        thread::yield_now();
+    }
+    unreachable!()
+}
+
+/// Emits so many snapshots, with a send behind each, and closes.
+fn emit_all(rt: &impl Wait, probe: LiveProbe, snapshots: u32) -> Done {
+    let mut probe = probe;
+    let to = if probe.id() == 0 { 1 } else { 0 };
+    for _ in 0..snapshots {
+        probe.observe(true);
+        flush_waiting(rt, &mut probe);
+        if let Err((refusal, ())) = probe.stamp(to, ()) {
+            return Done::Refused(refusal);
+        }
+    }
+    Done::Probe(close_waiting(rt, probe).emitted())
+}
+
+/// Runs each in a thread of its own; each probe emits so many snapshots.
+pub fn run_all<R: Threads + Wait + Sync>(
+    rt: &R,
+    jobs: Vec<Job>,
+    snapshots: u32,
+) -> Result<Vec<Done>, AllocError> {
+    map_vec(
+        rt,
+        jobs,
+        &|job: Job| match job {
+            Job::Probe(probe) => emit_all(rt, probe, snapshots),
+            Job::Relay(relay) => Done::Relay(relay.run(rt).fault()),
+        },
+    )
+}
+
+/// The probes and the relays of a watch, each as a job.
+pub fn jobs_of(
+    alloc: Global,
+    probes: Vec<LiveProbe>,
+    relays: Vec<Relay>,
+) -> Result<Vec<Job>, AllocError> {
+    let mut jobs = Vec::new(alloc);
+    for probe in probes {
+        jobs.push(Job::Probe(probe))?;
+    }
+    for relay in relays {
+        jobs.push(Job::Relay(relay))?;
+    }
+    Ok(jobs)
+}
+
+/// What arrived of a process.
+#[derive(Clone, Copy, Debug, PartialEq, Eq)]
+pub enum Arrival {
+    /// So many snapshots, in their order.
+    Open(u32),
+    /// So many snapshots, in their order, and then the close mark.
+    Closed(u32),
+    /// Something at a wrong place.
+    Disorder,
+}
+
+impl Arrival {
+    fn then(self, note: &Note) -> Arrival {
+        match (self, note) {
+            (Arrival::Open(count), Note::Snap { number, .. }) if *number == count => {
+                Arrival::Open(count.saturating_add(1))
+            }
+            (Arrival::Open(count), Note::Close { count: all }) if *all == count => {
+                Arrival::Closed(count)
+            }
+            _ => Arrival::Disorder,
+        }
+    }
+}
+
+/// Takes until a close mark came of each of so many processes, or the lane is cut: what arrived of each.
+pub fn take_all<R: Wait>(rt: &R, mut taker: Taker<Item>, processes: u32) -> [Arrival; MAX_PROCS] {
+    let mut arrivals = [Arrival::Open(0); MAX_PROCS];
+    let mut closed = 0u32;
+    for _ in rt.forever() {
+        let Ok(item) = taker.take(rt) else {
+            break;
+        };
+        if let Some(arrival) = arrivals.get_mut(item.from as usize) {
+            *arrival = arrival.then(&item.note);
+        }
+        if let Note::Close { .. } = item.note {
+            closed = closed.saturating_add(1);
+        }
+        if closed >= processes {
+            break;
+        }
+    }
+    arrivals
+}
