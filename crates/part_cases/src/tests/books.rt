@@ -4,14 +4,17 @@ use wcp_model::Tally;
 #[test]
 fn shares_are_posted_once(rt: HostRuntime) {
     let mut book = Book::new(2);
-    assert_eq!(rt; book.post(0, 2, 2), Ok(()));
-    assert_eq!(rt; book.post(0, 1, 1), Err(BookFault::Twice));
-    assert_eq!(rt; book.post(2, 1, 1), Err(BookFault::NoSuch));
+    for (p, snapshots, answer) in [
+        (0, 2, Ok(())),
+        (0, 1, Err(BookFault::Twice)),
+        (2, 1, Err(BookFault::NoSuch)),
+    ] {
+        assert_eq!(rt; book.post(p, snapshots, snapshots), answer, "process {p}");
+    }
     let share = Tally {
         emitted: 2,
         taken: 2,
     };
-    assert_eq!(rt; book.share(0), Some(share));
-    assert_eq!(rt; book.share(1), None);
+    assert_eq!(rt; (book.share(0), book.share(1)), (Some(share), None));
     assert_eq!(rt; book.totals(), share);
 }

@@ -31,6 +31,25 @@ fn take(rt: &impl Abort, checker: &mut Checker, from: u32, number: u32, clock: C
     }
 }
 
+/// Takes a snapshot of process 0 before and after each of its sends; its clock after the last.
+fn take_sends(rt: &impl Abort, checker: &mut Checker, sends: u32) -> Option<Clock> {
+    let mut sent = Clock::new(2);
+    for number in 0..sends {
+        take(rt, checker, 0, number, sent);
+        assert_eq!(rt; sent.len(), 2);
+        sent = sent.tick(0, sends)?;
+    }
+    take(rt, checker, 0, sends, sent);
+    Some(sent)
+}
+
+/// The clock of process 1 after it received a message with this one.
+fn received(rt: &impl Abort, sent: &Clock) -> Option<Clock> {
+    let first = Clock::new(2).tick(1, 1)?;
+    assert!(rt; first.len() == 2 && sent.len() == 2);
+    Some(first.merge(sent))
+}
+
 /// Process 0 takes a snapshot before and after each of its sends, and process 1 one after it
 /// received the last. Each head of process 0 but the last precedes that of process 1.
 #[test]
@@ -39,16 +58,9 @@ fn a_head_that_precedes_another_is_dropped(rt: HostRuntime) -> Result<(), Fail> 
         let mut checker = checker_of_two(rt.alloc())?;
         assert_eq!(rt; checker.processes(), 2);
         assert_eq!(rt; checker.report(), Report::Undecided);
-        let mut sent = Clock::new(2);
-        for number in 0..sends {
-            take(&rt, &mut checker, 0, number, sent);
-            assert_eq!(rt; sent.len(), 2);
-            sent = sent.tick(0, sends).ok_or("the clock's end")?;
-        }
-        take(&rt, &mut checker, 0, sends, sent);
-        let first = Clock::new(2).tick(1, 1).ok_or("the clock's end")?;
-        assert!(rt; first.len() == 2 && sent.len() == 2);
-        take(&rt, &mut checker, 1, 0, first.merge(&sent));
+        let sent = take_sends(&rt, &mut checker, sends).ok_or("the clock's end")?;
+        let clock = received(&rt, &sent).ok_or("the clock's end")?;
+        take(&rt, &mut checker, 1, 0, clock);
         assert_eq!(rt;
             checker.report(),
             Report::Found(GlobalCut::new(&[sends, 1]))

@@ -1,5 +1,7 @@
 use crate::tests::replays::Expected::{Made, Refused, TookClose, TookSnap};
 use crate::tests::replays::{Replay, assert_played};
+use std::alloc::{AllocError, Global};
+use std::process::Abort;
 use std::test::Fail;
 use wcp_model::Step::{Admit, Check, Close, Observe, Pass, Put, Recv, Send};
 use wcp_model::{GlobalCut, Report, Why, plain_plan};
@@ -117,25 +119,28 @@ static UNDECIDED_BEFORE_ALL_TAKEN: Replay<'static> = Replay {
     tallies: &[(2, 1), (1, 0)],
 };
 
+/// Plays the steps under a plan of one relay.
+fn played(
+    rt: &impl Abort,
+    alloc: Global,
+    replay: &Replay,
+    report: Report,
+) -> Result<(), AllocError> {
+    let n = replay.tallies.len();
+    assert!(rt; 0 < n && n <= 16);
+    let plan = plain_plan(alloc, n as u32, 8, 4)?;
+    assert_played(rt, alloc, &plan, replay, report)
+}
+
 #[test]
 fn items_are_taken_in_the_order_of_their_emission(rt: HostRuntime) -> Result<(), Fail> {
-    for (replay, n, report) in [
-        (&CLOCK_TAKES_EVERY_COMPONENT, 3, Report::Undecided),
-        (
-            &CLOSE_GOES_THE_SAME_WAY,
-            1,
-            Report::Found(GlobalCut::new(&[0])),
-        ),
-        (&MESSAGES_OVERTAKE, 2, Report::Nothing),
-        (
-            &NEWEST_FIRST_HOLD_LOSES_CUT,
-            2,
-            Report::Found(GlobalCut::new(&[0, 0])),
-        ),
-        (&UNDECIDED_BEFORE_ALL_TAKEN, 2, Report::Undecided),
-    ] {
-        let plan = plain_plan(rt.alloc(), n, 8, 4)?;
-        assert_played(&rt, rt.alloc(), &plan, replay, report)?;
-    }
+    let first = Report::Found(GlobalCut::new(&[0]));
+    let both = Report::Found(GlobalCut::new(&[0, 0]));
+    let alloc = rt.alloc();
+    played(&rt, alloc, &CLOCK_TAKES_EVERY_COMPONENT, Report::Undecided)?;
+    played(&rt, alloc, &CLOSE_GOES_THE_SAME_WAY, first)?;
+    played(&rt, alloc, &MESSAGES_OVERTAKE, Report::Nothing)?;
+    played(&rt, alloc, &NEWEST_FIRST_HOLD_LOSES_CUT, both)?;
+    played(&rt, alloc, &UNDECIDED_BEFORE_ALL_TAKEN, Report::Undecided)?;
     Ok(())
 }

@@ -81,7 +81,7 @@ fn a_stamp_is_for_one_receiver_that_is_not_behind(rt: HostRuntime) -> Result<(),
 }
 
 #[test]
-fn a_probe_emits_once_an_interval_and_then_closes(rt: HostRuntime) -> Result<(), Fail> {
+fn a_probe_emits_once_an_interval(rt: HostRuntime) -> Result<(), Fail> {
     let mut probe = core(7, 0);
     assert_eq!(rt; probe.observe(false), Ok(false));
     assert_eq!(rt; probe.observe(true), Ok(true));
@@ -99,10 +99,18 @@ fn a_probe_emits_once_an_interval_and_then_closes(rt: HostRuntime) -> Result<(),
     assert!(rt; probe.pending().is_some());
     probe.was_put();
     assert_eq!(rt; probe.pending(), None);
+    Ok(())
+}
+
+#[test]
+fn a_probe_closes_once(rt: HostRuntime) {
+    let mut probe = core(7, 0);
+    assert_eq!(rt; probe.observe(true), Ok(true));
+    assert!(rt; probe.pending().is_some());
+    probe.was_put();
     assert_eq!(rt; probe.close(), Ok(()));
     assert_eq!(rt; probe.pending(), Some(Note::Close { count: 1 }));
     assert_eq!(rt; (probe.closed(), probe.emitted()), (true, 1));
     assert_eq!(rt; probe.observe(true), Err(Refusal::Closed));
     assert_eq!(rt; probe.close(), Err(Refusal::Closed));
-    Ok(())
 }

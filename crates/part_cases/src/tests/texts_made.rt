@@ -100,6 +100,11 @@ fn lines_of_replies(rt: HostRuntime) -> Result<(), Fail> {
         reply_text(rt.alloc(), &Reply::Done)?.as_slice(),
         b"done\n".as_slice()
     );
+    Ok(())
+}
+
+#[test]
+fn lines_of_items_that_were_taken(rt: HostRuntime) -> Result<(), Fail> {
     let sent = Clock::new(3).tick(2, 1).ok_or("the clock's end")?;
     assert_eq!(rt; sent.len(), 3);
     let clock = sent.tick(1, 1).ok_or("the clock's end")?;
@@ -139,20 +144,26 @@ fn found() -> Outcome {
     }
 }
 
+/// Its text.
+const FOUND: &str =
+    "found 1 1\nprocess 0 emitted 2 taken 2\nprocess 1 emitted 1 taken 0\ntotal emitted 3 taken 2\n";
+
 #[test]
-fn a_report_and_replies_before_it(rt: HostRuntime) -> Result<(), Fail> {
-    let lines =
-        "found 1 1\nprocess 0 emitted 2 taken 2\nprocess 1 emitted 1 taken 0\ntotal emitted 3 taken 2\n";
+fn a_report_of_two_processes(rt: HostRuntime) -> Result<(), Fail> {
     assert_eq!(rt;
         report_text(rt.alloc(), &found())?.as_slice(),
-        lines.as_bytes()
+        FOUND.as_bytes()
     );
+    Ok(())
+}
 
+#[test]
+fn replies_and_a_report_after_them(rt: HostRuntime) -> Result<(), Fail> {
     let mut text = String::new(rt.alloc());
     push_reply(&mut text, &Reply::Done)?;
     push_reply(&mut text, &Reply::Refused(Why::Full))?;
     push_report(&mut text, &found())?;
-    let both = format!(in rt.alloc(); "done\nrefused full\n{lines}")?;
+    let both = format!(in rt.alloc(); "done\nrefused full\n{FOUND}")?;
     assert_eq!(rt; text.as_str(), both.as_str());
     Ok(())
 }

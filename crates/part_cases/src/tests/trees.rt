@@ -1,5 +1,5 @@
 use crate::tests::replays::Expected::{Made, Refused, TookClose, TookSnap};
-use crate::tests::replays::{Expected, Replay, assert_played, assert_reply};
+use crate::tests::replays::{Replay, assert_played, assert_reply};
 use std::alloc::{AllocError, Global};
 use std::process::Abort;
 use std::test::Fail;
@@ -170,14 +170,12 @@ static EACH_MOVE_REFUSED: Replay<'static> = Replay {
 
 #[test]
 fn items_go_through_a_tree_of_relays(rt: HostRuntime) -> Result<(), Fail> {
-    for (replay, (cap, hold), report) in [
-        (&LEAST_CUT, (8, 4), Report::Found(GlobalCut::new(&[1, 1]))),
-        (&ORDERED_PAIR, (8, 4), Report::Nothing),
-        (&EACH_MOVE_REFUSED, (1, 1), Report::Undecided),
-    ] {
-        let plan = tree(rt.alloc(), cap, hold)?;
-        assert_played(&rt, rt.alloc(), &plan, replay, report)?;
-    }
+    let alloc = rt.alloc();
+    let least = Report::Found(GlobalCut::new(&[1, 1]));
+    let (wide, narrow) = (tree(alloc, 8, 4)?, tree(alloc, 1, 1)?);
+    assert_played(&rt, alloc, &wide, &LEAST_CUT, least)?;
+    assert_played(&rt, alloc, &wide, &ORDERED_PAIR, Report::Nothing)?;
+    assert_played(&rt, alloc, &narrow, &EACH_MOVE_REFUSED, Report::Undecided)?;
     Ok(())
 }
 
@@ -196,15 +194,12 @@ fn step(world: &mut World, step: Step) -> Result<Reply, AllocError> {
     }
 }
 
-/// Makes a step, and compares its whole reply.
-fn make(
-    rt: &impl Abort,
-    world: &mut World,
-    asked: Step,
-    expected: &Expected,
-) -> Result<(), AllocError> {
-    let reply = step(world, asked)?;
-    assert_reply(rt, asked, reply, expected);
+/// Makes each step, and compares its whole reply.
+fn make_each(rt: &impl Abort, world: &mut World, replay: &Replay) -> Result<(), AllocError> {
+    for row in replay.steps {
+        let reply = step(world, row.0)?;
+        assert_reply(rt, row.0, reply, &row.1);
+    }
     Ok(())
 }
 
@@ -215,9 +210,7 @@ fn a_tree_is_drained_step_by_step(rt: HostRuntime) -> Result<(), Fail> {
         Err(_) => world_of_tree(&rt, rt.alloc())?,
     };
     assert_eq!(rt; world.report(), Report::Undecided);
-    for row in LEAST_CUT.steps {
-        make(&rt, &mut world, row.0, &row.1)?;
-    }
+    make_each(&rt, &mut world, &LEAST_CUT)?;
     assert_eq!(rt; world.report(), Report::Found(GlobalCut::new(&[1, 1])));
     Ok(())
 }

@@ -91,50 +91,49 @@ fn plan_of_two(alloc: Global, cap: u32) -> Result<Plan, AllocError> {
     }
 }
 
+/// Compares each reply.
+fn assert_replies(rt: &impl Abort, replies: &[Reply], refusals: &[Option<Why>], name: &str) {
+    assert_eq!(rt; replies.len(), refusals.len(), "{name}");
+    for (reply, refusal) in replies.iter().zip(refusals) {
+        let expected = match refusal {
+            None => Done,
+            Some(why) => Refused(*why),
+        };
+        assert_eq!(rt; *reply, expected, "{name}");
+    }
+}
+
+/// Plays the steps of an example, and compares each reply, the report and the tallies.
+fn assert_played(rt: &impl Abort, alloc: Global, example: &Example) -> Result<(), AllocError> {
+    let name = example.name;
+    let plan = plan_of_two(alloc, example.cap)?;
+    assert!(rt; plan.check().is_ok());
+    let played = match play(alloc, &plan, example.steps) {
+        Ok(played) => played,
+        Err(_) => play(alloc, &plan, example.steps)?,
+    };
+    assert_replies(rt, played.replies.as_slice(), example.refusals, name);
+    assert_eq!(rt; played.report, Report::Undecided, "{name}");
+    assert_eq!(rt; played.tallies.len(), 2, "{name}");
+    let (first, second) = example.emitted;
+    for (p, emitted) in [(0, first), (1, second)] {
+        let wanted = Tally { emitted, taken: 0 };
+        assert_eq!(rt; played.tallies.get(p), wanted, "{name}");
+    }
+    Ok(())
+}
+
 #[test]
 fn played_steps_are_answered_as_worked_out_by_hand(rt: HostRuntime) -> Result<(), Fail> {
     for example in &EXAMPLES {
-        let name = example.name;
-        let plan = plan_of_two(rt.alloc(), example.cap)?;
-        assert!(rt; plan.check().is_ok());
-        let played = match play(rt.alloc(), &plan, example.steps) {
-            Ok(played) => played,
-            Err(_) => play(rt.alloc(), &plan, example.steps)?,
-        };
-        assert_eq!(rt; played.replies.len(), example.refusals.len(), "{name}");
-        for (reply, refusal) in played.replies.iter().zip(example.refusals) {
-            let expected = match refusal {
-                None => Done,
-                Some(why) => Refused(*why),
-            };
-            assert_eq!(rt; *reply, expected, "{name}");
-        }
-        assert_eq!(rt; played.report, Report::Undecided, "{name}");
-        assert_eq!(rt; played.tallies.len(), 2, "{name}");
-        let (first, second) = example.emitted;
-        assert_eq!(rt;
-            played.tallies.get(0),
-            Tally {
-                emitted: first,
-                taken: 0
-            },
-            "{name}"
-        );
-        assert_eq!(rt;
-            played.tallies.get(1),
-            Tally {
-                emitted: second,
-                taken: 0
-            },
-            "{name}"
-        );
+        assert_played(&rt, rt.alloc(), example)?;
     }
     Ok(())
 }
 
 /// The steps of two processes whose first snapshots make the least satisfying cut, which is lost
 /// where an item that came later overtakes them and they are dropped.
-const STEPS: [Step; 17] = [
+static STEPS: [Step; 17] = [
     Observe(0, true),
     Put(0),
     Observe(1, true),
@@ -171,14 +170,16 @@ fn step(world: &mut World, step: Step) -> Result<Reply, AllocError> {
     }
 }
 
-/// Makes a step: a check takes an item, and any other step is done.
-fn make(rt: &impl Abort, world: &mut World, asked: Step) -> Result<(), AllocError> {
-    let reply = step(world, asked)?;
-    let is_made = match asked {
-        Check => matches!(reply, Took(_)),
-        _ => reply == Done,
-    };
-    assert!(rt; is_made, "{asked:?}: {reply:?}");
+/// Makes each step: a check takes an item, and any other step is done.
+fn make_each(rt: &impl Abort, world: &mut World, steps: &[Step]) -> Result<(), AllocError> {
+    for asked in steps {
+        let reply = step(world, *asked)?;
+        let is_made = match asked {
+            Check => matches!(reply, Took(_)),
+            _ => reply == Done,
+        };
+        assert!(rt; is_made, "{asked:?}: {reply:?}");
+    }
     Ok(())
 }
 
@@ -193,9 +194,7 @@ fn a_step_asked_again_is_answered_as_with_ample_memory(rt: HostRuntime) -> Resul
         (world.tally(0), world.tally(1)),
         (NO_SNAPSHOT, NO_SNAPSHOT)
     );
-    for asked in STEPS {
-        make(&rt, &mut world, asked)?;
-    }
+    make_each(&rt, &mut world, &STEPS)?;
     assert_eq!(rt; world.report(), Report::Found(GlobalCut::new(&[0, 0])));
     let both = Tally {
         emitted: 2,
