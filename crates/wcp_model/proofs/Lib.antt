@@ -31,3 +31,4 @@ pub mod Choosing
 pub mod NotesInTurn
 pub mod RisingClocks
 pub mod TakenFronts
+pub mod TakenOutcomes

@@ -46,6 +46,10 @@ scan_at next out start (first ∷ xs) zero x at =
     ap (λ y. Some (out start y)) same
 scan_at next out start (first ∷ xs) (suc place) x at = scan_at next out (next start first) xs place x at
 
+-- the log with one more call
+pub log_push : (made : ProbeSetup) (log : List Call) (call : Call) → state_of_log made (log ++ call ∷ []) ≡ after_call made.process (state_of_log made log) call
+log_push made log call = fold-append (after_call made.process) (state_of_log made []) log (call ∷ [])
+
 -- one more task is one more action of its process alone
 pub actions_of-push : (p : ℕ) (tasks : List Task) (task : Task) → actions_of p (tasks ++ task ∷ []) ≡ actions_of p tasks ++ cond (is_task_of p task) (task.action ∷ []) []
 actions_of-push p tasks task = kept-push (λ (t : Task). t.action) (is_task_of p) tasks task
@@ -93,7 +97,7 @@ pub stamp_sent_at : (made : ProbeSetup) (q : ℕ) (actions : List Action) (log :
 stamp_sent_at made q actions log place act call at made_call sends =
     beside_at (is_send_to q) actions (clocks_after made log) place act _ at
     (scan_at (after_call made.process) (λ s next. (after_call made.process s next).clock) (state_of_log made []) log place call made_call
-    ∙ ap (λ (s : ProbeState). Some s.clock) (sym (fold-append (after_call made.process) (state_of_log made []) (take place log) (call ∷ [])))) sends
+    ∙ ap (λ (s : ProbeState). Some s.clock) (sym (log_push made (take place log) call))) sends
 
 -- the stamp of a receive from p is the one that it took
 pub stamp_got_at : (p : ℕ) (actions : List Action) (log : List Call) (place : ℕ) (act : Action) (call : Call) → slice_get actions place ≡ Some act → slice_get log place ≡ Some call → is_receive_from p act ≡ true →
@@ -121,7 +125,7 @@ module _ (actions : List Action) (log : List Call) (act : Action) (call : Call) 
     clock_pushed : clocks_after made (log ++ call ∷ []) ≡ clocks_after made log ++ (state_of_log made (log ++ call ∷ [])).clock ∷ []
     clock_pushed =
         scan-push (after_call made.process) (λ s next. (after_call made.process s next).clock) (state_of_log made []) log call
-        ∙ ap (λ (s : ProbeState). clocks_after made log ++ s.clock ∷ []) (sym (fold-append (after_call made.process) (state_of_log made []) log (call ∷ [])))
+        ∙ ap (λ (s : ProbeState). clocks_after made log ++ s.clock ∷ []) (sym (log_push made log call))
 
     a_clock_each : length actions ≡ length (clocks_after made log)
     a_clock_each = same_length actions log follows ∙ sym (length-scan (after_call made.process) (λ s next. (after_call made.process s next).clock) (state_of_log made []) log)
