@@ -1,26 +1,27 @@
-use Rattle.std.proofs.Common.{◌≡◌, ◌≢◌, ◌==◌, ℕ, zero, suc, ◌+◌, ◌<◌, ◌≤◌, ◌&&◌, Bool, false, cond, Some, List, [], ◌∷◌, ◌++◌, length, count_by, filter, map, slice_get, take, drop, All, refl, sym, ap, ap₂, subst, subst₂, inl, inr, ⊎_elim, eq-eqb, append-nil, ◌∙◌, arith}
+use Rattle.std.proofs.Common.{◌≡◌, ◌≢◌, ◌==◌, ℕ, zero, suc, ◌+◌, ◌-◌, ◌<◌, ◌≤◌, ◌&&◌, Bool, false, cond, Some, List, [], ◌∷◌, ◌++◌, length, count_by, filter, map, slice_get, slice_index, take, drop, All, refl, sym, ap, ap₂, subst, subst₂, inl, inr, ⊎_elim, eq-eqb, append-nil, ◌∙◌, arith}
 use Rattle.std.specs.List.{range_with_len}
 use Rattle.std.specs.Option.{option_map}
 use Rattle.std.proofs.lemmas.Bool.{and_parts, cases_Bool, cases_eq, cases_lt, ne_eqb}
-use Rattle.std.proofs.lemmas.List.{take_all, take_more, take-take, take-map, take-append-drop, length-map, take_at}
-use Rattle.std.proofs.lemmas.List.Sums.{length-filter, sum_by-cons, sum_by-take-le, count_by_more_no}
+use Rattle.std.proofs.lemmas.List.{take_all, take_more, take-take, take-map, take-append-drop, length-map, length-take, take_at}
+use Rattle.std.proofs.lemmas.List.Sums.{length-filter, count_by-le-length, sum_by-cons, sum_by-take-le, count_by_more_no}
 use Rattle.std.proofs.lemmas.Option.{slice_get-map, slice_get_within, get_or_from_slice_get, same_Some}
 use Rattle.wcp_model.specs.declared.step.Step.{Step}
 use Rattle.wcp_model.specs.declared.step.Step.TheVariants as step
 use Rattle.wcp_model.specs.declared.workload.Action.{Action}
 use Rattle.wcp_model.specs.declared.workload.Action.TheVariants as action
 use Rattle.wcp_model.specs.declared.workload.Task.{Task}
-use Rattle.wcp_model.specs.Computation.{Computation, is_send, communications}
+use Rattle.wcp_model.specs.Computation.{Computation, is_send, is_communication_of, communications, interval_at}
 use Rattle.wcp_model.specs.StateClock.{IsStateClock}
 use Rattle.wcp_model.specs.ProbeLog.{Call, Observed, Sent, Received, Closed, is_step_of, setup, state_of_log, IsStampOf, IsCallOf, AreCallsOf, IsLogOf, IsAccepted}
 use Rattle.wcp_model.specs.TaskLog.{actions_of, IsCallFor, FollowsActions, stamps_sent, stamps_got, AreLogsOfTasks, TaskLogLaw}
 use Rattle.wcp_model.specs.WorkloadComputation.{is_task_of, is_send_to, is_receive_from, sends, receives, message_number, step_of, steps_from, computation_of, IsWithin, IsFitOrder}
-use Rattle.wcp_model.proofs.AcceptedOrder.{order_accepted}
-use Rattle.wcp_model.proofs.AcceptedOrder.{IsFitOrder-itself, All-fit_order}
+use Rattle.wcp_model.proofs.AcceptedOrder.{IsFitOrder-itself, All-fit_order, order_accepted}
+use Rattle.wcp_model.proofs.EventPlaces.{event_of_send, event_below}
 use Rattle.wcp_model.proofs.Reached.{interval_at-event}
-use Rattle.wcp_model.proofs.Growth.{get_front}
+use Rattle.wcp_model.proofs.Growth.{get_front, get_behind}
 use Rattle.wcp_model.proofs.MessagesOfOrder.{sends_yes, message_number_is, send_of_receive}
-use Rattle.wcp_model.proofs.Predecessors.{local_state}
+use Rattle.wcp_model.proofs.Predecessors.{local_state, span}
+use Rattle.wcp_model.proofs.RunningClock.{clock_counts}
 use Rattle.wcp_model.proofs.RunningLog.{log_law_holds}
 use Rattle.wcp_model.proofs.GrowingLogs.{log_grows, stamp_grows, accepted_front}
 use Rattle.wcp_model.proofs.SamePlace.{filter_yes, filter_no, count_by-take_more, count_by_no, slice_get-take, slice_get-filter, filter_front, element_within, same_count}
@@ -70,6 +71,19 @@ count_actions test p (task ∷ tasks) =
 
 rank_of : (test : Action → Bool) (order : List Task) (p place : ℕ) → count_by test (take (done order p place) (actions_of p order)) ≡ count_by (λ task. is_task_of p task && test task.action) (take place order)
 rank_of test order p place = ap (count_by test) (actions_before order p place) ∙ count_actions test p (take place order)
+
+-- the stamp of a message knows no event that there isn't
+stamp_below : (n : ℕ) (c : Computation) (message q : ℕ) (stamp : List ℕ) → q < n → IsStampOf n c message stamp → slice_index stamp q ≤ communications c q
+stamp_below n c message q stamp below is =
+    let k : ℕ = interval_at c is.from is.sent in
+    let exists : k + 1 ≤ communications c is.from = omega (arith, event_below c is.from k is.sent (event_of_send c is.from k is.to is.sent is.send refl)) in
+    let known : ℕ = slice_index stamp q in
+    ⊎_elim (λ (some : 0 < known).
+    let before = (clock_counts n c (local_state is.from (k + 1)) stamp q exists is.clock below (known - 1)).1 (omega arith) in
+    let path = span c (local_state q (known - 1)) before in
+    omega (arith, event_below c q (known - 1) path.ended path.ends))
+    (λ (none : known ≤ 0). omega arith)
+    (cases_lt 0 known)
 
 -- the step of a task is of its process
 pub step_owner : (order earlier : List Task) (p q : ℕ) (a : Action) → is_step_of q (step_of order earlier p a) ≡ is_step_of q (step.Close p)
@@ -215,6 +229,27 @@ module _ (n : ℕ) (order : List Task) (within : All (IsWithin n) order) (fit : 
     ap (count_by (is_task_of p)) (take_all (length order) order (omega arith)),
   ))
 
+  -- a probe's own component counts the events of its process
+  own_component : (place p : ℕ) → place ≤ length order → p < n → slice_index (state_of_log (setup n p) (log_at p place)).clock p ≡ communications (front n order place) p
+  own_component place p inside below = (log_law_holds n (front n order place) p (log_at p place) (accepted_at place) below (logs_until (length order) (omega arith) place inside p below)).clock.own
+
+  -- so it is at most the number of tasks
+  pub few_events : (p : ℕ) → p < n → slice_index (state_of_log (setup n p) (logs p)).clock p ≤ length order
+  few_events p below = omega (
+    arith,
+    ap (λ log. slice_index (state_of_log (setup n p) log).clock p) (whole p below),
+    own_component (length order) p (omega arith) below,
+    count_by-le-length (is_communication_of p) (front n order (length order)),
+    length-take (length order) (computation_of n order),
+  )
+
+  -- and no stamp is ahead of the probe that gets it
+  not_ahead : (place p q : ℕ) (stamp : List ℕ) → p < n → q < n → slice_get order place ≡ Some (record { p = q; action = action.Recv p }) → slice_get (logs q) (done order q place) ≡ Some (Received stamp) →
+      slice_index stamp q ≤ slice_index (state_of_log (setup n q) (log_at q place)).clock q
+  not_ahead place p q stamp p_below q_below at took =
+      let inside : place ≤ length order = omega (arith, slice_get_within order place _ at) in
+      omega (arith, own_component place q inside q_below, stamp_below n (front n order place) _ q stamp q_below (received_stamp place p q stamp p_below q_below at took (λ k le. logs_until (length order) (omega arith) k (omega arith))))
+
   -- and each process closes
   pub logs_with_close : (p : ℕ) → p < n → IsLogOf n (computation_of n order) p (logs p ++ Closed ∷ [])
   logs_with_close p below =
@@ -223,6 +258,21 @@ module _ (n : ℕ) (order : List Task) (within : All (IsWithin n) order) (fit : 
       log_grows n steps (closes 0 n) p (logs p) (Closed ∷ [])
       (subst₂ (λ c log. IsLogOf n c p log) all (whole p below) (logs_until (length order) (omega arith) (length order) (omega arith) p below))
       (subst (λ own. AreCallsOf n (steps ++ closes 0 n) own (Closed ∷ [])) (sym (one_close_of p 0 n (omega arith) (omega arith))) (tt, tt))
+
+-- with one more receive, its stamp is not ahead of the probe that gets it
+pub got_not_ahead : (n : ℕ) (tasks : List Task) (p q : ℕ) (log : List Call) (stamp : List ℕ) (logs : ℕ → List Call) → p < n → q < n →
+    let longer = tasks ++ record { p = q; action = action.Recv p } ∷ [] in
+    All (IsWithin n) longer → IsFitOrder longer longer → AreLogsOfTasks n longer logs → FollowsActions (actions_of q tasks) log → logs q ≡ log ++ Received stamp ∷ [] →
+    slice_index stamp q ≤ slice_index (state_of_log (setup n q) log).clock q
+got_not_ahead n tasks p q log stamp logs p_below q_below within fit are follows own =
+    let task : Task = record { p = q; action = action.Recv p } in
+    let longer = tasks ++ task ∷ [] in
+    let place : done longer q (length tasks) ≡ length log =
+    ap (count_by (is_task_of q)) (take_at tasks (task ∷ []) (length tasks) refl)
+    ∙ sym (length-filter (is_task_of q) tasks) ∙ sym (length-map (filter (is_task_of q) tasks) (λ (t : Task). t.action)) ∙ same_length (actions_of q tasks) log follows in
+    let before : take (done longer q (length tasks)) (logs q) ≡ log = ap₂ take place own ∙ take_at log (Received stamp ∷ []) (length log) refl in
+    subst (λ calls. slice_index stamp q ≤ slice_index (state_of_log (setup n q) calls).clock q) before
+    (not_ahead n longer within fit logs are (length tasks) p q stamp p_below q_below (get_behind tasks task []) (ap₂ slice_get own place ∙ get_behind log (Received stamp) []))
 
 -- logs of tasks are logs of a fit order of them
 AreLogsOfTasks-along : (n : ℕ) (tasks order : List Task) (logs : ℕ → List Call) → IsFitOrder tasks order → AreLogsOfTasks n tasks logs → AreLogsOfTasks n order logs

@@ -91,6 +91,15 @@ beside_at test (first ∷ actions) (y ∷ xs) (suc place) act x at here passes =
   | inr other ↦ rw (count_by_no test first (take place actions) other, other) (beside_at test actions xs place act x at here passes)
 ]
 
+-- as many stand there as actions pass
+length-beside : {X : Type 0} (test : Action → Bool) (actions : List Action) (xs : List X) → length actions ≡ length xs → length (beside test actions xs) ≡ count_by test actions
+length-beside test [] xs same = refl
+length-beside test (act ∷ actions) [] same = absurd (omega (arith, same))
+length-beside test (act ∷ actions) (x ∷ xs) same = elim (cases_Bool (test act)) [
+  | inl passes ↦ rw (count_by_yes test act actions passes, passes) (ap suc (length-beside test actions xs (omega (arith, same))))
+  | inr fails ↦ rw (count_by_no test act actions fails, fails) (length-beside test actions xs (omega (arith, same)))
+]
+
 -- the stamp of a send to q is the clock of the probe after it
 pub stamp_sent_at : (made : ProbeSetup) (q : ℕ) (actions : List Action) (log : List Call) (place : ℕ) (act : Action) (call : Call) → slice_get actions place ≡ Some act → slice_get log place ≡ Some call → is_send_to q act ≡ true →
     slice_get (stamps_sent made q actions log) (count_by (is_send_to q) (take place actions)) ≡ Some (state_of_log made (take place log ++ call ∷ [])).clock
@@ -119,6 +128,20 @@ beside-push_failing : {X : Type 0} (test : Action → Bool) (actions : List Acti
 beside-push_failing {X} test actions xs act x same fails =
     beside-push test actions xs act x same ∙ ap (λ (b : Bool). beside test actions xs ++ cond b (x ∷ []) []) fails ∙ append-nil (beside test actions xs)
 
+-- a log that follows actions has a stamp for each send and receive among them
+module _ (actions : List Action) (log : List Call) (follows : FollowsActions actions log) where
+  a_clock_each : (made : ProbeSetup) → length actions ≡ length (clocks_after made log)
+  a_clock_each made = same_length actions log follows ∙ sym (length-scan (after_call made.process) (λ s next. (after_call made.process s next).clock) (state_of_log made []) log)
+
+  a_stamp_each : length actions ≡ length (map stamp_of log)
+  a_stamp_each = same_length actions log follows ∙ sym (length-map log stamp_of)
+
+  pub length-stamps_sent : (made : ProbeSetup) (q : ℕ) → length (stamps_sent made q actions log) ≡ count_by (is_send_to q) actions
+  length-stamps_sent made q = length-beside (is_send_to q) actions (clocks_after made log) (a_clock_each made)
+
+  pub length-stamps_got : (p : ℕ) → length (stamps_got p actions log) ≡ count_by (is_receive_from p) actions
+  length-stamps_got p = length-beside (is_receive_from p) actions (map stamp_of log) a_stamp_each
+
 -- one more call of a log that follows actions
 module _ (actions : List Action) (log : List Call) (act : Action) (call : Call) (follows : FollowsActions actions log) where
   module _ (made : ProbeSetup) (q : ℕ) where
@@ -127,31 +150,25 @@ module _ (actions : List Action) (log : List Call) (act : Action) (call : Call) 
         scan-push (after_call made.process) (λ s next. (after_call made.process s next).clock) (state_of_log made []) log call
         ∙ ap (λ (s : ProbeState). clocks_after made log ++ s.clock ∷ []) (sym (log_push made log call))
 
-    a_clock_each : length actions ≡ length (clocks_after made log)
-    a_clock_each = same_length actions log follows ∙ sym (length-scan (after_call made.process) (λ s next. (after_call made.process s next).clock) (state_of_log made []) log)
-
     -- one more send to q sends it the clock of the probe after it, and no other call does
     pub stamps_sent-push : is_send_to q act ≡ true → stamps_sent made q (actions ++ act ∷ []) (log ++ call ∷ []) ≡ stamps_sent made q actions log ++ (state_of_log made (log ++ call ∷ [])).clock ∷ []
     stamps_sent-push sends =
         ap (beside (is_send_to q) (actions ++ act ∷ [])) clock_pushed
-        ∙ beside-push_passing (is_send_to q) actions (clocks_after made log) act _ a_clock_each sends
+        ∙ beside-push_passing (is_send_to q) actions (clocks_after made log) act _ (a_clock_each actions log follows made) sends
 
     pub stamps_sent-push_other : is_send_to q act ≡ false → stamps_sent made q (actions ++ act ∷ []) (log ++ call ∷ []) ≡ stamps_sent made q actions log
     stamps_sent-push_other other =
         ap (beside (is_send_to q) (actions ++ act ∷ [])) clock_pushed
-        ∙ beside-push_failing (is_send_to q) actions (clocks_after made log) act _ a_clock_each other
+        ∙ beside-push_failing (is_send_to q) actions (clocks_after made log) act _ (a_clock_each actions log follows made) other
 
   module _ (p : ℕ) where
-    a_stamp_each : length actions ≡ length (map stamp_of log)
-    a_stamp_each = same_length actions log follows ∙ sym (length-map log stamp_of)
-
     -- one more receive from p gets the stamp that it took, and no other call does
     pub stamps_got-push : is_receive_from p act ≡ true → stamps_got p (actions ++ act ∷ []) (log ++ call ∷ []) ≡ stamps_got p actions log ++ stamp_of call ∷ []
     stamps_got-push receives =
         ap (beside (is_receive_from p) (actions ++ act ∷ [])) (map_push stamp_of log call)
-        ∙ beside-push_passing (is_receive_from p) actions (map stamp_of log) act (stamp_of call) a_stamp_each receives
+        ∙ beside-push_passing (is_receive_from p) actions (map stamp_of log) act (stamp_of call) (a_stamp_each actions log follows) receives
 
     pub stamps_got-push_other : is_receive_from p act ≡ false → stamps_got p (actions ++ act ∷ []) (log ++ call ∷ []) ≡ stamps_got p actions log
     stamps_got-push_other other =
         ap (beside (is_receive_from p) (actions ++ act ∷ [])) (map_push stamp_of log call)
-        ∙ beside-push_failing (is_receive_from p) actions (map stamp_of log) act (stamp_of call) a_stamp_each other
+        ∙ beside-push_failing (is_receive_from p) actions (map stamp_of log) act (stamp_of call) (a_stamp_each actions log follows) other
