@@ -1,9 +1,10 @@
 -- When a lane can be made.
-use Rattle.std.specs.Prelude.{◌≡◌, ℕ, ◌<◌, ◌≤◌, true, List, length, AllPairs}
+use Rattle.std.specs.Prelude.{◌≡◌, ℕ, ◌<◌, ◌≤◌, true, List, [], ◌∷◌, length, AllPairs}
 use Rattle.std.specs.FinSet as set
 use Rattle.wcp_lane.specs.declared.fault.LaneFault.{LaneFault}
 use Rattle.wcp_lane.specs.declared.fault.LaneFault.TheVariants.{Cap, Owners, NoMemory}
 use Rattle.wcp_clock.specs.Limits.{most_lane}
+use Rattle.wcp_model.specs.FirstReason.{IsFirstReason}
 use Rattle.wcp_lane.specs.Passes.{Numbers}
 
 abbrev pub IsCapacity : ℕ → Type 0
@@ -17,8 +18,12 @@ AreApart owners = AllPairs (λ a b. (p : ℕ) → set.contains a p ≡ true → 
 abbrev pub AreOwners : List Numbers → Type 0
 AreOwners owners = (0 < length owners) × AreApart owners
 
--- What each fault says, where those before it don't apply.
-abbrev pub IsFirstFault : ℕ → List Numbers → LaneFault → Type 0
-IsFirstFault cap owners Cap = ¬ IsCapacity cap
-IsFirstFault cap owners Owners = IsCapacity cap × ¬ AreOwners owners
-IsFirstFault cap owners NoMemory = IsCapacity cap × AreOwners owners
+-- What each fault says; memory may run out for any lane.
+abbrev pub HasLaneFault : ℕ → List Numbers → LaneFault → Type 0
+HasLaneFault cap owners Cap = ¬ IsCapacity cap
+HasLaneFault cap owners Owners = ¬ AreOwners owners
+HasLaneFault cap owners NoMemory = Unit {0}
+
+-- The first fault of a lane, in the order in which they count.
+abbrev pub IsFirstLaneFault : ℕ → List Numbers → LaneFault → Type 0
+IsFirstLaneFault cap owners = IsFirstReason (HasLaneFault cap owners) (Cap ∷ Owners ∷ NoMemory ∷ [])

@@ -6,7 +6,7 @@ ghost use Rattle.crossbeam_channel.specs.Claims.{view, IsSeatAt};
 ghost use Rattle.wcp_clock.specs.Limits.{most_processes};
 ghost use Rattle.wcp_lane.specs.Passes.{taker, putter, without};
 ghost use Rattle.wcp_lane.specs.Ends.{new_putter, unowned_by, lane_of};
-ghost use Rattle.wcp_lane.specs.Owners.{AreApart, AreOwners, IsCapacity, IsFirstFault};
+ghost use Rattle.wcp_lane.specs.Owners.{AreApart, AreOwners, IsCapacity, IsFirstLaneFault};
 
 use crate::fault::LaneFault;
 use crate::message::Origin;
@@ -27,7 +27,7 @@ pub fn lane<M: Origin>(
     cap: u32,
     owners: &[Origins],
 ) -> Result<(Vec<Putter<M>>, Taker<M>), LaneFault>
-    ensures fault { IfErr result (λ fault. IsFirstFault cap owners.now fault) }
+    ensures fault { IfErr result (IsFirstLaneFault cap owners.now) }
     ensures fit { OnOk result (IsCapacity cap × AreOwners owners.now) }
     ensures putters { IfOk result (λ ends. ends.0.items ≡ map (new_putter ends.1.lane) owners.now) }
     ensures members { IfOk result (λ ends.

@@ -5,7 +5,7 @@ use Rattle.wcp_clock.specs.Limits.{most_cap, most_lane}
 use Rattle.wcp_lane.specs.declared.fault.LaneFault.{LaneFault}
 use Rattle.wcp_lane.specs.declared.fault.LaneFault.TheVariants.{Cap, Owners}
 use Rattle.wcp_lane.specs.Ends.{new_putter}
-use Rattle.wcp_lane.specs.Owners.{AreOwners, IsFirstFault}
+use Rattle.wcp_lane.specs.Owners.{AreOwners, IsFirstLaneFault}
 use Rattle.wcp_lane.specs.Passes.{Numbers}
 use Rattle.wcp_tree.proofs.CheckedPlan.{some_relays, capacity}
 use Rattle.wcp_tree.proofs.Shares.{seats_of_shares, shares_apart, shares_together}
@@ -30,21 +30,21 @@ returns-in-Ok-clause-members c =
 
 pub unreachable-requires : goal.unreachable-requires
 unreachable-requires c =
-    let none : IsFirstFault c.args.plan.now.cap c.deref.result.now Cap =
-    subst (λ (f : LaneFault). IsFirstFault c.args.plan.now.cap c.deref.result.now f) c.in-Err-Cap.field-0-is
+    let none : IsFirstLaneFault c.args.plan.now.cap c.deref.result.now Cap =
+    subst (λ (f : LaneFault). IsFirstLaneFault c.args.plan.now.cap c.deref.result.now f) c.in-Err-Cap.field-0-is
     c.in-Err-Cap.ensures.fault in
     let most : most_cap ≤ most_lane = lit≤ tt in
     let fits = capacity c.args.plan.now c.requires.checked in
-    none (fits.0, omega (arith, fits.1, most))
+    none.holds (fits.0, omega (arith, fits.1, most))
 
 pub unreachable-requires-in-Err-Owners : goal.unreachable-requires-in-Err-Owners
 unreachable-requires-in-Err-Owners c =
-    let none : IsFirstFault c.args.plan.now.cap c.deref.result.now Owners =
-    subst (λ (f : LaneFault). IsFirstFault c.args.plan.now.cap c.deref.result.now f) c.in-Err-Owners.field-0-is
+    let none : IsFirstLaneFault c.args.plan.now.cap c.deref.result.now Owners =
+    subst (λ (f : LaneFault). IsFirstLaneFault c.args.plan.now.cap c.deref.result.now f) c.in-Err-Owners.field-0-is
     c.in-Err-Owners.ensures.fault in
     let some = some_relays c.args.plan.now c.requires.checked in
     let apart =
     shares_apart c.args.plan.now c.args.owner c.requires.checked c.in_ok-shares.shares.items
     c.in_ok-shares.ensures.all c.in_ok-shares.ensures.shares in
     let are : AreOwners c.in_ok-shares.shares.items = (omega (arith, some, c.in_ok-shares.ensures.all), apart) in
-    none.1 (subst (λ (sets : List Numbers). AreOwners sets) (sym c.deref.ensures.value) are)
+    none.holds (subst (λ (sets : List Numbers). AreOwners sets) (sym c.deref.ensures.value) are)
