@@ -23,7 +23,7 @@ use Rattle.wcp_hold.specs.Held.{Held}
 use Rattle.wcp_world.specs.Answer.{IsAnswer}
 use Rattle.wcp_world.specs.PutNotes.{put_more}
 use Rattle.wcp_world.specs.Shifts.{IsShift, Shifts}
-use Rattle.wcp_world.specs.Transport.{TransportState, IsPlaceOf, place_number, held_at, IsTransportOf, IsNext, IsConveying, AreNeighbours, notes_along}
+use Rattle.wcp_world.specs.Transport.{TransportState, IsPlaceOf, place_number, held_at, IsTransportOf, IsNextAtRoot, IsConveying, AreNeighbours, notes_along}
 use Rattle.wcp_world.proofs.Places.{same_place, number_apart, number_within, next_is_place, itself}
 use Rattle.wcp_world.proofs.Entries.{item_if, IsStirred, gains, loses, stays, entry_grows, entry_emitted}
 use Rattle.wcp_world.proofs.Ways.{next_apart}
@@ -271,7 +271,7 @@ module _ (plan : Plan) (steps : List Step) (put : ℕ → List Note) (taken : Li
       (λ p. sym (append-nil (put p))) (ap length places_are ∙ length-set t.places _ _)
 
   -- what is read of the root inbox
-  pub next_reads : (next : Option Item) → next ≡ slice_get (here (InboxOf Root)).items 0 → MatchOption next (notes_in plan put steps (InboxOf Root) ≡ 0) (IsNext plan steps put taken)
+  pub next_reads : (next : Option Item) → next ≡ slice_get (here (InboxOf Root)).items 0 → MatchOption next (notes_in plan put steps (InboxOf Root) ≡ 0) (IsNextAtRoot plan steps put taken)
   next_reads None is = notes_are put (InboxOf Root) tt ∙ ap length (without_first (here (InboxOf Root)).items (sym is))
   next_reads (Some item) is =
       let first = with_first (here (InboxOf Root)).items item (sym is) in

@@ -17,7 +17,7 @@ use Rattle.wcp_model.specs.Emission.{AreEmissions}
 use Rattle.wcp_model.specs.Occupancy.{Place, Pending, Link, InboxOf, source, is_place, takes_from, puts_into, taken_from, next_place, notes_in, IsEntry}
 use Rattle.wcp_model.specs.Replies.{is_event, computation, accepted_by, taken_by, event_reasons, reasons, IsAcceptance, IsReply}
 use Rattle.wcp_world.specs.Processes.{ProcessesState, AreProcessesOf, Performs, WasPut, pending_at}
-use Rattle.wcp_world.specs.Transport.{TransportState, IsTransportOf, IsNext, Conveys, Puts, TakesNext, next_of, notes_along, notes_at}
+use Rattle.wcp_world.specs.Transport.{TransportState, IsTransportOf, IsNextAtRoot, Conveys, Puts, TakesNext, next_of, notes_along, notes_at}
 use Rattle.wcp_world.specs.PutNotes.{put_more}
 use Rattle.wcp_world.specs.World.{WorldState, Stands}
 use Rattle.wcp_queue.specs.Checker.{CheckerState, MayTake, TakesItem, processes}
@@ -179,7 +179,7 @@ module _ (plan : Plan) (steps : List Step) (taken : List Item) (w : WorldState) 
       )
 
   -- the checker may take the next item of the root inbox
-  next_emissions : (item : Item) (next : IsNext plan steps stands.put taken item) →
+  next_emissions : (item : Item) (next : IsNextAtRoot plan steps stands.put taken item) →
       emissions item.from ≡ notes_taken item.from taken ++ item.note ∷ (next.rest ++ option_to_list (pending_at w.processes item.from))
   next_emissions item next =
       let pending = option_to_list (pending_at w.processes item.from) in
@@ -187,14 +187,14 @@ module _ (plan : Plan) (steps : List Step) (taken : List Item) (w : WorldState) 
       ap (λ l. l ++ pending) (sym next.front ∙ ap (λ l. l ++ next.rest) (notes_append item.from taken (item ∷ []) ∙ ap (λ l. notes_taken item.from taken ++ l) one))
       ∙ ap (λ l. l ++ pending) (append_assoc (notes_taken item.from taken) (item.note ∷ []) next.rest) ∙ append_assoc (notes_taken item.from taken) (item.note ∷ next.rest) pending
 
-  pub may_take : (item : Item) → IsNext plan steps stands.put taken item → MayTake w.checker item
+  pub may_take : (item : Item) → IsNextAtRoot plan steps stands.put taken item → MayTake w.checker item
   may_take item next =
       let within : item.from < processes w.checker = omega (arith, next.process, stands.processes_are) in
       let turn = next_of_emissions plan.n (computation steps) item.from (notes_taken item.from taken) (next.rest ++ option_to_list (pending_at w.processes item.from)) item.note
       (subst (AreEmissions plan.n (computation steps) item.from) (next_emissions item next) (are_emissions item.from next.process)) in
       record { from = within; place = turn.place ∙ sym (stands.checker.taken item.from within); still_open = stands.checker.closed item.from within ∙ turn.still_open }
 
-  pub check_answered : (item : Item) (transport : TransportState) (checker : CheckerState) → IsNext plan steps stands.put taken item → next_of w.transport ≡ Some item →
+  pub check_answered : (item : Item) (transport : TransportState) (checker : CheckerState) → IsNextAtRoot plan steps stands.put taken item → next_of w.transport ≡ Some item →
       TakesNext w.transport transport → TakesItem w.checker checker item → processes checker ≡ processes w.checker →
       IsReply plan steps step.Check (Took item) × Stands plan (steps ++ step.Check ∷ []) (taken ++ item ∷ []) (record w { transport = transport; checker = checker })
   check_answered item transport checker next is_next takes_next takes_item same_processes =

@@ -112,7 +112,7 @@ abbrev pub next_of : TransportState → Option Item
 next_of t = slice_get (held_at t.places (place_number t.plan (InboxOf Root))).items 0
 
 -- An item is the next of the root inbox: of the items that entered it, and of the notes that its process put.
-pub record IsNext (plan : Plan) (steps : List Step) (put : ℕ → List Note) (taken : List Item) (item : Item)
+pub record IsNextAtRoot (plan : Plan) (steps : List Step) (put : ℕ → List Note) (taken : List Item) (item : Item)
     : Type 0 where
   pub some : 0 < notes_in plan put steps (InboxOf Root)
   pub entry : IsEntry plan put steps (InboxOf Root) (taken_from steps (InboxOf Root)) item
@@ -123,7 +123,7 @@ pub record IsNext (plan : Plan) (steps : List Step) (put : ℕ → List Note) (t
 abbrev pub ReadsNext : TransportState → Option Item → Type 0
 ReadsNext t next = (plan : Plan) (steps : List Step) (put : ℕ → List Note) (taken : List Item) →
     IsTransportOf plan steps put taken t →
-    MatchOption next (notes_in plan put steps (InboxOf Root) ≡ 0) (IsNext plan steps put taken)
+    MatchOption next (notes_in plan put steps (InboxOf Root) ≡ 0) (IsNextAtRoot plan steps put taken)
 
 -- The checker took the item whose turn it was.
 abbrev pub TakesNext : TransportState → TransportState → Type 0
