@@ -36,9 +36,8 @@ pub record StandsForLog (core : Core) (log : List Call) : Type 0 where
 abbrev pub Accepts : Core → Call → Core → Type 0
 Accepts old call new = (log : List Call) → StandsForLog old log → StandsForLog new (log ++ call ∷ [])
 
--- The probe is still that of the same watch, process, number of processes and limit.
+-- The probe is still that of the same watch and limit, and of what it was made with.
 pub record IsSameProbe (old new : Core) : Type 0 where
   pub watch : new.watch ≡ old.watch
-  pub id : new.id ≡ old.id
   pub limit : new.limit ≡ old.limit
-  pub components : length new.clock ≡ length old.clock
+  pub made : setup_of new ≡ setup_of old

@@ -16,7 +16,7 @@ use Rattle.wcp_model.specs.declared.step.Reply.TheVariants.{Done, Refused}
 use Rattle.wcp_model.specs.declared.step.Why.{Why}
 use Rattle.wcp_model.specs.Computation.{Computation, is_communication_of, is_send, communications, interval_at}
 use Rattle.wcp_model.specs.Emission.{is_closed}
-use Rattle.wcp_model.specs.ProbeLog.{Call, Observed, Sent, Received, Closed, ProbeState, after_call, is_step_of, IsStampOf, IsCallOf, IsLogOf, IsAccepted}
+use Rattle.wcp_model.specs.ProbeLog.{Call, Observed, Sent, Received, Closed, ProbeSetup, ProbeState, after_call, is_step_of, IsStampOf, IsCallOf, IsLogOf, IsAccepted}
 use Rattle.wcp_model.specs.Replies.{accepted_by, event_reasons}
 use Rattle.wcp_model.specs.StateClock.{IsStateClock}
 use Rattle.wcp_model.proofs.Growth.{get_behind}
@@ -72,6 +72,12 @@ module _ (n : ℕ) (c : Computation) (put : ℕ → List Note) (app : ProcessesS
   within : nat_lt p n ≡ true
   within = let lt : p < n = in_range in grind (arith, nat_tests)
 
+  id_is : core.id ≡ p
+  id_is = ap (λ (made : ProbeSetup). made.process) is.made
+
+  length_is : length core.clock ≡ n
+  length_is = ap (λ (made : ProbeSetup). made.processes) is.made
+
   -- a probe is closed where its process is, and its clock counts the process's events
   closed_is : is_closed c p ≡ core.closed
   closed_is = is_closed_as n c p (put p) core is stands.order in_range
@@ -80,7 +86,7 @@ module _ (n : ℕ) (c : Computation) (put : ℕ → List Note) (app : ProcessesS
   events_are = ap (λ v. slice_index v p) (clock_is n c p (put p) core is) ∙ (law_of_probe n c p (put p) core is stands.order in_range).clock.own
 
   clock_end_is : nat_le most_events (communications c p) ≡ at_clock_end core
-  clock_end_is = rw (is.limit, is.id, events_are) refl
+  clock_end_is = rw (is.limit, id_is, events_are) refl
 
   -- the reasons to refuse an event are those of the probe
   abbrev reasons : Step → List (Bool × Why)
@@ -94,7 +100,7 @@ module _ (n : ℕ) (c : Computation) (put : ℕ → List Note) (app : ProcessesS
 
   pub send_reasons : (to : ℕ) → first_reason (reasons (Send p to)) ≡ option_map why_of (stamp_refusal core to)
   send_reasons to =
-      rw (within, closed_is, at, clock_end_is, partner_is p to n, ← is.components, ← is.id)
+      rw (within, closed_is, at, clock_end_is, partner_is p to n, ← length_is, ← id_is)
       (first_maps ((nat_le (length core.clock) to || eqb to core.id, refusal.NoSuch) ∷ (core.closed, refusal.Closed)
       ∷ (is_some core.pending, refusal.Backlog) ∷ (at_clock_end core, refusal.ClockEnd) ∷ []))
 
@@ -107,11 +113,11 @@ module _ (n : ℕ) (c : Computation) (put : ℕ → List Note) (app : ProcessesS
       let mail = MatchOption-at_some _ _ message was (stands.letters.each number letter there) in
       let seal = seal_of message in
       let same_watch = eq-eqb seal.watch core.watch (mail.1 ∙ sym is.watch) in
-      let same_length = eq-eqb (length seal.clock) (length core.clock) (mail.3.clock.components ∙ sym is.components) in
-      let same_process = eq-eqb seal.to core.id (mail.2 ∙ mine ∙ sym is.id) in
+      let same_length = eq-eqb (length seal.clock) (length core.clock) (mail.3.clock.components ∙ sym length_is) in
+      let same_process = eq-eqb seal.to core.id (mail.2 ∙ mine ∙ sym id_is) in
       let own : slice_index seal.clock p ≤ slice_index core.clock p = omega (arith, not_ahead n c number p seal.clock in_range mail.3, events_are) in
       let behind : nat_lt (slice_index core.clock p) (slice_index seal.clock p) ≡ false = grind (arith, nat_tests) in
-      let ahead : nat_lt (slice_index core.clock core.id) (slice_index seal.clock core.id) ≡ false = rw is.id behind in
+      let ahead : nat_lt (slice_index core.clock core.id) (slice_index seal.clock core.id) ≡ false = rw id_is behind in
       rw (within, addressed_is n c app.letters stands.letters number p, there, eq-eqb letter.to p mine, was, mail.0, closed_is, at, clock_end_is, same_watch, same_length, same_process, ahead)
       (only_clock_end core.closed (is_some core.pending) (at_clock_end core))
 
@@ -149,9 +155,8 @@ module _ (n : ℕ) (c : Computation) (put : ℕ → List Note) (app : ProcessesS
         is_log = log_grows n c (s ∷ []) p is.log (call ∷ []) is.is_log (rw (owner p, eq-eqb p p refl) (is_call, tt));
         stands = accepted is.log is.stands;
         watch = same.watch ∙ is.watch;
-        id = same.id ∙ is.id;
         limit = same.limit ∙ is.limit;
-        components = same.components ∙ is.components;
+        made = same.made ∙ is.made;
         notes = ap (λ (t : ProbeState). t.notes) (state_after n p is.log call) ∙ notes;
       }
 
@@ -162,9 +167,8 @@ module _ (n : ℕ) (c : Computation) (put : ℕ → List Note) (app : ProcessesS
         is_log = subst (IsLogOf n grown q) (append-nil was.log) (log_grows n c (s ∷ []) q was.log [] was.is_log (rw (owner q, ne_eqb p q (λ e. apart (sym e))) tt));
         stands = was.stands;
         watch = was.watch;
-        id = was.id;
         limit = was.limit;
-        components = was.components;
+        made = was.made;
         notes = was.notes;
       }
 

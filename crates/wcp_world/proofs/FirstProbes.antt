@@ -1,6 +1,7 @@
 use Rattle.std.proofs.Common.{◌≡◌, ℕ, false, None, List, [], length, replicate, slice_get, Some, refl, sym, ap, subst}
 use Rattle.std.proofs.lemmas.List.{length-replicate}
 use Rattle.wcp_clock.specs.Limits.{most_events}
+use Rattle.wcp_model.specs.ProbeLog.{setup}
 use Rattle.wcp_probe.specs.Core.{Core}
 use Rattle.wcp_world.specs.Processes.{AreProcessesOf, IsProbeOf}
 
@@ -19,9 +20,8 @@ first_probe n p = record {
   is_log = tt;
   stands = record { clock = ap (λ m. replicate m 0) (sym (length-replicate n 0)); flag = refl; closed = refl; emitted = refl; pending = tt };
   watch = refl;
-  id = refl;
   limit = refl;
-  components = length-replicate n 0;
+  made = ap (λ m. setup m p) (length-replicate n 0);
   notes = refl;
 }
 

@@ -1,4 +1,4 @@
-use Rattle.std.proofs.Common.{◌≡◌, ℕ, ◌+◌, ◌<◌, ◌↔◌, Bool, true, false, IsTrue, List, ◌++◌, length, None, Some, if◌then◌else◌, refl, sym, ap, ap₂, ◌∙◌, ⊎_elim, append-nil, true≢false}
+use Rattle.std.proofs.Common.{◌≡◌, ℕ, ◌+◌, ◌<◌, ◌↔◌, Bool, true, false, IsTrue, List, ◌++◌, length, None, Some, if◌then◌else◌, refl, sym, ap, ◌∙◌, ⊎_elim, append-nil, true≢false}
 use Rattle.std.specs.Option.{option_to_list}
 use Rattle.std.proofs.lemmas.Bool.{cases_Bool}
 use Rattle.wcp_clock.specs.declared.note.Note.{Note}
@@ -16,7 +16,7 @@ module _ (n : ℕ) (c : Computation) (p : ℕ) (put : List Note) (core : Core) (
   state = state_of_log (setup n p) is.log
 
   same_state : state_of_log (setup_of core) is.log ≡ state
-  same_state = ap₂ (λ m q. state_of_log (setup m q) is.log) is.components is.id
+  same_state = ap (λ made. state_of_log made is.log) is.made
 
   pub clock_is : core.clock ≡ state.clock
   clock_is = is.stands.clock ∙ ap (λ (s : ProbeState). s.clock) same_state
@@ -45,14 +45,14 @@ module _ (n : ℕ) (c : Computation) (p : ℕ) (put : List Note) (core : Core) (
   observed new holds true emits spared new_is =
       let told = emits.0 refl in
       rw (new_is, told.0, sym flag_is ∙ told.1, all_put (spared refl), emitted_is, clock_is)
-      (record { watch = refl; id = refl; limit = refl; components = refl }, refl)
-  observed new false false emits spared new_is = rw new_is (record { watch = refl; id = refl; limit = refl; components = refl }, is.notes)
+      (record { watch = refl; limit = refl; made = refl }, refl)
+  observed new false false emits spared new_is = rw new_is (record { watch = refl; limit = refl; made = refl }, is.notes)
   observed new true false emits spared new_is = ⊎_elim
-      (λ (set : core.flag ≡ true). rw (new_is, sym flag_is ∙ set) (record { watch = refl; id = refl; limit = refl; components = refl }, is.notes))
+      (λ (set : core.flag ≡ true). rw (new_is, sym flag_is ∙ set) (record { watch = refl; limit = refl; made = refl }, is.notes))
       (λ (clear : core.flag ≡ false). absurd (true≢false (sym (emits.1 (refl, clear)))))
       (cases_Bool core.flag)
 
   -- and a close
   pub closed : (new : Core) → core.pending ≡ None → new ≡ record core { closed = true; pending = Some (note.Close core.emitted) } →
       IsSameProbe core new × ((after_call p state Closed).notes ≡ put ++ option_to_list new.pending)
-  closed new nothing new_is = rw (new_is, all_put nothing, emitted_is) (record { watch = refl; id = refl; limit = refl; components = refl }, refl)
+  closed new nothing new_is = rw (new_is, all_put nothing, emitted_is) (record { watch = refl; limit = refl; made = refl }, refl)

@@ -44,9 +44,8 @@ module _ (app : ProcessesState) (p : ℕ) (core : Core) (at : slice_get app.prob
         is_log = is.is_log;
         stands = record { clock = is.stands.clock; flag = is.stands.flag; closed = is.stands.closed; emitted = is.stands.emitted; pending = tt };
         watch = is.watch;
-        id = is.id;
         limit = is.limit;
-        components = is.components;
+        made = is.made;
         notes = rw (eq-eqb p p refl, append-nil (put p ++ note ∷ [])) (is.notes ∙ ap (λ o. put p ++ option_to_list o) was);
       }
 

@@ -10,7 +10,7 @@ use Rattle.wcp_model.specs.Emission.{AreEmissions}
 use Rattle.wcp_model.specs.ProbeLog.{Call, setup, state_of_log, IsLogOf, IsStampOf, IsAccepted}
 use Rattle.wcp_model.specs.Replies.{accepted_by, event_reasons, receivers, was_received}
 use Rattle.wcp_model.specs.Report.{snapshot_clocks}
-use Rattle.wcp_probe.specs.Core.{Core, StandsForLog}
+use Rattle.wcp_probe.specs.Core.{Core, StandsForLog, setup_of}
 use Rattle.wcp_probe.specs.Seal.{seal_of}
 use Rattle.wcp_probe.specs.declared.stamp.Stamped.{Stamped}
 use Rattle.wcp_world.specs.declared.messages.Letter.{Letter}
@@ -32,9 +32,8 @@ pub record IsProbeOf (n : ℕ) (c : Computation) (p : ℕ) (put : List Note) (co
   pub is_log : IsLogOf n c p log
   pub stands : StandsForLog core log
   pub watch : core.watch ≡ 0
-  pub id : core.id ≡ p
   pub limit : core.limit ≡ most_events
-  pub components : length core.clock ≡ n
+  pub made : setup_of core ≡ setup n p
   pub notes : (state_of_log (setup n p) log).notes ≡ put ++ option_to_list core.pending
 
 -- A message that was sent: it is still there, with the clock of its sender behind the send, or it was received.
