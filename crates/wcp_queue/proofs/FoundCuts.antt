@@ -1,4 +1,4 @@
-use Rattle.std.proofs.Common.{◌≡◌, ℕ, ◌<◌, ◌≤◌, List, [], length, get_or, slice_index, sym, ◌∙◌, ap, arith}
+use Rattle.std.proofs.Common.{◌≡◌, ℕ, ◌<◌, ◌≤◌, Bool, true, false, refl, List, [], length, get_or, slice_index, sym, ◌∙◌, ap, arith}
 use Rattle.std.proofs.lemmas.List.{append-nil, length-drop, get_or_default}
 use Rattle.std.proofs.lemmas.List.Elements.{Contains-get_or}
 use Rattle.wcp_clock.specs.declared.note.Item.{Item}
@@ -7,26 +7,23 @@ use Rattle.wcp_model.specs.Report.{clocks_taken, IsCutByClocks, ClocksRise}
 use Rattle.wcp_model.specs.Elimination.{GrowTo, IsSatisfyingChoice, AreInOrder}
 use Rattle.wcp_model.proofs.Elimination.{GrowTo-same, get_or-grown, IsSatisfyingChoice-grown, IsEliminatedBelow-grown}
 use Rattle.wcp_model.proofs.Choosing.{choice_from_each}
-use Rattle.wcp_queue.specs.Queue.{Candidates}
-use Rattle.wcp_queue.specs.Elimination.{queue_of, HasOldHead, AreCompared, HaveHeads, IsCutOfHeads, AreLeft, IsFoundAmong, GainCandidate}
-use Rattle.wcp_queue.proofs.LeftQueues.{GrowTo-gain, head_within, head_at}
+use Rattle.wcp_queue.specs.declared.floor.Floor.{Floor}
+use Rattle.wcp_queue.specs.Floor.{has_head, HaveHeads, IsCutOfHeads}
+use Rattle.wcp_queue.specs.Elimination.{AreSettled, AreLeft, IsFoundAmong, GainCandidate}
+use Rattle.wcp_queue.proofs.LeftQueues.{GrowTo-gain}
 
--- where each queue has a head, and all were compared, their cut is found
-pub IsFoundAmong-heads : (n : ℕ) (rows : ℕ → List (List ℕ)) (queues : List Candidates) (cut : List ℕ) → length queues ≡ n → AreLeft n rows queues → AreCompared queues → IsCutOfHeads queues cut → IsFoundAmong n rows cut
-IsFoundAmong-heads n rows queues cut members left compared is = record {
-  members = is.members ∙ members;
+-- where each process has a head, their cut is found
+pub IsFoundAmong-heads : (n : ℕ) (rows : ℕ → List (List ℕ)) (queues : List (List (List ℕ))) (floor : Floor) (cut : List ℕ) → AreLeft n rows queues floor → IsCutOfHeads n floor cut → IsFoundAmong n rows cut
+IsFoundAmong-heads n rows queues floor cut left is = record {
+  members = is.members;
   choice = left.heads;
   satisfying = record {
-    within = λ p p_within. head_within n rows queues left p p_within (is.heads p (omega arith));
-    concurrent = λ p q p_within q_within apart order. compared.concurrent.concurrent p q (omega arith) (omega arith) apart (old p p_within) (old q q_within)
-        (rw (← head_at n rows queues left p p_within, ← head_at n rows queues left q q_within) order);
+    within = λ p p_within. (left.head p p_within (is.heads p p_within)).within;
+    concurrent = λ p q p_within q_within apart order. omega (arith, order, left.under p q p_within q_within apart (is.heads q q_within), (left.head p p_within (is.heads p p_within)).own);
   };
   eliminated = left.eliminated;
-  own = λ p p_within. is.own p (omega arith) ∙ ap (λ (clock : List ℕ). slice_index clock p) (sym (head_at n rows queues left p p_within));
+  own = λ p p_within. is.own p p_within ∙ (left.head p p_within (is.heads p p_within)).own;
 }
-  where
-    old : (p : ℕ) → p < n → HasOldHead (queue_of queues p)
-    old p p_within = record { some = is.heads p (omega arith); old = compared.old p (omega arith) }
 
 -- a cut that was found stays so as more is taken
 pub IsFoundAmong-grown : (n : ℕ) (rows longer : ℕ → List (List ℕ)) (cut : List ℕ) → GrowTo n rows longer → IsFoundAmong n rows cut → IsFoundAmong n longer cut
@@ -87,11 +84,15 @@ module _ (n : ℕ) (items : List Item) where
           let here = (places p p_within).1 in
           omega (arith, found.own p p_within, (order p p_within).never_fall (found.choice p) (choice p) p up (places p p_within).0, ap (λ (clock : List ℕ). slice_index clock p) here, is.own p p_within)
 
-  -- while a queue has no head there is none
-  pub no_cut_without_heads : (queues : List Candidates) (cut : List ℕ) → length queues ≡ n → ClocksRise n items → AreLeft n (λ p. clocks_taken p items) queues → (HaveHeads queues → ⊥) → IsCutByClocks n items cut → ⊥
-  no_cut_without_heads queues cut members order left waiting is =
+  -- while a process has no head and nothing of it waits there is none
+  pub no_cut_without_heads : (queues : List (List (List ℕ))) (floor : Floor) (cut : List ℕ) → length queues ≡ n → ClocksRise n items → AreLeft n (λ p. clocks_taken p items) queues floor → AreSettled queues floor → (HaveHeads n floor → ⊥) → IsCutByClocks n items cut → ⊥
+  no_cut_without_heads queues floor cut members order left settled waiting is =
       let (choice, places) = choice_of_cut cut is in
       let satisfying = is_satisfying cut is choice places in
-      waiting (λ p p_within.
-      let at_or_above : left.heads p ≤ choice p = left.eliminated.at_or_above (λ q. clocks_taken q items) (GrowTo-same n (λ q. clocks_taken q items)) (rows_in_order order) choice satisfying p (omega arith) in
-      omega (arith, (places p (omega arith)).0, ap length (left.rest p (omega arith)), length-drop (left.heads p) (clocks_taken p items)))
+      waiting (λ p p_within. not_false (has_head floor p) (λ none.
+      let at_or_above : left.heads p ≤ choice p = left.eliminated.at_or_above (λ q. clocks_taken q items) (GrowTo-same n (λ q. clocks_taken q items)) (rows_in_order order) choice satisfying p p_within in
+      omega (arith, (places p p_within).0, settled p (omega arith) none, ap length (left.none p p_within none).all, length-drop (left.heads p) (clocks_taken p items))))
+    where
+      not_false : (b : Bool) → (b ≡ false → ⊥) → b ≡ true
+      not_false true never = refl
+      not_false false never = absurd (never refl)

@@ -1,9 +1,9 @@
-pub mod ConcurrentHeads
-pub mod ComparedHead
 pub mod FoundCuts
 pub mod LeftQueues
+pub mod NextCandidate
+pub mod NotesTaken
+pub mod RaisedFloor
 pub mod Reporting
 pub mod SoundCheckers
 pub mod StandingForItems
-pub mod NotesTaken
-pub mod UncomparedCandidates
+pub mod TestsOfCandidates

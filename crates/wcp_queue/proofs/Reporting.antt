@@ -33,7 +33,7 @@ module _ (checker : CheckerState) (sound : IsSoundChecker checker) (items : List
       get_or-take (processes checker) checker.closed p false (omega arith) ∙ stands.closed p (omega arith) ∙ (let (count, before, is) = drained p (omega arith) in close_mark_taken (notes_taken p items) before count is))))
 
   found : (cut : List ℕ) → checker.found ≡ Some cut → IsFoundAmong (processes checker) (λ p. clocks_taken p items) cut
-  found cut is = subst (λ f. MatchOption f (AreLeft (processes checker) (λ p. clocks_taken p items) checker.queues) (IsFoundAmong (processes checker) (λ p. clocks_taken p items))) is stands.candidates
+  found cut is = subst (λ f. MatchOption f (AreLeft (processes checker) (λ p. clocks_taken p items) checker.queues checker.floor) (IsFoundAmong (processes checker) (λ p. clocks_taken p items))) is stands.candidates
 
   -- a cut that was found
   pub IsCutByClocks-report : (cut : List ℕ) → checker.found ≡ Some cut → IsCutByClocks (processes checker) items cut
@@ -45,6 +45,6 @@ module _ (checker : CheckerState) (sound : IsSoundChecker checker) (items : List
   -- where none was found, there is none
   pub no_cut-report : checker.found ≡ None → ClocksRise (processes checker) items → (cut : List ℕ) → IsCutByClocks (processes checker) items cut → ⊥
   no_cut-report none order cut is =
-      let left : AreLeft (processes checker) (λ p. clocks_taken p items) checker.queues =
-      subst (λ f. MatchOption f (AreLeft (processes checker) (λ p. clocks_taken p items) checker.queues) (IsFoundAmong (processes checker) (λ p. clocks_taken p items))) none stands.candidates in
-      no_cut_without_heads (processes checker) items checker.queues cut refl order left (sound.waiting none) is
+      let left : AreLeft (processes checker) (λ p. clocks_taken p items) checker.queues checker.floor =
+      subst (λ f. MatchOption f (AreLeft (processes checker) (λ p. clocks_taken p items) checker.queues checker.floor) (IsFoundAmong (processes checker) (λ p. clocks_taken p items))) none stands.candidates in
+      no_cut_without_heads (processes checker) items checker.queues checker.floor cut refl order left sound.settled (sound.waiting none) is

@@ -8,8 +8,8 @@ use Rattle.wcp_clock.specs.declared.note.Note.TheVariants.{Snap, Close}
 use Rattle.wcp_clock.specs.Notes.{is_close}
 use Rattle.wcp_model.specs.Report.{notes_taken, clocks_taken, AreInTurn}
 use Rattle.wcp_model.proofs.NotesInTurn.{AreInTurn-none}
-use Rattle.wcp_queue.specs.Queue.{no_candidates}
-use Rattle.wcp_queue.specs.Elimination.{AreCompared, HaveHeads, IsCutOfHeads, AreLeft, IsFoundAmong, GainCandidate}
+use Rattle.wcp_queue.specs.Floor.{first_floor, HaveHeads, IsCutOfHeads}
+use Rattle.wcp_queue.specs.Elimination.{AreLeft, AddsCandidate, IsFoundAmong, GainCandidate}
 use Rattle.wcp_queue.specs.Checker.{CheckerState, processes, taken_of, closed_of, is_snapshot, MayTake, StandsForItems}
 use Rattle.wcp_queue.proofs.FoundCuts.{IsFoundAmong-heads, IsFoundAmong-gain, IsFoundAmong-same}
 use Rattle.wcp_queue.proofs.LeftQueues.{AreLeft-start, AreLeft-rows}
@@ -56,10 +56,9 @@ module _ (old new : CheckerState) (items : List Item) (p : ℕ) (clock : List �
       in_turn-push items item q (next_where_MayTake old items item stands (record { from = p_within; place = refl; still_open = still_open })) (stands.in_turn q (omega arith))
 
   -- a checker without a cut adds it to its candidates
-  pub StandsForItems-snapshot : is_some old.found ≡ false → AreCompared new.queues →
-      ((rows more : ℕ → List (List ℕ)) → GainCandidate (length old.queues) p clock rows more → AreLeft (length old.queues) rows old.queues → AreLeft (length old.queues) more new.queues) →
-      MatchOption new.found (HaveHeads new.queues → ⊥) (IsCutOfHeads new.queues) → StandsForItems new longer
-  StandsForItems-snapshot none compared left cut = record {
+  pub StandsForItems-snapshot : is_some old.found ≡ false → AddsCandidate p clock old.queues old.floor new.queues new.floor →
+      MatchOption new.found (HaveHeads (length old.queues) new.floor → ⊥) (IsCutOfHeads (length old.queues) new.floor) → StandsForItems new longer
+  StandsForItems-snapshot none left cut = record {
     taken = taken-snapshot;
     snapshots = snapshots-snapshot;
     closed = closed-snapshot;
@@ -67,15 +66,15 @@ module _ (old new : CheckerState) (items : List Item) (p : ℕ) (clock : List �
     candidates = candidates new.found cut;
   }
     where
-      now_left : AreLeft (processes new) (λ q. clocks_taken q longer) new.queues
-      now_left = subst (λ n. AreLeft n (λ q. clocks_taken q longer) new.queues) (sym members)
+      now_left : AreLeft (processes new) (λ q. clocks_taken q longer) new.queues new.floor
+      now_left = subst (λ n. AreLeft n (λ q. clocks_taken q longer) new.queues new.floor) (sym members)
           (left (λ q. clocks_taken q items) (λ q. clocks_taken q longer) gain
-          (subst (λ found. MatchOption found (AreLeft (processes old) (λ q. clocks_taken q items) old.queues) (IsFoundAmong (processes old) (λ q. clocks_taken q items))) (none_found old.found none) stands.candidates))
+          (subst (λ found. MatchOption found (AreLeft (processes old) (λ q. clocks_taken q items) old.queues old.floor) (IsFoundAmong (processes old) (λ q. clocks_taken q items))) (none_found old.found none) stands.candidates))
 
-      candidates : (found : Option (List ℕ)) → MatchOption found (HaveHeads new.queues → ⊥) (IsCutOfHeads new.queues) →
-          MatchOption found (AreLeft (processes new) (λ q. clocks_taken q longer) new.queues) (IsFoundAmong (processes new) (λ q. clocks_taken q longer))
+      candidates : (found : Option (List ℕ)) → MatchOption found (HaveHeads (length old.queues) new.floor → ⊥) (IsCutOfHeads (length old.queues) new.floor) →
+          MatchOption found (AreLeft (processes new) (λ q. clocks_taken q longer) new.queues new.floor) (IsFoundAmong (processes new) (λ q. clocks_taken q longer))
       candidates None waiting = now_left
-      candidates (Some cut) is = IsFoundAmong-heads (processes new) (λ q. clocks_taken q longer) new.queues cut refl now_left compared is
+      candidates (Some cut) is = IsFoundAmong-heads (processes new) (λ q. clocks_taken q longer) new.queues new.floor cut now_left (subst (λ n. IsCutOfHeads n new.floor cut) (sym members) is)
 
   -- a checker with a cut keeps it
   pub StandsForItems-found : is_some old.found ≡ true → new.found ≡ old.found → StandsForItems new longer
@@ -84,12 +83,12 @@ module _ (old new : CheckerState) (items : List Item) (p : ℕ) (clock : List �
     snapshots = snapshots-snapshot;
     closed = closed-snapshot;
     in_turn = in_turn-snapshot;
-    candidates = subst (λ found. MatchOption found (AreLeft (processes new) (λ q. clocks_taken q longer) new.queues) (IsFoundAmong (processes new) (λ q. clocks_taken q longer))) (sym still)
+    candidates = subst (λ found. MatchOption found (AreLeft (processes new) (λ q. clocks_taken q longer) new.queues new.floor) (IsFoundAmong (processes new) (λ q. clocks_taken q longer))) (sym still)
         (candidates old.found some stands.candidates);
   }
     where
-      candidates : (found : Option (List ℕ)) → is_some found ≡ true → MatchOption found (AreLeft (processes old) (λ q. clocks_taken q items) old.queues) (IsFoundAmong (processes old) (λ q. clocks_taken q items)) →
-          MatchOption found (AreLeft (processes new) (λ q. clocks_taken q longer) new.queues) (IsFoundAmong (processes new) (λ q. clocks_taken q longer))
+      candidates : (found : Option (List ℕ)) → is_some found ≡ true → MatchOption found (AreLeft (processes old) (λ q. clocks_taken q items) old.queues old.floor) (IsFoundAmong (processes old) (λ q. clocks_taken q items)) →
+          MatchOption found (AreLeft (processes new) (λ q. clocks_taken q longer) new.queues new.floor) (IsFoundAmong (processes new) (λ q. clocks_taken q longer))
       candidates None some left = absurd (false≢true some)
       candidates (Some cut) some is = subst (λ n. IsFoundAmong n (λ q. clocks_taken q longer) cut) (sym members)
           (IsFoundAmong-gain (processes old) p (λ q. clocks_taken q items) (λ q. clocks_taken q longer) clock cut gain is)
@@ -98,9 +97,9 @@ module _ (old new : CheckerState) (items : List Item) (p : ℕ) (clock : List �
 abbrev closing : List Item → ℕ → ℕ → List Item
 closing items p count = items ++ record { from = p; note = Close count } ∷ []
 
-pub StandsForItems-close : (old new : CheckerState) (items : List Item) (p count : ℕ) → StandsForItems old items → MayTake old (record { from = p; note = Close count }) → p < length old.closed → new.queues ≡ old.queues → new.taken ≡ old.taken → new.found ≡ old.found → new.closed ≡ set old.closed p true →
+pub StandsForItems-close : (old new : CheckerState) (items : List Item) (p count : ℕ) → StandsForItems old items → MayTake old (record { from = p; note = Close count }) → p < length old.closed → new.queues ≡ old.queues → new.floor ≡ old.floor → new.taken ≡ old.taken → new.found ≡ old.found → new.closed ≡ set old.closed p true →
     StandsForItems new (closing items p count)
-StandsForItems-close old new items p count stands may within queues taken found closed = record {
+StandsForItems-close old new items p count stands may within queues floor taken found closed = record {
   taken = λ q q_within. ap (λ (counts : List ℕ). slice_index counts q) taken ∙ stands.taken q (omega (arith, ap length queues)) ∙ ap length (sym (clocks_taken-push_close items p count q));
   snapshots = ap sum taken ∙ omega (arith, stands.snapshots, sum_by_push (λ item. cond (is_snapshot item) 1 0) items (record { from = p; note = Close count }));
   closed = λ q q_within. ap (λ (marks : List Bool). get_or marks q false) closed ∙ ⊎_elim
@@ -108,25 +107,23 @@ StandsForItems-close old new items p count stands may within queues taken found 
       (λ (other : q ≢ p). get_or-set_other old.closed p q true false other ∙ stands.closed q (omega (arith, ap length queues)) ∙ sym (close_taken-push_other items p count q other))
       (cases_eq q p);
   in_turn = λ q q_within. in_turn-push items (record { from = p; note = Close count }) q (next_where_MayTake old items (record { from = p; note = Close count }) stands may) (stands.in_turn q (omega (arith, ap length queues)));
-  candidates = subst (λ list. MatchOption new.found (AreLeft (length list) (λ q. clocks_taken q (closing items p count)) list) (IsFoundAmong (length list) (λ q. clocks_taken q (closing items p count)))) (sym queues)
-      (subst (λ cut. MatchOption cut (AreLeft (processes old) (λ q. clocks_taken q (closing items p count)) old.queues) (IsFoundAmong (processes old) (λ q. clocks_taken q (closing items p count)))) (sym found) (candidates old.found stands.candidates));
+  candidates = rw (queues, floor, found) (candidates old.found stands.candidates);
 }
   where
-    candidates : (cut : Option (List ℕ)) → MatchOption cut (AreLeft (processes old) (λ q. clocks_taken q items) old.queues) (IsFoundAmong (processes old) (λ q. clocks_taken q items)) →
-        MatchOption cut (AreLeft (processes old) (λ q. clocks_taken q (closing items p count)) old.queues) (IsFoundAmong (processes old) (λ q. clocks_taken q (closing items p count)))
-    candidates None left = AreLeft-rows (processes old) (λ q. clocks_taken q items) (λ q. clocks_taken q (closing items p count)) old.queues (λ q q_within. clocks_taken-push_close items p count q) left
+    candidates : (cut : Option (List ℕ)) → MatchOption cut (AreLeft (processes old) (λ q. clocks_taken q items) old.queues old.floor) (IsFoundAmong (processes old) (λ q. clocks_taken q items)) →
+        MatchOption cut (AreLeft (processes old) (λ q. clocks_taken q (closing items p count)) old.queues old.floor) (IsFoundAmong (processes old) (λ q. clocks_taken q (closing items p count)))
+    candidates None left = AreLeft-rows (processes old) (λ q. clocks_taken q items) (λ q. clocks_taken q (closing items p count)) old.queues old.floor (λ q q_within. clocks_taken-push_close items p count q) left
     candidates (Some cut) is = IsFoundAmong-same (processes old) (λ q. clocks_taken q items) (λ q. clocks_taken q (closing items p count)) cut (λ q q_within. clocks_taken-push_close items p count q) is
 
 -- a checker that has taken nothing stands for the empty list
-pub StandsForItems-fresh : (n : ℕ) → n ≤ 16 → StandsForItems (record { queues = replicate n no_candidates; taken = replicate 16 0; closed = replicate 16 false; found = None; tests = 0 }) []
+pub StandsForItems-fresh : (n : ℕ) → n ≤ 16 → StandsForItems (record { queues = replicate n []; floor = first_floor; taken = replicate 16 0; closed = replicate 16 false; found = None }) []
 StandsForItems-fresh n few = record {
   taken = λ p p_within. get_or-replicate 16 p 0 0 (omega (arith, members));
   snapshots = refl;
   closed = λ p p_within. get_or-replicate 16 p false false (omega (arith, members));
   in_turn = λ p p_within. AreInTurn-none;
-  candidates = AreLeft-start (length (replicate n no_candidates)) (λ p. []) (replicate n no_candidates) (λ p p_within. refl)
-      (λ p p_within. ap (λ queue. queue.clocks) (get_or-replicate n p no_candidates no_candidates (omega (arith, members))));
+  candidates = AreLeft-start (length (replicate n [])) (λ p. []) (replicate n []) (omega (arith, members)) (λ p p_within. refl) (λ p p_within. get_or-replicate n p [] [] (omega (arith, members)));
 }
   where
-    members : length (replicate n no_candidates) ≡ n
-    members = length-replicate n no_candidates
+    members : length (replicate {A = List (List ℕ)} n []) ≡ n
+    members = length-replicate n []

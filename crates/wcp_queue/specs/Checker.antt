@@ -1,4 +1,4 @@
-use Rattle.std.specs.Prelude.{◌≡◌, ◌+◌, ◌^◌, ◌<◌, ◌≤◌, ℕ, Bool, true, false, Option, Some, None, MatchOption}
+use Rattle.std.specs.Prelude.{◌≡◌, ◌+◌, ◌*◌, ◌^◌, ◌<◌, ◌≤◌, ℕ, Bool, true, false, Option, Some, None, MatchOption}
 use Rattle.std.specs.Prelude.{List, [], ◌∷◌, ◌++◌, length, take, sum, count_by, All, slice_index, slice_index_or}
 use Rattle.std.specs.List.{list_any, list_all}
 use Rattle.wcp_clock.specs.Limits.{most_processes}
@@ -9,17 +9,18 @@ use Rattle.wcp_model.specs.declared.outcome.Report.{Report}
 use Rattle.wcp_model.specs.declared.outcome.Report.TheVariants.{Found, Nothing, Undecided}
 use Rattle.wcp_clock.specs.Notes.{is_close, place_of}
 use Rattle.wcp_model.specs.Report.{notes_taken, clocks_taken, AreInTurn, IsDrained, IsCutByClocks}
-use Rattle.wcp_queue.specs.Queue.{Candidates}
-use Rattle.wcp_queue.specs.Elimination.{HaveHeads, AreCompared, AreLeft, IsFoundAmong, uncompared_in, most_tests}
+use Rattle.wcp_queue.specs.declared.floor.Floor.{Floor}
+use Rattle.wcp_queue.specs.Floor.{HaveHeads}
+use Rattle.wcp_queue.specs.Elimination.{AreSettled, AreLeft, IsFoundAmong, waiting_in, tests_each}
 
--- What a checker has come to: the queue of each process, how many snapshots of each it took and whether it took its
--- close mark, the cut that it found, and how many component tests it made.
+-- What a checker has come to: the queue of each process and the floor under the heads, how many snapshots of each
+-- process it took and whether it took its close mark, and the cut that it found.
 pub record CheckerState : Type 0 where
-  pub queues : List Candidates
+  pub queues : List (List (List ℕ))
+  pub floor : Floor
   pub taken : List ℕ
   pub closed : List Bool
   pub found : Option (List ℕ)
-  pub tests : ℕ
 
 -- How many processes it watches, and how many snapshots of one it took.
 abbrev pub processes : CheckerState → ℕ
@@ -56,15 +57,15 @@ pub record MayTake (checker : CheckerState) (item : Item) : Type 0 where
   pub still_open : closed_of checker item.from ≡ false
 
 -- A checker stands for the list of items that it took, those of each process in turn: it has counted them, and its
--- queues are what elimination leaves of their snapshots' clocks, until a cut was found among these (Garg and Waldecker
--- 1994).
+-- queues and heads are what elimination leaves of their snapshots' clocks, until a cut was found among these (Garg and
+-- Waldecker 1994).
 pub record StandsForItems (checker : CheckerState) (items : List Item) : Type 0 where
   pub taken : (p : ℕ) → p < processes checker → taken_of checker p ≡ length (clocks_taken p items)
   pub snapshots : sum checker.taken ≡ count_by is_snapshot items
   pub closed : (p : ℕ) → p < processes checker → closed_of checker p ≡ list_any is_close (notes_taken p items)
   pub in_turn : (p : ℕ) → p < processes checker → AreInTurn (notes_taken p items)
   pub candidates : MatchOption checker.found
-      (AreLeft (processes checker) (λ p. clocks_taken p items) checker.queues)
+      (AreLeft (processes checker) (λ p. clocks_taken p items) checker.queues checker.floor)
       (IsFoundAmong (processes checker) (λ p. clocks_taken p items))
 
 -- A checker took an item: where it stood for a list, it stands for that list with the item at its end.
@@ -85,15 +86,15 @@ IsReportOfAnyClocks n items (Found cut) = IsCutByClocks n items cut
 IsReportOfAnyClocks n items Nothing = IsDrained n items
 IsReportOfAnyClocks n items Undecided = IsDrained n items → ⊥
 
--- What is true of every checker: its heads were compared, a process without one is waited for until a cut is found, and
--- a snapshot costs at most two component tests with each other process (Garg and Waldecker 1994: the comparisons made).
+-- What is true of every checker: nothing waits of a process without a head, such a process is waited for until a cut is
+-- found, and a snapshot costs at most one component test for each process, and none where there is one process alone.
 pub record IsSoundChecker (checker : CheckerState) : Type 0 where
   pub some : 0 < processes checker
   pub few : processes checker ≤ most_processes
   pub counts : length checker.taken ≡ most_processes
   pub marks : length checker.closed ≡ most_processes
   pub few_taken : All (λ count. count ≤ 2 ^ 32) checker.taken
-  pub compared : AreCompared checker.queues
-  pub waiting : checker.found ≡ None → HaveHeads checker.queues → ⊥
-  pub bound : checker.tests + most_tests (processes checker) (uncompared_in checker.queues)
-      ≤ most_tests (processes checker) (sum checker.taken)
+  pub settled : AreSettled checker.queues checker.floor
+  pub waiting : checker.found ≡ None → HaveHeads (processes checker) checker.floor → ⊥
+  pub bound : checker.floor.tests + tests_each (processes checker) * waiting_in checker.queues
+      ≤ tests_each (processes checker) * sum checker.taken

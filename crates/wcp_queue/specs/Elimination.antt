@@ -1,74 +1,66 @@
-use Rattle.std.specs.Prelude.{◌≡◌, ◌≢◌, ℕ, ◌-◌, ◌*◌, ◌<◌, ◌≤◌, true, false, List, [], ◌∷◌, ◌++◌}
-use Rattle.std.specs.Prelude.{length, drop, sum_by, slice_index, slice_index_or, if◌then◌else◌}
-use Rattle.wcp_model.specs.Elimination.{ClockPrecedes, IsSatisfyingChoice, IsEliminatedBelow}
-use Rattle.wcp_queue.specs.Queue.{Candidates, no_candidates, head, without_head}
-use Rattle.wcp_queue.specs.declared.elimination.Meeting.{Meeting}
-use Rattle.wcp_queue.specs.declared.elimination.Meeting.TheVariants.{Apart, Precedes, Follows}
+use Rattle.std.specs.Prelude.{◌≡◌, ◌≢◌, ℕ, ◌+◌, ◌<◌, ◌≤◌, true, false, List, [], ◌∷◌, ◌++◌}
+use Rattle.std.specs.Prelude.{length, drop, sum_by, nat_lt, slice_index, slice_index_or, if◌then◌else◌}
+use Rattle.wcp_model.specs.Elimination.{IsSatisfyingChoice, IsEliminatedBelow}
+use Rattle.wcp_queue.specs.declared.floor.Floor.{Floor}
+use Rattle.wcp_queue.specs.Floor.{component, has_head}
 
-abbrev pub queue_of : List Candidates → ℕ → Candidates
-queue_of queues p = slice_index_or queues p no_candidates
+-- The queue of a process has the clocks of its snapshots that wait to be its head, the oldest first (Garg and Waldecker
+-- 1994: the queue of a process).
+abbrev pub queue_of : List (List (List ℕ)) → ℕ → List (List ℕ)
+queue_of queues p = slice_index_or queues p []
 
--- A queue has a head that was compared with the other heads.
-pub record HasOldHead (queue : Candidates) : Type 0 where
-  pub some : 0 < length queue.clocks
-  pub old : queue.head_is_new ≡ false
+-- How many snapshots wait.
+abbrev pub waiting_in : List (List (List ℕ)) → ℕ
+waiting_in queues = sum_by length queues
 
--- A queue has a head that was not compared with the other heads yet.
-pub record HasNewHead (queue : Candidates) : Type 0 where
-  pub some : 0 < length queue.clocks
-  pub new : queue.head_is_new ≡ true
+-- Nothing waits of a process without a head.
+abbrev pub AreSettled : List (List (List ℕ)) → Floor → Type 0
+AreSettled queues floor = (p : ℕ) → p < length queues → has_head floor p ≡ false → length (queue_of queues p) ≡ 0
 
--- How a head of p meets the queue of q: it precedes the head there; or the head there precedes it, and is eliminated;
--- or neither precedes the other.
-abbrev pub IsMeeting : ℕ → List ℕ → ℕ → Candidates → Candidates → Meeting → Type 0
-IsMeeting p one q old new Precedes = (new ≡ old) × (0 < length old.clocks) × ClockPrecedes p one q (head old)
-IsMeeting p one q old new Follows =
-    (new ≡ without_head old) × (0 < length old.clocks) × ClockPrecedes q (head old) p one
-IsMeeting p one q old new Apart = (new ≡ old)
-    × (0 < length old.clocks → (ClockPrecedes p one q (head old) → ⊥) × (ClockPrecedes q (head old) p one → ⊥))
+-- Nothing waits of another process than p without a head.
+abbrev pub AreSettledBut : ℕ → List (List (List ℕ)) → Floor → Type 0
+AreSettledBut p queues floor =
+    (q : ℕ) → q < length queues → q ≢ p → has_head floor q ≡ false → length (queue_of queues q) ≡ 0
 
--- No head precedes another of those that were compared.
-pub record AreConcurrent (queues : List Candidates) : Type 0 where
-  pub concurrent : (p q : ℕ) → p < length queues → q < length queues → p ≢ q →
-      HasOldHead (queue_of queues p) → HasOldHead (queue_of queues q) →
-      ClockPrecedes p (head (queue_of queues p)) q (head (queue_of queues q)) → ⊥
+-- The most component tests that a snapshot of n processes costs: one of its own component, and one of each other.
+abbrev pub tests_each : ℕ → ℕ
+tests_each n = if nat_lt 1 n then n else 0
 
--- How many candidates were not compared yet: all but a head that was.
-abbrev pub uncompared : Candidates → ℕ
-uncompared queue = if queue.head_is_new then length queue.clocks else length queue.clocks - 1
+-- The candidate at a place of a row.
+abbrev pub candidate : (ℕ → List (List ℕ)) → ℕ → ℕ → List ℕ
+candidate rows p i = slice_index_or (rows p) i []
 
-abbrev pub uncompared_in : List Candidates → ℕ
-uncompared_in queues = sum_by uncompared queues
+-- The head of p stands at its place of its row, and what comes after it waits; the floor has its own component.
+pub record HasHead (rows : ℕ → List (List ℕ)) (heads : ℕ → ℕ) (queue : List (List ℕ)) (floor p : ℕ) : Type 0 where
+  pub within : heads p < length (rows p)
+  pub after : queue ≡ drop (heads p + 1) (rows p)
+  pub own : floor ≡ slice_index (candidate rows p (heads p)) p
 
--- No head is new.
-abbrev pub AreOld : List Candidates → Type 0
-AreOld queues = (p : ℕ) → p < length queues → (queue_of queues p).head_is_new ≡ false
+-- A candidate of another process q that is or was its head has this component of p.
+pub record WasRaised (n : ℕ) (rows : ℕ → List (List ℕ)) (heads : ℕ → ℕ) (floor p : ℕ) : Type 0 where
+  pub q : ℕ
+  pub other : q ≢ p
+  pub process : q < n
+  pub place : ℕ
+  pub within : place < length (rows q)
+  pub tested : place ≤ heads q
+  pub known : floor ≡ slice_index (candidate rows q place) p
 
--- No head is new but that of p.
-abbrev pub AreOldBut : ℕ → List Candidates → Type 0
-AreOldBut p queues = (q : ℕ) → q < length queues → q ≢ p → (queue_of queues q).head_is_new ≡ false
+-- Process p has no head: all from a place of its row on waits, and a head of another process raised the floor, unless
+-- nothing did.
+pub record HasNoHead (n : ℕ) (rows : ℕ → List (List ℕ)) (heads : ℕ → ℕ) (queue : List (List ℕ)) (floor p : ℕ) : Type 0 where
+  pub within : heads p ≤ length (rows p)
+  pub all : queue ≡ drop (heads p) (rows p)
+  pub raised : 0 < floor → WasRaised n rows heads floor p
 
--- All heads were compared.
-pub record AreCompared (queues : List Candidates) : Type 0 where
-  pub old : AreOld queues
-  pub concurrent : AreConcurrent queues
-
--- Each queue has a head.
-abbrev pub HaveHeads : List Candidates → Type 0
-HaveHeads queues = (p : ℕ) → p < length queues → 0 < length (queue_of queues p).clocks
-
--- The cut of the heads: each process has one, whose own component is the cut's member (Garg and Waldecker 1994).
-pub record IsCutOfHeads (queues : List Candidates) (cut : List ℕ) : Type 0 where
-  pub members : length cut ≡ length queues
-  pub heads : HaveHeads queues
-  pub own : (p : ℕ) → p < length queues → slice_index cut p ≡ slice_index (head (queue_of queues p)) p
-
--- These queues are what elimination leaves of the rows of all candidates taken: a rest of each, where no satisfying
--- choice lies below a head (Garg and Waldecker 1994).
-pub record AreLeft (n : ℕ) (rows : ℕ → List (List ℕ)) (queues : List Candidates) : Type 0 where
+-- These queues and heads are what elimination leaves of the rows of all candidates taken: no satisfying choice lies
+-- below the place of a head, and no head has a component above the floor (Garg and Waldecker 1994).
+pub record AreLeft (n : ℕ) (rows : ℕ → List (List ℕ)) (queues : List (List (List ℕ))) (floor : Floor) : Type 0 where
   pub heads : ℕ → ℕ
-  pub within : (p : ℕ) → p < n → heads p ≤ length (rows p)
-  pub rest : (p : ℕ) → p < n → (queue_of queues p).clocks ≡ drop (heads p) (rows p)
+  pub head : (p : ℕ) → p < n → has_head floor p ≡ true → HasHead rows heads (queue_of queues p) (component floor p) p
+  pub none : (p : ℕ) → p < n → has_head floor p ≡ false → HasNoHead n rows heads (queue_of queues p) (component floor p) p
+  pub under : (p q : ℕ) → p < n → q < n → p ≢ q → has_head floor q ≡ true →
+      slice_index (candidate rows q (heads q)) p ≤ component floor p
   pub eliminated : IsEliminatedBelow n rows heads
 
 -- A cut that was found is that of a satisfying choice of the rows below which all is eliminated.
@@ -77,24 +69,22 @@ pub record IsFoundAmong (n : ℕ) (rows : ℕ → List (List ℕ)) (cut : List �
   pub choice : ℕ → ℕ
   pub satisfying : IsSatisfyingChoice n rows choice
   pub eliminated : IsEliminatedBelow n rows choice
-  pub own : (p : ℕ) → p < n → slice_index cut p ≡ slice_index (slice_index_or (rows p) (choice p) []) p
+  pub own : (p : ℕ) → p < n → slice_index cut p ≡ slice_index (candidate rows p (choice p)) p
 
 -- The row of p gains a candidate at its end, and the others stay.
 pub record GainCandidate (n p : ℕ) (clock : List ℕ) (rows longer : ℕ → List (List ℕ)) : Type 0 where
   pub gained : longer p ≡ rows p ++ clock ∷ []
   pub others : (q : ℕ) → q < n → q ≢ p → longer q ≡ rows q
 
--- Heads were eliminated: whatever rows of candidates the old queues are what is left of, the new ones are so too.
-abbrev pub Eliminates : List Candidates → List Candidates → Type 0
-Eliminates old new = (rows : ℕ → List (List ℕ)) → AreLeft (length old) rows old → AreLeft (length old) rows new
+-- Heads were eliminated: whatever rows of candidates the old queues and heads are what is left of, the new ones are so
+-- too.
+abbrev pub Eliminates : List (List (List ℕ)) → Floor → List (List (List ℕ)) → Floor → Type 0
+Eliminates old old_floor new new_floor = (rows : ℕ → List (List ℕ)) →
+    AreLeft (length old) rows old old_floor → AreLeft (length old) rows new new_floor
 
--- A candidate of p was added and heads were eliminated: the new queues are what is left of the old rows, where that of
--- p has gained the candidate.
-abbrev pub AddsCandidate : ℕ → List ℕ → List Candidates → List Candidates → Type 0
-AddsCandidate p clock old new = (rows longer : ℕ → List (List ℕ)) →
-    GainCandidate (length old) p clock rows longer → AreLeft (length old) rows old → AreLeft (length old) longer new
-
--- The most component tests that so many candidates of n processes cost: each is compared with each other head, by two
--- tests.
-abbrev pub most_tests : ℕ → ℕ → ℕ
-most_tests n candidates = 2 * (n - 1) * candidates
+-- A candidate of p was added and heads were eliminated: the new queues and heads are what is left of the old rows, where
+-- that of p has gained the candidate.
+abbrev pub AddsCandidate : ℕ → List ℕ → List (List (List ℕ)) → Floor → List (List (List ℕ)) → Floor → Type 0
+AddsCandidate p clock old old_floor new new_floor = (rows longer : ℕ → List (List ℕ)) →
+    GainCandidate (length old) p clock rows longer → AreLeft (length old) rows old old_floor →
+    AreLeft (length old) longer new new_floor

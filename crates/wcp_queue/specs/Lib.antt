@@ -1,4 +1,4 @@
 pub mod Checker
 pub mod CheckerView
 pub mod Elimination
-pub mod Queue
+pub mod Floor

@@ -1,4 +1,4 @@
-ghost use Rattle.std.specs.Prelude.{◌≡◌, true, false, ◌-◌, ◌*◌, ◌^◌, ◌<◌, ◌≤◌, [], List, length, count_by};
+ghost use Rattle.std.specs.Prelude.{◌≡◌, true, false, ◌*◌, ◌^◌, ◌<◌, ◌≤◌, [], List, length, count_by};
 ghost use Rattle.std.specs.Prelude.{IfOk, IfErr, IsOk, OnOk, OnErr};
 ghost use Rattle.std.specs.List.{list_all, list_any};
 ghost use Rattle.wcp_clock.specs.Limits.{most_processes};
@@ -9,6 +9,7 @@ ghost use Rattle.wcp_clock.specs.Notes.{is_close};
 ghost use Rattle.wcp_model.specs.Report.{ClocksRise, IsReportByClocks, clocks_taken, notes_taken};
 
 use crate::elimination::add_candidate;
+use crate::floor::Floor;
 use crate::queue::Queue;
 use std::alloc::{AllocError, Global};
 use std::marker::Model;
@@ -20,10 +21,10 @@ use wcp_model::{GlobalCut, Report};
 #[derive(Debug, Drop)]
 pub struct Checker {
     queues: Vec<Queue>,
+    floor: Floor,
     taken: [u64; MAX_PROCS],
     closed: [bool; MAX_PROCS],
     found: Option<GlobalCut>,
-    tests: u64,
 }
 
 impl Model for Checker {
@@ -52,14 +53,14 @@ impl Checker {
     {
         let mut queues = Vec::with_capacity(alloc, n as usize)?;
         for _ in 0..n {
-            queues.push(Queue::new(alloc))?;
+            queues.push(Queue::new(alloc)?)?;
         }
         Ok(Checker {
             queues,
+            floor: Floor::new(),
             taken: [0; MAX_PROCS],
             closed: [false; MAX_PROCS],
             found: None,
-            tests: 0,
         })
     }
 
@@ -110,7 +111,7 @@ impl Checker {
         ensures found_needs_none { HasFound self.old → IsOk result }
     {
         if self.found.is_none() {
-            self.found = add_candidate(&mut self.queues, p, clock, &mut self.tests)?;
+            self.found = add_candidate(&mut self.queues, p, clock, &mut self.floor)?;
         }
         self.taken[p] += 1;
         Ok(())
@@ -135,13 +136,15 @@ impl Checker {
         }
     }
 
-    /// How many component tests were made: comparisons of a component of a head with that of another.
+    /// How many component tests were made: comparisons of a component of a snapshot with the floor, the
+    /// componentwise maximum of every clock that was ever a head.
     pub fn tests(&self) -> u64
-        ensures value { result ≡ self.now.tests }
+        ensures value { result ≡ self.now.floor.tests }
         ensures bound { (items : List Item) → StandsForItems self.now items
-            → result ≤ 2 * (processes self.now - 1) * count_by is_snapshot items }
+            → result ≤ processes self.now * count_by is_snapshot items }
+        ensures alone { processes self.now ≡ 1 → result ≡ 0 }
     {
-        self.tests
+        self.floor.tests()
     }
 
     /// How many snapshots of process `p` were taken.

@@ -1,25 +1,15 @@
-ghost use Rattle.std.specs.Prelude.{◌≡◌, ◌↔◌, ℕ, ◌+◌, ◌^◌, ◌<◌, ◌≤◌, false, length, slice_index, IsTrue};
+ghost use Rattle.std.specs.Prelude.{◌≡◌, ◌+◌, ◌*◌, ◌^◌, ◌<◌, ◌≤◌, false, length};
 ghost use Rattle.std.specs.Prelude.{IfNone, IfSome, IfOk, OnOk, OnErr, MatchOption};
 ghost use Rattle.wcp_clock.specs.Limits.{most_processes};
-ghost use Rattle.wcp_queue.specs.Elimination.{queue_of, uncompared_in, most_tests, HasNewHead, HaveHeads, IsCutOfHeads};
-ghost use Rattle.wcp_queue.specs.Elimination.{IsMeeting, AreConcurrent, AreOld, AreOldBut, AreCompared};
+ghost use Rattle.wcp_queue.specs.Floor.{has_head, HaveHeads, IsCutOfHeads};
+ghost use Rattle.wcp_queue.specs.Elimination.{queue_of, waiting_in, tests_each, AreSettled, AreSettledBut};
 ghost use Rattle.wcp_queue.specs.Elimination.{Eliminates, AddsCandidate};
 
+use crate::floor::Floor;
 use crate::queue::Queue;
 use std::alloc::AllocError;
-use wcp_clock::{Clock, MAX_PROCS};
+use wcp_clock::Clock;
 use wcp_model::GlobalCut;
-
-/// How the head of one process met that of another one.
-#[derive(Clone, Copy)]
-enum Meeting {
-    /// Neither precedes the other, or there is no other.
-    Apart,
-    /// The head precedes the other.
-    Precedes,
-    /// The other precedes the head, and was eliminated.
-    Follows,
-}
 
 /// Adds a snapshot of `p` and eliminates heads. Answers the cut of the heads that are left, if every
 /// process has one. `Err` where memory runs out.
@@ -27,136 +17,90 @@ pub fn add_candidate(
     queues: &mut [Queue],
     p: usize,
     clock: Clock,
-    tests: &mut u64,
+    floor: &mut Floor,
 ) -> Result<Option<GlobalCut>, AllocError>
     requires few { length queues.old ≤ most_processes }
     requires within { p < length queues.old }
-    requires compared { AreCompared queues.old }
-    requires waiting { HaveHeads queues.old → ⊥ }
-    requires room { tests.old + most_tests (length queues.old) (uncompared_in queues.old + 1) < 2 ^ 64 }
-    ensures compared { AreCompared queues.new }
-    ensures left { OnOk result (AddsCandidate p clock queues.old queues.new) }
-    ensures cut { IfOk result (λ cut. MatchOption cut (HaveHeads queues.new → ⊥) (IsCutOfHeads queues.new)) }
-    ensures tests { tests.new + most_tests (length queues.old) (uncompared_in queues.new)
-        ≤ tests.old + most_tests (length queues.old) (uncompared_in queues.old + 1) }
+    requires settled { AreSettled queues.old floor.old }
+    requires waiting { HaveHeads (length queues.old) floor.old → ⊥ }
+    requires room { floor.old.tests + tests_each (length queues.old) * (waiting_in queues.old + 1) < 2 ^ 64 }
+    ensures settled { AreSettled queues.new floor.new }
+    ensures left { OnOk result (AddsCandidate p clock queues.old floor.old queues.new floor.new) }
+    ensures cut { IfOk result (λ cut. MatchOption cut
+        (HaveHeads (length queues.old) floor.new → ⊥) (IsCutOfHeads (length queues.old) floor.new)) }
+    ensures tests { floor.new.tests + tests_each (length queues.old) * waiting_in queues.new
+        ≤ floor.old.tests + tests_each (length queues.old) * (waiting_in queues.old + 1) }
     ensures refused { OnErr result (queues.new ≡ queues.old) }
-    ensures no_test { OnErr result (tests.new ≡ tests.old) }
+    ensures no_test { OnErr result (floor.new ≡ floor.old) }
 {
     queues[p].push(clock)?;
-    if !queues[p].head_is_new() {
+    if floor.has_head(p) {
         return Ok(None);
     }
-    if compare_head(queues, p, tests) {
-        eliminate(queues, tests);
+    if compare_next(queues, p, floor) {
+        settle(queues, floor);
     }
-    Ok(cut_of_heads(queues))
+    Ok(floor.cut(queues.len()))
 }
 
-/// The cut of the heads, if every process has one.
-fn cut_of_heads(queues: &[Queue]) -> Option<GlobalCut>
-    requires some { 0 < length queues.now }
-    requires few { length queues.now ≤ most_processes }
-    ensures { MatchOption result (HaveHeads queues.now → ⊥) (IsCutOfHeads queues.now) }
-{
-    let mut intervals = [0; MAX_PROCS];
-    for (p, queue) in queues.iter().enumerate() {
-        intervals[p] = queue.head()?.get(p as u32);
-    }
-    Some(GlobalCut::new(&intervals[..queues.len()]))
-}
-
-/// Eliminates heads until each was compared with every other head. Counts its component tests.
-fn eliminate(queues: &mut [Queue], tests: &mut u64)
+/// Goes on until each process has a head or none of its snapshots waits.
+fn settle(queues: &mut [Queue], floor: &mut Floor)
     requires few { length queues.old ≤ most_processes }
-    requires concurrent { AreConcurrent queues.old }
-    requires room { tests.old + most_tests (length queues.old) (uncompared_in queues.old) < 2 ^ 64 }
-    ensures compared { AreCompared queues.new }
-    ensures left { Eliminates queues.old queues.new }
-    ensures tests { tests.new + most_tests (length queues.old) (uncompared_in queues.new)
-        ≤ tests.old + most_tests (length queues.old) (uncompared_in queues.old) }
+    requires room { floor.old.tests + tests_each (length queues.old) * waiting_in queues.old < 2 ^ 64 }
+    ensures settled { AreSettled queues.new floor.new }
+    ensures left { Eliminates queues.old floor.old queues.new floor.new }
+    ensures tests { floor.new.tests + tests_each (length queues.old) * waiting_in queues.new
+        ≤ floor.old.tests + tests_each (length queues.old) * waiting_in queues.old }
 {
-    while let Some(p) = first_new_head(queues) {
-        compare_head(queues, p, tests);
+    while let Some(p) = first_to_compare(queues, floor) {
+        compare_next(queues, p, floor);
     }
 }
 
-fn first_new_head(queues: &[Queue]) -> Option<usize>
-    ensures none { IfNone result ((p : ℕ) → p < length queues.now → (queue_of queues.now p).head_is_new ≡ false) }
+/// The first process that has no head while a snapshot of it waits.
+fn first_to_compare(queues: &[Queue], floor: &Floor) -> Option<usize>
+    requires { length queues.now ≤ most_processes }
+    ensures none { IfNone result (AreSettled queues.now floor.now) }
     ensures within { IfSome result (λ p. p < length queues.now) }
-    ensures new { IfSome result (λ p. HasNewHead (queue_of queues.now p)) }
+    ensures no_head { IfSome result (λ p. has_head floor.now p ≡ false) }
+    ensures some { IfSome result (λ p. 0 < length (queue_of queues.now p)) }
 {
     for (p, queue) in queues.iter().enumerate() {
-        if queue.head_is_new() {
+        if !floor.has_head(p) && !queue.is_empty() {
             return Some(p);
         }
     }
     None
 }
 
-/// Compares the new head of `p` with the other heads, and eliminates those that precede one. Answers
-/// whether that uncovered a new head.
-fn compare_head(queues: &mut [Queue], p: usize, tests: &mut u64) -> bool
+/// Compares the oldest waiting snapshot of `p` with the floor: it is dropped, or becomes the head and
+/// raises the floor, which drops the heads that precede it. Answers whether a process without a head
+/// has a snapshot that waits.
+fn compare_next(queues: &mut [Queue], p: usize, floor: &mut Floor) -> bool
     requires few { length queues.old ≤ most_processes }
     requires within { p < length queues.old }
-    requires new { HasNewHead (queue_of queues.old p) }
-    requires concurrent { AreConcurrent queues.old }
-    requires room { tests.old + most_tests (length queues.old) 1 < 2 ^ 64 }
-    ensures concurrent { AreConcurrent queues.new }
-    ensures left { Eliminates queues.old queues.new }
-    ensures fewer { uncompared_in queues.new < uncompared_in queues.old }
-    ensures tests { tests.new ≤ tests.old + most_tests (length queues.old) 1 }
-    ensures covered { result ≡ false → AreOldBut p queues.old → AreOld queues.new }
+    requires no_head { has_head floor.old p ≡ false }
+    requires some { 0 < length (queue_of queues.old p) }
+    requires room { floor.old.tests + tests_each (length queues.old) < 2 ^ 64 }
+    ensures left { Eliminates queues.old floor.old queues.new floor.new }
+    ensures fewer { waiting_in queues.new + 1 ≡ waiting_in queues.old }
+    ensures tests { floor.new.tests ≤ floor.old.tests + tests_each (length queues.old) }
+    ensures covered { result ≡ false → AreSettledBut p queues.old floor.old → AreSettled queues.new floor.new }
 {
-    queues[p].mark_head();
-    let head = match queues[p].head() {
-        Some(head) => *head,
-        None => return false,
+    let n = queues.len();
+    let Some(clock) = queues[p].pop() else {
+        return false;
     };
+    let own = clock.get(p as u32);
+    if floor.is_above(n, p, own) {
+        return !queues[p].is_empty();
+    }
+    floor.set_head(p, own);
     let mut uncovered = false;
-    for q in 0..queues.len() {
+    for q in 0..n {
         if q != p {
-            match meet(p as u32, &head, q as u32, &mut queues[q], tests) {
-                Meeting::Apart => {}
-                Meeting::Follows => uncovered |= queues[q].head_is_new(),
-                Meeting::Precedes => {
-                    queues[p].drop_head();
-                    return uncovered | queues[p].head_is_new();
-                }
-            }
+            uncovered |= floor.raise(q, clock.get(q as u32), &queues[q]);
         }
     }
     uncovered
-}
-
-/// Compares a head of `p` with the head of the queue of `q`, if there is one, and eliminates that one
-/// if it precedes.
-fn meet(p: u32, head: &Clock, q: u32, queue: &mut Queue, tests: &mut u64) -> Meeting
-    requires p { p < most_processes }
-    requires q { q < most_processes }
-    requires room { tests.old + 2 < 2 ^ 64 }
-    ensures meeting { IsMeeting p head.now q queue.old queue.new result }
-    ensures tests { tests.new ≤ tests.old + 2 }
-{
-    let Some(other) = queue.head() else {
-        return Meeting::Apart;
-    };
-    if precedes(p, head, other, tests) {
-        return Meeting::Precedes;
-    }
-    if precedes(q, other, head, tests) {
-        queue.drop_head();
-        return Meeting::Follows;
-    }
-    Meeting::Apart
-}
-
-/// Whether a snapshot of `p` precedes one of another process: one component test, which is counted.
-fn precedes(p: u32, one: &Clock, other: &Clock, tests: &mut u64) -> bool
-    requires p { p < most_processes }
-    requires room { tests.old + 1 < 2 ^ 64 }
-    ensures order { IsTrue result ↔ (slice_index one.now p < slice_index other.now p) }
-    ensures counted { tests.new ≡ tests.old + 1 }
-{
-    *tests += 1;
-    one.precedes(p, other)
 }

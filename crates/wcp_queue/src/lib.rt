@@ -3,6 +3,7 @@
 
 mod checker;
 mod elimination;
+mod floor;
 mod queue;
 
 pub use checker::Checker;

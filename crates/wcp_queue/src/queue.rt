@@ -1,78 +1,75 @@
-ghost use Rattle.std.specs.Prelude.{◌≡◌, ◌<◌, List, length, OnOk, OnErr, IsTrue, ◌↔◌, slice_get, IfSome, IsSome};
-ghost use Rattle.std.specs.Option.{option_copied};
-ghost use Rattle.wcp_queue.specs.Queue.{no_candidates, with_candidate, without_head, with_old_head};
+ghost use Rattle.std.specs.Prelude.{◌≡◌, ◌==◌, ◌<◌, [], ◌∷◌, ◌++◌, length, drop, slice_get, IfOk, OnOk, OnErr};
 
+use circular_buffer::HeapCircularBuffer;
 use std::alloc::{AllocError, Global};
-use std::collections::VecDeque;
 use std::marker::Model;
 use wcp_clock::Clock;
 
-/// The snapshots of one process that were taken and not eliminated, the oldest first. The first is
-/// the process's head.
+/// How many snapshots a queue has room for before it grows.
+const FIRST_ROOM: usize = 8;
+
+/// The snapshots of one process that wait to be its head, the oldest first.
+///
+/// A contract sees it as the list of their clocks.
 #[derive(Debug, Drop)]
 pub struct Queue {
-    clocks: VecDeque<Clock>,
-    head_is_new: bool,
+    waiting: HeapCircularBuffer<Clock>,
 }
 
 impl Model for Queue {
-    ghost use Rattle.std.specs.Prelude.{◌≡◌, ◌<◌, true, length};
-    ghost use Rattle.wcp_queue.specs.Queue.{Candidates};
+    ghost use Rattle.std.specs.Prelude.{ℕ, List, ◌<◌};
 
-    ghost Value = { Candidates };
+    ghost Value = { List (List ℕ) };
 
-    ghost view = { λ q. record { clocks = q.clocks.items; head_is_new = q.head_is_new } };
+    ghost view = { λ q. q.waiting.items };
 
-    ghost invariant = { λ q. q.head_is_new ≡ true → 0 < length q.clocks.items };
+    ghost invariant = { λ q. 0 < q.waiting.capacity };
 }
 
 impl Queue {
-    pub fn new(alloc: Global) -> Queue
-        ensures { result ≡ no_candidates }
+    /// An empty queue. `Err` where memory runs out.
+    pub fn new(alloc: Global) -> Result<Queue, AllocError>
+        ensures { IfOk result (λ queue. queue ≡ []) }
     {
-        Queue {
-            clocks: VecDeque::new(alloc),
-            head_is_new: false,
-        }
+        Ok(Queue {
+            waiting: HeapCircularBuffer::with_capacity(alloc, FIRST_ROOM)?,
+        })
     }
 
-    /// Adds a snapshot at the end. `Err` where memory runs out.
+    /// Adds a snapshot at the end; a full queue doubles its room. `Err` where memory runs out.
     pub fn push(&mut self, clock: Clock) -> Result<(), AllocError>
-        ensures ok { OnOk result (self.new ≡ with_candidate self.old clock) }
+        ensures ok { OnOk result (self.new ≡ self.old ++ clock ∷ []) }
         ensures err { OnErr result (self.new ≡ self.old) }
     {
-        let was_empty = self.clocks.is_empty();
-        self.clocks.push_back(clock)?;
-        self.head_is_new = self.head_is_new || was_empty;
+        make_room(&mut self.waiting)?;
+        let _none = self.waiting.push_back(clock);
         Ok(())
     }
 
-    pub fn head(&self) -> Option<&Clock>
-        ensures { option_copied result ≡ slice_get self.now.clocks 0 }
+    /// Takes out the oldest snapshot, if there is one.
+    pub fn pop(&mut self) -> Option<Clock>
+        ensures value { result ≡ slice_get self.old 0 }
+        ensures rest { self.new ≡ drop 1 self.old }
     {
-        self.clocks.front()
+        self.waiting.pop_front()
     }
 
-    /// Whether there is a head that was not compared with the other heads.
-    pub fn head_is_new(&self) -> bool
-        ensures value { result ≡ self.now.head_is_new }
-        ensures some { IsTrue result → 0 < length self.now.clocks }
+    pub fn is_empty(&self) -> bool
+        ensures { result ≡ (length self.now == 0) }
     {
-        self.head_is_new
+        self.waiting.is_empty()
     }
+}
 
-    pub fn drop_head(&mut self)
-        requires { 0 < length self.old.clocks }
-        ensures { self.new ≡ without_head self.old }
-    {
-        let _ = self.clocks.pop_front();
-        self.head_is_new = !self.clocks.is_empty();
+/// Doubles the room of a full buffer. `Err` where memory runs out.
+fn make_room(waiting: &mut HeapCircularBuffer<Clock>) -> Result<(), AllocError>
+    requires { 0 < waiting.old.capacity }
+    ensures items { waiting.new.items ≡ waiting.old.items }
+    ensures room { OnOk result (length waiting.new.items < waiting.new.capacity) }
+    ensures unchanged { OnErr result (waiting.new ≡ waiting.old) }
+{
+    if waiting.len() == waiting.capacity() {
+        waiting.resize(waiting.capacity() * 2)?;
     }
-
-    /// Notes that the head was compared with the other heads.
-    pub fn mark_head(&mut self)
-        ensures { self.new ≡ with_old_head self.old }
-    {
-        self.head_is_new = false;
-    }
+    Ok(())
 }

@@ -1,6 +1,5 @@
-use Rattle.std.proofs.Common.{◌≡◌, replicate}
-use Rattle.wcp_queue.specs.Queue.{no_candidates}
+use Rattle.std.proofs.Common.{◌≡◌, [], replicate}
 use Rattle.wcp_queue.proofs.checker.Checker.new.Given as goal
 
 abbrev pub invariant-loop : goal.invariant-loop
-invariant-loop l = l.queues.items ≡ replicate l.counter no_candidates
+invariant-loop l = l.queues.items ≡ replicate l.counter []

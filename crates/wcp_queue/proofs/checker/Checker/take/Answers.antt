@@ -11,4 +11,4 @@ returns-in-Close-clause-taken c =
     rw (← c.self.view_is)
     (λ items stands. subst (λ note. StandsForItems (state_of (record c.self.inside { closed = slice_set c.self.inside.closed c.args.item.from true })) (items ++ record { from = c.args.item.from; note = note } ∷ [])) (sym c.in-Close.is)
     (StandsForItems-close (state_of c.self.inside) (state_of (record c.self.inside { closed = slice_set c.self.inside.closed c.args.item.from true })) items c.args.item.from c.in-Close.count stands (record { from = may.from; place = sym (ap place_of c.in-Close.is) ∙ may.place; still_open = may.still_open })
-    (omega (arith, may.from, c.self.invariant.few, c.self.invariant.marks)) refl refl refl refl))
+    (omega (arith, may.from, c.self.invariant.few, c.self.invariant.marks)) refl refl refl refl refl))

@@ -21,15 +21,15 @@ invariant_of-self-2 c =
           let added = w.in_ok-self-inside.ensures in
           rw (w.self-inside-is, items)
           (IsSoundChecker-snapshot (state_of c.self.inside) c.self.invariant
-          (record { queues = w.add_candidate.new.queues; taken = set c.self.inside.taken c.args.p (slice_index c.self.inside.taken c.args.p + 1); closed = c.self.inside.closed; found = w.in_ok-self-inside.field-0; tests = w.add_candidate.new.tests })
+          (record { queues = w.add_candidate.new.queues; floor = w.add_candidate.new.floor; taken = set c.self.inside.taken c.args.p (slice_index c.self.inside.taken c.args.p + 1); closed = c.self.inside.closed; found = w.in_ok-self-inside.field-0 })
           c.args.p (omega (arith, within, c.self.invariant.few, c.self.invariant.counts)) few refl refl (omega (arith, ap length shown))
-          added.compared (λ none. MatchOption-at_none _ _ none added.cut) (rw shown at added.tests))
+          added.settled (λ none. rw shown at (MatchOption-at_none _ _ none added.cut)) (rw shown at added.tests))
       | else-is_none w ↦
           rw w.self-inside-is
           (IsSoundChecker-snapshot (state_of c.self.inside) c.self.invariant
-          (record { queues = c.self.inside.queues.items; taken = set c.self.inside.taken c.args.p (slice_index c.self.inside.taken c.args.p + 1); closed = c.self.inside.closed; found = c.self.inside.found; tests = c.self.inside.tests })
+          (record { queues = c.self.inside.queues.items; floor = c.self.inside.floor; taken = set c.self.inside.taken c.args.p (slice_index c.self.inside.taken c.args.p + 1); closed = c.self.inside.closed; found = c.self.inside.found })
           c.args.p (omega (arith, within, c.self.invariant.few, c.self.invariant.counts)) few refl refl refl
-          c.self.invariant.compared c.self.invariant.waiting (omega arith))
+          c.self.invariant.settled c.self.invariant.waiting (omega arith))
     ]
 
 pub returns-clause-taken : goal.returns-clause-taken
@@ -43,12 +43,12 @@ returns-clause-taken c =
           let added = w.in_ok-self-inside.ensures in
           rw (w.self-inside-is, items, ← c.self.view_is)
           (λ list stands. StandsForItems-snapshot (state_of c.self.inside)
-          (record { queues = w.add_candidate.new.queues; taken = set c.self.inside.taken c.args.p (slice_index c.self.inside.taken c.args.p + 1); closed = c.self.inside.closed; found = w.in_ok-self-inside.field-0; tests = w.add_candidate.new.tests })
+          (record { queues = w.add_candidate.new.queues; floor = w.add_candidate.new.floor; taken = set c.self.inside.taken c.args.p (slice_index c.self.inside.taken c.args.p + 1); closed = c.self.inside.closed; found = w.in_ok-self-inside.field-0 })
           list c.args.p c.args.clock stands within still_open (omega (arith, within, c.self.invariant.few, c.self.invariant.counts)) refl refl (omega (arith, ap length shown))
-          w.if-is_none.ensures added.compared (rw shown at added.left) added.cut)
+          w.if-is_none.ensures (rw shown at added.left) (rw shown at added.cut))
       | else-is_none w ↦
           rw (w.self-inside-is, ← c.self.view_is)
           (λ list stands. StandsForItems-found (state_of c.self.inside)
-          (record { queues = c.self.inside.queues.items; taken = set c.self.inside.taken c.args.p (slice_index c.self.inside.taken c.args.p + 1); closed = c.self.inside.closed; found = c.self.inside.found; tests = c.self.inside.tests })
+          (record { queues = c.self.inside.queues.items; floor = c.self.inside.floor; taken = set c.self.inside.taken c.args.p (slice_index c.self.inside.taken c.args.p + 1); closed = c.self.inside.closed; found = c.self.inside.found })
           list c.args.p c.args.clock stands within still_open (omega (arith, within, c.self.invariant.few, c.self.invariant.counts)) refl refl refl w.if-is_none.ensures refl)
     ]

@@ -1,0 +1,62 @@
+use Rattle.std.proofs.Common.{◌≡◌, ◌≢◌, ◌||◌, ℕ, ◌+◌, ◌<◌, ◌≤◌, Bool, false, List, length, slice_index, sym, ◌∙◌, subst, ⊎_elim, arith}
+use Rattle.std.proofs.lemmas.Bool.{cases_eq, or_parts}
+use Rattle.wcp_queue.specs.declared.floor.Floor.{Floor}
+use Rattle.wcp_queue.specs.Floor.{component, has_head, IsSameBut, RisesTo}
+use Rattle.wcp_queue.specs.Elimination.{queue_of}
+
+abbrev IsSameAt : ℕ → Floor → Floor → Type 0
+IsSameAt k one other = (component other k ≡ component one k) × (has_head other k ≡ has_head one k)
+
+-- what the floor rises to at a process rests on what concerns that process alone
+pub RisesTo-before : (k known : ℕ) (first old new : Floor) → IsSameAt k first old → RisesTo k known old new → RisesTo k known first new
+RisesTo-before k known first old new same rises = record {
+  maximum = omega (arith, rises.maximum, same.0);
+  dropped = λ less. rises.dropped (omega (arith, less, same.0));
+  kept = λ reached. rises.kept (omega (arith, reached, same.0)) ∙ same.1;
+}
+
+RisesTo-after : (k known : ℕ) (first old new : Floor) → IsSameAt k old new → RisesTo k known first old → RisesTo k known first new
+RisesTo-after k known first old new same rises = record {
+  maximum = same.0 ∙ rises.maximum;
+  dropped = λ less. same.1 ∙ rises.dropped less;
+  kept = λ reached. same.1 ∙ rises.kept reached;
+}
+
+-- a new head of p has raised the first floor at the processes below q
+pub record IsRaising (first : Floor) (p : ℕ) (clock : List ℕ) (queues : List (List (List ℕ))) (floor : Floor) (uncovered : Bool) (q : ℕ) : Type 0 where
+  pub at_p : IsSameAt p first floor
+  pub rises : (k : ℕ) → k < q → k ≢ p → RisesTo k (slice_index clock k) first floor
+  pub later : (k : ℕ) → q ≤ k → k ≢ p → IsSameAt k first floor
+  pub covered : uncovered ≡ false → (k : ℕ) → k < q → k ≢ p → component first k < slice_index clock k → length (queue_of queues k) ≡ 0
+  pub tests : q ≤ p → floor.tests ≡ first.tests + q
+  pub tests_after : p < q → floor.tests + 1 ≡ first.tests + q
+
+module _ (first : Floor) (p : ℕ) (clock : List ℕ) (queues : List (List (List ℕ))) (floor : Floor) (uncovered : Bool) (q : ℕ) (is : IsRaising first p clock queues floor uncovered q) where
+  pub IsRaising-itself : q ≡ p → IsRaising first p clock queues floor uncovered (q + 1)
+  IsRaising-itself same = record {
+    at_p = is.at_p;
+    rises = λ k below other. is.rises k (omega (arith, other)) other;
+    later = λ k above other. is.later k (omega arith) other;
+    covered = λ none k below other. is.covered none k (omega (arith, other)) other;
+    tests = λ before. absurd (omega arith);
+    tests_after = λ after. omega (arith, is.tests (omega arith));
+  }
+
+  pub IsRaising-next : (new : Floor) (more : Bool) → q ≢ p → RisesTo q (slice_index clock q) floor new → IsSameBut q floor new →
+      (more ≡ false → component floor q < slice_index clock q → length (queue_of queues q) ≡ 0) → new.tests ≡ floor.tests + 1 → IsRaising first p clock queues new (uncovered || more) (q + 1)
+  IsRaising-next new more apart rises others covered tests = record {
+    at_p = let same = others p (λ is_q. apart (sym is_q)) in (same.0 ∙ is.at_p.0, same.1 ∙ is.at_p.1);
+    rises = λ k below other. ⊎_elim
+        (λ (same : k ≡ q). rw same (RisesTo-before q (slice_index clock q) first floor new (is.later q (omega arith) apart) rises))
+        (λ (before : k ≢ q). RisesTo-after k (slice_index clock k) first floor new (others k before) (is.rises k (omega (arith, before)) other))
+        (cases_eq k q);
+    later = λ k above other. let same = others k (λ is_q. omega (arith, is_q)) in let was = is.later k (omega arith) other in (same.0 ∙ was.0, same.1 ∙ was.1);
+    covered = λ none k below other less.
+        let parts = or_parts uncovered more none in
+        ⊎_elim
+        (λ (same : k ≡ q). rw same (covered parts.1 (omega (arith, subst (λ j. component first j < slice_index clock j) same less, (is.later q (omega arith) apart).0))))
+        (λ (before : k ≢ q). is.covered parts.0 k (omega (arith, before)) other less)
+        (cases_eq k q);
+    tests = λ before. omega (arith, tests, is.tests (omega arith));
+    tests_after = λ after. omega (arith, tests, apart, is.tests_after (omega (arith, apart)));
+  }

@@ -1,0 +1,6 @@
+use Rattle.std.proofs.Common.{◌≡◌, ℕ, ◌<◌, true}
+use Rattle.wcp_queue.specs.Floor.{has_head}
+use Rattle.wcp_queue.proofs.floor.Floor.cut.Given as goal
+
+abbrev pub invariant-loop-p : goal.invariant-loop-p
+invariant-loop-p l = (k : ℕ) → k < l.p → has_head l.self k ≡ true
