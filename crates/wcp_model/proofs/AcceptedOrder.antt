@@ -1,5 +1,6 @@
-use Rattle.std.proofs.Common.{◌≡◌, ℕ, ◌+◌, ◌-◌, ◌<◌, ◌≤◌, List, All, length, take, slice_get, Some, refl, sym, ap, ◌∙◌, subst, eq-eqb, arith, ⊎_elim}
+use Rattle.std.proofs.Common.{◌≡◌, ℕ, ◌+◌, ◌-◌, ◌<◌, ◌≤◌, List, All, length, take, count_by, slice_get, Some, refl, sym, ap, ◌∙◌, subst, eq-eqb, arith, ⊎_elim}
 use Rattle.std.proofs.lemmas.Bool.{cases_lt, ne_eqb}
+use Rattle.std.proofs.lemmas.List.{take_all, take-take, length-take}
 use Rattle.std.proofs.lemmas.Option.{slice_get_within, get_or_from_slice_get, same_Some}
 use Rattle.wcp_model.specs.declared.step.Step.{Step}
 use Rattle.wcp_model.specs.declared.step.Step.TheVariants.{Recv, Close}
@@ -8,7 +9,7 @@ use Rattle.wcp_model.specs.declared.workload.Action.TheVariants as action
 use Rattle.wcp_model.specs.declared.workload.Task.{Task}
 use Rattle.wcp_model.specs.Computation.{message_at}
 use Rattle.wcp_model.specs.ProbeLog.{is_step_of, IsAccepted}
-use Rattle.wcp_model.specs.WorkloadComputation.{is_task_of, step_of, computation_of, IsFitOrder}
+use Rattle.wcp_model.specs.WorkloadComputation.{is_task_of, sends, receives, step_of, computation_of, IsFitOrder}
 use Rattle.wcp_model.proofs.SamePlace.{element_within, same_place}
 use Rattle.wcp_model.proofs.StepsOfOrder.{step_at, close_step, length-computation_of, receive_task}
 use Rattle.wcp_model.proofs.MessagesOfOrder.{send_of_receive, delivery_step, message_sent_before}
@@ -16,6 +17,18 @@ use Rattle.wcp_model.proofs.MessagesOfOrder.{send_of_receive, delivery_step, mes
 -- a fit order of tasks is one of itself
 pub IsFitOrder-itself : (tasks order : List Task) → IsFitOrder tasks order → IsFitOrder order order
 IsFitOrder-itself tasks order fit = record { same_tasks = λ p. refl; sent_first = fit.sent_first }
+
+-- and so is each front of it
+pub IsFitOrder-take : (place : ℕ) (order : List Task) → IsFitOrder order order → IsFitOrder (take place order) (take place order)
+IsFitOrder-take place order fit = record {
+  same_tasks = λ p. refl;
+  sent_first = λ k p q.
+      let SentFirst : List Task → Type 0 = λ front. count_by (receives p q) front ≤ count_by (sends p q) front in
+      ⊎_elim
+      (λ (past : place < k). subst SentFirst (sym (take_all k (take place order) (omega (arith, length-take place order)))) (fit.sent_first place p q))
+      (λ (le : k ≤ place). subst SentFirst (sym (take-take k place order le)) (fit.sent_first k p q))
+      (cases_lt place k);
+}
 
 -- what holds of all tasks holds of a fit order of them
 pub All-fit_order : (P : Task → Type 0) (tasks order : List Task) → IsFitOrder tasks order → All P tasks → All P order

@@ -53,7 +53,7 @@ actions_before order p place =
     ∙ ap (map (λ (t : Task). t.action)) (ap (λ k. take k (filter (is_task_of p) order)) (sym (length-filter (is_task_of p) (take place order))) ∙ sym (filter_front (is_task_of p) place order))
 
 -- as many actions of a process pass as tasks of it do
-count_actions : (test : Action → Bool) (p : ℕ) (tasks : List Task) → count_by test (actions_of p tasks) ≡ count_by (λ task. is_task_of p task && test task.action) tasks
+pub count_actions : (test : Action → Bool) (p : ℕ) (tasks : List Task) → count_by test (actions_of p tasks) ≡ count_by (λ task. is_task_of p task && test task.action) tasks
 count_actions test p [] = refl
 count_actions test p (task ∷ tasks) =
     let counts : ℕ → ℕ = λ k. k + count_by (λ task. is_task_of p task && test task.action) tasks in
@@ -243,12 +243,13 @@ module _ (n : ℕ) (order : List Task) (within : All (IsWithin n) order) (fit : 
     length-take (length order) (computation_of n order),
   )
 
-  -- and no stamp is ahead of the probe that gets it
+  -- and the stamp that a process gets is a clock that is not ahead of its own
   not_ahead : (place p q : ℕ) (stamp : List ℕ) → p < n → q < n → slice_get order place ≡ Some (record { p = q; action = action.Recv p }) → slice_get (logs q) (done order q place) ≡ Some (Received stamp) →
-      slice_index stamp q ≤ slice_index (state_of_log (setup n q) (log_at q place)).clock q
+      (length stamp ≡ n) × (slice_index stamp q ≤ slice_index (state_of_log (setup n q) (log_at q place)).clock q)
   not_ahead place p q stamp p_below q_below at took =
       let inside : place ≤ length order = omega (arith, slice_get_within order place _ at) in
-      omega (arith, own_component place q inside q_below, stamp_below n (front n order place) _ q stamp q_below (received_stamp place p q stamp p_below q_below at took (λ k le. logs_until (length order) (omega arith) k (omega arith))))
+      let is = received_stamp place p q stamp p_below q_below at took (λ k le. logs_until (length order) (omega arith) k (omega arith)) in
+      (is.clock.components, omega (arith, own_component place q inside q_below, stamp_below n (front n order place) _ q stamp q_below is))
 
   -- and each process closes
   pub logs_with_close : (p : ℕ) → p < n → IsLogOf n (computation_of n order) p (logs p ++ Closed ∷ [])
@@ -259,20 +260,25 @@ module _ (n : ℕ) (order : List Task) (within : All (IsWithin n) order) (fit : 
       (subst₂ (λ c log. IsLogOf n c p log) all (whole p below) (logs_until (length order) (omega arith) (length order) (omega arith) p below))
       (subst (λ own. AreCallsOf n (steps ++ closes 0 n) own (Closed ∷ [])) (sym (one_close_of p 0 n (omega arith) (omega arith))) (tt, tt))
 
--- with one more receive, its stamp is not ahead of the probe that gets it
-pub got_not_ahead : (n : ℕ) (tasks : List Task) (p q : ℕ) (log : List Call) (stamp : List ℕ) (logs : ℕ → List Call) → p < n → q < n →
-    let longer = tasks ++ record { p = q; action = action.Recv p } ∷ [] in
-    All (IsWithin n) longer → IsFitOrder longer longer → AreLogsOfTasks n longer logs → FollowsActions (actions_of q tasks) log → logs q ≡ log ++ Received stamp ∷ [] →
-    slice_index stamp q ≤ slice_index (state_of_log (setup n q) log).clock q
-got_not_ahead n tasks p q log stamp logs p_below q_below within fit are follows own =
-    let task : Task = record { p = q; action = action.Recv p } in
-    let longer = tasks ++ task ∷ [] in
-    let place : done longer q (length tasks) ≡ length log =
-    ap (count_by (is_task_of q)) (take_at tasks (task ∷ []) (length tasks) refl)
-    ∙ sym (length-filter (is_task_of q) tasks) ∙ sym (length-map (filter (is_task_of q) tasks) (λ (t : Task). t.action)) ∙ same_length (actions_of q tasks) log follows in
-    let before : take (done longer q (length tasks)) (logs q) ≡ log = ap₂ take place own ∙ take_at log (Received stamp ∷ []) (length log) refl in
-    subst (λ calls. slice_index stamp q ≤ slice_index (state_of_log (setup n q) calls).clock q) before
-    (not_ahead n longer within fit logs are (length tasks) p q stamp p_below q_below (get_behind tasks task []) (ap₂ slice_get own place ∙ get_behind log (Received stamp) []))
+-- with one more receive, its stamp is a clock that is not ahead of the probe that gets it
+module _ (n : ℕ) (tasks : List Task) (p q : ℕ) (act : Action) (acts : act ≡ action.Recv p) (log : List Call) (stamp : List ℕ) (logs : ℕ → List Call) where
+  abbrev receive : Task
+  receive = record { p = q; action = act }
+
+  abbrev longer : List Task
+  longer = tasks ++ receive ∷ []
+
+  pub got_not_ahead : p < n → q < n → All (IsWithin n) longer → IsFitOrder longer longer → AreLogsOfTasks n longer logs → FollowsActions (actions_of q tasks) log → logs q ≡ log ++ Received stamp ∷ [] →
+      (length stamp ≡ n) × (slice_index stamp q ≤ slice_index (state_of_log (setup n q) log).clock q)
+  got_not_ahead p_below q_below within fit are follows own =
+      let place : done longer q (length tasks) ≡ length log =
+      ap (count_by (is_task_of q)) (take_at tasks (receive ∷ []) (length tasks) refl)
+      ∙ sym (length-filter (is_task_of q) tasks) ∙ sym (length-map (filter (is_task_of q) tasks) (λ (t : Task). t.action)) ∙ same_length (actions_of q tasks) log follows in
+      let before : take (done longer q (length tasks)) (logs q) ≡ log = ap₂ take place own ∙ take_at log (Received stamp ∷ []) (length log) refl in
+      subst (λ calls. (length stamp ≡ n) × (slice_index stamp q ≤ slice_index (state_of_log (setup n q) calls).clock q)) before
+      (not_ahead n longer within fit logs are (length tasks) p q stamp p_below q_below
+      (get_behind tasks receive [] ∙ ap (λ a. Some (record { p = q; action = a })) acts)
+      (ap₂ slice_get own place ∙ get_behind log (Received stamp) []))
 
 -- logs of tasks are logs of a fit order of them
 AreLogsOfTasks-along : (n : ℕ) (tasks order : List Task) (logs : ℕ → List Call) → IsFitOrder tasks order → AreLogsOfTasks n tasks logs → AreLogsOfTasks n order logs

@@ -1,4 +1,3 @@
-mod AlikeOutcomes
 mod RunningProcesses
 mod NextTask
 mod RunAfterTask

@@ -1,186 +1,152 @@
-use Rattle.std.proofs.Common.{◌≡◌, ◌≢◌, ℕ, ◌+◌, ◌*◌, ◌<◌, true, false, cond, List, [], ◌∷◌, ◌++◌, length, take, drop, set, get_or, count_by, slice_get, slice_index, Some, refl, sym, ap, ◌∙◌, subst, ⊎_elim, inl, inr, append-nil, arith, get_or-set_same, get_or-set_other}
+use Rattle.std.proofs.Common.{◌≡◌, ◌≢◌, ◌==◌, ◌&&◌, ℕ, ◌+◌, ◌*◌, ◌<◌, Bool, true, false, cond, List, [], ◌∷◌, ◌++◌, length, map, take, drop, set, get_or, count_by, All, refl, sym, ap, ap₂, ◌∙◌, subst, inl, inr, append-nil, append_assoc, arith, eq-eqb, get_or-set_same, get_or-set_other}
 use Rattle.std.proofs.lemmas.Bool.{cases_eq, ne_eqb}
-use Rattle.std.proofs.lemmas.List.{take_more, length-take, take-append-drop, length_push, length-drop}
-use Rattle.std.proofs.lemmas.List.Sums.{count_by-le-length}
+use Rattle.std.proofs.lemmas.List.{take_all, take_at, length-append, length-map, map_push}
+use Rattle.std.proofs.lemmas.List.Elements.{All-push, All-drop, All-take}
 use Rattle.std.proofs.lemmas.Nat.{mul-add-lt, same_from_place}
-use Rattle.std.proofs.lemmas.Option.{get_or_from_slice_get, slice_get_within}
-use Rattle.wcp_clock.specs.declared.note.Item.{Item}
-use Rattle.wcp_clock.specs.declared.note.Note.{Note}
-use Rattle.wcp_model.specs.declared.step.Step.{Step}
-use Rattle.wcp_model.specs.declared.step.Step.TheVariants as step
 use Rattle.wcp_model.specs.declared.workload.Action.{Action}
 use Rattle.wcp_model.specs.declared.workload.Action.TheVariants as action
 use Rattle.wcp_model.specs.declared.workload.Task.{Task}
-use Rattle.wcp_model.specs.Computation.{Computation, is_communication_of}
-use Rattle.wcp_model.specs.ProbeLog.{Call, is_step_of, IsCallOf, AreCallsOf, IsAccepted, setup, state_of_log}
-use Rattle.wcp_model.specs.Report.{notes_taken}
-use Rattle.wcp_model.specs.WorkloadComputation.{sends, receives, message_number, step_of, computation_of, IsWithin}
-use Rattle.wcp_model.proofs.Growth.{at_grows, message_grows}
-use Rattle.wcp_model.proofs.StepsOfOrder.{step_at}
-use Rattle.wcp_probe.specs.Seal.{Seal}
-use Rattle.wcp_single.specs.declared.watched_process.WatchedProcess.{WatchedProcess}
-use Rattle.wcp_single.specs.WatchedProcess.{IsRunning, MakesCall}
-use Rattle.wcp_single.specs.WorkloadRun.{Follows, IsSealOf, AreInTransit, front, IsChannel, IsNextTask, queue_at}
-use Rattle.wcp_model.proofs.AcceptedOrder.{order_accepted}
+use Rattle.wcp_model.specs.ProbeLog.{Call, setup, state_of_log}
+use Rattle.wcp_model.specs.TaskLog.{actions_of, IsCallFor, FollowsActions, stamp_of, stamps_sent, stamps_got}
+use Rattle.wcp_model.specs.WorkloadComputation.{sends, receives, is_send_to, is_receive_from, HasPartner, IsWithin, IsFitOrder}
+use Rattle.wcp_model.proofs.AcceptedOrder.{IsFitOrder-take}
+use Rattle.wcp_model.proofs.Growth.{get_behind}
+use Rattle.wcp_model.proofs.LogsOfTasks.{count_actions}
+use Rattle.wcp_model.proofs.MessagesOfOrder.{receives_yes}
+use Rattle.wcp_model.proofs.TaskLogs.{actions_of-push, FollowsActions-push, length-stamps_sent, length-stamps_got, stamps_sent-push, stamps_sent-push_other, stamps_got-push, stamps_got-push_other}
 use Rattle.wcp_order.proofs.Counting.{count_by_push_passing, count_by_push_failing}
-use Rattle.wcp_model.proofs.GrowingLogs.{log_grows, accepted_front, send_clock_grows}
-use Rattle.wcp_single.proofs.RunningProcesses.{own_component}
+use Rattle.wcp_order.proofs.Tasks.{at_place, receive_is_no_send}
+use Rattle.wcp_probe.specs.Seal.{Seal}
+use Rattle.wcp_single.specs.WorkloadRun.{IsChannel, IsNextTask, queue_at}
 
--- one more element of a front
-take_next : {X : Type 0} (xs : List X) (i : ℕ) (x : X) → slice_get xs i ≡ Some x → take (i + 1) xs ≡ take i xs ++ x ∷ []
-take_next xs i x at = take_more xs i x (slice_get_within xs i x at) ∙ ap (λ y. take i xs ++ y ∷ []) (get_or_from_slice_get xs i x x at)
+-- the logs with one more call of process a
+abbrev pub with_call : (ℕ → List Call) → ℕ → Call → ℕ → List Call
+with_call logs a call p = cond (p == a) (logs p ++ call ∷ []) (logs p)
 
--- the step of a task is of its process
-step_owner : (order earlier : List Task) (p q : ℕ) (a : Action) → is_step_of q (step_of order earlier p a) ≡ is_step_of q (step.Close p)
-step_owner order earlier p q (action.Observe holds) = refl
-step_owner order earlier p q (action.Send to) = refl
-step_owner order earlier p q (action.Recv from) = refl
+-- the task that is next is within the processes
+pub next_within : (n : ℕ) (done : List Task) (task : Task) → IsNextTask n done task → IsWithin n task
+next_within n done task next = at_place (IsWithin n) (done ++ task ∷ []) (length done) task next.within (get_behind done task [])
 
--- a step of another process, and one of the process itself
-follows_pass : (n : ℕ) (c : Computation) (x : Step) (p : ℕ) (notes : List Note) (process : WatchedProcess) → is_step_of p x ≡ false → Follows n c p notes process → Follows n (c ++ x ∷ []) p notes process
-follows_pass n c x p notes process other follows =
-    let d : Computation = c ++ x ∷ [] in
-    record {
-      log = follows.log ++ [];
-      log_is = log_grows n c (x ∷ []) p follows.log [] follows.log_is (subst (λ b. AreCallsOf n d (cond b (x ∷ []) []) []) (sym other) tt);
-      running = subst (λ log. IsRunning n p log process) (sym (append-nil follows.log)) follows.running;
-      notes_are = follows.notes_are ∙ ap (λ log. (state_of_log (setup n p) log).notes) (sym (append-nil follows.log));
-    }
+pub sends_within : (n : ℕ) (done : List Task) (task : Task) (to : ℕ) → IsNextTask n done task → task.action ≡ action.Send to → to < n
+sends_within n done task to next acts = (subst (HasPartner n task.p) acts (next_within n done task next).1).0
 
-pub follows_call : (n : ℕ) (c : Computation) (x : Step) (p : ℕ) (before after : List Note) (old new : WatchedProcess) (call : Call) → is_step_of p x ≡ true → IsCallOf n (c ++ x ∷ []) x call → MakesCall old call new → (follows : Follows n c p before old) →
-    after ≡ (state_of_log (setup n p) (follows.log ++ call ∷ [])).notes → Follows n (c ++ x ∷ []) p after new
-follows_call n c x p before after old new call own is runs follows emits =
-    let d : Computation = c ++ x ∷ [] in
-    record {
-      log = follows.log ++ call ∷ [];
-      log_is = log_grows n c (x ∷ []) p follows.log (call ∷ []) follows.log_is (subst (λ b. AreCallsOf n d (cond b (x ∷ []) []) (call ∷ [])) (sym own) (is, tt));
-      running = runs n p follows.log follows.running;
-      notes_are = emits;
-    }
+pub receives_within : (n : ℕ) (done : List Task) (task : Task) (from : ℕ) → IsNextTask n done task → task.action ≡ action.Recv from → from < n
+receives_within n done task from next acts = (subst (HasPartner n task.p) acts (next_within n done task next).1).0
 
--- a seal stays that of its message
-pub seal_grows : (n : ℕ) (c e : Computation) (p q message : ℕ) (seal : Seal) → IsSealOf n c p q message seal → IsSealOf n (c ++ e) p q message seal
-seal_grows n c e p q message seal is = record {
-  watch = is.watch;
-  to = is.to;
-  sent = is.sent;
-  send = at_grows c e is.sent (step.Send p q) is.send;
-  number = message_grows c e is.sent (step.Send p q) is.send ∙ is.number;
-  clock = send_clock_grows n c e p q is.sent seal.clock is.send is.clock;
-}
+-- and what was done before it is a fit order
+pub done_fits : (n : ℕ) (done : List Task) (task : Task) → IsNextTask n done task → All (IsWithin n) done × IsFitOrder done done
+done_fits n done task next =
+    let before : take (length done) (done ++ task ∷ []) ≡ done = take_at done (task ∷ []) (length done) refl in (
+      subst (All (IsWithin n)) before (All-take (IsWithin n) (length done) (done ++ task ∷ []) next.within),
+      subst (λ tasks. IsFitOrder tasks tasks) before (IsFitOrder-take (length done) (done ++ task ∷ []) next.fit),
+    )
 
-in_transit_grow : (n : ℕ) (order : List Task) (c e : Computation) (p q received : ℕ) (seals : List Seal) → AreInTransit n order c p q received seals → AreInTransit n order (c ++ e) p q received seals
-in_transit_grow n order c e p q received [] are = are
-in_transit_grow n order c e p q received (seal ∷ seals) are = (seal_grows n c e p q _ seal are.0, in_transit_grow n order c e p q (received + 1) seals are.1)
+-- the message of a receive that is next is in transit
+pub message_waits : (n : ℕ) (done : List Task) (a b : ℕ) (act : Action) (logs : ℕ → List Call) (seals : List Seal) → act ≡ action.Recv b → IsNextTask n done (record { p = a; action = act }) → FollowsActions (actions_of a done) (logs a) → FollowsActions (actions_of b done) (logs b) → IsChannel n done logs b a seals → 0 < length seals
+message_waits n done a b act logs seals acts next receiver sender channel =
+    let task : Task = record { p = a; action = act } in
+    let longer : List Task = done ++ task ∷ [] in
+    let got : length (stamps_got b (actions_of a done) (logs a)) ≡ count_by (receives b a) done = length-stamps_got (actions_of a done) (logs a) receiver b ∙ count_actions (is_receive_from b) a done in
+    let sent : length (stamps_sent (setup n b) a (actions_of b done) (logs b)) ≡ count_by (sends b a) done = length-stamps_sent (actions_of b done) (logs b) sender (setup n b) a ∙ count_actions (is_send_to a) b done in
+    let all : take (length longer) longer ≡ longer = take_all (length longer) longer (omega arith) in
+    omega (
+      arith,
+      got,
+      sent,
+      ap length channel.in_order,
+      length-append (stamps_got b (actions_of a done) (logs a)) (map (λ (seal : Seal). seal.clock) seals),
+      length-map seals (λ (seal : Seal). seal.clock),
+      next.fit.sent_first (length longer) b a,
+      ap (count_by (receives b a)) all,
+      ap (count_by (sends b a)) all,
+      count_by_push_passing (receives b a) done task (ap (λ x. receives b a (record { p = a; action = x })) acts ∙ receives_yes b a),
+      count_by_push_failing (sends b a) done task (ap (λ x. sends b a (record { p = a; action = x })) acts ∙ receive_is_no_send b a a b),
+    )
 
--- one more message in transit
-in_transit_push : (n : ℕ) (order : List Task) (c : Computation) (p q received sent : ℕ) (seals : List Seal) (seal : Seal) → length seals + received ≡ sent → AreInTransit n order c p q received seals → IsSealOf n c p q (message_number order p q sent) seal → AreInTransit n order c p q received (seals ++ seal ∷ [])
-in_transit_push n order c p q received sent [] seal counted are is = (subst (λ earlier. IsSealOf n c p q (message_number order p q earlier) seal) (omega arith) is, tt)
-in_transit_push n order c p q received sent (first ∷ seals) seal counted are is = (are.0, in_transit_push n order c p q (received + 1) sent seals seal (omega arith) are.1 is)
-
--- one less
-in_transit_pop : (n : ℕ) (order : List Task) (c : Computation) (p q received : ℕ) (seals : List Seal) → AreInTransit n order c p q received seals → AreInTransit n order c p q (received + 1) (drop 1 seals)
-in_transit_pop n order c p q received [] are = tt
-in_transit_pop n order c p q received (seal ∷ seals) are = are.1
-
-pub in_transit_first : (n : ℕ) (order : List Task) (c : Computation) (p q received : ℕ) (seals : List Seal) (d : Seal) → 0 < length seals → AreInTransit n order c p q received seals → IsSealOf n c p q (message_number order p q received) (get_or seals 0 d)
-in_transit_first n order c p q received [] d some are = absurd (omega arith)
-in_transit_first n order c p q received (seal ∷ seals) d some are = are.0
-
--- the next task of a fit order
-module _ (n : ℕ) (order : List Task) (place : ℕ) (a : ℕ) (act : Action) (next : IsNextTask n order place (record { p = a; action = act })) where
-  abbrev pub task : Task
+-- logs of tasks after one more, which process a does
+module _ (n : ℕ) (done : List Task) (a : ℕ) (act : Action) (within : a < n) (logs : ℕ → List Call) (follows : (p : ℕ) → p < n → FollowsActions (actions_of p done) (logs p)) (call : Call) (is : IsCallFor act call) where
+  abbrev task : Task
   task = record { p = a; action = act }
 
-  abbrev pub here : Computation
-  here = front n order place
+  abbrev pub longer : List Task
+  longer = done ++ task ∷ []
 
-  abbrev pub next_step : Step
-  next_step = step_of order (take place order) a act
+  abbrev pub after : ℕ → List Call
+  after = with_call logs a call
 
-  pub next_inside : place < length order
-  next_inside = slice_get_within order place task next.at
+  -- its log is one longer, and each other stays
+  pub own_log : after a ≡ logs a ++ call ∷ []
+  own_log = rw (eq-eqb a a refl) refl
 
-  pub next_within : IsWithin n task
-  next_within = subst (IsWithin n) (get_or_from_slice_get order place task task next.at) (next.within place task next_inside)
+  pub other_log : (p : ℕ) → p ≢ a → after p ≡ logs p
+  other_log p other = rw (ne_eqb p a other) refl
 
-  pub front_next : front n order (place + 1) ≡ here ++ next_step ∷ []
-  front_next = take_next (computation_of n order) place next_step (step_at n order place task next.at)
+  own_actions : actions_of a longer ≡ actions_of a done ++ act ∷ []
+  own_actions = actions_of-push a done task ∙ ap (λ (b : Bool). actions_of a done ++ cond b (act ∷ []) []) (eq-eqb a a refl)
 
-  pub order_next : take (place + 1) order ≡ take place order ++ task ∷ []
-  order_next = take_next order place task next.at
+  other_actions : (p : ℕ) → p ≢ a → actions_of p longer ≡ actions_of p done
+  other_actions p other = actions_of-push p done task ∙ ap (λ (b : Bool). actions_of p done ++ cond b (act ∷ []) []) (ne_eqb a p (λ same. other (sym same))) ∙ append-nil (actions_of p done)
 
-  pub here_accepted : IsAccepted here
-  here_accepted = accepted_front here (drop place (computation_of n order)) (subst IsAccepted (sym (take-append-drop place (computation_of n order))) (order_accepted n order next.fit))
+  -- what holds of one call more at a, and of the others as they were, holds of all
+  by_process : (P : ℕ → List Action → List Call → Type 0) → P a (actions_of a done ++ act ∷ []) (logs a ++ call ∷ []) → ((p : ℕ) → p < n → P p (actions_of p done) (logs p)) → (p : ℕ) → p < n → P p (actions_of p longer) (after p)
+  by_process P own others p below = elim (cases_eq p a) [
+    | inl same ↦ rw (same, own_actions, own_log) own
+    | inr other ↦ rw (other_actions p other, other_log p other) (others p below)
+  ]
 
-  pub next_accepted : IsAccepted (here ++ next_step ∷ [])
-  next_accepted = subst IsAccepted front_next (accepted_front (front n order (place + 1)) (drop (place + 1) (computation_of n order)) (subst IsAccepted (sym (take-append-drop (place + 1) (computation_of n order))) (order_accepted n order next.fit)))
+  pub follows_next : (p : ℕ) → p < n → FollowsActions (actions_of p longer) (after p)
+  follows_next = by_process (λ p. FollowsActions) (FollowsActions-push (actions_of a done) (logs a) act call (follows a within) is) follows
 
-  -- the clock of the process has room for one more event
-  pub has_room : (notes : List Note) (process : WatchedProcess) → Follows n here a notes process → slice_index process.probe.clock process.probe.id < process.probe.limit
-  has_room notes process follows =
-      omega (arith, own_component n here here_accepted a next_within.0 notes process follows, count_by-le-length (is_communication_of a) here, length-take place (computation_of n order), next_inside, next.few_tasks, follows.running.limit)
+  own_test : (b : Bool) → ((a == a) && b) ≡ false → b ≡ false
+  own_test b fails = ap (λ (c : Bool). c && b) (sym (eq-eqb a a refl)) ∙ fails
 
-  -- the processes after the step
-  module _ (processes : List WatchedProcess) (items more : List Item) (new : WatchedProcess) (all : length processes ≡ n) (follow : (p : ℕ) (d : WatchedProcess) → p < n → Follows n here p (notes_taken p items) (get_or processes p d))
-      (others : (q : ℕ) → q ≢ a → notes_taken q more ≡ notes_taken q items) (own : Follows n (here ++ next_step ∷ []) a (notes_taken a more) new) where
-    pub follow_next : (p : ℕ) (d : WatchedProcess) → p < n → Follows n (front n order (place + 1)) p (notes_taken p more) (get_or (set processes a new) p d)
-    follow_next p d within =
-        subst (λ c. Follows n c p (notes_taken p more) (get_or (set processes a new) p d)) (sym front_next)
-        (⊎_elim (λ (same : p ≡ a).
-        subst (λ q. Follows n (here ++ next_step ∷ []) q (notes_taken q more) (get_or (set processes a new) q d)) (sym same)
-        (subst (Follows n (here ++ next_step ∷ []) a (notes_taken a more)) (sym (get_or-set_same processes a new d (omega (arith, next_within.0, all)))) own))
-        (λ (other : p ≢ a).
-        subst (Follows n (here ++ next_step ∷ []) p (notes_taken p more)) (sym (get_or-set_other processes a p new d other))
-        (subst (λ notes. Follows n (here ++ next_step ∷ []) p notes (get_or processes p d)) (sym (others p other))
-        (follows_pass n here next_step p (notes_taken p items) (get_or processes p d) (step_owner order (take place order) a p act ∙ ne_eqb a p (λ same. other (sym same))) (follow p d within))))
-        (cases_eq p a))
+  -- what is sent and got stays but on the channel of the task
+  sent_stays : (p q : ℕ) → p < n → sends p q task ≡ false → stamps_sent (setup n p) q (actions_of p longer) (after p) ≡ stamps_sent (setup n p) q (actions_of p done) (logs p)
+  sent_stays p q = by_process (λ r actions log. sends r q task ≡ false → stamps_sent (setup n r) q actions log ≡ stamps_sent (setup n r) q (actions_of r done) (logs r))
+      (λ fails. stamps_sent-push_other (actions_of a done) (logs a) act call (follows a within) (setup n a) q (own_test (is_send_to q act) fails)) (λ r below fails. refl) p
 
-  -- a channel that the step leaves alone
-  pub channel_stays : (p q : ℕ) (seals : List Seal) → sends p q task ≡ false → receives p q task ≡ false → IsChannel n order place p q seals → IsChannel n order (place + 1) p q seals
-  channel_stays p q seals no_send no_receive channel =
-      let received : count_by (receives p q) (take (place + 1) order) ≡ count_by (receives p q) (take place order) = ap (count_by (receives p q)) order_next ∙ count_by_push_failing (receives p q) (take place order) task no_receive in
-      let sent : count_by (sends p q) (take (place + 1) order) ≡ count_by (sends p q) (take place order) = ap (count_by (sends p q)) order_next ∙ count_by_push_failing (sends p q) (take place order) task no_send in
-      record {
-        waiting = omega (arith, channel.waiting, received, sent);
-        in_order = subst (λ k. AreInTransit n order (front n order (place + 1)) p q k seals) (sym received)
-            (subst (λ c. AreInTransit n order c p q (count_by (receives p q) (take place order)) seals) (sym front_next)
-            (in_transit_grow n order here (next_step ∷ []) p q _ seals channel.in_order));
-      }
+  got_stays : (p q : ℕ) → q < n → receives p q task ≡ false → stamps_got p (actions_of q longer) (after q) ≡ stamps_got p (actions_of q done) (logs q)
+  got_stays p q = by_process (λ r actions log. receives p r task ≡ false → stamps_got p actions log ≡ stamps_got p (actions_of r done) (logs r))
+      (λ fails. stamps_got-push_other (actions_of a done) (logs a) act call (follows a within) p (own_test (is_receive_from p act) fails)) (λ r below fails. refl) q
 
-  -- a channel on which the step sends
-  pub channel_pushed : (p q : ℕ) (seals : List Seal) (seal : Seal) → sends p q task ≡ true → receives p q task ≡ false → IsSealOf n (here ++ next_step ∷ []) p q (message_number order p q (count_by (sends p q) (take place order))) seal → IsChannel n order place p q seals → IsChannel n order (place + 1) p q (seals ++ seal ∷ [])
-  channel_pushed p q seals seal send no_receive is channel =
-      let received : count_by (receives p q) (take (place + 1) order) ≡ count_by (receives p q) (take place order) = ap (count_by (receives p q)) order_next ∙ count_by_push_failing (receives p q) (take place order) task no_receive in
-      let sent : count_by (sends p q) (take (place + 1) order) ≡ count_by (sends p q) (take place order) + 1 = ap (count_by (sends p q)) order_next ∙ count_by_push_passing (sends p q) (take place order) task send in
-      record {
-        waiting = omega (arith, channel.waiting, received, sent, length_push seals seal);
-        in_order = subst (λ k. AreInTransit n order (front n order (place + 1)) p q k (seals ++ seal ∷ [])) (sym received)
-            (subst (λ c. AreInTransit n order c p q (count_by (receives p q) (take place order)) (seals ++ seal ∷ [])) (sym front_next)
-            (in_transit_push n order (here ++ next_step ∷ []) p q _ _ seals seal channel.waiting (in_transit_grow n order here (next_step ∷ []) p q _ seals channel.in_order) is));
-      }
+  -- a channel that the task leaves alone
+  pub channel_stays : (p q : ℕ) (seals : List Seal) → p < n → q < n → sends p q task ≡ false → receives p q task ≡ false → IsChannel n done logs p q seals → IsChannel n longer after p q seals
+  channel_stays p q seals p_below q_below no_send no_receive channel = record {
+    addressed = channel.addressed;
+    in_order = ap (λ got. got ++ map (λ (seal : Seal). seal.clock) seals) (got_stays p q q_below no_receive) ∙ channel.in_order ∙ sym (sent_stays p q p_below no_send);
+  }
 
-  -- a channel from which the step receives
-  pub channel_popped : (p q : ℕ) (seals : List Seal) → sends p q task ≡ false → receives p q task ≡ true → 0 < length seals → IsChannel n order place p q seals → IsChannel n order (place + 1) p q (drop 1 seals)
-  channel_popped p q seals no_send receive some channel =
-      let received : count_by (receives p q) (take (place + 1) order) ≡ count_by (receives p q) (take place order) + 1 = ap (count_by (receives p q)) order_next ∙ count_by_push_passing (receives p q) (take place order) task receive in
-      let sent : count_by (sends p q) (take (place + 1) order) ≡ count_by (sends p q) (take place order) = ap (count_by (sends p q)) order_next ∙ count_by_push_failing (sends p q) (take place order) task no_send in
-      record {
-        waiting = omega (arith, channel.waiting, received, sent, length-drop 1 seals, some);
-        in_order = subst (λ k. AreInTransit n order (front n order (place + 1)) p q k (drop 1 seals)) (sym received)
-            (subst (λ c. AreInTransit n order c p q (count_by (receives p q) (take place order) + 1) (drop 1 seals)) (sym front_next)
-            (in_transit_pop n order (here ++ next_step ∷ []) p q _ seals (in_transit_grow n order here (next_step ∷ []) p q _ seals channel.in_order)));
-      }
+  -- the channel on which it sends
+  pub channel_pushed : (q : ℕ) (seals : List Seal) (seal : Seal) → q < n → is_send_to q act ≡ true → receives a q task ≡ false → (seal.watch ≡ 0) × (seal.to ≡ q) → seal.clock ≡ (state_of_log (setup n a) (logs a ++ call ∷ [])).clock → IsChannel n done logs a q seals → IsChannel n longer after a q (seals ++ seal ∷ [])
+  channel_pushed q seals seal below send no_receive addressed carries channel = record {
+    addressed = All-push (λ (s : Seal). (s.watch ≡ 0) × (s.to ≡ q)) seals seal channel.addressed addressed;
+    in_order = ap₂ (λ got clocks. got ++ clocks) (got_stays a q below no_receive) (map_push (λ (s : Seal). s.clock) seals seal)
+        ∙ sym (append_assoc (stamps_got a (actions_of q done) (logs q)) (map (λ (s : Seal). s.clock) seals) (seal.clock ∷ []))
+        ∙ ap₂ (λ sent clock. sent ++ clock ∷ []) channel.in_order carries
+        ∙ sym (ap₂ (stamps_sent (setup n a) q) own_actions own_log ∙ stamps_sent-push (actions_of a done) (logs a) act call (follows a within) (setup n a) q send);
+  }
+
+  -- the channel from which it receives
+  pub channel_popped : (p : ℕ) (seals : List Seal) (first : Seal) → p < n → sends p a task ≡ false → is_receive_from p act ≡ true → 0 < length seals → first ≡ get_or seals 0 first → stamp_of call ≡ first.clock → IsChannel n done logs p a seals → IsChannel n longer after p a (drop 1 seals)
+  channel_popped p [] first below no_send receive some oldest carries channel = absurd (omega (arith, some))
+  channel_popped p (seal ∷ seals) first below no_send receive some oldest carries channel = record {
+    addressed = All-drop (λ (s : Seal). (s.watch ≡ 0) × (s.to ≡ a)) 1 (seal ∷ seals) channel.addressed;
+    in_order = ap (λ got. got ++ map (λ (s : Seal). s.clock) seals) (ap₂ (stamps_got p) own_actions own_log ∙ stamps_got-push (actions_of a done) (logs a) act call (follows a within) p receive)
+        ∙ append_assoc (stamps_got p (actions_of a done) (logs a)) (stamp_of call ∷ []) (map (λ (s : Seal). s.clock) seals)
+        ∙ ap (λ clock. stamps_got p (actions_of a done) (logs a) ++ clock ∷ map (λ (s : Seal). s.clock) seals) (carries ∙ ap (λ (s : Seal). s.clock) oldest)
+        ∙ channel.in_order
+        ∙ sym (sent_stays p a below no_send);
+  }
 
   -- where the task counts on one channel alone, that channel is written and each other one stays
   pub channels_set : (queues : List (List Seal)) (from to : ℕ) (seals : List Seal) → length queues ≡ n * n → from < n → to < n → ((p q : ℕ) → (p ≡ from → q ≡ to → ⊥) → (sends p q task ≡ false) × (receives p q task ≡ false)) →
-      ((p q : ℕ) → p < n → q < n → IsChannel n order place p q (queue_at queues (p * n + q))) → IsChannel n order (place + 1) from to seals →
-      (p q : ℕ) → p < n → q < n → IsChannel n order (place + 1) p q (queue_at (set queues (from * n + to) seals) (p * n + q))
+      ((p q : ℕ) → p < n → q < n → IsChannel n done logs p q (queue_at queues (p * n + q))) → IsChannel n longer after from to seals →
+      (p q : ℕ) → p < n → q < n → IsChannel n longer after p q (queue_at (set queues (from * n + to) seals) (p * n + q))
   channels_set queues from to seals all from_within to_within elsewhere before here p q p_within q_within = elim (cases_eq (p * n + q) (from * n + to)) [
     | inl same ↦
         let ends = same_from_place p q from to n q_within to_within same in
         rw (ends.0, ends.1, get_or-set_same queues (from * n + to) seals [] (omega (arith, mul-add-lt from n to n from_within to_within))) here
     | inr other ↦
         let neither = elsewhere p q (λ same_p same_q. other (rw (same_p, same_q) refl)) in
-        rw (get_or-set_other queues (from * n + to) (p * n + q) seals [] other) (channel_stays p q _ neither.0 neither.1 (before p q p_within q_within))
+        rw (get_or-set_other queues (from * n + to) (p * n + q) seals [] other) (channel_stays p q _ p_within q_within neither.0 neither.1 (before p q p_within q_within))
   ]

@@ -1,31 +1,20 @@
-use Rattle.std.proofs.Common.{◌≡◌, ◌≢◌, ℕ, ◌+◌, ◌-◌, ◌<◌, ◌≤◌, ◌↔◌, IsTrue, Bool, true, false, List, [], ◌∷◌, ◌++◌, length, slice_index, Option, Some, None, MatchOption, refl, sym, ap, ap₂, ◌∙◌, subst, ⊎_elim, append-nil, arith}
+use Rattle.std.proofs.Common.{◌≡◌, ℕ, ◌+◌, ◌↔◌, IsTrue, Bool, true, false, List, [], ◌∷◌, ◌++◌, length, Option, Some, None, MatchOption, refl, sym, ap, ap₂, ◌∙◌, subst, ⊎_elim, append-nil, arith}
 use Rattle.std.specs.List.{list_any}
 use Rattle.std.specs.Prelude.{if◌then◌else◌}
-use Rattle.std.proofs.lemmas.Bool.{cases_Bool, cases_lt, false≢true}
-use Rattle.std.proofs.lemmas.List.Sums.{fold-append}
+use Rattle.std.proofs.lemmas.Bool.{cases_Bool, false≢true}
 use Rattle.wcp_clock.specs.declared.note.Item.{Item}
 use Rattle.wcp_clock.specs.declared.note.Note.{Note}
 use Rattle.wcp_clock.specs.declared.note.Note.TheVariants as note
-use Rattle.wcp_model.specs.Computation.{Computation, communications}
-use Rattle.wcp_model.specs.ProbeLog.{Call, Observed, Closed, ProbeState, after_call, setup, state_of_log, IsAccepted}
+use Rattle.wcp_model.specs.ProbeLog.{Call, Observed, Closed, ProbeState, after_call, setup, state_of_log}
 use Rattle.wcp_clock.specs.Notes.{is_close, place_of}
 use Rattle.wcp_model.specs.Report.{snapshot_clocks}
-use Rattle.wcp_model.specs.StateClock.{IsStateClock}
-use Rattle.wcp_model.proofs.EventPlaces.{event_below}
 use Rattle.wcp_model.proofs.NotesInTurn.{log_counts_notes}
-use Rattle.wcp_model.proofs.Predecessors.{local_state, span}
-use Rattle.wcp_model.proofs.RunningLog.{log_law_holds}
+use Rattle.wcp_model.proofs.TaskLogs.{log_push}
 use Rattle.wcp_probe.specs.Core.{Core, setup_of}
-use Rattle.wcp_probe.specs.Seal.{Seal}
 use Rattle.wcp_queue.specs.Checker.{CheckerState, MayTake, TakesItem, processes}
 use Rattle.wcp_queue.proofs.NotesTaken.{notes_taken-push_same, notes_taken-push_other, MayTake-next}
 use Rattle.wcp_single.specs.declared.watched_process.WatchedProcess.{WatchedProcess}
 use Rattle.wcp_single.specs.WatchedProcess.{IsRunning, IsFed, IsFedMore, IsWatched, HasTaken, Feeds}
-use Rattle.wcp_single.specs.WorkloadRun.{Follows, IsSealOf}
-
--- the log with one more call
-pub log_push : (n p : ℕ) (log : List Call) (call : Call) → state_of_log (setup n p) (log ++ call ∷ []) ≡ after_call p (state_of_log (setup n p) log) call
-log_push n p log call = fold-append (after_call p) _ log (call ∷ [])
 
 -- the probe that has emitted a snapshot
 abbrev pub with_snapshot : Core → Core
@@ -76,16 +65,16 @@ module _ (n p : ℕ) (log : List Call) (process : WatchedProcess) (running : IsR
       let pending : probe.pending ≡ Some (note.Snap process.probe.emitted process.probe.clock) = ap (λ (core : Core). core.pending) is in
       let grown : (after_call p come_to (Observed true)).notes ≡ come_to.notes ++ note.Snap come_to.snapshots come_to.clock ∷ [] = rw (sym running_flag ∙ first.1) refl in
       ap (λ b. (state_of_log (setup n p) (log ++ Observed b ∷ [])).notes) first.0
-      ∙ ap (λ (s : ProbeState). s.notes) (log_push n p log (Observed true)) ∙ grown
+      ∙ ap (λ (s : ProbeState). s.notes) (log_push (setup n p) log (Observed true)) ∙ grown
       ∙ ap₂ (λ number clock. come_to.notes ++ note.Snap number clock ∷ []) (sym running_count) (sym running_clock)
       ∙ ap (λ notes. come_to.notes ++ pending_notes notes) (sym pending)
   observed_notes false false probe emits is =
-      ap (λ (s : ProbeState). s.notes) (log_push n p log (Observed false)) ∙ sym (append-nil come_to.notes)
+      ap (λ (s : ProbeState). s.notes) (log_push (setup n p) log (Observed false)) ∙ sym (append-nil come_to.notes)
       ∙ ap (λ notes. come_to.notes ++ pending_notes notes) (sym (ap (λ (core : Core). core.pending) is ∙ running.none_pending))
   observed_notes true false probe emits is = ⊎_elim
       (λ (set : process.probe.flag ≡ true).
       let stays : (after_call p come_to (Observed true)).notes ≡ come_to.notes = rw (sym running_flag ∙ set) refl in
-      ap (λ (s : ProbeState). s.notes) (log_push n p log (Observed true)) ∙ stays ∙ sym (append-nil come_to.notes)
+      ap (λ (s : ProbeState). s.notes) (log_push (setup n p) log (Observed true)) ∙ stays ∙ sym (append-nil come_to.notes)
       ∙ ap (λ notes. come_to.notes ++ pending_notes notes) (sym (ap (λ (core : Core). core.pending) is ∙ running.none_pending)))
       (λ (clear : process.probe.flag ≡ false). absurd (false≢true (emits.1 (refl, clear))))
       (cases_Bool process.probe.flag)
@@ -93,7 +82,7 @@ module _ (n p : ℕ) (log : List Call) (process : WatchedProcess) (running : IsR
   -- and so does a close
   closed_notes : (probe : Core) → probe ≡ record process.probe { closed = true; pending = Some (note.Close process.probe.emitted) } → (state_of_log (setup n p) (log ++ Closed ∷ [])).notes ≡ come_to.notes ++ pending_notes probe.pending
   closed_notes probe is =
-      ap (λ (s : ProbeState). s.notes) (log_push n p log Closed)
+      ap (λ (s : ProbeState). s.notes) (log_push (setup n p) log Closed)
       ∙ ap (λ count. come_to.notes ++ note.Close count ∷ []) (sym running_count)
       ∙ ap (λ notes. come_to.notes ++ pending_notes notes) (sym (ap (λ (core : Core). core.pending) is))
 
@@ -137,24 +126,3 @@ may_take_observed false old probe checker watched is =
 pub may_take_closed : (old : WatchedProcess) (probe : Core) (checker : CheckerState) → IsWatched old checker → probe ≡ record old.probe { closed = true; pending = Some (note.Close old.probe.emitted) } → MatchOption probe.pending (Unit {0}) (λ next. MayTake checker (record { from = old.id; note = next }))
 may_take_closed old probe checker watched is = subst (λ (core : Core). MatchOption core.pending (Unit {0}) (λ next. MayTake checker (record { from = old.id; note = next }))) (sym is)
     (may_take watched.n old.id watched.log old watched.running watched.items checker (note.Close old.probe.emitted) watched.fed refl)
-
--- what a process knows in a computation that was accepted
-module _ (n : ℕ) (c : Computation) (accepted : IsAccepted c) (p : ℕ) (within : p < n) (notes : List Note) (process : WatchedProcess) (follows : Follows n c p notes process) where
-  -- its clock is that of its last state
-  pub last_clock : IsStateClock n c (local_state p (communications c p)) process.probe.clock
-  last_clock = subst (IsStateClock n c (local_state p (communications c p))) (sym (running_clock n p follows.log process follows.running)) (log_law_holds n c p follows.log accepted within follows.log_is).clock
-
-  -- so it counts the events of the process
-  pub own_component : slice_index process.probe.clock process.probe.id ≡ communications c p
-  own_component = ap (slice_index process.probe.clock) follows.running.id ∙ last_clock.own
-
--- a seal of another process knows no event of this one that there isn't
-pub not_ahead : (n : ℕ) (c : Computation) (p q message : ℕ) (seal : Seal) → q < n → q ≢ p → IsSealOf n c p q message seal → slice_index seal.clock q ≤ communications c q
-not_ahead n c p q message seal within other is =
-    let known : ℕ = slice_index seal.clock q in
-    ⊎_elim (λ (some : 0 < known).
-    let before = (is.clock.others q within other (known - 1)).1 (omega arith) in
-    let path = span c (local_state q (known - 1)) before in
-    omega (arith, event_below c q (known - 1) path.ended path.ends))
-    (λ (none : known ≤ 0). omega arith)
-    (cases_lt 0 known)

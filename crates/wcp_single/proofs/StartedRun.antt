@@ -1,16 +1,17 @@
-use Rattle.std.proofs.Common.{◌≡◌, ℕ, ◌+◌, ◌*◌, ◌<◌, ◌≤◌, List, [], ◌∷◌, ◌++◌, length, replicate, get_or, All, refl, sym, ap, ◌∙◌, subst, ⊎_elim, arith}
+use Rattle.std.proofs.Common.{◌≡◌, ℕ, ◌+◌, ◌*◌, ◌<◌, ◌≤◌, List, [], ◌∷◌, ◌++◌, length, replicate, take, get_or, All, refl, sym, ap, ◌∙◌, subst, ⊎_elim, arith}
 use Rattle.std.proofs.lemmas.Bool.{cases_lt}
-use Rattle.std.proofs.lemmas.List.{length_push, length-replicate, get_or-replicate, get_or_append_left, get_or_push}
+use Rattle.std.proofs.lemmas.List.{length_push, length-replicate, length-take, take_more, get_or-replicate, get_or_append_left, get_or_push}
+use Rattle.std.proofs.lemmas.List.Elements.{All-take}
 use Rattle.std.proofs.lemmas.Nat.{mul-add-lt}
-use Rattle.std.proofs.lemmas.Option.{slice_get-get_or}
 use Rattle.wcp_clock.specs.Limits.{most_events}
 use Rattle.wcp_model.specs.declared.workload.Task.{Task}
 use Rattle.wcp_model.specs.WorkloadComputation.{IsWithin, IsFitOrder}
+use Rattle.wcp_model.proofs.AcceptedOrder.{IsFitOrder-take}
 use Rattle.wcp_probe.specs.Seal.{Seal}
 use Rattle.wcp_queue.specs.Checker.{CheckerState}
 use Rattle.wcp_single.specs.declared.watched_process.WatchedProcess.{WatchedProcess}
 use Rattle.wcp_single.specs.WatchedProcess.{IsRunning, HasTaken}
-use Rattle.wcp_single.specs.WorkloadRun.{HasComeTo, IsNextTask, AreInTransit}
+use Rattle.wcp_single.specs.WorkloadRun.{HasDone, IsChannel, IsNextTask}
 
 -- the first processes run, with nothing in their logs
 abbrev pub AreNew : ℕ → ℕ → List WatchedProcess → Type 0
@@ -27,22 +28,28 @@ one_more_new n count processes new are is = (
       (cases_lt p count),
 )
 
--- the run of an order starts there, with no message in transit
-pub run_starts : (n : ℕ) (order : List Task) (processes : List WatchedProcess) (queues : List (List Seal)) (checker : CheckerState) → AreNew n n processes → queues ≡ replicate (n * n) [] → HasTaken n [] checker → HasComeTo n order 0 processes queues checker
-run_starts n order processes queues checker are none has_taken = record {
+-- the run starts there, with no message in transit
+pub run_starts : (n : ℕ) (processes : List WatchedProcess) (queues : List (List Seal)) (checker : CheckerState) → AreNew n n processes → queues ≡ replicate (n * n) [] → HasTaken n [] checker → HasDone n [] processes queues checker
+run_starts n processes queues checker are none has_taken = record {
   processes_are = are.0;
   channels_are = ap length none ∙ length-replicate (n * n) [];
-  follows = λ p d within. record { log = []; log_is = tt; running = are.1 p d within; notes_are = refl };
+  logs = λ p. [];
+  follows = λ p below. tt;
+  running = are.1;
   items = [];
   has_taken = has_taken;
-  channels = λ p q p_within q_within.
-      let empty : get_or queues (p * n + q) [] ≡ [] = ap (λ xs. get_or xs (p * n + q) []) none ∙ get_or-replicate (n * n) (p * n + q) [] [] (mul-add-lt p n q n p_within q_within) in
-      record {
-        waiting = omega (arith, ap length empty);
-        in_order = subst (λ seals. AreInTransit n order [] p q 0 seals) (sym empty) tt;
-      };
+  all_taken = λ p below. refl;
+  channels = λ p q p_below q_below.
+      let empty : [] ≡ get_or queues (p * n + q) [] = sym (ap (λ xs. get_or xs (p * n + q) []) none ∙ get_or-replicate (n * n) (p * n + q) [] [] (mul-add-lt p n q n p_below q_below)) in
+      subst (IsChannel n [] (λ r. []) p q) empty (record { addressed = λ i d inside. absurd (omega (arith, inside)); in_order = refl });
 }
 
 -- the task at a place of a fit order is next there
-pub next_at : (n : ℕ) (order : List Task) (place : ℕ) (d : Task) → length order < most_events → All (IsWithin n) order → IsFitOrder order order → place < length order → IsNextTask n order place (get_or order place d)
-next_at n order place d few within fit inside = record { few_tasks = few; within = within; fit = fit; at = slice_get-get_or order place d inside }
+pub next_at : (n : ℕ) (order : List Task) (place : ℕ) (d : Task) → length order < most_events → All (IsWithin n) order → IsFitOrder order order → place < length order → IsNextTask n (take place order) (get_or order place d)
+next_at n order place d few within fit inside =
+    let longer : take (place + 1) order ≡ take place order ++ get_or order place d ∷ [] = take_more order place d inside in
+    record {
+      few_tasks = omega (arith, length-take place order, few);
+      within = subst (All (IsWithin n)) longer (All-take (IsWithin n) (place + 1) order within);
+      fit = subst (λ tasks. IsFitOrder tasks tasks) longer (IsFitOrder-take (place + 1) order fit);
+    }

@@ -1,22 +1,22 @@
 //! The outcome of a workload, from what a checker takes of the probes of its processes.
 ghost use Rattle.std.specs.Prelude.{◌<◌, ◌≤◌, length, All, IfOk};
 ghost use Rattle.wcp_clock.specs.Limits.{most_events, most_processes};
-ghost use Rattle.wcp_model.specs.Outcome.{IsOutcomeOf, IsWorkloadOutcome};
-ghost use Rattle.wcp_model.specs.WorkloadComputation.{CouldBeRead, IsFitOrder, IsWithin, computation_of};
+ghost use Rattle.wcp_model.specs.Outcome.{IsWorkloadOutcome};
+ghost use Rattle.wcp_model.specs.WorkloadComputation.{CouldBeRead, IsFitOrder, IsWithin};
 
 use crate::workload_run::WorkloadRun;
 use std::alloc::{AllocError, Global};
-use wcp_model::{Outcome, Task, Workload, fit_order_law};
+use wcp_model::{Outcome, Task, Workload};
 use wcp_order::{FitOrder, fit_order};
 
-/// The outcome of a fit order of n processes.
+/// The outcome of these tasks of n processes, which are a fit order.
 fn outcome(alloc: Global, n: u32, order: &[Task]) -> Result<Outcome, AllocError>
     requires some { 1 ≤ n }
     requires few { n ≤ most_processes }
     requires few_tasks { length order.now < most_events }
     requires within { All (IsWithin n) order.now }
     requires fit { IsFitOrder order.now order.now }
-    ensures { IfOk result (IsOutcomeOf n (computation_of n order.now)) }
+    ensures { IfOk result (IsWorkloadOutcome n order.now) }
 {
     let mut run = WorkloadRun::new(alloc, n)?;
     for task in order {
@@ -52,6 +52,5 @@ pub fn single_in_order(
     requires fit { IsFitOrder workload.now.tasks.items order.now }
     ensures { IfOk result (IsWorkloadOutcome workload.now.plan.n workload.now.tasks.items) }
 {
-    fit_order_law();
     outcome(alloc, workload.plan.n, order)
 }

@@ -1,15 +1,15 @@
 //! The run of a workload: one probe for each process, a queue for each channel between two, and a
 //! checker of what the probes emit.
-ghost use Rattle.std.specs.Prelude.{◌≡◌, ℕ, ◌+◌, ◌<◌, ◌≤◌, List, length, drop, Some, IfOk, OnOk};
+ghost use Rattle.std.specs.Prelude.{◌≡◌, ℕ, ◌+◌, ◌<◌, ◌≤◌, List, [], ◌∷◌, ◌++◌, length, drop, All, Some, IfOk, OnOk};
 ghost use Rattle.std.specs.List.{slice_get, slice_index_or};
 ghost use Rattle.wcp_clock.specs.Limits.{most_processes};
 ghost use Rattle.wcp_model.specs.declared.outcome.Tally.{Tally};
 ghost use Rattle.wcp_model.specs.declared.workload.Task.{Task};
-ghost use Rattle.wcp_model.specs.Outcome.{IsOutcomeOf};
-ghost use Rattle.wcp_model.specs.WorkloadComputation.{IsFitOrder, computation_of};
+ghost use Rattle.wcp_model.specs.Outcome.{IsWorkloadOutcome};
+ghost use Rattle.wcp_model.specs.WorkloadComputation.{IsWithin};
 ghost use Rattle.wcp_queue.specs.Checker.{processes, taken_of};
 ghost use Rattle.wcp_single.specs.declared.watched_process.WatchedProcess.{WatchedProcess};
-ghost use Rattle.wcp_single.specs.WorkloadRun.{IsEnding, IsNextTask, HasComeTo, queues_of};
+ghost use Rattle.wcp_single.specs.WorkloadRun.{IsEnding, IsNextTask, HasDone, queues_of};
 
 use crate::watched_process::WatchedProcess;
 use std::alloc::{AllocError, Global};
@@ -34,8 +34,7 @@ impl WorkloadRun {
     pub fn new(alloc: Global, n: u32) -> Result<WorkloadRun, AllocError>
         requires some { 0 < n }
         requires few { n ≤ most_processes }
-        ensures { IfOk result (λ run. (order : List Task)
-            → HasComeTo n order 0 run.processes.items (queues_of run) run.checker) }
+        ensures { IfOk result (λ run. HasDone n [] run.processes.items (queues_of run) run.checker) }
     {
         let mut processes = Vec::with_capacity(alloc, n as usize)?;
         for id in 0..n {
@@ -55,11 +54,11 @@ impl WorkloadRun {
     /// Does the next task.
     pub fn perform(&mut self, n: u32, task: Task) -> Result<(), AllocError>
         requires few { n ≤ most_processes }
-        requires next { (order : List Task) × (place : ℕ) × IsNextTask n order place task
-            × HasComeTo n order place self.old.processes.items (queues_of self.old) self.old.checker }
-        ensures { OnOk result ((order : List Task) (place : ℕ) → IsNextTask n order place task
-            → HasComeTo n order place self.old.processes.items (queues_of self.old) self.old.checker
-            → HasComeTo n order (place + 1) self.new.processes.items (queues_of self.new) self.new.checker) }
+        requires next { (done : List Task) × IsNextTask n done task
+            × HasDone n done self.old.processes.items (queues_of self.old) self.old.checker }
+        ensures { OnOk result ((done : List Task) → IsNextTask n done task
+            → HasDone n done self.old.processes.items (queues_of self.old) self.old.checker
+            → HasDone n (done ++ task ∷ []) self.new.processes.items (queues_of self.new) self.new.checker) }
     {
         let p = task.p as usize;
         match task.action {
@@ -78,11 +77,11 @@ impl WorkloadRun {
 
     /// Closes process `p`, after all tasks.
     pub fn close(&mut self, p: u32) -> Result<(), AllocError>
-        requires next { (n : ℕ) × (order : List Task) × (p < n)
-            × IsEnding n order p self.old.processes.items self.old.checker }
-        ensures { OnOk result ((n : ℕ) (order : List Task) → p < n → IsFitOrder order order
-            → IsEnding n order p self.old.processes.items self.old.checker
-            → IsEnding n order (p + 1) self.new.processes.items self.new.checker) }
+        requires next { (n : ℕ) × (tasks : List Task) × (p < n)
+            × IsEnding n tasks p self.old.processes.items self.old.checker }
+        ensures { OnOk result ((n : ℕ) (tasks : List Task) → p < n
+            → IsEnding n tasks p self.old.processes.items self.old.checker
+            → IsEnding n tasks (p + 1) self.new.processes.items self.new.checker) }
     {
         self.processes[p as usize].close(&mut self.checker)?;
         Ok(())
@@ -93,8 +92,8 @@ impl WorkloadRun {
         requires some { 0 < length self.now.processes.items }
         requires few { length self.now.processes.items ≤ most_processes }
         requires watched { processes self.now.checker ≡ length self.now.processes.items }
-        ensures { (n : ℕ) (order : List Task) → IsEnding n order n self.now.processes.items self.now.checker
-            → IsOutcomeOf n (computation_of n order) result }
+        ensures { (n : ℕ) (tasks : List Task) → All (IsWithin n) tasks
+            → IsEnding n tasks n self.now.processes.items self.now.checker → IsWorkloadOutcome n tasks result }
     {
         Outcome {
             report: self.checker.report(),

@@ -1,8 +1,9 @@
-use Rattle.std.proofs.Common.{refl, arith}
-use Rattle.wcp_model.specs.WorkloadComputation.{IsWithin, computation_of}
+use Rattle.std.proofs.Common.{sym, ◌∙◌, arith}
+use Rattle.std.proofs.lemmas.Result.{IfOk-weaker}
+use Rattle.wcp_model.specs.Outcome.{IsWorkloadOutcome}
+use Rattle.wcp_model.specs.WorkloadComputation.{IsWithin}
 use Rattle.wcp_order.proofs.Lengths.{same_length}
 use Rattle.wcp_model.proofs.AcceptedOrder.{IsFitOrder-itself, All-fit_order}
-use Rattle.wcp_single.proofs.AlikeOutcomes.{IsWorkloadOutcome-result}
 use Rattle.wcp_single.proofs.workload_outcome.single_in_order.Goals as goal
 
 pub outcome-requires-clause-few_tasks : goal.outcome-requires-clause-few_tasks
@@ -21,4 +22,5 @@ outcome-requires-clause-fit c = IsFitOrder-itself c.args.workload.now.tasks.item
 pub returns : goal.returns
 returns c =
     let n = c.args.workload.now.plan.n in
-    IsWorkloadOutcome-result c.fit_order_law.ensures n c.args.workload.now.tasks.items c.args.order.now (computation_of n c.args.order.now) c.outcome.result c.requires.fit refl c.outcome.ensures
+    IfOk-weaker c.outcome.result (IsWorkloadOutcome n c.args.order.now) (IsWorkloadOutcome n c.args.workload.now.tasks.items)
+    (λ outcome is other fit. is other (record { same_tasks = λ p. fit.same_tasks p ∙ sym (c.requires.fit.same_tasks p); sent_first = fit.sent_first })) c.outcome.ensures

@@ -7,7 +7,7 @@ pub loop-id-preserved : goal.loop-id-preserved
 loop-id-preserved c = subst (AreNew c.args.n (c.loop-id.id + 1)) (sym c.in_ok-push.ensures.items) (one_more_new c.args.n c.loop-id.id c.loop-id.processes.items c.new.result c.loop-id.invariant c.new.ensures)
 
 pub returns : goal.returns
-returns c = λ order.
+returns c =
     let counted : c.loop.counter ≡ c.args.n * c.args.n = omega arith in
-    run_starts c.args.n order c.loop-id.processes.items (map (λ queue. map seal_of queue.items) c.loop.in_transit.items) c.in_ok-new.field-0 c.loop.invariant.0 (c.loop.invariant.1 ∙ ap (λ count. replicate count []) counted)
+    run_starts c.args.n c.loop-id.processes.items (map (λ queue. map seal_of queue.items) c.loop.in_transit.items) c.in_ok-new.field-0 c.loop.invariant.0 (c.loop.invariant.1 ∙ ap (λ count. replicate count []) counted)
     (record { watched = c.in_ok-new.ensures.processes; stands = c.in_ok-new.ensures.empty })
