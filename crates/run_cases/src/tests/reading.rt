@@ -1,0 +1,143 @@
+ghost use Rattle.wcp_run.specs.CheckerEnds.{IsFreshFor};
+
+use super::watches::{emit_all, open};
+use std::alloc::{AllocError, Global};
+use std::sync::atomic::{AtomicBool, Ordering};
+use std::sync::{Mutex, Wait};
+use std::test::Fail;
+use std::thread;
+use std::thread::{Threads, join, map_vec};
+use wcp_book::Book;
+use wcp_model::{Tally, plain_plan};
+use wcp_queue::Checker;
+use wcp_run::{CheckerEnd, check_loop};
+use wcp_tree::{CheckerInbox, LiveProbe, Relay, Watch};
+
+/// The snapshots of each process.
+const SNAPSHOTS: u32 = 100;
+
+/// What runs in a thread of its own.
+#[derive(Drop)]
+enum Job {
+    Probe(LiveProbe),
+    Relay(Relay),
+}
+
+/// The probes and the relays, each as a job.
+fn jobs_of(
+    alloc: Global,
+    probes: Vec<LiveProbe>,
+    relays: Vec<Relay>,
+) -> Result<Vec<Job>, AllocError> {
+    let mut jobs = Vec::new(alloc);
+    for probe in probes {
+        jobs.push(Job::Probe(probe))?;
+    }
+    for relay in relays {
+        jobs.push(Job::Relay(relay))?;
+    }
+    Ok(jobs)
+}
+
+/// Runs each job in a thread of its own. Whether it was well for all.
+fn run_all<R: Threads + Wait + Sync>(rt: &R, jobs: Vec<Job>) -> Result<Vec<bool>, AllocError> {
+    map_vec(
+        rt,
+        jobs,
+        &|job: Job| match job {
+            Job::Probe(probe) => emit_all(rt, probe, SNAPSHOTS).emitted() == SNAPSHOTS,
+            Job::Relay(relay) => relay.run(rt).fault().is_none(),
+        },
+    )
+}
+
+/// Reads the totals until the loop has ended. Whether they never fell, and only whole shares were in them.
+fn rises(rt: &impl Wait, book: &Mutex<Book>, ended: &AtomicBool) -> bool {
+    let whole = u64::from(SNAPSHOTS);
+    let mut before = Tally {
+        emitted: 0,
+        taken: 0,
+    };
+    for _ in rt.forever() {
+        let last = ended.load(Ordering::SeqCst);
+        let now = book.lock(rt).totals();
+        if now.taken < before.taken || now.taken % whole != 0 || now.emitted != now.taken {
+            return false;
+        }
+        if last {
+            return true;
+        }
+        before = now;
+        thread::yield_now();
+    }
+    unreachable!()
+}
+
+/// The checker's loop, and beside it a reader of the book.
+fn check_and_read<R: Threads + Wait + Sync>(
+    rt: &R,
+    inbox: CheckerInbox,
+    checker: Checker,
+    book: &Mutex<Book>,
+) -> (CheckerEnd, bool)
+    requires { IsFreshFor inbox checker }
+{
+    let ended = AtomicBool::new(false);
+    join(
+        rt,
+        || -> CheckerEnd
+            requires { IsFreshFor inbox checker }
+        {
+            let end = check_loop(rt, inbox, checker, book);
+            ended.store(true, Ordering::SeqCst);
+            end
+        },
+        || rises(rt, book, &ended),
+    )
+}
+
+/// The jobs, the checker's loop and the reader, in threads.
+fn run_and_read<R: Threads + Wait + Sync>(
+    rt: &R,
+    jobs: Vec<Job>,
+    inbox: CheckerInbox,
+    checker: Checker,
+    book: &Mutex<Book>,
+) -> Result<(Vec<bool>, CheckerEnd, bool), AllocError>
+    requires { IsFreshFor inbox checker }
+{
+    let (done, (end, rose)) = join(
+        rt,
+        || run_all(rt, jobs),
+        || -> (CheckerEnd, bool)
+            requires { IsFreshFor inbox checker }
+        { check_and_read(rt, inbox, checker, book) },
+    );
+    Ok((done?, end, rose))
+}
+
+#[test]
+fn totals_never_fall_while_sixteen_probes_run(rt: HostRuntime) -> Result<(), Fail> {
+    let plan = plain_plan(rt.alloc(), 16, 8, 4)?;
+    let (watch, checker) = open(rt.alloc(), &plan)?;
+    let Watch {
+        probes,
+        relays,
+        inbox,
+    } = watch;
+    let jobs = jobs_of(rt.alloc(), probes, relays)?;
+    let book = Mutex::new(Book::new(16));
+    let (done, end, rose) = run_and_read(&rt, jobs, inbox, checker, &book)?;
+    assert!(rt; done.iter().all(|whole| *whole));
+    assert_eq!(rt; end.fault(), None);
+    assert!(rt; rose);
+    let all = 16 * u64::from(SNAPSHOTS);
+    assert_eq!(rt;
+        book.into_inner().totals(),
+        Tally {
+            emitted: all,
+            taken: all
+        }
+    );
+    Ok(())
+}

@@ -1,0 +1,96 @@
+//! Watches whose processes emit, for the tests.
+ghost use Rattle.std.specs.Prelude.{IfOk};
+ghost use Rattle.wcp_model.specs.PlanFault.{IsCheckedPlan};
+ghost use Rattle.wcp_run.specs.CheckerEnds.{IsFreshFor};
+
+use std::alloc::{AllocError, Global};
+use std::sync::{Mutex, Wait};
+use std::thread;
+use wcp_book::Book;
+use wcp_model::Plan;
+use wcp_queue::Checker;
+use wcp_run::{CheckerEnd, check_loop};
+use wcp_tree::opening::watch;
+use wcp_tree::{LiveProbe, ProbeEnd, Watch};
+
+/// The watch of a plan, and a checker for its inbox. Where memory runs out, asking again makes them.
+pub fn open(alloc: Global, plan: &Plan) -> Result<(Watch, Checker), AllocError>
+    requires { IsCheckedPlan plan.now }
+    ensures { IfOk result (λ opened. IsFreshFor opened.0.inbox opened.1) }
+{
+    match open_once(alloc, plan) {
+        Ok(opened) => Ok(opened),
+        Err(_) => open_once(alloc, plan),
+    }
+}
+
+fn open_once(alloc: Global, plan: &Plan) -> Result<(Watch, Checker), AllocError>
+    requires { IsCheckedPlan plan.now }
+    ensures { IfOk result (λ opened. IsFreshFor opened.0.inbox opened.1) }
+{
+    let watch = watch(alloc, plan, 7)?;
+    let checker = Checker::new(alloc, plan.n)?;
+    Ok((watch, checker))
+}
+
+/// A watch that runs in one thread: each process emits one snapshot, then the first `count` relays run, the highest
+/// number first, and then the checker's loop. The other relays are gone.
+pub fn run_in_one_thread(
+    rt: &impl Wait,
+    alloc: Global,
+    plan: &Plan,
+    count: usize,
+    book: &Mutex<Book>,
+) -> Result<CheckerEnd, AllocError>
+    requires { IsCheckedPlan plan.now }
+{
+    let (watch, checker) = open(alloc, plan)?;
+    let Watch {
+        probes,
+        mut relays,
+        inbox,
+    } = watch;
+    relays.truncate(count);
+    for probe in probes {
+        let _ = emit_all(rt, probe, 1);
+    }
+    for relay in relays.into_iter().rev() {
+        let _ = relay.run(rt);
+    }
+    Ok(check_loop(rt, inbox, checker, book))
+}
+
+/// Emits so many snapshots, with a send behind each, and closes.
+pub fn emit_all(rt: &impl Wait, mut probe: LiveProbe, snapshots: u32) -> ProbeEnd {
+    let to = if probe.id() == 0 { 1 } else { 0 };
+    for _ in 0..snapshots {
+        probe.observe(true);
+        flush_waiting(rt, &mut probe);
+        let _ = probe.stamp(to, ());
+    }
+    close_waiting(rt, probe)
+}
+
+/// Puts what is pending, and waits for room.
+fn flush_waiting(rt: &impl Wait, probe: &mut LiveProbe) {
+    for _ in rt.forever() {
+        if probe.flush() {
+            return;
+        }
+        thread::yield_now();
+    }
+    unreachable!()
+}
+
+/// Closes the probe, and waits for room for its close mark.
+fn close_waiting(rt: &impl Wait, probe: LiveProbe) -> ProbeEnd {
+    let mut open = probe;
+    for _ in rt.forever() {
+        match open.close() {
+            Ok(end) => return end,
+            Err((_, back)) => open = back,
+        }
+        thread::yield_now();
+    }
+    unreachable!()
+}
