@@ -46,3 +46,7 @@ most_lane = 65536
 -- A count of the snapshots of a process is at most 4,294,967,296.
 abbrev pub most_snapshots : ℕ
 most_snapshots = 4294967296
+
+-- A worker gives up once a gate has held it back 50,000,000 times in a row.
+abbrev pub most_gate_turns : ℕ
+most_gate_turns = 50000000

@@ -31,3 +31,6 @@ pub const MAX_READS: u32 = 4_194_304;
 
 /// The most messages that a lane has room for.
 pub const MAX_LANE: u32 = 65_536;
+
+/// How many times in a row a gate may hold a worker back before it gives up.
+pub const GATE_TURNS: u32 = 50_000_000;

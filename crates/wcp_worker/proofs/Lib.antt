@@ -1,0 +1,2 @@
+pub mod TakenMore
+pub mod OneMoreAction

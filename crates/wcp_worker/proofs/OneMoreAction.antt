@@ -1,0 +1,111 @@
+-- What a player has done, with one more action, and once it is closed.
+use Rattle.std.proofs.Common.{◌≡◌, ℕ, Bool, true, false, List, [], ◌∷◌, ◌++◌, cond, sym, refl, ap, ◌∙◌, subst}
+use Rattle.std.proofs.lemmas.List.{append-nil}
+use Rattle.wcp_model.specs.declared.workload.Action.{Action}
+use Rattle.wcp_model.specs.ProbeLog.{Call, Closed, ProbeSetup, state_of_log}
+use Rattle.wcp_model.specs.TaskLog.{FollowsActions, stamp_of, stamps_sent, stamps_got}
+use Rattle.wcp_model.specs.WorkloadComputation.{is_send_to, is_receive_from}
+use Rattle.wcp_model.proofs.TaskLogs.{FollowsActions-push, stamps_sent-push, stamps_sent-push_other, stamps_got-push, stamps_got-push_other}
+use Rattle.wcp_probe.specs.Core.{Core, IsSameProbe, setup_of}
+use Rattle.wcp_tree.specs.LiveProbe.{LiveSide, ClosedSide, emissions_of}
+use Rattle.wcp_worker.specs.declared.lanes.Outbox.{Outbox}
+use Rattle.wcp_worker.specs.declared.lanes.Inbox.{Inbox}
+use Rattle.wcp_worker.specs.declared.mailbox.Mailbox.{Mailbox}
+use Rattle.wcp_worker.specs.declared.player.Player.{Player}
+use Rattle.wcp_worker.specs.declared.worker.Worker.{Worker}
+use Rattle.wcp_worker.specs.Lanes.{IfBoth, HasTakenMore, IsSameOutbox, IsSameInbox}
+use Rattle.wcp_worker.specs.Mailboxes.{HasSameLanes, outbox_to, inbox_from, clocks_sent, clocks_taken}
+use Rattle.wcp_worker.specs.Probes.{IsSameLive, IsEndOfProbe}
+use Rattle.wcp_worker.specs.Played.{Performs, HasDone, HasPlayed}
+use Rattle.wcp_worker.proofs.TakenMore.{both_then, entry_same, entry_front}
+
+-- a kept probe was made with the same
+pub same_setup : (old new : Core) → IsSameProbe old new → setup_of new ≡ setup_of old
+same_setup old new same = λ i. record { processes = same.components i; process = same.id i }
+
+same_live : (a b c : LiveSide) → IsSameLive a b → IsSameLive b c → IsSameLive a c
+same_live a b c first then = (
+  record {
+    watch = then.0.watch ∙ first.0.watch;
+    id = then.0.id ∙ first.0.id;
+    limit = then.0.limit ∙ first.0.limit;
+    components = then.0.components ∙ first.0.components;
+  },
+  then.1 ∙ first.1,
+)
+
+same_lanes : (a b c : Mailbox) → HasSameLanes a b → HasSameLanes b c → HasSameLanes a c
+same_lanes a b c first then =
+    record {
+      outboxes = λ q. both_then IsSameOutbox (λ x y z one two. (two.0 ∙ one.0, two.1 ∙ one.1))
+          (outbox_to a q) (outbox_to b q) (outbox_to c q) (first.outboxes q) (then.outboxes q);
+      inboxes = λ q. both_then IsSameInbox (λ x y z one two. (two.0 ∙ one.0, two.1 ∙ one.1))
+          (inbox_from a q) (inbox_from b q) (inbox_from c q) (first.inboxes q) (then.inboxes q);
+    }
+
+-- one more call of a log that follows actions, with what it adds to the stamps
+module _ (actions : List Action) (log : List Call) (act : Action) (call : Call) (follows : FollowsActions actions log) (q : ℕ) where
+  sent_more : (made : ProbeSetup) (passes : Bool) → is_send_to q act ≡ passes
+      → stamps_sent made q actions log ++ cond passes ((state_of_log made (log ++ call ∷ [])).clock ∷ []) []
+      ≡ stamps_sent made q (actions ++ act ∷ []) (log ++ call ∷ [])
+  sent_more made true is = sym (stamps_sent-push actions log act call follows made q is)
+  sent_more made false is = append-nil _ ∙ sym (stamps_sent-push_other actions log act call follows made q is)
+
+  got_more : (passes : Bool) → is_receive_from q act ≡ passes
+      → stamps_got q actions log ++ cond passes (stamp_of call ∷ []) []
+      ≡ stamps_got q (actions ++ act ∷ []) (log ++ call ∷ [])
+  got_more true is = sym (stamps_got-push actions log act call follows q is)
+  got_more false is = append-nil _ ∙ sym (stamps_got-push_other actions log act call follows q is)
+
+-- a player that does one more action has done this too
+pub done_more : (start old new : Player) (actions : List Action) (log : List Call) (act : Action) (call : Call)
+    → HasDone start actions log old → Performs old act call new → IsSameLive old.probe new.probe
+    → HasDone start (actions ++ act ∷ []) (log ++ call ∷ []) new
+done_more start old new actions log act call done by same =
+    let stands = by.accepted log done.stands in
+    let made = same_setup old.probe.core new.probe.core same.0 in
+    record {
+      follows = FollowsActions-push actions log act call done.follows by.is_call;
+      stands = stands;
+      probe = same_live start.probe old.probe new.probe done.probe same;
+      lanes = same_lanes start.mailbox old.mailbox new.mailbox done.lanes by.lanes;
+      own = by.own;
+      sent = λ q.
+          by.sent q
+          ∙ (λ i. (ap (λ p. clocks_sent p old.mailbox q) same.0.id ∙ done.sent q ∙ ap (λ s. stamps_sent s q actions log) (sym made)) i
+          ++ cond (is_send_to q act) (stands.core.clock i ∷ []) [])
+          ∙ sent_more actions log act call done.follows q (setup_of new.probe.core) (is_send_to q act) refl;
+      taken = λ q.
+          by.taken q
+          ∙ ap (λ clocks. clocks ++ cond (is_receive_from q act) (stamp_of call ∷ []) []) (done.taken q)
+          ∙ got_more actions log act call done.follows q (is_receive_from q act) refl;
+    }
+
+-- a player that has done all its worker's actions, and then closed its probe and taken more, has played them
+pub all_played : (worker : Worker) (now : Player) (log : List Call) (probe : ClosedSide) (mailbox : Mailbox)
+    → HasDone (record { probe = worker.probe; mailbox = worker.mailbox }) worker.actions.items log now
+    → IsEndOfProbe now.probe probe → probe.link.put ≡ emissions_of now.probe.core (log ++ Closed ∷ [])
+    → mailbox.outboxes ≡ now.mailbox.outboxes
+    → ((q : ℕ) → IfBoth (HasTakenMore q) (inbox_from now.mailbox q) (inbox_from mailbox q))
+    → HasPlayed worker log probe mailbox
+all_played worker now log probe mailbox done end emitted outboxes more =
+    let same = done.probe in
+    let made = same_setup worker.probe.core now.probe.core same.0 in
+    let actions = worker.actions.items in
+    record {
+      follows = done.follows;
+      closed = record { watch = end.watch ∙ same.0.watch; id = end.id ∙ same.0.id; ring = end.ring ∙ same.1 };
+      emitted = emitted ∙ ap (λ s. (state_of_log s (log ++ Closed ∷ [])).notes) made;
+      lanes = record {
+        outboxes = subst (λ o. (q : ℕ) → IfBoth IsSameOutbox (outbox_to worker.mailbox q) (outbox_to (record now.mailbox { outboxes = o }) q)) (sym outboxes) done.lanes.outboxes;
+        inboxes = λ q. both_then IsSameInbox (λ x y z one two. (two.0 ∙ one.0, two.1 ∙ one.1))
+            (inbox_from worker.mailbox q) (inbox_from now.mailbox q) (inbox_from mailbox q) (done.lanes.inboxes q)
+            (entry_same q (inbox_from now.mailbox q) (inbox_from mailbox q) (more q));
+      };
+      sent = λ q.
+          (λ i. clocks_sent (sym same.0.id i) (record now.mailbox { outboxes = outboxes i }) q)
+          ∙ done.sent q ∙ ap (λ s. stamps_sent s q actions log) made;
+      taken = λ q.
+          subst (λ stamps. (rest : List (List ℕ)) × (stamps ++ rest ≡ clocks_taken mailbox q)) (done.taken q)
+          (entry_front q (inbox_from now.mailbox q) (inbox_from mailbox q) (more q) (done.own.inboxes q));
+    }

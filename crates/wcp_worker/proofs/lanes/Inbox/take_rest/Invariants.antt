@@ -1,0 +1,6 @@
+use Rattle.std.proofs.Common.{ℕ}
+use Rattle.wcp_worker.specs.Lanes.{HasTakenMore}
+use Rattle.wcp_worker.proofs.lanes.Inbox.take_rest.Given as goal
+
+abbrev pub invariant-loop : goal.invariant-loop
+invariant-loop g l = (q : ℕ) → HasTakenMore q l.initial.self l.self

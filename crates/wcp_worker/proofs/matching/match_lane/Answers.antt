@@ -1,0 +1,17 @@
+use Rattle.std.proofs.Common.{◌≡◌, true, false, length, sym, ap, ◌∙◌, rules}
+use Rattle.std.specs.FinSet as set
+use Rattle.wcp_lane.specs.Ends.{PutEnd}
+use Rattle.wcp_worker.specs.declared.message.Message.{Message}
+use Rattle.wcp_worker.specs.Lanes.{messages_from}
+use Rattle.wcp_worker.proofs.matching.match_lane.Goals as goal
+
+pub returns-in_err-_receipt-clause-exact : goal.returns-in_err-_receipt-clause-exact
+returns-in_err-_receipt-clause-exact c = (
+  search rules,
+  λ all.
+      let no : false ≡ true = c.in_err-_receipt.ensures.exact.1 (λ p member.
+      ap (λ taken. length (messages_from p taken)) c.end.ensures.taken
+      ∙ all p (sym (ap (λ (e : PutEnd Message). set.contains e.members p) c.end-2.ensures) ∙ member)
+      ∙ sym (ap (λ (e : PutEnd Message). length (messages_from p e.put)) c.end-2.ensures)) in
+      cc,
+)

@@ -1,0 +1,17 @@
+use Rattle.std.proofs.Common.{rules, ◌∙◌, sym, refl, subst, ap, ◌++◌, []}
+use Rattle.std.proofs.lemmas.Grind.{common_steps}
+use Rattle.wcp_model.specs.ProbeLog.{Received}
+use Rattle.wcp_worker.proofs.player.Player.receive.Goals as goal
+
+pub returns-in-Ok-clause-done : goal.returns-in-Ok-clause-done
+returns-in-Ok-clause-done g c = (
+  Received c.in_ok-stamped.stamped.clock,
+  record {
+    is_call = tt;
+    accepted = search rules;
+    lanes = search rules;
+    own = search rules;
+    sent = search rules;
+    taken = search rules;
+  },
+)

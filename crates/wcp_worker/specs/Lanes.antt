@@ -1,0 +1,53 @@
+-- The lanes between workers, and the messages that went over them.
+use Rattle.std.specs.Prelude.{◌≡◌, ℕ, true, Option, Some, None, List, [], length, map}
+use Rattle.std.specs.FinSet as set
+use mathlib.Core.List.{IsPrefix}
+use Rattle.wcp_probe.specs.Seal.{seal_of}
+use Rattle.wcp_lane.specs.Message as lane
+use Rattle.wcp_worker.specs.declared.message.Message.{Message}
+use Rattle.wcp_worker.specs.declared.lanes.Outbox.{Outbox}
+use Rattle.wcp_worker.specs.declared.lanes.Inbox.{Inbox}
+
+-- The messages of process p among these, in order.
+abbrev pub messages_from : ℕ → List Message → List Message
+messages_from p messages = lane.items_from (λ (m : Message). m.stamped.from) p messages
+
+-- The clocks that the stamps of these messages carry.
+abbrev pub clocks_from : ℕ → List Message → List (List ℕ)
+clocks_from p messages = map (λ message. (seal_of message.stamped).clock) (messages_from p messages)
+
+-- By this end process p sends: it puts the messages of p, and counts them.
+pub record IsOutboxOf (p : ℕ) (outbox : Outbox) : Type 0 where
+  pub own : set.contains outbox.putter.members p ≡ true
+  pub counted : outbox.sent ≡ length (messages_from p outbox.putter.put)
+
+-- By this end the messages of process q come, and no others.
+abbrev pub IsInboxOf : ℕ → Inbox → Type 0
+IsInboxOf q inbox = (p : ℕ) → set.contains inbox.taker.members p ≡ true → p ≡ q
+
+-- An end keeps its lane and its processes.
+abbrev pub IsSameOutbox : Outbox → Outbox → Type 0
+IsSameOutbox old new = (new.putter.lane ≡ old.putter.lane) × (new.putter.members ≡ old.putter.members)
+
+abbrev pub IsSameInbox : Inbox → Inbox → Type 0
+IsSameInbox old new = (new.taker.lane ≡ old.taker.lane) × (new.taker.members ≡ old.taker.members)
+
+-- By an end more of q has come: what had come before is a front of it.
+pub record HasTakenMore (q : ℕ) (old new : Inbox) : Type 0 where
+  pub same : IsSameInbox old new
+  pub front : IsInboxOf q old → IsPrefix (clocks_from q old.taker.taken) (clocks_from q new.taker.taken)
+
+-- Both are there and this holds of them, or neither is there.
+abbrev pub IfBoth : {A : Type 0} → (A → A → Type 0) → Option A → Option A → Type 0
+IfBoth holds (Some a) (Some b) = holds a b
+IfBoth holds None None = Unit {0}
+IfBoth holds _ _ = ⊥
+
+-- What was put or taken by an end, if it is there.
+abbrev pub put_by : Option Outbox → List Message
+put_by (Some outbox) = outbox.putter.put
+put_by None = []
+
+abbrev pub taken_by : Option Inbox → List Message
+taken_by (Some inbox) = inbox.taker.taken
+taken_by None = []

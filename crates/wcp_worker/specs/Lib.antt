@@ -1,0 +1,4 @@
+pub mod Lanes
+pub mod Mailboxes
+pub mod Played
+pub mod Probes

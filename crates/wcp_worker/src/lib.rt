@@ -1,0 +1,20 @@
+//! Workers: each plays a process of a workload in a thread, by its live probe and by the lanes to its partners.
+#![tactic(auto)]
+
+mod gate;
+mod lanes;
+mod mailbox;
+mod matching;
+mod message;
+mod player;
+mod ring_room;
+mod worker;
+mod worker_end;
+
+pub use gate::{Gate, Open};
+pub use lanes::{Inbox, Outbox};
+pub use mailbox::Mailbox;
+pub use matching::match_lane;
+pub use message::Message;
+pub use worker::Worker;
+pub use worker_end::{WorkerEnd, WorkerFault};
