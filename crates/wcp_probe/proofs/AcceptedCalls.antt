@@ -1,21 +1,17 @@
-use Rattle.std.proofs.Common.{◌≡◌, ℕ, zero, suc, max, ◌+◌, ◌<◌, ◌≤◌, Bool, true, false, List, [], ◌∷◌, ◌++◌, Some, length, slice_index, slice_set, refl, sym, ap, ◌∙◌, subst, arith, cond, MatchOption, if◌then◌else◌}
+use Rattle.std.proofs.Common.{◌≡◌, ℕ, zero, suc, max, ◌+◌, ◌<◌, ◌≤◌, Bool, true, false, List, [], ◌∷◌, ◌++◌, Some, length, slice_index, slice_set, refl, sym, ap, ◌∙◌, subst, arith, cond, MatchOption}
 use Rattle.std.proofs.lemmas.List.{length-set, get_or-set_same}
-use Rattle.std.proofs.lemmas.List.Sums.{fold_push}
 use Rattle.wcp_clock.specs.declared.note.Note.{Note}
 use Rattle.wcp_clock.specs.declared.note.Note.TheVariants as note
 use Rattle.wcp_clock.specs.Merge.{merged}
 use Rattle.wcp_clock.proofs.Merging.{length-merged, slice_index-merged}
-use Rattle.wcp_model.specs.ProbeLog.{Call, Observed, Sent, Received, Closed, ProbeState, after_call, setup, state_of_log}
+use Rattle.wcp_model.specs.ProbeLog.{Call, Observed, Received, Closed, ProbeState, after_call, setup, state_of_log}
+use Rattle.wcp_model.proofs.TaskLogs.{log_push}
 use Rattle.wcp_probe.specs.Core.{Core, StandsForLog, Accepts, IsLast, setup_of}
-
--- a log with one more call leads to what the call makes of what the log leads to
-pub state_after : (n p : ℕ) (log : List Call) (call : Call) → state_of_log (setup n p) (log ++ call ∷ []) ≡ after_call p (state_of_log (setup n p) log) call
-state_after n p log call = fold_push (after_call p) _ log call
 
 -- closing makes the close mark the last emission
 pub close_accepted : (core : Core) → Accepts core Closed (record core { closed = true; pending = Some (note.Close core.emitted) })
 close_accepted core log stands =
-    let after = state_after (length core.clock) core.id log Closed in
+    let after = log_push (setup_of core) log Closed in
     record {
       clock = stands.clock ∙ sym (ap (λ (s : ProbeState). s.clock) after);
       flag = stands.flag ∙ sym (ap (λ (s : ProbeState). s.flag) after);
@@ -34,7 +30,7 @@ observed_again p s flagged = ap (λ b. cond b s (record s { flag = true; snapsho
 -- a call that changes nothing of what the log leads to leaves the probe as it is
 pub nothing_accepted : (core : Core) (log : List Call) (call : Call) → after_call core.id (state_of_log (setup_of core) log) call ≡ state_of_log (setup_of core) log → StandsForLog core log → StandsForLog core (log ++ call ∷ [])
 nothing_accepted core log call same stands =
-    let after = state_after (length core.clock) core.id log call ∙ same in
+    let after = log_push (setup_of core) log call ∙ same in
     record {
       clock = stands.clock ∙ sym (ap (λ (s : ProbeState). s.clock) after);
       flag = stands.flag ∙ sym (ap (λ (s : ProbeState). s.flag) after);
@@ -52,7 +48,7 @@ quiet_accepted core true quiet log stands = nothing_accepted core log (Observed 
 pub snapshot_accepted : (core : Core) → core.flag ≡ false → Accepts core (Observed true) (record core { flag = true; emitted = core.emitted + 1; pending = Some (note.Snap core.emitted core.clock) })
 snapshot_accepted core unflagged log stands =
     let s = state_of_log (setup_of core) log in
-    let after = state_after (length core.clock) core.id log (Observed true) ∙ observed_first core.id s (sym stands.flag ∙ unflagged) in
+    let after = log_push (setup_of core) log (Observed true) ∙ observed_first core.id s (sym stands.flag ∙ unflagged) in
     record {
       clock = stands.clock ∙ sym (ap (λ (s : ProbeState). s.clock) after);
       flag = sym (ap (λ (s : ProbeState). s.flag) after);
@@ -65,7 +61,7 @@ snapshot_accepted core unflagged log stands =
 pub receive_accepted : (core : Core) (stamp clock : List ℕ) → length clock ≡ length core.clock → clock ≡ slice_set (merged core.clock stamp) core.id (slice_index core.clock core.id + 1) → Accepts core (Received stamp) (record core { clock = clock; flag = false })
 receive_accepted core stamp clock same_length is log stands =
     let grown = log ++ Received stamp ∷ [] in
-    let pushed = state_after (length core.clock) core.id log (Received stamp) in
+    let pushed = log_push (setup_of core) log (Received stamp) in
     let after : state_of_log (setup (length clock) core.id) grown ≡ after_call core.id (state_of_log (setup_of core) log) (Received stamp) = ap (λ n. state_of_log (setup n core.id) grown) same_length ∙ pushed in
     record {
       clock = is ∙ ap (λ v. slice_set (merged v stamp) core.id (slice_index v core.id + 1)) stands.clock ∙ sym (ap (λ (s : ProbeState). s.clock) after);

@@ -16,7 +16,7 @@ use Rattle.wcp_model.specs.declared.step.Reply.TheVariants.{Done, Refused}
 use Rattle.wcp_model.specs.declared.step.Why.{Why}
 use Rattle.wcp_model.specs.Computation.{Computation, is_communication_of, is_send, communications, interval_at}
 use Rattle.wcp_model.specs.Emission.{is_closed}
-use Rattle.wcp_model.specs.ProbeLog.{Call, Observed, Sent, Received, Closed, ProbeSetup, ProbeState, after_call, is_step_of, IsStampOf, IsCallOf, IsLogOf, IsAccepted}
+use Rattle.wcp_model.specs.ProbeLog.{Call, Observed, Sent, Received, Closed, ProbeSetup, ProbeState, after_call, setup, is_step_of, IsStampOf, IsCallOf, IsLogOf, IsAccepted}
 use Rattle.wcp_model.specs.Replies.{accepted_by, event_reasons}
 use Rattle.wcp_model.specs.StateClock.{IsStateClock}
 use Rattle.wcp_model.proofs.Growth.{get_behind}
@@ -24,12 +24,12 @@ use Rattle.wcp_model.proofs.GrowingLogs.{stamp_grows, log_grows}
 use Rattle.wcp_model.proofs.AcceptedSteps.{accepted_push}
 use Rattle.wcp_model.proofs.Predecessors.{local_state}
 use Rattle.wcp_model.proofs.RunningEmissions.{interval_at_seam}
+use Rattle.wcp_model.proofs.TaskLogs.{log_push}
 use Rattle.wcp_probe.specs.declared.probe.Refusal.TheVariants as refusal
 use Rattle.wcp_probe.specs.declared.stamp.Stamped.{Stamped}
 use Rattle.wcp_probe.specs.Core.{Core, Accepts, IsSameProbe}
 use Rattle.wcp_probe.specs.Refusals.{at_clock_end, observe_refusal, close_refusal, stamp_refusal}
 use Rattle.wcp_probe.specs.Seal.{seal_of}
-use Rattle.wcp_probe.proofs.AcceptedCalls.{state_after}
 use Rattle.wcp_world.specs.declared.messages.Letter.{Letter}
 use Rattle.wcp_world.specs.Answer.{IsAnswer, KeepsIfRefused}
 use Rattle.wcp_world.specs.Processes.{ProcessesState, AreProcessesOf, IsProbeOf, AreLettersOf, pending_at}
@@ -156,8 +156,8 @@ module _ (n : ℕ) (c : Computation) (put : ℕ → List Note) (app : ProcessesS
         stands = accepted is.log is.stands;
         watch = same.watch ∙ is.watch;
         limit = same.limit ∙ is.limit;
-        made = same.made ∙ is.made;
-        notes = ap (λ (t : ProbeState). t.notes) (state_after n p is.log call) ∙ notes;
+          made = same.made ∙ is.made;
+          notes = ap (λ (t : ProbeState). t.notes) (log_push (setup n p) is.log call) ∙ notes;
       }
 
       -- the probe of another process
