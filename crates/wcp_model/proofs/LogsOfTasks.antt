@@ -29,15 +29,15 @@ use Rattle.wcp_model.proofs.StepsOfOrder.{length-steps_from, step_at, message_at
 use Rattle.wcp_model.proofs.TaskLogs.{same_length, call_for, stamp_sent_at, stamp_got_at}
 
 -- the first steps of the computation of an order
-abbrev pub front : ℕ → List Task → ℕ → Computation
+abbrev front : ℕ → List Task → ℕ → Computation
 front n order place = take place (computation_of n order)
 
 -- how many tasks of a process stand before a place
-abbrev pub done : List Task → ℕ → ℕ → ℕ
+abbrev done : List Task → ℕ → ℕ → ℕ
 done order p place = count_by (is_task_of p) (take place order)
 
 -- one more element of a front
-pub take_next : {X : Type 0} (xs : List X) (i : ℕ) (x : X) → slice_get xs i ≡ Some x → take (i + 1) xs ≡ take i xs ++ x ∷ []
+take_next : {X : Type 0} (xs : List X) (i : ℕ) (x : X) → slice_get xs i ≡ Some x → take (i + 1) xs ≡ take i xs ++ x ∷ []
 take_next xs i x at = take_more xs i x (slice_get_within xs i x at) ∙ ap (λ y. take i xs ++ y ∷ []) (get_or_from_slice_get xs i x x at)
 
 -- the action of a task stands behind those of its process before it
@@ -56,7 +56,6 @@ actions_before order p place =
 pub count_actions : (test : Action → Bool) (p : ℕ) (tasks : List Task) → count_by test (actions_of p tasks) ≡ count_by (λ task. is_task_of p task && test task.action) tasks
 count_actions test p [] = refl
 count_actions test p (task ∷ tasks) =
-    let counts : ℕ → ℕ = λ k. k + count_by (λ task. is_task_of p task && test task.action) tasks in
     elim (cases_Bool (is_task_of p task)) [
       | inl own ↦
           ap (λ kept. count_by test (map (λ (t : Task). t.action) kept)) (filter_yes (is_task_of p) task tasks own)
@@ -86,7 +85,7 @@ stamp_below n c message q stamp below is =
     (cases_lt 0 known)
 
 -- the step of a task is of its process
-pub step_owner : (order earlier : List Task) (p q : ℕ) (a : Action) → is_step_of q (step_of order earlier p a) ≡ is_step_of q (step.Close p)
+step_owner : (order earlier : List Task) (p q : ℕ) (a : Action) → is_step_of q (step_of order earlier p a) ≡ is_step_of q (step.Close p)
 step_owner order earlier p q (action.Observe holds) = refl
 step_owner order earlier p q (action.Send to) = refl
 step_owner order earlier p q (action.Recv from) = refl
@@ -111,11 +110,11 @@ one_close_of p from (suc n) behind within = elim (cases_eq from p) [
 -- logs of the tasks of a fit order
 module _ (n : ℕ) (order : List Task) (within : All (IsWithin n) order) (fit : IsFitOrder order order) (logs : ℕ → List Call) (are : AreLogsOfTasks n order logs) where
   -- what a process has logged at a place
-  abbrev pub log_at : ℕ → ℕ → List Call
+  abbrev log_at : ℕ → ℕ → List Call
   log_at p place = take (done order p place) (logs p)
 
   -- at a place, it is the log of the process in the front of the computation
-  abbrev pub AreLogsAt : ℕ → Type 0
+  abbrev AreLogsAt : ℕ → Type 0
   AreLogsAt place = (p : ℕ) → p < n → IsLogOf n (front n order place) p (log_at p place)
 
   accepted_at : (place : ℕ) → IsAccepted (front n order place)
@@ -123,7 +122,7 @@ module _ (n : ℕ) (order : List Task) (within : All (IsWithin n) order) (fit : 
 
   -- a task has a call in the log of its process, which is then one longer
   module _ (place : ℕ) (task : Task) (at : slice_get order place ≡ Some task) (below : task.p < n) where
-    pub call_at : (call : Call) × (slice_get (logs task.p) (done order task.p place) ≡ Some call) × IsCallFor task.action call
+    call_at : (call : Call) × (slice_get (logs task.p) (done order task.p place) ≡ Some call) × IsCallFor task.action call
     call_at = call_for (actions_of task.p order) (logs task.p) (done order task.p place) task.action (are.follows task.p below) (action_at order place task at)
 
     log_next : log_at task.p (place + 1) ≡ log_at task.p place ++ call_at.0 ∷ []
