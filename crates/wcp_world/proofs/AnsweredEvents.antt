@@ -156,8 +156,8 @@ module _ (n : ℕ) (c : Computation) (put : ℕ → List Note) (app : ProcessesS
         stands = accepted is.log is.stands;
         watch = same.watch ∙ is.watch;
         limit = same.limit ∙ is.limit;
-          made = same.made ∙ is.made;
-          notes = ap (λ (t : ProbeState). t.notes) (log_push (setup n p) is.log call) ∙ notes;
+        made = same.made ∙ is.made;
+        notes = ap (λ (t : ProbeState). t.notes) (log_push (setup n p) is.log call) ∙ notes;
       }
 
       -- the probe of another process
