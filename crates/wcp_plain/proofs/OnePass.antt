@@ -8,7 +8,7 @@ use Rattle.wcp_model.specs.declared.step.Step.TheVariants.{Send, Recv}
 use Rattle.wcp_model.specs.Computation.{Computation, is_communication_of, is_send, interval_at, message_at}
 use Rattle.wcp_model.specs.Order.{HappenedBefore}
 use Rattle.wcp_model.proofs.Places.{count_before-yes, count_before-no, count_before-mono}
-use Rattle.wcp_model.proofs.Reached.{state_at, AtOrAfter, Carries, same_state, interval_at-event, interval_at-other, before_next, before_receive, before_to_later, comes_from}
+use Rattle.wcp_model.proofs.Reached.{state_at, AtOrAfter, Carries, same_state, interval_at-event, interval_at-other, before_next, before_receive, comes_from}
 
 -- an element before the one that was pushed
 slice_get-push_before : {X : Type 0} (xs : List X) (y : X) (i : ℕ) → i < length xs → slice_get (xs ++ y ∷ []) i ≡ slice_get xs i

@@ -1,4 +1,4 @@
-use Rattle.std.specs.Prelude.{◌==◌, ◌||◌, ℕ, Bool, true, false, not, nat_lt, nat_le, is_some, Option, None, Some, List, [], ◌∷◌, ◌++◌, length, slice_index, if◌then◌else◌}
+use Rattle.std.specs.Prelude.{◌==◌, ◌||◌, ℕ, Bool, not, nat_lt, nat_le, is_some, Option, List, [], ◌∷◌, ◌++◌, length, slice_index}
 use Rattle.wcp_model.specs.FirstReason.{first_reason}
 use Rattle.wcp_probe.specs.declared.probe.Refusal.{Refusal}
 use Rattle.wcp_probe.specs.declared.probe.Refusal.TheVariants.{NoSuch, Closed, Backlog, Stranger, NotMine, Ahead, ClockEnd}

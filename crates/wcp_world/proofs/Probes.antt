@@ -1,4 +1,4 @@
-use Rattle.std.proofs.Common.{◌≡◌, ℕ, ◌+◌, ◌<◌, ◌↔◌, Bool, true, false, IsTrue, List, ◌++◌, length, None, Some, if◌then◌else◌, refl, sym, ap, ◌∙◌, ⊎_elim, append-nil, true≢false}
+use Rattle.std.proofs.Common.{◌≡◌, ℕ, ◌+◌, ◌<◌, ◌↔◌, Bool, true, false, IsTrue, List, ◌++◌, None, Some, if◌then◌else◌, refl, sym, ap, ◌∙◌, ⊎_elim, append-nil, true≢false}
 use Rattle.std.specs.Option.{option_to_list}
 use Rattle.std.proofs.lemmas.Bool.{cases_Bool}
 use Rattle.wcp_clock.specs.declared.note.Note.{Note}
