@@ -1,7 +1,7 @@
 //! Reading the input to its end.
 ghost use Rattle.std.specs.Prelude.{◌≡◌, ◌+◌, ◌<◌, ◌≤◌, ◌++◌, length, vec_len, IfOk, OnOk, IfSome, IsErrOf};
 ghost use Rattle.std.specs.Io.KnownBytes.{Consumes, IsAtEnd};
-ghost use Rattle.wcp_clock.specs.Limits.{most_bytes};
+ghost use Rattle.wcp_clock.specs.Limits.{most_bytes, most_reads};
 
 use crate::fault::Fault;
 use std::alloc::Global;
@@ -22,7 +22,7 @@ pub fn read_text<R: Read>(alloc: Global, input: &mut R) -> Result<Vec<u8>, Fault
 {
     let mut text = Vec::new(alloc);
     let mut block = [0u8; BLOCK];
-    for _ in 0..MAX_READS {
+    for _ in 0..read_limit() {
         match input.read(&mut block) {
             Ok(0) => return Ok(text),
             Ok(count) => push_block(&mut text, &block[..count])?,
@@ -34,6 +34,13 @@ pub fn read_text<R: Read>(alloc: Global, input: &mut R) -> Result<Vec<u8>, Fault
         }
     }
     Err(Fault::Read)
+}
+
+/// How many reads take in a text at most.
+fn read_limit() -> u32
+    ensures { result ≡ most_reads }
+{
+    MAX_READS
 }
 
 /// Adds a block to a text that is not too large with it.
