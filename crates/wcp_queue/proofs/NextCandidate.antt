@@ -1,18 +1,14 @@
-use Rattle.std.proofs.Common.{◌≡◌, ◌≢◌, ℕ, ◌+◌, ◌<◌, ◌≤◌, Bool, true, false, cond, eqb, Some, List, [], ◌∷◌, length, get_or, set, drop, slice_get, slice_index, refl, sym, ◌∙◌, ap, ⊎_elim, add-zero, arith}
+use Rattle.std.proofs.Common.{◌≡◌, ◌≢◌, ℕ, ◌+◌, ◌<◌, ◌≤◌, Bool, true, false, cond, eqb, Some, List, [], ◌∷◌, ◌++◌, length, get_or, set, drop, slice_get, slice_index, refl, sym, ◌∙◌, ap, ⊎_elim, add-zero, arith}
 use Rattle.std.proofs.lemmas.Bool.{cases_eq, cases_lt, eq-eqb, ne_eqb, cond-true, cond-false, true≢false}
 use Rattle.std.proofs.lemmas.Option.{none-some, same_Some}
 use Rattle.std.proofs.lemmas.List.{length-drop, get_or-drop, drop-drop, get_or_default}
 use Rattle.wcp_model.proofs.Elimination.{IsEliminatedBelow-step}
 use Rattle.wcp_queue.specs.declared.floor.Floor.{Floor}
 use Rattle.wcp_queue.specs.Floor.{component, has_head, RaisesFloor}
-use Rattle.wcp_queue.specs.Elimination.{queue_of, candidate, HasHead, HasNoHead, WasRaised, AreLeft}
+use Rattle.wcp_queue.specs.Elimination.{queue_of, candidate, HasHead, HasNoHead, WasRaised, AreLeft, TakesNext}
 use Rattle.wcp_queue.proofs.LeftQueues.{queue_of-set_same, queue_of-set_other}
 
 -- the first candidate that waits of p is taken out of its queue
-pub record TakesNext (n p : ℕ) (clock : List ℕ) (queues others : List (List (List ℕ))) : Type 0 where
-  pub next : queue_of queues p ≡ clock ∷ queue_of others p
-  pub rest : (k : ℕ) → k < n → k ≢ p → queue_of others k ≡ queue_of queues k
-
 first_of : (queue : List (List ℕ)) (clock : List ℕ) → Some clock ≡ slice_get queue 0 → queue ≡ clock ∷ drop 1 queue
 first_of [] clock first = absurd (none-some clock (sym first))
 first_of (one ∷ queue) clock first = ap (λ (head : List ℕ). head ∷ queue) (sym (same_Some clock one first))
@@ -26,6 +22,17 @@ TakesNext-set n p clock queues read queue within first is =
           ∙ ap (λ (q : List (List ℕ)). clock ∷ q) (sym (queue_of-set_same queues p queue within ∙ is ∙ ap (drop 1) here));
       rest = λ k k_within other. queue_of-set_other queues p k queue other;
     }
+
+-- one that comes where nothing waits is the first
+pub TakesNext-alone : (n p : ℕ) (clock : List ℕ) (queues : List (List (List ℕ))) → p < length queues → length (queue_of queues p) ≡ 0 → TakesNext n p clock (set queues p (queue_of queues p ++ clock ∷ [])) queues
+TakesNext-alone n p clock queues within none = record {
+  next = queue_of-set_same queues p (queue_of queues p ++ clock ∷ []) within ∙ alone (queue_of queues p) none;
+  rest = λ k k_within other. sym (queue_of-set_other queues p k (queue_of queues p ++ clock ∷ []) other);
+}
+  where
+    alone : (queue : List (List ℕ)) → length queue ≡ 0 → queue ++ clock ∷ [] ≡ clock ∷ queue
+    alone [] none = refl
+    alone (one ∷ queue) none = absurd (omega arith)
 
 -- the places of the heads, where that of p moves one on
 abbrev moved : (ℕ → ℕ) → ℕ → ℕ → ℕ

@@ -1,5 +1,5 @@
-use Rattle.std.proofs.Common.{◌≡◌, ◌≢◌, ◌||◌, ℕ, ◌+◌, ◌<◌, ◌≤◌, Bool, false, List, length, slice_index, sym, ◌∙◌, subst, ⊎_elim, arith}
-use Rattle.std.proofs.lemmas.Bool.{cases_eq, or_parts}
+use Rattle.std.proofs.Common.{◌≡◌, ◌≢◌, ℕ, ◌+◌, ◌<◌, ◌≤◌, Bool, false, List, length, slice_index, sym, ◌∙◌, subst, ⊎_elim, arith}
+use Rattle.std.proofs.lemmas.Bool.{cases_eq}
 use Rattle.wcp_queue.specs.declared.floor.Floor.{Floor}
 use Rattle.wcp_queue.specs.Floor.{component, has_head, IsSameBut, RisesTo}
 use Rattle.wcp_queue.specs.Elimination.{queue_of}
@@ -43,7 +43,7 @@ module _ (first : Floor) (p : ℕ) (clock : List ℕ) (queues : List (List (List
   }
 
   pub IsRaising-next : (new : Floor) (more : Bool) → q ≢ p → RisesTo q (slice_index clock q) floor new → IsSameBut q floor new →
-      (more ≡ false → component floor q < slice_index clock q → length (queue_of queues q) ≡ 0) → new.tests ≡ floor.tests + 1 → IsRaising first p clock queues new (uncovered || more) (q + 1)
+      (more ≡ false → (uncovered ≡ false) × (component floor q < slice_index clock q → length (queue_of queues q) ≡ 0)) → new.tests ≡ floor.tests + 1 → IsRaising first p clock queues new more (q + 1)
   IsRaising-next new more apart rises others covered tests = record {
     at_p = let same = others p (λ is_q. apart (sym is_q)) in (same.0 ∙ is.at_p.0, same.1 ∙ is.at_p.1);
     rises = λ k below other. ⊎_elim
@@ -52,10 +52,9 @@ module _ (first : Floor) (p : ℕ) (clock : List ℕ) (queues : List (List (List
         (cases_eq k q);
     later = λ k above other. let same = others k (λ is_q. omega (arith, is_q)) in let was = is.later k (omega arith) other in (same.0 ∙ was.0, same.1 ∙ was.1);
     covered = λ none k below other less.
-        let parts = or_parts uncovered more none in
         ⊎_elim
-        (λ (same : k ≡ q). rw same (covered parts.1 (omega (arith, subst (λ j. component first j < slice_index clock j) same less, (is.later q (omega arith) apart).0))))
-        (λ (before : k ≢ q). is.covered parts.0 k (omega (arith, before)) other less)
+        (λ (same : k ≡ q). rw same ((covered none).1 (omega (arith, subst (λ j. component first j < slice_index clock j) same less, (is.later q (omega arith) apart).0))))
+        (λ (before : k ≢ q). is.covered (covered none).0 k (omega (arith, before)) other less)
         (cases_eq k q);
     tests = λ before. omega (arith, tests, is.tests (omega arith));
     tests_after = λ after. omega (arith, tests, apart, is.tests_after (omega (arith, apart)));

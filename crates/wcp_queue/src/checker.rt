@@ -88,30 +88,29 @@ impl Checker {
         ensures found_needs_none { HasFound self.old → IsOk result }
     {
         let p = item.from as usize;
-        match &item.note {
-            Note::Snap { clock, .. } => self
-                .take_snapshot(p, *clock)
-                .map_err(|error| (error, item)),
+        let clock = match &item.note {
+            Note::Snap { clock, .. } => clock,
             Note::Close { .. } => {
                 self.closed[p] = true;
-                Ok(())
+                return Ok(());
             }
-        }
+        };
+        self.take_snapshot(p, clock).map_err(|error| (error, item))
     }
 
-    fn take_snapshot(&mut self, p: usize, clock: Clock) -> Result<(), AllocError>
+    fn take_snapshot(&mut self, p: usize, clock: &Clock) -> Result<(), AllocError>
         requires within { p < processes self.old }
         requires few { taken_of self.old p < 2 ^ 32 }
         requires still_open { closed_of self.old p ≡ false }
         ensures taken { OnOk result
-            (TakesItem self.old self.new (record { from = p; note = Snap (taken_of self.old p) clock })) }
+            (TakesItem self.old self.new (record { from = p; note = Snap (taken_of self.old p) clock.now })) }
         ensures found_stays { KeepsFound self.old self.new }
         ensures processes { processes self.new ≡ processes self.old }
         ensures unchanged { OnErr result (self.new ≡ self.old) }
         ensures found_needs_none { HasFound self.old → IsOk result }
     {
         if self.found.is_none() {
-            self.found = add_candidate(&mut self.queues, p, clock, &mut self.floor)?;
+            add_candidate(&mut self.queues, p, clock, &mut self.floor, &mut self.found)?;
         }
         self.taken[p] += 1;
         Ok(())

@@ -1,9 +1,9 @@
 ghost use Rattle.std.specs.Prelude.{◌≡◌, ◌+◌, ◌*◌, ◌^◌, ◌<◌, ◌≤◌, false, length};
-ghost use Rattle.std.specs.Prelude.{IfNone, IfSome, IfOk, OnOk, OnErr, MatchOption};
+ghost use Rattle.std.specs.Prelude.{None, IfNone, IfSome, OnOk, OnErr, MatchOption};
 ghost use Rattle.wcp_clock.specs.Limits.{most_processes};
 ghost use Rattle.wcp_queue.specs.Floor.{has_head, HaveHeads, IsCutOfHeads};
 ghost use Rattle.wcp_queue.specs.Elimination.{queue_of, waiting_in, tests_each, AreSettled, AreSettledBut};
-ghost use Rattle.wcp_queue.specs.Elimination.{Eliminates, AddsCandidate};
+ghost use Rattle.wcp_queue.specs.Elimination.{Compares, Eliminates, AddsCandidate};
 
 use crate::floor::Floor;
 use crate::queue::Queue;
@@ -11,36 +11,42 @@ use std::alloc::AllocError;
 use wcp_clock::Clock;
 use wcp_model::GlobalCut;
 
-/// Adds a snapshot of `p` and eliminates heads. Answers the cut of the heads that are left, if every
+/// Adds a snapshot of `p` and eliminates heads. Finds the cut of the heads that are left, if every
 /// process has one. `Err` where memory runs out.
 pub fn add_candidate(
     queues: &mut [Queue],
     p: usize,
-    clock: Clock,
+    clock: &Clock,
     floor: &mut Floor,
-) -> Result<Option<GlobalCut>, AllocError>
+    found: &mut Option<GlobalCut>,
+) -> Result<(), AllocError>
     requires few { length queues.old ≤ most_processes }
     requires within { p < length queues.old }
     requires settled { AreSettled queues.old floor.old }
     requires waiting { HaveHeads (length queues.old) floor.old → ⊥ }
+    requires none { found.old ≡ None }
     requires room { floor.old.tests + tests_each (length queues.old) * (waiting_in queues.old + 1) < 2 ^ 64 }
     ensures settled { AreSettled queues.new floor.new }
-    ensures left { OnOk result (AddsCandidate p clock queues.old floor.old queues.new floor.new) }
-    ensures cut { IfOk result (λ cut. MatchOption cut
-        (HaveHeads (length queues.old) floor.new → ⊥) (IsCutOfHeads (length queues.old) floor.new)) }
+    ensures left { OnOk result (AddsCandidate p clock.now queues.old floor.old queues.new floor.new) }
+    ensures cut { MatchOption
+        found.new
+        (HaveHeads (length queues.old) floor.new → ⊥)
+        (IsCutOfHeads (length queues.old) floor.new) }
     ensures tests { floor.new.tests + tests_each (length queues.old) * waiting_in queues.new
         ≤ floor.old.tests + tests_each (length queues.old) * (waiting_in queues.old + 1) }
     ensures refused { OnErr result (queues.new ≡ queues.old) }
     ensures no_test { OnErr result (floor.new ≡ floor.old) }
+    ensures not_found { OnErr result (found.new ≡ found.old) }
 {
-    queues[p].push(clock)?;
     if floor.has_head(p) {
-        return Ok(None);
+        queues[p].push(clock)?;
+        return Ok(());
     }
-    if compare_next(queues, p, floor) {
+    if compare(queues, p, clock, floor) {
         settle(queues, floor);
     }
-    Ok(floor.cut(queues.len()))
+    *found = floor.cut(queues.len());
+    Ok(())
 }
 
 /// Goes on until each process has a head or none of its snapshots waits.
@@ -73,10 +79,8 @@ fn first_to_compare(queues: &[Queue], floor: &Floor) -> Option<usize>
     None
 }
 
-/// Compares the oldest waiting snapshot of `p` with the floor: it is dropped, or becomes the head and
-/// raises the floor, which drops the heads that precede it. Answers whether a process without a head
-/// has a snapshot that waits.
-fn compare_next(queues: &mut [Queue], p: usize, floor: &mut Floor) -> bool
+/// Compares the oldest waiting snapshot of `p` with the floor.
+fn compare_next(queues: &mut [Queue], p: usize, floor: &mut Floor)
     requires few { length queues.old ≤ most_processes }
     requires within { p < length queues.old }
     requires no_head { has_head floor.old p ≡ false }
@@ -85,21 +89,34 @@ fn compare_next(queues: &mut [Queue], p: usize, floor: &mut Floor) -> bool
     ensures left { Eliminates queues.old floor.old queues.new floor.new }
     ensures fewer { waiting_in queues.new + 1 ≡ waiting_in queues.old }
     ensures tests { floor.new.tests ≤ floor.old.tests + tests_each (length queues.old) }
-    ensures covered { result ≡ false → AreSettledBut p queues.old floor.old → AreSettled queues.new floor.new }
 {
-    let n = queues.len();
     let Some(clock) = queues[p].pop() else {
-        return false;
+        unreachable!()
     };
+    compare(queues, p, &clock, floor);
+}
+
+/// Compares a snapshot of `p` with the floor: it is dropped, or becomes the head and raises the floor,
+/// which drops the heads that precede it. Answers whether a snapshot then waits of a process without
+/// a head.
+fn compare(queues: &[Queue], p: usize, clock: &Clock, floor: &mut Floor) -> bool
+    requires few { length queues.now ≤ most_processes }
+    requires within { p < length queues.now }
+    requires no_head { has_head floor.old p ≡ false }
+    requires room { floor.old.tests + tests_each (length queues.now) < 2 ^ 64 }
+    ensures left { Compares p clock.now queues.now floor.old floor.new }
+    ensures tests { floor.new.tests ≤ floor.old.tests + tests_each (length queues.now) }
+    ensures covered { result ≡ false → AreSettledBut p queues.now floor.old → AreSettled queues.now floor.new }
+{
     let own = clock.get(p as u32);
-    if floor.is_above(n, p, own) {
+    if floor.is_above(queues.len(), p, own) {
         return !queues[p].is_empty();
     }
     floor.set_head(p, own);
     let mut uncovered = false;
-    for q in 0..n {
-        if q != p {
-            uncovered |= floor.raise(q, clock.get(q as u32), &queues[q]);
+    for q in 0..queues.len() {
+        if q != p && floor.raise(q, clock.get(q as u32), &queues[q]) {
+            uncovered = true;
         }
     }
     uncovered

@@ -37,12 +37,12 @@ impl Queue {
     }
 
     /// Adds a snapshot at the end; a full queue doubles its room. `Err` where memory runs out.
-    pub fn push(&mut self, clock: Clock) -> Result<(), AllocError>
-        ensures ok { OnOk result (self.new ≡ self.old ++ clock ∷ []) }
+    pub fn push(&mut self, clock: &Clock) -> Result<(), AllocError>
+        ensures ok { OnOk result (self.new ≡ self.old ++ clock.now ∷ []) }
         ensures err { OnErr result (self.new ≡ self.old) }
     {
         make_room(&mut self.waiting)?;
-        let _none = self.waiting.push_back(clock);
+        let _none = self.waiting.push_back(*clock);
         Ok(())
     }
 

@@ -1,31 +1,32 @@
-use Rattle.std.proofs.Common.{length, ◌∙◌, ap, arith}
-use Rattle.std.proofs.lemmas.List.{length-set}
-use Rattle.wcp_queue.proofs.LeftQueues.{AreLeft-gain, queue_of-set_other}
+use Rattle.std.proofs.Common.{◌++◌, ◌∷◌, [], sym, ◌∙◌, ap}
+use Rattle.std.proofs.lemmas.List.{get_or_default}
+use Rattle.wcp_queue.specs.Elimination.{queue_of}
+use Rattle.wcp_queue.proofs.LeftQueues.{AreLeft-gain}
+use Rattle.wcp_queue.proofs.NextCandidate.{TakesNext-alone}
 use Rattle.wcp_queue.proofs.elimination.add_candidate.Goals as goal
-use Rattle.wcp_queue.proofs.elimination.add_candidate.Goals.{then-compare_next, else-compare_next}
+use Rattle.wcp_queue.proofs.elimination.add_candidate.Goals.{then-compare, else-compare}
 
 pub returns-then-has_head-clause-left : goal.returns-then-has_head-clause-left
 returns-then-has_head-clause-left c = λ rows longer.
-    AreLeft-gain _ rows longer c.args.queues.now c.args.floor.now c.args.p c.args.clock c.index-queues-p.result c.push.new.self c.requires.within c.in_ok-push.ensures.ok
+    AreLeft-gain _ rows longer c.args.queues.now c.args.floor.now c.args.p c.args.clock.now c.index-queues-p.result c.push.new.self c.requires.within c.in_ok-push.ensures.ok
 
 pub returns-clause-settled : goal.returns-clause-settled
 returns-clause-settled c =
-    elim c.if-compare_next.branch [
-      | then-compare_next w ↦ rw (w.queues-is, w.floor-is) w.settle.ensures.settled
-      | else-compare_next w ↦
-          rw (w.queues-is, w.floor-is) (c.compare_next.ensures.covered w.if-compare_next.false (λ q q_within other none.
-          ap length (queue_of-set_other c.args.queues.now c.args.p q c.push.new.self other) ∙ c.requires.settled q (omega (arith, length-set c.args.queues.now c.args.p c.push.new.self)) none))
+    elim c.if-compare.branch [
+      | then-compare w ↦ rw (w.queues-is, w.floor-is) w.settle.ensures.settled
+      | else-compare w ↦ rw (w.queues-is, w.floor-is) (c.compare.ensures.covered w.if-compare.false (λ q q_within other none. c.requires.settled q q_within none))
     ]
 
 pub returns-clause-left : goal.returns-clause-left
 returns-clause-left c = λ rows longer gain left.
-    let members = length-set c.args.queues.now c.args.p c.push.new.self in
-    let added = rw members at (c.compare_next.ensures.left longer)
-    (AreLeft-gain _ rows longer c.args.queues.now c.args.floor.now c.args.p c.args.clock c.index-queues-p.result c.push.new.self c.requires.within c.in_ok-push.ensures.ok gain left) in
-    elim c.if-compare_next.branch [
-      | then-compare_next w ↦ rw (w.queues-is, w.floor-is) (rw (c.compare_next.auto.queues ∙ members) at (w.settle.ensures.left longer) added)
-      | else-compare_next w ↦ rw (w.queues-is, w.floor-is) added
+    let queue = queue_of c.args.queues.now c.args.p in
+    let before = AreLeft-gain _ rows longer c.args.queues.now c.args.floor.now c.args.p c.args.clock.now queue (queue ++ c.args.clock.now ∷ []) c.requires.within (ap (λ q. q ++ c.args.clock.now ∷ []) (sym (get_or_default c.args.queues.now c.args.p queue [] c.requires.within))) gain left in
+    let none = c.requires.settled c.args.p c.requires.within (sym c.has_head.ensures ∙ c.if-has_head.false) in
+    let added = c.compare.ensures.left longer _ (TakesNext-alone _ c.args.p c.args.clock.now c.args.queues.now c.requires.within none) before in
+    elim c.if-compare.branch [
+      | then-compare w ↦ rw (w.queues-is, w.floor-is) (w.settle.ensures.left longer added)
+      | else-compare w ↦ rw (w.queues-is, w.floor-is) added
     ]
 
 pub returns-clause-cut : goal.returns-clause-cut
-returns-clause-cut c = rw (c.if-compare_next.auto.queues ∙ c.compare_next.auto.queues ∙ length-set c.args.queues.now c.args.p c.push.new.self) at c.cut.ensures
+returns-clause-cut c = rw c.if-compare.auto.queues at c.cut.ensures

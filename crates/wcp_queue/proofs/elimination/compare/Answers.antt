@@ -1,0 +1,53 @@
+use Rattle.std.proofs.Common.{◌<◌, ◌≤◌, true, [], length, slice_index, sym, ◌∙◌, ap, ⊎_elim, arith}
+use Rattle.std.proofs.lemmas.Bool.{cases_lt, true≢false}
+use Rattle.std.proofs.lemmas.List.{get_or_default}
+use Rattle.wcp_queue.specs.Floor.{component, has_head, RaisesFloor}
+use Rattle.wcp_queue.proofs.NextCandidate.{AreLeft-under, AreLeft-raised}
+use Rattle.wcp_queue.proofs.RaisedFloor.{RisesTo-before, IsRaising-itself, IsRaising-next}
+use Rattle.wcp_queue.proofs.TestsOfCandidates.{tests_each-several}
+use Rattle.wcp_queue.proofs.elimination.compare.Goals as goal
+use Rattle.wcp_queue.proofs.elimination.compare.Goals.{After-loop-q, then-q-p+then-raise, else-q-p, else-q-p-via-then-q-p+else-raise, else-q-p-via-else-q-p}
+
+pub is_above-requires-clause-room : goal.is_above-requires-clause-room
+is_above-requires-clause-room c = λ several. omega (arith, c.requires.room, tests_each-several (length c.args.queues.now) several)
+
+pub returns-then-is_above-clause-left : goal.returns-then-is_above-clause-left
+returns-then-is_above-clause-left c = λ rows before taken left.
+    rw c.is_above.ensures.tests (AreLeft-under (length c.args.queues.now) rows before c.args.queues.now c.args.floor.now left c.args.p c.args.clock.now c.requires.within c.requires.no_head taken _
+    (omega (arith, (c.is_above.ensures.above.0 c.if-is_above.true).1, c.get-own.ensures)))
+
+raised : (c : After-loop-q) → RaisesFloor (length c.args.queues.now) c.args.p c.args.clock.now c.args.floor.now c.loop-q.floor
+raised c = record {
+  reached = λ several. ⊎_elim
+      (λ (above : c.get-own.result < component c.args.floor.now c.args.p). absurd (true≢false (sym (c.is_above.ensures.above.1 (several, above)) ∙ c.if-is_above.false)))
+      (λ (reached : component c.args.floor.now c.args.p ≤ c.get-own.result). omega (arith, reached, c.get-own.ensures))
+      (cases_lt c.get-own.result (component c.args.floor.now c.args.p));
+  head = c.loop-q.invariant.at_p.1 ∙ c.set_head.ensures.head;
+  own = c.loop-q.invariant.at_p.0 ∙ c.set_head.ensures.own ∙ c.get-own.ensures;
+  rises = λ q q_within other.
+      let same = c.set_head.ensures.others q other in
+      RisesTo-before q (slice_index c.args.clock.now q) c.args.floor.now c.set_head.new.self c.loop-q.floor
+      (same.0 ∙ ap (λ floor. component floor q) c.is_above.ensures.tests, same.1 ∙ ap (λ floor. has_head floor q) c.is_above.ensures.tests) (c.loop-q.invariant.rises q (omega (arith, c.loop-q-test.false)) other);
+}
+
+pub returns-clause-left : goal.returns-clause-left
+returns-clause-left c = λ rows before taken left.
+    AreLeft-raised (length c.args.queues.now) rows before c.args.queues.now c.args.floor.now left c.args.p c.args.clock.now c.requires.within c.requires.no_head taken c.loop-q.floor (raised c)
+
+pub loop-q-preserved : goal.loop-q-preserved
+loop-q-preserved c =
+    let next = IsRaising-next c.set_head.new.self c.args.p c.args.clock.now c.args.queues.now c.loop-q.floor c.loop-q.uncovered c.loop-q.q c.loop-q.invariant in
+    elim c.if-q-p.branch [
+      | then-q-p+then-raise w ↦
+          rw (w.floor-is, w.uncovered-is)
+          (next w.raise.new.self true w.if-q-p.true (rw w.get.ensures at w.raise.ensures.rises) w.raise.ensures.others (λ none. absurd (true≢false none)) w.raise.ensures.tests)
+      | else-q-p w ↦ elim w.else-q-p.branch [
+        | else-q-p-via-then-q-p+else-raise w' ↦
+            rw (w.floor-is, w.uncovered-is, w'.floor-is)
+            (next w'.raise.new.self c.loop-q.uncovered w'.if-q-p.true (rw w'.get.ensures at w'.raise.ensures.rises) w'.raise.ensures.others
+            (λ none. (none, λ less. ap length (sym (w'.index-queues-q.is ∙ get_or_default c.args.queues.now c.loop-q.q w'.index-queues-q.result [] c.loop-q-test.true)) ∙ w'.raise.ensures.covered w'.if-raise.false (omega (arith, less, w'.get.ensures))))
+            w'.raise.ensures.tests)
+        | else-q-p-via-else-q-p w' ↦
+            rw (w.floor-is, w.uncovered-is, w'.floor-is) (IsRaising-itself c.set_head.new.self c.args.p c.args.clock.now c.args.queues.now c.loop-q.floor c.loop-q.uncovered c.loop-q.q c.loop-q.invariant w'.if-q-p.false)
+      ]
+    ]
