@@ -43,16 +43,17 @@ AreLeft-grown n rows longer queues others floor gain left = record {
         within = omega (arith, was.within, length-grown n rows longer grow p p_within);
         all = still p (left.heads p) was.within p_within was.all;
         raised = λ risen.
-            let by = was.raised risen in
-            record {
-              q = by.q;
-              other = by.other;
-              process = by.process;
-              place = by.place;
-              within = omega (arith, by.within, length-grown n rows longer grow by.q by.process);
-              tested = by.tested;
-              known = by.known ∙ ap (λ (clock : List ℕ). slice_index clock p) (sym (get_or-grown n rows longer grow by.q by.place by.process by.within));
-            };
+            let (q, place, tested, by) = was.raised risen in (
+              q,
+              place,
+              tested,
+              record {
+                other = by.other;
+                process = by.process;
+                within = omega (arith, by.within, length-grown n rows longer grow q by.process);
+                known = by.known ∙ ap (λ (clock : List ℕ). slice_index clock p) (sym (get_or-grown n rows longer grow q place by.process by.within));
+              },
+            );
       };
   under = λ p q p_within q_within apart some.
       omega (arith, left.under p q p_within q_within apart some, ap (λ (clock : List ℕ). slice_index clock p) (get_or-grown n rows longer grow q (left.heads q) q_within (left.head q q_within some).within));

@@ -1,11 +1,11 @@
-use Rattle.std.proofs.Common.{◌≡◌, ◌≢◌, ℕ, ◌+◌, ◌<◌, ◌≤◌, Bool, true, false, cond, eqb, Some, List, [], ◌∷◌, ◌++◌, length, get_or, set, drop, slice_get, slice_index, refl, sym, ◌∙◌, ap, ⊎_elim, add-zero, arith}
+use Rattle.std.proofs.Common.{◌≡◌, ◌≢◌, ℕ, ◌+◌, ◌<◌, ◌≤◌, Bool, true, false, cond, eqb, Some, List, [], ◌∷◌, ◌++◌, length, get_or, set, drop, slice_get, slice_index, refl, sym, ◌∙◌, ap, subst, ⊎_elim, add-zero, arith}
 use Rattle.std.proofs.lemmas.Bool.{cases_eq, cases_lt, eq-eqb, ne_eqb, cond-true, cond-false, true≢false}
 use Rattle.std.proofs.lemmas.Option.{none-some, same_Some}
 use Rattle.std.proofs.lemmas.List.{length-drop, get_or-drop, drop-drop, get_or_default}
 use Rattle.wcp_model.proofs.Elimination.{IsEliminatedBelow-step}
 use Rattle.wcp_queue.specs.declared.floor.Floor.{Floor}
 use Rattle.wcp_queue.specs.Floor.{component, has_head, RaisesFloor}
-use Rattle.wcp_queue.specs.Elimination.{queue_of, candidate, HasHead, HasNoHead, WasRaised, AreLeft, TakesNext}
+use Rattle.wcp_queue.specs.Elimination.{queue_of, candidate, HasHead, HasNoHead, KnowsOf, WasRaised, AreLeft, TakesNext}
 use Rattle.wcp_queue.proofs.LeftQueues.{queue_of-set_same, queue_of-set_other}
 
 -- the first candidate that waits of p is taken out of its queue
@@ -61,17 +61,7 @@ module _ (n : ℕ) (rows : ℕ → List (List ℕ)) (heads later : ℕ → ℕ) 
   HasNoHead-same up was = record {
     within = omega (arith, same, was.within);
     all = queue_is ∙ was.all ∙ ap (λ i. drop i (rows k)) (sym same);
-    raised = λ risen.
-        let by = was.raised (omega (arith, risen, floor_is)) in
-        record {
-          q = by.q;
-          other = by.other;
-          process = by.process;
-          place = by.place;
-          within = by.within;
-          tested = omega (arith, by.tested, up by.q);
-          known = floor_is ∙ by.known;
-        };
+    raised = λ risen. let (q, place, tested, by) = was.raised (omega (arith, risen, floor_is)) in (q, place, omega (arith, tested, up q), subst (λ f. KnowsOf n rows f k q place) (sym floor_is) by);
   }
 
 module _ (n : ℕ) (rows : ℕ → List (List ℕ)) (queues others : List (List (List ℕ))) (floor : Floor) (left : AreLeft n rows queues floor) (p : ℕ) (clock : List ℕ) (p_within : p < n)
@@ -105,14 +95,14 @@ module _ (n : ℕ) (rows : ℕ → List (List ℕ)) (queues others : List (List 
         (λ (same : k ≡ p). rw same (record {
           within = omega (arith, moved-same left.heads p, next_within);
           all = after_next ∙ ap (λ i. drop i (rows p)) (sym (moved-same left.heads p));
-          raised = λ risen. later_by;
+          raised = λ risen. (by.0, by.1, omega (arith, tested, up by.0), knows);
         }))
         (λ (other : k ≢ p). HasNoHead-same n rows left.heads later (queue_of queues k) (queue_of others k) (component floor k) (component floor k) k (moved-other left.heads p k other) (taken.rest k k_within other) refl up (left.none k k_within no))
         (cases_eq k p);
     under = λ a b a_within b_within apart some.
         omega (arith, left.under a b a_within b_within apart some, ap (λ i. slice_index (candidate rows b i) a) (moved-other left.heads p b (other_than_p b some)));
-    eliminated = IsEliminatedBelow-step n rows left.heads later p by.q by.place left.eliminated p_within by.process (λ same. by.other (sym same)) next_within by.within by.tested
-        (omega (arith, less, by.known, ap (λ (c : List ℕ). slice_index c p) next_is)) (omega (arith, moved-same left.heads p)) (λ k k_within other. omega (arith, moved-other left.heads p k other));
+    eliminated = IsEliminatedBelow-step n rows left.heads later p by.0 by.1 left.eliminated p_within knows.process (λ same. knows.other (sym same)) next_within knows.within tested
+        (omega (arith, less, knows.known, ap (λ (c : List ℕ). slice_index c p) next_is)) (omega (arith, moved-same left.heads p)) (λ k k_within other. omega (arith, moved-other left.heads p k other));
   }
     where
       later : ℕ → ℕ
@@ -124,16 +114,11 @@ module _ (n : ℕ) (rows : ℕ → List (List ℕ)) (queues others : List (List 
       by : WasRaised n rows left.heads (component floor p) p
       by = (left.none p p_within no_head).raised (omega (arith, less))
 
-      later_by : WasRaised n rows later (component floor p) p
-      later_by = record {
-        q = by.q;
-        other = by.other;
-        process = by.process;
-        place = by.place;
-        within = by.within;
-        tested = omega (arith, by.tested, up by.q);
-        known = by.known;
-      }
+      tested : by.1 ≤ left.heads by.0
+      tested = by.2
+
+      knows : KnowsOf n rows (component floor p) p by.0 by.1
+      knows = by.3
 
   -- else it is the head, and each head that its clock passes precedes it and is eliminated
   pub AreLeft-raised : (new : Floor) → RaisesFloor n p clock floor new → AreLeft n rows others new
@@ -232,15 +217,17 @@ module _ (n : ℕ) (rows : ℕ → List (List ℕ)) (queues others : List (List 
       without k k_within other none_now rose was before = record {
         within = within was before;
         all = taken.rest k k_within other ∙ all was before;
-        raised = λ risen. record {
-          q = p;
-          other = λ same. other (sym same);
-          process = p_within;
-          place = left.heads p;
-          within = next_within;
-          tested = omega (arith, at_p);
-          known = omega (arith, (raises.rises k k_within other).maximum, rose, ap (λ (c : List ℕ). slice_index c k) next_is);
-        };
+        raised = λ risen. (
+          p,
+          left.heads p,
+          omega (arith, at_p),
+          record {
+            other = λ same. other (sym same);
+            process = p_within;
+            within = next_within;
+            known = omega (arith, (raises.rises k k_within other).maximum, rose, ap (λ (c : List ℕ). slice_index c k) next_is);
+          },
+        );
       }
         where
           gone : has_head floor k ≡ true → later k ≡ left.heads k + 1

@@ -36,15 +36,16 @@ pub record HasHead (rows : ℕ → List (List ℕ)) (heads : ℕ → ℕ) (queue
   pub after : queue ≡ drop (heads p + 1) (rows p)
   pub own : floor ≡ slice_index (candidate rows p (heads p)) p
 
--- A candidate of another process q that is or was its head has this component of p.
-pub record WasRaised (n : ℕ) (rows : ℕ → List (List ℕ)) (heads : ℕ → ℕ) (floor p : ℕ) : Type 0 where
-  pub q : ℕ
+-- The candidate at this place of another process q has this component of p.
+pub record KnowsOf (n : ℕ) (rows : ℕ → List (List ℕ)) (floor p q place : ℕ) : Type 0 where
   pub other : q ≢ p
   pub process : q < n
-  pub place : ℕ
   pub within : place < length (rows q)
-  pub tested : place ≤ heads q
   pub known : floor ≡ slice_index (candidate rows q place) p
+
+-- A candidate of another process that is or was its head has this component of p.
+abbrev pub WasRaised : ℕ → (ℕ → List (List ℕ)) → (ℕ → ℕ) → ℕ → ℕ → Type 0
+WasRaised n rows heads floor p = (q place : ℕ) × (place ≤ heads q) × KnowsOf n rows floor p q place
 
 -- Process p has no head: all from a place of its row on waits, and a head of another process raised the floor, unless
 -- nothing did.

@@ -95,7 +95,10 @@ impl Checker {
                 return Ok(());
             }
         };
-        self.take_snapshot(p, clock).map_err(|error| (error, item))
+        if let Err(error) = self.take_snapshot(p, clock) {
+            return Err((error, item));
+        }
+        Ok(())
     }
 
     fn take_snapshot(&mut self, p: usize, clock: &Clock) -> Result<(), AllocError>
