@@ -1,2 +1,5 @@
 pub mod TakenMore
 pub mod OneMoreAction
+pub mod NewLanes
+pub mod OpenedRows
+pub mod OpenedWorkers

@@ -1,5 +1,5 @@
 -- The lanes between workers, and the messages that went over them.
-use Rattle.std.specs.Prelude.{◌≡◌, ℕ, true, Option, Some, None, List, [], length, map}
+use Rattle.std.specs.Prelude.{◌≡◌, ◌↔◌, ℕ, ◌<◌, true, Option, Some, None, IsSome, List, [], length, map}
 use Rattle.std.specs.FinSet as set
 use mathlib.Core.List.{IsPrefix}
 use Rattle.wcp_probe.specs.Seal.{seal_of}
@@ -38,7 +38,7 @@ pub record HasTakenMore (q : ℕ) (old new : Inbox) : Type 0 where
   pub front : IsInboxOf q old → IsPrefix (clocks_from q old.taker.taken) (clocks_from q new.taker.taken)
 
 -- Both are there and this holds of them, or neither is there.
-abbrev pub IfBoth : {A : Type 0} → (A → A → Type 0) → Option A → Option A → Type 0
+abbrev pub IfBoth : {A B : Type 0} → (A → B → Type 0) → Option A → Option B → Type 0
 IfBoth holds (Some a) (Some b) = holds a b
 IfBoth holds None None = Unit {0}
 IfBoth holds _ _ = ⊥
@@ -51,3 +51,17 @@ put_by None = []
 abbrev pub taken_by : Option Inbox → List Message
 taken_by (Some inbox) = inbox.taker.taken
 taken_by None = []
+
+-- A lane by which process p is to send this many messages, and has sent none.
+pub record IsNewLane (p count : ℕ) (outbox : Outbox) (inbox : Inbox) : Type 0 where
+  pub one_lane : outbox.putter.lane ≡ inbox.taker.lane
+  pub puts : IsOutboxOf p outbox
+  pub takes : IsInboxOf p inbox
+  pub none_put : outbox.putter.put ≡ []
+  pub none_taken : inbox.taker.taken ≡ []
+  pub room : outbox.room ≡ count
+  pub due : inbox.due ≡ count
+
+-- There is such a lane exactly where some messages are to be sent.
+abbrev pub IsLaneFor : ℕ → ℕ → Option Outbox → Option Inbox → Type 0
+IsLaneFor p count outbox inbox = (IsSome outbox ↔ (0 < count)) × IfBoth (IsNewLane p count) outbox inbox

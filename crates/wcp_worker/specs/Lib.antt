@@ -2,3 +2,5 @@ pub mod Lanes
 pub mod Mailboxes
 pub mod Played
 pub mod Probes
+pub mod Workers
+pub mod Opening

@@ -1,0 +1,48 @@
+-- A lane that was just made for the messages of one process.
+use Rattle.std.proofs.Common.{◌≡◌, ℕ, Bool, true, false, ◌||◌, [], ◌∷◌, length, refl, sym, ap, ◌∙◌, subst, arith}
+use Rattle.std.specs.Prelude.{nat_eq}
+use Rattle.std.specs.Ordering.{nat_cmp}
+use Rattle.std.specs.FinSet as set
+use Rattle.std.specs.List.{list_any}
+use Rattle.std.proofs.lemmas.Bool.Decides.{nat_tests}
+use Rattle.wcp_lane.specs.Passes.{Numbers}
+use Rattle.wcp_lane.specs.Ends.{LaneName, PutEnd, TakeEnd, new_putter}
+use Rattle.wcp_lane.proofs.Marks.{contains_with}
+use Rattle.wcp_worker.specs.declared.message.Message.{Message}
+use Rattle.wcp_worker.specs.Lanes.{IsNewLane, messages_from}
+
+-- the set of one number
+abbrev pub alone : ℕ → Numbers
+alone p = set.insert set.empty p
+
+has_itself : (p : ℕ) → set.contains (alone p) p ≡ true
+has_itself p =
+    let here : nat_eq p p ≡ true = grind (arith, nat_tests) in
+    contains_with set.empty p p ∙ ap (λ b. b || set.contains {R = nat_cmp} set.empty p) here
+
+has_no_other : (p q : ℕ) → set.contains (alone p) q ≡ true → q ≡ p
+has_no_other p q has =
+    let is : (nat_eq q p || false) ≡ true =
+    ap (λ b. nat_eq q p || b) (sym (set.contains-empty nat_cmp q)) ∙ sym (contains_with set.empty p q) ∙ has in
+    grind (arith, nat_tests)
+
+pub new_ends : (p count : ℕ) (putter : PutEnd Message) (taker : TakeEnd Message) → putter ≡ new_putter taker.lane (alone p)
+    → ((q : ℕ) → set.contains taker.members q ≡ list_any (λ (numbers : Numbers). set.contains numbers q) (alone p ∷ []))
+    → taker.taken ≡ []
+    → IsNewLane p count (record { putter = putter; sent = 0; room = count }) (record { taker = taker; due = count })
+new_ends p count putter taker is members empty =
+    record {
+      one_lane = ap (λ (e : PutEnd Message). e.lane) is;
+      puts = record {
+        own = ap (λ (e : PutEnd Message). set.contains e.members p) is ∙ has_itself p;
+        counted = subst (λ (e : PutEnd Message). 0 ≡ length (messages_from p e.put)) (sym is) refl;
+      };
+      takes = λ q has.
+          let either : (set.contains (alone p) q || false) ≡ true = sym (members q) ∙ has in
+          let alone_has : set.contains (alone p) q ≡ true = grind arith in
+          has_no_other p q alone_has;
+      none_put = ap (λ (e : PutEnd Message). e.put) is;
+      none_taken = empty;
+      room = refl;
+      due = refl;
+    }

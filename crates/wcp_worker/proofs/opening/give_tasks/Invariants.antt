@@ -1,0 +1,13 @@
+use Rattle.std.proofs.Common.{◌≡◌, ℕ, ◌<◌, length, take, slice_index_or}
+use Rattle.wcp_worker.specs.declared.worker.Worker.{Worker}
+use Rattle.wcp_worker.specs.Opening.{HasTasks}
+use Rattle.wcp_worker.proofs.opening.give_tasks.Given as goal
+
+abbrev pub invariant-loop-task : goal.invariant-loop-task
+invariant-loop-task l =
+    record {
+      count : length l.workers.items ≡ length l.initial.workers.items;
+      each : (p : ℕ) (d : Worker) → p < length l.initial.workers.items
+          → HasTasks p (take l.task-index l.tasks)
+          (slice_index_or l.initial.workers.items p d) (slice_index_or l.workers.items p d);
+    }

@@ -1,0 +1,49 @@
+ghost use Rattle.std.specs.Prelude.{◌≡◌, ◌<◌, ◌≤◌, count_by, IfOk};
+ghost use Rattle.wcp_clock.specs.Limits.{most_processes, most_lane};
+ghost use Rattle.wcp_model.specs.WorkloadComputation.{is_send_to};
+ghost use Rattle.wcp_worker.specs.Lanes.{IsLaneFor};
+
+use crate::lanes::{Inbox, Outbox};
+use std::alloc::{AllocError, Global};
+use wcp_lane::{LaneFault, Origins, lane};
+use wcp_model::Action;
+
+/// Opens a lane by which process `p` can send this many messages, if it is to send any. `Err` where memory runs out.
+pub(crate) fn new_lane(
+    alloc: Global,
+    p: u32,
+    count: u32,
+) -> Result<(Option<Outbox>, Option<Inbox>), AllocError>
+    requires numbered { p < most_processes }
+    requires few { count ≤ most_lane }
+    ensures { IfOk result (λ ends. IsLaneFor p count ends.0 ends.1) }
+{
+    if count == 0 {
+        return Ok((None, None));
+    }
+    match lane(alloc, count, &[Origins::none().with(p)]) {
+        Ok((mut putters, taker)) => match putters.pop() {
+            Some(putter) => {
+                let outbox = Outbox {
+                    putter,
+                    sent: 0,
+                    room: count,
+                };
+                Ok((Some(outbox), Some(Inbox { taker, due: count })))
+            }
+            None => unreachable!(),
+        },
+        Err(LaneFault::NoMemory) => Err(AllocError),
+        Err(LaneFault::Cap | LaneFault::Owners) => unreachable!(),
+    }
+}
+
+/// How many of these actions send to process `q`.
+pub(crate) fn count_sends(actions: &[Action], q: u32) -> usize
+    ensures { result ≡ count_by (is_send_to q) actions.now }
+{
+    actions
+        .iter()
+        .filter(|action| matches!(action, Action::Send(to) if *to == q))
+        .count()
+}
