@@ -6,7 +6,7 @@ use Rattle.wcp_model.specs.ProbeLog.{Call, Closed, ProbeSetup, state_of_log}
 use Rattle.wcp_model.specs.TaskLog.{FollowsActions, stamp_of, stamps_sent, stamps_got}
 use Rattle.wcp_model.specs.WorkloadComputation.{is_send_to, is_receive_from}
 use Rattle.wcp_model.proofs.TaskLogs.{FollowsActions-push, stamps_sent-push, stamps_sent-push_other, stamps_got-push, stamps_got-push_other}
-use Rattle.wcp_probe.specs.Core.{Core, IsSameProbe, setup_of}
+use Rattle.wcp_probe.specs.Core.{setup_of}
 use Rattle.wcp_tree.specs.LiveProbe.{LiveSide, ClosedSide, emissions_of}
 use Rattle.wcp_worker.specs.declared.lanes.Outbox.{Outbox}
 use Rattle.wcp_worker.specs.declared.lanes.Inbox.{Inbox}
@@ -19,17 +19,12 @@ use Rattle.wcp_worker.specs.Probes.{IsSameLive, IsEndOfProbe}
 use Rattle.wcp_worker.specs.Played.{Performs, HasDone, HasPlayed}
 use Rattle.wcp_worker.proofs.TakenMore.{both_then, entry_same, entry_front}
 
--- a kept probe was made with the same
-pub same_setup : (old new : Core) → IsSameProbe old new → setup_of new ≡ setup_of old
-same_setup old new same = λ i. record { processes = same.components i; process = same.id i }
-
 same_live : (a b c : LiveSide) → IsSameLive a b → IsSameLive b c → IsSameLive a c
 same_live a b c first then = (
   record {
     watch = then.0.watch ∙ first.0.watch;
-    id = then.0.id ∙ first.0.id;
     limit = then.0.limit ∙ first.0.limit;
-    components = then.0.components ∙ first.0.components;
+    made = then.0.made ∙ first.0.made;
   },
   then.1 ∙ first.1,
 )
@@ -63,7 +58,8 @@ pub done_more : (start old new : Player) (actions : List Action) (log : List Cal
     → HasDone start (actions ++ act ∷ []) (log ++ call ∷ []) new
 done_more start old new actions log act call done by same =
     let stands = by.accepted log done.stands in
-    let made = same_setup old.probe.core new.probe.core same.0 in
+    let made = same.0.made in
+    let id = ap (λ (s : ProbeSetup). s.process) made in
     record {
       follows = FollowsActions-push actions log act call done.follows by.is_call;
       stands = stands;
@@ -72,7 +68,7 @@ done_more start old new actions log act call done by same =
       own = by.own;
       sent = λ q.
           by.sent q
-          ∙ (λ i. (ap (λ p. clocks_sent p old.mailbox q) same.0.id ∙ done.sent q ∙ ap (λ s. stamps_sent s q actions log) (sym made)) i
+          ∙ (λ i. (ap (λ p. clocks_sent p old.mailbox q) id ∙ done.sent q ∙ ap (λ s. stamps_sent s q actions log) (sym made)) i
           ++ cond (is_send_to q act) (stands.core.clock i ∷ []) [])
           ∙ sent_more actions log act call done.follows q (setup_of new.probe.core) (is_send_to q act) refl;
       taken = λ q.
@@ -90,11 +86,12 @@ pub all_played : (worker : Worker) (now : Player) (log : List Call) (probe : Clo
     → HasPlayed worker log probe mailbox
 all_played worker now log probe mailbox done end emitted outboxes more =
     let same = done.probe in
-    let made = same_setup worker.probe.core now.probe.core same.0 in
+    let made = same.0.made in
+    let id = ap (λ (s : ProbeSetup). s.process) made in
     let actions = worker.actions.items in
     record {
       follows = done.follows;
-      closed = record { watch = end.watch ∙ same.0.watch; id = end.id ∙ same.0.id; ring = end.ring ∙ same.1 };
+      closed = record { watch = end.watch ∙ same.0.watch; id = end.id ∙ id; ring = end.ring ∙ same.1 };
       emitted = emitted ∙ ap (λ s. (state_of_log s (log ++ Closed ∷ [])).notes) made;
       lanes = record {
         outboxes = subst (λ o. (q : ℕ) → IfBoth IsSameOutbox (outbox_to worker.mailbox q) (outbox_to (record now.mailbox { outboxes = o }) q)) (sym outboxes) done.lanes.outboxes;
@@ -103,7 +100,7 @@ all_played worker now log probe mailbox done end emitted outboxes more =
             (entry_same q (inbox_from now.mailbox q) (inbox_from mailbox q) (more q));
       };
       sent = λ q.
-          (λ i. clocks_sent (sym same.0.id i) (record now.mailbox { outboxes = outboxes i }) q)
+          (λ i. clocks_sent (sym id i) (record now.mailbox { outboxes = outboxes i }) q)
           ∙ done.sent q ∙ ap (λ s. stamps_sent s q actions log) made;
       taken = λ q.
           subst (λ stamps. (rest : List (List ℕ)) × (stamps ++ rest ≡ clocks_taken mailbox q)) (done.taken q)
