@@ -68,7 +68,7 @@ fn make_room(waiting: &mut HeapCircularBuffer<Clock>) -> Result<(), AllocError>
     ensures room { OnOk result (length waiting.new.items < waiting.new.capacity) }
     ensures unchanged { OnErr result (waiting.new ≡ waiting.old) }
 {
-    if waiting.len() >= waiting.capacity() {
+    if waiting.len() == waiting.capacity() {
         waiting.resize(waiting.capacity() * 2)?;
     }
     Ok(())
