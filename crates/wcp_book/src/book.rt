@@ -88,7 +88,8 @@ impl Book {
 
     /// The share of process `p`, if one was posted.
     pub fn share(&self, p: u32) -> Option<Tally>
-        ensures { result ≡ option_flatten (slice_get self.now p) }
+        ensures value { result ≡ option_flatten (slice_get self.now p) }
+        ensures few { length self.now ≤ most_processes }
     {
         if p < self.processes {
             self.shares[p as usize]

@@ -1,1 +1,5 @@
 pub mod CheckedItems
+pub mod KeptInboxes
+pub mod MatchedLinks
+pub mod MatchedRings
+pub mod Seating

@@ -42,6 +42,7 @@ checked_by None taken = taken
 -- is that of the items that the checker took, and where it met no fault all is drained.
 pub record IsEndOfLoop (inbox : CheckerInbox) (end : CheckerEnd) : Type 0 where
   pub watch : end.watch ≡ inbox.watch
+  pub relays : end.relays ≡ inbox.relays
   pub lane : end.receipt.lane ≡ inbox.taker.lane
   pub members : end.receipt.members ≡ inbox.taker.members
   pub processes : (p : ℕ) → (set.contains end.receipt.members p ≡ true) ↔ (p < end.processes)

@@ -1,1 +1,4 @@
 pub mod CheckerEnds
+pub mod Matching
+pub mod Seats
+pub mod Settling

@@ -20,6 +20,8 @@ pub struct CheckerEnd {
     pub(crate) watch: u64,
     /// How many processes the watch has.
     pub(crate) processes: u32,
+    /// How many relays the watch has.
+    pub(crate) relays: u32,
     /// What is left of the end of the root's lane that took.
     pub(crate) receipt: TakeReceipt<Item>,
     pub(crate) report: Report,

@@ -28,11 +28,13 @@ pub fn check_loop<R: Wait>(
     ensures { IsEndOfLoop inbox result }
 {
     let watch = inbox.watch();
+    let relays = inbox.relays();
     let mut taker = inbox.into_taker();
     let fault = take_all(rt, &mut taker, &mut checker, book).err();
     CheckerEnd {
         watch,
         processes: checker.processes(),
+        relays,
         receipt: taker.end(),
         report: checker.report(),
         fault,

@@ -1,8 +1,19 @@
-//! A watch in running threads: the loop of its checker.
+//! A watch that runs: the checker's loop, and `settle`, which proves the run's report from the ends of the watch.
 #![tactic(auto)]
 
 mod checker_end;
 mod checking;
+mod ends;
+mod lanes;
+mod matching;
+mod rings;
+mod seats;
+pub mod settle;
+mod settle_fault;
+mod settled;
+mod shares;
 
 pub use checker_end::{CheckFault, CheckerEnd};
 pub use checking::check_loop;
+pub use settle_fault::SettleFault;
+pub use settled::Settled;

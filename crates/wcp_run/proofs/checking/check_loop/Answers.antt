@@ -20,6 +20,7 @@ returns g c =
     let members = c.end.ensures.members ∙ same.0.1 ∙ ap (λ (t : TakeEnd Item). t.members) c.into_taker-taker.ensures in
     record {
       watch = c.watch-watch.ensures;
+      relays = c.relays-relays.ensures;
       lane = c.end.ensures.lane ∙ same.0.0 ∙ ap (λ (t : TakeEnd Item). t.lane) c.into_taker-taker.ensures;
       members = members;
       processes = λ p. rw (members, count, same.1) (c.requires.members p);

@@ -1,0 +1,12 @@
+use Rattle.std.proofs.Common.{◌≡◌, ◌<◌, ◌≤◌, ℕ, length}
+use Rattle.std.specs.Prelude.{slice_get}
+use Rattle.std.specs.Option.{option_flatten}
+use Rattle.wcp_clock.specs.Limits.{most_processes}
+use Rattle.wcp_run.proofs.shares.are_posted.Given as goal
+
+abbrev pub invariant-loop-p : goal.invariant-loop-p
+invariant-loop-p l =
+    record {
+      posted : (p : ℕ) → p < l.p → option_flatten (slice_get l.book p) ≡ slice_get l.tallies p;
+      few : 0 < l.p → (length l.book ≤ most_processes) × (length l.tallies ≤ most_processes);
+    }

@@ -1,0 +1,18 @@
+use thiserror::Error;
+
+/// Why the ends of a watch don't prove its report. Where several apply, the first in this order is given.
+#[derive(Clone, Copy, Debug, PartialEq, Eq, Error)]
+pub enum SettleFault {
+    /// An end has another watch number than the checker's, or a probe or a relay has two ends.
+    #[error("an end of another watch, or one twice")]
+    Stranger,
+    /// A probe or a relay has no end.
+    #[error("an end is missing")]
+    Missing,
+    /// An end has a fault: that of a relay, or the checker's.
+    #[error("an end with a fault")]
+    Faulted,
+    /// Not all that was put was taken, or the book's shares aren't just those of the processes.
+    #[error("not all was taken")]
+    Unfinished,
+}
