@@ -3,9 +3,9 @@ use Rattle.std.proofs.Common.{◌≡◌, ◌≢◌, ℕ, ◌<◌, List, length, 
 use Rattle.std.specs.Prelude.{slice_get, slice_set}
 use Rattle.std.proofs.lemmas.Bool.{cases_eq}
 use Rattle.wcp_clock.specs.declared.note.Item.{Item}
-use Rattle.wcp_lane.specs.Ends.{LaneName, TakenEnd}
+use Rattle.wcp_lane.specs.Ends.{TakenEnd}
 use Rattle.wcp_tree.proofs.Entries.{set_here, set_elsewhere}
-use Rattle.wcp_run.specs.Matching.{IsKeptAt, KeepInboxes}
+use Rattle.wcp_run.specs.Matching.{KeepInboxes}
 use Rattle.wcp_run.specs.Seats.{SitsAt}
 use Rattle.wcp_run.proofs.MatchedRings.{sits_alone}
 use Rattle.wcp_run.proofs.Seating.{length_set}

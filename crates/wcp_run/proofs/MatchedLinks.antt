@@ -1,6 +1,6 @@
 -- The links of one relay after another are matched.
-use Rattle.std.proofs.Common.{◌≡◌, ◌≢◌, ◌↔◌, ℕ, suc, ◌+◌, ◌<◌, ◌≤◌, true, List, ◌++◌, length, get_or, map, Vec, Global, Option, Some, None, Result, Ok, Err, true≢false, refl, sym, ap, subst, ◌∙◌, ⊎_elim, lit≤, arith}
-use Rattle.std.specs.Prelude.{slice_get, slice_set, slice_index_or, All, AllPairs, IsOk, IsErr}
+use Rattle.std.proofs.Common.{◌≡◌, ◌≢◌, ◌↔◌, ℕ, ◌+◌, ◌<◌, ◌≤◌, true, List, length, get_or, map, Vec, Global, Option, Some, None, Result, Ok, Err, true≢false, refl, sym, ap, subst, ◌∙◌, ⊎_elim, arith}
+use Rattle.std.specs.Prelude.{slice_get, slice_set, All, AllPairs, IsOk, IsErr}
 use Rattle.std.specs.FinSet as set
 use Rattle.std.proofs.lemmas.Bool.{cases_eq}
 use Rattle.std.proofs.lemmas.List.{length-map, get_or-map}
@@ -14,7 +14,7 @@ use Rattle.wcp_ring.specs.Ends.{Ring, TakeSide}
 use Rattle.wcp_lane.specs.Ends.{LaneName, PutEnd, TakenEnd}
 use Rattle.wcp_tree.specs.Feeding.{items_of, processes_of}
 use Rattle.wcp_tree.specs.LiveProbe.{ClosedSide, LiveSide}
-use Rattle.wcp_tree.specs.RelayEnds.{AreReceiptsOf, IsReceiptOf, fault_of, number_of, taken_by}
+use Rattle.wcp_tree.specs.RelayEnds.{AreReceiptsOf, IsReceiptOf, fault_of, taken_by}
 use Rattle.wcp_tree.specs.Relays.{IsSource, lane_of}
 use Rattle.wcp_tree.specs.Rings.{IsFeed, IsTakerAt}
 use Rattle.wcp_tree.specs.Watches.{IsLinked, lane_below, lane_to}
@@ -31,7 +31,7 @@ use Rattle.wcp_tree.proofs.Entries.{set_here, set_elsewhere}
 use Rattle.wcp_tree.proofs.Linking.{IsOpen}
 use Rattle.wcp_run.specs.Matching.{AreEndsThere, HasProbe, IsKeptAt, KeepInboxes, inbox_of}
 use Rattle.wcp_run.specs.Seats.{SitsAt}
-use Rattle.wcp_run.specs.Settling.{AreLinksMatched, AreTakenFrom, IsEndOfRelay, IsLaneMatched, IsRingMatched}
+use Rattle.wcp_run.specs.Settling.{AreLinksMatched, AreTakenFrom, IsLaneMatched, IsRingMatched}
 use Rattle.wcp_run.proofs.MatchedRings.{sits_alone}
 use Rattle.wcp_run.proofs.Seating.{length_set}
 
@@ -115,6 +115,18 @@ module _ (count : ℕ) (probe_ends : List (Option ClosedSide)) (root : TakenEnd 
       }
       first (parent.Relay above) open' receipt is = absurd (omega (arith, open'))
 
+  -- the relay of the plan whose end sits at its place
+  pub linked : (k : ℕ) → k < count
+      → IsLinked there.plan there.watch_number there.watch.inbox.taker.lane there.wired.takers there.watch.relays.items k
+  linked k below = there.wired.linked.each k (omega (arith, below, there.all, there.wired.linked.count))
+
+  pub receipts_of : (k : ℕ) (below : k < count) → AreReceiptsOf (linked k below).relay (there.relay k below).end
+  receipts_of k below =
+      let has = there.relay k below in
+      let one : has.is_end.relay ≡ (linked k below).relay =
+      let both = sym has.is_end.is_relay ∙ ap (slice_get there.watch.relays.items) has.number_is ∙ (linked k below).is_relay in cc in
+      subst (λ relay. AreReceiptsOf relay has.end) one has.is_end.receipts
+
   -- the inbox of an owner whose lane it is
   inbox_above : (owner : Parent) (lane : LaneName Item) → IsOpen count owner
       → lane_to there.watch.inbox.taker.lane there.watch.relays.items owner ≡ Some lane
@@ -151,12 +163,12 @@ module _ (count : ℕ) (probe_ends : List (Option ClosedSide)) (root : TakenEnd 
   module _ (k : ℕ) (old new : List Feed) (each : All (IsFeed there.plan k there.wired.takers there.plan.n) old)
       (processes : processes_of new ≡ processes_of old)
       (rings : map (λ (feed : Feed). feed.taker.ring) new ≡ map (λ (feed : Feed). feed.taker.ring) old) where
-    count_same : length new ≡ length old
+    pub count_same : length new ≡ length old
     count_same =
         sym (length-map new (λ (feed : Feed). feed.process)) ∙ ap (λ (xs : List ℕ). length xs) processes
         ∙ length-map old (λ (feed : Feed). feed.process)
 
-    process_same : (i : ℕ) (d : Feed) → i < length new → (get_or new i d).process ≡ (get_or old i d).process
+    pub process_same : (i : ℕ) (d : Feed) → i < length new → (get_or new i d).process ≡ (get_or old i d).process
     process_same i d within =
         sym (get_or-map (λ (feed : Feed). feed.process) new i d d.process within)
         ∙ ap (λ (xs : List ℕ). get_or xs i d.process) processes
@@ -229,19 +241,12 @@ module _ (count : ℕ) (probe_ends : List (Option ClosedSide)) (root : TakenEnd 
       sat : SitsAt relay_ends k end
       sat = sym (old.ahead k (omega arith)) ∙ sits
 
-      linked : IsLinked there.plan there.watch_number there.watch.inbox.taker.lane there.wired.takers there.watch.relays.items k
-      linked = there.wired.linked.each k (omega (arith, below, there.all, there.wired.linked.count))
+      abbrev relay : Relay
+      relay = (linked k below).relay
 
-      receipts : AreReceiptsOf linked.relay end
-      receipts =
-          let has = there.relay k below in
-          let is_end : IsEndOfRelay there.watch.relays.items end =
-          subst (IsEndOfRelay there.watch.relays.items) (sits_alone relay_ends k has.end end has.sits sat) has.is_end in
-          let number_is : number_of end ≡ k =
-          ap number_of (sym (sits_alone relay_ends k has.end end has.sits sat)) ∙ has.number_is in
-          let one : is_end.relay ≡ linked.relay =
-          let both = sym is_end.is_relay ∙ ap (slice_get there.watch.relays.items) number_is ∙ linked.is_relay in cc in
-          subst (λ relay. AreReceiptsOf relay end) one is_end.receipts
+      receipts : AreReceiptsOf relay end
+      receipts = subst (AreReceiptsOf relay) (sits_alone relay_ends k (there.relay k below).end end (there.relay k below).sits sat)
+          (receipts_of k below)
 
       -- its parent is lower
       parent_open : (above : Parent) → parent_of there.plan k ≡ Some above → IsOpen k above
@@ -249,7 +254,7 @@ module _ (count : ℕ) (probe_ends : List (Option ClosedSide)) (root : TakenEnd 
       parent_open (parent.Relay above) is = parent_below there.plan there.checked k above is
 
       owner_open : IsOpen k owner
-      owner_open = subst (IsOpen k) (sym receipts.0) (parent_open linked.relay.parent linked.of_plan.parent)
+      owner_open = subst (IsOpen k) (sym receipts.0) (parent_open relay.parent (linked k below).of_plan.parent)
 
       open_still : (above : Parent) → IsOpen k above → IsOpen count above
       open_still parent.Root is = tt
@@ -257,7 +262,7 @@ module _ (count : ℕ) (probe_ends : List (Option ClosedSide)) (root : TakenEnd 
 
       pub inbox : (receipt : TakenEnd Item) × IsInbox owner receipt × (receipt.lane ≡ put.lane)
       inbox = inbox_above owner put.lane (open_still owner owner_open)
-          (ap (lane_to there.watch.inbox.taker.lane there.watch.relays.items) receipts.0 ∙ linked.above ∙ ap Some (sym receipts.2))
+          (ap (lane_to there.watch.inbox.taker.lane there.watch.relays.items) receipts.0 ∙ (linked k below).above ∙ ap Some (sym receipts.2))
 
       pub kept : IsKeptAt inboxes (inbox_of owner) inbox.0
       kept = old.open_inboxes owner owner_open inbox.0 inbox.1
@@ -332,8 +337,7 @@ module _ (count : ℕ) (probe_ends : List (Option ClosedSide)) (root : TakenEnd 
         (sits : SitsAt relays k (Whole number watch owner (Feeds feeds) put)) where
       left : All (IsServed k) feeds.items × AllPairs (λ one other. one.process ≢ other.process) feeds.items
       left =
-          let relay = linked number watch owner (Feeds feeds) put sits in
-          feeds_left k relay.relay.source feeds relay.of_plan.source (receipts number watch owner (Feeds feeds) put sits).1
+          feeds_left k (linked k below).relay.source feeds (linked k below).of_plan.source (receipts number watch owner (Feeds feeds) put sits).1
 
       pub feeds_seated : All (HasProbe probes) feeds.items
       feeds_seated = All-weaker (IsServed k) (HasProbe probes) has_probe feeds.items left.0

@@ -1,5 +1,5 @@
 -- The settling of a watch: what its ends have in common, and what they tell together.
-use Rattle.std.specs.Prelude.{◌≡◌, ◌≤◌, ◌<◌, ℕ, true, Option, Some, None, IfNone, List, [], ◌∷◌, length, slice_get, All}
+use Rattle.std.specs.Prelude.{◌≡◌, ◌≤◌, ℕ, true, Option, Some, None, IfNone, List, [], ◌∷◌, length, slice_get, All}
 use Rattle.std.specs.FinSet as set
 use Rattle.std.specs.Option.{option_flatten}
 use Rattle.wcp_clock.specs.declared.note.Item.{Item}

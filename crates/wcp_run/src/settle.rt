@@ -1,4 +1,5 @@
-ghost use Rattle.std.specs.Prelude.{◌≡◌, ◌↔◌, IfOk, Err};
+ghost use Rattle.std.specs.Prelude.{◌≡◌, ◌↔◌, IfOk, Err, None, All, IsTrue};
+ghost use Rattle.wcp_tree.specs.RelayEnds.{fault_of};
 ghost use Rattle.wcp_run.specs.declared.settle_fault.SettleFault.{SettleFault};
 ghost use Rattle.wcp_run.specs.Settling.{ComeFromWatch, IsFirstFault, IsSettled};
 
@@ -26,7 +27,7 @@ pub fn settle(
     ensures first { (first : SettleFault) → (result ≡ Err first)
         ↔ IsFirstFault probes.items relays.items checker book first }
 {
-    let has_fault = checker.fault.is_some() || relays.iter().any(|end| end.fault().is_some());
+    let whole = are_whole(&relays, &checker);
     let mut probe_ends: [Option<ProbeEnd>; MAX_PROCS] = empty();
     seat(checker.watch, probes, &mut probe_ends)?;
     let mut relay_ends: [Option<RelayEnd>; MAX_RELAYS] = empty();
@@ -34,7 +35,7 @@ pub fn settle(
     if !are_seated(&probe_ends, checker.processes) || !are_seated(&relay_ends, checker.relays) {
         return Err(SettleFault::Missing);
     }
-    if has_fault {
+    if !whole {
         return Err(SettleFault::Faulted);
     }
     let tallies = tallies(&probe_ends, checker.processes);
@@ -51,4 +52,11 @@ pub fn settle(
         report: checker.report,
         tallies,
     })
+}
+
+/// Whether no end has a fault.
+fn are_whole(relays: &[RelayEnd], checker: &CheckerEnd) -> bool
+    ensures { IsTrue result ↔ (All (λ end. fault_of end ≡ None) relays.now × (checker.now.fault ≡ None)) }
+{
+    checker.fault.is_none() && relays.iter().all(|end| end.fault().is_none())
 }

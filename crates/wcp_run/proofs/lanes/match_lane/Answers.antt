@@ -1,5 +1,4 @@
-use Rattle.std.proofs.Common.{◌≡◌, ℕ, true, true≢false, List, length, sym, ap, ◌∙◌}
-use Rattle.std.specs.FinSet as set
+use Rattle.std.proofs.Common.{◌≡◌, true≢false, List, length, sym, ap, ◌∙◌}
 use Rattle.wcp_clock.specs.declared.note.Item.{Item}
 use Rattle.wcp_lane.specs.Ends.{TakenEnd}
 use Rattle.wcp_tree.specs.Feeding.{items_of}

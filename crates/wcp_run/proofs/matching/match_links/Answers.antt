@@ -1,5 +1,5 @@
-use Rattle.std.proofs.Common.{◌≡◌, ◌≢◌, ◌≤◌, ℕ, ◌+◌, List, Option, Some, None, Ok, Err, length, true≢false, refl, sym, ap, subst, ◌∙◌, lit≤, arith}
-use Rattle.std.specs.Prelude.{slice_get, slice_set, IsOk}
+use Rattle.std.proofs.Common.{◌≡◌, ◌+◌, List, Option, Some, None, length, true≢false, refl, sym, ap, subst, ◌∙◌, arith}
+use Rattle.std.specs.Prelude.{slice_set}
 use Rattle.std.proofs.lemmas.Option.{slice_get_within}
 use Rattle.wcp_clock.specs.Limits.{most_relays}
 use Rattle.wcp_clock.specs.declared.note.Item.{Item}
@@ -8,9 +8,8 @@ use Rattle.wcp_tree.specs.LiveProbe.{ClosedSide}
 use Rattle.wcp_tree.specs.RelayEnds.{fault_of}
 use Rattle.wcp_tree.specs.declared.relay_end.Receipts.TheVariants.{Feeds, Lane}
 use Rattle.wcp_tree.specs.declared.relay_end.RelayEnd.{RelayEnd}
-use Rattle.wcp_tree.specs.declared.relay_end.RelayEnd.TheVariants.{Whole, Faulted}
+use Rattle.wcp_tree.specs.declared.relay_end.RelayEnd.TheVariants.{Whole}
 use Rattle.wcp_tree.proofs.Entries.{set_here}
-use Rattle.wcp_run.specs.Seats.{SitsAt}
 use Rattle.wcp_run.proofs.MatchedLinks
 use Rattle.wcp_run.proofs.MatchedLinks.{HaveMatched}
 use Rattle.wcp_run.proofs.Seating.{length_set, nobody_sat, sat_there}

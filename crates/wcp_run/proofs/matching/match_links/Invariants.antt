@@ -1,4 +1,3 @@
-use Rattle.std.proofs.Common.{ℕ}
 use Rattle.wcp_run.specs.Matching.{AreEndsThere}
 use Rattle.wcp_run.proofs.MatchedLinks.{HaveMatched}
 use Rattle.wcp_run.proofs.matching.match_links.Given as goal

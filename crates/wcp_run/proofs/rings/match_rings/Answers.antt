@@ -1,7 +1,6 @@
-use Rattle.std.proofs.Common.{◌≡◌, None, true≢false, sym, ap, subst, ◌∙◌}
+use Rattle.std.proofs.Common.{true≢false, sym, ap, subst, ◌∙◌}
 use Rattle.std.specs.Prelude.{slice_set}
 use Rattle.wcp_ring.specs.Ends.{EndedSide}
-use Rattle.wcp_run.specs.Seats.{SitsAt}
 use Rattle.wcp_run.proofs.MatchedRings.{AreMatching, its, one_matched, one_ring, sits_still, unmatched}
 use Rattle.wcp_run.proofs.Seating.{nobody_sat, sat_there}
 use Rattle.wcp_run.proofs.rings.match_rings.Goals as goal
