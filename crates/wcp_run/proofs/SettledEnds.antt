@@ -1,9 +1,11 @@
 -- What the ends of a watch tell together.
-use Rattle.std.proofs.Common.{◌≡◌, ◌↔◌, ℕ, ◌<◌, ◌≤◌, List, length, Option, Some, None, Contains, refl, sym, ap, subst, ◌∙◌, inl, ⊎_elim, arith}
+use Rattle.std.proofs.Common.{◌≡◌, ◌↔◌, ℕ, ◌<◌, ◌≤◌, List, length, Option, Some, None, Contains, refl, sym, ap, subst, ◌∙◌, inl, ⊎_elim, arith, suc, [], ◌∷◌}
 use Rattle.std.specs.Prelude.{slice_get, All, IfNone}
 use Rattle.std.specs.FinSet as set
+use Rattle.std.specs.List.{sum_by}
 use Rattle.std.specs.Option.{option_flatten}
 use Rattle.std.proofs.lemmas.Bool.{cases_lt}
+use Rattle.std.proofs.lemmas.List.Sums.{sum_by-cons}
 use Rattle.std.proofs.lemmas.List.Elements.{All-contains}
 use Rattle.std.proofs.lemmas.Option.{slice_get_past, slice_get_within}
 use Rattle.wcp_clock.specs.Limits.{most_processes}
@@ -14,6 +16,7 @@ use Rattle.wcp_model.specs.declared.outcome.Tally.{Tally}
 use Rattle.wcp_model.specs.declared.plan.PlanFault.TheVariants.{Procs}
 use Rattle.wcp_model.specs.declared.plan.Parent.{Parent}
 use Rattle.wcp_model.specs.declared.plan.Parent.TheVariants as parent
+use Rattle.wcp_book.specs.Totals.{AreTotals, emitted_in, taken_in}
 use Rattle.wcp_lane.specs.Ends.{TakenEnd}
 use Rattle.wcp_lane.specs.Passes.{Numbers}
 use Rattle.wcp_queue.specs.Checker.{IsReportOfAnyClocks}
@@ -30,6 +33,27 @@ use Rattle.wcp_run.specs.declared.settled.Settled.{Settled}
 use Rattle.wcp_run.specs.declared.checker_end.CheckerEnd.{CheckerEnd}
 use Rattle.wcp_run.proofs.ClimbedLanes.{all_taken}
 use Rattle.wcp_run.proofs.Seating.{All-from_contains}
+
+-- shares that are just the tallies have their sum
+shares_sum : (of_tally : Tally → ℕ) (of_share : Option Tally → ℕ) → of_share None ≡ 0
+    → ((tally : Tally) → of_share (Some tally) ≡ of_tally tally) → (shares : List (Option Tally)) (tallies : List Tally)
+    → ((p : ℕ) → option_flatten (slice_get shares p) ≡ slice_get tallies p) → sum_by of_share shares ≡ sum_by of_tally tallies
+shares_sum of_tally of_share none some [] [] same = refl
+shares_sum of_tally of_share none some [] (tally ∷ tallies) same = let no : None ≡ Some tally = same 0 in cc
+shares_sum of_tally of_share none some (None ∷ shares) [] same =
+    omega (arith, none, sum_by-cons of_share None shares, shares_sum of_tally of_share none some shares [] (λ p. same (suc p)))
+shares_sum of_tally of_share none some (None ∷ shares) (tally ∷ tallies) same = let no : None ≡ Some tally = same 0 in cc
+shares_sum of_tally of_share none some (Some share ∷ shares) [] same = let no : Some share ≡ None = same 0 in cc
+shares_sum of_tally of_share none some (Some share ∷ shares) (tally ∷ tallies) same =
+    let one : share ≡ tally = let first : Some share ≡ Some tally = same 0 in cc in
+    omega (
+      arith,
+      some share,
+      ap of_tally one,
+      sum_by-cons of_share (Some share) shares,
+      sum_by-cons of_tally tally tallies,
+      shares_sum of_tally of_share none some shares tallies (λ p. same (suc p)),
+    )
 
 -- all are there where somebody sits at each of the first places
 pub all_there : {E : Type 0} (place_of : E → ℕ) (ends : List E) (seats : List (Option E)) (count : ℕ) → AreSeats place_of ends seats
@@ -227,6 +251,11 @@ module _ (probes : List ClosedSide) (relays : List RelayEnd) (checker : CheckerE
             ∙ ap (λ (notes : List Note). Some (record { emitted = snapshots_in end.link.put; taken = snapshots_in notes }))
             (sym (whole_of end among)));
         shares = λ p. posted p ∙ ap (λ (all : List Tally). slice_get all p) (sym tallies_are);
+        totals = λ totals are.
+            let same = λ (p : ℕ). posted p ∙ ap (λ (all : List Tally). slice_get all p) (sym tallies_are) in (
+              are.emitted ∙ shares_sum (λ tally. tally.emitted) emitted_in refl (λ tally. refl) book told.tallies same,
+              are.taken ∙ shares_sum (λ tally. tally.taken) taken_in refl (λ tally. refl) book told.tallies same,
+            );
       }
         where
           whole_of : (end : ClosedSide) → Contains probes end → notes_taken end.id checker.receipt.taken ≡ end.link.put

@@ -1,6 +1,7 @@
 -- The settling of a watch: what its ends have in common, and what they tell together.
 use Rattle.std.specs.Prelude.{◌≡◌, ◌≤◌, ℕ, true, Option, Some, None, IfNone, List, [], ◌∷◌, length, slice_get, All}
 use Rattle.std.specs.FinSet as set
+use Rattle.std.specs.List.{sum_by}
 use Rattle.std.specs.Option.{option_flatten}
 use Rattle.wcp_clock.specs.declared.note.Item.{Item}
 use Rattle.wcp_model.specs.FirstReason.{IsFirstReason}
@@ -10,6 +11,7 @@ use Rattle.wcp_model.specs.declared.outcome.Tally.{Tally}
 use Rattle.wcp_model.specs.declared.plan.Parent.{Parent}
 use Rattle.wcp_model.specs.declared.plan.Parent.TheVariants as parent
 use Rattle.wcp_model.specs.declared.plan.Plan.{Plan}
+use Rattle.wcp_book.specs.Totals.{AreTotals}
 use Rattle.wcp_lane.specs.Ends.{TakenEnd}
 use Rattle.wcp_queue.specs.Checker.{IsReportOfAnyClocks}
 use Rattle.wcp_tree.specs.Feeding.{items_of}
@@ -117,7 +119,8 @@ IsFirstFault probes relays checker book =
     IsFirstReason (λ fault. ¬ IsFreeOf probes relays checker book fault) settle_faults
 
 -- What a run's ends tell: the checker took of each process what its probe put, each note once and in order; its report is
--- that of what it took, and all is drained; the tallies count the snapshots of each process, and just they are in the book.
+-- that of what it took, and all is drained; the tallies count the snapshots of each process, just they are in the book,
+-- and the book's totals are their sums.
 pub record IsSettled (probes : List ClosedSide) (checker : CheckerEnd) (book : List (Option Tally))
     (settled : Settled) : Type 0 where
   pub all : AreAllThere (λ end. end.id) checker.processes probes
@@ -132,3 +135,6 @@ pub record IsSettled (probes : List ClosedSide) (checker : CheckerEnd) (book : L
     taken = snapshots_in (notes_taken end.id checker.receipt.taken);
   })) probes
   pub shares : (p : ℕ) → option_flatten (slice_get book p) ≡ slice_get settled.tallies p
+  pub totals : (totals : Tally) → AreTotals book totals
+      → (totals.emitted ≡ sum_by (λ tally. tally.emitted) settled.tallies)
+      × (totals.taken ≡ sum_by (λ tally. tally.taken) settled.tallies)
