@@ -3,3 +3,4 @@ pub mod OneMoreAction
 pub mod NewLanes
 pub mod OpenedRows
 pub mod OpenedWorkers
+pub mod FreshProbes
