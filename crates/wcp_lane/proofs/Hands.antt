@@ -7,8 +7,8 @@ use Rattle.wcp_clock.specs.Limits.{most_processes}
 use Rattle.wcp_model.specs.LaneRule.{IsNext}
 use Rattle.wcp_lane.specs.declared.passes.Hand.{Hand}
 use Rattle.wcp_lane.specs.Message.{items_from}
-use Rattle.wcp_lane.specs.Passes.{Numbers, home, putter, taker, nobody, without, joined, with_put, with_taken, IsPut, IsBalanced, IsRuled}
-use Rattle.wcp_lane.specs.Ends.{put_by, unowned_by}
+use Rattle.wcp_lane.specs.Passes.{Numbers, home, putter, taker, nobody, without, joined, IsPut, IsBalanced, IsRuled}
+use Rattle.wcp_lane.specs.Ends.{put_by}
 use Rattle.wcp_lane.proofs.Steps.{puts, gives, joins}
 
 -- what isn't outside is inside
@@ -31,21 +31,6 @@ module _ {M : Type 0} (origin place : M → ℕ) (is_last : M → Bool) where
 
   pub joins_as : (pass : ℕ) (v : Hand M) (other : ℕ) (u : Hand M) (numbers : Numbers) (put : List M) → v.takes ≡ true → u ≡ putter numbers put → Merges Rule pass v other u (joined v u) nobody
   joins_as pass v other u numbers put may is = subst (λ (w : Hand M). Merges Rule pass v other w (joined v w) nobody) (sym is) (joins origin place is_last pass v other numbers put may)
-
--- what a putter knows once it has put a message
-pub after_put : {M : Type 0} (v w : Hand M) (numbers : Numbers) (m : M) → v ≡ putter numbers (put_by v) → w ≡ with_put m v → (w ≡ putter numbers (put_by w)) × (put_by w ≡ put_by v ++ m ∷ [])
-after_put v w numbers m is step =
-    let now : w ≡ putter numbers (put_by v ++ m ∷ []) = step ∙ ap (with_put m) is in
-    let all : put_by w ≡ put_by v ++ m ∷ [] = ap put_by now in
-    (now ∙ ap (putter numbers) (sym all), all)
-
--- what the taker knows once it has taken a message
-pub after_taken : {M : Type 0} (v w : Hand M) (m : M) → v ≡ taker (unowned_by v) v.taken → w ≡ with_taken m v → (w ≡ taker (unowned_by w) w.taken) × (unowned_by w ≡ unowned_by v) × (w.taken ≡ v.taken ++ m ∷ [])
-after_taken v w m is step =
-    let now : w ≡ taker (unowned_by v) (v.taken ++ m ∷ []) = step ∙ ap (with_taken m) is in
-    let same : unowned_by w ≡ unowned_by v = ap unowned_by now in
-    let all : w.taken ≡ v.taken ++ m ∷ [] = ap (λ (x : Hand _). x.taken) now in
-    (now ∙ (λ i. taker (sym same i) (sym all i)), same, all)
 
 -- as many taken as put, then nothing is left in between
 pub same_lists : {X : Type 0} (put taken left : List X) → put ≡ taken ++ left → length taken ≡ length put → taken ≡ put

@@ -1,9 +1,8 @@
-use Rattle.std.proofs.Common.{◌≡◌, ℕ, ◌+◌, ◌*◌, ◌<◌, ◌≤◌, List, [], ◌∷◌, ◌++◌, length, take, replicate, count_by, Some, refl, sym, ◌∙◌, arith, ⊎_elim}
+use Rattle.std.proofs.Common.{◌≡◌, ℕ, ◌+◌, ◌*◌, ◌<◌, ◌≤◌, List, [], ◌∷◌, ◌++◌, length, take, count_by, Some, refl, sym, ◌∙◌, arith, ⊎_elim}
 use Rattle.std.specs.List.{slice_get, All}
 use Rattle.std.proofs.lemmas.Bool.{cases_lt}
-use Rattle.std.proofs.lemmas.List.{take_all, take_more, length-replicate, get_or-replicate}
+use Rattle.std.proofs.lemmas.List.{take_all, take_more}
 use Rattle.std.proofs.lemmas.List.Elements.{All-take}
-use Rattle.std.proofs.lemmas.Nat.{mul-add-lt}
 use Rattle.std.proofs.lemmas.Option.{slice_get_within, get_or_from_slice_get}
 use Rattle.wcp_model.specs.declared.workload.Action.{Action}
 use Rattle.wcp_model.specs.declared.workload.Action.TheVariants as action
@@ -19,13 +18,6 @@ pub record IsFollowed (n : ℕ) (tasks : List Task) (place : ℕ) (in_transit : 
   pub channels : length in_transit ≡ n * n
   pub counted : IsCounted n (take place tasks) in_transit
   pub sent_first : (front p q : ℕ) → front ≤ place → count_by (receives p q) (take front tasks) ≤ count_by (sends p q) (take front tasks)
-
-pub followed_none : (n : ℕ) (tasks : List Task) (in_transit : List ℕ) → in_transit ≡ replicate (n * n) 0 → IsFollowed n tasks 0 in_transit
-followed_none n tasks in_transit none = record {
-  channels = rw none (length-replicate (n * n) 0);
-  counted = λ p q p_below q_below. rw (none, get_or-replicate {A = ℕ} (n * n) (p * n + q) 0 0 (mul-add-lt p n q n p_below q_below)) refl;
-  sent_first = λ front p q none_before. let empty : front ≡ 0 = omega arith in rw empty (omega arith);
-}
 
 module _ (n : ℕ) (tasks : List Task) (place : ℕ) (in_transit : List ℕ) (within : All (IsWithin n) tasks) (followed : IsFollowed n tasks place in_transit) (p : ℕ) (act : Action) (at : slice_get tasks place ≡ Some (record { p = p; action = act })) where
   abbrev task : Task

@@ -1,7 +1,7 @@
-use Rattle.std.proofs.Common.{◌≡◌, ℕ, ◌+◌, ◌<◌, ◌≤◌, false, List, length, replicate, take, Some, refl, sym, ◌∙◌, ap, arith, ⊎_elim, get_or, set, get_or-set_same, get_or-set_other}
+use Rattle.std.proofs.Common.{◌≡◌, ℕ, ◌+◌, ◌<◌, ◌≤◌, false, List, length, take, Some, refl, sym, ◌∙◌, ap, arith, ⊎_elim, get_or, set, get_or-set_same, get_or-set_other}
 use Rattle.std.specs.List.{slice_get, slice_index, filter, All}
 use Rattle.std.proofs.lemmas.Bool.{cases_eq, ne_eqb}
-use Rattle.std.proofs.lemmas.List.{append-nil, length-set, length-replicate, get_or-replicate}
+use Rattle.std.proofs.lemmas.List.{append-nil, length-set}
 use Rattle.std.proofs.lemmas.List.Elements.{filter_more}
 use Rattle.std.proofs.lemmas.Option.{slice_get_within, slice_get-get_or, get_or_from_slice_get, same_Some}
 use Rattle.wcp_model.specs.declared.workload.Task.{Task}
@@ -14,15 +14,6 @@ pub record IsLinkedFrom (n : ℕ) (tasks : List Task) (place : ℕ) (first next 
   pub places : length next ≡ length tasks
   pub first_of : (p : ℕ) → p < n → IsNextPlace tasks p place (slice_index first p)
   pub next_of : (i : ℕ) (task : Task) → place ≤ i → slice_get tasks i ≡ Some task → IsNextPlace tasks task.p (i + 1) (slice_index next i)
-
--- behind all tasks there is none
-IsNextPlace_end : (tasks : List Task) (p : ℕ) → IsNextPlace tasks p (length tasks) (length tasks)
-IsNextPlace_end tasks p = record {
-  ahead = omega arith;
-  inside = omega arith;
-  skipped = refl;
-  own = λ task at. absurd (omega (arith, slice_get_within tasks (length tasks) task at));
-}
 
 -- a task is the first one of its process from its place on
 IsNextPlace_here : (tasks : List Task) (i : ℕ) (task : Task) → slice_get tasks i ≡ Some task → IsNextPlace tasks task.p i i
@@ -42,16 +33,6 @@ IsNextPlace_other tasks p i next task at other step = record {
       let fails : is_task_of p (get_or tasks i task) ≡ false = rw (get_or_from_slice_get tasks i task task at) (ne_eqb task.p p other) in
       step.skipped ∙ filter_more (is_task_of p) tasks i task (slice_get_within tasks i task at) ∙ rw fails (append-nil (filter (is_task_of p) (take i tasks)));
   own = step.own;
-}
-
-pub linked_none : (n : ℕ) (tasks : List Task) (first next : List ℕ) → first ≡ replicate n (length tasks) → next ≡ replicate (length tasks) (length tasks) → IsLinkedFrom n tasks (length tasks) first next
-linked_none n tasks first next all_first all_next = record {
-  processes = rw all_first (length-replicate n (length tasks));
-  places = rw all_next (length-replicate (length tasks) (length tasks));
-  first_of = λ p within.
-      let here : slice_index first p ≡ length tasks = rw all_first (get_or-replicate n p (length tasks) 0 within) in
-      rw here (IsNextPlace_end tasks p);
-  next_of = λ i task behind at. absurd (omega (arith, slice_get_within tasks i task at));
 }
 
 pub linked_more : (n : ℕ) (tasks : List Task) (place k : ℕ) (first next : List ℕ) (d : Task) → All (IsWithin n) tasks → place ≡ k + 1 → k < length tasks → IsLinkedFrom n tasks place first next → IsLinkedFrom n tasks k (set first (get_or tasks k d).p k) (set next k (get_or first (get_or tasks k d).p 0))

@@ -1,4 +1,4 @@
-use Rattle.std.proofs.Common.{◌≡◌, ℕ, zero, suc, max, ◌+◌, ◌<◌, ◌≤◌, Bool, true, false, List, [], ◌∷◌, ◌++◌, Some, length, slice_index, slice_set, refl, sym, ap, ◌∙◌, subst, arith, cond, MatchOption}
+use Rattle.std.proofs.Common.{◌≡◌, ℕ, zero, suc, max, ◌+◌, ◌<◌, ◌≤◌, true, false, List, [], ◌∷◌, ◌++◌, Some, length, slice_index, slice_set, refl, sym, ap, ◌∙◌, subst, arith, cond, MatchOption}
 use Rattle.std.proofs.lemmas.List.{length-set, get_or-set_same}
 use Rattle.wcp_clock.specs.declared.note.Note.{Note}
 use Rattle.wcp_clock.specs.declared.note.Note.TheVariants as note
@@ -6,7 +6,7 @@ use Rattle.wcp_clock.specs.Merge.{merged}
 use Rattle.wcp_clock.proofs.Merging.{length-merged, slice_index-merged}
 use Rattle.wcp_model.specs.ProbeLog.{Call, Observed, Received, Closed, ProbeState, after_call, setup, state_of_log}
 use Rattle.wcp_model.proofs.TaskLogs.{log_push}
-use Rattle.wcp_probe.specs.Core.{Core, StandsForLog, Accepts, IsLast, setup_of}
+use Rattle.wcp_probe.specs.Core.{Core, Accepts, IsLast, setup_of}
 
 -- closing makes the close mark the last emission
 pub close_accepted : (core : Core) → Accepts core Closed (record core { closed = true; pending = Some (note.Close core.emitted) })
@@ -23,26 +23,6 @@ close_accepted core log stands =
 -- what a true observation makes of an interval whose snapshot was not emitted
 observed_first : (p : ℕ) (s : ProbeState) → s.flag ≡ false → after_call p s (Observed true) ≡ record s { flag = true; snapshots = s.snapshots + 1; notes = s.notes ++ note.Snap s.snapshots s.clock ∷ [] }
 observed_first p s unflagged = ap (λ b. cond b s (record s { flag = true; snapshots = s.snapshots + 1; notes = s.notes ++ note.Snap s.snapshots s.clock ∷ [] })) unflagged
-
-observed_again : (p : ℕ) (s : ProbeState) → s.flag ≡ true → after_call p s (Observed true) ≡ s
-observed_again p s flagged = ap (λ b. cond b s (record s { flag = true; snapshots = s.snapshots + 1; notes = s.notes ++ note.Snap s.snapshots s.clock ∷ [] })) flagged
-
--- a call that changes nothing of what the log leads to leaves the probe as it is
-pub nothing_accepted : (core : Core) (log : List Call) (call : Call) → after_call core.id (state_of_log (setup_of core) log) call ≡ state_of_log (setup_of core) log → StandsForLog core log → StandsForLog core (log ++ call ∷ [])
-nothing_accepted core log call same stands =
-    let after = log_push (setup_of core) log call ∙ same in
-    record {
-      clock = stands.clock ∙ sym (ap (λ (s : ProbeState). s.clock) after);
-      flag = stands.flag ∙ sym (ap (λ (s : ProbeState). s.flag) after);
-      closed = stands.closed ∙ sym (ap (λ (s : ProbeState). s.closed) after);
-      emitted = stands.emitted ∙ sym (ap (λ (s : ProbeState). s.snapshots) after);
-      pending = subst (λ (notes : List Note). MatchOption core.pending (Unit {0}) (IsLast notes)) (sym (ap (λ (s : ProbeState). s.notes) after)) stands.pending;
-    }
-
--- an observation that finds the condition false, or true again in its interval, emits nothing
-pub quiet_accepted : (core : Core) (holds : Bool) → (holds ≡ true → core.flag ≡ true) → Accepts core (Observed holds) core
-quiet_accepted core false quiet log stands = nothing_accepted core log (Observed false) refl stands
-quiet_accepted core true quiet log stands = nothing_accepted core log (Observed true) (observed_again core.id _ (sym stands.flag ∙ quiet refl)) stands
 
 -- the first true observation of an interval emits a snapshot
 pub snapshot_accepted : (core : Core) → core.flag ≡ false → Accepts core (Observed true) (record core { flag = true; emitted = core.emitted + 1; pending = Some (note.Snap core.emitted core.clock) })
