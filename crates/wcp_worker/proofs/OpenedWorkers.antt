@@ -1,13 +1,13 @@
 -- The workers of a workload, once all their lanes are opened.
-use Rattle.std.proofs.Common.{◌≡◌, ◌⊎◌, ℕ, ◌<◌, ◌≤◌, Option, Some, None, List, [], ◌∷◌, ◌++◌, length, map, filter, get_or, replicate, All, refl, sym, ap, ◌∙◌, subst, ⊎_elim, arith}
+use Rattle.std.proofs.Common.{◌≡◌, ◌⊎◌, ℕ, ◌<◌, ◌≤◌, Option, Some, None, List, [], ◌++◌, length, map, filter, get_or, replicate, All, refl, sym, ap, ◌∙◌, subst, ⊎_elim, arith}
 use Rattle.std.specs.Prelude.{IfSome, slice_get, count_by}
 use Rattle.std.proofs.lemmas.List.{get_or_past, length-map, length-replicate}
 use Rattle.std.proofs.lemmas.List.Sums.{length-filter, count_by-le-length}
-use Rattle.std.proofs.lemmas.Option.{get_or_from_slice_get, slice_get_within, slice_get-get_or}
+use Rattle.std.proofs.lemmas.Option.{get_or_from_slice_get, slice_get_within}
 use Rattle.wcp_model.specs.declared.workload.Task.{Task}
 use Rattle.wcp_model.specs.TaskLog.{actions_of}
 use Rattle.wcp_model.specs.WorkloadComputation.{is_task_of, is_send_to}
-use Rattle.wcp_probe.specs.Core.{Core, StandsForLog, setup_of}
+use Rattle.wcp_probe.specs.Core.{Core, StandsForLog}
 use Rattle.wcp_tree.specs.LiveProbe.{LiveSide, LiveFor, fresh_core, pending_notes}
 use Rattle.wcp_tree.proofs.Entries.{mapped_entry}
 use Rattle.wcp_worker.specs.declared.lanes.Outbox.{Outbox}
@@ -15,7 +15,7 @@ use Rattle.wcp_worker.specs.declared.lanes.Inbox.{Inbox}
 use Rattle.wcp_worker.specs.declared.player.Player.{Player}
 use Rattle.wcp_worker.specs.declared.worker.Worker.{Worker}
 use Rattle.wcp_worker.specs.Lanes.{IsOutboxOf, IsInboxOf, IfBoth, IsSameOutbox, IsSameInbox, IsLaneFor, put_by, taken_by, clocks_from}
-use Rattle.wcp_worker.specs.Mailboxes.{outbox_to, inbox_from, clocks_sent, clocks_taken}
+use Rattle.wcp_worker.specs.Mailboxes.{outbox_to, inbox_from, clocks_sent}
 use Rattle.wcp_worker.specs.Played.{IsFresh}
 use Rattle.wcp_worker.specs.Opening.{IsIdle, HasTasks, HaveLanes}
 use Rattle.wcp_worker.specs.Workers.{AreFreshProbes, AreWorkersOf}
@@ -66,7 +66,7 @@ module _
       record {
         follows = tt;
         stands = stands;
-        probe = (record { watch = refl; id = refl; limit = refl; components = refl }, refl);
+        probe = (record { watch = refl; limit = refl; made = refl }, refl);
         lanes = record {
           outboxes = λ q. (outbox_fresh (outbox_to player.mailbox q) (outboxes q)).1;
           inboxes = λ q. (inbox_fresh q (inbox_from player.mailbox q) (inboxes q)).1;
