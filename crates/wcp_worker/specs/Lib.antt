@@ -4,3 +4,4 @@ pub mod Played
 pub mod Probes
 pub mod Workers
 pub mod Opening
+pub mod Runs

@@ -4,6 +4,7 @@
 mod gate;
 mod lanes;
 mod mailbox;
+mod matched_lanes;
 mod matching;
 mod message;
 mod new_lane;
@@ -16,7 +17,7 @@ mod worker_end;
 pub use gate::{Gate, Open};
 pub use lanes::{Inbox, Outbox};
 pub use mailbox::Mailbox;
-pub use matching::match_lane;
+pub use matched_lanes::match_lanes;
 pub use message::Message;
 pub use opening::open_workers;
 pub use worker::Worker;

@@ -1,0 +1,69 @@
+-- The lanes among the mailboxes of all processes, as their ends are taken out.
+use Rattle.std.proofs.Common.{◌≡◌, ◌≢◌, ℕ, Option, Some, None, List, length, slice_get, slice_set, get_or, inl, inr, ap, sym, ◌∙◌, ◌<◌, subst₂, arith}
+use Rattle.std.proofs.lemmas.List.{length-set}
+use Rattle.std.specs.Prelude.{slice_index_or}
+use Rattle.std.proofs.lemmas.Bool.{cases_eq}
+use Rattle.std.proofs.lemmas.Option.{slice_get_within, slice_get-get_or}
+use Rattle.wcp_tree.proofs.Entries.{set_here, set_elsewhere}
+use Rattle.wcp_worker.specs.declared.mailbox.Mailbox.{Mailbox}
+use Rattle.wcp_worker.specs.Lanes.{put_by, taken_by, clocks_from}
+use Rattle.wcp_worker.specs.Mailboxes.{outbox_to, inbox_from}
+use Rattle.wcp_worker.specs.Runs.{outbox_of, inbox_of, ends_between, IsAllTaken, AreMatched}
+
+-- what is the same of one that was changed is the same of each
+same_of_each : {X Y : Type 0} (f : Option X → Y) (xs : List X) (k : ℕ) (old new : X) (a : ℕ)
+    → slice_get xs k ≡ Some old → (a ≡ k → f (Some new) ≡ f (Some old))
+    → f (slice_get (slice_set xs k new) a) ≡ f (slice_get xs a)
+same_of_each f xs k old new a at same = elim (cases_eq a k) [
+  | inl here ↦
+      ap (λ i. f (slice_get (slice_set xs k new) i)) here
+      ∙ ap f (set_here xs k new (slice_get_within xs k old at)) ∙ same here ∙ ap f (sym at)
+      ∙ ap (λ i. f (slice_get xs i)) (sym here)
+  | inr other ↦ ap f (set_elsewhere xs k a new other)
+]
+
+-- as the end by which p sends to q leaves its mailbox, and then the other end of this lane
+module _
+    (ms : List Mailbox) (p q : ℕ) (d left e last : Mailbox) (p_below : p < length ms) (q_below : q < length ms)
+    (same : left.inboxes ≡ (get_or ms p d).inboxes) where
+  abbrev from : Mailbox
+  from = get_or ms p d
+
+  abbrev to : Mailbox
+  to = get_or (slice_set ms p left) q e
+
+  at : slice_get ms p ≡ Some from
+  at = slice_get-get_or ms p d p_below
+
+  then_at : slice_get (slice_set ms p left) q ≡ Some to
+  then_at = slice_get-get_or (slice_set ms p left) q e (omega (arith, length-set ms p left))
+
+  inboxes_kept : (a b : ℕ) → inbox_of (slice_get (slice_set ms p left) b) a ≡ inbox_of (slice_get ms b) a
+  inboxes_kept a b = same_of_each (λ m. inbox_of m a) ms p from left b at (λ here. ap (λ rows. slice_index_or rows.items a None) same)
+
+  -- the ends between all others stay
+  pub others_stay : ((b : ℕ) → b ≢ q → outbox_to left b ≡ outbox_to from b) → ((a : ℕ) → a ≢ p → inbox_from last a ≡ inbox_from to a)
+      → last.outboxes ≡ to.outboxes → (a b : ℕ) → (a ≡ p → b ≢ q) → ends_between (slice_set (slice_set ms p left) q last) a b ≡ ends_between ms a b
+  others_stay out in_ outboxes a b apart = λ i. (sending i, coming i)
+    where
+      sending : outbox_of (slice_get (slice_set (slice_set ms p left) q last) a) b ≡ outbox_of (slice_get ms a) b
+      sending =
+          same_of_each (λ m. outbox_of m b) (slice_set ms p left) q to last a then_at (λ here. ap (λ rows. slice_index_or rows.items b None) outboxes)
+          ∙ same_of_each (λ m. outbox_of m b) ms p from left a at (λ here. out b (apart here))
+
+      coming : inbox_of (slice_get (slice_set (slice_set ms p left) q last) b) a ≡ inbox_of (slice_get ms b) a
+      coming =
+          same_of_each (λ m. inbox_of m a) (slice_set ms p left) q to last b then_at (λ there. in_ a (λ here. apart here there))
+          ∙ inboxes_kept a b
+
+  -- and where neither was there, nothing was sent
+  pub none_sent : outbox_to from q ≡ None → inbox_from to p ≡ None → IsAllTaken p (ends_between ms p q)
+  none_sent no_outbox no_inbox =
+      ap (λ inbox. clocks_from p (taken_by inbox)) (sym (inboxes_kept p q) ∙ ap (λ m. inbox_of m p) then_at ∙ no_inbox)
+      ∙ ap (λ outbox. clocks_from p (put_by outbox)) (sym (ap (λ m. outbox_of m q) at ∙ no_outbox))
+
+-- where all that was put between each two was taken, all messages were
+pub all_matched : (ms : List Mailbox) → ((a b : ℕ) → a < length ms → b < length ms → IsAllTaken a (ends_between ms a b)) → AreMatched ms
+all_matched ms all p q from to from_at to_at =
+    subst₂ (λ source target. clocks_from p (taken_by (inbox_of target p)) ≡ clocks_from p (put_by (outbox_of source q))) from_at to_at
+    (all p q (slice_get_within ms p from from_at) (slice_get_within ms q to to_at))

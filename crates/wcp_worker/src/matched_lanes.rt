@@ -1,0 +1,56 @@
+ghost use Rattle.std.specs.Prelude.{◌≡◌, ◌≢◌, ◌<◌, ◌≤◌, ℕ, length, OnOk};
+ghost use Rattle.wcp_clock.specs.Limits.{most_processes};
+ghost use Rattle.wcp_worker.specs.Runs.{AreMatched, AreOfLane, IsAllTaken, ends_between};
+
+use crate::mailbox::Mailbox;
+use crate::matching::match_lane;
+use wcp_lane::Unfinished;
+
+/// Compares what each process put on its lanes with what the others took from them. The mailboxes are by the numbers
+/// of their processes. `Err` where something that was put wasn't taken.
+pub fn match_lanes(mut mailboxes: Vec<Mailbox>) -> Result<(), Unfinished>
+    requires few { length mailboxes.items ≤ most_processes }
+    requires lanes { (p q : ℕ) → p < length mailboxes.items → q < length mailboxes.items
+        → AreOfLane p (ends_between mailboxes.items p q) }
+    ensures { OnOk result (AreMatched mailboxes.items) }
+{
+    for p in 0..mailboxes.len() {
+        match_lanes_from(p, &mut mailboxes)?;
+    }
+    Ok(())
+}
+
+/// Matches the lanes of a process to each other.
+fn match_lanes_from(p: usize, mailboxes: &mut [Mailbox]) -> Result<(), Unfinished>
+    requires few { length mailboxes.old ≤ most_processes }
+    requires within { p < length mailboxes.old }
+    requires lanes { (q : ℕ) → q < length mailboxes.old → AreOfLane p (ends_between mailboxes.old p q) }
+    ensures matched { OnOk result ((q : ℕ) → q < length mailboxes.old → IsAllTaken p (ends_between mailboxes.old p q)) }
+    ensures others { (a b : ℕ) → a ≢ p → ends_between mailboxes.new a b ≡ ends_between mailboxes.old a b }
+    ensures count { length mailboxes.new ≡ length mailboxes.old }
+{
+    for q in 0..mailboxes.len() {
+        match_lane_between(p, q, mailboxes)?;
+    }
+    Ok(())
+}
+
+/// Matches the lane of a process to another, if there is one.
+fn match_lane_between(p: usize, q: usize, mailboxes: &mut [Mailbox]) -> Result<(), Unfinished>
+    requires few { length mailboxes.old ≤ most_processes }
+    requires from { p < length mailboxes.old }
+    requires to { q < length mailboxes.old }
+    requires lane { AreOfLane p (ends_between mailboxes.old p q) }
+    ensures matched { OnOk result (IsAllTaken p (ends_between mailboxes.old p q)) }
+    ensures others { (a b : ℕ) → (a ≡ p → b ≢ q)
+        → ends_between mailboxes.new a b ≡ ends_between mailboxes.old a b }
+    ensures count { length mailboxes.new ≡ length mailboxes.old }
+{
+    let outbox = mailboxes[p].take_outbox(q as u32);
+    let inbox = mailboxes[q].take_inbox(p as u32);
+    match (outbox, inbox) {
+        (Some(outbox), Some(inbox)) => match_lane(outbox, inbox),
+        (None, None) => Ok(()),
+        _ => unreachable!(),
+    }
+}
