@@ -45,8 +45,8 @@ pub record IsEndOfRelay (relays : List Relay) (end : RelayEnd) : Type 0 where
   pub receipts : AreReceiptsOf relay end
   pub whole : IfNone (fault_of end) ((p : ℕ) → put_by end p ≡ taken_by end p)
 
--- The checker's end comes from a watch that was wired by a checked plan, and so does each end that carries the number of
--- this watch.
+-- The checker's end comes from a watch that was wired by a checked plan, and so does each end that carries the number
+-- of this watch.
 pub record ComeFromWatch (probes : List ClosedSide) (relays : List RelayEnd) (checker : CheckerEnd) : Type 0 where
   pub plan : Plan
   pub watch : Watch
@@ -118,9 +118,9 @@ abbrev pub IsFirstFault : List ClosedSide → List RelayEnd → CheckerEnd → L
 IsFirstFault probes relays checker book =
     IsFirstReason (λ fault. ¬ IsFreeOf probes relays checker book fault) settle_faults
 
--- What a run's ends tell: the checker took of each process what its probe put, each note once and in order; its report is
--- that of what it took, and all is drained; the tallies count the snapshots of each process, just they are in the book,
--- and the book's totals are their sums.
+-- What a run's ends tell: the checker took of each process what its probe put, each note once and in order; its report
+-- is that of what it took, and all is drained; the tallies count the snapshots of each process, just they are in the
+-- book, and the book's totals are their sums.
 pub record IsSettled (probes : List ClosedSide) (checker : CheckerEnd) (book : List (Option Tally))
     (settled : Settled) : Type 0 where
   pub all : AreAllThere (λ end. end.id) checker.processes probes

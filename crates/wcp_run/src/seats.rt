@@ -1,4 +1,5 @@
-ghost use Rattle.std.specs.Prelude.{◌≡◌, ◌<◌, ◌≤◌, ◌↔◌, ℕ, length, slice_get, All, IsOk, OnOk, IfErr, Some, None, IsTrue};
+ghost use Rattle.std.specs.Prelude.{◌≡◌, ◌<◌, ◌≤◌, ◌↔◌, ℕ, length, slice_get, All, Some, None, IsTrue};
+ghost use Rattle.std.specs.Prelude.{IsOk, OnOk, IfErr};
 ghost use Rattle.wcp_run.specs.Seats.{AreOfWatch, AreSeats, AreSeated};
 ghost use Rattle.wcp_run.specs.declared.settle_fault.SettleFault.TheVariants as settle_fault;
 
