@@ -49,7 +49,8 @@ WasRaised n rows heads floor p = (q place : ℕ) × (place ≤ heads q) × Knows
 
 -- Process p has no head: all from a place of its row on waits, and a head of another process raised the floor, unless
 -- nothing did.
-pub record HasNoHead (n : ℕ) (rows : ℕ → List (List ℕ)) (heads : ℕ → ℕ) (queue : List (List ℕ)) (floor p : ℕ) : Type 0 where
+pub record HasNoHead (n : ℕ) (rows : ℕ → List (List ℕ)) (heads : ℕ → ℕ) (queue : List (List ℕ)) (floor p : ℕ)
+    : Type 0 where
   pub within : heads p ≤ length (rows p)
   pub all : queue ≡ drop (heads p) (rows p)
   pub raised : 0 < floor → WasRaised n rows heads floor p
@@ -59,7 +60,8 @@ pub record HasNoHead (n : ℕ) (rows : ℕ → List (List ℕ)) (heads : ℕ →
 pub record AreLeft (n : ℕ) (rows : ℕ → List (List ℕ)) (queues : List (List (List ℕ))) (floor : Floor) : Type 0 where
   pub heads : ℕ → ℕ
   pub head : (p : ℕ) → p < n → has_head floor p ≡ true → HasHead rows heads (queue_of queues p) (component floor p) p
-  pub none : (p : ℕ) → p < n → has_head floor p ≡ false → HasNoHead n rows heads (queue_of queues p) (component floor p) p
+  pub none : (p : ℕ) → p < n → has_head floor p ≡ false →
+      HasNoHead n rows heads (queue_of queues p) (component floor p) p
   pub under : (p q : ℕ) → p < n → q < n → p ≢ q → has_head floor q ≡ true →
       slice_index (candidate rows q (heads q)) p ≤ component floor p
   pub eliminated : IsEliminatedBelow n rows heads
@@ -95,8 +97,8 @@ abbrev pub Eliminates : List (List (List ℕ)) → Floor → List (List (List �
 Eliminates old old_floor new new_floor = (rows : ℕ → List (List ℕ)) →
     AreLeft (length old) rows old old_floor → AreLeft (length old) rows new new_floor
 
--- A candidate of p was added and heads were eliminated: the new queues and heads are what is left of the old rows, where
--- that of p has gained the candidate.
+-- A candidate of p was added and heads were eliminated: the new queues and heads are what is left of the old rows,
+-- where that of p has gained the candidate.
 abbrev pub AddsCandidate : ℕ → List ℕ → List (List (List ℕ)) → Floor → List (List (List ℕ)) → Floor → Type 0
 AddsCandidate p clock old old_floor new new_floor = (rows longer : ℕ → List (List ℕ)) →
     GainCandidate (length old) p clock rows longer → AreLeft (length old) rows old old_floor →
