@@ -154,9 +154,3 @@ message_sent_before n {tasks} {order} fit {p} {q} {sent} {received} d =
     let more : count_by sends_any (take (sent + 1) (take received order)) ≤ count_by sends_any (take received order) = sum_by-take-le (λ task. cond (sends_any task) 1 0) (take received order) (sent + 1) in
     let front : count_by sends_any (take (sent + 1) (take received order)) ≡ count_by sends_any (take (sent + 1) order) = ap (count_by sends_any) (take-take (sent + 1) received order (omega arith)) in
     omega (arith, more, front, count_by-take_more sends_any order sent _ d.send refl, message_at_is n order sent, message_at_is n order received)
-
--- one send has one sender and one receiver
-same_sends : (p q r u : ℕ) → ◌≡◌ {A = Task} (record { p = p; action = action.Send q }) (record { p = r; action = action.Send u }) → (p ≡ r) × (q ≡ u)
-same_sends p q r u same =
-    let send : action.Send q ≡ action.Send u = ap (λ (task : Task). task.action) same in
-    (ap (λ (task : Task). task.p) same, cc send)
