@@ -1,4 +1,4 @@
-ghost use Rattle.std.specs.Prelude.{◌≡◌, ◌<◌, true, ◌∷◌, [], ◌++◌, OnOk, IfErr};
+ghost use Rattle.std.specs.Prelude.{◌≡◌, ◌<◌, true, ◌∷◌, [], ◌++◌, OnOk, IfOk, IfErr, IfSome, IfNone};
 ghost use Rattle.std.specs.FinSet as set;
 ghost use Rattle.wcp_model.specs.LaneRule.{IsNext};
 ghost use Rattle.wcp_lane.specs.Message.{items_from};
@@ -9,6 +9,7 @@ use crate::fault::Cut;
 use crate::message::Origin;
 use crate::origins::Origins;
 use crate::passes::{LanePass, LaneSender, Puts};
+use crossbeam_channel::TrySendError;
 use std::marker::Model;
 use std::sync::Wait;
 
@@ -69,6 +70,32 @@ impl<M: Origin> Putter<M> {
                 count(&mut self.counts, origin, place);
                 Ok(())
             }
+            Err(error) => Err((Cut(()), error.into_inner())),
+        }
+    }
+
+    /// Puts a message if there is room for it. `Ok` hands it back where the lane is full, `Err` where it
+    /// is cut.
+    pub fn try_put<R: Wait>(&mut self, rt: &R, message: M) -> Result<Option<M>, (Cut, M)>
+        requires origin { set.contains self.old.members (M.origin message) ≡ true }
+        requires next { IsNext M.place M.last (items_from M.origin (M.origin message) self.old.put) message }
+        ensures same { (self.new.lane ≡ self.old.lane) × (self.new.members ≡ self.old.members) }
+        ensures put { IfOk result (λ back. IfNone back
+            (self.new ≡ record self.old { put = self.old.put ++ message ∷ [] })) }
+        ensures full { IfOk result (λ back. IfSome back (λ full. (full ≡ message) × (self.new ≡ self.old))) }
+        ensures err { IfErr result (λ e. (e.1 ≡ message) × (self.new ≡ self.old)) }
+    {
+        let origin = message.origin();
+        let place = message.place();
+        match self
+            .sender
+            .try_send_as::<Puts, R>(rt, &mut self.pass, message)
+        {
+            Ok(()) => {
+                count(&mut self.counts, origin, place);
+                Ok(None)
+            }
+            Err(TrySendError::Full(back)) => Ok(Some(back)),
             Err(error) => Err((Cut(()), error.into_inner())),
         }
     }

@@ -1,5 +1,5 @@
 //! Lanes of snapshots, for the tests.
-ghost use Rattle.std.specs.Prelude.{◌≡◌, ◌+◌, false, IfOk, OnOk};
+ghost use Rattle.std.specs.Prelude.{◌≡◌, ◌+◌, false, IfOk, OnOk, IsTrue};
 ghost use Rattle.wcp_clock.specs.Notes.{place_of, is_close};
 ghost use Rattle.lane_cases.specs.Snapshots.{HasPut};
 
@@ -37,6 +37,19 @@ pub fn put_snap<R: Wait>(
     match putter.put(rt, snap(from, number)) {
         Ok(()) => Ok(()),
         Err((_, item)) => Err(item),
+    }
+}
+
+/// Puts the next snapshot of a process if there is room for it: whether there was.
+pub fn try_put_snap<R: Wait>(rt: &R, putter: &mut Putter<Item>, from: u32, number: u32) -> bool
+    requires { HasPut from number putter.old }
+    ensures put { IsTrue result → HasPut from (number + 1) putter.new }
+    ensures full { result ≡ false → HasPut from number putter.new }
+{
+    match putter.try_put(rt, snap(from, number)) {
+        Ok(None) => true,
+        Ok(Some(_)) => false,
+        Err(_) => false,
     }
 }
 

@@ -1,4 +1,4 @@
-use super::lanes::{lane_of_one, lane_of_two, put_snap, snap};
+use super::lanes::{lane_of_one, lane_of_two, put_snap, snap, try_put_snap};
 use std::test::Fail;
 use wcp_clock::Item;
 use wcp_lane::{LaneFault, Origins, Unfinished, lane, reconcile};
@@ -37,6 +37,17 @@ fn a_put_after_the_end_of_the_taker_is_cut(rt: HostRuntime) -> Result<(), Fail> 
     let taken = taker.end();
     assert_eq!(rt; put_snap(&rt, &mut putter, 0, 0), Err(snap(0, 0)));
     assert!(rt; reconcile(taken, putter.end())?.matched(0));
+    Ok(())
+}
+
+#[test]
+fn a_full_lane_has_room_once_an_item_was_taken(rt: HostRuntime) -> Result<(), Fail> {
+    let (mut putter, mut taker) = lane_of_one(rt.alloc(), 1)?;
+    assert!(rt; try_put_snap(&rt, &mut putter, 0, 0));
+    assert!(rt; !try_put_snap(&rt, &mut putter, 0, 1));
+    assert_eq!(rt; taker.take(&rt), Ok(snap(0, 0)));
+    assert!(rt; try_put_snap(&rt, &mut putter, 0, 1));
+    assert_eq!(rt; taker.take(&rt), Ok(snap(0, 1)));
     Ok(())
 }
 
