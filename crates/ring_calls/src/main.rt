@@ -1,12 +1,11 @@
 //! Puts notes into a ring and takes them out, so that their cost can be measured:
-//! `ring_calls RING THREADS NOTES`. The ring is `ring`; `waking`, which wakes a parker at each note; or
+//! `ring_calls RING THREADS NOTES`. The ring is `ring`; `waking`, which rings a bell at each note; or
 //! `bare`, a ring of `rtrb` without the calls of `wcp_ring`. In one thread the notes go in and out in bursts;
 //! in two threads one puts and the other takes.
 #![tactic(auto)]
 
 mod ends;
 
-use crossbeam_utils::sync::Parker;
 use ends::{PutsNotes, TakesNotes};
 use rtrb::RingBuffer;
 use std::alloc::{AllocError, Global};
@@ -14,7 +13,7 @@ use std::sync::Wait;
 use std::thread::Threads;
 use std::{env, io, thread};
 use wcp_clock::{Clock, Note};
-use wcp_ring::ring;
+use wcp_ring::{Sleeper, ring};
 
 /// The room of the ring.
 const ROOM: u32 = 64;
@@ -153,8 +152,8 @@ fn make_calls<R: Threads + Wait + Sync>(
         }
         "waking" => {
             let (putter, taker) = ring(alloc, ROOM)?;
-            let parker = Parker::new(alloc)?;
-            let putter = putter.with_waker(parker.unparker().clone()?);
+            let sleeper = Sleeper::new(alloc)?;
+            let putter = putter.with_bell(sleeper.bell()?);
             Ok(calls(rt, putter, taker, threads, notes))
         }
         _ => {

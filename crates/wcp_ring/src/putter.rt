@@ -1,7 +1,6 @@
 ghost use Rattle.std.specs.Prelude.{◌≡◌, ◌+◌, ◌<◌, ◌≤◌, [], ◌∷◌, ◌++◌, IsOk, OnOk, IfErr};
 
-use crate::bell::Bell;
-use crossbeam_utils::sync::Unparker;
+use crate::sleeper::Bell;
 use rtrb::Producer;
 use std::marker::Model;
 use wcp_clock::Note;
@@ -23,19 +22,20 @@ impl Model for RingPutter {
 }
 
 impl RingPutter {
-    /// The same end, which from now on wakes the thread that parks by this unparker's parker: after each
-    /// note that it puts, and when it ends or is dropped.
-    pub fn with_waker(self, unparker: Unparker) -> RingPutter
+    /// The same end, which from now on rings this bell: after each note that it puts, and when it ends
+    /// or is dropped.
+    pub fn with_bell(self, bell: Bell) -> RingPutter
         ensures { result ≡ self }
     {
         let RingPutter { producer, bell: _ } = self;
         RingPutter {
             producer,
-            bell: Some(Bell::new(unparker)),
+            bell: Some(bell),
         }
     }
 
     /// Puts the note, or hands it back where the ring has no free slot.
+    #[inline(always)]
     pub fn try_put(&mut self, note: Note) -> Result<(), Note>
         ensures ring { self.new.ring ≡ self.old.ring }
         ensures ok { OnOk result ((self.new.put ≡ self.old.put ++ note ∷ []) × (self.old.free ≤ self.new.free + 1)) }

@@ -66,7 +66,7 @@ faithful_new taken outlet none all =
 
 pub starts : (source : Source) (outlet : Outlet) → Serves source outlet.putter.members → 0 < outlet.hold.room → length outlet.hold.items ≡ 0 → length outlet.putter.put ≡ 0
     → IsAtWork source outlet
-starts (Leaf feeds parker) outlet serves room held put =
+starts (Leaf feeds sleeper) outlet serves room held put =
     let held_none = nothing outlet.hold.items held in
     let all : handed outlet ≡ [] = λ j. nothing outlet.putter.put put j ++ held_none j in
     record {
@@ -116,7 +116,7 @@ leaf_all_closed (Err met) feeds outlet work closed = tt
 
 -- what is left of a source took what it took
 pub end_taken : (source : Source) (left : Receipts) → IsEndOfSource source left → (p : ℕ) → taken_in left p ≡ taken_of source p
-end_taken (Leaf feeds parker) (Feeds left) is p = λ j. fed (is j).items p
+end_taken (Leaf feeds sleeper) (Feeds left) is p = λ j. fed (is j).items p
 end_taken (Inner taker) (Lane receipt) is p = ap (items_of p) is.3
-end_taken (Leaf feeds parker) (Lane receipt) is p = absurd is
+end_taken (Leaf feeds sleeper) (Lane receipt) is p = absurd is
 end_taken (Inner taker) (Feeds left) is p = absurd is

@@ -32,7 +32,7 @@ IsOpen k (parent.Relay above) = above < k
 same_source : (plan : Plan) (before now : List (Option TakeSide)) (relay : ℕ) (source : Source)
     → ((p : ℕ) → leaf_of plan p ≡ Some relay → slice_get now p ≡ slice_get before p)
     → IsSource plan now relay source → IsSource plan before relay source
-same_source plan before now relay (Leaf feeds parker) here is = (
+same_source plan before now relay (Leaf feeds sleeper) here is = (
   is.0,
   record {
     each = All-weaker (IsFeed plan relay now plan.n) (IsFeed plan relay before plan.n)

@@ -90,7 +90,7 @@ feeds_any (feed ∷ feeds) p = ap (λ any. (feed.process == p) || any) (feeds_an
 -- a source that was opened serves the processes below its relay
 pub source_serves : (plan : Plan) → IsCheckedPlan plan → (relay : ℕ) (takers : List (Option TakeSide)) (source : Source)
     (members : Numbers) → IsSource plan takers relay source → AreBelow plan relay members → Serves source members
-source_serves plan checked relay takers (Leaf feeds parker) members is below = (
+source_serves plan checked relay takers (Leaf feeds sleeper) members is below = (
   All-weaker (IsFeed plan relay takers plan.n) IsNewFeed
       (λ feed new. (new.first, new.unclosed, ap length new.taker.1))
       feeds.items is.1.each,

@@ -40,7 +40,7 @@ IsNewFeed feed = (feed.next ≡ 0) × (feed.closed ≡ false) × (length feed.ta
 -- A relay serves the processes of a set: a leaf by one new feed for each of them, and any other relay by a lane of
 -- processes of the set, from which nothing was taken.
 abbrev pub Serves : Source → Numbers → Type 0
-Serves (Leaf feeds parker) members =
+Serves (Leaf feeds sleeper) members =
     All IsNewFeed feeds.items
     × AllPairs (λ p q. p ≢ q) (processes_of feeds.items)
     × ((p : ℕ) → set.contains members p ≡ list_any (λ q. q == p) (processes_of feeds.items))
@@ -48,7 +48,7 @@ Serves (Inner taker) members =
     (length taker.taken ≡ 0) × ((p : ℕ) → set.contains taker.members p ≡ true → set.contains members p ≡ true)
 
 pub Serves-prop : (source : Source) (members : Numbers) → IsProp (Serves source members)
-Serves-prop (Leaf feeds parker) members = hlevel props
+Serves-prop (Leaf feeds sleeper) members = hlevel props
 Serves-prop (Inner taker) members = hlevel props
 
 -- The notes of process p as items.
@@ -66,5 +66,5 @@ fed (feed ∷ feeds) p = if feed.process == p then items_by p feed.taker.taken e
 
 -- The items of process p that a relay took.
 abbrev pub taken_of : Source → ℕ → List Item
-taken_of (Leaf feeds parker) p = fed feeds.items p
+taken_of (Leaf feeds sleeper) p = fed feeds.items p
 taken_of (Inner taker) p = items_of p taker.taken

@@ -15,7 +15,7 @@ use Rattle.wcp_tree.specs.RelayWork.{AreSameFeeds}
 
 -- What is left of a source: the feeds of a leaf, or the receipt of a lane, which was matched with no putter yet.
 abbrev pub IsEndOfSource : Source → Receipts → Type 0
-IsEndOfSource (Leaf feeds parker) (Feeds left) = left ≡ feeds
+IsEndOfSource (Leaf feeds sleeper) (Feeds left) = left ≡ feeds
 IsEndOfSource (Inner taker) (Lane receipt) =
     (receipt.lane ≡ taker.lane) × (receipt.members ≡ taker.members) × (receipt.matched ≡ set.empty)
     × (receipt.taken ≡ taker.taken)
@@ -23,7 +23,7 @@ IsEndOfSource _ _ = ⊥
 
 -- What is left of a relay's source is of the same rings, or of the same lane.
 abbrev pub IsReceiptOf : Source → Receipts → Type 0
-IsReceiptOf (Leaf feeds parker) (Feeds left) = AreSameFeeds feeds.items left.items
+IsReceiptOf (Leaf feeds sleeper) (Feeds left) = AreSameFeeds feeds.items left.items
 IsReceiptOf (Inner taker) (Lane receipt) =
     (receipt.lane ≡ taker.lane) × (receipt.members ≡ taker.members) × (receipt.matched ≡ set.empty)
 IsReceiptOf _ _ = ⊥

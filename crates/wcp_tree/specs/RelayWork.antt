@@ -88,12 +88,12 @@ AreClosed members taken =
 
 -- A relay is at work.
 abbrev pub IsAtWork : Source → Outlet → Type 0
-IsAtWork (Leaf feeds parker) outlet = IsLeafAtWork feeds.items outlet
+IsAtWork (Leaf feeds sleeper) outlet = IsLeafAtWork feeds.items outlet
 IsAtWork (Inner taker) outlet = IsInnerAtWork taker outlet
 
 -- A relay takes from the same rings, or from the same lane.
 abbrev pub IsSameSource : Source → Source → Type 0
-IsSameSource (Leaf old parker) (Leaf new same_parker) = AreSameFeeds old.items new.items
+IsSameSource (Leaf old sleeper) (Leaf new same_sleeper) = AreSameFeeds old.items new.items
 IsSameSource (Inner old) (Inner new) = IsSameTaker old new
 IsSameSource _ _ = ⊥
 

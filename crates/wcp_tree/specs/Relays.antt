@@ -16,14 +16,14 @@ use Rattle.wcp_tree.specs.Wiring.{IsSeatOf}
 -- What a relay takes from: a leaf has a feed for each process that it serves, and any other relay the lane of just the
 -- processes below it, from which nothing was taken.
 abbrev pub IsSource : Plan → List (Option TakeSide) → ℕ → Source → Type 0
-IsSource plan takers relay (Leaf feeds parker) =
+IsSource plan takers relay (Leaf feeds sleeper) =
     (is_leaf plan relay ≡ true) × AreFeeds plan relay takers plan.n feeds.items
 IsSource plan takers relay (Inner taker) =
     (is_leaf plan relay ≡ false) × (taker.taken ≡ []) × AreBelow plan relay taker.members
 
 -- The lane by which a relay takes, if it serves relays.
 abbrev pub lane_of : Source → Option (LaneName Item)
-lane_of (Leaf feeds parker) = None
+lane_of (Leaf feeds sleeper) = None
 lane_of (Inner taker) = Some taker.lane
 
 -- The relays whose parent this one is are seated on its lane.

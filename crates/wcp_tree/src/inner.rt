@@ -5,6 +5,7 @@ ghost use Rattle.wcp_tree.specs.Feeding.{items_of};
 ghost use Rattle.wcp_tree.specs.RelayWork.{IsInnerAtWork, IsSameOutlet, IsSameTaker, IsTakenNext, AreClosed};
 
 use crate::outlet::Outlet;
+use crate::patience;
 use std::sync::Wait;
 use wcp_clock::{Item, MAX_PROCS};
 use wcp_lane::{Cut, Origin, Origins, Taker};
@@ -53,7 +54,7 @@ fn next_item<R: Wait>(rt: &R, taker: &mut Taker<Item>, waits: bool) -> Result<Op
     ensures err { OnErr result (taker.new ≡ taker.old) }
 {
     if waits {
-        Ok(Some(taker.take(rt)?))
+        Ok(Some(patience::take(rt, taker)?))
     } else {
         taker.try_take(rt)
     }

@@ -7,14 +7,14 @@ ghost use Rattle.wcp_tree.specs.declared.relay_end.RelayFault.TheVariants as fau
 use crate::feed::Feed;
 use crate::outlet::Outlet;
 use crate::relay_end::RelayFault;
-use crossbeam_utils::sync::Parker;
 use std::sync::Wait;
+use wcp_ring::Sleeper;
 
 /// Passes on what the feeds take, until each has taken its close mark.
 pub(crate) fn run_leaf<R: Wait>(
     rt: &R,
     feeds: &mut [Feed],
-    parker: &Parker,
+    sleeper: &mut Sleeper,
     outlet: &mut Outlet,
 ) -> Result<(), RelayFault>
     requires { IsLeafAtWork feeds.old outlet.old }
@@ -32,10 +32,11 @@ pub(crate) fn run_leaf<R: Wait>(
             break;
         }
         if any {
+            sleeper.stir();
             continue;
         }
         if outlet.is_idle() {
-            parker.park(rt);
+            sleeper.rest(rt);
         } else {
             outlet.pass_on(rt);
         }

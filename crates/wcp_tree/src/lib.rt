@@ -10,6 +10,7 @@ mod live_probe;
 mod members;
 pub mod opening;
 mod outlet;
+mod patience;
 mod relay;
 mod relay_end;
 mod rings;

@@ -16,13 +16,12 @@ use crate::relay::Relay;
 use crate::rings::{open_rings, take_feeds};
 use crate::source::Source;
 use crate::watch::Watch;
-use crossbeam_utils::sync::Parker;
 use std::alloc::{AllocError, Global};
 use wcp_clock::Item;
 use wcp_hold::Hold;
 use wcp_lane::Putter;
 use wcp_model::{Parent, Plan};
-use wcp_ring::RingTaker;
+use wcp_ring::{RingTaker, Sleeper};
 
 /// Opens the tree of a plan: a ring for each process, and a lane for the checker and for each relay
 /// that serves relays. All memory of the watch is taken here. `Err` where memory runs out.
@@ -30,11 +29,11 @@ pub fn watch(alloc: Global, plan: &Plan, watch_number: u64) -> Result<Watch, All
     requires { IsCheckedPlan plan.now }
     ensures { IfOk result (IsWired plan.now watch_number) }
 {
-    let parkers = parkers(alloc, plan)?;
-    let (probes, takers) = open_rings(alloc, plan, watch_number, &parkers)?;
+    let sleepers = sleepers(alloc, plan)?;
+    let (probes, takers) = open_rings(alloc, plan, watch_number, &sleepers)?;
     let mut seats = seats(alloc, plan)?;
     let taker = open_lane(alloc, plan, Parent::Root, &mut seats)?;
-    let relays = open_relays(alloc, plan, watch_number, parkers, seats, takers)?;
+    let relays = open_relays(alloc, plan, watch_number, sleepers, seats, takers)?;
     let inbox = CheckerInbox::new(watch_number, relays.len() as u32, taker);
     Ok(Watch {
         probes,
@@ -43,15 +42,15 @@ pub fn watch(alloc: Global, plan: &Plan, watch_number: u64) -> Result<Watch, All
     })
 }
 
-/// A parker for each relay. `Err` where memory runs out.
-fn parkers(alloc: Global, plan: &Plan) -> Result<Vec<Parker>, AllocError>
-    ensures { IfOk result (λ parkers. length parkers.items ≡ length plan.now.parents.items) }
+/// A sleeper for each relay. `Err` where memory runs out.
+fn sleepers(alloc: Global, plan: &Plan) -> Result<Vec<Sleeper>, AllocError>
+    ensures { IfOk result (λ sleepers. length sleepers.items ≡ length plan.now.parents.items) }
 {
-    let mut parkers = Vec::with_capacity(alloc, plan.parents.len())?;
+    let mut sleepers = Vec::with_capacity(alloc, plan.parents.len())?;
     for _ in 0..plan.parents.len() {
-        parkers.push(Parker::new(alloc)?)?;
+        sleepers.push(Sleeper::new(alloc)?)?;
     }
-    Ok(parkers)
+    Ok(sleepers)
 }
 
 /// A seat for each relay, where nobody sits. `Err` where memory runs out.
@@ -65,19 +64,19 @@ fn seats(alloc: Global, plan: &Plan) -> Result<Vec<Option<Putter<Item>>>, AllocE
     Ok(seats)
 }
 
-/// Opens one relay after another, each with its parker: its parent is lower, so its seat was taken
+/// Opens one relay after another, each with its sleeper: its parent is lower, so its seat was taken
 /// before, and the seats of the relays under the root are taken from the start. `Err` where memory
 /// runs out.
 fn open_relays(
     alloc: Global,
     plan: &Plan,
     watch: u64,
-    mut parkers: Vec<Parker>,
+    mut sleepers: Vec<Sleeper>,
     mut seats: Vec<Option<Putter<Item>>>,
     mut takers: Vec<Option<RingTaker>>,
 ) -> Result<Vec<Relay>, AllocError>
     requires checked { IsCheckedPlan plan.now }
-    requires parkers { length parkers.items ≡ length plan.now.parents.items }
+    requires sleepers { length sleepers.items ≡ length plan.now.parents.items }
     requires all { length seats.items ≡ length plan.now.parents.items }
     requires seated { (root : LaneName Item) × AreSeatedUnder plan.now root seats.items }
     requires there { (p : ℕ) → p < plan.now.n → (taker : TakeSide) × IsTakerAt takers.items p taker }
@@ -85,10 +84,10 @@ fn open_relays(
         → AreLinked plan.now watch root takers.items relays.items) }
 {
     let mut relays = Vec::with_capacity(alloc, plan.parents.len())?;
-    while !parkers.is_empty() {
+    while !sleepers.is_empty() {
         let number = relays.len() as u32;
-        let parker = parkers.remove(0);
-        let relay = open_relay(alloc, plan, watch, number, parker, &mut seats, &mut takers)?;
+        let sleeper = sleepers.remove(0);
+        let relay = open_relay(alloc, plan, watch, number, sleeper, &mut seats, &mut takers)?;
         relays.push(relay)?;
     }
     Ok(relays)
@@ -100,7 +99,7 @@ fn open_source(
     alloc: Global,
     plan: &Plan,
     relay: u32,
-    parker: Parker,
+    sleeper: Sleeper,
     seats: &mut Vec<Option<Putter<Item>>>,
     takers: &mut Vec<Option<RingTaker>>,
 ) -> Result<Source, AllocError>
@@ -119,7 +118,7 @@ fn open_source(
 {
     if plan.is_leaf(relay) {
         let feeds = take_feeds(alloc, plan, relay, takers)?;
-        return Ok(Source::Leaf { feeds, parker });
+        return Ok(Source::Leaf { feeds, sleeper });
     }
     let taker = open_lane(alloc, plan, Parent::Relay(relay), seats)?;
     Ok(Source::Inner { taker })
@@ -131,7 +130,7 @@ fn open_relay(
     plan: &Plan,
     watch: u64,
     relay: u32,
-    parker: Parker,
+    sleeper: Sleeper,
     seats: &mut Vec<Option<Putter<Item>>>,
     takers: &mut Vec<Option<RingTaker>>,
 ) -> Result<Relay, AllocError>
@@ -155,7 +154,7 @@ fn open_relay(
     let Some(putter) = seats[relay as usize].take() else {
         unreachable!();
     };
-    let source = open_source(alloc, plan, relay, parker, seats, takers)?;
+    let source = open_source(alloc, plan, relay, sleeper, seats, takers)?;
     let hold = Hold::new(alloc, plan.hold)?;
     let parent = plan.parents[relay as usize];
     Ok(Relay::new(relay, watch, parent, source, putter, hold))

@@ -1,6 +1,7 @@
 ghost use Rattle.std.specs.Prelude.{◌≡◌, ◌↔◌, true, [], ◌∷◌, ◌++◌, IsTrue, IfSome, IfNone};
 ghost use Rattle.std.specs.FinSet as set;
 
+use crate::patience;
 use std::sync::Wait;
 use wcp_clock::Item;
 use wcp_hold::Hold;
@@ -63,7 +64,7 @@ impl Outlet {
             return;
         }
         while let Some(item) = self.hold.front() {
-            if let Err((cut, _)) = self.putter.put(rt, item) {
+            if let Err((cut, _)) = patience::put(rt, &mut self.putter, item) {
                 self.cut = Some(cut);
                 return;
             }

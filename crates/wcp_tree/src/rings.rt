@@ -6,18 +6,17 @@ ghost use Rattle.wcp_tree.specs.Rings.{AreRings, AreFeeds, IsTakerAt};
 
 use crate::feed::Feed;
 use crate::live_probe::LiveProbe;
-use crossbeam_utils::sync::Parker;
 use std::alloc::{AllocError, Global};
 use wcp_model::Plan;
-use wcp_ring::{RingPutter, RingTaker, ring};
+use wcp_ring::{RingPutter, RingTaker, Sleeper, ring};
 
-/// Opens a ring for each process: its probe puts into it, and wakes the parker of its leaf, of which
+/// Opens a ring for each process: its probe puts into it, and wakes the sleeper of its leaf, of which
 /// there is one for each relay. The other ends are for the leaves to take. `Err` where memory runs out.
 pub(crate) fn open_rings(
     alloc: Global,
     plan: &Plan,
     watch: u64,
-    parkers: &[Parker],
+    sleepers: &[Sleeper],
 ) -> Result<(Vec<LiveProbe>, Vec<Option<RingTaker>>), AllocError>
     requires { IsCheckedPlan plan.now }
     ensures { IfOk result (λ rings. AreRings plan.now watch plan.now.n rings.0.items rings.1.items) }
@@ -26,7 +25,7 @@ pub(crate) fn open_rings(
     let mut takers = Vec::with_capacity(alloc, plan.n as usize)?;
     for p in 0..plan.n {
         let (putter, taker) = ring(alloc, plan.cap)?;
-        let putter = waking(plan, p, parkers, putter)?;
+        let putter = waking(plan, p, sleepers, putter)?;
         probes.push(LiveProbe::new(watch, p, plan.n, putter))?;
         takers.push(Some(taker))?;
     }
@@ -37,7 +36,7 @@ pub(crate) fn open_rings(
 fn waking(
     plan: &Plan,
     p: u32,
-    parkers: &[Parker],
+    sleepers: &[Sleeper],
     putter: RingPutter,
 ) -> Result<RingPutter, AllocError>
     ensures { IfOk result (λ waking. waking ≡ putter) }
@@ -45,11 +44,8 @@ fn waking(
     let Some(Some(leaf)) = plan.attach.get(p as usize) else {
         return Ok(putter);
     };
-    match parkers.get(*leaf as usize) {
-        Some(parker) => {
-            let unparker = parker.unparker().clone()?;
-            Ok(putter.with_waker(unparker))
-        }
+    match sleepers.get(*leaf as usize) {
+        Some(sleeper) => Ok(putter.with_bell(sleeper.bell()?)),
         None => Ok(putter),
     }
 }

@@ -6,16 +6,16 @@ use crate::inner::run_inner;
 use crate::leaf::run_leaf;
 use crate::outlet::Outlet;
 use crate::relay_end::{Receipts, RelayFault};
-use crossbeam_utils::sync::Parker;
 use std::sync::Wait;
 use wcp_clock::Item;
 use wcp_lane::Taker;
+use wcp_ring::Sleeper;
 
 /// What a relay takes from.
 #[derive(Drop)]
 pub enum Source {
-    /// A leaf serves processes. It parks while all its feeds are quiet.
-    Leaf { feeds: Vec<Feed>, parker: Parker },
+    /// A leaf serves processes. It sleeps while all its feeds are quiet.
+    Leaf { feeds: Vec<Feed>, sleeper: Sleeper },
     /// Any other relay serves relays, by one lane.
     Inner { taker: Taker<Item> },
 }
@@ -37,7 +37,7 @@ impl Source {
         ensures fault { IfErr result (λ met. IsFaultAfter met (taken_of self.new)) }
     {
         match self {
-            Source::Leaf { feeds, parker } => run_leaf(rt, feeds, parker, outlet),
+            Source::Leaf { feeds, sleeper } => run_leaf(rt, feeds, sleeper, outlet),
             Source::Inner { taker } => {
                 match run_inner(rt, taker, outlet) {
                     Ok(()) => Ok(()),
@@ -52,7 +52,7 @@ impl Source {
         ensures { IsEndOfSource self result }
     {
         match self {
-            Source::Leaf { feeds, parker: _ } => Receipts::Feeds(feeds),
+            Source::Leaf { feeds, sleeper: _ } => Receipts::Feeds(feeds),
             Source::Inner { taker } => Receipts::Lane(taker.end()),
         }
     }

@@ -1,4 +1,3 @@
-use crossbeam_utils::sync::Parker;
 use std::alloc::{AllocError, Global};
 use std::sync::Wait;
 use std::sync::atomic::AtomicU64;
@@ -8,7 +7,7 @@ use std::thread;
 use std::thread::Threads;
 use std::time::{Clock, Duration};
 use wcp_clock::Note;
-use wcp_ring::{RingPutter, RingTaker, ring};
+use wcp_ring::{RingPutter, RingTaker, Sleeper, ring};
 
 /// How the putter leaves after its note.
 #[derive(Clone, Copy, Debug)]
@@ -45,24 +44,25 @@ fn put_late<R: Wait + Clock>(rt: &R, putter: RingPutter, leaving: Leaving, step:
     }
 }
 
-/// Takes what is there and parks, until the putter has left.
-fn take_parked<R: Wait>(
+/// Takes what is there and sleeps, until the putter has left.
+fn take_asleep<R: Wait>(
     rt: &R,
-    parker: Parker,
+    sleeper: Sleeper,
     taker: RingTaker,
     step: &AtomicU64,
 ) -> Option<Note> {
-    let mut taker = taker;
+    let (mut taker, mut sleeper) = (taker, sleeper);
     let mut taken = None;
     for _ in rt.forever() {
         if let Some(note) = taker.try_take() {
             taken = Some(note);
+            sleeper.stir();
             step.store(TAKEN, SeqCst);
         }
         if step.load(SeqCst) == LEFT {
             break;
         }
-        parker.park(rt);
+        sleeper.rest(rt);
     }
     taken
 }
@@ -73,20 +73,20 @@ fn taken_asleep<R: Threads + Wait + Clock + Sync>(
     leaving: Leaving,
 ) -> Result<Option<Note>, AllocError> {
     let (putter, taker) = ring(alloc, 4)?;
-    let parker = Parker::new(alloc)?;
-    let putter = putter.with_waker(parker.unparker().clone()?);
+    let sleeper = Sleeper::new(alloc)?;
+    let putter = putter.with_bell(sleeper.bell()?);
     let step = AtomicU64::new(0);
     let shared = &step;
     let (_, taken) = thread::join(
         rt,
         move || put_late(rt, putter, leaving, shared),
-        move || take_parked(rt, parker, taker, shared),
+        move || take_asleep(rt, sleeper, taker, shared),
     );
     Ok(taken)
 }
 
 #[test]
-fn a_parked_taker_wakes(rt: HostRuntime) -> Result<(), Fail> {
+fn a_taker_that_sleeps_wakes(rt: HostRuntime) -> Result<(), Fail> {
     for leaving in [Leaving::Ended, Leaving::Dropped] {
         let taken = taken_asleep(&rt, rt.alloc(), leaving)?;
         assert_eq!(rt; taken, Some(Note::Close { count: 7 }), "{leaving:?}");

@@ -13,7 +13,7 @@ use Rattle.wcp_tree.proofs.opening.open_relays.Goals as goal
 pub loop-alloc-init : goal.loop-alloc-init
 loop-alloc-init c =
     record {
-      count = omega (arith, ap length c.in_ok-relays.ensures.items, c.requires.parkers);
+      count = omega (arith, ap length c.in_ok-relays.ensures.items, c.requires.sleepers);
       seats = c.requires.all;
       opened = λ root under.
           subst
@@ -31,7 +31,7 @@ pub open_relay-requires-clause-seat : goal.open_relay-requires-clause-seat
 open_relay-requires-clause-seat c =
     let root = c.requires.seated.0 in
     let within : length c.loop-alloc.relays.items < length c.args.plan.now.parents.items =
-    omega (arith, c.loop-alloc.invariant.count, c.remove-parker.ensures.len) in
+    omega (arith, c.loop-alloc.invariant.count, c.remove-sleeper.ensures.len) in
     let next =
     next_seat c.args.plan.now c.args.watch root c.args.takers.items c.requires.checked c.loop-alloc.relays.items
     c.loop-alloc.seats.items c.loop-alloc.takers.items (c.loop-alloc.invariant.opened root c.requires.seated.1) within in
@@ -52,14 +52,14 @@ open_relay-requires-clause-there c = λ p at.
 pub loop-alloc-preserved : goal.loop-alloc-preserved
 loop-alloc-preserved c =
     let within : length c.loop-alloc.relays.items < length c.args.plan.now.parents.items =
-    omega (arith, c.loop-alloc.invariant.count, c.remove-parker.ensures.len) in
+    omega (arith, c.loop-alloc.invariant.count, c.remove-sleeper.ensures.len) in
     let number : c.len-number.result ≡ length c.loop-alloc.relays.items = omega arith in
     let ends = c.in_ok-relay.ensures in
     record {
       count = omega (
         arith,
         c.loop-alloc.invariant.count,
-        c.remove-parker.ensures.len,
+        c.remove-sleeper.ensures.len,
         ap length c.in_ok-push.ensures.items,
         length_push c.loop-alloc.relays.items c.in_ok-relay.relay,
       );
@@ -78,4 +78,4 @@ pub returns : goal.returns
 returns c = λ root under.
     all_opened c.args.plan.now c.args.watch root c.args.takers.items c.loop-alloc.relays.items c.loop-alloc.seats.items
     c.loop-alloc.takers.items (c.loop-alloc.invariant.opened root under)
-    (omega (arith, c.loop-alloc.invariant.count, eqb-true (vec_len c.loop-alloc.parkers) 0 (sym c.is_empty.ensures ∙ c.loop-alloc-test.false)))
+    (omega (arith, c.loop-alloc.invariant.count, eqb-true (vec_len c.loop-alloc.sleepers) 0 (sym c.is_empty.ensures ∙ c.loop-alloc-test.false)))

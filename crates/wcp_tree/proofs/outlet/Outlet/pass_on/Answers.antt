@@ -25,7 +25,7 @@ loop-item-preserved g c =
     record {
       same = search rules;
       sound = sound_passed c.loop-item.self _ c.in-Some.item old.sound first put c.pop.ensures.rest;
-      handed = handed_passed c.loop-item.self (record c.loop-item.self { putter = c.put.new.self; hold = c.pop.new.self }) c.in-Some.item first put c.pop.ensures.rest ∙ old.handed;
+      handed = handed_passed c.loop-item.self (record c.loop-item.self { putter = c.put.new.putter; hold = c.pop.new.self }) c.in-Some.item first put c.pop.ensures.rest ∙ old.handed;
       uncut = old.uncut;
     }
 

@@ -1,0 +1,92 @@
+use crossbeam_utils::sync::{Parker, Unparker};
+use std::alloc::{AllocError, Global};
+use std::sync::atomic::AtomicBool;
+use std::sync::atomic::Ordering::SeqCst;
+use std::sync::{Arc, Wait};
+use std::thread;
+
+/// How often a thread that finds nothing gives way to others before it sleeps.
+const YIELDS: u32 = 2;
+
+/// By this the thread that takes waits while its rings are empty. A bell of it wakes the thread.
+#[derive(Drop)]
+pub struct Sleeper {
+    parker: Parker,
+    asleep: Arc<AtomicBool, Global>,
+    rests: u32,
+}
+
+impl Sleeper {
+    /// A thread that is awake. `Err` where memory runs out.
+    pub fn new(alloc: Global) -> Result<Sleeper, AllocError> {
+        Ok(Sleeper {
+            parker: Parker::new(alloc)?,
+            asleep: Arc::new(alloc, AtomicBool::new(false))?,
+            rests: 0,
+        })
+    }
+
+    /// A bell that wakes it. `Err` where memory runs out.
+    pub fn bell(&self) -> Result<Bell, AllocError> {
+        Ok(Bell {
+            unparker: self.parker.unparker().clone()?,
+            asleep: Arc::try_clone(&self.asleep)?,
+        })
+    }
+
+    /// Something was taken.
+    pub fn stir(&mut self) {
+        if self.rests >= YIELDS {
+            self.asleep.store(false, SeqCst);
+        }
+        self.rests = 0;
+    }
+
+    /// All rings were empty. It gives way to other threads some times, then says that it sleeps, and
+    /// sleeps at the next call: the thread looks at its rings between any two calls, so a note that was
+    /// put before the bells knew is seen.
+    pub fn rest<R: Wait>(&mut self, rt: &R) {
+        if self.rests >= YIELDS {
+            self.parker.park(rt);
+            self.stir();
+            return;
+        }
+        self.rests += 1;
+        if self.rests == YIELDS {
+            self.asleep.store(true, SeqCst);
+        } else {
+            thread::yield_now();
+        }
+    }
+}
+
+/// Wakes a thread that sleeps while its rings are empty, and does so once more when it is dropped.
+pub struct Bell {
+    unparker: Unparker,
+    asleep: Arc<AtomicBool, Global>,
+}
+
+impl Bell {
+    #[inline(always)]
+    pub(crate) fn ring(&self) {
+        if self.asleep.load(SeqCst) {
+            self.wake();
+        }
+    }
+
+    fn wake(&self) {
+        if self.asleep.swap(false, SeqCst) {
+            self.unparker.unpark();
+        }
+    }
+}
+
+impl Drop for Bell {
+    fn drop(self) {
+        let Bell {
+            unparker,
+            asleep: _,
+        } = self;
+        unparker.unpark();
+    }
+}
