@@ -1,0 +1,166 @@
+ghost use Rattle.std.specs.Prelude.{IfOk};
+ghost use Rattle.wcp_model.specs.PlanFault.{IsCheckedPlan};
+
+use crate::{ROOM, Taken};
+use std::alloc::{AllocError, Global};
+use std::sync::Wait;
+use std::thread::{Threads, join, map_vec};
+use std::time::{Clock, Duration};
+use std::{io, thread};
+use wcp_clock::Item;
+use wcp_lane::Taker;
+use wcp_model::{Parent, Plan, plain_plan};
+use wcp_tree::opening::watch;
+use wcp_tree::{LiveProbe, Relay, Watch};
+
+/// How many items the hold of each relay has room for.
+const HOLD: u32 = 64;
+
+/// What each process does: it waits, makes snapshots and closes.
+#[derive(Clone, Copy)]
+pub struct Work {
+    pub pause: Duration,
+    pub snapshots: u32,
+}
+
+/// What runs in a thread.
+#[derive(Drop)]
+enum Job {
+    Probe(LiveProbe),
+    Relay(Relay),
+}
+
+fn flush_waiting(rt: &impl Wait, probe: &mut LiveProbe) {
+    for _ in rt.forever() {
+        if probe.flush() {
+            return;
+        }
+        thread::yield_now();
+    }
+    unreachable!()
+}
+
+fn close_waiting(rt: &impl Wait, probe: LiveProbe) {
+    let mut open = probe;
+    for _ in rt.forever() {
+        match open.close() {
+            Ok(_) => return,
+            Err((_, back)) => open = back,
+        }
+        thread::yield_now();
+    }
+    unreachable!()
+}
+
+/// Waits, makes the snapshots and closes.
+fn do_work<R: Wait + Clock>(rt: &R, probe: LiveProbe, work: Work) {
+    let mut probe = probe;
+    if work.snapshots == 0 {
+        thread::sleep(rt, work.pause);
+    }
+    let to = if probe.id() == 0 { 1 } else { 0 };
+    for _ in 0..work.snapshots {
+        probe.observe(true);
+        flush_waiting(rt, &mut probe);
+        let _ = probe.stamp(to, ());
+    }
+    close_waiting(rt, probe);
+}
+
+/// Takes until the lane is cut or so many close marks came.
+fn take_all<R: Wait>(rt: &R, mut taker: Taker<Item>, notes: u64) -> Taken {
+    let mut taken = Taken::nothing();
+    for _ in 0..notes {
+        match taker.take(rt) {
+            Ok(item) => taken = taken.with(&item),
+            Err(_) => return taken,
+        }
+    }
+    taken
+}
+
+/// The probes and the relays of a watch, each as a job.
+fn jobs_of(
+    alloc: Global,
+    probes: Vec<LiveProbe>,
+    relays: Vec<Relay>,
+) -> Result<Vec<Job>, AllocError> {
+    let mut jobs = Vec::new(alloc);
+    for probe in probes {
+        jobs.push(Job::Probe(probe))?;
+    }
+    for relay in relays {
+        jobs.push(Job::Relay(relay))?;
+    }
+    Ok(jobs)
+}
+
+/// Runs each probe and each relay of the plan in a thread of its own.
+fn run<R: Threads + Wait + Clock + Sync>(
+    rt: &R,
+    alloc: Global,
+    plan: &Plan,
+    work: Work,
+) -> Result<Taken, AllocError>
+    requires { IsCheckedPlan plan.now }
+{
+    let Watch {
+        probes,
+        relays,
+        inbox,
+    } = watch(alloc, plan, 0)?;
+    let jobs = jobs_of(alloc, probes, relays)?;
+    let notes = u64::from(plan.n) * (u64::from(work.snapshots) + 1);
+    let (done, taken) = join(
+        rt,
+        || {
+            map_vec(
+                rt,
+                jobs,
+                &|job: Job| match job {
+                    Job::Probe(probe) => do_work(rt, probe, work),
+                    Job::Relay(relay) => drop(relay.run(rt)),
+                },
+            )
+        },
+        || take_all(rt, inbox.into_taker(), notes),
+    );
+    done?;
+    Ok(taken)
+}
+
+/// Sixteen processes under one relay.
+pub fn one_leaf<R: Threads + Wait + Clock + Sync>(
+    rt: &R,
+    alloc: Global,
+    work: Work,
+) -> io::Result<Taken> {
+    let plan = plain_plan(alloc, 16, ROOM, HOLD)?;
+    Ok(run(rt, alloc, &plan, work)?)
+}
+
+/// Sixteen processes, two under each of eight leaves, which are under one other relay.
+pub fn eight_leaves<R: Threads + Wait + Clock + Sync>(
+    rt: &R,
+    alloc: Global,
+    work: Work,
+) -> io::Result<Taken> {
+    let mut parents = vec![in alloc; Parent::Root]?;
+    let mut attach = Vec::new(alloc);
+    for leaf in 1..9 {
+        parents.push(Parent::Relay(0))?;
+        attach.push(Some(leaf))?;
+        attach.push(Some(leaf))?;
+    }
+    let plan = Plan {
+        n: 16,
+        cap: ROOM,
+        hold: HOLD,
+        parents,
+        attach,
+    };
+    if plan.check().is_err() {
+        return Ok(Taken::nothing());
+    }
+    Ok(run(rt, alloc, &plan, work)?)
+}

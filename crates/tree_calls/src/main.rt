@@ -1,0 +1,89 @@
+//! Runs watches of sixteen processes, so that what they cost can be measured: `tree_calls WORD COUNT`.
+//! Each of sixteen threads makes so many snapshots, with a send behind each. `leaf` takes them by one
+//! relay, `tree` by eight leaves under one other, and `bounded` by one bounded channel. At `silent`
+//! the processes of a tree wait so many seconds and close. `flushed` and `bare` make so many snapshots
+//! of one probe in one thread: a live one, or a core that puts into a ring of `rtrb`; `sends` only
+//! sends. These three say how many nanoseconds the calls took.
+#![tactic(auto)]
+
+mod bounded;
+mod live;
+mod one_probe;
+
+use live::Work;
+use std::alloc::Global;
+use std::sync::Wait;
+use std::thread::Threads;
+use std::time::{Clock, Duration};
+use std::{env, io};
+use wcp_clock::{Item, Note};
+
+/// How many notes each ring and each lane has room for.
+const ROOM: u32 = 64;
+
+/// What was taken, so that nothing is left out: how many notes, and the sum of their numbers.
+#[derive(Clone, Copy)]
+struct Taken {
+    notes: u64,
+    sum: u64,
+}
+
+impl Taken {
+    fn nothing() -> Taken {
+        Taken { notes: 0, sum: 0 }
+    }
+
+    fn with(self, item: &Item) -> Taken {
+        let number = match item.note {
+            Note::Snap { number, .. } => number,
+            Note::Close { count } => count,
+        };
+        Taken {
+            notes: self.notes.wrapping_add(1),
+            sum: self.sum.wrapping_add(u64::from(number)),
+        }
+    }
+}
+
+/// Runs sixteen threads by one of the words, and says what came.
+fn sixteen_threads<R: Threads + Wait + Clock + Sync>(
+    rt: &R,
+    alloc: Global,
+    word: &str,
+    count: u32,
+) -> io::Result<Taken> {
+    let snapshots = Work {
+        pause: Duration::from_secs(0),
+        snapshots: count,
+    };
+    let pause = Work {
+        pause: Duration::from_secs(u64::from(count)),
+        snapshots: 0,
+    };
+    match word {
+        "leaf" => live::one_leaf(rt, alloc, snapshots),
+        "tree" => live::eight_leaves(rt, alloc, snapshots),
+        "silent" => live::eight_leaves(rt, alloc, pause),
+        "bounded" => bounded::one_channel(rt, alloc, count),
+        _ => Ok(Taken::nothing()),
+    }
+}
+
+fn main(rt: HostRuntime) -> io::Result<()> {
+    let mut args = env::args(&rt)?;
+    let _program = args.next();
+    let word = match args.next() {
+        Some(word) => word,
+        None => String::new(rt.alloc()),
+    };
+    let count = match args.next() {
+        Some(text) => text.as_str().parse().unwrap_or(0),
+        None => 0,
+    };
+    let word = word.as_str();
+    if let Some(nanos) = one_probe::nanos(&rt, rt.alloc(), word, count)? {
+        return println!(rt; "nanoseconds {nanos}");
+    }
+    let taken = sixteen_threads(&rt, rt.alloc(), word, count)?;
+    println!(rt; "taken {} sum {}", taken.notes, taken.sum)
+}
