@@ -1,5 +1,5 @@
 -- What a worker does: the calls that its actions make of its probe, and what goes over its lanes.
-use Rattle.std.specs.Prelude.{◌≡◌, ℕ, Option, IfSome, List, [], ◌∷◌, ◌++◌, if◌then◌else◌}
+use Rattle.std.specs.Prelude.{◌≡◌, ℕ, Option, IfSome, IsSome, List, [], ◌∷◌, ◌++◌, if◌then◌else◌}
 use mathlib.Core.List.{IsPrefix}
 use Rattle.wcp_model.specs.declared.workload.Action.{Action}
 use Rattle.wcp_model.specs.ProbeLog.{Call, Closed}
@@ -55,7 +55,7 @@ pub record HasPlayed (worker : Worker) (log : List Call) (probe : ClosedSide) (m
       clocks_sent worker.probe.core.id mailbox q ≡ stamps_sent (setup_of worker.probe.core) q worker.actions.items log
   pub taken : (q : ℕ) → IsPrefix (stamps_got q worker.actions.items log) (clocks_taken mailbox q)
 
--- What a worker leaves: all that its actions stand for, or where it gave up its closed probe alone.
+-- What a worker leaves: all that its actions stand for, or, where it gave up, its closed probe alone.
 abbrev pub IsEndOfWorker : Worker → WorkerEnd → Type 0
 IsEndOfWorker worker (Whole probe mailbox) = (log : List Call) × HasPlayed worker log probe mailbox
-IsEndOfWorker worker (GaveUp fault probe) = IfSome probe (IsEndOfProbe worker.probe)
+IsEndOfWorker worker (GaveUp fault probe) = IfSome probe (IsEndOfProbe worker.probe) × IsSome probe
