@@ -36,10 +36,12 @@ pub record HasRow (p : ℕ) (actions : List Action) (row : List (Option Outbox))
   pub inboxes : new.mailbox.inboxes.items ≡ old.mailbox.inboxes.items ++ inbox ∷ []
   pub lane : IsLaneFor p (count_by (is_send_to q) actions) (slice_index_or row q None) inbox
 
--- The first k of these workers were given their ends to send by, and all the ends by which the messages of these come.
+-- The first k of these workers were given their ends to send by, and all were given the ends by which the messages of
+-- these come.
 pub record HaveLanes (k : ℕ) (olds news : List Worker) : Type 0 where
   pub count : length news ≡ length olds
-  pub probe : (q : ℕ) (d : Worker) → q < length olds → (slice_index_or news q d).probe ≡ (slice_index_or olds q d).probe
+  pub probe : (q : ℕ) (d : Worker) → q < length olds
+      → (slice_index_or news q d).probe ≡ (slice_index_or olds q d).probe
   pub actions : (q : ℕ) (d : Worker) → q < length olds
       → (slice_index_or news q d).actions ≡ (slice_index_or olds q d).actions
   pub rows : (q : ℕ) (d : Worker) → q < k → length (slice_index_or news q d).mailbox.outboxes.items ≡ length olds

@@ -16,7 +16,8 @@ pub struct Mailbox {
 }
 
 impl Mailbox {
-    ghost use Rattle.wcp_worker.specs.Mailboxes.{IsMailboxOf, HasSameLanes, outbox_to, inbox_from, clocks_sent, clocks_taken};
+    ghost use Rattle.wcp_worker.specs.Mailboxes.{IsMailboxOf, HasSameLanes};
+    ghost use Rattle.wcp_worker.specs.Mailboxes.{outbox_to, inbox_from, clocks_sent, clocks_taken};
 
     /// Takes out the end by which messages go to `q`, if there is one.
     pub fn take_outbox(&mut self, q: u32) -> Option<Outbox>
