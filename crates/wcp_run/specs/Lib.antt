@@ -2,3 +2,4 @@ pub mod CheckerEnds
 pub mod Matching
 pub mod Seats
 pub mod Settling
+pub mod PlayedEnds

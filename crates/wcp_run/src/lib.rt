@@ -6,7 +6,9 @@ mod checking;
 mod ends;
 mod lanes;
 mod matching;
+mod played;
 mod rings;
+mod run_fault;
 mod seats;
 pub mod settle;
 mod settle_fault;
@@ -15,5 +17,6 @@ mod shares;
 
 pub use checker_end::{CheckFault, CheckerEnd};
 pub use checking::check_loop;
+pub use run_fault::RunFault;
 pub use settle_fault::SettleFault;
 pub use settled::Settled;

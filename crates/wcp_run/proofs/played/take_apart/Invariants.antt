@@ -1,0 +1,6 @@
+use Rattle.std.proofs.Common.{◌≡◌, map, Some}
+use Rattle.wcp_run.specs.PlayedEnds.{AreOfWorkers}
+use Rattle.wcp_run.proofs.played.take_apart.Given as goal
+
+abbrev pub invariant-loop-worker : goal.invariant-loop-worker
+invariant-loop-worker l = AreOfWorkers l.yielded (record { probes = l.probes; mailboxes = l.mailboxes })

@@ -1,0 +1,25 @@
+use thiserror::Error;
+
+/// Why a run gives no outcome. Where several apply, the first in this order is given.
+#[derive(Clone, Copy, Debug, PartialEq, Eq, Error)]
+pub enum RunFault {
+    /// Memory ran out.
+    #[error("run memory")]
+    Memory,
+    /// A thread couldn't be made.
+    #[error("run spawn")]
+    Spawn,
+    /// The gate held back the worker of this process, the lowest such one,
+    /// [`GATE_TURNS`](wcp_clock::GATE_TURNS) times in a row.
+    #[error("run held {0}")]
+    Held(u32),
+    /// The worker of this process, the lowest such one, left no end of its probe.
+    #[error("run lost {0}")]
+    Lost(u32),
+    /// A worker, a relay or the checker met a cut.
+    #[error("run cut")]
+    Cut,
+    /// Not all that was put was taken.
+    #[error("run unfinished")]
+    Unfinished,
+}
