@@ -6,3 +6,4 @@ pub mod MatchedLinks
 pub mod MatchedRings
 pub mod Seating
 pub mod SettledEnds
+pub mod JoinedParts

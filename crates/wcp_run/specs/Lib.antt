@@ -3,3 +3,4 @@ pub mod Matching
 pub mod Seats
 pub mod Settling
 pub mod PlayedEnds
+pub mod Threads

@@ -1,4 +1,5 @@
-//! A watch that runs: the checker's loop, and `settle`, which proves the run's report from the ends of the watch.
+//! A watch that runs: the checker's loop, the threads of its parts, and `settle`, which proves the run's report from the
+//! ends of the watch.
 #![tactic(auto)]
 
 mod checker_end;
@@ -6,6 +7,7 @@ mod checking;
 mod ends;
 mod lanes;
 mod matching;
+mod part;
 mod played;
 mod rings;
 mod run_fault;
@@ -14,9 +16,13 @@ pub mod settle;
 mod settle_fault;
 mod settled;
 mod shares;
+mod start_gate;
+mod starting;
 
 pub use checker_end::{CheckFault, CheckerEnd};
 pub use checking::check_loop;
+pub use part::{Checking, Part, RunsWith};
 pub use run_fault::RunFault;
 pub use settle_fault::SettleFault;
 pub use settled::Settled;
+pub use starting::EndOf;

@@ -1,0 +1,11 @@
+use Rattle.std.proofs.Common.{◌≡◌, ◌++◌, map}
+use Rattle.std.specs.Prelude.{vec_items}
+use Rattle.std.specs.Vec.Iter.{into_iter_items}
+use Rattle.wcp_run.specs.Threads.{AreEndsOf}
+use Rattle.wcp_run.proofs.starting.join_all.Given as goal
+
+abbrev pub invariant-loop-thread : goal.invariant-loop-thread
+invariant-loop-thread g l = record {
+  whole : l.yielded ++ into_iter_items l.thread-iterator ≡ vec_items l.fn.threads;
+  ends : AreEndsOf g.P.Part.is_end (map (λ h. h.promise.0.value) l.yielded) (vec_items l.room);
+}
