@@ -1,4 +1,5 @@
-ghost use Rattle.std.specs.Prelude.{◌≡◌, ◌≢◌, ◌+◌, ◌<◌, ◌≤◌, ◌↔◌, length, replicate, slice_get, slice_set, Some, None, IsOk, OnOk, OnErr, IsErrOf};
+ghost use Rattle.std.specs.Prelude.{◌≡◌, ◌≢◌, ◌+◌, ◌<◌, ◌≤◌, ◌↔◌, length, replicate, slice_get, slice_set, Some};
+ghost use Rattle.std.specs.Prelude.{None, IsOk, OnOk, OnErr, IsErrOf};
 ghost use Rattle.std.specs.Option.{option_flatten};
 ghost use Rattle.wcp_clock.specs.Limits.{most_processes, most_snapshots};
 ghost use Rattle.wcp_book.specs.declared.book.BookFault.TheVariants.{NoSuch, Twice};

@@ -1,6 +1,7 @@
 //! The answer to each request: what is printed, and the exit status.
 ghost use Rattle.std.specs.Prelude.{◌≡◌, ◌≤◌, IfOk};
-ghost use Rattle.wcp_cli.specs.RequestAnswers.{IsAnswerTo, IsOutcomeAnswer, IsReplayAnswer, Reads, ring_text, status_of};
+ghost use Rattle.wcp_cli.specs.RequestAnswers.{IsAnswerTo, IsOutcomeAnswer, IsReplayAnswer, Reads, ring_text};
+ghost use Rattle.wcp_cli.specs.RequestAnswers.{status_of};
 ghost use Rattle.wcp_cli.specs.Words.{HasRing, IsRing};
 
 use crate::fault::Fault;

@@ -72,8 +72,8 @@ AreCounts origin counts messages =
     (length counts ≡ most_processes)
     × ((p : ℕ) → p < most_processes → slice_index counts p ≡ length (items_from origin p messages))
 
--- A message that the taker takes is of one of the lane's numbers, and the next one after those that it has taken of this
--- number.
+-- A message that the taker takes is of one of the lane's numbers, and the next one after those that it has taken of
+-- this number.
 pub record IsNextTaken
     {M : Type 0} (origin place : M → ℕ) (is_last : M → Bool) (end : TakeEnd M) (message : M) : Type 0 where
   pub owned : set.contains end.members (origin message) ≡ true

@@ -95,8 +95,8 @@ module _ {M : Type 0} (origin : M → ℕ) where
       → (p : ℕ) → p < most_processes → set.contains h.numbers p ≡ true
       → items_from origin p h.put ≡ items_from origin p v.taken ++ items_from origin p within
 
-  -- what one end knows fits: the end that takes is the reader, and it has taken what was taken; the end that stands for a
-  -- number has that number's seat, and has put what was put of it
+  -- what one end knows fits: the end that takes is the reader, and it has taken what was taken; the end that stands
+  -- for a number has that number's seat, and has put what was put of it
   pub record Fits (reader : ℕ) (seat : ℕ → ℕ) (taken : List M) (put : ℕ → List M) (pass : ℕ) (v : Hand M) : Type 0 where
     pub takes : v.takes ≡ true → (pass ≡ reader) × (v.taken ≡ taken)
     pub stands : (before : List (Home M)) (h : Home M) (behind : List (Home M)) → v.home ≡ before ++ h ∷ behind

@@ -1,4 +1,5 @@
-use Rattle.std.specs.Prelude.{◌≡◌, ◌==◌, ℕ, ◌≤◌, ◌↔◌, Bool, true, false, List, take, count_by, slice_get, Some, Contains}
+use Rattle.std.specs.Prelude.{◌≡◌, ◌==◌, ℕ, ◌≤◌, ◌↔◌, Bool, true, false, List, take, count_by, slice_get, Some}
+use Rattle.std.specs.Prelude.{Contains}
 use Rattle.std.specs.List.Sorted.{IsStrictlyIncreasing}
 use Rattle.wcp_model.specs.declared.state.State.{State}
 use Rattle.wcp_model.specs.declared.step.Step.{Step}

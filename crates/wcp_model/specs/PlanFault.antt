@@ -1,4 +1,5 @@
-use Rattle.std.specs.Prelude.{◌≡◌, ◌≢◌, ℕ, ◌<◌, ◌≤◌, ◌⊎◌, List, [], ◌∷◌, length, slice_get, Some, Any, Contains, MatchOption, IsTrue}
+use Rattle.std.specs.Prelude.{◌≡◌, ◌≢◌, ℕ, ◌<◌, ◌≤◌, ◌⊎◌, List, [], ◌∷◌, length, slice_get, Some, Any, Contains}
+use Rattle.std.specs.Prelude.{MatchOption, IsTrue}
 use Rattle.wcp_clock.specs.Limits.{most_processes, most_cap, most_hold, most_relays, most_path}
 use Rattle.wcp_model.specs.FirstReason.{IsFirstReason}
 use Rattle.wcp_model.specs.declared.plan.Parent.{Parent}

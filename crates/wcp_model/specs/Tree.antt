@@ -1,4 +1,5 @@
-use Rattle.std.specs.Prelude.{◌≡◌, ◌==◌, ℕ, Bool, false, nat_lt, Option, Some, None, List, [], ◌∷◌, length, replicate, slice_get, take}
+use Rattle.std.specs.Prelude.{◌≡◌, ◌==◌, ℕ, Bool, false, nat_lt, Option, Some, None, List, [], ◌∷◌, length, replicate}
+use Rattle.std.specs.Prelude.{slice_get, take}
 use Rattle.std.specs.List.{list_any}
 use Rattle.std.specs.Option.{option_flatten}
 use Rattle.wcp_model.specs.declared.plan.Parent.{Parent}

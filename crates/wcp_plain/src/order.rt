@@ -1,4 +1,5 @@
-ghost use Rattle.std.specs.Prelude.{◌≡◌, ◌==◌, ℕ, ◌+◌, ◌<◌, ◌^◌, ◌⊎◌, ◌↔◌, [], slice_get, if◌then◌else◌, true, Some, Contains, IfOk, OnOk, IsTrue};
+ghost use Rattle.std.specs.Prelude.{◌≡◌, ◌==◌, ℕ, ◌+◌, ◌<◌, ◌^◌, ◌⊎◌, ◌↔◌, [], slice_get, if◌then◌else◌, true, Some};
+ghost use Rattle.std.specs.Prelude.{Contains, IfOk, OnOk, IsTrue};
 ghost use Rattle.wcp_model.specs.Order.{HappenedBefore};
 
 use std::alloc::{AllocError, Global};

@@ -1,7 +1,9 @@
-use Rattle.std.specs.Prelude.{◌==◌, ◌||◌, ℕ, Bool, not, nat_lt, nat_le, is_some, Option, List, [], ◌∷◌, ◌++◌, length, slice_index}
+use Rattle.std.specs.Prelude.{◌==◌, ◌||◌, ℕ, Bool, not, nat_lt, nat_le, is_some, Option, List, [], ◌∷◌, ◌++◌, length}
+use Rattle.std.specs.Prelude.{slice_index}
 use Rattle.wcp_model.specs.FirstReason.{first_reason}
 use Rattle.wcp_probe.specs.declared.probe.Refusal.{Refusal}
-use Rattle.wcp_probe.specs.declared.probe.Refusal.TheVariants.{NoSuch, Closed, Backlog, Stranger, NotMine, Ahead, ClockEnd}
+use Rattle.wcp_probe.specs.declared.probe.Refusal.TheVariants.{NoSuch, Closed, Backlog, Stranger, NotMine, Ahead}
+use Rattle.wcp_probe.specs.declared.probe.Refusal.TheVariants.{ClockEnd}
 use Rattle.wcp_probe.specs.Core.{Core}
 use Rattle.wcp_probe.specs.Seal.{Seal}
 

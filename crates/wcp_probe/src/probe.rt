@@ -1,11 +1,14 @@
-ghost use Rattle.std.specs.Prelude.{◌≡◌, ℕ, ◌+◌, ◌<◌, ◌≤◌, ◌↔◌, [], List, length, replicate, slice_index, slice_set, IsTrue, IsSome, IfOk, OnOk, OnErr, IfErr, MatchResult, Option, true, false, if◌then◌else◌};
+ghost use Rattle.std.specs.Prelude.{◌≡◌, ℕ, ◌+◌, ◌<◌, ◌≤◌, ◌↔◌, [], List, length, replicate, slice_index, slice_set};
+ghost use Rattle.std.specs.Prelude.{IsTrue, IsSome, IfOk, OnOk, OnErr, IfErr, MatchResult, Option, true, false};
+ghost use Rattle.std.specs.Prelude.{if◌then◌else◌};
 ghost use Rattle.wcp_clock.specs.Limits.{most_processes, most_events};
 ghost use Rattle.wcp_clock.specs.declared.note.Note.TheVariants as note;
 ghost use Rattle.wcp_model.specs.ProbeLog.{Call, Observed, Sent, Received};
 ghost use Rattle.wcp_model.specs.ProbeLog.{Closed as closed_call};
 ghost use Rattle.wcp_probe.specs.Core.{Core, StandsForLog, Accepts, IsSameProbe};
 ghost use Rattle.wcp_probe.specs.Seal.{Seal, seal_of, value_of, IsSealed};
-ghost use Rattle.wcp_probe.specs.Refusals.{observe_refusal, close_refusal, stamp_refusal, receive_refusal, stamp_mismatch};
+ghost use Rattle.wcp_probe.specs.Refusals.{observe_refusal, close_refusal, stamp_refusal, receive_refusal};
+ghost use Rattle.wcp_probe.specs.Refusals.{stamp_mismatch};
 
 use crate::stamp::Stamped;
 use std::marker::Model;
@@ -45,7 +48,8 @@ pub struct ProbeCore {
 }
 
 impl Model for ProbeCore {
-    ghost use Rattle.std.specs.Prelude.{ℕ, ◌≡◌, ◌+◌, ◌<◌, ◌≤◌, ◌||◌, length, slice_index, is_some, IsTrue, if◌then◌else◌};
+    ghost use Rattle.std.specs.Prelude.{ℕ, ◌≡◌, ◌+◌, ◌<◌, ◌≤◌, ◌||◌, length, slice_index, is_some, IsTrue};
+    ghost use Rattle.std.specs.Prelude.{if◌then◌else◌};
     ghost use Rattle.wcp_clock.specs.Limits.{most_processes, most_events};
     ghost use Rattle.wcp_probe.specs.Core.{Core};
 

@@ -1,5 +1,5 @@
-//! A watch that runs: the checker's loop, the threads of its parts, and `settle`, which proves the run's report from the
-//! ends of the watch.
+//! A watch that runs: the checker's loop, the threads of its parts, and `settle`, which proves the run's
+//! report from the ends of the watch.
 #![tactic(auto)]
 
 mod checker_end;

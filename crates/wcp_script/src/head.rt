@@ -1,7 +1,8 @@
 ghost use Rattle.std.specs.Prelude.{◌≡◌, ◌≤◌, ◌<◌, length, IfOk, IfSome, MatchOption};
 ghost use Rattle.wcp_clock.specs.Limits.{most_processes};
 ghost use Rattle.wcp_script.specs.Lines.{lines_of};
-ghost use Rattle.wcp_script.specs.Head.{IsAllowed, IsPlanOf, IsWithinLimits, line_count, most_head_lines, first_head, with_line, head_by, head_of};
+ghost use Rattle.wcp_script.specs.Head.{IsAllowed, IsPlanOf, IsWithinLimits, line_count, most_head_lines, first_head};
+ghost use Rattle.wcp_script.specs.Head.{with_line, head_by, head_of};
 ghost use Rattle.wcp_script.specs.ReadAnswers.{Gives};
 ghost use Rattle.wcp_script.specs.Views.{seen_line, seen_head, seen_read, EndsHead, GoesOn};
 

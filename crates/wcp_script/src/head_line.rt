@@ -1,5 +1,6 @@
 ghost use Rattle.std.specs.Prelude.{◌≡◌, [], ◌∷◌, IfOk};
-ghost use Rattle.wcp_script.specs.Head.{IsAllowed, parent_in, is_above, is_after, cap_line, hold_line, relay_line, attach_line, head_words, head_line};
+ghost use Rattle.wcp_script.specs.Head.{IsAllowed, parent_in, is_above, is_after, cap_line, hold_line, relay_line};
+ghost use Rattle.wcp_script.specs.Head.{attach_line, head_words, head_line};
 ghost use Rattle.wcp_script.specs.Views.{seen_line, seen_head};
 
 use crate::fault::{FaultKind, ask};

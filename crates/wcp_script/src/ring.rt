@@ -4,7 +4,8 @@ ghost use Rattle.wcp_clock.specs.Limits.{most_processes};
 ghost use Rattle.wcp_model.specs.PlanFault.{IsCheckedPlan};
 ghost use Rattle.wcp_model.specs.WorkloadComputation.{CouldBeRead};
 ghost use Rattle.std.specs.List.{flat_map, range_with_len};
-ghost use Rattle.wcp_script.specs.Ring.{IsRingPlan, finds_both, most_rounds, received, sent, ring_turn, ring_round, ring_fault, ring_length, ring_tasks};
+ghost use Rattle.wcp_script.specs.Ring.{IsRingPlan, finds_both, most_rounds, received, sent, ring_turn, ring_round};
+ghost use Rattle.wcp_script.specs.Ring.{ring_fault, ring_length, ring_tasks};
 
 use crate::head::{PLAIN_CAP, PLAIN_HOLD};
 use std::alloc::{AllocError, Global};

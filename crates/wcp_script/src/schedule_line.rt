@@ -1,6 +1,7 @@
 ghost use Rattle.std.specs.Prelude.{◌≡◌, [], ◌∷◌};
 ghost use Rattle.wcp_script.specs.Lines.{words_of};
-ghost use Rattle.wcp_script.specs.ScheduleLines.{is_schedule_word, observation, step_of_one, step_of_two, step_by_words, step_in};
+ghost use Rattle.wcp_script.specs.ScheduleLines.{is_schedule_word, observation, step_of_one, step_of_two};
+ghost use Rattle.wcp_script.specs.ScheduleLines.{step_by_words, step_in};
 ghost use Rattle.wcp_script.specs.TextFault.{schedules};
 ghost use Rattle.wcp_script.specs.Views.{seen_line};
 

@@ -1,7 +1,8 @@
 ghost use Rattle.std.specs.Prelude.{◌≡◌, ◌<◌, [], ◌∷◌, length, IfSome, MatchOption};
 ghost use Rattle.std.specs.Option.{option_map};
 ghost use Rattle.wcp_script.specs.Lines.{TextLine, lines_of, words_of};
-ghost use Rattle.wcp_script.specs.WorkloadLines.{is_task_word, observation_form, message_form, form_of, task_of, is_within, task_in};
+ghost use Rattle.wcp_script.specs.WorkloadLines.{is_task_word, observation_form, message_form, form_of, task_of};
+ghost use Rattle.wcp_script.specs.WorkloadLines.{is_within, task_in};
 ghost use Rattle.wcp_script.specs.TextFault.{workloads};
 ghost use Rattle.wcp_script.specs.Views.{seen_line, seen_form};
 

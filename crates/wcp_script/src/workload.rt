@@ -6,7 +6,8 @@ ghost use Rattle.wcp_model.specs.Tree.{IsSamePlan};
 ghost use Rattle.wcp_model.specs.WorkloadComputation.{CouldBeRead};
 ghost use Rattle.wcp_script.specs.declared.fault.ScriptFault.{ScriptFault};
 ghost use Rattle.wcp_script.specs.TextFault.{workloads, Spells, HasWorkloadFault};
-ghost use Rattle.wcp_script.specs.ReadAnswers.{IsReadAs, IsRefusedFor, IsFaultOf, ReadsInOrder, ReadsWorkload, order_of};
+ghost use Rattle.wcp_script.specs.ReadAnswers.{IsReadAs, IsRefusedFor, IsFaultOf, ReadsInOrder, ReadsWorkload};
+ghost use Rattle.wcp_script.specs.ReadAnswers.{order_of};
 
 use crate::fault::{FaultKind, ReadFault, ScriptFault};
 use crate::text::{Text, read_text};
