@@ -1,9 +1,15 @@
+ghost use Rattle.std.specs.Prelude.{◌≤◌};
+ghost use Rattle.wcp_clock.specs.Limits.{most_processes};
+ghost use Rattle.wcp_script.specs.Ring.{most_rounds};
+
 use std::alloc::{AllocError, Global};
 use std::process::Abort;
 use std::test::Fail;
-use wcp_clock::{Clock, Item, Note};
-use wcp_model::{GlobalCut, Report};
+use wcp_clock::{CLOCK_LIMIT, Clock, Item, Note};
+use wcp_model::{Action, GlobalCut, Report};
+use wcp_probe::ProbeCore;
 use wcp_queue::Checker;
+use wcp_script::ring_workload;
 
 /// A checker of two processes. Where memory runs out, asking again makes it.
 fn checker_of_two(alloc: Global) -> Result<Checker, AllocError> {
@@ -72,5 +78,57 @@ fn a_head_that_precedes_another_is_dropped(rt: HostRuntime) -> Result<(), Fail> 
             (u64::from(sends) + 1, 1)
         );
     }
+    Ok(())
+}
+
+/// A process observes its condition. The checker takes the snapshot that it emits, if it emits one.
+fn observe(rt: &impl Abort, probe: &mut ProbeCore, checker: &mut Checker, from: u32, holds: bool) {
+    let number = probe.emitted();
+    if let Ok(true) = probe.observe(holds) {
+        assert!(rt; probe.pending().is_some());
+        probe.was_put();
+        take(rt, checker, from, number, probe.clock());
+    }
+}
+
+/// The component tests that a checker of `n` processes makes of the snapshots of a ring, of which
+/// there is one for each process in each round.
+fn tests_of_ring(rt: &impl Abort, alloc: Global, n: u32, rounds: u32) -> Result<u64, Fail>
+    requires several { 2 ≤ n }
+    requires few { n ≤ most_processes }
+    requires some_rounds { 1 ≤ rounds }
+    requires few_rounds { rounds ≤ most_rounds }
+{
+    let ring = ring_workload(alloc, n, rounds, false)?;
+    let mut checker = Checker::new(alloc, n)?;
+    let mut probes = Vec::new(alloc);
+    for id in 0..n {
+        probes.push(ProbeCore::new(0, id, n, CLOCK_LIMIT))?;
+    }
+    let mut message = None;
+    for task in &ring.tasks {
+        let probe = probes.get_mut(task.p as usize).ok_or("no such process")?;
+        match task.action {
+            Action::Observe(holds) => observe(rt, probe, &mut checker, task.p, holds),
+            Action::Send(to) => message = probe.stamp(to, ()).ok(),
+            Action::Recv(_) => {
+                let sent = message.take().ok_or("no message")?;
+                assert!(rt; probe.receive(sent).is_ok());
+            }
+        }
+    }
+    assert_eq!(rt; checker.report(), Report::Undecided);
+    assert_eq!(rt; checker.processes(), n);
+    assert_eq!(rt; checker.taken(n - 1), u64::from(rounds));
+    Ok(checker.tests())
+}
+
+/// A snapshot costs at most as many component tests as there are processes.
+#[test]
+fn a_ring_costs_few_tests(rt: HostRuntime) -> Result<(), Fail> {
+    let small = tests_of_ring(&rt, rt.alloc(), 4, 100)?;
+    assert_eq!(rt; small, 1_600);
+    let large = tests_of_ring(&rt, rt.alloc(), 16, 1_000)?;
+    assert_eq!(rt; large, 256_000);
     Ok(())
 }
