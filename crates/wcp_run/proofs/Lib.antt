@@ -7,3 +7,4 @@ pub mod MatchedRings
 pub mod Seating
 pub mod SettledEnds
 pub mod JoinedParts
+pub mod PlayedWorkers
