@@ -8,3 +8,4 @@ pub mod Seating
 pub mod SettledEnds
 pub mod JoinedParts
 pub mod PlayedWorkers
+pub mod SentEnds

@@ -16,7 +16,7 @@ use Rattle.wcp_model.specs.declared.outcome.Tally.{Tally}
 use Rattle.wcp_model.specs.declared.plan.PlanFault.TheVariants.{Procs}
 use Rattle.wcp_model.specs.declared.plan.Parent.{Parent}
 use Rattle.wcp_model.specs.declared.plan.Parent.TheVariants as parent
-use Rattle.wcp_book.specs.Totals.{AreTotals, emitted_in, taken_in}
+use Rattle.wcp_book.specs.Totals.{emitted_in, taken_in}
 use Rattle.wcp_lane.specs.Ends.{TakenEnd}
 use Rattle.wcp_lane.specs.Passes.{Numbers}
 use Rattle.wcp_queue.specs.Checker.{IsReportOfAnyClocks}

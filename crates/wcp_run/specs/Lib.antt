@@ -4,3 +4,4 @@ pub mod Seats
 pub mod Settling
 pub mod PlayedEnds
 pub mod Threads
+pub mod RunParts

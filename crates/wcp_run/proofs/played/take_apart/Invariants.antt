@@ -1,4 +1,3 @@
-use Rattle.std.proofs.Common.{◌≡◌, map, Some}
 use Rattle.wcp_run.specs.PlayedEnds.{AreOfWorkers}
 use Rattle.wcp_run.proofs.played.take_apart.Given as goal
 

@@ -1,4 +1,4 @@
-use Rattle.std.proofs.Common.{◌≡◌, suc, ◌∷◌, [], ◌++◌, map, sym, ap, ◌∙◌, subst, rules, arith}
+use Rattle.std.proofs.Common.{◌≡◌, suc, ◌∷◌, ◌++◌, map, sym, subst, arith}
 use Rattle.std.specs.Prelude.{All, vec_items}
 use Rattle.std.specs.Vec.Iter.{into_iter_items}
 use Rattle.wcp_run.proofs.JoinedParts.{started_more}

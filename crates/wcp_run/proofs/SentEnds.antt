@@ -1,0 +1,19 @@
+-- A relay's end may go to another thread.
+use denote.Param.Send.{IsSend, EachSend, enum_send, recorded_send, sendable}
+use denote.Enum.Declared.{shape}
+use Rattle.std.proofs.Crossing.{crosses}
+use Rattle.wcp_clock.proofs.note.Item.TheSendSync.{the_send as item_send}
+use Rattle.wcp_lane.proofs.putter.PutReceipt.TheSendSync.{the_send as put_receipt_send}
+use Rattle.wcp_model.proofs.plan.Parent.TheSendSync.{the_field_send as parent_send}
+use Rattle.wcp_tree.proofs.relay_end.Receipts.TheSendSync.{the_field_send as receipts_send}
+use Rattle.wcp_tree.proofs.relay_end.RelayFault.TheSendSync.{the_field_send as fault_send}
+use Rattle.wcp_tree.specs.contracts.relay_end.RelayEnd as relay_end
+
+variants_send : EachSend (shape relay_end.the_type).variants
+variants_send = (
+  (search sendable, (search sendable, (parent_send, (receipts_send, (search (put_receipt_send, item_send), tt))))),
+  ((search sendable, (search sendable, (fault_send, (search crosses, (search crosses, tt))))), tt),
+)
+
+pub relay_end_send : IsSend relay_end.the_row
+relay_end_send = recorded_send _ _ _ relay_end.the_type.to_one (enum_send (shape relay_end.the_type) variants_send)
