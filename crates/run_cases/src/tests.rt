@@ -1,3 +1,4 @@
 mod checking;
 mod reading;
+mod settling;
 mod watches;

@@ -7,13 +7,13 @@ use wcp_model::{GlobalCut, Parent, Plan, Report, Tally, plain_plan};
 use wcp_run::CheckFault;
 
 /// One snapshot, emitted and taken.
-const ONE: Tally = Tally {
+pub const ONE: Tally = Tally {
     emitted: 1,
     taken: 1,
 };
 
 /// Two processes under a relay that is under another. Where memory runs out, asking again makes it.
-fn two_hops(alloc: Global) -> Result<Plan, AllocError> {
+pub fn two_hops(alloc: Global) -> Result<Plan, AllocError> {
     let parents = [Parent::Root, Parent::Relay(0)];
     let attach = [Some(1), Some(1)];
     Ok(Plan {

@@ -2,6 +2,7 @@
 ghost use Rattle.std.specs.Prelude.{IfOk};
 ghost use Rattle.wcp_model.specs.PlanFault.{IsCheckedPlan};
 ghost use Rattle.wcp_run.specs.CheckerEnds.{IsFreshFor};
+ghost use Rattle.wcp_tree.specs.Watches.{IsWired};
 
 use std::alloc::{AllocError, Global};
 use std::sync::{Mutex, Wait};
@@ -16,7 +17,8 @@ use wcp_tree::{LiveProbe, ProbeEnd, Watch};
 /// The watch of a plan, and a checker for its inbox. Where memory runs out, asking again makes them.
 pub fn open(alloc: Global, plan: &Plan) -> Result<(Watch, Checker), AllocError>
     requires { IsCheckedPlan plan.now }
-    ensures { IfOk result (λ opened. IsFreshFor opened.0.inbox opened.1) }
+    ensures fresh { IfOk result (λ opened. IsFreshFor opened.0.inbox opened.1) }
+    ensures wired { IfOk result (λ opened. IsWired plan.now 7 opened.0) }
 {
     match open_once(alloc, plan) {
         Ok(opened) => Ok(opened),
@@ -26,7 +28,8 @@ pub fn open(alloc: Global, plan: &Plan) -> Result<(Watch, Checker), AllocError>
 
 fn open_once(alloc: Global, plan: &Plan) -> Result<(Watch, Checker), AllocError>
     requires { IsCheckedPlan plan.now }
-    ensures { IfOk result (λ opened. IsFreshFor opened.0.inbox opened.1) }
+    ensures fresh { IfOk result (λ opened. IsFreshFor opened.0.inbox opened.1) }
+    ensures wired { IfOk result (λ opened. IsWired plan.now 7 opened.0) }
 {
     let watch = watch(alloc, plan, 7)?;
     let checker = Checker::new(alloc, plan.n)?;

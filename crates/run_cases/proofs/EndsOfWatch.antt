@@ -1,0 +1,49 @@
+use Rattle.std.proofs.Common.{◌≡◌, ℕ, ◌<◌, Some, List, [], ◌∷◌, ◌++◌, length, slice_get, All, sym, ap, subst, ◌∙◌}
+use Rattle.std.proofs.lemmas.List.Elements.{All-nil, All-cons, All-head, All-tail, All-append, All-from_get_or}
+use Rattle.std.proofs.lemmas.Option.{get_or_from_slice_get}
+use Rattle.wcp_model.specs.PlanFault.{IsCheckedPlan}
+use Rattle.wcp_model.specs.declared.plan.Plan.{Plan}
+use Rattle.wcp_tree.specs.LiveProbe.{ClosedSide}
+use Rattle.wcp_tree.specs.Watches.{IsWired}
+use Rattle.wcp_tree.specs.declared.relay_end.RelayEnd.{RelayEnd}
+use Rattle.wcp_tree.specs.declared.watch.Watch.{Watch}
+use Rattle.wcp_run.specs.CheckerEnds.{IsEndOfLoop}
+use Rattle.wcp_run.specs.Settling.{ComeFromWatch, IsEndOfProbe, IsEndOfRelay}
+use Rattle.wcp_run.specs.declared.checker_end.CheckerEnd.{CheckerEnd}
+
+own_places : {X : Type 0} (number : X → ℕ) (xs : List X) → ((p : ℕ) → p < length xs → (x : X) × (slice_get xs p ≡ Some x) × (number x ≡ p)) → All (λ x. slice_get xs (number x) ≡ Some x) xs
+own_places number [] each = All-nil _
+own_places number (x ∷ xs) each = All-from_get_or (λ y. slice_get (x ∷ xs) (number y) ≡ Some y) (x ∷ xs) x (λ p within.
+    let there = each p within in
+    subst (λ y. slice_get (x ∷ xs) (number y) ≡ Some y) (sym (get_or_from_slice_get (x ∷ xs) p there.0 x there.1)) (ap (slice_get (x ∷ xs)) there.2 ∙ there.1))
+
+pub own_probes : (plan : Plan) (watch : Watch) → IsWired plan 7 watch → All (λ probe. slice_get watch.probes.items probe.core.id ≡ Some probe) watch.probes.items
+own_probes plan watch wired = own_places (λ probe. probe.core.id) watch.probes.items (λ p within.
+    let ring = wired.rings.each p (subst (λ k. p < k) wired.rings.probes_count within) in
+    (ring.probe, ring.is_probe, ap (λ core. core.id) ring.fresh))
+
+pub own_relays : (plan : Plan) (watch : Watch) → IsWired plan 7 watch → All (λ relay. slice_get watch.relays.items relay.number ≡ Some relay) watch.relays.items
+own_relays plan watch wired = own_places (λ relay. relay.number) watch.relays.items (λ p within.
+    let linked = wired.linked.each p within in (linked.relay, linked.is_relay, linked.of_plan.number))
+
+pub come_from_watch : (plan : Plan) (watch : Watch) (probes : List ClosedSide) (relays : List RelayEnd) (checker : CheckerEnd) → IsCheckedPlan plan → IsWired plan 7 watch → All (IsEndOfProbe watch.probes.items) probes → All (IsEndOfRelay watch.relays.items) relays → IsEndOfLoop watch.inbox checker → ComeFromWatch probes relays checker
+come_from_watch plan watch probes relays checker checked wired of_probes of_relays of_checker = record {
+  plan = plan;
+  watch = watch;
+  checked = checked;
+  wired = subst (λ number. IsWired plan number watch) (sym (of_checker.watch ∙ wired.number)) wired;
+  of_probes = λ k d within of. of_probes k d within;
+  of_relays = λ k d within of. of_relays k d within;
+  of_checker = of_checker;
+}
+
+pub front_of : {X : Type 0} (P : X → Type 0) (xs ys : List X) → All P (xs ++ ys) → All P xs
+front_of P [] ys all = All-nil P
+front_of P (x ∷ xs) ys all = All-cons P x xs (All-head P x (xs ++ ys) all) (front_of P xs ys (All-tail P x (xs ++ ys) all))
+
+pub last_of : {X : Type 0} (P : X → Type 0) (xs : List X) (x : X) → All P (xs ++ x ∷ []) → P x
+last_of P [] x all = All-head P x [] all
+last_of P (y ∷ xs) x all = last_of P xs x (All-tail P y (xs ++ x ∷ []) all)
+
+pub joined : {X : Type 0} (P : X → Type 0) (xs : List X) (x : X) → All P xs → P x → All P (xs ++ x ∷ [])
+joined P xs x all is = All-append P xs (x ∷ []) all (All-cons P x [] is (All-nil P))
