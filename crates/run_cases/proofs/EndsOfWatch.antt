@@ -1,11 +1,14 @@
-use Rattle.std.proofs.Common.{◌≡◌, ℕ, ◌<◌, Some, List, [], ◌∷◌, ◌++◌, length, slice_get, All, sym, ap, subst, ◌∙◌}
+use Rattle.std.proofs.Common.{◌≡◌, ◌≢◌, ℕ, ◌<◌, None, Some, refl, List, [], ◌∷◌, ◌++◌, length, slice_get, All, sym, ap, subst, ◌∙◌}
 use Rattle.std.proofs.lemmas.List.Elements.{All-nil, All-cons, All-head, All-tail, All-append, All-from_get_or}
 use Rattle.std.proofs.lemmas.Option.{get_or_from_slice_get}
 use Rattle.wcp_model.specs.PlanFault.{IsCheckedPlan}
 use Rattle.wcp_model.specs.declared.plan.Plan.{Plan}
 use Rattle.wcp_tree.specs.LiveProbe.{ClosedSide}
 use Rattle.wcp_tree.specs.Watches.{IsWired}
+use Rattle.wcp_tree.specs.RelayEnds.{fault_of, number_of, watch_of}
+use Rattle.wcp_tree.specs.declared.relay.Relay.{Relay}
 use Rattle.wcp_tree.specs.declared.relay_end.RelayEnd.{RelayEnd}
+use Rattle.wcp_tree.specs.declared.relay_end.RelayEnd.TheVariants.{Whole, Faulted}
 use Rattle.wcp_tree.specs.declared.watch.Watch.{Watch}
 use Rattle.wcp_run.specs.CheckerEnds.{IsEndOfLoop}
 use Rattle.wcp_run.specs.Settling.{ComeFromWatch, IsEndOfProbe, IsEndOfRelay}
@@ -47,3 +50,49 @@ last_of P (y ∷ xs) x all = last_of P xs x (All-tail P y (xs ++ x ∷ []) all)
 
 pub joined : {X : Type 0} (P : X → Type 0) (xs : List X) (x : X) → All P xs → P x → All P (xs ++ x ∷ [])
 joined P xs x all is = All-append P xs (x ∷ []) all (All-cons P x [] is (All-nil P))
+
+-- fewer relays come from the watch as well
+pub fewer_relays : (probes : List ClosedSide) (all relays : List RelayEnd) (last : RelayEnd) (checker : CheckerEnd) → ComeFromWatch probes all checker → all ≡ relays ++ last ∷ [] → ComeFromWatch probes relays checker
+fewer_relays probes all relays last checker came split = record {
+  plan = came.plan;
+  watch = came.watch;
+  checked = came.checked;
+  wired = came.wired;
+  of_probes = came.of_probes;
+  of_relays = front_of (λ end. watch_of end ≡ checker.watch → IsEndOfRelay came.watch.relays.items end) relays (last ∷ [])
+      (subst (All (λ end. watch_of end ≡ checker.watch → IsEndOfRelay came.watch.relays.items end)) split came.of_relays);
+  of_checker = came.of_checker;
+}
+
+-- and so they do with the end of a probe of another watch
+pub with_stranger : (probes : List ClosedSide) (relays : List RelayEnd) (stranger : ClosedSide) (checker : CheckerEnd) → ComeFromWatch probes relays checker → stranger.watch ≢ checker.watch → ComeFromWatch (probes ++ stranger ∷ []) relays checker
+with_stranger probes relays stranger checker came other = record {
+  plan = came.plan;
+  watch = came.watch;
+  checked = came.checked;
+  wired = came.wired;
+  of_probes = joined (λ end. end.watch ≡ checker.watch → IsEndOfProbe came.watch.probes.items end) probes stranger came.of_probes
+      (λ same. absurd (other same));
+  of_relays = came.of_relays;
+  of_checker = came.of_checker;
+}
+
+faulted_end : (relays : List Relay) (relay : Relay) (end : RelayEnd) → fault_of end ≢ None → slice_get relays (number_of end) ≡ Some relay → IsEndOfRelay relays end
+faulted_end relays relay (Whole number watch parent taken put) fault at = absurd (fault refl)
+faulted_end relays relay (Faulted number watch fault source putter) met at = record { relay = relay; is_relay = at; receipts = tt; whole = tt }
+
+-- and with a faulted end in place of one of the same relay
+pub with_faulted : (probes : List ClosedSide) (all relays : List RelayEnd) (last faulted : RelayEnd) (checker : CheckerEnd) → ComeFromWatch probes all checker → all ≡ relays ++ last ∷ [] → fault_of faulted ≢ None → number_of faulted ≡ number_of last → watch_of last ≡ checker.watch → ComeFromWatch probes (relays ++ faulted ∷ []) checker
+with_faulted probes all relays last faulted checker came split met number watch = record {
+  plan = came.plan;
+  watch = came.watch;
+  checked = came.checked;
+  wired = came.wired;
+  of_probes = came.of_probes;
+  of_relays =
+      let split_ends = subst (All (λ end. watch_of end ≡ checker.watch → IsEndOfRelay came.watch.relays.items end)) split came.of_relays in
+      let its = last_of (λ end. watch_of end ≡ checker.watch → IsEndOfRelay came.watch.relays.items end) relays last split_ends watch in
+      joined (λ end. watch_of end ≡ checker.watch → IsEndOfRelay came.watch.relays.items end) relays faulted (front_of (λ end. watch_of end ≡ checker.watch → IsEndOfRelay came.watch.relays.items end) relays (last ∷ []) split_ends)
+      (λ same. faulted_end came.watch.relays.items its.relay faulted met (ap (slice_get came.watch.relays.items) number ∙ its.is_relay));
+  of_checker = came.of_checker;
+}

@@ -1,6 +1,7 @@
 //! Watches whose ends are settled.
-ghost use Rattle.std.specs.Prelude.{◌≡◌, All, IfOk, IfSome, Some, slice_get};
+ghost use Rattle.std.specs.Prelude.{◌≡◌, ◌≢◌, [], ◌∷◌, ◌++◌, All, IsTrue, IfOk, IfSome, None, Some, slice_get};
 ghost use Rattle.wcp_model.specs.PlanFault.{IsCheckedPlan};
+ghost use Rattle.wcp_tree.specs.RelayEnds.{fault_of, number_of, watch_of};
 ghost use Rattle.wcp_run.specs.Settling.{ComeFromWatch, IsEndOfProbe, IsEndOfRelay};
 
 use super::checking::{ONE, two_hops};
@@ -11,7 +12,8 @@ use std::test::Fail;
 use wcp_book::Book;
 use wcp_model::{GlobalCut, Plan, Report, Tallies, Tally};
 use wcp_run::settle::settle;
-use wcp_run::{CheckerEnd, check_loop};
+use wcp_run::{CheckerEnd, SettleFault, check_loop};
+use wcp_tree::opening::watch;
 use wcp_tree::{LiveProbe, ProbeEnd, Relay, RelayEnd, Watch};
 
 /// What is left of a watch that ran.
@@ -88,6 +90,107 @@ fn run_watch(
     })
 }
 
+/// Takes the end out that came last.
+fn last_relay(relays: &mut Vec<RelayEnd>) -> Option<RelayEnd>
+    ensures { IfSome result (λ last. relays.old.items ≡ relays.new.items ++ last ∷ []) }
+{
+    relays.pop()
+}
+
+/// The ends but for that of the relay that ran last.
+fn without_a_relay(ends: Ends) -> Option<Ends>
+    requires { ComeFromWatch ends.probes.items ends.relays.items ends.checker }
+    ensures { IfSome result (λ ends. ComeFromWatch ends.probes.items ends.relays.items ends.checker) }
+{
+    let Ends {
+        probes,
+        mut relays,
+        checker,
+    } = ends;
+    let _last = last_relay(&mut relays)?;
+    Some(Ends {
+        probes,
+        relays,
+        checker,
+    })
+}
+
+/// The ends, and behind them that of a probe of another watch.
+fn with_a_stranger(ends: Ends, stranger: ProbeEnd) -> Result<Ends, AllocError>
+    requires come { ComeFromWatch ends.probes.items ends.relays.items ends.checker }
+    requires other { stranger.watch ≢ ends.checker.watch }
+    ensures { IfOk result (λ ends. ComeFromWatch ends.probes.items ends.relays.items ends.checker) }
+{
+    let Ends {
+        mut probes,
+        relays,
+        checker,
+    } = ends;
+    probes.push(stranger)?;
+    Ok(Ends {
+        probes,
+        relays,
+        checker,
+    })
+}
+
+/// Whether this end, which has a fault, may stand in place of another one of this watch.
+fn may_replace(faulted: &RelayEnd, last: &RelayEnd, watch: u64) -> bool
+    ensures { IsTrue result → (fault_of faulted.now ≢ None)
+        × (number_of faulted.now ≡ number_of last.now) × (watch_of last.now ≡ watch) }
+{
+    faulted.fault().is_some() && faulted.number() == last.number() && last.watch() == watch
+}
+
+/// The ends with this one in place of that of the relay that ran last. `None` where it met no fault, or is of another
+/// relay.
+fn with_a_fault(ends: Ends, faulted: RelayEnd) -> Result<Option<Ends>, AllocError>
+    requires { ComeFromWatch ends.probes.items ends.relays.items ends.checker }
+    ensures { IfOk result (λ some. IfSome some (λ ends.
+        ComeFromWatch ends.probes.items ends.relays.items ends.checker)) }
+{
+    let Ends {
+        probes,
+        mut relays,
+        checker,
+    } = ends;
+    let Some(last) = last_relay(&mut relays) else {
+        return Ok(None);
+    };
+    if may_replace(&faulted, &last, checker.watch()) {
+        relays.push(faulted)?;
+        return Ok(Some(Ends {
+            probes,
+            relays,
+            checker,
+        }));
+    }
+    Ok(None)
+}
+
+/// The end of the first relay of a watch whose inbox is gone.
+fn cut_relay(rt: &impl Wait, alloc: Global, plan: &Plan) -> Result<Option<RelayEnd>, AllocError>
+    requires { IsCheckedPlan plan.now }
+{
+    let Watch {
+        probes,
+        mut relays,
+        inbox,
+    } = watch(alloc, plan, 7)?;
+    drop(inbox);
+    for probe in probes {
+        drop(emit_one(probe));
+    }
+    let Some(last) = relays.pop() else {
+        return Ok(None);
+    };
+    drop(last.run(rt));
+    let Some(first) = relays.pop() else {
+        return Ok(None);
+    };
+    Ok(Some(first.run(rt)))
+}
+
 #[test]
 fn two_hops_are_settled(rt: HostRuntime) -> Result<(), Fail> {
     let plan = two_hops(rt.alloc())?;
@@ -109,5 +212,58 @@ fn two_hops_are_settled(rt: HostRuntime) -> Result<(), Fail> {
     let settled = settle(probes, relays, checker, book).expect(&rt, "all is there");
     assert_eq!(rt; settled.report, Report::Found(GlobalCut::new(&[0, 0])));
     assert_eq!(rt; settled.tallies, Tallies::new(&[ONE, ONE]));
+    Ok(())
+}
+
+#[test]
+fn a_relay_without_an_end_is_missing(rt: HostRuntime) -> Result<(), Fail> {
+    let plan = two_hops(rt.alloc())?;
+    assert!(rt; plan.check().is_ok());
+    let book = Mutex::new(Book::new(2));
+    let ends = run_watch(&rt, rt.alloc(), &plan, &book)?;
+    let Ends {
+        probes,
+        relays,
+        checker,
+    } = without_a_relay(ends).expect(&rt, "a relay");
+    let fault = settle(probes, relays, checker, book.into_inner()).err();
+    assert_eq!(rt; fault, Some(SettleFault::Missing));
+    Ok(())
+}
+
+#[test]
+fn a_probe_of_another_watch_is_a_stranger(rt: HostRuntime) -> Result<(), Fail> {
+    let plan = two_hops(rt.alloc())?;
+    assert!(rt; plan.check().is_ok());
+    let book = Mutex::new(Book::new(2));
+    let ends = run_watch(&rt, rt.alloc(), &plan, &book)?;
+    let mut other = watch(rt.alloc(), &plan, 8)?;
+    let probe = other.probes.pop().expect(&rt, "a probe");
+    let stranger = emit_one(probe).expect(&rt, "room");
+    assert!(rt; stranger.watch() != ends.checker.watch());
+    let Ends {
+        probes,
+        relays,
+        checker,
+    } = with_a_stranger(ends, stranger)?;
+    let fault = settle(probes, relays, checker, book.into_inner()).err();
+    assert_eq!(rt; fault, Some(SettleFault::Stranger));
+    Ok(())
+}
+
+#[test]
+fn a_relay_that_was_cut_is_faulted(rt: HostRuntime) -> Result<(), Fail> {
+    let plan = two_hops(rt.alloc())?;
+    assert!(rt; plan.check().is_ok());
+    let book = Mutex::new(Book::new(2));
+    let ends = run_watch(&rt, rt.alloc(), &plan, &book)?;
+    let faulted = cut_relay(&rt, rt.alloc(), &plan)?.expect(&rt, "a relay");
+    let Ends {
+        probes,
+        relays,
+        checker,
+    } = with_a_fault(ends, faulted)?.expect(&rt, "a fault of the first relay");
+    let fault = settle(probes, relays, checker, book.into_inner()).err();
+    assert_eq!(rt; fault, Some(SettleFault::Faulted));
     Ok(())
 }
