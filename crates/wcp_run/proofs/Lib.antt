@@ -1,4 +1,5 @@
 pub mod CheckedItems
+pub mod RunEnds
 pub mod ClimbedLanes
 pub mod FirstFaults
 pub mod KeptInboxes

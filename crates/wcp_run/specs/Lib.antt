@@ -5,3 +5,4 @@ pub mod Settling
 pub mod PlayedEnds
 pub mod Threads
 pub mod RunParts
+pub mod RunWorkload

@@ -4,6 +4,7 @@ use std::sync::{Mutex, Wait};
 use wcp_book::Book;
 use wcp_queue::Checker;
 use wcp_tree::{CheckerInbox, Relay, RelayEnd};
+use wcp_worker::{Gate, Worker, WorkerEnd};
 
 /// A part of a run, which leaves an end.
 pub trait Part<E>: Send + Drop {
@@ -34,6 +35,20 @@ impl Part<RelayEnd> for Relay {
 impl RunsWith<(), RelayEnd> for Relay {
     fn run_with<R: Wait>(self, rt: &R, _shared: &()) -> RelayEnd {
         self.run(rt)
+    }
+}
+
+impl Part<WorkerEnd> for Worker {
+    ghost use Rattle.wcp_worker.specs.Played.{IsEndOfWorker, IsFresh};
+
+    ghost is_ready = { λ worker. IsFresh (record { probe = worker.probe; mailbox = worker.mailbox }) };
+
+    ghost is_end = { IsEndOfWorker };
+}
+
+impl<G: Gate> RunsWith<G, WorkerEnd> for Worker {
+    fn run_with<R: Wait>(self, rt: &R, gate: &G) -> WorkerEnd {
+        self.run(rt, gate)
     }
 }
 

@@ -4,7 +4,7 @@ use std::thread::yield_now;
 use wcp_clock::GATE_TURNS;
 
 /// What says when a worker may make its next step.
-pub trait Gate: Sync {
+pub trait Gate {
     /// Whether the worker of process `p` may make its own step number `step`, from 0. It is asked again for as long
     /// as the answer is false.
     fn pass(&self, p: u32, step: u64) -> bool;
