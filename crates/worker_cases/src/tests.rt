@@ -1,1 +1,2 @@
 mod two_threads;
+mod whole_runs;
