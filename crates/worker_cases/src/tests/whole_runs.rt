@@ -1,48 +1,43 @@
+use std::alloc::Global;
+use std::sync::Wait;
 use std::test::Fail;
-use wcp_model::Report;
-use wcp_run::{RunFault, run};
-use wcp_script::read_workload;
-use wcp_worker::{Gate, Open};
+use std::thread::Threads;
+use wcp_run::run;
+use wcp_script::{read_workload, single};
+use wcp_worker::Open;
 
-/// Two processes are true at once: process 0 before its send, and process 1 before its receive.
-const TRUE_AT_ONCE: &[u8] = b"wcp 1\nprocs 2\np 0 true\np 1 true\np 0 send 1\np 1 recv 0\n";
+/// Eight relays in a chain, each with room for one.
+const CHAIN: &[u8] =
+    b"wcp 1\nprocs 2\ncap 1\nrelay 0 root\nrelay 1 0\nrelay 2 1\nrelay 3 2\nrelay 4 3\nrelay 5 4\n\
+relay 6 5\nrelay 7 6\nattach 0 7\nattach 1 7\np 0 true\np 0 send 1\np 0 true\np 1 recv 0\np 1 true\n";
 
-/// Process 1 is true only after it has received from process 0, which isn't true after its send.
-const TRUE_IN_TURN: &[u8] =
-    b"wcp 1\nprocs 2\np 0 true\np 0 send 1\np 0 false\np 1 recv 0\np 1 true\np 1 send 0\n";
+/// Three leaves put on one lane.
+const THREE_LEAVES: &[u8] =
+    b"wcp 1\nprocs 3\nrelay 0 root\nrelay 1 0\nrelay 2 0\nrelay 3 0\nattach 0 1\nattach 1 2\n\
+attach 2 3\np 0 true\np 0 send 1\np 1 true\np 1 recv 0\np 1 send 2\np 2 recv 1\np 2 true\n";
 
-/// A gate that holds back process 1.
-struct HoldsOne;
+/// Two satisfying cuts, of which one is less.
+const TWO_CUTS: &[u8] = b"wcp 1\nprocs 2\np 0 true\np 0 send 1\np 0 true\np 1 true\np 1 recv 0\n";
 
-impl Gate for HoldsOne {
-    fn pass(&self, p: u32, _step: u64) -> bool {
-        p != 1
+/// A message that no task receives.
+const NEVER_RECEIVED: &[u8] = b"wcp 1\nprocs 2\np 0 true\np 0 send 1\np 1 true\n";
+
+/// A message goes round, and each is true in its turn.
+const IN_TURN: &[u8] =
+    b"wcp 1\nprocs 3\np 0 true\np 0 send 1\np 1 recv 0\np 1 true\np 1 send 2\np 2 recv 1\n\
+p 2 true\np 2 send 0\np 0 recv 2\np 0 true\n";
+
+/// The threads come to the outcome that one thread gives.
+fn agrees<R: Threads + Wait + Sync>(rt: &R, alloc: Global, text: &[u8]) -> Result<bool, Fail> {
+    let workload = read_workload(alloc, text)?;
+    let ran = run(rt, alloc, &workload, &Open)?;
+    Ok(ran == single(alloc, &workload)?)
+}
+
+#[test]
+fn runs_agree_with_one_thread(rt: HostRuntime) -> Result<(), Fail> {
+    for text in [CHAIN, THREE_LEAVES, TWO_CUTS, NEVER_RECEIVED, IN_TURN] {
+        assert!(rt; agrees(&rt, rt.alloc(), text)?);
     }
-}
-
-#[test]
-fn a_run_finds_the_cut(rt: HostRuntime) -> Result<(), Fail> {
-    let workload = read_workload(rt.alloc(), TRUE_AT_ONCE)?;
-    let outcome = run(&rt, rt.alloc(), &workload, &Open)?;
-    assert!(rt; matches!(outcome.report, Report::Found(_)));
-    Ok(())
-}
-
-#[test]
-fn a_run_finds_no_cut(rt: HostRuntime) -> Result<(), Fail> {
-    let workload = read_workload(rt.alloc(), TRUE_IN_TURN)?;
-    let outcome = run(&rt, rt.alloc(), &workload, &Open)?;
-    assert_eq!(rt; outcome.report, Report::Nothing);
-    Ok(())
-}
-
-#[test]
-fn a_run_is_held(rt: HostRuntime) -> Result<(), Fail> {
-    let workload = read_workload(rt.alloc(), TRUE_AT_ONCE)?;
-    let fault = match run(&rt, rt.alloc(), &workload, &HoldsOne) {
-        Ok(_) => None,
-        Err(fault) => Some(fault),
-    };
-    assert_eq!(rt; fault, Some(RunFault::Held(1)));
     Ok(())
 }
