@@ -11,7 +11,7 @@ use Rattle.wcp_tree.specs.declared.relay_end.RelayEnd.{RelayEnd}
 use Rattle.wcp_tree.specs.declared.relay_end.RelayEnd.TheVariants.{Whole, Faulted}
 use Rattle.wcp_tree.specs.declared.watch.Watch.{Watch}
 use Rattle.wcp_run.specs.CheckerEnds.{IsEndOfLoop}
-use Rattle.wcp_run.specs.Settling.{ComeFromWatch, IsEndOfProbe, IsEndOfRelay}
+use Rattle.wcp_run.specs.Settling.{ComeFromWatch, IsEndOfSomeProbe, IsEndOfSomeRelay}
 use Rattle.wcp_run.specs.declared.checker_end.CheckerEnd.{CheckerEnd}
 
 own_places : {X : Type 0} (number : X → ℕ) (xs : List X) → ((p : ℕ) → p < length xs → (x : X) × (slice_get xs p ≡ Some x) × (number x ≡ p)) → All (λ x. slice_get xs (number x) ≡ Some x) xs
@@ -29,7 +29,7 @@ pub own_relays : (plan : Plan) (watch : Watch) → IsWired plan 7 watch → All 
 own_relays plan watch wired = own_places (λ relay. relay.number) watch.relays.items (λ p within.
     let linked = wired.linked.each p within in (linked.relay, linked.is_relay, linked.of_plan.number))
 
-pub come_from_watch : (plan : Plan) (watch : Watch) (probes : List ClosedSide) (relays : List RelayEnd) (checker : CheckerEnd) → IsCheckedPlan plan → IsWired plan 7 watch → All (IsEndOfProbe watch.probes.items) probes → All (IsEndOfRelay watch.relays.items) relays → IsEndOfLoop watch.inbox checker → ComeFromWatch probes relays checker
+pub come_from_watch : (plan : Plan) (watch : Watch) (probes : List ClosedSide) (relays : List RelayEnd) (checker : CheckerEnd) → IsCheckedPlan plan → IsWired plan 7 watch → All (IsEndOfSomeProbe watch.probes.items) probes → All (IsEndOfSomeRelay watch.relays.items) relays → IsEndOfLoop watch.inbox checker → ComeFromWatch probes relays checker
 come_from_watch plan watch probes relays checker checked wired of_probes of_relays of_checker = record {
   plan = plan;
   watch = watch;
@@ -59,8 +59,8 @@ fewer_relays probes all relays last checker came split = record {
   checked = came.checked;
   wired = came.wired;
   of_probes = came.of_probes;
-  of_relays = front_of (λ end. watch_of end ≡ checker.watch → IsEndOfRelay came.watch.relays.items end) relays (last ∷ [])
-      (subst (All (λ end. watch_of end ≡ checker.watch → IsEndOfRelay came.watch.relays.items end)) split came.of_relays);
+  of_relays = front_of (λ end. watch_of end ≡ checker.watch → IsEndOfSomeRelay came.watch.relays.items end) relays (last ∷ [])
+      (subst (All (λ end. watch_of end ≡ checker.watch → IsEndOfSomeRelay came.watch.relays.items end)) split came.of_relays);
   of_checker = came.of_checker;
 }
 
@@ -71,13 +71,13 @@ with_stranger probes relays stranger checker came other = record {
   watch = came.watch;
   checked = came.checked;
   wired = came.wired;
-  of_probes = joined (λ end. end.watch ≡ checker.watch → IsEndOfProbe came.watch.probes.items end) probes stranger came.of_probes
+  of_probes = joined (λ end. end.watch ≡ checker.watch → IsEndOfSomeProbe came.watch.probes.items end) probes stranger came.of_probes
       (λ same. absurd (other same));
   of_relays = came.of_relays;
   of_checker = came.of_checker;
 }
 
-faulted_end : (relays : List Relay) (relay : Relay) (end : RelayEnd) → fault_of end ≢ None → slice_get relays (number_of end) ≡ Some relay → IsEndOfRelay relays end
+faulted_end : (relays : List Relay) (relay : Relay) (end : RelayEnd) → fault_of end ≢ None → slice_get relays (number_of end) ≡ Some relay → IsEndOfSomeRelay relays end
 faulted_end relays relay (Whole number watch parent taken put) fault at = absurd (fault refl)
 faulted_end relays relay (Faulted number watch fault source putter) met at = record { relay = relay; is_relay = at; receipts = tt; whole = tt }
 
@@ -90,9 +90,9 @@ with_faulted probes all relays last faulted checker came split met number watch 
   wired = came.wired;
   of_probes = came.of_probes;
   of_relays =
-      let split_ends = subst (All (λ end. watch_of end ≡ checker.watch → IsEndOfRelay came.watch.relays.items end)) split came.of_relays in
-      let its = last_of (λ end. watch_of end ≡ checker.watch → IsEndOfRelay came.watch.relays.items end) relays last split_ends watch in
-      joined (λ end. watch_of end ≡ checker.watch → IsEndOfRelay came.watch.relays.items end) relays faulted (front_of (λ end. watch_of end ≡ checker.watch → IsEndOfRelay came.watch.relays.items end) relays (last ∷ []) split_ends)
+      let split_ends = subst (All (λ end. watch_of end ≡ checker.watch → IsEndOfSomeRelay came.watch.relays.items end)) split came.of_relays in
+      let its = last_of (λ end. watch_of end ≡ checker.watch → IsEndOfSomeRelay came.watch.relays.items end) relays last split_ends watch in
+      joined (λ end. watch_of end ≡ checker.watch → IsEndOfSomeRelay came.watch.relays.items end) relays faulted (front_of (λ end. watch_of end ≡ checker.watch → IsEndOfSomeRelay came.watch.relays.items end) relays (last ∷ []) split_ends)
       (λ same. faulted_end came.watch.relays.items its.relay faulted met (ap (slice_get came.watch.relays.items) number ∙ its.is_relay));
   of_checker = came.of_checker;
 }

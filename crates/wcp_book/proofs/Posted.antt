@@ -4,7 +4,7 @@ use Rattle.std.proofs.lemmas.List.Sums.{sum_by-set, sum_by-le}
 use Rattle.std.proofs.Math.Seq.{take-set-lt}
 use Rattle.wcp_clock.specs.Limits.{most_snapshots}
 use Rattle.wcp_model.specs.declared.outcome.Tally.{Tally}
-use Rattle.wcp_book.specs.Totals.{AreTotals, IsWithin, emitted_in, taken_in}
+use Rattle.wcp_book.specs.Totals.{AreTotals, HasFewSnapshots, emitted_of_share, taken_of_share}
 
 -- a share that is posted where there was none adds its count to the sum
 sum_with_share : (f : Option Tally → ℕ) → f None ≡ 0 → (n p : ℕ) (shares : List (Option Tally)) (share : Tally) →
@@ -20,16 +20,16 @@ pub posted_totals : (n p : ℕ) (shares : List (Option Tally)) (totals share : T
     p < n → n ≤ length shares → slice_index_or shares p None ≡ None → AreTotals (take n shares) totals →
     AreTotals (take n (set shares p (Some share))) (record { emitted = totals.emitted + share.emitted; taken = totals.taken + share.taken })
 posted_totals n p shares totals share below within none are = record {
-  emitted = ap (λ sum. sum + share.emitted) are.emitted ∙ sym (sum_with_share emitted_in refl n p shares share below within none);
-  taken = ap (λ sum. sum + share.taken) are.taken ∙ sym (sum_with_share taken_in refl n p shares share below within none);
+  emitted = ap (λ sum. sum + share.emitted) are.emitted ∙ sym (sum_with_share emitted_of_share refl n p shares share below within none);
+  taken = ap (λ sum. sum + share.taken) are.taken ∙ sym (sum_with_share taken_of_share refl n p shares share below within none);
 }
 
 -- the totals of few shares are small
-pub few_totals : (shares : List (Option Tally)) (totals : Tally) → All IsWithin shares → AreTotals shares totals →
+pub few_totals : (shares : List (Option Tally)) (totals : Tally) → All HasFewSnapshots shares → AreTotals shares totals →
     (totals.emitted ≤ length shares * most_snapshots) × (totals.taken ≤ length shares * most_snapshots)
 few_totals shares totals within are = (
-  (let sum = sum_by-le emitted_in most_snapshots shares (λ k d h. (within k d h).0) in rw are.emitted sum),
-  (let sum = sum_by-le taken_in most_snapshots shares (λ k d h. (within k d h).1) in rw are.taken sum),
+  (let sum = sum_by-le emitted_of_share most_snapshots shares (λ k d h. (within k d h).0) in rw are.emitted sum),
+  (let sum = sum_by-le taken_of_share most_snapshots shares (λ k d h. (within k d h).1) in rw are.taken sum),
 )
 
 pub no_share : (share : Option Tally) → is_some share ≡ false → share ≡ None

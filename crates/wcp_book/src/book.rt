@@ -25,7 +25,7 @@ impl Model for Book {
     ghost use Rattle.std.specs.Prelude.{◌≡◌, ◌<◌, ◌≤◌, List, Option, length, take, All};
     ghost use Rattle.wcp_clock.specs.Limits.{most_processes};
     ghost use Rattle.wcp_model.specs.declared.outcome.Tally.{Tally};
-    ghost use Rattle.wcp_book.specs.Totals.{AreTotals, IsWithin};
+    ghost use Rattle.wcp_book.specs.Totals.{AreTotals, HasFewSnapshots};
 
     ghost Value = { List (Option Tally) };
 
@@ -33,7 +33,7 @@ impl Model for Book {
 
     ghost invariant = { λ b.
         (0 < b.processes) × (b.processes ≤ most_processes) × (length b.shares ≡ most_processes)
-        × All IsWithin (take b.processes b.shares)
+        × All HasFewSnapshots (take b.processes b.shares)
         × AreTotals (take b.processes b.shares) b.totals };
 }
 

@@ -8,7 +8,7 @@ use Rattle.wcp_model.specs.FirstReason.{IsFirstReason}
 use Rattle.wcp_model.specs.declared.outcome.Tally.{Tally}
 use Rattle.wcp_tree.specs.LiveProbe.{ClosedSide}
 use Rattle.wcp_tree.specs.declared.relay_end.RelayEnd.{RelayEnd}
-use Rattle.wcp_run.specs.Settling.{IsFirstFault, IsFreeOf, settle_faults}
+use Rattle.wcp_run.specs.Settling.{IsFirstSettleFault, IsFreeOf, settle_faults}
 use Rattle.wcp_run.specs.declared.checker_end.CheckerEnd.{CheckerEnd}
 use Rattle.wcp_run.specs.declared.settle_fault.SettleFault.{SettleFault}
 use Rattle.wcp_run.specs.declared.settle_fault.SettleFault.TheVariants.{Stranger, Missing, Faulted, Unfinished}
@@ -32,10 +32,10 @@ module _ {R : Type 0} (Holds : R → Type 0) (reasons : List R) where
 module _ (probes : List ClosedSide) (relays : List RelayEnd) (checker : CheckerEnd) (book : List (Option Tally)) where
   -- to answer with the first fault is to answer with each first fault
   pub answered : (result : Result Settled SettleFault) (one : SettleFault) → result ≡ Err one
-      → IsFirstFault probes relays checker book one
-      → (first : SettleFault) → (result ≡ Err first) ↔ IsFirstFault probes relays checker book first
+      → IsFirstSettleFault probes relays checker book one
+      → (first : SettleFault) → (result ≡ Err first) ↔ IsFirstSettleFault probes relays checker book first
   answered result one is is_first first = (
-    λ same. subst (IsFirstFault probes relays checker book) (let e : one ≡ first = let both = sym is ∙ same in cc in e) is_first,
+    λ same. subst (IsFirstSettleFault probes relays checker book) (let e : one ≡ first = let both = sym is ∙ same in cc in e) is_first,
     λ also. is ∙ ap Err (first_unique (λ fault. ¬ IsFreeOf probes relays checker book fault) settle_faults one first is_first also),
   )
 
@@ -43,7 +43,7 @@ module _ (probes : List ClosedSide) (relays : List RelayEnd) (checker : CheckerE
   is_first_at : (place : ℕ) (fault : SettleFault) → slice_get settle_faults place ≡ Some fault
       → ((other : SettleFault) (earlier : ℕ) → earlier < place → slice_get settle_faults earlier ≡ Some other
       → IsFreeOf probes relays checker book other)
-      → ¬ IsFreeOf probes relays checker book fault → IsFirstFault probes relays checker book fault
+      → ¬ IsFreeOf probes relays checker book fault → IsFirstSettleFault probes relays checker book fault
   is_first_at place fault listed free has = record {
     place = place;
     listed = listed;
@@ -57,7 +57,7 @@ module _ (probes : List ClosedSide) (relays : List RelayEnd) (checker : CheckerE
     after_stranger other zero less at = subst (IsFreeOf probes relays checker book) (let e : Stranger ≡ other = cc in e) stranger
     after_stranger other (suc earlier) less at = absurd (omega (arith, less))
 
-    pub is_missing : ¬ IsFreeOf probes relays checker book Missing → IsFirstFault probes relays checker book Missing
+    pub is_missing : ¬ IsFreeOf probes relays checker book Missing → IsFirstSettleFault probes relays checker book Missing
     is_missing has = is_first_at 1 Missing refl after_stranger has
 
     module _ (missing : IsFreeOf probes relays checker book Missing) where
@@ -67,7 +67,7 @@ module _ (probes : List ClosedSide) (relays : List RelayEnd) (checker : CheckerE
       after_missing other (suc zero) less at = subst (IsFreeOf probes relays checker book) (let e : Missing ≡ other = cc in e) missing
       after_missing other (suc (suc earlier)) less at = absurd (omega (arith, less))
 
-      pub is_faulted : ¬ IsFreeOf probes relays checker book Faulted → IsFirstFault probes relays checker book Faulted
+      pub is_faulted : ¬ IsFreeOf probes relays checker book Faulted → IsFirstSettleFault probes relays checker book Faulted
       is_faulted has = is_first_at 2 Faulted refl after_missing has
 
       module _ (faulted : IsFreeOf probes relays checker book Faulted) where
@@ -79,16 +79,16 @@ module _ (probes : List ClosedSide) (relays : List RelayEnd) (checker : CheckerE
             subst (IsFreeOf probes relays checker book) (let e : Faulted ≡ other = cc in e) faulted
         after_faulted other (suc (suc (suc earlier))) less at = absurd (omega (arith, less))
 
-        pub is_unfinished : ¬ IsFreeOf probes relays checker book Unfinished → IsFirstFault probes relays checker book Unfinished
+        pub is_unfinished : ¬ IsFreeOf probes relays checker book Unfinished → IsFirstSettleFault probes relays checker book Unfinished
         is_unfinished has = is_first_at 3 Unfinished refl after_faulted has
 
         -- ends without any fault have no first one
         pub no_fault : IsFreeOf probes relays checker book Unfinished → (fault : SettleFault)
-            → IsFirstFault probes relays checker book fault → ⊥
+            → IsFirstSettleFault probes relays checker book fault → ⊥
         no_fault finished Stranger is = is.holds stranger
         no_fault finished Missing is = is.holds missing
         no_fault finished Faulted is = is.holds faulted
         no_fault finished Unfinished is = is.holds finished
 
-  pub is_stranger : ¬ IsFreeOf probes relays checker book Stranger → IsFirstFault probes relays checker book Stranger
+  pub is_stranger : ¬ IsFreeOf probes relays checker book Stranger → IsFirstSettleFault probes relays checker book Stranger
   is_stranger has = is_first_at 0 Stranger refl (λ other earlier less at. absurd (omega (arith, less))) has

@@ -29,7 +29,7 @@ use Rattle.wcp_tree.specs.declared.source.Source.TheVariants.{Leaf, Inner}
 use Rattle.wcp_tree.proofs.CheckedPlan.{few_relays, parent_below}
 use Rattle.wcp_tree.proofs.Entries.{set_here, set_elsewhere}
 use Rattle.wcp_tree.proofs.Linking.{IsOpen}
-use Rattle.wcp_run.specs.Matching.{AreEndsThere, HasProbe, IsKeptAt, KeepInboxes, inbox_of}
+use Rattle.wcp_run.specs.Matching.{AreEndsThere, HasProbe, IsKeptAt, KeepInboxes, inbox_place}
 use Rattle.wcp_run.specs.Seats.{SitsAt}
 use Rattle.wcp_run.specs.Settling.{AreLinksMatched, AreTakenFrom, IsLaneMatched, IsRingMatched}
 use Rattle.wcp_run.proofs.MatchedRings.{sits_alone}
@@ -84,7 +84,7 @@ module _ (count : ℕ) (probe_ends : List (Option ClosedSide)) (root : TakenEnd 
     pub ahead : (j : ℕ) → k ≤ j → slice_get relays j ≡ slice_get relay_ends j
     pub unfed : (p leaf : ℕ) → leaf_of there.plan p ≡ Some leaf → k ≤ leaf → slice_get probes p ≡ slice_get probe_ends p
     pub open_inboxes : (owner : Parent) → IsOpen k owner → (receipt : TakenEnd Item) → IsInbox owner receipt
-        → IsKeptAt inboxes (inbox_of owner) receipt
+        → IsKeptAt inboxes (inbox_place owner) receipt
     pub matched : (j : ℕ) (relay : RelayEnd) → j < k → SitsAt relay_ends j relay
         → AreLinksMatched (SitsAt probe_ends) root (SitsAt relay_ends) relay
     pub size : length inboxes ≡ most_relays + 1
@@ -106,7 +106,7 @@ module _ (count : ℕ) (probe_ends : List (Option ClosedSide)) (root : TakenEnd 
   }
     where
       first : (owner : Parent) → IsOpen 0 owner → (receipt : TakenEnd Item) → IsInbox owner receipt
-          → IsKeptAt inboxes (inbox_of owner) receipt
+          → IsKeptAt inboxes (inbox_place owner) receipt
       first parent.Root open' receipt is = record {
         same = root;
         sits = sits;
@@ -264,11 +264,11 @@ module _ (count : ℕ) (probe_ends : List (Option ClosedSide)) (root : TakenEnd 
       inbox = inbox_above owner put.lane (open_still owner owner_open)
           (ap (lane_to there.watch.inbox.taker.lane there.watch.relays.items) receipts.0 ∙ (linked k below).above ∙ ap Some (sym receipts.2))
 
-      pub kept : IsKeptAt inboxes (inbox_of owner) inbox.0
+      pub kept : IsKeptAt inboxes (inbox_place owner) inbox.0
       kept = old.open_inboxes owner owner_open inbox.0 inbox.1
 
       -- the receipt of its parent's inbox is there
-      pub has_inbox : (receipt : TakenEnd Item) × SitsAt inboxes (inbox_of owner) receipt × (receipt.lane ≡ put.lane)
+      pub has_inbox : (receipt : TakenEnd Item) × SitsAt inboxes (inbox_place owner) receipt × (receipt.lane ≡ put.lane)
       has_inbox = (kept.same, kept.sits, kept.lane ∙ inbox.2)
 
       -- its lane was matched where what was taken from that inbox is what it put
@@ -289,7 +289,7 @@ module _ (count : ℕ) (probe_ends : List (Option ClosedSide)) (root : TakenEnd 
       -- the next relay
       next : (more : List (Option (TakenEnd Item))) (fed : List (Option ClosedSide))
           → ((above : Parent) → IsOpen k above → (receipt : TakenEnd Item) → IsInbox above receipt
-          → IsKeptAt more (inbox_of above) receipt)
+          → IsKeptAt more (inbox_place above) receipt)
           → ((receipt : TakenEnd Item) → receipt_in end ≡ Some receipt → IsKeptAt more k receipt)
           → length more ≡ most_relays + 1
           → ((p leaf : ℕ) → leaf_of there.plan p ≡ Some leaf → k + 1 ≤ leaf → slice_get fed p ≡ slice_get probes p)
@@ -310,7 +310,7 @@ module _ (count : ℕ) (probe_ends : List (Option ClosedSide)) (root : TakenEnd 
       }
         where
           inboxes_open : (above : Parent) → IsOpen (k + 1) above → (receipt : TakenEnd Item) → IsInbox above receipt
-              → IsKeptAt more (inbox_of above) receipt
+              → IsKeptAt more (inbox_place above) receipt
           inboxes_open parent.Root open' receipt is = opened parent.Root tt receipt is
           inboxes_open (parent.Relay above) open' receipt is = ⊎_elim
               (λ (same : above ≡ k).
@@ -322,10 +322,10 @@ module _ (count : ℕ) (probe_ends : List (Option ClosedSide)) (root : TakenEnd 
       -- the inboxes stay
       stay : (more : List (Option (TakenEnd Item))) → KeepInboxes inboxes more
           → (above : Parent) → IsOpen k above → (receipt : TakenEnd Item) → IsInbox above receipt
-          → IsKeptAt more (inbox_of above) receipt
+          → IsKeptAt more (inbox_place above) receipt
       stay more keep above is receipt inbox =
           let first = old.open_inboxes above is receipt inbox in
-          let then = keep (inbox_of above) first.same first.sits in
+          let then = keep (inbox_place above) first.same first.sits in
           record {
             same = then.same;
             sits = then.sits;
@@ -392,17 +392,17 @@ module _ (count : ℕ) (probe_ends : List (Option ClosedSide)) (root : TakenEnd 
           (λ p leaf is past. refl)
           (record { rings = λ i d within. absurd (omega (arith, within)); lane = lane })
         where
-          moved : (above : Parent) → IsOpen k above → inbox_of above ≢ k
+          moved : (above : Parent) → IsOpen k above → inbox_place above ≢ k
           moved parent.Root is same = omega (arith, same, below, few)
           moved (parent.Relay above) is same = omega (arith, is, same)
 
           set_apart : (above : Parent) → IsOpen k above → (other : TakenEnd Item) → IsInbox above other
-              → IsKeptAt (slice_set more k (Some receipt)) (inbox_of above) other
+              → IsKeptAt (slice_set more k (Some receipt)) (inbox_place above) other
           set_apart above is other inbox =
               let stays = stay number watch owner (Lane receipt) put sits more keep above is other inbox in
               record {
                 same = stays.same;
-                sits = set_elsewhere more k (inbox_of above) (Some receipt) (moved above is) ∙ stays.sits;
+                sits = set_elsewhere more k (inbox_place above) (Some receipt) (moved above is) ∙ stays.sits;
                 lane = stays.lane;
                 taken = stays.taken;
               }

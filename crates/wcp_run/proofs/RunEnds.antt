@@ -35,7 +35,7 @@ use Rattle.wcp_run.specs.declared.settled.Settled.{Settled}
 use Rattle.wcp_run.specs.CheckerEnds.{IsEndOfLoop}
 use Rattle.wcp_run.specs.PlayedEnds.{AreOfWorkers}
 use Rattle.wcp_run.specs.RunWorkload.{AreEndsOfRun}
-use Rattle.wcp_run.specs.Settling.{ComeFromWatch, IsEndOfProbe, IsEndOfRelay, IsSettled}
+use Rattle.wcp_run.specs.Settling.{ComeFromWatch, IsEndOfSomeProbe, IsEndOfSomeRelay, IsSettled}
 use Rattle.wcp_run.proofs.PlayedWorkers.{HasPlayedAt, played_at, as_many, lanes_left}
 use Rattle.wcp_run.proofs.SettledEnds.{processes_are}
 
@@ -63,7 +63,7 @@ module _ (plan : Plan) (tasks : List Task) (ends : Ends WorkerEnd) (run : AreEnd
   few_ends = omega (arith, few_processes plan run.checked, run.ended.workers.count, workers_count)
 
   -- each relay's end is of the relay at its place
-  relay_at : (k : ℕ) (end : RelayEnd) → slice_get ends.relays.items k ≡ Some end → IsEndOfRelay run.are.watch.relays.items end
+  relay_at : (k : ℕ) (end : RelayEnd) → slice_get ends.relays.items k ≡ Some end → IsEndOfSomeRelay run.are.watch.relays.items end
   relay_at k end at =
       let below = slice_get_within ends.relays.items k end at in
       let link = run.are.wired.linked.each k (omega (arith, below, run.ended.relays.count, ap length run.are.relays)) in
@@ -101,7 +101,7 @@ module _ (plan : Plan) (tasks : List Task) (ends : Ends WorkerEnd) (run : AreEnd
     -- the worker at a place was made for its process, and its probe's end carries that number
     record IsOfProcess (p : ℕ) (probe : ClosedSide) : Type 0 where
       pub id : probe.id ≡ p
-      pub is_end : IsEndOfProbe run.are.watch.probes.items probe
+      pub is_end : IsEndOfSomeProbe run.are.watch.probes.items probe
 
     of_process : (p : ℕ) (mailbox : Mailbox) (one : HasPlayedHere p mailbox) → IsOfProcess p one.probe × (setup_of one.worker.probe.core ≡ setup plan.n p)
     of_process p mailbox one =

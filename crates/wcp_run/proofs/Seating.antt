@@ -7,7 +7,7 @@ use Rattle.std.proofs.lemmas.List.{append_assoc, append-nil}
 use Rattle.std.proofs.lemmas.List.Elements.{All-contains, All-cons, All-nil, Contains-get_or, Contains-append_right}
 use Rattle.std.proofs.lemmas.List.Kept.{AllPairs-cons}
 use Rattle.std.proofs.lemmas.Option.{slice_get-get_or, get_or_from_slice_get}
-use Rattle.wcp_run.specs.Seats.{AreOfWatch, AreSeats, AreSeated, SitsAt}
+use Rattle.wcp_run.specs.Seats.{AreOfWatch, AreSeats, AreAllSeated, SitsAt}
 use Rattle.wcp_tree.proofs.Entries.{set_here, set_elsewhere}
 
 -- a list stays as long
@@ -55,8 +55,8 @@ module _ {E : Type 0} where
       let there : get_or seats place d ≡ Some end = get_or_from_slice_get seats place (Some end) d sits in cc
 
   -- the next place is taken too
-  pub one_more_seated : (seats : List (Option E)) (count : ℕ) → AreSeated count seats
-      → (end : E) × (slice_get seats count ≡ Some (Some end)) → AreSeated (count + 1) seats
+  pub one_more_seated : (seats : List (Option E)) (count : ℕ) → AreAllSeated count seats
+      → (end : E) × (slice_get seats count ≡ Some (Some end)) → AreAllSeated (count + 1) seats
   one_more_seated seats count before here place below = ⊎_elim
       (λ (same : place ≡ count). (here.0, ap (slice_get seats) same ∙ here.1))
       (λ (apart : place ≢ count). before place (omega (arith, below, apart)))

@@ -16,7 +16,7 @@ use Rattle.wcp_model.specs.declared.outcome.Tally.{Tally}
 use Rattle.wcp_model.specs.declared.plan.PlanFault.TheVariants.{Procs}
 use Rattle.wcp_model.specs.declared.plan.Parent.{Parent}
 use Rattle.wcp_model.specs.declared.plan.Parent.TheVariants as parent
-use Rattle.wcp_book.specs.Totals.{emitted_in, taken_in}
+use Rattle.wcp_book.specs.Totals.{emitted_of_share, taken_of_share}
 use Rattle.wcp_lane.specs.Ends.{TakenEnd}
 use Rattle.wcp_lane.specs.Passes.{Numbers}
 use Rattle.wcp_queue.specs.Checker.{IsReportOfAnyClocks}
@@ -26,8 +26,8 @@ use Rattle.wcp_tree.specs.declared.relay_end.RelayEnd.{RelayEnd}
 use Rattle.wcp_tree.specs.declared.relay_end.RelayEnd.TheVariants.{Whole, Faulted}
 use Rattle.wcp_tree.proofs.CheckedPlan.{few_processes}
 use Rattle.wcp_run.specs.Matching.{AreEndsThere}
-use Rattle.wcp_run.specs.Seats.{AreAllThere, AreOfWatch, AreSeated, AreSeats, IsEndAt, SitsAt}
-use Rattle.wcp_run.specs.Settling.{AreFinished, AreLinksMatched, AreTakenFrom, ComeFromWatch, IsEndOfProbe, IsEndOfRelay, IsSettled, IsLaneMatched, share_of}
+use Rattle.wcp_run.specs.Seats.{AreAllThere, AreOfWatch, AreAllSeated, AreSeats, IsEndAt, SitsAt}
+use Rattle.wcp_run.specs.Settling.{AreFinished, AreLinksMatched, AreTakenFrom, ComeFromWatch, IsEndOfSomeProbe, IsEndOfSomeRelay, IsSettled, IsLaneMatched, share_of}
 use Rattle.wcp_run.specs.CheckerEnds.{checked_by}
 use Rattle.wcp_run.specs.declared.settled.Settled.{Settled}
 use Rattle.wcp_run.specs.declared.checker_end.CheckerEnd.{CheckerEnd}
@@ -57,7 +57,7 @@ shares_sum of_tally of_share none some (Some share ∷ shares) (tally ∷ tallie
 
 -- all are there where somebody sits at each of the first places
 pub all_there : {E : Type 0} (place_of : E → ℕ) (ends : List E) (seats : List (Option E)) (count : ℕ) → AreSeats place_of ends seats
-    → AreSeated count seats ↔ AreAllThere place_of count ends
+    → AreAllSeated count seats ↔ AreAllThere place_of count ends
 all_there place_of ends seats count are = (
   (λ seated place below. let one = seated place below in (one.0, are.own place one.0 one.1)),
   (λ all place below. let one = all place below in (one.0, are.seated place one.0 one.1)),
@@ -116,12 +116,12 @@ module _ (probes : List ClosedSide) (relays : List RelayEnd) (checker : CheckerE
 
   pub probe_within : (end : ClosedSide) → Contains probes end → end.watch ≡ checker.watch → end.id < checker.processes
   probe_within end among same =
-      let is = All-contains (λ (e : ClosedSide). e.watch ≡ checker.watch → IsEndOfProbe come.watch.probes.items e) probes end come.of_probes among same in
+      let is = All-contains (λ (e : ClosedSide). e.watch ≡ checker.watch → IsEndOfSomeProbe come.watch.probes.items e) probes end come.of_probes among same in
       omega (arith, processes_are, slice_get_within come.watch.probes.items end.id is.probe is.is_probe, come.wired.rings.probes_count)
 
   pub relay_within : (end : RelayEnd) → Contains relays end → watch_of end ≡ checker.watch → number_of end < checker.relays
   relay_within end among same =
-      let is = All-contains (λ e. watch_of e ≡ checker.watch → IsEndOfRelay come.watch.relays.items e) relays end come.of_relays among same in
+      let is = All-contains (λ e. watch_of e ≡ checker.watch → IsEndOfSomeRelay come.watch.relays.items e) relays end come.of_relays among same in
       omega (arith, relays_are, slice_get_within come.watch.relays.items (number_of end) is.relay is.is_relay, come.wired.linked.count)
 
   module _ (probe_seats : List (Option ClosedSide)) (relay_seats : List (Option RelayEnd))
@@ -129,7 +129,7 @@ module _ (probes : List ClosedSide) (relays : List RelayEnd) (checker : CheckerE
       (of_relays : AreOfWatch watch_of number_of checker.watch relays)
       (probes_sit : AreSeats (λ end. end.id) probes probe_seats) (relays_sit : AreSeats number_of relays relay_seats) where
     -- all ends are there
-    pub ends_there : AreSeated checker.processes probe_seats → AreSeated checker.relays relay_seats
+    pub ends_there : AreAllSeated checker.processes probe_seats → AreAllSeated checker.relays relay_seats
         → All (λ end. fault_of end ≡ None) relays
         → (there : AreEndsThere checker.relays probe_seats checker.receipt relay_seats) × (there.plan.n ≡ checker.processes)
     ends_there probes_there relays_there whole = (
@@ -147,7 +147,7 @@ module _ (probes : List ClosedSide) (relays : List RelayEnd) (checker : CheckerE
               end = one.0;
               sits = one.1;
               id = own.1;
-              is_end = All-contains (λ (e : ClosedSide). e.watch ≡ checker.watch → IsEndOfProbe come.watch.probes.items e) probes one.0
+              is_end = All-contains (λ (e : ClosedSide). e.watch ≡ checker.watch → IsEndOfSomeProbe come.watch.probes.items e) probes one.0
                   come.of_probes own.0 (All-contains (λ (e : ClosedSide). e.watch ≡ checker.watch) probes one.0 of_probes.same own.0);
             };
         relay = λ number below.
@@ -158,7 +158,7 @@ module _ (probes : List ClosedSide) (relays : List RelayEnd) (checker : CheckerE
               sits = one.1;
               number_is = own.1;
               whole = All-contains (λ e. fault_of e ≡ None) relays one.0 whole own.0;
-              is_end = All-contains (λ e. watch_of e ≡ checker.watch → IsEndOfRelay come.watch.relays.items e) relays one.0
+              is_end = All-contains (λ e. watch_of e ≡ checker.watch → IsEndOfSomeRelay come.watch.relays.items e) relays one.0
                   come.of_relays own.0 (All-contains (λ e. watch_of e ≡ checker.watch) relays one.0 of_relays.same own.0);
             };
         lane = come.of_checker.lane;
@@ -207,7 +207,7 @@ module _ (probes : List ClosedSide) (relays : List RelayEnd) (checker : CheckerE
         no_others = λ p past. posted p ∙ slice_get_past tallies p (omega (arith, count, past));
       }
 
-      pub book_posted : AreSeated checker.processes probe_seats → AreFinished checker.processes probes checker.receipt relays book
+      pub book_posted : AreAllSeated checker.processes probe_seats → AreFinished checker.processes probes checker.receipt relays book
           → (p : ℕ) → option_flatten (slice_get book p) ≡ slice_get tallies p
       book_posted there finished p = ⊎_elim
           (λ (below : p < checker.processes).
@@ -221,7 +221,7 @@ module _ (probes : List ClosedSide) (relays : List RelayEnd) (checker : CheckerE
           (cases_lt p checker.processes)
 
       -- what a run's ends tell
-      pub all_settled : checker.fault ≡ None → AreSeated checker.processes probe_seats
+      pub all_settled : checker.fault ≡ None → AreAllSeated checker.processes probe_seats
           → (there : AreEndsThere checker.relays probe_seats checker.receipt relay_seats) → there.plan.n ≡ checker.processes
           → ((p : ℕ) → option_flatten (slice_get book p) ≡ slice_get tallies p)
           → ((number : ℕ) (relay : RelayEnd) → number < checker.relays → SitsAt relay_seats number relay
@@ -253,8 +253,8 @@ module _ (probes : List ClosedSide) (relays : List RelayEnd) (checker : CheckerE
         shares = λ p. posted p ∙ ap (λ (all : List Tally). slice_get all p) (sym tallies_are);
         totals = λ totals are.
             let same = λ (p : ℕ). posted p ∙ ap (λ (all : List Tally). slice_get all p) (sym tallies_are) in (
-              are.emitted ∙ shares_sum (λ tally. tally.emitted) emitted_in refl (λ tally. refl) book told.tallies same,
-              are.taken ∙ shares_sum (λ tally. tally.taken) taken_in refl (λ tally. refl) book told.tallies same,
+              are.emitted ∙ shares_sum (λ tally. tally.emitted) emitted_of_share refl (λ tally. refl) book told.tallies same,
+              are.taken ∙ shares_sum (λ tally. tally.taken) taken_of_share refl (λ tally. refl) book told.tallies same,
             );
       }
         where

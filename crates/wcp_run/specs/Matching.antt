@@ -14,7 +14,7 @@ use Rattle.wcp_tree.specs.declared.feed.Feed.{Feed}
 use Rattle.wcp_tree.specs.declared.relay_end.RelayEnd.{RelayEnd}
 use Rattle.wcp_tree.specs.declared.watch.Watch.{Watch}
 use Rattle.wcp_run.specs.Seats.{SitsAt}
-use Rattle.wcp_run.specs.Settling.{IsEndOfProbe, IsEndOfRelay}
+use Rattle.wcp_run.specs.Settling.{IsEndOfSomeProbe, IsEndOfSomeRelay}
 
 -- The probe of a feed's process sits there, and has the other end of its ring.
 pub record HasProbe (probes : List (Option ClosedSide)) (feed : Feed) : Type 0 where
@@ -23,9 +23,9 @@ pub record HasProbe (probes : List (Option ClosedSide)) (feed : Feed) : Type 0 w
   pub one_ring : probe.link.ring ≡ feed.taker.ring
 
 -- Where the inbox of an owner is: that of a relay by its number, and that of the root behind them.
-abbrev pub inbox_of : Parent → ℕ
-inbox_of parent.Root = most_relays
-inbox_of (parent.Relay above) = above
+abbrev pub inbox_place : Parent → ℕ
+inbox_place parent.Root = most_relays
+inbox_place (parent.Relay above) = above
 
 -- This receipt is here, of the same lane and with the same items.
 pub record IsKeptAt (inboxes : List (Option (TakenEnd Item))) (place : ℕ) (receipt : TakenEnd Item) : Type 0 where
@@ -43,7 +43,7 @@ pub record HasProbeEnd (watch : Watch) (probes : List (Option ClosedSide)) (p : 
   pub end : ClosedSide
   pub sits : SitsAt probes p end
   pub id : end.id ≡ p
-  pub is_end : IsEndOfProbe watch.probes.items end
+  pub is_end : IsEndOfSomeProbe watch.probes.items end
 
 -- The end of a relay sits there, and has no fault.
 pub record HasRelayEnd (watch : Watch) (relays : List (Option RelayEnd)) (number : ℕ) : Type 0 where
@@ -51,7 +51,7 @@ pub record HasRelayEnd (watch : Watch) (relays : List (Option RelayEnd)) (number
   pub sits : SitsAt relays number end
   pub number_is : number_of end ≡ number
   pub whole : fault_of end ≡ None
-  pub is_end : IsEndOfRelay watch.relays.items end
+  pub is_end : IsEndOfSomeRelay watch.relays.items end
 
 -- The ends of all probes and relays of a watch that was wired by a checked plan sit there, without a fault, and this is
 -- the receipt of the root's lane.

@@ -5,7 +5,7 @@ use Rattle.wcp_run.specs.declared.running.Ends.{Ends}
 use Rattle.wcp_run.specs.declared.running.Rooms.{Rooms}
 use Rattle.wcp_run.specs.declared.running.Running.{Running}
 use Rattle.wcp_run.specs.CheckerEnds.{IsFreshFor, IsEndOfLoop}
-use Rattle.wcp_run.specs.Threads.{AreEndsOf, IsRelayEndOf}
+use Rattle.wcp_run.specs.Threads.{AreEndsOf, IsEndOfRelay}
 
 -- The parts of a run may run.
 pub record AreReady {W : Type 0} (IsReady : W → Type 0) (parts : Parts W) : Type 0 where
@@ -15,7 +15,7 @@ pub record AreReady {W : Type 0} (IsReady : W → Type 0) (parts : Parts W) : Ty
 -- The parts of a run have ended: each left an end at its place.
 pub record HaveEnded {W E : Type 0} (IsEnd : W → E → Type 0) (parts : Parts W) (ends : Ends E) : Type 0 where
   pub workers : AreEndsOf IsEnd parts.workers.items ends.workers.items
-  pub relays : AreEndsOf IsRelayEndOf parts.relays.items ends.relays.items
+  pub relays : AreEndsOf IsEndOfRelay parts.relays.items ends.relays.items
   pub checker : IsEndOfLoop parts.checking.inbox ends.checker
 
 -- The threads of a run are those of its parts.

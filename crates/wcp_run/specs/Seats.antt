@@ -19,8 +19,8 @@ abbrev pub SitsAt : {E : Type 0} → List (Option E) → ℕ → E → Type 0
 SitsAt seats place end = slice_get seats place ≡ Some (Some end)
 
 -- Somebody sits at each of the first places.
-abbrev pub AreSeated : {E : Type 0} → ℕ → List (Option E) → Type 0
-AreSeated {E} count seats = (place : ℕ) → place < count → (end : E) × SitsAt seats place end
+abbrev pub AreAllSeated : {E : Type 0} → ℕ → List (Option E) → Type 0
+AreAllSeated {E} count seats = (place : ℕ) → place < count → (end : E) × SitsAt seats place end
 
 -- Just these ends sit each at the place of its number.
 pub record AreSeats {E : Type 0} (place_of : E → ℕ) (ends : List E) (seats : List (Option E)) : Type 0 where

@@ -32,14 +32,15 @@ use Rattle.wcp_run.specs.declared.settle_fault.SettleFault.{SettleFault}
 use Rattle.wcp_run.specs.declared.settle_fault.SettleFault.TheVariants as fault
 use Rattle.wcp_run.specs.declared.settled.Settled.{Settled}
 
--- What is left of a probe is the end of its ring.
-pub record IsEndOfProbe (probes : List LiveSide) (end : ClosedSide) : Type 0 where
+-- This is the end of one of these probes, by its number: it has that probe's end of the ring.
+pub record IsEndOfSomeProbe (probes : List LiveSide) (end : ClosedSide) : Type 0 where
   pub probe : LiveSide
   pub is_probe : slice_get probes end.id ≡ Some probe
   pub one_ring : end.link.ring ≡ probe.link.ring
 
--- What is left of a relay is its receipts; where it met no fault, it put what it took.
-pub record IsEndOfRelay (relays : List Relay) (end : RelayEnd) : Type 0 where
+-- This is the end of one of these relays, by its number: it has that relay's receipts, and where it met no fault it put
+-- what it took.
+pub record IsEndOfSomeRelay (relays : List Relay) (end : RelayEnd) : Type 0 where
   pub relay : Relay
   pub is_relay : slice_get relays (number_of end) ≡ Some relay
   pub receipts : AreReceiptsOf relay end
@@ -52,8 +53,8 @@ pub record ComeFromWatch (probes : List ClosedSide) (relays : List RelayEnd) (ch
   pub watch : Watch
   pub checked : IsCheckedPlan plan
   pub wired : IsWired plan checker.watch watch
-  pub of_probes : All (λ end. end.watch ≡ checker.watch → IsEndOfProbe watch.probes.items end) probes
-  pub of_relays : All (λ end. watch_of end ≡ checker.watch → IsEndOfRelay watch.relays.items end) relays
+  pub of_probes : All (λ end. end.watch ≡ checker.watch → IsEndOfSomeProbe watch.probes.items end) probes
+  pub of_relays : All (λ end. watch_of end ≡ checker.watch → IsEndOfSomeRelay watch.relays.items end) relays
   pub of_checker : IsEndOfLoop watch.inbox checker
 
 -- A ring was matched: the feed took what the probe of its process put.
@@ -114,8 +115,8 @@ IsFreeOf probes relays checker book fault.Unfinished =
 abbrev pub settle_faults : List SettleFault
 settle_faults = fault.Stranger ∷ fault.Missing ∷ fault.Faulted ∷ fault.Unfinished ∷ []
 
-abbrev pub IsFirstFault : List ClosedSide → List RelayEnd → CheckerEnd → List (Option Tally) → SettleFault → Type 0
-IsFirstFault probes relays checker book =
+abbrev pub IsFirstSettleFault : List ClosedSide → List RelayEnd → CheckerEnd → List (Option Tally) → SettleFault → Type 0
+IsFirstSettleFault probes relays checker book =
     IsFirstReason (λ fault. ¬ IsFreeOf probes relays checker book fault) settle_faults
 
 -- What a run's ends tell: the checker took of each process what its probe put, each note once and in order; its report

@@ -5,7 +5,7 @@ use Rattle.wcp_tree.specs.declared.relay_end.RelayEnd.{RelayEnd}
 use Rattle.wcp_tree.specs.RelayEnds.{AreReceiptsOf, fault_of, number_of, watch_of, put_by, taken_by}
 
 -- What a relay leaves as it has run: it has its number and its receipts, and where it met no fault it put what it took.
-pub record IsRelayEndOf (relay : Relay) (end : RelayEnd) : Type 0 where
+pub record IsEndOfRelay (relay : Relay) (end : RelayEnd) : Type 0 where
   pub number : number_of end ≡ relay.number
   pub watch : watch_of end ≡ relay.watch
   pub receipts : AreReceiptsOf relay end

@@ -4,7 +4,7 @@ ghost use Rattle.wcp_clock.specs.declared.note.Item.{Item};
 ghost use Rattle.wcp_lane.specs.Ends.{TakenEnd};
 ghost use Rattle.wcp_tree.specs.Feeding.{items_of};
 ghost use Rattle.wcp_run.specs.Seats.{SitsAt};
-ghost use Rattle.wcp_run.specs.Matching.{KeepInboxes, inbox_of};
+ghost use Rattle.wcp_run.specs.Matching.{KeepInboxes, inbox_place};
 ghost use Rattle.wcp_run.specs.declared.settle_fault.SettleFault.TheVariants as settle_fault;
 
 use crate::settle_fault::SettleFault;
@@ -19,8 +19,8 @@ pub(crate) fn match_lane(
     put: PutReceipt<Item>,
     inboxes: &mut [Option<TakeReceipt<Item>>],
 ) -> Result<(), SettleFault>
-    requires { (receipt : TakenEnd Item) × SitsAt inboxes.old (inbox_of parent) receipt × (receipt.lane ≡ put.lane) }
-    ensures exact { (receipt : TakenEnd Item) → SitsAt inboxes.old (inbox_of parent) receipt
+    requires { (receipt : TakenEnd Item) × SitsAt inboxes.old (inbox_place parent) receipt × (receipt.lane ≡ put.lane) }
+    ensures exact { (receipt : TakenEnd Item) → SitsAt inboxes.old (inbox_place parent) receipt
         → IsOk result ↔ ((p : ℕ) → set.contains put.members p ≡ true
         → items_of p receipt.taken ≡ items_of p put.put) }
     ensures kept { OnOk result (KeepInboxes inboxes.old inboxes.new) }
@@ -42,7 +42,7 @@ pub(crate) fn match_lane(
 
 /// Where the inbox of a relay's parent is.
 fn place_of_inbox(parent: Parent) -> usize
-    ensures { result ≡ inbox_of parent }
+    ensures { result ≡ inbox_place parent }
 {
     match parent {
         Parent::Root => MAX_RELAYS,

@@ -25,11 +25,11 @@ pub trait RunsWith<C, E>: Part<E> {
 
 impl Part<RelayEnd> for Relay {
     ghost use Rattle.std.specs.Prelude.{⊤};
-    ghost use Rattle.wcp_run.specs.Threads.{IsRelayEndOf};
+    ghost use Rattle.wcp_run.specs.Threads.{IsEndOfRelay};
 
     ghost is_ready = { λ relay. ⊤ };
 
-    ghost is_end = { IsRelayEndOf };
+    ghost is_end = { IsEndOfRelay };
 }
 
 impl RunsWith<(), RelayEnd> for Relay {

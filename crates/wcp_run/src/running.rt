@@ -1,7 +1,7 @@
 //! The threads of a run, one for each part. Nothing is taken or put before all are started.
 ghost use Rattle.std.specs.Prelude.{◌≡◌, [], map, IfOk, IfSome};
 ghost use Rattle.wcp_run.specs.RunParts.{AreReady, HaveEnded, AreEmptyRooms, AreThreadsOf};
-ghost use Rattle.wcp_run.specs.Threads.{AreEndsOf, IsRelayEndOf};
+ghost use Rattle.wcp_run.specs.Threads.{AreEndsOf, IsEndOfRelay};
 
 use crate::checker_end::CheckerEnd;
 use crate::part::{Checking, Part, RunsWith};
@@ -227,7 +227,7 @@ fn join_relays<R: Threads>(
 ) -> Option<Vec<RelayEnd>>
     requires { room.items ≡ [] }
     ensures { IfSome result (λ ends.
-        AreEndsOf IsRelayEndOf (map (λ thread. thread.promise.0.value) threads.items) ends.items) }
+        AreEndsOf IsEndOfRelay (map (λ thread. thread.promise.0.value) threads.items) ends.items) }
 {
     join_all(rt, threads, room)
 }

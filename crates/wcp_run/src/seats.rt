@@ -1,6 +1,6 @@
 ghost use Rattle.std.specs.Prelude.{◌≡◌, ◌<◌, ◌≤◌, ◌↔◌, ℕ, length, slice_get, All, Some, None, IsTrue};
 ghost use Rattle.std.specs.Prelude.{IsOk, OnOk, IfErr};
-ghost use Rattle.wcp_run.specs.Seats.{AreOfWatch, AreSeats, AreSeated};
+ghost use Rattle.wcp_run.specs.Seats.{AreOfWatch, AreSeats, AreAllSeated};
 ghost use Rattle.wcp_run.specs.declared.settle_fault.SettleFault.TheVariants as settle_fault;
 
 use crate::settle_fault::SettleFault;
@@ -62,7 +62,7 @@ pub(crate) fn seat<E: End>(
 /// Whether somebody sits at each of the first places.
 pub(crate) fn are_seated<E>(seats: &[Option<E>], count: u32) -> bool
     requires { count ≤ length seats.now }
-    ensures { IsTrue result ↔ AreSeated count seats.now }
+    ensures { IsTrue result ↔ AreAllSeated count seats.now }
 {
     for place in 0..count as usize {
         if seats[place].is_none() {

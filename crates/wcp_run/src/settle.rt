@@ -1,7 +1,7 @@
 ghost use Rattle.std.specs.Prelude.{◌≡◌, ◌↔◌, IfOk, Err, None, All, IsTrue};
 ghost use Rattle.wcp_tree.specs.RelayEnds.{fault_of};
 ghost use Rattle.wcp_run.specs.declared.settle_fault.SettleFault.{SettleFault};
-ghost use Rattle.wcp_run.specs.Settling.{ComeFromWatch, IsFirstFault, IsSettled};
+ghost use Rattle.wcp_run.specs.Settling.{ComeFromWatch, IsFirstSettleFault, IsSettled};
 
 use crate::checker_end::CheckerEnd;
 use crate::matching::match_links;
@@ -25,7 +25,7 @@ pub fn settle(
     requires { ComeFromWatch probes.items relays.items checker }
     ensures settled { IfOk result (IsSettled probes.items checker book) }
     ensures first { (first : SettleFault) → (result ≡ Err first)
-        ↔ IsFirstFault probes.items relays.items checker book first }
+        ↔ IsFirstSettleFault probes.items relays.items checker book first }
 {
     let whole = are_whole(&relays, &checker);
     let mut probe_ends: [Option<ProbeEnd>; MAX_PROCS] = empty();

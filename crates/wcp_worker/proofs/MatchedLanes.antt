@@ -6,7 +6,7 @@ use Rattle.std.proofs.lemmas.Bool.{cases_eq}
 use Rattle.std.proofs.lemmas.Option.{slice_get_within, slice_get-get_or}
 use Rattle.wcp_tree.proofs.Entries.{set_here, set_elsewhere}
 use Rattle.wcp_worker.specs.declared.mailbox.Mailbox.{Mailbox}
-use Rattle.wcp_worker.specs.Lanes.{put_by, taken_by, clocks_from}
+use Rattle.wcp_worker.specs.Lanes.{messages_put, messages_taken, clocks_from}
 use Rattle.wcp_worker.specs.Mailboxes.{outbox_to, inbox_from}
 use Rattle.wcp_worker.specs.Runs.{outbox_of, inbox_of, ends_between, IsAllTaken, AreMatched}
 
@@ -59,11 +59,11 @@ module _
   -- and where neither was there, nothing was sent
   pub none_sent : outbox_to from q ≡ None → inbox_from to p ≡ None → IsAllTaken p (ends_between ms p q)
   none_sent no_outbox no_inbox =
-      ap (λ inbox. clocks_from p (taken_by inbox)) (sym (inboxes_kept p q) ∙ ap (λ m. inbox_of m p) then_at ∙ no_inbox)
-      ∙ ap (λ outbox. clocks_from p (put_by outbox)) (sym (ap (λ m. outbox_of m q) at ∙ no_outbox))
+      ap (λ inbox. clocks_from p (messages_taken inbox)) (sym (inboxes_kept p q) ∙ ap (λ m. inbox_of m p) then_at ∙ no_inbox)
+      ∙ ap (λ outbox. clocks_from p (messages_put outbox)) (sym (ap (λ m. outbox_of m q) at ∙ no_outbox))
 
 -- where all that was put between each two was taken, all messages were
 pub all_matched : (ms : List Mailbox) → ((a b : ℕ) → a < length ms → b < length ms → IsAllTaken a (ends_between ms a b)) → AreMatched ms
 all_matched ms all p q from to from_at to_at =
-    subst₂ (λ source target. clocks_from p (taken_by (inbox_of target p)) ≡ clocks_from p (put_by (outbox_of source q))) from_at to_at
+    subst₂ (λ source target. clocks_from p (messages_taken (inbox_of target p)) ≡ clocks_from p (messages_put (outbox_of source q))) from_at to_at
     (all p q (slice_get_within ms p from from_at) (slice_get_within ms q to to_at))

@@ -14,9 +14,9 @@ use Rattle.wcp_worker.specs.declared.mailbox.Mailbox.{Mailbox}
 use Rattle.wcp_worker.specs.declared.player.Player.{Player}
 use Rattle.wcp_worker.specs.declared.worker.Worker.{Worker}
 use Rattle.wcp_worker.specs.Lanes.{IfBoth, HasTakenMore, IsSameOutbox, IsSameInbox}
-use Rattle.wcp_worker.specs.Mailboxes.{HasSameLanes, outbox_to, inbox_from, clocks_sent, clocks_taken}
+use Rattle.wcp_worker.specs.Mailboxes.{HasSameLanes, outbox_to, inbox_from, clocks_sent_to, clocks_taken_from}
 use Rattle.wcp_worker.specs.Probes.{IsSameLive, IsEndOfProbe}
-use Rattle.wcp_worker.specs.Played.{Performs, HasDone, HasPlayed}
+use Rattle.wcp_worker.specs.Played.{DoesAction, HasDoneActions, HasPlayed}
 use Rattle.wcp_worker.proofs.TakenMore.{both_then, entry_same, entry_front}
 
 same_live : (a b c : LiveSide) → IsSameLive a b → IsSameLive b c → IsSameLive a c
@@ -54,8 +54,8 @@ module _ (actions : List Action) (log : List Call) (act : Action) (call : Call) 
 
 -- a player that does one more action has done this too
 pub done_more : (start old new : Player) (actions : List Action) (log : List Call) (act : Action) (call : Call)
-    → HasDone start actions log old → Performs old act call new → IsSameLive old.probe new.probe
-    → HasDone start (actions ++ act ∷ []) (log ++ call ∷ []) new
+    → HasDoneActions start actions log old → DoesAction old act call new → IsSameLive old.probe new.probe
+    → HasDoneActions start (actions ++ act ∷ []) (log ++ call ∷ []) new
 done_more start old new actions log act call done by same =
     let stands = by.accepted log done.stands in
     let made = same.0.made in
@@ -68,7 +68,7 @@ done_more start old new actions log act call done by same =
       own = by.own;
       sent = λ q.
           by.sent q
-          ∙ (λ i. (ap (λ p. clocks_sent p old.mailbox q) id ∙ done.sent q ∙ ap (λ s. stamps_sent s q actions log) (sym made)) i
+          ∙ (λ i. (ap (λ p. clocks_sent_to p old.mailbox q) id ∙ done.sent q ∙ ap (λ s. stamps_sent s q actions log) (sym made)) i
           ++ cond (is_send_to q act) (stands.core.clock i ∷ []) [])
           ∙ sent_more actions log act call done.follows q (setup_of new.probe.core) (is_send_to q act) refl;
       taken = λ q.
@@ -79,7 +79,7 @@ done_more start old new actions log act call done by same =
 
 -- a player that has done all its worker's actions, and then closed its probe and taken more, has played them
 pub all_played : (worker : Worker) (now : Player) (log : List Call) (probe : ClosedSide) (mailbox : Mailbox)
-    → HasDone (record { probe = worker.probe; mailbox = worker.mailbox }) worker.actions.items log now
+    → HasDoneActions (record { probe = worker.probe; mailbox = worker.mailbox }) worker.actions.items log now
     → IsEndOfProbe now.probe probe → probe.link.put ≡ emissions_of now.probe.core (log ++ Closed ∷ [])
     → mailbox.outboxes ≡ now.mailbox.outboxes
     → ((q : ℕ) → IfBoth (HasTakenMore q) (inbox_from now.mailbox q) (inbox_from mailbox q))
@@ -100,9 +100,9 @@ all_played worker now log probe mailbox done end emitted outboxes more =
             (entry_same q (inbox_from now.mailbox q) (inbox_from mailbox q) (more q));
       };
       sent = λ q.
-          (λ i. clocks_sent (sym id i) (record now.mailbox { outboxes = outboxes i }) q)
+          (λ i. clocks_sent_to (sym id i) (record now.mailbox { outboxes = outboxes i }) q)
           ∙ done.sent q ∙ ap (λ s. stamps_sent s q actions log) made;
       taken = λ q.
-          subst (λ stamps. (rest : List (List ℕ)) × (stamps ++ rest ≡ clocks_taken mailbox q)) (done.taken q)
+          subst (λ stamps. (rest : List (List ℕ)) × (stamps ++ rest ≡ clocks_taken_from mailbox q)) (done.taken q)
           (entry_front q (inbox_from now.mailbox q) (inbox_from mailbox q) (more q) (done.own.inboxes q));
     }

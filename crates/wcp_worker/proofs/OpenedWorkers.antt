@@ -14,8 +14,8 @@ use Rattle.wcp_worker.specs.declared.lanes.Outbox.{Outbox}
 use Rattle.wcp_worker.specs.declared.lanes.Inbox.{Inbox}
 use Rattle.wcp_worker.specs.declared.player.Player.{Player}
 use Rattle.wcp_worker.specs.declared.worker.Worker.{Worker}
-use Rattle.wcp_worker.specs.Lanes.{IsOutboxOf, IsInboxOf, IfBoth, IsSameOutbox, IsSameInbox, IsLaneFor, put_by, taken_by, clocks_from}
-use Rattle.wcp_worker.specs.Mailboxes.{outbox_to, inbox_from, clocks_sent}
+use Rattle.wcp_worker.specs.Lanes.{IsOutboxOf, IsInboxOf, IfBoth, IsSameOutbox, IsSameInbox, IsLaneFor, messages_put, messages_taken, clocks_from}
+use Rattle.wcp_worker.specs.Mailboxes.{outbox_to, inbox_from, clocks_sent_to}
 use Rattle.wcp_worker.specs.Played.{IsFresh}
 use Rattle.wcp_worker.specs.Opening.{IsIdle, HasTasks, HaveLanes}
 use Rattle.wcp_worker.specs.Workers.{AreFreshProbes, AreWorkersOf}
@@ -53,11 +53,11 @@ module _
     (p : ℕ) (player : Player) (id : player.probe.core.id ≡ p) (stands : LiveFor player.probe [])
     (outboxes : (q : ℕ) → IfSome (outbox_to player.mailbox q) (IsNewOutbox p))
     (inboxes : (q : ℕ) → IfSome (inbox_from player.mailbox q) (IsNewInbox q)) where
-  outbox_fresh : (o : Option Outbox) → IfSome o (IsNewOutbox p) → IfSome o (IsOutboxOf p) × IfBoth IsSameOutbox o o × (clocks_from p (put_by o) ≡ [])
+  outbox_fresh : (o : Option Outbox) → IfSome o (IsNewOutbox p) → IfSome o (IsOutboxOf p) × IfBoth IsSameOutbox o o × (clocks_from p (messages_put o) ≡ [])
   outbox_fresh (Some o) new = (new.0, (refl, refl), ap (clocks_from p) new.1)
   outbox_fresh None new = (tt, tt, refl)
 
-  inbox_fresh : (q : ℕ) (i : Option Inbox) → IfSome i (IsNewInbox q) → IfSome i (IsInboxOf q) × IfBoth IsSameInbox i i × (clocks_from q (taken_by i) ≡ [])
+  inbox_fresh : (q : ℕ) (i : Option Inbox) → IfSome i (IsNewInbox q) → IfSome i (IsInboxOf q) × IfBoth IsSameInbox i i × (clocks_from q (messages_taken i) ≡ [])
   inbox_fresh q (Some i) new = (new.0, (refl, refl), ap (clocks_from q) new.1)
   inbox_fresh q None new = (tt, tt, refl)
 
@@ -75,7 +75,7 @@ module _
           outboxes = λ q. subst (λ r. IfSome (outbox_to player.mailbox q) (IsOutboxOf r)) (sym id) (outbox_fresh (outbox_to player.mailbox q) (outboxes q)).0;
           inboxes = λ q. (inbox_fresh q (inbox_from player.mailbox q) (inboxes q)).0;
         };
-        sent = λ q. ap (λ r. clocks_sent r player.mailbox q) id ∙ (outbox_fresh (outbox_to player.mailbox q) (outboxes q)).2;
+        sent = λ q. ap (λ r. clocks_sent_to r player.mailbox q) id ∙ (outbox_fresh (outbox_to player.mailbox q) (outboxes q)).2;
         taken = λ q. (inbox_fresh q (inbox_from player.mailbox q) (inboxes q)).2;
       }
 

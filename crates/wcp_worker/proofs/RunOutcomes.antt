@@ -12,7 +12,7 @@ use Rattle.wcp_model.proofs.Choosing.{choice_from_each}
 use Rattle.wcp_model.proofs.SamePlace.{element_within}
 use Rattle.wcp_model.proofs.TakenOutcomes.{IsOutcomeOfItems, IsWorkloadOutcome-taken}
 use Rattle.wcp_worker.specs.declared.mailbox.Mailbox.{Mailbox}
-use Rattle.wcp_worker.specs.Mailboxes.{clocks_sent, clocks_taken}
+use Rattle.wcp_worker.specs.Mailboxes.{clocks_sent_to, clocks_taken_from}
 use Rattle.wcp_worker.specs.Runs.{HasRun, HaveRun}
 
 -- what one process that ran tells of its log
@@ -23,14 +23,14 @@ module _ (n : ℕ) (tasks : List Task) (items : List Item) (p : ℕ) (log : List
   run_emits : notes_taken p items ≡ (state_of_log (setup n p) (log ++ Closed ∷ [])).notes
   run_emits = run.taken ∙ run.played.emitted ∙ ap (λ made. (state_of_log made (log ++ Closed ∷ [])).notes) run.made
 
-  run_sent : (q : ℕ) → clocks_sent p mailbox q ≡ stamps_sent (setup n p) q (actions_of p tasks) log
+  run_sent : (q : ℕ) → clocks_sent_to p mailbox q ≡ stamps_sent (setup n p) q (actions_of p tasks) log
   run_sent q =
-      ap (λ (made : ProbeSetup). clocks_sent made.process mailbox q) (sym run.made)
+      ap (λ (made : ProbeSetup). clocks_sent_to made.process mailbox q) (sym run.made)
       ∙ run.played.sent q
       ∙ (λ i. stamps_sent (run.made i) q (run.actions i) log)
 
-  run_got : (q : ℕ) → (rest : List (List ℕ)) × (stamps_got q (actions_of p tasks) log ++ rest ≡ clocks_taken mailbox q)
-  run_got q = subst (λ actions. (rest : List (List ℕ)) × (stamps_got q actions log ++ rest ≡ clocks_taken mailbox q)) run.actions (run.played.taken q)
+  run_got : (q : ℕ) → (rest : List (List ℕ)) × (stamps_got q (actions_of p tasks) log ++ rest ≡ clocks_taken_from mailbox q)
+  run_got q = subst (λ actions. (rest : List (List ℕ)) × (stamps_got q actions log ++ rest ≡ clocks_taken_from mailbox q)) run.actions (run.played.taken q)
 
 -- where all ran, their logs are those of the tasks, and the outcome of what was taken is that of the workload
 module _ (n : ℕ) (tasks : List Task) (items : List Item) (mailboxes : List Mailbox) (all : HaveRun n tasks items mailboxes) where

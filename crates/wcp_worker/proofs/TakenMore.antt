@@ -6,7 +6,7 @@ use Rattle.std.proofs.lemmas.List.{append-nil}
 use mathlib.Core.List.{IsPrefix}
 use Rattle.wcp_lane.specs.Passes.{Numbers}
 use Rattle.wcp_worker.specs.declared.lanes.Inbox.{Inbox}
-use Rattle.wcp_worker.specs.Lanes.{IsInboxOf, IsSameInbox, HasTakenMore, IfBoth, taken_by, clocks_from}
+use Rattle.wcp_worker.specs.Lanes.{IsInboxOf, IsSameInbox, HasTakenMore, IfBoth, messages_taken, clocks_from}
 
 -- what holds of each entry holds of each once one is written of which it holds
 pub each_entry : {X : Type 0} (P : ℕ → Option X → Type 0) (xs : List (Option X)) (k : ℕ) (x : Option X)
@@ -52,7 +52,7 @@ module _ (q : ℕ) where
   entry_same None None more = more
 
   pub entry_front : (a b : Option Inbox) → IfBoth (HasTakenMore q) a b → IfSome a (IsInboxOf q)
-      → IsPrefix (clocks_from q (taken_by a)) (clocks_from q (taken_by b))
+      → IsPrefix (clocks_from q (messages_taken a)) (clocks_from q (messages_taken b))
   entry_front (Some a) (Some b) more is = more.front is
   entry_front (Some a) None more is = absurd more
   entry_front None (Some b) more is = absurd more

@@ -44,13 +44,13 @@ IfBoth holds None None = Unit {0}
 IfBoth holds _ _ = ⊥
 
 -- What was put or taken by an end, if it is there.
-abbrev pub put_by : Option Outbox → List Message
-put_by (Some outbox) = outbox.putter.put
-put_by None = []
+abbrev pub messages_put : Option Outbox → List Message
+messages_put (Some outbox) = outbox.putter.put
+messages_put None = []
 
-abbrev pub taken_by : Option Inbox → List Message
-taken_by (Some inbox) = inbox.taker.taken
-taken_by None = []
+abbrev pub messages_taken : Option Inbox → List Message
+messages_taken (Some inbox) = inbox.taker.taken
+messages_taken None = []
 
 -- A lane by which process p is to send this many messages, and has sent none.
 pub record IsNewLane (p count : ℕ) (outbox : Outbox) (inbox : Inbox) : Type 0 where

@@ -4,7 +4,7 @@ use Rattle.wcp_worker.specs.declared.lanes.Outbox.{Outbox}
 use Rattle.wcp_worker.specs.declared.lanes.Inbox.{Inbox}
 use Rattle.wcp_worker.specs.declared.mailbox.Mailbox.{Mailbox}
 use Rattle.wcp_worker.specs.Lanes.{IsOutboxOf, IsInboxOf, IsSameOutbox, IsSameInbox}
-use Rattle.wcp_worker.specs.Lanes.{IfBoth, put_by, taken_by, clocks_from}
+use Rattle.wcp_worker.specs.Lanes.{IfBoth, messages_put, messages_taken, clocks_from}
 
 -- The end by which it sends to q, and the end by which the messages of q come, where they are there.
 abbrev pub outbox_to : Mailbox → ℕ → Option Outbox
@@ -14,11 +14,11 @@ abbrev pub inbox_from : Mailbox → ℕ → Option Inbox
 inbox_from mailbox q = slice_index_or mailbox.inboxes.items q None
 
 -- The clocks of the messages that process p put on its lane to q, and of those of q that were taken.
-abbrev pub clocks_sent : ℕ → Mailbox → ℕ → List (List ℕ)
-clocks_sent p mailbox q = clocks_from p (put_by (outbox_to mailbox q))
+abbrev pub clocks_sent_to : ℕ → Mailbox → ℕ → List (List ℕ)
+clocks_sent_to p mailbox q = clocks_from p (messages_put (outbox_to mailbox q))
 
-abbrev pub clocks_taken : Mailbox → ℕ → List (List ℕ)
-clocks_taken mailbox q = clocks_from q (taken_by (inbox_from mailbox q))
+abbrev pub clocks_taken_from : Mailbox → ℕ → List (List ℕ)
+clocks_taken_from mailbox q = clocks_from q (messages_taken (inbox_from mailbox q))
 
 -- The lanes of process p.
 pub record IsMailboxOf (p : ℕ) (mailbox : Mailbox) : Type 0 where

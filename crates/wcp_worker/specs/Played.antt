@@ -13,35 +13,35 @@ use Rattle.wcp_worker.specs.declared.worker.Worker.{Worker}
 use Rattle.wcp_worker.specs.declared.worker_end.WorkerEnd.{WorkerEnd}
 use Rattle.wcp_worker.specs.declared.worker_end.WorkerEnd.TheVariants.{Whole, GaveUp}
 use Rattle.wcp_worker.specs.Probes.{IsSameLive, IsEndOfProbe}
-use Rattle.wcp_worker.specs.Mailboxes.{IsMailboxOf, HasSameLanes, clocks_sent, clocks_taken}
+use Rattle.wcp_worker.specs.Mailboxes.{IsMailboxOf, HasSameLanes, clocks_sent_to, clocks_taken_from}
 
 -- A player makes the call of an action: what it sends to q has the clock of its probe after the send, and what it
 -- receives from q is what it took from there.
-pub record Performs (old : Player) (act : Action) (call : Call) (new : Player) : Type 0 where
+pub record DoesAction (old : Player) (act : Action) (call : Call) (new : Player) : Type 0 where
   pub is_call : IsCallFor act call
   pub accepted : LiveAccepts old.probe call new.probe
   pub lanes : HasSameLanes old.mailbox new.mailbox
   pub own : IsMailboxOf new.probe.core.id new.mailbox
-  pub sent : (q : ℕ) → clocks_sent new.probe.core.id new.mailbox q ≡ clocks_sent new.probe.core.id old.mailbox q
+  pub sent : (q : ℕ) → clocks_sent_to new.probe.core.id new.mailbox q ≡ clocks_sent_to new.probe.core.id old.mailbox q
       ++ (if is_send_to q act then new.probe.core.clock ∷ [] else [])
-  pub taken : (q : ℕ) → clocks_taken new.mailbox q ≡ clocks_taken old.mailbox q
+  pub taken : (q : ℕ) → clocks_taken_from new.mailbox q ≡ clocks_taken_from old.mailbox q
       ++ (if is_receive_from q act then stamp_of call ∷ [] else [])
 
 -- A player that began so has done these actions by these calls: its probe stands for them, what it put on its lane to
 -- q are the stamps sent to q, and what it took from there are the stamps got.
-pub record HasDone (start : Player) (actions : List Action) (log : List Call) (now : Player) : Type 0 where
+pub record HasDoneActions (start : Player) (actions : List Action) (log : List Call) (now : Player) : Type 0 where
   pub follows : FollowsActions actions log
   pub stands : LiveFor now.probe log
   pub probe : IsSameLive start.probe now.probe
   pub lanes : HasSameLanes start.mailbox now.mailbox
   pub own : IsMailboxOf now.probe.core.id now.mailbox
   pub sent : (q : ℕ) →
-      clocks_sent now.probe.core.id now.mailbox q ≡ stamps_sent (setup_of now.probe.core) q actions log
-  pub taken : (q : ℕ) → clocks_taken now.mailbox q ≡ stamps_got q actions log
+      clocks_sent_to now.probe.core.id now.mailbox q ≡ stamps_sent (setup_of now.probe.core) q actions log
+  pub taken : (q : ℕ) → clocks_taken_from now.mailbox q ≡ stamps_got q actions log
 
 -- A player before its first action: nothing was observed, sent or taken.
 abbrev pub IsFresh : Player → Type 0
-IsFresh player = HasDone player [] [] player
+IsFresh player = HasDoneActions player [] [] player
 
 -- What a worker leaves that did all its actions by these calls: its probe put the emissions of these and of the close,
 -- what it put on its lane to q are the stamps sent to q, and the stamps got from q are the first that it took of those
@@ -52,8 +52,8 @@ pub record HasPlayed (worker : Worker) (log : List Call) (probe : ClosedSide) (m
   pub emitted : probe.link.put ≡ emissions_of worker.probe.core (log ++ Closed ∷ [])
   pub lanes : HasSameLanes worker.mailbox mailbox
   pub sent : (q : ℕ) →
-      clocks_sent worker.probe.core.id mailbox q ≡ stamps_sent (setup_of worker.probe.core) q worker.actions.items log
-  pub taken : (q : ℕ) → IsPrefix (stamps_got q worker.actions.items log) (clocks_taken mailbox q)
+      clocks_sent_to worker.probe.core.id mailbox q ≡ stamps_sent (setup_of worker.probe.core) q worker.actions.items log
+  pub taken : (q : ℕ) → IsPrefix (stamps_got q worker.actions.items log) (clocks_taken_from mailbox q)
 
 -- What a worker leaves: all that its actions stand for, or, where it gave up, its closed probe alone.
 abbrev pub IsEndOfWorker : Worker → WorkerEnd → Type 0

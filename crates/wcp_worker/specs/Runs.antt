@@ -12,8 +12,8 @@ use Rattle.wcp_worker.specs.declared.lanes.Inbox.{Inbox}
 use Rattle.wcp_worker.specs.declared.lanes.Outbox.{Outbox}
 use Rattle.wcp_worker.specs.declared.mailbox.Mailbox.{Mailbox}
 use Rattle.wcp_worker.specs.declared.worker.Worker.{Worker}
-use Rattle.wcp_worker.specs.Lanes.{IfBoth, put_by, taken_by, clocks_from}
-use Rattle.wcp_worker.specs.Mailboxes.{outbox_to, inbox_from, clocks_sent, clocks_taken}
+use Rattle.wcp_worker.specs.Lanes.{IfBoth, messages_put, messages_taken, clocks_from}
+use Rattle.wcp_worker.specs.Mailboxes.{outbox_to, inbox_from, clocks_sent_to, clocks_taken_from}
 use Rattle.wcp_worker.specs.Played.{HasPlayed}
 
 -- Process p ran by this log and left this mailbox: its worker, with a probe of process p of n, did all that the process
@@ -49,12 +49,12 @@ AreOfLane p ends = IfBoth (IsLaneOf p) ends.0 ends.1
 
 -- What p put on it was all taken.
 abbrev pub IsAllTaken : ℕ → Option Outbox × Option Inbox → Type 0
-IsAllTaken p ends = clocks_from p (taken_by ends.1) ≡ clocks_from p (put_by ends.0)
+IsAllTaken p ends = clocks_from p (messages_taken ends.1) ≡ clocks_from p (messages_put ends.0)
 
 -- All messages between these were taken: what was taken of p from its lane to q is what p put on it.
 abbrev pub AreMatched : List Mailbox → Type 0
 AreMatched mailboxes = (p q : ℕ) (from to : Mailbox) → slice_get mailboxes p ≡ Some from →
-    slice_get mailboxes q ≡ Some to → clocks_taken to p ≡ clocks_sent p from q
+    slice_get mailboxes q ≡ Some to → clocks_taken_from to p ≡ clocks_sent_to p from q
 
 -- All n processes ran, each by a log of its own, and all messages between them were taken.
 pub record HaveRun (n : ℕ) (tasks : List Task) (items : List Item) (mailboxes : List Mailbox) : Type 0 where

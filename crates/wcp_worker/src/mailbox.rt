@@ -1,7 +1,7 @@
 ghost use Rattle.std.specs.Prelude.{◌≡◌, ◌≢◌, ◌==◌, ℕ, ◌∷◌, [], ◌++◌, OnOk, IfOk, IfSome, Option, if◌then◌else◌};
 ghost use Rattle.wcp_probe.specs.Seal.{seal_of};
 ghost use Rattle.wcp_worker.specs.Lanes.{IsOutboxOf, IsInboxOf, IsSameOutbox, IsSameInbox};
-ghost use Rattle.wcp_worker.specs.Lanes.{IfBoth, HasTakenMore, put_by, taken_by, clocks_from};
+ghost use Rattle.wcp_worker.specs.Lanes.{IfBoth, HasTakenMore, messages_put, messages_taken, clocks_from};
 
 use crate::lanes::{Inbox, Outbox};
 use crate::worker_end::WorkerFault;
@@ -17,7 +17,7 @@ pub struct Mailbox {
 
 impl Mailbox {
     ghost use Rattle.wcp_worker.specs.Mailboxes.{IsMailboxOf, HasSameLanes};
-    ghost use Rattle.wcp_worker.specs.Mailboxes.{outbox_to, inbox_from, clocks_sent, clocks_taken};
+    ghost use Rattle.wcp_worker.specs.Mailboxes.{outbox_to, inbox_from, clocks_sent_to, clocks_taken_from};
 
     /// Takes out the end by which messages go to `q`, if there is one.
     pub fn take_outbox(&mut self, q: u32) -> Option<Outbox>
@@ -53,8 +53,8 @@ impl Mailbox {
         requires { IsMailboxOf (seal_of stamped).from self.old }
         ensures own { OnOk result (IsMailboxOf (seal_of stamped).from self.new) }
         ensures lanes { OnOk result (HasSameLanes self.old self.new) }
-        ensures sent { let seal = seal_of stamped in OnOk result ((q : ℕ) → clocks_sent seal.from self.new q
-            ≡ clocks_sent seal.from self.old q ++ (if to == q then seal.clock ∷ [] else [])) }
+        ensures sent { let seal = seal_of stamped in OnOk result ((q : ℕ) → clocks_sent_to seal.from self.new q
+            ≡ clocks_sent_to seal.from self.old q ++ (if to == q then seal.clock ∷ [] else [])) }
         ensures inboxes { self.new.inboxes ≡ self.old.inboxes }
     {
         if to as usize >= self.outboxes.len() {
@@ -67,8 +67,8 @@ impl Mailbox {
     pub(crate) fn take<R: Wait>(&mut self, rt: &R, from: u32) -> Result<Stamped<()>, WorkerFault>
         ensures own { OnOk result ((p : ℕ) → IsMailboxOf p self.old → IsMailboxOf p self.new) }
         ensures lanes { OnOk result (HasSameLanes self.old self.new) }
-        ensures taken { IfOk result (λ stamped. (p q : ℕ) → IsMailboxOf p self.old → clocks_taken self.new q
-            ≡ clocks_taken self.old q ++ (if from == q then (seal_of stamped).clock ∷ [] else [])) }
+        ensures taken { IfOk result (λ stamped. (p q : ℕ) → IsMailboxOf p self.old → clocks_taken_from self.new q
+            ≡ clocks_taken_from self.old q ++ (if from == q then (seal_of stamped).clock ∷ [] else [])) }
         ensures outboxes { self.new.outboxes ≡ self.old.outboxes }
     {
         if from as usize >= self.inboxes.len() {
@@ -99,8 +99,8 @@ fn send_by<R: Wait>(
     requires { IfSome outbox.old (IsOutboxOf (seal_of stamped).from) }
     ensures same { OnOk result (IfBoth IsSameOutbox outbox.old outbox.new) }
     ensures own { OnOk result (IfSome outbox.new (IsOutboxOf (seal_of stamped).from)) }
-    ensures sent { OnOk result (clocks_from (seal_of stamped).from (put_by outbox.new)
-        ≡ clocks_from (seal_of stamped).from (put_by outbox.old) ++ (seal_of stamped).clock ∷ []) }
+    ensures sent { OnOk result (clocks_from (seal_of stamped).from (messages_put outbox.new)
+        ≡ clocks_from (seal_of stamped).from (messages_put outbox.old) ++ (seal_of stamped).clock ∷ []) }
 {
     match outbox {
         Some(outbox) => outbox.send(rt, stamped),
@@ -112,7 +112,7 @@ fn send_by<R: Wait>(
 fn take_by<R: Wait>(rt: &R, inbox: &mut Option<Inbox>) -> Result<Stamped<()>, WorkerFault>
     ensures same { OnOk result (IfBoth IsSameInbox inbox.old inbox.new) }
     ensures taken { IfOk result (λ stamped. (q : ℕ) → IfSome inbox.old (IsInboxOf q)
-        → clocks_from q (taken_by inbox.new) ≡ clocks_from q (taken_by inbox.old) ++ (seal_of stamped).clock ∷ []) }
+        → clocks_from q (messages_taken inbox.new) ≡ clocks_from q (messages_taken inbox.old) ++ (seal_of stamped).clock ∷ []) }
 {
     match inbox {
         Some(inbox) => inbox.take(rt),

@@ -21,7 +21,7 @@ pub struct Player {
 
 impl Player {
     ghost use Rattle.wcp_worker.specs.Mailboxes.{IsMailboxOf};
-    ghost use Rattle.wcp_worker.specs.Played.{Performs, HasDone, IsFresh};
+    ghost use Rattle.wcp_worker.specs.Played.{DoesAction, HasDoneActions, IsFresh};
 
     /// Does all these actions, each after its gate has let it pass.
     pub(crate) fn play<R: Wait, G: Gate>(
@@ -31,7 +31,7 @@ impl Player {
         actions: &[Action],
     ) -> Result<(), WorkerFault>
         requires { IsFresh self.old }
-        ensures done { OnOk result ((log : List Call) × HasDone self.old actions.now log self.new) }
+        ensures done { OnOk result ((log : List Call) × HasDoneActions self.old actions.now log self.new) }
         ensures same { IsSameLive self.old.probe self.new.probe }
     {
         let p = self.probe.id();
@@ -47,7 +47,7 @@ impl Player {
     /// Does one action.
     fn perform<R: Wait>(&mut self, rt: &R, action: Action) -> Result<(), WorkerFault>
         requires { IsMailboxOf self.old.probe.core.id self.old.mailbox }
-        ensures done { OnOk result ((call : Call) × Performs self.old action call self.new) }
+        ensures done { OnOk result ((call : Call) × DoesAction self.old action call self.new) }
         ensures same { IsSameLive self.old.probe self.new.probe }
     {
         match action {
@@ -62,7 +62,7 @@ impl Player {
 
     fn observe<R: Wait>(&mut self, rt: &R, holds: bool)
         requires { IsMailboxOf self.old.probe.core.id self.old.mailbox }
-        ensures done { Performs self.old (action.Observe holds) (Observed holds) self.new }
+        ensures done { DoesAction self.old (action.Observe holds) (Observed holds) self.new }
         ensures same { IsSameLive self.old.probe self.new.probe }
     {
         self.probe.observe(holds);
@@ -71,7 +71,7 @@ impl Player {
 
     fn send<R: Wait>(&mut self, rt: &R, to: u32) -> Result<(), WorkerFault>
         requires { IsMailboxOf self.old.probe.core.id self.old.mailbox }
-        ensures done { OnOk result (Performs self.old (action.Send to) Sent self.new) }
+        ensures done { OnOk result (DoesAction self.old (action.Send to) Sent self.new) }
         ensures same { IsSameLive self.old.probe self.new.probe }
     {
         match self.probe.stamp(to, ()) {
@@ -82,7 +82,7 @@ impl Player {
 
     fn receive<R: Wait>(&mut self, rt: &R, from: u32) -> Result<(), WorkerFault>
         requires { IsMailboxOf self.old.probe.core.id self.old.mailbox }
-        ensures done { OnOk result ((call : Call) × Performs self.old (action.Recv from) call self.new) }
+        ensures done { OnOk result ((call : Call) × DoesAction self.old (action.Recv from) call self.new) }
         ensures same { IsSameLive self.old.probe self.new.probe }
     {
         let stamped = self.mailbox.take(rt, from)?;

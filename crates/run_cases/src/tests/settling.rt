@@ -2,7 +2,7 @@
 ghost use Rattle.std.specs.Prelude.{◌≡◌, ◌≢◌, [], ◌∷◌, ◌++◌, All, IsTrue, IfOk, IfSome, None, Some, slice_get};
 ghost use Rattle.wcp_model.specs.PlanFault.{IsCheckedPlan};
 ghost use Rattle.wcp_tree.specs.RelayEnds.{fault_of, number_of, watch_of};
-ghost use Rattle.wcp_run.specs.Settling.{ComeFromWatch, IsEndOfProbe, IsEndOfRelay};
+ghost use Rattle.wcp_run.specs.Settling.{ComeFromWatch, IsEndOfSomeProbe, IsEndOfSomeRelay};
 
 use super::checking::{ONE, two_hops};
 use super::watches::open;
@@ -36,7 +36,7 @@ fn emit_one(mut probe: LiveProbe) -> Option<ProbeEnd>
 /// Each process emits one snapshot, and closes.
 fn close_all(alloc: Global, mut probes: Vec<LiveProbe>) -> Result<Vec<ProbeEnd>, AllocError>
     requires { All (λ probe. slice_get probes.items probe.core.id ≡ Some probe) probes.items }
-    ensures { IfOk result (λ ends. All (IsEndOfProbe probes.items) ends.items) }
+    ensures { IfOk result (λ ends. All (IsEndOfSomeProbe probes.items) ends.items) }
 {
     let mut ends = Vec::with_capacity(alloc, probes.len())?;
     while let Some(probe) = probes.pop() {
@@ -54,7 +54,7 @@ fn run_all(
     mut relays: Vec<Relay>,
 ) -> Result<Vec<RelayEnd>, AllocError>
     requires { All (λ relay. slice_get relays.items relay.number ≡ Some relay) relays.items }
-    ensures { IfOk result (λ ends. All (IsEndOfRelay relays.items) ends.items) }
+    ensures { IfOk result (λ ends. All (IsEndOfSomeRelay relays.items) ends.items) }
 {
     let mut ends = Vec::with_capacity(alloc, relays.len())?;
     while let Some(relay) = relays.pop() {

@@ -1,5 +1,5 @@
 use Rattle.std.proofs.Common.{◌≡◌, All, Some, slice_get, sym, ap, subst, ◌∙◌}
-use Rattle.wcp_run.specs.Settling.{IsEndOfProbe}
+use Rattle.wcp_run.specs.Settling.{IsEndOfSomeProbe}
 use Rattle.run_cases.proofs.EndsOfWatch.{front_of, last_of, joined}
 use Rattle.run_cases.proofs.tests.settling.close_all.Goals as goal
 
@@ -8,7 +8,7 @@ loop-probe-preserved-in-Continue-branch-2 c =
     let all = c.args.probes.items in
     let split = subst (All (λ probe. slice_get all probe.core.id ≡ Some probe)) c.in-Some.ensures.items c.loop-probe.invariant.0 in (
       front_of (λ probe. slice_get all probe.core.id ≡ Some probe) c.pop.new.self.items _ split,
-      subst (All (IsEndOfProbe all)) (sym c.in_ok-push.ensures.items) (joined (IsEndOfProbe all) c.loop-probe.ends.items c.in-Some-emit_one.end c.loop-probe.invariant.1 (record {
+      subst (All (IsEndOfSomeProbe all)) (sym c.in_ok-push.ensures.items) (joined (IsEndOfSomeProbe all) c.loop-probe.ends.items c.in-Some-emit_one.end c.loop-probe.invariant.1 (record {
         probe = c.in-Some.probe;
         is_probe = ap (slice_get all) c.in-Some-emit_one.ensures.0 ∙ last_of (λ probe. slice_get all probe.core.id ≡ Some probe) c.pop.new.self.items c.in-Some.probe split;
         one_ring = c.in-Some-emit_one.ensures.1;

@@ -1,5 +1,5 @@
 use Rattle.std.proofs.Common.{◌≡◌, All, Some, slice_get, sym, ap, subst, ◌∙◌}
-use Rattle.wcp_run.specs.Settling.{IsEndOfRelay}
+use Rattle.wcp_run.specs.Settling.{IsEndOfSomeRelay}
 use Rattle.run_cases.proofs.EndsOfWatch.{front_of, last_of, joined}
 use Rattle.run_cases.proofs.tests.settling.run_all.Goals as goal
 
@@ -8,7 +8,7 @@ loop-relay-preserved g c =
     let all = c.args.relays.items in
     let split = subst (All (λ relay. slice_get all relay.number ≡ Some relay)) c.in-Some.ensures.items c.loop-relay.invariant.0 in (
       front_of (λ relay. slice_get all relay.number ≡ Some relay) c.pop.new.self.items _ split,
-      subst (All (IsEndOfRelay all)) (sym c.in_ok-push.ensures.items) (joined (IsEndOfRelay all) c.loop-relay.ends.items c.run.result c.loop-relay.invariant.1 (record {
+      subst (All (IsEndOfSomeRelay all)) (sym c.in_ok-push.ensures.items) (joined (IsEndOfSomeRelay all) c.loop-relay.ends.items c.run.result c.loop-relay.invariant.1 (record {
         relay = c.in-Some.relay;
         is_relay = ap (slice_get all) c.run.ensures.number ∙ last_of (λ relay. slice_get all relay.number ≡ Some relay) c.pop.new.self.items c.in-Some.relay split;
         receipts = c.run.ensures.receipts;

@@ -1,5 +1,5 @@
 use Rattle.std.proofs.Common.{◌≡◌, All, Some, slice_get, vec_len}
-use Rattle.wcp_run.specs.Settling.{IsEndOfRelay}
+use Rattle.wcp_run.specs.Settling.{IsEndOfSomeRelay}
 use Rattle.run_cases.proofs.tests.settling.run_all.Given as goal
 
 abbrev pub decreases-loop-relay : goal.decreases-loop-relay
@@ -8,4 +8,4 @@ decreases-loop-relay g l = vec_len l.relays
 abbrev pub invariant-loop-relay : goal.invariant-loop-relay
 invariant-loop-relay g l =
     All (λ relay. slice_get l.fn.relays.items relay.number ≡ Some relay) l.relays.items
-    × All (IsEndOfRelay l.fn.relays.items) l.ends.items
+    × All (IsEndOfSomeRelay l.fn.relays.items) l.ends.items

@@ -4,7 +4,7 @@ use Rattle.std.proofs.lemmas.List.Elements.{All-set}
 use Rattle.std.proofs.lemmas.Option.{slice_get-get_or}
 use Rattle.std.proofs.Math.Seq.{take-set-lt}
 use Rattle.wcp_model.specs.declared.outcome.Tally.{Tally}
-use Rattle.wcp_book.specs.Totals.{IsWithin}
+use Rattle.wcp_book.specs.Totals.{HasFewSnapshots}
 use Rattle.wcp_book.proofs.Posted.{posted_totals, few_totals, no_share}
 use Rattle.wcp_book.proofs.book.Book.post.Goals as goal
 
@@ -36,8 +36,8 @@ invariant_of-self c = (
   c.self.invariant.0,
   c.self.invariant.1,
   length-set c.self.inside.shares c.args.p (Some (share c)) ∙ c.self.invariant.2,
-  subst (All IsWithin) (sym (replaced c))
-      (All-set IsWithin (take c.self.inside.processes c.self.inside.shares) c.args.p (Some (share c)) (c.requires.few_emitted, c.requires.few_taken) c.self.invariant.3),
+  subst (All HasFewSnapshots) (sym (replaced c))
+      (All-set HasFewSnapshots (take c.self.inside.processes c.self.inside.shares) c.args.p (Some (share c)) (c.requires.few_emitted, c.requires.few_taken) c.self.invariant.3),
   posted_totals c.self.inside.processes c.args.p c.self.inside.shares c.self.inside.totals (share c) c.if-p-self.false
       (omega (arith, c.self.invariant.1, c.self.invariant.2)) (none c) c.self.invariant.4,
 )

@@ -1,7 +1,7 @@
 use Rattle.std.proofs.Common.{◌≡◌, List, subst}
 use Rattle.wcp_model.specs.declared.workload.Action.{Action}
 use Rattle.wcp_worker.specs.declared.player.Player.{Player}
-use Rattle.wcp_worker.specs.Played.{HasDone}
+use Rattle.wcp_worker.specs.Played.{HasDoneActions}
 use Rattle.wcp_worker.proofs.OneMoreAction.{all_played}
 use Rattle.wcp_worker.proofs.worker.Worker.run.Goals as goal
 
@@ -9,7 +9,7 @@ pub returns-in-Ok : goal.returns-in-Ok
 returns-in-Ok g c =
     let done = c.in_default.ensures.done in
     let start : Player = record { probe = c.args.self.probe; mailbox = c.args.self.mailbox } in
-    let all = subst (λ (actions : List Action). HasDone start actions done.0 c.play-played.new.self) c.deref.ensures.value done.1 in (
+    let all = subst (λ (actions : List Action). HasDoneActions start actions done.0 c.play-played.new.self) c.deref.ensures.value done.1 in (
       done.0,
       all_played c.args.self c.play-played.new.self done.0 c.close-probe.result c.take_rest.new.self all
           c.close-probe.ensures.closed (c.close-probe.ensures.emitted done.0 done.1.stands) c.in-Ok.ensures.outboxes c.in-Ok.ensures.more,
