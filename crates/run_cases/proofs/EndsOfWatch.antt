@@ -51,18 +51,28 @@ last_of P (y ∷ xs) x all = last_of P xs x (All-tail P y (xs ++ x ∷ []) all)
 pub joined : {X : Type 0} (P : X → Type 0) (xs : List X) (x : X) → All P xs → P x → All P (xs ++ x ∷ [])
 joined P xs x all is = All-append P xs (x ∷ []) all (All-cons P x [] is (All-nil P))
 
--- fewer relays come from the watch as well
-pub fewer_relays : (probes : List ClosedSide) (all relays : List RelayEnd) (last : RelayEnd) (checker : CheckerEnd) → ComeFromWatch probes all checker → all ≡ relays ++ last ∷ [] → ComeFromWatch probes relays checker
-fewer_relays probes all relays last checker came split = record {
+-- where an end carries the number of the checker's watch, it is that of one of its relays
+abbrev pub IsOfWatch : (came : Watch) → CheckerEnd → RelayEnd → Type 0
+IsOfWatch came checker end = watch_of end ≡ checker.watch → IsEndOfSomeRelay came.relays.items end
+
+-- other relays come from a watch as well, where these do
+with_relays : (probes : List ClosedSide) (all relays : List RelayEnd) (checker : CheckerEnd) (came : ComeFromWatch probes all checker)
+    → All (IsOfWatch came.watch checker) relays → ComeFromWatch probes relays checker
+with_relays probes all relays checker came are = record {
   plan = came.plan;
   watch = came.watch;
   checked = came.checked;
   wired = came.wired;
   of_probes = came.of_probes;
-  of_relays = front_of (λ end. watch_of end ≡ checker.watch → IsEndOfSomeRelay came.watch.relays.items end) relays (last ∷ [])
-      (subst (All (λ end. watch_of end ≡ checker.watch → IsEndOfSomeRelay came.watch.relays.items end)) split came.of_relays);
+  of_relays = are;
   of_checker = came.of_checker;
 }
+
+-- so do all but the first
+pub fewer_relays : (probes : List ClosedSide) (all relays : List RelayEnd) (first : RelayEnd) (checker : CheckerEnd) → ComeFromWatch probes all checker
+    → all ≡ first ∷ relays → ComeFromWatch probes relays checker
+fewer_relays probes all relays first checker came split = with_relays probes all relays checker came
+    (All-tail (IsOfWatch came.watch checker) first relays (subst (All (IsOfWatch came.watch checker)) split came.of_relays))
 
 -- and so they do with the end of a probe of another watch
 pub with_stranger : (probes : List ClosedSide) (relays : List RelayEnd) (stranger : ClosedSide) (checker : CheckerEnd) → ComeFromWatch probes relays checker → stranger.watch ≢ checker.watch → ComeFromWatch (probes ++ stranger ∷ []) relays checker
@@ -81,18 +91,22 @@ faulted_end : (relays : List Relay) (relay : Relay) (end : RelayEnd) → fault_o
 faulted_end relays relay (Whole number watch parent taken put) fault at = absurd (fault refl)
 faulted_end relays relay (Faulted number watch fault source putter) met at = record { relay = relay; is_relay = at; receipts = tt; whole = tt }
 
--- and with a faulted end in place of one of the same relay
-pub with_faulted : (probes : List ClosedSide) (all relays : List RelayEnd) (last faulted : RelayEnd) (checker : CheckerEnd) → ComeFromWatch probes all checker → all ≡ relays ++ last ∷ [] → fault_of faulted ≢ None → number_of faulted ≡ number_of last → watch_of last ≡ checker.watch → ComeFromWatch probes (relays ++ faulted ∷ []) checker
-with_faulted probes all relays last faulted checker came split met number watch = record {
-  plan = came.plan;
-  watch = came.watch;
-  checked = came.checked;
-  wired = came.wired;
-  of_probes = came.of_probes;
-  of_relays =
-      let split_ends = subst (All (λ end. watch_of end ≡ checker.watch → IsEndOfSomeRelay came.watch.relays.items end)) split came.of_relays in
-      let its = last_of (λ end. watch_of end ≡ checker.watch → IsEndOfSomeRelay came.watch.relays.items end) relays last split_ends watch in
-      joined (λ end. watch_of end ≡ checker.watch → IsEndOfSomeRelay came.watch.relays.items end) relays faulted (front_of (λ end. watch_of end ≡ checker.watch → IsEndOfSomeRelay came.watch.relays.items end) relays (last ∷ []) split_ends)
-      (λ same. faulted_end came.watch.relays.items its.relay faulted met (ap (slice_get came.watch.relays.items) number ∙ its.is_relay));
-  of_checker = came.of_checker;
-}
+module _ (probes : List ClosedSide) (all relays : List RelayEnd) (last faulted : RelayEnd) (checker : CheckerEnd) (came : ComeFromWatch probes all checker)
+    (split : all ≡ relays ++ last ∷ []) (met : fault_of faulted ≢ None) (number : number_of faulted ≡ number_of last) (watch : watch_of last ≡ checker.watch) where
+  are : All (IsOfWatch came.watch checker) (relays ++ last ∷ [])
+  are = subst (All (IsOfWatch came.watch checker)) split came.of_relays
+
+  is_of_watch : IsOfWatch came.watch checker faulted
+  is_of_watch same =
+      let its = last_of (IsOfWatch came.watch checker) relays last are watch in
+      faulted_end came.watch.relays.items its.relay faulted met (ap (slice_get came.watch.relays.items) number ∙ its.is_relay)
+
+  -- and with a faulted end in place of one of the same relay
+  pub with_faulted : ComeFromWatch probes (relays ++ faulted ∷ []) checker
+  with_faulted = with_relays probes all (relays ++ faulted ∷ []) checker came
+      (joined (IsOfWatch came.watch checker) relays faulted (front_of (IsOfWatch came.watch checker) relays (last ∷ []) are) is_of_watch)
+
+  -- or behind it
+  pub with_second_end : ComeFromWatch probes ((relays ++ last ∷ []) ++ faulted ∷ []) checker
+  with_second_end = with_relays probes all ((relays ++ last ∷ []) ++ faulted ∷ []) checker came
+      (joined (IsOfWatch came.watch checker) (relays ++ last ∷ []) faulted are is_of_watch)

@@ -90,14 +90,17 @@ fn run_watch(
     })
 }
 
-/// Takes the end out that came last.
-fn last_relay(relays: &mut Vec<RelayEnd>) -> Option<RelayEnd>
-    ensures { IfSome result (λ last. relays.old.items ≡ relays.new.items ++ last ∷ []) }
+/// Takes the end out that came first. `None` where there is none.
+fn first_relay(relays: &mut Vec<RelayEnd>) -> Option<RelayEnd>
+    ensures { IfSome result (λ first. relays.old.items ≡ first ∷ relays.new.items) }
 {
-    relays.pop()
+    if relays.is_empty() {
+        return None;
+    }
+    Some(relays.remove(0))
 }
 
-/// The ends but for that of the relay that ran last.
+/// The ends but for that of the relay that ran first.
 fn without_a_relay(ends: Ends) -> Option<Ends>
     requires { ComeFromWatch ends.probes.items ends.relays.items ends.checker }
     ensures { IfSome result (λ ends. ComeFromWatch ends.probes.items ends.relays.items ends.checker) }
@@ -107,7 +110,7 @@ fn without_a_relay(ends: Ends) -> Option<Ends>
         mut relays,
         checker,
     } = ends;
-    let _last = last_relay(&mut relays)?;
+    let _first = first_relay(&mut relays)?;
     Some(Ends {
         probes,
         relays,
@@ -134,8 +137,15 @@ fn with_a_stranger(ends: Ends, stranger: ProbeEnd) -> Result<Ends, AllocError>
     })
 }
 
-/// Whether this end, which has a fault, may stand in place of another one of this watch.
-fn may_replace(faulted: &RelayEnd, last: &RelayEnd, watch: u64) -> bool
+/// Takes the end out that came last.
+fn last_relay(relays: &mut Vec<RelayEnd>) -> Option<RelayEnd>
+    ensures { IfSome result (λ last. relays.old.items ≡ relays.new.items ++ last ∷ []) }
+{
+    relays.pop()
+}
+
+/// Whether this end has a fault, and is of the same relay as another one of this watch.
+fn is_fault_of_same(faulted: &RelayEnd, last: &RelayEnd, watch: u64) -> bool
     ensures { IsTrue result → (fault_of faulted.now ≢ None)
         × (number_of faulted.now ≡ number_of last.now) × (watch_of last.now ≡ watch) }
 {
@@ -157,7 +167,34 @@ fn with_a_fault(ends: Ends, faulted: RelayEnd) -> Result<Option<Ends>, AllocErro
     let Some(last) = last_relay(&mut relays) else {
         return Ok(None);
     };
-    if may_replace(&faulted, &last, checker.watch()) {
+    if is_fault_of_same(&faulted, &last, checker.watch()) {
+        relays.push(faulted)?;
+        return Ok(Some(Ends {
+            probes,
+            relays,
+            checker,
+        }));
+    }
+    Ok(None)
+}
+
+/// The ends, and behind them this one, a second one of the relay that ran last. `None` where it met no fault, or is of
+/// another relay.
+fn with_a_second_end(ends: Ends, faulted: RelayEnd) -> Result<Option<Ends>, AllocError>
+    requires { ComeFromWatch ends.probes.items ends.relays.items ends.checker }
+    ensures { IfOk result (λ some. IfSome some (λ ends.
+        ComeFromWatch ends.probes.items ends.relays.items ends.checker)) }
+{
+    let Ends {
+        probes,
+        mut relays,
+        checker,
+    } = ends;
+    let Some(last) = last_relay(&mut relays) else {
+        return Ok(None);
+    };
+    if is_fault_of_same(&faulted, &last, checker.watch()) {
+        relays.push(last)?;
         relays.push(faulted)?;
         return Ok(Some(Ends {
             probes,
@@ -265,5 +302,25 @@ fn a_relay_that_was_cut_is_faulted(rt: HostRuntime) -> Result<(), Fail> {
     } = with_a_fault(ends, faulted)?.expect(&rt, "a fault of the first relay");
     let fault = settle(probes, relays, checker, book.into_inner()).err();
     assert_eq!(rt; fault, Some(SettleFault::Faulted));
+    Ok(())
+}
+
+/// One relay has two ends, of which one has a fault, and the other relay has none: the strangers count first.
+#[test]
+fn two_ends_of_a_relay_are_strangers(rt: HostRuntime) -> Result<(), Fail> {
+    let plan = two_hops(rt.alloc())?;
+    assert!(rt; plan.check().is_ok());
+    let book = Mutex::new(Book::new(2));
+    let ends = run_watch(&rt, rt.alloc(), &plan, &book)?;
+    let second = cut_relay(&rt, rt.alloc(), &plan)?.expect(&rt, "a relay");
+    let ends = without_a_relay(ends).expect(&rt, "a relay");
+    let Ends {
+        probes,
+        relays,
+        checker,
+    } = with_a_second_end(ends, second)?.expect(&rt, "a fault of the first relay");
+    assert_eq!(rt; relays.len(), 2);
+    let fault = settle(probes, relays, checker, book.into_inner()).err();
+    assert_eq!(rt; fault, Some(SettleFault::Stranger));
     Ok(())
 }

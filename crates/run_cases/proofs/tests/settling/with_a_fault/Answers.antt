@@ -3,9 +3,9 @@ use Rattle.wcp_run.specs.Settling.{ComeFromWatch}
 use Rattle.run_cases.proofs.EndsOfWatch.{with_faulted}
 use Rattle.run_cases.proofs.tests.settling.with_a_fault.Goals as goal
 
-pub returns-then-may_replace : goal.returns-then-may_replace
-returns-then-may_replace c =
-    let may = c.may_replace.ensures c.if-may_replace.true in
+pub returns-then-is_fault_of_same : goal.returns-then-is_fault_of_same
+returns-then-is_fault_of_same c =
+    let may = c.is_fault_of_same.ensures c.if-is_fault_of_same.true in
     subst (λ relays. ComeFromWatch c.args.ends.probes.items relays c.args.ends.checker) (sym c.in_ok-push.ensures.items)
     (with_faulted c.args.ends.probes.items c.args.ends.relays.items c.last_relay.new.relays.items c.in-Some.last c.args.faulted c.args.ends.checker
     c.requires c.in-Some.ensures may.0 may.1 (may.2 ∙ c.watch.ensures))
