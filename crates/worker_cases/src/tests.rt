@@ -1,2 +1,4 @@
+mod gates;
+mod outcomes;
 mod two_threads;
 mod whole_runs;

@@ -1,3 +1,4 @@
+use super::outcomes::{comes_to, found};
 use std::alloc::Global;
 use std::sync::Wait;
 use std::test::Fail;
@@ -39,5 +40,12 @@ fn runs_agree_with_one_thread(rt: HostRuntime) -> Result<(), Fail> {
     for text in [CHAIN, THREE_LEAVES, TWO_CUTS, NEVER_RECEIVED, IN_TURN] {
         assert!(rt; agrees(&rt, rt.alloc(), text)?);
     }
+    Ok(())
+}
+
+#[test]
+fn a_run_takes_all_after_its_first_cut(rt: HostRuntime) -> Result<(), Fail> {
+    let outcome = found([0, 0], [2, 1]);
+    assert!(rt; comes_to(&rt, rt.alloc(), TWO_CUTS, &Open, &outcome)?);
     Ok(())
 }

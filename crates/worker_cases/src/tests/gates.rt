@@ -1,0 +1,143 @@
+//! Gates that tell whether each worker runs in a thread of its own.
+use super::outcomes::{comes_to, found};
+use std::sync::atomic::Ordering::SeqCst;
+use std::sync::atomic::{AtomicBool, AtomicU32};
+use std::test::Fail;
+use std::thread::yield_now;
+use wcp_clock::GATE_TURNS;
+use wcp_worker::Gate;
+
+/// Each process is true once, and neither sends.
+const TWO_CONCURRENT: &[u8] = b"wcp 1\nprocs 2\np 0 true\np 1 true\n";
+
+/// Process 0 is true before and after its send, and process 1 once it has received.
+const TRUE_AGAIN_AFTER_SEND: &[u8] =
+    b"wcp 1\nprocs 2\np 0 true\np 0 send 1\np 0 true\np 1 recv 0\np 1 true\n";
+
+/// How often the sender is told to ask again.
+const REFUSALS: u32 = 100_000;
+
+/// Waits until this is set: whether it was, in the turns that a gate has.
+fn is_set_in_time(flag: &AtomicBool) -> bool {
+    for _ in 0..GATE_TURNS {
+        if flag.load(SeqCst) {
+            return true;
+        }
+        yield_now();
+    }
+    false
+}
+
+/// Lets two workers make their first step once both are at it. Where one waits in vain for the other, it lets nobody
+/// pass any more.
+#[derive(Drop)]
+struct Meeting {
+    first: AtomicBool,
+    second: AtomicBool,
+    spoilt: AtomicBool,
+}
+
+impl Meeting {
+    fn new() -> Meeting {
+        Meeting {
+            first: AtomicBool::new(false),
+            second: AtomicBool::new(false),
+            spoilt: AtomicBool::new(false),
+        }
+    }
+
+    /// The mark of process `p`, and that of the other.
+    fn marks(&self, p: u32) -> (&AtomicBool, &AtomicBool) {
+        if p == 0 {
+            (&self.first, &self.second)
+        } else {
+            (&self.second, &self.first)
+        }
+    }
+}
+
+impl Gate for Meeting {
+    fn pass(&self, p: u32, _step: u64) -> bool {
+        let (own, other) = self.marks(p);
+        own.store(true, SeqCst);
+        if self.spoilt.load(SeqCst) {
+            return false;
+        }
+        let met = is_set_in_time(other);
+        if !met {
+            self.spoilt.store(true, SeqCst);
+        }
+        met
+    }
+}
+
+#[test]
+fn two_workers_are_at_their_gates_at_once(rt: HostRuntime) -> Result<(), Fail> {
+    let gate = Meeting::new();
+    let outcome = found([0, 0], [1, 1]);
+    assert!(rt; comes_to(&rt, rt.alloc(), TWO_CONCURRENT, &gate, &outcome)?);
+    assert!(rt; gate.first.load(SeqCst) && gate.second.load(SeqCst));
+    Ok(())
+}
+
+/// Holds the sender back before its send until the receiver is at its receive, and for many answers more. It notes
+/// where the receiver comes past its receive meanwhile.
+#[derive(Drop)]
+struct Latch {
+    receiver_came: AtomicBool,
+    asked: AtomicU32,
+    sender_left: AtomicBool,
+    receiver_went_on: AtomicBool,
+}
+
+impl Latch {
+    fn new() -> Latch {
+        Latch {
+            receiver_came: AtomicBool::new(false),
+            asked: AtomicU32::new(0),
+            sender_left: AtomicBool::new(false),
+            receiver_went_on: AtomicBool::new(false),
+        }
+    }
+
+    /// Whether the sender may send.
+    fn lets_send(&self) -> bool {
+        let asked_before = self.asked.fetch_add(1, SeqCst);
+        if asked_before == 0 {
+            let _ = is_set_in_time(&self.receiver_came);
+        }
+        if asked_before < REFUSALS {
+            return false;
+        }
+        self.sender_left.store(true, SeqCst);
+        true
+    }
+
+    fn note_the_receiver(&self) {
+        if !self.sender_left.load(SeqCst) {
+            self.receiver_went_on.store(true, SeqCst);
+        }
+    }
+}
+
+impl Gate for Latch {
+    fn pass(&self, p: u32, step: u64) -> bool {
+        match (p, step) {
+            (0, 1) => return self.lets_send(),
+            (1, 0) => self.receiver_came.store(true, SeqCst),
+            (1, 1) => self.note_the_receiver(),
+            _ => {}
+        }
+        true
+    }
+}
+
+#[test]
+fn a_receiver_waits_for_a_sender_that_is_held_back(rt: HostRuntime) -> Result<(), Fail> {
+    let gate = Latch::new();
+    let outcome = found([1, 1], [2, 1]);
+    assert!(rt; comes_to(&rt, rt.alloc(), TRUE_AGAIN_AFTER_SEND, &gate, &outcome)?);
+    assert_eq!(rt; gate.asked.load(SeqCst), REFUSALS + 1);
+    assert!(rt; !gate.receiver_went_on.load(SeqCst));
+    Ok(())
+}
