@@ -6,7 +6,7 @@ use Rattle.clap.specs.declared.parser.matches.ArgMatches.TheViews.{out-ArgMatche
 use Rattle.clap.specs.declared.parser.matches.SubCommand.{SubCommand}
 use Rattle.std.specs.Box.{box_value}
 use Rattle.std.specs.Prelude.{Box}
-use Rattle.wcp_cli.specs.Words.{AskForSingle, AskForReplay, program}
+use Rattle.wcp_cli.specs.Words.{AskForSingle, IsAlone, IsReader, program}
 use Rattle.wcp_cli.proofs.RingWords.{found_by}
 
 abbrev pub name_of : Option (Text × List Row) → Option Text
@@ -24,18 +24,16 @@ nothing_found : name_of (found_by []) ≡ None
 unfolding clap_on_literals
 nothing_found = refl
 
-single_found : name_of (found_by (codes "single" ∷ [])) ≡ Some (codes "single")
+reader_found : (word : Text) → IsReader word → name_of (found_by (word ∷ [])) ≡ Some word
 unfolding clap_on_literals
-single_found = refl
+reader_found word (inl is) = rw is refl
+reader_found word (inr (inl is)) = rw is refl
+reader_found word (inr (inr is)) = rw is refl
 
-replay_found : name_of (found_by (codes "replay" ∷ [])) ≡ Some (codes "replay")
-unfolding clap_on_literals
-replay_found = refl
+pub reader-found : (word : Text) (words : List Text) → IsReader word → IsAlone word words → name_of (subcommand_of program words) ≡ Some word
+reader-found word words is alone = ap (λ ws. name_of (found_by ws)) alone ∙ reader_found word is
 
 pub single-found : (words : List Text) → AskForSingle words
     → (name_of (subcommand_of program words) ≡ None) ⊎ (name_of (subcommand_of program words) ≡ Some (codes "single"))
 single-found words (inl none) = inl (ap (λ ws. name_of (found_by ws)) none ∙ nothing_found)
-single-found words (inr one) = inr (ap (λ ws. name_of (found_by ws)) one ∙ single_found)
-
-pub replay-found : (words : List Text) → AskForReplay words → name_of (subcommand_of program words) ≡ Some (codes "replay")
-replay-found words asked = ap (λ ws. name_of (found_by ws)) asked ∙ replay_found
+single-found words (inr one) = inr (reader-found (codes "single") words (inl refl) one)

@@ -51,7 +51,7 @@ ring_rows procs rounds fault = number_row (codes "procs") procs ∷ number_row (
 
 -- the word `ring` as clap builds it
 abbrev pub ring_built : Shape
-ring_built = get_or (built program).subs 2 ring_shape
+ring_built = get_or (built program).subs 3 ring_shape
 
 -- a walk at which an option waits for its value
 abbrev pub waits_for : Text → Held → Walk

@@ -12,7 +12,7 @@ use Rattle.clap.specs.declared.error.kind.ErrorKind.TheVariants as kind
 use Rattle.std.specs.Str.{bytes_eq}
 use Rattle.wcp_cli.proofs.NoRingWords.{no_ring-fails}
 use Rattle.wcp_cli.proofs.StoppedWalk.{stays_stopped}
-use Rattle.wcp_cli.specs.Words.{AskForSingle, AskForHelp, AskForReplay, AskForUnknown, UnknownWord, Further, FurtherReplay, NoRing, is_flag, program}
+use Rattle.wcp_cli.specs.Words.{AskForSingle, AskForHelp, AskForUnknown, IsAlone, IsReader, UnknownWord, Further, NoRing, is_flag, program}
 
 pub program_is_free : is_simple_and_free program ≡ true
 unfolding clap_on_literals
@@ -26,22 +26,20 @@ no_word_passes : built_fault (built program) nothing_held [] ≡ []
 unfolding clap_on_literals
 no_word_passes = refl
 
-single_passes : built_fault (built program) nothing_held (codes "single" ∷ []) ≡ []
+reader_passes : (word : Text) → IsReader word → built_fault (built program) nothing_held (word ∷ []) ≡ []
 unfolding clap_on_literals
-single_passes = refl
+reader_passes word (inl is) = rw is refl
+reader_passes word (inr (inl is)) = rw is refl
+reader_passes word (inr (inr is)) = rw is refl
+
+-- a word that reads the input, alone, makes no parse fail
+pub reader-passes : (word : Text) (words : List Text) → IsReader word → IsAlone word words → fault_of program words ≡ []
+reader-passes word words is alone = ap (built_fault (built program) nothing_held) alone ∙ reader_passes word is
 
 -- the words that ask for an outcome make no parse fail
 pub single-passes : (words : List Text) → AskForSingle words → fault_of program words ≡ []
 single-passes words (inl none) = ap (built_fault (built program) nothing_held) none ∙ no_word_passes
-single-passes words (inr one) = ap (built_fault (built program) nothing_held) one ∙ single_passes
-
-replay_passes : built_fault (built program) nothing_held (codes "replay" ∷ []) ≡ []
-unfolding clap_on_literals
-replay_passes = refl
-
--- the words that ask for a replay make no parse fail
-pub replay-passes : (words : List Text) → AskForReplay words → fault_of program words ≡ []
-replay-passes words asked = ap (built_fault (built program) nothing_held) asked ∙ replay_passes
+single-passes words (inr one) = reader-passes (codes "single") words (inl refl) one
 
 help_fails : built_fault (built program) nothing_held (codes "help" ∷ []) ≡ [] → ⊥
 unfolding clap_on_literals
@@ -75,29 +73,24 @@ not_equal : (name word : Text) → (word ≡ name → ⊥) → bytes_eq name wor
 not_equal name word differs = false_from_ne_true (bytes_eq name word) (λ same. differs (sym ((bytes_eq-Decides name word).0 same)))
 
 -- the first word is unknown
-unknown_first : (word : Text) (rest : List Text) → strip_byte 45 word ≡ None → bytes_eq (codes "single") word ≡ false → bytes_eq (codes "replay") word ≡ false
-    → bytes_eq (codes "ring") word ≡ false → bytes_eq (codes "help") word ≡ false → bytes_eq word (45 ∷ 45 ∷ []) ≡ false
+unknown_first : (word : Text) (rest : List Text) → strip_byte 45 word ≡ None → bytes_eq (codes "single") word ≡ false → bytes_eq (codes "run") word ≡ false
+    → bytes_eq (codes "replay") word ≡ false → bytes_eq (codes "ring") word ≡ false → bytes_eq (codes "help") word ≡ false → bytes_eq word (45 ∷ 45 ∷ []) ≡ false
     → built_fault (built program) nothing_held (word ∷ rest) ≡ kind.UnknownArgument ∷ kind.InvalidSubcommand ∷ []
 unfolding clap_on_literals
-unknown_first word rest no_flag not_single not_replay not_ring not_help not_end = simp (not_single, not_replay, not_ring, not_help, not_end, no_flag) refl
+unknown_first word rest no_flag not_single not_run not_replay not_ring not_help not_end = simp (not_single, not_run, not_replay, not_ring, not_help, not_end, no_flag) refl
 
--- `single` has a further word
-further_word : (word : Text) (rest : List Text) → strip_byte 45 word ≡ None → bytes_eq word (45 ∷ 45 ∷ []) ≡ false
-    → built_fault (built program) nothing_held (codes "single" ∷ word ∷ rest) ≡ kind.UnknownArgument ∷ []
+-- a word that reads the input has a further word
+further_word : (reader word : Text) (rest : List Text) → IsReader reader → strip_byte 45 word ≡ None → bytes_eq word (45 ∷ 45 ∷ []) ≡ false
+    → built_fault (built program) nothing_held (reader ∷ word ∷ rest) ≡ kind.UnknownArgument ∷ []
 unfolding clap_on_literals
-further_word word rest no_flag not_end =
-    let stops = stays_stopped (built program).top.rules (names_of (built program)) (walk_from nothing_held) (codes "single") (word ∷ []) rest in
-    let passes = stopped_fault (built program).top (names_of (built program)) (walk_from nothing_held) (codes "single", word ∷ []) rest in
-    simp (stops, passes, not_end, no_flag) refl
-
--- `replay` has a further word
-further_word_of_replay : (word : Text) (rest : List Text) → strip_byte 45 word ≡ None → bytes_eq word (45 ∷ 45 ∷ []) ≡ false
-    → built_fault (built program) nothing_held (codes "replay" ∷ word ∷ rest) ≡ kind.UnknownArgument ∷ []
-unfolding clap_on_literals
-further_word_of_replay word rest no_flag not_end =
-    let stops = stays_stopped (built program).top.rules (names_of (built program)) (walk_from nothing_held) (codes "replay") (word ∷ []) rest in
-    let passes = stopped_fault (built program).top (names_of (built program)) (walk_from nothing_held) (codes "replay", word ∷ []) rest in
-    simp (stops, passes, not_end, no_flag) refl
+further_word reader word rest is no_flag not_end =
+    let stops = λ (name : Text). stays_stopped (built program).top.rules (names_of (built program)) (walk_from nothing_held) name (word ∷ []) rest in
+    let passes = λ (name : Text). stopped_fault (built program).top (names_of (built program)) (walk_from nothing_held) (name, word ∷ []) rest in
+    elim is [
+      | inl single ↦ rw single (simp (stops (codes "single"), passes (codes "single"), not_end, no_flag) refl)
+      | inr (inl run) ↦ rw run (simp (stops (codes "run"), passes (codes "run"), not_end, no_flag) refl)
+      | inr (inr replay) ↦ rw replay (simp (stops (codes "replay"), passes (codes "replay"), not_end, no_flag) refl)
+    ]
 
 -- A parse fails, and not for help.
 pub record FailsPlainly (kinds : Kinds) : Type 0 where
@@ -122,15 +115,12 @@ fails_by_want = record { fails = λ bad. cc; no_help = λ among. elim among [ in
 -- words that ask for what the program doesn't know are refused, and not as a wish for help
 pub unknown-fails : (words : List Text) → AskForUnknown words → FailsPlainly (fault_of program words)
 unknown-fails words (UnknownWord word rest is unknown) =
-    let fault = unknown_first word rest (no_hyphen word unknown.no_flag) (not_equal (codes "single") word unknown.not_single)
-    (not_equal (codes "replay") word unknown.not_replay) (not_equal (codes "ring") word unknown.not_ring)
-    (not_equal (codes "help") word unknown.not_help) (not_end_of_flags word unknown.no_flag) in
+    let fault = unknown_first word rest (no_hyphen word unknown.no_flag) (not_equal (codes "single") word (λ same. unknown.not_reader (inl same)))
+    (not_equal (codes "run") word (λ same. unknown.not_reader (inr (inl same)))) (not_equal (codes "replay") word (λ same. unknown.not_reader (inr (inr same))))
+    (not_equal (codes "ring") word unknown.not_ring) (not_equal (codes "help") word unknown.not_help) (not_end_of_flags word unknown.no_flag) in
     subst FailsPlainly (sym (ap (built_fault (built program) nothing_held) is ∙ fault)) fails_by_word
-unknown-fails words (Further word rest is no_flag) =
-    let fault = further_word word rest (no_hyphen word no_flag) (not_end_of_flags word no_flag) in
-    subst FailsPlainly (sym (ap (built_fault (built program) nothing_held) is ∙ fault)) fails_by_argument
-unknown-fails words (FurtherReplay word rest is no_flag) =
-    let fault = further_word_of_replay word rest (no_hyphen word no_flag) (not_end_of_flags word no_flag) in
+unknown-fails words (Further reader word rest is reads no_flag) =
+    let fault = further_word reader word rest reads (no_hyphen word no_flag) (not_end_of_flags word no_flag) in
     subst FailsPlainly (sym (ap (built_fault (built program) nothing_held) is ∙ fault)) fails_by_argument
 unknown-fails words (NoRing asked) = elim (no_ring-fails words asked) [
   | inl fault ↦ subst FailsPlainly (sym fault) fails_by_value

@@ -19,7 +19,7 @@ use Rattle.wcp_script.specs.TextFault.{schedules, workloads, Spells}
 use Rattle.wcp_script.specs.WorkloadText.{task_line}
 use Rattle.wcp_world.specs.Plays.{IsPlayed}
 use Rattle.wcp_cli.specs.declared.words.Request.{Request}
-use Rattle.wcp_cli.specs.declared.words.Request.TheVariants.{Single, Replay, Ring, Help, Unknown}
+use Rattle.wcp_cli.specs.declared.words.Request.TheVariants.{Single, Run, Replay, Ring, Help, Unknown}
 
 -- What is known of the bytes that a reader has left, or of those that a writer holds.
 abbrev pub Known : Type 0
@@ -64,10 +64,13 @@ pub record IsInput (input input_after : Known) (text : List ℕ) : Type 0 where
   pub ended : IsAtEnd input_after
   pub within : length text ≤ most_bytes
 
--- The answer to a request is printed, with its status. `single` and `replay` answer to their whole input, and the
--- others read nothing: a ring's answer is its text, and the answer to a request for help is the text that it carries.
+-- The answer to a request is printed, with its status. `single`, `run` and `replay` answer to their whole input, the
+-- first two alike, and the others read nothing: a ring's answer is its text, and the answer to a request for help is
+-- the text that it carries.
 abbrev pub IsAnswerTo : Request → Known → Known → List ℕ → ℕ → Type 0
 IsAnswerTo Single input input_after printed status =
+    (text : List ℕ) × IsInput input input_after text × IsOutcomeAnswer text printed status
+IsAnswerTo Run input input_after printed status =
     (text : List ℕ) × IsInput input input_after text × IsOutcomeAnswer text printed status
 IsAnswerTo Replay input input_after printed status =
     (text : List ℕ) × IsInput input input_after text × IsReplayAnswer text printed status
@@ -77,8 +80,9 @@ IsAnswerTo (Help text) input input_after printed status =
     Keeps input input_after × (printed ≡ string_bytes text) × (status ≡ 0)
 IsAnswerTo Unknown input input_after printed status = ⊥
 
--- What a request may read, answered or not: `single` and `replay` their input, the others nothing.
+-- What a request may read, answered or not: `single`, `run` and `replay` their input, the others nothing.
 abbrev pub Reads : Request → Known → Known → Type 0
 Reads Single input input_after = Unit {0}
+Reads Run input input_after = Unit {0}
 Reads Replay input input_after = Unit {0}
 Reads _ input input_after = Keeps input input_after

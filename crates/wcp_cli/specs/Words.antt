@@ -8,7 +8,7 @@ use Rattle.clap.specs.declared.builder.value_parser.ValueParser.TheVariants.{Sig
 use Rattle.wcp_clock.specs.Limits.{most_processes}
 use Rattle.wcp_script.specs.Ring.{most_rounds}
 use Rattle.wcp_cli.specs.declared.words.Request.{Request}
-use Rattle.wcp_cli.specs.declared.words.Request.TheVariants.{Single, Replay, Ring, Help, Unknown}
+use Rattle.wcp_cli.specs.declared.words.Request.TheVariants.{Single, Run, Replay, Ring, Help, Unknown}
 
 -- A ring has at least 2 processes.
 abbrev pub least_ring : ℕ
@@ -42,19 +42,20 @@ ring_shape = record (new_shape (codes "ring")) {
       ∷ flag_option (codes "fault") ∷ [];
 }
 
--- The command line of the program: the words `single`, `replay` and `ring`, and what clap adds for help.
+-- The command line of the program: the words `single`, `run`, `replay` and `ring`, and what clap adds for help.
 abbrev pub program : App
 program =
     let with_single = with_subcommand (new_app (codes "wcpwatch")) (new_shape (codes "single")) in
-    with_subcommand (with_subcommand with_single (new_shape (codes "replay"))) ring_shape
+    let with_run = with_subcommand with_single (new_shape (codes "run")) in
+    with_subcommand (with_subcommand with_run (new_shape (codes "replay"))) ring_shape
+
+-- After the program's name there is this word alone.
+abbrev pub IsAlone : Text → List Text → Type 0
+IsAlone word words = drop 1 words ≡ word ∷ []
 
 -- The words ask for the outcome of a workload: after the program's name there is none, or `single` alone.
 abbrev pub AskForSingle : List Text → Type 0
-AskForSingle words = (drop 1 words ≡ []) ⊎ (drop 1 words ≡ codes "single" ∷ [])
-
--- The words ask for the replies to a schedule: after the program's name there is `replay` alone.
-abbrev pub AskForReplay : List Text → Type 0
-AskForReplay words = drop 1 words ≡ codes "replay" ∷ []
+AskForSingle words = (drop 1 words ≡ []) ⊎ IsAlone (codes "single") words
 
 -- The word after the numbers of a ring, where there shall be a fault.
 abbrev pub flag_words : Bool → List Text
@@ -93,28 +94,30 @@ abbrev pub is_flag : Text → Bool
 is_flag [] = false
 is_flag (byte ∷ bytes) = byte == 45
 
+-- A word that says with no other what the program does with its input.
+abbrev pub IsReader : Text → Type 0
+IsReader word = (word ≡ codes "single") ⊎ (word ≡ codes "run") ⊎ (word ≡ codes "replay")
+
 -- The program doesn't know the word, which is no flag.
 pub record IsUnknown (word : Text) : Type 0 where
   pub no_flag : is_flag word ≡ false
-  pub not_single : word ≢ codes "single"
-  pub not_replay : word ≢ codes "replay"
+  pub not_reader : IsReader word → ⊥
   pub not_ring : word ≢ codes "ring"
   pub not_help : word ≢ codes "help"
 
--- The words ask for what the program doesn't know: their first is unknown, or it is `single` or `replay` and a word
--- that is no flag follows it, or there is no such ring.
+-- The words ask for what the program doesn't know: their first is unknown, or it is `single`, `run` or `replay` and a
+-- word that is no flag follows it, or there is no such ring.
 pub data AskForUnknown (words : List Text) : Type 0 where
   UnknownWord : (word : Text) (rest : List Text) → drop 1 words ≡ word ∷ rest → IsUnknown word → AskForUnknown words
-  Further : (word : Text) (rest : List Text) → drop 1 words ≡ codes "single" ∷ word ∷ rest → is_flag word ≡ false
-      → AskForUnknown words
-  FurtherReplay : (word : Text) (rest : List Text) → drop 1 words ≡ codes "replay" ∷ word ∷ rest → is_flag word ≡ false
-      → AskForUnknown words
+  Further : (reader word : Text) (rest : List Text) → drop 1 words ≡ reader ∷ word ∷ rest → IsReader reader
+      → is_flag word ≡ false → AskForUnknown words
   NoRing : AskForNoRing words → AskForUnknown words
 
 -- The words ask for this request. A request for help is asked for with any text.
 abbrev pub AskFor : Request → List Text → Type 0
 AskFor Single words = AskForSingle words
-AskFor Replay words = AskForReplay words
+AskFor Run words = IsAlone (codes "run") words
+AskFor Replay words = IsAlone (codes "replay") words
 AskFor (Ring ring) words = IsRing ring.procs ring.rounds × AskForRing ring.procs ring.rounds ring.fault words
 AskFor (Help text) words = AskForHelp words
 AskFor Unknown words = AskForUnknown words

@@ -9,9 +9,15 @@ use crate::input::read_text;
 use crate::words::{Request, Ring};
 use std::alloc::Global;
 use std::io::Read;
+use std::sync::Wait;
+use std::thread::Threads;
 use wcp_model::{Outcome, Report};
 use wcp_report::{replay_text, report_text};
-use wcp_script::{read_ordered, read_schedule, ring_workload, single_in_order, workload_text};
+use wcp_run::run;
+use wcp_script::{
+    read_ordered, read_schedule, read_workload, ring_workload, single_in_order, workload_text,
+};
+use wcp_worker::Open;
 use wcp_world::play;
 
 /// The status where a bad moment was found, and after a text that tells of no computation.
@@ -28,17 +34,26 @@ pub struct Answer {
     ghost small: { status ≤ 1 },
 }
 
-/// The answer to a request.
-pub fn answer_to<I: Read>(alloc: Global, request: Request, input: &mut I) -> Result<Answer, Fault>
+/// The answer to a request. Of all requests `Run` alone starts threads and may wait.
+pub fn answer_to<R: AllocGlobal + Threads + Wait + Sync, I: Read>(
+    rt: &R,
+    request: Request,
+    input: &mut I,
+) -> Result<Answer, Fault>
     requires { HasRing request }
     ensures answer { IfOk result (λ answer. IsAnswerTo request
         (I.remaining input.old) (I.remaining input.new) answer.text.items answer.status) }
     ensures reads { Reads request (I.remaining input.old) (I.remaining input.new) }
 {
+    let alloc = rt.alloc();
     match request {
         Request::Single => {
             let text = read_text(alloc, input)?;
             outcome_answer(alloc, text.as_slice())
+        }
+        Request::Run => {
+            let text = read_text(alloc, input)?;
+            run_answer(rt, text.as_slice())
         }
         Request::Replay => {
             let text = read_text(alloc, input)?;
@@ -59,6 +74,19 @@ fn outcome_answer(alloc: Global, text: &[u8]) -> Result<Answer, Fault>
 {
     let read = read_ordered(alloc, text)?;
     let outcome = single_in_order(alloc, &read.workload, read.in_order())?;
+    Ok(Answer {
+        text: report_text(alloc, &outcome)?,
+        status: status_of(&outcome.report),
+    })
+}
+
+/// The outcome of the workload that the text spells, from a run in threads.
+fn run_answer<R: AllocGlobal + Threads + Wait + Sync>(rt: &R, text: &[u8]) -> Result<Answer, Fault>
+    ensures { IfOk result (λ answer. IsOutcomeAnswer text.now answer.text.items answer.status) }
+{
+    let alloc = rt.alloc();
+    let workload = read_workload(alloc, text)?;
+    let outcome = run(rt, alloc, &workload, &Open)?;
     Ok(Answer {
         text: report_text(alloc, &outcome)?,
         status: status_of(&outcome.report),

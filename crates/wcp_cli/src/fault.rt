@@ -4,6 +4,7 @@ ghost use Rattle.wcp_cli.specs.Faults.{fault_of};
 
 use std::alloc::AllocError;
 use thiserror::Error;
+use wcp_run::RunFault;
 use wcp_script::{ReadFault, ScriptFault};
 
 /// Why the program gives no answer. It displays as its line on standard error, without the name of
@@ -22,7 +23,10 @@ pub enum Fault {
     /// The text has a fault: it spells no workload, or no schedule.
     #[error(transparent)]
     Script(ScriptFault),
-    /// Memory ran out.
+    /// A run in threads came to no outcome.
+    #[error(transparent)]
+    Run(#[from] RunFault),
+    /// Memory ran out, outside of a run in threads.
     #[error("memory")]
     Memory,
     /// Writing the output failed.

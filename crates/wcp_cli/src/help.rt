@@ -7,6 +7,9 @@ pub const ABOUT: &str =
 /// What `single` does.
 pub const SINGLE: &str = "Reads a workload and prints its outcome; done where no word is given";
 
+/// What `run` does.
+pub const RUN: &str = "Reads a workload, runs it in threads and prints its outcome";
+
 /// What `replay` does.
 pub const REPLAY: &str =
     "Reads a schedule and prints the reply to each of its steps, and then the outcome";
@@ -54,6 +57,12 @@ single
   lines count the snapshots of each process: one is emitted where its condition is
   true for the first time since its last send or receive, and in the end all of them
   are taken.
+
+run
+  Reads a workload as `single` does, and prints the same outcome. The workload is run:
+  a thread plays each process, sends its messages and emits its snapshots, a thread
+  runs each relay, and one takes the snapshots that come out of the relays. In whatever
+  order the threads get on, the outcome is the same.
 
 replay
   A schedule says step by step how the snapshots go from the processes through links
@@ -168,5 +177,12 @@ Exit status:
            stuck    no order of the steps has a send before this receive
            toolong  a text has at most 65,536 steps
        wcpwatch: memory        memory ran out
+       wcpwatch: run KIND      the threads came to no outcome, and KIND says why:
+           memory      memory ran out
+           spawn       a thread could not be made
+           held P      process P was held back
+           lost P      the thread of process P lost its snapshots
+           cut         a thread ended before one that it sends to, or takes from
+           unfinished  not all that was put was taken
        wcpwatch: write         the output could not be written
 ";

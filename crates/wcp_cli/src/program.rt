@@ -8,9 +8,10 @@ use crate::answers::answer_to;
 use crate::fault::Fault;
 use crate::output::write_whole;
 use crate::words::{Request, read_words};
-use std::alloc::Global;
 use std::convert::AsStr;
 use std::io::{Read, Write};
+use std::sync::Wait;
+use std::thread::Threads;
 
 /// The status of a run that gives no answer.
 const REFUSED: u8 = 2;
@@ -19,7 +20,7 @@ const REFUSED: u8 = 2;
 ///
 /// The output is written in one piece, when all of it is known. Where there is no answer, `errors`
 /// gets one line that says why.
-pub fn drive<R: AllocGlobal, S: AsStr, I: Read, O: Write, E: Write>(
+pub fn drive<R: AllocGlobal + Threads + Wait + Sync, S: AsStr, I: Read, O: Write, E: Write>(
     rt: &R,
     words: &[S],
     input: &mut I,
@@ -38,7 +39,7 @@ pub fn drive<R: AllocGlobal, S: AsStr, I: Read, O: Write, E: Write>(
         → DoesAsked asked (edge_of (I.remaining input.old) (I.remaining input.new)
         (O.contents output.old) (O.contents output.new)) result }
 {
-    match run(rt.alloc(), words, input, output) {
+    match obey(rt, words, input, output) {
         Ok(status) => status,
         Err(fault) => refuse(errors, fault),
     }
@@ -54,8 +55,8 @@ pub fn refuse<E: Write>(errors: &mut E, fault: Fault) -> u8
 }
 
 /// Does what the words ask for, and gives the status.
-fn run<S: AsStr, I: Read, O: Write>(
-    alloc: Global,
+fn obey<R: AllocGlobal + Threads + Wait + Sync, S: AsStr, I: Read, O: Write>(
+    rt: &R,
     words: &[S],
     input: &mut I,
     output: &mut O,
@@ -67,13 +68,13 @@ fn run<S: AsStr, I: Read, O: Write>(
         → DoesAsked asked (edge_of (I.remaining input.old) (I.remaining input.new)
         (O.contents output.old) (O.contents output.new)) (status_after result) }
 {
-    let request = read_words(alloc, words)?;
-    fulfil(alloc, request, input, output)
+    let request = read_words(rt.alloc(), words)?;
+    fulfil(rt, request, input, output)
 }
 
 /// Writes the answer to a request, and gives the status.
-fn fulfil<I: Read, O: Write>(
-    alloc: Global,
+fn fulfil<R: AllocGlobal + Threads + Wait + Sync, I: Read, O: Write>(
+    rt: &R,
     request: Request,
     input: &mut I,
     output: &mut O,
@@ -83,7 +84,7 @@ fn fulfil<I: Read, O: Write>(
     ensures does { Does request (edge_of (I.remaining input.old) (I.remaining input.new)
         (O.contents output.old) (O.contents output.new)) (status_after result) }
 {
-    let answer = answer_to(alloc, request, input)?;
+    let answer = answer_to(rt, request, input)?;
     write_whole(output, answer.text.as_slice())?;
     Ok(answer.status)
 }

@@ -26,6 +26,8 @@ use wcp_script::MAX_ROUNDS;
 pub enum Request {
     /// The outcome of the workload that the input spells.
     Single,
+    /// The outcome of that workload, from a run in threads.
+    Run,
     /// The replies to the schedule that the input spells, and its outcome.
     Replay,
     /// The text of a ring workload.
@@ -68,6 +70,7 @@ pub fn read_words<S: AsStr>(alloc: Global, words: &[S]) -> Result<Request, Alloc
 fn request_of(matches: &ArgMatches) -> Request
     ensures single { (subcommand_name_of matches.now ≡ None) ⊎ (subcommand_name_of matches.now ≡ Some (codes "single"))
         → result ≡ Request.Single }
+    ensures run { subcommand_name_of matches.now ≡ Some (codes "run") → result ≡ Request.Run }
     ensures replay { subcommand_name_of matches.now ≡ Some (codes "replay") → result ≡ Request.Replay }
     ensures ring { (ring : Ring) → IsRing ring.procs ring.rounds
         → AsksForRing ring.procs ring.rounds ring.fault (subcommand_rows_of matches.now) → result ≡ Request.Ring ring }
@@ -78,6 +81,9 @@ fn request_of(matches: &ArgMatches) -> Request
             Some(ring) => Request::Ring(ring),
             None => Request::Unknown,
         };
+    }
+    if matches.subcommand_matches("run").is_some() {
+        return Request::Run;
     }
     match matches.subcommand_matches("replay") {
         Some(_) => Request::Replay,
@@ -145,12 +151,14 @@ fn command<'a>(alloc: Global) -> Result<Command<'a>, AllocError>
     ensures { IfOk result (λ command. app_of command ≡ program) }
 {
     let single = Command::new(alloc, "single").about(help::SINGLE);
+    let run = Command::new(alloc, "run").about(help::RUN);
     let replay = Command::new(alloc, "replay").about(help::REPLAY);
     let ring = ring_command(alloc)?;
     Command::new(alloc, "wcpwatch")
         .about(help::ABOUT)
         .after_help(help::MORE)
         .subcommand(single)?
+        .subcommand(run)?
         .subcommand(replay)?
         .subcommand(ring)
 }

@@ -1,7 +1,7 @@
 //! Words that are not understood, and words for help.
 
-use super::run;
 use std::test::Fail;
+use wcp_cli::drive;
 
 const TEXT: &[u8] = b"wcp 1\nprocs 1\np 0 true\n";
 
@@ -15,6 +15,7 @@ fn other_words_are_refused(rt: HostRuntime) {
         ["wcpwatch", "single", "double"].as_slice(),
         ["wcpwatch", "single", "--verbose"].as_slice(),
         ["wcpwatch", "double", "single"].as_slice(),
+        ["wcpwatch", "run", "double"].as_slice(),
         ["wcpwatch", "replay", "double"].as_slice(),
         ["wcpwatch", "ring"].as_slice(),
         ["wcpwatch", "ring", "--procs", "2"].as_slice(),
@@ -28,7 +29,7 @@ fn other_words_are_refused(rt: HostRuntime) {
         let mut input = TEXT;
         let mut output = Vec::new(rt.alloc());
         let mut errors = Vec::new(rt.alloc());
-        let status = run(&rt, words, &mut input, &mut output, &mut errors);
+        let status = drive(&rt, words, &mut input, &mut output, &mut errors);
         assert_eq!(rt;
             errors.as_slice(),
             b"wcpwatch: usage\n".as_slice(),
@@ -47,15 +48,17 @@ fn help_tells_what_a_newcomer_needs(rt: HostRuntime) -> Result<(), Fail> {
         let mut output = Vec::new(rt.alloc());
         let mut errors = Vec::new(rt.alloc());
         let words = ["wcpwatch", word];
-        let status = run(&rt, words.as_slice(), &mut input, &mut output, &mut errors);
+        let status = drive(&rt, words.as_slice(), &mut input, &mut output, &mut errors);
         let text = std::str::from_utf8(output.as_slice())?;
         for part in [
             "single",
+            "runs it in threads",
             "replay",
             "ring",
             "p 0 send 1",
             "found 1 1",
             "wcpwatch: usage",
+            "wcpwatch: run",
             "stuck",
         ] {
             assert!(rt; text.contains(part), "{word} without {part}");

@@ -1,13 +1,15 @@
 //! Input that comes in pieces, that fails, or that is too large.
 
 use super::rows::{ANSWERED, Row};
-use super::run;
 use super::streams::{Source, Trouble};
 use std::io::{self, ErrorKind, Read};
 use std::process::Abort;
+use std::sync::Wait;
+use std::thread::Threads;
+use wcp_cli::drive;
 
 /// Runs the program on a reader, and compares what it gives.
-fn gives<R: AllocGlobal + Abort, I: Read>(
+fn gives<R: AllocGlobal + Threads + Wait + Sync + Abort, I: Read>(
     rt: &R,
     word: &str,
     input: &mut I,
@@ -17,7 +19,7 @@ fn gives<R: AllocGlobal + Abort, I: Read>(
     let mut written = Vec::new(rt.alloc());
     let mut said = Vec::new(rt.alloc());
     let words = ["wcpwatch", word];
-    let status = run(rt, words.as_slice(), input, &mut written, &mut said);
+    let status = drive(rt, words.as_slice(), input, &mut written, &mut said);
     assert_eq!(rt; said.as_slice(), errors.as_bytes());
     assert_eq!(rt; written.as_slice(), output.as_bytes());
     assert_eq!(rt; status == 2, output.is_empty());
@@ -59,7 +61,7 @@ fn each_read_may_fail(rt: HostRuntime) {
 }
 
 /// The words that read their input.
-const READING: [&str; 2] = ["single", "replay"];
+const READING: [&str; 3] = ["single", "run", "replay"];
 
 #[test]
 fn reads_are_tried_so_often(rt: HostRuntime) {

@@ -1,7 +1,6 @@
 //! The ring workloads that the program prints.
 
-use super::run;
-use std::process::Abort;
+use wcp_cli::drive;
 
 /// Words after `ring`, and the text that they give.
 static RINGS: [(&[&str], &str); 2] = [
@@ -24,7 +23,7 @@ fn rings_are_printed(rt: HostRuntime) {
         let mut input = unread;
         let mut output = Vec::new(rt.alloc());
         let mut errors = Vec::new(rt.alloc());
-        let status = run(&rt, *words, &mut input, &mut output, &mut errors);
+        let status = drive(&rt, *words, &mut input, &mut output, &mut errors);
         assert_eq!(rt; output.as_slice(), text.as_bytes());
         assert!(rt; errors.is_empty());
         assert_eq!(rt; status, 0);

@@ -12,7 +12,7 @@ pub struct Row {
 }
 
 /// Texts that are answered.
-pub static ANSWERED: [Row; 21] = [
+pub static ANSWERED: [Row; 23] = [
     Row {
         name: "true again after a send",
         word: "single",
@@ -108,6 +108,22 @@ pub static ANSWERED: [Row; 21] = [
         output: "found 1 1\nprocess 0 emitted 2 taken 2\nprocess 1 emitted 1 taken 1\ntotal emitted 3 taken 3\n",
         errors: "",
         status: 0,
+    },
+    Row {
+        name: "a message that is never received",
+        word: "run",
+        text: "wcp 1\nprocs 2\np 0 true\np 0 send 1\np 1 true\n",
+        output: "found 0 0\nprocess 0 emitted 1 taken 1\nprocess 1 emitted 1 taken 1\ntotal emitted 2 taken 2\n",
+        errors: "",
+        status: 0,
+    },
+    Row {
+        name: "three leaves under one relay",
+        word: "run",
+        text: "wcp 1\nprocs 3\nrelay 0 root\nrelay 1 0\nrelay 2 0\nrelay 3 0\nattach 0 1\nattach 1 2\nattach 2 3\np 0 true\np 0 send 1\np 1 true\np 1 recv 0\np 1 send 2\np 2 recv 1\np 2 true\n",
+        output: "none\nprocess 0 emitted 1 taken 1\nprocess 1 emitted 1 taken 1\nprocess 2 emitted 1 taken 1\ntotal emitted 3 taken 3\n",
+        errors: "",
+        status: 1,
     },
     Row {
         name: "a backlog refuses a send",

@@ -1,7 +1,7 @@
 use Rattle.std.proofs.KnownBytes.{Keeps-refl}
 use Rattle.wcp_cli.specs.Edge.{Quiet}
 use Rattle.wcp_cli.proofs.Requests.{reads_nothing, same_request, status_after_err}
-use Rattle.wcp_cli.proofs.program.run.Goals as goal
+use Rattle.wcp_cli.proofs.program.obey.Goals as goal
 
 pub returns-in_err-request-clause-asked : goal.returns-in_err-request-clause-asked
 returns-in_err-request-clause-asked g c asked is = record {
