@@ -1,0 +1,35 @@
+use std::alloc::{AllocError, Global};
+use std::io;
+use std::time::Duration;
+
+/// How long each of some calls took.
+#[derive(Drop)]
+pub struct Times {
+    spans: Vec<Duration>,
+}
+
+impl Times {
+    pub fn new(alloc: Global) -> Times {
+        Times {
+            spans: Vec::new(alloc),
+        }
+    }
+
+    pub fn add(&mut self, span: Duration) -> Result<(), AllocError> {
+        Ok(self.spans.push(span)?)
+    }
+
+    /// Prints the best and the median time, in microseconds, if there is any.
+    pub fn print<R: Print>(mut self, rt: &R, name: &str) -> io::Result<()> {
+        self.spans.sort_unstable();
+        let median = self.spans.get(self.spans.len() / 2);
+        if let (Some(best), Some(median)) = (self.spans.first(), median) {
+            println!(rt;
+                "{name} best {} us median {} us",
+                best.as_micros(),
+                median.as_micros()
+            )?;
+        }
+        Ok(())
+    }
+}
