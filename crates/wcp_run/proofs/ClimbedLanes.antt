@@ -28,9 +28,9 @@ use Rattle.wcp_tree.specs.declared.source.Source.TheVariants.{Leaf, Inner}
 use Rattle.wcp_tree.proofs.CheckedPlan.{attached_exists, has_leaf, is_its_leaf, parent_below}
 use Rattle.wcp_tree.proofs.Climbs.{members_pass_up}
 use Rattle.wcp_tree.proofs.Fed.{fed-at}
-use Rattle.wcp_run.specs.Matching.{AreEndsThere}
+use Rattle.wcp_run.specs.Matching.{AreEndsThere, AreFirstMatched}
 use Rattle.wcp_run.specs.Seats.{SitsAt}
-use Rattle.wcp_run.specs.Settling.{AreLinksMatched, AreTakenFrom, IsLaneMatched, IsRingMatched, feeds_in, feeds_of}
+use Rattle.wcp_run.specs.Settling.{AreTakenFrom, IsLaneMatched, IsRingMatched, feeds_in, feeds_of}
 use Rattle.wcp_run.proofs.MatchedLinks.{count_same, linked, process_same, receipts_of}
 
 -- the items of a process, and their notes
@@ -56,10 +56,8 @@ lane_taken root IsRelay relay (Whole number watch owner taken put) p none receip
     (matched p (ap (λ members. set.contains members p) receipts.3 ∙ has))
 lane_taken root IsRelay relay (Faulted number watch fault source putter) p none receipts has matched = absurd (cc)
 
-module _ (count : ℕ) (probe_ends : List (Option ClosedSide)) (root : TakenEnd Item) (relay_ends : List (Option RelayEnd))
-    (there : AreEndsThere count probe_ends root relay_ends)
-    (matched : (number : ℕ) (relay : RelayEnd) → number < count → SitsAt relay_ends number relay
-    → AreLinksMatched (SitsAt probe_ends) root (SitsAt relay_ends) relay)
+module _ {count : ℕ} {probe_ends : List (Option ClosedSide)} {root : TakenEnd Item} {relay_ends : List (Option RelayEnd)}
+    (there : AreEndsThere count probe_ends root relay_ends) (matched : AreFirstMatched count probe_ends root relay_ends)
     (p : ℕ) (probe : ClosedSide) (sits : SitsAt probe_ends p probe) (within : p < there.plan.n) where
   abbrev emitted : List Item
   emitted = items_by p probe.link.put
@@ -80,9 +78,9 @@ module _ (count : ℕ) (probe_ends : List (Option ClosedSide)) (root : TakenEnd 
   feed_took leaf at (Leaf old parker) (Feeds feeds) is left members serves rings =
       let some = Any-from_list_any (λ (feed : Feed). feed.process == p) old.items ((is.1.processes p).1 (within, at)) in
       let low : some.0 < length feeds.items =
-      omega (arith, some.2, count_same count probe_ends root relay_ends there leaf old.items feeds.items is.1.each left.0 left.1) in
+      omega (arith, some.2, count_same there leaf old.items feeds.items is.1.each left.0 left.1) in
       let its : (get_or feeds.items some.0 some.1).process ≡ p =
-      process_same count probe_ends root relay_ends there leaf old.items feeds.items is.1.each left.0 left.1 some.0 some.1 low
+      process_same there leaf old.items feeds.items is.1.each left.0 left.1 some.0 some.1 low
       ∙ ap (λ (feed : Feed). feed.process) some.3 ∙ eqb-true some.1.process p some.4 in
       subst (λ q. fed feeds.items q ≡ items_by q (get_or feeds.items some.0 some.1).taker.taken) its
       (fed-at feeds.items some.0 some.1 low (subst (AllPairs (λ a b. a ≢ b)) (sym left.0) serves.1))
@@ -104,9 +102,9 @@ module _ (count : ℕ) (probe_ends : List (Option ClosedSide)) (root : TakenEnd 
   climbs zero from less below is put = absurd (omega (arith, less))
   climbs (suc bound) from less below is put =
       let has = there.relay from below in
-      let link = linked count probe_ends root relay_ends there from below in
+      let link = linked there from below in
       let taken = lane_taken root (SitsAt relay_ends) link.relay has.end p has.whole
-      (receipts_of count probe_ends root relay_ends there from below) ((link.of_plan.members p).1 is)
+      (receipts_of there from below) ((link.of_plan.members p).1 is)
       (matched from has.end below has.sits).lane in
       by_owner (λ above lower next. climbs bound above (omega (arith, lower, less)) next) link.relay.parent link.of_plan.parent taken
     where
@@ -129,9 +127,9 @@ module _ (count : ℕ) (probe_ends : List (Option ClosedSide)) (root : TakenEnd 
       let below : leaf.0 < count =
       omega (arith, there.all, (attached_exists there.plan there.checked p leaf.0 leaf.1).1) in
       let has = there.relay leaf.0 below in
-      let link = linked count probe_ends root relay_ends there leaf.0 below in
+      let link = linked there leaf.0 below in
       notes_of_items p root.taken probe.link.put
       (climbs (suc leaf.0) leaf.0 (omega arith) below (leaf.0, leaf.1, Itself)
       (put_is_taken leaf.0 below
-      ∙ leaf_took leaf.0 leaf.1 link.relay has.end has.whole (receipts_of count probe_ends root relay_ends there leaf.0 below)
+      ∙ leaf_took leaf.0 leaf.1 link.relay has.end has.whole (receipts_of there leaf.0 below)
       link.of_plan.source (matched leaf.0 has.end below has.sits).rings))

@@ -29,9 +29,9 @@ use Rattle.wcp_tree.specs.declared.source.Source.TheVariants.{Leaf, Inner}
 use Rattle.wcp_tree.proofs.CheckedPlan.{few_relays, parent_below}
 use Rattle.wcp_tree.proofs.Entries.{set_here, set_elsewhere}
 use Rattle.wcp_tree.proofs.Linking.{IsOpen}
-use Rattle.wcp_run.specs.Matching.{AreEndsThere, HasProbe, IsKeptAt, KeepInboxes, inbox_place}
+use Rattle.wcp_run.specs.Matching.{AreEndsThere, AreFirstMatched, HasProbe, IsKeptAt, KeepInboxes, inbox_place}
 use Rattle.wcp_run.specs.Seats.{SitsAt}
-use Rattle.wcp_run.specs.Settling.{AreLinksMatched, AreTakenFrom, IsLaneMatched, IsRingMatched}
+use Rattle.wcp_run.specs.Settling.{AreLinksMatched, AreTakenFrom, IsLaneMatched, IsRingMatched, feeds_in, feeds_of}
 use Rattle.wcp_run.proofs.MatchedRings.{sits_alone}
 use Rattle.wcp_run.proofs.Seating.{length_set}
 
@@ -70,7 +70,7 @@ receipt_left : (relay : Relay) (end : RelayEnd) (lane : LaneName Item) → fault
 receipt_left relay (Whole number watch parent taken put) lane none are is = lane_left relay.source taken lane are.1 is
 receipt_left relay (Faulted number watch fault source putter) lane none are is = absurd (cc)
 
-module _ (count : ℕ) (probe_ends : List (Option ClosedSide)) (root : TakenEnd Item) (relay_ends : List (Option RelayEnd))
+module _ {count : ℕ} {probe_ends : List (Option ClosedSide)} {root : TakenEnd Item} {relay_ends : List (Option RelayEnd)}
     (there : AreEndsThere count probe_ends root relay_ends) where
   -- the receipt of an owner's inbox
   abbrev pub IsInbox : Parent → TakenEnd Item → Type 0
@@ -85,15 +85,16 @@ module _ (count : ℕ) (probe_ends : List (Option ClosedSide)) (root : TakenEnd 
     pub unfed : (p leaf : ℕ) → leaf_of there.plan p ≡ Some leaf → k ≤ leaf → slice_get probes p ≡ slice_get probe_ends p
     pub open_inboxes : (owner : Parent) → IsOpen k owner → (receipt : TakenEnd Item) → IsInbox owner receipt
         → IsKeptAt inboxes (inbox_place owner) receipt
-    pub matched : (j : ℕ) (relay : RelayEnd) → j < k → SitsAt relay_ends j relay
-        → AreLinksMatched (SitsAt probe_ends) root (SitsAt relay_ends) relay
+    pub matched : AreFirstMatched k probe_ends root relay_ends
     pub size : length inboxes ≡ most_relays + 1
 
-  few : count ≤ most_relays
-  few = omega (arith, there.all, few_relays there.plan there.checked)
+  pub same_matched : {k : ℕ} {relays same_relays : List (Option RelayEnd)} {probes same_probes : List (Option ClosedSide)}
+      {inboxes same_inboxes : List (Option (TakenEnd Item))} → HaveMatched k relays probes inboxes
+      → same_relays ≡ relays → same_probes ≡ probes → same_inboxes ≡ inboxes → HaveMatched k same_relays same_probes same_inboxes
+  same_matched old relays_are probes_are inboxes_are = rw (relays_are, probes_are, inboxes_are) old
 
-  pub few_relay_ends : count ≤ most_relays
-  few_relay_ends = few
+  pub few : count ≤ most_relays
+  few = omega (arith, there.all, few_relays there.plan there.checked)
 
   pub none_matched : (inboxes : List (Option (TakenEnd Item))) → length inboxes ≡ most_relays + 1 → SitsAt inboxes most_relays root
       → HaveMatched 0 relay_ends probe_ends inboxes
@@ -207,15 +208,12 @@ module _ (count : ℕ) (probe_ends : List (Option ClosedSide)) (root : TakenEnd 
   )
   feeds_left k (Inner taker) feeds is left = absurd left
 
-  module _ (k : ℕ) (below : k < count) (relays : List (Option RelayEnd)) (probes : List (Option ClosedSide))
-      (inboxes : List (Option (TakenEnd Item))) (old : HaveMatched k relays probes inboxes) where
+  module _ {k : ℕ} (below : k < count) {relays : List (Option RelayEnd)} {probes : List (Option ClosedSide)}
+      {inboxes : List (Option (TakenEnd Item))} (old : HaveMatched k relays probes inboxes) where
     -- somebody sits there, without a fault
-    pub sits_next : SitsAt relays k (there.relay k below).end
-    sits_next = old.ahead k (omega arith) ∙ (there.relay k below).sits
-
-    pub no_fault : (end : RelayEnd) → SitsAt relays k end → fault_of end ≡ None
-    no_fault end sits =
-        ap fault_of (sits_alone relays k end (there.relay k below).end sits sits_next) ∙ (there.relay k below).whole
+    pub whole_next : (end : RelayEnd) × SitsAt relays k end × (fault_of end ≡ None)
+    whole_next =
+        let has = there.relay k below in (has.end, old.ahead k (omega arith) ∙ has.sits, has.whole)
 
     -- a feed of this relay finds its probe
     has_probe : (feed : Feed) → IsServed k feed → HasProbe probes feed
@@ -233,7 +231,7 @@ module _ (count : ℕ) (probe_ends : List (Option ClosedSide)) (root : TakenEnd 
               ∙ ap (λ (t : TakeSide). t.ring) taker ∙ sym is.ring;
         }
 
-    module _ (number watch : ℕ) (owner : Parent) (taken : Receipts) (put : PutEnd Item)
+    module _ {number watch : ℕ} {owner : Parent} {taken : Receipts} {put : PutEnd Item}
         (sits : SitsAt relays k (Whole number watch owner taken put)) where
       abbrev end : RelayEnd
       end = Whole number watch owner taken put
@@ -281,10 +279,9 @@ module _ (count : ℕ) (probe_ends : List (Option ClosedSide)) (root : TakenEnd 
             ap (items_of p) kept.taken ∙ (in_receipt owner inbox.0 inbox.1 p (items_of p put.put)).1 (matched p has)),
       )
 
-      pub all_give : ((number : ℕ) (relay : RelayEnd) → number < count → SitsAt relay_ends number relay
-          → AreLinksMatched (SitsAt probe_ends) root (SitsAt relay_ends) relay)
+      pub its_links : AreFirstMatched count probe_ends root relay_ends
           → AreLinksMatched (SitsAt probe_ends) root (SitsAt relay_ends) end
-      all_give all = all k end below sat
+      its_links all = all k end below sat
 
       -- the next relay
       next : (more : List (Option (TakenEnd Item))) (fed : List (Option ClosedSide))
@@ -333,76 +330,73 @@ module _ (count : ℕ) (probe_ends : List (Option ClosedSide)) (root : TakenEnd 
             taken = then.taken ∙ first.taken;
           }
 
-    module _ (number watch : ℕ) (owner : Parent) (feeds : Vec Feed Global) (put : PutEnd Item)
-        (sits : SitsAt relays k (Whole number watch owner (Feeds feeds) put)) where
-      left : All (IsServed k) feeds.items × AllPairs (λ one other. one.process ≢ other.process) feeds.items
-      left =
-          feeds_left k (linked k below).relay.source feeds (linked k below).of_plan.source (receipts number watch owner (Feeds feeds) put sits).1
+      module _ {feeds : Vec Feed Global} (is : taken ≡ Feeds feeds) where
+        left : All (IsServed k) feeds.items × AllPairs (λ one other. one.process ≢ other.process) feeds.items
+        left = feeds_left k relay.source feeds (linked k below).of_plan.source (subst (IsReceiptOf relay.source) is receipts.1)
 
-      pub feeds_seated : All (HasProbe probes) feeds.items
-      feeds_seated = All-weaker (IsServed k) (HasProbe probes) has_probe feeds.items left.0
+        pub feeds_seated : All (HasProbe probes) feeds.items
+        feeds_seated = All-weaker (IsServed k) (HasProbe probes) has_probe feeds.items left.0
 
-      pub feeds_apart : AllPairs (λ one other. one.process ≢ other.process) feeds.items
-      feeds_apart = left.1
+        pub feeds_apart : AllPairs (λ one other. one.process ≢ other.process) feeds.items
+        feeds_apart = left.1
 
-      -- the probes of its processes sit as they did
-      rings_then : All (IsRingMatched (SitsAt probes)) feeds.items → All (IsRingMatched (SitsAt probe_ends)) feeds.items
-      rings_then matched i d within probe sits =
-          let is = left.0 i d within in
-          matched i d within probe (old.unfed (get_or feeds.items i d).process k is.served (omega arith) ∙ sits)
+        -- the probes of its processes sit as they did
+        rings_then : All (IsRingMatched (SitsAt probes)) feeds.items → All (IsRingMatched (SitsAt probe_ends)) feeds.items
+        rings_then matched i d within probe sits =
+            matched i d within probe (old.unfed (get_or feeds.items i d).process k (left.0 i d within).served (omega arith) ∙ sits)
 
-      pub rings_now : All (IsRingMatched (SitsAt probe_ends)) feeds.items → All (IsRingMatched (SitsAt probes)) feeds.items
-      rings_now matched i d within probe sits =
-          let is = left.0 i d within in
-          matched i d within probe (sym (old.unfed (get_or feeds.items i d).process k is.served (omega arith)) ∙ sits)
+        pub rings_now : All (IsRingMatched (SitsAt probe_ends)) (feeds_of end) → All (IsRingMatched (SitsAt probes)) feeds.items
+        rings_now matched i d within probe sits =
+            subst (λ taken. All (IsRingMatched (SitsAt probe_ends)) (feeds_in taken)) is matched i d within probe
+            (sym (old.unfed (get_or feeds.items i d).process k (left.0 i d within).served (omega arith)) ∙ sits)
 
-      pub leaf_matched : (more : List (Option (TakenEnd Item))) (fed : List (Option ClosedSide)) → KeepInboxes inboxes more
-          → length more ≡ most_relays + 1
-          → IsLaneMatched root (SitsAt relay_ends) (Whole number watch owner (Feeds feeds) put)
-          → All (IsRingMatched (SitsAt probes)) feeds.items
-          → ((p : ℕ) → All (λ feed. feed.process ≢ p) feeds.items → slice_get fed p ≡ slice_get probes p)
-          → HaveMatched (k + 1) (slice_set relays k None) fed more
-      leaf_matched more fed keep size lane rings others =
-          next number watch owner (Feeds feeds) put sits more fed (stay number watch owner (Feeds feeds) put sits more keep)
-          (λ receipt is. absurd (let no : None ≡ Some receipt = is in cc))
-          size
-          (λ p leaf is past.
-          others p (λ i d within same.
-          let served = (left.0 i d within).served in
-          let one : k ≡ leaf = let both = sym served ∙ ap (leaf_of there.plan) same ∙ is in cc in
-          omega (arith, one, past)))
-          (record { rings = rings_then rings; lane = lane })
+        pub leaf_matched : {more : List (Option (TakenEnd Item))} {fed : List (Option ClosedSide)} → KeepInboxes inboxes more
+            → length more ≡ most_relays + 1 → IsLaneMatched root (SitsAt relay_ends) end
+            → All (IsRingMatched (SitsAt probes)) feeds.items
+            → ((p : ℕ) → All (λ feed. feed.process ≢ p) feeds.items → slice_get fed p ≡ slice_get probes p)
+            → HaveMatched (k + 1) (slice_set relays k None) fed more
+        leaf_matched {more} {fed} keep size lane rings others = next more fed (stay more keep)
+            (λ receipt at. absurd (let no : None ≡ Some receipt = sym (ap inbox_in is) ∙ at in cc))
+            size
+            (λ p leaf at past.
+            others p (λ i d within same.
+            let served = (left.0 i d within).served in
+            let one : k ≡ leaf = let both = sym served ∙ ap (leaf_of there.plan) same ∙ at in cc in
+            omega (arith, one, past)))
+            (record {
+              rings = subst (λ taken. All (IsRingMatched (SitsAt probe_ends)) (feeds_in taken)) (sym is) (rings_then rings);
+              lane = lane;
+            })
 
-    module _ (number watch : ℕ) (owner : Parent) (receipt : TakenEnd Item) (put : PutEnd Item)
-        (sits : SitsAt relays k (Whole number watch owner (Lane receipt) put)) where
-      pub inner_matched : (more : List (Option (TakenEnd Item))) → KeepInboxes inboxes more
-          → length more ≡ most_relays + 1
-          → IsLaneMatched root (SitsAt relay_ends) (Whole number watch owner (Lane receipt) put)
-          → HaveMatched (k + 1) (slice_set relays k None) probes (slice_set more k (Some receipt))
-      inner_matched more keep size lane =
-          next number watch owner (Lane receipt) put sits (slice_set more k (Some receipt)) probes
-          set_apart
-          (λ other is. record {
-            same = receipt;
-            sits = set_here more k (Some receipt) (omega (arith, size, below, few));
-            lane = let one : receipt ≡ other = cc in ap (λ (r : TakenEnd Item). r.lane) one;
-            taken = let one : receipt ≡ other = cc in ap (λ (r : TakenEnd Item). r.taken) one;
-          })
-          (length_set more k (Some receipt) ∙ size)
-          (λ p leaf is past. refl)
-          (record { rings = λ i d within. absurd (omega (arith, within)); lane = lane })
-        where
-          moved : (above : Parent) → IsOpen k above → inbox_place above ≢ k
-          moved parent.Root is same = omega (arith, same, below, few)
-          moved (parent.Relay above) is same = omega (arith, is, same)
+      module _ {receipt : TakenEnd Item} (is : taken ≡ Lane receipt) where
+        moved : (above : Parent) → IsOpen k above → inbox_place above ≢ k
+        moved parent.Root open' same = omega (arith, same, below, few)
+        moved (parent.Relay above) open' same = omega (arith, open', same)
 
-          set_apart : (above : Parent) → IsOpen k above → (other : TakenEnd Item) → IsInbox above other
-              → IsKeptAt (slice_set more k (Some receipt)) (inbox_place above) other
-          set_apart above is other inbox =
-              let stays = stay number watch owner (Lane receipt) put sits more keep above is other inbox in
-              record {
-                same = stays.same;
-                sits = set_elsewhere more k (inbox_place above) (Some receipt) (moved above is) ∙ stays.sits;
-                lane = stays.lane;
-                taken = stays.taken;
-              }
+        pub inner_matched : {more : List (Option (TakenEnd Item))} → KeepInboxes inboxes more
+            → length more ≡ most_relays + 1 → IsLaneMatched root (SitsAt relay_ends) end
+            → HaveMatched (k + 1) (slice_set relays k None) probes (slice_set more k (Some receipt))
+        inner_matched {more} keep size lane = next (slice_set more k (Some receipt)) probes
+            (λ above open' other inbox.
+            let stays = stay more keep above open' other inbox in
+            record {
+              same = stays.same;
+              sits = set_elsewhere more k (inbox_place above) (Some receipt) (moved above open') ∙ stays.sits;
+              lane = stays.lane;
+              taken = stays.taken;
+            })
+            (λ other at.
+            let one : receipt ≡ other = let both = sym (ap inbox_in is) ∙ at in cc in
+            record {
+              same = receipt;
+              sits = set_here more k (Some receipt) (omega (arith, size, below, few));
+              lane = ap (λ (r : TakenEnd Item). r.lane) one;
+              taken = ap (λ (r : TakenEnd Item). r.taken) one;
+            })
+            (length_set more k (Some receipt) ∙ size)
+            (λ p leaf at past. refl)
+            (record {
+              rings = subst (λ taken. All (IsRingMatched (SitsAt probe_ends)) (feeds_in taken)) (sym is)
+                  (λ i d within. absurd (omega (arith, within)));
+              lane = lane;
+            })

@@ -262,5 +262,5 @@ module _ (probes : List ClosedSide) (relays : List RelayEnd) (checker : CheckerE
           whole_of end among =
               let below = probe_within end among
               (All-contains (λ (e : ClosedSide). e.watch ≡ checker.watch) probes end of_probes.same among) in
-              all_taken checker.relays probe_seats checker.receipt relay_seats there each end.id end
+              all_taken there each end.id end
               (probes_sit.seated end.id end (among, refl)) (omega (arith, below, n_is))

@@ -14,7 +14,7 @@ use Rattle.wcp_tree.specs.declared.feed.Feed.{Feed}
 use Rattle.wcp_tree.specs.declared.relay_end.RelayEnd.{RelayEnd}
 use Rattle.wcp_tree.specs.declared.watch.Watch.{Watch}
 use Rattle.wcp_run.specs.Seats.{SitsAt}
-use Rattle.wcp_run.specs.Settling.{IsEndOfSomeProbe, IsEndOfSomeRelay}
+use Rattle.wcp_run.specs.Settling.{AreLinksMatched, IsEndOfSomeProbe, IsEndOfSomeRelay}
 
 -- The probe of a feed's process sits there, and has the other end of its ring.
 pub record HasProbe (probes : List (Option ClosedSide)) (feed : Feed) : Type 0 where
@@ -66,3 +66,9 @@ pub record AreEndsThere (count : ℕ) (probes : List (Option ClosedSide)) (root 
   pub probe : (p : ℕ) → p < plan.n → HasProbeEnd watch probes p
   pub relay : (number : ℕ) → number < count → HasRelayEnd watch relays number
   pub lane : root.lane ≡ watch.inbox.taker.lane
+
+-- The links of the first k relays were matched, as the ends sit.
+abbrev pub AreFirstMatched : ℕ → List (Option ClosedSide) → TakenEnd Item → List (Option RelayEnd) → Type 0
+AreFirstMatched k probes root relays =
+    (number : ℕ) (relay : RelayEnd) → number < k → SitsAt relays number relay
+    → AreLinksMatched (SitsAt probes) root (SitsAt relays) relay

@@ -1,8 +1,9 @@
-ghost use Rattle.std.specs.Prelude.{◌≡◌, ◌↔◌, ◌<◌, ℕ, IsOk, IfErr};
+ghost use Rattle.std.specs.Prelude.{◌≡◌, ◌↔◌, ◌<◌, ℕ, None, Some, length, slice_set, IsOk, IfErr};
+ghost use Rattle.wcp_tree.specs.RelayEnds.{fault_of};
 ghost use Rattle.wcp_tree.specs.declared.relay_end.RelayEnd.{RelayEnd};
+ghost use Rattle.wcp_tree.specs.declared.relay_end.RelayEnd.TheVariants as relay_end;
 ghost use Rattle.wcp_run.specs.Seats.{SitsAt};
-ghost use Rattle.wcp_run.specs.Settling.{AreLinksMatched};
-ghost use Rattle.wcp_run.specs.Matching.{AreEndsThere};
+ghost use Rattle.wcp_run.specs.Matching.{AreEndsThere, AreFirstMatched};
 ghost use Rattle.wcp_run.specs.declared.settle_fault.SettleFault.TheVariants as settle_fault;
 
 use crate::lanes::match_lane;
@@ -10,7 +11,8 @@ use crate::rings::match_rings;
 use crate::seats::empty;
 use crate::settle_fault::SettleFault;
 use wcp_clock::{Item, MAX_RELAYS};
-use wcp_lane::TakeReceipt;
+use wcp_lane::{PutReceipt, TakeReceipt};
+use wcp_model::Parent;
 use wcp_tree::{ProbeEnd, Receipts, RelayEnd};
 
 /// A place for the inbox of each relay, and one for the root's.
@@ -25,30 +27,48 @@ pub(crate) fn match_links(
     relays: &mut [Option<RelayEnd>],
 ) -> Result<(), SettleFault>
     requires { AreEndsThere count probes.old root relays.old }
-    ensures exact { IsOk result ↔ ((number : ℕ) (relay : RelayEnd) → number < count
-        → SitsAt relays.old number relay → AreLinksMatched (SitsAt probes.old) root (SitsAt relays.old) relay) }
+    ensures exact { IsOk result ↔ AreFirstMatched count probes.old root relays.old }
     ensures fault { IfErr result (λ fault. fault ≡ settle_fault.Unfinished) }
 {
     let mut inboxes: [Option<TakeReceipt<Item>>; INBOXES] = empty();
     inboxes[MAX_RELAYS] = Some(root);
     for number in 0..count as usize {
-        let Some(end) = relays[number].take() else {
-            unreachable!();
-        };
-        let RelayEnd::Whole {
-            parent,
-            taken,
-            put,
-            ..
-        } = end
-        else {
-            unreachable!();
-        };
+        let (parent, taken, put) = take_end(relays, number);
         match_lane(parent, put, &mut inboxes)?;
         match taken {
             Receipts::Feeds(feeds) => match_rings(feeds, probes)?,
-            Receipts::Lane(receipt) => inboxes[number] = Some(receipt),
+            Receipts::Lane(receipt) => keep(&mut inboxes, number, receipt),
         }
     }
     Ok(())
+}
+
+/// Takes the end of a relay out of its place: the relay's parent, its receipts, and what it put.
+fn take_end(relays: &mut [Option<RelayEnd>], number: usize) -> (Parent, Receipts, PutReceipt<Item>)
+    requires { (end : RelayEnd) × SitsAt relays.old number end × (fault_of end ≡ None) }
+    ensures sat { (own watch : ℕ) × SitsAt relays.old number (relay_end.Whole own watch result.0 result.1 result.2) }
+    ensures gone { relays.new ≡ slice_set relays.old number None }
+{
+    prove!(number < relays.len());
+    let Some(end) = relays[number].take() else {
+        unreachable!();
+    };
+    let RelayEnd::Whole {
+        parent,
+        taken,
+        put,
+        ..
+    } = end
+    else {
+        unreachable!();
+    };
+    (parent, taken, put)
+}
+
+/// Keeps the receipt of a relay's inbox.
+fn keep(inboxes: &mut [Option<TakeReceipt<Item>>], number: usize, receipt: TakeReceipt<Item>)
+    requires { number < length inboxes.old }
+    ensures { inboxes.new ≡ slice_set inboxes.old number (Some receipt) }
+{
+    inboxes[number] = Some(receipt);
 }

@@ -5,4 +5,4 @@ use Rattle.wcp_run.proofs.matching.match_links.Given as goal
 abbrev pub invariant-loop-number : goal.invariant-loop-number
 invariant-loop-number l =
     (there : AreEndsThere l.count l.fn.probes l.fn.root l.fn.relays)
-    → HaveMatched l.count l.fn.probes l.fn.root l.fn.relays there l.number l.relays l.probes l.inboxes
+    → HaveMatched there l.number l.relays l.probes l.inboxes
