@@ -1,14 +1,20 @@
 -- The lanes among the mailboxes of all processes, as their ends are taken out.
-use Rattle.std.proofs.Common.{◌≡◌, ◌≢◌, ℕ, Option, Some, None, List, length, slice_get, slice_set, get_or, inl, inr, ap, sym, ◌∙◌, ◌<◌, subst₂, arith}
-use Rattle.std.proofs.lemmas.List.{length-set}
-use Rattle.std.specs.Prelude.{slice_index_or}
+use Rattle.std.proofs.Common.{◌≡◌, ◌≢◌, ◌↔◌, ℕ, Option, Some, None, Result, Ok, Err, List, length, slice_get, slice_set, get_or, inl, inr, true, true≢false, refl, ap, sym, ◌∙◌, ◌<◌, subst₂, arith}
+use Rattle.std.proofs.lemmas.List.{length-map, length-set}
+use Rattle.std.specs.Prelude.{slice_index_or, IsOk, OnOk}
+use Rattle.std.specs.FinSet as set
 use Rattle.std.proofs.lemmas.Bool.{cases_eq}
 use Rattle.std.proofs.lemmas.Option.{slice_get_within, slice_get-get_or}
 use Rattle.wcp_tree.proofs.Entries.{set_here, set_elsewhere}
 use Rattle.wcp_worker.specs.declared.mailbox.Mailbox.{Mailbox}
-use Rattle.wcp_worker.specs.Lanes.{messages_put, messages_taken, clocks_from}
+use Rattle.wcp_lane.specs.declared.fault.Unfinished.{Unfinished}
+use Rattle.wcp_probe.specs.Seal.{seal_of}
+use Rattle.wcp_worker.specs.declared.lanes.Inbox.{Inbox}
+use Rattle.wcp_worker.specs.declared.lanes.Outbox.{Outbox}
+use Rattle.wcp_worker.specs.declared.message.Message.{Message}
+use Rattle.wcp_worker.specs.Lanes.{IfBoth, messages_from, messages_put, messages_taken, clocks_from}
 use Rattle.wcp_worker.specs.Mailboxes.{outbox_to, inbox_from}
-use Rattle.wcp_worker.specs.Runs.{outbox_of, inbox_of, ends_between, IsAllTaken, AreMatched}
+use Rattle.wcp_worker.specs.Runs.{outbox_of, inbox_of, ends_between, AreAllTaken, AreMatched, AreOfLane, IsAllTaken, IsLaneOf}
 
 -- what is the same of one that was changed is the same of each
 same_of_each : {X Y : Type 0} (f : Option X → Y) (xs : List X) (k : ℕ) (old new : X) (a : ℕ)
@@ -56,14 +62,44 @@ module _
           same_of_each (λ m. inbox_of m a) (slice_set ms p left) q to last b then_at (λ there. in_ a (λ here. apart here there))
           ∙ inboxes_kept a b
 
-  -- and where neither was there, nothing was sent
-  pub none_sent : outbox_to from q ≡ None → inbox_from to p ≡ None → IsAllTaken p (ends_between ms p q)
-  none_sent no_outbox no_inbox =
-      ap (λ inbox. clocks_from p (messages_taken inbox)) (sym (inboxes_kept p q) ∙ ap (λ m. inbox_of m p) then_at ∙ no_inbox)
-      ∙ ap (λ outbox. clocks_from p (messages_put outbox)) (sym (ap (λ m. outbox_of m q) at ∙ no_outbox))
+  -- they are the ends between the two
+  pub ends_are : (outbox : Option Outbox) (inbox : Option Inbox) → outbox_to from q ≡ outbox → inbox_from to p ≡ inbox
+      → ends_between ms p q ≡ (outbox, inbox)
+  ends_are outbox inbox sending coming =
+      λ i. ((ap (λ m. outbox_of m q) at ∙ sending) i, (sym (inboxes_kept p q) ∙ ap (λ m. inbox_of m p) then_at ∙ coming) i)
+
+-- the ends of a lane were matched where all was taken
+on_ok : (result : Result (Unit {0}) Unfinished) (P : Type 0) → OnOk result P → IsOk result → P
+on_ok (Ok done) P is ok = is
+on_ok (Err unfinished) P is ok = absurd (true≢false (sym ok))
+
+as_many : (p : ℕ) (messages : List Message) → length (messages_from p messages) ≡ length (clocks_from p messages)
+as_many p messages = sym (length-map (messages_from p messages) (λ message. (seal_of message.stamped).clock))
+
+pub exact_between : (result : Result (Unit {0}) Unfinished) (outbox : Outbox) (inbox : Inbox)
+    → IsOk result ↔ ((p : ℕ) → set.contains outbox.putter.members p ≡ true
+    → length (messages_from p inbox.taker.taken) ≡ length (messages_from p outbox.putter.put))
+    → OnOk result ((p : ℕ) → set.contains outbox.putter.members p ≡ true
+    → clocks_from p inbox.taker.taken ≡ clocks_from p outbox.putter.put)
+    → IsOk result ↔ IsAllTaken (Some outbox, Some inbox)
+exact_between result outbox inbox exact matched = (
+  on_ok result _ matched,
+  λ all. exact.1 (λ p member.
+      as_many p inbox.taker.taken ∙ ap length (all p member) ∙ sym (as_many p outbox.putter.put)),
+)
+
+-- what its sender put was taken
+its_own_taken : (p : ℕ) (outbox : Option Outbox) (inbox : Option Inbox) → IfBoth (IsLaneOf p) outbox inbox → IsAllTaken (outbox, inbox)
+    → clocks_from p (messages_taken inbox) ≡ clocks_from p (messages_put outbox)
+its_own_taken p (Some outbox) (Some inbox) lane all = all p lane.own
+its_own_taken p (Some outbox) None lane all = absurd lane
+its_own_taken p None (Some inbox) lane all = absurd lane
+its_own_taken p None None lane all = refl
 
 -- where all that was put between each two was taken, all messages were
-pub all_matched : (ms : List Mailbox) → ((a b : ℕ) → a < length ms → b < length ms → IsAllTaken a (ends_between ms a b)) → AreMatched ms
-all_matched ms all p q from to from_at to_at =
+pub all_matched : (ms : List Mailbox) → ((a b : ℕ) → a < length ms → b < length ms → AreOfLane a (ends_between ms a b)) → AreAllTaken ms → AreMatched ms
+all_matched ms lanes all p q from to from_at to_at =
+    let from_below = slice_get_within ms p from from_at in
+    let to_below = slice_get_within ms q to to_at in
     subst₂ (λ source target. clocks_from p (messages_taken (inbox_of target p)) ≡ clocks_from p (messages_put (outbox_of source q))) from_at to_at
-    (all p q (slice_get_within ms p from from_at) (slice_get_within ms q to to_at))
+    (its_own_taken p _ _ (lanes p q from_below to_below) (all p q from_below to_below))

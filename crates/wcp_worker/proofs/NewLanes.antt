@@ -1,12 +1,12 @@
 -- A lane that was just made for the messages of one process.
-use Rattle.std.proofs.Common.{◌≡◌, ℕ, Bool, true, false, ◌||◌, [], ◌∷◌, length, refl, sym, ap, ◌∙◌, subst, arith}
+use Rattle.std.proofs.Common.{◌≡◌, ℕ, true, false, ◌||◌, [], ◌∷◌, length, refl, sym, ap, ◌∙◌, subst, arith}
 use Rattle.std.specs.Prelude.{nat_eq}
 use Rattle.std.specs.Ordering.{nat_cmp}
 use Rattle.std.specs.FinSet as set
 use Rattle.std.specs.List.{list_any}
 use Rattle.std.proofs.lemmas.Bool.Decides.{nat_tests}
 use Rattle.wcp_lane.specs.Passes.{Numbers}
-use Rattle.wcp_lane.specs.Ends.{LaneName, PutEnd, TakeEnd, new_putter}
+use Rattle.wcp_lane.specs.Ends.{PutEnd, TakeEnd, new_putter}
 use Rattle.wcp_lane.proofs.Marks.{contains_with}
 use Rattle.wcp_worker.specs.declared.message.Message.{Message}
 use Rattle.wcp_worker.specs.Lanes.{IsNewLane, messages_from}

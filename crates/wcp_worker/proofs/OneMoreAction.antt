@@ -8,8 +8,6 @@ use Rattle.wcp_model.specs.WorkloadComputation.{is_send_to, is_receive_from}
 use Rattle.wcp_model.proofs.TaskLogs.{FollowsActions-push, stamps_sent-push, stamps_sent-push_other, stamps_got-push, stamps_got-push_other}
 use Rattle.wcp_probe.specs.Core.{setup_of}
 use Rattle.wcp_tree.specs.LiveProbe.{LiveSide, ClosedSide, emissions_of}
-use Rattle.wcp_worker.specs.declared.lanes.Outbox.{Outbox}
-use Rattle.wcp_worker.specs.declared.lanes.Inbox.{Inbox}
 use Rattle.wcp_worker.specs.declared.mailbox.Mailbox.{Mailbox}
 use Rattle.wcp_worker.specs.declared.player.Player.{Player}
 use Rattle.wcp_worker.specs.declared.worker.Worker.{Worker}

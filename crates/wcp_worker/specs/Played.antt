@@ -1,5 +1,5 @@
 -- What a worker does: the calls that its actions make of its probe, and what goes over its lanes.
-use Rattle.std.specs.Prelude.{◌≡◌, ℕ, Option, IfSome, IsSome, List, [], ◌∷◌, ◌++◌, if◌then◌else◌}
+use Rattle.std.specs.Prelude.{◌≡◌, ℕ, IfSome, IsSome, List, [], ◌∷◌, ◌++◌, if◌then◌else◌}
 use mathlib.Core.List.{IsPrefix}
 use Rattle.wcp_model.specs.declared.workload.Action.{Action}
 use Rattle.wcp_model.specs.ProbeLog.{Call, Closed}

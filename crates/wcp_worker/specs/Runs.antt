@@ -1,5 +1,5 @@
 -- The workers of a workload that ran, and what a checker took of their processes.
-use Rattle.std.specs.Prelude.{◌≡◌, ℕ, true, Option, Some, None, List, length, slice_get}
+use Rattle.std.specs.Prelude.{◌≡◌, ℕ, ◌<◌, true, Option, Some, None, List, length, slice_get}
 use Rattle.std.specs.FinSet as set
 use Rattle.wcp_clock.specs.declared.note.Item.{Item}
 use Rattle.wcp_model.specs.declared.workload.Task.{Task}
@@ -47,9 +47,20 @@ pub record IsLaneOf (p : ℕ) (outbox : Outbox) (inbox : Inbox) : Type 0 where
 abbrev pub AreOfLane : ℕ → Option Outbox × Option Inbox → Type 0
 AreOfLane p ends = IfBoth (IsLaneOf p) ends.0 ends.1
 
--- What p put on it was all taken.
-abbrev pub IsAllTaken : ℕ → Option Outbox × Option Inbox → Type 0
-IsAllTaken p ends = clocks_from p (messages_taken ends.1) ≡ clocks_from p (messages_put ends.0)
+-- By this end process p sends, if it is there.
+abbrev pub SendsFor : ℕ → Option Outbox → Type 0
+SendsFor p (Some outbox) = set.contains outbox.putter.members p ≡ true
+SendsFor p None = ⊥
+
+-- What was put on it was all taken.
+abbrev pub IsAllTaken : Option Outbox × Option Inbox → Type 0
+IsAllTaken ends = (p : ℕ) → SendsFor p ends.0 →
+    clocks_from p (messages_taken ends.1) ≡ clocks_from p (messages_put ends.0)
+
+-- What was put on the lane between each two of these was all taken.
+abbrev pub AreAllTaken : List Mailbox → Type 0
+AreAllTaken mailboxes =
+    (p q : ℕ) → p < length mailboxes → q < length mailboxes → IsAllTaken (ends_between mailboxes p q)
 
 -- All messages between these were taken: what was taken of p from its lane to q is what p put on it.
 abbrev pub AreMatched : List Mailbox → Type 0

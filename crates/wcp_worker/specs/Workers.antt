@@ -1,10 +1,9 @@
 -- The workers of a workload before any of them runs.
-use Rattle.std.specs.Prelude.{◌≡◌, ℕ, ◌<◌, Some, List, [], length, count_by, slice_get}
+use Rattle.std.specs.Prelude.{◌≡◌, ℕ, Some, List, [], length, count_by, slice_get}
 use Rattle.wcp_model.specs.declared.workload.Task.{Task}
 use Rattle.wcp_model.specs.TaskLog.{actions_of}
 use Rattle.wcp_model.specs.WorkloadComputation.{is_send_to}
 use Rattle.wcp_tree.specs.LiveProbe.{LiveSide, fresh_core}
-use Rattle.wcp_worker.specs.declared.player.Player.{Player}
 use Rattle.wcp_worker.specs.declared.worker.Worker.{Worker}
 use Rattle.wcp_worker.specs.Lanes.{IsLaneFor}
 use Rattle.wcp_worker.specs.Mailboxes.{outbox_to, inbox_from}

@@ -1,6 +1,6 @@
-ghost use Rattle.std.specs.Prelude.{◌≡◌, ◌≢◌, ◌<◌, ◌≤◌, ℕ, length, OnOk};
+ghost use Rattle.std.specs.Prelude.{◌≡◌, ◌≢◌, ◌↔◌, ◌<◌, ◌≤◌, ℕ, length, IsOk, OnOk};
 ghost use Rattle.wcp_clock.specs.Limits.{most_processes};
-ghost use Rattle.wcp_worker.specs.Runs.{AreMatched, AreOfLane, IsAllTaken, ends_between};
+ghost use Rattle.wcp_worker.specs.Runs.{AreAllTaken, AreMatched, AreOfLane, IsAllTaken, ends_between};
 
 use crate::mailbox::Mailbox;
 use crate::matching::match_lane;
@@ -12,7 +12,8 @@ pub fn match_lanes(mut mailboxes: Vec<Mailbox>) -> Result<(), Unfinished>
     requires few { length mailboxes.items ≤ most_processes }
     requires lanes { (p q : ℕ) → p < length mailboxes.items → q < length mailboxes.items
         → AreOfLane p (ends_between mailboxes.items p q) }
-    ensures { OnOk result (AreMatched mailboxes.items) }
+    ensures exact { IsOk result ↔ AreAllTaken mailboxes.items }
+    ensures matched { OnOk result (AreMatched mailboxes.items) }
 {
     for p in 0..mailboxes.len() {
         match_lanes_from(p, &mut mailboxes)?;
@@ -25,7 +26,8 @@ fn match_lanes_from(p: usize, mailboxes: &mut [Mailbox]) -> Result<(), Unfinishe
     requires few { length mailboxes.old ≤ most_processes }
     requires within { p < length mailboxes.old }
     requires lanes { (q : ℕ) → q < length mailboxes.old → AreOfLane p (ends_between mailboxes.old p q) }
-    ensures matched { OnOk result ((q : ℕ) → q < length mailboxes.old → IsAllTaken p (ends_between mailboxes.old p q)) }
+    ensures exact { IsOk result
+        ↔ ((q : ℕ) → q < length mailboxes.old → IsAllTaken (ends_between mailboxes.old p q)) }
     ensures others { (a b : ℕ) → a ≢ p → ends_between mailboxes.new a b ≡ ends_between mailboxes.old a b }
     ensures count { length mailboxes.new ≡ length mailboxes.old }
 {
@@ -41,7 +43,7 @@ fn match_lane_between(p: usize, q: usize, mailboxes: &mut [Mailbox]) -> Result<(
     requires from { p < length mailboxes.old }
     requires to { q < length mailboxes.old }
     requires lane { AreOfLane p (ends_between mailboxes.old p q) }
-    ensures matched { OnOk result (IsAllTaken p (ends_between mailboxes.old p q)) }
+    ensures exact { IsOk result ↔ IsAllTaken (ends_between mailboxes.old p q) }
     ensures others { (a b : ℕ) → (a ≡ p → b ≢ q)
         → ends_between mailboxes.new a b ≡ ends_between mailboxes.old a b }
     ensures count { length mailboxes.new ≡ length mailboxes.old }

@@ -18,5 +18,5 @@ settle-requires c =
 
 pub returns-in-Ok : goal.returns-in-Ok
 returns-in-Ok c = λ plan tasks run.
-    outcome_of_run plan tasks c.args.ends run c.in_ok-probes.field-0 c.in_ok-probes.ensures c.in_default-match_lanes.ensures
+    outcome_of_run plan tasks c.args.ends run c.in_ok-probes.field-0 c.in_ok-probes.ensures c.in_default-match_lanes.ensures.matched
     c.args.book c.in-Ok.settled c.in-Ok.ensures.settled

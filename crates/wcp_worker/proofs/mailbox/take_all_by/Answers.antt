@@ -1,4 +1,4 @@
-use Rattle.std.proofs.Common.{◌≡◌, ℕ, Option, Some, sym, subst}
+use Rattle.std.proofs.Common.{ℕ, Option, Some, sym, subst}
 use Rattle.std.specs.Prelude.{OnOk}
 use Rattle.wcp_worker.specs.declared.lanes.Inbox.{Inbox}
 use Rattle.wcp_worker.specs.Lanes.{IfBoth, HasTakenMore}

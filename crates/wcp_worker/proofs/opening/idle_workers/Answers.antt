@@ -1,4 +1,4 @@
-use Rattle.std.proofs.Common.{All, map, [], ◌∷◌, ◌++◌, refl, sym, ap, ◌∙◌, subst, zero, suc, arith}
+use Rattle.std.proofs.Common.{All, map, [], ◌∷◌, ◌++◌, sym, ap, ◌∙◌, subst, zero, suc, arith}
 use Rattle.std.proofs.lemmas.List.{map_push}
 use Rattle.std.proofs.lemmas.List.Elements.{All-append}
 use Rattle.wcp_worker.specs.declared.worker.Worker.{Worker}

@@ -1,4 +1,4 @@
-use Rattle.std.proofs.Common.{◌≡◌, ◌<◌, ℕ, List, length, get_or, sym, ap, ◌∙◌, subst, rules, arith}
+use Rattle.std.proofs.Common.{arith}
 use Rattle.wcp_worker.proofs.OpenedRows.{lanes_more}
 use Rattle.wcp_worker.proofs.opening.open_lanes.Goals as goal
 

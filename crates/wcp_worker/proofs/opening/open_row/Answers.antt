@@ -1,11 +1,8 @@
-use Rattle.std.proofs.Common.{◌≡◌, ◌+◌, ◌<◌, ℕ, List, Option, ◌∷◌, [], ◌++◌, length, count_by, get_or, set, sym, ap, ◌∙◌, subst, rules, arith}
-use Rattle.std.proofs.lemmas.Grind.{common_steps}
+use Rattle.std.proofs.Common.{◌≡◌, ◌+◌, ◌<◌, List, length, count_by, get_or, set, sym, ap, ◌∙◌, subst, arith}
 use Rattle.std.proofs.lemmas.List.{length-append, length-set, get_or_default}
 use Rattle.wcp_model.specs.declared.workload.Action.{Action}
 use Rattle.wcp_model.specs.WorkloadComputation.{is_send_to}
-use Rattle.wcp_worker.specs.declared.lanes.Outbox.{Outbox}
 use Rattle.wcp_worker.specs.declared.worker.Worker.{Worker}
-use Rattle.wcp_worker.specs.Lanes.{IsLaneFor}
 use Rattle.wcp_worker.specs.Opening.{HasRow}
 use Rattle.wcp_worker.proofs.OpenedRows.{same_more, given_more, rest_more, lane_along}
 use Rattle.wcp_worker.proofs.opening.open_row.Goals as goal

@@ -1,4 +1,4 @@
-use Rattle.std.proofs.Common.{◌≡◌, ℕ, ◌≤◌, List, take, length}
+use Rattle.std.proofs.Common.{List, take}
 use Rattle.wcp_model.specs.ProbeLog.{Call}
 use Rattle.wcp_worker.specs.Played.{HasDoneActions}
 use Rattle.wcp_worker.proofs.player.Player.play.Given as goal

@@ -1,5 +1,4 @@
-use Rattle.std.proofs.Common.{rules, ◌∙◌, sym, refl, subst, ap, ◌++◌, []}
-use Rattle.std.proofs.lemmas.Grind.{common_steps}
+use Rattle.std.proofs.Common.{rules}
 use Rattle.wcp_model.specs.ProbeLog.{Received}
 use Rattle.wcp_worker.proofs.player.Player.receive.Goals as goal
 
