@@ -1,5 +1,5 @@
 //! The answer to each request: what is printed, and the exit status.
-ghost use Rattle.std.specs.Prelude.{◌≡◌, ◌≤◌, IfOk};
+ghost use Rattle.std.specs.Prelude.{◌≡◌, ◌≢◌, ◌≤◌, IfOk, IfErr};
 ghost use Rattle.wcp_cli.specs.RequestAnswers.{IsAnswerTo, IsOutcomeAnswer, IsReplayAnswer, Reads, ring_text};
 ghost use Rattle.wcp_cli.specs.RequestAnswers.{status_of};
 ghost use Rattle.wcp_cli.specs.Words.{HasRing, IsRing};
@@ -44,6 +44,7 @@ pub fn answer_to<R: AllocGlobal + Threads + Wait + Sync, I: Read>(
     ensures answer { IfOk result (λ answer. IsAnswerTo request
         (I.remaining input.old) (I.remaining input.new) answer.text.items answer.status) }
     ensures reads { Reads request (I.remaining input.old) (I.remaining input.new) }
+    ensures known { request ≢ Request.Unknown → IfErr result (λ fault. fault ≢ Fault.Usage) }
 {
     let alloc = rt.alloc();
     match request {
@@ -70,7 +71,8 @@ pub fn answer_to<R: AllocGlobal + Threads + Wait + Sync, I: Read>(
 
 /// The outcome of the workload that the text spells.
 fn outcome_answer(alloc: Global, text: &[u8]) -> Result<Answer, Fault>
-    ensures { IfOk result (λ answer. IsOutcomeAnswer text.now answer.text.items answer.status) }
+    ensures answer { IfOk result (λ answer. IsOutcomeAnswer text.now answer.text.items answer.status) }
+    ensures known { IfErr result (λ fault. fault ≢ Fault.Usage) }
 {
     let read = read_ordered(alloc, text)?;
     let outcome = single_in_order(alloc, &read.workload, read.in_order())?;
@@ -82,7 +84,8 @@ fn outcome_answer(alloc: Global, text: &[u8]) -> Result<Answer, Fault>
 
 /// The outcome of the workload that the text spells, from a run in threads.
 fn run_answer<R: AllocGlobal + Threads + Wait + Sync>(rt: &R, text: &[u8]) -> Result<Answer, Fault>
-    ensures { IfOk result (λ answer. IsOutcomeAnswer text.now answer.text.items answer.status) }
+    ensures answer { IfOk result (λ answer. IsOutcomeAnswer text.now answer.text.items answer.status) }
+    ensures known { IfErr result (λ fault. fault ≢ Fault.Usage) }
 {
     let alloc = rt.alloc();
     let workload = read_workload(alloc, text)?;
@@ -95,7 +98,8 @@ fn run_answer<R: AllocGlobal + Threads + Wait + Sync>(rt: &R, text: &[u8]) -> Re
 
 /// The replies to the steps of the schedule that the text spells, and the outcome so far.
 fn replay_answer(alloc: Global, text: &[u8]) -> Result<Answer, Fault>
-    ensures { IfOk result (λ answer. IsReplayAnswer text.now answer.text.items answer.status) }
+    ensures answer { IfOk result (λ answer. IsReplayAnswer text.now answer.text.items answer.status) }
+    ensures known { IfErr result (λ fault. fault ≢ Fault.Usage) }
 {
     let schedule = read_schedule(alloc, text)?;
     let played = play(alloc, &schedule.plan, schedule.steps.as_slice())?;
@@ -114,6 +118,7 @@ fn ring_answer(alloc: Global, ring: Ring) -> Result<Answer, Fault>
     requires { IsRing ring.procs ring.rounds }
     ensures text { IfOk result (λ answer. answer.text.items ≡ ring_text ring.procs ring.rounds ring.fault) }
     ensures status { IfOk result (λ answer. answer.status ≡ 0) }
+    ensures known { IfErr result (λ fault. fault ≢ Fault.Usage) }
 {
     let workload = ring_workload(alloc, ring.procs, ring.rounds, ring.fault)?;
     Ok(Answer {

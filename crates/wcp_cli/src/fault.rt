@@ -1,5 +1,5 @@
 ghost use Rattle.std.specs.Prelude.{◌≡◌};
-ghost use Rattle.wcp_cli.specs.declared.fault.Fault.TheVariants.{Memory};
+ghost use Rattle.wcp_cli.specs.declared.fault.Fault.TheVariants.{Memory, Run};
 ghost use Rattle.wcp_cli.specs.Faults.{fault_of};
 
 use std::alloc::AllocError;
@@ -25,7 +25,7 @@ pub enum Fault {
     Script(ScriptFault),
     /// A run in threads came to no outcome.
     #[error(transparent)]
-    Run(#[from] RunFault),
+    Run(RunFault),
     /// Memory ran out, outside of a run in threads.
     #[error("memory")]
     Memory,
@@ -50,5 +50,13 @@ impl From<ReadFault> for Fault {
             ReadFault::Script(fault) => Fault::Script(fault),
             ReadFault::NoMemory => Fault::Memory,
         }
+    }
+}
+
+impl From<RunFault> for Fault {
+    ghost from_gives = { λ fault given. given ≡ Run fault };
+
+    fn from(fault: RunFault) -> Fault {
+        Fault::Run(fault)
     }
 }

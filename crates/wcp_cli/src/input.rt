@@ -1,5 +1,5 @@
 //! Reading the input to its end.
-ghost use Rattle.std.specs.Prelude.{◌≡◌, ◌+◌, ◌<◌, ◌≤◌, ◌++◌, length, vec_len, IfOk, OnOk, IfSome, IsErrOf};
+ghost use Rattle.std.specs.Prelude.{◌≡◌, ◌≢◌, ◌+◌, ◌<◌, ◌≤◌, ◌++◌, length, vec_len, IfOk, IfErr, OnOk, IfSome, IsErrOf};
 ghost use Rattle.std.specs.Io.KnownBytes.{Consumes, IsAtEnd};
 ghost use Rattle.wcp_clock.specs.Limits.{most_bytes, most_reads};
 
@@ -19,6 +19,7 @@ pub fn read_text<R: Read>(alloc: Global, input: &mut R) -> Result<Vec<u8>, Fault
     ensures within { IfOk result (λ text. vec_len text ≤ most_bytes) }
     ensures too_large { IsErrOf result Fault.TooLarge
         → IfSome (R.remaining input.old) (λ bytes. most_bytes < length bytes) }
+    ensures known { IfErr result (λ fault. fault ≢ Fault.Usage) }
 {
     let mut text = Vec::new(alloc);
     let mut block = [0u8; BLOCK];
@@ -49,6 +50,7 @@ fn push_block(text: &mut Vec<u8>, block: &[u8]) -> Result<(), Fault>
     ensures ok { OnOk result (text.new.items ≡ text.old.items ++ block.now) }
     ensures within { OnOk result (vec_len text.new ≤ most_bytes) }
     ensures too_large { IsErrOf result Fault.TooLarge → most_bytes < vec_len text.old + length block.now }
+    ensures known { IfErr result (λ fault. fault ≢ Fault.Usage) }
 {
     if MAX_BYTES - text.len() < block.len() {
         return Err(Fault::TooLarge);

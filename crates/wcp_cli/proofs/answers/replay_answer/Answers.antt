@@ -3,8 +3,8 @@ use Rattle.wcp_report.specs.ReplayText.{replay_text}
 use Rattle.wcp_world.specs.Plays.{IsPlayed}
 use Rattle.wcp_cli.proofs.answers.replay_answer.Goals as goal
 
-pub returns : goal.returns
-returns c =
+pub returns-clause-answer : goal.returns-clause-answer
+returns-clause-answer c =
     let schedule = c.in_ok-schedule.schedule in
     let played = c.in_ok-played.played in
     record {
