@@ -1,0 +1,3 @@
+mod MadeCalls
+mod OpenedPools
+mod EndedPools

@@ -1,0 +1,29 @@
+-- Calls that follow one another.
+use Rattle.std.proofs.Common.{◌≡◌, List, [], ◌∷◌, ◌++◌, sym, ap, ◌∙◌, subst, append_assoc}
+use Rattle.wcp_model.specs.ProbeLog.{Call, Closed, state_of_log}
+use Rattle.wcp_probe.specs.Core.{setup_of}
+use Rattle.wcp_tree.specs.LiveProbe.{LiveSide, LiveFor, LiveAccepts, emissions_of}
+use Rattle.wcp_worker.specs.Probes.{IsSameLive, IsEndOfProbe}
+
+-- a call, then another, and then what makes none
+pub two_calls : (start one two last : LiveSide) (first second : Call) → LiveAccepts start first one → LiveAccepts one second two
+    → ((log : List Call) → LiveFor two log → LiveFor last log) → (log : List Call) → LiveFor start log → LiveFor last (log ++ first ∷ second ∷ [])
+two_calls start one two last first second is then keeps log stands =
+    subst (LiveFor last) (append_assoc log (first ∷ []) (second ∷ [])) (keeps _ (then _ (is log stands)))
+
+-- a call after two others
+pub third_call : (start two three : LiveSide) (first second third : Call) → ((log : List Call) → LiveFor start log → LiveFor two (log ++ first ∷ second ∷ []))
+    → LiveAccepts two third three → (log : List Call) → LiveFor start log → LiveFor three (log ++ first ∷ second ∷ third ∷ [])
+third_call start two three first second third is then log stands =
+    subst (LiveFor three) (append_assoc log (first ∷ second ∷ []) (third ∷ [])) (then _ (is log stands))
+
+-- a probe that stays the same, twice
+pub same_live : (start middle last : LiveSide) → IsSameLive start middle → IsSameLive middle last → IsSameLive start last
+same_live start middle last first then = (
+  record {
+    watch = then.0.watch ∙ first.0.watch;
+    limit = then.0.limit ∙ first.0.limit;
+    made = then.0.made ∙ first.0.made;
+  },
+  then.1 ∙ first.1,
+)

@@ -1,0 +1,8 @@
+use Rattle.std.proofs.Common.{◌≡◌, ◌+◌, length}
+use Rattle.wcp_worker.specs.Probes.{IsSameLive}
+use Rattle.watched_pool.specs.Logs.{IsDispatching}
+use Rattle.watched_pool.proofs.dispatcher.Desk.ask_in_turn.Given as goal
+
+abbrev pub invariant-loop-partner : goal.invariant-loop-partner
+invariant-loop-partner g l =
+    record { at_work : IsDispatching l.self; unanswered : l.self.unanswered ≡ 0; same : IsSameLive l.initial.self.probe l.self.probe }

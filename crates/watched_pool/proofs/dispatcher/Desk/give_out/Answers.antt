@@ -1,0 +1,14 @@
+use Rattle.std.proofs.Common.{true, [], ◌∷◌, ◌++◌}
+use Rattle.wcp_model.specs.ProbeLog.{Observed, Sent}
+use Rattle.watched_pool.specs.Logs.{GaveOut}
+use Rattle.watched_pool.proofs.MadeCalls.{two_calls}
+use Rattle.watched_pool.proofs.dispatcher.Desk.give_out.Goals as goal
+
+pub returns-in-Ok-send-clause-at_work : goal.returns-in-Ok-send-clause-at_work
+returns-in-Ok-send-clause-at_work g c =
+    let was = c.requires.at_work in
+    record {
+      log = was.log ++ Sent ∷ Observed true ∷ [];
+      is_log = GaveOut was.is_log;
+      stands = two_calls _ _ _ _ Sent (Observed true) c.in-Ok.ensures.accepted c.observe.ensures.accepted c.flush.ensures.stands was.log was.stands;
+    }

@@ -1,0 +1,8 @@
+use Rattle.std.proofs.Common.{◌≡◌, ◌+◌, length}
+use Rattle.wcp_worker.specs.Probes.{IsSameLive}
+use Rattle.watched_pool.specs.Logs.{IsDispatching}
+use Rattle.watched_pool.proofs.dispatcher.Desk.take_all.Given as goal
+
+abbrev pub invariant-loop-partner : goal.invariant-loop-partner
+invariant-loop-partner g l =
+    record { at_work : IsDispatching l.self; unanswered : l.self.unanswered + l.partner-index ≡ length l.partners; same : IsSameLive l.initial.self.probe l.self.probe }

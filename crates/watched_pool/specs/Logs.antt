@@ -1,0 +1,39 @@
+-- What the members of a pool do, as the logs of their probes: which condition each observes, and when.
+use Rattle.std.specs.Prelude.{◌≡◌, ℕ, ◌+◌, Bool, true, nat_lt, List, [], ◌∷◌, ◌++◌}
+use Rattle.wcp_model.specs.ProbeLog.{Call, Observed, Sent, Received}
+use Rattle.wcp_tree.specs.LiveProbe.{LiveSide, LiveFor}
+use Rattle.watched_pool.specs.declared.dispatcher.Desk.{Desk}
+
+-- What a replica does with a job that comes with this stamp: it receives it, finds itself at work, and sends the answer.
+abbrev pub calls_for : List ℕ → List Call
+calls_for stamp = Received stamp ∷ Observed true ∷ Sent ∷ []
+
+-- The log of a replica: it is at work from the receive of each job to the send of its answer, and at no other time.
+pub data IsReplicaLog : List Call → Type 0 where
+  NoJob : IsReplicaLog []
+  OneMore : {log : List Call} (stamp : List ℕ) → IsReplicaLog log → IsReplicaLog (log ++ calls_for stamp)
+
+-- The log of the dispatcher that has so many jobs unanswered: after each send of a job and each receive of an answer it
+-- observes whether a job is unanswered.
+pub data IsDispatcherLog : ℕ → List Call → Type 0 where
+  NothingYet : IsDispatcherLog 0 []
+  GaveOut : {unanswered : ℕ} {log : List Call} → IsDispatcherLog unanswered log
+      → IsDispatcherLog (unanswered + 1) (log ++ Sent ∷ Observed true ∷ [])
+  WasAnswered : {unanswered : ℕ} {log : List Call} (stamp : List ℕ) → IsDispatcherLog (unanswered + 1) log
+      → IsDispatcherLog unanswered (log ++ Received stamp ∷ Observed (nat_lt 0 unanswered) ∷ [])
+
+-- A replica's probe stands for such a log.
+pub record IsAnswering (probe : LiveSide) : Type 0 where
+  pub log : List Call
+  pub is_log : IsReplicaLog log
+  pub stands : LiveFor probe log
+
+-- And so does the dispatcher's.
+pub record IsDispatching (desk : Desk) : Type 0 where
+  pub log : List Call
+  pub is_log : IsDispatcherLog desk.unanswered log
+  pub stands : LiveFor desk.probe log
+
+-- A replica answered one job more.
+abbrev pub AnswersJob : LiveSide → LiveSide → Type 0
+AnswersJob old new = (stamp : List ℕ) × ((log : List Call) → LiveFor old log → LiveFor new (log ++ calls_for stamp))

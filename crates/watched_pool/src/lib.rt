@@ -1,0 +1,21 @@
+//! A pool of replicas that is watched while it works: could all its replicas be at work in one moment?
+#![tactic(auto)]
+
+mod dispatcher;
+mod job;
+mod member;
+mod opening;
+mod pool;
+mod pool_fault;
+mod pool_text;
+mod program;
+mod replica;
+mod ring_room;
+
+pub use dispatcher::{Desk, Dispatcher, Pace, Partner};
+pub use job::{Answer, Job, Numbers};
+pub use member::{Member, MemberEnd, Share, Stop};
+pub use pool::{PoolReport, run_pool};
+pub use pool_fault::PoolFault;
+pub use program::run_program;
+pub use replica::Replica;

@@ -1,0 +1,72 @@
+use crate::dispatcher::Dispatcher;
+use crate::job::{Answer, Numbers};
+use crate::replica::Replica;
+use std::sync::Wait;
+use thiserror::Error;
+use wcp_probe::Refusal;
+use wcp_run::{Part, RunsWith};
+use wcp_tree::ProbeEnd;
+
+/// A process of the pool, for a thread of its own.
+#[derive(Drop)]
+pub enum Member {
+    Dispatcher(Dispatcher),
+    Replica(Replica),
+}
+
+/// Why a member stopped before its part was done.
+#[derive(Clone, Copy, Debug, PartialEq, Eq, Error)]
+pub enum Stop {
+    /// Its probe refused a send or a receive.
+    #[error("its probe refused a message")]
+    Refused(Refusal),
+    /// A partner is gone.
+    #[error("a partner is gone")]
+    Gone,
+}
+
+/// How many jobs were answered by a replica, or to the dispatcher, and the sum of the answers, which wraps at 2^64.
+#[derive(Clone, Copy, Debug, PartialEq, Eq)]
+pub struct Share {
+    pub jobs: u32,
+    pub sum: u64,
+}
+
+impl Share {
+    /// The share before any answer.
+    pub(crate) fn nothing() -> Share {
+        Share { jobs: 0, sum: 0 }
+    }
+
+    /// The share with one more answer.
+    pub(crate) fn with(self, answer: Answer) -> Share {
+        Share {
+            jobs: self.jobs.saturating_add(1),
+            sum: self.sum.wrapping_add(answer.sum),
+        }
+    }
+}
+
+/// What is left of a member that ran: its closed probe, and its share of the work or why it stopped.
+#[derive(Drop)]
+pub struct MemberEnd {
+    pub(crate) probe: ProbeEnd,
+    pub(crate) done: Result<Share, Stop>,
+}
+
+impl Part<MemberEnd> for Member {
+    ghost use Rattle.watched_pool.specs.Members.{IsNew, IsEndOfMember};
+
+    ghost is_ready = { IsNew };
+
+    ghost is_end = { IsEndOfMember };
+}
+
+impl RunsWith<Numbers, MemberEnd> for Member {
+    fn run_with<R: Wait>(self, rt: &R, numbers: &Numbers) -> MemberEnd {
+        match self {
+            Member::Dispatcher(dispatcher) => dispatcher.run(rt),
+            Member::Replica(replica) => replica.run(rt, numbers),
+        }
+    }
+}

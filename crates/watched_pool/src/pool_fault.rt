@@ -1,0 +1,57 @@
+use crate::member::Stop;
+use std::alloc::{AllocError, AllocFailed};
+use thiserror::Error;
+use wcp_run::{SettleFault, StartFault};
+
+/// Why a run of the pool tells nothing. It displays as its line on standard error, without the program's name.
+#[derive(Clone, Copy, Debug, PartialEq, Eq, Error)]
+pub enum PoolFault {
+    /// The words after the program's name ask for nothing that it knows.
+    #[error("usage: [safe]")]
+    Usage,
+    /// Memory ran out before a thread was started, or as the answer was put together.
+    #[error("memory")]
+    Memory,
+    /// The plan of the watch has a fault.
+    #[error("plan")]
+    Plan,
+    /// A thread couldn't be made; all parts were let go.
+    #[error("spawn")]
+    Spawn,
+    /// The member of this process, the lowest such one, stopped before its part was done.
+    #[error("process {0}: {1}")]
+    Stopped(u32, Stop),
+    /// The ends of the watch don't prove its report.
+    #[error(transparent)]
+    Settle(SettleFault),
+    /// Writing the output failed.
+    #[error("write")]
+    Write,
+}
+
+impl From<AllocError> for PoolFault {
+    fn from(_error: AllocError) -> PoolFault {
+        PoolFault::Memory
+    }
+}
+
+impl<T: Drop> From<AllocFailed<T>> for PoolFault {
+    fn from(_error: AllocFailed<T>) -> PoolFault {
+        PoolFault::Memory
+    }
+}
+
+impl From<StartFault> for PoolFault {
+    fn from(fault: StartFault) -> PoolFault {
+        match fault {
+            StartFault::Memory => PoolFault::Memory,
+            StartFault::Spawn => PoolFault::Spawn,
+        }
+    }
+}
+
+impl From<SettleFault> for PoolFault {
+    fn from(fault: SettleFault) -> PoolFault {
+        PoolFault::Settle(fault)
+    }
+}

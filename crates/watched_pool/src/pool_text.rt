@@ -1,0 +1,45 @@
+//! What a run of the pool prints.
+use crate::dispatcher::REPLICAS;
+use crate::pool::PoolReport;
+use std::alloc::{AllocError, Global};
+use wcp_model::{GlobalCut, Report};
+use wcp_report::push_report;
+
+/// Each replica's share of the work, the report, and the moment in words.
+pub(crate) fn pool_text(alloc: Global, run: &PoolReport) -> Result<String, AllocError> {
+    let mut text = String::new(alloc);
+    push_shares(&mut text, run)?;
+    push_report(&mut text, &run.outcome)?;
+    match &run.outcome.report {
+        Report::Found(cut) => push_moment(&mut text, cut)?,
+        Report::Nothing => text.push_str("the replicas were never all at work at once\n")?,
+        Report::Undecided => text.push_str(
+            "it isn't known whether they were all at work at once\n",
+        )?,
+    }
+    Ok(text)
+}
+
+fn push_shares(text: &mut String, run: &PoolReport) -> Result<(), AllocError> {
+    for (process, share) in run.shares.iter().enumerate() {
+        let (jobs, sum) = (share.jobs, share.sum);
+        if process == 0 {
+            writeln!(text, "the dispatcher has {jobs} answers, sum {sum}")?;
+        } else {
+            writeln!(text, "replica {process} did {jobs} jobs, sum {sum}")?;
+        }
+    }
+    Ok(())
+}
+
+/// The moment at which all replicas were at work. A replica's sends and receives alternate, and before each is a job.
+fn push_moment(text: &mut String, cut: &GlobalCut) -> Result<(), AllocError> {
+    text.push_str("the replicas were all at work at once:")?;
+    for replica in 1..cut.len() {
+        let round = cut.get(replica) / 2;
+        let job = u64::from(round) * u64::from(REPLICAS) + u64::from(replica);
+        write!(text, " replica {replica} on job {job},")?;
+    }
+    let events = cut.get(0);
+    writeln!(text, " after {events} sends and receives of the dispatcher")
+}
