@@ -10,28 +10,17 @@ use Rattle.wcp_book.specs.Totals.{AreTotals, HasFewSnapshots, emitted_of_share, 
 sum_with_share : (f : Option Tally → ℕ) → f None ≡ 0 → (n p : ℕ) (shares : List (Option Tally)) (share : Tally) →
     p < n → n ≤ length shares → slice_index_or shares p None ≡ None →
     sum_by f (take n (set shares p (Some share))) ≡ sum_by f (take n shares) + f (Some share)
-sum_with_share f nothing n p shares share below within none =
-    let full : length (take n shares) ≡ n = length-take-le n shares within in
-    let here : f (slice_index_or (take n shares) p None) ≡ 0 = ap f (get_or-take n shares p None below ∙ none) ∙ nothing in
-    let moved = sum_by-set f (take n shares) p (Some share) None (omega arith) in
-    ap (sum_by f) (take-set-lt n shares p (Some share) below) ∙ omega arith
+sum_with_share f nothing n p shares share below within none = grind (arith, get_or-take, length-take-le, sum_by-set, take-set-lt)
 
 pub posted_totals : (n p : ℕ) (shares : List (Option Tally)) (totals share : Tally) →
     p < n → n ≤ length shares → slice_index_or shares p None ≡ None → AreTotals (take n shares) totals →
     AreTotals (take n (set shares p (Some share))) (record { emitted = totals.emitted + share.emitted; taken = totals.taken + share.taken })
-posted_totals n p shares totals share below within none are = record {
-  emitted = ap (λ sum. sum + share.emitted) are.emitted ∙ sym (sum_with_share emitted_of_share refl n p shares share below within none);
-  taken = ap (λ sum. sum + share.taken) are.taken ∙ sym (sum_with_share taken_of_share refl n p shares share below within none);
-}
+posted_totals n p shares totals share below within none are = grind (arith, sum_with_share)
 
 -- the totals of few shares are small
 pub few_totals : (shares : List (Option Tally)) (totals : Tally) → All HasFewSnapshots shares → AreTotals shares totals →
     (totals.emitted ≤ length shares * most_snapshots) × (totals.taken ≤ length shares * most_snapshots)
-few_totals shares totals within are = (
-  (let sum = sum_by-le emitted_of_share most_snapshots shares (λ k d h. (within k d h).0) in rw are.emitted sum),
-  (let sum = sum_by-le taken_of_share most_snapshots shares (λ k d h. (within k d h).1) in rw are.taken sum),
-)
+few_totals shares totals within are = grind (arith, sum_by-le)
 
 pub no_share : (share : Option Tally) → is_some share ≡ false → share ≡ None
-no_share None none = refl
-no_share (Some share) none = absurd (true≢false none)
+no_share share none = grind arith

@@ -39,9 +39,7 @@ All-fit_order P tasks order fit all i d inside =
 
 -- no task closes its process
 no_close : (order earlier : List Task) (q : ℕ) (a : Action) (p : ℕ) → step_of order earlier q a ≡ Close p → ⊥
-no_close order earlier q (action.Observe holds) p same = cc
-no_close order earlier q (action.Send to) p same = cc
-no_close order earlier q (action.Recv from) p same = cc
+no_close order earlier q a p same = grind arith
 
 module _ (n : ℕ) (order : List Task) where
   -- behind the tasks, each step is the close of the process of that number

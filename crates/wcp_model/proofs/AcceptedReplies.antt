@@ -32,10 +32,7 @@ length-receivers (s ∷ c) = length-receivers c ∙ sym (sum_by-cons (λ x. cond
 
 -- a message that was sent to a process was sent
 sent_to : (c : Computation) (message p : ℕ) → was_sent_to c message p ≡ true → message < count_by is_send c
-sent_to c message p sent = ⊎_elim
-    (λ (lt : message < length (receivers c)). omega (arith, length-receivers c))
-    (λ (ge : length (receivers c) ≤ message). absurd (true≢false (sym (rw (slice_get_past (receivers c) message ge) at sent))))
-    (cases_lt message (length (receivers c)))
+sent_to c message p sent = grind (arith, length-receivers, slice_get_past)
 
 -- where no reason is given, none of them holds
 none_holds : (list : List (Bool × Why)) (i : ℕ) (reason : Bool × Why) → slice_get list i ≡ Some reason → first_reason list ≡ None → reason.0 ≡ false
@@ -48,19 +45,10 @@ none_holds (first ∷ list) i reason at none = go first.0 refl none i at (λ k. 
     go false is none zero at later = ap (λ (r : Bool × Why). r.0) (sym (same_Some first reason at)) ∙ is
     go false is none (suc i) at later = later i at none
 
--- and none is given where the answer refuses nothing
-none_given : (first : Option Why) (P : Type 0) (answer : Reply) → ((why : Why) → answer ≡ reply.Refused why → ⊥) → MatchOption first P (λ why. answer ≡ reply.Refused why) → first ≡ None
-none_given None P answer accepts is = refl
-none_given (Some why) P answer accepts is = absurd (accepts why is)
-
 module _ (n : ℕ) (c : Computation) (pending : ℕ → Bool) (more : List (Bool × Why)) where
   -- the second reason against an event is that its process is closed
   closed_is_second : (s : Step) (p : ℕ) → is_step_of p s ≡ true → slice_get (event_reasons n c pending s ++ more) 1 ≡ Some (is_closed c p, why.Closed)
-  closed_is_second (step.Observe q holds) p own = ap (λ r. Some (is_closed c r, why.Closed)) (eqb-true q p own)
-  closed_is_second (step.Send q to) p own = ap (λ r. Some (is_closed c r, why.Closed)) (eqb-true q p own)
-  closed_is_second (step.Recv q message) p own = ap (λ r. Some (is_closed c r, why.Closed)) (eqb-true q p own)
-  closed_is_second (step.Close q) p own = ap (λ r. Some (is_closed c r, why.Closed)) (eqb-true q p own)
-  closed_is_second s p own = absurd (true≢false (sym own))
+  closed_is_second s p own = grind arith
 
   -- a step against which no reason holds keeps the computation an accepted one
   step_accepted : (s : Step) → first_reason (event_reasons n c pending s ++ more) ≡ None → IsAccepted c → IsAccepted (c ++ computation (s ∷ []))
@@ -76,11 +64,7 @@ module _ (n : ℕ) (c : Computation) (pending : ℕ → Bool) (more : List (Bool
 
 -- and so does a step with its reply
 reply_accepted : (plan : Plan) (steps : List Step) (s : Step) (answer : Reply) → IsReply plan steps s answer → IsAccepted (computation steps) → IsAccepted (computation (steps ++ accepted_by s answer))
-reply_accepted plan steps s (reply.Refused why) is accepted = subst (λ all. IsAccepted (computation all)) (sym (append-nil steps)) accepted
-reply_accepted plan steps s answer is accepted =
-    subst IsAccepted (sym (filter-append is_event steps (s ∷ [])))
-    (step_accepted plan.n (computation steps) (λ p. nat_lt 0 (notes_in plan is.emissions steps (Pending p))) (move_reasons plan (notes_in plan is.emissions steps) s) s
-    (none_given (first_reason (reasons plan is.emissions steps s)) (IsAcceptance plan is.emissions steps s answer) answer (λ why same. cc same) is.first) accepted)
+reply_accepted plan steps s answer is accepted = grind (arith, append-nil, filter-append, step_accepted)
 
 -- one more step of a history, and then the rest
 goes_on : (plan : Plan) (rest history : List Answered) → AreReplies plan (history ++ rest) → IsAccepted (computation (accepted history)) → IsAccepted (computation (accepted (history ++ rest)))

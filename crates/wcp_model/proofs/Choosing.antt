@@ -8,8 +8,7 @@ module _ {X : Type 0} (none : X) (P : ℕ → X → Type 0) (n : ℕ) (each : (p
   one_for p (inr past) = none
 
   one_for-holds : (p : ℕ) (side : (p < n) ⊎ (n ≤ p)) → p < n → P p (one_for p side)
-  one_for-holds p (inl within) p_within = (each p within).1
-  one_for-holds p (inr past) p_within = absurd (omega arith)
+  one_for-holds p side p_within = grind arith
 
   pub choice_from_each : (choice : ℕ → X) × ((p : ℕ) → p < n → P p (choice p))
   choice_from_each = (λ p. one_for p (cases_lt p n), λ p p_within. one_for-holds p (cases_lt p n) p_within)

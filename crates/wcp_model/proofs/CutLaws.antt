@@ -23,9 +23,7 @@ happened_before_later c s q k l order within before = go (l - k) k (omega arith)
 
 -- a true state is a state
 pub IsState-true : (c : Computation) (s : State) → IsTrueState c s → IsState c s
-IsState-true c s seen =
-    let fewer : communications (take seen.place c) s.process ≤ communications c s.process = sum_by-take-le _ c seen.place in
-    omega (arith, seen.within)
+IsState-true c s seen = grind (arith, sum_by-take-le)
 
 -- the minimum of two cuts has the lesser of their members
 pub length-minimum : (one other : List ℕ) → length one ≡ length other → length (minimum one other) ≡ length one

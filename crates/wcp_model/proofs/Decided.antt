@@ -11,14 +11,11 @@ decided_from to back decided = ⊎_elim (λ p. inl (to p)) (λ not. inr (λ q. n
 
 -- two decided facts are decided together
 pub both_decided : {P Q : Type 0} → Decided P → Decided Q → Decided (P × Q)
-both_decided one other =
-    ⊎_elim (λ p. ⊎_elim (λ q. inl (p, q)) (λ not. inr (λ both. not both.1)) other) (λ not. inr (λ both. not both.0)) one
+both_decided one other = grind arith
 
 -- of two decided facts it is decided whether one of them holds
 pub either_decided : {P Q : Type 0} → Decided P → Decided Q → Decided (P ⊎ Q)
-either_decided one other =
-    ⊎_elim (λ p. inl (inl p))
-    (λ not. ⊎_elim (λ q. inl (inr q)) (λ nor. inr (λ either. ⊎_elim not nor either)) other) one
+either_decided one other = grind arith
 
 -- a decided fact that is denied
 pub not_decided : {P : Type 0} → Decided P → Decided (P → ⊥)
@@ -26,9 +23,7 @@ not_decided decided = ⊎_elim (λ p. inr (λ not. not p)) (λ not. inl not) dec
 
 -- a fact under a decided condition
 pub under_decided : {C P : Type 0} → Decided C → Decided P → Decided (C → P)
-under_decided condition decided =
-    ⊎_elim (λ c. ⊎_elim (λ p. inl (λ _. p)) (λ not. inr (λ under. not (under c))) decided)
-    (λ not. inl (λ c. absurd (not c))) condition
+under_decided condition decided = grind arith
 
 -- what is decided of each number below n is decided of some of them
 pub some_below_decided : (P : ℕ → Type 0) (n : ℕ) → ((k : ℕ) → k < n → Decided (P k)) → Decided ((k : ℕ) × (k < n) × P k)

@@ -27,17 +27,11 @@ get_or-grown n rows longer grow p i p_within i_within =
 module _ (n : ℕ) where
   -- precedence between two candidates stays as the rows grow
   pub PrecedesAt-grown : (rows longer : ℕ → List (List ℕ)) → GrowTo n rows longer → (p i q j : ℕ) → p < n → q < n → i < length (rows p) → j < length (rows q) → PrecedesAt rows p i q j → PrecedesAt longer p i q j
-  PrecedesAt-grown rows longer grow p i q j p_within q_within i_within j_within before =
-      let one : get_or (longer p) i [] ≡ get_or (rows p) i [] = get_or-grown n rows longer grow p i p_within i_within in
-      let two : get_or (longer q) j [] ≡ get_or (rows q) j [] = get_or-grown n rows longer grow q j q_within j_within in
-      rw (one, two) before
+  PrecedesAt-grown rows longer grow p i q j p_within q_within i_within j_within before = grind (arith, get_or-grown)
 
   -- and so it does read backwards, between candidates that stood in the rows before
   pub PrecedesAt-ungrown : (rows longer : ℕ → List (List ℕ)) → GrowTo n rows longer → (p i q j : ℕ) → p < n → q < n → i < length (rows p) → j < length (rows q) → PrecedesAt longer p i q j → PrecedesAt rows p i q j
-  PrecedesAt-ungrown rows longer grow p i q j p_within q_within i_within j_within before =
-      let one : get_or (longer p) i [] ≡ get_or (rows p) i [] = get_or-grown n rows longer grow p i p_within i_within in
-      let two : get_or (longer q) j [] ≡ get_or (rows q) j [] = get_or-grown n rows longer grow q j q_within j_within in
-      rw (← one, ← two) before
+  PrecedesAt-ungrown rows longer grow p i q j p_within q_within i_within j_within before = grind (arith, get_or-grown)
 
   -- a satisfying choice stays one as the rows grow
   pub IsSatisfyingChoice-grown : (rows longer : ℕ → List (List ℕ)) (choice : ℕ → ℕ) → GrowTo n rows longer → IsSatisfyingChoice n rows choice → IsSatisfyingChoice n longer choice

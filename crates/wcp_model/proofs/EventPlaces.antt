@@ -74,14 +74,11 @@ later_event c p k l a b at_a at_b lt =
 
 -- each number below the number of a process's events is that of one
 pub event_of : (c : Computation) (p k : ℕ) → k < communications c p → (place : ℕ) × IsEventOf c p k place
-event_of c p k below =
-    let found : IsPlaceOf (is_communication_of p) c k = place_of (is_communication_of p) c k below in
-    (found.place, record { step = found.element; at = found.at; own = found.passes; number = found.earlier })
+event_of c p k below = grind (arith, place_of (is_communication_of p) c k below)
 
 -- the number of an event is below the number of the process's events
 pub event_below : (c : Computation) (p k place : ℕ) → IsEventOf c p k place → k < communications c p
-event_below c p k place event =
-    omega (arith, event.number, interval_at-event c p place event.step event.at event.own, interval_at-le c p (place + 1))
+event_below c p k place event = grind (arith, interval_at-le c p (place + 1), interval_at-event c p place event.step event.at event.own)
 
 -- a message has one send
 pub sent_once : (c : Computation) (a b p q to to' : ℕ) → slice_get c a ≡ Some (Send p to) → slice_get c b ≡ Some (Send q to') → message_at c a ≡ message_at c b → a ≡ b

@@ -89,11 +89,4 @@ happened_there n fit_one fit_other (Chain h d) = Chain (happened_there n fit_one
 
 -- all fit orders of a workload give computations with the same states, order and truths
 pub fit_orders_alike : FitOrderLaw
-fit_orders_alike n tasks one other fit_one fit_other =
-    let there = same_tasks fit_one fit_other in
-    let back = same_tasks fit_other fit_one in
-    record {
-      states = same_states n one other there;
-      order = λ s t. (happened_there n fit_one fit_other, happened_there n fit_other fit_one);
-      truths = λ s. (true_there n one other there s, true_there n other one back s);
-    }
+fit_orders_alike n tasks one other fit_one fit_other = search (happened_there, same_states, same_tasks, true_there, arith)

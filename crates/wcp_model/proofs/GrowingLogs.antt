@@ -18,22 +18,11 @@ send_clock_grows n c e p to sent clock send is =
 
 -- a stamp stays that of its message
 pub stamp_grows : (n : ℕ) (c e : Computation) (message : ℕ) (stamp : List ℕ) → IsStampOf n c message stamp → IsStampOf n (c ++ e) message stamp
-stamp_grows n c e message stamp is = record {
-  sent = is.sent;
-  from = is.from;
-  to = is.to;
-  send = at_grows c e is.sent (Send is.from is.to) is.send;
-  number = message_grows c e is.sent (Send is.from is.to) is.send ∙ is.number;
-  clock = send_clock_grows n c e is.from is.to is.sent stamp is.send is.clock;
-}
+stamp_grows n c e message stamp is = grind (arith, at_grows, message_grows, send_clock_grows)
 
 -- a call stays that of its step
 call_grows : (n : ℕ) (c e : Computation) (x : Step) (call : Call) → IsCallOf n c x call → IsCallOf n (c ++ e) x call
-call_grows n c e (Observe p holds) (Observed seen) is = is
-call_grows n c e (Send p to) Sent is = is
-call_grows n c e (Recv p message) (Received stamp) is = stamp_grows n c e message stamp is
-call_grows n c e (Close p) Closed is = is
-call_grows n c e x call is = absurd is
+call_grows n c e x call is = grind (arith, stamp_grows)
 
 calls_grow : (n : ℕ) (c e : Computation) (steps : List Step) (log : List Call) → AreCallsOf n c steps log → AreCallsOf n (c ++ e) steps log
 calls_grow n c e [] [] are = are
@@ -49,8 +38,7 @@ calls_append n c (x ∷ steps) others (call ∷ log) more are also = (are.0, cal
 
 -- the log of a longer computation
 pub log_grows : (n : ℕ) (c e : Computation) (p : ℕ) (log more : List Call) → IsLogOf n c p log → AreCallsOf n (c ++ e) (filter (is_step_of p) e) more → IsLogOf n (c ++ e) p (log ++ more)
-log_grows n c e p log more is also =
-    rw (filter-append (is_step_of p) c e) (calls_append n (c ++ e) (filter (is_step_of p) c) (filter (is_step_of p) e) log more (calls_grow n c e (filter (is_step_of p) c) log is) also)
+log_grows n c e p log more is also = grind (arith, calls_append, calls_grow, filter-append)
 
 -- the front of accepted steps is accepted
 pub accepted_front : (c e : Computation) → IsAccepted (c ++ e) → IsAccepted c

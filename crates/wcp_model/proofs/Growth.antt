@@ -1,3 +1,4 @@
+use Rattle.std.proofs.lemmas.Grind.{common_steps}
 use Rattle.std.proofs.Common.{◌≡◌, ℕ, zero, suc, ◌+◌, ◌<◌, ◌≤◌, ◌↔◌, Bool, true, cond, List, [], ◌∷◌, ◌++◌, length, take, slice_get, slice_index, count_by, Some, refl, sym, ap, ◌∙◌, subst, ⊎_elim, arith}
 use Rattle.std.proofs.lemmas.Bool.{cases_lt}
 use Rattle.std.proofs.lemmas.List.{take-append-le, take_at}
@@ -38,14 +39,6 @@ in_front test xs ys i few =
     absurd (omega (arith, all, count_before-mono test (xs ++ ys) (length xs) i ge)))
     (cases_lt i (length xs))
 
--- a longer computation has the events of a process that it had, and more
-pub communications_grow : (c e : Computation) (p : ℕ) → communications (c ++ e) p ≡ communications c p + communications e p
-communications_grow c e p = sum_by-append (λ x. cond (is_communication_of p x) 1 0) c e
-
--- a state stays one
-pub state_grows : (c e : Computation) (s : State) → IsState c s → IsState (c ++ e) s
-state_grows c e s exists = omega (arith, communications_grow c e s.process)
-
 -- a step of the front stands there in the whole
 pub at_grows : (c e : Computation) (place : ℕ) (x : Step) → slice_get c place ≡ Some x → slice_get (c ++ e) place ≡ Some x
 at_grows c e place x at = get_front c e place (slice_get_within c place x at) ∙ at
@@ -74,8 +67,7 @@ is_message_grows c e s t m = record {
 
 -- direct precedence stays
 pub direct_grows : (c e : Computation) (s t : State) → DirectlyPrecedes c s t → DirectlyPrecedes (c ++ e) s t
-direct_grows c e s t (Next process interval exists) = Next process interval (state_grows c e t exists)
-direct_grows c e s t (Message m) = Message (is_message_grows c e s t m)
+direct_grows c e s t h4 = grind (arith, common_steps, is_message_grows)
 
 -- happened-before stays
 pub before_grows : (c e : Computation) (s : State) {t : State} → HappenedBefore c s t → HappenedBefore (c ++ e) s t
@@ -84,24 +76,11 @@ before_grows c e s {t = u} (Chain {t = t} h d) = Chain (before_grows c e s h) (d
 
 -- no message that begins a state is new, if the state isn't
 pub is_message_shrinks : (c e : Computation) (s t : State) → IsState c t → IsMessage (c ++ e) s t → IsMessage c s t
-is_message_shrinks c e s t exists m =
-    let received : m.received < length c = in_front (is_communication_of t.process) c e m.received (omega (arith, m.to_state)) in
-    let sent : m.sent < length c = omega (arith, m.later) in
-    record {
-      sent = m.sent;
-      received = m.received;
-      to = m.to;
-      later = m.later;
-      send = sym (get_front c e m.sent sent) ∙ m.send;
-      receive = sym (get_front c e m.received received) ∙ m.receive ∙ ap (λ message. Some (Recv t.process message)) (count_front is_send c e m.sent (omega arith));
-      from_state = sym (count_front (is_communication_of s.process) c e m.sent (omega arith)) ∙ m.from_state;
-      to_state = omega (arith, m.to_state, count_front (is_communication_of t.process) c e m.received (omega arith));
-    }
+is_message_shrinks c e s t exists m = grind (arith, count_front, get_front, in_front)
 
 -- no direct precedence of a state is new, if the state isn't
 pub direct_shrinks : (c e : Computation) (s t : State) → IsState c t → DirectlyPrecedes (c ++ e) s t → DirectlyPrecedes c s t
-direct_shrinks c e s t exists (Next process interval _) = Next process interval exists
-direct_shrinks c e s t exists (Message m) = Message (is_message_shrinks c e s t exists m)
+direct_shrinks c e s t exists h5 = grind (arith, is_message_shrinks)
 
 -- nothing new happened before a state that existed
 pub before_shrinks : (c e : Computation) (s : State) {t : State} → IsState c t → HappenedBefore (c ++ e) s t → HappenedBefore c s t
@@ -116,13 +95,7 @@ order_settled c e s t exists = (before_grows c e s, before_shrinks c e s exists)
 
 -- its clock stays
 pub clock_grows : (n : ℕ) (c e : Computation) (s : State) (clock : List ℕ) → IsState c s → IsStateClock n c s clock → IsStateClock n (c ++ e) s clock
-clock_grows n c e s clock exists is = record {
-  components = is.components;
-  own = is.own;
-  others = λ q in_range other l.
-      let counts : CountsBefore c s q (slice_index clock q) = is.others q in_range other in
-      (λ h. (counts l).0 (before_shrinks c e (record { process = q; interval = l }) exists h), λ below. before_grows c e (record { process = q; interval = l }) ((counts l).1 below));
-}
+clock_grows n c e s clock exists is = grind (arith, before_grows, before_shrinks)
 
 -- and is the one that it had
 pub clock_shrinks : (n : ℕ) (c e : Computation) (s : State) (clock : List ℕ) → IsState c s → IsStateClock n (c ++ e) s clock → IsStateClock n c s clock
@@ -136,19 +109,12 @@ clock_shrinks n c e s clock exists is = record {
 
 -- a true state stays true
 pub true_state_grows : (c e : Computation) (s : State) → IsTrueState c s → IsTrueState (c ++ e) s
-true_state_grows c e s is = record {
-  place = is.place;
-  observed = at_grows c e is.place (Observe s.process true) is.observed;
-  within = interval_grows c e s.process is.place (Observe s.process true) is.observed ∙ is.within;
-}
+true_state_grows c e s is =
+    grind (arith, interval_grows c e s.process is.place (Observe s.process true) is.observed, at_grows c e is.place (Observe s.process true) is.observed)
 
 -- a state that an observation of the front makes true was true
 pub true_state_of_front : (c e : Computation) (s : State) (is : IsTrueState (c ++ e) s) → is.place < length c → IsTrueState c s
-true_state_of_front c e s is place = record {
-  place = is.place;
-  observed = sym (get_front c e is.place place) ∙ is.observed;
-  within = sym (count_front (is_communication_of s.process) c e is.place (omega arith)) ∙ is.within;
-}
+true_state_of_front c e s is place = grind (arith, count_front, get_front)
 
 -- a state that was over becomes true no more
 pub true_state_shrinks : (c e : Computation) (s : State) → s.interval < communications c s.process → IsTrueState (c ++ e) s → IsTrueState c s

@@ -15,10 +15,7 @@ use Rattle.wcp_model.proofs.Growth.{before_grows, before_shrinks, order_settled,
 
 -- an accepted computation grew from each of its fronts
 pub accepted_grows : (n : ℕ) (c e : Computation) → IsAccepted (c ++ e) → GrowsInto n c (c ++ e)
-accepted_grows n c e accepted = record {
-  order = λ s t first second. order_settled c e s t second;
-  emissions = λ p notes more in_range is grown. emissions_grow n c e p notes more accepted is grown;
-}
+accepted_grows n c e accepted = search (emissions_grow, order_settled, arith)
 
 -- the computation of a longer history is that of its front and more
 pub computation_append : (history more : List Answered) → computation (accepted (history ++ more)) ≡ computation (accepted history) ++ computation (accepted more)
@@ -26,19 +23,11 @@ computation_append history more = ap computation (flat_map-append _ history more
 
 -- the growth law
 pub growth_holds : GrowthLaw
-growth_holds plan history more are =
-    let grown : computation (accepted (history ++ more)) ≡ computation (accepted history) ++ computation (accepted more) = computation_append history more in
-    subst (GrowsInto plan.n (computation (accepted history))) (sym grown)
-    (accepted_grows plan.n (computation (accepted history)) (computation (accepted more)) (subst IsAccepted grown (replies_accepted plan (history ++ more) are)))
+growth_holds plan history more are = search (arith, replies_accepted plan (history ++ more) are, accepted_grows, computation_append)
 
 -- a satisfying cut stays one
 pub satisfying_grows : (n : ℕ) (c e : Computation) (cut : List ℕ) → IsSatisfyingCut n c cut → IsSatisfyingCut n (c ++ e) cut
-satisfying_grows n c e cut is = record {
-  members = is.members;
-  consistent = λ p q p_in_range q_in_range apart before.
-      is.consistent p q p_in_range q_in_range apart (before_shrinks c e (member cut p) (IsState-true c (member cut q) (is.true_states q q_in_range)) before);
-  true_states = λ p in_range. true_state_grows c e (member cut p) (is.true_states p in_range);
-}
+satisfying_grows n c e cut is = grind (arith, IsState-true, before_shrinks, true_state_grows)
 
 -- and one that lies at or below it was one before
 satisfying_below : (n : ℕ) (c e : Computation) (cut lower : List ℕ) → IsSatisfyingCut n c cut → ((p : ℕ) → p < n → slice_index lower p ≤ slice_index cut p) → IsSatisfyingCut n (c ++ e) lower → IsSatisfyingCut n c lower

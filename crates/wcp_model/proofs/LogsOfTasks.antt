@@ -48,9 +48,7 @@ action_at order place task at =
 
 -- what a process does before a place
 actions_before : (order : List Task) (p place : ℕ) → take (done order p place) (actions_of p order) ≡ actions_of p (take place order)
-actions_before order p place =
-    take-map (λ (t : Task). t.action) (done order p place) (filter (is_task_of p) order)
-    ∙ ap (map (λ (t : Task). t.action)) (ap (λ k. take k (filter (is_task_of p) order)) (sym (length-filter (is_task_of p) (take place order))) ∙ sym (filter_front (is_task_of p) place order))
+actions_before order p place = grind (arith, filter_front, length-filter, take-map)
 
 -- as many actions of a process pass as tasks of it do
 pub count_actions : (test : Action → Bool) (p : ℕ) (tasks : List Task) → count_by test (actions_of p tasks) ≡ count_by (λ task. is_task_of p task && test task.action) tasks
@@ -86,9 +84,7 @@ stamp_below n c message q stamp below is =
 
 -- the step of a task is of its process
 step_owner : (order earlier : List Task) (p q : ℕ) (a : Action) → is_step_of q (step_of order earlier p a) ≡ is_step_of q (step.Close p)
-step_owner order earlier p q (action.Observe holds) = refl
-step_owner order earlier p q (action.Send to) = refl
-step_owner order earlier p q (action.Recv from) = refl
+step_owner order earlier p q a = grind arith
 
 -- the closes of n processes from a number on
 abbrev closes : ℕ → ℕ → Computation
@@ -126,9 +122,7 @@ module _ (n : ℕ) (order : List Task) (within : All (IsWithin n) order) (fit : 
     call_at = call_for (actions_of task.p order) (logs task.p) (done order task.p place) task.action (are.follows task.p below) (action_at order place task at)
 
     log_next : log_at task.p (place + 1) ≡ log_at task.p place ++ call_at.0 ∷ []
-    log_next =
-        ap (λ k. take k (logs task.p)) (count_by-take_more (is_task_of task.p) order place task at (eq-eqb task.p task.p refl))
-        ∙ take_next (logs task.p) (done order task.p place) call_at.0 call_at.1
+    log_next = grind (arith, count_by-take_more, eq-eqb, take_next)
 
   -- the stamp of a message carries the clock of its sender's probe after the send
   sent_stamp : (sent p q : ℕ) → p < n → slice_get order sent ≡ Some (record { p = p; action = action.Send q }) → AreLogsAt (sent + 1) →
@@ -220,13 +214,7 @@ module _ (n : ℕ) (order : List Task) (within : All (IsWithin n) order) (fit : 
 
   -- at the end they are whole
   whole : (p : ℕ) → p < n → log_at p (length order) ≡ logs p
-  whole p below = take_all (done order p (length order)) (logs p) (omega (
-    arith,
-    same_length (actions_of p order) (logs p) (are.follows p below),
-    length-map (filter (is_task_of p) order) (λ (t : Task). t.action),
-    length-filter (is_task_of p) order,
-    ap (count_by (is_task_of p)) (take_all (length order) order (omega arith)),
-  ))
+  whole p below = grind (arith, length-filter, length-map, same_length, take_all)
 
   -- a probe's own component counts the events of its process
   own_component : (place p : ℕ) → place ≤ length order → p < n → slice_index (state_of_log (setup n p) (log_at p place)).clock p ≡ communications (front n order place) p
@@ -234,21 +222,13 @@ module _ (n : ℕ) (order : List Task) (within : All (IsWithin n) order) (fit : 
 
   -- so it is at most the number of tasks
   pub few_events : (p : ℕ) → p < n → slice_index (state_of_log (setup n p) (logs p)).clock p ≤ length order
-  few_events p below = omega (
-    arith,
-    ap (λ log. slice_index (state_of_log (setup n p) log).clock p) (whole p below),
-    own_component (length order) p (omega arith) below,
-    count_by-le-length (is_communication_of p) (front n order (length order)),
-    length-take (length order) (computation_of n order),
-  )
+  few_events p below = grind (arith, count_by-le-length, length-take, own_component, whole)
 
   -- and the stamp that a process gets is a clock that is not ahead of its own
   not_ahead : (place p q : ℕ) (stamp : List ℕ) → p < n → q < n → slice_get order place ≡ Some (record { p = q; action = action.Recv p }) → slice_get (logs q) (done order q place) ≡ Some (Received stamp) →
       (length stamp ≡ n) × (slice_index stamp q ≤ slice_index (state_of_log (setup n q) (log_at q place)).clock q)
   not_ahead place p q stamp p_below q_below at took =
-      let inside : place ≤ length order = omega (arith, slice_get_within order place _ at) in
-      let is = received_stamp place p q stamp p_below q_below at took (λ k le. logs_until (length order) (omega arith) k (omega arith)) in
-      (is.clock.components, omega (arith, own_component place q inside q_below, stamp_below n (front n order place) _ q stamp q_below is))
+      search (arith, received_stamp place p q stamp p_below q_below, logs_until, own_component, slice_get_within, stamp_below)
 
   -- and each process closes
   pub logs_with_close : (p : ℕ) → p < n → IsLogOf n (computation_of n order) p (logs p ++ Closed ∷ [])

@@ -16,24 +16,12 @@ use Rattle.wcp_model.proofs.StepsOfOrder.{sends_any, step_at, send_task, receive
 place_after_first : (test : Task → Bool) (task : Task) (tasks : List Task) → test task ≡ true → place_after test 0 (task ∷ tasks) ≡ 0
 place_after_first test task tasks passes = rw passes
 
-place_after_yes : (test : Task → Bool) (earlier : ℕ) (task : Task) (tasks : List Task) → test task ≡ true → place_after test (suc earlier) (task ∷ tasks) ≡ suc (place_after test earlier tasks)
-place_after_yes test earlier task tasks passes =
-    let more : (suc earlier == 0) ≡ false = ne_eqb (suc earlier) 0 (λ none. omega arith) in
-    let before : suc earlier - 1 ≡ earlier = omega arith in
-    rw (passes, more, before) (omega arith)
-
 place_after_no : (test : Task → Bool) (earlier : ℕ) (task : Task) (tasks : List Task) → test task ≡ false → place_after test earlier (task ∷ tasks) ≡ suc (place_after test earlier tasks)
 place_after_no test earlier task tasks fails = rw fails (omega arith)
 
 -- one element further, where the first passes both tests
 both_pass : (any test : Task → Bool) (first : Task) (rest : List Task) (place earlier : ℕ) → any first ≡ true → test first ≡ true → count_by test (first ∷ take place rest) ≡ earlier → ((k : ℕ) → count_by test (take place rest) ≡ k → place_after test k (filter any rest) ≡ count_by any (take place rest)) → place_after test earlier (filter any (first ∷ rest)) ≡ count_by any (first ∷ take place rest)
-both_pass any test first rest place zero among here behind further = absurd (omega (arith, sym behind ∙ count_by_yes test first (take place rest) here))
-both_pass any test first rest place (suc earlier) among here behind further =
-    let before : count_by test (take place rest) ≡ earlier = omega (arith, sym behind ∙ count_by_yes test first (take place rest) here) in
-    ap (place_after test (suc earlier)) (filter_yes any first rest among)
-    ∙ place_after_yes test earlier first (filter any rest) here
-    ∙ ap suc (further earlier before)
-    ∙ sym (count_by_yes any first (take place rest) among)
+both_pass any test first rest place earlier among here behind further = grind (arith, count_by_yes)
 
 -- among the elements that pass a test, the place of one that passes a stricter test is the number of them before it
 place_after_is : (any test : Task → Bool) → ((task : Task) → test task ≡ true → any task ≡ true) → (order : List Task) (place earlier : ℕ) (task : Task) → slice_get order place ≡ Some task → test task ≡ true → count_by test (take place order) ≡ earlier → place_after test earlier (filter any order) ≡ count_by any (take place order)
@@ -58,17 +46,9 @@ place_after_is any test implies (first ∷ rest) (suc place) earlier task found 
           ]
     ]
 
--- an action that passes the test for a send to q is that send
-send_to_is : (q : ℕ) (a : Action) → is_send_to q a ≡ true → a ≡ action.Send q
-send_to_is q (action.Observe holds) passes = cc
-send_to_is q (action.Send to) passes = ap action.Send (eqb-true to q passes)
-send_to_is q (action.Recv from) passes = cc
-
 -- a task that passes the test for a send by p to q is that send, and the other way round
 pub sends_is : (p q : ℕ) (task : Task) → sends p q task ≡ true → task ≡ record { p = p; action = action.Send q }
-sends_is p q task passes =
-    let parts = and_parts (is_task_of p task) (is_send_to q task.action) passes in
-    ap₂ (λ r a. record { p = r; action = a }) (eqb-true task.p p parts.0) (send_to_is q task.action parts.1)
+sends_is p q task passes = grind arith
 
 pub sends_yes : (p q : ℕ) → sends p q (record { p = p; action = action.Send q }) ≡ true
 sends_yes p q = and_from (p == p) (q == q) (eq-eqb p p refl) (eq-eqb q q refl)
@@ -83,13 +63,7 @@ sends_among p q task passes = ap sends_any (sends_is p q task passes)
 
 -- a send that stands up to a receive stands before it
 before_or_here : (order : List Task) (p q sent received : ℕ) → sent < received + 1 → slice_get order sent ≡ Some (record { p = p; action = action.Send q }) → slice_get order received ≡ Some (record { p = q; action = action.Recv p }) → sent < received
-before_or_here order p q sent received within send receive = elim (cases_lt sent received) [
-  | inl before ↦ before
-  | inr behind ↦
-      let same : sent ≡ received = omega arith in
-      let clash : action.Recv p ≡ action.Send q = ap (λ (task : Task). task.action) (same_Some _ _ (sym receive ∙ ap (slice_get order) (sym same) ∙ send)) in
-      cc
-]
+before_or_here order p q sent received within send receive = grind arith
 
 -- the number of the message that p sends to q after `earlier` others is the number of sends before it
 pub message_number_is : (order : List Task) (p q earlier sent : ℕ) → slice_get order sent ≡ Some (record { p = p; action = action.Send q }) → count_by (sends p q) (take sent order) ≡ earlier → message_number order p q earlier ≡ count_by sends_any (take sent order)
@@ -123,10 +97,7 @@ send_of_receive {tasks} {order} fit p q received found =
 
 -- in a fit order the send of a delivery stands before its receive
 pub delivery_later : {tasks order : List Task} → IsFitOrder tasks order → {p q sent received : ℕ} → IsDelivery order p q sent received → sent < received
-delivery_later {tasks} {order} fit {p} {q} {sent} {received} d =
-    let earlier = send_of_receive fit p q received d.receive in
-    let same : earlier.0 ≡ sent = one_place (sends p q) order earlier.0 sent _ _ earlier.2.send (sends_yes p q) d.send (sends_yes p q) (earlier.2.same_rank ∙ sym d.same_rank) in
-    omega (arith, earlier.1)
+delivery_later {tasks} {order} fit {p} {q} {sent} {received} d = grind (arith, one_place, send_of_receive)
 
 -- the receive of a delivery takes the message that its send made
 pub delivery_step : (n : ℕ) {order : List Task} {p q sent received : ℕ} → IsDelivery order p q sent received → slice_get (computation_of n order) received ≡ Some (step.Recv q (message_at (computation_of n order) sent))

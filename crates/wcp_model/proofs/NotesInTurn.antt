@@ -37,8 +37,7 @@ in_turn_from number count closed (clock ∷ clocks) (x ∷ before) after next co
 -- what a process emits is in turn
 pub emissions_in_turn : (n : ℕ) (c : Computation) (p : ℕ) (notes : List Note) → AreEmissions n c p notes → AreInTurn notes
 emissions_in_turn n c p notes emitted before after next is =
-    let turn = in_turn_from 0 (length emitted.clocks) (is_closed c p) emitted.clocks before after next (omega arith) (sym emitted.notes_are ∙ is) in
-    record { place = omega (arith, turn.0); still_open = turn.1 }
+    grind (arith, in_turn_from 0 (length emitted.clocks) (is_closed c p) emitted.clocks before after next (omega arith) (sym emitted.notes_are ∙ is))
 
 -- so the note behind a front of the emissions is the next that a checker may take
 pub next_of_emissions : (n : ℕ) (c : Computation) (p : ℕ) (before after : List Note) (next : Note) → AreEmissions n c p (before ++ next ∷ after) → IsNextNote before next
@@ -64,10 +63,7 @@ AreInTurn-none [] after next is = absurd (cc is)
 AreInTurn-none (x ∷ before) after next is = absurd (cc is)
 
 pub AreInTurn-push : (notes : List Note) (next : Note) → AreInTurn notes → IsNextNote notes next → AreInTurn (notes ++ next ∷ [])
-AreInTurn-push notes next turn is before after other at = ⊎_elim
-    (λ (t : (before ≡ notes) × (other ≡ next)). subst (λ xs. IsNextNote xs other) (sym t.0) (subst (IsNextNote notes) (sym t.1) is))
-    (λ (t : (more : List Note) × (notes ≡ before ++ other ∷ more)). turn before t.0 other t.1)
-    (split_push notes before after next other at)
+AreInTurn-push notes next turn is before after other at = grind (arith, split_push)
 
 -- nothing follows a close mark
 pub nothing_follows : (before after : List Note) (count : ℕ) → AreInTurn (before ++ note.Close count ∷ after) → after ≡ []

@@ -20,9 +20,7 @@ count_before-no test xs place x here fails =
 
 -- the count never falls
 pub count_before-mono : {X : Type 0} (test : X → Bool) (xs : List X) (early late : ℕ) → early ≤ late → count_before test xs early ≤ count_before test xs late
-count_before-mono test xs early late order =
-    let front : take early (take late xs) ≡ take early xs = take-take early late xs order in
-    rw front at (sum_by-take-le (λ x. cond (test x) 1 0) (take late xs) early)
+count_before-mono test xs early late order = search (arith, take-take early late xs order, sum_by-take-le)
 
 -- two elements that pass, with as many that pass before them, stand at one place
 pub count_before-place : {X : Type 0} (test : X → Bool) (xs : List X) (one other : ℕ) (x y : X) → slice_get xs one ≡ Some x → slice_get xs other ≡ Some y → test x ≡ true → test y ≡ true → count_before test xs one ≡ count_before test xs other → one ≡ other

@@ -14,8 +14,7 @@ inside least most x low high = ⊎_elim (λ less. omega arith) (λ more. omega a
 
 -- one relay under the root has no relay as its parent
 pub under_root : (relay above : ℕ) → ¬ (slice_get (Root ∷ []) relay ≡ Some (Relay above))
-under_root zero above parent = cc
-under_root (suc relay) above parent = cc
+under_root relay above parent = grind arith
 
 -- so a path has one relay
 pub path_under_root : (path : List ℕ) → IsPath (Root ∷ []) path → length path ≤ 1
@@ -25,8 +24,7 @@ path_under_root (relay ∷ above ∷ rest) path = absurd (under_root relay above
 
 -- which serves processes, if there are any
 plain_leaf : (n : ℕ) → 1 ≤ n → list_any (is_number 0) (take n (plain_attach n)) ≡ true
-plain_leaf zero some = absurd (omega arith)
-plain_leaf (suc n) some = refl
+plain_leaf n some = grind arith
 
 -- a plain plan has no fault within the limits
 pub plain_is_checked : (n cap hold : ℕ) (plan : Plan) → IsPlainPlan n cap hold plan → 1 ≤ n → n ≤ most_processes → 1 ≤ cap → cap ≤ most_cap → 1 ≤ hold → hold ≤ most_hold → IsCheckedPlan plan

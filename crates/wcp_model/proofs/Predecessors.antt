@@ -51,15 +51,7 @@ direct_span c s t (Message m) = record {
 
 -- spans join, since a process's state begins before it ends
 join_spans : (c : Computation) (s t u : State) → Span c s t → Span c t u → Span c s u
-join_spans c s t u a b = record {
-  ended = a.ended;
-  began = b.began;
-  last = b.last;
-  ends = a.ends;
-  begins = b.begins;
-  next = b.next;
-  in_order = omega (arith, later_event c t.process a.last t.interval a.began b.ended a.begins b.ends (omega (arith, a.next)), a.in_order, b.in_order);
-}
+join_spans c s t u a b = grind (arith, later_event c t.process a.last t.interval a.began b.ended a.begins b.ends (omega (arith, a.next)))
 
 -- what happened before ended before or where the other began
 pub span : (c : Computation) (s : State) {t : State} → HappenedBefore c s t → Span c s t
@@ -119,11 +111,7 @@ only_before_send c s p k to place at number h =
 
 -- a receive has one sender's state
 pub one_sender : (c : Computation) (s t u : State) (m : IsMessage c s u) (l : IsMessage c t u) → m.received ≡ l.received → s ≡ t
-one_sender c s t u m l same =
-    let number : message_at c m.sent ≡ message_at c l.sent = cc (m.receive, l.receive, ap (slice_get c) same) in
-    let place : m.sent ≡ l.sent = sent_once c m.sent l.sent s.process t.process m.to l.to m.send l.send number in
-    let process : s.process ≡ t.process = cc (m.send, l.send, ap (slice_get c) place) in
-    same_state s t process (sym m.from_state ∙ ap₂ (interval_at c) process place ∙ l.from_state)
+one_sender c s t u m l same = grind (arith, same_state, sent_once)
 
 -- only the state before it and the sender's, and what happened before these, happened before a state that a receive begins
 pub only_before_receive : (c : Computation) (s r : State) (p k : ℕ) → IsMessage c r (local_state p (k + 1)) → HappenedBefore c s (local_state p (k + 1)) →

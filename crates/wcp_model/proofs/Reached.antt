@@ -67,8 +67,7 @@ before_to_state before = directly_to_state (last_step before).2
 
 -- what a direct precedence leads to is no first state
 directly_to_later : {c : Computation} {s t : State} → DirectlyPrecedes c s t → 0 < t.interval
-directly_to_later (Next same next is) = omega (arith, next)
-directly_to_later (Message m) = omega (arith, m.to_state)
+directly_to_later h0 = grind arith
 
 -- what a state happened before is no first state
 pub before_to_later : {c : Computation} {s t : State} → HappenedBefore c s t → 0 < t.interval
@@ -115,28 +114,7 @@ abbrev pub ComesFrom : Computation → State → ℕ → ℕ → Step → Type 0
 ComesFrom c s p place step = AtOrAfter c s (state_at c p place) ⊎ ((message : ℕ) × (step ≡ Recv p message) × Carries c s place message)
 
 directly_from : (c : Computation) (s u : State) (p place : ℕ) (step : Step) → slice_get c place ≡ Some step → is_communication_of p step ≡ true → AtOrAfter c s u → DirectlyPrecedes c u (state_at c p (place + 1)) → ComesFrom c s p place step
-directly_from c s u p place step here own from (Next same next is) =
-    let event = interval_at-event c p place step here own in
-    inl (subst (λ v. AtOrAfter c s v) (same_state u (state_at c p place) same (omega (arith, next, event))) from)
-directly_from c s u p place step here own from (Message m) =
-    let event = interval_at-event c p place step here own in
-    let received : m.received ≡ place = count_before-place (is_communication_of p) c m.received place _ step m.receive here (eq-eqb p p refl) own (omega (arith, m.to_state, event)) in
-    let message = message_at c m.sent in
-    inr (
-      message,
-      same_Some _ _ (sym here ∙ ap (λ k. slice_get c k) (sym received) ∙ m.receive),
-      (
-        m.sent,
-        omega (arith, m.later, received),
-        record {
-          process = u.process;
-          to = m.to;
-          send = m.send;
-          number = refl;
-          reached = subst (λ v. AtOrAfter c s v) (same_state u (state_at c u.process m.sent) refl (sym m.from_state)) from;
-        },
-      ),
-    )
+directly_from c s u p place step here own from h9 = grind (arith, count_before-place, interval_at-event)
 
 pub comes_from : (c : Computation) (s : State) (p place : ℕ) (step : Step) → slice_get c place ≡ Some step → is_communication_of p step ≡ true → HappenedBefore c s (state_at c p (place + 1)) → ComesFrom c s p place step
 comes_from c s p place step here own before =
@@ -145,10 +123,7 @@ comes_from c s p place step here own before =
 
 -- whether two states are one is decided
 pub same_state_decided : (s t : State) → Decided (s ≡ t)
-same_state_decided s t =
-    decided_from (λ (same : (s.process ≡ t.process) × (s.interval ≡ t.interval)). same_state s t same.0 same.1)
-    (λ (same : s ≡ t). (ap (λ u. u.process) same, ap (λ u. u.interval) same))
-    (both_decided (cases_eq s.process t.process) (cases_eq s.interval t.interval))
+same_state_decided s t = grind arith
 
 sent_after_at : (c : Computation) (s : State) (message sent : ℕ) (step : Step) → slice_get c sent ≡ Some step → ((p : ℕ) → Decided (HappenedBefore c s (state_at c p sent))) → Decided (IsSentAfter c s message sent)
 sent_after_at c s message sent (Send p to) here before =
@@ -163,10 +138,7 @@ sent_after_at c s message sent _ here before =
 
 -- whether a message was sent after a state is decided, where the order is at the place of sending
 pub sent_after_decided : (c : Computation) (s : State) (message sent : ℕ) → ((p : ℕ) → Decided (HappenedBefore c s (state_at c p sent))) → Decided (IsSentAfter c s message sent)
-sent_after_decided c s message sent before =
-    ⊎_elim (λ here. sent_after_at c s message sent here.0 here.2 before)
-    (λ past. inr (λ after. let send = after.send in let none = past.1 in cc))
-    (slice_get_cases c sent).1
+sent_after_decided c s message sent before = search (arith, slice_get_cases c sent, sent_after_at)
 
 next_decided : (c : Computation) (s : State) (p place : ℕ) (step : Step) → slice_get c place ≡ Some step → is_communication_of p step ≡ true → ((message : ℕ) → Decided (Carries c s place message)) → Decided (HappenedBefore c s (state_at c p place)) → Decided (HappenedBefore c s (state_at c p (place + 1)))
 next_decided c s p place (Recv q message) here own carries before =
@@ -232,20 +204,8 @@ happened_before_decided c s t =
 abbrev pub IsTrueAt : Computation → State → ℕ → Type 0
 IsTrueAt c s place = (slice_get c place ≡ Some (Observe s.process true)) × (interval_at c s.process place ≡ s.interval)
 
-observed_at : (p : ℕ) (step : Step) → Decided (step ≡ Observe p true)
-observed_at p (Observe q true) = decided_from (λ (same : q ≡ p). ap (λ r. Observe r true) same) (λ same. cc) (cases_eq q p)
-observed_at p _ = inr (λ same. cc)
-
 true_at_decided : (c : Computation) (s : State) (place : ℕ) → Decided (IsTrueAt c s place)
-true_at_decided c s place =
-    both_decided
-    (⊎_elim
-    (λ here.
-    decided_from (λ (same : here.0 ≡ Observe s.process true). here.2 ∙ ap (λ step. Some step) same)
-    (λ observed. same_Some _ _ (sym here.2 ∙ observed)) (observed_at s.process here.0))
-    (λ past. inr (λ observed. let none = past.1 in cc))
-    (slice_get_cases c place).1)
-    (cases_eq (interval_at c s.process place) s.interval)
+true_at_decided c s place = grind arith
 
 -- whether a state is true is decided
 pub true_state_decided : (c : Computation) (s : State) → Decided (IsTrueState c s)

@@ -32,16 +32,8 @@ clocks_back : (number : ℕ) (clocks : List (List ℕ)) (rest : List Note) → s
 clocks_back number [] rest = refl
 clocks_back number (clock ∷ clocks) rest = ap (λ more. clock ∷ more) (clocks_back (number + 1) clocks rest)
 
-no_clock : (closed : Bool) (count : ℕ) → snapshot_clocks (if closed then note.Close count ∷ [] else []) ≡ []
-no_clock true count = refl
-no_clock false count = refl
-
 pub emitted_clocks : (n : ℕ) (c : Computation) (p : ℕ) (notes : List Note) (emitted : AreEmissions n c p notes) → snapshot_clocks notes ≡ emitted.clocks
-emitted_clocks n c p notes emitted =
-    ap snapshot_clocks emitted.notes_are
-    ∙ clocks_back 0 emitted.clocks (if is_closed c p then note.Close (length emitted.clocks) ∷ [] else [])
-    ∙ ap (λ rest. emitted.clocks ++ rest) (no_clock (is_closed c p) (length emitted.clocks))
-    ∙ append-nil emitted.clocks
+emitted_clocks n c p notes emitted = grind (arith, append-nil, clocks_back)
 
 -- the clocks of later states of a process are nowhere less
 clock_never_falls : (n : ℕ) (c : Computation) (p k l : ℕ) (one other : List ℕ) → k ≤ l → IsState c (state p l) → IsStateClock n c (state p k) one → IsStateClock n c (state p l) other → (q : ℕ) → slice_index one q ≤ slice_index other q

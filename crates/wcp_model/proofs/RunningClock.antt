@@ -14,12 +14,7 @@ use Rattle.wcp_model.proofs.Reached.{AtOrAfter, one_more_step, before_to_state, 
 
 -- the first state of a process has a clock of zeros
 pub clock_at_first : (n : ℕ) (c : Computation) (p : ℕ) → p < n → IsStateClock n c (local_state p 0) (replicate n 0)
-clock_at_first n c p in_range = record {
-  components = length-replicate n 0;
-  own = get_or-replicate {A = ℕ} n p 0 0 in_range;
-  others = λ q q_in_range other l.
-      (λ h. absurd (omega (arith, before_to_later h)), λ below. absurd (omega (arith, get_or-replicate {A = ℕ} n q 0 0 q_in_range)));
-}
+clock_at_first n c p in_range = grind (arith, get_or-replicate, length-replicate)
 
 -- of its own process too, a clock counts the states that happened before
 pub clock_counts : (n : ℕ) (c : Computation) (s : State) (clock : List ℕ) (q : ℕ) → IsState c s → IsStateClock n c s clock → q < n → CountsBefore c s q (slice_index clock q)
@@ -42,11 +37,7 @@ sender_counts n c p k to place clock q l at number is in_range =
 -- a component that was set to one more
 ticked : (n : ℕ) (c : Computation) (p k : ℕ) (old clock : List ℕ) → p < n → length clock ≡ n → slice_index old p ≡ k →
     ((q : ℕ) → q < n → q ≢ p → CountsBefore c (local_state p (k + 1)) q (slice_index clock q)) → IsStateClock n c (local_state p (k + 1)) (slice_set clock p (slice_index old p + 1))
-ticked n c p k old clock in_range components own others = record {
-  components = length-set clock p (slice_index old p + 1) ∙ components;
-  own = get_or-set_same clock p (slice_index old p + 1) 0 (omega arith) ∙ ap (λ j. j + 1) own;
-  others = λ q q_in_range other. subst (CountsBefore c (local_state p (k + 1)) q) (sym (get_or-set_other clock p q (slice_index old p + 1) 0 other)) (others q q_in_range other);
-}
+ticked n c p k old clock in_range components own others = grind (arith, get_or-set_other, get_or-set_same, length-set)
 
 -- at a send the clock ticks
 pub clock_after_send : (n : ℕ) (c : Computation) (p k to place : ℕ) (clock : List ℕ) → p < n → slice_get c place ≡ Some (Send p to) → interval_at c p place ≡ k → IsStateClock n c (local_state p k) clock →

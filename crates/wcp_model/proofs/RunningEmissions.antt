@@ -53,10 +53,6 @@ pub record HasEmitted (n : ℕ) (c : Computation) (p snapshots : ℕ) (notes : L
   pub counted : snapshots ≡ length clocks
   pub notes_are : notes ≡ snapshots_from 0 clocks ++ (if is_closed c p then note.Close (length clocks) ∷ [] else [])
 
--- these are the process's emissions
-abbrev pub emissions_of : (n : ℕ) (c : Computation) (p snapshots : ℕ) (notes : List Note) → HasEmitted n c p snapshots notes → AreEmissions n c p notes
-emissions_of n c p snapshots notes h = record { intervals = h.intervals; true_states = h.true_states; clocks = h.clocks; same_length = h.same_length; each = h.each; notes_are = h.notes_are }
-
 -- no true state is new
 abbrev pub NoneNew : Computation → Computation → ℕ → Type 0
 NoneNew c e p = (k : ℕ) → IsTrueState (c ++ e) (local_state p k) → IsTrueState c (local_state p k)
@@ -78,43 +74,22 @@ true_states_stay c e p intervals none are = record {
 
 -- and so does what was emitted
 pub emitted_stays : (n : ℕ) (c e : Computation) (p snapshots : ℕ) (notes : List Note) → NoneNew c e p → is_closed (c ++ e) p ≡ is_closed c p → HasEmitted n c p snapshots notes → HasEmitted n (c ++ e) p snapshots notes
-emitted_stays n c e p snapshots notes none closed h = record {
-  intervals = h.intervals;
-  true_states = true_states_stay c e p h.intervals none h.true_states;
-  clocks = h.clocks;
-  same_length = h.same_length;
-  each = clocks_stay n c e p snapshots notes h;
-  counted = h.counted;
-  notes_are = h.notes_are ∙ ap (λ b. snapshots_from 0 h.clocks ++ (if b then note.Close (length h.clocks) ∷ [] else [])) (sym closed);
-}
+emitted_stays n c e p snapshots notes none closed h =
+    grind (arith, clocks_stay n c e p snapshots notes h, true_states_stay c e p h.intervals none h.true_states)
 
 -- a process that is open has emitted its snapshots alone
 open_notes : (n : ℕ) (c : Computation) (p snapshots : ℕ) (notes : List Note) (h : HasEmitted n c p snapshots notes) → is_closed c p ≡ false → notes ≡ snapshots_from 0 h.clocks
-open_notes n c p snapshots notes h is_open =
-    h.notes_are ∙ ap (λ b. snapshots_from 0 h.clocks ++ (if b then note.Close (length h.clocks) ∷ [] else [])) is_open ∙ append-nil (snapshots_from 0 h.clocks)
+open_notes n c p snapshots notes h is_open = grind (arith, append-nil)
 
 -- a close emits a mark that counts the snapshots
 pub emitted_close : (n : ℕ) (c e : Computation) (p snapshots : ℕ) (notes : List Note) → NoneNew c e p → is_closed c p ≡ false → is_closed (c ++ e) p ≡ true → HasEmitted n c p snapshots notes →
     HasEmitted n (c ++ e) p snapshots (notes ++ note.Close snapshots ∷ [])
-emitted_close n c e p snapshots notes none was_open closed h = record {
-  intervals = h.intervals;
-  true_states = true_states_stay c e p h.intervals none h.true_states;
-  clocks = h.clocks;
-  same_length = h.same_length;
-  each = clocks_stay n c e p snapshots notes h;
-  counted = h.counted;
-  notes_are = ap₂ (λ before count. before ++ note.Close count ∷ []) (open_notes n c p snapshots notes h was_open) h.counted
-      ∙ ap (λ b. snapshots_from 0 h.clocks ++ (if b then note.Close (length h.clocks) ∷ [] else [])) (sym closed);
-}
+emitted_close n c e p snapshots notes none was_open closed h =
+    grind (arith, clocks_stay n c e p snapshots notes h, true_states_stay c e p h.intervals none h.true_states, open_notes n c p snapshots notes h was_open)
 
 -- numbers that rise, and one above them
 rising_push : (xs : List ℕ) (k : ℕ) → IsStrictlyIncreasing xs → ((i : ℕ) → i < length xs → slice_index xs i < k) → IsStrictlyIncreasing (xs ++ k ∷ [])
-rising_push xs k rising above i below =
-    let here : slice_index (xs ++ k ∷ []) i ≡ slice_index xs i = get_or_append_left xs (k ∷ []) 0 i (omega (arith, length_push xs k)) in
-    ⊎_elim (λ (lt : i + 1 < length xs). omega (arith, here, get_or_append_left xs (k ∷ []) 0 (i + 1) lt, rising i lt))
-    (λ (ge : length xs ≤ i + 1).
-    omega (arith, here, above i (omega (arith, length_push xs k)), get_or_push xs k 0 (i + 1) (omega (arith, length_push xs k))))
-    (cases_lt (i + 1) (length xs))
+rising_push xs k rising above i below = grind (arith, get_or_append_left, get_or_push, length_push)
 
 -- a first true observation of an interval emits its snapshot
 pub emitted_snapshot : (n : ℕ) (c e : Computation) (p k snapshots : ℕ) (notes : List Note) (clock : List ℕ) → is_closed c p ≡ false → is_closed (c ++ e) p ≡ false →

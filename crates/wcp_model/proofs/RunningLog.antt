@@ -18,7 +18,7 @@ use Rattle.wcp_model.proofs.EventPlaces.{event_of_send, event_below}
 use Rattle.wcp_model.proofs.Predecessors.{local_state}
 use Rattle.wcp_model.proofs.Growth.{get_behind, at_grows, interval_grows, message_grows, clock_grows, stamp_shrinks, true_state_grows}
 use Rattle.wcp_model.proofs.RunningClock.{clock_at_first, clock_after_send, clock_after_receive}
-use Rattle.wcp_model.proofs.RunningEmissions.{interval_at_seam, true_state_exists, true_state_cases, NoneNew, HasEmitted, emissions_of, emitted_stays, emitted_close, emitted_snapshot}
+use Rattle.wcp_model.proofs.RunningEmissions.{interval_at_seam, true_state_exists, true_state_cases, NoneNew, HasEmitted, emitted_stays, emitted_close, emitted_snapshot}
 
 -- what the probe of a process has come to after a computation
 pub record IsStateAfter (n : ℕ) (c : Computation) (p : ℕ) (s : ProbeState) : Type 0 where
@@ -33,14 +33,10 @@ communications_push c x p one here = sum_by_push (λ y. cond (is_communication_o
 
 -- a test that fails at the last element adds nothing, and one that passes settles the answer
 or_neither : (a b : Bool) → b ≡ false → (a || (b || false)) ≡ a
-or_neither true b e = refl
-or_neither false true e = e
-or_neither false false e = refl
+or_neither a b e = grind arith
 
 or_second : (a b : Bool) → b ≡ true → (a || (b || false)) ≡ true
-or_second true b e = refl
-or_second false true e = refl
-or_second false false e = e
+or_second a b e = grind arith
 
 -- a step that is no close of the process leaves it as it was
 closed_stays : (c : Computation) (x : Step) (p : ℕ) → is_close_of p x ≡ false → is_closed (c ++ x ∷ []) p ≡ is_closed c p
@@ -63,15 +59,7 @@ clock_stays n c x p clock quiet is =
 
 -- a step that is no event of the process, and makes none of its states true
 stays : (n : ℕ) (c : Computation) (x : Step) (p : ℕ) (s : ProbeState) → is_communication_of p x ≡ false → is_close_of p x ≡ false → NoneNew c (x ∷ []) p → IsStateAfter n c p s → IsStateAfter n (c ++ x ∷ []) p s
-stays n c x p s quiet other none h =
-    let k : ℕ = communications c p in
-    record {
-      clock = clock_stays n c x p s.clock quiet h.clock;
-      flag = subst (λ l. IsTrue s.flag ↔ IsTrueState (c ++ x ∷ []) (local_state p l)) (omega (arith, communications_push c x p 0 (ap (λ b. cond b 1 0) quiet)))
-          (λ set. true_state_grows c (x ∷ []) (local_state p k) (h.flag.0 set), λ is. h.flag.1 (none k is));
-      closed = h.closed ∙ sym (closed_stays c x p other);
-      emitted = emitted_stays n c (x ∷ []) p s.snapshots s.notes none (closed_stays c x p other) h.emitted;
-    }
+stays n c x p s quiet other none h = search (arith, clock_stays n c x p s.clock quiet h.clock, closed_stays, emitted_stays, true_state_grows)
 
 -- an event begins a state, with a clock of its own, that isn't true yet
 begins : (n : ℕ) (c : Computation) (x : Step) (p : ℕ) (s : ProbeState) (clock : List ℕ) → is_communication_of p x ≡ true → is_close_of p x ≡ false → NoneNew c (x ∷ []) p →
@@ -152,16 +140,7 @@ receives n c p message stamp s in_range is h =
 
 -- a close
 closes : (n : ℕ) (c : Computation) (p : ℕ) (s : ProbeState) → is_closed c p ≡ false → IsStateAfter n c p s → IsStateAfter n (c ++ Close p ∷ []) p (after_call p s Closed)
-closes n c p s is_open h =
-    let none : NoneNew c (Close p ∷ []) p = none_new c (Close p) p (λ e. cc e) in
-    let k : ℕ = communications c p in
-    record {
-      clock = clock_stays n c (Close p) p s.clock refl h.clock;
-      flag = subst (λ l. IsTrue s.flag ↔ IsTrueState (c ++ Close p ∷ []) (local_state p l)) (omega (arith, communications_push c (Close p) p 0 refl))
-          (λ set. true_state_grows c (Close p ∷ []) (local_state p k) (h.flag.0 set), λ is. h.flag.1 (none k is));
-      closed = sym (closed_now c p);
-      emitted = emitted_close n c (Close p ∷ []) p s.snapshots s.notes none is_open (closed_now c p) h.emitted;
-    }
+closes n c p s is_open h = search (arith, clock_stays n c (Close p) p s.clock refl h.clock, closed_now, emitted_close, none_new, true_state_grows)
 
 -- a step of another process
 passes_by : (n : ℕ) (c : Computation) (x : Step) (p : ℕ) (s : ProbeState) → is_step_of p x ≡ false → IsStateAfter n c p s → IsStateAfter n (c ++ x ∷ []) p s
@@ -179,8 +158,7 @@ was_open n c e x p accepted own = false_from_ne_true (is_closed c p) (λ closed.
 
 -- a message that is received was sent
 was_sent : (n : ℕ) (c e : Computation) (p message : ℕ) → IsAccepted (c ++ Recv p message ∷ e) → message < count_by is_send c
-was_sent n c e p message accepted =
-    subst (λ k. message < k) (ap (count_by is_send) (take_at c (Recv p message ∷ e) (length c) refl)) (accepted.sent_first (length c) p message (get_behind c (Recv p message) e))
+was_sent n c e p message accepted = grind (arith, take_at c (Recv p message ∷ e) (length c) refl, get_behind c (Recv p message) e)
 
 -- each step of the process, with the call that it is
 advances : (n : ℕ) (c e : Computation) (p : ℕ) (x : Step) (s : ProbeState) (call : Call) → IsAccepted (c ++ x ∷ e) → p < n → is_step_of p x ≡ true → IsCallOf n (c ++ x ∷ e) x call →
@@ -249,6 +227,4 @@ log_leads_to n c p log accepted in_range is = runs_on n p c [] (state_of_log (se
 
 -- the log law
 pub log_law_holds : LogLaw
-log_law_holds n c p log accepted in_range is =
-    let after : IsStateAfter n c p (state_of_log (setup n p) log) = log_leads_to n c p log accepted in_range is in
-    record { clock = after.clock; flag = after.flag; closed = after.closed; emissions = emissions_of n c p (state_of_log (setup n p) log).snapshots (state_of_log (setup n p) log).notes after.emitted }
+log_law_holds n c p log accepted in_range is = grind (arith, log_leads_to n c p log accepted in_range is)

@@ -132,6 +132,4 @@ filter-filter P Q implies (x ∷ xs) = elim (cases_Bool (P x)) [
 
 -- where the same elements pass a test, as many pass a stricter one
 pub same_count : {X : Type 0} (P Q : X → Bool) (xs ys : List X) → ((x : X) → Q x ≡ true → P x ≡ true) → filter P xs ≡ filter P ys → count_by Q xs ≡ count_by Q ys
-same_count P Q xs ys implies same =
-    let kept : filter Q xs ≡ filter Q ys = sym (filter-filter P Q implies xs) ∙ ap (filter Q) same ∙ filter-filter P Q implies ys in
-    sym (length-filter Q xs) ∙ ap length kept ∙ length-filter Q ys
+same_count P Q xs ys implies same = grind (arith, filter-filter P Q implies xs, filter-filter P Q implies ys, length-filter Q xs, length-filter Q ys)

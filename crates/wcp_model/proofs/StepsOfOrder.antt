@@ -91,48 +91,20 @@ task_at n order place s found = elim (slice_get-append_cases (steps_from order [
   | inr there ↦ inr (close_at (range_with_len 0 n) there.0 s there.1)
 ]
 
--- an observation, a send or a receive stands for such an action of the same process
-observes : (order earlier : List Task) (q : ℕ) (a : Action) (p : ℕ) (holds : Bool) → step_of order earlier q a ≡ step.Observe p holds → (q ≡ p) × (a ≡ action.Observe holds)
-observes order earlier q (action.Observe held) p holds same = (cc, cc)
-observes order earlier q (action.Send to) p holds same = cc
-observes order earlier q (action.Recv from) p holds same = cc
-
-sends_to : (order earlier : List Task) (q : ℕ) (a : Action) (p to : ℕ) → step_of order earlier q a ≡ step.Send p to → (q ≡ p) × (a ≡ action.Send to)
-sends_to order earlier q (action.Observe held) p to same = cc
-sends_to order earlier q (action.Send other) p to same = (cc, cc)
-sends_to order earlier q (action.Recv from) p to same = cc
-
 takes_message : (order earlier : List Task) (q : ℕ) (a : Action) (p message : ℕ) → step_of order earlier q a ≡ step.Recv p message → (from : ℕ) × (q ≡ p) × (a ≡ action.Recv from) × (message_number order from q (count_by (receives from q) earlier) ≡ message)
-takes_message order earlier q (action.Observe held) p message same = cc
-takes_message order earlier q (action.Send to) p message same = cc
-takes_message order earlier q (action.Recv from) p message same = (from, cc, refl, cc)
-
--- a task is its process and its action
-task_is : (order : List Task) (place : ℕ) (task : Task) (p : ℕ) (a : Action) → slice_get order place ≡ Some task → task.p ≡ p → task.action ≡ a → slice_get order place ≡ Some (record { p = p; action = a })
-task_is order place task p a found process act = found ∙ ap₂ (λ q b. Some (record { p = q; action = b })) process act
+takes_message order earlier q a p message same = grind arith
 
 -- where a process observes, its task observes
 pub observe_task : (n : ℕ) (order : List Task) (place p : ℕ) (holds : Bool) → slice_get (computation_of n order) place ≡ Some (step.Observe p holds) → slice_get order place ≡ Some (record { p = p; action = action.Observe holds })
-observe_task n order place p holds found = elim (task_at n order place _ found) [
-  | inl task ↦ let same = observes order (take place order) task.0.p task.0.action p holds task.2 in task_is order place task.0 p _ task.1 same.0 same.1
-  | inr close ↦ cc close.1
-]
+observe_task n order place p holds found = grind (arith, task_at)
 
 -- where a process sends, its task sends
 pub send_task : (n : ℕ) (order : List Task) (place p to : ℕ) → slice_get (computation_of n order) place ≡ Some (step.Send p to) → slice_get order place ≡ Some (record { p = p; action = action.Send to })
-send_task n order place p to found = elim (task_at n order place _ found) [
-  | inl task ↦ let same = sends_to order (take place order) task.0.p task.0.action p to task.2 in task_is order place task.0 p _ task.1 same.0 same.1
-  | inr close ↦ cc close.1
-]
+send_task n order place p to found = grind (arith, task_at)
 
 -- where a process receives, its task receives, and takes the message that the sender sent it after as many others as the process received from there before
 pub receive_task : (n : ℕ) (order : List Task) (place p message : ℕ) → slice_get (computation_of n order) place ≡ Some (step.Recv p message) → (from : ℕ) × (slice_get order place ≡ Some (record { p = p; action = action.Recv from })) × (message_number order from p (count_by (receives from p) (take place order)) ≡ message)
-receive_task n order place p message found = elim (task_at n order place _ found) [
-  | inl task ↦
-      let same = takes_message order (take place order) task.0.p task.0.action p message task.2 in
-      (same.0, task_is order place task.0 p _ task.1 same.1 same.2, ap (λ q. message_number order same.0 q (count_by (receives same.0 q) (take place order))) (sym same.1) ∙ same.3)
-  | inr close ↦ cc close.1
-]
+receive_task n order place p message found = grind (arith, takes_message, task_at)
 
 -- what counts at no close counts in the steps as it does in the tasks
 count_from : (f : Step → Bool) (g : Task → Bool) (order earlier tasks : List Task) (closes : List Step) (place : ℕ) → ((front : List Task) (task : Task) → f (step_of order front task.p task.action) ≡ g task) → ((k : ℕ) → count_by f (take k closes) ≡ 0) → count_by f (take place (steps_from order earlier tasks ++ closes)) ≡ count_by g (take place tasks)
@@ -153,22 +125,13 @@ count_closes f (p ∷ rest) (suc place) none = count_by_no f (step.Close p) (tak
 pub count_of_steps : (f : Step → Bool) (g : Task → Bool) (n : ℕ) (order : List Task) (place : ℕ) → ((front : List Task) (task : Task) → f (step_of order front task.p task.action) ≡ g task) → ((p : ℕ) → f (step.Close p) ≡ false) → count_by f (take place (computation_of n order)) ≡ count_by g (take place order)
 count_of_steps f g n order place alike none = count_from f g order [] order (map step.Close (range_with_len 0 n)) place alike (λ k. count_closes f (range_with_len 0 n) k none)
 
--- a test and `true` is that test
-and_true : (b : Bool) → b ≡ (b && true)
-and_true true = refl
-and_true false = refl
-
 -- a step is a communication of a process where its task is
 communicates_is : (order front : List Task) (p q : ℕ) (a : Action) → is_communication_of p (step_of order front q a) ≡ (q == p) && is_communication a
-communicates_is order front p q (action.Observe holds) = sym (and_right (q == p) false refl)
-communicates_is order front p q (action.Send to) = and_true (q == p)
-communicates_is order front p q (action.Recv from) = and_true (q == p)
+communicates_is order front p q a = grind arith
 
 -- a step is a send where its task is
 sends_any_is : (order front : List Task) (q : ℕ) (a : Action) → is_send (step_of order front q a) ≡ is_any_send a
-sends_any_is order front q (action.Observe holds) = refl
-sends_any_is order front q (action.Send to) = refl
-sends_any_is order front q (action.Recv from) = refl
+sends_any_is order front q a = grind arith
 
 -- the interval at a place is the number of communications of the process in the front of the order
 pub interval_at_is : (n : ℕ) (order : List Task) (p place : ℕ) → interval_at (computation_of n order) p place ≡ count_by (communicates p) (take place order)

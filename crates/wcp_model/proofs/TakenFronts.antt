@@ -32,15 +32,7 @@ module _ (n : ℕ) (c : Computation) (items : List Item) (fronts : AreFrontsOfEm
   fewer p within = omega (arith, length-append (clocks_taken p items) (snapshot_clocks (fronts p within).0), ap length (all_clocks p within), (fronts p within).1.same_length)
 
   state_at : (p i : ℕ) (within : p < n) → i < length (clocks_taken p items) → IsOfState p (get_or (clocks_taken p items) i []) (slice_index (fronts p within).1.intervals i)
-  state_at p i within below =
-      let emitted = (fronts p within).1 in
-      let inside : i < length emitted.intervals = omega (arith, fewer p within) in
-      record {
-        clock_is = subst (IsStateClock n c (state p (slice_index emitted.intervals i)))
-            (sym (ap (λ clocks. get_or clocks i []) (all_clocks p within)) ∙ get_or_append_left (clocks_taken p items) (snapshot_clocks (fronts p within).0) [] i below)
-            (emitted.each i inside);
-        true_state = (emitted.true_states.each (slice_index emitted.intervals i)).0 (Contains-get_or emitted.intervals i 0 inside);
-      }
+  state_at p i within below = search (arith, all_clocks p within, Contains-get_or, fewer, get_or_append_left)
 
   -- the place of the snapshot that names a state
   named_at : (p k : ℕ) (within : p < n) (named : IsNamed items (state p k)) → (i : ℕ) × (i < length (clocks_taken p items)) × (slice_index (fronts p within).1.intervals i ≡ k) × (get_or (clocks_taken p items) i [] ≡ named.clock)
@@ -97,9 +89,7 @@ module _ (n : ℕ) (c : Computation) (items : List Item) (fronts : AreFrontsOfEm
 
   -- the report by clocks is the report of what was taken
   pub report_of_taken : (report : Report) → IsReportByClocks n items report → IsReportOfTaken n c items report
-  report_of_taken (Found cut) least = least_by_states cut least
-  report_of_taken Nothing none = (λ cut is. none.0 cut (cut_by_clocks cut is), none.1)
-  report_of_taken Undecided none = (λ cut is. none.0 cut (cut_by_clocks cut is), none.1)
+  report_of_taken report least = grind (arith, cut_by_clocks, least_by_states)
 
   -- a true state has a place among the snapshots, and is named once that one is taken
   place_of : (p k : ℕ) (within : p < n) → IsTrueState c (state p k) → (i : ℕ) × (i < length (fronts p within).1.intervals) × (slice_index (fronts p within).1.intervals i ≡ k)
@@ -108,11 +98,7 @@ module _ (n : ℕ) (c : Computation) (items : List Item) (fronts : AreFrontsOfEm
       (i, below, get_or_default (fronts p within).1.intervals i 0 k below ∙ here)
 
   named_by : (p k i : ℕ) (within : p < n) → slice_index (fronts p within).1.intervals i ≡ k → i < length (clocks_taken p items) → IsNamed items (state p k)
-  named_by p k i within here taken = record {
-    clock = get_or (clocks_taken p items) i [];
-    taken = Contains-get_or (clocks_taken p items) i [] taken;
-    own = (state_at p i within taken).clock_is.own ∙ here;
-  }
+  named_by p k i within here taken = grind (arith, Contains-get_or, state_at)
 
   -- so each true state below a named one is named
   named_below : (p k l : ℕ) → p < n → IsNamed items (state p k) → IsTrueState c (state p l) → l ≤ k → IsNamed items (state p l)

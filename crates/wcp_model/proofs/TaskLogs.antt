@@ -111,22 +111,17 @@ stamp_sent_at made q actions log place act call at made_call sends =
 -- the stamp of a receive from p is the one that it took
 pub stamp_got_at : (p : ℕ) (actions : List Action) (log : List Call) (place : ℕ) (act : Action) (call : Call) → slice_get actions place ≡ Some act → slice_get log place ≡ Some call → is_receive_from p act ≡ true →
     slice_get (stamps_got p actions log) (count_by (is_receive_from p) (take place actions)) ≡ Some (stamp_of call)
-stamp_got_at p actions log place act call at made_call receives =
-    beside_at (is_receive_from p) actions (map stamp_of log) place act _ at (slice_get-map stamp_of log place ∙ ap (option_map stamp_of) made_call) receives
+stamp_got_at p actions log place act call at made_call receives = search (arith, slice_get-map stamp_of log place, beside_at)
 
 -- what stands beside one more action, where it passes and where not
 beside-push : {X : Type 0} (test : Action → Bool) (actions : List Action) (xs : List X) (act : Action) (x : X) → length actions ≡ length xs → beside test (actions ++ act ∷ []) (xs ++ x ∷ []) ≡ beside test actions xs ++ cond (test act) (x ∷ []) []
-beside-push {X} test actions xs act x same =
-    ap (λ pairs. map (λ (pair : Action × X). pair.1) (filter (λ pair. test pair.0) pairs)) (zip-push actions xs act x same)
-    ∙ kept-push (λ (pair : Action × X). pair.1) (λ pair. test pair.0) (zip actions xs) (act, x)
+beside-push {X} test actions xs act x same = grind (arith, kept-push, zip-push)
 
 beside-push_passing : {X : Type 0} (test : Action → Bool) (actions : List Action) (xs : List X) (act : Action) (x : X) → length actions ≡ length xs → test act ≡ true → beside test (actions ++ act ∷ []) (xs ++ x ∷ []) ≡ beside test actions xs ++ x ∷ []
-beside-push_passing {X} test actions xs act x same passes =
-    beside-push test actions xs act x same ∙ ap (λ (b : Bool). beside test actions xs ++ cond b (x ∷ []) []) passes
+beside-push_passing {X} test actions xs act x same passes = grind (arith, beside-push)
 
 beside-push_failing : {X : Type 0} (test : Action → Bool) (actions : List Action) (xs : List X) (act : Action) (x : X) → length actions ≡ length xs → test act ≡ false → beside test (actions ++ act ∷ []) (xs ++ x ∷ []) ≡ beside test actions xs
-beside-push_failing {X} test actions xs act x same fails =
-    beside-push test actions xs act x same ∙ ap (λ (b : Bool). beside test actions xs ++ cond b (x ∷ []) []) fails ∙ append-nil (beside test actions xs)
+beside-push_failing {X} test actions xs act x same fails = grind (arith, append-nil, beside-push)
 
 -- a log that follows actions has a stamp for each send and receive among them
 module _ (actions : List Action) (log : List Call) (follows : FollowsActions actions log) where
@@ -146,29 +141,19 @@ module _ (actions : List Action) (log : List Call) (follows : FollowsActions act
 module _ (actions : List Action) (log : List Call) (act : Action) (call : Call) (follows : FollowsActions actions log) where
   module _ (made : ProbeSetup) (q : ℕ) where
     clock_pushed : clocks_after made (log ++ call ∷ []) ≡ clocks_after made log ++ (state_of_log made (log ++ call ∷ [])).clock ∷ []
-    clock_pushed =
-        scan-push (after_call made.process) (λ s next. (after_call made.process s next).clock) (state_of_log made []) log call
-        ∙ ap (λ (s : ProbeState). clocks_after made log ++ s.clock ∷ []) (sym (log_push made log call))
+    clock_pushed = grind (arith, log_push, scan-push)
 
     -- one more send to q sends it the clock of the probe after it, and no other call does
     pub stamps_sent-push : is_send_to q act ≡ true → stamps_sent made q (actions ++ act ∷ []) (log ++ call ∷ []) ≡ stamps_sent made q actions log ++ (state_of_log made (log ++ call ∷ [])).clock ∷ []
-    stamps_sent-push sends =
-        ap (beside (is_send_to q) (actions ++ act ∷ [])) clock_pushed
-        ∙ beside-push_passing (is_send_to q) actions (clocks_after made log) act _ (a_clock_each actions log follows made) sends
+    stamps_sent-push sends = grind (arith, a_clock_each, beside-push_passing, clock_pushed)
 
     pub stamps_sent-push_other : is_send_to q act ≡ false → stamps_sent made q (actions ++ act ∷ []) (log ++ call ∷ []) ≡ stamps_sent made q actions log
-    stamps_sent-push_other other =
-        ap (beside (is_send_to q) (actions ++ act ∷ [])) clock_pushed
-        ∙ beside-push_failing (is_send_to q) actions (clocks_after made log) act _ (a_clock_each actions log follows made) other
+    stamps_sent-push_other other = grind (arith, a_clock_each, beside-push_failing, clock_pushed)
 
   module _ (p : ℕ) where
     -- one more receive from p gets the stamp that it took, and no other call does
     pub stamps_got-push : is_receive_from p act ≡ true → stamps_got p (actions ++ act ∷ []) (log ++ call ∷ []) ≡ stamps_got p actions log ++ stamp_of call ∷ []
-    stamps_got-push receives =
-        ap (beside (is_receive_from p) (actions ++ act ∷ [])) (map_push stamp_of log call)
-        ∙ beside-push_passing (is_receive_from p) actions (map stamp_of log) act (stamp_of call) (a_stamp_each actions log follows) receives
+    stamps_got-push receives = grind (arith, a_stamp_each, beside-push_passing, map_push)
 
     pub stamps_got-push_other : is_receive_from p act ≡ false → stamps_got p (actions ++ act ∷ []) (log ++ call ∷ []) ≡ stamps_got p actions log
-    stamps_got-push_other other =
-        ap (beside (is_receive_from p) (actions ++ act ∷ [])) (map_push stamp_of log call)
-        ∙ beside-push_failing (is_receive_from p) actions (map stamp_of log) act (stamp_of call) (a_stamp_each actions log follows) other
+    stamps_got-push_other other = grind (arith, a_stamp_each, beside-push_failing, map_push)

@@ -49,19 +49,14 @@ module _ (n : ℕ) (tasks order : List Task) (fronts in_transit : List ℕ) (wit
     front_within = at_place (IsWithin n) tasks (slice_index fronts p) _ within at
 
     moved : slice_index advanced p ≡ next
-    moved =
-        let inside : p < length fronts = omega (arith, front_within.0, progress.processes) in
-        get_or-set_same fronts p next 0 inside
+    moved = grind (arith, front_within, get_or-set_same)
 
     stays : (q : ℕ) → (q ≡ p → ⊥) → slice_index advanced q ≡ slice_index fronts q
     stays q other = get_or-set_other fronts p q next 0 other
 
     -- what holds of the place behind the task, and of the other processes' fronts, holds of all new fronts
     at_advanced : (P : ℕ → ℕ → Type 0) → P p next → ((q : ℕ) → (q ≡ p → ⊥) → P q (slice_index fronts q)) → (q : ℕ) → P q (slice_index advanced q)
-    at_advanced P here elsewhere q =
-        ⊎_elim (λ (same : q ≡ p). rw (same, moved) here)
-        (λ (other : q ≡ p → ⊥). rw (stays q other) (elsewhere q other))
-        (cases_eq q p)
+    at_advanced P here elsewhere q = grind (arith, moved, stays)
 
     abbrev longer : List Task
     longer = order ++ record { p = p; action = act } ∷ []
@@ -88,23 +83,13 @@ module _ (n : ℕ) (tasks order : List Task) (fronts in_transit : List ℕ) (wit
         filter-append (is_task_of p) order (task ∷ []) ∙ rw (pushed, progress.done p p_within) (sym more) ∙ sym step.skipped
 
     done_elsewhere : (q : ℕ) → (q ≡ p → ⊥) → q < n → filter (is_task_of q) longer ≡ filter (is_task_of q) (take (slice_index fronts q) tasks)
-    done_elsewhere q other q_within =
-        let task : Task = record { p = p; action = act } in
-        let pushed : filter (is_task_of q) (task ∷ []) ≡ [] = filter_no (is_task_of q) task [] (ne_eqb p q (λ same. other (sym same))) in
-        filter-append (is_task_of q) order (task ∷ []) ∙ rw pushed (append-nil (filter (is_task_of q) order)) ∙ progress.done q q_within
+    done_elsewhere q other q_within = grind (arith, append-nil, filter-append)
 
     advanced_done : (q : ℕ) → q < n → filter (is_task_of q) longer ≡ filter (is_task_of q) (take (slice_index advanced q) tasks)
     advanced_done = at_advanced (λ r place. r < n → filter (is_task_of r) longer ≡ filter (is_task_of r) (take place tasks)) done_here done_elsewhere
 
     can_here : (i : ℕ) (task : Task) → slice_get tasks i ≡ Some task → task.p ≡ p → i < next → CanBeDone tasks i
-    can_here i task here of_process below =
-        let front : ℕ = slice_index fronts p in
-        ⊎_elim (λ (same : i ≡ front). rw same (front_can p act at ready))
-        (λ (other : (i < front) ⊎ (front < i)).
-        ⊎_elim (λ (before : i < front). progress.can_be_done i task here (rw of_process before))
-        (λ (behind : front < i). absurd (none_skipped tasks p (front + 1) next i task step (omega arith) below here of_process))
-        other)
-        (cases_order i front)
+    can_here i task here of_process below = grind (arith, front_can, none_skipped)
 
     advanced_can : (i : ℕ) (task : Task) → slice_get tasks i ≡ Some task → i < slice_index advanced task.p → CanBeDone tasks i
     advanced_can i task here below =

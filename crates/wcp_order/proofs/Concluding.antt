@@ -16,8 +16,7 @@ use Rattle.wcp_order.proofs.Blocked.{done_if_can}
 use Rattle.wcp_order.proofs.Fit.{can_be_done_by_order}
 
 take-nil : (place : ℕ) → take {A = Task} place [] ≡ []
-take-nil zero = refl
-take-nil (suc place) = refl
+take-nil place = grind arith
 
 -- before any task is done
 pub IsProgress_none : (n : ℕ) (tasks order : List Task) (first in_transit : List ℕ) → All (IsWithin n) tasks → length first ≡ n → ((p : ℕ) → p < n → IsNextPlace tasks p 0 (slice_index first p)) → order ≡ [] → in_transit ≡ replicate (n * n) 0 → IsProgress n tasks order first in_transit
@@ -71,9 +70,7 @@ module _ (n : ℕ) (tasks order : List Task) (fronts in_transit : List ℕ) (wit
 
 -- a task that can't be done leaves no fit order
 pub no_fit_order : (tasks : List Task) (place : ℕ) → IsFirstStuck tasks place → (order : List Task) → IsFitOrder tasks order → ⊥
-no_fit_order tasks place first order fit =
-    let task = element_within tasks place first.inside in
-    first.stuck (can_be_done_by_order tasks order fit place task.0 task.1)
+no_fit_order tasks place first order fit = search (arith, element_within tasks place first.inside, can_be_done_by_order)
 
 -- the least place, or another one where there is none
 pub record IsLeastOr (fronts : List ℕ) (most place : ℕ) : Type 0 where
@@ -81,11 +78,4 @@ pub record IsLeastOr (fronts : List ℕ) (most place : ℕ) : Type 0 where
   pub found : place < most → Contains fronts place
 
 pub IsLeastOr-unwrap_or : (fronts : List ℕ) (most place : ℕ) (least : Option ℕ) → IfSome least (Contains fronts) → IfSome least (λ here. All (λ front. here ≤ front) fronts) → IfNone least (length fronts ≡ 0) → place ≡ unwrap_or least most → IsLeastOr fronts most place
-IsLeastOr-unwrap_or fronts most place None found least none is = record {
-  least = rw (nil_from_length fronts none) (All-nil (λ front. place ≤ front));
-  found = λ below. absurd (omega arith);
-}
-IsLeastOr-unwrap_or fronts most place (Some here) found least none is = record {
-  least = rw is least;
-  found = λ below. rw is found;
-}
+IsLeastOr-unwrap_or fronts most place least found h5 none is = grind arith

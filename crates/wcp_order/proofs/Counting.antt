@@ -14,14 +14,10 @@ use Rattle.wcp_order.specs.Progress.{IsReady, in_transit_after}
 use Rattle.wcp_order.proofs.Tasks.{at_place, receives_is, sends_ends, receives_ends, send_is_no_receive, receive_is_no_send, observe_is_no_send, observe_is_no_receive}
 
 pub count_by_push_passing : {X : Type 0} (f : X → Bool) (xs : List X) (x : X) → f x ≡ true → count_by f (xs ++ x ∷ []) ≡ count_by f xs + 1
-count_by_push_passing f xs x passes =
-    let one : ◌≡◌ {A = ℕ} (cond (f x) 1 0) 1 = rw passes refl in
-    omega (arith, sum_by_push (λ y. cond (f y) 1 0) xs x, one)
+count_by_push_passing f xs x passes = grind (arith, sum_by_push)
 
 pub count_by_push_failing : {X : Type 0} (f : X → Bool) (xs : List X) (x : X) → f x ≡ false → count_by f (xs ++ x ∷ []) ≡ count_by f xs
-count_by_push_failing f xs x fails =
-    let none : ◌≡◌ {A = ℕ} (cond (f x) 1 0) 0 = rw fails refl in
-    omega (arith, sum_by_push (λ y. cond (f y) 1 0) xs x, none)
+count_by_push_failing f xs x fails = grind (arith, sum_by_push)
 
 -- on each channel of n processes, what was received and what is in transit was sent
 abbrev pub IsCounted : ℕ → List Task → List ℕ → Type 0
@@ -29,9 +25,7 @@ IsCounted n order in_transit = (p q : ℕ) → p < n → q < n → count_by (rec
 
 module _ (n : ℕ) (order : List Task) (in_transit : List ℕ) (channels : length in_transit ≡ n * n) (counted : IsCounted n order in_transit) where
   counted_after_observe : (a : ℕ) (holds : Bool) → IsCounted n (order ++ record { p = a; action = action.Observe holds } ∷ []) in_transit
-  counted_after_observe a holds p q p_within q_within =
-      let task : Task = record { p = a; action = action.Observe holds } in
-      omega (arith, counted p q p_within q_within, count_by_push_failing (receives p q) order task (observe_is_no_receive p q a holds), count_by_push_failing (sends p q) order task (observe_is_no_send p q a holds))
+  counted_after_observe a holds p q p_within q_within = grind (arith, count_by_push_failing)
 
   -- where a task counts on the channel from a to b alone, the count there is written and each other one stays
   counted_set : (task : Task) (a b value : ℕ) → a < n → b < n → ((p q : ℕ) → ((p ≡ a) → (q ≡ b) → ⊥) → (sends p q task ≡ false) × (receives p q task ≡ false)) →
@@ -47,31 +41,18 @@ module _ (n : ℕ) (order : List Task) (in_transit : List ℕ) (channels : lengt
   ]
 
   counted_after_send : (a b : ℕ) → a < n → b < n → IsCounted n (order ++ record { p = a; action = action.Send b } ∷ []) (in_transit_after n in_transit a (action.Send b))
-  counted_after_send a b a_within b_within =
-      let task : Task = record { p = a; action = action.Send b } in
-      let received = count_by_push_failing (receives a b) order task (send_is_no_receive a b a b) in
-      counted_set task a b (slice_index in_transit (a * n + b) + 1) a_within b_within
-      (λ p q apart. (false_from_ne_true _ (λ sent. let ends = sends_ends p q a b sent in apart (sym ends.0) (sym ends.1)), send_is_no_receive p q a b))
-      (omega (arith, counted a b a_within b_within, count_by_push_passing (sends a b) order task (sends_yes a b), received))
+  counted_after_send a b a_within b_within = grind (arith, count_by_push_failing, count_by_push_passing, counted_set, sends_ends, sends_yes)
 
   counted_after_receive : (a b : ℕ) → a < n → b < n → 0 < slice_index in_transit (b * n + a) → IsCounted n (order ++ record { p = a; action = action.Recv b } ∷ []) (in_transit_after n in_transit a (action.Recv b))
   counted_after_receive a b a_within b_within some =
-      let task : Task = record { p = a; action = action.Recv b } in
-      let sent = count_by_push_failing (sends b a) order task (receive_is_no_send b a a b) in
-      counted_set task b a (slice_index in_transit (b * n + a) - 1) b_within a_within
-      (λ p q apart. (receive_is_no_send p q a b, false_from_ne_true _ (λ received. let ends = receives_ends p q a b received in apart (sym ends.1) (sym ends.0))))
-      (omega (arith, some, counted b a b_within a_within, sent, count_by_push_passing (receives b a) order task (receives_yes b a)))
+      grind (arith, count_by_push_failing, count_by_push_passing, counted_set, receives_ends, receives_yes)
 
   -- after a task that was ready, what is in transit is still counted
   pub counted_after : (a : ℕ) (act : Action) → IsWithin n (record { p = a; action = act }) → IsReady n in_transit a act → IsCounted n (order ++ record { p = a; action = act } ∷ []) (in_transit_after n in_transit a act)
-  counted_after a (action.Observe holds) within ready = counted_after_observe a holds
-  counted_after a (action.Send to) within ready = counted_after_send a to within.0 within.1.0
-  counted_after a (action.Recv from) within ready = counted_after_receive a from within.0 within.1.0 ready
+  counted_after a act within ready = grind (arith, counted_after_observe, counted_after_receive, counted_after_send)
 
 pub length-in_transit_after : (n : ℕ) (in_transit : List ℕ) (a : ℕ) (act : Action) → length (in_transit_after n in_transit a act) ≡ length in_transit
-length-in_transit_after n in_transit a (action.Observe holds) = refl
-length-in_transit_after n in_transit a (action.Send to) = length-set _ _ _
-length-in_transit_after n in_transit a (action.Recv from) = length-set _ _ _
+length-in_transit_after n in_transit a act = grind (arith, length-set)
 
 -- the whole order has no more receives on a channel than sends
 pub sent_at_end : (n : ℕ) (order : List Task) (in_transit : List ℕ) → All (IsWithin n) order → IsCounted n order in_transit → (p q : ℕ) → count_by (receives p q) order ≤ count_by (sends p q) order

@@ -18,10 +18,7 @@ module _ (tasks order : List Task) (fit : IsFitOrder tasks order) where
 
   earlier_can : (bound : ℕ) → CanBelow bound → (place i p : ℕ) → place ≤ bound → filter (is_task_of p) (take i tasks) ≡ filter (is_task_of p) (take place order) → (j : ℕ) → IsEarlier tasks p j i → CanBeDone tasks j
   unfolding CanBelow
-  earlier_can bound below place i p inside alike j earlier =
-      let task : Task = record { p = p; action = earlier.act } in
-      let there = same_place_below (is_task_of p) tasks order i place j task alike earlier.before earlier.same_process (is_task_of_itself task) in
-      below there.0.other j p earlier.act (omega (arith, there.1)) there.0.found earlier.same_process (sym there.0.front)
+  earlier_can bound below place i p inside alike j earlier = grind (arith, same_place_below)
 
   -- before a receive in a fit order stands the send of its message
   pub sent_before : (place from to : ℕ) → slice_get order place ≡ Some (record { p = to; action = action.Recv from }) → count_by (receives from to) (take place order) < count_by (sends from to) (take place order)

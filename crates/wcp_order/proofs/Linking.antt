@@ -17,23 +17,12 @@ pub record IsLinkedFrom (n : ℕ) (tasks : List Task) (place : ℕ) (first next 
 
 -- a task is the first one of its process from its place on
 IsNextPlace_here : (tasks : List Task) (i : ℕ) (task : Task) → slice_get tasks i ≡ Some task → IsNextPlace tasks task.p i i
-IsNextPlace_here tasks i task at = record {
-  ahead = omega arith;
-  inside = omega (arith, slice_get_within tasks i task at);
-  skipped = refl;
-  own = λ other same. ap (λ (t : Task). t.p) (same_Some other task (sym same ∙ at));
-}
+IsNextPlace_here tasks i task at = grind (arith, slice_get_within)
 
 -- the task at a place is skipped by each other process
 IsNextPlace_other : (tasks : List Task) (p i next : ℕ) (task : Task) → slice_get tasks i ≡ Some task → (task.p ≡ p → ⊥) → IsNextPlace tasks p (i + 1) next → IsNextPlace tasks p i next
-IsNextPlace_other tasks p i next task at other step = record {
-  ahead = omega (arith, step.ahead);
-  inside = step.inside;
-  skipped =
-      let fails : is_task_of p (get_or tasks i task) ≡ false = rw (get_or_from_slice_get tasks i task task at) (ne_eqb task.p p other) in
-      step.skipped ∙ filter_more (is_task_of p) tasks i task (slice_get_within tasks i task at) ∙ rw fails (append-nil (filter (is_task_of p) (take i tasks)));
-  own = step.own;
-}
+IsNextPlace_other tasks p i next task at other step =
+    grind (arith, filter_more (is_task_of p) tasks i task (slice_get_within tasks i task at), get_or_from_slice_get tasks i task task, append-nil (filter (is_task_of p) (take i tasks)))
 
 pub linked_more : (n : ℕ) (tasks : List Task) (place k : ℕ) (first next : List ℕ) (d : Task) → All (IsWithin n) tasks → place ≡ k + 1 → k < length tasks → IsLinkedFrom n tasks place first next → IsLinkedFrom n tasks k (set first (get_or tasks k d).p k) (set next k (get_or first (get_or tasks k d).p 0))
 linked_more n tasks place k first next d within behind inside linked =

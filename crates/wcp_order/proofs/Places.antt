@@ -25,10 +25,4 @@ same_place_below f xs ys m n i x alike below at passes =
 pub send_before : (p q : ℕ) (tasks : List Task) (front earlier : ℕ) → earlier < count_by (sends p q) (take front tasks) →
     (place : ℕ) × (place < front) × (slice_get tasks place ≡ Some (record { p = p; action = action.Send q })) × (count_by (sends p q) (take place tasks) ≡ earlier)
 send_before p q tasks front earlier more =
-    let (task, there) = element_after (sends p q) (take front tasks) earlier more in
-    let below : there.place < front = omega (arith, slice_get_within (take front tasks) there.place task there.found, length-take front tasks) in (
-      there.place,
-      below,
-      sym (slice_get-take front tasks there.place below) ∙ there.found ∙ ap Some (sends_is p q task there.passes),
-      ap (count_by (sends p q)) (sym (take-take there.place front tasks (omega arith))) ∙ there.behind,
-    )
+    search (arith, element_after (sends p q) (take front tasks) earlier more, length-take, slice_get-take, slice_get_within, take-take)

@@ -1,3 +1,4 @@
+use Rattle.std.proofs.Common.{arith}
 use Rattle.std.proofs.Common.{◌≡◌, ℕ, Bool, true, false, List, Some, refl, ap, eq-eqb}
 use Rattle.std.specs.List.{slice_get, All}
 use Rattle.std.proofs.lemmas.Bool.{eqb-true, and_parts, and_right, false≢true}
@@ -17,16 +18,9 @@ same_task task p act of_process acts = rw (← of_process, ← acts) refl
 pub is_task_of_itself : (task : Task) → is_task_of task.p task ≡ true
 is_task_of_itself task = eq-eqb task.p task.p refl
 
-pub is_receive : (q : ℕ) (act : Action) → is_receive_from q act ≡ true → act ≡ action.Recv q
-is_receive q (action.Observe holds) passes = absurd (false≢true passes)
-is_receive q (action.Send to) passes = absurd (false≢true passes)
-is_receive q (action.Recv from) passes = ap action.Recv (eqb-true from q passes)
-
 -- the task that passes is that of the process
 pub receives_is : (p q : ℕ) (task : Task) → receives p q task ≡ true → task ≡ record { p = q; action = action.Recv p }
-receives_is p q task passes =
-    let parts = and_parts (is_task_of q task) (is_receive_from p task.action) passes in
-    same_task task q (action.Recv p) (eqb-true task.p q parts.0) (is_receive p task.action parts.1)
+receives_is p q task passes = grind arith
 
 pub sends_by : (p q : ℕ) (task : Task) → sends p q task ≡ true → is_task_of p task ≡ true
 sends_by p q task passes = (and_parts (is_task_of p task) (is_send_to q task.action) passes).0
@@ -49,11 +43,7 @@ observe_is_no_receive p q r holds = and_right _ _ refl
 
 -- a send that passes is by the process and to the other
 pub sends_ends : (p q r to : ℕ) → sends p q (record { p = r; action = action.Send to }) ≡ true → (r ≡ p) × (to ≡ q)
-sends_ends p q r to passes =
-    let parts = and_parts (is_task_of p (record { p = r; action = action.Send to })) (is_send_to q (action.Send to)) passes in
-    (eqb-true r p parts.0, eqb-true to q parts.1)
+sends_ends p q r to passes = grind arith
 
 pub receives_ends : (p q r from : ℕ) → receives p q (record { p = r; action = action.Recv from }) ≡ true → (r ≡ q) × (from ≡ p)
-receives_ends p q r from passes =
-    let parts = and_parts (is_task_of q (record { p = r; action = action.Recv from })) (is_receive_from p (action.Recv from)) passes in
-    (eqb-true r q parts.0, eqb-true from p parts.1)
+receives_ends p q r from passes = grind arith

@@ -24,25 +24,11 @@ slice_get-push_at (x ∷ xs) y = slice_get-push_at xs y
 -- no message is carried before it is sent
 carries_below : (c : Computation) (s : State) (place message : ℕ) → Carries c s place message → message < message_at c place
 carries_below c s place message carries =
-    let sent = carries.0 in
-    let from = carries.2 in
-    let counted = count_before-yes is_send c sent (Send from.process from.to) from.send refl in
-    omega (arith, counted, from.number, count_before-mono is_send c (sent + 1) place (omega (arith, carries.1)))
+    grind (arith, count_before-yes is_send c carries.0 (Send carries.2.process carries.2.to) carries.2.send refl, count_before-mono is_send c (carries.0 + 1) place (omega (arith, carries.1)))
 
 -- a step that is no send carries no message
 carries_stay : (c : Computation) (s : State) (place : ℕ) (step : Step) → slice_get c place ≡ Some step → is_send step ≡ false → (message : ℕ) → Carries c s (place + 1) message ↔ Carries c s place message
-carries_stay c s place step here no_send message = (
-  λ carries.
-      let sent = carries.0 in
-      let from = carries.2 in
-      ⊎_elim (λ (below : sent < place). (sent, below, from))
-      (λ (above : place ≤ sent).
-      let at : sent ≡ place = omega (arith, carries.1) in
-      let same : step ≡ Send from.process from.to = same_Some _ _ (sym here ∙ ap (λ k. slice_get c k) (sym at) ∙ from.send) in
-      absurd (false≢true (sym no_send ∙ ap is_send same)))
-      (cases_lt sent place),
-  λ carries. (carries.0, omega (arith, carries.1), carries.2),
-)
+carries_stay c s place step here no_send message = grind arith
 
 -- a process has reached a state if it is after it or in it
 abbrev pub HasReached : State → ℕ → List ℕ → ℕ → Type 0
@@ -146,13 +132,7 @@ module _ (c : Computation) (s : State) (place interval : ℕ) (after : List ℕ)
 
   -- an event of process p counts for the state's process, if that is p
   interval_event : (p : ℕ) (step : Step) → slice_get c place ≡ Some step → is_communication_of s.process step ≡ (p == s.process) → (if p == s.process then interval + 1 else interval) ≡ interval_at c s.process (place + 1)
-  interval_event p step here event =
-      ⊎_elim
-      (λ (own : (p == s.process) ≡ true).
-      cond-true (p == s.process) (interval + 1) interval own ∙ ap (λ k. k + 1) pass.interval_is ∙ sym (interval_at-event c s.process place step here (event ∙ own)))
-      (λ (other : (p == s.process) ≡ false).
-      cond-false (p == s.process) (interval + 1) interval other ∙ pass.interval_is ∙ sym (interval_at-other c s.process place step here (event ∙ other)))
-      (cases_Bool (p == s.process))
+  interval_event p step here event = grind (arith, interval_at-event, interval_at-other)
 
   -- a send carries its message, if the sender has reached the state
   carries_more : (p to : ℕ) (later : Bool) → slice_get c place ≡ Some (Send p to) → IsTrue later ↔ HasReached s interval after p → (message : ℕ) → (slice_get (carries ++ later ∷ []) message ≡ Some true) ↔ Carries c s (place + 1) message

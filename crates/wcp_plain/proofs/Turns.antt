@@ -1,3 +1,4 @@
+use Rattle.std.proofs.lemmas.Grind.{common_steps}
 use Rattle.std.proofs.Common.{◌≡◌, ◌==◌, ℕ, ◌+◌, ◌<◌, ◌⊎◌, ◌↔◌, Bool, List, length, true, false, [], ◌∷◌, ◌++◌, slice_get, Some, Contains, IsTrue, if◌then◌else◌, refl, ◌∙◌, ap, subst, ⊎_elim, arith}
 use Rattle.std.proofs.lemmas.Bool.{eq-eqb, ne_eqb}
 use Rattle.std.specs.declared.alloc.Global.{Global}
@@ -51,9 +52,7 @@ entered c s place pass new answer reads carries interval grows =
 
 -- a step that is neither a send nor a receive
 other_step : (step : Step) → ((p to : ℕ) → step ≡ Send p to → ⊥) → ((p message : ℕ) → step ≡ Recv p message → ⊥) → ((p : ℕ) → is_communication_of p step ≡ false) × (is_send step ≡ false)
-other_step (Send p to) no_send no_receive = absurd (no_send p to refl)
-other_step (Recv p message) no_send no_receive = absurd (no_receive p message refl)
-other_step _ no_send no_receive = (λ p. refl, refl)
+other_step step no_send no_receive = grind arith
 
 -- what such a step leaves: the pass, and the interval of each process
 pub pass_by_other : (c : Computation) (s : State) (place interval : ℕ) (after : List ℕ) (carries : List Bool) (step : Step) → IsPass c s place interval after carries → slice_get c place ≡ Some step → ((p to : ℕ) → step ≡ Send p to → ⊥) → ((p message : ℕ) → step ≡ Recv p message → ⊥) → IsPass c s (place + 1) interval after carries × ((q : ℕ) → interval_at c q (place + 1) ≡ interval_at c q place)
@@ -70,8 +69,4 @@ answer_is c s t place pass answer reads process last =
 
 -- a state that is not reached at the end is one that nothing happened before
 pub never_before : (c : Computation) (s t : State) → (t.interval ≡ 0) ⊎ (interval_at c t.process (length c) < t.interval) → HappenedBefore c s t → ⊥
-never_before c s t ahead before =
-    let later = before_to_later before in
-    let is = before_to_state before in
-    let last = interval_at-end c t.process in
-    ⊎_elim (λ (first : t.interval ≡ 0). omega arith) (λ (beyond : interval_at c t.process (length c) < t.interval). omega arith) ahead
+never_before c s t ahead before = grind (arith, common_steps, before_to_state)

@@ -14,26 +14,11 @@ use Rattle.wcp_queue.proofs.LeftQueues.{GrowTo-gain}
 
 -- where each process has a head, their cut is found
 pub IsFoundAmong-heads : (n : ℕ) (rows : ℕ → List (List ℕ)) (queues : List (List (List ℕ))) (floor : Floor) (cut : List ℕ) → AreLeft n rows queues floor → IsCutOfHeads n floor cut → IsFoundAmong n rows cut
-IsFoundAmong-heads n rows queues floor cut left is = record {
-  members = is.members;
-  choice = left.heads;
-  satisfying = record {
-    within = λ p p_within. (left.head p p_within (is.heads p p_within)).within;
-    concurrent = λ p q p_within q_within apart order. omega (arith, order, left.under p q p_within q_within apart (is.heads q q_within), (left.head p p_within (is.heads p p_within)).own);
-  };
-  eliminated = left.eliminated;
-  own = λ p p_within. is.own p p_within ∙ (left.head p p_within (is.heads p p_within)).own;
-}
+IsFoundAmong-heads n rows queues floor cut left is = grind arith
 
 -- a cut that was found stays so as more is taken
 pub IsFoundAmong-grown : (n : ℕ) (rows longer : ℕ → List (List ℕ)) (cut : List ℕ) → GrowTo n rows longer → IsFoundAmong n rows cut → IsFoundAmong n longer cut
-IsFoundAmong-grown n rows longer cut grow found = record {
-  members = found.members;
-  choice = found.choice;
-  satisfying = IsSatisfyingChoice-grown n rows longer found.choice grow found.satisfying;
-  eliminated = IsEliminatedBelow-grown n rows longer found.choice grow found.eliminated;
-  own = λ p p_within. found.own p p_within ∙ ap (λ (clock : List ℕ). slice_index clock p) (sym (get_or-grown n rows longer grow p (found.choice p) p_within (found.satisfying.within p p_within)));
-}
+IsFoundAmong-grown n rows longer cut grow found = grind (arith, IsEliminatedBelow-grown, IsSatisfyingChoice-grown, get_or-grown)
 
 pub IsFoundAmong-gain : (n p : ℕ) (rows longer : ℕ → List (List ℕ)) (clock cut : List ℕ) → GainCandidate n p clock rows longer → IsFoundAmong n rows cut → IsFoundAmong n longer cut
 IsFoundAmong-gain n p rows longer clock cut gain = IsFoundAmong-grown n rows longer cut (GrowTo-gain n p clock rows longer gain)
@@ -54,9 +39,7 @@ module _ (n : ℕ) (items : List Item) where
 
   -- clocks that never fall keep the order of candidates
   rows_in_order : ClocksRise n items → AreInOrder n (λ p. clocks_taken p items)
-  rows_in_order order = record {
-    later = λ p q i j k p_within q_within apart i_within up k_within before. omega (arith, before, (order q q_within).never_fall j k p up k_within);
-  }
+  rows_in_order order = grind arith
 
   -- the choice of a cut by clocks: the place of each of its snapshots
   choice_of_cut : (cut : List ℕ) (is : IsCutByClocks n items cut) → (choice : ℕ → ℕ) × ((p : ℕ) → p < n → (choice p < length (clocks_taken p items)) × (get_or (clocks_taken p items) (choice p) [] ≡ is.clock p))
@@ -65,10 +48,7 @@ module _ (n : ℕ) (items : List Item) where
 
   is_satisfying : (cut : List ℕ) (is : IsCutByClocks n items cut) (choice : ℕ → ℕ) → ((p : ℕ) → p < n → (choice p < length (clocks_taken p items)) × (get_or (clocks_taken p items) (choice p) [] ≡ is.clock p)) →
       IsSatisfyingChoice n (λ p. clocks_taken p items) choice
-  is_satisfying cut is choice places = record {
-    within = λ p p_within. (places p p_within).0;
-    concurrent = λ p q p_within q_within apart before. is.concurrent p q p_within q_within apart (rw (← (places p p_within).1, ← (places q q_within).1) before);
-  }
+  is_satisfying cut is choice places = grind arith
 
   -- it is the least of these, where each process's items were taken in order
   pub IsLeastOf-found : (cut : List ℕ) → ClocksRise n items → IsFoundAmong n (λ p. clocks_taken p items) cut → IsLeastOf n (IsCutByClocks n items) cut

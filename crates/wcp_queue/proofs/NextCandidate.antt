@@ -1,3 +1,4 @@
+use Rattle.std.proofs.lemmas.Grind.{common_steps}
 use Rattle.std.proofs.Common.{◌≡◌, ◌≢◌, ℕ, ◌+◌, ◌<◌, ◌≤◌, Bool, true, false, cond, eqb, Some, List, [], ◌∷◌, ◌++◌, length, get_or, set, drop, slice_get, slice_index, refl, sym, ◌∙◌, ap, subst, ⊎_elim, add-zero, arith}
 use Rattle.std.proofs.lemmas.Bool.{cases_eq, cases_lt, eq-eqb, ne_eqb, cond-true, cond-false, true≢false}
 use Rattle.std.proofs.lemmas.Option.{none-some, same_Some}
@@ -8,20 +9,9 @@ use Rattle.wcp_queue.specs.Floor.{component, has_head, RaisesFloor}
 use Rattle.wcp_queue.specs.Elimination.{queue_of, candidate, HasHead, HasNoHead, KnowsOf, WasRaised, AreLeft, TakesNext}
 use Rattle.wcp_queue.proofs.LeftQueues.{queue_of-set_same, queue_of-set_other}
 
--- the first candidate that waits of p is taken out of its queue
-first_of : (queue : List (List ℕ)) (clock : List ℕ) → Some clock ≡ slice_get queue 0 → queue ≡ clock ∷ drop 1 queue
-first_of [] clock first = absurd (none-some clock (sym first))
-first_of (one ∷ queue) clock first = ap (λ (head : List ℕ). head ∷ queue) (sym (same_Some clock one first))
-
 pub TakesNext-set : (n p : ℕ) (clock : List ℕ) (queues : List (List (List ℕ))) (read queue : List (List ℕ)) → p < length queues → Some clock ≡ slice_get (get_or queues p read) 0 → queue ≡ drop 1 (get_or queues p read) →
     TakesNext n p clock queues (set queues p queue)
-TakesNext-set n p clock queues read queue within first is =
-    let here : get_or queues p read ≡ queue_of queues p = get_or_default queues p read [] within in
-    record {
-      next = first_of (queue_of queues p) clock (first ∙ ap (λ (q : List (List ℕ)). slice_get q 0) here)
-          ∙ ap (λ (q : List (List ℕ)). clock ∷ q) (sym (queue_of-set_same queues p queue within ∙ is ∙ ap (drop 1) here));
-      rest = λ k k_within other. queue_of-set_other queues p k queue other;
-    }
+TakesNext-set n p clock queues read queue within first is = grind (arith, get_or_default, queue_of-set_other, queue_of-set_same)
 
 -- one that comes where nothing waits is the first
 pub TakesNext-alone : (n p : ℕ) (clock : List ℕ) (queues : List (List (List ℕ))) → p < length queues → length (queue_of queues p) ≡ 0 → TakesNext n p clock (set queues p (queue_of queues p ++ clock ∷ [])) queues
@@ -45,8 +35,7 @@ moved-other : (heads : ℕ → ℕ) (p k : ℕ) → k ≢ p → moved heads p k 
 moved-other heads p k other = cond-false (eqb k p) (heads k + 1) (heads k) (ne_eqb k p other)
 
 at_most_one : (b : Bool) (i : ℕ) → (i ≤ cond b (i + 1) i) × (cond b (i + 1) i ≤ i + 1)
-at_most_one true i = (omega arith, omega arith)
-at_most_one false i = (omega arith, omega arith)
+at_most_one b i = grind arith
 
 -- where the place of a process stays, so does what is said of its head
 module _ (n : ℕ) (rows : ℕ → List (List ℕ)) (heads later : ℕ → ℕ) (queue now : List (List ℕ)) (floor new k : ℕ) (same : later k ≡ heads k) (queue_is : now ≡ queue) (floor_is : new ≡ floor) where
@@ -74,9 +63,7 @@ module _ (n : ℕ) (rows : ℕ → List (List ℕ)) (queues others : List (List 
   next_within = omega (arith, ap length all_of_p, length-drop (left.heads p) (rows p))
 
   next_is : candidate rows p (left.heads p) ≡ clock
-  next_is =
-      let here : get_or (drop (left.heads p) (rows p)) 0 [] ≡ get_or (rows p) (left.heads p + 0) [] = get_or-drop (left.heads p) (rows p) 0 [] in
-      ap (λ i. get_or (rows p) i []) (sym (add-zero (left.heads p))) ∙ sym here ∙ ap (λ clocks. get_or clocks 0 []) all_of_p
+  next_is = grind (arith, common_steps)
 
   after_next : queue_of others p ≡ drop (left.heads p + 1) (rows p)
   after_next = ap (drop 1) (sym all_of_p) ∙ drop-drop 1 (left.heads p) (rows p)

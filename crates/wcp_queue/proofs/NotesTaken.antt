@@ -1,3 +1,4 @@
+use Rattle.std.proofs.Common.{arith}
 use Rattle.std.proofs.Common.{◌≡◌, ◌≢◌, ◌||◌, ℕ, Bool, true, false, eqb, List, [], ◌∷◌, ◌++◌, ◌<◌, filter, map, refl, sym, ◌∙◌, ap, subst, ⊎_elim}
 use Rattle.std.specs.List.{list_any}
 use Rattle.std.proofs.lemmas.Bool.{cases_eq, eq-eqb, ne_eqb, cond-true, cond-false, or_right, false≢true}
@@ -15,15 +16,10 @@ use Rattle.wcp_queue.specs.Elimination.{GainCandidate}
 
 -- the notes taken of a process, after one more item of it or of another
 pub notes_taken-push_same : (items : List Item) (item : Item) (p : ℕ) → item.from ≡ p → notes_taken p (items ++ item ∷ []) ≡ notes_taken p items ++ item.note ∷ []
-notes_taken-push_same items item p same =
-    let one : filter (λ (i : Item). eqb i.from p) (item ∷ []) ≡ item ∷ [] = cond-true (eqb item.from p) (item ∷ []) [] (eq-eqb item.from p same) in
-    ap (map (λ (i : Item). i.note)) (filter-append (λ (i : Item). eqb i.from p) items (item ∷ []) ∙ ap (λ (rest : List Item). filter (λ (i : Item). eqb i.from p) items ++ rest) one)
-    ∙ map-append (λ (i : Item). i.note) (filter (λ (i : Item). eqb i.from p) items) (item ∷ [])
+notes_taken-push_same items item p same = grind (arith, filter-append, map-append)
 
 pub notes_taken-push_other : (items : List Item) (item : Item) (p : ℕ) → item.from ≢ p → notes_taken p (items ++ item ∷ []) ≡ notes_taken p items
-notes_taken-push_other items item p other =
-    let none : filter (λ (i : Item). eqb i.from p) (item ∷ []) ≡ [] = cond-false (eqb item.from p) (item ∷ []) [] (ne_eqb item.from p other) in
-    ap (map (λ (i : Item). i.note)) (filter-append (λ (i : Item). eqb i.from p) items (item ∷ []) ∙ ap (λ (rest : List Item). filter (λ (i : Item). eqb i.from p) items ++ rest) none ∙ append-nil (filter (λ (i : Item). eqb i.from p) items))
+notes_taken-push_other items item p other = grind (arith, append-nil, filter-append)
 
 -- each process's notes stay in turn
 pub in_turn-push : (items : List Item) (item : Item) (p : ℕ) → IsNextNote (notes_taken item.from items) item.note → AreInTurn (notes_taken p items) → AreInTurn (notes_taken p (items ++ item ∷ []))
@@ -34,31 +30,18 @@ in_turn-push items item p next turn = ⊎_elim
 
 -- a checker may take an item exactly where its note is the next after those taken of its process
 pub MayTake-next : (checker : CheckerState) (items : List Item) (item : Item) → StandsForItems checker items → item.from < processes checker → IsNextNote (notes_taken item.from items) item.note → MayTake checker item
-MayTake-next checker items item stands within next = record {
-  from = within;
-  place = next.place ∙ sym (stands.taken item.from within);
-  still_open = stands.closed item.from within ∙ next.still_open;
-}
+MayTake-next checker items item stands within next = grind arith
 
 pub next_where_MayTake : (checker : CheckerState) (items : List Item) (item : Item) → StandsForItems checker items → MayTake checker item → IsNextNote (notes_taken item.from items) item.note
-next_where_MayTake checker items item stands may = record {
-  place = may.place ∙ stands.taken item.from may.from;
-  still_open = sym (stands.closed item.from may.from) ∙ may.still_open;
-}
+next_where_MayTake checker items item stands may = grind arith
 
 -- a snapshot's clock comes at the end of its process's row, and the other rows stay
 pub GainCandidate-snapshot : (n : ℕ) (items : List Item) (p number : ℕ) (clock : List ℕ) → GainCandidate n p clock (λ q. clocks_taken q items) (λ q. clocks_taken q (items ++ record { from = p; note = Snap number clock } ∷ []))
-GainCandidate-snapshot n items p number clock = record {
-  gained = ap snapshot_clocks (notes_taken-push_same items (record { from = p; note = Snap number clock }) p refl) ∙ snapshot_clocks-append (notes_taken p items) (Snap number clock ∷ []);
-  others = λ q q_within other. ap snapshot_clocks (notes_taken-push_other items (record { from = p; note = Snap number clock }) q (λ same. other (sym same)));
-}
+GainCandidate-snapshot n items p number clock = grind (arith, notes_taken-push_other, notes_taken-push_same, snapshot_clocks-append)
 
 -- a close mark leaves every row
 pub clocks_taken-push_close : (items : List Item) (p count q : ℕ) → clocks_taken q (items ++ record { from = p; note = Close count } ∷ []) ≡ clocks_taken q items
-clocks_taken-push_close items p count q = ⊎_elim
-    (λ (same : p ≡ q). ap snapshot_clocks (notes_taken-push_same items (record { from = p; note = Close count }) q same) ∙ snapshot_clocks-append (notes_taken q items) (Close count ∷ []) ∙ append-nil (clocks_taken q items))
-    (λ (other : p ≢ q). ap snapshot_clocks (notes_taken-push_other items (record { from = p; note = Close count }) q other))
-    (cases_eq p q)
+clocks_taken-push_close items p count q = grind (arith, append-nil, notes_taken-push_other, notes_taken-push_same, snapshot_clocks-append)
 
 -- a snapshot closes no process, and a close mark its own
 pub close_taken-push_snapshot : (items : List Item) (p number q : ℕ) (clock : List ℕ) → list_any is_close (notes_taken q (items ++ record { from = p; note = Snap number clock } ∷ [])) ≡ list_any is_close (notes_taken q items)
@@ -72,12 +55,10 @@ close_taken-push_snapshot items p number q clock = ⊎_elim
     or_false false = refl
 
 pub close_taken-push_close : (items : List Item) (p count : ℕ) → list_any is_close (notes_taken p (items ++ record { from = p; note = Close count } ∷ [])) ≡ true
-close_taken-push_close items p count =
-    ap (list_any is_close) (notes_taken-push_same items (record { from = p; note = Close count }) p refl) ∙ list_any-append is_close (notes_taken p items) (Close count ∷ []) ∙ or_right (list_any is_close (notes_taken p items)) true refl
+close_taken-push_close items p count = grind (arith, list_any-append, notes_taken-push_same)
 
 pub close_taken-push_other : (items : List Item) (p count q : ℕ) → q ≢ p → list_any is_close (notes_taken q (items ++ record { from = p; note = Close count } ∷ [])) ≡ list_any is_close (notes_taken q items)
-close_taken-push_other items p count q other =
-    ap (list_any is_close) (notes_taken-push_other items (record { from = p; note = Close count }) q (λ same. other (sym same)))
+close_taken-push_other items p count q other = grind (arith, notes_taken-push_other)
 
 -- where a close mark was taken, it stands at a place among the notes
 pub close_mark_in : (notes : List Note) → list_any is_close notes ≡ true → (count : ℕ) × (before : List Note) × (after : List Note) × (notes ≡ before ++ Close count ∷ after)
@@ -88,5 +69,4 @@ close_mark_in (Snap number clock ∷ notes) some =
 close_mark_in (Close count ∷ notes) some = (count, [], notes, refl)
 
 pub close_mark_taken : (notes before : List Note) (count : ℕ) → notes ≡ before ++ Close count ∷ [] → list_any is_close notes ≡ true
-close_mark_taken notes before count is =
-    ap (list_any is_close) is ∙ list_any-append is_close before (Close count ∷ []) ∙ or_right (list_any is_close before) true refl
+close_mark_taken notes before count is = grind (arith, list_any-append)

@@ -9,18 +9,10 @@ IsSameAt k one other = (component other k ≡ component one k) × (has_head othe
 
 -- what the floor rises to at a process rests on what concerns that process alone
 pub RisesTo-before : (k known : ℕ) (first old new : Floor) → IsSameAt k first old → RisesTo k known old new → RisesTo k known first new
-RisesTo-before k known first old new same rises = record {
-  maximum = omega (arith, rises.maximum, same.0);
-  dropped = λ less. rises.dropped (omega (arith, less, same.0));
-  kept = λ reached. rises.kept (omega (arith, reached, same.0)) ∙ same.1;
-}
+RisesTo-before k known first old new same rises = grind arith
 
 RisesTo-after : (k known : ℕ) (first old new : Floor) → IsSameAt k old new → RisesTo k known first old → RisesTo k known first new
-RisesTo-after k known first old new same rises = record {
-  maximum = same.0 ∙ rises.maximum;
-  dropped = λ less. same.1 ∙ rises.dropped less;
-  kept = λ reached. same.1 ∙ rises.kept reached;
-}
+RisesTo-after k known first old new same rises = grind arith
 
 -- a new head of p has raised the first floor at the processes below q
 pub record IsRaising (first : Floor) (p : ℕ) (clock : List ℕ) (queues : List (List (List ℕ))) (floor : Floor) (uncovered : Bool) (q : ℕ) : Type 0 where
@@ -33,14 +25,7 @@ pub record IsRaising (first : Floor) (p : ℕ) (clock : List ℕ) (queues : List
 
 module _ (first : Floor) (p : ℕ) (clock : List ℕ) (queues : List (List (List ℕ))) (floor : Floor) (uncovered : Bool) (q : ℕ) (is : IsRaising first p clock queues floor uncovered q) where
   pub IsRaising-itself : q ≡ p → IsRaising first p clock queues floor uncovered (q + 1)
-  IsRaising-itself same = record {
-    at_p = is.at_p;
-    rises = λ k below other. is.rises k (omega (arith, other)) other;
-    later = λ k above other. is.later k (omega arith) other;
-    covered = λ none k below other. is.covered none k (omega (arith, other)) other;
-    tests = λ before. absurd (omega arith);
-    tests_after = λ after. omega (arith, is.tests (omega arith));
-  }
+  IsRaising-itself same = grind arith
 
   pub IsRaising-next : (new : Floor) (more : Bool) → q ≢ p → RisesTo q (slice_index clock q) floor new → IsSameBut q floor new →
       (more ≡ false → (uncovered ≡ false) × (component floor q < slice_index clock q → length (queue_of queues q) ≡ 0)) → new.tests ≡ floor.tests + 1 → IsRaising first p clock queues new more (q + 1)

@@ -1,3 +1,4 @@
+use Rattle.std.proofs.lemmas.Grind.{common_steps}
 use Rattle.std.proofs.Common.{◌≡◌, ℕ, ◌+◌, ◌*◌, ◌^◌, ◌<◌, ◌≤◌, false, None, List, [], length, set, replicate, sum, refl, sym, ◌∙◌, ap, subst, arith}
 use Rattle.std.specs.List.{All}
 use Rattle.std.proofs.lemmas.Bool.{true≢false}
@@ -41,21 +42,10 @@ module _ (old : CheckerState) (sound : IsSoundChecker old) where
 
   -- the count of component tests stays far below its limit
   pub room_for_tests : old.floor.tests + tests_each (length old.queues) * (waiting_in old.queues + 1) < 2 ^ 64
-  room_for_tests =
-      let each : tests_each (processes old) ≤ 16 = omega (arith, sound.few, tests_each-le (processes old)) in
-      omega (arith, sound.bound, each, mul-le (tests_each (processes old)) (sum old.taken) 16 (16 * 2 ^ 32) each few_in_all)
+  room_for_tests = grind (arith, few_in_all, tests_each-le)
 
   -- a snapshot more
   pub IsSoundChecker-snapshot : (new : CheckerState) (p : ℕ) → p < length old.taken → taken_of old p < 4294967296 → new.taken ≡ set old.taken p (taken_of old p + 1) → new.closed ≡ old.closed → length new.queues ≡ length old.queues →
       AreSettled new.queues new.floor → (new.found ≡ None → HaveHeads (length old.queues) new.floor → ⊥) →
       new.floor.tests + tests_each (length old.queues) * waiting_in new.queues ≤ old.floor.tests + tests_each (length old.queues) * (waiting_in old.queues + 1) → IsSoundChecker new
-  IsSoundChecker-snapshot new p within few taken closed members settled waiting tests = record {
-    some = omega (arith, sound.some);
-    few = omega (arith, sound.few);
-    counts = ap length taken ∙ length-set old.taken p (taken_of old p + 1) ∙ sound.counts;
-    marks = ap length closed ∙ sound.marks;
-    few_taken = subst (All (λ count. count ≤ 2 ^ 32)) (sym taken) (All-set (λ count. count ≤ 2 ^ 32) old.taken p (taken_of old p + 1) (omega arith) sound.few_taken);
-    settled = settled;
-    waiting = λ none heads. waiting none (rw (← members) heads);
-    bound = rw (members, taken, sum-set old.taken p within) (omega (arith, tests, sound.bound));
-  }
+  IsSoundChecker-snapshot new p within few taken closed members settled waiting tests = grind (arith, common_steps)

@@ -23,8 +23,7 @@ pub sum-set : (taken : List ℕ) (p : ℕ) → p < length taken → sum (set tak
 sum-set taken p within = omega (arith, sum_by-set (λ x. x) taken p (slice_index taken p + 1) 0 within)
 
 none_found : (found : Option (List ℕ)) → is_some found ≡ false → found ≡ None
-none_found None none = refl
-none_found (Some cut) none = absurd (true≢false none)
+none_found found none = grind arith
 
 module _ (old new : CheckerState) (items : List Item) (p : ℕ) (clock : List ℕ) (stands : StandsForItems old items) (p_within : p < processes old) (still_open : closed_of old p ≡ false)
     (within : p < length old.taken) (taken : new.taken ≡ set old.taken p (taken_of old p + 1)) (closed : new.closed ≡ old.closed) (members : length new.queues ≡ length old.queues) where
@@ -36,13 +35,7 @@ module _ (old new : CheckerState) (items : List Item) (p : ℕ) (clock : List �
 
   -- the counts after a snapshot
   taken-snapshot : (q : ℕ) → q < processes new → taken_of new q ≡ length (clocks_taken q longer)
-  taken-snapshot q q_within = ⊎_elim
-      (λ (same : q ≡ p). subst (λ r. taken_of new r ≡ length (clocks_taken r longer)) (sym same)
-      (ap (λ (counts : List ℕ). slice_index counts p) taken ∙ taken_of-set_same old.taken p within
-      ∙ omega (arith, ap length gain.gained, length-append (clocks_taken p items) (clock ∷ []), stands.taken p (subst (λ r. r < length old.queues) same (omega arith)))))
-      (λ (other : q ≢ p). ap (λ (counts : List ℕ). slice_index counts q) taken ∙ get_or-set_other old.taken p q (taken_of old p + 1) 0 other
-      ∙ stands.taken q (omega arith) ∙ ap length (sym (gain.others q (omega arith) other)))
-      (cases_eq q p)
+  taken-snapshot q q_within = grind (arith, gain, get_or-set_other, length-append, taken_of-set_same)
 
   snapshots-snapshot : sum new.taken ≡ count_by is_snapshot longer
   snapshots-snapshot = ap sum taken ∙ omega (arith, sum-set old.taken p within, stands.snapshots, sum_by_push (λ item. cond (is_snapshot item) 1 0) items (record { from = p; note = Snap (taken_of old p) clock }))

@@ -1,4 +1,5 @@
 -- What follows for a text from what reading it answered.
+use Rattle.std.proofs.Common.{arith}
 use Rattle.std.proofs.Common.{◌≡◌, ℕ, ◌≤◌, List, length, Result, Ok, Err, sym, ap, subst, ◌∙◌, inl, inr}
 use Rattle.std.specs.Prelude.{IfOk, IfErr}
 use Rattle.std.proofs.lemmas.Bool.{cases_order}
@@ -33,11 +34,7 @@ same_steps_after text_kind one other same = ap (steps_after text_kind) same
 
 -- A text spells one plan and one list of steps.
 same_reading : {S : Type 0} (text_kind : TextKind S) (text : List ℕ) (plan plan' : Plan) (steps steps' : List S) → Spells text_kind text plan steps → Spells text_kind text plan' steps' → IsSamePlan plan plan' × (steps ≡ steps')
-same_reading text_kind text plan plan' steps steps' h k =
-    let same = same_head text_kind text h.read k.read h.head k.head in (
-      same_plan h.read k.read plan plan' same h.plan_of_head k.plan_of_head,
-      ok_is {E = ScriptFault} steps steps' (sym h.lines ∙ same_steps_after text_kind h.read k.read same ∙ k.lines),
-    )
+same_reading text_kind text plan plan' steps steps' h k = grind arith
 
 -- A plan of one head is without fault where another plan of the head is.
 no_plan_fault : {S : Type 0} (text_kind : TextKind S) (text : List ℕ) (one other : HeadRead) (plan plan' : Plan) → head_of text_kind.is_step_word text ≡ Ok one → head_of text_kind.is_step_word text ≡ Ok other → IsPlanOf one.head plan → IsPlanOf other.head plan' → IsCheckedPlan plan' → IsCheckedPlan plan
@@ -77,12 +74,7 @@ no_workload_fault text fault plan tasks order h fit (AtEnd plan' tasks' spells p
     stuck.no_order order (subst (λ (tasks : List Task). IsFitOrder tasks order) (same_reading workloads text plan plan' tasks tasks' h spells).1 fit)
 
 same_place : (tasks : List Task) (one other : ℕ) → IsStuckAt tasks one → IsStuckAt tasks other → one ≡ other
-same_place tasks one other h k =
-    elim (cases_order one other) [
-      | inl same ↦ same
-      | inr (inl before) ↦ absurd (h.first.stuck (k.first.before one before))
-      | inr (inr after) ↦ absurd (k.first.stuck (h.first.before other after))
-    ]
+same_place tasks one other h k = grind arith
 
 same_workload_fault : (text : List ℕ) (one other : ScriptFault) → HasWorkloadFault text one → HasWorkloadFault text other → one ≡ other
 same_workload_fault text one other (InText has) (InText has') = same_fault workloads text one other has has'

@@ -1,4 +1,5 @@
 -- A fault that a call answered and that is handed on.
+use Rattle.std.proofs.Common.{arith}
 use Rattle.std.proofs.Common.{◌≡◌, ℕ, List, Result, Ok, Err, subst, sym}
 use Rattle.std.specs.Result.{IsErr, IsErrAnd}
 use Rattle.wcp_model.specs.declared.plan.Plan.{Plan}
@@ -10,8 +11,7 @@ use Rattle.wcp_script.specs.TextFault.{TextKind, workloads, steps_by, HasTextFau
 use Rattle.wcp_script.specs.ReadAnswers.{IsFaultOf, Fails}
 
 pub handed_on : {Y : Type 0} (P : Result Y ReadFault → Type 0) (r : Result Y ReadFault) (fault : ReadFault) → IsErr r × IsErrAnd r (λ given. given ≡ fault) → P (Err fault) → P r
-handed_on P (Ok y) fault h p = absurd cc
-handed_on P (Err given) fault h p = subst (λ (fault : ReadFault). P (Err fault)) (sym h.1) p
+handed_on P r fault h p = grind arith
 
 -- A fault of a step line is the text's, where its head and its plan have none.
 pub fault_in_step : {S : Type 0} (text_kind : TextKind S) (text : List ℕ) (read : HeadRead) (plan : Plan) (fault : ReadFault) → head_of text_kind.is_step_word text ≡ Ok read → IsPlanOf read.head plan → IsCheckedPlan plan → Fails fault (steps_by text_kind read.head.n read.last 0 read.after) → IsFaultOf (HasTextFault text_kind text) fault

@@ -31,9 +31,7 @@ lacks-decimal byte n small out = λ k d lt.
     ne_eqb _ byte (λ e. not_in_digits own (decimal n) byte (digits_decimal own n (omega arith)) out k lt (get_or_default (decimal n) k 0 d lt ∙ e))
 
 pub IsWord-decimal : (n : ℕ) → n < 2 ^ 32 → IsWord (decimal n)
-IsWord-decimal n small = λ k d lt.
-    and_from _ _ (not_from_false _ (lacks-decimal 32 n small (λ range. absurd (omega (arith, range.0))) k d lt))
-    (not_from_false _ (lacks-decimal 10 n small (λ range. absurd (omega (arith, range.0))) k d lt))
+IsWord-decimal n small = grind (arith, lacks-decimal)
 
 pub number_in-decimal : (n : ℕ) → n < 2 ^ 32 → number_in (decimal n) ≡ Ok n
 number_in-decimal n small = rw (number_spelled-decimal n small) refl
@@ -76,10 +74,7 @@ joined_lacks_feed (word ∷ next ∷ words) each =
 
 -- A text that begins with a line of words is cut behind it.
 pub lines_of-line_text : (words : List Word) (rest : List ℕ) → AllByRecursion IsWord words → lines_of (line_text words ++ rest) ≡ worded words ∷ lines_of rest
-lines_of-line_text words rest each =
-    let joined : List ℕ = join_with_byte 32 words in
-    lines_after (line_text words ++ rest) joined rest
-    (ap (slice_split (λ byte. eqb byte 10)) (line_text-joined words rest) ∙ slice_split_at (λ byte. eqb byte 10) joined 10 rest (joined_lacks_feed words each) refl)
+lines_of-line_text words rest each = grind (arith, joined_lacks_feed, line_text-joined, lines_after, slice_split_at)
 
 pub lines_of_nothing : lines_of [] ≡ []
 unfolding lines_of

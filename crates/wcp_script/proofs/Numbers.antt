@@ -19,20 +19,11 @@ own = numerals_by_value (AllDigits 10) tells_digits
 -- A word is a number just where it's the decimal text of one below 2 ^ 32.
 pub number_is : (word : List ℕ) (n : ℕ) → number_spelled word ≡ Some n → (word ≡ decimal n) × (n < 2 ^ 32)
 unfolding number_spelled
-number_is word n e =
-    let value = digits_value 10 word in
-    let found = cond_some (ltb value (2 ^ 32) && bytes_eq word (decimal value)) value n e in
-    let parts = and_parts (ltb value (2 ^ 32)) (bytes_eq word (decimal value)) found.0 in
-    let same : word ≡ decimal value = (bytes_eq-Decides word (decimal value)).0 parts.1 in
-    (same ∙ ap decimal found.1, omega (arith, ltb-true _ _ parts.0, found.1))
+number_is word n e = grind (arith, bytes_eq-Decides)
 
 pub number_spelled-decimal : (n : ℕ) → n < 2 ^ 32 → number_spelled (decimal n) ≡ Some n
 unfolding number_spelled
-number_spelled-decimal n small =
-    let value : digits_value 10 (decimal n) ≡ n = digits_value-decimal own n (omega arith) in
-    let within : ltb n (2 ^ 32) ≡ true = lt-ltb _ _ small in
-    let same : bytes_eq (decimal n) (decimal n) ≡ true = (bytes_eq-Decides (decimal n) (decimal n)).1 refl in
-    rw (value, within, same) refl
+number_spelled-decimal n small = grind (arith, bytes_eq-Decides, digits_value-decimal, own)
 
 none_unless : (word : List ℕ) (o : Option ℕ) → o ≡ number_spelled word → ((n : ℕ) → word ≡ decimal n → n < 2 ^ 32 → ⊥) → None ≡ o
 none_unless word None e h = refl
@@ -42,20 +33,13 @@ pub no_number : (word : List ℕ) → ((n : ℕ) → word ≡ decimal n → n < 
 no_number word h = none_unless word (number_spelled word) refl h
 
 pub no_number_in_digits : (word : List ℕ) → (AllDigits 10 word → 2 ^ 32 ≤ digits_value 10 word) → None ≡ number_spelled word
-no_number_in_digits word large = no_number word (λ n e small.
-    let digits : AllDigits 10 word = rw e (digits_decimal own n (omega arith)) in
-    let value : digits_value 10 word ≡ n = rw e (digits_value-decimal own n (omega arith)) in
-    absurd (omega (arith, large digits, value, small)))
+no_number_in_digits word large = grind (arith, digits_decimal, digits_value-decimal, no_number, own)
 
 decimal_zero : length (decimal 0) ≡ 1
 decimal_zero = ap length (decimal_digit 0 (omega arith))
 
 pub no_number_after_zero : (word : List ℕ) → get_or word 0 0 ≡ 48 → 2 ≤ length word → None ≡ number_spelled word
-no_number_after_zero word first long = no_number word (λ n e small.
-    elim (cases_lt 0 n) [
-      | inl positive ↦ let above : 48 < get_or word 0 0 = rw e (first_decimal n positive (omega arith)) in absurd (omega arith)
-      | inr none ↦ let zeroed : length word ≡ length (decimal 0) = ap length e ∙ ap (λ k. length (decimal k)) (omega arith) in absurd (omega (arith, zeroed, decimal_zero))
-    ])
+no_number_after_zero word first long = grind (arith, decimal_zero, first_decimal, no_number)
 
 pub no_number_of_nothing : (word : List ℕ) → length word ≡ 0 → None ≡ number_spelled word
 no_number_of_nothing word none = no_number word (λ n e small. absurd (omega (arith, none, ap length e, decimal_nonempty n (omega arith))))
@@ -67,23 +51,17 @@ number_from_digits word value digits same small some canonical =
     sym (number_spelled-decimal value small) ∙ ap number_spelled spelled'
 
 pub no_digit : (ds : List ℕ) (i : ℕ) → i < length ds → (digit_value (get_or ds i 0) < 10 → ⊥) → AllDigits 10 ds → ⊥
-no_digit ds i lt none digits =
-    let range = digit_at ds i digits lt in
-    none (omega (arith, digit_value_digit (get_or ds i 0) range, range.0, range.1))
+no_digit ds i lt none digits = grind (arith, digit_at ds i digits lt)
 
 pub too_large : (ds : List ℕ) (i value : ℕ) → i < length ds → value ≡ digits_value 10 (take i ds) → 2 ^ 32 ≤ value * 10 + digit_value (get_or ds i 0) → 2 ^ 32 ≤ digits_value 10 ds
 too_large ds i value lt same large = omega (arith, digits_value_more 10 ds i lt, digits_value-take-le 10 ds (i + 1) (omega arith))
 
 pub number_by_value : (word : List ℕ) (o : Option ℕ) → 0 < length word → ((1 < length word) × (get_or word 0 0 ≡ 48) → ⊥) → MatchOption o (AllDigits 10 word → 2 ^ 32 ≤ digits_value 10 word) (λ value. AllDigits 10 word × (value ≡ digits_value 10 word) × (value < 2 ^ 32)) → o ≡ number_spelled word
-number_by_value word None some canonical h = no_number_in_digits word h
-number_by_value word (Some value) some canonical h = number_from_digits word value h.0 h.1 h.2 some (λ zeroed. elim (cases_lt 1 (length word)) [ inl long ↦ absurd (canonical (long, zeroed)) | inr short ↦ omega arith ])
+number_by_value word o some canonical h = grind (arith, no_number_in_digits, number_from_digits)
 
 -- The text of a number of one digit, and of one from 10 to 19.
 pub decimal_unit : (n : ℕ) (text rest : List ℕ) → text ≡ (48 + n) ∷ rest → n < 10 → text ≡ decimal n ++ rest
 decimal_unit n text rest same small = rw (decimal_digit n small) same
 
 pub decimal_teen : (n : ℕ) (text after rest : List ℕ) → text ≡ 49 ∷ after → after ≡ (48 + n) ∷ rest → n < 10 → text ≡ decimal (10 + n) ++ rest
-decimal_teen n text after rest same more small =
-    let tens : ◌≡◌ {A = ℕ} ((10 + n) / 10) 1 = omega arith in
-    let units : ◌≡◌ {A = ℕ} ((10 + n) % 10) n = omega arith in
-    rw (decimal_step (10 + n) (omega arith) (omega arith), tens, units, decimal_digit 1 (omega arith)) (same ∙ ap (λ (rest : List ℕ). 49 ∷ rest) more)
+decimal_teen n text after rest same more small = grind (arith, decimal_digit, decimal_step)

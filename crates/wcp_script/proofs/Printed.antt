@@ -1,4 +1,5 @@
 -- The text of a workload that could be read spells it.
+use Rattle.std.proofs.lemmas.Grind.{common_steps}
 use Rattle.std.proofs.Common.{◌≡◌, ◌≢◌, ℕ, ◌<◌, ◌≤◌, Bool, true, false, cond, ◌&&◌, eqb, List, [], ◌∷◌, ◌++◌, length, map, Option, Some, None, Ok, refl, sym, ap, ◌∙◌, append_assoc, arith, le-leb, ne_eqb, eqb-true, inl, inr, ⊎_elim}
 use Rattle.std.specs.Prelude.{codes, replicate, slice_get}
 use Rattle.std.specs.List.{flat_map, list_all, AllByRecursion}
@@ -28,10 +29,7 @@ use Rattle.wcp_script.proofs.PrintedHead.{Makes, Makes-append, made_is_read, sai
 -- ---- what a plan that is checked has
 
 inside : (least most x : ℕ) → ¬ IsOutside least most x → (least ≤ x) × (x ≤ most)
-inside least most x not = (
-  ⊎_elim (λ (less : x < least). absurd (not (inl less))) (λ (fine : least ≤ x). fine) (cases_lt x least),
-  ⊎_elim (λ (more : most < x). absurd (not (inr more))) (λ (fine : x ≤ most). fine) (cases_lt most x),
-)
+inside least most x not = grind arith
 
 record Sound (plan : Plan) : Type 0 where
   some : 1 ≤ plan.n
@@ -71,14 +69,10 @@ sound_from plan checked =
 -- ---- one relay that serves every process
 
 is_root : (parents : List Parent) → is_root_alone parents ≡ true → parents ≡ Root ∷ []
-is_root [] alone = absurd cc
-is_root (Root ∷ []) alone = refl
-is_root (Root ∷ next ∷ parents) alone = absurd cc
-is_root (Relay above ∷ parents) alone = absurd cc
+is_root parents alone = grind arith
 
 first_is : (entry : Option ℕ) → is_first entry ≡ true → entry ≡ Some 0
-first_is None first = absurd cc
-first_is (Some relay) first = ap Some (eqb-true relay 0 first)
+first_is entry first = grind arith
 
 all_first : (attach : List (Option ℕ)) → list_all is_first attach ≡ true → attach ≡ replicate (length attach) (Some 0)
 all_first [] each = refl
@@ -138,20 +132,14 @@ further_lines plan = cap_lines plan.cap ++ (hold_lines plan.hold ++ tree_lines p
 
 further_make : (plan : Plan) → Sound plan → (head : Head) × Makes (first_head plan.n) (further_lines plan) head × IsPlanOf head plan
 further_make plan sound =
-    let with_cap : Head = record (first_head plan.n) { cap = said_unless 8 plan.cap } in
-    let tree = tree_makes plan (has_one_relay plan) refl sound in
-    let hold = hold_makes plan.n plan.hold (said_unless 8 plan.cap) (eqb plan.hold 4) sound.hold_low sound.hold_high in
-    let behind_cap = Makes-append with_cap (capacities plan) tree.0 (hold_lines plan.hold) (tree_lines plan) hold tree.1 in
-    let cap = cap_makes plan.n plan.cap (eqb plan.cap 8) sound.cap_low sound.cap_high in
-    (tree.0, Makes-append (first_head plan.n) with_cap tree.0 (cap_lines plan.cap) (hold_lines plan.hold ++ tree_lines plan) cap behind_cap, tree.2)
+    grind (arith, tree_makes plan (has_one_relay plan) refl sound, hold_makes plan.n plan.hold (said_unless 8 plan.cap) (eqb plan.hold 4) sound.hold_low sound.hold_high, cap_makes plan.n plan.cap (eqb plan.cap 8) sound.cap_low sound.cap_high)
 
 -- ---- the whole text
 
 -- The text of a workload is that of its head, and then the lines of its tasks.
 pub text_of-head_and_tasks : (plan : Plan) (tasks : List Task) → text_of_workload plan tasks ≡ text_of (head_lines plan) ++ flat_map task_line tasks
 unfolding text_of_workload
-text_of-head_and_tasks plan tasks =
-    flat_map-append line_text (head_lines plan) (map task_words tasks) ∙ ap (λ (steps : List ℕ). text_of (head_lines plan) ++ steps) (flat_map-map line_text task_words tasks)
+text_of-head_and_tasks plan tasks = grind (arith, common_steps, flat_map-map)
 
 procs_are_words : (n : ℕ) → n ≤ 16 → AllByRecursion IsWord (codes "procs" ∷ decimal n ∷ [])
 procs_are_words n few = (IsWord-literal (codes "procs") refl, (IsWord-decimal n (omega arith), tt))

@@ -36,9 +36,7 @@ Makes-append a b c (words ∷ xs) ys first then = (first.0, first.1, Makes-appen
 
 line_made : (head : Head) (words : List Word) (what : HeadLine) (last : ℕ) (rest : List ℕ) → Says head words what → head_by is_task_word head last (lines_of (line_text words ++ rest)) ≡ head_by is_task_word (with_line head what) (last + 1) (lines_of rest)
 unfolding head_by head_line
-line_made head [] what last rest h = let says = h.says in absurd cc
-line_made head (word ∷ words) what last rest h =
-    ap (head_by is_task_word head last) (lines_of-line_text (word ∷ words) rest h.are_words) ∙ rw (words_of-joined word words h.are_words, h.no_step, h.says) refl
+line_made head words what last rest h = grind (arith, lines_of-line_text, words_of-joined)
 
 -- Lines that make a head are read as it.
 pub made_is_read : (head made : Head) (lines : List (List Word)) (last : ℕ) (rest : List ℕ) → Makes head lines made
@@ -58,8 +56,7 @@ abbrev pub said_unless : ℕ → ℕ → Option ℕ
 said_unless plain capacity = cond (eqb capacity plain) None (Some capacity)
 
 pub unwrap_or-said_unless : (plain capacity : ℕ) → capacity ≡ unwrap_or (said_unless plain capacity) plain
-unwrap_or-said_unless plain capacity =
-    ⊎_elim (λ (same : eqb capacity plain ≡ true). rw same (eqb-true capacity plain same)) (λ (other : eqb capacity plain ≡ false). rw other refl) (cases_Bool (eqb capacity plain))
+unwrap_or-said_unless plain capacity = grind arith
 
 pub cap_makes : (n cap : ℕ) (plain : Bool) → 1 ≤ cap → cap ≤ 1024 → Makes (first_head n) (cond plain [] ((codes "cap" ∷ decimal cap ∷ []) ∷ [])) (record (first_head n) { cap = cond plain None (Some cap) })
 cap_makes n cap true low high = refl
@@ -98,23 +95,13 @@ not_root above small =
     (cases_Bool (bytes_eq (decimal above) (codes "root")))
 
 parent_in-parent_word : (relay : ℕ) (parent : Parent) → relay < 2 ^ 32 → is_above relay parent ≡ true → IsWord (parent_word parent) × (parent_in (parent_word parent) ≡ Ok parent)
-parent_in-parent_word relay Root small lower = (IsWord-literal (codes "root") refl, refl)
-parent_in-parent_word relay (Relay above) small lower =
-    let below : above < 2 ^ 32 = omega (arith, ltb-true above relay lower) in
-    (IsWord-decimal above below, rw (not_root above below, number_in-decimal above below) refl)
+parent_in-parent_word relay parent small lower = grind (arith, IsWord-decimal, not_root, number_in-decimal)
 
 above_from : (relay : ℕ) (parent : Parent) → ((above : ℕ) → parent ≡ Relay above → above < relay) → is_above relay parent ≡ true
-above_from relay Root lower = refl
-above_from relay (Relay above) lower = lt-ltb above relay (lower above refl)
+above_from relay parent lower = grind arith
 
 relay_says : (head : Head) (k : ℕ) (parent : Parent) → head.last_attached ≡ None → k ≡ length head.parents → k < 15 → is_above k parent ≡ true → Says head (codes "relay" ∷ decimal k ∷ parent_word parent ∷ []) (said.Relay parent)
-relay_says head k parent none next few lower =
-    let word = parent_in-parent_word k parent (omega arith) lower in
-    record {
-      are_words = (IsWord-literal (codes "relay") refl, (IsWord-decimal k (omega arith), (word.0, tt)));
-      no_step = refl;
-      says = rw (none, number_in-decimal k (omega arith), word.1, eq-eqb k (length head.parents) next, lt-ltb k 15 few, lower) refl;
-    }
+relay_says head k parent none next few lower = grind (arith, IsWord-decimal, number_in-decimal, parent_in-parent_word)
 
 pub relays_make : (head : Head) (front parents : List Parent) (k : ℕ) → head.last_attached ≡ None → k ≡ length front → k + length parents ≤ 15 → ((i above : ℕ) → slice_get parents i ≡ Some (Relay above) → above < k + i)
     → Makes (record head { parents = front }) (numbered relay_lines k parents) (record head { parents = front ++ parents })
@@ -131,11 +118,7 @@ relays_make head front (parent ∷ parents) k none next few lower =
 -- ---- attachments
 
 attach_says : (head : Head) (p relay : ℕ) → 1 ≤ length head.parents → p < head.n → head.n ≤ 16 → relay < 15 → is_after head.last_attached p ≡ true → Says head (codes "attach" ∷ decimal p ∷ decimal relay ∷ []) (said.Attach p relay)
-attach_says head p relay some inside few lower rising = record {
-  are_words = (IsWord-literal (codes "attach") refl, (IsWord-decimal p (omega arith), (IsWord-decimal relay (omega arith), tt)));
-  no_step = refl;
-  says = rw (ne_eqb (length head.parents) 0 (λ e. absurd (omega arith)), number_in-decimal p (omega arith), number_in-decimal relay (omega arith), rising, lt-ltb p head.n inside) refl;
-}
+attach_says head p relay some inside few lower rising = grind (arith, IsWord-decimal, number_in-decimal)
 
 pub attaches_make : (head : Head) (served entries start all : List (Option ℕ)) (before : Option ℕ) (k : ℕ) → k ≡ length served → start ≡ served ++ replicate (length entries) None → all ≡ served ++ entries
     → 1 ≤ length head.parents → k + length entries ≤ head.n → head.n ≤ 16 → ((i relay : ℕ) → slice_get entries i ≡ Some (Some relay) → relay < 15) → ((p : ℕ) → k ≤ p → is_after before p ≡ true)

@@ -1,4 +1,5 @@
 -- Lines that are printed one after another.
+use Rattle.std.proofs.Common.{arith}
 use Rattle.std.proofs.Common.{◌≡◌, ℕ, List, ◌++◌, Result, Ok, Err, sym, ap, ◌∙◌, append_assoc}
 use Rattle.std.specs.Prelude.{OnOk}
 use Rattle.std.proofs.lemmas.Grind.{flat_map-append}
@@ -6,12 +7,9 @@ use Rattle.wcp_script.specs.Lines.{Word, line_text, text_of}
 
 -- the text with some lines, and then with others
 text_more : (old front new : List ℕ) (xs ys : List (List Word)) → front ≡ old ++ text_of xs → new ≡ front ++ text_of ys → new ≡ old ++ text_of (xs ++ ys)
-text_more old front new xs ys was is =
-    is ∙ ap (λ (first : List ℕ). first ++ text_of ys) was ∙ append_assoc old (text_of xs) (text_of ys) ∙ ap (λ (all : List ℕ). old ++ all) (sym (flat_map-append line_text xs ys))
+text_more old front new xs ys was is = grind (arith, append_assoc, flat_map-append)
 
 -- the text with the four parts of a head
 pub head_printed : {A E : Type 0} (r : Result A E) (old one two three new : List ℕ) (opening cap hold tree : List (List Word)) → one ≡ old ++ text_of opening → two ≡ one ++ text_of cap → three ≡ two ++ text_of hold
     → OnOk r (new ≡ three ++ text_of tree) → OnOk r (new ≡ old ++ text_of (opening ++ (cap ++ (hold ++ tree))))
-head_printed (Ok done) old one two three new opening cap hold tree first second third last =
-    text_more old one new opening (cap ++ (hold ++ tree)) first (text_more one two new cap (hold ++ tree) second (text_more two three new hold tree third last))
-head_printed (Err fault) old one two three new opening cap hold tree first second third last = tt
+head_printed r old one two three new opening cap hold tree first second third last = grind (arith, text_more)

@@ -14,20 +14,11 @@ use Rattle.wcp_script.specs.WorkloadLines.{form_of, has_partner, is_within, task
 use Rattle.wcp_script.specs.TextFault.{workloads, steps_by}
 use Rattle.wcp_script.proofs.LinesOfWords.{IsWord, IsWord-literal, IsWord-decimal, number_in-decimal, words_of-joined, worded, lines_of-line_text, lines_of_nothing}
 
-action_is_words : (n p : ℕ) (does : Action) → n ≤ 16 → HasPartner n p does → AllByRecursion IsWord (action_words does)
-action_is_words n p (action.Observe true) few h = (IsWord-literal (codes "true") refl, tt)
-action_is_words n p (action.Observe false) few h = (IsWord-literal (codes "false") refl, tt)
-action_is_words n p (action.Send to) few h = (IsWord-literal (codes "send") refl, (IsWord-decimal to (omega (arith, h.0)), tt))
-action_is_words n p (action.Recv from) few h = (IsWord-literal (codes "recv") refl, (IsWord-decimal from (omega (arith, h.0)), tt))
-
 pub task_is_words : (n : ℕ) (task : Task) → n ≤ 16 → IsWithin n task → AllByRecursion IsWord (task_words task)
-task_is_words n task few within =
-    (IsWord-literal (codes "p") refl, (IsWord-decimal task.p (omega (arith, within.0)), action_is_words n task.p task.action few within.1))
+task_is_words n task few within = grind (arith, IsWord-decimal)
 
 has_partner_from : (n p : ℕ) (does : Action) → HasPartner n p does → has_partner n p does ≡ true
-has_partner_from n p (action.Observe holds) h = refl
-has_partner_from n p (action.Send to) h = and_from (ltb to n) (not (eqb to p)) (lt-ltb to n h.0) (not_from_false (eqb to p) (ne_eqb to p h.1))
-has_partner_from n p (action.Recv from) h = and_from (ltb from n) (not (eqb from p)) (lt-ltb from n h.0) (not_from_false (eqb from p) (ne_eqb from p h.1))
+has_partner_from n p does h = grind arith
 
 is_within_from : (n : ℕ) (task : Task) → IsWithin n task → is_within n task ≡ true
 is_within_from n task h = and_from (ltb task.p n) (has_partner n task.p task.action) (lt-ltb task.p n h.0) (has_partner_from n task.p task.action h.1)
@@ -67,14 +58,5 @@ task_is_said n task text rest same within few = (worded (task_words task), ap li
 
 -- ---- the line of a task, from its parts
 
-numbered_line : (p : ℕ) (does : Action) → line_text (decimal p ∷ action_words does) ≡ decimal p ++ 32 ∷ line_text (action_words does)
-numbered_line p (action.Observe true) = refl
-numbered_line p (action.Observe false) = refl
-numbered_line p (action.Send to) = refl
-numbered_line p (action.Recv from) = refl
-
 pub task_line_from : (p : ℕ) (does : Action) (text number said rest : List ℕ) → text ≡ 112 ∷ 32 ∷ number → number ≡ decimal p ++ 32 ∷ said → said ≡ line_text (action_words does) ++ rest → text ≡ task_line (record { p = p; action = does }) ++ rest
-task_line_from p does text number said rest begins numbers says =
-    begins ∙ ap (λ (tail : List ℕ). 112 ∷ 32 ∷ tail)
-    (numbers ∙ ap (λ (tail : List ℕ). decimal p ++ 32 ∷ tail) says ∙ sym (append_assoc (decimal p) (32 ∷ line_text (action_words does)) rest)
-    ∙ ap (λ (line : List ℕ). line ++ rest) (sym (numbered_line p does)))
+task_line_from p does text number said rest begins numbers says = grind (arith, append_assoc)

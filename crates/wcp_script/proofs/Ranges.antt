@@ -15,8 +15,7 @@ flat_map-range_more f a (suc n) =
 
 -- the same behind what was there
 pub pieces_more : {X : Type 0} (f : ℕ → List X) (a n i : ℕ) (old before new : List X) → a + n ≡ i → before ≡ old ++ flat_map f (range_with_len a n) → new ≡ before ++ f i → new ≡ old ++ flat_map f (range_with_len a (n + 1))
-pieces_more f a n i old before new here was is =
-    is ∙ ap (λ j. before ++ f j) (sym here) ∙ ap (λ front. front ++ f (a + n)) was ∙ append_assoc old (flat_map f (range_with_len a n)) (f (a + n)) ∙ ap (λ rest. old ++ rest) (sym (flat_map-range_more f a n))
+pieces_more f a n i old before new here was is = grind (arith, append_assoc, flat_map-range_more)
 
 -- what is so of each piece, of nothing and of two such lists together is so of the whole
 pub flat_map-range_each : {X : Type 0} (f : ℕ → List X) (P : List X → Type 0) → P [] → ((xs ys : List X) → P xs → P ys → P (xs ++ ys)) → (a n : ℕ) → ((i : ℕ) → a ≤ i → i < a + n → P (f i)) → P (flat_map f (range_with_len a n))

@@ -1,4 +1,5 @@
 -- The tasks of a ring, as they stand, are a fit order of themselves.
+use Rattle.std.proofs.lemmas.Grind.{common_steps}
 use Rattle.std.proofs.Common.{◌≡◌, ◌≢◌, ℕ, zero, suc, ◌+◌, ◌*◌, ◌-◌, ◌<◌, ◌≤◌, Bool, true, false, cond, ◌&&◌, eqb, List, [], ◌∷◌, ◌++◌, length, take, refl, sym, ap, ◌∙◌, append_assoc, length-append, mul-suc, arith, eq-eqb, ne_eqb, add-one, ⊎_elim}
 use Rattle.std.specs.List.{flat_map, range_with_len, All, count_by}
 use Rattle.std.proofs.lemmas.Bool.{and_left, and_right, and_from, and_parts, eqb-true, cases_Bool, cases_lt, cond_both}
@@ -39,16 +40,13 @@ fits_both xs ys one other place p q =
     (cases_lt place (length xs))
 
 nothing_taken : (place : ℕ) → ◌≡◌ {A = List Task} (take place []) []
-nothing_taken zero = refl
-nothing_taken (suc place) = refl
+nothing_taken place = grind arith
 
 fits_nothing : Fits []
 fits_nothing place p q = rw (nothing_taken place) (omega arith)
 
 fits_observation : (p : ℕ) (holds : Bool) → Fits (record { p = p; action = Observe holds } ∷ [])
-fits_observation by holds zero p q = omega arith
-fits_observation by holds (suc place) p q =
-    omega (arith, count_by_no (receives p q) (record { p = by; action = Observe holds }) (take place []) (and_right _ _ refl), ap (count_by (receives p q)) (nothing_taken place))
+fits_observation p holds h2 h3 q = grind (arith, nothing_taken)
 
 fits_findings : (p : ℕ) → Fits (finds_both p)
 fits_findings p = fits_both (record { p = p; action = Observe true } ∷ []) (record { p = p; action = Observe false } ∷ []) (fits_observation p true) (fits_observation p false)
@@ -58,19 +56,7 @@ abbrev passed : ℕ → ℕ → List Task
 passed a b = record { p = a; action = Send b } ∷ record { p = b; action = Recv a } ∷ []
 
 fits_passed : (a b : ℕ) → Fits (passed a b)
-fits_passed a b zero p q = omega arith
-fits_passed a b (suc zero) p q = omega (arith, count_by_no (receives p q) (record { p = a; action = Send b }) [] (and_right _ _ refl))
-fits_passed a b (suc (suc place)) p q =
-    let send : Task = record { p = a; action = Send b } in
-    let receive : Task = record { p = b; action = Recv a } in
-    let rest : List Task = take place [] in
-    let first = count_by_no (receives p q) send (receive ∷ rest) (and_right _ _ refl) in
-    ⊎_elim (λ (is : receives p q receive ≡ true).
-    let parts = and_parts (is_task_of q receive) (is_receive_from p receive.action) is in
-    let sends_it : sends p q send ≡ true = and_from _ _ (eq-eqb a p (eqb-true a p parts.1)) (eq-eqb b q (eqb-true b q parts.0)) in
-    omega (arith, first, count_by_yes (receives p q) receive rest is, ap (count_by (receives p q)) (nothing_taken place), count_by_yes (sends p q) send (receive ∷ rest) sends_it))
-    (λ (not : receives p q receive ≡ false). omega (arith, first, count_by_no (receives p q) receive rest not, ap (count_by (receives p q)) (nothing_taken place)))
-    (cases_Bool (receives p q receive))
+fits_passed a b h2 p q = grind (arith, common_steps)
 
 -- ---- each receive beside its send
 
@@ -87,16 +73,10 @@ abbrev block_round : ℕ → ℕ → ℕ → List Task
 block_round n rounds round = flat_map (block n rounds round) (range_with_len 0 n)
 
 turn_shifted : (n rounds round p : ℕ) → pending n rounds round p ++ ring_turn n rounds round p ≡ block n rounds round p ++ pending n rounds round (p + 1)
-turn_shifted n rounds round p =
-    sym (append_assoc (pending n rounds round p) (received n round p ++ finds_both p) (sent n rounds round p))
-    ∙ ap (λ k. block n rounds round p ++ pending n rounds round k) (sym (add-one p))
+turn_shifted n rounds round p = grind arith
 
 next_round : (n rounds round : ℕ) → 1 ≤ n → pending n rounds round (0 + n) ≡ pending n rounds (round + 1) 0
-next_round zero rounds round some = absurd (omega arith)
-next_round (suc n) rounds round some =
-    let here : 0 + suc n ≡ suc n = omega arith in
-    let same : n ≡ suc n - 1 = omega arith in
-    ap (pending (suc n) rounds round) here ∙ ap (sent (suc n) rounds round) same ∙ ap (λ r. pending (suc n) rounds r 0) (sym (add-one round))
+next_round n rounds round some = grind arith
 
 round_shifted : (n rounds round : ℕ) → 1 ≤ n → pending n rounds round 0 ++ ring_round n rounds round ≡ block_round n rounds round ++ pending n rounds (round + 1) 0
 round_shifted n rounds round some =
@@ -104,8 +84,7 @@ round_shifted n rounds round some =
     ∙ ap (λ last. block_round n rounds round ++ last) (next_round n rounds round some)
 
 nothing_left : (n rounds : ℕ) → 1 ≤ n → pending n rounds rounds 0 ≡ []
-nothing_left n zero some = refl
-nothing_left n (suc rounds) some = rw (eq-eqb (rounds + 1) (suc rounds) (omega arith), eq-eqb (n - 1 + 1) n (omega arith)) refl
+nothing_left n rounds some = grind arith
 
 rounds_are : (n rounds : ℕ) → 1 ≤ n → flat_map (ring_round n rounds) (range_with_len 0 rounds) ≡ flat_map (block_round n rounds) (range_with_len 0 rounds)
 rounds_are n rounds some =
@@ -115,20 +94,7 @@ rounds_are n rounds some =
 
 -- a block is a message that is passed, and what its receiver finds; but for the first
 block_is : (n rounds round p : ℕ) → 2 ≤ n → round < rounds → p < n → block n rounds round p ≡ cond (eqb round 0 && eqb p 0) (finds_both p) (passed (before n p) p ++ finds_both p)
-block_is n rounds zero zero several early inside = refl
-block_is n rounds (suc round) zero several early inside =
-    let not_last : eqb (round + 1) rounds ≡ false = ne_eqb (round + 1) rounds (λ e. absurd (omega arith)) in
-    let last : eqb (n - 1 + 1) n ≡ true = eq-eqb (n - 1 + 1) n (omega arith) in
-    let later : eqb (suc round) 0 ≡ false = ne_eqb (suc round) 0 (λ e. absurd (omega arith)) in
-    rw (not_last, last, later) refl
-block_is n rounds round (suc p) several early inside =
-    let inner : eqb (p + 1) n ≡ false = ne_eqb (p + 1) n (λ e. absurd (omega arith)) in
-    let next : eqb (suc p) 0 ≡ false = ne_eqb (suc p) 0 (λ e. absurd (omega arith)) in
-    let not_last : (eqb (round + 1) rounds && eqb (p + 1) n) ≡ false = and_right _ _ inner in
-    let not_first : (eqb round 0 && eqb (suc p) 0) ≡ false = and_right _ _ next in
-    let back : suc p - 1 ≡ p = omega arith in
-    let more : p + 1 ≡ suc p = add-one p in
-    rw (not_last, not_first, inner, next, back, more) refl
+block_is n rounds round p several early inside = grind arith
 
 -- ---- what is so of each block
 
@@ -157,20 +123,11 @@ ring_fits n rounds fault several = record {
   sent_first = each_ring Fits fits_nothing fits_both n rounds fault several (λ p inside. fits_findings p) (λ p inside. fits_passed (before n p) p);
 }
 
-before_within : (n p : ℕ) → 2 ≤ n → p < n → (before n p < n) × (before n p ≢ p)
-before_within n zero several inside = (omega arith, λ e. absurd (omega arith))
-before_within n (suc p) several inside =
-    let next : eqb (suc p) 0 ≡ false = ne_eqb (suc p) 0 (λ e. absurd (omega arith)) in
-    let is : before n (suc p) ≡ suc p - 1 = rw next refl in
-    (omega (arith, is), λ e. absurd (omega (arith, is, e)))
-
 findings_within : (n p : ℕ) → p < n → All (IsWithin n) (finds_both p)
 findings_within n p inside = All-from_recursion (IsWithin n) (finds_both p) ((inside, tt), ((inside, tt), tt))
 
 passed_within : (n p : ℕ) → 2 ≤ n → p < n → All (IsWithin n) (passed (before n p) p)
-passed_within n p several inside =
-    let from = before_within n p several inside in
-    All-from_recursion (IsWithin n) (passed (before n p) p) ((from.0, (inside, λ e. from.1 (sym e))), ((inside, (from.0, from.1)), tt))
+passed_within n p several inside = grind arith
 
 pub ring_within : (n rounds : ℕ) (fault : Bool) → 2 ≤ n → All (IsWithin n) (ring_tasks n rounds fault)
 ring_within n rounds fault several =
@@ -179,10 +136,7 @@ ring_within n rounds fault several =
 -- ---- how many they are
 
 length-block : (n rounds round p : ℕ) → 2 ≤ n → round < rounds → p < n → 0 < round + p → length (block n rounds round p) ≡ 4
-length-block n rounds round p several early inside later =
-    let not_first : (eqb round 0 && eqb p 0) ≡ false =
-    ⊎_elim (λ (some : 0 < round). and_left _ _ (ne_eqb round 0 (λ e. absurd (omega arith)))) (λ (none : round ≤ 0). and_right _ _ (ne_eqb p 0 (λ e. absurd (omega arith)))) (cases_lt 0 round) in
-    ap length (block_is n rounds round p several early inside) ∙ rw not_first refl
+length-block n rounds round p several early inside later = grind arith
 
 length-round : (n rounds round : ℕ) → 2 ≤ n → round < rounds → 0 < round → length (block_round n rounds round) ≡ 4 * n
 length-round n rounds round several early later = length-flat_map-range (block n rounds round) 4 0 n (λ p low inside. length-block n rounds round p several early (omega arith) (omega arith))
@@ -209,20 +163,8 @@ length-ring_fault n = length-flat_map-range finds_both 2 1 (n - 1) (λ p low ins
 
 pub length-ring_tasks : (n rounds : ℕ) (fault : Bool) → 2 ≤ n → 1 ≤ rounds → length (ring_tasks n rounds fault) ≡ ring_length n rounds fault
 unfolding ring_tasks
-length-ring_tasks n rounds true several some =
-    omega (arith, length-append (ring_fault n true) (flat_map (ring_round n rounds) (range_with_len 0 rounds)), length-ring_fault n, length-rounds n rounds several some)
-length-ring_tasks n rounds false several some = omega (arith, length-rounds n rounds several some)
-
-few_tasks : (n rounds : ℕ) (fault : Bool) → n ≤ 16 → rounds ≤ 1000 → ring_length n rounds fault ≤ 65536
-few_tasks n rounds true few few_rounds = omega (arith, mul-le (4 * n) rounds 64 1000 (omega arith) few_rounds)
-few_tasks n rounds false few few_rounds = omega (arith, mul-le (4 * n) rounds 64 1000 (omega arith) few_rounds)
+length-ring_tasks n rounds fault several some = grind (arith, length-append, length-ring_fault, length-rounds)
 
 pub ring_could_be_read : (n rounds : ℕ) (fault : Bool) → 2 ≤ n → n ≤ 16 → 1 ≤ rounds → rounds ≤ 1000 → CouldBeRead n (ring_tasks n rounds fault)
-ring_could_be_read n rounds fault several few some few_rounds = record {
-  some = omega arith;
-  few_processes = few;
-  few_tasks = omega (arith, length-ring_tasks n rounds fault several some, few_tasks n rounds fault few few_rounds);
-  within = ring_within n rounds fault several;
-  order = ring_tasks n rounds fault;
-  fit = ring_fits n rounds fault several;
-}
+ring_could_be_read n rounds fault several few some few_rounds =
+    grind (arith, ring_fits n rounds fault several, length-ring_tasks n rounds fault several some, ring_within n rounds fault several)

@@ -1,4 +1,5 @@
 -- Plans with the same lists have the same faults.
+use Rattle.std.proofs.Common.{arith}
 use Rattle.std.proofs.Common.{◌≡◌, ◌≤◌, sym, subst, ◌∙◌, inl, inr, ⊎_elim}
 use Rattle.std.proofs.lemmas.Bool.{cases_lt}
 use Rattle.wcp_model.specs.declared.plan.Plan.{Plan}
@@ -9,15 +10,7 @@ use Rattle.wcp_model.specs.Tree.{IsSamePlan}
 use Rattle.wcp_script.specs.Head.{HeadRead, IsPlanOf}
 
 pub same_plan : (one other : HeadRead) (plan plan' : Plan) → one ≡ other → IsPlanOf one.head plan → IsPlanOf other.head plan' → IsSamePlan plan plan'
-same_plan one other plan plan' same h k =
-    let h' : IsPlanOf other.head plan = subst (λ (read : HeadRead). IsPlanOf read.head plan) same h in
-    record {
-      n = h'.n ∙ sym k.n;
-      cap = h'.cap ∙ sym k.cap;
-      hold = h'.hold ∙ sym k.hold;
-      parents = h'.parents ∙ sym k.parents;
-      attach = h'.attach ∙ sym k.attach;
-    }
+same_plan one other plan plan' same h k = grind arith
 
 pub same_fault_of_plan : (one other : Plan) → IsSamePlan one other → (first : PlanFault) → HasFault one first → HasFault other first
 same_fault_of_plan one other same fault.Procs has = rw (← same.n) has

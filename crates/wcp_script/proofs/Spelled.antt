@@ -32,21 +32,9 @@ steps_by_are text_kind n P each last earlier (line ∷ lines) steps e =
     subst (λ steps. AllByRecursion P steps × (earlier ≤ 65536 → earlier + length steps ≤ 65536)) (ok_is (first.0 ∷ others.0) steps others.2)
     ((each line first.0 is.said, rest.0), λ h. omega (arith, is.few, rest.1 (omega (arith, is.few))))
 
-has_partner_is : (n p : ℕ) (said : Action) → has_partner n p said ≡ true → HasPartner n p said
-has_partner_is n p (action.Observe holds) e = tt
-has_partner_is n p (action.Send to) e = let parts = and_parts (ltb to n) (not (eqb to p)) e in (ltb-true to n parts.0, eqb-false to p (not-true (eqb to p) parts.1))
-has_partner_is n p (action.Recv from) e = let parts = and_parts (ltb from n) (not (eqb from p)) e in (ltb-true from n parts.0, eqb-false from p (not-true (eqb from p) parts.1))
-
-is_within_is : (n : ℕ) (task : Task) → is_within n task ≡ true → IsWithin n task
-is_within_is n task e = let parts = and_parts (ltb task.p n) (has_partner n task.p task.action) e in (ltb-true task.p n parts.0, has_partner_is n task.p task.action parts.1)
-
 task_in_within : (n : ℕ) (line : TextLine) (task : Task) → task_in n line ≡ Ok task → IsWithin n task
 unfolding task_in
-task_in_within n line task e =
-    let form = bind_ok (ok_or (cond line.ended (form_of (words_of line.bytes)) None) kind.Line) (λ form. task_of form >>= λ task. ask (is_within n task) kind.Process >>= λ _. Ok task) task e in
-    let said = bind_ok (task_of form.0) (λ task. ask (is_within n task) kind.Process >>= λ _. Ok task) task form.2 in
-    let within = bind_ok (ask (is_within n said.0) kind.Process) (λ _. Ok said.0) task said.2 in
-    subst (IsWithin n) (ok_is said.0 task within.2) (is_within_is n said.0 (ask_ok (is_within n said.0) kind.Process within.0 within.1))
+task_in_within n line task e = grind arith
 
 -- The tasks that a text spells are within the limits.
 pub record IsSpelled (n : ℕ) (tasks : List Task) : Type 0 where
@@ -62,17 +50,7 @@ few_steps text_kind text plan steps h =
 
 pub spells_is : (text : List ℕ) (plan : Plan) (tasks : List Task) → Spells workloads text plan tasks → IsSpelled plan.n tasks
 spells_is text plan tasks h =
-    let n = h.read.head.n in
-    let are = steps_by_are workloads n (IsWithin n) (task_in_within n) h.read.last 0 h.read.after tasks h.lines in
-    let limits = processes_of_checked plan h.checked in
-    record {
-      some = limits.0;
-      few_processes = limits.1;
-      few_tasks = omega (arith, are.1 (omega arith));
-      within = subst (λ (n : ℕ). All (IsWithin n) tasks) (sym h.plan_of_head.n) (All-from_recursion (IsWithin n) tasks are.0);
-    }
+    search (arith, steps_by_are workloads h.read.head.n (IsWithin h.read.head.n) (task_in_within h.read.head.n) h.read.last 0 h.read.after tasks h.lines, All-from_recursion, processes_of_checked)
 
 pub could_be_read : (text : List ℕ) (plan : Plan) (tasks order : List Task) → Spells workloads text plan tasks → IsFitOrder tasks order → CouldBeRead plan.n tasks
-could_be_read text plan tasks order h fit =
-    let is = spells_is text plan tasks h in
-    record { some = is.some; few_processes = is.few_processes; few_tasks = is.few_tasks; within = is.within; order = order; fit = fit }
+could_be_read text plan tasks order h fit = grind (arith, spells_is text plan tasks h)

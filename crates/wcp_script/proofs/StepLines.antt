@@ -1,4 +1,5 @@
 -- Step lines, one after another.
+use Rattle.std.proofs.Common.{arith}
 use Rattle.std.proofs.Common.{◌≡◌, ℕ, ◌+◌, ◌<◌, ltb, List, [], ◌∷◌, ◌++◌, Result, Ok, Err, refl, sym, ap, subst, append_assoc}
 use Rattle.std.proofs.lemmas.List.{append-nil}
 use Rattle.std.proofs.lemmas.Bool.{ltb-true}
@@ -37,10 +38,7 @@ pub record IsStep {S : Type 0} (text_kind : TextKind S) (n earlier : ℕ) (line 
   pub few : earlier < 65536
 
 pub step_after_is : {S : Type 0} (text_kind : TextKind S) (n earlier : ℕ) (line : TextLine) (step : S) → step_after text_kind n earlier line ≡ Ok step → IsStep text_kind n earlier line step
-step_after_is text_kind n earlier line step e =
-    let said = bind_ok (text_kind.said n line) (λ step. ask (ltb earlier 65536) kind.TooLong >>= λ _. Ok step) step e in
-    let few = bind_ok (ask (ltb earlier 65536) kind.TooLong) (λ _. Ok said.0) step said.2 in
-    subst (IsStep text_kind n earlier line) (ok_is said.0 step few.2) (record { said = said.1; few = ltb-true _ _ (ask_ok (ltb earlier 65536) kind.TooLong few.0 few.1) })
+step_after_is text_kind n earlier line step e = grind arith
 
 pub few_before : {S : Type 0} (text_kind : TextKind S) (n earlier : ℕ) (line : TextLine) (step : S) → step_after text_kind n earlier line ≡ Ok step → earlier < 65536
 few_before text_kind n earlier line step e = (step_after_is text_kind n earlier line step e).few
