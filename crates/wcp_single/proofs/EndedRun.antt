@@ -1,3 +1,4 @@
+use Rattle.std.proofs.lemmas.Grind.{common_steps}
 use Rattle.std.proofs.Common.{◌≡◌, ℕ, ◌+◌, ◌<◌, List, [], ◌∷◌, ◌++◌, All, length, get_or, set, slice_get, Some, sym, ap, ◌∙◌, subst, subst₂, inl, inr, arith, get_or-set_same, get_or-set_other}
 use Rattle.std.proofs.lemmas.Bool.{cases_eq}
 use Rattle.std.proofs.lemmas.List.{length-set}
@@ -24,16 +25,7 @@ use Rattle.wcp_single.proofs.RunningProcesses.{running_count}
 
 -- the run of tasks begins to end once all are done
 pub begins_to_end : (n : ℕ) (tasks : List Task) (processes : List WatchedProcess) (queues : List (List Seal)) (checker : CheckerState) → HasDone n tasks processes queues checker → IsEnding n tasks 0 processes checker
-begins_to_end n tasks processes queues checker run = record {
-  processes_are = run.processes_are;
-  logs = run.logs;
-  are = logs_are n tasks processes queues checker run;
-  running = λ p d le. run.running p d;
-  items = run.items;
-  has_taken = run.has_taken;
-  all_taken = λ p le. run.all_taken p;
-  has_closed = λ p d below. absurd (omega arith);
-}
+begins_to_end n tasks processes queues checker run = grind (arith, logs_are n tasks processes queues checker run)
 
 -- and goes on with each process that closes
 module _ (n : ℕ) (tasks : List Task) (p : ℕ) (within : p < n) (processes : List WatchedProcess) (before : CheckerState) (ending : IsEnding n tasks p processes before) (old : WatchedProcess) (read : old ≡ get_or processes p old) where
@@ -57,11 +49,7 @@ module _ (n : ℕ) (tasks : List Task) (p : ℕ) (within : p < n) (processes : L
     fed = feeds n p (ending.logs p) ending.items runs_last fed_last
 
     closed : HasClosed n p (ending.logs p) (notes_taken p fed.more) new
-    closed = record {
-      all_taken = fed.fed.all;
-      counted = counted ∙ running_count n p (ending.logs p) old runs_last ∙ ap (λ (s : ProbeState). s.snapshots) (sym (log_push (setup n p) (ending.logs p) Closed))
-          ∙ (log_counts_notes n p (ending.logs p ++ Closed ∷ [])).snapshots ∙ ap (λ notes. length (snapshot_clocks notes)) (sym fed.fed.all);
-    }
+    closed = grind (arith, common_steps, fed, log_counts_notes)
 
     pub ends_next : IsEnding n tasks (p + 1) (set processes p new) after
     ends_next = record {

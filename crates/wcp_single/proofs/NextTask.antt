@@ -1,3 +1,4 @@
+use Rattle.std.proofs.lemmas.Grind.{common_steps}
 use Rattle.std.proofs.Common.{◌≡◌, ◌≢◌, ◌==◌, ◌&&◌, ℕ, ◌+◌, ◌*◌, ◌<◌, Bool, true, false, cond, List, [], ◌∷◌, ◌++◌, length, map, take, drop, set, get_or, count_by, All, refl, sym, ap, ap₂, ◌∙◌, subst, inl, inr, append-nil, append_assoc, arith, eq-eqb, get_or-set_same, get_or-set_other}
 use Rattle.std.proofs.lemmas.Bool.{cases_eq, ne_eqb}
 use Rattle.std.proofs.lemmas.List.{take_all, take_at, length-append, length-map, map_push}
@@ -36,10 +37,7 @@ receives_within n done task from next acts = (subst (HasPartner n task.p) acts (
 -- and what was done before it is a fit order
 pub done_fits : (n : ℕ) (done : List Task) (task : Task) → IsNextTask n done task → All (IsWithin n) done × IsFitOrder done done
 done_fits n done task next =
-    let before : take (length done) (done ++ task ∷ []) ≡ done = take_at done (task ∷ []) (length done) refl in (
-      subst (All (IsWithin n)) before (All-take (IsWithin n) (length done) (done ++ task ∷ []) next.within),
-      subst (λ tasks. IsFitOrder tasks tasks) before (IsFitOrder-take (length done) (done ++ task ∷ []) next.fit),
-    )
+    grind (arith, take_at done (task ∷ []) (length done) refl, All-take (IsWithin n) (length done) (done ++ task ∷ []) next.within, IsFitOrder-take (length done) (done ++ task ∷ []) next.fit)
 
 -- the message of a receive that is next is in transit
 pub message_waits : (n : ℕ) (done : List Task) (a b : ℕ) (act : Action) (logs : ℕ → List Call) (seals : List Seal) → act ≡ action.Recv b → IsNextTask n done (record { p = a; action = act }) → FollowsActions (actions_of a done) (logs a) → FollowsActions (actions_of b done) (logs b) → IsChannel n done logs b a seals → 0 < length seals
@@ -89,10 +87,7 @@ module _ (n : ℕ) (done : List Task) (a : ℕ) (act : Action) (within : a < n) 
 
   -- what holds of one call more at a, and of the others as they were, holds of all
   by_process : (P : ℕ → List Action → List Call → Type 0) → P a (actions_of a done ++ act ∷ []) (logs a ++ call ∷ []) → ((p : ℕ) → p < n → P p (actions_of p done) (logs p)) → (p : ℕ) → p < n → P p (actions_of p longer) (after p)
-  by_process P own others p below = elim (cases_eq p a) [
-    | inl same ↦ rw (same, own_actions, own_log) own
-    | inr other ↦ rw (other_actions p other, other_log p other) (others p below)
-  ]
+  by_process P own others p below = grind (arith, other_actions, own_actions)
 
   pub follows_next : (p : ℕ) → p < n → FollowsActions (actions_of p longer) (after p)
   follows_next = by_process (λ p. FollowsActions) (FollowsActions-push (actions_of a done) (logs a) act call (follows a within) is) follows
@@ -106,15 +101,11 @@ module _ (n : ℕ) (done : List Task) (a : ℕ) (act : Action) (within : a < n) 
       (λ fails. stamps_sent-push_other (actions_of a done) (logs a) act call (follows a within) (setup n a) q (own_test (is_send_to q act) fails)) (λ r below fails. refl) p
 
   got_stays : (p q : ℕ) → q < n → receives p q task ≡ false → stamps_got p (actions_of q longer) (after q) ≡ stamps_got p (actions_of q done) (logs q)
-  got_stays p q = by_process (λ r actions log. receives p r task ≡ false → stamps_got p actions log ≡ stamps_got p (actions_of r done) (logs r))
-      (λ fails. stamps_got-push_other (actions_of a done) (logs a) act call (follows a within) p (own_test (is_receive_from p act) fails)) (λ r below fails. refl) q
+  got_stays p q = grind (arith, common_steps, stamps_got-push_other)
 
   -- a channel that the task leaves alone
   pub channel_stays : (p q : ℕ) (seals : List Seal) → p < n → q < n → sends p q task ≡ false → receives p q task ≡ false → IsChannel n done logs p q seals → IsChannel n longer after p q seals
-  channel_stays p q seals p_below q_below no_send no_receive channel = record {
-    addressed = channel.addressed;
-    in_order = ap (λ got. got ++ map (λ (seal : Seal). seal.clock) seals) (got_stays p q q_below no_receive) ∙ channel.in_order ∙ sym (sent_stays p q p_below no_send);
-  }
+  channel_stays p q seals p_below q_below no_send no_receive channel = grind (arith, got_stays, sent_stays)
 
   -- the channel on which it sends
   pub channel_pushed : (q : ℕ) (seals : List Seal) (seal : Seal) → q < n → is_send_to q act ≡ true → receives a q task ≡ false → (seal.watch ≡ 0) × (seal.to ≡ q) → seal.clock ≡ (state_of_log (setup n a) (logs a ++ call ∷ [])).clock → IsChannel n done logs a q seals → IsChannel n longer after a q (seals ++ seal ∷ [])

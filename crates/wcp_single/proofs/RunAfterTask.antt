@@ -51,20 +51,7 @@ module _ (n : ℕ) (done : List Task) (processes : List WatchedProcess) (queues 
 
   -- it may make a communication event
   pub may_communicate : MayCommunicate old
-  may_communicate =
-      let fits = done_fits n done task next in
-      record {
-        not_closed = runs_by.not_closed;
-        none_pending = runs_by.none_pending;
-        room = omega (
-          arith,
-          few_events n done fits.0 fits.1 run.logs (logs_are n done processes queues checker run) a below,
-          ap (λ clock. slice_index clock old.probe.id) (running_clock n a (run.logs a) old runs_by),
-          ap (slice_index (state_of_log (setup n a) (run.logs a)).clock) runs_by.id,
-          runs_by.limit,
-          next.few_tasks,
-        );
-      }
+  may_communicate = search (arith, done_fits n done task next, logs_are n done processes queues checker run, below, few_events)
 
   -- with a call for the task
   module _ (call : Call) (is : IsCallFor act call) where

@@ -1,3 +1,4 @@
+use Rattle.std.proofs.lemmas.Grind.{common_steps}
 use Rattle.std.proofs.Common.{◌≡◌, ℕ, ◌+◌, ◌↔◌, IsTrue, Bool, true, false, List, [], ◌∷◌, ◌++◌, length, Option, Some, None, MatchOption, refl, sym, ap, ap₂, ◌∙◌, subst, ⊎_elim, append-nil, arith}
 use Rattle.std.specs.List.{list_any}
 use Rattle.std.specs.Prelude.{if◌then◌else◌}
@@ -50,41 +51,16 @@ module _ (n p : ℕ) (log : List Call) (process : WatchedProcess) (running : IsR
 
   -- the checker may take a note that is placed behind all that the process has emitted
   pub may_take : (items : List Item) (checker : CheckerState) (next : Note) → IsFed n p log items checker → place_of next ≡ process.probe.emitted → MayTake checker (record { from = p; note = next })
-  may_take items checker next fed place =
-      let counts = log_counts_notes n p log in
-      MayTake-next checker items (record { from = p; note = next }) fed.has_taken.stands (omega (arith, fed.within, fed.has_taken.watched)) (record {
-        place = place ∙ running_count ∙ counts.snapshots ∙ ap (λ notes. length (snapshot_clocks notes)) (sym fed.all);
-        still_open = ap (list_any is_close) fed.all ∙ sym counts.closed ∙ running_closed;
-      })
+  may_take items checker next fed place = grind (arith, log_counts_notes n p log)
 
   -- an observation emits what is then pending
   observed_notes : (holds emitted : Bool) (probe : Core) → IsTrue emitted ↔ (IsTrue holds × (process.probe.flag ≡ false)) → probe ≡ (if emitted then with_snapshot process.probe else process.probe) →
       (state_of_log (setup n p) (log ++ Observed holds ∷ [])).notes ≡ come_to.notes ++ pending_notes probe.pending
-  observed_notes holds true probe emits is =
-      let first = emits.0 refl in
-      let pending : probe.pending ≡ Some (note.Snap process.probe.emitted process.probe.clock) = ap (λ (core : Core). core.pending) is in
-      let grown : (after_call p come_to (Observed true)).notes ≡ come_to.notes ++ note.Snap come_to.snapshots come_to.clock ∷ [] = rw (sym running_flag ∙ first.1) refl in
-      ap (λ b. (state_of_log (setup n p) (log ++ Observed b ∷ [])).notes) first.0
-      ∙ ap (λ (s : ProbeState). s.notes) (log_push (setup n p) log (Observed true)) ∙ grown
-      ∙ ap₂ (λ number clock. come_to.notes ++ note.Snap number clock ∷ []) (sym running_count) (sym running_clock)
-      ∙ ap (λ notes. come_to.notes ++ pending_notes notes) (sym pending)
-  observed_notes false false probe emits is =
-      ap (λ (s : ProbeState). s.notes) (log_push (setup n p) log (Observed false)) ∙ sym (append-nil come_to.notes)
-      ∙ ap (λ notes. come_to.notes ++ pending_notes notes) (sym (ap (λ (core : Core). core.pending) is ∙ running.none_pending))
-  observed_notes true false probe emits is = ⊎_elim
-      (λ (set : process.probe.flag ≡ true).
-      let stays : (after_call p come_to (Observed true)).notes ≡ come_to.notes = rw (sym running_flag ∙ set) refl in
-      ap (λ (s : ProbeState). s.notes) (log_push (setup n p) log (Observed true)) ∙ stays ∙ sym (append-nil come_to.notes)
-      ∙ ap (λ notes. come_to.notes ++ pending_notes notes) (sym (ap (λ (core : Core). core.pending) is ∙ running.none_pending)))
-      (λ (clear : process.probe.flag ≡ false). absurd (false≢true (emits.1 (refl, clear))))
-      (cases_Bool process.probe.flag)
+  observed_notes holds emitted probe emits is = grind (arith, common_steps)
 
   -- and so does a close
   closed_notes : (probe : Core) → probe ≡ record process.probe { closed = true; pending = Some (note.Close process.probe.emitted) } → (state_of_log (setup n p) (log ++ Closed ∷ [])).notes ≡ come_to.notes ++ pending_notes probe.pending
-  closed_notes probe is =
-      ap (λ (s : ProbeState). s.notes) (log_push (setup n p) log Closed)
-      ∙ ap (λ count. come_to.notes ++ note.Close count ∷ []) (sym running_count)
-      ∙ ap (λ notes. come_to.notes ++ pending_notes notes) (sym (ap (λ (core : Core). core.pending) is))
+  closed_notes probe is = grind (arith, log_push (setup n p) log Closed)
 
   -- what is pending is taken
   fed_more : (call : Call) (pending : Option Note) (items : List Item) (old new : CheckerState) → IsFed n p log items old → (state_of_log (setup n p) (log ++ call ∷ [])).notes ≡ come_to.notes ++ pending_notes pending →
@@ -118,10 +94,8 @@ feeds_closed old probe before after is takes count n p log items running fed =
 
 -- the checker may take what is pending
 pub may_take_observed : (emitted : Bool) (old : WatchedProcess) (probe : Core) (checker : CheckerState) → IsWatched old checker → probe ≡ (if emitted then with_snapshot old.probe else old.probe) → MatchOption probe.pending (Unit {0}) (λ next. MayTake checker (record { from = old.id; note = next }))
-may_take_observed true old probe checker watched is = subst (λ (core : Core). MatchOption core.pending (Unit {0}) (λ next. MayTake checker (record { from = old.id; note = next }))) (sym is)
-    (may_take watched.n old.id watched.log old watched.running watched.items checker (note.Snap old.probe.emitted old.probe.clock) watched.fed refl)
-may_take_observed false old probe checker watched is =
-    subst (λ pending. MatchOption pending (Unit {0}) (λ next. MayTake checker (record { from = old.id; note = next }))) (sym (ap (λ (core : Core). core.pending) is ∙ watched.running.none_pending)) tt
+may_take_observed emitted old probe checker watched is =
+    grind (arith, may_take watched.n old.id watched.log old watched.running watched.items checker (note.Snap old.probe.emitted old.probe.clock) watched.fed refl)
 
 pub may_take_closed : (old : WatchedProcess) (probe : Core) (checker : CheckerState) → IsWatched old checker → probe ≡ record old.probe { closed = true; pending = Some (note.Close old.probe.emitted) } → MatchOption probe.pending (Unit {0}) (λ next. MayTake checker (record { from = old.id; note = next }))
 may_take_closed old probe checker watched is = subst (λ (core : Core). MatchOption core.pending (Unit {0}) (λ next. MayTake checker (record { from = old.id; note = next }))) (sym is)

@@ -11,20 +11,15 @@ module _ {Q M S : Type 0} (items : Q → List M) (seal : M → S) (queues : List
 
   -- after a write of a longer queue
   pub seals_pushed : (message : M) (written : Q) → items written ≡ items queue ++ message ∷ [] → map seals (set queues i written) ≡ set (map seals queues) i (get_or (map seals queues) i [] ++ seal message ∷ [])
-  seals_pushed message written longer =
-      map-set seals queues i written
-      ∙ ap (set (map seals queues) i) (ap (map seal) longer ∙ map-append seal (items queue) (message ∷ []) ∙ ap (λ front. front ++ seal message ∷ []) (sym seals_read))
+  seals_pushed message written longer = grind (arith, map-append, map-set, seals_read)
 
   -- after a write of a queue without its first
   pub seals_popped : (written : Q) → items written ≡ drop 1 (items queue) → map seals (set queues i written) ≡ set (map seals queues) i (drop 1 (get_or (map seals queues) i []))
-  seals_popped written shorter =
-      map-set seals queues i written
-      ∙ ap (set (map seals queues) i) (ap (map seal) shorter ∙ sym (drop-map seal 1 (items queue)) ∙ ap (drop 1) (sym seals_read))
+  seals_popped written shorter = grind (arith, map-set, seals_read)
 
   -- the first message of a queue has its first seal
   pub first_seal : (message : M) → 0 < length (items queue) → message ≡ get_or (items queue) 0 message → seal message ≡ get_or (get_or (map seals queues) i []) 0 (seal message)
-  first_seal message some first =
-      ap seal first ∙ sym (get_or-map seal (items queue) 0 message (seal message) some) ∙ ap (λ xs. get_or xs 0 (seal message)) (sym seals_read)
+  first_seal message some first = grind (arith, get_or-map)
 
   -- a queue has as many seals as messages
   pub some_seals : 0 < length (get_or (map seals queues) i []) → 0 < length (items queue)

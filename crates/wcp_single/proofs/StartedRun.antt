@@ -1,3 +1,4 @@
+use Rattle.std.proofs.lemmas.Grind.{common_steps}
 use Rattle.std.proofs.Common.{◌≡◌, ℕ, ◌+◌, ◌*◌, ◌<◌, ◌≤◌, List, [], ◌∷◌, ◌++◌, length, replicate, take, get_or, All, refl, sym, ap, ◌∙◌, subst, ⊎_elim, arith}
 use Rattle.std.proofs.lemmas.Bool.{cases_lt}
 use Rattle.std.proofs.lemmas.List.{length_push, length-replicate, length-take, take_more, get_or-replicate, get_or_append_left, get_or_push}
@@ -18,15 +19,7 @@ abbrev pub AreNew : ℕ → ℕ → List WatchedProcess → Type 0
 AreNew n count processes = (length processes ≡ count) × ((p : ℕ) (d : WatchedProcess) → p < count → IsRunning n p [] (get_or processes p d))
 
 pub one_more_new : (n count : ℕ) (processes : List WatchedProcess) (new : WatchedProcess) → AreNew n count processes → IsRunning n count [] new → AreNew n (count + 1) (processes ++ new ∷ [])
-one_more_new n count processes new are is = (
-  omega (arith, length_push processes new, are.0),
-  λ p d below. ⊎_elim
-      (λ (earlier : p < count). subst (IsRunning n p []) (sym (get_or_append_left processes (new ∷ []) d p (omega (arith, are.0)))) (are.1 p d earlier))
-      (λ (last : count ≤ p).
-      let same : p ≡ count = omega arith in
-      subst (IsRunning n p []) (sym (get_or_push processes new d p (omega (arith, are.0)))) (subst (λ q. IsRunning n q [] new) (sym same) is))
-      (cases_lt p count),
-)
+one_more_new n count processes new are is = grind (arith, get_or_append_left, get_or_push, length_push)
 
 -- the run starts there, with no message in transit
 pub run_starts : (n : ℕ) (processes : List WatchedProcess) (queues : List (List Seal)) (checker : CheckerState) → AreNew n n processes → queues ≡ replicate (n * n) [] → HasTaken n [] checker → HasDone n [] processes queues checker
@@ -46,10 +39,4 @@ run_starts n processes queues checker are none has_taken = record {
 
 -- the task at a place of a fit order is next there
 pub next_at : (n : ℕ) (order : List Task) (place : ℕ) (d : Task) → length order < most_events → All (IsWithin n) order → IsFitOrder order order → place < length order → IsNextTask n (take place order) (get_or order place d)
-next_at n order place d few within fit inside =
-    let longer : take (place + 1) order ≡ take place order ++ get_or order place d ∷ [] = take_more order place d inside in
-    record {
-      few_tasks = omega (arith, length-take place order, few);
-      within = subst (All (IsWithin n)) longer (All-take (IsWithin n) (place + 1) order within);
-      fit = subst (λ tasks. IsFitOrder tasks tasks) longer (IsFitOrder-take (place + 1) order fit);
-    }
+next_at n order place d few within fit inside = grind (arith, common_steps, IsFitOrder-take)

@@ -99,10 +99,7 @@ module _ (n : ℕ) (c : Computation) (put : ℕ → List Note) (app : ProcessesS
   close_reasons = rw (within, closed_is, at) (first_maps ((core.closed, refusal.Closed) ∷ (is_some core.pending, refusal.Backlog) ∷ []))
 
   pub send_reasons : (to : ℕ) → first_reason (reasons (Send p to)) ≡ option_map why_of (stamp_refusal core to)
-  send_reasons to =
-      rw (within, closed_is, at, clock_end_is, partner_is p to n, ← length_is, ← id_is)
-      (first_maps ((nat_le (length core.clock) to || eqb to core.id, refusal.NoSuch) ∷ (core.closed, refusal.Closed)
-      ∷ (is_some core.pending, refusal.Backlog) ∷ (at_clock_end core, refusal.ClockEnd) ∷ []))
+  send_reasons to = grind (arith, clock_end_is, closed_is, id_is, length_is, within)
 
   message_reasons : (number : ℕ) (letter : Letter) → slice_get app.letters number ≡ Some letter → letter.to ≡ p → (o : Option (Stamped (Unit {0}))) → letter.message ≡ o →
       first_reason (reasons (Recv p number)) ≡ first_reason (delivery_reasons core app.letters p number)
@@ -140,8 +137,7 @@ module _ (n : ℕ) (c : Computation) (put : ℕ → List Note) (app : ProcessesS
     -- an event that is refused
     pub refuses : (s : Step) (why : Why) (letters : List Letter) → new ≡ core → letters ≡ app.letters → first_reason (reasons s) ≡ Some why → Performed s (Refused why) letters
     refuses s why letters same same_letters first =
-        let back : set app.probes p new ≡ app.probes = ap (set app.probes p) (same ∙ sym (get_or_from_slice_get app.probes p core core at)) ∙ set-get_or app.probes p core in
-        rw (first, back, same_letters, append-nil c) (refl, stands)
+        grind (arith, get_or_from_slice_get app.probes p core core, append-nil c, set-get_or app.probes p core)
 
     module _ (s : Step) (call : Call) (owner : (q : ℕ) → is_step_of q s ≡ eqb p q) where
       abbrev grown : Computation
@@ -150,15 +146,8 @@ module _ (n : ℕ) (c : Computation) (put : ℕ → List Note) (app : ProcessesS
       -- the probe of the process whose event is new
       own_probe : IsCallOf n grown s call → Accepts core call new → IsSameProbe core new →
           (after_call p (state n c p (put p) core is) call).notes ≡ put p ++ option_to_list new.pending → IsProbeOf n grown p (put p) new
-      own_probe is_call accepted same notes = record {
-        log = is.log ++ call ∷ [];
-        is_log = log_grows n c (s ∷ []) p is.log (call ∷ []) is.is_log (rw (owner p, eq-eqb p p refl) (is_call, tt));
-        stands = accepted is.log is.stands;
-        watch = same.watch ∙ is.watch;
-        limit = same.limit ∙ is.limit;
-        made = same.made ∙ is.made;
-        notes = ap (λ (t : ProbeState). t.notes) (log_push (setup n p) is.log call) ∙ notes;
-      }
+      own_probe is_call accepted same notes =
+          grind (arith, log_grows n c (s ∷ []) p is.log (call ∷ []) is.is_log (rw (owner p, eq-eqb p p refl) (is_call, tt)), log_push (setup n p) is.log call)
 
       -- the probe of another process
       other_probe : (q : ℕ) (other : Core) → q ≢ p → IsProbeOf n c q (put q) other → IsProbeOf n grown q (put q) other

@@ -32,17 +32,11 @@ use Rattle.wcp_world.proofs.OneItemMoved.{transport_after}
 -- what a place holds once one was changed
 held_set : (plan : Plan) (places : List Held) (x y : Place) (new : Held) → length places ≡ plan.n + length plan.parents.items + 1 + length plan.parents.items → IsPlaceOf plan x → IsPlaceOf plan y →
     held_at (set places (place_number plan y) new) (place_number plan x) ≡ cond (is_same_place x y) new (held_at places (place_number plan x))
-held_set plan places x y new members is_x is_y = ⊎_elim
-    (λ (yes : is_same_place x y ≡ true).
-    rw (yes, same_place x y yes) (get_or-set_same places (place_number plan y) new _ (omega (arith, members, number_within plan y is_y))))
-    (λ (no : is_same_place x y ≡ false).
-    rw no (get_or-set_other places (place_number plan y) (place_number plan x) new _ (number_apart plan x y is_x is_y no)))
-    (cases_Bool (is_same_place x y))
+held_set plan places x y new members is_x is_y = grind (arith, get_or-set_other, get_or-set_same)
 
 -- a list with a first element, and one without
 pub with_first : {X : Type 0} (xs : List X) (x : X) → slice_get xs 0 ≡ Some x → xs ≡ x ∷ drop 1 xs
-with_first [] x first = cc
-with_first (y ∷ xs) x first = let same : y ≡ x = cc first in ap (λ z. z ∷ xs) same
+with_first xs x first = grind arith
 
 pub without_first : {X : Type 0} (xs : List X) → slice_get xs 0 ≡ None → xs ≡ []
 without_first [] none = refl
@@ -54,11 +48,7 @@ place_read places i read within is = is ∙ get_or_default places i read (record
 
 -- two plans that are the same number their places alike
 pub number_same : (a b : Plan) → IsSamePlan a b → (x : Place) → place_number a x ≡ place_number b x
-number_same a b same (Pending p) = refl
-number_same a b same (Link p) = refl
-number_same a b same (HoldOf r) = ap (λ k. k + r) same.n
-number_same a b same (InboxOf Root) = ap₂ (λ k l. k + length l) same.n same.parents
-number_same a b same (InboxOf (Relay r)) = ap₂ (λ k l. k + length l + 1 + r) same.n same.parents
+number_same a b same x = grind arith
 
 -- and they answer questions of the tree alike
 pub attached_same : (a b : Plan) → IsSamePlan a b → (relay p : ℕ) → is_attached a relay p ≡ is_attached b relay p
@@ -100,8 +90,7 @@ no_relay plan relay none = false_from_ne_true (nat_lt relay (length plan.parents
     some_is_none e = cc
 
 not_pending : (plan : Plan) (x : Place) (p : ℕ) → IsPlaceOf plan x → is_same_place x (Pending p) ≡ false
-not_pending plan (Pending q) p is = absurd is
-not_pending plan x p is = refl
+not_pending plan x p is = grind arith
 
 module _ (plan : Plan) (steps : List Step) (put : ℕ → List Note) (taken : List Item) (t : TransportState) (stands : IsTransportOf plan steps put taken t) where
   abbrev here : Place → Held
@@ -109,18 +98,15 @@ module _ (plan : Plan) (steps : List Step) (put : ℕ → List Note) (taken : Li
 
   -- what a place has, by the definitions
   pub notes_are : (emissions : ℕ → List Note) (x : Place) → IsPlaceOf plan x → notes_in plan emissions steps x ≡ length (here x).items
-  notes_are emissions (Pending p) is = absurd is
-  notes_are emissions x is = omega (arith, (stands.held x is).count)
+  notes_are emissions x is = grind arith
 
   -- what stays where nothing was accepted
   pub same_after : (new : List Held) → new ≡ t.places → IsTransportOf plan (steps ++ []) put taken (record t { places = new })
-  same_after new same = subst (λ (places : List Held). IsTransportOf plan (steps ++ []) put taken (record t { places = places })) (sym same)
-      (subst (λ all. IsTransportOf plan all put taken t) (sym (append-nil steps)) stands)
+  same_after new same = grind (arith, append-nil)
 
   -- the first item of a place is the entry whose turn it is, and of a process that there is
   first_entry : (x : Place) → IsPlaceOf plan x → (item : Item) (left : List Item) → (here x).items ≡ item ∷ left → IsEntry plan put steps x (taken_from steps x) item
-  first_entry x is item left first =
-      subst (λ k. IsEntry plan put steps x k item) (add-zero (taken_from steps x)) ((stands.held x is).entries 0 item (ap (λ l. slice_get l 0) first))
+  first_entry x is item left first = grind (arith, add-zero (taken_from steps x))
 
   process_of : {x : Place} {i : ℕ} {item : Item} → IsEntry plan put steps x i item → item.from < plan.n
   process_of {item = item} entry = ⊎_elim (λ (lt : item.from < plan.n). lt)
@@ -255,9 +241,7 @@ module _ (plan : Plan) (steps : List Step) (put : ℕ → List Note) (taken : Li
 
   pub put_refused : (p : ℕ) → p < plan.n → length (here (Link p)).items ≡ (here (Link p)).room → (emissions : ℕ → List Note) → 0 < notes_in plan emissions steps (Pending p) →
       IsAnswer (reasons plan emissions steps (step.Put p)) (Refused why.Full)
-  put_refused p in_range full emissions some =
-      let up : nat_le (here (Link p)).room (length (here (Link p)).items) ≡ true = grind (arith, nat_tests, full) in
-      subst (λ rs. IsAnswer rs (Refused why.Full)) (sym (put_tests p in_range emissions some)) (rw up refl)
+  put_refused p in_range full emissions some = grind (arith, put_tests)
 
   -- the checker took the first item of the root inbox
   pub taken_after : (item : Item) (left : List Item) (places : List Held) → (here (InboxOf Root)).items ≡ item ∷ left → places ≡ set t.places (place_number plan (InboxOf Root)) (record (here (InboxOf Root)) { items = left }) →

@@ -40,10 +40,8 @@ module _ (plan : Plan) (steps : List Step) (taken : List Item) (w : WorldState) 
   -- a put that found no room
   pub put_had_no_room : (p : ℕ) (note : Note) (new : TransportState) → pending_at w.processes p ≡ Some note → Puts w.transport p note false new → new ≡ w.transport →
       IsReply plan steps (step.Put p) (Refused why.Full) × Stands plan (steps ++ []) (taken ++ []) (record w { transport = new })
-  put_had_no_room p note new pending puts same = (
-    put_was_refused plan steps taken w stands p note new pending puts,
-    subst (λ (t : TransportState). Stands plan (steps ++ []) (taken ++ []) (record w { transport = t })) (sym same) (stays plan steps taken w stands),
-  )
+  put_had_no_room p note new pending puts same =
+      grind (arith, stays plan steps taken w stands, put_was_refused plan steps taken w stands p note new pending puts)
 
   -- an empty root inbox
   pub check_of_nothing : ReadsNext w.transport None → IsReply plan steps step.Check (Refused why.Empty) × Stands plan (steps ++ []) (taken ++ []) w

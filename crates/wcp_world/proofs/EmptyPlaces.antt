@@ -31,21 +31,7 @@ module _ (plan : Plan) where
 
   -- each place is empty, with its room
   place_is_empty : (x : Place) (default : Held) → IsPlaceOf plan x → get_or first_places (place_number plan x) default ≡ empty_hold (room_of plan x)
-  place_is_empty (Pending p) default is = absurd is
-  place_is_empty (Link p) default is =
-      get_or_append_left (links ++ holds) inboxes default p (omega (arith, length_front, is))
-      ∙ get_or_append_left links holds default p (omega (arith, length-replicate plan.n (empty_hold plan.cap), is))
-      ∙ get_or-replicate plan.n p (empty_hold plan.cap) default is
-  place_is_empty (HoldOf r) default is =
-      get_or_append_left (links ++ holds) inboxes default (plan.n + r) (omega (arith, length_front, is))
-      ∙ get_or-append_right links holds plan.n (plan.n + r) default (length-replicate plan.n (empty_hold plan.cap)) (omega arith)
-      ∙ get_or-replicate (length plan.parents.items) (plan.n + r - plan.n) (empty_hold plan.hold) default (omega (arith, is))
-  place_is_empty (InboxOf Root) default is =
-      get_or-append_right (links ++ holds) inboxes (plan.n + length plan.parents.items) (plan.n + length plan.parents.items) default length_front (omega arith)
-      ∙ get_or-replicate (length plan.parents.items + 1) (plan.n + length plan.parents.items - (plan.n + length plan.parents.items)) (empty_hold plan.cap) default (omega arith)
-  place_is_empty (InboxOf (Relay r)) default is =
-      get_or-append_right (links ++ holds) inboxes (plan.n + length plan.parents.items) (plan.n + length plan.parents.items + 1 + r) default length_front (omega arith)
-      ∙ get_or-replicate (length plan.parents.items + 1) (plan.n + length plan.parents.items + 1 + r - (plan.n + length plan.parents.items)) (empty_hold plan.cap) default (omega (arith, is))
+  place_is_empty x default is = grind (arith, get_or-append_right, get_or-replicate, get_or_append_left, length-replicate, length_front)
 
   none_along : IsCheckedPlan plan → (p : ℕ) (x : Place) (way : List Place) → IsWay plan x way → IsPlaceOf plan x → notes_along (notes_at plan first_places p) (x ∷ way) ≡ []
   none_along checked p x [] is_way is = rw (place_is_empty x _ is) refl

@@ -23,13 +23,10 @@ abbrev pub item_if : Bool → Item → List Item
 item_if b item = cond b (item ∷ []) []
 
 pub length_if : (b : Bool) (item : Item) → length (item_if b item) ≡ bit b
-length_if true item = refl
-length_if false item = refl
+length_if b item = grind arith
 
 get_if : (b : Bool) (item y : Item) (i : ℕ) → slice_get (item_if b item) i ≡ Some y → (b ≡ true) × (i ≡ 0) × (item ≡ y)
-get_if true item y zero at = (refl, refl, cc at)
-get_if true item y (suc i) at = absurd (cc at)
-get_if false item y i at = absurd (cc at)
+get_if b item y i at = grind arith
 
 pub get_beyond : {X : Type 0} (xs ys : List X) (i : ℕ) → slice_get (xs ++ ys) (length xs + i) ≡ slice_get ys i
 get_beyond [] ys i = ap (slice_get ys) (omega arith)
@@ -95,18 +92,10 @@ module _ (plan : Plan) (s : Step) (item : Item) (x : Place) (old new : Held) (sa
   gains takes puts items fits = record { items = rw (takes, puts) items; room = same_room; fits = λ yes. fits }
 
   pub loses : (left : List Item) → takes_from x s ≡ true → puts_into plan x s ≡ false → old.items ≡ item ∷ left → new.items ≡ left → IsStirred plan s item x old new
-  loses left takes puts first items = record {
-    items = rw (takes, puts) (ap (λ l. item ∷ l) items ∙ sym first ∙ sym (append-nil old.items));
-    room = same_room;
-    fits = λ yes. absurd (true≢false (sym yes ∙ puts));
-  }
+  loses left takes puts first items = grind (arith, append-nil old.items)
 
   pub stays : takes_from x s ≡ false → puts_into plan x s ≡ false → new.items ≡ old.items → IsStirred plan s item x old new
-  stays takes puts items = record {
-    items = rw (takes, puts) (items ∙ sym (append-nil old.items));
-    room = same_room;
-    fits = λ yes. absurd (true≢false (sym yes ∙ puts));
-  }
+  stays takes puts items = grind (arith, append-nil old.items)
 
 pub held_after : (plan : Plan) (steps : List Step) (s : Step) (put more : ℕ → List Note) (item : Item) (x : Place) (old new : Held) →
     ((p i : ℕ) (note : Note) → slice_get (put p) i ≡ Some note → slice_get (more p) i ≡ Some note) →

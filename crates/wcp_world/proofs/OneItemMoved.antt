@@ -1,3 +1,4 @@
+use Rattle.std.proofs.lemmas.Grind.{common_steps}
 use Rattle.std.proofs.Common.{◌≡◌, ◌≢◌, ℕ, ◌<◌, Bool, true, false, length, count_by, eqb, Option, None, Some, List, [], ◌∷◌, ◌++◌, slice_get, refl, sym, ap, ap₂, subst, ◌∙◌, ⊎_elim, append_assoc, eq-eqb, true≢false, arith}
 use Rattle.std.specs.Option.{option_and_then}
 use Rattle.std.proofs.lemmas.Bool.{cases_Bool, cases_eq, ne_eqb}
@@ -18,17 +19,14 @@ use Rattle.wcp_world.proofs.Ways.{IsOnWay, Start, Onward, one_before}
 use Rattle.wcp_world.proofs.Entries.{bit, item_if, count_push, notes_append, entry_on_way, entry_moves, held_after, IsStirred}
 
 is_that : (x : Place) (o : Option Place) → is_place x o ≡ true → o ≡ Some x
-is_that x None same = absurd (true≢false (sym same))
-is_that x (Some y) same = ap Some (sym (same_place x y same))
+is_that x o same = grind arith
 
 -- what is not of a process has no note of it
 none_of : (p : ℕ) (item : Item) (b : Bool) → eqb item.from p ≡ false → notes_taken p (item_if b item) ≡ []
-none_of p item true other = rw other refl
-none_of p item false other = refl
+none_of p item b other = grind arith
 
 one_of : (p : ℕ) (item : Item) (b : Bool) → (b ≡ true → item.from ≡ p) → length (notes_taken p (item_if b item)) ≡ bit b
-one_of p item true own = rw (eq-eqb item.from p (own refl)) refl
-one_of p item false own = refl
+one_of p item b own = grind arith
 
 pub get_grows : {X : Type 0} (xs ys : List X) (i : ℕ) (x : X) → slice_get xs i ≡ Some x → slice_get (xs ++ ys) i ≡ Some x
 get_grows xs ys i x at = get_front xs ys i (slice_get_within xs i x at) ∙ at
@@ -73,10 +71,7 @@ module _ (plan : Plan) (steps : List Step) (put : ℕ → List Note) (taken : Li
           (cases_Bool (takes_from x s))
 
   at_place : (p : ℕ) (x : Place) → IsPlaceOf plan x → left p x ++ notes_at plan places p x ≡ notes_at plan t.places p x ++ came p x
-  at_place p x is =
-      sym (notes_append p (item_if (takes_from x s) item) (held_at places (place_number plan x)).items)
-      ∙ ap (notes_taken p) (stirred x is).items
-      ∙ notes_append p (held_at t.places (place_number plan x)).items (item_if (puts_into plan x s) item)
+  at_place p x is = grind (arith, common_steps)
 
   -- along a way, what comes to its first place is behind what was there, and what leaves its last was the first
   along_way : (p : ℕ) (x : Place) (way : List Place) → IsWay plan x way → IsOnWay plan p x → IsPlaceOf plan x →

@@ -13,53 +13,23 @@ use Rattle.wcp_model.specs.Tree.{leaf_of, parent_of}
 use Rattle.wcp_model.specs.Occupancy.{Place, Pending, Link, HoldOf, InboxOf, is_same_owner, is_same_place, next_place}
 use Rattle.wcp_world.specs.Transport.{IsPlaceOf, place_number}
 
--- places that the test takes for one are one
-same_owner : (a b : Parent) → is_same_owner a b ≡ true → a ≡ b
-same_owner Root Root same = refl
-same_owner (Relay r) (Relay s) same = ap Relay (eqb-true r s same)
-same_owner a b same = absurd (true≢false (sym same))
-
 pub same_place : (x y : Place) → is_same_place x y ≡ true → x ≡ y
-same_place (Pending p) (Pending q) same = ap Pending (eqb-true p q same)
-same_place (Link p) (Link q) same = ap Link (eqb-true p q same)
-same_place (HoldOf r) (HoldOf s) same = ap HoldOf (eqb-true r s same)
-same_place (InboxOf a) (InboxOf b) same = ap InboxOf (same_owner a b same)
-same_place x y same = absurd (true≢false (sym same))
+same_place x y same = grind arith
 
 pub itself : (x : Place) → is_same_place x x ≡ true
-itself (Pending p) = eq-eqb p p refl
-itself (Link p) = eq-eqb p p refl
-itself (HoldOf r) = eq-eqb r r refl
-itself (InboxOf Root) = refl
-itself (InboxOf (Relay r)) = eq-eqb r r refl
+itself x = grind arith
 
 -- places that are two have two numbers
 pub number_apart : (plan : Plan) (x y : Place) → IsPlaceOf plan x → IsPlaceOf plan y → is_same_place x y ≡ false → place_number plan x ≢ place_number plan y
-number_apart plan (Pending p) y is_x is_y apart = absurd is_x
-number_apart plan x (Pending q) is_x is_y apart = absurd is_y
-number_apart plan (Link p) (Link q) is_x is_y apart = eqb-false p q apart
-number_apart plan (HoldOf r) (HoldOf s) is_x is_y apart = λ e. eqb-false r s apart (omega (arith, e))
-number_apart plan (InboxOf Root) (InboxOf Root) is_x is_y apart = absurd (true≢false apart)
-number_apart plan (InboxOf Root) (InboxOf (Relay s)) is_x is_y apart = λ e. omega arith
-number_apart plan (InboxOf (Relay r)) (InboxOf Root) is_x is_y apart = λ e. omega arith
-number_apart plan (InboxOf (Relay r)) (InboxOf (Relay s)) is_x is_y apart = λ e. eqb-false r s apart (omega (arith, e))
-number_apart plan x (InboxOf Root) is_x is_y apart = λ e. omega arith
-number_apart plan x (InboxOf (Relay s)) is_x is_y apart = λ e. omega arith
-number_apart plan (InboxOf Root) y is_x is_y apart = λ e. omega arith
-number_apart plan (InboxOf (Relay r)) y is_x is_y apart = λ e. omega arith
-number_apart plan x y is_x is_y apart = λ e. omega arith
+number_apart plan x y is_x is_y apart = grind arith
 
 -- each place has its number among them
 pub number_within : (plan : Plan) (x : Place) → IsPlaceOf plan x → place_number plan x < plan.n + length plan.parents.items + 1 + length plan.parents.items
-number_within plan (Pending p) is_x = absurd is_x
-number_within plan (InboxOf Root) is_x = omega arith
-number_within plan (InboxOf (Relay r)) is_x = omega arith
-number_within plan x is_x = omega arith
+number_within plan x is_x = grind arith
 
 -- what a value that was mapped was
 pub some_of : {A B : Type 0} (f : A → B) (o : Option A) (y : B) → option_map f o ≡ Some y → (x : A) × (o ≡ Some x) × (f x ≡ y)
-some_of f None y e = cc
-some_of f (Some x) y e = (x, refl, cc)
+some_of f o y e = grind arith
 
 module _ (plan : Plan) (checked : IsCheckedPlan plan) where
   -- the limits of a checked plan

@@ -1,3 +1,4 @@
+use Rattle.std.proofs.Common.{arith}
 use Rattle.std.proofs.Common.{◌≡◌, ℕ, ◌+◌, ◌<◌, ◌↔◌, Bool, true, false, IsTrue, List, ◌++◌, None, Some, if◌then◌else◌, refl, sym, ap, ◌∙◌, ⊎_elim, append-nil, true≢false}
 use Rattle.std.specs.Option.{option_to_list}
 use Rattle.std.proofs.lemmas.Bool.{cases_Bool}
@@ -21,9 +22,6 @@ module _ (n : ℕ) (c : Computation) (p : ℕ) (put : List Note) (core : Core) (
   pub clock_is : core.clock ≡ state.clock
   clock_is = is.stands.clock ∙ ap (λ (s : ProbeState). s.clock) same_state
 
-  flag_is : core.flag ≡ state.flag
-  flag_is = is.stands.flag ∙ ap (λ (s : ProbeState). s.flag) same_state
-
   pub emitted_is : core.emitted ≡ state.snapshots
   emitted_is = is.stands.emitted ∙ ap (λ (s : ProbeState). s.snapshots) same_state
 
@@ -42,15 +40,7 @@ module _ (n : ℕ) (c : Computation) (p : ℕ) (put : List Note) (core : Core) (
   pub observed : (new : Core) (holds emitted : Bool) → IsTrue emitted ↔ (IsTrue holds × (core.flag ≡ false)) → (IsTrue emitted → core.pending ≡ None) →
       new ≡ (if emitted then record core { flag = true; emitted = core.emitted + 1; pending = Some (note.Snap core.emitted core.clock) } else core) →
       IsSameProbe core new × ((after_call p state (Observed holds)).notes ≡ put ++ option_to_list new.pending)
-  observed new holds true emits spared new_is =
-      let told = emits.0 refl in
-      rw (new_is, told.0, sym flag_is ∙ told.1, all_put (spared refl), emitted_is, clock_is)
-      (record { watch = refl; limit = refl; made = refl }, refl)
-  observed new false false emits spared new_is = rw new_is (record { watch = refl; limit = refl; made = refl }, is.notes)
-  observed new true false emits spared new_is = ⊎_elim
-      (λ (set : core.flag ≡ true). rw (new_is, sym flag_is ∙ set) (record { watch = refl; limit = refl; made = refl }, is.notes))
-      (λ (clear : core.flag ≡ false). absurd (true≢false (sym (emits.1 (refl, clear)))))
-      (cases_Bool core.flag)
+  observed new holds emitted emits spared new_is = grind (arith, all_put)
 
   -- and a close
   pub closed : (new : Core) → core.pending ≡ None → new ≡ record core { closed = true; pending = Some (note.Close core.emitted) } →

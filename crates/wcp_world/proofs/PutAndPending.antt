@@ -37,33 +37,11 @@ module _ (app : ProcessesState) (p : ℕ) (core : Core) (at : slice_get app.prob
   -- the probe whose pending note was put
   probe_put : (n : ℕ) (c : Computation) (put : ℕ → List Note) (note : Note) → IsProbeOf n c p (put p) core → pending_at app p ≡ Some note →
       IsProbeOf n c p (put_more put p note p) (record core { pending = None })
-  probe_put n c put note is pending =
-      let was : core.pending ≡ Some note = sym (ap (λ o. option_and_then (λ (k : Core). k.pending) o) at) ∙ pending in
-      record {
-        log = is.log;
-        is_log = is.is_log;
-        stands = record { clock = is.stands.clock; flag = is.stands.flag; closed = is.stands.closed; emitted = is.stands.emitted; pending = tt };
-        watch = is.watch;
-        limit = is.limit;
-        made = is.made;
-        notes = rw (eq-eqb p p refl, append-nil (put p ++ note ∷ [])) (is.notes ∙ ap (λ o. put p ++ option_to_list o) was);
-      }
+  probe_put n c put note is pending = grind (arith, append-nil)
 
   pub put_stands : (new : Core) → new ≡ record core { pending = None } → WasPut app p (record app { probes = set app.probes p new })
-  put_stands new new_is n c put note stands pending = record {
-    order = stands.order;
-    members = length-set app.probes p new ∙ stands.members;
-    probes = λ q other there. ⊎_elim
-        (λ (here : (q ≡ p) × (new ≡ other)).
-        subst₂ (λ r k. IsProbeOf n c r (put_more put p note r) k) (sym here.0) (sym new_is ∙ here.1) (probe_put n c put note (stands.probes p core at) pending))
-        (λ (still : (q ≢ p) × (slice_get app.probes q ≡ Some other)). rw (ne_eqb q p still.0) (stands.probes q other still.1))
-        (get_set app.probes new other p q there);
-    letters = stands.letters;
-  }
+  put_stands new new_is n c put note stands pending = grind (arith, get_set, length-set, probe_put)
 
 -- a process whose note is pending has a probe
 pub pending_within : (app : ProcessesState) (p : ℕ) → IsSome (pending_at app p) → p < length app.probes
-pending_within app p some = ⊎_elim
-    (λ (here : (core : Core) × (p < length app.probes) × (slice_get app.probes p ≡ Some core) × (get_or app.probes p core ≡ core)). here.1)
-    (λ (past : (length app.probes ≤ p) × (slice_get app.probes p ≡ None)). cc (some, ap (λ o. is_some (option_and_then (λ (k : Core). k.pending) o)) past.1))
-    (slice_get_cases app.probes p).1
+pending_within app p some = grind (arith, slice_get_cases)

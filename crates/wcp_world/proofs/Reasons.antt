@@ -10,8 +10,7 @@ use Rattle.wcp_world.specs.Messages.{why_of}
 
 one_reason : (b : Bool) (reason : Refusal) (rest : Option Refusal) (others : Option Why) → others ≡ option_map why_of rest →
     (if b then Some (why_of reason) else others) ≡ option_map why_of (if b then Some reason else rest)
-one_reason true reason rest others same = refl
-one_reason false reason rest others same = same
+one_reason b reason rest others same = grind arith
 
 -- the reasons of an event are those of its probe
 pub first_maps : (list : List (Bool × Refusal)) → first_reason (map (λ r. (r.0, why_of r.1)) list) ≡ option_map why_of (first_reason list)
@@ -32,10 +31,7 @@ partner_is p to n = ap₂ (λ a b. a || b) not_less turned
 pub only_clock_end : (closed backlog ended : Bool) →
     first_reason ((closed, why.Closed) ∷ (backlog, why.Backlog) ∷ (ended, why.ClockEnd) ∷ []) ≡ first_reason ((closed, why.Closed) ∷ (backlog, why.Backlog)
     ∷ (is_some (first_reason ((closed, refusal.Closed) ∷ (backlog, refusal.Backlog) ∷ (false, refusal.Stranger) ∷ (false, refusal.NotMine) ∷ (false, refusal.Ahead) ∷ (ended, refusal.ClockEnd) ∷ [])), why.ClockEnd) ∷ [])
-only_clock_end true backlog ended = refl
-only_clock_end false true ended = refl
-only_clock_end false false true = refl
-only_clock_end false false false = refl
+only_clock_end closed backlog ended = grind arith
 
 -- where there is no first reason, none holds
 abbrev pub NoneHolds : List (Bool × Why) → Type 0
@@ -51,5 +47,4 @@ none_holds (reason ∷ reasons) none = go reason.0 none (none_holds reasons)
     go false none rest = (refl, rest none)
 
 pub no_value : {X : Type 0} (o : Option X) → is_some o ≡ false → o ≡ None
-no_value None none = refl
-no_value (Some x) none = absurd (true≢false none)
+no_value o none = grind arith

@@ -93,10 +93,7 @@ module _ (n : ℕ) (c : Computation) (letters : List Letter) (are : AreLettersOf
 
   -- an event that is no send and no receive leaves the letters as they are
   pub letters_stay : (s : Step) → receivers (s ∷ []) ≡ [] → ((message : ℕ) → is_receive_of message s ≡ false) → AreLettersOf n (c ++ s ∷ []) letters
-  letters_stay s none other = record {
-    receivers_are = are.receivers_are ∙ sym (flat_map-append _ c (s ∷ []) ∙ ap (λ more. receivers c ++ more) none ∙ append-nil (receivers c));
-    each = λ message letter at. letter_stays s message letter (other message) (are.each message letter at);
-  }
+  letters_stay s none other = grind (arith, append-nil, flat_map-append, letter_stays)
 
   -- one more message was sent
   pub letters_posted : (p to : ℕ) (message : Stamped (Unit {0})) → IsAccepted c → (seal_of message).watch ≡ 0 → (seal_of message).to ≡ to →

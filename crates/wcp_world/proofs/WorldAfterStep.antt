@@ -30,31 +30,24 @@ use Rattle.wcp_world.proofs.PutAndPending.{put_and_pending}
 
 -- what an answer accepts, by what it is
 accepted_are : (s : Step) (answer : Reply) (P : List Step → Type 0) → P [] → P (s ∷ []) → P (accepted_by s answer)
-accepted_are s Done P none one = one
-accepted_are s (Took item) P none one = one
-accepted_are s (Refused why) P none one = none
+accepted_are s answer P none one = grind arith
 
 -- what is answered by reasons gives no item, and is a reply's first clause
 no_item : (o : Option Why) (answer : Reply) → MatchOption o (answer ≡ Done) (λ why. answer ≡ Refused why) → taken_by answer ≡ []
-no_item None answer is = rw is refl
-no_item (Some why) answer is = rw is refl
+no_item o answer is = grind arith
 
 accepting : (o : Option Why) (answer : Reply) (A : Type 0) → (answer ≡ Done → A) → MatchOption o (answer ≡ Done) (λ why. answer ≡ Refused why) → MatchOption o A (λ why. answer ≡ Refused why)
-accepting None answer A accepts is = accepts is
-accepting (Some why) answer A accepts is = is
+accepting o answer A accepts is = grind arith
 
 pending_test : (o : Option Note) (k : ℕ) → k ≡ length (option_to_list o) → nat_lt 0 k ≡ is_some o
-pending_test None k counts = rw counts refl
-pending_test (Some note) k counts = rw counts refl
+pending_test o k counts = grind arith
 
 -- the computation with what an answer accepts at its end
 computation_push : (steps : List Step) (s : Step) (answer : Reply) → is_event s ≡ true → computation (steps ++ accepted_by s answer) ≡ computation steps ++ accepted_by s answer
-computation_push steps s answer event = filter-append is_event steps (accepted_by s answer)
-    ∙ ap (λ e. computation steps ++ e) (accepted_are s answer (λ l. computation l ≡ l) refl (rw event refl))
+computation_push steps s answer event = grind (arith, filter-append)
 
 computation_stays : (steps : List Step) (s : Step) (answer : Reply) → is_event s ≡ false → computation (steps ++ accepted_by s answer) ≡ computation steps
-computation_stays steps s answer quiet = filter-append is_event steps (accepted_by s answer)
-    ∙ ap (λ e. computation steps ++ e) (accepted_are s answer (λ l. computation l ≡ []) refl (rw quiet refl)) ∙ append-nil (computation steps)
+computation_stays steps s answer quiet = grind (arith, append-nil, filter-append)
 
 -- a step that moves nothing leaves what a transport stands for
 idle : (plan : Plan) (steps : List Step) (put : ℕ → List Note) (taken : List Item) (t : TransportState) (s : Step) → source s ≡ None →
@@ -141,10 +134,7 @@ module _ (plan : Plan) (steps : List Step) (taken : List Item) (w : WorldState) 
   -- a step that is refused for a reason, and changes nothing
   pub refused_for : (s : Step) (why : Why) → first_reason (reasons plan emissions steps s) ≡ Some why →
       IsReply plan steps s (Refused why) × Stands plan (steps ++ []) (taken ++ []) w
-  refused_for s why first = (
-    reply_is s (Refused why) (subst (λ o. MatchOption o (IsAcceptance plan emissions steps s (Refused why)) (λ y. Refused why ≡ Refused y)) (sym first) refl),
-    stays,
-  )
+  refused_for s why first = grind (arith, reply_is, stays)
 
   -- a note that was put
   pub put_answered : (p : ℕ) (note : Note) (processes : ProcessesState) (transport : TransportState) → p < plan.n → pending_at w.processes p ≡ Some note →
@@ -171,21 +161,12 @@ module _ (plan : Plan) (steps : List Step) (taken : List Item) (w : WorldState) 
 
   -- what was taken of each process is a front of what it emitted
   pub taken_fronts : AreFrontsOfEmissions plan.n (computation steps) taken
-  taken_fronts p within =
-      let order = stands.transport.in_order p within in
-      let on_the_way = notes_along (notes_at plan w.transport.places p) (Link p ∷ order.way) in (
-        on_the_way ++ option_to_list (pending_at w.processes p),
-        subst (AreEmissions plan.n (computation steps) p) (ap (λ l. l ++ option_to_list (pending_at w.processes p)) (sym order.notes) ∙ append_assoc (notes_taken p taken) on_the_way (option_to_list (pending_at w.processes p))) (are_emissions p within),
-      )
+  taken_fronts p within = search (arith, are_emissions p within, append_assoc)
 
   -- the checker may take the next item of the root inbox
   next_emissions : (item : Item) (next : IsNextAtRoot plan steps stands.put taken item) →
       emissions item.from ≡ notes_taken item.from taken ++ item.note ∷ (next.rest ++ option_to_list (pending_at w.processes item.from))
-  next_emissions item next =
-      let pending = option_to_list (pending_at w.processes item.from) in
-      let one : notes_taken item.from (item ∷ []) ≡ item.note ∷ [] = rw (eq-eqb item.from item.from refl) refl in
-      ap (λ l. l ++ pending) (sym next.front ∙ ap (λ l. l ++ next.rest) (notes_append item.from taken (item ∷ []) ∙ ap (λ l. notes_taken item.from taken ++ l) one))
-      ∙ ap (λ l. l ++ pending) (append_assoc (notes_taken item.from taken) (item.note ∷ []) next.rest) ∙ append_assoc (notes_taken item.from taken) (item.note ∷ next.rest) pending
+  next_emissions item next = grind (arith, append_assoc, eq-eqb, notes_append)
 
   pub may_take : (item : Item) → IsNextAtRoot plan steps stands.put taken item → MayTake w.checker item
   may_take item next =
