@@ -6,7 +6,7 @@ use Rattle.wcp_clock.specs.Notes.{is_close}
 use Rattle.wcp_lane.specs.Ends.{PutEnd}
 
 -- A putter of process p has put n items of it, all of them snapshots.
-pub record HasPut (p n : ℕ) (end : PutEnd Item) : Type 0 where
+pub record HasPut (p n : ℕ) (end : PutEnd Item Item) : Type 0 where
   pub member : set.contains end.members p ≡ true
   pub count : length (items_from (λ (item : Item). item.from) p end.put) ≡ n
   pub unended : All (λ (item : Item). is_close item.note ≡ false) (items_from (λ (item : Item). item.from) p end.put)

@@ -1,13 +1,15 @@
 -- Lists that are read by their places, and the items of one origin in them.
 use Rattle.std.proofs.Common.{◌≡◌, ◌≢◌, ◌⊎◌, ℕ, zero, suc, true, false, List, [], ◌∷◌, ◌++◌, length, cond, sym, refl, ap, ◌∙◌, inl, inr, ⊎_elim, arith}
-use Rattle.std.specs.Prelude.{◌==◌, filter}
+use Rattle.std.specs.Prelude.{◌==◌, All}
 use Rattle.std.specs.List.{flat_map}
 use Rattle.std.proofs.lemmas.Grind.{flat_map-append}
 use Rattle.std.proofs.lemmas.Bool.Decides.{nat_tests}
+use Rattle.std.proofs.lemmas.List.{append-nil}
 use Rattle.std.proofs.lemmas.List.Elements.{filter-append}
 use mathlib.Core.Option.{some, some-injective, some-ne-none}
 use lib.ListN.{get_elem?}
-use Rattle.wcp_lane.specs.Message.{items_of, items_from}
+use Rattle.wcp_model.specs.LaneRule as rule
+use Rattle.wcp_lane.specs.Message.{items_from}
 
 module _ {A : Type 0} where
   pub head_of : (d x y : A) (xs ys : List A) → x ∷ xs ≡ y ∷ ys → x ≡ y
@@ -43,12 +45,28 @@ module _ {A : Type 0} where
   at_snoc_place (x ∷ xs) a b zero e = inl e
   at_snoc_place (x ∷ xs) a b (suc j) e = ⊎_elim (λ old. inl old) (λ (new : (j ≡ length xs) × (a ≡ b)). inr (ap suc new.0, new.1)) (at_snoc_place xs a b j e)
 
-module _ {M : Type 0} (origin : M → ℕ) (p : ℕ) where
-  pub items_from-append : (xs ys : List M) → items_from origin p (xs ++ ys) ≡ items_from origin p xs ++ items_from origin p ys
-  items_from-append xs ys = ap (filter (λ (m : M). origin m == p)) (flat_map-append items_of xs ys) ∙ filter-append (λ (m : M). origin m == p) (flat_map items_of xs) (flat_map items_of ys)
+module _ {I : Type 0} (origin : I → ℕ) (p : ℕ) where
+  pub items_from-append : (xs ys : List I) → items_from origin p (xs ++ ys) ≡ items_from origin p xs ++ items_from origin p ys
+  items_from-append xs ys = filter-append (λ (x : I). origin x == p) xs ys
 
-  pub items_from-own : (m : M) → origin m ≡ p → items_from origin p (m ∷ []) ≡ m ∷ []
-  items_from-own m own = let is : (origin m == p) ≡ true = grind (arith, nat_tests) in ap (λ b. cond b (m ∷ []) []) is
+  pub items_from-own : (x : I) (xs : List I) → origin x ≡ p → items_from origin p (x ∷ xs) ≡ x ∷ items_from origin p xs
+  items_from-own x xs own = let is : (origin x == p) ≡ true = grind (arith, nat_tests) in ap (λ b. cond b (x ∷ items_from origin p xs) (items_from origin p xs)) is
 
-  pub items_from-other : (m : M) → origin m ≢ p → items_from origin p (m ∷ []) ≡ []
-  items_from-other m other = let is : (origin m == p) ≡ false = grind (arith, nat_tests) in ap (λ b. cond b (m ∷ []) []) is
+  pub items_from-other : (x : I) (xs : List I) → origin x ≢ p → items_from origin p (x ∷ xs) ≡ items_from origin p xs
+  items_from-other x xs other = let is : (origin x == p) ≡ false = grind (arith, nat_tests) in ap (λ b. cond b (x ∷ items_from origin p xs) (items_from origin p xs)) is
+
+  pub items_from-all : (xs : List I) → All (λ x. origin x ≡ p) xs → items_from origin p xs ≡ xs
+  items_from-all [] all = refl
+  items_from-all (x ∷ xs) all = items_from-own x xs (all 0 x (omega arith)) ∙ ap (λ ys. x ∷ ys) (items_from-all xs (λ k d below. all (suc k) d (omega arith)))
+
+  pub items_from-none : (xs : List I) → All (λ x. origin x ≢ p) xs → items_from origin p xs ≡ []
+  items_from-none [] all = refl
+  items_from-none (x ∷ xs) all = items_from-other x xs (all 0 x (omega arith)) ∙ items_from-none xs (λ k d below. all (suc k) d (omega arith))
+
+module _ {M I : Type 0} (items : M → List I) where
+  -- the items of some messages and of one more
+  pub items-push : (messages : List M) (m : M) → flat_map items (messages ++ m ∷ []) ≡ flat_map items messages ++ items m
+  items-push messages m = flat_map-append items messages (m ∷ []) ∙ ap (λ xs. flat_map items messages ++ xs) (append-nil (items m))
+
+  pub items_from-push : (origin : I → ℕ) (p : ℕ) (messages : List M) (m : M) → rule.items_from items origin p (messages ++ m ∷ []) ≡ rule.items_from items origin p messages ++ items_from origin p (items m)
+  items_from-push origin p messages m = ap (items_from origin p) (items-push messages m) ∙ items_from-append origin p (flat_map items messages) (items m)

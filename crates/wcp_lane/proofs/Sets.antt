@@ -6,9 +6,8 @@ use Rattle.std.specs.Cmp.{nat_cmp_total}
 use Rattle.std.proofs.lemmas.List.{get_or-take, length-take-le}
 use Rattle.std.proofs.lemmas.List.Folds.{list_any_more, list_any_at}
 use Rattle.std.specs.Ordering.{nat_cmp}
-use Rattle.wcp_lane.specs.Passes.{Numbers, all_numbers}
+use Rattle.wcp_lane.specs.Passes.{Numbers, IsRest, all_numbers}
 use Rattle.wcp_lane.proofs.Steps.{all_numbers-contains}
-use Rattle.wcp_lane.specs.Ends.{IsRest}
 
 -- some element passes the test
 any_place : {A : Type 0} (test : A → Bool) (xs : List A) (d : A) → list_any test xs ≡ true → (i : ℕ) × (i < length xs) × (test (get_or xs i d) ≡ true)

@@ -5,7 +5,6 @@ use Rattle.std.specs.FinSet as sets
 use Rattle.std.specs.Cmp.{nat_cmp_total}
 use Rattle.std.specs.List.{flat_map}
 use Rattle.std.proofs.lemmas.Bool.Decides.{nat_tests}
-use Rattle.std.proofs.lemmas.Grind.{flat_map-append}
 use Rattle.std.proofs.lemmas.List.{append-nil}
 use Rattle.std.proofs.lemmas.List.Elements.{All-append}
 use mathlib.Core.Option.{some, some-injective, some-ne-none}
@@ -13,13 +12,14 @@ use lib.ListN.{get_elem?}
 use Rattle.atomic_table.proofs.Lists.{at_set, at_last, at_longer, set_here, set_else}
 use Rattle.crossbeam_channel.specs.Fifo.{Pushes, Pops, Forks, Merges, Learns}
 use Rattle.wcp_clock.specs.Limits.{most_processes}
+use Rattle.wcp_model.specs.LaneRule as rule
 use Rattle.wcp_model.specs.LaneRule.{IsNext, AreInSequence}
 use Rattle.wcp_lane.specs.declared.passes.Hand.{Hand}
 use Rattle.wcp_lane.specs.declared.passes.Home.{Home}
-use Rattle.wcp_lane.specs.Message.{items_of, items_from}
-use Rattle.wcp_lane.specs.Passes.{Numbers, numbers_below, all_numbers, home, putter, taker, nobody, without, joined, with_taken, IsPut, IsTaken, IsBalanced, Fits, StandsFor, IsSeated, IsRuled}
+use Rattle.wcp_lane.specs.Message.{AllMayFollow, items_from}
+use Rattle.wcp_lane.specs.Passes.{Numbers, numbers_below, all_numbers, home, putter, taker, nobody, without, joined, with_taken, IsRest, IsPut, IsTaken, IsBalanced, Fits, StandsFor, IsSeated, IsRuled}
 use Rattle.wcp_lane.proofs.Marks.{contains_with}
-use Rattle.wcp_lane.proofs.Lists.{not_empty, only_one, of_snoc, at_snoc_place, items_from-append, items_from-own, items_from-other}
+use Rattle.wcp_lane.proofs.Lists.{not_empty, only_one, of_snoc, at_snoc_place, items_from-append, items_from-own, items_from-other, items_from-none, items-push, items_from-push}
 
 pub false_unless : (b : Bool) → (b ≡ true → ⊥) → b ≡ false
 false_unless true h = absurd (h refl)
@@ -88,9 +88,68 @@ module _ {I : Type 0} (place : I → ℕ) (is_last : I → Bool) where
       (λ (new : (xs ≡ before) × (x ≡ item)). subst (λ (y : List I × I). IsNext place is_last y.0 y.1) (λ i. (new.0 i, new.1 i)) next)
       (of_snoc xs x before item behind e)
 
-module _ {M : Type 0} (origin place : M → ℕ) (is_last : M → Bool) where
+-- what isn't outside is inside
+inside_unless : (b c : Bool) → c ≡ not b → c ≡ false → b ≡ true
+inside_unless true c e out = refl
+inside_unless false c e out = absurd (true≢false (sym e ∙ out))
+
+module _ {A : Type 0} (P : A → Type 0) where
+  All-front : (xs ys : List A) → All P (xs ++ ys) → All P xs
+  All-front [] ys all k d below = absurd (omega arith)
+  All-front (x ∷ xs) ys all zero d below = all 0 d (omega arith)
+  All-front (x ∷ xs) ys all (suc k) d below = All-front xs ys (λ j e within. all (suc j) e (omega arith)) k d (omega arith)
+
+  All-back : (xs ys : List A) → All P (xs ++ ys) → All P ys
+  All-back [] ys all = all
+  All-back (x ∷ xs) ys all = All-back xs ys (λ k d below. all (suc k) d (omega arith))
+
+module _ {I : Type 0} (origin place : I → ℕ) (is_last : I → Bool) where
+  -- items that may follow are of the numbers
+  pub all_owned : (numbers : Numbers) (before items : List I) → AllMayFollow origin place is_last numbers before items → All (λ item. sets.contains numbers (origin item) ≡ true) items
+  all_owned numbers before [] may k d below = absurd (omega arith)
+  all_owned numbers before (x ∷ xs) may zero d below = may.0.owned
+  all_owned numbers before (x ∷ xs) may (suc k) d below = all_owned numbers (before ++ x ∷ []) xs may.1 k d (omega arith)
+
+  -- with items that may follow, the items of each number stay in sequence
+  AreInSequence-more : (numbers : Numbers) (q : ℕ) (before items : List I) → AreInSequence place is_last (items_from origin q before) → AllMayFollow origin place is_last numbers before items
+      → AreInSequence place is_last (items_from origin q (before ++ items))
+  AreInSequence-more numbers q before [] run may = subst (λ xs. AreInSequence place is_last (items_from origin q xs)) (sym (append-nil before)) run
+  AreInSequence-more numbers q before (x ∷ xs) run may =
+      let one : items_from origin q (before ++ x ∷ []) ≡ items_from origin q before ++ items_from origin q (x ∷ []) = items_from-append origin q before (x ∷ []) in
+      let more : AreInSequence place is_last (items_from origin q (before ++ x ∷ [])) =
+      ⊎_elim
+      (λ (here : origin x ≡ q).
+      subst (AreInSequence place is_last) (sym (one ∙ ap (λ ys. items_from origin q before ++ ys) (items_from-own origin q x [] here)))
+      (AreInSequence-push place is_last (items_from origin q before) x run (subst (λ p. IsNext place is_last (items_from origin p before) x) here may.0.next)))
+      (λ (apart : origin x ≢ q).
+      subst (AreInSequence place is_last) (sym (one ∙ ap (λ ys. items_from origin q before ++ ys) (items_from-other origin q x [] apart) ∙ append-nil (items_from origin q before))) run)
+      (either_number (origin x) q) in
+      subst (λ ys. AreInSequence place is_last (items_from origin q ys)) (append_assoc before (x ∷ []) xs) (AreInSequence-more numbers q (before ++ x ∷ []) xs more may.1)
+
+  -- where the items of each number are in sequence, those behind a front may follow it
+  may_follow : (members : Numbers) (all : List I) → ((q : ℕ) → q < most_processes → AreInSequence place is_last (items_from origin q all))
+      → ((q : ℕ) → q < most_processes → (items_from origin q all ≡ [] → ⊥) → sets.contains members q ≡ true)
+      → (before items behind : List I) → all ≡ before ++ (items ++ behind) → All (λ item. origin item < most_processes) items
+      → AllMayFollow origin place is_last members before items
+  may_follow members all runs owned before [] behind is numbered = tt
+  may_follow members all runs owned before (x ∷ xs) behind is numbered =
+      let p : ℕ = origin x in
+      let within : p < most_processes = numbered 0 x (omega arith) in
+      let split : items_from origin p all ≡ items_from origin p before ++ x ∷ items_from origin p (xs ++ behind) =
+      ap (items_from origin p) is ∙ items_from-append origin p before (x ∷ (xs ++ behind)) ∙ ap (λ ys. items_from origin p before ++ ys) (items_from-own origin p x (xs ++ behind) refl) in (
+        record {
+          owned = owned p within (λ none. not_empty (items_from origin p before) x (items_from origin p (xs ++ behind)) (sym none ∙ split));
+          next = runs p within (items_from origin p before) x (items_from origin p (xs ++ behind)) split;
+        },
+        may_follow members all runs owned (before ++ x ∷ []) xs behind (is ∙ sym (append_assoc before (x ∷ []) (xs ++ behind))) (λ k d below. numbered (suc k) d (omega arith)),
+      )
+
+module _ {M I : Type 0} (items_of : M → List I) (origin place : I → ℕ) (is_last : I → Bool) where
+  abbrev from : ℕ → List M → List I
+  from p messages = rule.items_from items_of origin p messages
+
   abbrev Rule : List M → List (Hand M) → Type 0
-  Rule = IsRuled origin place is_last
+  Rule = IsRuled items_of origin place is_last
 
   only_end : (v : Hand M) (j : ℕ) (u : Hand M) → get_elem? (v ∷ []) j ≡ some u → (j ≡ 0) × (v ≡ u)
   only_end v zero u e = (refl, some-injective v u e)
@@ -107,23 +166,24 @@ module _ {M : Type 0} (origin place : M → ℕ) (is_last : M → Bool) where
         rule = record { numbered = λ k d none. absurd (omega arith); whole = λ p below. refl; in_sequence = λ p below before item behind e. absurd (not_empty before item behind e) };
         seated = λ p below. (taker all_numbers [], refl, record { before = []; own = home all_numbers []; behind = []; is = refl; member = all_numbers-contains p below });
         each = λ j u e. let it = only_end (taker all_numbers []) j u e in
-            subst (λ (y : ℕ × Hand M). Fits origin 0 (λ p. 0) [] (λ p. []) y.0 y.1) (λ i. (sym it.0 i, it.1 i))
+            subst (λ (y : ℕ × Hand M). Fits items_of origin 0 (λ p. 0) [] (λ p. []) y.0 y.1) (λ i. (sym it.0 i, it.1 i))
             record {
               takes = λ reads. (refl, refl);
-              stands = λ before h behind is p below own. (refl, ap (λ (x : Home M). items_from origin p x.put) (sym (only_one (home all_numbers []) before h behind is)));
+              stands = λ before h behind is p below own. (refl, ap (λ (x : Home M). from p x.put) (sym (only_one (home all_numbers []) before h behind is)));
             };
       }
 
   -- a message is put
-  pub puts : (n pass : ℕ) (numbers : Numbers) (put : List M) (m : M) → origin m < most_processes → sets.contains numbers (origin m) ≡ true → IsNext place is_last (items_from origin (origin m) put) m
+  pub puts : (n pass : ℕ) (numbers : Numbers) (put : List M) (m : M) → All (λ item. origin item < most_processes) (items_of m) → AllMayFollow origin place is_last numbers (flat_map items_of put) (items_of m)
       → Pushes Rule n pass (putter numbers put) m (IsPut (putter numbers put) m)
-  puts n pass numbers put m within own next items ends room h at =
+  puts n pass numbers put m numbered may within ends room h at =
       let w : Hand M = putter numbers (put ++ m ∷ []) in
       let mine = h.each pass (putter numbers put) at in
       let standing = mine.stands [] (home numbers put) [] refl in
-      let seated : h.seat (origin m) ≡ pass = (standing (origin m) within own).0 in
-      let more : ℕ → List M = λ q. h.put q ++ items_from origin q (m ∷ []) in
-      let same : (q : ℕ) → q ≢ origin m → more q ≡ h.put q = λ q apart. ap (λ xs. h.put q ++ xs) (items_from-other origin q m (λ e. apart (sym e))) ∙ append-nil (h.put q) in (
+      let more : ℕ → List I = λ q. h.put q ++ items_from origin q (items_of m) in
+      let owned = all_owned origin place is_last numbers (flat_map items_of put) (items_of m) may in
+      let same : (q : ℕ) → sets.contains numbers q ≡ false → more q ≡ h.put q =
+      λ q out. ap (λ xs. h.put q ++ xs) (items_from-none origin q (items_of m) (λ k d below here. true≢false (sym (ap (sets.contains numbers) (sym here) ∙ owned k d below) ∙ out))) ∙ append-nil (h.put q) in (
         w,
         record {
           reader = h.reader;
@@ -131,27 +191,27 @@ module _ {M : Type 0} (origin place : M → ℕ) (is_last : M → Bool) where
           taken = h.taken;
           put = more;
           rule = record {
-            numbered = subst (All (λ x. origin x < most_processes)) (sym (flat_map-append items_of items (m ∷ [])))
-                (All-append (λ x. origin x < most_processes) (flat_map items_of items) (m ∷ []) h.rule.numbered (only_numbered m within));
-            whole = λ q below. ap (λ xs. items_from origin q h.taken ++ xs) (items_from-append origin q items (m ∷ [])) ∙ sym (append_assoc (items_from origin q h.taken) (items_from origin q items) (items_from origin q (m ∷ []))) ∙ ap (λ xs. xs ++ items_from origin q (m ∷ [])) (h.rule.whole q below);
+            numbered = subst (All (λ item. origin item < most_processes)) (sym (items-push items_of within m))
+                (All-append (λ item. origin item < most_processes) (flat_map items_of within) (items_of m) h.rule.numbered numbered);
+            whole = λ q below. ap (λ xs. from q h.taken ++ xs) (items_from-push items_of origin q within m) ∙ sym (append_assoc (from q h.taken) (from q within) (items_from origin q (items_of m))) ∙ ap (λ xs. xs ++ items_from origin q (items_of m)) (h.rule.whole q below);
             in_sequence = λ q below. ⊎_elim
-                (λ (here : q ≡ origin m).
-                let as_own : more q ≡ h.put q ++ m ∷ [] = ap (λ xs. h.put q ++ xs) (items_from-own origin q m (sym here)) in
-                let all_put : items_from origin (origin m) put ≡ h.put q = (standing (origin m) within own).1 ∙ ap h.put (sym here) in
-                subst (AreInSequence place is_last) (sym as_own) (AreInSequence-push place is_last (h.put q) m (h.rule.in_sequence q below) (subst (λ xs. IsNext place is_last xs m) all_put next)))
-                (λ (apart : q ≢ origin m). subst (AreInSequence place is_last) (sym (same q apart)) (h.rule.in_sequence q below))
-                (either_number q (origin m));
+                (λ (member : sets.contains numbers q ≡ true).
+                let all_put : from q put ≡ h.put q = (standing q below member).1 in
+                subst (AreInSequence place is_last) (items_from-append origin q (flat_map items_of put) (items_of m) ∙ ap (λ xs. xs ++ items_from origin q (items_of m)) all_put)
+                (AreInSequence-more origin place is_last numbers q (flat_map items_of put) (items_of m) (subst (AreInSequence place is_last) (sym all_put) (h.rule.in_sequence q below)) may))
+                (λ (out : sets.contains numbers q ≡ false). subst (AreInSequence place is_last) (sym (same q out)) (h.rule.in_sequence q below))
+                (either_bool (sets.contains numbers q));
           };
           seated = λ q below. IsSeated-set ends pass (putter numbers put) w at q
               (λ s. record { before = []; own = home numbers (put ++ m ∷ []); behind = []; is = refl; member = ap (λ (x : Home M). sets.contains x.numbers q) (only_one (home numbers put) s.before s.own s.behind s.is) ∙ s.member })
               (h.seat q) (h.seated q below);
-          each = all_set (Fits origin h.reader h.seat h.taken more) ends pass w
+          each = all_set (Fits items_of origin h.reader h.seat h.taken more) ends pass w
               record {
                 takes = λ reads. absurd (true≢false (sym reads));
                 stands = λ before k behind is q below member.
                     let it : home numbers (put ++ m ∷ []) ≡ k = only_one (home numbers (put ++ m ∷ [])) before k behind is in
                     let in_mine = standing q below (ap (λ (x : Home M). sets.contains x.numbers q) it ∙ member) in
-                    (in_mine.0, ap (λ (x : Home M). items_from origin q x.put) (sym it) ∙ items_from-append origin q put (m ∷ []) ∙ ap (λ xs. xs ++ items_from origin q (m ∷ [])) in_mine.1);
+                    (in_mine.0, ap (λ (x : Home M). from q x.put) (sym it) ∙ items_from-push items_of origin q put m ∙ ap (λ xs. xs ++ items_from origin q (items_of m)) in_mine.1);
               }
               (λ j u other e.
               let theirs = h.each j u e in
@@ -159,26 +219,19 @@ module _ {M : Type 0} (origin place : M → ℕ) (is_last : M → Bool) where
                 takes = theirs.takes;
                 stands = λ before k behind is q below member.
                     let t = theirs.stands before k behind is q below member in
-                    (t.0, t.1 ∙ sym (same q (λ here. other (sym t.0 ∙ ap h.seat here ∙ seated))));
+                    (t.0, t.1 ∙ sym (same q (false_unless (sets.contains numbers q) (λ own. other (sym t.0 ∙ (standing q below own).0)))));
               });
         },
         refl,
       )
-    where
-      only_numbered : (x : M) → origin x < most_processes → All (λ y. origin y < most_processes) (x ∷ [])
-      only_numbered x below zero d k = below
-      only_numbered x below (suc i) d k = absurd (omega arith)
 
   -- a message is taken
-  pub takes : (pass : ℕ) (v : Hand M) → v.takes ≡ true → Pops Rule pass v (IsTaken origin place is_last v)
-  takes pass v may m items ends h at =
+  pub takes : (pass : ℕ) (v : Hand M) → v.takes ≡ true → Pops Rule pass v (IsTaken items_of origin place is_last v)
+  takes pass v may m within ends h at =
       let w : Hand M = with_taken m v in
       let mine = h.each pass v at in
       let reads = mine.takes may in
-      let p : ℕ = origin m in
-      let within : p < most_processes = h.rule.numbered 0 m (omega arith) in
-      let split : items_from origin p (m ∷ items) ≡ m ∷ items_from origin p items = items_from-append origin p (m ∷ []) items ∙ ap (λ xs. xs ++ items_from origin p items) (items_from-own origin p m refl) in
-      let whole : h.put p ≡ items_from origin p h.taken ++ m ∷ items_from origin p items = sym (h.rule.whole p within) ∙ ap (λ xs. items_from origin p h.taken ++ xs) split in (
+      let numbered : All (λ item. origin item < most_processes) (items_of m) = All-front (λ item. origin item < most_processes) (items_of m) (flat_map items_of within) h.rule.numbered in (
         w,
         record {
           reader = h.reader;
@@ -186,16 +239,16 @@ module _ {M : Type 0} (origin place : M → ℕ) (is_last : M → Bool) where
           taken = h.taken ++ m ∷ [];
           put = h.put;
           rule = record {
-            numbered = λ k d below. h.rule.numbered (suc k) d (omega arith);
+            numbered = All-back (λ item. origin item < most_processes) (items_of m) (flat_map items_of within) h.rule.numbered;
             whole = λ q below.
-                ap (λ xs. xs ++ items_from origin q items) (items_from-append origin q h.taken (m ∷ []))
-                ∙ append_assoc (items_from origin q h.taken) (items_from origin q (m ∷ [])) (items_from origin q items)
-                ∙ ap (λ xs. items_from origin q h.taken ++ xs) (sym (items_from-append origin q (m ∷ []) items))
+                ap (λ xs. xs ++ from q within) (items_from-push items_of origin q h.taken m)
+                ∙ append_assoc (from q h.taken) (items_from origin q (items_of m)) (from q within)
+                ∙ ap (λ xs. from q h.taken ++ xs) (sym (items_from-append origin q (items_of m) (flat_map items_of within)))
                 ∙ h.rule.whole q below;
             in_sequence = h.rule.in_sequence;
           };
           seated = λ q below. IsSeated-set ends pass v w at q (λ s. record { before = s.before; own = s.own; behind = s.behind; is = s.is; member = s.member }) (h.seat q) (h.seated q below);
-          each = all_set (Fits origin h.reader h.seat (h.taken ++ m ∷ []) h.put) ends pass w
+          each = all_set (Fits items_of origin h.reader h.seat (h.taken ++ m ∷ []) h.put) ends pass w
               record { takes = λ _. (reads.0, ap (λ xs. xs ++ m ∷ []) reads.1); stands = mine.stands }
               (λ j u other e.
               let theirs = h.each j u e in
@@ -205,12 +258,19 @@ module _ {M : Type 0} (origin place : M → ℕ) (is_last : M → Bool) where
           refl,
           λ unowned taken is.
               let as_taken : h.taken ≡ taken = sym reads.1 ∙ ap (λ (x : Hand M). x.taken) is in
+              let before : List I = flat_map items_of taken in
+              let all : List I = before ++ (items_of m ++ flat_map items_of within) in
+              let put_is : (q : ℕ) → q < most_processes → items_from origin q all ≡ h.put q = λ q below.
+              items_from-append origin q before (items_of m ++ flat_map items_of within)
+              ∙ ap (λ (xs : List M). from q xs ++ from q (m ∷ within)) (sym as_taken)
+              ∙ h.rule.whole q below in
               record {
-                numbered = within;
-                owned = false_unless (sets.contains unowned p) (λ member.
-                    let nothing : [] ≡ h.put p = (mine.stands [] (home unowned []) [] (ap (λ (x : Hand M). x.home) is) p within member).1 in
-                    not_empty (items_from origin p h.taken) m (items_from origin p items) (nothing ∙ whole));
-                next = subst (λ xs. IsNext place is_last (items_from origin p xs) m) as_taken (h.rule.in_sequence p within (items_from origin p h.taken) m (items_from origin p items) whole);
+                numbered = numbered;
+                follows = λ members rest.
+                    may_follow origin place is_last members all (λ q below. subst (AreInSequence place is_last) (sym (put_is q below)) (h.rule.in_sequence q below))
+                    (λ q below some. inside_unless (sets.contains members q) (sets.contains unowned q) (rest q below) (false_unless (sets.contains unowned q) (λ member.
+                    some (put_is q below ∙ sym (mine.stands [] (home unowned []) [] (ap (λ (x : Hand M). x.home) is) q below member).1))))
+                    before (items_of m) (flat_map items_of within) refl numbered;
               },
         ),
       )
@@ -226,7 +286,7 @@ module _ {M : Type 0} (origin place : M → ℕ) (is_last : M → Bool) where
       let standing = mine.stands [] (home unowned []) [] refl in
       let seat : ℕ → ℕ = λ p. cond (sets.contains numbers p) (length was) (h.seat p) in
       let stays : (p : ℕ) → sets.contains numbers p ≡ false → seat p ≡ h.seat p = λ p out. ap (λ b. cond b (length was) (h.seat p)) out in
-      let Old : ℕ → Hand M → Type 0 = Fits origin h.reader seat h.taken h.put in
+      let Old : ℕ → Hand M → Type 0 = Fits items_of origin h.reader seat h.taken h.put in
       let old : (j : ℕ) (u : Hand M) → get_elem? was j ≡ some u → Old j u =
       all_set Old ends pass left
       record {
@@ -235,7 +295,7 @@ module _ {M : Type 0} (origin place : M → ℕ) (is_last : M → Bool) where
             let it : home (sets.difference unowned numbers) [] ≡ k = only_one (home (sets.difference unowned numbers) []) before k behind is in
             let parts = both_true (sets.contains unowned p) (sets.contains numbers p) (sym (contains_without unowned numbers p) ∙ ap (λ (x : Home M). sets.contains x.numbers p) it ∙ member) in
             let in_mine = standing p below parts.0 in
-            (stays p parts.1 ∙ in_mine.0, ap (λ (x : Home M). items_from origin p x.put) (sym it) ∙ in_mine.1);
+            (stays p parts.1 ∙ in_mine.0, ap (λ (x : Home M). from p x.put) (sym it) ∙ in_mine.1);
       }
       (λ j u other e.
       let theirs = h.each j u e in
@@ -274,7 +334,7 @@ module _ {M : Type 0} (origin place : M → ℕ) (is_last : M → Bool) where
               stands = λ before k behind is p below member.
                   let it : home numbers [] ≡ k = only_one (home numbers []) before k behind is in
                   let given : sets.contains numbers p ≡ true = ap (λ (x : Home M). sets.contains x.numbers p) it ∙ member in
-                  (ap (λ b. cond b (length was) (h.seat p)) given, ap (λ (x : Home M). items_from origin p x.put) (sym it) ∙ (standing p below (among p below given)).1);
+                  (ap (λ b. cond b (length was) (h.seat p)) given, ap (λ (x : Home M). from p x.put) (sym it) ∙ (standing p below (among p below given)).1);
             })
             (at_snoc_place was right u j e);
       }
@@ -291,7 +351,7 @@ module _ {M : Type 0} (origin place : M → ℕ) (is_last : M → Bool) where
       let seat : ℕ → ℕ = λ p. cond (nat_eq (h.seat p) other) pass (h.seat p) in
       let stays : (p : ℕ) → h.seat p ≢ other → seat p ≡ h.seat p = λ p away. ap (λ b. cond b pass (h.seat p)) (not_eq (h.seat p) other away) in
       let goes : (p : ℕ) → h.seat p ≡ other → seat p ≡ pass = λ p it. ap (λ b. cond b pass (h.seat p)) (is_eq (h.seat p) other it) in
-      let New : ℕ → Hand M → Type 0 = Fits origin h.reader seat h.taken h.put in
+      let New : ℕ → Hand M → Type 0 = Fits items_of origin h.reader seat h.taken h.put in
       record {
         reader = h.reader;
         seat = seat;
@@ -327,7 +387,7 @@ module _ {M : Type 0} (origin place : M → ℕ) (is_last : M → Bool) where
                   (stays p (λ it. apart (sym it ∙ t.0)) ∙ t.0, t.1))
                   (λ (new : (v.home ≡ before) × (home numbers put ≡ k)).
                   let t = theirs p below (ap (λ (x : Home M). sets.contains x.numbers p) new.1 ∙ member) in
-                  (goes p t.0, ap (λ (x : Home M). items_from origin p x.put) (sym new.1) ∙ t.1))
+                  (goes p t.0, ap (λ (x : Home M). from p x.put) (sym new.1) ∙ t.1))
                   (of_snoc v.home (home numbers put) before k behind is);
             })
             (λ (x : (j ≢ pass) × (get_elem? ends j ≡ some u)).
@@ -346,7 +406,7 @@ module _ {M : Type 0} (origin place : M → ℕ) (is_last : M → Bool) where
       is_eq a b same = grind (arith, nat_tests)
 
   -- what was put of the numbers that an end stands for
-  pub balances : (pass : ℕ) (v : Hand M) → Learns Rule pass v (IsBalanced origin v)
+  pub balances : (pass : ℕ) (v : Hand M) → Learns Rule pass v (IsBalanced items_of origin v)
   balances pass v items ends h at = λ may before k behind is p below member.
       let mine = h.each pass v at in
-      (mine.stands before k behind is p below member).1 ∙ sym (h.rule.whole p below) ∙ ap (λ xs. items_from origin p xs ++ items_from origin p items) (sym (mine.takes may).1)
+      (mine.stands before k behind is p below member).1 ∙ sym (h.rule.whole p below) ∙ ap (λ xs. from p xs ++ from p items) (sym (mine.takes may).1)

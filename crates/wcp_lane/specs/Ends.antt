@@ -1,12 +1,11 @@
 -- The ends of a lane, as contracts see them.
-use Rattle.std.specs.Prelude.{◌≡◌, ℕ, ◌<◌, Bool, true, not, List, [], ◌∷◌, length, slice_index}
+use Rattle.std.specs.Prelude.{◌≡◌, ℕ, ◌<◌, List, [], ◌∷◌, length, slice_index}
 use Rattle.std.specs.FinSet as set
 use Rattle.atomic_table.specs.Seated.{TableId}
 use Rattle.atomic_table.specs.declared.badge.Badge.{Badge}
 use Rattle.crossbeam_channel.specs.declared.flavors.array.Key.{Key}
 use Rattle.crossbeam_channel.specs.Claims.{Pass}
 use Rattle.wcp_clock.specs.Limits.{most_processes}
-use Rattle.wcp_model.specs.LaneRule.{IsNext}
 use Rattle.wcp_lane.specs.declared.passes.Hand.{Hand}
 use Rattle.wcp_lane.specs.declared.passes.Home.{Home}
 use Rattle.wcp_lane.specs.Message.{items_from}
@@ -16,24 +15,28 @@ use Rattle.wcp_lane.specs.Passes.{Numbers}
 abbrev pub LaneName : Type 0 → Type 0
 LaneName M = TableId × Badge (Key M)
 
--- An end that puts: its lane, the numbers of which it puts, and the messages that it has put.
-pub record PutEnd (M : Type 0) : Type 0 where
+-- An end that puts: its lane of messages, the numbers of which it puts, and the items that it has put.
+pub record PutEnd (M I : Type 0) : Type 0 where
   pub lane : LaneName M
   pub members : Numbers
-  pub put : List M
+  pub put : List I
 
--- The end that takes: its lane, the numbers of all sets of the lane, and the messages that it has taken.
-pub record TakeEnd (M : Type 0) : Type 0 where
+-- The end that takes: its lane, the numbers of all sets of the lane, and the items that it has taken.
+pub record TakeEnd (M I : Type 0) : Type 0 where
   pub lane : LaneName M
   pub members : Numbers
-  pub taken : List M
+  pub taken : List I
 
 -- What is left of it: also the numbers of the putters that it was reconciled with.
-pub record TakenEnd (M : Type 0) : Type 0 where
+pub record TakenEnd (M I : Type 0) : Type 0 where
   pub lane : LaneName M
   pub members : Numbers
   pub matched : Numbers
-  pub taken : List M
+  pub taken : List I
+
+-- a putter that has put nothing
+abbrev pub new_putter : {M I : Type 0} → LaneName M → Numbers → PutEnd M I
+new_putter lane members = record { lane = lane; members = members; put = [] }
 
 module _ {M : Type 0} where
   abbrev pub lane_of : Pass M (Hand M) → LaneName M
@@ -42,15 +45,11 @@ module _ {M : Type 0} where
   abbrev pub hand_of : Pass M (Hand M) → Hand M
   hand_of pass = pass.me.0.client
 
-  -- a putter that has put nothing
-  abbrev pub new_putter : LaneName M → Numbers → PutEnd M
-  new_putter lane members = record { lane = lane; members = members; put = [] }
-
   abbrev pub first_put : List (Home M) → List M
   first_put [] = []
   first_put (h ∷ hs) = h.put
 
-  -- what an end has put of the numbers that it stood for first
+  -- the messages that an end has put of the numbers that it stood for first
   abbrev pub put_by : Hand M → List M
   put_by v = first_put v.home
 
@@ -62,19 +61,8 @@ module _ {M : Type 0} where
   abbrev pub unowned_by : Hand M → Numbers
   unowned_by v = first_numbers v.home
 
--- all numbers below 16 but these
-abbrev pub IsRest : Numbers → Numbers → Type 0
-IsRest numbers rest = (p : ℕ) → p < most_processes → set.contains rest p ≡ not (set.contains numbers p)
-
--- how many of these messages there are of each origin
-abbrev pub AreCounts : {M : Type 0} → (M → ℕ) → List ℕ → List M → Type 0
-AreCounts origin counts messages =
+-- how many of these items there are of each origin
+abbrev pub AreCounts : {I : Type 0} → (I → ℕ) → List ℕ → List I → Type 0
+AreCounts origin counts items =
     (length counts ≡ most_processes)
-    × ((p : ℕ) → p < most_processes → slice_index counts p ≡ length (items_from origin p messages))
-
--- A message that the taker takes is of one of the lane's numbers, and the next one after those that it has taken of
--- this number.
-pub record IsNextTaken
-    {M : Type 0} (origin place : M → ℕ) (is_last : M → Bool) (end : TakeEnd M) (message : M) : Type 0 where
-  pub owned : set.contains end.members (origin message) ≡ true
-  pub next : IsNext place is_last (items_from origin (origin message) end.taken) message
+    × ((p : ℕ) → p < most_processes → slice_index counts p ≡ length (items_from origin p items))

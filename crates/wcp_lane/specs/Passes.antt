@@ -1,13 +1,14 @@
 -- What each end of a lane knows, and how this goes on at each step.
-use Rattle.std.specs.Prelude.{◌≡◌, ℕ, zero, suc, ◌<◌, Bool, true, false, List, [], ◌∷◌, ◌++◌, map}
+use Rattle.std.specs.Prelude.{◌≡◌, ℕ, zero, suc, ◌<◌, Bool, true, false, not, List, [], ◌∷◌, ◌++◌, map, All}
+use Rattle.std.specs.List.{flat_map}
 use Rattle.std.specs.Ordering.{nat_cmp}
 use Rattle.std.specs.FinSet as set
 use Rattle.std.specs.Coded.{Coded, coded_ℕ}
 use mathlib.Core.Option.{some}
 use lib.ListN.{get_elem?}
 use Rattle.wcp_clock.specs.Limits.{most_processes}
-use Rattle.wcp_model.specs.LaneRule.{LaneRule, IsNext}
-use Rattle.wcp_lane.specs.Message.{items_of, items_from}
+use Rattle.wcp_model.specs.LaneRule.{LaneRule, items_from}
+use Rattle.wcp_lane.specs.Message.{AllMayFollow}
 use Rattle.wcp_lane.specs.declared.passes.Hand.{Hand}
 use Rattle.wcp_lane.specs.declared.passes.Home.{Home}
 
@@ -74,43 +75,49 @@ pub record StandsFor {M : Type 0} (v : Hand M) (p : ℕ) : Type 0 where
 abbrev pub IsSeated : {M : Type 0} → List (Hand M) → ℕ → ℕ → Type 0
 IsSeated {M} ends pass p = (v : Hand M) × (get_elem? ends pass ≡ some v) × StandsFor v p
 
-module _ {M : Type 0} (origin place : M → ℕ) (is_last : M → Bool) where
-  -- an item that was taken is of a number below 16 that some putter has, and the next one after those taken of it
-  pub record IsFresh (unowned : Numbers) (taken : List M) (item : M) : Type 0 where
-    pub numbered : origin item < most_processes
-    pub owned : set.contains unowned (origin item) ≡ false
-    pub next : IsNext place is_last (items_from origin (origin item) taken) item
+-- all numbers below 16 but these
+abbrev pub IsRest : Numbers → Numbers → Type 0
+IsRest numbers rest = (p : ℕ) → p < most_processes → set.contains rest p ≡ not (set.contains numbers p)
+
+module _ {M I : Type 0} (items : M → List I) (origin place : I → ℕ) (is_last : I → Bool) where
+  -- the items of a message that was taken are of numbers below 16 that some putter has, and may follow those taken
+  -- before
+  pub record IsFresh (unowned : Numbers) (taken : List M) (message : M) : Type 0 where
+    pub numbered : All (λ item. origin item < most_processes) (items message)
+    pub follows : (members : Numbers) → IsRest members unowned
+        → AllMayFollow origin place is_last members (flat_map items taken) (items message)
 
   abbrev pub IsTaken : Hand M → M → Hand M → Type 0
   IsTaken v message w =
       (w ≡ with_taken message v)
       × ((unowned : Numbers) (taken : List M) → v ≡ taker unowned taken → IsFresh unowned taken message)
 
-module _ {M : Type 0} (origin : M → ℕ) where
+module _ {M I : Type 0} (items : M → List I) (origin : I → ℕ) where
   -- of each number that this end stands for, what was put is what this end took and then what the lane holds
   abbrev pub IsBalanced : Hand M → List M → Type 0
   IsBalanced v within =
       v.takes ≡ true
       → (before : List (Home M)) (h : Home M) (behind : List (Home M)) → v.home ≡ before ++ h ∷ behind
       → (p : ℕ) → p < most_processes → set.contains h.numbers p ≡ true
-      → items_from origin p h.put ≡ items_from origin p v.taken ++ items_from origin p within
+      → items_from items origin p h.put ≡ items_from items origin p v.taken ++ items_from items origin p within
 
   -- what one end knows fits: the end that takes is the reader, and it has taken what was taken; the end that stands
   -- for a number has that number's seat, and has put what was put of it
-  pub record Fits (reader : ℕ) (seat : ℕ → ℕ) (taken : List M) (put : ℕ → List M) (pass : ℕ) (v : Hand M) : Type 0 where
+  pub record Fits (reader : ℕ) (seat : ℕ → ℕ) (taken : List M) (put : ℕ → List I)
+      (pass : ℕ) (v : Hand M) : Type 0 where
     pub takes : v.takes ≡ true → (pass ≡ reader) × (v.taken ≡ taken)
     pub stands : (before : List (Home M)) (h : Home M) (behind : List (Home M)) → v.home ≡ before ++ h ∷ behind
         → (p : ℕ) → p < most_processes → set.contains h.numbers p ≡ true
-        → (seat p ≡ pass) × (items_from origin p h.put ≡ put p)
+        → (seat p ≡ pass) × (items_from items origin p h.put ≡ put p)
 
 -- the lane rule over what the lane holds and what the ends know: for each number there is one end that stands for it
 pub record IsRuled
-    {M : Type 0} (origin place : M → ℕ) (is_last : M → Bool)
+    {M I : Type 0} (items : M → List I) (origin place : I → ℕ) (is_last : I → Bool)
     (within : List M) (ends : List (Hand M)) : Type 0 where
   pub reader : ℕ
   pub seat : ℕ → ℕ
   pub taken : List M
-  pub put : ℕ → List M
-  pub rule : LaneRule items_of origin place is_last taken within put
+  pub put : ℕ → List I
+  pub rule : LaneRule items origin place is_last taken within put
   pub seated : (p : ℕ) → p < most_processes → IsSeated ends (seat p) p
-  pub each : (pass : ℕ) (v : Hand M) → get_elem? ends pass ≡ some v → Fits origin reader seat taken put pass v
+  pub each : (pass : ℕ) (v : Hand M) → get_elem? ends pass ≡ some v → Fits items origin reader seat taken put pass v

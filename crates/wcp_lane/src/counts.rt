@@ -5,16 +5,16 @@ ghost use Rattle.wcp_clock.specs.Limits.{most_processes};
 use crate::origins::Origins;
 use wcp_clock::MAX_PROCS;
 
-/// How many items of each number were put or taken. The place of the last one is a u64, so a count may
-/// be one more than that.
+/// How many items of each number were put or taken. The place of an item is a u64, so a count may be more
+/// than that.
 pub type Counts = [u128; MAX_PROCS];
 
-/// Counts a message that is the next one of its origin.
-pub fn count(counts: &mut Counts, origin: u32, place: u64)
+/// Counts so many items that are the next ones of their origin, the first of them at this place.
+pub fn count_up(counts: &mut Counts, origin: u32, place: u64, items: u64)
     requires { origin < most_processes }
-    ensures { counts.new ≡ slice_set counts.old origin (place + 1) }
+    ensures { counts.new ≡ slice_set counts.old origin (place + items) }
 {
-    counts[origin as usize] = u128::from(place) + 1;
+    counts[origin as usize] = u128::from(place) + u128::from(items);
 }
 
 /// Whether the counts of all these numbers are the same.

@@ -1,31 +1,47 @@
-ghost use Rattle.std.specs.Prelude.{◌≡◌, ℕ, Bool};
+ghost use Rattle.std.specs.Prelude.{◌≡◌, ℕ, Bool, ◌<◌, None, List, length, slice_get, All, IfSome};
+ghost use Rattle.std.specs.List.{last_or};
 
 use wcp_clock::{Item, Note};
 
-/// What a lane carries. A message has an origin, which is the number of a process, and a place among the
-/// messages of its origin.
+/// What a lane carries. A message has one item or more, all of one origin, which is the number of a
+/// process. An item has a place among the items of its origin.
 pub trait Origin: Drop {
-    ghost origin: { Self → ℕ };
+    /// What the messages are made of.
+    type Item;
 
-    ghost place: { Self → ℕ };
+    ghost items: { Self → List Self.Item };
 
-    ghost last: { Self → Bool };
+    ghost origin: { Self.Item → ℕ };
 
-    /// The number of the process that it comes from.
+    ghost place: { Self.Item → ℕ };
+
+    ghost last: { Self.Item → Bool };
+
+    /// The number of the process that its items come from.
     fn origin(&self) -> u32
-        ensures { result ≡ origin self.now };
+        ensures { All (λ item. origin item ≡ result) (items self.now) };
 
-    /// How many messages of its origin stand before it.
+    /// How many items of its origin stand before its first one.
     fn place(&self) -> u64
-        ensures { result ≡ place self.now };
+        ensures { IfSome (slice_get (items self.now) 0) (λ first. result ≡ place first) };
 
-    /// Whether none of its origin may follow.
+    /// How many items it has.
+    fn count(&self) -> u64
+        ensures some { 0 < result }
+        ensures value { result ≡ length (items self.now) };
+
+    /// Whether its last item is one that nothing of its origin may follow.
     fn last(&self) -> bool
-        ensures { result ≡ last self.now };
+        ensures { IfSome (last_or None (items self.now)) (λ end. result ≡ last end) };
 }
 
 impl Origin for Item {
+    ghost use Rattle.std.specs.Prelude.{[], ◌∷◌};
     ghost use Rattle.wcp_clock.specs.Notes.{place_of, is_close};
+
+    type Item = Item;
+
+    ghost items = { λ item. item ∷ [] };
 
     ghost origin = { λ item. item.from };
 
@@ -42,6 +58,10 @@ impl Origin for Item {
             Note::Snap { number, .. } => u64::from(number),
             Note::Close { count } => u64::from(count),
         }
+    }
+
+    fn count(&self) -> u64 {
+        1
     }
 
     fn last(&self) -> bool {

@@ -32,7 +32,7 @@ impl<M: Origin> Protocol<M, Hand<M>> for Ruled {
     ghost use Rattle.std.specs.Prelude.{[]};
     ghost use Rattle.wcp_lane.specs.Passes.{IsRuled, taker, all_numbers};
 
-    ghost holds = { IsRuled M.origin M.place M.last };
+    ghost holds = { IsRuled M.items M.origin M.place M.last };
 
     ghost first = { taker all_numbers [] };
 }
@@ -58,7 +58,7 @@ pub struct Takes;
 impl<M: Origin> Outcome<M, Hand<M>> for Takes {
     ghost use Rattle.wcp_lane.specs.Passes.{IsTaken};
 
-    ghost then = { IsTaken M.origin M.place M.last };
+    ghost then = { IsTaken M.items M.origin M.place M.last };
 }
 
 impl<M: Origin> Lesson<M, Hand<M>> for Takes {
@@ -110,7 +110,7 @@ pub struct Compared;
 impl<M: Origin> Lesson<M, Hand<M>> for Compared {
     ghost use Rattle.wcp_lane.specs.Passes.{IsBalanced};
 
-    ghost fact = { IsBalanced M.origin };
+    ghost fact = { IsBalanced M.items M.origin };
 }
 
 /// What an end holds to know its part of the rule. It has no bytes.

@@ -1,10 +1,8 @@
-ghost use Rattle.std.specs.Prelude.{◌≡◌, ◌<◌, true, ◌∷◌, [], ◌++◌, OnOk, IfOk, IfErr, IfSome, IfNone};
-ghost use Rattle.std.specs.FinSet as set;
-ghost use Rattle.wcp_model.specs.LaneRule.{IsNext};
-ghost use Rattle.wcp_lane.specs.Message.{items_from};
+ghost use Rattle.std.specs.Prelude.{◌≡◌, ◌++◌, OnOk, IfOk, IfErr, IfSome, IfNone};
+ghost use Rattle.wcp_lane.specs.Message.{AllMayFollow};
 ghost use Rattle.wcp_lane.specs.Ends.{PutEnd};
 
-use crate::counts::{Counts, count};
+use crate::counts::{Counts, count_up};
 use crate::fault::Cut;
 use crate::message::Origin;
 use crate::origins::Origins;
@@ -15,7 +13,7 @@ use std::sync::Wait;
 
 /// An end of a lane that puts messages of the origins of a set.
 ///
-/// A contract sees it as its lane, its set and what it has put.
+/// A contract sees it as its lane, its set and the items that it has put.
 #[derive(Drop)]
 pub struct Putter<M: Origin> {
     pub(crate) sender: LaneSender<M>,
@@ -26,6 +24,7 @@ pub struct Putter<M: Origin> {
 
 impl<M: Origin> Model for Putter<M> {
     ghost use Rattle.std.specs.Prelude.{◌≡◌};
+    ghost use Rattle.std.specs.List.{flat_map};
     ghost use Rattle.crossbeam_channel.specs.Ends.{sends_on};
     ghost use Rattle.crossbeam_channel.specs.Claims.{IsSeatAt};
     ghost use Rattle.wcp_lane.specs.Passes.{putter};
@@ -34,17 +33,21 @@ impl<M: Origin> Model for Putter<M> {
     ghost use Rattle.std.specs.Coded.{codes};
     ghost use Rattle.wcp_lane.specs.Passes.{numbers_code};
 
-    ghost Value = { PutEnd M };
+    ghost Value = { PutEnd M M.Item };
 
     ghost coded = { Prim.hlevel (codes, numbers_code) };
 
-    ghost view = { λ s. record { lane = lane_of s.pass; members = s.origins; put = put_by (hand_of s.pass) } };
+    ghost view = { λ s. record {
+      lane = lane_of s.pass;
+      members = s.origins;
+      put = flat_map M.items (put_by (hand_of s.pass));
+    } };
 
     ghost invariant = { λ s.
         IsSeatAt (sends_on s.sender) s.pass
         × (hand_of s.pass ≡ putter s.origins (put_by (hand_of s.pass)))
         × IsWithin s.origins
-        × AreCounts M.origin s.counts (put_by (hand_of s.pass)) };
+        × AreCounts M.origin s.counts (flat_map M.items (put_by (hand_of s.pass))) };
 }
 
 impl<M: Origin> Putter<M> {
@@ -57,17 +60,17 @@ impl<M: Origin> Putter<M> {
 
     /// Puts a message, and waits while the lane is full. `Err` hands the message back.
     pub fn put<R: Wait>(&mut self, rt: &R, message: M) -> Result<(), (Cut, M)>
-        requires origin { set.contains self.old.members (M.origin message) ≡ true }
-        requires next { IsNext M.place M.last (items_from M.origin (M.origin message) self.old.put) message }
+        requires { AllMayFollow M.origin M.place M.last self.old.members self.old.put (M.items message) }
         ensures same { (self.new.lane ≡ self.old.lane) × (self.new.members ≡ self.old.members) }
-        ensures ok { OnOk result (self.new ≡ record self.old { put = self.old.put ++ message ∷ [] }) }
+        ensures ok { OnOk result (self.new ≡ record self.old { put = self.old.put ++ M.items message }) }
         ensures err { IfErr result (λ e. (e.1 ≡ message) × (self.new ≡ self.old)) }
     {
         let origin = message.origin();
         let place = message.place();
+        let items = message.count();
         match self.sender.send_as::<Puts, R>(rt, &mut self.pass, message) {
             Ok(()) => {
-                count(&mut self.counts, origin, place);
+                count_up(&mut self.counts, origin, place, items);
                 Ok(())
             }
             Err(error) => Err((Cut(()), error.into_inner())),
@@ -77,22 +80,22 @@ impl<M: Origin> Putter<M> {
     /// Puts a message if there is room for it. `Ok` hands it back where the lane is full, `Err` where it
     /// is cut.
     pub fn try_put<R: Wait>(&mut self, rt: &R, message: M) -> Result<Option<M>, (Cut, M)>
-        requires origin { set.contains self.old.members (M.origin message) ≡ true }
-        requires next { IsNext M.place M.last (items_from M.origin (M.origin message) self.old.put) message }
+        requires { AllMayFollow M.origin M.place M.last self.old.members self.old.put (M.items message) }
         ensures same { (self.new.lane ≡ self.old.lane) × (self.new.members ≡ self.old.members) }
         ensures put { IfOk result (λ back. IfNone back
-            (self.new ≡ record self.old { put = self.old.put ++ message ∷ [] })) }
+            (self.new ≡ record self.old { put = self.old.put ++ M.items message })) }
         ensures full { IfOk result (λ back. IfSome back (λ full. (full ≡ message) × (self.new ≡ self.old))) }
         ensures err { IfErr result (λ e. (e.1 ≡ message) × (self.new ≡ self.old)) }
     {
         let origin = message.origin();
         let place = message.place();
+        let items = message.count();
         match self
             .sender
             .try_send_as::<Puts, R>(rt, &mut self.pass, message)
         {
             Ok(()) => {
-                count(&mut self.counts, origin, place);
+                count_up(&mut self.counts, origin, place, items);
                 Ok(None)
             }
             Err(TrySendError::Full(back)) => Ok(Some(back)),
@@ -119,7 +122,7 @@ impl<M: Origin> Model for PutReceipt<M> {
     ghost use Rattle.std.specs.Coded.{codes};
     ghost use Rattle.wcp_lane.specs.Passes.{numbers_code};
 
-    ghost Value = { PutEnd M };
+    ghost Value = { PutEnd M M.Item };
 
     ghost coded = { Prim.hlevel (codes, numbers_code) };
 

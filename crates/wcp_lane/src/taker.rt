@@ -1,10 +1,9 @@
-ghost use Rattle.std.specs.Prelude.{◌≡◌, ℕ, ◌<◌, true, ◌∷◌, [], ◌++◌, IfOk, IfSome, IfNone, OnErr, MatchResult};
-ghost use Rattle.std.specs.Prelude.{MatchOption};
+ghost use Rattle.std.specs.Prelude.{◌≡◌, ◌<◌, ◌++◌, IfOk, IfSome, IfNone, OnErr};
 ghost use Rattle.std.specs.FinSet as set;
 ghost use Rattle.wcp_clock.specs.Limits.{most_processes};
-ghost use Rattle.wcp_lane.specs.Ends.{IsNextTaken};
+ghost use Rattle.wcp_lane.specs.Message.{AllMayFollow};
 
-use crate::counts::{Counts, count};
+use crate::counts::{Counts, count_up};
 use crate::fault::Cut;
 use crate::message::Origin;
 use crate::origins::Origins;
@@ -15,7 +14,7 @@ use std::sync::Wait;
 
 /// The end of a lane that takes.
 ///
-/// A contract sees it as its lane, the numbers of the lane's sets and what it has taken.
+/// A contract sees it as its lane, the numbers of the lane's sets and the items that it has taken.
 #[derive(Drop)]
 pub struct Taker<M: Origin> {
     pub(crate) receiver: LaneReceiver<M>,
@@ -26,24 +25,29 @@ pub struct Taker<M: Origin> {
 
 impl<M: Origin> Model for Taker<M> {
     ghost use Rattle.std.specs.Prelude.{◌≡◌};
+    ghost use Rattle.std.specs.List.{flat_map};
     ghost use Rattle.crossbeam_channel.specs.Ends.{receives_on};
     ghost use Rattle.crossbeam_channel.specs.Claims.{IsSeatAt};
-    ghost use Rattle.wcp_lane.specs.Passes.{taker};
-    ghost use Rattle.wcp_lane.specs.Ends.{TakeEnd, lane_of, hand_of, unowned_by, IsRest, AreCounts};
+    ghost use Rattle.wcp_lane.specs.Passes.{taker, IsRest};
+    ghost use Rattle.wcp_lane.specs.Ends.{TakeEnd, lane_of, hand_of, unowned_by, AreCounts};
     ghost use Rattle.std.specs.Coded.{codes};
     ghost use Rattle.wcp_lane.specs.Passes.{numbers_code};
 
-    ghost Value = { TakeEnd M };
+    ghost Value = { TakeEnd M M.Item };
 
     ghost coded = { Prim.hlevel (codes, numbers_code) };
 
-    ghost view = { λ s. record { lane = lane_of s.pass; members = s.origins; taken = (hand_of s.pass).taken } };
+    ghost view = { λ s. record {
+      lane = lane_of s.pass;
+      members = s.origins;
+      taken = flat_map M.items (hand_of s.pass).taken;
+    } };
 
     ghost invariant = { λ s.
         IsSeatAt (receives_on s.receiver) s.pass
         × (hand_of s.pass ≡ taker (unowned_by (hand_of s.pass)) (hand_of s.pass).taken)
         × IsRest s.origins (unowned_by (hand_of s.pass))
-        × AreCounts M.origin s.counts (hand_of s.pass).taken };
+        × AreCounts M.origin s.counts (flat_map M.items (hand_of s.pass).taken) };
 }
 
 impl<M: Origin> Taker<M> {
@@ -58,13 +62,18 @@ impl<M: Origin> Taker<M> {
     pub fn take<R: Wait>(&mut self, rt: &R) -> Result<M, Cut>
         ensures same { (self.new.lane ≡ self.old.lane) × (self.new.members ≡ self.old.members) }
         ensures ok { IfOk result (λ message.
-            IsNextTaken M.origin M.place M.last self.old message
-            × (self.new ≡ record self.old { taken = self.old.taken ++ message ∷ [] })) }
+            AllMayFollow M.origin M.place M.last self.old.members self.old.taken (M.items message)
+            × (self.new ≡ record self.old { taken = self.old.taken ++ M.items message })) }
         ensures err { OnErr result (self.new ≡ self.old) }
     {
         match self.receiver.recv_as::<Takes, R>(rt, &mut self.pass) {
             Ok(message) => {
-                count(&mut self.counts, message.origin(), message.place());
+                count_up(
+                    &mut self.counts,
+                    message.origin(),
+                    message.place(),
+                    message.count(),
+                );
                 Ok(message)
             }
             Err(_) => Err(Cut(())),
@@ -75,14 +84,19 @@ impl<M: Origin> Taker<M> {
     pub fn try_take<R: Wait>(&mut self, rt: &R) -> Result<Option<M>, Cut>
         ensures same { (self.new.lane ≡ self.old.lane) × (self.new.members ≡ self.old.members) }
         ensures some { IfOk result (λ found. IfSome found (λ message.
-            IsNextTaken M.origin M.place M.last self.old message
-            × (self.new ≡ record self.old { taken = self.old.taken ++ message ∷ [] }))) }
+            AllMayFollow M.origin M.place M.last self.old.members self.old.taken (M.items message)
+            × (self.new ≡ record self.old { taken = self.old.taken ++ M.items message }))) }
         ensures none { IfOk result (λ found. IfNone found (self.new ≡ self.old)) }
         ensures err { OnErr result (self.new ≡ self.old) }
     {
         match self.receiver.try_recv_as::<Takes, R>(rt, &mut self.pass) {
             Ok(message) => {
-                count(&mut self.counts, message.origin(), message.place());
+                count_up(
+                    &mut self.counts,
+                    message.origin(),
+                    message.place(),
+                    message.count(),
+                );
                 Ok(Some(message))
             }
             Err(TryRecvError::Empty) => Ok(None),
@@ -126,21 +140,26 @@ pub struct TakeReceipt<M: Origin> {
 
 impl<M: Origin> Model for TakeReceipt<M> {
     ghost use Rattle.std.specs.Prelude.{◌≡◌, true, []};
+    ghost use Rattle.std.specs.List.{flat_map};
     ghost use Rattle.wcp_lane.specs.Ends.{TakenEnd, lane_of, hand_of, AreCounts};
     ghost use Rattle.std.specs.Coded.{codes};
     ghost use Rattle.wcp_lane.specs.Passes.{numbers_code};
 
-    ghost Value = { TakenEnd M };
+    ghost Value = { TakenEnd M M.Item };
 
     ghost coded = { Prim.hlevel (codes, numbers_code) };
 
-    ghost view = { λ s.
-        record { lane = lane_of s.pass; members = s.origins; matched = s.matched; taken = (hand_of s.pass).taken } };
+    ghost view = { λ s. record {
+      lane = lane_of s.pass;
+      members = s.origins;
+      matched = s.matched;
+      taken = flat_map M.items (hand_of s.pass).taken;
+    } };
 
     ghost invariant = { λ s.
         ((hand_of s.pass).takes ≡ true)
         × (s.pass.me.1 ≡ [])
-        × AreCounts M.origin s.counts (hand_of s.pass).taken };
+        × AreCounts M.origin s.counts (flat_map M.items (hand_of s.pass).taken) };
 }
 
 impl<M: Origin> TakeReceipt<M> {

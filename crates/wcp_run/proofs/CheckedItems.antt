@@ -2,7 +2,7 @@
 use Rattle.std.proofs.Common.{◌≡◌, ℕ, suc, ◌-◌, ◌<◌, true, false, List, [], ◌∷◌, ◌++◌, length, take, map, filter, sym, refl, ap, ◌∙◌, subst, arith}
 use Rattle.std.specs.Prelude.{◌==◌, All, Result, Ok, Err, OnOk, IfErr, IfNone}
 use Rattle.std.specs.Result.{result_err}
-use Rattle.std.specs.List.{flat_map, list_any}
+use Rattle.std.specs.List.{list_any}
 use Rattle.std.proofs.Math.Seq.{take-append_seam}
 use Rattle.std.proofs.lemmas.Bool.{true≢false}
 use Rattle.std.proofs.lemmas.List.{length-append, length-map}
@@ -21,11 +21,6 @@ use Rattle.wcp_tree.specs.RelayWork.{IsTakenNext}
 use Rattle.wcp_run.specs.declared.checker_end.CheckFault.{CheckFault}
 use Rattle.wcp_run.specs.CheckerEnds.{KeepsUp, HasTakenClose, checked, checked_by}
 
--- each message is an item
-one_each : (items : List Item) → flat_map (λ (i : Item). i ∷ []) items ≡ items
-one_each [] = refl
-one_each (i ∷ items) = ap (λ rest. i ∷ rest) (one_each items)
-
 -- where no close mark is among these notes, they are all snapshots
 open_notes : (notes : List Note) → All (λ note. is_close note ≡ false) notes → (length (snapshot_clocks notes) ≡ length notes) × (list_any is_close notes ≡ false)
 open_notes [] all = (refl, refl)
@@ -35,11 +30,11 @@ open_notes (Snap number clock ∷ notes) all =
 open_notes (Close count ∷ notes) all = absurd (true≢false (all 0 (Close count) (omega arith)))
 
 -- what the lane gives next is what the checker may take
-pub may_take : (taker : TakeEnd Item) (checker : CheckerState) (item : Item) → KeepsUp taker checker → IsTakenNext taker item → MayTake checker item
+pub may_take : (taker : TakeEnd Item Item) (checker : CheckerState) (item : Item) → KeepsUp taker checker → IsTakenNext taker item → MayTake checker item
 may_take taker checker item keeps next =
     let before = items_from (λ (i : Item). i.from) item.from taker.taken in
     let same : notes_taken item.from taker.taken ≡ map (λ (i : Item). i.note) before =
-    ap (λ xs. map (λ (i : Item). i.note) (filter (λ (i : Item). i.from == item.from) xs)) (sym (one_each taker.taken)) in
+    refl in
     let all_open = open_notes (map (λ (i : Item). i.note) before) (All-map (λ note. is_close note ≡ false) (λ (i : Item). i.note) before next.next.unended) in
     let is : IsNextNote (map (λ (i : Item). i.note) before) item.note =
     record { place = next.next.numbered ∙ sym (length-map before (λ (i : Item). i.note)) ∙ sym all_open.0; still_open = all_open.1 } in
@@ -70,7 +65,7 @@ without_last items item =
     ap (λ k. take k (items ++ item ∷ [])) count ∙ take-append_seam items (item ∷ [])
 
 -- the checker has what the loop left it, whether it met a fault or not
-pub all_checked : (met : Result (Unit {0}) CheckFault) (taker : TakeEnd Item) (checker : CheckerState) → OnOk met (KeepsUp taker checker)
+pub all_checked : (met : Result (Unit {0}) CheckFault) (taker : TakeEnd Item Item) (checker : CheckerState) → OnOk met (KeepsUp taker checker)
     → IfErr met (λ fault. StandsForItems checker (checked fault taker.taken)) → StandsForItems checker (checked_by (result_err met) taker.taken)
 all_checked (Ok done) taker checker keeps stands = keeps.stands
 all_checked (Err fault) taker checker keeps stands = stands

@@ -2,7 +2,6 @@
 use Rattle.std.proofs.Common.{◌≡◌, ◌≢◌, ◌==◌, ℕ, zero, suc, ◌<◌, true, true≢false, List, [], ◌∷◌, length, get_or, map, Option, Some, None, refl, sym, ap, subst, ◌∙◌, eqb-true, arith}
 use Rattle.std.specs.Prelude.{slice_get, All, AllPairs, IfNone, filter}
 use Rattle.std.specs.FinSet as set
-use Rattle.std.specs.List.{flat_map}
 use Rattle.std.proofs.lemmas.List.Folds.{Any-from_list_any}
 use Rattle.wcp_clock.specs.declared.note.Item.{Item}
 use Rattle.wcp_clock.specs.declared.note.Note.{Note}
@@ -34,21 +33,16 @@ use Rattle.wcp_run.specs.Settling.{AreTakenFrom, IsLaneMatched, IsRingMatched, f
 use Rattle.wcp_run.proofs.MatchedLinks.{count_same, linked, process_same, receipts_of}
 
 -- the items of a process, and their notes
-singles : (items : List Item) → flat_map (λ item. item ∷ []) items ≡ items
-singles [] = refl
-singles (item ∷ items) = λ i. item ∷ singles items i
-
 notes_back : (p : ℕ) (notes : List Note) → map (λ (item : Item). item.note) (items_by p notes) ≡ notes
 notes_back p [] = refl
 notes_back p (note ∷ notes) = λ i. note ∷ notes_back p notes i
 
 notes_of_items : (p : ℕ) (items : List Item) (notes : List Note) → items_of p items ≡ items_by p notes → notes_taken p items ≡ notes
 notes_of_items p items notes same =
-    ap (λ xs. map (λ (item : Item). item.note) (filter (λ (item : Item). item.from == p) xs)) (sym (singles items))
-    ∙ ap (map (λ (item : Item). item.note)) same ∙ notes_back p notes
+    ap (map (λ (item : Item). item.note)) same ∙ notes_back p notes
 
 -- what a lane was matched for
-lane_taken : (root : TakenEnd Item) (IsRelay : ℕ → RelayEnd → Type 0) (relay : Relay) (end : RelayEnd) (p : ℕ) → fault_of end ≡ None
+lane_taken : (root : TakenEnd Item Item) (IsRelay : ℕ → RelayEnd → Type 0) (relay : Relay) (end : RelayEnd) (p : ℕ) → fault_of end ≡ None
     → AreReceiptsOf relay end → set.contains relay.putter.members p ≡ true → IsLaneMatched root IsRelay end
     → AreTakenFrom root IsRelay relay.parent p (put_by end p)
 lane_taken root IsRelay relay (Whole number watch owner taken put) p none receipts has matched =
@@ -56,7 +50,7 @@ lane_taken root IsRelay relay (Whole number watch owner taken put) p none receip
     (matched p (ap (λ members. set.contains members p) receipts.3 ∙ has))
 lane_taken root IsRelay relay (Faulted number watch fault source putter) p none receipts has matched = absurd (cc)
 
-module _ {count : ℕ} {probe_ends : List (Option ClosedSide)} {root : TakenEnd Item} {relay_ends : List (Option RelayEnd)}
+module _ {count : ℕ} {probe_ends : List (Option ClosedSide)} {root : TakenEnd Item Item} {relay_ends : List (Option RelayEnd)}
     (there : AreEndsThere count probe_ends root relay_ends) (matched : AreFirstMatched count probe_ends root relay_ends)
     (p : ℕ) (probe : ClosedSide) (sits : SitsAt probe_ends p probe) (within : p < there.plan.n) where
   abbrev emitted : List Item

@@ -10,7 +10,7 @@ use Rattle.wcp_run.specs.Seats.{SitsAt}
 use Rattle.wcp_run.proofs.MatchedRings.{sits_alone}
 use Rattle.wcp_run.proofs.Seating.{length_set}
 
-pub one_kept : (inboxes : List (Option (TakenEnd Item))) (place : ℕ) (seat : Option (TakenEnd Item)) (old new : TakenEnd Item)
+pub one_kept : (inboxes : List (Option (TakenEnd Item Item))) (place : ℕ) (seat : Option (TakenEnd Item Item)) (old new : TakenEnd Item Item)
     → place < length inboxes → SitsAt inboxes place old → new.lane ≡ old.lane → new.taken ≡ old.taken
     → KeepInboxes inboxes (slice_set (slice_set inboxes place seat) place (Some new))
 one_kept inboxes place seat old new within sits lane taken other receipt there = ⊎_elim
@@ -20,8 +20,8 @@ one_kept inboxes place seat old new within sits lane taken other receipt there =
       same = new;
       sits = ap (slice_get (slice_set (slice_set inboxes place seat) place (Some new))) same
           ∙ set_here (slice_set inboxes place seat) place (Some new) (omega (arith, within, length_set inboxes place seat));
-      lane = lane ∙ ap (λ (r : TakenEnd Item). r.lane) one;
-      taken = taken ∙ ap (λ (r : TakenEnd Item). r.taken) one;
+      lane = lane ∙ ap (λ (r : TakenEnd Item Item). r.lane) one;
+      taken = taken ∙ ap (λ (r : TakenEnd Item Item). r.taken) one;
     })
     (λ (apart : other ≢ place). record {
       same = receipt;

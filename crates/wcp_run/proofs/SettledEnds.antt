@@ -64,7 +64,7 @@ all_there place_of ends seats count are = (
 )
 
 -- links that were matched for more ends were matched for fewer
-module _ (root : TakenEnd Item) (IsProbe IsOneProbe : ℕ → ClosedSide → Type 0) (IsRelay IsOneRelay : ℕ → RelayEnd → Type 0)
+module _ (root : TakenEnd Item Item) (IsProbe IsOneProbe : ℕ → ClosedSide → Type 0) (IsRelay IsOneRelay : ℕ → RelayEnd → Type 0)
     (probe_is : (p : ℕ) (end : ClosedSide) → IsOneProbe p end → IsProbe p end)
     (relay_is : (k : ℕ) (end : RelayEnd) → IsOneRelay k end → IsRelay k end) where
   taken_for_fewer : (owner : Parent) (p : ℕ) (items : List Item) → AreTakenFrom root IsRelay owner p items

@@ -11,7 +11,7 @@ use Rattle.wcp_run.specs.declared.checker_end.CheckFault.TheVariants.{Memory, Cu
 use Rattle.wcp_run.specs.declared.checker_end.CheckerEnd.{CheckerEnd}
 
 -- A checker keeps up with the taker of a lane of its processes: it has taken what the taker took.
-pub record KeepsUp (taker : TakeEnd Item) (checker : CheckerState) : Type 0 where
+pub record KeepsUp (taker : TakeEnd Item Item) (checker : CheckerState) : Type 0 where
   pub members : (p : ℕ) → (set.contains taker.members p ≡ true) ↔ (p < processes checker)
   pub stands : StandsForItems checker taker.taken
 

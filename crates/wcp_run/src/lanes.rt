@@ -19,8 +19,8 @@ pub(crate) fn match_lane(
     put: PutReceipt<Item>,
     inboxes: &mut [Option<TakeReceipt<Item>>],
 ) -> Result<(), SettleFault>
-    requires { (receipt : TakenEnd Item) × SitsAt inboxes.old (inbox_place parent) receipt × (receipt.lane ≡ put.lane) }
-    ensures exact { (receipt : TakenEnd Item) → SitsAt inboxes.old (inbox_place parent) receipt
+    requires { (receipt : TakenEnd Item Item) × SitsAt inboxes.old (inbox_place parent) receipt × (receipt.lane ≡ put.lane) }
+    ensures exact { (receipt : TakenEnd Item Item) → SitsAt inboxes.old (inbox_place parent) receipt
         → IsOk result ↔ ((p : ℕ) → set.contains put.members p ≡ true
         → items_of p receipt.taken ≡ items_of p put.put) }
     ensures kept { OnOk result (KeepInboxes inboxes.old inboxes.new) }

@@ -1,8 +1,6 @@
 -- Runs, and the items of one process in a list.
 use Rattle.std.proofs.Common.{◌≡◌, ◌≢◌, ◌⊎◌, ℕ, Bool, true, false, List, [], ◌∷◌, ◌++◌, cond, refl, ap, ◌∙◌, subst, inl, inr, ⊎_elim, arith}
 use Rattle.std.specs.Prelude.{◌==◌, filter}
-use Rattle.std.specs.List.{flat_map}
-use Rattle.std.proofs.lemmas.Grind.{flat_map-append}
 use Rattle.std.proofs.lemmas.Bool.Decides.{nat_tests}
 use Rattle.std.proofs.lemmas.List.Elements.{filter-append}
 use Rattle.wcp_clock.specs.declared.note.Item.{Item}
@@ -45,7 +43,7 @@ module _ {I : Type 0} (place : I → ℕ) (is_last : I → Bool) where
   AreInSequence-none before item behind e = absurd (not_empty before item behind e)
 
 pub items_of-append : (p : ℕ) (xs ys : List Item) → items_of p (xs ++ ys) ≡ items_of p xs ++ items_of p ys
-items_of-append p xs ys = ap (filter (λ (m : Item). m.from == p)) (flat_map-append (λ (m : Item). m ∷ []) xs ys) ∙ filter-append (λ (m : Item). m.from == p) (flat_map (λ (m : Item). m ∷ []) xs) (flat_map (λ (m : Item). m ∷ []) ys)
+items_of-append p xs ys = filter-append (λ (m : Item). m.from == p) xs ys
 
 pub items_of-own : (p : ℕ) (item : Item) → item.from ≡ p → items_of p (item ∷ []) ≡ item ∷ []
 items_of-own p item own = let is : (item.from == p) ≡ true = grind (arith, nat_tests) in ap (λ b. cond b (item ∷ []) []) is

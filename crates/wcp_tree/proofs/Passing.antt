@@ -55,7 +55,7 @@ pub sound_passed : (o new : Outlet) (item : Item) → IsSound o → slice_get o.
     → new.putter ≡ record o.putter { put = o.putter.put ++ item ∷ [] } → new.hold ≡ record o.hold { items = drop 1 o.hold.items }
     → IsSound new
 sound_passed o new item sound first putter hold =
-    let numbers = ap (λ (e : PutEnd Item). e.members) putter in
+    let numbers = ap (λ (e : PutEnd Item Item). e.members) putter in
     let rest = All-rest (λ i. set.contains o.putter.members i.from ≡ true) o.hold.items sound.owned in
     record {
       room = subst (λ n. 0 < n) (sym (ap (λ (h : Held). h.room) hold)) sound.room;
@@ -90,7 +90,7 @@ unless_err X (Err e) not_err given = absurd (not_err (search rules))
 -- an outlet whose lane is cut has what it had
 pub sound_same : (o new : Outlet) → IsSound o → new.putter ≡ o.putter → new.hold ≡ o.hold → IsSound new
 sound_same o new sound putter hold =
-    let P : PutEnd Item × Held → Type 0 = λ v. (0 < v.1.room) × All (λ (i : Item). set.contains v.0.members i.from ≡ true) v.1.items × ((p : ℕ) → AreItemsInSequence (items_of p (v.0.put ++ v.1.items))) in
+    let P : PutEnd Item Item × Held → Type 0 = λ v. (0 < v.1.room) × All (λ (i : Item). set.contains v.0.members i.from ≡ true) v.1.items × ((p : ℕ) → AreItemsInSequence (items_of p (v.0.put ++ v.1.items))) in
     let both = subst P (λ i. (sym putter i, sym hold i)) (sound.room, sound.owned, sound.runs) in
     record { room = both.0; owned = both.1; runs = both.2 }
 
@@ -103,7 +103,7 @@ sound_taken o new item sound own next putter hold =
     let split : (p : ℕ) → items_of p (handed new) ≡ items_of p (handed o) ++ items_of p (item ∷ []) = λ p. ap (items_of p) whole ∙ items_of-append p (handed o) (item ∷ []) in
     record {
       room = subst (λ n. 0 < n) (sym (ap (λ (h : Held). h.room) hold)) sound.room;
-      owned = subst (λ m. All (λ (i : Item). set.contains m i.from ≡ true) new.hold.items) (sym (ap (λ (e : PutEnd Item). e.members) putter))
+      owned = subst (λ m. All (λ (i : Item). set.contains m i.from ≡ true) new.hold.items) (sym (ap (λ (e : PutEnd Item Item). e.members) putter))
           (subst (All (λ (i : Item). set.contains o.putter.members i.from ≡ true)) (sym (ap (λ (h : Held). h.items) hold))
           (All-append (λ (i : Item). set.contains o.putter.members i.from ≡ true) o.hold.items (item ∷ []) sound.owned (All-one (λ i. set.contains o.putter.members i.from ≡ true) item own)));
       runs = λ p. ⊎_elim

@@ -65,14 +65,14 @@ module _ (plan : Plan) (owner : Parent) where
         (same_or_other (get_or plan.parents.items relay Root) owner)
 
     -- the ends of such a lane are the children's seats
-    pub seats_of_shares : (lane : LaneName Item) (ends : List (PutEnd Item)) → ends ≡ map (new_putter lane) sets
+    pub seats_of_shares : (lane : LaneName Item) (ends : List (PutEnd Item Item)) → ends ≡ map (new_putter lane) sets
         → (relay : ℕ) → parent_of plan relay ≡ Some owner
-        → (putter : PutEnd Item) × (slice_get ends relay ≡ Some putter) × IsSeatOf plan relay lane putter
+        → (putter : PutEnd Item Item) × (slice_get ends relay ≡ Some putter) × IsSeatOf plan relay lane putter
     seats_of_shares lane ends are relay child =
         let within : relay < length sets =
         let inside = slice_get_within plan.parents.items relay owner child in omega (arith, count) in (
           new_putter lane (get_or sets relay set.empty),
-          ap (λ (xs : List (PutEnd Item)). slice_get xs relay) are
+          ap (λ (xs : List (PutEnd Item Item)). slice_get xs relay) are
               ∙ mapped_entry (new_putter lane) sets relay set.empty within,
           record { on = refl; members = (each relay set.empty within).child child; empty = refl },
         )

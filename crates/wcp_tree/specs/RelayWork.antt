@@ -6,7 +6,8 @@ use Rattle.std.specs.FinSet as set
 use Rattle.wcp_clock.specs.declared.note.Item.{Item}
 use Rattle.wcp_model.specs.LaneRule.{IsNext, AreInSequence}
 use Rattle.wcp_lane.specs.Passes.{Numbers}
-use Rattle.wcp_lane.specs.Ends.{TakeEnd, IsNextTaken}
+use Rattle.wcp_lane.specs.Ends.{TakeEnd}
+use Rattle.wcp_lane.specs.Message.{MayFollow}
 use Rattle.wcp_clock.specs.Notes.{place_of, is_close}
 use Rattle.wcp_tree.specs.declared.outlet.Outlet.{Outlet}
 use Rattle.wcp_tree.specs.declared.feed.Feed.{Feed}
@@ -67,18 +68,19 @@ IsGapAt p taken =
     (before : List Item) × (item : Item) × (taken p ≡ before ++ item ∷ []) × ¬ IsNextAfter before item
 
 -- A relay with a lane takes items of its putter's processes, and its outlet was handed what it took.
-pub record IsInnerAtWork (taker : TakeEnd Item) (outlet : Outlet) : Type 0 where
+pub record IsInnerAtWork (taker : TakeEnd Item Item) (outlet : Outlet) : Type 0 where
   pub among : (p : ℕ) → set.contains taker.members p ≡ true → set.contains outlet.putter.members p ≡ true
   pub sound : IsSound outlet
   pub faithful : IsFaithful (λ p. items_of p taker.taken) outlet
 
 -- An item that a taker takes is of its processes, and the next one after those of its process that were taken.
-abbrev pub IsTakenNext : TakeEnd Item → Item → Type 0
+abbrev pub IsTakenNext : TakeEnd Item Item → Item → Type 0
 IsTakenNext taker item =
-    IsNextTaken (λ (i : Item). i.from) (λ (i : Item). place_of i.note) (λ (i : Item). is_close i.note) taker item
+    MayFollow (λ (i : Item). i.from) (λ (i : Item). place_of i.note) (λ (i : Item). is_close i.note)
+    taker.members taker.taken item
 
 -- A taker keeps its lane and its processes.
-abbrev pub IsSameTaker : TakeEnd Item → TakeEnd Item → Type 0
+abbrev pub IsSameTaker : TakeEnd Item Item → TakeEnd Item Item → Type 0
 IsSameTaker old new = (new.lane ≡ old.lane) × (new.members ≡ old.members)
 
 -- The items of each process of the set end with its close mark.

@@ -27,11 +27,11 @@ lane_of (Leaf feeds sleeper) = None
 lane_of (Inner taker) = Some taker.lane
 
 -- The relays whose parent this one is are seated on its lane.
-abbrev pub AreSeated : Plan → ℕ → Source → List (Option (PutEnd Item)) → Type 0
+abbrev pub AreSeated : Plan → ℕ → Source → List (Option (PutEnd Item Item)) → Type 0
 AreSeated plan relay source seats =
     (child : ℕ) → parent_of plan child ≡ Some (parent.Relay relay)
     → (lane : LaneName Item) × (lane_of source ≡ Some lane)
-    × (putter : PutEnd Item) × (slice_get seats child ≡ Some (Some putter)) × IsSeatOf plan child lane putter
+    × (putter : PutEnd Item Item) × (slice_get seats child ≡ Some (Some putter)) × IsSeatOf plan child lane putter
 
 -- A relay of a watch before it runs: it knows its parent, and has its source, an empty hold, and an end of a lane that
 -- puts for just the processes below it.

@@ -25,10 +25,10 @@ lane_to root relays parent.Root = Some root
 lane_to root relays (parent.Relay above) = lane_below (slice_get relays above)
 
 -- The relays under the root are seated on its lane.
-abbrev pub AreSeatedUnder : Plan → LaneName Item → List (Option (PutEnd Item)) → Type 0
+abbrev pub AreSeatedUnder : Plan → LaneName Item → List (Option (PutEnd Item Item)) → Type 0
 AreSeatedUnder plan root seats =
     (relay : ℕ) → parent_of plan relay ≡ Some parent.Root
-    → (putter : PutEnd Item) × (slice_get seats relay ≡ Some (Some putter)) × IsSeatOf plan relay root putter
+    → (putter : PutEnd Item Item) × (slice_get seats relay ≡ Some (Some putter)) × IsSeatOf plan relay root putter
 
 -- The relay at a place is that of the plan, and puts on the lane that its parent takes from.
 pub record IsLinked (plan : Plan) (watch_number : ℕ) (root : LaneName Item) (takers : List (Option TakeSide))

@@ -25,7 +25,7 @@ AreBelowChildren plan owner members = (p : ℕ)
     → (set.contains members p ≡ true) ↔ ((relay : ℕ) × (parent_of plan relay ≡ Some owner) × IsBelow plan relay p)
 
 -- A relay's end of a lane before any put: it puts for just the processes below the relay.
-pub record IsSeatOf (plan : Plan) (relay : ℕ) (lane : LaneName Item) (putter : PutEnd Item) : Type 0 where
+pub record IsSeatOf (plan : Plan) (relay : ℕ) (lane : LaneName Item) (putter : PutEnd Item Item) : Type 0 where
   pub on : putter.lane ≡ lane
   pub members : AreBelow plan relay putter.members
   pub empty : putter.put ≡ []

@@ -22,7 +22,7 @@ pub(crate) fn open_lane(
     requires all { length seats.old.items ≡ length plan.now.parents.items }
     ensures all { length seats.new.items ≡ length seats.old.items }
     ensures seated { IfOk result (λ taker. (relay : ℕ) → parent_of plan.now relay ≡ Some owner
-        → (putter : PutEnd Item) × (slice_get seats.new.items relay ≡ Some (Some putter))
+        → (putter : PutEnd Item Item) × (slice_get seats.new.items relay ≡ Some (Some putter))
         × IsSeatOf plan.now relay taker.lane putter) }
     ensures others { (relay : ℕ) → parent_of plan.now relay ≢ Some owner
         → slice_get seats.new.items relay ≡ slice_get seats.old.items relay }
@@ -86,7 +86,7 @@ fn seat(
     requires ends { length putters.items ≡ length plan.now.parents.items }
     requires all { length seats.old.items ≡ length plan.now.parents.items }
     ensures all { length seats.new.items ≡ length seats.old.items }
-    ensures seated { (relay : ℕ) (putter : PutEnd Item) → parent_of plan.now relay ≡ Some owner
+    ensures seated { (relay : ℕ) (putter : PutEnd Item Item) → parent_of plan.now relay ≡ Some owner
         → slice_get putters.items relay ≡ Some putter → slice_get seats.new.items relay ≡ Some (Some putter) }
     ensures others { (relay : ℕ) → parent_of plan.now relay ≢ Some owner
         → slice_get seats.new.items relay ≡ slice_get seats.old.items relay }

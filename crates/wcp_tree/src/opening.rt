@@ -136,7 +136,7 @@ fn open_relay(
 ) -> Result<Relay, AllocError>
     requires checked { IsCheckedPlan plan.now }
     requires all { length seats.old.items ≡ length plan.now.parents.items }
-    requires seat { (putter : PutEnd Item) × (slice_get seats.old.items relay ≡ Some (Some putter))
+    requires seat { (putter : PutEnd Item Item) × (slice_get seats.old.items relay ≡ Some (Some putter))
         × AreBelow plan.now relay putter.members × (putter.put ≡ []) }
     requires there { (p : ℕ) → leaf_of plan.now p ≡ Some relay
         → (taker : TakeSide) × IsTakerAt takers.old.items p taker }

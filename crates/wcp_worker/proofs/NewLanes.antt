@@ -26,22 +26,22 @@ has_no_other p q has =
     ap (λ b. nat_eq q p || b) (sym (set.contains-empty nat_cmp q)) ∙ sym (contains_with set.empty p q) ∙ has in
     grind (arith, nat_tests)
 
-pub new_ends : (p count : ℕ) (putter : PutEnd Message) (taker : TakeEnd Message) → putter ≡ new_putter taker.lane (alone p)
+pub new_ends : (p count : ℕ) (putter : PutEnd Message Message) (taker : TakeEnd Message Message) → putter ≡ new_putter taker.lane (alone p)
     → ((q : ℕ) → set.contains taker.members q ≡ list_any (λ (numbers : Numbers). set.contains numbers q) (alone p ∷ []))
     → taker.taken ≡ []
     → IsNewLane p count (record { putter = putter; sent = 0; room = count }) (record { taker = taker; due = count })
 new_ends p count putter taker is members empty =
     record {
-      one_lane = ap (λ (e : PutEnd Message). e.lane) is;
+      one_lane = ap (λ (e : PutEnd Message Message). e.lane) is;
       puts = record {
-        own = ap (λ (e : PutEnd Message). set.contains e.members p) is ∙ has_itself p;
-        counted = subst (λ (e : PutEnd Message). 0 ≡ length (messages_from p e.put)) (sym is) refl;
+        own = ap (λ (e : PutEnd Message Message). set.contains e.members p) is ∙ has_itself p;
+        counted = subst (λ (e : PutEnd Message Message). 0 ≡ length (messages_from p e.put)) (sym is) refl;
       };
       takes = λ q has.
           let either : (set.contains (alone p) q || false) ≡ true = sym (members q) ∙ has in
           let alone_has : set.contains (alone p) q ≡ true = grind arith in
           has_no_other p q alone_has;
-      none_put = ap (λ (e : PutEnd Message). e.put) is;
+      none_put = ap (λ (e : PutEnd Message Message). e.put) is;
       none_taken = empty;
       room = refl;
       due = refl;

@@ -9,7 +9,11 @@ pub struct Message {
 }
 
 impl Origin for Message {
-    ghost use Rattle.std.specs.Prelude.{false};
+    ghost use Rattle.std.specs.Prelude.{false, [], ◌∷◌};
+
+    type Item = Message;
+
+    ghost items = { λ m. m ∷ [] };
 
     ghost origin = { λ m. m.stamped.from };
 
@@ -23,6 +27,10 @@ impl Origin for Message {
 
     fn place(&self) -> u64 {
         self.place
+    }
+
+    fn count(&self) -> u64 {
+        1
     }
 
     fn last(&self) -> bool {

@@ -1,5 +1,6 @@
 use Rattle.std.proofs.Common.{◌≡◌, ◌<◌, false, not, length, replicate, take, map, sym, ap, ◌∙◌, subst, arith, [], ◌∷◌, ◌++◌}
 use Rattle.std.specs.FinSet as set
+use Rattle.std.specs.List.{flat_map}
 use Rattle.std.proofs.lemmas.List.{take_more, map-append}
 use Rattle.crossbeam_channel.specs.Ends.{sends_on}
 use Rattle.crossbeam_channel.specs.Claims.{IsSeatAt}
@@ -11,7 +12,7 @@ use Rattle.wcp_lane.proofs.Sets.{owner_of, owned_more, rest_more, none_has, rest
 use Rattle.wcp_lane.proofs.opening.open.Goals as goal
 
 pub bounded_with-requires-clause-rule : goal.bounded_with-requires-clause-rule
-bounded_with-requires-clause-rule g c = begins g.M.Origin.origin g.M.Origin.place g.M.Origin.last
+bounded_with-requires-clause-rule g c = begins g.M.Origin.items g.M.Origin.origin g.M.Origin.place g.M.Origin.last
 
 pub loop-numbers-init : goal.loop-numbers-init
 loop-numbers-init g c =
@@ -42,7 +43,7 @@ invariant_of-push g c =
       c.give-own.ensures.lane.1,
       c.give-own.ensures.putter ∙ ap (putter c.numbers-item.result) (sym nothing),
       c.joined-origins.ensures.within,
-      subst (AreCounts g.M.Origin.origin (replicate 16 0)) (sym nothing) (counts_of_none g.M.Origin.origin),
+      subst (λ messages. AreCounts g.M.Origin.origin (replicate 16 0) (flat_map g.M.Origin.items messages)) (sym nothing) (counts_of_none g.M.Origin.origin),
     )
 
 pub loop-numbers-preserved : goal.loop-numbers-preserved
@@ -57,8 +58,8 @@ loop-numbers-preserved g c =
     let rest = ap unowned_by c.give-own.ensures.taker in
     let same_lane : lane_of c.loop-numbers.pass ≡ lane_of c.give-own.new.pass = λ i. ((old.seat.0 ∙ sym seat.0) i, (old.seat.1 ∙ sym seat.1) i) in
     let own_lane : lane_of c.give-own.result ≡ lane_of c.give-own.new.pass = λ i. ((own.0 ∙ sym seat.0) i, (own.1 ∙ sym seat.1) i) in
-    let putter : PutEnd g.row.M.Denot = record { lane = lane_of c.give-own.result; members = numbers; put = put_by (hand_of c.give-own.result) } in
-    let element : putter ≡ new_putter (lane_of c.give-own.new.pass) numbers = λ i. record { lane = own_lane i; members = numbers; put = put_by (c.give-own.ensures.putter i) } in
+    let putter : PutEnd g.row.M.Denot g.row.M-Item.Denot = record { lane = lane_of c.give-own.result; members = numbers; put = flat_map g.M.Origin.items (put_by (hand_of c.give-own.result)) } in
+    let element : putter ≡ new_putter (lane_of c.give-own.new.pass) numbers = λ i. record { lane = own_lane i; members = numbers; put = flat_map g.M.Origin.items (put_by (c.give-own.ensures.putter i)) } in
     record {
       seat = seat;
       knows = c.give-own.ensures.taker ∙ ap (λ left. taker left []) (sym rest);

@@ -3,8 +3,8 @@ use Rattle.std.specs.List.{list_any}
 use Rattle.std.specs.FinSet as set
 use Rattle.crossbeam_channel.specs.Ends.{sends_on}
 use Rattle.crossbeam_channel.specs.Claims.{IsSeatAt}
-use Rattle.wcp_lane.specs.Passes.{Numbers, taker}
-use Rattle.wcp_lane.specs.Ends.{lane_of, hand_of, unowned_by, new_putter, IsRest}
+use Rattle.wcp_lane.specs.Passes.{Numbers, IsRest, taker}
+use Rattle.wcp_lane.specs.Ends.{lane_of, hand_of, unowned_by, new_putter}
 use Rattle.wcp_lane.proofs.opening.open.Given as goal
 
 abbrev pub ghosts-give : goal.ghosts-give

@@ -17,11 +17,11 @@ returns g c =
     let taken = c.end.ensures.taken in
     let all = checked_by c.err-fault.result c.end.result.taken in
     let stands : StandsForItems checker all = rw (fault, taken) (all_checked met taker checker c.take_all.ensures.keeps_up c.take_all.ensures.fault) in
-    let members = c.end.ensures.members ∙ same.0.1 ∙ ap (λ (t : TakeEnd Item). t.members) c.into_taker-taker.ensures in
+    let members = c.end.ensures.members ∙ same.0.1 ∙ ap (λ (t : TakeEnd Item Item). t.members) c.into_taker-taker.ensures in
     record {
       watch = c.watch-watch.ensures;
       relays = c.relays-relays.ensures;
-      lane = c.end.ensures.lane ∙ same.0.0 ∙ ap (λ (t : TakeEnd Item). t.lane) c.into_taker-taker.ensures;
+      lane = c.end.ensures.lane ∙ same.0.0 ∙ ap (λ (t : TakeEnd Item Item). t.lane) c.into_taker-taker.ensures;
       members = members;
       processes = λ p. rw (members, count, same.1) (c.requires.members p);
       unmatched = c.end.ensures.matched;

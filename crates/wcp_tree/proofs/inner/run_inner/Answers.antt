@@ -38,7 +38,7 @@ loop-preserved-in_default g c =
       outlet = (same.0 ∙ old.outlet.0, same.1 ∙ old.outlet.1);
       below = old.below ∙ sym same.1;
       within = old.within;
-      ended = subst (λ (e : TakeEnd Item). AreClosed c.loop.closed (λ p. items_of p e.taken)) (sym is) old.ended;
+      ended = subst (λ (e : TakeEnd Item Item). AreClosed c.loop.closed (λ p. items_of p e.taken)) (sym is) old.ended;
       finished = old.finished;
     }
 

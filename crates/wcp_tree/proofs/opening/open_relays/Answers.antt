@@ -37,7 +37,7 @@ open_relay-requires-clause-seat c =
     c.loop-alloc.seats.items c.loop-alloc.takers.items (c.loop-alloc.invariant.opened root c.requires.seated.1) within in
     let number : c.len-number.result ≡ length c.loop-alloc.relays.items = omega arith in
     subst
-    (λ k. (putter : PutEnd Item) × (slice_get c.loop-alloc.seats.items k ≡ Some (Some putter))
+    (λ k. (putter : PutEnd Item Item) × (slice_get c.loop-alloc.seats.items k ≡ Some (Some putter))
     × AreBelow c.args.plan.now k putter.members × (putter.put ≡ []))
     (sym number)
     (next.2.2, next.2.3, next.2.4.members, next.2.4.empty)

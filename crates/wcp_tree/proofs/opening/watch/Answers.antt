@@ -29,13 +29,13 @@ returns c =
       takers = c.in_ok-probes.takers.items;
       rings = c.in_ok-probes.ensures;
       linked = subst
-          (λ (t : TakeEnd Item). AreLinked c.args.plan.now c.args.watch_number t.lane c.in_ok-probes.takers.items c.in_ok-relays.relays.items)
+          (λ (t : TakeEnd Item Item). AreLinked c.args.plan.now c.args.watch_number t.lane c.in_ok-probes.takers.items c.in_ok-relays.relays.items)
           same linked;
       number = c.new-inbox.ensures.watch;
       relays = c.new-inbox.ensures.relays ∙ omega (arith, linked.count);
       members = subst
-          (λ (t : TakeEnd Item). (p : ℕ) → (set.contains t.members p ≡ true) ↔ (p < c.args.plan.now.n))
+          (λ (t : TakeEnd Item Item). (p : ℕ) → (set.contains t.members p ≡ true) ↔ (p < c.args.plan.now.n))
           same
           (all_below_root c.args.plan.now c.requires c.in_ok-taker.taker.members c.in_ok-taker.ensures.members);
-      none_taken = ap (λ (t : TakeEnd Item). t.taken) (sym same) ∙ c.in_ok-taker.ensures.empty;
+      none_taken = ap (λ (t : TakeEnd Item Item). t.taken) (sym same) ∙ c.in_ok-taker.ensures.empty;
     }

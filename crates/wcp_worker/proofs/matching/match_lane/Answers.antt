@@ -1,4 +1,5 @@
-use Rattle.std.proofs.Common.{◌≡◌, true, false, length, sym, ap, ◌∙◌, rules}
+use Rattle.std.proofs.Common.{◌≡◌, true, false, length, map, refl, sym, ap, ◌∙◌, rules}
+use Rattle.wcp_probe.specs.Seal.{seal_of}
 use Rattle.std.specs.FinSet as set
 use Rattle.wcp_lane.specs.Ends.{PutEnd}
 use Rattle.wcp_worker.specs.declared.message.Message.{Message}
@@ -11,7 +12,23 @@ returns-in_err-_receipt-clause-exact c = (
   λ all.
       let no : false ≡ true = c.in_err-_receipt.ensures.exact.1 (λ p member.
       ap (λ taken. length (messages_from p taken)) c.end.ensures.taken
-      ∙ all p (sym (ap (λ (e : PutEnd Message). set.contains e.members p) c.end-2.ensures) ∙ member)
-      ∙ sym (ap (λ (e : PutEnd Message). length (messages_from p e.put)) c.end-2.ensures)) in
+      ∙ all p (sym (ap (λ (e : PutEnd Message Message). set.contains e.members p) c.end-2.ensures) ∙ member)
+      ∙ sym (ap (λ (e : PutEnd Message Message). length (messages_from p e.put)) c.end-2.ensures)) in
       cc,
 )
+
+pub returns-clause-exact : goal.returns-clause-exact
+returns-clause-exact c = (
+  λ is p member.
+      ap (λ taken. length (messages_from p taken)) (sym c.end.ensures.taken)
+      ∙ ap length (c.in_ok-_receipt.ensures.all p (ap (λ (e : PutEnd Message Message). set.contains e.members p) c.end-2.ensures ∙ member))
+      ∙ ap (λ (e : PutEnd Message Message). length (messages_from p e.put)) c.end-2.ensures,
+  λ all. refl,
+)
+
+pub returns-clause-matched : goal.returns-clause-matched
+returns-clause-matched c = λ p member.
+    ap (map (λ (m : Message). (seal_of m.stamped).clock))
+    (ap (messages_from p) (sym c.end.ensures.taken)
+    ∙ c.in_ok-_receipt.ensures.all p (ap (λ (e : PutEnd Message Message). set.contains e.members p) c.end-2.ensures ∙ member)
+    ∙ ap (λ (e : PutEnd Message Message). messages_from p e.put) c.end-2.ensures)
