@@ -165,31 +165,26 @@ module _ (plan : Plan) (tasks : List Task) (ends : Ends WorkerEnd) (run : AreEnd
 
       n_is : ends.checker.processes ≡ plan.n
       unfolding come
-      n_is = processes_are played.probes.items ends.relays.items ends.checker come
+      n_is = processes_are come
 
       abbrev counted : ℕ → ℕ
       counted p = length (clocks_taken p ends.checker.receipt.taken)
 
+      -- the tally that the ends tell of a process
+      abbrev told : ClosedSide → Tally
+      told end = record {
+        emitted = snapshots_in end.link.put;
+        taken = snapshots_in (notes_taken end.id ends.checker.receipt.taken);
+      }
+
       tally_at : (p : ℕ) (tally : Tally) → slice_get settled.tallies p ≡ Some tally → (tally.emitted ≡ counted p) × (tally.taken ≡ counted p)
       tally_at p tally at =
-          let (end, at_place) = is.all p (omega (arith, slice_get_within settled.tallies p tally at, is.processes)) in
-          let among = at_place.0 in
-          let id = at_place.1 in
-          let told = All-contains
-          (λ (e : ClosedSide). slice_get settled.tallies e.id ≡ Some (record {
-            emitted = snapshots_in e.link.put;
-            taken = snapshots_in (notes_taken e.id ends.checker.receipt.taken);
-          }))
-          played.probes.items end is.tallies among in
+          let (end, (among, id)) = is.all p (omega (arith, slice_get_within settled.tallies p tally at, is.processes)) in
+          let same : Some tally ≡ Some (told end) =
+          sym at ∙ ap (slice_get settled.tallies) (sym id)
+          ∙ All-contains (λ (e : ClosedSide). slice_get settled.tallies e.id ≡ Some (told e)) played.probes.items end is.tallies among in
+          let one : tally ≡ told end = cc in
           let whole = All-contains (λ (e : ClosedSide). notes_taken e.id ends.checker.receipt.taken ≡ e.link.put) played.probes.items end is.whole among in
-          let same : Some tally ≡ Some (record {
-            emitted = snapshots_in end.link.put;
-            taken = snapshots_in (notes_taken end.id ends.checker.receipt.taken);
-          }) = sym at ∙ ap (slice_get settled.tallies) (sym id) ∙ told in
-          let one : tally ≡ record {
-            emitted = snapshots_in end.link.put;
-            taken = snapshots_in (notes_taken end.id ends.checker.receipt.taken);
-          } = cc in
           let count : snapshots_in (notes_taken end.id ends.checker.receipt.taken) ≡ counted p =
           ap (λ q. snapshots_in (notes_taken q ends.checker.receipt.taken)) id ∙ snapshots_counted (notes_taken p ends.checker.receipt.taken) in (
             ap (λ (t : Tally). t.emitted) one ∙ ap snapshots_in (sym whole) ∙ count,

@@ -8,7 +8,7 @@ use Rattle.std.proofs.lemmas.Bool.{cases_lt}
 use Rattle.std.proofs.lemmas.List.Sums.{sum_by-cons}
 use Rattle.std.proofs.lemmas.List.Elements.{All-contains}
 use Rattle.std.proofs.lemmas.Option.{slice_get_past, slice_get_within}
-use Rattle.wcp_clock.specs.Limits.{most_processes}
+use Rattle.wcp_clock.specs.Limits.{most_processes, most_relays}
 use Rattle.wcp_clock.specs.declared.note.Item.{Item}
 use Rattle.wcp_clock.specs.declared.note.Note.{Note}
 use Rattle.wcp_model.specs.Report.{ClocksRise, IsDrained, IsReportByClocks, notes_taken}
@@ -24,12 +24,12 @@ use Rattle.wcp_tree.specs.LiveProbe.{ClosedSide, snapshots_in}
 use Rattle.wcp_tree.specs.RelayEnds.{fault_of, number_of, watch_of}
 use Rattle.wcp_tree.specs.declared.relay_end.RelayEnd.{RelayEnd}
 use Rattle.wcp_tree.specs.declared.relay_end.RelayEnd.TheVariants.{Whole, Faulted}
-use Rattle.wcp_tree.proofs.CheckedPlan.{few_processes}
-use Rattle.wcp_run.specs.Matching.{AreEndsThere}
+use Rattle.wcp_tree.proofs.CheckedPlan.{few_processes, few_relays}
+use Rattle.wcp_run.specs.Matching.{AreEndsThere, AreFirstMatched}
 use Rattle.wcp_run.specs.Seats.{AreAllThere, AreOfWatch, AreAllSeated, AreSeats, IsEndAt, SitsAt}
-use Rattle.wcp_run.specs.Settling.{AreFinished, AreLinksMatched, AreTakenFrom, ComeFromWatch, IsEndOfSomeProbe, IsEndOfSomeRelay, IsSettled, IsLaneMatched, share_of}
+use Rattle.wcp_run.specs.Settling.{AreLinksMatched, AreTakenFrom, ComeFromWatch, IsEndOfSomeProbe, IsEndOfSomeRelay, IsFreeOf, IsSettled, IsLaneMatched, share_of}
 use Rattle.wcp_run.specs.CheckerEnds.{checked_by}
-use Rattle.wcp_run.specs.declared.settled.Settled.{Settled}
+use Rattle.wcp_run.specs.declared.settle_fault.SettleFault.TheVariants.{Missing, Faulted, Unfinished}
 use Rattle.wcp_run.specs.declared.checker_end.CheckerEnd.{CheckerEnd}
 use Rattle.wcp_run.proofs.ClimbedLanes.{all_taken}
 use Rattle.wcp_run.proofs.Seating.{All-from_contains}
@@ -82,7 +82,31 @@ module _ (root : TakenEnd Item Item) (IsProbe IsOneProbe : ℕ → ClosedSide �
     lane = lane_for_fewer end matched.lane;
   }
 
-module _ (probes : List ClosedSide) (relays : List RelayEnd) (checker : CheckerEnd) (come : ComeFromWatch probes relays checker) where
+-- all these ends are of the checker's watch, and sit each at the place of its number
+pub record HaveSeats (probes : List ClosedSide) (relays : List RelayEnd) (checker : CheckerEnd)
+    (probe_seats : List (Option ClosedSide)) (relay_seats : List (Option RelayEnd)) : Type 0 where
+  pub of_probes : AreOfWatch (λ end. end.watch) (λ end. end.id) checker.watch probes
+  pub of_relays : AreOfWatch watch_of number_of checker.watch relays
+  pub probes_sit : AreSeats (λ end. end.id) probes probe_seats
+  pub relays_sit : AreSeats number_of relays relay_seats
+
+pub have_seats : {probes : List ClosedSide} {relays : List RelayEnd} (checker : CheckerEnd) {probe_seats : List (Option ClosedSide)}
+    {relay_seats : List (Option RelayEnd)} → AreOfWatch (λ end. end.watch) (λ end. end.id) checker.watch probes
+    → AreOfWatch watch_of number_of checker.watch relays → AreSeats (λ end. end.id) probes probe_seats
+    → AreSeats number_of relays relay_seats → HaveSeats probes relays checker probe_seats relay_seats
+have_seats checker of_probes of_relays probes_sit relays_sit = record {
+  of_probes = of_probes;
+  of_relays = of_relays;
+  probes_sit = probes_sit;
+  relays_sit = relays_sit;
+}
+
+-- these are the shares of the processes
+pub record AreShares (count : ℕ) (probe_seats : List (Option ClosedSide)) (tallies : List Tally) : Type 0 where
+  pub count_is : length tallies ≡ count
+  pub each : (p : ℕ) (probe : ClosedSide) → p < count → SitsAt probe_seats p probe → slice_get tallies p ≡ Some (share_of probe)
+
+module _ {probes : List ClosedSide} {relays : List RelayEnd} {checker : CheckerEnd} (come : ComeFromWatch probes relays checker) where
   same_members : (p : ℕ) → (p < checker.processes) ↔ (p < come.plan.n)
   same_members p = (
     (λ below. (come.wired.members p).0 (ap (λ (members : Numbers). set.contains members p) (sym come.of_checker.members)
@@ -92,15 +116,7 @@ module _ (probes : List ClosedSide) (relays : List RelayEnd) (checker : CheckerE
   )
 
   pub processes_are : checker.processes ≡ come.plan.n
-  processes_are = ⊎_elim
-      (λ (less : checker.processes < come.plan.n).
-      absurd (let own = (same_members checker.processes).1 less in omega (arith, own)))
-      (λ (most : come.plan.n ≤ checker.processes). ⊎_elim
-      (λ (more : come.plan.n < checker.processes).
-      absurd (let own = (same_members come.plan.n).0 more in omega (arith, own)))
-      (λ (least : checker.processes ≤ come.plan.n). omega (arith, most, least))
-      (cases_lt come.plan.n checker.processes))
-      (cases_lt checker.processes come.plan.n)
+  processes_are = grind (arith, (same_members checker.processes).1, (same_members come.plan.n).0)
 
   pub few : checker.processes ≤ most_processes
   few = omega (arith, processes_are, few_processes come.plan come.checked)
@@ -114,25 +130,50 @@ module _ (probes : List ClosedSide) (relays : List RelayEnd) (checker : CheckerE
   pub relays_are : checker.relays ≡ length come.plan.parents.items
   relays_are = come.of_checker.relays ∙ come.wired.relays
 
+  pub few_ends : checker.relays ≤ most_relays
+  few_ends = omega (arith, relays_are, few_relays come.plan come.checked)
+
+  -- where an end carries the number of the watch, it is that of one of its probes, or of its relays
+  abbrev ProbeOfWatch : ClosedSide → Type 0
+  ProbeOfWatch end = end.watch ≡ checker.watch → IsEndOfSomeProbe come.watch.probes.items end
+
+  abbrev RelayOfWatch : RelayEnd → Type 0
+  RelayOfWatch end = watch_of end ≡ checker.watch → IsEndOfSomeRelay come.watch.relays.items end
+
   pub probe_within : (end : ClosedSide) → Contains probes end → end.watch ≡ checker.watch → end.id < checker.processes
   probe_within end among same =
-      let is = All-contains (λ (e : ClosedSide). e.watch ≡ checker.watch → IsEndOfSomeProbe come.watch.probes.items e) probes end come.of_probes among same in
+      let is = All-contains ProbeOfWatch probes end come.of_probes among same in
       omega (arith, processes_are, slice_get_within come.watch.probes.items end.id is.probe is.is_probe, come.wired.rings.probes_count)
 
   pub relay_within : (end : RelayEnd) → Contains relays end → watch_of end ≡ checker.watch → number_of end < checker.relays
   relay_within end among same =
-      let is = All-contains (λ e. watch_of e ≡ checker.watch → IsEndOfSomeRelay come.watch.relays.items e) relays end come.of_relays among same in
+      let is = All-contains RelayOfWatch relays end come.of_relays among same in
       omega (arith, relays_are, slice_get_within come.watch.relays.items (number_of end) is.relay is.is_relay, come.wired.linked.count)
 
-  module _ (probe_seats : List (Option ClosedSide)) (relay_seats : List (Option RelayEnd))
-      (of_probes : AreOfWatch (λ end. end.watch) (λ end. end.id) checker.watch probes)
-      (of_relays : AreOfWatch watch_of number_of checker.watch relays)
-      (probes_sit : AreSeats (λ end. end.id) probes probe_seats) (relays_sit : AreSeats number_of relays relay_seats) where
+  module _ {probe_seats : List (Option ClosedSide)} {relay_seats : List (Option RelayEnd)}
+      (seats : HaveSeats probes relays checker probe_seats relay_seats) where
+    probe_of : (end : ClosedSide) → Contains probes end → end.watch ≡ checker.watch
+    probe_of end among = All-contains (λ (end : ClosedSide). end.watch ≡ checker.watch) probes end seats.of_probes.same among
+
+    relay_of : (end : RelayEnd) → Contains relays end → watch_of end ≡ checker.watch
+    relay_of end among = All-contains (λ end. watch_of end ≡ checker.watch) relays end seats.of_relays.same among
+
+    -- none is missing where somebody sits at each place
+    pub none_missing : (book : List (Option Tally))
+        → (AreAllSeated checker.processes probe_seats × AreAllSeated checker.relays relay_seats)
+        ↔ IsFreeOf probes relays checker book Missing
+    none_missing book =
+        let of_probes = all_there (λ (end : ClosedSide). end.id) probes probe_seats checker.processes seats.probes_sit in
+        let of_relays = all_there number_of relays relay_seats checker.relays seats.relays_sit in (
+          λ seated. (of_probes.0 seated.0, of_relays.0 seated.1),
+          λ there. (of_probes.1 there.0, of_relays.1 there.1),
+        )
+
     -- all ends are there
-    pub ends_there : AreAllSeated checker.processes probe_seats → AreAllSeated checker.relays relay_seats
+    pub ends_there : AreAllSeated checker.processes probe_seats × AreAllSeated checker.relays relay_seats
         → All (λ end. fault_of end ≡ None) relays
         → (there : AreEndsThere checker.relays probe_seats checker.receipt relay_seats) × (there.plan.n ≡ checker.processes)
-    ends_there probes_there relays_there whole = (
+    ends_there seated whole = (
       record {
         plan = come.plan;
         watch_number = checker.watch;
@@ -141,126 +182,111 @@ module _ (probes : List ClosedSide) (relays : List RelayEnd) (checker : CheckerE
         wired = come.wired;
         all = relays_are;
         probe = λ p below.
-            let one = probes_there p (omega (arith, processes_are, below)) in
-            let own = probes_sit.own p one.0 one.1 in
+            let one = seated.0 p (omega (arith, processes_are, below)) in
+            let own = seats.probes_sit.own p one.0 one.1 in
             record {
               end = one.0;
               sits = one.1;
               id = own.1;
-              is_end = All-contains (λ (e : ClosedSide). e.watch ≡ checker.watch → IsEndOfSomeProbe come.watch.probes.items e) probes one.0
-                  come.of_probes own.0 (All-contains (λ (e : ClosedSide). e.watch ≡ checker.watch) probes one.0 of_probes.same own.0);
+              is_end = All-contains ProbeOfWatch probes one.0 come.of_probes own.0 (probe_of one.0 own.0);
             };
         relay = λ number below.
-            let one = relays_there number below in
-            let own = relays_sit.own number one.0 one.1 in
+            let one = seated.1 number below in
+            let own = seats.relays_sit.own number one.0 one.1 in
             record {
               end = one.0;
               sits = one.1;
               number_is = own.1;
               whole = All-contains (λ e. fault_of e ≡ None) relays one.0 whole own.0;
-              is_end = All-contains (λ e. watch_of e ≡ checker.watch → IsEndOfSomeRelay come.watch.relays.items e) relays one.0
-                  come.of_relays own.0 (All-contains (λ e. watch_of e ≡ checker.watch) relays one.0 of_relays.same own.0);
+              is_end = All-contains RelayOfWatch relays one.0 come.of_relays own.0 (relay_of one.0 own.0);
             };
         lane = come.of_checker.lane;
       },
       sym processes_are,
     )
 
+    abbrev AllLinks : RelayEnd → Type 0
+    AllLinks = AreLinksMatched (IsEndAt (λ end. end.id) probes) checker.receipt (IsEndAt number_of relays)
+
     -- the links of all ends were matched where those of the ends at their places were
-    pub links_matched : ((number : ℕ) (relay : RelayEnd) → number < checker.relays → SitsAt relay_seats number relay
-        → AreLinksMatched (SitsAt probe_seats) checker.receipt (SitsAt relay_seats) relay)
-        ↔ All (AreLinksMatched (IsEndAt (λ end. end.id) probes) checker.receipt (IsEndAt number_of relays)) relays
+    pub links_matched : AreFirstMatched checker.relays probe_seats checker.receipt relay_seats
+        ↔ All AllLinks relays
     links_matched = (
-      (λ each. All-from_contains
-          (AreLinksMatched (IsEndAt (λ end. end.id) probes) checker.receipt (IsEndAt number_of relays)) relays
+      (λ each. All-from_contains AllLinks relays
           (λ end among.
           matched_for_fewer checker.receipt (SitsAt probe_seats) (IsEndAt (λ end. end.id) probes) (SitsAt relay_seats)
-          (IsEndAt number_of relays) probes_sit.seated relays_sit.seated end
-          (each (number_of end) end
-          (relay_within end among (All-contains (λ e. watch_of e ≡ checker.watch) relays end of_relays.same among))
-          (relays_sit.seated (number_of end) end (among, refl))))),
+          (IsEndAt number_of relays) seats.probes_sit.seated seats.relays_sit.seated end
+          (each (number_of end) end (relay_within end among (relay_of end among))
+          (seats.relays_sit.seated (number_of end) end (among, refl))))),
       (λ all number relay below sits.
-          let own = relays_sit.own number relay sits in
+          let own = seats.relays_sit.own number relay sits in
           matched_for_fewer checker.receipt (IsEndAt (λ end. end.id) probes) (SitsAt probe_seats) (IsEndAt number_of relays)
-          (SitsAt relay_seats) probes_sit.own relays_sit.own relay
-          (All-contains (AreLinksMatched (IsEndAt (λ end. end.id) probes) checker.receipt (IsEndAt number_of relays)) relays relay all own.0)),
+          (SitsAt relay_seats) seats.probes_sit.own seats.relays_sit.own relay (All-contains AllLinks relays relay all own.0)),
     )
 
-    module _ (tallies : List Tally) (count : length tallies ≡ checker.processes)
-        (shares : (p : ℕ) (probe : ClosedSide) → p < checker.processes → SitsAt probe_seats p probe
-        → slice_get tallies p ≡ Some (share_of probe)) (book : List (Option Tally)) where
+    module _ {tallies : List Tally} (are : AreShares checker.processes probe_seats tallies) (book : List (Option Tally)) where
       share_at : (end : ClosedSide) → Contains probes end → slice_get tallies end.id ≡ Some (share_of end)
       share_at end among =
-          shares end.id end
-          (probe_within end among (All-contains (λ (e : ClosedSide). e.watch ≡ checker.watch) probes end of_probes.same among))
-          (probes_sit.seated end.id end (among, refl))
+          are.each end.id end (probe_within end among (probe_of end among)) (seats.probes_sit.seated end.id end (among, refl))
 
       -- the book has just the tallies where it has just the shares of the processes
       pub book_finished : ((p : ℕ) → option_flatten (slice_get book p) ≡ slice_get tallies p)
-          → ((number : ℕ) (relay : RelayEnd) → number < checker.relays → SitsAt relay_seats number relay
-          → AreLinksMatched (SitsAt probe_seats) checker.receipt (SitsAt relay_seats) relay)
-          → AreFinished checker.processes probes checker.receipt relays book
+          → AreFirstMatched checker.relays probe_seats checker.receipt relay_seats
+          → IsFreeOf probes relays checker book Unfinished
       book_finished posted each = record {
         links = links_matched.0 each;
         shares = All-from_contains (λ (e : ClosedSide). option_flatten (slice_get book e.id) ≡ Some (share_of e)) probes
             (λ end among. posted end.id ∙ share_at end among);
-        no_others = λ p past. posted p ∙ slice_get_past tallies p (omega (arith, count, past));
+        no_others = λ p past. posted p ∙ slice_get_past tallies p (omega (arith, are.count_is, past));
       }
 
-      pub book_posted : AreAllSeated checker.processes probe_seats → AreFinished checker.processes probes checker.receipt relays book
+      pub book_posted : AreAllSeated checker.processes probe_seats → IsFreeOf probes relays checker book Unfinished
           → (p : ℕ) → option_flatten (slice_get book p) ≡ slice_get tallies p
       book_posted there finished p = ⊎_elim
           (λ (below : p < checker.processes).
           let one = there p below in
-          let own = probes_sit.own p one.0 one.1 in
+          let own = seats.probes_sit.own p one.0 one.1 in
           ap (λ q. option_flatten (slice_get book q)) (sym own.1)
           ∙ All-contains (λ (e : ClosedSide). option_flatten (slice_get book e.id) ≡ Some (share_of e)) probes one.0 finished.shares own.0
-          ∙ sym (shares p one.0 below one.1))
+          ∙ sym (are.each p one.0 below one.1))
           (λ (past : checker.processes ≤ p).
-          finished.no_others p past ∙ sym (slice_get_past tallies p (omega (arith, count, past))))
+          finished.no_others p past ∙ sym (slice_get_past tallies p (omega (arith, are.count_is, past))))
           (cases_lt p checker.processes)
 
       -- what a run's ends tell
-      pub all_settled : checker.fault ≡ None → AreAllSeated checker.processes probe_seats
-          → (there : AreEndsThere checker.relays probe_seats checker.receipt relay_seats) → there.plan.n ≡ checker.processes
+      pub all_settled : AreAllSeated checker.processes probe_seats × AreAllSeated checker.relays relay_seats
+          → IsFreeOf probes relays checker book Faulted
           → ((p : ℕ) → option_flatten (slice_get book p) ≡ slice_get tallies p)
-          → ((number : ℕ) (relay : RelayEnd) → number < checker.relays → SitsAt relay_seats number relay
-          → AreLinksMatched (SitsAt probe_seats) checker.receipt (SitsAt relay_seats) relay)
-          → (told : Settled) → told.report ≡ checker.report → told.tallies ≡ tallies
-          → IsSettled probes checker book told
-      all_settled none probes_there there n_is posted each told report_is tallies_are = record {
-        all = (all_there (λ (end : ClosedSide). end.id) probes probe_seats checker.processes probes_sit).0 probes_there;
+          → AreFirstMatched checker.relays probe_seats checker.receipt relay_seats
+          → IsSettled probes checker book (record { report = checker.report; tallies = tallies })
+      all_settled seated whole posted each = record {
+        all = ((none_missing book).0 seated).0;
         whole = All-from_contains (λ (end : ClosedSide). notes_taken end.id checker.receipt.taken ≡ end.link.put) probes whole_of;
-        any_clocks = subst (IsReportOfAnyClocks checker.processes checker.receipt.taken) (sym report_is)
-            (subst (λ fault. IsReportOfAnyClocks checker.processes (checked_by fault checker.receipt.taken) checker.report) none
-            come.of_checker.any_clocks);
-        exact = λ rise. subst (IsReportByClocks checker.processes checker.receipt.taken) (sym report_is)
-            (subst (λ fault. ClocksRise checker.processes (checked_by fault checker.receipt.taken)
-            → IsReportByClocks checker.processes (checked_by fault checker.receipt.taken) checker.report) none
-            come.of_checker.exact rise);
-        drained = subst (λ fault. IfNone fault (IsDrained checker.processes checker.receipt.taken)) none come.of_checker.drained;
-        processes = ap (λ (all : List Tally). length all) tallies_are ∙ count;
+        any_clocks = subst (λ fault. IsReportOfAnyClocks checker.processes (checked_by fault checker.receipt.taken) checker.report)
+            whole.1 come.of_checker.any_clocks;
+        exact = subst (λ fault. ClocksRise checker.processes (checked_by fault checker.receipt.taken)
+            → IsReportByClocks checker.processes (checked_by fault checker.receipt.taken) checker.report) whole.1 come.of_checker.exact;
+        drained = subst (λ fault. IfNone fault (IsDrained checker.processes checker.receipt.taken)) whole.1 come.of_checker.drained;
+        processes = are.count_is;
         tallies = All-from_contains
-            (λ (end : ClosedSide). slice_get told.tallies end.id ≡ Some (record {
+            (λ (end : ClosedSide). slice_get tallies end.id ≡ Some (record {
               emitted = snapshots_in end.link.put;
               taken = snapshots_in (notes_taken end.id checker.receipt.taken);
             }))
             probes
             (λ end among.
-            ap (λ (all : List Tally). slice_get all end.id) tallies_are ∙ share_at end among
+            share_at end among
             ∙ ap (λ (notes : List Note). Some (record { emitted = snapshots_in end.link.put; taken = snapshots_in notes }))
             (sym (whole_of end among)));
-        shares = λ p. posted p ∙ ap (λ (all : List Tally). slice_get all p) (sym tallies_are);
-        totals = λ totals are.
-            let same = λ (p : ℕ). posted p ∙ ap (λ (all : List Tally). slice_get all p) (sym tallies_are) in (
-              are.emitted ∙ shares_sum (λ tally. tally.emitted) emitted_of_share refl (λ tally. refl) book told.tallies same,
-              are.taken ∙ shares_sum (λ tally. tally.taken) taken_of_share refl (λ tally. refl) book told.tallies same,
-            );
+        shares = posted;
+        totals = λ totals sums. (
+          sums.emitted ∙ shares_sum (λ tally. tally.emitted) emitted_of_share refl (λ tally. refl) book tallies posted,
+          sums.taken ∙ shares_sum (λ tally. tally.taken) taken_of_share refl (λ tally. refl) book tallies posted,
+        );
       }
         where
           whole_of : (end : ClosedSide) → Contains probes end → notes_taken end.id checker.receipt.taken ≡ end.link.put
           whole_of end among =
-              let below = probe_within end among
-              (All-contains (λ (e : ClosedSide). e.watch ≡ checker.watch) probes end of_probes.same among) in
-              all_taken there each end.id end
-              (probes_sit.seated end.id end (among, refl)) (omega (arith, below, n_is))
+              let (there, n_is) = ends_there seated whole.0 in
+              all_taken there each end.id end (seats.probes_sit.seated end.id end (among, refl))
+              (omega (arith, probe_within end among (probe_of end among), n_is))
