@@ -5,7 +5,7 @@ use Rattle.wcp_cli.specs.declared.words.Request.{Request}
 use Rattle.wcp_cli.specs.RequestAnswers.{IsAnswerTo, Known, Reads}
 use Rattle.wcp_cli.specs.Words.{HasRing, IsSameRequest}
 
--- The input and the output of a run, each before and after.
+-- The input and the output of the program, each before and after.
 pub record Edge : Type 0 where
   pub input : Known
   pub input_after : Known
@@ -25,8 +25,8 @@ edge_of input input_after output output_after = record {
 abbrev pub AppendsFront : Known → Known → List ℕ → Type 0
 AppendsFront old new text = (count : ℕ) × Appends old new (take count text)
 
--- A run does this request at its edge, with this status: it writes the answer whole; or, where a write failed, a front
--- of the answer, with status 2; or, where there is no answer, nothing, with status 2.
+-- The program does this request at its edge, with this status: it writes the answer whole; or, where a write failed, a
+-- front of the answer, with status 2; or, where there is no answer, nothing, with status 2.
 pub data Does (request : Request) (edge : Edge) (status : ℕ) : Type 0 where
   Whole : (printed : List ℕ) → IsAnswerTo request edge.input edge.input_after printed status
       → Appends edge.output edge.output_after printed → Does request edge status
@@ -35,19 +35,19 @@ pub data Does (request : Request) (edge : Edge) (status : ℕ) : Type 0 where
   Quiet : Reads request edge.input edge.input_after → Keeps edge.output edge.output_after → status ≡ 2
       → Does request edge status
 
--- A run does some request, and one for a ring only within the ranges.
+-- The program does some request, and one for a ring only within the ranges.
 pub record DoesSome (edge : Edge) (status : ℕ) : Type 0 where
   pub request : Request
   pub in_ranges : HasRing request
   pub did : Does request edge status
 
--- A run does the request that was asked for.
+-- The program does the request that was asked for.
 pub record DoesAsked (asked : Request) (edge : Edge) (status : ℕ) : Type 0 where
   pub request : Request
   pub same : IsSameRequest asked request
   pub did : Does request edge status
 
--- The exit status after a run: that of the answer, or 2 where there is none.
+-- The exit status: that of the answer, or 2 where there is none.
 abbrev pub status_after : Result ℕ Fault → ℕ
 status_after (Ok status) = status
 status_after (Err fault) = 2

@@ -94,7 +94,7 @@ abbrev pub is_flag : Text → Bool
 is_flag [] = false
 is_flag (byte ∷ bytes) = byte == 45
 
--- A word that says with no other what the program does with its input.
+-- A word for which the program reads its input, and after which no other stands.
 abbrev pub IsReader : Text → Type 0
 IsReader word = (word ≡ codes "single") ⊎ (word ≡ codes "run") ⊎ (word ≡ codes "replay")
 

@@ -26,7 +26,7 @@ const FOUND: u8 = 0;
 /// The status where there is no bad moment, or none is known.
 const NOT_FOUND: u8 = 1;
 
-/// What a run prints, and its exit status.
+/// What the program prints, and its exit status.
 #[derive(Debug, Drop)]
 pub struct Answer {
     pub text: Vec<u8>,
@@ -34,7 +34,7 @@ pub struct Answer {
     ghost small: { status ≤ 1 },
 }
 
-/// The answer to a request. Of all requests `Run` alone starts threads and may wait.
+/// The answer to a request. `Run` alone starts threads, and waits for them.
 pub fn answer_to<R: AllocGlobal + Threads + Wait + Sync, I: Read>(
     rt: &R,
     request: Request,

@@ -181,8 +181,8 @@ Exit status:
            memory      memory ran out
            spawn       a thread could not be made
            held P      process P was held back
-           lost P      the thread of process P lost its snapshots
-           cut         a thread ended before one that it sends to, or takes from
+           lost P      the snapshots of process P were lost
+           cut         a thread ended that another had still to send to or take from
            unfinished  not all that was put was taken
        wcpwatch: write         the output could not be written
 ";

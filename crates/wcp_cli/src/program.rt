@@ -13,13 +13,13 @@ use std::io::{Read, Write};
 use std::sync::Wait;
 use std::thread::Threads;
 
-/// The status of a run that gives no answer.
+/// The status where there is no answer.
 const REFUSED: u8 = 2;
 
 /// Runs the program on its words, of which the first is its name, and gives its exit status.
 ///
 /// The output is written in one piece, when all of it is known. Where there is no answer, `errors`
-/// gets one line that says why.
+/// gets one line that says why. The word `run` alone starts threads, and waits for them.
 pub fn drive<R: AllocGlobal + Threads + Wait + Sync, S: AsStr, I: Read, O: Write, E: Write>(
     rt: &R,
     words: &[S],
@@ -45,8 +45,8 @@ pub fn drive<R: AllocGlobal + Threads + Wait + Sync, S: AsStr, I: Read, O: Write
     }
 }
 
-/// Writes the line that says why there is no answer, and gives the status of such a run. It is that
-/// status also where the line can't be written.
+/// Writes the line that says why there is no answer, and gives the status where there is none. It is
+/// that status also where the line can't be written.
 pub fn refuse<E: Write>(errors: &mut E, fault: Fault) -> u8
     ensures { result ≡ 2 }
 {
