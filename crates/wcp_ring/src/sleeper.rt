@@ -67,8 +67,9 @@ pub struct Bell {
 }
 
 impl Bell {
+    /// Wakes the thread, if it has said that it sleeps.
     #[inline(always)]
-    pub(crate) fn ring(&self) {
+    pub fn ring(&self) {
         if self.asleep.load(SeqCst) {
             self.wake();
         }

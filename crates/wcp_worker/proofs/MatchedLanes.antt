@@ -6,11 +6,11 @@ use Rattle.std.specs.FinSet as set
 use Rattle.std.proofs.lemmas.Bool.{cases_eq}
 use Rattle.std.proofs.lemmas.Option.{slice_get_within, slice_get-get_or}
 use Rattle.wcp_tree.proofs.Entries.{set_here, set_elsewhere}
+use Rattle.wcp_worker.specs.declared.lanes.Inbox.{Inbox}
+use Rattle.wcp_worker.specs.declared.lanes.Outbox.{Outbox}
 use Rattle.wcp_worker.specs.declared.mailbox.Mailbox.{Mailbox}
 use Rattle.wcp_lane.specs.declared.fault.Unfinished.{Unfinished}
 use Rattle.wcp_probe.specs.Seal.{seal_of}
-use Rattle.wcp_worker.specs.declared.lanes.Inbox.{Inbox}
-use Rattle.wcp_worker.specs.declared.lanes.Outbox.{Outbox}
 use Rattle.wcp_worker.specs.declared.message.Message.{Message}
 use Rattle.wcp_worker.specs.Lanes.{IfBoth, messages_from, messages_put, messages_taken, clocks_from}
 use Rattle.wcp_worker.specs.Mailboxes.{outbox_to, inbox_from}

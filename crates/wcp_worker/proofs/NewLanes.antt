@@ -8,6 +8,8 @@ use Rattle.std.proofs.lemmas.Bool.Decides.{nat_tests}
 use Rattle.wcp_lane.specs.Passes.{Numbers}
 use Rattle.wcp_lane.specs.Ends.{PutEnd, TakeEnd, new_putter}
 use Rattle.wcp_lane.proofs.Marks.{contains_with}
+use Rattle.wcp_ring.specs.declared.sleeper.Bell.{Bell}
+use Rattle.wcp_ring.specs.declared.sleeper.Sleeper.{Sleeper}
 use Rattle.wcp_worker.specs.declared.message.Message.{Message}
 use Rattle.wcp_worker.specs.Lanes.{IsNewLane, messages_from}
 
@@ -26,11 +28,12 @@ has_no_other p q has =
     ap (λ b. nat_eq q p || b) (sym (set.contains-empty nat_cmp q)) ∙ sym (contains_with set.empty p q) ∙ has in
     grind (arith, nat_tests)
 
-pub new_ends : (p count : ℕ) (putter : PutEnd Message Message) (taker : TakeEnd Message Message) → putter ≡ new_putter taker.lane (alone p)
+pub new_ends : (p count : ℕ) (putter : PutEnd Message Message) (taker : TakeEnd Message Message) (bell : Bell) (sleeper : Sleeper) → putter ≡ new_putter taker.lane (alone p)
     → ((q : ℕ) → set.contains taker.members q ≡ list_any (λ (numbers : Numbers). set.contains numbers q) (alone p ∷ []))
     → taker.taken ≡ []
-    → IsNewLane p count (record { putter = putter; sent = 0; room = count }) (record { taker = taker; due = count })
-new_ends p count putter taker is members empty =
+    → IsNewLane p count (record { putter = putter; sent = 0; room = count; bell = bell })
+    (record { taker = taker; due = count; sleeper = sleeper })
+new_ends p count putter taker bell sleeper is members empty =
     record {
       one_lane = ap (λ (e : PutEnd Message Message). e.lane) is;
       puts = record {

@@ -6,6 +6,7 @@ use crate::worker_end::WorkerFault;
 use std::sync::Wait;
 use wcp_lane::{Putter, Taker};
 use wcp_probe::Stamped;
+use wcp_ring::{Bell, Sleeper};
 
 /// The end of a lane by which a worker sends to another.
 #[derive(Drop)]
@@ -14,6 +15,8 @@ pub struct Outbox {
     pub(crate) sent: u32,
     /// How many messages the lane has room for.
     pub(crate) room: u32,
+    // Declared last, so that it rings after the putter is gone.
+    pub(crate) bell: Bell,
 }
 
 /// The end of a lane by which a worker gets what another sends to it.
@@ -22,6 +25,7 @@ pub struct Inbox {
     pub(crate) taker: Taker<Message>,
     /// How many messages are still to come.
     pub(crate) due: u32,
+    pub(crate) sleeper: Sleeper,
 }
 
 impl Outbox {
@@ -44,6 +48,7 @@ impl Outbox {
         };
         match self.putter.put(rt, message) {
             Ok(()) => {
+                self.bell.ring();
                 self.sent += 1;
                 Ok(())
             }
@@ -55,7 +60,8 @@ impl Outbox {
 impl Inbox {
     ghost use Rattle.wcp_worker.specs.Lanes.{IsInboxOf, IsSameInbox, HasTakenMore, clocks_from};
 
-    /// Waits for the next message. It doesn't wait for more than will come.
+    /// Waits for the next message. It doesn't wait for more than will come. A worker sleeps while there is none: the
+    /// lane's own wait would spin first, which takes a processor from the workers that have something to do.
     pub(crate) fn take<R: Wait>(&mut self, rt: &R) -> Result<Stamped<()>, WorkerFault>
         ensures same { IsSameInbox self.old self.new }
         ensures taken { IfOk result (λ stamped. (q : ℕ) → IsInboxOf q self.old → clocks_from q self.new.taker.taken
@@ -64,13 +70,19 @@ impl Inbox {
         if self.due == 0 {
             return Err(WorkerFault::Unpaired);
         }
-        match self.taker.take(rt) {
-            Ok(message) => {
+        for _ in rt.forever() {
+            let found = match self.taker.try_take(rt) {
+                Ok(found) => found,
+                Err(cut) => return Err(WorkerFault::Cut(cut)),
+            };
+            if let Some(message) = found {
+                self.sleeper.stir();
                 self.due -= 1;
-                Ok(message.stamped)
+                return Ok(message.stamped);
             }
-            Err(cut) => Err(WorkerFault::Cut(cut)),
+            self.sleeper.rest(rt);
         }
+        unreachable!()
     }
 
     /// Takes all that is still to come.

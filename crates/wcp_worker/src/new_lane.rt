@@ -7,6 +7,7 @@ use crate::lanes::{Inbox, Outbox};
 use std::alloc::{AllocError, Global};
 use wcp_lane::{LaneFault, Origins, lane};
 use wcp_model::Action;
+use wcp_ring::Sleeper;
 
 /// Opens a lane by which process `p` can send this many messages, if it is to send any. `Err` where memory runs out.
 pub(crate) fn new_lane(
@@ -21,6 +22,8 @@ pub(crate) fn new_lane(
     if count == 0 {
         return Ok((None, None));
     }
+    let sleeper = Sleeper::new(alloc)?;
+    let bell = sleeper.bell()?;
     match lane(alloc, count, &[Origins::none().with(p)]) {
         Ok((mut putters, taker)) => match putters.pop() {
             Some(putter) => {
@@ -28,8 +31,14 @@ pub(crate) fn new_lane(
                     putter,
                     sent: 0,
                     room: count,
+                    bell,
                 };
-                Ok((Some(outbox), Some(Inbox { taker, due: count })))
+                let inbox = Inbox {
+                    taker,
+                    due: count,
+                    sleeper,
+                };
+                Ok((Some(outbox), Some(inbox)))
             }
             None => unreachable!(),
         },
