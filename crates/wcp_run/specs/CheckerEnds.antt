@@ -1,6 +1,7 @@
 -- What the loop of a checker leaves.
-use Rattle.std.specs.Prelude.{◌≡◌, ℕ, ◌-◌, ◌<◌, ◌↔◌, true, Option, Some, None, IfNone, List, [], length, take}
+use Rattle.std.specs.Prelude.{◌≡◌, ℕ, ◌-◌, ◌<◌, ◌↔◌, true, false, Option, Some, None, IfNone, List, [], ◌∷◌, ◌++◌, length, take}
 use Rattle.std.specs.FinSet as set
+use Rattle.wcp_clock.specs.Notes.{is_close}
 use Rattle.wcp_clock.specs.declared.note.Item.{Item}
 use Rattle.wcp_model.specs.Report.{ClocksRise, IsReportByClocks, IsDrained}
 use Rattle.wcp_lane.specs.Ends.{TakeEnd}
@@ -37,6 +38,13 @@ checked (Cut cut) taken = taken
 abbrev pub checked_by : Option CheckFault → List Item → List Item
 checked_by (Some fault) taken = checked fault taken
 checked_by None taken = taken
+
+-- The last of these items is a snapshot.
+pub record EndsInSnapshot (items : List Item) : Type 0 where
+  pub before : List Item
+  pub last : Item
+  pub is : items ≡ before ++ last ∷ []
+  pub still_open : is_close last.note ≡ false
 
 -- What the loop of a checker leaves: its receipt is of the inbox's lane and was matched with no putter yet, its report
 -- is that of the items that the checker took, and where it met no fault all is drained.

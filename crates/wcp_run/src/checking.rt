@@ -1,11 +1,12 @@
 //! The loop of a checker: it takes what arrives at the root of the tree, and posts the share of each process.
-ghost use Rattle.std.specs.Prelude.{◌≡◌, ℕ, ◌↔◌, ◌<◌, true, IsTrue, IfOk, IfErr, OnOk, OnErr};
+ghost use Rattle.std.specs.Prelude.{◌≡◌, ℕ, ◌↔◌, ◌<◌, true, false, Some, IsTrue, IfOk, IfErr, OnOk, OnErr};
 ghost use Rattle.wcp_clock.specs.Notes.{is_close, place_of};
 ghost use Rattle.wcp_model.specs.Report.{IsDrained};
 ghost use Rattle.wcp_queue.specs.Checker.{processes, closed_of, MayTake, StandsForItems, TakesItem};
 ghost use Rattle.wcp_tree.specs.RelayWork.{IsSameTaker};
 ghost use Rattle.wcp_run.specs.declared.checker_end.CheckFault.TheVariants as fault;
-ghost use Rattle.wcp_run.specs.CheckerEnds.{IsEndOfLoop, IsFreshFor, KeepsUp, HasTakenClose, checked};
+ghost use Rattle.wcp_run.specs.CheckerEnds.{EndsInSnapshot, IsEndOfLoop, IsFreshFor, KeepsUp};
+ghost use Rattle.wcp_run.specs.CheckerEnds.{HasTakenClose, checked};
 
 use crate::checker_end::{CheckFault, CheckerEnd};
 use std::sync::{Mutex, Wait};
@@ -25,7 +26,8 @@ pub fn check_loop<R: Wait>(
     book: &Mutex<Book>,
 ) -> CheckerEnd
     requires { IsFreshFor inbox checker }
-    ensures { IsEndOfLoop inbox result }
+    ensures end { IsEndOfLoop inbox result }
+    ensures memory { result.fault ≡ Some fault.Memory → EndsInSnapshot result.receipt.taken }
 {
     let watch = inbox.watch();
     let relays = inbox.relays();
@@ -53,6 +55,7 @@ fn take_all<R: Wait>(
     ensures keeps_up { OnOk result (KeepsUp taker.new checker.new) }
     ensures drained { OnOk result (IsDrained (processes checker.new) taker.new.taken) }
     ensures fault { IfErr result (λ met. StandsForItems checker.new (checked met taker.new.taken)) }
+    ensures memory { IfErr result (λ met. met ≡ fault.Memory → EndsInSnapshot taker.new.taken) }
 {
     let mut finished = are_closed(checker);
     for _ in rt.forever() {
@@ -80,6 +83,7 @@ fn take_item<R: Wait>(
     ensures close { IfOk result (λ item.
         is_close item.note ≡ true → HasTakenClose checker.new item.from (place_of item.note)) }
     ensures fault { IfErr result (λ met. StandsForItems checker.new (checked met taker.new.taken)) }
+    ensures memory { IfErr result (λ met. met ≡ fault.Memory → EndsInSnapshot taker.new.taken) }
 {
     let item = match taker.take(rt) {
         Ok(item) => item,
@@ -95,6 +99,7 @@ fn give(checker: &mut Checker, item: &Item) -> Result<(), CheckFault>
     ensures processes { processes checker.new ≡ processes checker.old }
     ensures taken { OnOk result (TakesItem checker.old checker.new item.now) }
     ensures memory { IfErr result (λ met. met ≡ fault.Memory) }
+    ensures snapshot { OnErr result (is_close item.now.note ≡ false) }
     ensures unchanged { OnErr result (checker.new ≡ checker.old) }
 {
     match checker.take(*item) {
