@@ -2,21 +2,28 @@
 ghost use Rattle.std.specs.Prelude.{◌≡◌, [], map, IfOk, OnOk};
 ghost use Rattle.wcp_model.specs.PlanFault.{IsCheckedPlan};
 ghost use Rattle.wcp_model.specs.declared.plan.Plan.{Plan};
+ghost use Rattle.wcp_run.specs.RunParts.{AreReady, HaveEnded};
+ghost use Rattle.watched_pool.specs.Members.{IsNew, IsEndOfMember};
 ghost use Rattle.watched_pool.specs.Pools.{AreEndsOfPool};
 
 use crate::dispatcher::{Pace, REPLICAS};
 use crate::job::Numbers;
-use crate::member::{MemberEnd, Share};
+use crate::member::{Member, MemberEnd, Share, Stop};
 use crate::opening::{ROUNDS, open_parts, pool_plan};
 use crate::pool_fault::PoolFault;
 use std::alloc::{AllocError, Global};
+use std::sync::atomic::{AtomicBool, Ordering};
 use std::sync::{Mutex, Wait};
-use std::thread::Threads;
+use std::thread::{Threads, join, sleep};
+use std::time::{Clock, Duration};
 use wcp_book::Book;
-use wcp_model::{Outcome, Plan};
+use wcp_model::{Outcome, Plan, Tally};
 use wcp_run::settle::settle;
-use wcp_run::{Ends, run_parts};
+use wcp_run::{Ends, Parts, StartFault, run_parts};
 use wcp_tree::ProbeEnd;
+
+/// How many milliseconds the reader of the totals sleeps between two looks.
+const PAUSE: u64 = 1;
 
 /// What a run of the pool gave.
 #[derive(Drop)]
@@ -24,10 +31,12 @@ pub struct PoolReport {
     /// The share of the work of each process.
     pub shares: Vec<Share>,
     pub outcome: Outcome,
+    /// The totals of the book, as they were read beside the run.
+    pub totals: Tally,
 }
 
 /// Runs the pool and its watch, each part in a thread of its own, and settles what they left.
-pub fn run_pool<R: Threads + Wait + Sync>(
+pub fn run_pool<R: Threads + Wait + Clock + Sync>(
     rt: &R,
     alloc: Global,
     pace: Pace,
@@ -40,7 +49,7 @@ pub fn run_pool<R: Threads + Wait + Sync>(
 }
 
 /// Runs the pool under this plan.
-fn run_planned<R: Threads + Wait + Sync>(
+fn run_planned<R: Threads + Wait + Clock + Sync>(
     rt: &R,
     alloc: Global,
     plan: &Plan,
@@ -51,12 +60,60 @@ fn run_planned<R: Threads + Wait + Sync>(
     let parts = open_parts(alloc, plan, pace)?;
     let numbers = Numbers::new(alloc, ROUNDS * REPLICAS)?;
     let book = Mutex::new(Book::new(plan.n));
-    let ends = run_parts(rt, alloc, parts, &numbers, &book)?;
-    conclude(alloc, ends, book.into_inner())
+    let (ends, totals) = run_and_read(rt, alloc, parts, &numbers, &book)?;
+    conclude(alloc, ends, book.into_inner(), totals)
+}
+
+/// Runs the parts, and beside them a reader of the totals.
+fn run_and_read<R: Threads + Wait + Clock + Sync>(
+    rt: &R,
+    alloc: Global,
+    parts: Parts<Member>,
+    numbers: &Numbers,
+    book: &Mutex<Book>,
+) -> Result<(Ends<MemberEnd>, Tally), StartFault>
+    requires { AreReady IsNew parts }
+    ensures { IfOk result (λ run. HaveEnded IsEndOfMember parts run.0) }
+{
+    let ended = AtomicBool::new(false);
+    let (totals, left) = join(
+        rt,
+        || last_totals(rt, book, &ended),
+        || -> Result<Ends<MemberEnd>, StartFault>
+            requires { AreReady IsNew parts }
+            ensures { IfOk result (HaveEnded IsEndOfMember parts) }
+        {
+            let left = run_parts(rt, alloc, parts, numbers, book);
+            ended.store(true, Ordering::SeqCst);
+            left
+        },
+    );
+    match left {
+        Ok(ends) => Ok((ends, totals)),
+        Err(fault) => Err(fault),
+    }
+}
+
+/// Reads the totals now and then until the run has ended, and gives the last ones.
+fn last_totals<R: Wait + Clock>(rt: &R, book: &Mutex<Book>, ended: &AtomicBool) -> Tally {
+    for _ in rt.forever() {
+        let last = ended.load(Ordering::SeqCst);
+        let totals = book.lock(rt).totals();
+        if last {
+            return totals;
+        }
+        sleep(rt, Duration::from_millis(PAUSE));
+    }
+    unreachable!()
 }
 
 /// Settles what the parts of a run left.
-fn conclude(alloc: Global, ends: Ends<MemberEnd>, book: Book) -> Result<PoolReport, PoolFault>
+fn conclude(
+    alloc: Global,
+    ends: Ends<MemberEnd>,
+    book: Book,
+    totals: Tally,
+) -> Result<PoolReport, PoolFault>
     requires { (plan : Plan) × AreEndsOfPool plan ends }
 {
     let Ends {
@@ -64,6 +121,9 @@ fn conclude(alloc: Global, ends: Ends<MemberEnd>, book: Book) -> Result<PoolRepo
         relays,
         checker,
     } = ends;
+    if let Some(fault) = fault_of_members(&workers) {
+        return Err(fault);
+    }
     let (probes, shares) = take_apart(alloc, workers)?;
     let settled = settle(probes, relays, checker, book)?;
     Ok(PoolReport {
@@ -72,7 +132,28 @@ fn conclude(alloc: Global, ends: Ends<MemberEnd>, book: Book) -> Result<PoolRepo
             report: settled.report,
             tallies: settled.tallies,
         },
+        totals,
     })
+}
+
+/// Why members that left these ends tell nothing, if one stopped: a refusal comes before a partner that is gone.
+fn fault_of_members(members: &[MemberEnd]) -> Option<PoolFault> {
+    let refused = members
+        .iter()
+        .find(|member| matches!(member.done, Err(Stop::Refused(_))));
+    let stopped = match refused {
+        Some(member) => Some(member),
+        None => members.iter().find(|member| member.done.is_err()),
+    };
+    match stopped {
+        Some(
+            MemberEnd {
+                probe,
+                done: Err(stop),
+            },
+        ) => Some(PoolFault::Stopped(probe.id(), *stop)),
+        _ => None,
+    }
 }
 
 /// The ends of the probes, and the shares. `Err` where memory runs out, or a member stopped before its part was done.

@@ -9,6 +9,8 @@ use wcp_report::push_report;
 pub(crate) fn pool_text(alloc: Global, run: &PoolReport) -> Result<String, AllocError> {
     let mut text = String::new(alloc);
     push_shares(&mut text, run)?;
+    let (emitted, taken) = (run.totals.emitted, run.totals.taken);
+    writeln!(text, "the book has {emitted} emitted, {taken} taken")?;
     push_report(&mut text, &run.outcome)?;
     match &run.outcome.report {
         Report::Found(cut) => push_moment(&mut text, cut)?,

@@ -7,12 +7,15 @@ use std::io::ErrorKind;
 use std::rt::Env;
 use std::sync::Wait;
 use std::thread::Threads;
+use std::time::Clock;
 use wcp_model::Report;
 
 /// The program: it runs the pool, with the word `safe` in turn, and prints what came of it. A fault is one line on
 /// standard error. The answer is the exit status: 0 where the replicas could all have been at work in one moment, 1
 /// where they couldn't, and 2 after a fault.
-pub fn run_program<R: Threads + Wait + Env + Print + Eprint + AllocGlobal + Sync>(rt: &R) -> u8 {
+pub fn run_program<R: Threads + Wait + Clock + Env + Print + Eprint + AllocGlobal + Sync>(
+    rt: &R,
+) -> u8 {
     match run_and_print(rt) {
         Ok(status) => status,
         Err(fault) => {
@@ -22,7 +25,7 @@ pub fn run_program<R: Threads + Wait + Env + Print + Eprint + AllocGlobal + Sync
     }
 }
 
-fn run_and_print<R: Threads + Wait + Env + Print + AllocGlobal + Sync>(
+fn run_and_print<R: Threads + Wait + Clock + Env + Print + AllocGlobal + Sync>(
     rt: &R,
 ) -> Result<u8, PoolFault> {
     let words = words(rt)?;
