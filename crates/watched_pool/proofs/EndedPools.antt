@@ -1,10 +1,13 @@
--- The ends of a pool come from its watch.
-use Rattle.std.proofs.Common.{◌≡◌, ℕ, ◌<◌, Some, List, length, map, slice_get, get_or, All, sym, ap, subst, ◌∙◌, arith}
-use Rattle.std.proofs.lemmas.List.{length-map}
+-- The ends of a pool come from its watch, and what a settled report of them is about.
+use Rattle.std.proofs.Common.{◌≡◌, ℕ, zero, suc, ◌<◌, Option, Some, Result, Ok, Err, OnOk, List, [], ◌∷◌, ◌++◌, length, map, slice_get, get_or, All, sym, ap, subst, ◌∙◌, arith}
+use Rattle.std.proofs.lemmas.List.{length-map, length-replicate}
 use Rattle.std.proofs.lemmas.Option.{slice_get-get_or, slice_get_within, get_or_from_slice_get}
+use Rattle.wcp_model.specs.declared.outcome.Tally.{Tally}
 use Rattle.wcp_model.specs.declared.plan.Plan.{Plan}
+use Rattle.wcp_model.specs.ProbeLog.{Call, Closed, setup, state_of_log}
+use Rattle.wcp_model.specs.Report.{ClocksRise, IsDrained, IsReportByClocks, notes_taken}
 use Rattle.wcp_model.proofs.SamePlace.{element_within}
-use Rattle.wcp_probe.specs.Core.{Core}
+use Rattle.wcp_probe.specs.Core.{Core, setup_of}
 use Rattle.wcp_tree.specs.LiveProbe.{LiveSide, ClosedSide}
 use Rattle.wcp_tree.specs.Watches.{IsWired}
 use Rattle.wcp_tree.specs.declared.checker_inbox.CheckerInbox.{CheckerInbox}
@@ -14,18 +17,48 @@ use Rattle.wcp_tree.proofs.Entries.{mapped_entry}
 use Rattle.wcp_worker.specs.Probes as live
 use Rattle.wcp_worker.proofs.FreshProbes.{probes_fresh}
 use Rattle.wcp_run.specs.declared.running.Ends.{Ends}
+use Rattle.wcp_run.specs.declared.settled.Settled.{Settled}
 use Rattle.wcp_run.specs.CheckerEnds.{IsEndOfLoop}
-use Rattle.wcp_run.specs.Settling.{ComeFromWatch, IsEndOfProbe, IsEndOfRelay}
+use Rattle.wcp_run.specs.Settling.{ComeFromWatch, IsEndOfProbe, IsEndOfRelay, IsSettled}
+use Rattle.wcp_run.proofs.SettledEnds.{processes_are}
+use Rattle.watched_pool.specs.declared.dispatcher.Dispatcher.{Dispatcher}
 use Rattle.watched_pool.specs.declared.member.Member.{Member}
 use Rattle.watched_pool.specs.declared.member.Member.TheVariants as member
 use Rattle.watched_pool.specs.declared.member.MemberEnd.{MemberEnd}
-use Rattle.watched_pool.specs.Members.{IsEndOfMember, probe_of}
-use Rattle.watched_pool.specs.Pools.{AreEndsOfPool}
+use Rattle.watched_pool.specs.declared.member.Share.{Share}
+use Rattle.watched_pool.specs.declared.member.Stop.{Stop}
+use Rattle.watched_pool.specs.Logs.{IsReplicaLog, IsDispatcherLog}
+use Rattle.watched_pool.specs.Members.{HasEmitted, IsEndOfMember, IsReplica, probe_of}
+use Rattle.watched_pool.specs.Pools.{AreEndsOfPool, IsAllTaken, IsPoolReport}
+use Rattle.watched_pool.proofs.OpenedPools.{some_process}
 
 -- what is left of a member is the end of its probe
 closed_probe : (one : Member) (end : MemberEnd) → IsEndOfMember one end → live.IsEndOfProbe (probe_of one) end.probe
 closed_probe (member.Dispatcher dispatcher) end is = is.closed
 closed_probe (member.Replica replica) end is = is.closed
+
+-- what holds of all holds of the one at a place
+All-at : {X : Type 0} (P : X → Type 0) (xs : List X) (k : ℕ) (x : X) → All P xs → slice_get xs k ≡ Some x → P x
+All-at P xs k x all at = subst P (get_or_from_slice_get xs k x x at) (all k x (slice_get_within xs k x at))
+
+-- what holds on Ok holds of an answer that is Ok
+of_ok : (done : Result Share Stop) (share : Share) (P : Type 0) → done ≡ Ok share → OnOk done P → P
+of_ok (Ok other) share P is holds = holds
+of_ok (Err stop) share P is holds = absurd (cc)
+
+-- the part that a replica did, and that the dispatcher did
+part_of_replica : (one : Member) (end : MemberEnd) → IsReplica one → IsEndOfMember one end → (share : Share) → end.done ≡ Ok share → (log : List Call) × IsReplicaLog log × HasEmitted (probe_of one) log end
+part_of_replica (member.Replica replica) end kind is share done = of_ok end.done share _ done is.part
+part_of_replica (member.Dispatcher dispatcher) end kind is share done = absurd kind
+
+part_of_dispatcher : (one : Member) (end : MemberEnd) (dispatcher : Dispatcher) → one ≡ member.Dispatcher dispatcher → IsEndOfMember one end → (share : Share) → end.done ≡ Ok share
+    → (log : List Call) × IsDispatcherLog 0 log × HasEmitted (probe_of one) log end
+part_of_dispatcher (member.Dispatcher dispatcher) end same kind is share done = of_ok end.done share _ done is.part
+part_of_dispatcher (member.Replica replica) end same kind is share done = absurd (cc)
+
+-- an entry of a list that was mapped
+pub mapped_at : {X Y : Type 0} (f : X → Y) (xs : List X) (k : ℕ) (x : X) → slice_get xs k ≡ Some x → slice_get (map f xs) k ≡ Some (f x)
+mapped_at f xs k x at = mapped_entry f xs k x (slice_get_within xs k x at) ∙ ap (λ y. Some (f y)) (get_or_from_slice_get xs k x x at)
 
 module _ (plan : Plan) (ends : Ends MemberEnd) (pool : AreEndsOfPool plan ends) where
   -- each relay's end is of the relay at its place
@@ -42,19 +75,42 @@ module _ (plan : Plan) (ends : Ends MemberEnd) (pool : AreEndsOfPool plan ends) 
         whole = is.whole;
       }
 
-  -- and each member's of the member at its place
+  -- the probe of the member at a place is that of its process
+  record IsOwn (k : ℕ) (one : Member) : Type 0 where
+    pub is_probe : slice_get pool.are.watch.probes.items k ≡ Some (probe_of one)
+    pub id : (probe_of one).core.id ≡ k
+    pub made : setup_of (probe_of one).core ≡ setup plan.n k
+
+  own : (k : ℕ) (one : Member) → slice_get pool.parts.workers.items k ≡ Some one → IsOwn k one
+  own k one at =
+      let there : slice_get pool.are.watch.probes.items k ≡ Some (probe_of one) =
+      ap (λ (probes : List LiveSide). slice_get probes k) (sym pool.are.members) ∙ mapped_at probe_of pool.parts.workers.items k one at in
+      let core = ((probes_fresh plan pool.are.number pool.are.watch pool.are.wired).each k (probe_of one) there).0 in
+      record {
+        is_probe = there;
+        id = ap (λ (c : Core). c.id) core;
+        made = ap setup_of core ∙ ap (λ n. setup n k) (length-replicate plan.n 0);
+      }
+
+  -- and the end at this place is that of this member
+  record HasEnd (k : ℕ) (end : MemberEnd) : Type 0 where
+    pub one : Member
+    pub one_at : slice_get pool.parts.workers.items k ≡ Some one
+    pub is_end : IsEndOfMember one end
+    pub is_own : IsOwn k one
+
+  end_at : (k : ℕ) (end : MemberEnd) → slice_get ends.workers.items k ≡ Some end → HasEnd k end
+  end_at k end at =
+      let (one, one_at) = element_within pool.parts.workers.items k (omega (arith, slice_get_within ends.workers.items k end at, pool.ended.workers.count)) in
+      record { one = one; one_at = one_at; is_end = pool.ended.workers.each k one end one_at at; is_own = own k one one_at }
+
   probe_at : (k : ℕ) (end : MemberEnd) → slice_get ends.workers.items k ≡ Some end → IsEndOfProbe pool.are.watch.probes.items end.probe
   probe_at k end at =
-      let members = pool.parts.workers.items in
-      let below : k < length members = omega (arith, slice_get_within ends.workers.items k end at, pool.ended.workers.count) in
-      let (one, one_at) = element_within members k below in
-      let closed = closed_probe one end (pool.ended.workers.each k one end one_at at) in
-      let own : slice_get pool.are.watch.probes.items k ≡ Some (probe_of one) =
-      ap (λ (probes : List LiveSide). slice_get probes k) (sym pool.are.members) ∙ mapped_entry probe_of members k one below ∙ ap (λ m. Some (probe_of m)) (get_or_from_slice_get members k one one one_at) in
-      let core = ((probes_fresh plan pool.are.number pool.are.watch pool.are.wired).each k (probe_of one) own).0 in
+      let has = end_at k end at in
+      let closed = closed_probe has.one end has.is_end in
       record {
-        probe = probe_of one;
-        is_probe = ap (slice_get pool.are.watch.probes.items) (closed.id ∙ ap (λ (c : Core). c.id) core) ∙ own;
+        probe = probe_of has.one;
+        is_probe = ap (slice_get pool.are.watch.probes.items) (closed.id ∙ has.is_own.id) ∙ has.is_own.is_probe;
         one_ring = closed.ring;
       }
 
@@ -67,9 +123,7 @@ module _ (plan : Plan) (ends : Ends MemberEnd) (pool : AreEndsOfPool plan ends) 
       let below : k < length ends.workers.items = omega (arith, within, length-map ends.workers.items (λ (end : MemberEnd). end.probe)) in
       let (end, at) = element_within ends.workers.items k below in
       let there : slice_get of k ≡ Some (get_or of k d) = slice_get-get_or of k d within in
-      let mapped : slice_get of k ≡ Some end.probe =
-      mapped_entry (λ (e : MemberEnd). e.probe) ends.workers.items k end below ∙ ap (λ (e : MemberEnd). Some e.probe) (get_or_from_slice_get ends.workers.items k end end at) in
-      let same : Some end.probe ≡ Some (get_or of k d) = sym mapped ∙ there in
+      let same : Some end.probe ≡ Some (get_or of k d) = sym (mapped_at (λ (e : MemberEnd). e.probe) ends.workers.items k end at) ∙ there in
       let is : end.probe ≡ get_or of k d = cc in
       subst IsOfWatch is (probe_at k end at)
 
@@ -85,3 +139,57 @@ module _ (plan : Plan) (ends : Ends MemberEnd) (pool : AreEndsOfPool plan ends) 
         relay_at k (get_or ends.relays.items k d) (slice_get-get_or ends.relays.items k d within);
     of_checker = subst (λ inbox. IsEndOfLoop inbox ends.checker) pool.are.inbox pool.ended.checker;
   }
+
+  module _ (probes : List ClosedSide) (shares : List Share) (apart : map (λ end. end.probe) ends.workers.items ≡ probes) (done : map (λ end. end.done) ends.workers.items ≡ map Ok shares)
+      (book : List (Option Tally)) (settled : Settled) (is : IsSettled probes ends.checker book settled) where
+    n_is : ends.checker.processes ≡ plan.n
+    unfolding come
+    n_is = processes_are probes ends.relays.items ends.checker (come probes apart)
+
+    count : length ends.workers.items ≡ plan.n
+    count = omega (arith, pool.ended.workers.count, sym (length-map pool.parts.workers.items probe_of) ∙ ap length pool.are.members, pool.are.wired.rings.probes_count)
+
+    -- each member did its part
+    share_at : (k : ℕ) (end : MemberEnd) → slice_get ends.workers.items k ≡ Some end → (share : Share) × (end.done ≡ Ok share)
+    share_at k end at =
+        let below = slice_get_within ends.workers.items k end at in
+        let (share, share_is) = element_within shares k (omega (arith, below, sym (length-map ends.workers.items (λ (e : MemberEnd). e.done)) ∙ ap length done ∙ length-map shares Ok)) in
+        let two : Some end.done ≡ Some (Ok share) = sym (mapped_at (λ (e : MemberEnd). e.done) ends.workers.items k end at) ∙ ap (λ (ds : List (Result Share Stop)). slice_get ds k) done ∙ mapped_at Ok shares k share share_is in
+        (share, cc)
+
+    -- what was taken of a process is what its probe emitted
+    taken_at : (k : ℕ) (end : MemberEnd) → slice_get ends.workers.items k ≡ Some end → (has : HasEnd k end) → (log : List Call) → HasEmitted (probe_of has.one) log end
+        → IsAllTaken plan.n ends.checker.receipt.taken k log
+    taken_at k end at has log emitted =
+        let in_probes : slice_get probes k ≡ Some end.probe = ap (λ (ps : List ClosedSide). slice_get ps k) (sym apart) ∙ mapped_at (λ (e : MemberEnd). e.probe) ends.workers.items k end at in
+        let whole = All-at (λ (e : ClosedSide). notes_taken e.id ends.checker.receipt.taken ≡ e.link.put) probes k end.probe is.whole in_probes in
+        let id = (closed_probe has.one end has.is_end).id ∙ has.is_own.id in
+        ap (λ q. notes_taken q ends.checker.receipt.taken) (sym id) ∙ whole ∙ emitted ∙ ap (λ made. (state_of_log made (log ++ Closed ∷ [])).notes) has.is_own.made
+
+    dispatcher : (log : List Call) × IsDispatcherLog 0 log × IsAllTaken plan.n ends.checker.receipt.taken 0 log
+    dispatcher =
+        let (end, at) = element_within ends.workers.items 0 (omega (arith, count, some_process plan pool.checked)) in
+        let has = end_at 0 end at in
+        let share = share_at 0 end at in
+        let first : Some has.one ≡ Some (member.Dispatcher pool.are.pool.dispatcher) = sym has.one_at ∙ ap (λ (ms : List Member). slice_get ms 0) pool.are.pool.all in
+        let part = part_of_dispatcher has.one end pool.are.pool.dispatcher (cc) has.is_end share.0 share.1 in
+        (part.0, part.1, taken_at 0 end at has part.0 part.2)
+
+    replica : (p : ℕ) → 0 < p → p < plan.n → (log : List Call) × IsReplicaLog log × IsAllTaken plan.n ends.checker.receipt.taken p log
+    replica zero some within = absurd (omega arith)
+    replica (suc k) some within =
+        let (end, at) = element_within ends.workers.items (suc k) (omega (arith, count, within)) in
+        let has = end_at (suc k) end at in
+        let share = share_at (suc k) end at in
+        let rest : slice_get pool.are.pool.replicas k ≡ Some has.one = ap (λ (ms : List Member). slice_get ms (suc k)) (sym pool.are.pool.all) ∙ has.one_at in
+        let part = part_of_replica has.one end (All-at IsReplica pool.are.pool.replicas k has.one pool.are.pool.rest rest) has.is_end share.0 share.1 in
+        (part.0, part.1, taken_at (suc k) end at has part.0 part.2)
+
+    pub is_pool_report : IsPoolReport plan.n settled.report
+    is_pool_report = record {
+      items = ends.checker.receipt.taken;
+      dispatcher = dispatcher;
+      replica = replica;
+      drained = subst (λ n. IsDrained n ends.checker.receipt.taken) n_is is.drained;
+      exact = subst (λ n. ClocksRise n ends.checker.receipt.taken → IsReportByClocks n ends.checker.receipt.taken settled.report) n_is is.exact;
+    }

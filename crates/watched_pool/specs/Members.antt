@@ -1,5 +1,5 @@
 -- The members of a pool before they run, and what they leave.
-use Rattle.std.specs.Prelude.{◌≡◌, ◌≤◌, List, [], ◌∷◌, ◌++◌, length, OnOk}
+use Rattle.std.specs.Prelude.{◌≡◌, ◌≤◌, List, [], ◌∷◌, ◌++◌, length, All, OnOk}
 use Rattle.wcp_clock.specs.Limits.{most_processes}
 use Rattle.wcp_model.specs.ProbeLog.{Call, Closed}
 use Rattle.wcp_tree.specs.LiveProbe.{LiveSide, LiveFor, emissions_of}
@@ -44,3 +44,15 @@ IsEndOfMember (member.Replica replica) end = IsEndOfReplica replica.probe end
 abbrev pub probe_of : Member → LiveSide
 probe_of (member.Dispatcher dispatcher) = dispatcher.desk.probe
 probe_of (member.Replica replica) = replica.probe
+
+-- It is a replica.
+abbrev pub IsReplica : Member → Type 0
+IsReplica (member.Dispatcher dispatcher) = ⊥
+IsReplica (member.Replica replica) = Unit {0}
+
+-- The first of these members is the dispatcher, and all others are replicas.
+pub record IsPool (members : List Member) : Type 0 where
+  pub dispatcher : Dispatcher
+  pub replicas : List Member
+  pub all : members ≡ member.Dispatcher dispatcher ∷ replicas
+  pub rest : All IsReplica replicas

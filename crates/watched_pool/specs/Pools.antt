@@ -1,6 +1,10 @@
 -- The parts of a pool that is watched, and their ends.
-use Rattle.std.specs.Prelude.{◌≡◌, ℕ, List, map, All}
+use Rattle.std.specs.Prelude.{◌≡◌, ◌<◌, ℕ, List, [], ◌∷◌, ◌++◌, map, All}
+use Rattle.wcp_clock.specs.declared.note.Item.{Item}
 use Rattle.wcp_model.specs.PlanFault.{IsCheckedPlan}
+use Rattle.wcp_model.specs.ProbeLog.{Call, Closed, setup, state_of_log}
+use Rattle.wcp_model.specs.Report.{ClocksRise, IsDrained, IsReportByClocks, notes_taken}
+use Rattle.wcp_model.specs.declared.outcome.Report.{Report}
 use Rattle.wcp_model.specs.declared.plan.Plan.{Plan}
 use Rattle.wcp_tree.specs.declared.watch.Watch.{Watch}
 use Rattle.wcp_tree.specs.Watches.{IsWired}
@@ -10,15 +14,17 @@ use Rattle.wcp_run.specs.CheckerEnds.{IsFreshFor}
 use Rattle.wcp_run.specs.RunParts.{HaveEnded}
 use Rattle.watched_pool.specs.declared.member.Member.{Member}
 use Rattle.watched_pool.specs.declared.member.MemberEnd.{MemberEnd}
-use Rattle.watched_pool.specs.Members.{IsNew, IsEndOfMember, probe_of}
+use Rattle.watched_pool.specs.Members.{IsNew, IsEndOfMember, IsPool, probe_of}
+use Rattle.watched_pool.specs.Logs.{IsReplicaLog, IsDispatcherLog}
 
--- The parts of a watch that was wired as a plan says: a new member for each process, which has its probe, the relays,
--- and a fresh checker.
+-- The parts of a watch that was wired as a plan says: a new member for each process, which has its probe and is the
+-- dispatcher or a replica, the relays, and a fresh checker.
 pub record ArePartsOf (plan : Plan) (parts : Parts Member) : Type 0 where
   pub number : ℕ
   pub watch : Watch
   pub wired : IsWired plan number watch
   pub members : map probe_of parts.workers.items ≡ watch.probes.items
+  pub pool : IsPool parts.workers.items
   pub ready : All IsNew parts.workers.items
   pub relays : parts.relays.items ≡ watch.relays.items
   pub inbox : parts.checking.inbox ≡ watch.inbox
@@ -30,3 +36,16 @@ pub record AreEndsOfPool (plan : Plan) (ends : Ends MemberEnd) : Type 0 where
   pub parts : Parts Member
   pub are : ArePartsOf plan parts
   pub ended : HaveEnded IsEndOfMember parts ends
+
+-- What was taken of process p of n is all that its probe emits where it makes these calls and then closes.
+abbrev pub IsAllTaken : ℕ → List Item → ℕ → List Call → Type 0
+IsAllTaken n items p log = notes_taken p items ≡ (state_of_log (setup n p) (log ++ Closed ∷ [])).notes
+
+-- What a report of a pool of n processes is about: all that the dispatcher's probe and those of the replicas emitted, by
+-- their logs; it is the exact one of this, by clocks.
+pub record IsPoolReport (n : ℕ) (report : Report) : Type 0 where
+  pub items : List Item
+  pub dispatcher : (log : List Call) × IsDispatcherLog 0 log × IsAllTaken n items 0 log
+  pub replica : (p : ℕ) → 0 < p → p < n → (log : List Call) × IsReplicaLog log × IsAllTaken n items p log
+  pub drained : IsDrained n items
+  pub exact : ClocksRise n items → IsReportByClocks n items report

@@ -2,7 +2,7 @@ ghost use Rattle.std.specs.Prelude.{◌≡◌, ◌<◌, ◌≤◌, [], map, leng
 ghost use Rattle.wcp_clock.specs.Limits.{most_processes};
 ghost use Rattle.wcp_model.specs.PlanFault.{IsCheckedPlan};
 ghost use Rattle.wcp_tree.specs.LiveProbe.{LiveFor};
-ghost use Rattle.watched_pool.specs.Members.{IsNew, probe_of};
+ghost use Rattle.watched_pool.specs.Members.{IsNew, IsPool, IsReplica, probe_of};
 ghost use Rattle.watched_pool.specs.Pools.{ArePartsOf};
 
 use crate::dispatcher::{Desk, Dispatcher, Pace, Partner};
@@ -23,7 +23,9 @@ const WATCH: u64 = 1;
 pub(crate) const ROUNDS: u32 = 2;
 
 /// Two leaf relays under another: the one serves the dispatcher and replica 1, the other replicas 2 and 3.
-pub(crate) fn pool_plan(alloc: Global) -> Result<Plan, AllocError> {
+pub(crate) fn pool_plan(alloc: Global) -> Result<Plan, AllocError>
+    ensures { IfOk result (λ plan. plan.n ≡ 4) }
+{
     Ok(Plan {
         n: 4,
         cap: 8,
@@ -66,6 +68,7 @@ fn open_members(
     requires few { length probes.items ≤ most_processes }
     requires fresh { All (λ probe. LiveFor probe []) probes.items }
     ensures probes { IfOk result (λ members. map probe_of members.items ≡ probes.items) }
+    ensures pool { IfOk result (λ members. IsPool members.items) }
     ensures fresh { IfOk result (λ members. All IsNew members.items) }
 {
     let probe = probes.remove(0);
@@ -93,6 +96,7 @@ fn open_replicas(
     requires fresh { All (λ probe. LiveFor probe []) probes.items }
     ensures partners { IfOk result (λ opened. length opened.0.items ≡ length probes.items) }
     ensures probes { IfOk result (λ opened. map probe_of opened.1.items ≡ probes.items) }
+    ensures replicas { IfOk result (λ opened. All IsReplica opened.1.items) }
     ensures fresh { IfOk result (λ opened. All IsNew opened.1.items) }
 {
     let mut partners = Vec::with_capacity(alloc, probes.len())?;

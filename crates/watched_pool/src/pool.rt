@@ -1,10 +1,10 @@
 //! A run of the pool, from the plan of its watch to the report.
-ghost use Rattle.std.specs.Prelude.{◌≡◌, [], map, IfOk, OnOk};
+ghost use Rattle.std.specs.Prelude.{◌≡◌, map, IfOk, Ok};
 ghost use Rattle.wcp_model.specs.PlanFault.{IsCheckedPlan};
 ghost use Rattle.wcp_model.specs.declared.plan.Plan.{Plan};
 ghost use Rattle.wcp_run.specs.RunParts.{AreReady, HaveEnded};
 ghost use Rattle.watched_pool.specs.Members.{IsNew, IsEndOfMember};
-ghost use Rattle.watched_pool.specs.Pools.{AreEndsOfPool};
+ghost use Rattle.watched_pool.specs.Pools.{AreEndsOfPool, IsPoolReport};
 
 use crate::dispatcher::{Pace, REPLICAS};
 use crate::job::Numbers;
@@ -40,7 +40,9 @@ pub fn run_pool<R: Threads + Wait + Clock + Sync>(
     rt: &R,
     alloc: Global,
     pace: Pace,
-) -> Result<PoolReport, PoolFault> {
+) -> Result<PoolReport, PoolFault>
+    ensures { IfOk result (λ told. IsPoolReport 4 told.outcome.report) }
+{
     let plan = pool_plan(alloc)?;
     if plan.check().is_err() {
         return Err(PoolFault::Plan);
@@ -56,6 +58,7 @@ fn run_planned<R: Threads + Wait + Clock + Sync>(
     pace: Pace,
 ) -> Result<PoolReport, PoolFault>
     requires { IsCheckedPlan plan.now }
+    ensures { IfOk result (λ told. IsPoolReport plan.now.n told.outcome.report) }
 {
     let parts = open_parts(alloc, plan, pace)?;
     let numbers = Numbers::new(alloc, ROUNDS * REPLICAS)?;
@@ -115,6 +118,7 @@ fn conclude(
     totals: Tally,
 ) -> Result<PoolReport, PoolFault>
     requires { (plan : Plan) × AreEndsOfPool plan ends }
+    ensures { IfOk result (λ told. (plan : Plan) → AreEndsOfPool plan ends → IsPoolReport plan.n told.outcome.report) }
 {
     let Ends {
         workers,
@@ -161,7 +165,8 @@ fn take_apart(
     alloc: Global,
     members: Vec<MemberEnd>,
 ) -> Result<(Vec<ProbeEnd>, Vec<Share>), PoolFault>
-    ensures { IfOk result (λ apart. map (λ end. end.probe) members.items ≡ apart.0.items) }
+    ensures probes { IfOk result (λ apart. map (λ end. end.probe) members.items ≡ apart.0.items) }
+    ensures shares { IfOk result (λ apart. map (λ end. end.done) members.items ≡ map Ok apart.1.items) }
 {
     let mut probes = Vec::with_capacity(alloc, members.len())?;
     let mut shares = Vec::with_capacity(alloc, members.len())?;

@@ -26,6 +26,7 @@ returns c =
       watch = c.in_ok-probes.field-0;
       wired = wired;
       members = c.in_ok-workers.ensures.probes;
+      pool = c.in_ok-workers.ensures.pool;
       ready = c.in_ok-workers.ensures.fresh;
       relays = refl;
       inbox = refl;

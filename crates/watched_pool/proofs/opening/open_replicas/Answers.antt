@@ -4,12 +4,12 @@ use Rattle.std.proofs.lemmas.List.Elements.{All-append}
 use Rattle.std.specs.Vec.Iter.{into_iter_items}
 use Rattle.wcp_tree.specs.LiveProbe.{LiveSide, LiveFor}
 use Rattle.watched_pool.specs.declared.member.Member.{Member}
-use Rattle.watched_pool.specs.Members.{IsNew, probe_of}
+use Rattle.watched_pool.specs.Members.{IsNew, IsReplica, probe_of}
 use Rattle.watched_pool.proofs.opening.open_replicas.Goals as goal
 
-all_one : (member : Member) → IsNew member → All IsNew (member ∷ [])
-all_one member is zero d below = is
-all_one member is (suc k) d below = absurd (omega arith)
+all_one : (P : Member → Type 0) (member : Member) → P member → All P (member ∷ [])
+all_one P member is zero d below = is
+all_one P member is (suc k) d below = absurd (omega arith)
 
 pub loop-probe-preserved : goal.loop-probe-preserved
 loop-probe-preserved c =
@@ -21,6 +21,7 @@ loop-probe-preserved c =
     record {
       partners = omega (arith, old.partners, ap length c.in_ok-push.ensures.items, length-append c.loop-probe.partners.items (c.in_ok-partner.partner ∷ []), length-append c.loop-probe.yielded (c.in-Some.probe ∷ []));
       members = ap (map probe_of) c.in_ok-push-2.ensures.items ∙ map_push probe_of c.loop-probe.members.items _ ∙ cc;
-      fresh = subst (All IsNew) (sym c.in_ok-push-2.ensures.items) (All-append IsNew c.loop-probe.members.items _ old.fresh (all_one _ first));
+      replicas = subst (All IsReplica) (sym c.in_ok-push-2.ensures.items) (All-append IsReplica c.loop-probe.members.items _ old.replicas (all_one IsReplica _ tt));
+      fresh = subst (All IsNew) (sym c.in_ok-push-2.ensures.items) (All-append IsNew c.loop-probe.members.items _ old.fresh (all_one IsNew _ first));
       rest = λ k d below. all (suc k) d (omega arith);
     }

@@ -1,6 +1,11 @@
-use Rattle.watched_pool.proofs.EndedPools.{come}
+use Rattle.watched_pool.proofs.EndedPools.{come, is_pool_report}
 use Rattle.watched_pool.proofs.pool.conclude.Goals as goal
 
 pub settle-requires : goal.settle-requires
 settle-requires c =
-    let (plan, pool) = c.requires in come plan c.args.ends pool c.in_ok-probes.probes.items c.in_ok-probes.ensures
+    let (plan, pool) = c.requires in come plan c.args.ends pool c.in_ok-probes.probes.items c.in_ok-probes.ensures.probes
+
+pub returns : goal.returns
+returns c = λ plan pool.
+    is_pool_report plan c.args.ends pool c.in_ok-probes.probes.items c.in_ok-probes.shares.items c.in_ok-probes.ensures.probes c.in_ok-probes.ensures.shares
+    c.args.book c.in_ok-settled.settled c.in_ok-settled.ensures.settled
