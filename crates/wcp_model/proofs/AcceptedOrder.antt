@@ -56,10 +56,7 @@ module _ (n : ℕ) (order : List Task) where
       (λ (before : place < length order).
       let task = element_within order place before in
       absurd (no_close order (take place order) task.0.p task.0.action p (same_Some _ _ (sym (step_at n order place task.0 task.1) ∙ at))))
-      (λ (behind : length order ≤ place).
-      let close = closes_behind place (Close p) behind at in
-      let same : p ≡ close.0 = cc close.2 in
-      omega (arith, close.1))
+      (grind (arith, closes_behind))
       (cases_lt place (length order))
 
   -- the computation of a fit order is accepted
@@ -71,8 +68,5 @@ module _ (n : ℕ) (order : List Task) where
         let taken : Recv p message ≡ Recv p (message_at (computation_of n order) earlier.0) = same_Some _ _ (sym at ∙ delivery_step n earlier.2) in
         let same : message ≡ message_at (computation_of n order) earlier.0 = cc taken in
         omega (arith, message_sent_before n fit earlier.2);
-    close_last = λ place later p x below at also.
-        let here : place ≡ length order + p = closes_at place p at in
-        let close = closes_behind later x (omega arith) also in
-        ap (is_step_of p) close.2 ∙ ne_eqb close.0 p (λ same. omega (arith, close.1));
+    close_last = grind (arith, closes_at, closes_behind);
   }

@@ -19,6 +19,7 @@ use Rattle.wcp_model.specs.ProbeLog.{is_step_of, IsAccepted}
 use Rattle.wcp_model.specs.FirstReason.{first_reason}
 use Rattle.wcp_model.specs.Replies.{Answered, accepted_by, accepted, is_event, computation, receivers, was_sent_to, reasons, event_reasons, move_reasons, IsAcceptance, IsReply, AreReplies}
 use Rattle.wcp_model.proofs.AcceptedSteps.{accepted_push}
+use Rattle.wcp_model.proofs.FirstReasons.{none_holds}
 use Rattle.wcp_model.proofs.Growth.{get_behind}
 
 -- there are as many receivers as sends
@@ -29,21 +30,6 @@ length-receivers (step.Observe p holds ∷ c) = length-receivers c ∙ sym (sum_
 length-receivers (step.Recv p message ∷ c) = length-receivers c ∙ sym (sum_by-cons (λ x. cond (is_send x) 1 0) (step.Recv p message) c ∙ omega arith)
 length-receivers (step.Close p ∷ c) = length-receivers c ∙ sym (sum_by-cons (λ x. cond (is_send x) 1 0) (step.Close p) c ∙ omega arith)
 length-receivers (s ∷ c) = length-receivers c ∙ sym (sum_by-cons (λ x. cond (is_send x) 1 0) s c ∙ omega arith)
-
--- a message that was sent to a process was sent
-sent_to : (c : Computation) (message p : ℕ) → was_sent_to c message p ≡ true → message < count_by is_send c
-sent_to c message p sent = grind (arith, length-receivers, slice_get_past)
-
--- where no reason is given, none of them holds
-none_holds : (list : List (Bool × Why)) (i : ℕ) (reason : Bool × Why) → slice_get list i ≡ Some reason → first_reason list ≡ None → reason.0 ≡ false
-none_holds [] i reason at none = cc at
-none_holds (first ∷ list) i reason at none = go first.0 refl none i at (λ k. none_holds list k reason)
-  where
-    go : (holds : Bool) → first.0 ≡ holds → (if holds then Some first.1 else first_reason list) ≡ None → (i : ℕ) → slice_get (first ∷ list) i ≡ Some reason →
-        ((k : ℕ) → slice_get list k ≡ Some reason → first_reason list ≡ None → reason.0 ≡ false) → reason.0 ≡ false
-    go true is some i at later = cc some
-    go false is none zero at later = ap (λ (r : Bool × Why). r.0) (sym (same_Some first reason at)) ∙ is
-    go false is none (suc i) at later = later i at none
 
 module _ (n : ℕ) (c : Computation) (pending : ℕ → Bool) (more : List (Bool × Why)) where
   -- the second reason against an event is that its process is closed
@@ -56,10 +42,7 @@ module _ (n : ℕ) (c : Computation) (pending : ℕ → Bool) (more : List (Bool
       cond_both (is_event s) (s ∷ []) [] (λ e. IsAccepted (c ++ e))
       (λ event. accepted_push c s accepted
       (λ p own. none_holds (event_reasons n c pending s ++ more) 1 (is_closed c p, why.Closed) (closed_is_second s p own) none)
-      (λ p message is.
-      let known : (not (nat_lt p n) || not (was_sent_to c message p)) ≡ false = none_holds (event_reasons n c pending s ++ more) 0 (not (nat_lt p n) || not (was_sent_to c message p), why.NoSuch)
-      (ap (λ x. slice_get (event_reasons n c pending x ++ more) 0) is) none in
-      sent_to c message p (not-false (was_sent_to c message p) (or_parts (not (nat_lt p n)) (not (was_sent_to c message p)) known).1)))
+      (grind (arith, length-receivers, slice_get_past)))
       (λ other. subst IsAccepted (sym (append-nil c)) accepted)
 
 -- and so does a step with its reply
@@ -79,7 +62,4 @@ goes_on plan (a ∷ rest) history are accepted_yet =
 
 -- where the replies are those of the definitions, the computation is an accepted one
 pub replies_accepted : (plan : Plan) (history : List Answered) → AreReplies plan history → IsAccepted (computation (accepted history))
-replies_accepted plan history are = goes_on plan history [] are (record {
-  sent_first = λ place p message at. absurd (none-some (step.Recv p message) at);
-  close_last = λ place later p s before at. absurd (none-some (step.Close p) at);
-})
+replies_accepted plan history are = goes_on plan history [] are (grind arith)

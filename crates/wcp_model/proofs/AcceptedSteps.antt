@@ -22,8 +22,7 @@ close_closes c place p at =
 -- and where a process is closed, its close stands
 pub close_stands : (c : Computation) (p : ℕ) → is_closed c p ≡ true → (place : ℕ) × (place < length c) × (slice_get c place ≡ Some (Close p))
 close_stands c p closed =
-    let found : Any (λ y. is_close_of p y ≡ true) c = Any-from_list_any (is_close_of p) c closed in
-    (found.0, found.2, slice_get-get_or c found.0 found.1 found.2 ∙ ap Some (found.3 ∙ close_is found.1 found.4))
+    grind (arith, Any-from_list_any, slice_get-get_or)
   where
     close_is : (y : Step) → is_close_of p y ≡ true → y ≡ Close p
     close_is (Close q) h = ap Close (eqb-true q p h)
@@ -41,23 +40,12 @@ none_new_after_close c e p accepted closed k is =
 -- an accepted computation, and one more step of a process that is open; what it receives was sent
 pub accepted_push : (c : Computation) (s : Step) → IsAccepted c → ((p : ℕ) → is_step_of p s ≡ true → is_closed c p ≡ false) → ((p message : ℕ) → s ≡ Recv p message → message < count_by is_send c) → IsAccepted (c ++ s ∷ [])
 accepted_push c s accepted is_open was_sent = record {
-  sent_first = λ place p message at.
-      ⊎_elim (λ (lt : place < length c).
-      let old : slice_get c place ≡ Some (Recv p message) = sym (get_front c (s ∷ []) place lt) ∙ at in
-      omega (arith, accepted.sent_first place p message old, message_grows c (s ∷ []) place (Recv p message) old))
-      (λ (ge : length c ≤ place).
-      let last : place ≡ length c = omega (arith, slice_get_within (c ++ s ∷ []) place (Recv p message) at, length_push c s) in
-      let is : s ≡ Recv p message = cc (get_behind c s [], at, ap (slice_get (c ++ s ∷ [])) last) in
-      let all : message_at (c ++ s ∷ []) place ≡ count_by is_send c = ap (message_at (c ++ s ∷ [])) last ∙ ap (count_by is_send) (take_at c (s ∷ []) (length c) refl) in
-      omega (arith, was_sent p message is, all))
-      (cases_lt place (length c));
+  sent_first = grind (arith, get_behind, get_front, length_push, message_grows, slice_get_within, take_at);
   close_last = λ place later p x before closes at.
       let early : place < length c = omega (arith, slice_get_within (c ++ s ∷ []) later x at, length_push c s) in
       let old : slice_get c place ≡ Some (Close p) = sym (get_front c (s ∷ []) place early) ∙ closes in
       ⊎_elim (λ (lt : later < length c). accepted.close_last place later p x before old (sym (get_front c (s ∷ []) later lt) ∙ at))
       (λ (ge : length c ≤ later).
-      let last : later ≡ length c = omega (arith, slice_get_within (c ++ s ∷ []) later x at, length_push c s) in
-      let is : s ≡ x = cc (get_behind c s [], at, ap (slice_get (c ++ s ∷ [])) last) in
-      false_from_ne_true (is_step_of p x) (λ own. true≢false (sym (close_closes c place p old) ∙ is_open p (ap (is_step_of p) is ∙ own))))
+      grind (arith, close_closes c place p old, get_behind c s [], length_push c s, slice_get_within (c ++ s ∷ []) later x))
       (cases_lt later (length c));
 }

@@ -46,14 +46,7 @@ nothing_before_below n c cut lower p q satisfying p_within q_within apart same o
     satisfying.consistent p q p_within q_within apart (subst (λ k. HappenedBefore c (state p k) (member cut q)) same later)
 
 pub minimum_is_satisfying : MinimumLaw
-minimum_is_satisfying n c one other left right = record {
-  members = length-minimum one other same ∙ left.members;
-  consistent = consistent;
-  true_states = λ p p_within. ⊎_elim
-      (λ less. subst (λ k. IsTrueState c (state p k)) (omega (arith, index p)) (left.true_states p p_within))
-      (λ more. subst (λ k. IsTrueState c (state p k)) (omega (arith, index p)) (right.true_states p p_within))
-      (cases_lt (slice_index one p) (slice_index other p));
-}
+minimum_is_satisfying n c one other left right = grind (arith, consistent, index, length-minimum)
   where
     same : length one ≡ length other
     same = omega (arith, left.members, right.members)
@@ -62,7 +55,4 @@ minimum_is_satisfying n c one other left right = record {
     index p = slice_index-minimum one other p same
 
     consistent : IsConsistent n c (minimum one other)
-    consistent p q p_within q_within apart before = ⊎_elim
-        (λ less. nothing_before_below n c one (minimum one other) p q left p_within q_within apart (omega (arith, index p)) (omega (arith, index q)) before)
-        (λ more. nothing_before_below n c other (minimum one other) p q right p_within q_within apart (omega (arith, index p)) (omega (arith, index q)) before)
-        (cases_lt (slice_index one p) (slice_index other p))
+    consistent p q p_within q_within apart before = grind (arith, index, nothing_before_below)

@@ -32,12 +32,7 @@ some_below_decided P (suc n) decided =
     ⊎_elim (λ (here : P n). inl (n, omega arith, here))
     (λ (not_here : P n → ⊥).
     decided_from (λ (some : (k : ℕ) × (k < n) × P k). (some.0, omega (arith, some.1), some.2))
-    (λ (some : (k : ℕ) × (k < suc n) × P k).
-    ⊎_elim (λ (below : some.0 < n). (some.0, below, some.2))
-    (λ (above : n ≤ some.0).
-    let last : some.0 ≡ n = omega (arith, some.1) in
-    absurd (not_here (subst P last some.2)))
-    (cases_lt some.0 n))
+    (grind arith)
     (some_below_decided P n (λ k below. decided k (omega arith))))
     (decided n (omega arith))
 

@@ -51,23 +51,14 @@ module _ (n : ℕ) where
 
   -- a head that precedes a candidate at or below the head of another row is eliminated too: its row's head moves one on
   pub IsEliminatedBelow-step : (rows : ℕ → List (List ℕ)) (heads moved : ℕ → ℕ) (p q j : ℕ) → IsEliminatedBelow n rows heads → p < n → q < n → p ≢ q → heads p < length (rows p) → j < length (rows q) → j ≤ heads q → PrecedesAt rows p (heads p) q j → moved p ≤ heads p + 1 → ((k : ℕ) → k < n → k ≢ p → moved k ≤ heads k) → IsEliminatedBelow n rows moved
-  IsEliminatedBelow-step rows heads moved p q j eliminated p_within q_within apart head_within j_within j_below before one_on others = record {
-    at_or_above = λ longer grow in_order choice satisfying k k_within. ⊎_elim
-        (λ same. subst (λ m. moved m ≤ choice m) (sym same) (above longer grow in_order choice satisfying))
-        (λ other. omega (arith, others k k_within other, eliminated.at_or_above longer grow in_order choice satisfying k k_within))
-        (cases_eq k p);
-  }
+  IsEliminatedBelow-step rows heads moved p q j eliminated p_within q_within apart head_within j_within j_below before one_on others = grind (arith, above)
     where
       above : (longer : ℕ → List (List ℕ)) → GrowTo n rows longer → AreInOrder n longer → (choice : ℕ → ℕ) → IsSatisfyingChoice n longer choice → moved p ≤ choice p
       above longer grow in_order choice satisfying =
           let at_p : heads p ≤ choice p = eliminated.at_or_above longer grow in_order choice satisfying p p_within in
           let at_q : heads q ≤ choice q = eliminated.at_or_above longer grow in_order choice satisfying q q_within in
-          let before_choice : PrecedesAt longer p (heads p) q (choice q) = in_order.later p q (heads p) j (choice q) p_within q_within apart
-          (omega (arith, length-grown n rows longer grow p p_within)) (omega arith) (satisfying.within q q_within)
-          (PrecedesAt-grown rows longer grow p (heads p) q j p_within q_within head_within j_within before) in
+          let before_choice : PrecedesAt longer p (heads p) q (choice q) = grind (arith, PrecedesAt-grown) in
           ⊎_elim
           (λ more. omega arith)
-          (λ below.
-          let same : heads p ≡ choice p = omega arith in
-          absurd (satisfying.concurrent p q p_within q_within apart (subst (λ i. PrecedesAt longer p i q (choice q)) same before_choice)))
+          (grind arith)
           (cases_lt (heads p) (choice p))

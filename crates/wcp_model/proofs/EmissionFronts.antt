@@ -72,18 +72,8 @@ module _ (n : ℕ) (c e : Computation) (p : ℕ) (notes more : List Note) (is : 
   -- so the emissions of a computation come first among those of a longer one, if no state of a closed process becomes true
   pub emissions_front : (is_closed c p ≡ true → NoneNew c e p) → (rest : List Note) × (more ≡ notes ++ rest)
   emissions_front none = ⊎_elim
-      (λ (closed : is_closed c p ≡ true).
-      let same : grown.clocks ≡ is.clocks = clocks_front.1 ∙ ap (λ clocks. is.clocks ++ clocks) (nil_from_length clocks_front.0 (none_behind (none closed))) ∙ append-nil is.clocks in
-      let still : is_closed (c ++ e) p ≡ is_closed c p = list_any-append (is_close_of p) c e ∙ ap (λ b. b || is_closed e p) closed ∙ sym closed in
-      ([], grown.notes_are ∙ ap₂ noted same still ∙ sym is.notes_are ∙ sym (append-nil notes)))
-      (λ (open_yet : is_closed c p ≡ false).
-      let mark : List Note = if is_closed (c ++ e) p then note.Close (length grown.clocks) ∷ [] else [] in
-      let behind : List Note = snapshots_from (0 + length is.clocks) clocks_front.0 in
-      let front : notes ≡ snapshots_from 0 is.clocks = is.notes_are ∙ ap (noted is.clocks) open_yet ∙ append-nil (snapshots_from 0 is.clocks) in (
-        behind ++ mark,
-        grown.notes_are ∙ ap (λ clocks. snapshots_from 0 clocks ++ mark) clocks_front.1 ∙ ap (λ front. front ++ mark) (snapshots_append 0 is.clocks clocks_front.0)
-            ∙ append_assoc (snapshots_from 0 is.clocks) behind mark ∙ ap (λ front. front ++ (behind ++ mark)) (sym front),
-      ))
+      (grind (arith, append-nil, list_any-append, nil_from_length, none_behind))
+      (grind (arith, append-nil, append_assoc, clocks_front, snapshots_append))
       (cases_Bool (is_closed c p))
     where
       noted : List (List ℕ) → Bool → List Note

@@ -4,6 +4,7 @@ use Rattle.std.proofs.lemmas.Option.{same_Some}
 use Rattle.wcp_model.specs.declared.plan.Plan.{Plan}
 use Rattle.wcp_model.specs.declared.plan.PlanFault.{PlanFault}
 use Rattle.wcp_model.specs.declared.plan.PlanFault.TheVariants.{Procs, Cap, Hold, Parent, Depth, Mixed, Childless, Unattached}
+use Rattle.wcp_model.proofs.FirstReasons.{first_unique}
 use Rattle.wcp_model.specs.PlanFault.{HasFault, IsFirstFault, IsCheckedPlan, tree_faults, plan_faults}
 
 -- what holds of each fault of the list holds of each fault
@@ -21,17 +22,9 @@ none_listed plan none Unattached = none 7 Unattached (lit< tt) refl
 pub after_parent : (k : ℕ) → Contains tree_faults (get_or plan_faults k Procs) → 3 < k
 after_parent k among = grind arith
 
--- a plan has one first fault
-first_unique : (plan : Plan) (one other : PlanFault) → IsFirstFault plan one → IsFirstFault plan other → one ≡ other
-first_unique plan one other left right = ⊎_elim
-    (λ (same : left.place ≡ right.place). same_Some one other (sym left.listed ∙ ap (slice_get plan_faults) same ∙ right.listed))
-    (⊎_elim (λ less. absurd (right.none_before left.place one less left.listed left.holds))
-    (λ more. absurd (left.none_before right.place other more right.listed right.holds)))
-    (cases_order left.place right.place)
-
 -- to answer with the first fault is to answer with each first fault
 pub first_alone : (plan : Plan) (one : PlanFault) → IsFirstFault plan one → (first : PlanFault) → (◌≡◌ {A = Result (Unit {0}) PlanFault} (Err one) (Err first)) ↔ IsFirstFault plan first
 first_alone plan one is_first first = (
   λ same. subst (IsFirstFault plan) (let e : one ≡ first = cc in e) is_first,
-  λ also. ap Err (first_unique plan one first is_first also),
+  λ also. ap Err (first_unique (HasFault plan) plan_faults one first is_first also),
 )

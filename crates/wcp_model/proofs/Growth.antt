@@ -35,8 +35,7 @@ pub in_front : {X : Type 0} (test : X → Bool) (xs ys : List X) (i : ℕ) → c
 in_front test xs ys i few =
     ⊎_elim (λ (lt : i < length xs). lt)
     (λ (ge : length xs ≤ i).
-    let all : count_by test (take (length xs) (xs ++ ys)) ≡ count_by test xs = ap (count_by test) (take_at xs ys (length xs) refl) in
-    absurd (omega (arith, all, count_before-mono test (xs ++ ys) (length xs) i ge)))
+    grind (arith, count_before-mono test (xs ++ ys) (length xs) i ge, take_at xs ys (length xs) refl))
     (cases_lt i (length xs))
 
 -- a step of the front stands there in the whole
@@ -59,8 +58,7 @@ is_message_grows c e s t m = record {
   to = m.to;
   later = m.later;
   send = at_grows c e m.sent (Send s.process m.to) m.send;
-  receive = at_grows c e m.received (Recv t.process (message_at c m.sent)) m.receive
-      ∙ ap (λ message. Some (Recv t.process message)) (sym (message_grows c e m.sent (Send s.process m.to) m.send));
+  receive = grind (arith, at_grows, message_grows);
   from_state = interval_grows c e s.process m.sent (Send s.process m.to) m.send ∙ m.from_state;
   to_state = omega (arith, m.to_state, interval_grows c e t.process m.received (Recv t.process (message_at c m.sent)) m.receive);
 }
@@ -74,13 +72,9 @@ pub before_grows : (c e : Computation) (s : State) {t : State} → HappenedBefor
 before_grows c e s {t = t} (Direct d) = Direct (direct_grows c e s t d)
 before_grows c e s {t = u} (Chain {t = t} h d) = Chain (before_grows c e s h) (direct_grows c e t u d)
 
--- no message that begins a state is new, if the state isn't
-pub is_message_shrinks : (c e : Computation) (s t : State) → IsState c t → IsMessage (c ++ e) s t → IsMessage c s t
-is_message_shrinks c e s t exists m = grind (arith, count_front, get_front, in_front)
-
 -- no direct precedence of a state is new, if the state isn't
 pub direct_shrinks : (c e : Computation) (s t : State) → IsState c t → DirectlyPrecedes (c ++ e) s t → DirectlyPrecedes c s t
-direct_shrinks c e s t exists h5 = grind (arith, is_message_shrinks)
+direct_shrinks c e s t exists h5 = grind (arith, count_front, get_front, in_front)
 
 -- nothing new happened before a state that existed
 pub before_shrinks : (c e : Computation) (s : State) {t : State} → IsState c t → HappenedBefore (c ++ e) s t → HappenedBefore c s t

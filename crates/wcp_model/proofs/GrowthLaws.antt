@@ -34,11 +34,7 @@ satisfying_below : (n : ℕ) (c e : Computation) (cut lower : List ℕ) → IsSa
 satisfying_below n c e cut lower is below lower_is = record {
   members = lower_is.members;
   consistent = λ p q p_in_range q_in_range apart before. lower_is.consistent p q p_in_range q_in_range apart (before_grows c e (member lower p) before);
-  true_states = λ p in_range. ⊎_elim
-      (λ (less : slice_index lower p < slice_index cut p).
-      true_state_shrinks c e (member lower p) (omega (arith, less, IsState-true c (member cut p) (is.true_states p in_range))) (lower_is.true_states p in_range))
-      (λ (same : slice_index cut p ≤ slice_index lower p). subst (λ k. IsTrueState c (state p k)) (omega (arith, below p in_range)) (is.true_states p in_range))
-      (cases_lt (slice_index lower p) (slice_index cut p));
+  true_states = grind (arith, IsState-true, true_state_shrinks);
 }
 
 -- the early-find law

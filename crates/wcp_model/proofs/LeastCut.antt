@@ -28,12 +28,7 @@ smaller_decided zero limit P decide = ⊎_elim
     (λ none. inr (λ s. absurd (omega arith)))
     (cases_lt 0 limit)
 smaller_decided (suc n) limit P decide = ⊎_elim
-    (λ t. inl (record {
-      list = t.0 ∷ t.2.list;
-      members = omega (arith, t.2.members);
-      less = omega (arith, t.2.less, sum-cons t.0 t.2.list);
-      holds = t.2.holds;
-    }))
+    (grind (arith, sum-cons))
     (λ none. inr (λ s. none (first_of_it s.list s.members s.less s.holds)))
     (some_below_decided (λ k. Smaller (λ rest. P (k ∷ rest)) n (limit - k)) limit (λ k k_below. smaller_decided n (limit - k) (λ rest. P (k ∷ rest)) (λ rest. decide (k ∷ rest))))
   where
@@ -55,23 +50,11 @@ sum-minimum_lt (k ∷ ks) (l ∷ ls) (suc p) same less = omega (arith, sum-cons 
 
 -- a satisfying cut is least if none has a lesser sum, since its minimum with another is satisfying
 pub least_by_sum : (n : ℕ) (c : Computation) (cut : List ℕ) → IsSatisfyingCut n c cut → (Smaller (IsSatisfyingCut n c) n (sum cut) → ⊥) → IsLeastCut n c cut
-least_by_sum n c cut satisfying none = record {
-  one = satisfying;
-  below = λ other also p p_within. ⊎_elim
-      (λ less. absurd (none (lesser other also p less)))
-      (λ order. order)
-      (cases_lt (slice_index other p) (slice_index cut p));
-}
+least_by_sum n c cut satisfying none = grind (arith, lesser)
   where
     lesser : (other : List ℕ) → IsSatisfyingCut n c other → (p : ℕ) → slice_index other p < slice_index cut p → Smaller (IsSatisfyingCut n c) n (sum cut)
     lesser other also p less =
-        let same : length cut ≡ length other = omega (arith, satisfying.members, also.members) in
-        record {
-          list = minimum cut other;
-          members = length-minimum cut other same ∙ satisfying.members;
-          less = sum-minimum_lt cut other p same less;
-          holds = minimum_is_satisfying n c cut other satisfying also;
-        }
+        search (arith, minimum_is_satisfying n c cut other satisfying also, sum-minimum_lt)
 
 -- where satisfying is decided, the search among the cuts of lesser sum ends at the least one
 pub least_from_decider : ((n : ℕ) (c : Computation) (cut : List ℕ) → IsSatisfyingCut n c cut ⊎ (IsSatisfyingCut n c cut → ⊥)) → LeastCutLaw

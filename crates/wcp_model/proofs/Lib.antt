@@ -20,7 +20,9 @@ pub mod TaskLogs
 pub mod LogsOfTasks
 pub mod StateClocks
 pub mod PlanPaths
+pub mod FirstReasons
 pub mod FirstFault
+pub mod CheckedPlans
 pub mod PlainPlans
 pub mod RisingLists
 pub mod AcceptedSteps

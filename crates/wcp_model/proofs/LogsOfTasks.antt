@@ -1,3 +1,4 @@
+use Rattle.std.proofs.lemmas.Grind.{common_steps}
 use Rattle.std.proofs.Common.{◌≡◌, ◌≢◌, ◌==◌, ℕ, zero, suc, ◌+◌, ◌-◌, ◌<◌, ◌≤◌, ◌&&◌, Bool, false, cond, Some, List, [], ◌∷◌, ◌++◌, length, count_by, filter, map, slice_get, slice_index, take, drop, All, refl, sym, ap, ap₂, subst, subst₂, inl, inr, ⊎_elim, eq-eqb, append-nil, ◌∙◌, arith}
 use Rattle.std.specs.List.{range_with_len}
 use Rattle.std.specs.Option.{option_map}
@@ -54,17 +55,7 @@ actions_before order p place = grind (arith, filter_front, length-filter, take-m
 pub count_actions : (test : Action → Bool) (p : ℕ) (tasks : List Task) → count_by test (actions_of p tasks) ≡ count_by (λ task. is_task_of p task && test task.action) tasks
 count_actions test p [] = refl
 count_actions test p (task ∷ tasks) =
-    elim (cases_Bool (is_task_of p task)) [
-      | inl own ↦
-          ap (λ kept. count_by test (map (λ (t : Task). t.action) kept)) (filter_yes (is_task_of p) task tasks own)
-          ∙ sum_by-cons (λ act. cond (test act) 1 0) task.action (actions_of p tasks)
-          ∙ ap₂ (λ (b : Bool) k. cond (b && test task.action) 1 0 + k) (sym own) (count_actions test p tasks)
-          ∙ sym (sum_by-cons (λ t. cond (is_task_of p t && test t.action) 1 0) task tasks)
-      | inr other ↦
-          ap (λ kept. count_by test (map (λ (t : Task). t.action) kept)) (filter_no (is_task_of p) task tasks other)
-          ∙ count_actions test p tasks
-          ∙ sym (count_by_no (λ t. is_task_of p t && test t.action) task tasks (ap (λ b. b && test task.action) other))
-    ]
+    grind (arith, common_steps, count_actions test p tasks)
 
 rank_of : (test : Action → Bool) (order : List Task) (p place : ℕ) → count_by test (take (done order p place) (actions_of p order)) ≡ count_by (λ task. is_task_of p task && test task.action) (take place order)
 rank_of test order p place = ap (count_by test) (actions_before order p place) ∙ count_actions test p (take place order)
@@ -201,8 +192,7 @@ module _ (n : ℕ) (order : List Task) (within : All (IsWithin n) order) (fit : 
 
   logs_until : (bound : ℕ) → bound ≤ length order → (place : ℕ) → place ≤ bound → AreLogsAt place
   logs_until zero inside place le =
-      let first : 0 ≡ place = omega arith in
-      subst AreLogsAt first (λ p below. tt)
+      grind arith
   logs_until (suc bound) inside place le = ⊎_elim
       (λ (earlier : place < bound + 1). logs_until bound (omega arith) place (omega arith))
       (λ (last : bound + 1 ≤ place).
@@ -251,8 +241,7 @@ module _ (n : ℕ) (tasks : List Task) (p q : ℕ) (act : Action) (acts : act �
       (length stamp ≡ n) × (slice_index stamp q ≤ slice_index (state_of_log (setup n q) log).clock q)
   got_not_ahead p_below q_below within fit are follows own =
       let place : done longer q (length tasks) ≡ length log =
-      ap (count_by (is_task_of q)) (take_at tasks (receive ∷ []) (length tasks) refl)
-      ∙ sym (length-filter (is_task_of q) tasks) ∙ sym (length-map (filter (is_task_of q) tasks) (λ (t : Task). t.action)) ∙ same_length (actions_of q tasks) log follows in
+      grind (arith, length-filter, length-map, same_length, take_at) in
       let before : take (done longer q (length tasks)) (logs q) ≡ log = ap₂ take place own ∙ take_at log (Received stamp ∷ []) (length log) refl in
       subst (λ calls. (length stamp ≡ n) × (slice_index stamp q ≤ slice_index (state_of_log (setup n q) calls).clock q)) before
       (not_ahead n longer within fit logs are (length tasks) p q stamp p_below q_below

@@ -12,13 +12,6 @@ use Rattle.wcp_model.specs.WorkloadComputation.{is_task_of, is_send_to, sends, r
 use Rattle.wcp_model.proofs.SamePlace.{filter_yes, filter_no, count_by_yes, count_by_no, count_by-take_more, slice_get-take, element_after, one_place}
 use Rattle.wcp_model.proofs.StepsOfOrder.{sends_any, step_at, send_task, receive_task, message_at_is}
 
--- how the place of the element after `earlier` others is found, from the front on
-place_after_first : (test : Task → Bool) (task : Task) (tasks : List Task) → test task ≡ true → place_after test 0 (task ∷ tasks) ≡ 0
-place_after_first test task tasks passes = rw passes
-
-place_after_no : (test : Task → Bool) (earlier : ℕ) (task : Task) (tasks : List Task) → test task ≡ false → place_after test earlier (task ∷ tasks) ≡ suc (place_after test earlier tasks)
-place_after_no test earlier task tasks fails = rw fails (omega arith)
-
 -- one element further, where the first passes both tests
 both_pass : (any test : Task → Bool) (first : Task) (rest : List Task) (place earlier : ℕ) → any first ≡ true → test first ≡ true → count_by test (first ∷ take place rest) ≡ earlier → ((k : ℕ) → count_by test (take place rest) ≡ k → place_after test k (filter any rest) ≡ count_by any (take place rest)) → place_after test earlier (filter any (first ∷ rest)) ≡ count_by any (first ∷ take place rest)
 both_pass any test first rest place earlier among here behind further = grind (arith, count_by_yes)
@@ -27,23 +20,12 @@ both_pass any test first rest place earlier among here behind further = grind (a
 place_after_is : (any test : Task → Bool) → ((task : Task) → test task ≡ true → any task ≡ true) → (order : List Task) (place earlier : ℕ) (task : Task) → slice_get order place ≡ Some task → test task ≡ true → count_by test (take place order) ≡ earlier → place_after test earlier (filter any order) ≡ count_by any (take place order)
 place_after_is any test implies [] place earlier task found passes behind = cc
 place_after_is any test implies (first ∷ rest) zero earlier task found passes behind =
-    let same : task ≡ first = cc in
-    let here : test first ≡ true = rw same at passes in
-    let among : any first ≡ true = implies first here in
-    rw (← behind, among) (place_after_first test first (filter any rest) here)
+    grind arith
 place_after_is any test implies (first ∷ rest) (suc place) earlier task found passes behind =
     elim (cases_Bool (test first)) [
       | inl here ↦ both_pass any test first rest place earlier (implies first here) here behind (λ k. place_after_is any test implies rest place k task found passes)
       | inr other ↦
-          let further = place_after_is any test implies rest place earlier task found passes (sym (count_by_no test first (take place rest) other) ∙ behind) in
-          elim (cases_Bool (any first)) [
-            | inl among ↦
-                ap (place_after test earlier) (filter_yes any first rest among)
-                ∙ place_after_no test earlier first (filter any rest) other
-                ∙ ap suc further
-                ∙ sym (count_by_yes any first (take place rest) among)
-            | inr apart ↦ ap (place_after test earlier) (filter_no any first rest apart) ∙ further ∙ sym (count_by_no any first (take place rest) apart)
-          ]
+          grind (arith, count_by_yes, place_after_is any test implies rest place earlier task found passes (sym (count_by_no test first (take place rest) other) ∙ behind))
     ]
 
 -- a task that passes the test for a send by p to q is that send, and the other way round
@@ -88,11 +70,7 @@ send_of_receive {tasks} {order} fit p q received found =
     let before : sent < received = before_or_here order p q sent received within there found in (
       sent,
       before,
-      record {
-        send = there;
-        receive = found;
-        same_rank = ap (count_by (sends p q)) (sym (take-take sent (received + 1) order (omega arith))) ∙ sender.1.behind;
-      },
+      grind (arith, take-take),
     )
 
 -- in a fit order the send of a delivery stands before its receive

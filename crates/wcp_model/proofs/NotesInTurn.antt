@@ -23,16 +23,12 @@ in_turn_from : (number count : ℕ) (closed : Bool) (clocks : List (List ℕ)) (
 in_turn_from number count false [] [] after next counted is = absurd (cc is)
 in_turn_from number count false [] (x ∷ before) after next counted is = absurd (cc is)
 in_turn_from number count true [] [] after next counted is =
-    let same : note.Close count ≡ next = cc is in
-    (omega (arith, ap place_of same), refl)
+    grind arith
 in_turn_from number count true [] (x ∷ before) after next counted is = absurd (omega (arith, ap length is, length-append before (next ∷ after)))
 in_turn_from number count closed (clock ∷ clocks) [] after next counted is =
-    let same : note.Snap number clock ≡ next = cc is in
-    (omega (arith, ap place_of same), refl)
+    grind arith
 in_turn_from number count closed (clock ∷ clocks) (x ∷ before) after next counted is =
-    let first : note.Snap number clock ≡ x = cc is in
-    let rest = in_turn_from (number + 1) count closed clocks before after next (omega arith) (cc is) in
-    subst (λ y. (place_of next ≡ number + length (snapshot_clocks (y ∷ before))) × (list_any is_close (y ∷ before) ≡ false)) first (omega (arith, rest.0), rest.1)
+    grind (arith, in_turn_from (number + 1) count closed clocks before after next (omega arith) (cc is))
 
 -- what a process emits is in turn
 pub emissions_in_turn : (n : ℕ) (c : Computation) (p : ℕ) (notes : List Note) → AreEmissions n c p notes → AreInTurn notes
@@ -48,8 +44,7 @@ split_push : (xs before after : List Note) (x y : Note) → xs ++ x ∷ [] ≡ b
 split_push [] [] after x y is = inl (refl, cc is)
 split_push [] (b ∷ before) after x y is = absurd (omega (arith, ap length is, length-append before (y ∷ after)))
 split_push (a ∷ xs) [] after x y is =
-    let first : a ≡ y = cc is in
-    inr (xs, ap (λ z. z ∷ xs) first)
+    grind arith
 split_push (a ∷ xs) (b ∷ before) after x y is =
     let first : a ≡ b = cc is in
     ⊎_elim
@@ -69,8 +64,7 @@ AreInTurn-push notes next turn is before after other at = grind (arith, split_pu
 pub nothing_follows : (before after : List Note) (count : ℕ) → AreInTurn (before ++ note.Close count ∷ after) → after ≡ []
 nothing_follows before [] count turn = refl
 nothing_follows before (x ∷ after) count turn =
-    let open_still = (turn (before ++ note.Close count ∷ []) after x (sym (append_mark before))).still_open in
-    absurd (true≢false (sym (list_any-append is_close before (note.Close count ∷ []) ∙ or_right (list_any is_close before) true refl) ∙ open_still))
+    grind (arith, append_mark before, list_any-append is_close before (note.Close count ∷ []))
   where
     append_mark : (xs : List Note) → (xs ++ note.Close count ∷ []) ++ x ∷ after ≡ xs ++ note.Close count ∷ x ∷ after
     append_mark [] = refl
@@ -81,28 +75,16 @@ pub record CountsNotes (s : ProbeState) : Type 0 where
   pub snapshots : s.snapshots ≡ length (snapshot_clocks s.notes)
   pub closed : s.closed ≡ list_any is_close s.notes
 
-abbrev with_snapshot : ProbeState → ProbeState
-with_snapshot s = record s { flag = true; snapshots = s.snapshots + 1; notes = s.notes ++ note.Snap s.snapshots s.clock ∷ [] }
-
 counts_after : (p : ℕ) (s : ProbeState) (call : Call) → CountsNotes s → CountsNotes (after_call p s call)
 counts_after p s (Observed false) is = is
-counts_after p s (Observed true) is = ⊎_elim
-    (λ (set : s.flag ≡ true). subst (λ flag. CountsNotes (if flag then s else with_snapshot s)) (sym set) is)
-    (λ (clear : s.flag ≡ false). subst (λ flag. CountsNotes (if flag then s else with_snapshot s)) (sym clear) (record {
-      snapshots = omega (arith, is.snapshots, ap length (snapshot_clocks-append s.notes (note.Snap s.snapshots s.clock ∷ [])), length-append (snapshot_clocks s.notes) (s.clock ∷ []));
-      closed = is.closed ∙ sym (list_any-append is_close s.notes (note.Snap s.snapshots s.clock ∷ []) ∙ or_false (list_any is_close s.notes));
-    }))
-    (cases_Bool s.flag)
+counts_after p s (Observed true) is = grind (arith, length-append, list_any-append, snapshot_clocks-append)
   where
     or_false : (b : Bool) → (b || false) ≡ b
     or_false true = refl
     or_false false = refl
 counts_after p s Sent is = record { snapshots = is.snapshots; closed = is.closed }
 counts_after p s (Received stamp) is = record { snapshots = is.snapshots; closed = is.closed }
-counts_after p s Closed is = record {
-  snapshots = is.snapshots ∙ ap length (sym (snapshot_clocks-append s.notes (note.Close s.snapshots ∷ []) ∙ append-nil (snapshot_clocks s.notes)));
-  closed = sym (list_any-append is_close s.notes (note.Close s.snapshots ∷ []) ∙ or_right (list_any is_close s.notes) true refl);
-}
+counts_after p s Closed is = grind (arith, append-nil, list_any-append, snapshot_clocks-append)
 
 counts_from : (p : ℕ) (s : ProbeState) (log : List Call) → CountsNotes s → CountsNotes (fold (after_call p) s log)
 counts_from p s [] is = is

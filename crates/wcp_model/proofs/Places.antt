@@ -1,3 +1,4 @@
+use Rattle.std.proofs.lemmas.Grind.{common_steps}
 use Rattle.std.proofs.Common.{◌≡◌, ℕ, zero, suc, ◌+◌, ◌<◌, ◌≤◌, Bool, true, false, cond, List, take, length, count_by, slice_get, Some, refl, ◌∙◌, ap, ⊎_elim, add-one, arith}
 use Rattle.std.proofs.lemmas.Bool.{cases_lt, cases_Bool}
 use Rattle.std.proofs.lemmas.List.{take-take, take_all}
@@ -39,10 +40,7 @@ count_before-past test xs place past = rw (take_all (place + 1) xs (omega arith)
 pub count_before-step : {X : Type 0} (test : X → Bool) (xs : List X) (place : ℕ) → count_before test xs (place + 1) ≤ count_before test xs place + 1
 count_before-step test xs place =
     ⊎_elim
-    (λ here.
-    ⊎_elim (λ (passes : test here.0 ≡ true). omega (arith, count_before-yes test xs place here.0 here.2 passes))
-    (λ (fails : test here.0 ≡ false). omega (arith, count_before-no test xs place here.0 here.2 fails))
-    (cases_Bool (test here.0)))
+    (grind (arith, common_steps))
     (λ past. omega (arith, count_before-past test xs place past.0))
     (slice_get_cases xs place).1
 
@@ -53,6 +51,5 @@ place_of_count test xs count (suc place) low =
     let step : count_before test xs (suc place) ≤ count_before test xs place + 1 = rw (add-one place) at (count_before-step test xs place) in
     ⊎_elim (λ (above : count_before test xs place < count). (suc place, omega arith, omega arith))
     (λ (below : count ≤ count_before test xs place).
-    let found = place_of_count test xs count place below in
-    (found.0, omega (arith, found.1), found.2))
+    grind (arith, place_of_count test xs count place below))
     (cases_lt (count_before test xs place) count)

@@ -39,15 +39,7 @@ direct_span c s t (Next process interval exists) =
       next = interval;
       in_order = le_refl event.0;
     }
-direct_span c s t (Message m) = record {
-  ended = m.sent;
-  began = m.received;
-  last = interval_at c t.process m.received;
-  ends = event_of_send c s.process s.interval m.to m.sent m.send m.from_state;
-  begins = event_of_receive c t.process (interval_at c t.process m.received) (message_at c m.sent) m.received m.receive refl;
-  next = m.to_state;
-  in_order = omega (arith, m.later);
-}
+direct_span c s t (Message m) = grind arith
 
 -- spans join, since a process's state begins before it ends
 join_spans : (c : Computation) (s t u : State) → Span c s t → Span c t u → Span c s u

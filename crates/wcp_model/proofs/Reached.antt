@@ -36,10 +36,6 @@ interval_at-other c p = count_before-no (is_communication_of p) c
 pub interval_at-le : (c : Computation) (p place : ℕ) → interval_at c p place ≤ communications c p
 interval_at-le c p place = sum_by-take-le _ c place
 
--- the interval of a process is at most the number of steps so far
-pub interval_at-le-place : (c : Computation) (p place : ℕ) → interval_at c p place ≤ place
-interval_at-le-place c p place = omega (arith, count_by-le-length (is_communication_of p) (take place c), length-take place c)
-
 -- at the end each process is in its last interval
 pub interval_at-end : (c : Computation) (p : ℕ) → interval_at c p (length c) ≡ communications c p
 interval_at-end c p = ap (count_by (is_communication_of p)) (take_all (length c) c (omega arith))
@@ -97,17 +93,7 @@ before_receive c s p place message here carries =
     let sent = carries.0 in
     let from = carries.2 in
     one_more_step c s (state_at c from.process sent) (state_at c p (place + 1)) from.reached
-    (Message
-    (record {
-      sent = sent;
-      received = place;
-      to = from.to;
-      later = carries.1;
-      send = from.send;
-      receive = here ∙ ap (λ m. Some (Recv p m)) (sym from.number);
-      from_state = refl;
-      to_state = sym (interval_at-event c p place (Recv p message) here (eq-eqb p p refl));
-    }))
+    (grind (arith, interval_at-event c p place (Recv p message) here (eq-eqb p p refl)))
 
 -- a state that begins at a place comes from the process's state before it, or by the message that is received there
 abbrev pub ComesFrom : Computation → State → ℕ → ℕ → Step → Type 0
@@ -148,10 +134,7 @@ next_decided c s p place (Recv q message) here own carries before =
     ⊎_elim (λ at. before_next c s p place (Recv q message) here own at) (λ carried. before_receive c s p place message receive carried) from)
     (λ (after : HappenedBefore c s (state_at c p (place + 1))).
     ⊎_elim (λ (at : AtOrAfter c s (state_at c p place)). inl at)
-    (λ (by_message : (m : ℕ) × (Recv q message ≡ Recv p m) × Carries c s place m).
-    let step = by_message.1 in
-    let same : by_message.0 ≡ message = cc in
-    inr (subst (λ m. Carries c s place m) same by_message.2))
+    (grind arith)
     (comes_from c s p place (Recv q message) here own after))
     (either_decided (either_decided (same_state_decided s (state_at c p place)) before) (carries message))
 next_decided c s p place step here own carries before =
@@ -181,8 +164,7 @@ at_next_decided c s place decided p =
 
 by_place_decided : (c : Computation) (s : State) (place earlier : ℕ) → earlier ≤ place → (p : ℕ) → Decided (HappenedBefore c s (state_at c p earlier))
 by_place_decided c s zero earlier low p =
-    let start : earlier ≡ 0 = omega arith in
-    inr (λ before. let later = before_to_later before in let none = interval_at-le-place c p earlier in omega arith)
+    grind (arith, before_to_later)
 by_place_decided c s (suc place) earlier low p =
     ⊎_elim (λ (below : earlier < suc place). by_place_decided c s place earlier (omega arith) p)
     (λ (above : suc place ≤ earlier).
@@ -219,9 +201,7 @@ pub consistent_decided : (n : ℕ) (c : Computation) (cut : List ℕ) → Decide
 consistent_decided n c cut =
     decided_from (λ apart p q p_below q_below. apart p p_below q q_below) (λ consistent p p_below q q_below. consistent p q p_below q_below)
     (all_below_decided (λ p. (q : ℕ) → q < n → p ≢ q → HappenedBefore c (member cut p) (member cut q) → ⊥) n
-    (λ p p_below.
-    all_below_decided (λ q. p ≢ q → HappenedBefore c (member cut p) (member cut q) → ⊥) n
-    (λ q q_below. under_decided (not_decided (cases_eq p q)) (not_decided (happened_before_decided c (member cut p) (member cut q))))))
+    (search (arith, all_below_decided, cases_eq, happened_before_decided, not_decided, under_decided)))
 
 -- whether a list of intervals is a satisfying cut is decided
 pub satisfying_decided : (n : ℕ) (c : Computation) (cut : List ℕ) → IsSatisfyingCut n c cut ⊎ (IsSatisfyingCut n c cut → ⊥)

@@ -58,16 +58,8 @@ receive_counts n c r p k clock stamp q l m is sent in_range other =
     let link : DirectlyPrecedes c r (local_state p (k + 1)) = Message m in
     let own : HappenedBefore c (local_state q l) (local_state p k) ↔ (l < slice_index clock q) = is.others q in_range other l in
     let theirs : AtOrAfter c (local_state q l) r ↔ (l < slice_index stamp q) = sender_counts n c r.process r.interval m.to m.sent stamp q l m.send m.from_state sent in_range in (
-      λ h. ⊎_elim
-          (⊎_elim (λ (e : local_state q l ≡ local_state p k). absurd (other (ap (λ (s : State). s.process) e)))
-          (λ (g : HappenedBefore c (local_state q l) (local_state p k)). let below : l < slice_index clock q = own.0 g in omega arith))
-          (λ (g : AtOrAfter c (local_state q l) r). let below : l < slice_index stamp q = theirs.0 g in omega arith)
-          (only_before_receive c (local_state q l) r p k m h),
-      λ below. ⊎_elim
-          (λ (lt : l < slice_index clock q).
-          one_more_step c (local_state q l) (local_state p k) (local_state p (k + 1)) (inr (own.1 lt)) (Next refl refl (before_to_state (Direct link))))
-          (λ (ge : slice_index clock q ≤ l). one_more_step c (local_state q l) r (local_state p (k + 1)) (theirs.1 (omega arith)) link)
-          (cases_lt l (slice_index clock q)),
+      grind (arith, only_before_receive),
+      search (arith, before_to_state (Direct link), one_more_step),
     )
 
 -- at a receive the clock takes the greater of each other component, and ticks

@@ -1,3 +1,4 @@
+use Rattle.std.proofs.lemmas.Grind.{common_steps}
 use Rattle.std.proofs.Common.{◌≡◌, ℕ, ◌+◌, ◌<◌, ◌≤◌, ◌⊎◌, true, false, if◌then◌else◌, List, [], ◌∷◌, ◌++◌, length, slice_get, slice_index, slice_index_or, count_by, Contains, refl, sym, ap, ap₂, ◌∙◌, subst, subst₂, zero-add, inl, inr, ⊎_elim, append-nil, arith}
 use Rattle.std.proofs.lemmas.Bool.{cases_lt}
 use Rattle.std.proofs.lemmas.List.{length_push, get_or_append_left, get_or_push, take_at}
@@ -28,9 +29,7 @@ true_state_exists c s is = omega (arith, is.within, interval_at-le c s.process i
 pub true_state_cases : (c : Computation) (x : Step) (s : State) → IsTrueState (c ++ x ∷ []) s → IsTrueState c s ⊎ ((x ≡ step.Observe s.process true) × (communications c s.process ≡ s.interval))
 true_state_cases c x s is =
     ⊎_elim (λ (lt : is.place < length c). inl (true_state_of_front c (x ∷ []) s is lt))
-    (λ (ge : length c ≤ is.place).
-    let last : is.place ≡ length c = omega (arith, slice_get_within (c ++ x ∷ []) is.place (step.Observe s.process true) is.observed, length_push c x) in
-    inr (cc (get_behind c x [], is.observed, ap (slice_get (c ++ x ∷ [])) last), sym (interval_at_seam c (x ∷ []) s.process) ∙ ap (interval_at (c ++ x ∷ []) s.process) (sym last) ∙ is.within))
+    (grind (arith, common_steps, get_behind, slice_get_within))
     (cases_lt is.place (length c))
 
 -- the snapshots of clocks and of more clocks, from a number on
@@ -77,15 +76,11 @@ pub emitted_stays : (n : ℕ) (c e : Computation) (p snapshots : ℕ) (notes : L
 emitted_stays n c e p snapshots notes none closed h =
     grind (arith, clocks_stay n c e p snapshots notes h, true_states_stay c e p h.intervals none h.true_states)
 
--- a process that is open has emitted its snapshots alone
-open_notes : (n : ℕ) (c : Computation) (p snapshots : ℕ) (notes : List Note) (h : HasEmitted n c p snapshots notes) → is_closed c p ≡ false → notes ≡ snapshots_from 0 h.clocks
-open_notes n c p snapshots notes h is_open = grind (arith, append-nil)
-
 -- a close emits a mark that counts the snapshots
 pub emitted_close : (n : ℕ) (c e : Computation) (p snapshots : ℕ) (notes : List Note) → NoneNew c e p → is_closed c p ≡ false → is_closed (c ++ e) p ≡ true → HasEmitted n c p snapshots notes →
     HasEmitted n (c ++ e) p snapshots (notes ++ note.Close snapshots ∷ [])
 emitted_close n c e p snapshots notes none was_open closed h =
-    grind (arith, clocks_stay n c e p snapshots notes h, true_states_stay c e p h.intervals none h.true_states, open_notes n c p snapshots notes h was_open)
+    grind (arith, clocks_stay n c e p snapshots notes h, true_states_stay c e p h.intervals none h.true_states, append-nil)
 
 -- numbers that rise, and one above them
 rising_push : (xs : List ℕ) (k : ℕ) → IsStrictlyIncreasing xs → ((i : ℕ) → i < length xs → slice_index xs i < k) → IsStrictlyIncreasing (xs ++ k ∷ [])
@@ -114,15 +109,9 @@ emitted_snapshot n c e p k snapshots notes clock was_open still_open below new i
   same_length = length_push h.clocks clock ∙ ap (λ i. i + 1) h.same_length ∙ sym (length_push h.intervals k);
   each = λ i lt.
       ⊎_elim (λ (old : i < length h.intervals).
-      subst₂ (λ j v. IsStateClock n (c ++ e) (local_state p j) v) (sym (get_or_append_left h.intervals (k ∷ []) 0 i old)) (sym (get_or_append_left h.clocks (clock ∷ []) [] i (omega (arith, h.same_length))))
-      (clocks_stay n c e p snapshots notes h i old))
-      (λ (past : length h.intervals ≤ i).
-      let last : length h.intervals ≡ i = omega (arith, length_push h.intervals k) in
-      subst₂ (λ j v. IsStateClock n (c ++ e) (local_state p j) v) (sym (get_or_push h.intervals k 0 i last)) (sym (get_or_push h.clocks clock [] i (h.same_length ∙ last))) clock_is)
+      grind (arith, clocks_stay n c e p snapshots notes h i old, get_or_append_left h.intervals (k ∷ []) 0 i old, get_or_append_left h.clocks (clock ∷ []) [] i (omega (arith, h.same_length))))
+      (grind (arith, get_or_push, length_push))
       (cases_lt i (length h.intervals));
   counted = ap (λ i. i + 1) h.counted ∙ sym (length_push h.clocks clock);
-  notes_are = ap₂ (λ before count. before ++ note.Snap count clock ∷ []) (open_notes n c p snapshots notes h was_open) (h.counted ∙ sym (zero-add (length h.clocks)))
-      ∙ sym (snapshots_push 0 h.clocks clock)
-      ∙ sym (append-nil (snapshots_from 0 (h.clocks ++ clock ∷ [])))
-      ∙ ap (λ b. snapshots_from 0 (h.clocks ++ clock ∷ []) ++ (if b then note.Close (length (h.clocks ++ clock ∷ [])) ∷ [] else [])) (sym still_open);
+  notes_are = grind (arith, append-nil, snapshots_push);
 }

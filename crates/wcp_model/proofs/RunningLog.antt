@@ -88,11 +88,7 @@ observes_first n c p s is_open clear h =
       flag = (λ set. subst (λ l. IsTrueState d (local_state p l)) (omega (arith, communications_push c (Observe p true) p 0 refl)) now, λ is. refl);
       closed = h.closed ∙ sym (closed_stays c (Observe p true) p refl);
       emitted = emitted_snapshot n c (Observe p true ∷ []) p k s.snapshots s.notes s.clock is_open (closed_stays c (Observe p true) p refl ∙ is_open)
-          (λ j is. ⊎_elim (λ (lt : j < k). lt)
-          (λ (ge : k ≤ j).
-          let same : j ≡ k = omega (arith, true_state_exists c (local_state p j) is) in
-          absurd (true≢false (sym (h.flag.1 (subst (λ l. IsTrueState c (local_state p l)) same is)) ∙ clear)))
-          (cases_lt j k))
+          (grind (arith, true_state_exists))
           (λ j is. ⊎_elim (λ (old : IsTrueState c (local_state p j)). inl old) (λ new. inr new.1) (true_state_cases c (Observe p true) (local_state p j) is))
           now (clock_grows n c (Observe p true ∷ []) (local_state p k) s.clock (le_refl k) h.clock) h.emitted;
     }
@@ -171,8 +167,7 @@ advances n c e p (Observe q false) s (Observed true) accepted in_range own is h 
 advances n c e p (Send q to) s Sent accepted in_range own is h =
     subst (λ r. IsStateAfter n (c ++ Send r to ∷ []) p (after_call p s Sent)) (sym (eqb-true q p own)) (sends n c p to s in_range h)
 advances n c e p (Recv q message) s (Received stamp) accepted in_range own is h =
-    subst (λ r. IsStateAfter n (c ++ Recv r message ∷ []) p (after_call p s (Received stamp))) (sym (eqb-true q p own))
-    (receives n c p message stamp s in_range (stamp_shrinks n c (Recv q message ∷ e) message stamp (was_sent n c e q message accepted) is) h)
+    grind (arith, receives n c p message stamp s in_range (stamp_shrinks n c (Recv q message ∷ e) message stamp (was_sent n c e q message accepted) is) h)
 advances n c e p (Close q) s Closed accepted in_range own is h =
     subst (λ r. IsStateAfter n (c ++ Close r ∷ []) p (after_call p s Closed)) (sym (eqb-true q p own)) (closes n c p s (was_open n c e (Close q) p accepted own) h)
 advances n c e p x s call accepted in_range own is h = absurd is
@@ -193,8 +188,7 @@ runs_on n p [] c s (call ∷ calls) accepted in_range are h = absurd are
 runs_on n p (x ∷ e) c s calls accepted in_range are h =
     let together : (c ++ x ∷ []) ++ e ≡ c ++ x ∷ e = append_assoc c (x ∷ []) e in
     let rest : (t : ProbeState) (rest : List Call) → AreCallsOf n (c ++ x ∷ e) (filter (is_step_of p) e) rest → IsStateAfter n (c ++ x ∷ []) p t → IsStateAfter n (c ++ x ∷ e) p (fold (after_call p) t rest) =
-    λ t calls. subst (λ d. AreCallsOf n d (filter (is_step_of p) e) calls → IsStateAfter n (c ++ x ∷ []) p t → IsStateAfter n d p (fold (after_call p) t calls)) together
-    (runs_on n p e (c ++ x ∷ []) t calls (subst (IsAccepted) (sym together) accepted) in_range) in
+    λ t calls. grind (arith, runs_on n p e (c ++ x ∷ []) t calls (subst (IsAccepted) (sym together) accepted) in_range) in
     ⊎_elim (λ (own : is_step_of p x ≡ true).
     own_step n c e p x s calls accepted in_range own (subst (λ b. AreCallsOf n (c ++ x ∷ e) (cond b (x ∷ filter (is_step_of p) e) (filter (is_step_of p) e)) calls) own are) h rest)
     (λ (other : is_step_of p x ≡ false).

@@ -37,13 +37,8 @@ slice_get-take (suc n) (x ∷ xs) (suc place) below = slice_get-take n xs place 
 pub slice_get-filter : {X : Type 0} (P : X → Bool) (xs : List X) (place : ℕ) (x : X) → slice_get xs place ≡ Some x → P x ≡ true → slice_get (filter P xs) (length (filter P (take place xs))) ≡ Some x
 slice_get-filter P [] place x found passes = cc
 slice_get-filter P (y ∷ ys) zero x found passes =
-    let same : y ≡ x = cc in
-    let here : P y ≡ true = ap P same ∙ passes in
-    rw here found
-slice_get-filter P (y ∷ ys) (suc place) x found passes = elim (cases_Bool (P y)) [
-  | inl here ↦ rw here (slice_get-filter P ys place x found passes)
-  | inr here ↦ rw here (slice_get-filter P ys place x found passes)
-]
+    grind arith
+slice_get-filter P (y ∷ ys) (suc place) x found passes = grind (arith, slice_get-filter P ys place x found passes)
 
 -- an element passes the test and stands in the list after `earlier` others that do
 pub record StandsAfter {X : Type 0} (P : X → Bool) (xs : List X) (earlier : ℕ) (x : X) : Type 0 where
@@ -57,8 +52,7 @@ stands_after : {X : Type 0} (P : X → Bool) (xs : List X) (earlier : ℕ) (x : 
 stands_after P [] earlier x kept = cc
 stands_after P (y ∷ ys) zero x kept = elim (cases_Bool (P y)) [
   | inl here ↦
-      let same : y ≡ x = let first = rw here at kept in cc in
-      record { place = 0; found = ap Some same; passes = ap P (sym same) ∙ here; behind = refl }
+      grind arith
   | inr here ↦
       let rest = stands_after P ys zero x (rw here at kept) in
       record { place = suc rest.place; found = rest.found; passes = rest.passes; behind = count_by_no P y (take rest.place ys) here ∙ rest.behind }
@@ -82,10 +76,7 @@ element_after P xs earlier more =
 pub filter_front : {X : Type 0} (P : X → Bool) (place : ℕ) (xs : List X) → filter P (take place xs) ≡ take (length (filter P (take place xs))) (filter P xs)
 filter_front P zero xs = refl
 filter_front P (suc place) [] = refl
-filter_front P (suc place) (x ∷ xs) = elim (cases_Bool (P x)) [
-  | inl here ↦ rw here (ap (λ rest. x ∷ rest) (filter_front P place xs))
-  | inr here ↦ rw here (filter_front P place xs)
-]
+filter_front P (suc place) (x ∷ xs) = grind (arith, filter_front P place xs)
 
 -- the same element stands in another list behind the same elements that pass
 pub record SamePlace {X : Type 0} (P : X → Bool) (xs ys : List X) (place : ℕ) (x : X) : Type 0 where
@@ -110,11 +101,9 @@ pub one_place : {X : Type 0} (P : X → Bool) (xs : List X) (i j : ℕ) (x y : X
 one_place P [] i j x y at_i passes_x at_j passes_y same = cc
 one_place P (z ∷ zs) zero zero x y at_i passes_x at_j passes_y same = refl
 one_place P (z ∷ zs) zero (suc j) x y at_i passes_x at_j passes_y same =
-    let here : P z ≡ true = let e : z ≡ x = cc in ap P e ∙ passes_x in
-    absurd (omega (arith, same ∙ count_by_yes P z (take j zs) here))
+    grind (arith, count_by_yes)
 one_place P (z ∷ zs) (suc i) zero x y at_i passes_x at_j passes_y same =
-    let here : P z ≡ true = let e : z ≡ y = cc in ap P e ∙ passes_y in
-    absurd (omega (arith, sym same ∙ count_by_yes P z (take i zs) here))
+    grind (arith, count_by_yes)
 one_place P (z ∷ zs) (suc i) (suc j) x y at_i passes_x at_j passes_y same = elim (cases_Bool (P z)) [
   | inl here ↦ ap suc (one_place P zs i j x y at_i passes_x at_j passes_y (omega (arith, same, count_by_yes P z (take i zs) here, count_by_yes P z (take j zs) here)))
   | inr here ↦ ap suc (one_place P zs i j x y at_i passes_x at_j passes_y (sym (count_by_no P z (take i zs) here) ∙ same ∙ count_by_no P z (take j zs) here))
@@ -123,12 +112,7 @@ one_place P (z ∷ zs) (suc i) (suc j) x y at_i passes_x at_j passes_y same = el
 -- a stricter test finds in a filtered list what it finds in the list
 filter-filter : {X : Type 0} (P Q : X → Bool) → ((x : X) → Q x ≡ true → P x ≡ true) → (xs : List X) → filter Q (filter P xs) ≡ filter Q xs
 filter-filter P Q implies [] = refl
-filter-filter P Q implies (x ∷ xs) = elim (cases_Bool (P x)) [
-  | inl here ↦ rw here (ap (λ rest. cond (Q x) (x ∷ rest) rest) (filter-filter P Q implies xs))
-  | inr here ↦
-      let fails : Q x ≡ false = elim (cases_Bool (Q x)) [ inl passes ↦ absurd (let clash = sym here ∙ implies x passes in cc) | inr fails ↦ fails ] in
-      rw (here, fails) (filter-filter P Q implies xs)
-]
+filter-filter P Q implies (x ∷ xs) = grind (arith, filter-filter P Q implies xs)
 
 -- where the same elements pass a test, as many pass a stricter one
 pub same_count : {X : Type 0} (P Q : X → Bool) (xs ys : List X) → ((x : X) → Q x ≡ true → P x ≡ true) → filter P xs ≡ filter P ys → count_by Q xs ≡ count_by Q ys

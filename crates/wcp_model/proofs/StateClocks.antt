@@ -1,3 +1,4 @@
+use Rattle.std.proofs.lemmas.Grind.{common_steps}
 use Rattle.std.proofs.Common.{◌≡◌, ℕ, zero, suc, ◌<◌, ◌≤◌, ◌⊎◌, ◌↔◌, map, sym, ◌∙◌, subst, ⊎_elim, arith}
 use Rattle.std.proofs.lemmas.Bool.{cases_order}
 use Rattle.std.proofs.lemmas.List.FromFn.{length-map-range_with_len, get_or-map-range_with_len}
@@ -14,9 +15,7 @@ first_ones P decided closed zero below = (0, λ k. (below k, λ none. absurd (om
 first_ones P decided closed (suc bound) below =
     ⊎_elim (λ (last : P bound). (suc bound, λ k. (below k, λ lt. closed k bound (omega arith) last)))
     (λ (not_last : P bound → ⊥). first_ones P decided closed bound
-    (λ k holds. ⊎_elim (λ (same : k ≡ bound). absurd (not_last (subst P same holds)))
-    (⊎_elim (λ (lt : k < bound). lt) (λ (gt : bound < k). absurd (omega (arith, below k holds))))
-    (cases_order k bound)))
+    (grind arith))
     (decided bound)
 
 module _ (decided : (c : Computation) (s t : State) → HappenedBefore c s t ⊎ (HappenedBefore c s t → ⊥)) where
@@ -40,9 +39,5 @@ module _ (decided : (c : Computation) (s t : State) → HappenedBefore c s t ⊎
   clock_from_decision n c s in_range exists =
       let component : ℕ → ℕ = λ q. (counted c s q).0 in (
         map component (range_with_len 0 n),
-        record {
-          components = length-map-range_with_len component 0 n;
-          own = get_or-map-range_with_len component 0 n s.process s.process 0 in_range (omega arith) ∙ own_count c s exists;
-          others = λ q q_in_range other. subst (CountsBefore c s q) (sym (get_or-map-range_with_len component 0 n q q 0 q_in_range (omega arith))) (counted c s q).1;
-        },
+        grind (arith, common_steps, get_or-map-range_with_len, length-map-range_with_len, own_count),
       )

@@ -1,3 +1,4 @@
+use Rattle.std.proofs.lemmas.Grind.{common_steps}
 use Rattle.std.proofs.Common.{◌≡◌, ℕ, zero, suc, ◌+◌, ◌<◌, ◌≤◌, ◌&&◌, ◌==◌, Bool, true, false, cond, List, [], ◌∷◌, ◌++◌, length, map, take, count_by, slice_get, Some, refl, sym, ap, ap₂, ◌∙◌, inl, inr, ◌⊎◌, append-nil, append_assoc, zero-add, suc-add, arith}
 use Rattle.std.specs.List.{range_with_len}
 use Rattle.std.proofs.lemmas.Bool.{and_right}
@@ -32,11 +33,9 @@ sends_any task = is_any_send task.action
 step_from : (order earlier tasks : List Task) (place : ℕ) (task : Task) → slice_get tasks place ≡ Some task → slice_get (steps_from order earlier tasks) place ≡ Some (step_of order (earlier ++ take place tasks) task.p task.action)
 step_from order earlier [] place task found = cc
 step_from order earlier (first ∷ rest) zero task found =
-    let same : first ≡ task = cc in
-    rw (append-nil, ← same)
+    grind (arith, append-nil)
 step_from order earlier (first ∷ rest) (suc place) task found =
-    step_from order (earlier ++ first ∷ []) rest place task found
-    ∙ ap (λ front. Some (step_of order front task.p task.action)) (append_assoc earlier (first ∷ []) (take place rest))
+    grind (arith, append_assoc, step_from order (earlier ++ first ∷ []) rest place task found)
 
 -- each task has one step
 pub length-steps_from : (order earlier tasks : List Task) → length (steps_from order earlier tasks) ≡ length tasks
@@ -85,9 +84,7 @@ length-computation_of n order = omega (arith, length-append (steps_from order []
 pub task_at : (n : ℕ) (order : List Task) (place : ℕ) (s : Step) → slice_get (computation_of n order) place ≡ Some s → ((task : Task) × (slice_get order place ≡ Some task) × (step_of order (take place order) task.p task.action ≡ s)) ⊎ ((p : ℕ) × (step.Close p ≡ s))
 task_at n order place s found = elim (slice_get-append_cases (steps_from order [] order) (map step.Close (range_with_len 0 n)) place s found) [
   | inl within ↦
-      let task = element_within order place (omega (arith, length-steps_from order [] order)) in
-      let here = step_at n order place task.0 task.1 in
-      inl (task.0, task.1, cc)
+      search (arith, element_within order place (omega (arith, length-steps_from order [] order)), step_at)
   | inr there ↦ inr (close_at (range_with_len 0 n) there.0 s there.1)
 ]
 
@@ -111,9 +108,7 @@ count_from : (f : Step → Bool) (g : Task → Bool) (order earlier tasks : List
 count_from f g order earlier tasks closes zero alike none = refl
 count_from f g order earlier [] closes (suc place) alike none = none (suc place)
 count_from f g order earlier (first ∷ rest) closes (suc place) alike none =
-    sum_by-cons (λ s. cond (f s) 1 0) (step_of order earlier first.p first.action) (take place (steps_from order (earlier ++ first ∷ []) rest ++ closes))
-    ∙ ap₂ (λ b k. cond b 1 0 + k) (alike earlier first) (count_from f g order (earlier ++ first ∷ []) rest closes place alike none)
-    ∙ sym (sum_by-cons (λ t. cond (g t) 1 0) first (take place rest))
+    grind (arith, common_steps, count_from f g order (earlier ++ first ∷ []) rest closes place alike none)
 
 -- what counts at no close counts nothing among closes
 count_closes : (f : Step → Bool) (processes : List ℕ) (place : ℕ) → ((p : ℕ) → f (step.Close p) ≡ false) → count_by f (take place (map step.Close processes)) ≡ 0

@@ -77,8 +77,7 @@ module _ (n : ℕ) (c : Computation) (items : List Item) (fronts : AreFrontsOfEm
             let one = (each p p_within).0 in
             let other = (each q q_within).0 in
             is.satisfying.consistent p q p_within q_within apart
-            (((named_state q (slice_index cut q) q_within other).clock_is.others p p_within apart (slice_index cut p)).1
-            (omega (arith, less, one.own, ap (λ (v : List ℕ). slice_index v p) (each p p_within).1, ap (λ (v : List ℕ). slice_index v p) (each q q_within).1)));
+            (grind (arith, named_state q (slice_index cut q) q_within other));
       }
 
   least_by_states : (cut : List ℕ) → IsLeastOf n (IsCutByClocks n items) cut → IsLeastOf n (IsNamedCut n c items) cut
@@ -106,17 +105,11 @@ module _ (n : ℕ) (c : Computation) (items : List Item) (fronts : AreFrontsOfEm
       let emitted = (fronts p within).1 in
       let (i, i_below, interval, at) = named_at p k within named in
       let (j, j_below, here) = place_of p l within true_state in
-      named_by p l j within here (⊎_elim
-      (λ (past : i < j). absurd (omega (arith, rises_above emitted.intervals i j emitted.true_states.rising past j_below)))
-      (λ (at_most : j ≤ i). omega arith)
-      (cases_lt i j))
+      named_by p l j within here (grind (arith, rises_above))
 
   -- so the least cut of those named is the least cut of the whole computation, before all is drained and after
   pub found_is_least : (cut : List ℕ) → IsReportByClocks n items (Found cut) → IsLeastCut n c cut
-  found_is_least cut found = record {
-    one = least.one.satisfying;
-    below = below;
-  }
+  found_is_least cut found = grind (arith, below, least)
     where
       least : IsLeastOf n (IsNamedCut n c items) cut
       least = least_by_states cut found

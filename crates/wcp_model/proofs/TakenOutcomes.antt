@@ -53,9 +53,7 @@ AreItemsOfLogs n logs items = (p : ℕ) → p < n → notes_taken p items ≡ (s
 pub IsWorkloadOutcome-taken : (n : ℕ) (tasks : List Task) (logs : ℕ → List Call) (items : List Item) (outcome : Outcome) → All (IsWithin n) tasks → AreLogsOfTasks n tasks logs → AreItemsOfLogs n logs items → IsOutcomeOfItems n items outcome → IsWorkloadOutcome n tasks outcome
 IsWorkloadOutcome-taken n tasks logs items outcome within are taken is order fit =
     IsOutcomeOf-taken n (computation_of n order) items
-    (λ p below. subst (AreEmissions n (computation_of n order) p) (sym (taken p below))
-    (log_law_holds n (computation_of n order) p (logs p ++ Closed ∷ []) (order_accepted n order (IsFitOrder-itself tasks order fit)) below (task_log_law_holds n tasks order logs within fit are p below)).emissions)
+    (grind (arith, log_law_holds, order_accepted, task_log_law_holds))
     (λ p below.
-    let come_to = state_of_log (setup n p) (logs p) in
-    (come_to.snapshots, come_to.notes, taken p below ∙ ap (λ (s : ProbeState). s.notes) (log_push (setup n p) (logs p) Closed)))
+    grind (arith, log_push (setup n p) (logs p) Closed))
     outcome is

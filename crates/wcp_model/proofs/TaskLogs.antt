@@ -16,9 +16,7 @@ use Rattle.wcp_model.specs.WorkloadComputation.{is_task_of, is_send_to, is_recei
 -- one more element, which is kept or not
 kept-push : {X Y : Type 0} (f : X → Y) (keeps : X → Bool) (xs : List X) (x : X) → map f (filter keeps (xs ++ x ∷ [])) ≡ map f (filter keeps xs) ++ cond (keeps x) (f x ∷ []) []
 kept-push {X} {Y} f keeps xs x =
-    ap (map f) (filter-append keeps xs (x ∷ []))
-    ∙ map-append f (filter keeps xs) (filter keeps (x ∷ []))
-    ∙ ap (λ more. map f (filter keeps xs) ++ more) (sole (keeps x))
+    grind (arith, filter-append, map-append)
   where
     sole : (kept : Bool) → map f (cond kept (x ∷ []) []) ≡ cond kept (f x ∷ []) []
     sole true = refl
@@ -42,8 +40,7 @@ length-scan next out start (x ∷ xs) = ap suc (length-scan next out (next start
 scan_at : {S X Y : Type 0} (next : S → X → S) (out : S → X → Y) (start : S) (xs : List X) (place : ℕ) (x : X) → slice_get xs place ≡ Some x → slice_get (scan next out start xs) place ≡ Some (out (fold next start (take place xs)) x)
 scan_at next out start [] place x at = cc
 scan_at next out start (first ∷ xs) zero x at =
-    let same : first ≡ x = cc in
-    ap (λ y. Some (out start y)) same
+    grind arith
 scan_at next out start (first ∷ xs) (suc place) x at = scan_at next out (next start first) xs place x at
 
 -- the log with one more call
@@ -74,8 +71,7 @@ call_for [] [] place act follows at = cc
 call_for [] (call ∷ log) place act follows at = absurd follows
 call_for (first ∷ actions) [] place act follows at = absurd follows
 call_for (first ∷ actions) (call ∷ log) zero act follows at =
-    let same : first ≡ act = cc in
-    (call, refl, subst (λ a. IsCallFor a call) same follows.0)
+    grind arith
 call_for (first ∷ actions) (call ∷ log) (suc place) act follows at = call_for actions log place act follows.1 at
 
 -- what stands beside an action that passes, behind what stands beside those before it that do
@@ -83,45 +79,32 @@ beside_at : {X : Type 0} (test : Action → Bool) (actions : List Action) (xs : 
 beside_at test [] xs place act x at here passes = cc
 beside_at test (first ∷ actions) [] place act x at here passes = cc
 beside_at test (first ∷ actions) (y ∷ xs) zero act x at here passes =
-    let same : first ≡ act = cc in
-    let first_passes : test first ≡ true = ap test same ∙ passes in
-    rw first_passes here
-beside_at test (first ∷ actions) (y ∷ xs) (suc place) act x at here passes = elim (cases_Bool (test first)) [
-  | inl also ↦ rw (count_by_yes test first (take place actions) also, also) (beside_at test actions xs place act x at here passes)
-  | inr other ↦ rw (count_by_no test first (take place actions) other, other) (beside_at test actions xs place act x at here passes)
-]
+    grind arith
+beside_at test (first ∷ actions) (y ∷ xs) (suc place) act x at here passes = grind (arith, count_by_yes, beside_at test actions xs place act x)
 
 -- as many stand there as actions pass
 length-beside : {X : Type 0} (test : Action → Bool) (actions : List Action) (xs : List X) → length actions ≡ length xs → length (beside test actions xs) ≡ count_by test actions
 length-beside test [] xs same = refl
 length-beside test (act ∷ actions) [] same = absurd (omega (arith, same))
-length-beside test (act ∷ actions) (x ∷ xs) same = elim (cases_Bool (test act)) [
-  | inl passes ↦ rw (count_by_yes test act actions passes, passes) (ap suc (length-beside test actions xs (omega (arith, same))))
-  | inr fails ↦ rw (count_by_no test act actions fails, fails) (length-beside test actions xs (omega (arith, same)))
-]
+length-beside test (act ∷ actions) (x ∷ xs) same = grind (arith, count_by_yes, length-beside test actions xs (omega (arith, same)))
 
 -- the stamp of a send to q is the clock of the probe after it
 pub stamp_sent_at : (made : ProbeSetup) (q : ℕ) (actions : List Action) (log : List Call) (place : ℕ) (act : Action) (call : Call) → slice_get actions place ≡ Some act → slice_get log place ≡ Some call → is_send_to q act ≡ true →
     slice_get (stamps_sent made q actions log) (count_by (is_send_to q) (take place actions)) ≡ Some (state_of_log made (take place log ++ call ∷ [])).clock
 stamp_sent_at made q actions log place act call at made_call sends =
     beside_at (is_send_to q) actions (clocks_after made log) place act _ at
-    (scan_at (after_call made.process) (λ s next. (after_call made.process s next).clock) (state_of_log made []) log place call made_call
-    ∙ ap (λ (s : ProbeState). Some s.clock) (sym (log_push made (take place log) call))) sends
+    (grind (arith, log_push, scan_at)) sends
 
 -- the stamp of a receive from p is the one that it took
 pub stamp_got_at : (p : ℕ) (actions : List Action) (log : List Call) (place : ℕ) (act : Action) (call : Call) → slice_get actions place ≡ Some act → slice_get log place ≡ Some call → is_receive_from p act ≡ true →
     slice_get (stamps_got p actions log) (count_by (is_receive_from p) (take place actions)) ≡ Some (stamp_of call)
 stamp_got_at p actions log place act call at made_call receives = search (arith, slice_get-map stamp_of log place, beside_at)
 
--- what stands beside one more action, where it passes and where not
-beside-push : {X : Type 0} (test : Action → Bool) (actions : List Action) (xs : List X) (act : Action) (x : X) → length actions ≡ length xs → beside test (actions ++ act ∷ []) (xs ++ x ∷ []) ≡ beside test actions xs ++ cond (test act) (x ∷ []) []
-beside-push {X} test actions xs act x same = grind (arith, kept-push, zip-push)
-
 beside-push_passing : {X : Type 0} (test : Action → Bool) (actions : List Action) (xs : List X) (act : Action) (x : X) → length actions ≡ length xs → test act ≡ true → beside test (actions ++ act ∷ []) (xs ++ x ∷ []) ≡ beside test actions xs ++ x ∷ []
-beside-push_passing {X} test actions xs act x same passes = grind (arith, beside-push)
+beside-push_passing {X} test actions xs act x same passes = grind (arith, kept-push, zip-push)
 
 beside-push_failing : {X : Type 0} (test : Action → Bool) (actions : List Action) (xs : List X) (act : Action) (x : X) → length actions ≡ length xs → test act ≡ false → beside test (actions ++ act ∷ []) (xs ++ x ∷ []) ≡ beside test actions xs
-beside-push_failing {X} test actions xs act x same fails = grind (arith, append-nil, beside-push)
+beside-push_failing {X} test actions xs act x same fails = grind (arith, append-nil, kept-push, zip-push)
 
 -- a log that follows actions has a stamp for each send and receive among them
 module _ (actions : List Action) (log : List Call) (follows : FollowsActions actions log) where
@@ -140,15 +123,12 @@ module _ (actions : List Action) (log : List Call) (follows : FollowsActions act
 -- one more call of a log that follows actions
 module _ (actions : List Action) (log : List Call) (act : Action) (call : Call) (follows : FollowsActions actions log) where
   module _ (made : ProbeSetup) (q : ℕ) where
-    clock_pushed : clocks_after made (log ++ call ∷ []) ≡ clocks_after made log ++ (state_of_log made (log ++ call ∷ [])).clock ∷ []
-    clock_pushed = grind (arith, log_push, scan-push)
-
     -- one more send to q sends it the clock of the probe after it, and no other call does
     pub stamps_sent-push : is_send_to q act ≡ true → stamps_sent made q (actions ++ act ∷ []) (log ++ call ∷ []) ≡ stamps_sent made q actions log ++ (state_of_log made (log ++ call ∷ [])).clock ∷ []
-    stamps_sent-push sends = grind (arith, a_clock_each, beside-push_passing, clock_pushed)
+    stamps_sent-push sends = grind (arith, a_clock_each, beside-push_passing, log_push, scan-push)
 
     pub stamps_sent-push_other : is_send_to q act ≡ false → stamps_sent made q (actions ++ act ∷ []) (log ++ call ∷ []) ≡ stamps_sent made q actions log
-    stamps_sent-push_other other = grind (arith, a_clock_each, beside-push_failing, clock_pushed)
+    stamps_sent-push_other other = grind (arith, a_clock_each, beside-push_failing, log_push, scan-push)
 
   module _ (p : ℕ) where
     -- one more receive from p gets the stamp that it took, and no other call does

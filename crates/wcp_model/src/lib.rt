@@ -4,6 +4,7 @@
 
 mod clock_laws;
 mod cut_laws;
+mod first_reasons;
 mod fit_orders;
 mod growth_laws;
 mod outcome;
@@ -16,6 +17,7 @@ mod workload;
 
 pub use clock_laws::{clock_law, states_have_clocks};
 pub use cut_laws::{least_cut_law, minimum_law};
+pub use first_reasons::first_reason_law;
 pub use fit_orders::fit_order_law;
 pub use growth_laws::{early_find_law, growth_law};
 pub use outcome::{GlobalCut, Outcome, Report, Tallies, Tally};

@@ -7,7 +7,8 @@ use Rattle.wcp_model.specs.Tree.{IsSamePlan}
 use Rattle.wcp_model.specs.Occupancy.{Place, Pending, Link, HoldOf, InboxOf, room_of}
 use Rattle.wcp_hold.specs.Held.{Held, empty_hold}
 use Rattle.wcp_world.specs.Transport.{TransportState, IsTransportOf, IsPlaceOf, IsWay, held_at, notes_at, notes_along, place_number}
-use Rattle.wcp_world.proofs.Places.{leaf_exists, next_is_place}
+use Rattle.wcp_model.proofs.CheckedPlans.{has_leaf}
+use Rattle.wcp_world.proofs.Places.{next_is_place}
 use Rattle.wcp_world.proofs.Ways.{way_of}
 
 module _ (plan : Plan) where
@@ -47,7 +48,7 @@ module _ (plan : Plan) where
     as_many = λ p. refl;
     known = λ p beyond. refl;
     in_order = λ p in_range.
-        let leaf = leaf_exists plan checked p in_range in
+        let leaf = has_leaf plan checked p in_range in
         let way = way_of plan checked p leaf.0 leaf.1 in
         record { way = way.0; is_way = way.1; notes = ap (λ l. notes_along (notes_at plan l p) (Link p ∷ way.0)) places_are ∙ none_along checked p (Link p) way.0 way.1 in_range };
   }

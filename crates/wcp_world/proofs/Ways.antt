@@ -9,7 +9,8 @@ use Rattle.wcp_model.specs.PlanFault.{IsCheckedPlan}
 use Rattle.wcp_model.specs.Tree.{leaf_of, parent_of}
 use Rattle.wcp_model.specs.Occupancy.{Place, Pending, Link, HoldOf, InboxOf, is_same_place, next_place}
 use Rattle.wcp_world.specs.Transport.{IsWay}
-use Rattle.wcp_world.proofs.Places.{same_place, some_of, parent_below, attached_exists}
+use Rattle.wcp_model.proofs.CheckedPlans.{parent_below, attached_exists}
+use Rattle.wcp_world.proofs.Places.{same_place, some_of}
 
 -- a place on the way of a process to the checker
 pub data IsOnWay (plan : Plan) (p : ℕ) : Place → Type 0 where

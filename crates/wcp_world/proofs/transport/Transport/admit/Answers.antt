@@ -4,7 +4,7 @@ use Rattle.wcp_model.specs.declared.step.Step.TheVariants as step
 use Rattle.wcp_model.specs.Tree.{is_attached}
 use Rattle.wcp_model.specs.Occupancy.{Link, HoldOf}
 use Rattle.wcp_world.specs.Transport.{TransportState}
-use Rattle.wcp_world.proofs.Places.{attached_exists}
+use Rattle.wcp_model.proofs.CheckedPlans.{attached_exists}
 use Rattle.wcp_world.proofs.AnsweredMoves.{attached_is, attached_same, conveyed, refused_named}
 use Rattle.wcp_world.proofs.transport.Transport.admit.Goals as goal
 
