@@ -1,10 +1,10 @@
-use Rattle.std.proofs.Common.{◌≡◌, ℕ, ◌+◌, ◌*◌, ◌<◌, ◌≤◌, List, length, take, set, Option, Some, None, All, slice_index_or, sum_by, sym, ◌∙◌, ap, arith, refl, is_some, false, true≢false}
+use Rattle.std.proofs.Common.{◌≡◌, ℕ, ◌+◌, ◌*◌, ◌<◌, ◌≤◌, List, length, take, set, Option, Some, None, All, slice_index_or, sum_by, arith, is_some, false}
 use Rattle.std.proofs.lemmas.List.{length-take-le, get_or-take}
 use Rattle.std.proofs.lemmas.List.Sums.{sum_by-set, sum_by-le}
 use Rattle.std.proofs.Math.Seq.{take-set-lt}
 use Rattle.wcp_clock.specs.Limits.{most_snapshots}
 use Rattle.wcp_model.specs.declared.outcome.Tally.{Tally}
-use Rattle.wcp_book.specs.Totals.{AreTotals, HasFewSnapshots, emitted_of_share, taken_of_share}
+use Rattle.wcp_book.specs.Totals.{AreTotals, HasFewSnapshots}
 
 -- a share that is posted where there was none adds its count to the sum
 sum_with_share : (f : Option Tally → ℕ) → f None ≡ 0 → (n p : ℕ) (shares : List (Option Tally)) (share : Tally) →

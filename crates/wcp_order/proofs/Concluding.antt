@@ -36,17 +36,14 @@ IsProgress_none n tasks order first in_transit within processes firsts none_done
 filter_outside : (n p : ℕ) (tasks : List Task) → All (IsWithin n) tasks → n ≤ p → filter (is_task_of p) tasks ≡ []
 filter_outside n p [] within outside = refl
 filter_outside n p (task ∷ tasks) within outside =
-    let below : task.p < n = (All-head (IsWithin n) task tasks within).0 in
-    filter_no (is_task_of p) task tasks (ne_eqb task.p p (λ same. omega arith)) ∙ filter_outside n p tasks (All-tail (IsWithin n) task tasks within) outside
+    grind (arith, All-head, filter_outside n p tasks (All-tail (IsWithin n) task tasks within) outside)
 
 module _ (n : ℕ) (tasks order : List Task) (fronts in_transit : List ℕ) (within : All (IsWithin n) tasks) (progress : IsProgress n tasks order fronts in_transit) where
   -- where all tasks are done, their order is fit
   pub IsFitOrder_done : ((p : ℕ) → p < n → length tasks ≤ slice_index fronts p) → IsFitOrder tasks order
   IsFitOrder_done all_done = record {
     same_tasks = λ p.
-        ⊎_elim (λ (below : p < n). progress.done p below ∙ ap (filter (is_task_of p)) (take_all (slice_index fronts p) tasks (all_done p below)))
-        (λ (outside : n ≤ p). filter_outside n p order progress.within outside ∙ sym (filter_outside n p tasks within outside))
-        (cases_lt p n);
+        grind (arith, filter_outside, take_all);
     sent_first = progress.sent_first;
   }
 

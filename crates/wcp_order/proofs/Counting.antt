@@ -32,12 +32,9 @@ module _ (n : ℕ) (order : List Task) (in_transit : List ℕ) (channels : lengt
       count_by (receives a b) (order ++ task ∷ []) + value ≡ count_by (sends a b) (order ++ task ∷ []) → IsCounted n (order ++ task ∷ []) (set in_transit (a * n + b) value)
   counted_set task a b value a_within b_within elsewhere here p q p_within q_within = elim (cases_eq (p * n + q) (a * n + b)) [
     | inl same ↦
-        let ends = same_from_place p q a b n q_within b_within same in
-        rw (ends.0, ends.1, get_or-set_same in_transit (a * n + b) value 0 (omega (arith, mul-add-lt a n b n a_within b_within))) here
+        grind (arith, get_or-set_same in_transit (a * n + b) value 0 (omega (arith, mul-add-lt a n b n a_within b_within)), same_from_place p q a b n q_within b_within same)
     | inr other ↦
-        let neither = elsewhere p q (λ same_p same_q. other (rw (same_p, same_q) refl)) in
-        let kept = get_or-set_other in_transit (a * n + b) (p * n + q) value 0 other in
-        omega (arith, counted p q p_within q_within, kept, count_by_push_failing (sends p q) order task neither.0, count_by_push_failing (receives p q) order task neither.1)
+        grind (arith, count_by_push_failing, get_or-set_other)
   ]
 
   counted_after_send : (a b : ℕ) → a < n → b < n → IsCounted n (order ++ record { p = a; action = action.Send b } ∷ []) (in_transit_after n in_transit a (action.Send b))

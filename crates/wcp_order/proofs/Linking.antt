@@ -35,16 +35,9 @@ linked_more n tasks place k first next d within behind inside linked =
     record {
       processes = length-set first p k ∙ linked.processes;
       places = length-set next k (slice_index first p) ∙ linked.places;
-      first_of = λ q q_within.
-          ⊎_elim (λ (same : q ≡ p). rw (same, get_or-set_same first p k 0 p_inside) (IsNextPlace_here tasks k task at))
-          (λ (other : q ≡ p → ⊥).
-          rw (get_or-set_other first p q k 0 other)
-          (IsNextPlace_other tasks q k (slice_index first q) task at (λ same. other (sym same)) (rw behind at (linked.first_of q q_within))))
-          (cases_eq q p);
+      first_of = grind (arith, IsNextPlace_other, get_or-set_other, get_or-set_same);
       next_of = λ i other ahead here.
-          ⊎_elim (λ (same : i ≡ k).
-          let task_here : other ≡ task = same_Some other task (sym here ∙ ap (slice_get tasks) same ∙ at) in
-          rw (same, task_here, get_or-set_same next k (slice_index first p) 0 k_inside) (rw behind at (linked.first_of p p_within)))
+          ⊎_elim (grind (arith, get_or-set_same))
           (λ (apart : i ≡ k → ⊥). rw (get_or-set_other next k i (slice_index first p) 0 apart) (linked.next_of i other (omega arith) here))
           (cases_eq i k);
     }

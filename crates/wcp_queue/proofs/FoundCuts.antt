@@ -1,3 +1,4 @@
+use Rattle.std.proofs.lemmas.Grind.{common_steps}
 use Rattle.std.proofs.Common.{◌≡◌, ℕ, ◌<◌, ◌≤◌, Bool, true, false, refl, List, [], length, get_or, slice_index, sym, ◌∙◌, ap, arith}
 use Rattle.std.proofs.lemmas.List.{append-nil, length-drop, get_or_default}
 use Rattle.std.proofs.lemmas.List.Elements.{Contains-get_or}
@@ -52,10 +53,7 @@ module _ (n : ℕ) (items : List Item) where
 
   -- it is the least of these, where each process's items were taken in order
   pub IsLeastOf-found : (cut : List ℕ) → ClocksRise n items → IsFoundAmong n (λ p. clocks_taken p items) cut → IsLeastOf n (IsCutByClocks n items) cut
-  IsLeastOf-found cut order found = record {
-    one = IsCutByClocks-found cut found;
-    below = below;
-  }
+  IsLeastOf-found cut order found = grind (arith, IsCutByClocks-found, below)
     where
       below : (other : List ℕ) → IsCutByClocks n items other → (p : ℕ) → p < n → slice_index cut p ≤ slice_index other p
       below other is p p_within =
@@ -69,9 +67,7 @@ module _ (n : ℕ) (items : List Item) where
   no_cut_without_heads queues floor cut members order left settled waiting is =
       let (choice, places) = choice_of_cut cut is in
       let satisfying = is_satisfying cut is choice places in
-      waiting (λ p p_within. not_false (has_head floor p) (λ none.
-      let at_or_above : left.heads p ≤ choice p = left.eliminated.at_or_above (λ q. clocks_taken q items) (GrowTo-same n (λ q. clocks_taken q items)) (rows_in_order order) choice satisfying p p_within in
-      omega (arith, (places p p_within).0, settled p (omega arith) none, ap length (left.none p p_within none).all, length-drop (left.heads p) (clocks_taken p items))))
+      waiting (grind (arith, common_steps, rows_in_order))
     where
       not_false : (b : Bool) → (b ≡ false → ⊥) → b ≡ true
       not_false true never = refl

@@ -15,11 +15,7 @@ pub AreLeft-start : (n : ℕ) (rows : ℕ → List (List ℕ)) (queues : List (L
 AreLeft-start n rows queues few none empty = record {
   heads = λ p. 0;
   head = λ p p_within some. absurd (true≢false (sym some ∙ no_head_at_first p (omega arith)));
-  none = λ p p_within no. record {
-    within = omega arith;
-    all = empty p p_within ∙ sym (none p p_within);
-    raised = λ risen. absurd (omega (arith, risen, get_or-replicate {A = ℕ} 16 p 0 0 (omega arith)));
-  };
+  none = grind arith;
   under = λ p q p_within q_within apart some. absurd (true≢false (sym some ∙ no_head_at_first q (omega arith)));
   eliminated = IsEliminatedBelow-start n rows (λ p. 0) (λ p p_within. refl);
 }
@@ -29,14 +25,7 @@ pub AreLeft-grown : (n : ℕ) (rows longer : ℕ → List (List ℕ)) (queues ot
     ((p : ℕ) → p < n → (more : List (List ℕ)) × (longer p ≡ rows p ++ more) × (queue_of others p ≡ queue_of queues p ++ more)) → AreLeft n rows queues floor → AreLeft n longer others floor
 AreLeft-grown n rows longer queues others floor gain left = record {
   heads = left.heads;
-  head = λ p p_within some.
-      let was = left.head p p_within some in
-      let (more, row, queue) = gain p p_within in
-      record {
-        within = omega (arith, was.within, length-grown n rows longer grow p p_within);
-        after = still p (left.heads p + 1) (omega (arith, was.within)) p_within was.after;
-        own = was.own ∙ ap (λ (clock : List ℕ). slice_index clock p) (sym (get_or-grown n rows longer grow p (left.heads p) p_within was.within));
-      };
+  head = grind (arith, get_or-grown, grow, length-grown, still);
   none = λ p p_within no.
       let was = left.none p p_within no in
       record {
@@ -55,8 +44,7 @@ AreLeft-grown n rows longer queues others floor gain left = record {
               },
             );
       };
-  under = λ p q p_within q_within apart some.
-      omega (arith, left.under p q p_within q_within apart some, ap (λ (clock : List ℕ). slice_index clock p) (get_or-grown n rows longer grow q (left.heads q) q_within (left.head q q_within some).within));
+  under = grind (arith, get_or-grown, grow);
   eliminated = IsEliminatedBelow-grown n rows longer left.heads grow left.eliminated;
 }
   where
@@ -89,10 +77,6 @@ queue_of-set_other queues p k queue other = get_or-set_other queues p k queue []
 pub AreLeft-gain : (n : ℕ) (rows longer : ℕ → List (List ℕ)) (queues : List (List (List ℕ))) (floor : Floor) (p : ℕ) (clock : List ℕ) (read queue : List (List ℕ)) → p < length queues → queue ≡ get_or queues p read ++ clock ∷ [] →
     GainCandidate n p clock rows longer → AreLeft n rows queues floor → AreLeft n longer (set queues p queue) floor
 AreLeft-gain n rows longer queues floor p clock read queue within is gain = AreLeft-grown n rows longer queues (set queues p queue) floor (λ k k_within. ⊎_elim
-    (λ (same : k ≡ p). (
-      clock ∷ [],
-      ap longer same ∙ gain.gained ∙ ap (λ r. rows r ++ clock ∷ []) (sym same),
-      rw same (queue_of-set_same queues p queue within ∙ is ∙ ap (λ (q : List (List ℕ)). q ++ clock ∷ []) (get_or_default queues p read [] within)),
-    ))
+    (grind (arith, get_or_default, queue_of-set_same))
     (λ (other : k ≢ p). ([], gain.others k k_within other ∙ sym (append-nil (rows k)), queue_of-set_other queues p k queue other ∙ sym (append-nil (queue_of queues k))))
     (cases_eq k p))

@@ -45,10 +45,7 @@ clocks_taken-push_close items p count q = grind (arith, append-nil, notes_taken-
 
 -- a snapshot closes no process, and a close mark its own
 pub close_taken-push_snapshot : (items : List Item) (p number q : ℕ) (clock : List ℕ) → list_any is_close (notes_taken q (items ++ record { from = p; note = Snap number clock } ∷ [])) ≡ list_any is_close (notes_taken q items)
-close_taken-push_snapshot items p number q clock = ⊎_elim
-    (λ (same : p ≡ q). ap (list_any is_close) (notes_taken-push_same items (record { from = p; note = Snap number clock }) q same) ∙ list_any-append is_close (notes_taken q items) (Snap number clock ∷ []) ∙ or_false (list_any is_close (notes_taken q items)))
-    (λ (other : p ≢ q). ap (list_any is_close) (notes_taken-push_other items (record { from = p; note = Snap number clock }) q other))
-    (cases_eq p q)
+close_taken-push_snapshot items p number q clock = grind (arith, list_any-append, notes_taken-push_other, notes_taken-push_same)
   where
     or_false : (b : Bool) → (b || false) ≡ b
     or_false true = refl

@@ -31,16 +31,9 @@ module _ (first : Floor) (p : ℕ) (clock : List ℕ) (queues : List (List (List
       (more ≡ false → (uncovered ≡ false) × (component floor q < slice_index clock q → length (queue_of queues q) ≡ 0)) → new.tests ≡ floor.tests + 1 → IsRaising first p clock queues new more (q + 1)
   IsRaising-next new more apart rises others covered tests = record {
     at_p = let same = others p (λ is_q. apart (sym is_q)) in (same.0 ∙ is.at_p.0, same.1 ∙ is.at_p.1);
-    rises = λ k below other. ⊎_elim
-        (λ (same : k ≡ q). rw same (RisesTo-before q (slice_index clock q) first floor new (is.later q (omega arith) apart) rises))
-        (λ (before : k ≢ q). RisesTo-after k (slice_index clock k) first floor new (others k before) (is.rises k (omega (arith, before)) other))
-        (cases_eq k q);
+    rises = grind arith;
     later = λ k above other. let same = others k (λ is_q. omega (arith, is_q)) in let was = is.later k (omega arith) other in (same.0 ∙ was.0, same.1 ∙ was.1);
-    covered = λ none k below other less.
-        ⊎_elim
-        (λ (same : k ≡ q). rw same ((covered none).1 (omega (arith, subst (λ j. component first j < slice_index clock j) same less, (is.later q (omega arith) apart).0))))
-        (λ (before : k ≢ q). is.covered (covered none).0 k (omega (arith, before)) other less)
-        (cases_eq k q);
+    covered = grind arith;
     tests = λ before. omega (arith, tests, is.tests (omega arith));
     tests_after = λ after. omega (arith, tests, apart, is.tests_after (omega (arith, apart)));
   }

@@ -19,16 +19,7 @@ abbrev pub fresh_checker : ℕ → CheckerState
 fresh_checker n = record { queues = replicate n []; floor = first_floor; taken = replicate 16 0; closed = replicate 16 false; found = None }
 
 pub IsSoundChecker-fresh : (n : ℕ) → 0 < n → n ≤ 16 → IsSoundChecker (fresh_checker n)
-IsSoundChecker-fresh n some few = record {
-  some = omega (arith, members);
-  few = omega (arith, members);
-  counts = refl;
-  marks = refl;
-  few_taken = All-replicate (λ count. count ≤ 2 ^ 32) 16 0 (omega arith);
-  settled = λ p within none. ap length (get_or-replicate n p [] [] (omega (arith, members)));
-  waiting = λ none heads. true≢false (sym (heads 0 (omega (arith, members))) ∙ no_head_at_first 0 (omega arith));
-  bound = rw nothing (omega arith);
-}
+IsSoundChecker-fresh n some few = grind (arith, get_or-replicate, members, nothing)
   where
     members : length (replicate {A = List (List ℕ)} n []) ≡ n
     members = length-replicate n []

@@ -76,8 +76,7 @@ module _ (old new : CheckerState) (items : List Item) (p : ℕ) (clock : List �
     snapshots = snapshots-snapshot;
     closed = closed-snapshot;
     in_turn = in_turn-snapshot;
-    candidates = subst (λ found. MatchOption found (AreLeft (processes new) (λ q. clocks_taken q longer) new.queues new.floor) (IsFoundAmong (processes new) (λ q. clocks_taken q longer))) (sym still)
-        (candidates old.found some stands.candidates);
+    candidates = grind (arith, candidates);
   }
     where
       candidates : (found : Option (List ℕ)) → is_some found ≡ true → MatchOption found (AreLeft (processes old) (λ q. clocks_taken q items) old.queues old.floor) (IsFoundAmong (processes old) (λ q. clocks_taken q items)) →
@@ -95,10 +94,7 @@ pub StandsForItems-close : (old new : CheckerState) (items : List Item) (p count
 StandsForItems-close old new items p count stands may within queues floor taken found closed = record {
   taken = λ q q_within. ap (λ (counts : List ℕ). slice_index counts q) taken ∙ stands.taken q (omega (arith, ap length queues)) ∙ ap length (sym (clocks_taken-push_close items p count q));
   snapshots = ap sum taken ∙ omega (arith, stands.snapshots, sum_by_push (λ item. cond (is_snapshot item) 1 0) items (record { from = p; note = Close count }));
-  closed = λ q q_within. ap (λ (marks : List Bool). get_or marks q false) closed ∙ ⊎_elim
-      (λ (same : q ≡ p). subst (λ r. get_or (set old.closed p true) r false ≡ list_any is_close (notes_taken r (closing items p count))) (sym same) (get_or-set_same old.closed p true false within ∙ sym (close_taken-push_close items p count)))
-      (λ (other : q ≢ p). get_or-set_other old.closed p q true false other ∙ stands.closed q (omega (arith, ap length queues)) ∙ sym (close_taken-push_other items p count q other))
-      (cases_eq q p);
+  closed = grind (arith, close_taken-push_close, close_taken-push_other, get_or-set_other, get_or-set_same);
   in_turn = λ q q_within. in_turn-push items (record { from = p; note = Close count }) q (next_where_MayTake old items (record { from = p; note = Close count }) stands may) (stands.in_turn q (omega (arith, ap length queues)));
   candidates = rw (queues, floor, found) (candidates old.found stands.candidates);
 }

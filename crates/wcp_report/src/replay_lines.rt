@@ -9,7 +9,7 @@ use crate::report_lines::push_report;
 use std::alloc::{AllocError, Global};
 use wcp_model::{Outcome, Reply};
 
-/// The line of each reply, and then the text of the outcome so far.
+/// The line of each reply, and then the text of the outcome so far. `Err` where memory runs out.
 pub fn replay_text(
     alloc: Global,
     replies: &[Reply],

@@ -8,7 +8,7 @@ use std::alloc::{AllocError, Global};
 use wcp_clock::{Clock, Note};
 use wcp_model::{Reply, Why};
 
-/// The line of a reply.
+/// The line of a reply. `Err` where memory runs out.
 pub fn reply_text(alloc: Global, reply: &Reply) -> Result<Vec<u8>, AllocError>
     ensures { IfOk result (λ text. text.items ≡ reply_line reply.now) }
 {
@@ -17,7 +17,7 @@ pub fn reply_text(alloc: Global, reply: &Reply) -> Result<Vec<u8>, AllocError>
     Ok(text.into_bytes())
 }
 
-/// Adds the line of a reply to a text.
+/// Adds the line of a reply to a text. `Err` where memory runs out.
 pub fn push_reply(text: &mut String, reply: &Reply) -> Result<(), AllocError>
     ensures { OnOk result (string_bytes text.new ≡ string_bytes text.old ++ reply_line reply.now) }
 {

@@ -6,6 +6,7 @@ use std::alloc::{AllocError, Global};
 use wcp_model::{GlobalCut, Outcome, Report, Tallies};
 
 /// The text of an outcome: what is known of the bad moment, a line for each process, and the sums.
+/// `Err` where memory runs out.
 pub fn report_text(alloc: Global, outcome: &Outcome) -> Result<Vec<u8>, AllocError>
     ensures { IfOk result (λ text. text.items ≡ outcome_text outcome.now) }
 {
@@ -14,7 +15,7 @@ pub fn report_text(alloc: Global, outcome: &Outcome) -> Result<Vec<u8>, AllocErr
     Ok(text.into_bytes())
 }
 
-/// Adds the text of an outcome to a text.
+/// Adds the text of an outcome to a text. `Err` where memory runs out.
 pub fn push_report(text: &mut String, outcome: &Outcome) -> Result<(), AllocError>
     ensures { OnOk result (string_bytes text.new ≡ string_bytes text.old ++ outcome_text outcome.now) }
 {
