@@ -167,19 +167,10 @@ module _ (n : ℕ) (c : Computation) (put : ℕ → List Note) (app : ProcessesS
           (after_call p (state n c p (put p) core is) call).notes ≡ put p ++ option_to_list new.pending → (IsAccepted grown → IsProbeOf n grown p (put p) new → AreLettersOf n grown letters) →
           IsAnswer (reasons s) Done × AreProcessesOf n grown put (record { probes = set app.probes p new; letters = letters })
       accepts letters first is_open was_sent is_call accepted same notes letters_are =
-          let order : IsAccepted grown = accepted_push c s stands.order
-          (λ q own. subst (λ r. is_closed c r ≡ false) (eqb-true p q (sym (owner q) ∙ own)) is_open) was_sent in
+          let order : IsAccepted grown = grind (arith, accepted_push) in
           let now : IsProbeOf n grown p (put p) new = own_probe is_call accepted same notes in (
             rw first refl,
-            record {
-              order = order;
-              members = length-set app.probes p new ∙ stands.members;
-              probes = λ q other there. ⊎_elim
-                  (λ (here : (q ≡ p) × (new ≡ other)). subst₂ (λ r k. IsProbeOf n grown r (put r) k) (sym here.0) here.1 now)
-                  (λ (still : (q ≢ p) × (slice_get app.probes q ≡ Some other)). other_probe q other still.0 (stands.probes q other still.1))
-                  (get_set app.probes new other p q there);
-              letters = letters_are order now;
-            },
+            grind (arith, get_set, length-set, other_probe),
           )
 
     -- the process observes its condition

@@ -1,3 +1,4 @@
+use Rattle.std.proofs.lemmas.Grind.{common_steps}
 use Rattle.std.proofs.Common.{◌≡◌, ◌≢◌, ℕ, ◌+◌, ◌<◌, ◌≤◌, Bool, true, false, cond, nat_le, nat_lt, length, set, get_or, eqb, Option, None, Some, MatchOption, List, [], ◌∷◌, ◌++◌, slice_get, drop, take, refl, sym, ap, ap₂, subst, ◌∙◌, ⊎_elim, append-nil, eqb-true, eq-eqb, add-zero, true≢false, arith}
 use Rattle.std.specs.List.{list_any}
 use Rattle.std.specs.Option.{option_and_then, option_flatten}
@@ -82,9 +83,7 @@ relay_inside t plan inside relay same is within = omega (arith, within, ap (λ (
 
 -- a relay that has no parent isn't there
 pub no_relay : (plan : Plan) (relay : ℕ) → parent_of plan relay ≡ None → nat_lt relay (length plan.parents.items) ≡ false
-no_relay plan relay none = false_from_ne_true (nat_lt relay (length plan.parents.items)) (λ yes.
-    let within : relay < length plan.parents.items = grind (arith, nat_tests, yes) in
-    some_is_none (sym (slice_get-get_or plan.parents.items relay Root within) ∙ none))
+no_relay plan relay none = grind (arith, slice_get-get_or, some_is_none)
   where
     some_is_none : Some (get_or plan.parents.items relay Root) ≡ None → ⊥
     some_is_none e = cc
@@ -109,9 +108,7 @@ module _ (plan : Plan) (steps : List Step) (put : ℕ → List Note) (taken : Li
   first_entry x is item left first = grind (arith, add-zero (taken_from steps x))
 
   process_of : {x : Place} {i : ℕ} {item : Item} → IsEntry plan put steps x i item → item.from < plan.n
-  process_of {item = item} entry = ⊎_elim (λ (lt : item.from < plan.n). lt)
-      (λ (beyond : plan.n ≤ item.from). let put_one = entry_emitted plan put steps entry in absurd (none_at put_one.0 item.note (ap (λ l. slice_get l put_one.0) (sym (stands.known item.from beyond)) ∙ put_one.1)))
-      (cases_lt item.from plan.n)
+  process_of {item = item} entry = grind (arith, entry_emitted)
     where
       none_at : (i : ℕ) (note : Note) → slice_get [] i ≡ Some note → ⊥
       none_at i note at = cc
@@ -123,13 +120,7 @@ module _ (plan : Plan) (steps : List Step) (put : ℕ → List Note) (taken : Li
 
     stirred_by_shift : (new : List Held) (is : IsShift t.places (place_number plan from) (place_number plan to) new) (x : Place) → IsPlaceOf plan x → IsStirred plan s is.item x (here x) (held_at new (place_number plan x))
     stirred_by_shift new is x is_x =
-        let filled : Held = record (here to) { items = (here to).items ++ is.item ∷ [] } in
-        let emptied : Held = record (here from) { items = is.left } in
-        let now : held_at new (place_number plan x) ≡ cond (is_same_place x from) emptied (cond (is_same_place x to) filled (here x)) =
-        ap (λ l. held_at l (place_number plan x)) is.moved
-        ∙ held_set plan (set t.places (place_number plan to) filled) x from emptied (length-set t.places (place_number plan to) filled ∙ stands.members) is_x is_from
-        ∙ ap (cond (is_same_place x from) emptied) (held_set plan t.places x to filled stands.members is_x is_to) in
-        rw now (by_case (is_same_place x from) (is_same_place x to) refl refl)
+        grind (arith, by_case, held_set, length-set)
       where
         by_case : (a b : Bool) → is_same_place x from ≡ a → is_same_place x to ≡ b →
             IsStirred plan s is.item x (here x) (cond a (record (here from) { items = is.left }) (cond b (record (here to) { items = (here to).items ++ is.item ∷ [] }) (here x)))
@@ -162,16 +153,11 @@ module _ (plan : Plan) (steps : List Step) (put : ℕ → List Note) (taken : Li
         pub conveys : (answer : Reply) (new : List Held) → Shifts t.places (place_number plan from) (place_number plan to) answer new →
             ((emissions : ℕ → List Note) → IsAnswer (reasons plan emissions steps s) answer) × IsTransportOf plan (steps ++ accepted_by s answer) put taken (record t { places = new })
         conveys Done new is =
-            let some : eqb (length (here from).items) 0 ≡ false = grind (arith, nat_tests, ap length is.first) in
-            let room : nat_le (here to).room (length (here to).items) ≡ false = grind (arith, nat_tests, is.fits, (stands.held to is_to).within) in
-            (λ emissions. rw (tests_are emissions, some, room) refl, shift_after new is)
+            search (arith, shift_after new is, tests_are)
         conveys (Refused why.Empty) new is =
-            let none : eqb (length (here from).items) 0 ≡ true = ap (λ l. eqb (length l) 0) is.0 in
-            (λ emissions. rw (tests_are emissions, none) refl, same_after new is.1)
+            grind (arith, same_after, tests_are)
         conveys (Refused why.Full) new is =
-            let some : eqb (length (here from).items) 0 ≡ false = grind (arith, nat_tests, is.0) in
-            let full : nat_le (here to).room (length (here to).items) ≡ true = grind (arith, nat_tests, is.1) in
-            (λ emissions. rw (tests_are emissions, some, full) refl, same_after new is.2)
+            grind (arith, same_after, tests_are)
         conveys answer new is = absurd is
 
   -- the same of a transport that was moved, between the places of two numbers
@@ -209,18 +195,14 @@ module _ (plan : Plan) (steps : List Step) (put : ℕ → List Note) (taken : Li
       subst (λ items. IsTransportOf plan (steps ++ step.Put p ∷ []) (put_more put p note) items (record t { places = places })) (append-nil taken)
       (transport_after plan steps put taken t stands (step.Put p) (Pending p) item (put_more put p note) places refl in_range
       (λ q yes. sym (eqb-true q p yes)) (Emitted pending)
-      (stirred_at (step.Put p) item (Link p) _ places in_range places_are
-      (gains plan (step.Put p) item (Link p) (here (Link p)) _ refl refl (eq-eqb p p refl) refl fits) (λ x is at. (not_pending plan x p is, at)))
+      (grind (arith, common_steps))
       more_is (ap length places_are ∙ length-set t.places p _))
     where
       pending : slice_get (put_more put p note p) (taken_from steps (Pending p)) ≡ Some note
       pending = rw (eq-eqb p p refl, sym (stands.as_many p)) (get_behind (put p) note [])
 
       more_is : (q : ℕ) → put_more put p note q ≡ put q ++ notes_taken q (item_if (takes_from (Pending q) (step.Put p)) (record { from = p; note = note }))
-      more_is q = ⊎_elim
-          (λ (same : q ≡ p). rw (same, eq-eqb p p refl, eq-eqb p p refl) refl)
-          (λ (other : q ≢ p). rw (ne_eqb q p other) (sym (append-nil (put q))))
-          (cases_eq q p)
+      more_is q = grind (arith, append-nil)
 
   -- whether a link is full is what a put is answered, where a note is pending
   put_tests : (p : ℕ) → p < plan.n → (emissions : ℕ → List Note) → 0 < notes_in plan emissions steps (Pending p) →
@@ -250,8 +232,7 @@ module _ (plan : Plan) (steps : List Step) (put : ℕ → List Note) (taken : Li
       let entry = first_entry (InboxOf Root) tt item left first in
       transport_after plan steps put taken t stands step.Check (InboxOf Root) item put places refl (process_of entry)
       (λ p yes. absurd (true≢false (sym yes))) (entry_grows plan put put steps (step.Check ∷ []) (λ p i note at. at) entry)
-      (stirred_at step.Check item (InboxOf Root) _ places tt places_are
-      (loses plan step.Check item (InboxOf Root) (here (InboxOf Root)) _ refl left refl refl first refl) (λ x is at. (at, refl)))
+      (grind (arith, common_steps))
       (λ p. sym (append-nil (put p))) (ap length places_are ∙ length-set t.places _ _)
 
   -- what is read of the root inbox

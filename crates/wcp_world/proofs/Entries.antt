@@ -56,30 +56,14 @@ pub entry_grows : (plan : Plan) (emissions grown : ℕ → List Note) (steps mor
 entry_grows plan emissions grown steps more grow (Emitted {p = p} {i = i} {note = note} at) = Emitted (grow p i note at)
 entry_grows plan emissions grown steps more grow (Moved {from = from} {to = to} entry move) =
     let front : take move.at (steps ++ more) ≡ take move.at steps = take-append-le move.at steps more (let inside = slice_get_within steps move.at move.step move.there in omega (arith, inside)) in
-    Moved (entry_grows plan emissions grown steps more grow entry) (record {
-      at = move.at;
-      step = move.step;
-      there = at_grows steps more move.at move.step move.there;
-      takes = move.takes;
-      puts = move.puts;
-      taken_before = ap (λ l. taken_from l from) front ∙ move.taken_before;
-      put_before = ap (count_by (puts_into plan to)) front ∙ move.put_before;
-    })
+    Moved (entry_grows plan emissions grown steps more grow entry) (grind (arith, at_grows))
 
 -- what a step takes enters the next place behind what entered it before
 pub entry_moves : (plan : Plan) (emissions : ℕ → List Note) (steps : List Step) (s : Step) (from to : Place) (item : Item) → source s ≡ Some from → next_place plan from ≡ Some to →
     IsEntry plan emissions (steps ++ s ∷ []) from (taken_from steps from) item → IsEntry plan emissions (steps ++ s ∷ []) to (count_by (puts_into plan to) steps) item
 entry_moves plan emissions steps s from to item takes puts entry =
     let front : take (length steps) (steps ++ s ∷ []) ≡ steps = take_at steps (s ∷ []) (length steps) refl in
-    Moved entry (record {
-      at = length steps;
-      step = s;
-      there = get_behind steps s [];
-      takes = takes;
-      puts = puts;
-      taken_before = ap (λ l. taken_from l from) front;
-      put_before = ap (count_by (puts_into plan to)) front;
-    })
+    Moved entry (grind (arith, get_behind))
 
 -- what a step that moves this item does to a place
 pub record IsStirred (plan : Plan) (s : Step) (item : Item) (x : Place) (old new : Held) : Type 0 where
@@ -103,16 +87,11 @@ pub held_after : (plan : Plan) (steps : List Step) (s : Step) (put more : ℕ �
     IsStirred plan s item x old new → IsHeldAt plan steps put x old → IsHeldAt plan (steps ++ s ∷ []) more x new
 held_after plan steps s put more item x old new grow entry stirred is = record {
   room = stirred.room ∙ is.room;
-  within = ⊎_elim
-      (λ (yes : puts_into plan x s ≡ true). omega (arith, lengths, stirred.room, stirred.fits yes, ap bit yes))
-      (λ (no : puts_into plan x s ≡ false). omega (arith, lengths, stirred.room, is.within, ap bit no))
-      (cases_Bool (puts_into plan x s));
+  within = grind (arith, lengths);
   count = omega (arith, lengths, is.count, count_push (takes_from x) steps s, count_push (puts_into plan x) steps s);
   entries = λ i y at.
       let there : slice_get (old.items ++ item_if (puts_into plan x s) item) (bit (takes_from x s) + i) ≡ Some y =
-      ap (λ l. slice_get l (bit (takes_from x s) + i)) (sym stirred.items)
-      ∙ ap (λ k. slice_get (item_if (takes_from x s) item ++ new.items) (k + i)) (sym (length_if (takes_from x s) item))
-      ∙ get_beyond (item_if (takes_from x s) item) new.items i ∙ at in
+      grind arith in
       ⊎_elim
       (λ (old_one : bit (takes_from x s) + i < length old.items).
       let was = is.entries (bit (takes_from x s) + i) y (sym (get_front old.items (item_if (puts_into plan x s) item) (bit (takes_from x s) + i) old_one) ∙ there) in

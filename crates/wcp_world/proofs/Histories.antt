@@ -22,10 +22,8 @@ taken_push history a = flat_map-append _ history (a ∷ []) ∙ ap (λ e. items_
 pub replies_push : (plan : Plan) (history : List Answered) (a : Answered) → AreReplies plan history → IsReply plan (accepted history) a.step a.reply → AreReplies plan (history ++ a ∷ [])
 replies_push plan history a are is place b at =
     ⊎_elim
-    (λ (old : slice_get history place ≡ Some b).
-    subst (λ before. IsReply plan (accepted before) b.step b.reply) (sym (take-append-le place history (a ∷ []) (omega (arith, slice_get_within history place b old)))) (are place b old))
-    (λ (last : (place ≡ length history) × (a ≡ b)).
-    subst₂ (λ before (c : Answered). IsReply plan (accepted before) c.step c.reply) (sym (take_at history (a ∷ []) place (sym last.0))) last.1 is)
+    (grind (arith, slice_get_within, take-append-le))
+    (grind (arith, take_at))
     (get_push history a b place at)
 
 -- after each front of a longer history what was taken is a front of what was emitted

@@ -1,3 +1,4 @@
+use Rattle.std.proofs.Common.{arith}
 use Rattle.std.proofs.Common.{◌≡◌, ℕ, ◌+◌, List, [], ◌∷◌, ◌++◌, length, sym, ap, ◌∙◌, subst₂, ⊎_elim}
 use Rattle.std.proofs.lemmas.List.{length_push, map_push}
 use Rattle.wcp_model.specs.declared.outcome.Tally.{Tally}
@@ -14,11 +15,7 @@ pub tallies_push : (w : WorldState) (p : ℕ) (tallies : List Tally) (tally : Ta
     AreTalliesOf w (p + 1) (tallies ++ tally ∷ [])
 tallies_push w p tallies tally are is = (
   length_push tallies tally ∙ ap (λ k. k + 1) are.0,
-  λ plan history is_world q other at. ⊎_elim
-      (are.1 plan history is_world q other)
-      (λ (last : (q ≡ length tallies) × (tally ≡ other)).
-      subst₂ (IsTallyOf plan.n (computation (accepted history)) (items_taken history)) (sym (last.0 ∙ are.0)) last.1 (is plan history is_world))
-      (get_push tallies tally other q at),
+  grind (arith, get_push),
 )
 
 -- one more step was answered

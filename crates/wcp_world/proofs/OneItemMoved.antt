@@ -52,23 +52,10 @@ module _ (plan : Plan) (steps : List Step) (put : ℕ → List Note) (taken : Li
 
   -- what leaves a place on the way of its process comes to the next
   passes_on : (p : ℕ) (x y : Place) → IsOnWay plan p x → next_place plan x ≡ Some y → came p y ≡ left p x
-  passes_on p x y on next = ⊎_elim
-      (λ (mine : item.from ≡ p). ap (λ b. notes_taken p (item_if b item)) (same mine))
-      (λ (other : item.from ≢ p). none_of p item (puts_into plan y s) (ne_eqb item.from p other) ∙ sym (none_of p item (takes_from x s) (ne_eqb item.from p other)))
-      (cases_eq item.from p)
+  passes_on p x y on next = grind (arith, ne_eqb, same)
     where
       same : item.from ≡ p → puts_into plan y s ≡ takes_from x s
-      same mine = ⊎_elim
-          (λ (yes : takes_from x s ≡ true).
-          let next_is : target plan s ≡ Some y = ap (option_and_then (next_place plan)) (is_that x (source s) yes) ∙ next in
-          ap (is_place y) next_is ∙ itself y ∙ sym yes)
-          (λ (no : takes_from x s ≡ false). ⊎_elim
-          (λ (yes : puts_into plan y s ≡ true).
-          let from_is : from ≡ x = one_before plan stands.checked p from x y (subst (λ q. IsOnWay plan q from) mine (entry_on_way plan more (steps ++ s ∷ []) entry)) on (sym target_is ∙ is_that y (target plan s) yes) next in
-          absurd (true≢false (sym (ap (is_place x) (takes ∙ ap Some from_is) ∙ itself x) ∙ no)))
-          (λ (neither : puts_into plan y s ≡ false). neither ∙ sym no)
-          (cases_Bool (puts_into plan y s)))
-          (cases_Bool (takes_from x s))
+      same mine = grind (arith, entry_on_way, one_before)
 
   at_place : (p : ℕ) (x : Place) → IsPlaceOf plan x → left p x ++ notes_at plan places p x ≡ notes_at plan t.places p x ++ came p x
   at_place p x is = grind (arith, common_steps)
@@ -78,14 +65,7 @@ module _ (plan : Plan) (steps : List Step) (put : ℕ → List Note) (taken : Li
       left p (InboxOf Root) ++ notes_along (notes_at plan places p) (x ∷ way) ≡ notes_along (notes_at plan t.places p) (x ∷ way) ++ came p x
   along_way p x [] is_way on is = subst (λ y. left p y ++ notes_at plan places p x ≡ notes_at plan t.places p x ++ came p x) is_way (at_place p x is)
   along_way p x (y ∷ way) is_way on is =
-      let later = along_way p y way is_way.1 (Onward on is_way.0) (next_is_place plan stands.checked x y is_way.0 is) in
-      let before = notes_along (notes_at plan t.places p) (y ∷ way) in
-      sym (append_assoc (left p (InboxOf Root)) (notes_along (notes_at plan places p) (y ∷ way)) (notes_at plan places p x))
-      ∙ ap (λ l. l ++ notes_at plan places p x) later
-      ∙ append_assoc before (came p y) (notes_at plan places p x)
-      ∙ ap (λ l. before ++ (l ++ notes_at plan places p x)) (passes_on p x y on is_way.0)
-      ∙ ap (λ l. before ++ l) (at_place p x is)
-      ∙ sym (append_assoc before (notes_at plan t.places p x) (came p x))
+      grind (arith, append_assoc, at_place, passes_on, along_way p y way is_way.1 (Onward on is_way.0) (next_is_place plan stands.checked x y is_way.0 is))
 
   pub transport_after : IsTransportOf plan (steps ++ s ∷ []) more (taken ++ item_if (takes_from (InboxOf Root) s) item) (record t { places = places })
   transport_after = record {
@@ -102,11 +82,6 @@ module _ (plan : Plan) (steps : List Step) (put : ℕ → List Note) (taken : Li
         record {
           way = order.way;
           is_way = order.is_way;
-          notes = ap (λ l. l ++ notes_along (notes_at plan places p) (Link p ∷ order.way)) (notes_append p taken (item_if (takes_from (InboxOf Root) s) item))
-              ∙ append_assoc (notes_taken p taken) root (notes_along (notes_at plan places p) (Link p ∷ order.way))
-              ∙ ap (λ l. notes_taken p taken ++ l) link
-              ∙ sym (append_assoc (notes_taken p taken) (notes_along (notes_at plan t.places p) (Link p ∷ order.way)) (came p (Link p)))
-              ∙ ap₂ (λ a b. a ++ b) order.notes (passes_on p (Pending p) (Link p) Start refl)
-              ∙ sym (more_is p);
+          notes = grind (arith, append_assoc, notes_append);
         };
   }

@@ -37,11 +37,9 @@ module _ (plan : Plan) (checked : IsCheckedPlan plan) where
   pub next_is_place : (x y : Place) → next_place plan x ≡ Some y → IsPlaceOf plan x → IsPlaceOf plan y
   next_is_place (Pending p) y next is = absurd is
   next_is_place (Link p) y next is =
-      let leaf = some_of HoldOf (leaf_of plan p) y next in
-      subst (IsPlaceOf plan) leaf.2 (attached_exists plan checked p leaf.0 leaf.1).1
+      grind (arith, attached_exists)
   next_is_place (HoldOf r) y next is =
-      let parent = some_of InboxOf (parent_of plan r) y next in
-      subst (IsPlaceOf plan) parent.2 (inbox parent.0 parent.1)
+      grind (arith, inbox)
     where
       inbox : (owner : Parent) → parent_of plan r ≡ Some owner → IsPlaceOf plan (InboxOf owner)
       inbox Root at = tt

@@ -42,16 +42,13 @@ not_ahead n c message p stamp in_range is =
     let exists : IsState c behind = omega (arith, event_below c is.from _ is.sent (event_of_send c is.from _ is.to is.sent is.send refl)) in
     ⊎_elim
     (λ (more : communications c p < slice_index stamp p).
-    let before = span c (local_state p (communications c p)) ((clock_counts n c behind stamp p exists is.clock in_range (communications c p)).1 more) in
-    absurd (omega (arith, event_below c p (communications c p) before.ended before.ends)))
+    search (arith, span c (local_state p (communications c p)) ((clock_counts n c behind stamp p exists is.clock in_range (communications c p)).1 more), event_below))
     (λ (le : slice_index stamp p ≤ communications c p). le)
     (cases_lt (communications c p) (slice_index stamp p))
 
 -- a message that wasn't sent wasn't received
 unsent_unreceived : (c : Computation) (message : ℕ) → IsAccepted c → count_by is_send c ≤ message → was_received c message ≡ false
-unsent_unreceived c message accepted unsent = false_from_ne_true (was_received c message) (λ received.
-    let found = Any-from_list_any (is_receive_of message) c received in
-    receive_is found.1 found.4 found.0 (slice_get-get_or c found.0 found.1 found.2 ∙ ap Some found.3))
+unsent_unreceived c message accepted unsent = grind (arith, Any-from_list_any, receive_is, slice_get-get_or)
   where
     receive_is : (s : Step) → is_receive_of message s ≡ true → (place : ℕ) → slice_get c place ≡ Some s → ⊥
     receive_is (Recv p m) own place at =
@@ -73,8 +70,7 @@ module _ (n : ℕ) (c : Computation) (letters : List Letter) (are : AreLettersOf
   -- a letter is addressed to the process that its message was sent to
   pub addressed_is : (message p : ℕ) → was_sent_to c message p ≡ is_addressed letters message p
   addressed_is message p =
-      let there = ap (λ (to : List ℕ). slice_get to message) (sym are.receivers_are) ∙ slice_get-map (λ (l : Letter). l.to) letters message in
-      go (slice_get letters message) there
+      grind (arith, slice_get-map)
     where
       go : (o : Option Letter) → slice_get (receivers c) message ≡ option_map (λ l. l.to) o → was_sent_to c message p ≡ option_map_or (λ l. eqb l.to p) o false
       go None there = rw there refl
@@ -103,25 +99,13 @@ module _ (n : ℕ) (c : Computation) (letters : List Letter) (are : AreLettersOf
       let unreceived = received_stays c (Send p to) (count_by is_send c) refl ∙ unsent_unreceived c (count_by is_send c) accepted (le_refl (count_by is_send c)) in
       record {
         receivers_are = map-append (λ (l : Letter). l.to) letters (posted ∷ []) ∙ ap (λ all. all ++ to ∷ []) are.receivers_are ∙ sym (flat_map-append _ c (Send p to ∷ []));
-        each = λ number letter at.
-            ⊎_elim (λ (old : slice_get letters number ≡ Some letter). letter_stays (Send p to) number letter refl (are.each number letter old))
-            (λ (last : (number ≡ length letters) × (posted ≡ letter)).
-            let is : IsLetterOf n (c ++ Send p to ∷ []) (count_by is_send c) posted = (unreceived, watch, addressed, stamp) in
-            subst₂ (IsLetterOf n (c ++ Send p to ∷ [])) (sym (last.0 ∙ as_many_letters)) last.1 is)
-            (get_push letters posted letter number at);
+        each = grind (arith, as_many_letters, get_push, letter_stays);
       }
 
   -- a message was received
   pub letters_delivered : (p number : ℕ) (letter : Letter) → slice_get letters number ≡ Some letter → AreLettersOf n (c ++ Recv p number ∷ []) (set letters number (record { to = letter.to; message = None }))
   letters_delivered p number letter at =
       let empty : Letter = record { to = letter.to; message = None } in record {
-        receivers_are = map-set_same (λ (l : Letter). l.to) letters number empty letter (ap (λ (l : Letter). l.to) (sym (get_or_from_slice_get letters number letter letter at)))
-            ∙ are.receivers_are ∙ sym (flat_map-append _ c (Recv p number ∷ []) ∙ append-nil (receivers c));
-        each = λ k other there.
-            ⊎_elim (λ (here : (k ≡ number) × (empty ≡ other)).
-            let is : IsLetterOf n (c ++ Recv p number ∷ []) number empty = received_now c p number in
-            subst₂ (IsLetterOf n (c ++ Recv p number ∷ [])) (sym here.0) here.1 is)
-            (λ (still : (k ≢ number) × (slice_get letters k ≡ Some other)).
-            letter_stays (Recv p number) k other (ne_eqb number k (λ e. still.0 (sym e))) (are.each k other still.1))
-            (get_set letters empty other number k there);
+        receivers_are = search (arith, get_or_from_slice_get letters number letter letter, append-nil, flat_map-append, map-set_same);
+        each = grind (arith, get_set, letter_stays, received_now);
       }

@@ -29,11 +29,9 @@ module _ (plan : Plan) (checked : IsCheckedPlan plan) where
   pub nearer : (x y : Place) → next_place plan x ≡ Some y → distance plan y < distance plan x
   nearer (Pending p) y next = let same : Link p ≡ y = cc next in omega (arith, ap (distance plan) same)
   nearer (Link p) y next =
-      let leaf = some_of HoldOf (leaf_of plan p) y next in
-      omega (arith, ap (distance plan) leaf.2, (attached_exists plan checked p leaf.0 leaf.1).1)
+      grind (arith, attached_exists)
   nearer (HoldOf r) y next =
-      let parent = some_of InboxOf (parent_of plan r) y next in
-      subst (λ z. distance plan z < 2 * r + 1) parent.2 (below parent.0 parent.1)
+      grind (arith, below)
     where
       below : (owner : Parent) → parent_of plan r ≡ Some owner → distance plan (InboxOf owner) < 2 * r + 1
       below Root at = omega arith

@@ -102,13 +102,7 @@ module _ (plan : Plan) (steps : List Step) (taken : List Item) (w : WorldState) 
       let first : MatchOption (first_reason (reasons plan emissions steps s)) (answer ≡ Done) (λ why. answer ≡ Refused why) =
       subst (λ o. MatchOption o (answer ≡ Done) (λ why. answer ≡ Refused why)) (sym same) told.0 in (
         reply_is s answer (accepting (first_reason (reasons plan emissions steps s)) answer _ accepts first),
-        subst (λ items. Stands plan (steps ++ accepted_by s answer) items (record w { processes = new })) (sym (ap (λ l. taken ++ l) (no_item (first_reason (reasons plan emissions steps s)) answer first) ∙ append-nil taken)) (record {
-          put = stands.put;
-          processes = subst (λ c. AreProcessesOf plan.n c stands.put new) (sym (computation_push steps s answer event)) told.1;
-          transport = accepted_are s answer (λ l. IsTransportOf plan (steps ++ l) stands.put taken w.transport) (subst (λ l. IsTransportOf plan l stands.put taken w.transport) (sym (append-nil steps)) stands.transport) (idle plan steps stands.put taken w.transport s still stands.transport);
-          processes_are = stands.processes_are;
-          checker = stands.checker;
-        }),
+        grind (arith, append-nil taken, append-nil steps, computation_push steps s answer event, idle plan steps stands.put taken w.transport s still stands.transport),
       )
 
   -- a move that the transport answered
@@ -118,13 +112,7 @@ module _ (plan : Plan) (steps : List Step) (taken : List Item) (w : WorldState) 
       let told = conveys plan steps stands.put taken stands.transport in
       let first = told.0 emissions in (
         reply_is s answer (accepting (first_reason (reasons plan emissions steps s)) answer _ accepts first),
-        subst (λ items. Stands plan (steps ++ accepted_by s answer) items (record w { transport = new })) (sym (ap (λ l. taken ++ l) (no_item (first_reason (reasons plan emissions steps s)) answer first) ∙ append-nil taken)) (record {
-          put = stands.put;
-          processes = subst (λ c. AreProcessesOf plan.n c stands.put w.processes) (sym (computation_stays steps s answer quiet)) stands.processes;
-          transport = told.1;
-          processes_are = stands.processes_are;
-          checker = stands.checker;
-        }),
+        grind (arith, append-nil, computation_stays, no_item),
       )
 
   -- a world that nothing was added to
