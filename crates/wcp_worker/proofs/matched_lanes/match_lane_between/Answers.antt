@@ -28,15 +28,3 @@ returns-in-Some-Some-clause-others c =
 pub returns-in-None-None-clause-others : goal.returns-in-None-None-clause-others
 returns-in-None-None-clause-others c =
     others_stay c.args.mailboxes.now c.args.p c.args.q c.index-mailboxes-p.result _ c.index-mailboxes-q.result _ c.requires.from c.requires.to c.take_outbox-outbox.ensures.inboxes c.take_outbox-outbox.ensures.others c.take_inbox-inbox.ensures.others c.take_inbox-inbox.ensures.outboxes
-
-pub returns-in-Some-Some-clause-matched : goal.returns-in-Some-Some-clause-matched
-returns-in-Some-Some-clause-matched c =
-    let sends = sym c.take_outbox-outbox.ensures.outbox ∙ c.in-Some-Some.is-0 in
-    let takes = sym c.take_inbox-inbox.ensures.inbox ∙ c.in-Some-Some.is-1 in
-    let lane =
-    of_lane c.args.mailboxes.now c.args.p c.args.q c.index-mailboxes-p.result _ c.index-mailboxes-q.result c.take_inbox-inbox.new.self c.requires.from c.requires.to c.take_outbox-outbox.ensures.inboxes
-    (Some c.in-Some-Some.outbox) (Some c.in-Some-Some.inbox) sends takes c.requires.lane in
-    on_ok (λ matched.
-    all_taken c.args.mailboxes.now c.args.p c.args.q c.index-mailboxes-p.result _ c.index-mailboxes-q.result c.take_inbox-inbox.new.self c.requires.from c.requires.to c.take_outbox-outbox.ensures.inboxes
-    (Some c.in-Some-Some.outbox) (Some c.in-Some-Some.inbox) sends takes (matched c.args.p lane.own))
-    c.match_lane.result c.match_lane.ensures.matched
