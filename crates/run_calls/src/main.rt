@@ -18,7 +18,7 @@ use wcp_run::run;
 use wcp_script::{read_workload, single};
 use wcp_worker::Open;
 
-/// Three processes under two leaves send each other messages, two of which overtake others or are never received.
+/// Three processes under two leaves send each other messages, one of which nobody receives.
 const MESSAGES: &[u8] =
     b"wcp 1\nprocs 3\ncap 1\nhold 1\nrelay 0 root\nrelay 1 0\nrelay 2 0\nattach 0 1\nattach 1 1\n\
 attach 2 2\np 0 true\np 0 send 1\np 1 recv 0\np 1 true\np 1 send 2\np 0 send 2\np 2 recv 0\np 2 true\np 2 recv 1\n\
