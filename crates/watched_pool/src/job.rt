@@ -1,11 +1,11 @@
-ghost use Rattle.std.specs.Prelude.{◌≡◌};
+ghost use Rattle.std.specs.Prelude.{◌≡◌, ◌-◌, ◌%◌, ◌^◌, sum, slice_get, IfSome};
 
 use std::alloc::{AllocError, Global};
 
 /// How many numbers a job adds up.
-const SIZE: usize = 1_000;
+const SIZE: u32 = 1_000;
 
-/// Some of the numbers are to be added up.
+/// The numbers of a job are to be added up.
 #[derive(Clone, Copy, Debug, PartialEq, Eq)]
 pub struct Job {
     /// Which job it is, from 1.
@@ -20,37 +20,55 @@ pub struct Answer {
     pub sum: u64,
 }
 
-/// The numbers that the replicas add up. All of them read the same ones.
+/// The numbers of each job. All replicas read the same ones.
 #[derive(Drop)]
 pub struct Numbers {
-    items: Vec<u32>,
+    jobs: Vec<Vec<u32>>,
 }
 
 impl Numbers {
-    /// The numbers from 0 on, as many as there are in so many jobs. `Err` where memory runs out.
+    /// The numbers from 0 on, dealt out to so many jobs. `Err` where memory runs out.
     pub fn new(alloc: Global, jobs: u32) -> Result<Numbers, AllocError> {
-        let mut items = Vec::new(alloc);
-        for number in 0..jobs {
-            for place in 0..SIZE {
-                items.push(number.wrapping_mul(SIZE as u32).wrapping_add(place as u32))?;
-            }
+        let mut all = Vec::with_capacity(alloc, jobs as usize)?;
+        for job in 0..jobs {
+            all.push(numbers_from(alloc, job.wrapping_mul(SIZE))?)?;
         }
-        Ok(Numbers { items })
+        Ok(Numbers { jobs: all })
     }
 
     /// Does a job: the sum of its numbers, which wraps at 2^64.
     pub(crate) fn answer(&self, job: Job) -> Answer
-        ensures { result.job ≡ job.number }
+        ensures job { result.job ≡ job.number }
+        ensures sum { IfSome (slice_get self.now.jobs.items (job.number - 1)) (λ numbers.
+            result.sum ≡ sum numbers.items % 2 ^ 64) }
     {
-        let sum = self
-            .items
-            .iter()
-            .skip((job.number as usize).saturating_sub(1).saturating_mul(SIZE))
-            .take(SIZE)
-            .fold(0u64, |sum, item| sum.wrapping_add(u64::from(*item)));
+        let sum = match self.jobs.get((job.number as usize).saturating_sub(1)) {
+            Some(numbers) => wrapping_sum(numbers),
+            None => 0,
+        };
         Answer {
             job: job.number,
             sum,
         }
     }
+}
+
+/// As many numbers as a job has, from this one on. `Err` where memory runs out.
+fn numbers_from(alloc: Global, first: u32) -> Result<Vec<u32>, AllocError> {
+    let mut numbers = Vec::with_capacity(alloc, SIZE as usize)?;
+    for place in 0..SIZE {
+        numbers.push(first.wrapping_add(place))?;
+    }
+    Ok(numbers)
+}
+
+/// The sum of these, which wraps at 2^64.
+fn wrapping_sum(numbers: &[u32]) -> u64
+    ensures { result ≡ sum numbers.now % 2 ^ 64 }
+{
+    let mut total = 0u64;
+    for number in numbers {
+        total = total.wrapping_add(u64::from(*number));
+    }
+    total
 }

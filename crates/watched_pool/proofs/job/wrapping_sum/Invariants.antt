@@ -1,0 +1,6 @@
+use Rattle.std.proofs.Common.{◌≡◌, ◌%◌, ◌^◌, take}
+use Rattle.std.specs.Prelude.{sum}
+use Rattle.watched_pool.proofs.job.wrapping_sum.Given as goal
+
+abbrev pub invariant-loop-number : goal.invariant-loop-number
+invariant-loop-number l = l.total ≡ sum (take l.number-index l.numbers) % 2 ^ 64
