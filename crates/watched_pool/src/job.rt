@@ -1,4 +1,4 @@
-ghost use Rattle.std.specs.Prelude.{◌≡◌, ◌-◌, ◌%◌, ◌^◌, sum, slice_get, IfSome};
+ghost use Rattle.std.specs.Prelude.{◌≡◌, ◌-◌, ◌%◌, ◌^◌, sum, length, slice_get, IfOk, IfSome};
 
 use std::alloc::{AllocError, Global};
 
@@ -28,7 +28,9 @@ pub struct Numbers {
 
 impl Numbers {
     /// The numbers from 0 on, dealt out to so many jobs. `Err` where memory runs out.
-    pub fn new(alloc: Global, jobs: u32) -> Result<Numbers, AllocError> {
+    pub(crate) fn new(alloc: Global, jobs: u32) -> Result<Numbers, AllocError>
+        ensures { IfOk result (λ numbers. length numbers.jobs.items ≡ jobs) }
+    {
         let mut all = Vec::with_capacity(alloc, jobs as usize)?;
         for job in 0..jobs {
             all.push(numbers_from(alloc, job.wrapping_mul(SIZE))?)?;
