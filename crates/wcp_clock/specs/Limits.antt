@@ -11,11 +11,11 @@ most_processes = 16
 abbrev pub most_events : ℕ
 most_events = 4294967294
 
--- A link, an inbox: room for 1 to 1,024 items.
+-- A link or an inbox has room for 1 to 1,024 items.
 abbrev pub most_cap : ℕ
 most_cap = 1024
 
--- A relay's hold: room for 1 to 64 items.
+-- A relay's hold has room for 1 to 64 items.
 abbrev pub most_hold : ℕ
 most_hold = 64
 
@@ -39,7 +39,7 @@ most_bytes = 2097152
 abbrev pub most_reads : ℕ
 most_reads = 4194304
 
--- A lane: room for 1 to 65,536 messages.
+-- A lane has room for 1 to 65,536 messages.
 abbrev pub most_lane : ℕ
 most_lane = 65536
 

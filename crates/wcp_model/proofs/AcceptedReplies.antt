@@ -1,23 +1,21 @@
-use Rattle.std.proofs.Common.{◌≡◌, ℕ, zero, suc, ◌<◌, ◌≤◌, Bool, true, false, not, ◌||◌, nat_lt, cond, Option, None, Some, MatchOption, List, [], ◌∷◌, ◌++◌, length, slice_get, count_by, if◌then◌else◌, refl, sym, ap, ◌∙◌, subst, ⊎_elim, append_assoc, append-nil, eqb-true, true≢false, arith}
-use Rattle.std.proofs.lemmas.Bool.{cases_lt, cond_both, not-false, or_parts}
+use Rattle.std.proofs.Common.{◌≡◌, ℕ, suc, Bool, true, cond, None, Some, List, [], ◌∷◌, ◌++◌, length, slice_get, count_by, refl, sym, ap, ◌∙◌, subst, append_assoc, append-nil, arith}
+use Rattle.std.proofs.lemmas.Bool.{cond_both}
 use Rattle.std.proofs.lemmas.Grind.{flat_map-append}
 use Rattle.std.proofs.lemmas.List.{take_at}
 use Rattle.std.proofs.lemmas.List.Elements.{filter-append}
 use Rattle.std.proofs.lemmas.List.Sums.{sum_by-cons}
-use Rattle.std.proofs.lemmas.Option.{none-some, same_Some, slice_get_past}
+use Rattle.std.proofs.lemmas.Option.{slice_get_past}
 use Rattle.wcp_model.specs.declared.plan.Plan.{Plan}
 use Rattle.wcp_model.specs.declared.step.Step.{Step}
 use Rattle.wcp_model.specs.declared.step.Step.TheVariants as step
 use Rattle.wcp_model.specs.declared.step.Reply.{Reply}
-use Rattle.wcp_model.specs.declared.step.Reply.TheVariants as reply
 use Rattle.wcp_model.specs.declared.step.Why.{Why}
 use Rattle.wcp_model.specs.declared.step.Why.TheVariants as why
 use Rattle.wcp_model.specs.Computation.{Computation, is_send}
 use Rattle.wcp_model.specs.Emission.{is_closed}
-use Rattle.wcp_model.specs.Occupancy.{Pending, notes_in}
 use Rattle.wcp_model.specs.ProbeLog.{is_step_of, IsAccepted}
 use Rattle.wcp_model.specs.FirstReason.{first_reason}
-use Rattle.wcp_model.specs.Replies.{Answered, accepted_by, accepted, is_event, computation, receivers, was_sent_to, reasons, event_reasons, move_reasons, IsAcceptance, IsReply, AreReplies}
+use Rattle.wcp_model.specs.Replies.{Answered, accepted_by, accepted, is_event, computation, receivers, event_reasons, IsReply, AreReplies}
 use Rattle.wcp_model.proofs.AcceptedSteps.{accepted_push}
 use Rattle.wcp_model.proofs.FirstReasons.{none_holds}
 use Rattle.wcp_model.proofs.Growth.{get_behind}

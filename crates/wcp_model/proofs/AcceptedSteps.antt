@@ -1,12 +1,11 @@
 use Rattle.std.proofs.Common.{◌≡◌, ℕ, ◌<◌, ◌≤◌, true, false, [], ◌∷◌, ◌++◌, length, slice_get, count_by, Some, sym, refl, ap, ◌∙◌, ⊎_elim, eqb-true, eq-eqb, true≢false, arith}
-use Rattle.std.specs.List.{Any}
-use Rattle.std.proofs.lemmas.Bool.{cases_lt, false_from_ne_true}
+use Rattle.std.proofs.lemmas.Bool.{cases_lt}
 use Rattle.std.proofs.lemmas.List.{length_push, take_at}
 use Rattle.std.proofs.lemmas.List.Folds.{list_any_at, Any-from_list_any}
 use Rattle.std.proofs.lemmas.Option.{slice_get_within, slice_get-get_or, get_or_from_slice_get}
 use Rattle.wcp_model.specs.declared.step.Step.{Step}
 use Rattle.wcp_model.specs.declared.step.Step.TheVariants.{Observe, Recv, Close}
-use Rattle.wcp_model.specs.Computation.{Computation, is_send, message_at}
+use Rattle.wcp_model.specs.Computation.{Computation, is_send}
 use Rattle.wcp_model.specs.Emission.{is_close_of, is_closed}
 use Rattle.wcp_model.specs.ProbeLog.{is_step_of, IsAccepted}
 use Rattle.wcp_model.proofs.Growth.{get_front, get_behind, at_grows, message_grows, true_state_of_front}

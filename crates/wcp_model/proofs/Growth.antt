@@ -1,14 +1,13 @@
 use Rattle.std.proofs.lemmas.Grind.{common_steps}
-use Rattle.std.proofs.Common.{◌≡◌, ℕ, zero, suc, ◌+◌, ◌<◌, ◌≤◌, ◌↔◌, Bool, true, cond, List, [], ◌∷◌, ◌++◌, length, take, slice_get, slice_index, count_by, Some, refl, sym, ap, ◌∙◌, subst, ⊎_elim, arith}
+use Rattle.std.proofs.Common.{◌≡◌, ℕ, zero, suc, ◌+◌, ◌<◌, ◌≤◌, ◌↔◌, Bool, true, List, [], ◌∷◌, ◌++◌, length, take, slice_get, slice_index, count_by, Some, refl, sym, ap, ◌∙◌, subst, ⊎_elim, arith}
 use Rattle.std.proofs.lemmas.Bool.{cases_lt}
 use Rattle.std.proofs.lemmas.List.{take-append-le, take_at}
-use Rattle.std.proofs.lemmas.List.Sums.{sum_by-append}
 use Rattle.std.proofs.lemmas.Option.{slice_get_within}
 use Rattle.wcp_model.specs.declared.state.State.{State}
 use Rattle.wcp_model.specs.declared.step.Step.{Step}
 use Rattle.wcp_model.specs.declared.step.Step.TheVariants.{Observe, Send, Recv}
 use Rattle.wcp_model.specs.Computation.{Computation, IsState, IsTrueState, is_communication_of, is_send, communications, interval_at, message_at}
-use Rattle.wcp_model.specs.Order.{IsMessage, DirectlyPrecedes, Next, Message, HappenedBefore, Direct, Chain}
+use Rattle.wcp_model.specs.Order.{IsMessage, DirectlyPrecedes, HappenedBefore, Direct, Chain}
 use Rattle.wcp_model.specs.ProbeLog.{IsStampOf}
 use Rattle.wcp_model.specs.StateClock.{CountsBefore, IsStateClock}
 use Rattle.wcp_model.proofs.EventPlaces.{event_of_send, event_below}
@@ -65,7 +64,7 @@ is_message_grows c e s t m = record {
 
 -- direct precedence stays
 pub direct_grows : (c e : Computation) (s t : State) → DirectlyPrecedes c s t → DirectlyPrecedes (c ++ e) s t
-direct_grows c e s t h4 = grind (arith, common_steps, is_message_grows)
+direct_grows c e s t direct = grind (arith, common_steps, is_message_grows)
 
 -- happened-before stays
 pub before_grows : (c e : Computation) (s : State) {t : State} → HappenedBefore c s t → HappenedBefore (c ++ e) s t
@@ -74,7 +73,7 @@ before_grows c e s {t = u} (Chain {t = t} h d) = Chain (before_grows c e s h) (d
 
 -- no direct precedence of a state is new, if the state isn't
 pub direct_shrinks : (c e : Computation) (s t : State) → IsState c t → DirectlyPrecedes (c ++ e) s t → DirectlyPrecedes c s t
-direct_shrinks c e s t exists h5 = grind (arith, count_front, get_front, in_front)
+direct_shrinks c e s t exists direct = grind (arith, count_front, get_front, in_front)
 
 -- nothing new happened before a state that existed
 pub before_shrinks : (c e : Computation) (s : State) {t : State} → IsState c t → HappenedBefore (c ++ e) s t → HappenedBefore c s t

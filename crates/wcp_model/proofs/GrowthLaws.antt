@@ -1,15 +1,14 @@
 use Rattle.std.specs.Prelude.{slice_index}
-use Rattle.std.proofs.Common.{◌≡◌, ℕ, ◌<◌, ◌≤◌, min, List, ◌++◌, ap, sym, ◌∙◌, subst, ⊎_elim, arith}
-use Rattle.std.proofs.lemmas.Bool.{cases_lt}
+use Rattle.std.proofs.Common.{◌≡◌, ℕ, ◌<◌, ◌≤◌, min, List, ◌++◌, ap, ◌∙◌, arith}
 use Rattle.std.proofs.lemmas.Grind.{flat_map-append}
 use Rattle.std.proofs.lemmas.List.Elements.{filter-append}
-use Rattle.wcp_model.specs.Computation.{Computation, IsTrueState}
+use Rattle.wcp_model.specs.Computation.{Computation}
 use Rattle.wcp_model.specs.Cut.{member, minimum, IsSatisfyingCut}
 use Rattle.wcp_model.specs.Growth.{GrowsInto, GrowthLaw, EarlyFindLaw}
 use Rattle.wcp_model.specs.ProbeLog.{IsAccepted}
 use Rattle.wcp_model.specs.Replies.{Answered, accepted, is_event, computation}
 use Rattle.wcp_model.proofs.AcceptedReplies.{replies_accepted}
-use Rattle.wcp_model.proofs.CutLaws.{state, IsState-true, slice_index-minimum, minimum_is_satisfying}
+use Rattle.wcp_model.proofs.CutLaws.{IsState-true, slice_index-minimum, minimum_is_satisfying}
 use Rattle.wcp_model.proofs.EmissionFronts.{emissions_grow}
 use Rattle.wcp_model.proofs.Growth.{before_grows, before_shrinks, order_settled, true_state_grows, true_state_shrinks}
 

@@ -1,12 +1,12 @@
 use Rattle.std.specs.Prelude.{slice_index}
-use Rattle.std.proofs.Common.{◌≡◌, ℕ, suc, zero, ◌+◌, ◌-◌, ◌<◌, ◌≤◌, ◌⊎◌, min, sum, List, [], ◌∷◌, length, refl, ◌∙◌, subst, inl, inr, ⊎_elim, arith}
+use Rattle.std.proofs.Common.{◌≡◌, ℕ, suc, zero, ◌+◌, ◌-◌, ◌<◌, ◌≤◌, ◌⊎◌, min, sum, List, [], ◌∷◌, length, refl, subst, inl, inr, ⊎_elim, arith}
 use Rattle.std.proofs.lemmas.Bool.{cases_lt}
 use Rattle.std.proofs.lemmas.List.{nil_from_length}
 use Rattle.std.proofs.lemmas.List.Sums.{sum_by-cons}
 use Rattle.wcp_model.specs.Computation.{Computation}
 use Rattle.wcp_model.specs.Cut.{minimum, IsSatisfyingCut, IsLeastCut, LeastCutLaw}
 use Rattle.wcp_model.proofs.Decided.{Decided, some_below_decided}
-use Rattle.wcp_model.proofs.CutLaws.{minimum_is_satisfying, length-minimum}
+use Rattle.wcp_model.proofs.CutLaws.{minimum_is_satisfying}
 
 -- a list of this length, with a sum below the limit, has the property
 pub record Smaller (P : List ℕ → Type 0) (n limit : ℕ) : Type 0 where

@@ -2,16 +2,16 @@ use Rattle.std.proofs.lemmas.Grind.{common_steps}
 use Rattle.std.proofs.Common.{◌≡◌, ◌≢◌, ◌==◌, ℕ, zero, suc, ◌+◌, ◌-◌, ◌<◌, ◌≤◌, ◌&&◌, Bool, false, cond, Some, List, [], ◌∷◌, ◌++◌, length, count_by, filter, map, slice_get, slice_index, take, drop, All, refl, sym, ap, ap₂, subst, subst₂, inl, inr, ⊎_elim, eq-eqb, append-nil, ◌∙◌, arith}
 use Rattle.std.specs.List.{range_with_len}
 use Rattle.std.specs.Option.{option_map}
-use Rattle.std.proofs.lemmas.Bool.{and_parts, cases_Bool, cases_eq, cases_lt, ne_eqb}
+use Rattle.std.proofs.lemmas.Bool.{and_parts, cases_eq, cases_lt, ne_eqb}
 use Rattle.std.proofs.lemmas.List.{take_all, take_more, take-take, take-map, take-append-drop, length-map, length-take, take_at}
-use Rattle.std.proofs.lemmas.List.Sums.{length-filter, count_by-le-length, sum_by-cons, sum_by-take-le, count_by_more_no}
+use Rattle.std.proofs.lemmas.List.Sums.{length-filter, count_by-le-length, sum_by-take-le, count_by_more_no}
 use Rattle.std.proofs.lemmas.Option.{slice_get-map, slice_get_within, get_or_from_slice_get, same_Some}
 use Rattle.wcp_model.specs.declared.step.Step.{Step}
 use Rattle.wcp_model.specs.declared.step.Step.TheVariants as step
 use Rattle.wcp_model.specs.declared.workload.Action.{Action}
 use Rattle.wcp_model.specs.declared.workload.Action.TheVariants as action
 use Rattle.wcp_model.specs.declared.workload.Task.{Task}
-use Rattle.wcp_model.specs.Computation.{Computation, is_send, is_communication_of, communications, interval_at}
+use Rattle.wcp_model.specs.Computation.{Computation, is_send, communications, interval_at}
 use Rattle.wcp_model.specs.StateClock.{IsStateClock}
 use Rattle.wcp_model.specs.ProbeLog.{Call, Observed, Sent, Received, Closed, is_step_of, setup, state_of_log, IsStampOf, IsCallOf, AreCallsOf, IsLogOf, IsAccepted}
 use Rattle.wcp_model.specs.TaskLog.{actions_of, IsCallFor, FollowsActions, stamps_sent, stamps_got, AreLogsOfTasks, TaskLogLaw}
@@ -25,7 +25,7 @@ use Rattle.wcp_model.proofs.Predecessors.{local_state, span}
 use Rattle.wcp_model.proofs.RunningClock.{clock_counts}
 use Rattle.wcp_model.proofs.RunningLog.{log_law_holds}
 use Rattle.wcp_model.proofs.GrowingLogs.{log_grows, stamp_grows, accepted_front}
-use Rattle.wcp_model.proofs.SamePlace.{filter_yes, filter_no, count_by-take_more, count_by_no, slice_get-take, slice_get-filter, filter_front, element_within, same_count}
+use Rattle.wcp_model.proofs.SamePlace.{count_by-take_more, slice_get-take, slice_get-filter, filter_front, element_within, same_count}
 use Rattle.wcp_model.proofs.StepsOfOrder.{length-steps_from, step_at, message_at_is}
 use Rattle.wcp_model.proofs.TaskLogs.{same_length, call_for, stamp_sent_at, stamp_got_at}
 

@@ -1,8 +1,8 @@
-use Rattle.std.proofs.Common.{◌≡◌, ◌≢◌, ℕ, zero, suc, ◌+◌, ◌<◌, ◌≤◌, ◌⊎◌, true, false, List, take, length, count_by, slice_get, Some, refl, sym, ◌∙◌, ap, subst, inl, inr, ⊎_elim, arith}
+use Rattle.std.proofs.Common.{◌≡◌, ◌≢◌, ℕ, zero, suc, ◌+◌, ◌<◌, ◌≤◌, ◌⊎◌, true, false, List, length, count_by, slice_get, Some, refl, sym, ◌∙◌, ap, subst, inl, inr, ⊎_elim, arith}
 use Rattle.std.proofs.lemmas.Bool.{cases_lt, cases_eq, cases_Bool, eqb-true, eq-eqb}
-use Rattle.std.proofs.lemmas.List.{take_all, length-take}
-use Rattle.std.proofs.lemmas.List.Sums.{sum_by-take-le, count_by-le-length}
-use Rattle.std.proofs.lemmas.Option.{slice_get_within, slice_get_cases, same_Some}
+use Rattle.std.proofs.lemmas.List.{take_all}
+use Rattle.std.proofs.lemmas.List.Sums.{sum_by-take-le}
+use Rattle.std.proofs.lemmas.Option.{slice_get_within, slice_get_cases}
 use Rattle.wcp_model.specs.declared.state.State.{State}
 use Rattle.wcp_model.specs.declared.step.Step.{Step}
 use Rattle.wcp_model.specs.declared.step.Step.TheVariants.{Observe, Send, Recv}
@@ -63,7 +63,7 @@ before_to_state before = directly_to_state (last_step before).2
 
 -- what a direct precedence leads to is no first state
 directly_to_later : {c : Computation} {s t : State} → DirectlyPrecedes c s t → 0 < t.interval
-directly_to_later h0 = grind arith
+directly_to_later first = grind arith
 
 -- what a state happened before is no first state
 pub before_to_later : {c : Computation} {s t : State} → HappenedBefore c s t → 0 < t.interval
@@ -100,7 +100,7 @@ abbrev pub ComesFrom : Computation → State → ℕ → ℕ → Step → Type 0
 ComesFrom c s p place step = AtOrAfter c s (state_at c p place) ⊎ ((message : ℕ) × (step ≡ Recv p message) × Carries c s place message)
 
 directly_from : (c : Computation) (s u : State) (p place : ℕ) (step : Step) → slice_get c place ≡ Some step → is_communication_of p step ≡ true → AtOrAfter c s u → DirectlyPrecedes c u (state_at c p (place + 1)) → ComesFrom c s p place step
-directly_from c s u p place step here own from h9 = grind (arith, count_before-place, interval_at-event)
+directly_from c s u p place step here own from last = grind (arith, count_before-place, interval_at-event)
 
 pub comes_from : (c : Computation) (s : State) (p place : ℕ) (step : Step) → slice_get c place ≡ Some step → is_communication_of p step ≡ true → HappenedBefore c s (state_at c p (place + 1)) → ComesFrom c s p place step
 comes_from c s p place step here own before =

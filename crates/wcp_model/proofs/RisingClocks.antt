@@ -1,14 +1,12 @@
 use Rattle.std.specs.List.Sorted.{IsStrictlyIncreasing}
-use Rattle.std.specs.Prelude.{if◌then◌else◌}
-use Rattle.std.proofs.Common.{◌≡◌, ◌≢◌, ℕ, zero, suc, ◌+◌, ◌-◌, ◌<◌, ◌≤◌, Bool, true, false, List, [], ◌∷◌, ◌++◌, length, slice_index, get_or, refl, sym, ap, ◌∙◌, subst, ⊎_elim, append-nil, arith}
+use Rattle.std.proofs.Common.{◌≡◌, ◌≢◌, ℕ, zero, suc, ◌+◌, ◌-◌, ◌<◌, ◌≤◌, List, [], ◌∷◌, ◌++◌, length, slice_index, get_or, refl, sym, ap, subst, ⊎_elim, append-nil, arith}
 use Rattle.std.proofs.lemmas.Bool.{cases_eq, cases_lt}
 use Rattle.std.proofs.lemmas.List.{length-append, get_or_append_left, get_or_past}
 use Rattle.std.proofs.lemmas.List.Elements.{Contains-get_or}
 use Rattle.wcp_clock.specs.declared.note.Item.{Item}
 use Rattle.wcp_clock.specs.declared.note.Note.{Note}
-use Rattle.wcp_clock.specs.declared.note.Note.TheVariants as note
 use Rattle.wcp_model.specs.Computation.{Computation, IsState}
-use Rattle.wcp_model.specs.Emission.{snapshots_from, is_closed, AreEmissions}
+use Rattle.wcp_model.specs.Emission.{snapshots_from, AreEmissions}
 use Rattle.wcp_model.specs.Report.{notes_taken, snapshot_clocks, clocks_taken, AreRising, ClocksRise, AreFrontsOfEmissions}
 use Rattle.wcp_model.specs.StateClock.{IsStateClock}
 use Rattle.wcp_model.proofs.CutLaws.{state, happened_before_later, IsState-true}

@@ -1,5 +1,5 @@
-use Rattle.std.proofs.Common.{◌≡◌, ◌≢◌, ℕ, ◌+◌, ◌<◌, ◌≤◌, ◌↔◌, max, List, length, replicate, slice_get, slice_index, slice_set, Some, refl, sym, ap, ◌∙◌, subst, inr, ⊎_elim, arith}
-use Rattle.std.proofs.lemmas.Bool.{cases_lt, cases_eq}
+use Rattle.std.proofs.Common.{◌≡◌, ◌≢◌, ℕ, ◌+◌, ◌<◌, ◌↔◌, max, List, length, replicate, slice_get, slice_index, slice_set, Some, refl, sym, ap, ◌∙◌, subst, inr, ⊎_elim, arith}
+use Rattle.std.proofs.lemmas.Bool.{cases_eq}
 use Rattle.std.proofs.lemmas.List.{length-set, length-replicate, get_or-replicate, get_or-set_same, get_or-set_other}
 use Rattle.wcp_clock.specs.Merge.{merged}
 use Rattle.wcp_clock.proofs.Merging.{length-merged, slice_index-merged}
@@ -10,7 +10,7 @@ use Rattle.wcp_model.specs.Order.{IsMessage, DirectlyPrecedes, Next, Message, Ha
 use Rattle.wcp_model.specs.StateClock.{CountsBefore, IsStateClock}
 use Rattle.wcp_model.proofs.EventPlaces.{event_of_send, event_below}
 use Rattle.wcp_model.proofs.Predecessors.{local_state, before_rises, before_later, only_before_send, only_before_receive}
-use Rattle.wcp_model.proofs.Reached.{AtOrAfter, one_more_step, before_to_state, before_to_later}
+use Rattle.wcp_model.proofs.Reached.{AtOrAfter, one_more_step, before_to_state}
 
 -- the first state of a process has a clock of zeros
 pub clock_at_first : (n : ℕ) (c : Computation) (p : ℕ) → p < n → IsStateClock n c (local_state p 0) (replicate n 0)

@@ -12,7 +12,8 @@ use Rattle.wcp_model.specs.Tree.{is_leaf}
 abbrev pub IsOutside : ℕ → ℕ → ℕ → Type 0
 IsOutside least most x = (x < least) ⊎ (most < x)
 
--- The parents of 1 to 15 relays make a tree under the root if each is the root or a lower relay; here they don't.
+-- There aren't 1 to 15 relays, or the parent of one is neither the root nor a lower relay. Without this fault the
+-- parents make a tree under the root.
 abbrev pub HasWrongParent : List Parent → Type 0
 HasWrongParent parents =
     IsOutside 1 most_relays (length parents)

@@ -1,5 +1,5 @@
-/// A local state: a process in one of its intervals. Interval k is the time between its k-th and its
-/// next communication event, counted from 0.
+/// A local state: a process in one of its intervals. It is in interval k from its k-th communication
+/// event to the next one, and in interval 0 before the first.
 #[derive(Clone, Copy, Debug, PartialEq, Eq)]
 pub struct State {
     pub process: u32,

@@ -1,6 +1,6 @@
-use Rattle.std.proofs.Common.{◌≡◌, ◌⊎◌, ℕ, ◌+◌, ◌<◌, ◌≤◌, true, List, [], ◌∷◌, ◌++◌, length, take, count_by, Some, refl, sym, ◌∙◌, ap, arith, ⊎_elim, get_or, set, get_or-set_same, get_or-set_other}
+use Rattle.std.proofs.Common.{◌≡◌, ℕ, ◌+◌, ◌<◌, ◌≤◌, true, List, [], ◌∷◌, ◌++◌, length, take, count_by, Some, refl, sym, ◌∙◌, ap, arith, ⊎_elim, get_or, set, get_or-set_same, get_or-set_other}
 use Rattle.std.specs.List.{slice_get, slice_index, filter, All}
-use Rattle.std.proofs.lemmas.Bool.{cases_eq, cases_lt, cases_order, ne_eqb}
+use Rattle.std.proofs.lemmas.Bool.{cases_lt}
 use Rattle.std.proofs.lemmas.List.{append-nil, length-set, take-append-le, take_all, length_push}
 use Rattle.std.proofs.lemmas.List.Elements.{All-push, filter-append, filter_more}
 use Rattle.std.proofs.lemmas.Option.{slice_get_within, get_or_from_slice_get}
@@ -8,7 +8,7 @@ use Rattle.wcp_model.specs.declared.workload.Action.{Action}
 use Rattle.wcp_model.specs.declared.workload.Action.TheVariants as action
 use Rattle.wcp_model.specs.declared.workload.Task.{Task}
 use Rattle.wcp_model.specs.WorkloadComputation.{is_task_of, sends, receives, IsWithin}
-use Rattle.wcp_model.proofs.SamePlace.{filter_yes, filter_no, count_by-take_more, same_count}
+use Rattle.wcp_model.proofs.SamePlace.{filter_yes, count_by-take_more, same_count}
 use Rattle.wcp_order.specs.Stuck.{AreSendAndReceive, CanBeDone}
 use Rattle.wcp_order.specs.Stuck.CanBeDone.{Observing, Sending, Receiving}
 use Rattle.wcp_order.specs.declared.order.Progress.{Progress}

@@ -1,13 +1,12 @@
-use Rattle.std.proofs.Common.{◌≡◌, ℕ, zero, suc, ◌+◌, ◌*◌, ◌<◌, ◌≤◌, List, [], ◌∷◌, length, take, replicate, Option, Some, None, unwrap_or, refl, sym, ◌∙◌, ap, arith, ⊎_elim}
+use Rattle.std.proofs.Common.{◌≡◌, ℕ, ◌+◌, ◌*◌, ◌<◌, ◌≤◌, List, [], ◌∷◌, length, take, replicate, Option, unwrap_or, refl, sym, ◌∙◌, ap, arith}
 use Rattle.std.specs.Option.{IfSome, IfNone}
 use Rattle.std.specs.List.{slice_get, slice_index, filter, All, Contains}
-use Rattle.std.proofs.lemmas.Bool.{cases_lt, ne_eqb}
-use Rattle.std.proofs.lemmas.List.{length-replicate, get_or-replicate, nil_from_length, take_all, get_or_default}
+use Rattle.std.proofs.lemmas.List.{length-replicate, get_or-replicate, take_all, get_or_default}
 use Rattle.std.proofs.lemmas.List.Elements.{All-head, All-tail, All-nil, All-get_or}
 use Rattle.std.proofs.lemmas.Nat.{mul-add-lt}
 use Rattle.wcp_model.specs.declared.workload.Task.{Task}
 use Rattle.wcp_model.specs.WorkloadComputation.{is_task_of, IsWithin, IsFitOrder}
-use Rattle.wcp_model.proofs.SamePlace.{filter_no, element_within}
+use Rattle.wcp_model.proofs.SamePlace.{element_within}
 use Rattle.wcp_order.specs.Stuck.{IsFirstStuck}
 use Rattle.wcp_order.specs.Progress.{IsProgress, IsNextPlace, IsBlocked}
 use Rattle.wcp_order.proofs.Tasks.{at_place}
@@ -75,4 +74,4 @@ pub record IsLeastOr (fronts : List ℕ) (most place : ℕ) : Type 0 where
   pub found : place < most → Contains fronts place
 
 pub IsLeastOr-unwrap_or : (fronts : List ℕ) (most place : ℕ) (least : Option ℕ) → IfSome least (Contains fronts) → IfSome least (λ here. All (λ front. here ≤ front) fronts) → IfNone least (length fronts ≡ 0) → place ≡ unwrap_or least most → IsLeastOr fronts most place
-IsLeastOr-unwrap_or fronts most place least found h5 none is = grind arith
+IsLeastOr-unwrap_or fronts most place least found below none is = grind arith

@@ -1,6 +1,6 @@
-use Rattle.std.proofs.Common.{◌≡◌, ℕ, ◌+◌, ◌-◌, ◌*◌, ◌<◌, ◌≤◌, Bool, true, false, cond, List, [], ◌∷◌, ◌++◌, length, count_by, Some, refl, ◌∙◌, ap, arith, ⊎_elim, inl, inr, sym, set, get_or-set_same, get_or-set_other}
+use Rattle.std.proofs.Common.{◌≡◌, ℕ, ◌+◌, ◌*◌, ◌<◌, ◌≤◌, Bool, true, false, List, [], ◌∷◌, ◌++◌, length, count_by, Some, ◌∙◌, ap, arith, ⊎_elim, inl, inr, set, get_or-set_same, get_or-set_other}
 use Rattle.std.specs.List.{All, slice_index}
-use Rattle.std.proofs.lemmas.Bool.{cases_eq, cases_lt, false_from_ne_true}
+use Rattle.std.proofs.lemmas.Bool.{cases_eq, cases_lt}
 use Rattle.std.proofs.lemmas.List.{length-set}
 use Rattle.std.proofs.lemmas.List.Sums.{sum_by_push}
 use Rattle.std.proofs.lemmas.Nat.{mul-add-lt, same_from_place}
@@ -11,7 +11,7 @@ use Rattle.wcp_model.specs.WorkloadComputation.{sends, receives, IsWithin}
 use Rattle.wcp_model.proofs.MessagesOfOrder.{sends_yes, receives_yes}
 use Rattle.wcp_model.proofs.SamePlace.{element_after}
 use Rattle.wcp_order.specs.Progress.{IsReady, in_transit_after}
-use Rattle.wcp_order.proofs.Tasks.{at_place, receives_is, sends_ends, receives_ends, send_is_no_receive, receive_is_no_send, observe_is_no_send, observe_is_no_receive}
+use Rattle.wcp_order.proofs.Tasks.{at_place, receives_is, sends_ends, receives_ends}
 
 pub count_by_push_passing : {X : Type 0} (f : X → Bool) (xs : List X) (x : X) → f x ≡ true → count_by f (xs ++ x ∷ []) ≡ count_by f xs + 1
 count_by_push_passing f xs x passes = grind (arith, sum_by_push)

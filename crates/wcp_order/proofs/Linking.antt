@@ -1,9 +1,9 @@
-use Rattle.std.proofs.Common.{◌≡◌, ℕ, ◌+◌, ◌<◌, ◌≤◌, false, List, length, take, Some, refl, sym, ◌∙◌, ap, arith, ⊎_elim, get_or, set, get_or-set_same, get_or-set_other}
+use Rattle.std.proofs.Common.{◌≡◌, ℕ, ◌+◌, ◌<◌, ◌≤◌, List, length, take, Some, ◌∙◌, arith, ⊎_elim, get_or, set, get_or-set_same, get_or-set_other}
 use Rattle.std.specs.List.{slice_get, slice_index, filter, All}
-use Rattle.std.proofs.lemmas.Bool.{cases_eq, ne_eqb}
+use Rattle.std.proofs.lemmas.Bool.{cases_eq}
 use Rattle.std.proofs.lemmas.List.{append-nil, length-set}
 use Rattle.std.proofs.lemmas.List.Elements.{filter_more}
-use Rattle.std.proofs.lemmas.Option.{slice_get_within, slice_get-get_or, get_or_from_slice_get, same_Some}
+use Rattle.std.proofs.lemmas.Option.{slice_get_within, slice_get-get_or, get_or_from_slice_get}
 use Rattle.wcp_model.specs.declared.workload.Task.{Task}
 use Rattle.wcp_model.specs.WorkloadComputation.{is_task_of, IsWithin}
 use Rattle.wcp_order.specs.Progress.{IsNextPlace}
@@ -14,10 +14,6 @@ pub record IsLinkedFrom (n : ℕ) (tasks : List Task) (place : ℕ) (first next 
   pub places : length next ≡ length tasks
   pub first_of : (p : ℕ) → p < n → IsNextPlace tasks p place (slice_index first p)
   pub next_of : (i : ℕ) (task : Task) → place ≤ i → slice_get tasks i ≡ Some task → IsNextPlace tasks task.p (i + 1) (slice_index next i)
-
--- a task is the first one of its process from its place on
-IsNextPlace_here : (tasks : List Task) (i : ℕ) (task : Task) → slice_get tasks i ≡ Some task → IsNextPlace tasks task.p i i
-IsNextPlace_here tasks i task at = grind (arith, slice_get_within)
 
 -- the task at a place is skipped by each other process
 IsNextPlace_other : (tasks : List Task) (p i next : ℕ) (task : Task) → slice_get tasks i ≡ Some task → (task.p ≡ p → ⊥) → IsNextPlace tasks p (i + 1) next → IsNextPlace tasks p i next

@@ -6,7 +6,6 @@ use Rattle.std.proofs.lemmas.Option.{slice_get_within}
 use Rattle.wcp_model.specs.declared.workload.Action.TheVariants as action
 use Rattle.wcp_model.specs.declared.workload.Task.{Task}
 use Rattle.wcp_model.specs.WorkloadComputation.{sends}
-use Rattle.wcp_model.proofs.MessagesOfOrder.{sends_is}
 use Rattle.wcp_model.proofs.SamePlace.{SamePlace, same_place, element_after, slice_get-take}
 
 -- a longer front has as many that pass

@@ -193,7 +193,8 @@ fn least(places: &[usize]) -> Option<usize>
 
 /// A fit order of the tasks of n processes, or the first task that can never be done. Where they
 /// are in a fit order as they are listed, this takes one look at each. Else each process does its
-/// tasks as far as it can, in turn, until none can go on: at most n looks for each task.
+/// tasks as far as it can, in turn, until none can go on: at most n looks for each task. `Err` where
+/// memory runs out.
 pub fn fit_order(alloc: Global, n: u32, tasks: &[Task]) -> Result<FitOrder, AllocError>
     requires few { n ≤ most_processes }
     requires within { All (IsWithin n) tasks.now }

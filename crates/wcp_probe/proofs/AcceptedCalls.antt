@@ -1,13 +1,12 @@
 use Rattle.std.proofs.lemmas.Grind.{common_steps}
-use Rattle.std.proofs.Common.{◌≡◌, ℕ, zero, suc, max, ◌+◌, ◌<◌, ◌≤◌, true, false, List, [], ◌∷◌, ◌++◌, Some, length, slice_index, slice_set, refl, sym, ap, ◌∙◌, subst, arith, cond, MatchOption}
+use Rattle.std.proofs.Common.{◌≡◌, ℕ, zero, suc, max, ◌+◌, ◌<◌, ◌≤◌, true, false, List, [], ◌∷◌, Some, length, slice_index, slice_set, refl, ap, arith}
 use Rattle.std.proofs.lemmas.List.{length-set, get_or-set_same}
-use Rattle.wcp_clock.specs.declared.note.Note.{Note}
 use Rattle.wcp_clock.specs.declared.note.Note.TheVariants as note
 use Rattle.wcp_clock.specs.Merge.{merged}
-use Rattle.wcp_clock.proofs.Merging.{length-merged, slice_index-merged}
-use Rattle.wcp_model.specs.ProbeLog.{Call, Observed, Received, Closed, ProbeState, after_call, setup, state_of_log}
+use Rattle.wcp_clock.proofs.Merging.{length-merged}
+use Rattle.wcp_model.specs.ProbeLog.{Observed, Received, Closed}
 use Rattle.wcp_model.proofs.TaskLogs.{log_push}
-use Rattle.wcp_probe.specs.Core.{Core, Accepts, IsLast, setup_of}
+use Rattle.wcp_probe.specs.Core.{Core, Accepts, setup_of}
 
 -- closing makes the close mark the last emission
 pub close_accepted : (core : Core) → Accepts core Closed (record core { closed = true; pending = Some (note.Close core.emitted) })

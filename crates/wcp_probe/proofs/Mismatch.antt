@@ -1,10 +1,7 @@
-use Rattle.std.proofs.Common.{◌≡◌, ◌==◌, ◌||◌, ◌≤◌, Bool, true, false, not, nat_lt, is_some, [], ◌∷◌, Option, None, Some, length, slice_index, IsTrue, if◌then◌else◌, refl, sym, ◌∙◌, arith}
+use Rattle.std.proofs.Common.{◌≡◌, ◌≤◌, Bool, false, is_some, Option, None, Some, length, slice_index, IsTrue, if◌then◌else◌, sym, ◌∙◌, arith}
 use Rattle.std.proofs.lemmas.Bool.{true≢false}
-use Rattle.std.proofs.lemmas.Bool.Decides.{nat_tests}
-use Rattle.wcp_probe.specs.declared.probe.Refusal.TheVariants.{Closed, Backlog, Stranger, NotMine, Ahead}
 use Rattle.wcp_probe.specs.Core.{Core}
 use Rattle.wcp_probe.specs.Seal.{Seal}
-use Rattle.wcp_model.specs.FirstReason.{first_reason}
 use Rattle.wcp_probe.specs.Refusals.{stamp_mismatch}
 
 -- an option that is no value is none

@@ -2,8 +2,8 @@ use Rattle.std.specs.Prelude.{◌≡◌, ℕ, Bool, Option, List, [], ◌∷◌,
 use Rattle.wcp_clock.specs.declared.note.Note.{Note}
 use Rattle.wcp_model.specs.ProbeLog.{Call, ProbeSetup, setup, state_of_log}
 
--- What a probe has: its watch, its process and the limit of its clock, its clock, and what became of its last
--- emissions.
+-- What a probe has: its watch, its process and the limit of its clock, its clock, whether it has emitted the snapshot
+-- of this interval (the flag) and is closed, how many snapshots it has emitted, and the note that is pending.
 pub record Core : Type 0 where
   pub watch : ℕ
   pub id : ℕ
@@ -14,7 +14,7 @@ pub record Core : Type 0 where
   pub emitted : ℕ
   pub pending : Option Note
 
--- What it was made with.
+-- What a probe was made with.
 abbrev pub setup_of : Core → ProbeSetup
 setup_of core = setup (length core.clock) core.id
 

@@ -1,6 +1,6 @@
 use Rattle.std.proofs.lemmas.Grind.{common_steps}
 use Rattle.std.proofs.Common.{◌≡◌, ℕ, ◌<◌, ◌≤◌, Bool, true, false, refl, List, [], length, get_or, slice_index, sym, ◌∙◌, ap, arith}
-use Rattle.std.proofs.lemmas.List.{append-nil, length-drop, get_or_default}
+use Rattle.std.proofs.lemmas.List.{append-nil, get_or_default}
 use Rattle.std.proofs.lemmas.List.Elements.{Contains-get_or}
 use Rattle.wcp_clock.specs.declared.note.Item.{Item}
 use Rattle.wcp_model.specs.Cut.{IsLeastOf}
@@ -9,7 +9,7 @@ use Rattle.wcp_model.specs.Elimination.{GrowTo, IsSatisfyingChoice, AreInOrder}
 use Rattle.wcp_model.proofs.Elimination.{GrowTo-same, get_or-grown, IsSatisfyingChoice-grown, IsEliminatedBelow-grown}
 use Rattle.wcp_model.proofs.Choosing.{choice_from_each}
 use Rattle.wcp_queue.specs.declared.floor.Floor.{Floor}
-use Rattle.wcp_queue.specs.Floor.{has_head, HaveHeads, IsCutOfHeads}
+use Rattle.wcp_queue.specs.Floor.{HaveHeads, IsCutOfHeads}
 use Rattle.wcp_queue.specs.Elimination.{AreSettled, AreLeft, IsFoundAmong, GainCandidate}
 use Rattle.wcp_queue.proofs.LeftQueues.{GrowTo-gain}
 

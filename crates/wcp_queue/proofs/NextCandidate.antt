@@ -1,8 +1,7 @@
 use Rattle.std.proofs.lemmas.Grind.{common_steps}
-use Rattle.std.proofs.Common.{◌≡◌, ◌≢◌, ℕ, ◌+◌, ◌<◌, ◌≤◌, Bool, true, false, cond, eqb, Some, List, [], ◌∷◌, ◌++◌, length, get_or, set, drop, slice_get, slice_index, refl, sym, ◌∙◌, ap, subst, ⊎_elim, add-zero, arith}
+use Rattle.std.proofs.Common.{◌≡◌, ◌≢◌, ℕ, ◌+◌, ◌<◌, ◌≤◌, Bool, true, false, cond, eqb, Some, List, [], ◌∷◌, ◌++◌, length, get_or, set, drop, slice_get, slice_index, refl, sym, ◌∙◌, ap, subst, ⊎_elim, arith}
 use Rattle.std.proofs.lemmas.Bool.{cases_eq, cases_lt, eq-eqb, ne_eqb, cond-true, cond-false, true≢false}
-use Rattle.std.proofs.lemmas.Option.{none-some, same_Some}
-use Rattle.std.proofs.lemmas.List.{length-drop, get_or-drop, drop-drop, get_or_default}
+use Rattle.std.proofs.lemmas.List.{length-drop, drop-drop, get_or_default}
 use Rattle.wcp_model.proofs.Elimination.{IsEliminatedBelow-step}
 use Rattle.wcp_queue.specs.declared.floor.Floor.{Floor}
 use Rattle.wcp_queue.specs.Floor.{component, has_head, RaisesFloor}

@@ -1,7 +1,6 @@
-use Rattle.std.proofs.Common.{arith}
-use Rattle.std.proofs.Common.{◌≡◌, ◌≢◌, ◌||◌, ℕ, Bool, true, false, eqb, List, [], ◌∷◌, ◌++◌, ◌<◌, filter, map, refl, sym, ◌∙◌, ap, subst, ⊎_elim}
+use Rattle.std.proofs.Common.{◌≡◌, ◌≢◌, ◌||◌, ℕ, Bool, true, false, List, [], ◌∷◌, ◌++◌, ◌<◌, refl, sym, ap, subst, ⊎_elim, arith}
 use Rattle.std.specs.List.{list_any}
-use Rattle.std.proofs.lemmas.Bool.{cases_eq, eq-eqb, ne_eqb, cond-true, cond-false, or_right, false≢true}
+use Rattle.std.proofs.lemmas.Bool.{cases_eq, false≢true}
 use Rattle.std.proofs.lemmas.List.{map-append, append-nil}
 use Rattle.std.proofs.lemmas.List.Elements.{filter-append}
 use Rattle.std.proofs.lemmas.List.Folds.{list_any-append}
@@ -9,7 +8,7 @@ use Rattle.wcp_clock.specs.declared.note.Item.{Item}
 use Rattle.wcp_clock.specs.declared.note.Note.{Note}
 use Rattle.wcp_clock.specs.declared.note.Note.TheVariants.{Snap, Close}
 use Rattle.wcp_clock.specs.Notes.{is_close}
-use Rattle.wcp_model.specs.Report.{notes_taken, snapshot_clocks, clocks_taken, IsNextNote, AreInTurn}
+use Rattle.wcp_model.specs.Report.{notes_taken, clocks_taken, IsNextNote, AreInTurn}
 use Rattle.wcp_model.proofs.NotesInTurn.{snapshot_clocks-append, AreInTurn-push}
 use Rattle.wcp_queue.specs.Checker.{CheckerState, processes, StandsForItems, MayTake}
 use Rattle.wcp_queue.specs.Elimination.{GainCandidate}

@@ -1,5 +1,4 @@
-use Rattle.std.proofs.Common.{◌≡◌, ◌≢◌, ℕ, ◌+◌, ◌<◌, ◌≤◌, Bool, false, List, length, slice_index, sym, ◌∙◌, subst, ⊎_elim, arith}
-use Rattle.std.proofs.lemmas.Bool.{cases_eq}
+use Rattle.std.proofs.Common.{◌≡◌, ◌≢◌, ℕ, ◌+◌, ◌<◌, ◌≤◌, Bool, false, List, length, slice_index, sym, ◌∙◌, arith}
 use Rattle.wcp_queue.specs.declared.floor.Floor.{Floor}
 use Rattle.wcp_queue.specs.Floor.{component, has_head, IsSameBut, RisesTo}
 use Rattle.wcp_queue.specs.Elimination.{queue_of}
@@ -10,9 +9,6 @@ IsSameAt k one other = (component other k ≡ component one k) × (has_head othe
 -- what the floor rises to at a process rests on what concerns that process alone
 pub RisesTo-before : (k known : ℕ) (first old new : Floor) → IsSameAt k first old → RisesTo k known old new → RisesTo k known first new
 RisesTo-before k known first old new same rises = grind arith
-
-RisesTo-after : (k known : ℕ) (first old new : Floor) → IsSameAt k old new → RisesTo k known first old → RisesTo k known first new
-RisesTo-after k known first old new same rises = grind arith
 
 -- a new head of p has raised the first floor at the processes below q
 pub record IsRaising (first : Floor) (p : ℕ) (clock : List ℕ) (queues : List (List (List ℕ))) (floor : Floor) (uncovered : Bool) (q : ℕ) : Type 0 where

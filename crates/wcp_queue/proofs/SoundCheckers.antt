@@ -1,18 +1,13 @@
 use Rattle.std.proofs.lemmas.Grind.{common_steps}
-use Rattle.std.proofs.Common.{◌≡◌, ℕ, ◌+◌, ◌*◌, ◌^◌, ◌<◌, ◌≤◌, false, None, List, [], length, set, replicate, sum, refl, sym, ◌∙◌, ap, subst, arith}
-use Rattle.std.specs.List.{All}
-use Rattle.std.proofs.lemmas.Bool.{true≢false}
+use Rattle.std.proofs.Common.{◌≡◌, ℕ, ◌+◌, ◌*◌, ◌^◌, ◌<◌, ◌≤◌, false, None, List, [], length, set, replicate, sum, ◌∙◌, arith}
 use Rattle.std.proofs.lemmas.Nat.{mul-le}
-use Rattle.std.proofs.lemmas.List.{length-set, length-replicate, get_or-replicate}
-use Rattle.std.proofs.lemmas.List.Elements.{All-set, All-replicate}
+use Rattle.std.proofs.lemmas.List.{length-replicate, get_or-replicate}
 use Rattle.std.proofs.lemmas.List.Sums.{sum_by-le}
 use Rattle.std.proofs.lemmas.List.Folds.{sum_by-replicate}
 use Rattle.wcp_queue.specs.Floor.{first_floor, HaveHeads}
 use Rattle.wcp_queue.specs.Elimination.{AreSettled, waiting_in, tests_each}
-use Rattle.wcp_queue.specs.Checker.{CheckerState, processes, taken_of, IsSoundChecker}
-use Rattle.wcp_queue.proofs.LeftQueues.{no_head_at_first}
+use Rattle.wcp_queue.specs.Checker.{CheckerState, taken_of, IsSoundChecker}
 use Rattle.wcp_queue.proofs.TestsOfCandidates.{tests_each-le}
-use Rattle.wcp_queue.proofs.StandingForItems.{sum-set}
 
 -- a checker that has taken nothing
 abbrev pub fresh_checker : ℕ → CheckerState

@@ -36,19 +36,19 @@ pub record HasHead (rows : ℕ → List (List ℕ)) (heads : ℕ → ℕ) (queue
   pub after : queue ≡ drop (heads p + 1) (rows p)
   pub own : floor ≡ slice_index (candidate rows p (heads p)) p
 
--- The candidate at this place of another process q has this component of p.
+-- The candidate at this place of the row of another process q has the floor's component of p.
 pub record KnowsOf (n : ℕ) (rows : ℕ → List (List ℕ)) (floor p q place : ℕ) : Type 0 where
   pub other : q ≢ p
   pub process : q < n
   pub within : place < length (rows q)
   pub known : floor ≡ slice_index (candidate rows q place) p
 
--- A candidate of another process that is or was its head has this component of p.
+-- A candidate of another process, which is or was that one's head, has the floor's component of p.
 abbrev pub WasRaised : ℕ → (ℕ → List (List ℕ)) → (ℕ → ℕ) → ℕ → ℕ → Type 0
 WasRaised n rows heads floor p = (q place : ℕ) × (place ≤ heads q) × KnowsOf n rows floor p q place
 
--- Process p has no head: all from a place of its row on waits, and a head of another process raised the floor, unless
--- nothing did.
+-- Process p has no head: all from a place of its row on waits, and if the floor's component of p is above 0, a head of
+-- another process raised it.
 pub record HasNoHead (n : ℕ) (rows : ℕ → List (List ℕ)) (heads : ℕ → ℕ) (queue : List (List ℕ)) (floor p : ℕ)
     : Type 0 where
   pub within : heads p ≤ length (rows p)

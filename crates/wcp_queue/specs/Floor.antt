@@ -10,7 +10,7 @@ component floor p = slice_index floor.components p
 abbrev pub has_head : Floor → ℕ → Bool
 has_head floor p = slice_index_or floor.heads p false
 
--- Before there was a head.
+-- The floor before there was a head.
 abbrev pub first_floor : Floor
 first_floor = record {
   components = replicate most_processes 0;
@@ -29,7 +29,7 @@ pub record IsCutOfHeads (n : ℕ) (floor : Floor) (cut : List ℕ) : Type 0 wher
   pub heads : HaveHeads n floor
   pub own : (p : ℕ) → p < n → slice_index cut p ≡ component floor p
 
--- Nothing but what concerns process p is another.
+-- For each other process than p, the component of the floor and whether there is a head are the same.
 abbrev pub IsSameBut : ℕ → Floor → Floor → Type 0
 IsSameBut p old new =
     (q : ℕ) → q ≢ p → (component new q ≡ component old q) × (has_head new q ≡ has_head old q)

@@ -74,7 +74,7 @@ impl Checker {
     }
 
     /// Takes an item. `Err` where memory runs out: it hands the item back, and nothing has changed.
-    /// It grows only while no cut is found.
+    /// The checker wants memory only while no cut is found.
     pub fn take(&mut self, item: Item) -> Result<(), (AllocError, Item)>
         requires { MayTake self.old item }
         ensures taken { OnOk result (TakesItem self.old self.new item) }

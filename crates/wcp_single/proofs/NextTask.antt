@@ -1,7 +1,7 @@
 use Rattle.std.proofs.lemmas.Grind.{common_steps}
-use Rattle.std.proofs.Common.{◌≡◌, ◌≢◌, ◌==◌, ◌&&◌, ℕ, ◌+◌, ◌*◌, ◌<◌, Bool, true, false, cond, List, [], ◌∷◌, ◌++◌, length, map, take, drop, set, get_or, count_by, All, refl, sym, ap, ap₂, ◌∙◌, subst, inl, inr, append-nil, append_assoc, arith, eq-eqb, get_or-set_same, get_or-set_other}
+use Rattle.std.proofs.Common.{◌≡◌, ◌≢◌, ◌==◌, ◌&&◌, ℕ, ◌+◌, ◌*◌, ◌<◌, Bool, true, false, cond, List, [], ◌∷◌, ◌++◌, length, map, take, drop, set, get_or, count_by, All, refl, sym, ap, ◌∙◌, subst, inl, inr, append-nil, append_assoc, arith, eq-eqb, get_or-set_same, get_or-set_other}
 use Rattle.std.proofs.lemmas.Bool.{cases_eq, ne_eqb}
-use Rattle.std.proofs.lemmas.List.{take_all, take_at, length-append, length-map, map_push}
+use Rattle.std.proofs.lemmas.List.{take_all, take_at, length-append, length-map}
 use Rattle.std.proofs.lemmas.List.Elements.{All-push, All-drop, All-take}
 use Rattle.std.proofs.lemmas.Nat.{mul-add-lt, same_from_place}
 use Rattle.wcp_model.specs.declared.workload.Action.{Action}
@@ -111,10 +111,7 @@ module _ (n : ℕ) (done : List Task) (a : ℕ) (act : Action) (within : a < n) 
   pub channel_pushed : (q : ℕ) (seals : List Seal) (seal : Seal) → q < n → is_send_to q act ≡ true → receives a q task ≡ false → (seal.watch ≡ 0) × (seal.to ≡ q) → seal.clock ≡ (state_of_log (setup n a) (logs a ++ call ∷ [])).clock → IsChannel n done logs a q seals → IsChannel n longer after a q (seals ++ seal ∷ [])
   channel_pushed q seals seal below send no_receive addressed carries channel = record {
     addressed = All-push (λ (s : Seal). (s.watch ≡ 0) × (s.to ≡ q)) seals seal channel.addressed addressed;
-    in_order = ap₂ (λ got clocks. got ++ clocks) (got_stays a q below no_receive) (map_push (λ (s : Seal). s.clock) seals seal)
-        ∙ sym (append_assoc (stamps_got a (actions_of q done) (logs q)) (map (λ (s : Seal). s.clock) seals) (seal.clock ∷ []))
-        ∙ ap₂ (λ sent clock. sent ++ clock ∷ []) channel.in_order carries
-        ∙ sym (ap₂ (stamps_sent (setup n a) q) own_actions own_log ∙ stamps_sent-push (actions_of a done) (logs a) act call (follows a within) (setup n a) q send);
+    in_order = grind (arith, common_steps, got_stays, stamps_sent-push);
   }
 
   -- the channel from which it receives
@@ -122,11 +119,7 @@ module _ (n : ℕ) (done : List Task) (a : ℕ) (act : Action) (within : a < n) 
   channel_popped p [] first below no_send receive some oldest carries channel = absurd (omega (arith, some))
   channel_popped p (seal ∷ seals) first below no_send receive some oldest carries channel = record {
     addressed = All-drop (λ (s : Seal). (s.watch ≡ 0) × (s.to ≡ a)) 1 (seal ∷ seals) channel.addressed;
-    in_order = ap (λ got. got ++ map (λ (s : Seal). s.clock) seals) (ap₂ (stamps_got p) own_actions own_log ∙ stamps_got-push (actions_of a done) (logs a) act call (follows a within) p receive)
-        ∙ append_assoc (stamps_got p (actions_of a done) (logs a)) (stamp_of call ∷ []) (map (λ (s : Seal). s.clock) seals)
-        ∙ ap (λ clock. stamps_got p (actions_of a done) (logs a) ++ clock ∷ map (λ (s : Seal). s.clock) seals) (carries ∙ ap (λ (s : Seal). s.clock) oldest)
-        ∙ channel.in_order
-        ∙ sym (sent_stays p a below no_send);
+    in_order = grind (arith, append_assoc, own_actions, sent_stays, stamps_got-push);
   }
 
   -- where the task counts on one channel alone, that channel is written and each other one stays
@@ -135,9 +128,7 @@ module _ (n : ℕ) (done : List Task) (a : ℕ) (act : Action) (within : a < n) 
       (p q : ℕ) → p < n → q < n → IsChannel n longer after p q (queue_at (set queues (from * n + to) seals) (p * n + q))
   channels_set queues from to seals all from_within to_within elsewhere before here p q p_within q_within = elim (cases_eq (p * n + q) (from * n + to)) [
     | inl same ↦
-        let ends = same_from_place p q from to n q_within to_within same in
-        rw (ends.0, ends.1, get_or-set_same queues (from * n + to) seals [] (omega (arith, mul-add-lt from n to n from_within to_within))) here
+        grind (arith, get_or-set_same queues (from * n + to) seals [] (omega (arith, mul-add-lt from n to n from_within to_within)), same_from_place p q from to n q_within to_within same)
     | inr other ↦
-        let neither = elsewhere p q (λ same_p same_q. other (rw (same_p, same_q) refl)) in
-        rw (get_or-set_other queues (from * n + to) (p * n + q) seals [] other) (channel_stays p q _ p_within q_within neither.0 neither.1 (before p q p_within q_within))
+        grind (arith, channel_stays, get_or-set_other)
   ]

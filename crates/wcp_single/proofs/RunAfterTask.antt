@@ -1,4 +1,4 @@
-use Rattle.std.proofs.Common.{◌≡◌, ◌≢◌, ℕ, ◌+◌, ◌*◌, ◌<◌, Bool, false, List, [], ◌∷◌, ◌++◌, length, map, drop, set, get_or, slice_index, refl, sym, ap, ◌∙◌, subst, inl, inr, arith, eq-eqb, get_or-set_same, get_or-set_other}
+use Rattle.std.proofs.Common.{◌≡◌, ◌≢◌, ℕ, ◌+◌, ◌*◌, ◌<◌, Bool, false, List, [], ◌∷◌, ◌++◌, length, map, drop, set, get_or, refl, sym, ap, ◌∙◌, subst, inl, inr, arith, eq-eqb, get_or-set_same, get_or-set_other}
 use Rattle.std.proofs.lemmas.Bool.{cases_eq, false_from_ne_true}
 use Rattle.std.proofs.lemmas.List.{length-set}
 use Rattle.wcp_clock.specs.declared.note.Item.{Item}
@@ -76,10 +76,7 @@ module _ (n : ℕ) (done : List Task) (processes : List WatchedProcess) (queues 
       ];
       items = more;
       has_taken = has_taken;
-      all_taken = λ p p_below. elim (cases_eq p a) [
-        | inl same ↦ rw (same, own_log n done a act below run.logs run.follows call is) own
-        | inr other ↦ rw (other_log n done a act below run.logs run.follows call is p other) (others p other ∙ run.all_taken p p_below)
-      ];
+      all_taken = grind arith;
       channels = channels;
     }
 
@@ -152,13 +149,7 @@ module _ (n : ℕ) (done : List Task) (processes : List WatchedProcess) (queues 
             watch = ap (λ (s : Seal). s.watch) first ∙ addressed.0 ∙ sym runs_by.watch;
             components = stamp.0 ∙ sym runs_by.components;
             addressed = ap (λ (s : Seal). s.to) first ∙ addressed.1 ∙ sym runs_by.id;
-            not_ahead = omega (
-              arith,
-              stamp.1,
-              ap (slice_index seal.clock) runs_by.id,
-              ap (λ clock. slice_index clock old.probe.id) (running_clock n a (run.logs a) old runs_by),
-              ap (slice_index (state_of_log (setup n a) (run.logs a)).clock) runs_by.id,
-            );
+            not_ahead = grind (arith, runs_by);
           }
 
       pub run_received : (new : WatchedProcess) → MakesCall old (Received seal.clock) new → HasDone n (done ++ task ∷ []) (set processes a new) (set queues (b * n + a) shorter) checker

@@ -1,21 +1,18 @@
 use Rattle.std.proofs.lemmas.Grind.{common_steps}
-use Rattle.std.proofs.Common.{◌≡◌, ℕ, ◌+◌, ◌↔◌, IsTrue, Bool, true, false, List, [], ◌∷◌, ◌++◌, length, Option, Some, None, MatchOption, refl, sym, ap, ap₂, ◌∙◌, subst, ⊎_elim, append-nil, arith}
-use Rattle.std.specs.List.{list_any}
+use Rattle.std.proofs.Common.{◌≡◌, ℕ, ◌+◌, ◌↔◌, IsTrue, Bool, true, false, List, [], ◌∷◌, ◌++◌, Option, Some, None, MatchOption, refl, sym, ap, ap₂, ◌∙◌, subst, append-nil, arith}
 use Rattle.std.specs.Prelude.{if◌then◌else◌}
-use Rattle.std.proofs.lemmas.Bool.{cases_Bool, false≢true}
 use Rattle.wcp_clock.specs.declared.note.Item.{Item}
 use Rattle.wcp_clock.specs.declared.note.Note.{Note}
 use Rattle.wcp_clock.specs.declared.note.Note.TheVariants as note
-use Rattle.wcp_model.specs.ProbeLog.{Call, Observed, Closed, ProbeState, after_call, setup, state_of_log}
-use Rattle.wcp_clock.specs.Notes.{is_close, place_of}
-use Rattle.wcp_model.specs.Report.{snapshot_clocks}
+use Rattle.wcp_model.specs.ProbeLog.{Call, Observed, Closed, ProbeState, setup, state_of_log}
+use Rattle.wcp_clock.specs.Notes.{place_of}
 use Rattle.wcp_model.proofs.NotesInTurn.{log_counts_notes}
 use Rattle.wcp_model.proofs.TaskLogs.{log_push}
 use Rattle.wcp_probe.specs.Core.{Core, setup_of}
 use Rattle.wcp_queue.specs.Checker.{CheckerState, MayTake, TakesItem, processes}
-use Rattle.wcp_queue.proofs.NotesTaken.{notes_taken-push_same, notes_taken-push_other, MayTake-next}
+use Rattle.wcp_queue.proofs.NotesTaken.{notes_taken-push_same, notes_taken-push_other}
 use Rattle.wcp_single.specs.declared.watched_process.WatchedProcess.{WatchedProcess}
-use Rattle.wcp_single.specs.WatchedProcess.{IsRunning, IsFed, IsFedMore, IsWatched, HasTaken, Feeds}
+use Rattle.wcp_single.specs.WatchedProcess.{IsRunning, IsFed, IsFedMore, IsWatched, Feeds}
 
 -- the probe that has emitted a snapshot
 abbrev pub with_snapshot : Core → Core
@@ -40,15 +37,6 @@ module _ (n p : ℕ) (log : List Call) (process : WatchedProcess) (running : IsR
   pub running_clock : process.probe.clock ≡ come_to.clock
   running_clock = running.stands.clock ∙ ap (λ (s : ProbeState). s.clock) same_state
 
-  running_flag : process.probe.flag ≡ come_to.flag
-  running_flag = running.stands.flag ∙ ap (λ (s : ProbeState). s.flag) same_state
-
-  pub running_count : process.probe.emitted ≡ come_to.snapshots
-  running_count = running.stands.emitted ∙ ap (λ (s : ProbeState). s.snapshots) same_state
-
-  running_closed : come_to.closed ≡ false
-  running_closed = sym (running.stands.closed ∙ ap (λ (s : ProbeState). s.closed) same_state) ∙ running.not_closed
-
   -- the checker may take a note that is placed behind all that the process has emitted
   pub may_take : (items : List Item) (checker : CheckerState) (next : Note) → IsFed n p log items checker → place_of next ≡ process.probe.emitted → MayTake checker (record { from = p; note = next })
   may_take items checker next fed place = grind (arith, log_counts_notes n p log)
@@ -65,20 +53,12 @@ module _ (n p : ℕ) (log : List Call) (process : WatchedProcess) (running : IsR
   -- what is pending is taken
   fed_more : (call : Call) (pending : Option Note) (items : List Item) (old new : CheckerState) → IsFed n p log items old → (state_of_log (setup n p) (log ++ call ∷ [])).notes ≡ come_to.notes ++ pending_notes pending →
       MatchOption pending (new ≡ old) (λ next. TakesItem old new (record { from = process.id; note = next })) → processes new ≡ processes old → IsFedMore n p (log ++ call ∷ []) items new
-  fed_more call None items old new fed notes same count = record {
-    more = items;
-    fed = record { within = fed.within; has_taken = subst (HasTaken n items) (sym same) fed.has_taken; all = fed.all ∙ sym (notes ∙ append-nil come_to.notes) };
-    others = λ q other. refl;
-  }
+  fed_more call None items old new fed notes same count = grind (arith, append-nil)
   fed_more call (Some next) items old new fed notes takes count =
       let item : Item = record { from = process.id; note = next } in
       record {
         more = items ++ item ∷ [];
-        fed = record {
-          within = fed.within;
-          has_taken = record { watched = count ∙ fed.has_taken.watched; stands = takes items fed.has_taken.stands };
-          all = notes_taken-push_same items item p running.number ∙ ap (λ front. front ++ next ∷ []) fed.all ∙ sym notes;
-        };
+        fed = grind (arith, notes_taken-push_same);
         others = λ q other. notes_taken-push_other items item q (λ same. other (sym same ∙ running.number));
       }
 

@@ -1,9 +1,6 @@
 use Rattle.std.proofs.lemmas.Grind.{common_steps}
-use Rattle.std.proofs.Common.{◌≡◌, ℕ, ◌+◌, ◌*◌, ◌<◌, ◌≤◌, List, [], ◌∷◌, ◌++◌, length, replicate, take, get_or, All, refl, sym, ap, ◌∙◌, subst, ⊎_elim, arith}
-use Rattle.std.proofs.lemmas.Bool.{cases_lt}
-use Rattle.std.proofs.lemmas.List.{length_push, length-replicate, length-take, take_more, get_or-replicate, get_or_append_left, get_or_push}
-use Rattle.std.proofs.lemmas.List.Elements.{All-take}
-use Rattle.std.proofs.lemmas.Nat.{mul-add-lt}
+use Rattle.std.proofs.Common.{◌≡◌, ℕ, ◌+◌, ◌*◌, ◌<◌, List, [], ◌∷◌, ◌++◌, length, replicate, take, get_or, All, refl, ap, ◌∙◌, arith}
+use Rattle.std.proofs.lemmas.List.{length_push, length-replicate, get_or-replicate, get_or_append_left, get_or_push}
 use Rattle.wcp_clock.specs.Limits.{most_events}
 use Rattle.wcp_model.specs.declared.workload.Task.{Task}
 use Rattle.wcp_model.specs.WorkloadComputation.{IsWithin, IsFitOrder}
@@ -12,7 +9,7 @@ use Rattle.wcp_probe.specs.Seal.{Seal}
 use Rattle.wcp_queue.specs.Checker.{CheckerState}
 use Rattle.wcp_single.specs.declared.watched_process.WatchedProcess.{WatchedProcess}
 use Rattle.wcp_single.specs.WatchedProcess.{IsRunning, HasTaken}
-use Rattle.wcp_single.specs.WorkloadRun.{HasDone, IsChannel, IsNextTask}
+use Rattle.wcp_single.specs.WorkloadRun.{HasDone, IsNextTask}
 
 -- the first processes run, with nothing in their logs
 abbrev pub AreNew : ℕ → ℕ → List WatchedProcess → Type 0
@@ -32,9 +29,7 @@ run_starts n processes queues checker are none has_taken = record {
   items = [];
   has_taken = has_taken;
   all_taken = λ p below. refl;
-  channels = λ p q p_below q_below.
-      let empty : [] ≡ get_or queues (p * n + q) [] = sym (ap (λ xs. get_or xs (p * n + q) []) none ∙ get_or-replicate (n * n) (p * n + q) [] [] (mul-add-lt p n q n p_below q_below)) in
-      subst (IsChannel n [] (λ r. []) p q) empty (record { addressed = λ i d inside. absurd (omega (arith, inside)); in_order = refl });
+  channels = grind (arith, get_or-replicate);
 }
 
 -- the task at a place of a fit order is next there

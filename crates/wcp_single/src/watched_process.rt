@@ -34,7 +34,7 @@ impl WatchedProcess {
         }
     }
 
-    /// The process observes its condition.
+    /// The process observes its condition. `Err` where memory runs out.
     pub fn observe(&mut self, holds: bool, checker: &mut Checker) -> Result<(), AllocError>
         requires { IsWatched self.old checker.old }
         ensures runs { OnOk result (MakesCall self.old (Observed holds) self.new) }
@@ -46,7 +46,7 @@ impl WatchedProcess {
         }
     }
 
-    /// The process makes no more steps.
+    /// The process makes no more steps. `Err` where memory runs out.
     pub fn close(&mut self, checker: &mut Checker) -> Result<(), AllocError>
         requires { IsWatched self.old checker.old }
         ensures feeds { OnOk result (Feeds self.old Closed checker.old checker.new) }
@@ -59,7 +59,7 @@ impl WatchedProcess {
         }
     }
 
-    /// The checker takes what is pending, if anything is.
+    /// The checker takes what is pending, if anything is. `Err` where memory runs out.
     fn hand_over(&mut self, checker: &mut Checker) -> Result<(), AllocError>
         requires { MatchOption
             self.old.probe.pending

@@ -41,7 +41,7 @@ pub fn single(alloc: Global, workload: &Workload) -> Result<Outcome, AllocError>
 }
 
 /// The outcome of a workload whose tasks have this fit order: what `single` answers where a fit order
-/// is known already.
+/// is known already. `Err` where memory runs out.
 #[inline(never)]
 pub fn single_in_order(
     alloc: Global,

@@ -30,7 +30,7 @@ pub struct WorkloadRun {
 }
 
 impl WorkloadRun {
-    /// The run before the first task.
+    /// The run before the first task. `Err` where memory runs out.
     pub fn new(alloc: Global, n: u32) -> Result<WorkloadRun, AllocError>
         requires some { 0 < n }
         requires few { n ≤ most_processes }
@@ -51,7 +51,7 @@ impl WorkloadRun {
         })
     }
 
-    /// Does the next task.
+    /// Does the next task. `Err` where memory runs out.
     pub fn perform(&mut self, n: u32, task: Task) -> Result<(), AllocError>
         requires few { n ≤ most_processes }
         requires next { (done : List Task) × IsNextTask n done task
@@ -75,7 +75,7 @@ impl WorkloadRun {
         Ok(())
     }
 
-    /// Closes process `p`, after all tasks.
+    /// Closes process `p`, after all tasks. `Err` where memory runs out.
     pub fn close(&mut self, p: u32) -> Result<(), AllocError>
         requires next { (n : ℕ) × (tasks : List Task) × (p < n)
             × IsEnding n tasks p self.old.processes.items self.old.checker }

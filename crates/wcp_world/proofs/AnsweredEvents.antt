@@ -1,5 +1,5 @@
 use Rattle.wcp_model.specs.FirstReason.{first_reason}
-use Rattle.std.proofs.Common.{◌≡◌, ◌≢◌, ℕ, ◌+◌, ◌<◌, ◌≤◌, ◌↔◌, Bool, true, false, cond, ◌||◌, nat_lt, nat_le, IsTrue, is_some, MatchOption, List, [], ◌∷◌, ◌++◌, length, slice_get, slice_index, count_by, set, eqb, Option, None, Some, if◌then◌else◌, refl, sym, ap, ◌∙◌, subst, subst₂, ⊎_elim, append-nil, eqb-true, eq-eqb, arith}
+use Rattle.std.proofs.Common.{◌≡◌, ◌≢◌, ℕ, ◌+◌, ◌<◌, ◌≤◌, ◌↔◌, Bool, true, false, cond, nat_lt, nat_le, IsTrue, is_some, MatchOption, List, [], ◌∷◌, ◌++◌, length, slice_get, slice_index, count_by, set, eqb, Option, None, Some, if◌then◌else◌, refl, sym, ap, ◌∙◌, subst, subst₂, ⊎_elim, append-nil, eq-eqb, arith}
 use Rattle.std.specs.Option.{option_and_then, option_map, option_to_list}
 use Rattle.std.proofs.lemmas.Bool.{cases_eq, ne_eqb}
 use Rattle.std.proofs.lemmas.Bool.Decides.{nat_tests}
@@ -16,7 +16,7 @@ use Rattle.wcp_model.specs.declared.step.Reply.TheVariants.{Done, Refused}
 use Rattle.wcp_model.specs.declared.step.Why.{Why}
 use Rattle.wcp_model.specs.Computation.{Computation, is_communication_of, is_send, communications, interval_at}
 use Rattle.wcp_model.specs.Emission.{is_closed}
-use Rattle.wcp_model.specs.ProbeLog.{Call, Observed, Sent, Received, Closed, ProbeSetup, ProbeState, after_call, setup, is_step_of, IsStampOf, IsCallOf, IsLogOf, IsAccepted}
+use Rattle.wcp_model.specs.ProbeLog.{Call, Observed, Sent, Received, Closed, ProbeSetup, after_call, setup, is_step_of, IsStampOf, IsCallOf, IsLogOf, IsAccepted}
 use Rattle.wcp_model.specs.Replies.{accepted_by, event_reasons}
 use Rattle.wcp_model.specs.StateClock.{IsStateClock}
 use Rattle.wcp_model.proofs.Growth.{get_behind}
@@ -36,7 +36,7 @@ use Rattle.wcp_world.specs.Processes.{ProcessesState, AreProcessesOf, IsProbeOf,
 use Rattle.wcp_world.specs.Messages.{why_of, delivery_reasons, IsPosted, IsDelivered}
 use Rattle.wcp_world.proofs.SentLetters.{get_set, addressed_is, not_ahead, as_many_letters, letters_stay, letters_posted, letters_delivered}
 use Rattle.wcp_world.proofs.Probes.{clock_is, law_of_probe, is_closed_as, state, observed, closed}
-use Rattle.wcp_world.proofs.Reasons.{first_maps, partner_is, only_clock_end, none_holds, no_value}
+use Rattle.wcp_world.proofs.Reasons.{first_maps, only_clock_end, none_holds, no_value}
 
 abbrev bit : Bool → ℕ
 bit b = cond b 1 0

@@ -1,14 +1,13 @@
 use Rattle.std.proofs.lemmas.Grind.{common_steps}
-use Rattle.std.proofs.Common.{◌≡◌, ◌≢◌, ℕ, ◌+◌, ◌<◌, ◌≤◌, Bool, true, false, cond, nat_le, nat_lt, length, set, get_or, eqb, Option, None, Some, MatchOption, List, [], ◌∷◌, ◌++◌, slice_get, drop, take, refl, sym, ap, ap₂, subst, ◌∙◌, ⊎_elim, append-nil, eqb-true, eq-eqb, add-zero, true≢false, arith}
+use Rattle.std.proofs.Common.{◌≡◌, ◌≢◌, ℕ, ◌+◌, ◌<◌, Bool, true, false, cond, nat_le, nat_lt, length, set, get_or, eqb, Option, None, Some, MatchOption, List, [], ◌∷◌, ◌++◌, slice_get, drop, take, refl, sym, ap, ap₂, subst, ◌∙◌, append-nil, eqb-true, eq-eqb, add-zero, true≢false, arith}
 use Rattle.std.specs.List.{list_any}
 use Rattle.std.specs.Option.{option_and_then, option_flatten}
-use Rattle.std.proofs.lemmas.Bool.{cases_lt, cases_Bool, cases_eq, ne_eqb, false_from_ne_true}
 use Rattle.std.proofs.lemmas.Bool.Decides.{nat_tests}
 use Rattle.std.proofs.lemmas.List.{get_or_default, length-set, get_or-set_same, get_or-set_other}
 use Rattle.std.proofs.lemmas.Option.{slice_get-get_or}
 use Rattle.wcp_clock.specs.declared.note.Item.{Item}
 use Rattle.wcp_clock.specs.declared.note.Note.{Note}
-use Rattle.wcp_model.specs.declared.plan.Parent.TheVariants.{Root, Relay}
+use Rattle.wcp_model.specs.declared.plan.Parent.TheVariants.{Root}
 use Rattle.wcp_model.specs.declared.plan.Plan.{Plan}
 use Rattle.wcp_model.specs.declared.step.Step.{Step}
 use Rattle.wcp_model.specs.declared.step.Step.TheVariants as step
@@ -16,7 +15,7 @@ use Rattle.wcp_model.specs.declared.step.Reply.{Reply}
 use Rattle.wcp_model.specs.declared.step.Reply.TheVariants.{Done, Refused}
 use Rattle.wcp_model.specs.declared.step.Why.TheVariants as why
 use Rattle.wcp_model.specs.Tree.{IsSamePlan, is_number, is_attached, is_leaf, leaf_of, parent_of}
-use Rattle.wcp_model.specs.Occupancy.{Place, Pending, Link, HoldOf, InboxOf, is_same_place, source, target, is_place, takes_from, puts_into, taken_from, notes_in, next_place, IsEntry, Emitted}
+use Rattle.wcp_model.specs.Occupancy.{Place, Pending, Link, InboxOf, is_same_place, source, target, is_place, takes_from, taken_from, notes_in, next_place, IsEntry, Emitted}
 use Rattle.wcp_model.specs.Replies.{accepted_by, reasons, move_reasons, names_nothing}
 use Rattle.wcp_model.specs.Report.{notes_taken}
 use Rattle.wcp_model.proofs.Growth.{get_behind}
@@ -87,9 +86,6 @@ no_relay plan relay none = grind (arith, slice_get-get_or, some_is_none)
   where
     some_is_none : Some (get_or plan.parents.items relay Root) ≡ None → ⊥
     some_is_none e = cc
-
-not_pending : (plan : Plan) (x : Place) (p : ℕ) → IsPlaceOf plan x → is_same_place x (Pending p) ≡ false
-not_pending plan x p is = grind arith
 
 module _ (plan : Plan) (steps : List Step) (put : ℕ → List Note) (taken : List Item) (t : TransportState) (stands : IsTransportOf plan steps put taken t) where
   abbrev here : Place → Held
@@ -174,17 +170,6 @@ module _ (plan : Plan) (steps : List Step) (put : ℕ → List Note) (taken : Li
   pub refused_named : (s : Step) → ((emissions : ℕ → List Note) → reasons plan emissions steps s ≡ move_reasons plan (notes_in plan emissions steps) s) → names_nothing plan s ≡ true →
       ((emissions : ℕ → List Note) → IsAnswer (reasons plan emissions steps s) (Refused why.NoSuch)) × IsTransportOf plan (steps ++ []) put taken t
   refused_named s no_event named = (λ emissions. rw (no_event emissions, named) refl, same_after t.places refl)
-
-  -- a step that stirs one place alone
-  stirred_at : (s : Step) (item : Item) (y : Place) (changed : Held) (places : List Held) → IsPlaceOf plan y → places ≡ set t.places (place_number plan y) changed →
-      IsStirred plan s item y (here y) changed → ((x : Place) → IsPlaceOf plan x → is_same_place x y ≡ false → (takes_from x s ≡ false) × (puts_into plan x s ≡ false)) →
-      (x : Place) → IsPlaceOf plan x → IsStirred plan s item x (here x) (held_at places (place_number plan x))
-  stirred_at s item y changed places is_y places_are own others x is =
-      rw (ap (λ l. held_at l (place_number plan x)) places_are ∙ held_set plan t.places x y changed stands.members is is_y) (by_case (is_same_place x y) refl)
-    where
-      by_case : (b : Bool) → is_same_place x y ≡ b → IsStirred plan s item x (here x) (cond b changed (here x))
-      by_case true at = subst (λ z. IsStirred plan s item z (here z) changed) (sym (same_place x y at)) own
-      by_case false at = let still = others x is at in stays plan s item x (here x) (here x) refl still.0 still.1 refl
 
   -- a note was put on the link of its process
   put_after : (p : ℕ) (note : Note) (places : List Held) → p < plan.n → length (here (Link p)).items < (here (Link p)).room →

@@ -1,8 +1,6 @@
-use Rattle.std.proofs.Common.{arith}
-use Rattle.std.proofs.Common.{◌≡◌, ℕ, false, None, List, [], length, replicate, slice_get, Some, refl, sym, ap, subst}
+use Rattle.std.proofs.Common.{◌≡◌, ℕ, false, None, List, [], length, replicate, slice_get, Some, arith}
 use Rattle.std.proofs.lemmas.List.{length-replicate}
 use Rattle.wcp_clock.specs.Limits.{most_events}
-use Rattle.wcp_model.specs.ProbeLog.{setup}
 use Rattle.wcp_probe.specs.Core.{Core}
 use Rattle.wcp_world.specs.Processes.{AreProcessesOf, IsProbeOf}
 

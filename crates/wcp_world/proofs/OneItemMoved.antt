@@ -1,7 +1,7 @@
 use Rattle.std.proofs.lemmas.Grind.{common_steps}
-use Rattle.std.proofs.Common.{◌≡◌, ◌≢◌, ℕ, ◌<◌, Bool, true, false, length, count_by, eqb, Option, None, Some, List, [], ◌∷◌, ◌++◌, slice_get, refl, sym, ap, ap₂, subst, ◌∙◌, ⊎_elim, append_assoc, eq-eqb, true≢false, arith}
+use Rattle.std.proofs.Common.{◌≡◌, ℕ, ◌<◌, Bool, true, false, length, count_by, eqb, Option, Some, List, [], ◌∷◌, ◌++◌, slice_get, refl, sym, ap, ap₂, subst, ◌∙◌, append_assoc, arith}
 use Rattle.std.specs.Option.{option_and_then}
-use Rattle.std.proofs.lemmas.Bool.{cases_Bool, cases_eq, ne_eqb}
+use Rattle.std.proofs.lemmas.Bool.{ne_eqb}
 use Rattle.std.proofs.lemmas.List.{length-append}
 use Rattle.std.proofs.lemmas.Option.{slice_get_within}
 use Rattle.wcp_clock.specs.declared.note.Item.{Item}
@@ -14,7 +14,7 @@ use Rattle.wcp_model.specs.Report.{notes_taken}
 use Rattle.wcp_model.proofs.Growth.{get_front}
 use Rattle.wcp_hold.specs.Held.{Held}
 use Rattle.wcp_world.specs.Transport.{TransportState, IsPlaceOf, IsWay, place_number, held_at, notes_along, notes_at, IsTransportOf}
-use Rattle.wcp_world.proofs.Places.{same_place, itself, next_is_place}
+use Rattle.wcp_world.proofs.Places.{next_is_place}
 use Rattle.wcp_world.proofs.Ways.{IsOnWay, Start, Onward, one_before}
 use Rattle.wcp_world.proofs.Entries.{bit, item_if, count_push, notes_append, entry_on_way, entry_moves, held_after, IsStirred}
 

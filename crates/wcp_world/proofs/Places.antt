@@ -1,16 +1,10 @@
-use Rattle.std.proofs.Common.{◌≡◌, ◌≢◌, ℕ, ◌+◌, ◌<◌, ◌≤◌, true, false, length, get_or, Option, None, Some, refl, sym, ap, subst, ◌∙◌, inl, inr, ⊎_elim, eqb-true, eq-eqb, true≢false, arith}
-use Rattle.std.proofs.lemmas.Bool.{eqb-false, cases_lt, cases_eq}
-use Rattle.std.proofs.lemmas.Option.{slice_get_within, slice_get_cases, slice_get-get_or, get_or_from_slice_get}
-use Rattle.std.specs.List.{slice_get}
-use Rattle.std.specs.Option.{option_map, option_flatten}
-use Rattle.wcp_clock.specs.Limits.{most_processes, most_cap, most_hold}
+use Rattle.std.proofs.Common.{◌≡◌, ◌≢◌, ◌+◌, ◌<◌, true, false, length, Some, subst, arith}
 use Rattle.wcp_model.specs.declared.plan.Parent.{Parent}
 use Rattle.wcp_model.specs.declared.plan.Parent.TheVariants.{Root, Relay}
 use Rattle.wcp_model.specs.declared.plan.Plan.{Plan}
-use Rattle.wcp_model.specs.declared.plan.PlanFault.TheVariants as fault
 use Rattle.wcp_model.specs.PlanFault.{IsCheckedPlan}
-use Rattle.wcp_model.specs.Tree.{leaf_of, parent_of}
-use Rattle.wcp_model.specs.Occupancy.{Place, Pending, Link, HoldOf, InboxOf, is_same_owner, is_same_place, next_place}
+use Rattle.wcp_model.specs.Tree.{parent_of}
+use Rattle.wcp_model.specs.Occupancy.{Place, Pending, Link, HoldOf, InboxOf, is_same_place, next_place}
 use Rattle.wcp_model.proofs.CheckedPlans.{few_processes, some_process, capacity, hold_room, parent_below, attached_exists}
 use Rattle.wcp_world.specs.Transport.{IsPlaceOf, place_number}
 
@@ -27,10 +21,6 @@ number_apart plan x y is_x is_y apart = grind arith
 -- each place has its number among them
 pub number_within : (plan : Plan) (x : Place) → IsPlaceOf plan x → place_number plan x < plan.n + length plan.parents.items + 1 + length plan.parents.items
 number_within plan x is_x = grind arith
-
--- what a value that was mapped was
-pub some_of : {A B : Type 0} (f : A → B) (o : Option A) (y : B) → option_map f o ≡ Some y → (x : A) × (o ≡ Some x) × (f x ≡ y)
-some_of f o y e = grind arith
 
 module _ (plan : Plan) (checked : IsCheckedPlan plan) where
   -- the place after a place is a place

@@ -1,6 +1,5 @@
-use Rattle.std.proofs.Common.{◌≡◌, ◌≢◌, ℕ, ◌<◌, ◌≤◌, IsSome, is_some, List, [], ◌∷◌, ◌++◌, length, slice_get, get_or, set, None, Some, refl, sym, ap, ◌∙◌, subst, subst₂, ⊎_elim, append-nil, eq-eqb, arith}
-use Rattle.std.specs.Option.{option_and_then, option_to_list}
-use Rattle.std.proofs.lemmas.Bool.{ne_eqb}
+use Rattle.std.proofs.Common.{◌≡◌, ℕ, ◌<◌, ◌≤◌, IsSome, List, ◌++◌, length, slice_get, set, None, Some, ◌∙◌, subst, ⊎_elim, append-nil, arith}
+use Rattle.std.specs.Option.{option_to_list}
 use Rattle.std.proofs.lemmas.List.{length-set}
 use Rattle.std.proofs.lemmas.Option.{slice_get_cases, slice_get_within}
 use Rattle.wcp_clock.specs.declared.note.Note.{Note}

@@ -1,7 +1,6 @@
 use Rattle.wcp_model.specs.FirstReason.{first_reason}
-use Rattle.std.proofs.Common.{◌≡◌, ℕ, Bool, true, false, not, ◌||◌, nat_lt, nat_le, is_some, List, [], ◌∷◌, map, eqb, Option, None, Some, if◌then◌else◌, refl, ap₂, true≢false, arith}
+use Rattle.std.proofs.Common.{◌≡◌, Bool, true, false, is_some, List, [], ◌∷◌, map, Option, None, Some, if◌then◌else◌, refl, arith}
 use Rattle.std.specs.Option.{option_map}
-use Rattle.std.proofs.lemmas.Bool.Decides.{nat_tests}
 use Rattle.wcp_model.specs.declared.step.Why.{Why}
 use Rattle.wcp_model.specs.declared.step.Why.TheVariants as why
 use Rattle.wcp_probe.specs.declared.probe.Refusal.{Refusal}
@@ -16,16 +15,6 @@ one_reason b reason rest others same = grind arith
 pub first_maps : (list : List (Bool × Refusal)) → first_reason (map (λ r. (r.0, why_of r.1)) list) ≡ option_map why_of (first_reason list)
 first_maps [] = refl
 first_maps (reason ∷ list) = one_reason reason.0 reason.1 (first_reason list) _ (first_maps list)
-
--- a process that sends to itself, or to none that there is, is refused by its probe
-pub partner_is : (p to n : ℕ) → (not (nat_lt to n) || eqb p to) ≡ (nat_le n to || eqb to p)
-partner_is p to n = ap₂ (λ a b. a || b) not_less turned
-  where
-    not_less : not (nat_lt to n) ≡ nat_le n to
-    not_less = grind (arith, nat_tests)
-
-    turned : eqb p to ≡ eqb to p
-    turned = grind (arith, nat_tests)
 
 -- a message that fits its probe is refused at the end of the clock alone
 pub only_clock_end : (closed backlog ended : Bool) →

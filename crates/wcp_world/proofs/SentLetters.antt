@@ -1,8 +1,8 @@
-use Rattle.std.proofs.Common.{◌≡◌, ◌≢◌, ℕ, zero, suc, ◌+◌, ◌<◌, ◌≤◌, ◌⊎◌, true, false, cond, IsTrue, MatchOption, List, [], ◌∷◌, ◌++◌, length, slice_get, slice_index, count_by, set, eqb, Option, None, Some, refl, sym, ap, ◌∙◌, subst₂, inl, inr, ⊎_elim, append-nil, eqb-true, eq-eqb, true≢false, le_refl, arith}
+use Rattle.std.proofs.Common.{◌≡◌, ◌≢◌, ℕ, zero, suc, ◌+◌, ◌<◌, ◌≤◌, ◌⊎◌, true, false, cond, IsTrue, MatchOption, List, [], ◌∷◌, ◌++◌, length, slice_get, slice_index, count_by, set, eqb, Option, None, Some, refl, sym, ap, ◌∙◌, inl, inr, ⊎_elim, append-nil, eqb-true, eq-eqb, true≢false, le_refl, arith}
 use Rattle.std.proofs.Math.Bool.{or-false, or-true}
 use Rattle.std.proofs.Math.Seq.{map-set_same}
 use Rattle.std.specs.Option.{option_map, option_map_or}
-use Rattle.std.proofs.lemmas.Bool.{cases_lt, ne_eqb, false_from_ne_true}
+use Rattle.std.proofs.lemmas.Bool.{cases_lt}
 use Rattle.std.proofs.lemmas.Grind.{flat_map-append}
 use Rattle.std.proofs.lemmas.List.{length-map, map-append}
 use Rattle.std.proofs.lemmas.List.Folds.{list_any-append, Any-from_list_any}

@@ -1,4 +1,4 @@
-use Rattle.std.proofs.Common.{◌≡◌, ℕ, zero, suc, ◌+◌, ◌*◌, ◌<◌, ◌≤◌, length, get_or, Option, Some, List, [], ◌∷◌, refl, ap, subst, ◌∙◌, ⊎_elim, false, arith}
+use Rattle.std.proofs.Common.{◌≡◌, ℕ, zero, suc, ◌+◌, ◌*◌, ◌<◌, ◌≤◌, length, get_or, Option, Some, List, [], ◌∷◌, refl, ap, ◌∙◌, ⊎_elim, false, arith}
 use Rattle.std.specs.Option.{option_and_then}
 use Rattle.std.proofs.lemmas.Bool.{false_from_ne_true, cases_lt}
 use Rattle.std.proofs.lemmas.Option.{slice_get-get_or, option_and_then_some}
@@ -10,7 +10,7 @@ use Rattle.wcp_model.specs.Tree.{leaf_of, parent_of}
 use Rattle.wcp_model.specs.Occupancy.{Place, Pending, Link, HoldOf, InboxOf, is_same_place, next_place}
 use Rattle.wcp_world.specs.Transport.{IsWay}
 use Rattle.wcp_model.proofs.CheckedPlans.{parent_below, attached_exists}
-use Rattle.wcp_world.proofs.Places.{same_place, some_of}
+use Rattle.wcp_world.proofs.Places.{same_place}
 
 -- a place on the way of a process to the checker
 pub data IsOnWay (plan : Plan) (p : ℕ) : Place → Type 0 where

@@ -14,10 +14,10 @@ use Rattle.wcp_model.specs.declared.step.Reply.TheVariants.{Done, Took, Refused}
 use Rattle.wcp_model.specs.declared.step.Why.{Why}
 use Rattle.wcp_model.specs.declared.step.Why.TheVariants as why
 use Rattle.wcp_model.specs.Emission.{AreEmissions}
-use Rattle.wcp_model.specs.Occupancy.{Place, Pending, Link, InboxOf, source, is_place, takes_from, puts_into, taken_from, next_place, notes_in, IsEntry}
+use Rattle.wcp_model.specs.Occupancy.{Place, Pending, InboxOf, source, is_place, takes_from, puts_into, taken_from, next_place, notes_in, IsEntry}
 use Rattle.wcp_model.specs.Replies.{is_event, computation, accepted_by, taken_by, event_reasons, reasons, IsAcceptance, IsReply}
 use Rattle.wcp_world.specs.Processes.{ProcessesState, AreProcessesOf, Performs, WasPut, pending_at}
-use Rattle.wcp_world.specs.Transport.{TransportState, IsTransportOf, IsNextAtRoot, Conveys, Puts, TakesNext, next_of, notes_along, notes_at}
+use Rattle.wcp_world.specs.Transport.{TransportState, IsTransportOf, IsNextAtRoot, Conveys, Puts, TakesNext, next_of}
 use Rattle.wcp_world.specs.PutNotes.{put_more}
 use Rattle.wcp_world.specs.World.{WorldState, Stands}
 use Rattle.wcp_queue.specs.Checker.{CheckerState, MayTake, TakesItem, processes}
@@ -27,10 +27,6 @@ use Rattle.wcp_world.proofs.OneItemMoved.{get_grows}
 use Rattle.wcp_model.specs.declared.plan.Parent.TheVariants.{Root}
 use Rattle.wcp_world.proofs.Entries.{bit, notes_append, count_push, entry_grows}
 use Rattle.wcp_world.proofs.PutAndPending.{put_and_pending}
-
--- what an answer accepts, by what it is
-accepted_are : (s : Step) (answer : Reply) (P : List Step → Type 0) → P [] → P (s ∷ []) → P (accepted_by s answer)
-accepted_are s answer P none one = grind arith
 
 -- what is answered by reasons gives no item, and is a reply's first clause
 no_item : (o : Option Why) (answer : Reply) → MatchOption o (answer ≡ Done) (λ why. answer ≡ Refused why) → taken_by answer ≡ []

@@ -22,6 +22,7 @@ pub record ProcessesState : Type 0 where
   pub probes : List Core
   pub letters : List Letter
 
+-- The note that is pending at a process's probe.
 abbrev pub pending_at : ProcessesState → ℕ → Option Note
 pending_at app p = option_and_then (λ core. core.pending) (slice_get app.probes p)
 
@@ -45,6 +46,7 @@ IsLetterOf n c message letter = MatchOption letter.message (IsTrue (was_received
         (was_received c message ≡ false) × ((seal_of sent).watch ≡ 0) × ((seal_of sent).to ≡ letter.to)
         × IsStampOf n c message (seal_of sent).clock
 
+-- The letters of a computation: one for each message that was sent, addressed to its receiver.
 pub record AreLettersOf (n : ℕ) (c : Computation) (letters : List Letter) : Type 0 where
   pub receivers_are : map (λ letter. letter.to) letters ≡ receivers c
   pub each : (message : ℕ) (letter : Letter) → slice_get letters message ≡ Some letter →

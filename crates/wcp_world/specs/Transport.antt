@@ -33,6 +33,7 @@ place_number plan (HoldOf relay) = plan.n + relay
 place_number plan (InboxOf Root) = plan.n + length plan.parents.items
 place_number plan (InboxOf (Relay relay)) = plan.n + length plan.parents.items + 1 + relay
 
+-- The places of a transport: the links of processes, and the holds and inboxes of relays, that there are.
 abbrev pub IsPlaceOf : Plan → Place → Type 0
 IsPlaceOf plan (Pending p) = ⊥
 IsPlaceOf plan (Link p) = p < plan.n
@@ -40,6 +41,7 @@ IsPlaceOf plan (HoldOf relay) = relay < length plan.parents.items
 IsPlaceOf plan (InboxOf Root) = Unit {0}
 IsPlaceOf plan (InboxOf (Relay relay)) = relay < length plan.parents.items
 
+-- What the place of this number holds; nothing, and without room, where there is no such place.
 abbrev pub held_at : List Held → ℕ → Held
 held_at places i = slice_index_or places i (record { items = []; room = 0 })
 
@@ -62,6 +64,7 @@ abbrev pub notes_along : (Place → List Note) → List Place → List Note
 notes_along notes [] = []
 notes_along notes (place ∷ way) = notes_along notes way ++ notes place
 
+-- What a place holds of one process.
 abbrev pub notes_at : Plan → List Held → ℕ → Place → List Note
 notes_at plan places p place = notes_taken p (held_at places (place_number plan place)).items
 
@@ -86,6 +89,7 @@ pub record IsTransportOf (plan : Plan) (steps : List Step) (put : ℕ → List N
   pub known : (p : ℕ) → plan.n ≤ p → put p ≡ []
   pub in_order : (p : ℕ) → p < plan.n → AreConveyedInOrder plan t.places taken p (put p)
 
+-- A transport that stands for some steps.
 abbrev pub IsConveying : TransportState → Type 0
 IsConveying t = (plan : Plan) × (steps : List Step) × (put : ℕ → List Note) × (taken : List Item)
     × IsTransportOf plan steps put taken t

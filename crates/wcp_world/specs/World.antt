@@ -32,6 +32,7 @@ pub record Stands (plan : Plan) (steps : List Step) (taken : List Item) (w : Wor
   pub processes_are : processes_of w ≡ plan.n
   pub checker : StandsForItems w.checker taken
 
+-- A world that some steps lead to.
 abbrev pub IsReached : WorldState → Type 0
 IsReached w = (plan : Plan) × (steps : List Step) × (taken : List Item) × Stands plan steps taken w
 

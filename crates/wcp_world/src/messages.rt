@@ -33,6 +33,7 @@ impl Model for Letters {
 }
 
 impl Letters {
+    /// No message was sent yet.
     pub fn new(alloc: Global) -> Letters
         ensures { result ≡ [] }
     {

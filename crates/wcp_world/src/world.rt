@@ -64,7 +64,7 @@ impl World {
         self.detector.checker.processes()
     }
 
-    /// What the snapshots taken tell.
+    /// What the snapshots taken so far tell.
     pub fn report(&self) -> Report
         ensures { (plan : Plan) (history : List Answered)
             → IsWorldOf plan history self.now → IsHeadline plan history result }
