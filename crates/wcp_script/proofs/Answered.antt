@@ -1,8 +1,6 @@
 -- What follows for a text from what reading it answered.
-use Rattle.std.proofs.Common.{arith}
-use Rattle.std.proofs.Common.{◌≡◌, ℕ, ◌≤◌, List, length, Result, Ok, Err, sym, ap, subst, ◌∙◌, inl, inr}
+use Rattle.std.proofs.Common.{◌≡◌, ℕ, ◌≤◌, List, length, Result, Ok, Err, sym, ap, subst, ◌∙◌, arith}
 use Rattle.std.specs.Prelude.{IfOk, IfErr}
-use Rattle.std.proofs.lemmas.Bool.{cases_order}
 use Rattle.wcp_model.specs.declared.plan.Plan.{Plan}
 use Rattle.wcp_model.specs.declared.step.Step.{Step}
 use Rattle.wcp_model.specs.declared.workload.Task.{Task}
@@ -47,9 +45,7 @@ no_fault text_kind text fault plan steps h (InHead refused) = let head = h.head 
 no_fault text_kind text fault plan steps h (OfPlan read plan' first head of_head has line) =
     no_plan_fault text_kind text read h.read plan' plan head h.head of_head h.plan_of_head h.checked first has
 no_fault text_kind text fault plan steps h (InStep read plan' head of_head checked refused) =
-    let same = same_steps_after text_kind h.read read (same_head text_kind text h.read read h.head head) in
-    let lines = h.lines in
-    absurd cc
+    grind (arith, same_head, same_steps_after)
 
 -- A text has at most one fault.
 same_fault : {S : Type 0} (text_kind : TextKind S) (text : List ℕ) (one other : ScriptFault) → HasTextFault text_kind text one → HasTextFault text_kind text other → one ≡ other
@@ -81,11 +77,7 @@ same_workload_fault text one other (InText has) (InText has') = same_fault workl
 same_workload_fault text one other (InText has) (AtEnd plan tasks spells place stuck line) = absurd (no_fault workloads text one plan tasks spells has)
 same_workload_fault text one other (AtEnd plan tasks spells place stuck line) (InText has) = absurd (no_fault workloads text other plan tasks spells has)
 same_workload_fault text one other (AtEnd plan tasks spells place stuck line) (AtEnd plan' tasks' spells' place' stuck' line') =
-    let same = same_head workloads text spells.read spells'.read spells.head spells'.head in
-    let reading = same_reading workloads text plan plan' tasks tasks' spells spells' in
-    let places = same_place tasks' place place' (subst (λ (tasks : List Task). IsStuckAt tasks place) reading.1 stuck) stuck' in
-    let last : spells.read.last ≡ spells'.read.last = ap (λ (read : HeadRead). read.last) same in
-    cc
+    grind (arith, same_head, same_place, same_reading)
 
 pub schedule_answered : (text : List ℕ) (r : Result Schedule ReadFault) → ReadsSchedule text r → IfOk r (λ schedule. Spells schedules text schedule.plan schedule.steps.items)
     × IfOk r (λ schedule. IsCheckedPlan schedule.plan)

@@ -1,6 +1,5 @@
 -- A fault that a call answered and that is handed on.
-use Rattle.std.proofs.Common.{arith}
-use Rattle.std.proofs.Common.{◌≡◌, ℕ, List, Result, Ok, Err, subst, sym}
+use Rattle.std.proofs.Common.{◌≡◌, ℕ, List, Result, Ok, Err, arith}
 use Rattle.std.specs.Result.{IsErr, IsErrAnd}
 use Rattle.wcp_model.specs.declared.plan.Plan.{Plan}
 use Rattle.wcp_model.specs.PlanFault.{IsCheckedPlan}

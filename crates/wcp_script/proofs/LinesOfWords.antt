@@ -1,9 +1,9 @@
 -- Lines of words that are written as a text are cut into these lines and words again.
-use Rattle.std.proofs.Common.{◌≡◌, ℕ, ◌^◌, ◌<◌, true, false, eqb, not, ◌&&◌, Bool, List, [], ◌∷◌, ◌++◌, All, Ok, refl, sym, ap, ◌∙◌, append_assoc, arith}
+use Rattle.std.proofs.Common.{◌≡◌, ℕ, ◌^◌, ◌<◌, true, false, eqb, not, ◌&&◌, Bool, List, [], ◌∷◌, ◌++◌, All, Ok, refl, ◌∙◌, append_assoc, arith}
 use Rattle.std.specs.Int.{IsInRange}
-use Rattle.std.specs.List.{slice_split, join_with_byte, list_all, AllByRecursion}
+use Rattle.std.specs.List.{join_with_byte, list_all, AllByRecursion}
 use Rattle.std.specs.Fmt.{decimal}
-use Rattle.std.proofs.lemmas.Bool.{and_from, and_parts, ne_eqb, not_from_false, not-true}
+use Rattle.std.proofs.lemmas.Bool.{and_parts, ne_eqb, not-true}
 use Rattle.std.proofs.lemmas.Fmt.{digits_decimal}
 use Rattle.std.proofs.lemmas.List.{get_or_default}
 use Rattle.std.proofs.lemmas.List.Elements.{All-append, All-cons, All-nil}
@@ -48,8 +48,7 @@ pub words_of-joined : (word : Word) (words : List Word) → AllByRecursion IsWor
 unfolding words_of
 words_of-joined word [] each = slice_split_none (λ byte. eqb byte 32) word (lacks_space word each.0)
 words_of-joined word (next ∷ words) each =
-    slice_split_at (λ byte. eqb byte 32) word 32 (join_with_byte 32 (next ∷ words)) (lacks_space word each.0) refl
-    ∙ ap (λ (rest : List Word). word ∷ rest) (words_of-joined next words each.1)
+    grind (arith, lacks_space, slice_split_at, words_of-joined next words each.1)
 
 -- ---- lines
 
@@ -61,16 +60,13 @@ line_text-joined : (words : List Word) (rest : List ℕ) → line_text words ++ 
 line_text-joined [] rest = refl
 line_text-joined (word ∷ []) rest = append_assoc word (10 ∷ []) rest
 line_text-joined (word ∷ next ∷ words) rest =
-    append_assoc word (32 ∷ line_text (next ∷ words)) rest
-    ∙ ap (λ (tail : List ℕ). word ++ 32 ∷ tail) (line_text-joined (next ∷ words) rest)
-    ∙ sym (append_assoc word (32 ∷ join_with_byte 32 (next ∷ words)) (10 ∷ rest))
+    grind (arith, append_assoc, line_text-joined (next ∷ words) rest)
 
 joined_lacks_feed : (words : List Word) → AllByRecursion IsWord words → All (λ byte. eqb byte 10 ≡ false) (join_with_byte 32 words)
 joined_lacks_feed [] each = All-nil (λ byte. eqb byte 10 ≡ false)
 joined_lacks_feed (word ∷ []) each = lacks_feed word each.0
 joined_lacks_feed (word ∷ next ∷ words) each =
-    All-append (λ byte. eqb byte 10 ≡ false) word (32 ∷ join_with_byte 32 (next ∷ words)) (lacks_feed word each.0)
-    (All-cons (λ byte. eqb byte 10 ≡ false) 32 (join_with_byte 32 (next ∷ words)) refl (joined_lacks_feed (next ∷ words) each.1))
+    search (arith, lacks_feed word each.0, joined_lacks_feed (next ∷ words) each.1, All-append, All-cons, lacks_feed)
 
 -- A text that begins with a line of words is cut behind it.
 pub lines_of-line_text : (words : List Word) (rest : List ℕ) → AllByRecursion IsWord words → lines_of (line_text words ++ rest) ≡ worded words ∷ lines_of rest

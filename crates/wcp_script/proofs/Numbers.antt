@@ -1,15 +1,11 @@
 -- Which words are numbers.
-use Rattle.std.proofs.Common.{◌≡◌, ℕ, ◌+◌, ◌*◌, ◌^◌, ◌<◌, ◌≤◌, true, ltb, ◌&&◌, ◌/◌, ◌%◌, List, ◌∷◌, ◌++◌, length, get_or, take, Option, Some, None, MatchOption, refl, sym, ap, ◌∙◌, arith, inl, inr}
-use Rattle.std.specs.Str.{bytes_eq}
+use Rattle.std.proofs.Common.{◌≡◌, ℕ, ◌+◌, ◌*◌, ◌^◌, ◌<◌, ◌≤◌, List, ◌∷◌, ◌++◌, length, get_or, take, Option, Some, None, MatchOption, refl, sym, ap, ◌∙◌, arith}
 use Rattle.std.specs.Str.Parse.{digits_value, AllDigits}
 use Rattle.std.specs.Fmt.{decimal}
-use Rattle.std.proofs.lemmas.Bool.{ltb-true, lt-ltb, and_parts, cases_lt}
 use Rattle.std.proofs.lemmas.Slice.Eq.{bytes_eq-Decides}
 use Rattle.std.proofs.lemmas.Str.Parse.{IsNumeralModel, numerals_by_value, tells_digits, digit_at, digits_value-take-le}
 use Rattle.std.proofs.lemmas.Fmt.{decimal_step, digits_decimal, digits_value-decimal, decimal-digits_value, first_decimal, decimal_nonempty, decimal_digit}
-use Rattle.std.proofs.lemmas.Option.{cond_some}
 use Rattle.std.proofs.lemmas.Int.Digits.{digits_value_more}
-use Rattle.std.proofs.lemmas.Str.{digit_value_digit}
 use Rattle.std.specs.Char.{digit_value}
 use Rattle.wcp_script.specs.Lines.{number_spelled}
 

@@ -1,11 +1,10 @@
 -- The text of a workload that could be read spells it.
 use Rattle.std.proofs.lemmas.Grind.{common_steps}
-use Rattle.std.proofs.Common.{◌≡◌, ◌≢◌, ℕ, ◌<◌, ◌≤◌, Bool, true, false, cond, ◌&&◌, eqb, List, [], ◌∷◌, ◌++◌, length, map, Option, Some, None, Ok, refl, sym, ap, ◌∙◌, append_assoc, arith, le-leb, ne_eqb, eqb-true, inl, inr, ⊎_elim}
+use Rattle.std.proofs.Common.{◌≡◌, ◌≢◌, ℕ, ◌<◌, ◌≤◌, Bool, true, false, cond, eqb, List, [], ◌∷◌, ◌++◌, length, Option, Some, None, Ok, refl, sym, ap, ◌∙◌, append_assoc, arith, le-leb, ne_eqb, inl, inr, ⊎_elim}
 use Rattle.std.specs.Prelude.{codes, replicate, slice_get}
 use Rattle.std.specs.List.{flat_map, list_all, AllByRecursion}
 use Rattle.std.specs.Fmt.{decimal}
 use Rattle.std.proofs.lemmas.Bool.{and_parts, cases_lt, cases_eq}
-use Rattle.std.proofs.lemmas.Grind.{flat_map-append}
 use Rattle.std.proofs.lemmas.List.Elements.{recursion_from_All}
 use Rattle.std.proofs.lemmas.List.Folds.{flat_map-map}
 use Rattle.std.proofs.lemmas.Option.{slice_get_within, get_or_from_slice_get}
@@ -17,7 +16,7 @@ use Rattle.wcp_model.specs.declared.workload.Task.{Task}
 use Rattle.wcp_model.specs.PlanFault.{IsCheckedPlan, IsOutside}
 use Rattle.wcp_model.specs.WorkloadComputation.{IsWithin, CouldBeRead}
 use Rattle.wcp_script.specs.Lines.{Word, line_text, text_of, lines_of}
-use Rattle.wcp_script.specs.WorkloadText.{action_words, task_words, task_line}
+use Rattle.wcp_script.specs.WorkloadText.{action_words, task_line}
 use Rattle.wcp_script.specs.PlanText.{cap_lines, hold_lines, relay_lines, attach_lines, numbered, is_first, is_root_alone, has_one_relay, tree_lines, head_lines, text_of_workload}
 use Rattle.wcp_script.specs.WorkloadLines.{is_task_word}
 use Rattle.wcp_script.specs.Head.{Head, HeadRead, first_head, processes_in, processes_by, head_by, head_of, IsPlanOf}
@@ -94,18 +93,7 @@ MakesPlan plan lines = (head : Head) × Makes (capacities plan) lines head × Is
 
 tree_makes : (plan : Plan) (one : Bool) → has_one_relay plan ≡ one → Sound plan → MakesPlan plan (cond one [] (numbered relay_lines 0 plan.parents.items ++ numbered attach_lines 0 plan.attach.items))
 tree_makes plan true is sound =
-    let parts = and_parts (is_root_alone plan.parents.items) (eqb (length plan.attach.items) plan.n && list_all is_first plan.attach.items) is in
-    let all = and_parts (eqb (length plan.attach.items) plan.n) (list_all is_first plan.attach.items) parts.1 in (
-      capacities plan,
-      refl,
-      record {
-        n = refl;
-        cap = unwrap_or-said_unless 8 plan.cap;
-        hold = unwrap_or-said_unless 4 plan.hold;
-        parents = is_root plan.parents.items parts.0;
-        attach = all_first plan.attach.items all.1 ∙ ap (λ k. replicate k (Some 0)) sound.entries;
-      },
-    )
+    grind (arith, all_first, and_parts, is_root, unwrap_or-said_unless)
 tree_makes plan false is sound =
     let parents = plan.parents.items in
     let attach = plan.attach.items in
@@ -117,13 +105,7 @@ tree_makes plan false is sound =
     let some : eqb (length parents) 0 ≡ false = ne_eqb (length parents) 0 (λ e. absurd (omega (arith, sound.relays))) in (
       head,
       Makes-append (capacities plan) with_relays head (numbered relay_lines 0 parents) (numbered attach_lines 0 attach) relays attached.1,
-      record {
-        n = refl;
-        cap = unwrap_or-said_unless 8 plan.cap;
-        hold = unwrap_or-said_unless 4 plan.hold;
-        parents = rw some refl;
-        attach = rw some refl;
-      },
+      grind (arith, unwrap_or-said_unless),
     )
 
 -- The lines after the first two.
@@ -154,8 +136,7 @@ head_ends : (n : ℕ) (head : Head) (last : ℕ) (tasks : List Task) → n ≤ 1
 unfolding head_by
 head_ends n head last [] few within = rw lines_of_nothing refl
 head_ends n head last (task ∷ tasks) few within =
-    let lines = lines_of-task_line n task (flat_map task_line tasks) few within.0 in
-    rw (lines, words_of-joined (codes "p") (decimal task.p ∷ action_words task.action) (task_is_words n task few within.0)) refl
+    grind (arith, lines_of-task_line n task (flat_map task_line tasks) few within.0, words_of-joined (codes "p") (decimal task.p ∷ action_words task.action) (task_is_words n task few within.0))
 
 lines_of-opening : (plan : Plan) (steps : List ℕ) → plan.n ≤ 16
     → lines_of (text_of (head_lines plan) ++ steps) ≡ worded (codes "wcp" ∷ codes "1" ∷ []) ∷ worded (codes "procs" ∷ decimal plan.n ∷ []) ∷ lines_of (text_of (further_lines plan) ++ steps)

@@ -1,16 +1,16 @@
 -- The lines of a plan's head are read as that head.
-use Rattle.std.proofs.Common.{◌≡◌, ℕ, suc, ◌+◌, ◌^◌, ◌<◌, ◌≤◌, Bool, true, false, cond, eqb, List, [], ◌∷◌, ◌++◌, length, Option, Some, None, Ok, refl, sym, ap, subst, ◌∙◌, append_assoc, length-append, arith, lt-ltb, le-leb, eq-eqb, ne_eqb, eqb-true, ⊎_elim}
+use Rattle.std.proofs.Common.{◌≡◌, ℕ, suc, ◌+◌, ◌^◌, ◌<◌, ◌≤◌, Bool, true, false, cond, eqb, List, [], ◌∷◌, ◌++◌, length, Option, Some, None, Ok, refl, sym, ap, subst, ◌∙◌, append_assoc, length-append, arith, lt-ltb, le-leb, ⊎_elim}
 use Rattle.std.specs.Prelude.{codes, replicate, slice_get, slice_set}
 use Rattle.std.specs.List.{AllByRecursion}
 use Rattle.std.specs.Fmt.{decimal}
 use Rattle.std.specs.Option.{unwrap_or}
 use Rattle.std.specs.Str.{bytes_eq}
 use Rattle.std.proofs.Math.Seq.{set-append_seam}
-use Rattle.std.proofs.lemmas.Bool.{cases_Bool, ltb-true, true≢false}
+use Rattle.std.proofs.lemmas.Bool.{cases_Bool, true≢false}
 use Rattle.std.proofs.lemmas.List.{append-nil}
 use Rattle.std.proofs.lemmas.Slice.Eq.{bytes_eq-Decides}
 use Rattle.wcp_model.specs.declared.plan.Parent.{Parent}
-use Rattle.wcp_model.specs.declared.plan.Parent.TheVariants.{Root, Relay}
+use Rattle.wcp_model.specs.declared.plan.Parent.TheVariants.{Relay}
 use Rattle.wcp_script.specs.declared.head_line.HeadLine.{HeadLine}
 use Rattle.wcp_script.specs.declared.head_line.HeadLine.TheVariants as said
 use Rattle.wcp_script.specs.Lines.{Word, line_text, text_of, lines_of}
@@ -43,11 +43,7 @@ pub made_is_read : (head made : Head) (lines : List (List Word)) (last : ℕ) (r
     → (end : ℕ) × (head_by is_task_word head last (lines_of (text_of lines ++ rest)) ≡ head_by is_task_word made end (lines_of rest))
 made_is_read head made [] last rest same = (last, ap (λ (head : Head). head_by is_task_word head last (lines_of rest)) same)
 made_is_read head made (words ∷ lines) last rest h =
-    let next = made_is_read (with_line head h.0) made lines (last + 1) rest h.2 in (
-      next.0,
-      ap (λ (text : List ℕ). head_by is_task_word head last (lines_of text)) (append_assoc (line_text words) (text_of lines) rest)
-          ∙ line_made head words h.0 last (text_of lines ++ rest) h.1 ∙ next.1,
-    )
+    grind (arith, append_assoc, line_made, made_is_read (with_line head h.0) made lines (last + 1) rest h.2)
 
 -- ---- capacities
 
@@ -62,11 +58,7 @@ pub cap_makes : (n cap : ℕ) (plain : Bool) → 1 ≤ cap → cap ≤ 1024 → 
 cap_makes n cap true low high = refl
 cap_makes n cap false low high = (
   said.Cap cap,
-  record {
-    are_words = (IsWord-literal (codes "cap") refl, (IsWord-decimal cap (omega arith), tt));
-    no_step = refl;
-    says = rw (number_in-decimal cap (omega arith), le-leb 1 cap low, le-leb cap 1024 high) refl;
-  },
+  grind (arith, IsWord-decimal, IsWord-literal, le-leb, number_in-decimal),
   refl,
 )
 
@@ -75,11 +67,7 @@ pub hold_makes : (n hold : ℕ) (cap : Option ℕ) (plain : Bool) → 1 ≤ hold
 hold_makes n hold cap true low high = refl
 hold_makes n hold cap false low high = (
   said.Hold hold,
-  record {
-    are_words = (IsWord-literal (codes "hold") refl, (IsWord-decimal hold (omega arith), tt));
-    no_step = refl;
-    says = rw (number_in-decimal hold (omega arith), le-leb 1 hold low, le-leb hold 64 high) refl;
-  },
+  grind (arith, IsWord-decimal, IsWord-literal, le-leb, number_in-decimal),
   refl,
 )
 

@@ -1,9 +1,9 @@
 -- The line of a task is read as that task.
-use Rattle.std.proofs.Common.{◌≡◌, ℕ, ◌+◌, ◌≤◌, true, false, ltb, eqb, not, List, [], ◌∷◌, ◌++◌, length, Ok, refl, sym, ap, ◌∙◌, append_assoc, arith, lt-ltb}
+use Rattle.std.proofs.Common.{◌≡◌, ℕ, ◌+◌, ◌≤◌, true, false, ltb, List, [], ◌∷◌, ◌++◌, length, Ok, refl, sym, ap, ◌∙◌, append_assoc, arith, lt-ltb}
 use Rattle.std.specs.Prelude.{codes}
 use Rattle.std.specs.List.{flat_map, AllByRecursion}
 use Rattle.std.specs.Fmt.{decimal}
-use Rattle.std.proofs.lemmas.Bool.{and_from, ne_eqb, not_from_false}
+use Rattle.std.proofs.lemmas.Bool.{and_from}
 use Rattle.wcp_model.specs.declared.workload.Action.{Action}
 use Rattle.wcp_model.specs.declared.workload.Action.TheVariants as action
 use Rattle.wcp_model.specs.declared.workload.Task.{Task}
@@ -12,7 +12,7 @@ use Rattle.wcp_script.specs.Lines.{TextLine, line_text, lines_of}
 use Rattle.wcp_script.specs.WorkloadText.{action_words, task_words, task_line}
 use Rattle.wcp_script.specs.WorkloadLines.{form_of, has_partner, is_within, task_in}
 use Rattle.wcp_script.specs.TextFault.{workloads, steps_by}
-use Rattle.wcp_script.proofs.LinesOfWords.{IsWord, IsWord-literal, IsWord-decimal, number_in-decimal, words_of-joined, worded, lines_of-line_text, lines_of_nothing}
+use Rattle.wcp_script.proofs.LinesOfWords.{IsWord, IsWord-decimal, number_in-decimal, words_of-joined, worded, lines_of-line_text, lines_of_nothing}
 
 pub task_is_words : (n : ℕ) (task : Task) → n ≤ 16 → IsWithin n task → AllByRecursion IsWord (task_words task)
 task_is_words n task few within = grind (arith, IsWord-decimal)
@@ -49,8 +49,7 @@ pub steps_by-task_lines : (n last earlier : ℕ) (tasks : List Task) → n ≤ 1
 unfolding steps_by
 steps_by-task_lines n last earlier [] few within room = rw lines_of_nothing refl
 steps_by-task_lines n last earlier (task ∷ tasks) few within room =
-    let rest = steps_by-task_lines n last (earlier + 1) tasks few within.1 (omega arith) in
-    ap (steps_by workloads n last earlier) (lines_of-task_line n task (flat_map task_line tasks) few within.0) ∙ rw (task_in-worded n task few within.0, lt-ltb earlier 65536 (omega arith), rest) refl
+    grind (arith, lines_of-task_line, lt-ltb, task_in-worded, steps_by-task_lines n last (earlier + 1) tasks few within.1 (omega arith))
 
 -- So the first line of a text that begins with the line of a task says that task.
 pub task_is_said : (n : ℕ) (task : Task) (text rest : List ℕ) → text ≡ task_line task ++ rest → IsWithin n task → n ≤ 16 → (line : TextLine) × (lines_of text ≡ line ∷ lines_of rest) × (Ok task ≡ task_in n line)

@@ -1,6 +1,5 @@
 -- What it takes that no question found a fault.
-use Rattle.std.proofs.Common.{arith}
-use Rattle.std.proofs.Common.{◌≡◌, ℕ, Bool, true, false, Result, Ok, Err, refl}
+use Rattle.std.proofs.Common.{◌≡◌, ℕ, Bool, true, Result, Ok, arith}
 use Rattle.wcp_script.specs.declared.fault.FaultKind.{FaultKind}
 use Rattle.wcp_script.specs.Judgement.{◌>>=◌, ask, at_line}
 

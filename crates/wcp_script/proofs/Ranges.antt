@@ -7,11 +7,7 @@ use Rattle.std.proofs.lemmas.List.{append-nil}
 pub flat_map-range_more : {X : Type 0} (f : ℕ → List X) (a n : ℕ) → flat_map f (range_with_len a (n + 1)) ≡ flat_map f (range_with_len a n) ++ f (a + n)
 flat_map-range_more f a zero = append-nil (f a) ∙ ap f (omega arith)
 flat_map-range_more f a (suc n) =
-    let more : flat_map f (range_with_len (a + 1) (n + 1)) ≡ flat_map f (range_with_len (a + 1) n) ++ f (a + suc n) = flat_map-range_more f (a + 1) n ∙ ap (λ last. flat_map f (range_with_len (a + 1) n) ++ f last) (omega arith) in
-    let whole : f a ++ flat_map f (range_with_len (a + 1) (n + 1)) ≡ (f a ++ flat_map f (range_with_len (a + 1) n)) ++ f (a + suc n) = ap (λ rest. f a ++ rest) more
-    ∙ sym (append_assoc (f a) (flat_map f (range_with_len (a + 1) n)) (f (a + suc n))) in
-    let size : suc n + 1 ≡ suc (n + 1) = omega arith in
-    rw size whole
+    grind (arith, append_assoc, flat_map-range_more f (a + 1) n)
 
 -- the same behind what was there
 pub pieces_more : {X : Type 0} (f : ℕ → List X) (a n i : ℕ) (old before new : List X) → a + n ≡ i → before ≡ old ++ flat_map f (range_with_len a n) → new ≡ before ++ f i → new ≡ old ++ flat_map f (range_with_len a (n + 1))

@@ -1,17 +1,15 @@
 -- The tasks of a ring, as they stand, are a fit order of themselves.
 use Rattle.std.proofs.lemmas.Grind.{common_steps}
-use Rattle.std.proofs.Common.{◌≡◌, ◌≢◌, ℕ, zero, suc, ◌+◌, ◌*◌, ◌-◌, ◌<◌, ◌≤◌, Bool, true, false, cond, ◌&&◌, eqb, List, [], ◌∷◌, ◌++◌, length, take, refl, sym, ap, ◌∙◌, append_assoc, length-append, mul-suc, arith, eq-eqb, ne_eqb, add-one, ⊎_elim}
+use Rattle.std.proofs.Common.{◌≡◌, ℕ, zero, suc, ◌+◌, ◌*◌, ◌-◌, ◌<◌, ◌≤◌, Bool, true, false, cond, ◌&&◌, eqb, List, [], ◌∷◌, ◌++◌, length, take, refl, ap, ◌∙◌, length-append, mul-suc, arith, ⊎_elim}
 use Rattle.std.specs.List.{flat_map, range_with_len, All, count_by}
-use Rattle.std.proofs.lemmas.Bool.{and_left, and_right, and_from, and_parts, eqb-true, cases_Bool, cases_lt, cond_both}
+use Rattle.std.proofs.lemmas.Bool.{cases_lt, cond_both}
 use Rattle.std.proofs.lemmas.List.{append-nil, take-append-le, take_all}
 use Rattle.std.proofs.lemmas.List.Elements.{All-from_recursion, All-append}
 use Rattle.std.proofs.lemmas.List.Sums.{sum_by-append}
-use Rattle.std.proofs.lemmas.Nat.{mul-le}
 use Rattle.std.proofs.Math.Seq.{take-append-add}
 use Rattle.wcp_model.specs.declared.workload.Action.TheVariants.{Observe, Send, Recv}
 use Rattle.wcp_model.specs.declared.workload.Task.{Task}
-use Rattle.wcp_model.specs.WorkloadComputation.{sends, receives, is_task_of, is_receive_from, IsWithin, IsFitOrder, CouldBeRead}
-use Rattle.wcp_model.proofs.SamePlace.{count_by_no, count_by_yes}
+use Rattle.wcp_model.specs.WorkloadComputation.{sends, receives, IsWithin, IsFitOrder, CouldBeRead}
 use Rattle.wcp_script.specs.Ring.{before, finds_both, received, sent, ring_turn, ring_round, ring_fault, ring_tasks, ring_length}
 use Rattle.wcp_script.proofs.Ranges.{flat_map-range_each, flat_map-range_shifted, length-flat_map-range}
 
@@ -46,7 +44,7 @@ fits_nothing : Fits []
 fits_nothing place p q = rw (nothing_taken place) (omega arith)
 
 fits_observation : (p : ℕ) (holds : Bool) → Fits (record { p = p; action = Observe holds } ∷ [])
-fits_observation p holds h2 h3 q = grind (arith, nothing_taken)
+fits_observation by holds place p q = grind (arith, nothing_taken)
 
 fits_findings : (p : ℕ) → Fits (finds_both p)
 fits_findings p = fits_both (record { p = p; action = Observe true } ∷ []) (record { p = p; action = Observe false } ∷ []) (fits_observation p true) (fits_observation p false)
@@ -56,7 +54,7 @@ abbrev passed : ℕ → ℕ → List Task
 passed a b = record { p = a; action = Send b } ∷ record { p = b; action = Recv a } ∷ []
 
 fits_passed : (a b : ℕ) → Fits (passed a b)
-fits_passed a b h2 p q = grind (arith, common_steps)
+fits_passed a b place p q = grind (arith, common_steps)
 
 -- ---- each receive beside its send
 

@@ -1,23 +1,18 @@
 -- What follows for steps from being spelled.
-use Rattle.std.proofs.Common.{◌≡◌, ℕ, ◌+◌, ◌≤◌, true, cond, ltb, eqb, not, List, [], ◌∷◌, length, All, Ok, sym, subst, arith}
-use Rattle.std.specs.Option.{ok_or}
+use Rattle.std.proofs.Common.{◌≡◌, ℕ, ◌+◌, ◌≤◌, List, [], ◌∷◌, length, All, Ok, subst, arith}
 use Rattle.std.specs.List.{AllByRecursion}
-use Rattle.std.specs.Prelude.{None}
-use Rattle.std.proofs.lemmas.Bool.{and_parts, ltb-true, eqb-false, not-true}
 use Rattle.std.proofs.lemmas.List.Elements.{All-from_recursion}
 use Rattle.wcp_model.specs.declared.plan.Plan.{Plan}
-use Rattle.wcp_model.specs.declared.workload.Action.{Action}
-use Rattle.wcp_model.specs.declared.workload.Action.TheVariants as action
 use Rattle.wcp_model.specs.declared.workload.Task.{Task}
-use Rattle.wcp_model.specs.WorkloadComputation.{HasPartner, IsWithin, IsFitOrder, CouldBeRead}
+use Rattle.wcp_model.specs.WorkloadComputation.{IsWithin, IsFitOrder, CouldBeRead}
 use Rattle.wcp_script.specs.declared.fault.FaultKind.TheVariants as kind
-use Rattle.wcp_script.specs.Lines.{TextLine, words_of}
-use Rattle.wcp_script.specs.Judgement.{◌>>=◌, ask, at_line}
-use Rattle.wcp_script.specs.WorkloadLines.{form_of, task_of, has_partner, is_within, task_in}
+use Rattle.wcp_script.specs.Lines.{TextLine}
+use Rattle.wcp_script.specs.Judgement.{◌>>=◌, at_line}
+use Rattle.wcp_script.specs.WorkloadLines.{task_in}
 use Rattle.wcp_script.specs.TextFault.{TextKind, workloads, step_after, steps_by, Spells}
-use Rattle.wcp_script.proofs.Questions.{bind_ok, ask_ok, ok_is, at_line_ok}
+use Rattle.wcp_script.proofs.Questions.{bind_ok, ok_is, at_line_ok}
 use Rattle.wcp_script.proofs.StepLines.{step_after_is}
-use Rattle.wcp_script.proofs.SamePlan.{processes_of_checked}
+use Rattle.wcp_model.proofs.CheckedPlans.{some_process, few_processes}
 
 -- Each of the steps that lines say is one that a line of this kind can say.
 pub steps_by_are : {S : Type 0} (text_kind : TextKind S) (n : ℕ) (P : S → Type 0) → ((line : TextLine) (step : S) → text_kind.said n line ≡ Ok step → P step) → (last earlier : ℕ) (lines : List TextLine) (steps : List S) → steps_by text_kind n last earlier lines ≡ Ok steps
@@ -50,7 +45,7 @@ few_steps text_kind text plan steps h =
 
 pub spells_is : (text : List ℕ) (plan : Plan) (tasks : List Task) → Spells workloads text plan tasks → IsSpelled plan.n tasks
 spells_is text plan tasks h =
-    search (arith, steps_by_are workloads h.read.head.n (IsWithin h.read.head.n) (task_in_within h.read.head.n) h.read.last 0 h.read.after tasks h.lines, All-from_recursion, processes_of_checked)
+    search (arith, steps_by_are workloads h.read.head.n (IsWithin h.read.head.n) (task_in_within h.read.head.n) h.read.last 0 h.read.after tasks h.lines, All-from_recursion, some_process, few_processes)
 
 pub could_be_read : (text : List ℕ) (plan : Plan) (tasks order : List Task) → Spells workloads text plan tasks → IsFitOrder tasks order → CouldBeRead plan.n tasks
 could_be_read text plan tasks order h fit = grind (arith, spells_is text plan tasks h)

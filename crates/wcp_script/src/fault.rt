@@ -8,7 +8,7 @@ use thiserror::Error;
 /// What is wrong with a line of a text.
 #[derive(Clone, Copy, Debug, PartialEq, Eq, Error)]
 pub enum FaultKind {
-    /// The text doesn't begin as one of this format and version.
+    /// The first two lines aren't those of this format and version.
     #[error("header")]
     Header,
     /// The line has none of the forms that are allowed at its place.

@@ -3,11 +3,11 @@ use Rattle.wcp_script.specs.TextFault.{OfPlan}
 use Rattle.wcp_script.specs.ReadAnswers.{ReadsText}
 use Rattle.wcp_script.specs.Views.{seen_read}
 use Rattle.wcp_script.proofs.HandedOn.{handed_on, fault_in_step}
-use Rattle.wcp_script.proofs.SamePlan.{processes_of_checked}
+use Rattle.wcp_model.proofs.CheckedPlans.{few_processes}
 use Rattle.wcp_script.proofs.text.read_text.Goals as goal
 
 pub read_steps-requires-clause-few : goal.read_steps-requires-clause-few
-read_steps-requires-clause-few g c = omega (arith, (processes_of_checked c.in_ok-plan.plan (c.in-Ok.ensures.ok.0 refl)).1, c.in_ok-plan.ensures.n)
+read_steps-requires-clause-few g c = omega (arith, few_processes c.in_ok-plan.plan (c.in-Ok.ensures.ok.0 refl), c.in_ok-plan.ensures.n)
 
 pub returns-in-Err-clause-exact : goal.returns-in-Err-clause-exact
 returns-in-Err-clause-exact g c =
