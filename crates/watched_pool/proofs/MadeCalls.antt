@@ -1,9 +1,8 @@
 -- Calls that follow one another.
-use Rattle.std.proofs.Common.{◌≡◌, List, [], ◌∷◌, ◌++◌, sym, ap, ◌∙◌, subst, append_assoc}
-use Rattle.wcp_model.specs.ProbeLog.{Call, Closed, state_of_log}
-use Rattle.wcp_probe.specs.Core.{setup_of}
-use Rattle.wcp_tree.specs.LiveProbe.{LiveSide, LiveFor, LiveAccepts, emissions_of}
-use Rattle.wcp_worker.specs.Probes.{IsSameLive, IsEndOfProbe}
+use Rattle.std.proofs.Common.{List, [], ◌∷◌, ◌++◌, ◌∙◌, subst, append_assoc}
+use Rattle.wcp_model.specs.ProbeLog.{Call}
+use Rattle.wcp_tree.specs.LiveProbe.{LiveSide, LiveFor, LiveAccepts}
+use Rattle.wcp_worker.specs.Probes.{IsSameLive}
 
 -- a call, then another, and then what makes none
 pub two_calls : (start one two last : LiveSide) (first second : Call) → LiveAccepts start first one → LiveAccepts one second two

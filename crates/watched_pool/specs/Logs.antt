@@ -1,5 +1,5 @@
 -- What the members of a pool do, as the logs of their probes: which condition each observes, and when.
-use Rattle.std.specs.Prelude.{◌≡◌, ℕ, ◌+◌, Bool, true, nat_lt, List, [], ◌∷◌, ◌++◌}
+use Rattle.std.specs.Prelude.{ℕ, ◌+◌, true, nat_lt, List, [], ◌∷◌, ◌++◌}
 use Rattle.wcp_model.specs.ProbeLog.{Call, Observed, Sent, Received}
 use Rattle.wcp_tree.specs.LiveProbe.{LiveSide, LiveFor}
 use Rattle.watched_pool.specs.declared.dispatcher.Desk.{Desk}

@@ -6,7 +6,6 @@ use Rattle.wcp_tree.specs.LiveProbe.{LiveSide, LiveFor, emissions_of}
 use Rattle.wcp_worker.specs.Probes.{IsEndOfProbe}
 use Rattle.watched_pool.specs.Logs.{IsReplicaLog, IsDispatcherLog}
 use Rattle.watched_pool.specs.declared.dispatcher.Dispatcher.{Dispatcher}
-use Rattle.watched_pool.specs.declared.replica.Replica.{Replica}
 use Rattle.watched_pool.specs.declared.member.Member.{Member}
 use Rattle.watched_pool.specs.declared.member.Member.TheVariants as member
 use Rattle.watched_pool.specs.declared.member.MemberEnd.{MemberEnd}

@@ -1,4 +1,4 @@
-use Rattle.std.proofs.Common.{◌≡◌, suc, zero, ◌∷◌, [], ◌++◌, All, length, map, sym, ap, ◌∙◌, subst, arith}
+use Rattle.std.proofs.Common.{◌≡◌, suc, zero, ◌∷◌, [], All, length, map, sym, ap, ◌∙◌, subst, arith}
 use Rattle.std.proofs.lemmas.List.{length-append, map_push}
 use Rattle.std.proofs.lemmas.List.Elements.{All-append}
 use Rattle.std.specs.Vec.Iter.{into_iter_items}

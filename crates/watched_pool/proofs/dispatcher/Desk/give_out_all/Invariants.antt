@@ -1,4 +1,4 @@
-use Rattle.std.proofs.Common.{◌≡◌, ◌+◌, length}
+use Rattle.std.proofs.Common.{◌≡◌}
 use Rattle.wcp_worker.specs.Probes.{IsSameLive}
 use Rattle.watched_pool.specs.Logs.{IsDispatching}
 use Rattle.watched_pool.proofs.dispatcher.Desk.give_out_all.Given as goal

@@ -1,4 +1,4 @@
-use Rattle.std.proofs.Common.{◌≡◌, ◌+◌, ◌-◌, nat_lt, [], ◌∷◌, ◌++◌, sym, subst, arith}
+use Rattle.std.proofs.Common.{◌≡◌, ◌+◌, ◌-◌, nat_lt, [], ◌∷◌, ◌++◌, subst, arith}
 use Rattle.wcp_model.specs.ProbeLog.{Observed, Received}
 use Rattle.wcp_probe.specs.Seal.{seal_of}
 use Rattle.watched_pool.specs.Logs.{IsDispatcherLog, WasAnswered}
