@@ -1,5 +1,6 @@
 -- What the loop of a checker leaves.
-use Rattle.std.specs.Prelude.{◌≡◌, ℕ, ◌-◌, ◌<◌, ◌↔◌, true, false, Option, Some, None, IfNone, List, [], ◌∷◌, ◌++◌, length, take}
+use Rattle.std.specs.Prelude.{◌≡◌, ℕ, ◌-◌, ◌<◌, ◌↔◌, true, false, Option, Some, None, IfNone}
+use Rattle.std.specs.Prelude.{List, [], ◌∷◌, ◌++◌, length, take}
 use Rattle.std.specs.FinSet as set
 use Rattle.wcp_clock.specs.Notes.{is_close}
 use Rattle.wcp_clock.specs.declared.note.Item.{Item}

@@ -115,7 +115,8 @@ IsFreeOf probes relays checker book fault.Unfinished =
 abbrev pub settle_faults : List SettleFault
 settle_faults = fault.Stranger ∷ fault.Missing ∷ fault.Faulted ∷ fault.Unfinished ∷ []
 
-abbrev pub IsFirstSettleFault : List ClosedSide → List RelayEnd → CheckerEnd → List (Option Tally) → SettleFault → Type 0
+abbrev pub IsFirstSettleFault :
+    List ClosedSide → List RelayEnd → CheckerEnd → List (Option Tally) → SettleFault → Type 0
 IsFirstSettleFault probes relays checker book =
     IsFirstReason (λ fault. ¬ IsFreeOf probes relays checker book fault) settle_faults
 

@@ -51,8 +51,8 @@ pub record HasPlayed (worker : Worker) (log : List Call) (probe : ClosedSide) (m
   pub closed : IsEndOfProbe worker.probe probe
   pub emitted : probe.link.put ≡ emissions_of worker.probe.core (log ++ Closed ∷ [])
   pub lanes : HasSameLanes worker.mailbox mailbox
-  pub sent : (q : ℕ) →
-      clocks_sent_to worker.probe.core.id mailbox q ≡ stamps_sent (setup_of worker.probe.core) q worker.actions.items log
+  pub sent : (q : ℕ) → clocks_sent_to worker.probe.core.id mailbox q
+      ≡ stamps_sent (setup_of worker.probe.core) q worker.actions.items log
   pub taken : (q : ℕ) → IsPrefix (stamps_got q worker.actions.items log) (clocks_taken_from mailbox q)
 
 -- What a worker leaves: all that its actions stand for, or, where it gave up, its closed probe alone.

@@ -112,7 +112,8 @@ fn send_by<R: Wait>(
 fn take_by<R: Wait>(rt: &R, inbox: &mut Option<Inbox>) -> Result<Stamped<()>, WorkerFault>
     ensures same { OnOk result (IfBoth IsSameInbox inbox.old inbox.new) }
     ensures taken { IfOk result (λ stamped. (q : ℕ) → IfSome inbox.old (IsInboxOf q)
-        → clocks_from q (messages_taken inbox.new) ≡ clocks_from q (messages_taken inbox.old) ++ (seal_of stamped).clock ∷ []) }
+        → clocks_from q (messages_taken inbox.new)
+        ≡ clocks_from q (messages_taken inbox.old) ++ (seal_of stamped).clock ∷ []) }
 {
     match inbox {
         Some(inbox) => inbox.take(rt),
