@@ -1,5 +1,5 @@
-//! The program `live_pool`: a pool of replicas that is watched while it works. With the word `safe` the dispatcher waits
-//! for each answer before it gives out the next job.
+//! The program `live_pool`: a pool of replicas that is watched while it works. With the word `safe` the dispatcher
+//! waits for each answer before it gives out the next job.
 #![tactic(auto)]
 
 use std::process::ExitCode;

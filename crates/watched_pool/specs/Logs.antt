@@ -4,7 +4,7 @@ use Rattle.wcp_model.specs.ProbeLog.{Call, Observed, Sent, Received}
 use Rattle.wcp_tree.specs.LiveProbe.{LiveSide, LiveFor}
 use Rattle.watched_pool.specs.declared.dispatcher.Desk.{Desk}
 
--- What a replica does with a job that comes with this stamp: it receives it, finds itself at work, and sends the answer.
+-- What a replica does with a job that comes with this stamp: it receives it, finds itself at work, and answers.
 abbrev pub calls_for : List ℕ → List Call
 calls_for stamp = Received stamp ∷ Observed true ∷ Sent ∷ []
 

@@ -41,8 +41,8 @@ pub record AreEndsOfPool (plan : Plan) (ends : Ends MemberEnd) : Type 0 where
 abbrev pub IsAllTaken : ℕ → List Item → ℕ → List Call → Type 0
 IsAllTaken n items p log = notes_taken p items ≡ (state_of_log (setup n p) (log ++ Closed ∷ [])).notes
 
--- What a report of a pool of n processes is about: all that the dispatcher's probe and those of the replicas emitted, by
--- their logs; it is the exact one of this, by clocks.
+-- What a report of a pool of n processes is about: all that the dispatcher's probe and those of the replicas emitted,
+-- by their logs; it is the exact one of this, by clocks.
 pub record IsPoolReport (n : ℕ) (report : Report) : Type 0 where
   pub items : List Item
   pub dispatcher : (log : List Call) × IsDispatcherLog 0 log × IsAllTaken n items 0 log
