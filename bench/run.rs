@@ -1,7 +1,7 @@
-//! The outcome of a workload by threads, hand-written, as a measure for `run`: a thread plays each process, one runs each
-//! relay and one the checker, over bounded channels of the same capacities. Reads the text from standard input, runs it as
-//! often as the first word says (or once), and prints what the last run came to, as `report_text` prints it; the best and
-//! the median time of a run go to standard error.
+//! The outcome of a workload by threads, hand-written, as a measure for `run`: a thread plays each process, one runs
+//! each relay and one the checker, over bounded channels of the same capacities. Reads the text from standard input, runs
+//! it as often as the first word says (or once), and prints what the last run came to, as `report_text` prints it; the
+//! best and the median time of a run go to standard error.
 use std::collections::VecDeque;
 use std::fmt::Write;
 use std::io::Read;
