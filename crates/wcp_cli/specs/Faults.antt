@@ -4,6 +4,6 @@ use Rattle.wcp_cli.specs.declared.fault.Fault.{Fault}
 use Rattle.wcp_cli.specs.declared.fault.Fault.TheVariants.{Script, Memory}
 
 -- The program's fault where a text wasn't read: that of the text, or want of memory.
-abbrev pub fault_of : ReadFault → Fault
-fault_of (read.Script fault) = Script fault
-fault_of read.NoMemory = Memory
+abbrev pub fault_of_read : ReadFault → Fault
+fault_of_read (read.Script fault) = Script fault
+fault_of_read read.NoMemory = Memory

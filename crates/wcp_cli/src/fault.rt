@@ -1,6 +1,6 @@
 ghost use Rattle.std.specs.Prelude.{◌≡◌};
 ghost use Rattle.wcp_cli.specs.declared.fault.Fault.TheVariants.{Memory, Run};
-ghost use Rattle.wcp_cli.specs.Faults.{fault_of};
+ghost use Rattle.wcp_cli.specs.Faults.{fault_of_read};
 
 use std::alloc::AllocError;
 use thiserror::Error;
@@ -43,7 +43,7 @@ impl From<AllocError> for Fault {
 }
 
 impl From<ReadFault> for Fault {
-    ghost from_gives = { λ fault given. given ≡ fault_of fault };
+    ghost from_gives = { λ fault given. given ≡ fault_of_read fault };
 
     fn from(fault: ReadFault) -> Fault {
         match fault {

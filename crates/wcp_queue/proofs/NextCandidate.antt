@@ -5,16 +5,16 @@ use Rattle.std.proofs.lemmas.List.{length-drop, drop-drop, get_or_default}
 use Rattle.wcp_model.proofs.Elimination.{IsEliminatedBelow-step}
 use Rattle.wcp_queue.specs.declared.floor.Floor.{Floor}
 use Rattle.wcp_queue.specs.Floor.{component, has_head, RaisesFloor}
-use Rattle.wcp_queue.specs.Elimination.{queue_of, candidate, HasHead, HasNoHead, KnowsOf, WasRaised, AreLeft, TakesNext}
+use Rattle.wcp_queue.specs.Elimination.{queue_of, candidate, HasHead, HasNoHead, KnowsOf, WasRaised, AreLeft, LeavesQueue}
 use Rattle.wcp_queue.proofs.LeftQueues.{queue_of-set_same, queue_of-set_other}
 
-pub TakesNext-set : (n p : ℕ) (clock : List ℕ) (queues : List (List (List ℕ))) (read queue : List (List ℕ)) → p < length queues → Some clock ≡ slice_get (get_or queues p read) 0 → queue ≡ drop 1 (get_or queues p read) →
-    TakesNext n p clock queues (set queues p queue)
-TakesNext-set n p clock queues read queue within first is = grind (arith, get_or_default, queue_of-set_other, queue_of-set_same)
+pub LeavesQueue-set : (n p : ℕ) (clock : List ℕ) (queues : List (List (List ℕ))) (read queue : List (List ℕ)) → p < length queues → Some clock ≡ slice_get (get_or queues p read) 0 → queue ≡ drop 1 (get_or queues p read) →
+    LeavesQueue n p clock queues (set queues p queue)
+LeavesQueue-set n p clock queues read queue within first is = grind (arith, get_or_default, queue_of-set_other, queue_of-set_same)
 
 -- one that comes where nothing waits is the first
-pub TakesNext-alone : (n p : ℕ) (clock : List ℕ) (queues : List (List (List ℕ))) → p < length queues → length (queue_of queues p) ≡ 0 → TakesNext n p clock (set queues p (queue_of queues p ++ clock ∷ [])) queues
-TakesNext-alone n p clock queues within none = record {
+pub LeavesQueue-alone : (n p : ℕ) (clock : List ℕ) (queues : List (List (List ℕ))) → p < length queues → length (queue_of queues p) ≡ 0 → LeavesQueue n p clock (set queues p (queue_of queues p ++ clock ∷ [])) queues
+LeavesQueue-alone n p clock queues within none = record {
   next = queue_of-set_same queues p (queue_of queues p ++ clock ∷ []) within ∙ alone (queue_of queues p) none;
   rest = λ k k_within other. sym (queue_of-set_other queues p k (queue_of queues p ++ clock ∷ []) other);
 }
@@ -53,7 +53,7 @@ module _ (n : ℕ) (rows : ℕ → List (List ℕ)) (heads later : ℕ → ℕ) 
   }
 
 module _ (n : ℕ) (rows : ℕ → List (List ℕ)) (queues others : List (List (List ℕ))) (floor : Floor) (left : AreLeft n rows queues floor) (p : ℕ) (clock : List ℕ) (p_within : p < n)
-    (no_head : has_head floor p ≡ false) (taken : TakesNext n p clock queues others) where
+    (no_head : has_head floor p ≡ false) (taken : LeavesQueue n p clock queues others) where
   -- it stands at its row's place
   all_of_p : drop (left.heads p) (rows p) ≡ clock ∷ queue_of others p
   all_of_p = sym (left.none p p_within no_head).all ∙ taken.next

@@ -80,7 +80,7 @@ pub record GainCandidate (n p : ℕ) (clock : List ℕ) (rows longer : ℕ → L
   pub others : (q : ℕ) → q < n → q ≢ p → longer q ≡ rows q
 
 -- The first snapshot that waits of p leaves its queue.
-pub record TakesNext (n p : ℕ) (clock : List ℕ) (before after : List (List (List ℕ))) : Type 0 where
+pub record LeavesQueue (n p : ℕ) (clock : List ℕ) (before after : List (List (List ℕ))) : Type 0 where
   pub next : queue_of before p ≡ clock ∷ queue_of after p
   pub rest : (q : ℕ) → q < n → q ≢ p → queue_of after q ≡ queue_of before q
 
@@ -88,7 +88,7 @@ pub record TakesNext (n p : ℕ) (clock : List ℕ) (before after : List (List (
 -- heads are what is left of, the queues without it and the new heads are so too.
 abbrev pub Compares : ℕ → List ℕ → List (List (List ℕ)) → Floor → Floor → Type 0
 Compares p clock queues old new = (rows : ℕ → List (List ℕ)) (before : List (List (List ℕ))) →
-    TakesNext (length queues) p clock before queues →
+    LeavesQueue (length queues) p clock before queues →
     AreLeft (length queues) rows before old → AreLeft (length queues) rows queues new
 
 -- Heads were eliminated: whatever rows of candidates the old queues and heads are what is left of, the new ones are so

@@ -32,9 +32,9 @@ impl Model for Checker {
 
     ghost Value = { CheckerState };
 
-    ghost use Rattle.wcp_queue.specs.CheckerView.{state_of, IsSoundInside};
+    ghost use Rattle.wcp_queue.specs.CheckerView.{checker_state, IsSoundInside};
 
-    ghost view = { state_of };
+    ghost view = { checker_state };
 
     ghost invariant = { IsSoundInside };
 }

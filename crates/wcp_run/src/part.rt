@@ -39,9 +39,9 @@ impl RunsWith<(), RelayEnd> for Relay {
 }
 
 impl Part<WorkerEnd> for Worker {
-    ghost use Rattle.wcp_worker.specs.Played.{IsEndOfWorker, IsFresh};
+    ghost use Rattle.wcp_worker.specs.Played.{IsEndOfWorker, IsFreshPlayer};
 
-    ghost is_ready = { λ worker. IsFresh (record { probe = worker.probe; mailbox = worker.mailbox }) };
+    ghost is_ready = { λ worker. IsFreshPlayer (record { probe = worker.probe; mailbox = worker.mailbox }) };
 
     ghost is_end = { IsEndOfWorker };
 }

@@ -16,7 +16,7 @@ use Rattle.wcp_worker.specs.declared.player.Player.{Player}
 use Rattle.wcp_worker.specs.declared.worker.Worker.{Worker}
 use Rattle.wcp_worker.specs.Lanes.{IsOutboxOf, IsInboxOf, IfBoth, IsSameOutbox, IsSameInbox, IsLaneFor, messages_put, messages_taken, clocks_from}
 use Rattle.wcp_worker.specs.Mailboxes.{outbox_to, inbox_from, clocks_sent_to}
-use Rattle.wcp_worker.specs.Played.{IsFresh}
+use Rattle.wcp_worker.specs.Played.{IsFreshPlayer}
 use Rattle.wcp_worker.specs.Opening.{IsIdle, HasTasks, HaveLanes}
 use Rattle.wcp_worker.specs.Workers.{AreFreshProbes, AreWorkersOf}
 use Rattle.wcp_worker.proofs.OpenedRows.{lane_along}
@@ -61,7 +61,7 @@ module _
   inbox_fresh q (Some i) new = (new.0, (refl, refl), ap (clocks_from q) new.1)
   inbox_fresh q None new = (tt, tt, refl)
 
-  pub fresh_player : IsFresh player
+  pub fresh_player : IsFreshPlayer player
   fresh_player =
       record {
         follows = tt;

@@ -40,8 +40,8 @@ pub record HasDoneActions (start : Player) (actions : List Action) (log : List C
   pub taken : (q : ℕ) → clocks_taken_from now.mailbox q ≡ stamps_got q actions log
 
 -- A player before its first action: nothing was observed, sent or taken.
-abbrev pub IsFresh : Player → Type 0
-IsFresh player = HasDoneActions player [] [] player
+abbrev pub IsFreshPlayer : Player → Type 0
+IsFreshPlayer player = HasDoneActions player [] [] player
 
 -- What a worker leaves that did all its actions by these calls: its probe put the emissions of these and of the close,
 -- what it put on its lane to q are the stamps sent to q, and the stamps got from q are the first that it took of those

@@ -7,7 +7,7 @@ use Rattle.wcp_tree.specs.LiveProbe.{LiveSide, fresh_core}
 use Rattle.wcp_worker.specs.declared.worker.Worker.{Worker}
 use Rattle.wcp_worker.specs.Lanes.{IsLaneFor}
 use Rattle.wcp_worker.specs.Mailboxes.{outbox_to, inbox_from}
-use Rattle.wcp_worker.specs.Played.{IsFresh}
+use Rattle.wcp_worker.specs.Played.{IsFreshPlayer}
 
 -- The probes of n processes before any call, by the numbers of the processes.
 pub record AreFreshProbes (n : ℕ) (probes : List LiveSide) : Type 0 where
@@ -19,7 +19,7 @@ pub record AreFreshProbes (n : ℕ) (probes : List LiveSide) : Type 0 where
 pub record IsWorkerOf (tasks : List Task) (probes : List LiveSide) (p : ℕ) (worker : Worker) : Type 0 where
   pub probe : slice_get probes p ≡ Some worker.probe
   pub actions : worker.actions.items ≡ actions_of p tasks
-  pub fresh : IsFresh (record { probe = worker.probe; mailbox = worker.mailbox })
+  pub fresh : IsFreshPlayer (record { probe = worker.probe; mailbox = worker.mailbox })
 
 -- A worker for each process, and between each two a lane for what the one sends to the other.
 pub record AreWorkersOf (tasks : List Task) (probes : List LiveSide) (workers : List Worker) : Type 0 where

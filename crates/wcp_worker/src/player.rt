@@ -21,7 +21,7 @@ pub struct Player {
 
 impl Player {
     ghost use Rattle.wcp_worker.specs.Mailboxes.{IsMailboxOf};
-    ghost use Rattle.wcp_worker.specs.Played.{DoesAction, HasDoneActions, IsFresh};
+    ghost use Rattle.wcp_worker.specs.Played.{DoesAction, HasDoneActions, IsFreshPlayer};
 
     /// Does all these actions, each after its gate has let it pass.
     pub(crate) fn play<R: Wait, G: Gate>(
@@ -30,7 +30,7 @@ impl Player {
         gate: &G,
         actions: &[Action],
     ) -> Result<(), WorkerFault>
-        requires { IsFresh self.old }
+        requires { IsFreshPlayer self.old }
         ensures done { OnOk result ((log : List Call) × HasDoneActions self.old actions.now log self.new) }
         ensures same { IsSameLive self.old.probe self.new.probe }
     {

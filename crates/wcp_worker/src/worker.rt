@@ -21,14 +21,14 @@ pub struct Worker {
 }
 
 impl Worker {
-    ghost use Rattle.wcp_worker.specs.Played.{IsFresh, IsEndOfWorker};
+    ghost use Rattle.wcp_worker.specs.Played.{IsFreshPlayer, IsEndOfWorker};
 
     /// Does all its actions, each after the gate has let it pass, closes its probe, and then takes the messages that
     /// no task of its process receives, so that all that was sent to it is taken. It waits for messages, and gives up
     /// its turn while its ring is full. Where it gives up, it drops its ends of the lanes, so that its partners meet
     /// a cut, and closes its probe.
     pub fn run<R: Wait, G: Gate>(self, rt: &R, gate: &G) -> WorkerEnd
-        requires { IsFresh (record { probe = self.probe; mailbox = self.mailbox }) }
+        requires { IsFreshPlayer (record { probe = self.probe; mailbox = self.mailbox }) }
         ensures { IsEndOfWorker self result }
     {
         let Worker {

@@ -20,8 +20,8 @@ pub record WorldState : Type 0 where
   pub checker : CheckerState
 
 -- How many processes a world has.
-abbrev pub processes_of : WorldState → ℕ
-processes_of w = processes_of_checker w.checker
+abbrev pub process_count : WorldState → ℕ
+process_count w = processes_of_checker w.checker
 
 -- The parts of a world stand for the same accepted steps and items taken: the processes for the computation of these
 -- steps, the transport for the notes that were put on its links, and the checker for what it took.
@@ -29,7 +29,7 @@ pub record Stands (plan : Plan) (steps : List Step) (taken : List Item) (w : Wor
   pub put : ℕ → List Note
   pub processes : AreProcessesOf plan.n (computation steps) put w.processes
   pub transport : IsTransportOf plan steps put taken w.transport
-  pub processes_are : processes_of w ≡ plan.n
+  pub processes_are : process_count w ≡ plan.n
   pub checker : StandsForItems w.checker taken
 
 -- A world that some steps lead to.

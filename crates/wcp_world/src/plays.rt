@@ -3,7 +3,7 @@ ghost use Rattle.wcp_model.specs.declared.plan.Plan.{Plan};
 ghost use Rattle.wcp_model.specs.declared.step.Step.{Step};
 ghost use Rattle.wcp_model.specs.PlanFault.{IsCheckedPlan};
 ghost use Rattle.wcp_world.specs.Plays.{AreTalliesOf, HasAnswered, IsPlayed};
-ghost use Rattle.wcp_world.specs.World.{processes_of};
+ghost use Rattle.wcp_world.specs.World.{process_count};
 
 use crate::world::World;
 use std::alloc::{AllocError, Global};
@@ -52,7 +52,7 @@ fn answer(world: &mut World, step: Step, replies: &mut Vec<Reply>) -> Result<(),
 
 /// The tally of each process.
 fn tallies(alloc: Global, world: &World) -> Result<Tallies, AllocError>
-    ensures { IfOk result (λ tallies. AreTalliesOf world.now (processes_of world.now) tallies) }
+    ensures { IfOk result (λ tallies. AreTalliesOf world.now (process_count world.now) tallies) }
 {
     let n = world.processes();
     let mut tallies = Vec::with_capacity(alloc, n as usize)?;

@@ -30,7 +30,7 @@ impl Model for World {
 
 impl World {
     ghost use Rattle.wcp_model.specs.declared.plan.Plan.{Plan};
-    ghost use Rattle.wcp_world.specs.World.{IsWorldOf, may_grow, processes_of};
+    ghost use Rattle.wcp_world.specs.World.{IsWorldOf, may_grow, process_count};
 
     /// The world of a plan, before any step. `Err` where memory runs out.
     pub fn new(alloc: Global, plan: &Plan) -> Result<World, AllocError>
@@ -57,9 +57,9 @@ impl World {
 
     /// How many processes there are.
     pub fn processes(&self) -> u32
-        ensures value { result ≡ processes_of self.now }
-        ensures some { 0 < processes_of self.now }
-        ensures few { processes_of self.now ≤ most_processes }
+        ensures value { result ≡ process_count self.now }
+        ensures some { 0 < process_count self.now }
+        ensures few { process_count self.now ≤ most_processes }
     {
         self.detector.checker.processes()
     }
@@ -74,7 +74,7 @@ impl World {
 
     /// How many snapshots of process `p` were emitted and taken.
     pub fn tally(&self, p: u32) -> Tally
-        requires { p < processes_of self.now }
+        requires { p < process_count self.now }
         ensures { (plan : Plan) (history : List Answered)
             → IsWorldOf plan history self.now
             → IsTallyOf plan.n (computation (accepted history)) (items_taken history) p result }

@@ -1,6 +1,6 @@
 use Rattle.wcp_worker.specs.declared.worker.Worker.{Worker}
-use Rattle.wcp_worker.specs.Played.{IsFresh}
+use Rattle.wcp_worker.specs.Played.{IsFreshPlayer}
 
 -- A worker that may run.
-abbrev pub IsReady : Worker → Type 0
-IsReady worker = IsFresh (record { probe = worker.probe; mailbox = worker.mailbox })
+abbrev pub IsReadyWorker : Worker → Type 0
+IsReadyWorker worker = IsFreshPlayer (record { probe = worker.probe; mailbox = worker.mailbox })

@@ -1,5 +1,5 @@
 ghost use Rattle.std.specs.Prelude.{◌≡◌, IfOk};
-ghost use Rattle.wcp_world.specs.World.{processes_of};
+ghost use Rattle.wcp_world.specs.World.{process_count};
 
 use Reply::{Done, Refused, Took};
 use Step::{Admit, Check, Observe, Pass, Pull, Put, Recv, Send};
@@ -155,7 +155,7 @@ static STEPS: [Step; 17] = [
 
 /// The world of two processes, before any step.
 fn world_of_two(alloc: Global) -> Result<World, AllocError>
-    ensures { IfOk result (λ world. processes_of world ≡ 2) }
+    ensures { IfOk result (λ world. process_count world ≡ 2) }
 {
     let plan = plain_plan(alloc, 2, 8, 4)?;
     let world = World::new(alloc, &plan)?;

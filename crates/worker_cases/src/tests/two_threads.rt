@@ -1,7 +1,7 @@
 ghost use Rattle.std.specs.Prelude.{IfOk, IfSome};
 ghost use Rattle.wcp_model.specs.PlanFault.{IsCheckedPlan};
 ghost use Rattle.wcp_model.specs.WorkloadComputation.{CouldBeRead};
-ghost use Rattle.worker_cases.specs.Ready.{IsReady};
+ghost use Rattle.worker_cases.specs.Ready.{IsReadyWorker};
 
 use std::alloc::{AllocError, Global};
 use std::sync::Wait;
@@ -20,7 +20,7 @@ const ONE_MESSAGE: &[u8] =
 fn two_workers(alloc: Global, workload: &Workload) -> Result<Option<(Worker, Worker)>, AllocError>
     requires read { CouldBeRead workload.now.plan.n workload.now.tasks.items }
     requires checked { IsCheckedPlan workload.now.plan }
-    ensures { IfOk result (λ found. IfSome found (λ two. IsReady two.0 × IsReady two.1)) }
+    ensures { IfOk result (λ found. IfSome found (λ two. IsReadyWorker two.0 × IsReadyWorker two.1)) }
 {
     let opened = watch(alloc, &workload.plan, 7)?;
     let mut workers = open_workers(alloc, workload, opened.probes)?;
@@ -39,15 +39,15 @@ fn run_both<R: Threads + Wait + Sync>(
     first: Worker,
     second: Worker,
 ) -> (WorkerEnd, WorkerEnd)
-    requires { IsReady first × IsReady second }
+    requires { IsReadyWorker first × IsReadyWorker second }
 {
     join(
         rt,
         move || -> WorkerEnd
-            requires { IsReady first }
+            requires { IsReadyWorker first }
         { first.run(rt, &Open) },
         move || -> WorkerEnd
-            requires { IsReady second }
+            requires { IsReadyWorker second }
         { second.run(rt, &Open) },
     )
 }

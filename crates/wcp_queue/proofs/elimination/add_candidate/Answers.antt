@@ -2,7 +2,7 @@ use Rattle.std.proofs.Common.{◌++◌, ◌∷◌, [], sym, ◌∙◌, ap}
 use Rattle.std.proofs.lemmas.List.{get_or_default}
 use Rattle.wcp_queue.specs.Elimination.{queue_of}
 use Rattle.wcp_queue.proofs.LeftQueues.{AreLeft-gain}
-use Rattle.wcp_queue.proofs.NextCandidate.{TakesNext-alone}
+use Rattle.wcp_queue.proofs.NextCandidate.{LeavesQueue-alone}
 use Rattle.wcp_queue.proofs.elimination.add_candidate.Goals as goal
 use Rattle.wcp_queue.proofs.elimination.add_candidate.Goals.{then-compare, else-compare}
 
@@ -22,7 +22,7 @@ returns-clause-left c = λ rows longer gain left.
     let queue = queue_of c.args.queues.now c.args.p in
     let before = AreLeft-gain _ rows longer c.args.queues.now c.args.floor.now c.args.p c.args.clock.now queue (queue ++ c.args.clock.now ∷ []) c.requires.within (ap (λ q. q ++ c.args.clock.now ∷ []) (sym (get_or_default c.args.queues.now c.args.p queue [] c.requires.within))) gain left in
     let none = c.requires.settled c.args.p c.requires.within (sym c.has_head.ensures ∙ c.if-has_head.false) in
-    let added = c.compare.ensures.left longer _ (TakesNext-alone _ c.args.p c.args.clock.now c.args.queues.now c.requires.within none) before in
+    let added = c.compare.ensures.left longer _ (LeavesQueue-alone _ c.args.p c.args.clock.now c.args.queues.now c.requires.within none) before in
     elim c.if-compare.branch [
       | then-compare w ↦ rw (w.queues-is, w.floor-is) (w.settle.ensures.left longer added)
       | else-compare w ↦ rw (w.queues-is, w.floor-is) added

@@ -1,6 +1,6 @@
 use Rattle.std.proofs.Common.{◌≡◌, true, false, length, take, sym, ◌∙◌, arith}
 use Rattle.std.specs.List.{list_all}
-use Rattle.wcp_queue.specs.CheckerView.{state_of}
+use Rattle.wcp_queue.specs.CheckerView.{checker_state}
 use Rattle.wcp_queue.proofs.Reporting.{IsDrained-marks, marks-not_all, IsCutByClocks-report, IsLeastOf-report, no_cut-report}
 use Rattle.wcp_queue.proofs.checker.Checker.report.Goals as goal
 use Rattle.wcp_queue.proofs.checker.Checker.report.Goals.{Then-are_all_closed, Else-are_all_closed}
@@ -17,28 +17,28 @@ not_all_closed c =
 
 pub returns-in-Some-clause-any_clocks : goal.returns-in-Some-clause-any_clocks
 returns-in-Some-clause-any_clocks c = rw (← c.self.view_is) (λ items stands.
-    IsCutByClocks-report (state_of c.self.inside) c.self.invariant items stands c.in-Some.cut c.in-Some.is)
+    IsCutByClocks-report (checker_state c.self.inside) c.self.invariant items stands c.in-Some.cut c.in-Some.is)
 
 pub returns-in-Some-clause-exact : goal.returns-in-Some-clause-exact
 returns-in-Some-clause-exact c = rw (← c.self.view_is) (λ items stands order.
-    IsLeastOf-report (state_of c.self.inside) c.self.invariant items stands c.in-Some.cut c.in-Some.is order)
+    IsLeastOf-report (checker_state c.self.inside) c.self.invariant items stands c.in-Some.cut c.in-Some.is order)
 
 pub returns-then-are_all_closed-clause-any_clocks : goal.returns-then-are_all_closed-clause-any_clocks
 returns-then-are_all_closed-clause-any_clocks c = rw (← c.self.view_is) (λ items stands.
-    IsDrained-marks (state_of c.self.inside) c.self.invariant items stands (all_closed c))
+    IsDrained-marks (checker_state c.self.inside) c.self.invariant items stands (all_closed c))
 
 pub returns-then-are_all_closed-clause-exact : goal.returns-then-are_all_closed-clause-exact
 returns-then-are_all_closed-clause-exact c = rw (← c.self.view_is) (λ items stands order. (
-  no_cut-report (state_of c.self.inside) c.self.invariant items stands c.in_default.is order,
-  IsDrained-marks (state_of c.self.inside) c.self.invariant items stands (all_closed c),
+  no_cut-report (checker_state c.self.inside) c.self.invariant items stands c.in_default.is order,
+  IsDrained-marks (checker_state c.self.inside) c.self.invariant items stands (all_closed c),
 ))
 
 pub returns-else-are_all_closed-clause-any_clocks : goal.returns-else-are_all_closed-clause-any_clocks
 returns-else-are_all_closed-clause-any_clocks c = rw (← c.self.view_is) (λ items stands.
-    marks-not_all (state_of c.self.inside) c.self.invariant items stands (not_all_closed c))
+    marks-not_all (checker_state c.self.inside) c.self.invariant items stands (not_all_closed c))
 
 pub returns-else-are_all_closed-clause-exact : goal.returns-else-are_all_closed-clause-exact
 returns-else-are_all_closed-clause-exact c = rw (← c.self.view_is) (λ items stands order. (
-  no_cut-report (state_of c.self.inside) c.self.invariant items stands c.in_default.is order,
-  marks-not_all (state_of c.self.inside) c.self.invariant items stands (not_all_closed c),
+  no_cut-report (checker_state c.self.inside) c.self.invariant items stands c.in_default.is order,
+  marks-not_all (checker_state c.self.inside) c.self.invariant items stands (not_all_closed c),
 ))

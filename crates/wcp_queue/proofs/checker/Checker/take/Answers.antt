@@ -1,7 +1,7 @@
 use Rattle.std.proofs.Common.{◌++◌, ◌∷◌, [], slice_set, true, sym, ap, ◌∙◌, refl, subst, arith}
 use Rattle.wcp_clock.specs.Notes.{place_of}
 use Rattle.wcp_queue.specs.Checker.{StandsForItems}
-use Rattle.wcp_queue.specs.CheckerView.{state_of}
+use Rattle.wcp_queue.specs.CheckerView.{checker_state}
 use Rattle.wcp_queue.proofs.StandingForItems.{StandsForItems-close}
 use Rattle.wcp_queue.proofs.checker.Checker.take.Goals as goal
 
@@ -9,6 +9,6 @@ pub returns-in-Close-clause-taken : goal.returns-in-Close-clause-taken
 returns-in-Close-clause-taken c =
     let may = rw (← c.self.view_is) at c.requires in
     rw (← c.self.view_is)
-    (λ items stands. subst (λ note. StandsForItems (state_of (record c.self.inside { closed = slice_set c.self.inside.closed c.args.item.from true })) (items ++ record { from = c.args.item.from; note = note } ∷ [])) (sym c.in-Close.is)
-    (StandsForItems-close (state_of c.self.inside) (state_of (record c.self.inside { closed = slice_set c.self.inside.closed c.args.item.from true })) items c.args.item.from c.in-Close.count stands (record { from = may.from; place = sym (ap place_of c.in-Close.is) ∙ may.place; still_open = may.still_open })
+    (λ items stands. subst (λ note. StandsForItems (checker_state (record c.self.inside { closed = slice_set c.self.inside.closed c.args.item.from true })) (items ++ record { from = c.args.item.from; note = note } ∷ [])) (sym c.in-Close.is)
+    (StandsForItems-close (checker_state c.self.inside) (checker_state (record c.self.inside { closed = slice_set c.self.inside.closed c.args.item.from true })) items c.args.item.from c.in-Close.count stands (record { from = may.from; place = sym (ap place_of c.in-Close.is) ∙ may.place; still_open = may.still_open })
     (omega (arith, may.from, c.self.invariant.few, c.self.invariant.marks)) refl refl refl refl refl))

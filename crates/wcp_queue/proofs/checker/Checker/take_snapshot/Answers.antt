@@ -1,14 +1,14 @@
 use Rattle.std.proofs.Common.{◌+◌, length, set, slice_index, refl, ap, arith}
 use Rattle.std.proofs.lemmas.List.{with_items_is}
 use Rattle.std.proofs.lemmas.Option.{MatchOption-at_none}
-use Rattle.wcp_queue.specs.CheckerView.{state_of}
+use Rattle.wcp_queue.specs.CheckerView.{checker_state}
 use Rattle.wcp_queue.proofs.SoundCheckers.{room_for_tests, IsSoundChecker-snapshot}
 use Rattle.wcp_queue.proofs.StandingForItems.{StandsForItems-snapshot, StandsForItems-found}
 use Rattle.wcp_queue.proofs.checker.Checker.take_snapshot.Goals as goal
 use Rattle.wcp_queue.proofs.checker.Checker.take_snapshot.Goals.{then-is_none+in_ok-add_candidate, else-is_none}
 
 pub add_candidate-requires-clause-room : goal.add_candidate-requires-clause-room
-add_candidate-requires-clause-room c = rw c.deref_mut.ensures.value (room_for_tests (state_of c.self.inside) c.self.invariant)
+add_candidate-requires-clause-room c = rw c.deref_mut.ensures.value (room_for_tests (checker_state c.self.inside) c.self.invariant)
 
 pub invariant_of-self-2 : goal.invariant_of-self-2
 invariant_of-self-2 c =
@@ -20,13 +20,13 @@ invariant_of-self-2 c =
           let items = with_items_is c.self.inside.queues w.add_candidate.new.queues (omega arith) in
           let added = w.in_ok-add_candidate.ensures in
           rw (w.self-inside-is, items)
-          (IsSoundChecker-snapshot (state_of c.self.inside) c.self.invariant
+          (IsSoundChecker-snapshot (checker_state c.self.inside) c.self.invariant
           (record { queues = w.add_candidate.new.queues; floor = w.add_candidate.new.floor; taken = set c.self.inside.taken c.args.p (slice_index c.self.inside.taken c.args.p + 1); closed = c.self.inside.closed; found = w.add_candidate.new.found })
           c.args.p (omega (arith, within, c.self.invariant.few, c.self.invariant.counts)) few refl refl (omega (arith, ap length shown))
           added.settled (λ none. rw shown at (MatchOption-at_none _ _ none added.cut)) (rw shown at added.tests))
       | else-is_none w ↦
           rw w.self-inside-is
-          (IsSoundChecker-snapshot (state_of c.self.inside) c.self.invariant
+          (IsSoundChecker-snapshot (checker_state c.self.inside) c.self.invariant
           (record { queues = c.self.inside.queues.items; floor = c.self.inside.floor; taken = set c.self.inside.taken c.args.p (slice_index c.self.inside.taken c.args.p + 1); closed = c.self.inside.closed; found = c.self.inside.found })
           c.args.p (omega (arith, within, c.self.invariant.few, c.self.invariant.counts)) few refl refl refl
           c.self.invariant.settled c.self.invariant.waiting (omega arith))
@@ -42,13 +42,13 @@ returns-clause-taken c =
           let items = with_items_is c.self.inside.queues w.add_candidate.new.queues (omega arith) in
           let added = w.in_ok-add_candidate.ensures in
           rw (w.self-inside-is, items, ← c.self.view_is)
-          (λ list stands. StandsForItems-snapshot (state_of c.self.inside)
+          (λ list stands. StandsForItems-snapshot (checker_state c.self.inside)
           (record { queues = w.add_candidate.new.queues; floor = w.add_candidate.new.floor; taken = set c.self.inside.taken c.args.p (slice_index c.self.inside.taken c.args.p + 1); closed = c.self.inside.closed; found = w.add_candidate.new.found })
           list c.args.p c.args.clock.now stands within still_open (omega (arith, within, c.self.invariant.few, c.self.invariant.counts)) refl refl (omega (arith, ap length shown))
           w.if-is_none.ensures (rw shown at added.left) (rw shown at added.cut))
       | else-is_none w ↦
           rw (w.self-inside-is, ← c.self.view_is)
-          (λ list stands. StandsForItems-found (state_of c.self.inside)
+          (λ list stands. StandsForItems-found (checker_state c.self.inside)
           (record { queues = c.self.inside.queues.items; floor = c.self.inside.floor; taken = set c.self.inside.taken c.args.p (slice_index c.self.inside.taken c.args.p + 1); closed = c.self.inside.closed; found = c.self.inside.found })
           list c.args.p c.args.clock.now stands within still_open (omega (arith, within, c.self.invariant.few, c.self.invariant.counts)) refl refl refl w.if-is_none.ensures refl)
     ]
