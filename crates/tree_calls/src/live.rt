@@ -7,11 +7,10 @@ use std::sync::Wait;
 use std::thread::{Threads, join, map_vec};
 use std::time::{Clock, Duration};
 use std::{io, thread};
-use wcp_clock::Item;
 use wcp_lane::Taker;
 use wcp_model::{Parent, Plan, plain_plan};
 use wcp_tree::opening::watch;
-use wcp_tree::{LiveProbe, Relay, Watch};
+use wcp_tree::{Bundle, LiveProbe, Relay, Watch};
 
 /// How many items the hold of each relay has room for.
 const HOLD: u32 = 64;
@@ -68,12 +67,17 @@ fn do_work<R: Wait + Clock>(rt: &R, probe: LiveProbe, work: Work) {
 }
 
 /// Takes until the lane is cut or so many close marks came.
-fn take_all<R: Wait>(rt: &R, mut taker: Taker<Item>, notes: u64) -> Taken {
+fn take_all<R: Wait>(rt: &R, mut taker: Taker<Bundle>, notes: u64) -> Taken {
     let mut taken = Taken::nothing();
     for _ in 0..notes {
-        match taker.take(rt) {
-            Ok(item) => taken = taken.with(&item),
-            Err(_) => return taken,
+        if taken.notes >= notes {
+            break;
+        }
+        let Ok(bundle) = taker.take(rt) else {
+            break;
+        };
+        for item in bundle.items() {
+            taken = taken.with(item);
         }
     }
     taken

@@ -1,3 +1,4 @@
+mod bundles;
 mod one_thread;
 mod running;
 mod stamps;

@@ -63,6 +63,13 @@ impl Hold {
         self.queue.front().copied()
     }
 
+    /// Reads the item at place `i`, the one that the next `pop` gives at 0.
+    pub fn get(&self, i: usize) -> Option<Item>
+        ensures { result ≡ slice_get self.now.items i }
+    {
+        self.queue.get(i).copied()
+    }
+
     /// How many items there are.
     pub fn len(&self) -> usize
         ensures count { result ≡ length self.now.items }

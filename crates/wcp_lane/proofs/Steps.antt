@@ -94,7 +94,7 @@ inside_unless true c e out = refl
 inside_unless false c e out = absurd (true≢false (sym e ∙ out))
 
 module _ {A : Type 0} (P : A → Type 0) where
-  All-front : (xs ys : List A) → All P (xs ++ ys) → All P xs
+  pub All-front : (xs ys : List A) → All P (xs ++ ys) → All P xs
   All-front [] ys all k d below = absurd (omega arith)
   All-front (x ∷ xs) ys all zero d below = all 0 d (omega arith)
   All-front (x ∷ xs) ys all (suc k) d below = All-front xs ys (λ j e within. all (suc j) e (omega arith)) k d (omega arith)
@@ -126,22 +126,22 @@ module _ {I : Type 0} (origin place : I → ℕ) (is_last : I → Bool) where
       (either_number (origin x) q) in
       subst (λ ys. AreInSequence place is_last (items_from origin q ys)) (append_assoc before (x ∷ []) xs) (AreInSequence-more numbers q (before ++ x ∷ []) xs more may.1)
 
-  -- where the items of each number are in sequence, those behind a front may follow it
-  may_follow : (members : Numbers) (all : List I) → ((q : ℕ) → q < most_processes → AreInSequence place is_last (items_from origin q all))
-      → ((q : ℕ) → q < most_processes → (items_from origin q all ≡ [] → ⊥) → sets.contains members q ≡ true)
-      → (before items behind : List I) → all ≡ before ++ (items ++ behind) → All (λ item. origin item < most_processes) items
+  -- where the items of each number of a kind are in sequence, those behind a front may follow it
+  pub may_follow : (IsOne : ℕ → Type 0) (members : Numbers) (all : List I) → ((q : ℕ) → IsOne q → AreInSequence place is_last (items_from origin q all))
+      → ((q : ℕ) → IsOne q → (items_from origin q all ≡ [] → ⊥) → sets.contains members q ≡ true)
+      → (before items behind : List I) → all ≡ before ++ (items ++ behind) → All (λ item. IsOne (origin item)) items
       → AllMayFollow origin place is_last members before items
-  may_follow members all runs owned before [] behind is numbered = tt
-  may_follow members all runs owned before (x ∷ xs) behind is numbered =
+  may_follow IsOne members all runs owned before [] behind is each = tt
+  may_follow IsOne members all runs owned before (x ∷ xs) behind is each =
       let p : ℕ = origin x in
-      let within : p < most_processes = numbered 0 x (omega arith) in
+      let within : IsOne p = each 0 x (omega arith) in
       let split : items_from origin p all ≡ items_from origin p before ++ x ∷ items_from origin p (xs ++ behind) =
       ap (items_from origin p) is ∙ items_from-append origin p before (x ∷ (xs ++ behind)) ∙ ap (λ ys. items_from origin p before ++ ys) (items_from-own origin p x (xs ++ behind) refl) in (
         record {
           owned = owned p within (λ none. not_empty (items_from origin p before) x (items_from origin p (xs ++ behind)) (sym none ∙ split));
           next = runs p within (items_from origin p before) x (items_from origin p (xs ++ behind)) split;
         },
-        may_follow members all runs owned (before ++ x ∷ []) xs behind (is ∙ sym (append_assoc before (x ∷ []) (xs ++ behind))) (λ k d below. numbered (suc k) d (omega arith)),
+        may_follow IsOne members all runs owned (before ++ x ∷ []) xs behind (is ∙ sym (append_assoc before (x ∷ []) (xs ++ behind))) (λ k d below. each (suc k) d (omega arith)),
       )
 
 module _ {M I : Type 0} (items_of : M → List I) (origin place : I → ℕ) (is_last : I → Bool) where
@@ -267,7 +267,7 @@ module _ {M I : Type 0} (items_of : M → List I) (origin place : I → ℕ) (is
               record {
                 numbered = numbered;
                 follows = λ members rest.
-                    may_follow origin place is_last members all (λ q below. subst (AreInSequence place is_last) (sym (put_is q below)) (h.rule.in_sequence q below))
+                    may_follow origin place is_last (λ q. q < most_processes) members all (λ q below. subst (AreInSequence place is_last) (sym (put_is q below)) (h.rule.in_sequence q below))
                     (λ q below some. inside_unless (sets.contains members q) (sets.contains unowned q) (rest q below) (false_unless (sets.contains unowned q) (λ member.
                     some (put_is q below ∙ sym (mine.stands [] (home unowned []) [] (ap (λ (x : Hand M). x.home) is) q below member).1))))
                     before (items_of m) (flat_map items_of within) refl numbered;

@@ -1,9 +1,10 @@
 -- What a lane gives is what its checker may take.
-use Rattle.std.proofs.Common.{◌≡◌, ℕ, suc, ◌-◌, ◌<◌, true, false, List, [], ◌∷◌, ◌++◌, length, take, map, filter, sym, refl, ap, ◌∙◌, subst, arith}
+use Rattle.std.proofs.Common.{◌≡◌, ℕ, suc, ◌-◌, ◌<◌, ◌≤◌, true, false, List, [], ◌∷◌, ◌++◌, ◌+◌, ◌↔◌, length, get_or, take, drop, map, sym, refl, ap, ◌∙◌, subst, append_assoc, arith}
+use Rattle.std.specs.FinSet as set
 use Rattle.std.specs.Prelude.{◌==◌, All, Result, Ok, Err, OnOk, IfErr, IfNone}
 use Rattle.std.specs.Result.{result_err}
 use Rattle.std.specs.List.{list_any}
-use Rattle.std.proofs.Math.Seq.{take-append_seam}
+use Rattle.std.proofs.lemmas.List.{take_more, take-append-drop, length-drop}
 use Rattle.std.proofs.lemmas.Bool.{true≢false}
 use Rattle.std.proofs.lemmas.List.{length-append, length-map}
 use Rattle.std.proofs.lemmas.List.Elements.{All-map}
@@ -15,11 +16,15 @@ use Rattle.wcp_model.specs.Report.{notes_taken, clocks_taken, snapshot_clocks, A
 use Rattle.wcp_model.proofs.NotesInTurn.{nothing_follows}
 use Rattle.wcp_lane.specs.Ends.{TakeEnd}
 use Rattle.wcp_lane.specs.Message.{items_from}
-use Rattle.wcp_queue.specs.Checker.{CheckerState, processes, closed_of, MayTake, StandsForItems}
+use Rattle.wcp_queue.specs.Checker.{CheckerState, processes, closed_of, MayTake, StandsForItems, TakesItem}
 use Rattle.wcp_queue.proofs.NotesTaken.{MayTake-next, close_mark_in, close_taken-push_close, clocks_taken-push_close}
-use Rattle.wcp_tree.specs.RelayWork.{IsTakenNext}
+use Rattle.wcp_tree.specs.Bundles.{most_bundle}
+use Rattle.wcp_tree.specs.declared.bundle.Bundle.{Bundle}
+use Rattle.wcp_lane.specs.Passes.{Numbers}
+use Rattle.wcp_tree.proofs.Accepting.{ItemMayFollow}
+use Rattle.wcp_tree.proofs.Bundling.{same_last}
 use Rattle.wcp_run.specs.declared.checker_end.CheckFault.{CheckFault}
-use Rattle.wcp_run.specs.CheckerEnds.{KeepsUp, HasTakenClose, checked, checked_by}
+use Rattle.wcp_run.specs.CheckerEnds.{KeepsUp, HasTakenClose, HasTakenLast, HasTakenUpTo, IsChecked, StopsShort, TakesItems}
 
 -- where no close mark is among these notes, they are all snapshots
 open_notes : (notes : List Note) → All (λ note. is_close note ≡ false) notes → (length (snapshot_clocks notes) ≡ length notes) × (list_any is_close notes ≡ false)
@@ -30,15 +35,13 @@ open_notes (Snap number clock ∷ notes) all =
 open_notes (Close count ∷ notes) all = absurd (true≢false (all 0 (Close count) (omega arith)))
 
 -- what the lane gives next is what the checker may take
-pub may_take : (taker : TakeEnd Item Item) (checker : CheckerState) (item : Item) → KeepsUp taker checker → IsTakenNext taker item → MayTake checker item
-may_take taker checker item keeps next =
-    let before = items_from (λ (i : Item). i.from) item.from taker.taken in
-    let same : notes_taken item.from taker.taken ≡ map (λ (i : Item). i.note) before =
-    refl in
+pub may_take : (taken : List Item) (numbers : Numbers) (checker : CheckerState) (item : Item) → ((p : ℕ) → (set.contains numbers p ≡ true) ↔ (p < processes checker)) → StandsForItems checker taken → ItemMayFollow numbers taken item → MayTake checker item
+may_take taken numbers checker item members stands next =
+    let before = items_from (λ (i : Item). i.from) item.from taken in
     let all_open = open_notes (map (λ (i : Item). i.note) before) (All-map (λ note. is_close note ≡ false) (λ (i : Item). i.note) before next.next.unended) in
     let is : IsNextNote (map (λ (i : Item). i.note) before) item.note =
     record { place = next.next.numbered ∙ sym (length-map before (λ (i : Item). i.note)) ∙ sym all_open.0; still_open = all_open.1 } in
-    MayTake-next checker taker.taken item keeps.stands ((keeps.members item.from).0 next.owned) (subst (λ notes. IsNextNote notes item.note) (sym same) is)
+    MayTake-next checker taken item stands ((members item.from).0 next.owned) is
 
 -- a checker that took a close mark has it, and has as many snapshots as it counts
 pub close_taken : (checker : CheckerState) (items : List Item) (p : ℕ) (note : Note) → StandsForItems checker (items ++ record { from = p; note = note } ∷ []) → p < processes checker
@@ -58,16 +61,36 @@ drained checker items stands closed p within =
     let last : after ≡ [] = nothing_follows before after count (subst AreInTurn is (stands.in_turn p within)) in
     (count, before, subst (λ rest. notes_taken p items ≡ before ++ Close count ∷ rest) last is)
 
--- without its last element, a list is what it was before that came
-pub without_last : (items : List Item) (item : Item) → take (length (items ++ item ∷ []) - 1) (items ++ item ∷ []) ≡ items
-without_last items item =
-    let count : length (items ++ item ∷ []) - 1 ≡ length items = omega (arith, length-append items (item ∷ [])) in
-    ap (λ k. take k (items ++ item ∷ [])) count ∙ take-append_seam items (item ∷ [])
+-- an item more was given
+pub more_taken : (old now new : CheckerState) (items : List Item) (i : ℕ) (d : Item) → i < length items → TakesItems old now (take i items) → TakesItem now new (get_or items i d) → TakesItems old new (take (i + 1) items)
+more_taken old now new items i d below before step all stands =
+    subst (StandsForItems new) (append_assoc all (take i items) (get_or items i d ∷ []) ∙ ap (λ xs. all ++ xs) (sym (take_more items i d below))) (step (all ++ take i items) (before all stands))
+
+-- the last item that was given, if it is a close mark
+pub last_taken : (now new : CheckerState) (taken items : List Item) (i : ℕ) (d : Item) → i < length items → processes new ≡ processes now → StandsForItems now (taken ++ take i items)
+    → MayTake now (get_or items i d) → TakesItem now new (get_or items i d) → HasTakenLast new (take (i + 1) items)
+last_taken now new taken items i d below same stands may step front end is close =
+    let item : Item = get_or items i d in
+    let one : item ≡ end = same_last (take i items) front item end (sym (take_more items i d below) ∙ is) in
+    subst (λ (x : Item). HasTakenClose new x.from (place_of x.note)) one
+    (close_taken new (taken ++ take i items) item.from item.note (step (taken ++ take i items) stands) (subst (λ n. item.from < n) (sym same) may.from)
+    (may.place ∙ stands.taken item.from may.from) (ap (λ (x : Item). is_close x.note) one ∙ close))
+
+-- without memory for an item, those before it were given
+pub stops_short : (items : List Item) (i : ℕ) (d : Item) → i < length items → length items ≤ most_bundle → is_close (get_or items i d).note ≡ false → StopsShort items (take i items)
+stops_short items i d below few open = record {
+  refused = get_or items i d;
+  behind = drop (i + 1) items;
+  is = sym (take-append-drop (i + 1) items) ∙ ap (λ front. front ++ drop (i + 1) items) (take_more items i d below)
+      ∙ append_assoc (take i items) (get_or items i d ∷ []) (drop (i + 1) items);
+  snapshot = open;
+  few = omega (arith, length-drop (i + 1) items, below, few);
+}
 
 -- the checker has what the loop left it, whether it met a fault or not
-pub all_checked : (met : Result (Unit {0}) CheckFault) (taker : TakeEnd Item Item) (checker : CheckerState) → OnOk met (KeepsUp taker checker)
-    → IfErr met (λ fault. StandsForItems checker (checked fault taker.taken)) → StandsForItems checker (checked_by (result_err met) taker.taken)
-all_checked (Ok done) taker checker keeps stands = keeps.stands
+pub all_checked : (met : Result (Unit {0}) CheckFault) (taker : TakeEnd Bundle Item) (checker : CheckerState) → OnOk met (KeepsUp taker checker)
+    → IfErr met (λ fault. HasTakenUpTo fault taker.taken checker) → (items : List Item) × IsChecked (result_err met) taker.taken items × StandsForItems checker items
+all_checked (Ok done) taker checker keeps stands = (taker.taken, refl, keeps.stands)
 all_checked (Err fault) taker checker keeps stands = stands
 
 -- without a fault all is drained

@@ -11,6 +11,7 @@ use Rattle.wcp_model.specs.declared.plan.Parent.{Parent}
 use Rattle.wcp_model.specs.declared.plan.Parent.TheVariants as parent
 use Rattle.wcp_lane.specs.Ends.{TakenEnd}
 use Rattle.wcp_lane.specs.Passes.{Numbers}
+use Rattle.wcp_tree.specs.declared.bundle.Bundle.{Bundle}
 use Rattle.wcp_tree.specs.Feeding.{Serves, fed, items_by, items_of}
 use Rattle.wcp_tree.specs.LiveProbe.{ClosedSide}
 use Rattle.wcp_tree.specs.Members.{IsBelow, Itself}
@@ -42,7 +43,7 @@ notes_of_items p items notes same =
     ap (map (λ (item : Item). item.note)) same ∙ notes_back p notes
 
 -- what a lane was matched for
-lane_taken : (root : TakenEnd Item Item) (IsRelay : ℕ → RelayEnd → Type 0) (relay : Relay) (end : RelayEnd) (p : ℕ) → fault_of end ≡ None
+lane_taken : (root : TakenEnd Bundle Item) (IsRelay : ℕ → RelayEnd → Type 0) (relay : Relay) (end : RelayEnd) (p : ℕ) → fault_of end ≡ None
     → AreReceiptsOf relay end → set.contains relay.putter.members p ≡ true → IsLaneMatched root IsRelay end
     → AreTakenFrom root IsRelay relay.parent p (put_by end p)
 lane_taken root IsRelay relay (Whole number watch owner taken put) p none receipts has matched =
@@ -50,7 +51,7 @@ lane_taken root IsRelay relay (Whole number watch owner taken put) p none receip
     (matched p (ap (λ members. set.contains members p) receipts.3 ∙ has))
 lane_taken root IsRelay relay (Faulted number watch fault source putter) p none receipts has matched = absurd (cc)
 
-module _ {count : ℕ} {probe_ends : List (Option ClosedSide)} {root : TakenEnd Item Item} {relay_ends : List (Option RelayEnd)}
+module _ {count : ℕ} {probe_ends : List (Option ClosedSide)} {root : TakenEnd Bundle Item} {relay_ends : List (Option RelayEnd)}
     (there : AreEndsThere count probe_ends root relay_ends) (matched : AreFirstMatched count probe_ends root relay_ends)
     (p : ℕ) (probe : ClosedSide) (sits : SitsAt probe_ends p probe) (within : p < there.plan.n) where
   abbrev emitted : List Item

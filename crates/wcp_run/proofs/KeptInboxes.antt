@@ -4,13 +4,14 @@ use Rattle.std.specs.Prelude.{slice_get, slice_set}
 use Rattle.std.proofs.lemmas.Bool.{cases_eq}
 use Rattle.wcp_clock.specs.declared.note.Item.{Item}
 use Rattle.wcp_lane.specs.Ends.{TakenEnd}
+use Rattle.wcp_tree.specs.declared.bundle.Bundle.{Bundle}
 use Rattle.wcp_tree.proofs.Entries.{set_here, set_elsewhere}
 use Rattle.wcp_run.specs.Matching.{KeepInboxes}
 use Rattle.wcp_run.specs.Seats.{SitsAt}
 use Rattle.wcp_run.proofs.MatchedRings.{sits_alone}
 use Rattle.wcp_run.proofs.Seating.{length_set}
 
-pub one_kept : (inboxes : List (Option (TakenEnd Item Item))) (place : ℕ) (seat : Option (TakenEnd Item Item)) (old new : TakenEnd Item Item)
+pub one_kept : (inboxes : List (Option (TakenEnd Bundle Item))) (place : ℕ) (seat : Option (TakenEnd Bundle Item)) (old new : TakenEnd Bundle Item)
     → place < length inboxes → SitsAt inboxes place old → new.lane ≡ old.lane → new.taken ≡ old.taken
     → KeepInboxes inboxes (slice_set (slice_set inboxes place seat) place (Some new))
 one_kept inboxes place seat old new within sits lane taken other receipt there = ⊎_elim
@@ -20,8 +21,8 @@ one_kept inboxes place seat old new within sits lane taken other receipt there =
       same = new;
       sits = ap (slice_get (slice_set (slice_set inboxes place seat) place (Some new))) same
           ∙ set_here (slice_set inboxes place seat) place (Some new) (omega (arith, within, length_set inboxes place seat));
-      lane = lane ∙ ap (λ (r : TakenEnd Item Item). r.lane) one;
-      taken = taken ∙ ap (λ (r : TakenEnd Item Item). r.taken) one;
+      lane = lane ∙ ap (λ (r : TakenEnd Bundle Item). r.lane) one;
+      taken = taken ∙ ap (λ (r : TakenEnd Bundle Item). r.taken) one;
     })
     (λ (apart : other ≢ place). record {
       same = receipt;

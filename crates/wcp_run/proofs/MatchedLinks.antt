@@ -12,6 +12,7 @@ use Rattle.wcp_model.specs.declared.plan.Parent.TheVariants as parent
 use Rattle.wcp_model.specs.Tree.{leaf_of, parent_of}
 use Rattle.wcp_ring.specs.Ends.{Ring, TakeSide}
 use Rattle.wcp_lane.specs.Ends.{LaneName, PutEnd, TakenEnd}
+use Rattle.wcp_tree.specs.declared.bundle.Bundle.{Bundle}
 use Rattle.wcp_tree.specs.Feeding.{items_of, processes_of}
 use Rattle.wcp_tree.specs.LiveProbe.{ClosedSide, LiveSide}
 use Rattle.wcp_tree.specs.RelayEnds.{AreReceiptsOf, IsReceiptOf, fault_of, taken_by}
@@ -41,62 +42,62 @@ err_no_ok (Ok a) err ok = true≢false (sym err)
 err_no_ok (Err e) err ok = true≢false (sym ok)
 
 -- the receipt of the inbox of a relay that serves relays
-abbrev pub inbox_in : Receipts → Option (TakenEnd Item Item)
+abbrev pub inbox_in : Receipts → Option (TakenEnd Bundle Item)
 inbox_in (Feeds feeds) = None
 inbox_in (Lane receipt) = Some receipt
 
-abbrev pub receipt_in : RelayEnd → Option (TakenEnd Item Item)
+abbrev pub receipt_in : RelayEnd → Option (TakenEnd Bundle Item)
 receipt_in (Whole number watch parent taken put) = inbox_in taken
 receipt_in (Faulted number watch fault source putter) = None
 
 -- what its end took is what is in the receipt
-taken_in_receipt : (end : RelayEnd) (receipt : TakenEnd Item Item) (p : ℕ) → receipt_in end ≡ Some receipt
+taken_in_receipt : (end : RelayEnd) (receipt : TakenEnd Bundle Item) (p : ℕ) → receipt_in end ≡ Some receipt
     → taken_by end p ≡ items_of p receipt.taken
 taken_in_receipt (Whole number watch parent (Feeds feeds) put) receipt p is = cc
 taken_in_receipt (Whole number watch parent (Lane own) put) receipt p is =
-    let same : own ≡ receipt = cc in ap (λ (r : TakenEnd Item Item). items_of p r.taken) same
+    let same : own ≡ receipt = cc in ap (λ (r : TakenEnd Bundle Item). items_of p r.taken) same
 taken_in_receipt (Faulted number watch fault source putter) receipt p is = cc
 
 -- a source with a lane leaves its receipt
-lane_left : (source : Source) (taken : Receipts) (lane : LaneName Item) → IsReceiptOf source taken → lane_of source ≡ Some lane
-    → (receipt : TakenEnd Item Item) × (inbox_in taken ≡ Some receipt) × (receipt.lane ≡ lane)
+lane_left : (source : Source) (taken : Receipts) (lane : LaneName Bundle) → IsReceiptOf source taken → lane_of source ≡ Some lane
+    → (receipt : TakenEnd Bundle Item) × (inbox_in taken ≡ Some receipt) × (receipt.lane ≡ lane)
 lane_left (Leaf feeds parker) (Feeds left) lane are is = absurd (cc)
 lane_left (Leaf feeds parker) (Lane receipt) lane are is = absurd are
 lane_left (Inner taker) (Feeds left) lane are is = absurd are
 lane_left (Inner taker) (Lane receipt) lane are is = (receipt, refl, are.0 ∙ (let same : taker.lane ≡ lane = cc in same))
 
-receipt_left : (relay : Relay) (end : RelayEnd) (lane : LaneName Item) → fault_of end ≡ None → AreReceiptsOf relay end
-    → lane_of relay.source ≡ Some lane → (receipt : TakenEnd Item Item) × (receipt_in end ≡ Some receipt) × (receipt.lane ≡ lane)
+receipt_left : (relay : Relay) (end : RelayEnd) (lane : LaneName Bundle) → fault_of end ≡ None → AreReceiptsOf relay end
+    → lane_of relay.source ≡ Some lane → (receipt : TakenEnd Bundle Item) × (receipt_in end ≡ Some receipt) × (receipt.lane ≡ lane)
 receipt_left relay (Whole number watch parent taken put) lane none are is = lane_left relay.source taken lane are.1 is
 receipt_left relay (Faulted number watch fault source putter) lane none are is = absurd (cc)
 
-module _ {count : ℕ} {probe_ends : List (Option ClosedSide)} {root : TakenEnd Item Item} {relay_ends : List (Option RelayEnd)}
+module _ {count : ℕ} {probe_ends : List (Option ClosedSide)} {root : TakenEnd Bundle Item} {relay_ends : List (Option RelayEnd)}
     (there : AreEndsThere count probe_ends root relay_ends) where
   -- the receipt of an owner's inbox
-  abbrev pub IsInbox : Parent → TakenEnd Item Item → Type 0
+  abbrev pub IsInbox : Parent → TakenEnd Bundle Item → Type 0
   IsInbox parent.Root receipt = receipt ≡ root
   IsInbox (parent.Relay above) receipt =
       (end : RelayEnd) × SitsAt relay_ends above end × (receipt_in end ≡ Some receipt)
 
   -- the links of the first k relays were matched, and the other ends are as they were
   pub record HaveMatched (k : ℕ) (relays : List (Option RelayEnd)) (probes : List (Option ClosedSide))
-      (inboxes : List (Option (TakenEnd Item Item))) : Type 0 where
+      (inboxes : List (Option (TakenEnd Bundle Item))) : Type 0 where
     pub ahead : (j : ℕ) → k ≤ j → slice_get relays j ≡ slice_get relay_ends j
     pub unfed : (p leaf : ℕ) → leaf_of there.plan p ≡ Some leaf → k ≤ leaf → slice_get probes p ≡ slice_get probe_ends p
-    pub open_inboxes : (owner : Parent) → IsOpen k owner → (receipt : TakenEnd Item Item) → IsInbox owner receipt
+    pub open_inboxes : (owner : Parent) → IsOpen k owner → (receipt : TakenEnd Bundle Item) → IsInbox owner receipt
         → IsKeptAt inboxes (inbox_place owner) receipt
     pub matched : AreFirstMatched k probe_ends root relay_ends
     pub size : length inboxes ≡ most_relays + 1
 
   pub same_matched : {k : ℕ} {relays same_relays : List (Option RelayEnd)} {probes same_probes : List (Option ClosedSide)}
-      {inboxes same_inboxes : List (Option (TakenEnd Item Item))} → HaveMatched k relays probes inboxes
+      {inboxes same_inboxes : List (Option (TakenEnd Bundle Item))} → HaveMatched k relays probes inboxes
       → same_relays ≡ relays → same_probes ≡ probes → same_inboxes ≡ inboxes → HaveMatched k same_relays same_probes same_inboxes
   same_matched old relays_are probes_are inboxes_are = rw (relays_are, probes_are, inboxes_are) old
 
   pub few : count ≤ most_relays
   few = omega (arith, there.all, few_relays there.plan there.checked)
 
-  pub none_matched : (inboxes : List (Option (TakenEnd Item Item))) → length inboxes ≡ most_relays + 1 → SitsAt inboxes most_relays root
+  pub none_matched : (inboxes : List (Option (TakenEnd Bundle Item))) → length inboxes ≡ most_relays + 1 → SitsAt inboxes most_relays root
       → HaveMatched 0 relay_ends probe_ends inboxes
   none_matched inboxes size sits = record {
     ahead = λ j past. refl;
@@ -106,13 +107,13 @@ module _ {count : ℕ} {probe_ends : List (Option ClosedSide)} {root : TakenEnd 
     size = size;
   }
     where
-      first : (owner : Parent) → IsOpen 0 owner → (receipt : TakenEnd Item Item) → IsInbox owner receipt
+      first : (owner : Parent) → IsOpen 0 owner → (receipt : TakenEnd Bundle Item) → IsInbox owner receipt
           → IsKeptAt inboxes (inbox_place owner) receipt
       first parent.Root open' receipt is = record {
         same = root;
         sits = sits;
-        lane = ap (λ (r : TakenEnd Item Item). r.lane) (sym is);
-        taken = ap (λ (r : TakenEnd Item Item). r.taken) (sym is);
+        lane = ap (λ (r : TakenEnd Bundle Item). r.lane) (sym is);
+        taken = ap (λ (r : TakenEnd Bundle Item). r.taken) (sym is);
       }
       first (parent.Relay above) open' receipt is = absurd (omega (arith, open'))
 
@@ -129,9 +130,9 @@ module _ {count : ℕ} {probe_ends : List (Option ClosedSide)} {root : TakenEnd 
       subst (λ relay. AreReceiptsOf relay has.end) one has.is_end.receipts
 
   -- the inbox of an owner whose lane it is
-  inbox_above : (owner : Parent) (lane : LaneName Item) → IsOpen count owner
+  inbox_above : (owner : Parent) (lane : LaneName Bundle) → IsOpen count owner
       → lane_to there.watch.inbox.taker.lane there.watch.relays.items owner ≡ Some lane
-      → (receipt : TakenEnd Item Item) × IsInbox owner receipt × (receipt.lane ≡ lane)
+      → (receipt : TakenEnd Bundle Item) × IsInbox owner receipt × (receipt.lane ≡ lane)
   inbox_above parent.Root lane open' is = (root, refl, there.lane ∙ (let same : there.watch.inbox.taker.lane ≡ lane = cc in same))
   inbox_above (parent.Relay above) lane open' is =
       let has = there.relay above open' in
@@ -141,11 +142,11 @@ module _ {count : ℕ} {probe_ends : List (Option ClosedSide)} {root : TakenEnd 
       (left.0, (has.end, has.sits, left.1), left.2)
 
   -- what was taken from an inbox is what is in its receipt
-  in_receipt : (owner : Parent) (receipt : TakenEnd Item Item) → IsInbox owner receipt → (p : ℕ) (items : List Item)
+  in_receipt : (owner : Parent) (receipt : TakenEnd Bundle Item) → IsInbox owner receipt → (p : ℕ) (items : List Item)
       → (items_of p receipt.taken ≡ items) ↔ AreTakenFrom root (SitsAt relay_ends) owner p items
   in_receipt parent.Root receipt is p items = (
-    (λ same. ap (λ (r : TakenEnd Item Item). items_of p r.taken) (sym is) ∙ same),
-    (λ same. ap (λ (r : TakenEnd Item Item). items_of p r.taken) is ∙ same),
+    (λ same. ap (λ (r : TakenEnd Bundle Item). items_of p r.taken) (sym is) ∙ same),
+    (λ same. ap (λ (r : TakenEnd Bundle Item). items_of p r.taken) is ∙ same),
   )
   in_receipt (parent.Relay above) receipt (end, sits, is) p items = (
     (λ same relay at.
@@ -209,7 +210,7 @@ module _ {count : ℕ} {probe_ends : List (Option ClosedSide)} {root : TakenEnd 
   feeds_left k (Inner taker) feeds is left = absurd left
 
   module _ {k : ℕ} (below : k < count) {relays : List (Option RelayEnd)} {probes : List (Option ClosedSide)}
-      {inboxes : List (Option (TakenEnd Item Item))} (old : HaveMatched k relays probes inboxes) where
+      {inboxes : List (Option (TakenEnd Bundle Item))} (old : HaveMatched k relays probes inboxes) where
     -- somebody sits there, without a fault
     pub whole_next : (end : RelayEnd) × SitsAt relays k end × (fault_of end ≡ None)
     whole_next =
@@ -231,7 +232,7 @@ module _ {count : ℕ} {probe_ends : List (Option ClosedSide)} {root : TakenEnd 
               ∙ ap (λ (t : TakeSide). t.ring) taker ∙ sym is.ring;
         }
 
-    module _ {number watch : ℕ} {owner : Parent} {taken : Receipts} {put : PutEnd Item Item}
+    module _ {number watch : ℕ} {owner : Parent} {taken : Receipts} {put : PutEnd Bundle Item}
         (sits : SitsAt relays k (Whole number watch owner taken put)) where
       abbrev end : RelayEnd
       end = Whole number watch owner taken put
@@ -258,7 +259,7 @@ module _ {count : ℕ} {probe_ends : List (Option ClosedSide)} {root : TakenEnd 
       open_still parent.Root is = tt
       open_still (parent.Relay above) is = omega (arith, is, below)
 
-      pub inbox : (receipt : TakenEnd Item Item) × IsInbox owner receipt × (receipt.lane ≡ put.lane)
+      pub inbox : (receipt : TakenEnd Bundle Item) × IsInbox owner receipt × (receipt.lane ≡ put.lane)
       inbox = inbox_above owner put.lane (open_still owner owner_open)
           (ap (lane_to there.watch.inbox.taker.lane there.watch.relays.items) receipts.0 ∙ (linked k below).above ∙ ap Some (sym receipts.2))
 
@@ -266,7 +267,7 @@ module _ {count : ℕ} {probe_ends : List (Option ClosedSide)} {root : TakenEnd 
       kept = old.open_inboxes owner owner_open inbox.0 inbox.1
 
       -- the receipt of its parent's inbox is there
-      pub has_inbox : (receipt : TakenEnd Item Item) × SitsAt inboxes (inbox_place owner) receipt × (receipt.lane ≡ put.lane)
+      pub has_inbox : (receipt : TakenEnd Bundle Item) × SitsAt inboxes (inbox_place owner) receipt × (receipt.lane ≡ put.lane)
       has_inbox = (kept.same, kept.sits, kept.lane ∙ inbox.2)
 
       -- its lane was matched where what was taken from that inbox is what it put
@@ -284,10 +285,10 @@ module _ {count : ℕ} {probe_ends : List (Option ClosedSide)} {root : TakenEnd 
       its_links all = all k end below sat
 
       -- the next relay
-      next : (more : List (Option (TakenEnd Item Item))) (fed : List (Option ClosedSide))
-          → ((above : Parent) → IsOpen k above → (receipt : TakenEnd Item Item) → IsInbox above receipt
+      next : (more : List (Option (TakenEnd Bundle Item))) (fed : List (Option ClosedSide))
+          → ((above : Parent) → IsOpen k above → (receipt : TakenEnd Bundle Item) → IsInbox above receipt
           → IsKeptAt more (inbox_place above) receipt)
-          → ((receipt : TakenEnd Item Item) → receipt_in end ≡ Some receipt → IsKeptAt more k receipt)
+          → ((receipt : TakenEnd Bundle Item) → receipt_in end ≡ Some receipt → IsKeptAt more k receipt)
           → length more ≡ most_relays + 1
           → ((p leaf : ℕ) → leaf_of there.plan p ≡ Some leaf → k + 1 ≤ leaf → slice_get fed p ≡ slice_get probes p)
           → AreLinksMatched (SitsAt probe_ends) root (SitsAt relay_ends) end
@@ -306,7 +307,7 @@ module _ {count : ℕ} {probe_ends : List (Option ClosedSide)} {root : TakenEnd 
         size = size;
       }
         where
-          inboxes_open : (above : Parent) → IsOpen (k + 1) above → (receipt : TakenEnd Item Item) → IsInbox above receipt
+          inboxes_open : (above : Parent) → IsOpen (k + 1) above → (receipt : TakenEnd Bundle Item) → IsInbox above receipt
               → IsKeptAt more (inbox_place above) receipt
           inboxes_open parent.Root open' receipt is = opened parent.Root tt receipt is
           inboxes_open (parent.Relay above) open' receipt is = ⊎_elim
@@ -317,8 +318,8 @@ module _ {count : ℕ} {probe_ends : List (Option ClosedSide)} {root : TakenEnd 
               (cases_eq above k)
 
       -- the inboxes stay
-      stay : (more : List (Option (TakenEnd Item Item))) → KeepInboxes inboxes more
-          → (above : Parent) → IsOpen k above → (receipt : TakenEnd Item Item) → IsInbox above receipt
+      stay : (more : List (Option (TakenEnd Bundle Item))) → KeepInboxes inboxes more
+          → (above : Parent) → IsOpen k above → (receipt : TakenEnd Bundle Item) → IsInbox above receipt
           → IsKeptAt more (inbox_place above) receipt
       stay more keep above is receipt inbox =
           let first = old.open_inboxes above is receipt inbox in
@@ -350,7 +351,7 @@ module _ {count : ℕ} {probe_ends : List (Option ClosedSide)} {root : TakenEnd 
             subst (λ taken. All (IsRingMatched (SitsAt probe_ends)) (feeds_in taken)) is matched i d within probe
             (sym (old.unfed (get_or feeds.items i d).process k (left.0 i d within).served (omega arith)) ∙ sits)
 
-        pub leaf_matched : {more : List (Option (TakenEnd Item Item))} {fed : List (Option ClosedSide)} → KeepInboxes inboxes more
+        pub leaf_matched : {more : List (Option (TakenEnd Bundle Item))} {fed : List (Option ClosedSide)} → KeepInboxes inboxes more
             → length more ≡ most_relays + 1 → IsLaneMatched root (SitsAt relay_ends) end
             → All (IsRingMatched (SitsAt probes)) feeds.items
             → ((p : ℕ) → All (λ feed. feed.process ≢ p) feeds.items → slice_get fed p ≡ slice_get probes p)
@@ -368,12 +369,12 @@ module _ {count : ℕ} {probe_ends : List (Option ClosedSide)} {root : TakenEnd 
               lane = lane;
             })
 
-      module _ {receipt : TakenEnd Item Item} (is : taken ≡ Lane receipt) where
+      module _ {receipt : TakenEnd Bundle Item} (is : taken ≡ Lane receipt) where
         moved : (above : Parent) → IsOpen k above → inbox_place above ≢ k
         moved parent.Root open' same = omega (arith, same, below, few)
         moved (parent.Relay above) open' same = omega (arith, open', same)
 
-        pub inner_matched : {more : List (Option (TakenEnd Item Item))} → KeepInboxes inboxes more
+        pub inner_matched : {more : List (Option (TakenEnd Bundle Item))} → KeepInboxes inboxes more
             → length more ≡ most_relays + 1 → IsLaneMatched root (SitsAt relay_ends) end
             → HaveMatched (k + 1) (slice_set relays k None) probes (slice_set more k (Some receipt))
         inner_matched {more} keep size lane = next (slice_set more k (Some receipt)) probes
@@ -390,8 +391,8 @@ module _ {count : ℕ} {probe_ends : List (Option ClosedSide)} {root : TakenEnd 
             record {
               same = receipt;
               sits = set_here more k (Some receipt) (omega (arith, size, below, few));
-              lane = ap (λ (r : TakenEnd Item Item). r.lane) one;
-              taken = ap (λ (r : TakenEnd Item Item). r.taken) one;
+              lane = ap (λ (r : TakenEnd Bundle Item). r.lane) one;
+              taken = ap (λ (r : TakenEnd Bundle Item). r.taken) one;
             })
             (length_set more k (Some receipt) ∙ size)
             (λ p leaf at past. refl)

@@ -20,6 +20,7 @@ use Rattle.wcp_book.specs.Totals.{emitted_of_share, taken_of_share}
 use Rattle.wcp_lane.specs.Ends.{TakenEnd}
 use Rattle.wcp_lane.specs.Passes.{Numbers}
 use Rattle.wcp_queue.specs.Checker.{IsReportOfAnyClocks}
+use Rattle.wcp_tree.specs.declared.bundle.Bundle.{Bundle}
 use Rattle.wcp_tree.specs.LiveProbe.{ClosedSide, snapshots_in}
 use Rattle.wcp_tree.specs.RelayEnds.{fault_of, number_of, watch_of}
 use Rattle.wcp_tree.specs.declared.relay_end.RelayEnd.{RelayEnd}
@@ -28,7 +29,7 @@ use Rattle.wcp_tree.proofs.CheckedPlan.{few_processes, few_relays}
 use Rattle.wcp_run.specs.Matching.{AreEndsThere, AreFirstMatched}
 use Rattle.wcp_run.specs.Seats.{AreAllThere, AreOfWatch, AreAllSeated, AreSeats, IsEndAt, SitsAt}
 use Rattle.wcp_run.specs.Settling.{AreLinksMatched, AreTakenFrom, ComeFromWatch, IsEndOfSomeProbe, IsEndOfSomeRelay, IsFreeOf, IsSettled, IsLaneMatched, share_of}
-use Rattle.wcp_run.specs.CheckerEnds.{checked_by}
+use Rattle.wcp_run.specs.CheckerEnds.{IsChecked}
 use Rattle.wcp_run.specs.declared.settle_fault.SettleFault.TheVariants.{Missing, Faulted, Unfinished}
 use Rattle.wcp_run.specs.declared.checker_end.CheckerEnd.{CheckerEnd}
 use Rattle.wcp_run.proofs.ClimbedLanes.{all_taken}
@@ -64,7 +65,7 @@ all_there place_of ends seats count are = (
 )
 
 -- links that were matched for more ends were matched for fewer
-module _ (root : TakenEnd Item Item) (IsProbe IsOneProbe : ℕ → ClosedSide → Type 0) (IsRelay IsOneRelay : ℕ → RelayEnd → Type 0)
+module _ (root : TakenEnd Bundle Item) (IsProbe IsOneProbe : ℕ → ClosedSide → Type 0) (IsRelay IsOneRelay : ℕ → RelayEnd → Type 0)
     (probe_is : (p : ℕ) (end : ClosedSide) → IsOneProbe p end → IsProbe p end)
     (relay_is : (k : ℕ) (end : RelayEnd) → IsOneRelay k end → IsRelay k end) where
   taken_for_fewer : (owner : Parent) (p : ℕ) (items : List Item) → AreTakenFrom root IsRelay owner p items
@@ -253,6 +254,10 @@ module _ {probes : List ClosedSide} {relays : List RelayEnd} {checker : CheckerE
           finished.no_others p past ∙ sym (slice_get_past tallies p (omega (arith, are.count_is, past))))
           (cases_lt p checker.processes)
 
+      -- without a fault the checker has all that its loop took
+      all_checked : checker.fault ≡ None → come.of_checker.items ≡ checker.receipt.taken
+      all_checked none = subst (λ fault. IsChecked fault checker.receipt.taken come.of_checker.items) none come.of_checker.checked
+
       -- what a run's ends tell
       pub all_settled : AreAllSeated checker.processes probe_seats × AreAllSeated checker.relays relay_seats
           → IsFreeOf probes relays checker book Faulted
@@ -262,10 +267,9 @@ module _ {probes : List ClosedSide} {relays : List RelayEnd} {checker : CheckerE
       all_settled seated whole posted each = record {
         all = ((none_missing book).0 seated).0;
         whole = All-from_contains (λ (end : ClosedSide). notes_taken end.id checker.receipt.taken ≡ end.link.put) probes whole_of;
-        any_clocks = subst (λ fault. IsReportOfAnyClocks checker.processes (checked_by fault checker.receipt.taken) checker.report)
-            whole.1 come.of_checker.any_clocks;
-        exact = subst (λ fault. ClocksRise checker.processes (checked_by fault checker.receipt.taken)
-            → IsReportByClocks checker.processes (checked_by fault checker.receipt.taken) checker.report) whole.1 come.of_checker.exact;
+        any_clocks = subst (λ items. IsReportOfAnyClocks checker.processes items checker.report) (all_checked whole.1) come.of_checker.any_clocks;
+        exact = subst (λ items. ClocksRise checker.processes items → IsReportByClocks checker.processes items checker.report)
+            (all_checked whole.1) come.of_checker.exact;
         drained = subst (λ fault. IfNone fault (IsDrained checker.processes checker.receipt.taken)) whole.1 come.of_checker.drained;
         processes = are.count_is;
         tallies = All-from_contains

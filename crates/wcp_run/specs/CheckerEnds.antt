@@ -1,19 +1,20 @@
 -- What the loop of a checker leaves.
-use Rattle.std.specs.Prelude.{◌≡◌, ℕ, ◌-◌, ◌<◌, ◌↔◌, true, false, Option, Some, None, IfNone}
-use Rattle.std.specs.Prelude.{List, [], ◌∷◌, ◌++◌, length, take}
+use Rattle.std.specs.Prelude.{◌≡◌, ℕ, ◌<◌, ◌↔◌, true, false, Option, Some, IfNone, List, [], ◌∷◌, ◌++◌, length}
+use Rattle.wcp_clock.specs.Notes.{place_of, is_close}
 use Rattle.std.specs.FinSet as set
-use Rattle.wcp_clock.specs.Notes.{is_close}
 use Rattle.wcp_clock.specs.declared.note.Item.{Item}
 use Rattle.wcp_model.specs.Report.{ClocksRise, IsReportByClocks, IsDrained}
 use Rattle.wcp_lane.specs.Ends.{TakeEnd}
 use Rattle.wcp_queue.specs.Checker.{CheckerState, processes, taken_of, closed_of, StandsForItems, IsReportOfAnyClocks}
+use Rattle.wcp_tree.specs.Bundles.{most_bundle}
+use Rattle.wcp_tree.specs.declared.bundle.Bundle.{Bundle}
 use Rattle.wcp_tree.specs.declared.checker_inbox.CheckerInbox.{CheckerInbox}
 use Rattle.wcp_run.specs.declared.checker_end.CheckFault.{CheckFault}
-use Rattle.wcp_run.specs.declared.checker_end.CheckFault.TheVariants.{Memory, Cut}
+use Rattle.wcp_run.specs.declared.checker_end.CheckFault.TheVariants.{Memory}
 use Rattle.wcp_run.specs.declared.checker_end.CheckerEnd.{CheckerEnd}
 
 -- A checker keeps up with the taker of a lane of its processes: it has taken what the taker took.
-pub record KeepsUp (taker : TakeEnd Item Item) (checker : CheckerState) : Type 0 where
+pub record KeepsUp (taker : TakeEnd Bundle Item) (checker : CheckerState) : Type 0 where
   pub members : (p : ℕ) → (set.contains taker.members p ≡ true) ↔ (p < processes checker)
   pub stands : StandsForItems checker taker.taken
 
@@ -29,23 +30,32 @@ pub record HasTakenClose (checker : CheckerState) (p count : ℕ) : Type 0 where
   pub closed : closed_of checker p ≡ true
   pub counted : taken_of checker p ≡ count
 
--- What a checker has of the items that its loop took when it met a fault: all of them, but for the last one where there
--- was no memory for it.
-abbrev pub checked : CheckFault → List Item → List Item
-checked Memory taken = take (length taken - 1) taken
-checked (Cut cut) taken = taken
+-- A checker took these items, one after another.
+abbrev pub TakesItems : CheckerState → CheckerState → List Item → Type 0
+TakesItems old new given = (items : List Item) → StandsForItems old items → StandsForItems new (items ++ given)
 
--- What a checker has of the items that its loop took.
-abbrev pub checked_by : Option CheckFault → List Item → List Item
-checked_by (Some fault) taken = checked fault taken
-checked_by None taken = taken
+-- Where the last of these items is a close mark, a checker has taken it.
+abbrev pub HasTakenLast : CheckerState → List Item → Type 0
+HasTakenLast checker items = (front : List Item) (end : Item) → items ≡ front ++ end ∷ [] → is_close end.note ≡ true
+    → HasTakenClose checker end.from (place_of end.note)
 
--- The last of these items is a snapshot.
-pub record EndsInSnapshot (items : List Item) : Type 0 where
-  pub before : List Item
-  pub last : Item
-  pub is : items ≡ before ++ last ∷ []
-  pub still_open : is_close last.note ≡ false
+-- There was no memory for one of these items, which is a snapshot: a checker has those before it, and behind it is at
+-- most the rest of its bundle.
+pub record StopsShort (taken items : List Item) : Type 0 where
+  pub refused : Item
+  pub behind : List Item
+  pub is : taken ≡ items ++ refused ∷ behind
+  pub snapshot : is_close refused.note ≡ false
+  pub few : length behind < most_bundle
+
+-- What a checker has of the items that its loop took: all of them, but where memory ran out.
+abbrev pub IsChecked : Option CheckFault → List Item → List Item → Type 0
+IsChecked (Some Memory) taken items = StopsShort taken items
+IsChecked _ taken items = items ≡ taken
+
+-- A checker has what its loop took before it met a fault.
+abbrev pub HasTakenUpTo : CheckFault → List Item → CheckerState → Type 0
+HasTakenUpTo met taken checker = (items : List Item) × IsChecked (Some met) taken items × StandsForItems checker items
 
 -- What the loop of a checker leaves: its receipt is of the inbox's lane and was matched with no putter yet, its report
 -- is that of the items that the checker took, and where it met no fault all is drained.
@@ -56,7 +66,8 @@ pub record IsEndOfLoop (inbox : CheckerInbox) (end : CheckerEnd) : Type 0 where
   pub members : end.receipt.members ≡ inbox.taker.members
   pub processes : (p : ℕ) → (set.contains end.receipt.members p ≡ true) ↔ (p < end.processes)
   pub unmatched : end.receipt.matched ≡ set.empty
-  pub any_clocks : IsReportOfAnyClocks end.processes (checked_by end.fault end.receipt.taken) end.report
-  pub exact : ClocksRise end.processes (checked_by end.fault end.receipt.taken)
-      → IsReportByClocks end.processes (checked_by end.fault end.receipt.taken) end.report
+  pub items : List Item
+  pub checked : IsChecked end.fault end.receipt.taken items
+  pub any_clocks : IsReportOfAnyClocks end.processes items end.report
+  pub exact : ClocksRise end.processes items → IsReportByClocks end.processes items end.report
   pub drained : IfNone end.fault (IsDrained end.processes end.receipt.taken)

@@ -7,6 +7,7 @@ use Rattle.wcp_model.specs.declared.plan.Parent.{Parent}
 use Rattle.wcp_model.specs.declared.plan.Parent.TheVariants as parent
 use Rattle.wcp_model.specs.declared.plan.Plan.{Plan}
 use Rattle.wcp_lane.specs.Ends.{TakenEnd}
+use Rattle.wcp_tree.specs.declared.bundle.Bundle.{Bundle}
 use Rattle.wcp_tree.specs.LiveProbe.{ClosedSide}
 use Rattle.wcp_tree.specs.RelayEnds.{fault_of, number_of}
 use Rattle.wcp_tree.specs.Watches.{IsWired}
@@ -28,16 +29,17 @@ inbox_place parent.Root = most_relays
 inbox_place (parent.Relay above) = above
 
 -- This receipt is here, of the same lane and with the same items.
-pub record IsKeptAt (inboxes : List (Option (TakenEnd Item Item))) (place : ℕ)
-    (receipt : TakenEnd Item Item) : Type 0 where
-  pub same : TakenEnd Item Item
+pub record IsKeptAt (inboxes : List (Option (TakenEnd Bundle Item))) (place : ℕ)
+    (receipt : TakenEnd Bundle Item) : Type 0 where
+  pub same : TakenEnd Bundle Item
   pub sits : SitsAt inboxes place same
   pub lane : same.lane ≡ receipt.lane
   pub taken : same.taken ≡ receipt.taken
 
 -- Each receipt that was here is here still, of the same lane and with the same items.
-abbrev pub KeepInboxes : List (Option (TakenEnd Item Item)) → List (Option (TakenEnd Item Item)) → Type 0
-KeepInboxes old new = (place : ℕ) (receipt : TakenEnd Item Item) → SitsAt old place receipt → IsKeptAt new place receipt
+abbrev pub KeepInboxes : List (Option (TakenEnd Bundle Item)) → List (Option (TakenEnd Bundle Item)) → Type 0
+KeepInboxes old new = (place : ℕ) (receipt : TakenEnd Bundle Item)
+    → SitsAt old place receipt → IsKeptAt new place receipt
 
 -- The end of process p's probe sits there.
 pub record HasProbeEnd (watch : Watch) (probes : List (Option ClosedSide)) (p : ℕ) : Type 0 where
@@ -56,7 +58,7 @@ pub record HasRelayEnd (watch : Watch) (relays : List (Option RelayEnd)) (number
 
 -- The ends of all probes and relays of a watch that was wired by a checked plan sit there, without a fault, and this is
 -- the receipt of the root's lane.
-pub record AreEndsThere (count : ℕ) (probes : List (Option ClosedSide)) (root : TakenEnd Item Item)
+pub record AreEndsThere (count : ℕ) (probes : List (Option ClosedSide)) (root : TakenEnd Bundle Item)
     (relays : List (Option RelayEnd)) : Type 0 where
   pub plan : Plan
   pub watch_number : ℕ
@@ -69,7 +71,7 @@ pub record AreEndsThere (count : ℕ) (probes : List (Option ClosedSide)) (root 
   pub lane : root.lane ≡ watch.inbox.taker.lane
 
 -- The links of the first k relays were matched, as the ends sit.
-abbrev pub AreFirstMatched : ℕ → List (Option ClosedSide) → TakenEnd Item Item → List (Option RelayEnd) → Type 0
+abbrev pub AreFirstMatched : ℕ → List (Option ClosedSide) → TakenEnd Bundle Item → List (Option RelayEnd) → Type 0
 AreFirstMatched k probes root relays =
     (number : ℕ) (relay : RelayEnd) → number < k → SitsAt relays number relay
     → AreLinksMatched (SitsAt probes) root (SitsAt relays) relay

@@ -14,6 +14,7 @@ use Rattle.wcp_model.specs.declared.plan.Plan.{Plan}
 use Rattle.wcp_book.specs.Totals.{AreTotals}
 use Rattle.wcp_lane.specs.Ends.{TakenEnd}
 use Rattle.wcp_queue.specs.Checker.{IsReportOfAnyClocks}
+use Rattle.wcp_tree.specs.declared.bundle.Bundle.{Bundle}
 use Rattle.wcp_tree.specs.Feeding.{items_of}
 use Rattle.wcp_tree.specs.LiveProbe.{LiveSide, ClosedSide, snapshots_in}
 use Rattle.wcp_tree.specs.RelayEnds.{AreReceiptsOf, fault_of, number_of, put_by, taken_by, watch_of}
@@ -62,13 +63,13 @@ abbrev pub IsRingMatched : (ℕ → ClosedSide → Type 0) → Feed → Type 0
 IsRingMatched IsProbe feed = (probe : ClosedSide) → IsProbe feed.process probe → feed.taker.taken ≡ probe.link.put
 
 -- These are the items of process p that were taken from an inbox: the root's, or that of a relay.
-abbrev pub AreTakenFrom : TakenEnd Item Item → (ℕ → RelayEnd → Type 0) → Parent → ℕ → List Item → Type 0
+abbrev pub AreTakenFrom : TakenEnd Bundle Item → (ℕ → RelayEnd → Type 0) → Parent → ℕ → List Item → Type 0
 AreTakenFrom root IsRelay parent.Root p items = items_of p root.taken ≡ items
 AreTakenFrom root IsRelay (parent.Relay above) p items =
     (relay : RelayEnd) → IsRelay above relay → taken_by relay p ≡ items
 
 -- The lane of a relay was matched: what it put of each of its processes was taken from the inbox of its parent.
-abbrev pub IsLaneMatched : TakenEnd Item Item → (ℕ → RelayEnd → Type 0) → RelayEnd → Type 0
+abbrev pub IsLaneMatched : TakenEnd Bundle Item → (ℕ → RelayEnd → Type 0) → RelayEnd → Type 0
 IsLaneMatched root IsRelay (Whole number watch parent taken put) =
     (p : ℕ) → set.contains put.members p ≡ true → AreTakenFrom root IsRelay parent p (items_of p put.put)
 IsLaneMatched root IsRelay (Faulted number watch fault source putter) = Unit {0}
@@ -83,7 +84,7 @@ feeds_of (Whole number watch parent taken put) = feeds_in taken
 feeds_of (Faulted number watch fault source putter) = []
 
 -- The links of a relay were matched: its rings, and its lane.
-pub record AreLinksMatched (IsProbe : ℕ → ClosedSide → Type 0) (root : TakenEnd Item Item)
+pub record AreLinksMatched (IsProbe : ℕ → ClosedSide → Type 0) (root : TakenEnd Bundle Item)
     (IsRelay : ℕ → RelayEnd → Type 0) (relay : RelayEnd) : Type 0 where
   pub rings : All (IsRingMatched IsProbe) (feeds_of relay)
   pub lane : IsLaneMatched root IsRelay relay
@@ -93,7 +94,7 @@ abbrev pub share_of : ClosedSide → Tally
 share_of probe = record { emitted = snapshots_in probe.link.put; taken = snapshots_in probe.link.put }
 
 -- All rings and lanes were matched, and the shares in the book are just those of the n processes.
-pub record AreFinished (n : ℕ) (probes : List ClosedSide) (root : TakenEnd Item Item) (relays : List RelayEnd)
+pub record AreFinished (n : ℕ) (probes : List ClosedSide) (root : TakenEnd Bundle Item) (relays : List RelayEnd)
     (book : List (Option Tally)) : Type 0 where
   pub links : All (AreLinksMatched (IsEndAt (λ end. end.id) probes) root (IsEndAt number_of relays)) relays
   pub shares : All (λ probe. option_flatten (slice_get book probe.id) ≡ Some (share_of probe)) probes

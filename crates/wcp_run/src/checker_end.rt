@@ -1,8 +1,8 @@
 ghost use Rattle.std.specs.Prelude.{◌≡◌};
 
-use wcp_clock::Item;
 use wcp_lane::{Cut, TakeReceipt};
 use wcp_model::Report;
+use wcp_tree::Bundle;
 
 /// Why a checker didn't take every close mark.
 #[derive(Clone, Copy, Debug, PartialEq, Eq)]
@@ -23,7 +23,7 @@ pub struct CheckerEnd {
     /// How many relays the watch has.
     pub(crate) relays: u32,
     /// What is left of the end of the root's lane that took.
-    pub(crate) receipt: TakeReceipt<Item>,
+    pub(crate) receipt: TakeReceipt<Bundle>,
     pub(crate) report: Report,
     pub(crate) fault: Option<CheckFault>,
 }

@@ -8,19 +8,20 @@ ghost use Rattle.wcp_run.specs.Matching.{KeepInboxes, inbox_place};
 ghost use Rattle.wcp_run.specs.declared.settle_fault.SettleFault.TheVariants as settle_fault;
 
 use crate::settle_fault::SettleFault;
-use wcp_clock::{Item, MAX_RELAYS};
+use wcp_clock::MAX_RELAYS;
 use wcp_lane::{PutReceipt, TakeReceipt, reconcile};
 use wcp_model::Parent;
+use wcp_tree::Bundle;
 
 /// Matches what a relay put with what was taken from the inbox of its parent. The inboxes of the relays
 /// are by their numbers, and the root's is behind them. `Err` where not all that it put was taken.
 pub(crate) fn match_lane(
     parent: Parent,
-    put: PutReceipt<Item>,
-    inboxes: &mut [Option<TakeReceipt<Item>>],
+    put: PutReceipt<Bundle>,
+    inboxes: &mut [Option<TakeReceipt<Bundle>>],
 ) -> Result<(), SettleFault>
-    requires { (receipt : TakenEnd Item Item) × SitsAt inboxes.old (inbox_place parent) receipt × (receipt.lane ≡ put.lane) }
-    ensures exact { (receipt : TakenEnd Item Item) → SitsAt inboxes.old (inbox_place parent) receipt
+    requires { (receipt : TakenEnd Bundle Item) × SitsAt inboxes.old (inbox_place parent) receipt × (receipt.lane ≡ put.lane) }
+    ensures exact { (receipt : TakenEnd Bundle Item) → SitsAt inboxes.old (inbox_place parent) receipt
         → IsOk result ↔ ((p : ℕ) → set.contains put.members p ≡ true
         → items_of p receipt.taken ≡ items_of p put.put) }
     ensures kept { OnOk result (KeepInboxes inboxes.old inboxes.new) }

@@ -10,10 +10,10 @@ use crate::lanes::match_lane;
 use crate::rings::match_rings;
 use crate::seats::empty;
 use crate::settle_fault::SettleFault;
-use wcp_clock::{Item, MAX_RELAYS};
+use wcp_clock::MAX_RELAYS;
 use wcp_lane::{PutReceipt, TakeReceipt};
 use wcp_model::Parent;
-use wcp_tree::{ProbeEnd, Receipts, RelayEnd};
+use wcp_tree::{Bundle, ProbeEnd, Receipts, RelayEnd};
 
 /// A place for the inbox of each relay, and one for the root's.
 const INBOXES: usize = MAX_RELAYS + 1;
@@ -23,14 +23,14 @@ const INBOXES: usize = MAX_RELAYS + 1;
 pub(crate) fn match_links(
     count: u32,
     probes: &mut [Option<ProbeEnd>],
-    root: TakeReceipt<Item>,
+    root: TakeReceipt<Bundle>,
     relays: &mut [Option<RelayEnd>],
 ) -> Result<(), SettleFault>
     requires { AreEndsThere count probes.old root relays.old }
     ensures exact { IsOk result ↔ AreFirstMatched count probes.old root relays.old }
     ensures fault { IfErr result (λ fault. fault ≡ settle_fault.Unfinished) }
 {
-    let mut inboxes: [Option<TakeReceipt<Item>>; INBOXES] = empty();
+    let mut inboxes: [Option<TakeReceipt<Bundle>>; INBOXES] = empty();
     inboxes[MAX_RELAYS] = Some(root);
     for number in 0..count as usize {
         let (parent, taken, put) = take_end(relays, number);
@@ -44,7 +44,7 @@ pub(crate) fn match_links(
 }
 
 /// Takes the end of a relay out of its place: the relay's parent, its receipts, and what it put.
-fn take_end(relays: &mut [Option<RelayEnd>], number: usize) -> (Parent, Receipts, PutReceipt<Item>)
+fn take_end(relays: &mut [Option<RelayEnd>], number: usize) -> (Parent, Receipts, PutReceipt<Bundle>)
     requires { (end : RelayEnd) × SitsAt relays.old number end × (fault_of end ≡ None) }
     ensures sat { (own watch : ℕ) × SitsAt relays.old number (relay_end.Whole own watch result.0 result.1 result.2) }
     ensures gone { relays.new ≡ slice_set relays.old number None }
@@ -66,7 +66,7 @@ fn take_end(relays: &mut [Option<RelayEnd>], number: usize) -> (Parent, Receipts
 }
 
 /// Keeps the receipt of a relay's inbox.
-fn keep(inboxes: &mut [Option<TakeReceipt<Item>>], number: usize, receipt: TakeReceipt<Item>)
+fn keep(inboxes: &mut [Option<TakeReceipt<Bundle>>], number: usize, receipt: TakeReceipt<Bundle>)
     requires { number < length inboxes.old }
     ensures { inboxes.new ≡ slice_set inboxes.old number (Some receipt) }
 {

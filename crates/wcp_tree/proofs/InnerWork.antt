@@ -1,5 +1,5 @@
 -- A relay with a lane stays at work.
-use Rattle.std.proofs.Common.{◌≡◌, ◌≢◌, ℕ, suc, true, false, true≢false, ◌||◌, None, List, [], ◌∷◌, ◌++◌, sym, ap, ◌∙◌, subst, ⊎_elim, arith}
+use Rattle.std.proofs.Common.{◌≡◌, ◌≢◌, ℕ, suc, true, false, true≢false, ◌||◌, None, List, [], ◌∷◌, ◌++◌, sym, ap, ◌∙◌, subst, refl, append_assoc, ⊎_elim, arith}
 use Rattle.std.specs.Prelude.{All, IfNone, IfSome, nat_eq}
 use Rattle.std.specs.FinSet as set
 use Rattle.std.specs.Ordering.{nat_cmp}
@@ -10,42 +10,42 @@ use Rattle.wcp_clock.specs.declared.note.Item.{Item}
 use Rattle.wcp_clock.specs.Notes.{is_close}
 use Rattle.wcp_lane.specs.Ends.{TakeEnd}
 use Rattle.wcp_lane.specs.Passes.{Numbers}
+use Rattle.wcp_tree.specs.declared.bundle.Bundle.{Bundle}
 use Rattle.wcp_tree.specs.declared.outlet.Outlet.{Outlet}
 use Rattle.wcp_tree.specs.Feeding.{items_of, IsEnded}
-use Rattle.wcp_tree.specs.RelayWork.{handed, IsSound, IsNextItem, IsNextAfter, IsTakenNext, IsSameOutlet, IsInnerAtWork, AreClosed}
+use Rattle.wcp_tree.specs.RelayWork.{handed, IsFaithful, IsSound, AreTakenNext, IsSameOutlet, IsInnerAtWork, ItemsMayFollow, AreClosed}
+use Rattle.wcp_tree.proofs.Accepting.{ItemMayFollow, follow_same}
 use Rattle.wcp_tree.proofs.Lists.{either_number, items_of-append, items_of-own, items_of-other}
-use Rattle.wcp_tree.proofs.Faithful.{faithful_more, faithful_same, only_none}
+use Rattle.wcp_tree.proofs.Faithful.{faithful_same, only_none}
 use Rattle.wcp_tree.proofs.Passing.{if_none}
 
-pub inner_owned : (taker : TakeEnd Item Item) (outlet : Outlet) (item : Item) → IsInnerAtWork taker outlet → IsTakenNext taker item → set.contains outlet.putter.members item.from ≡ true
-inner_owned taker outlet item work next = work.among item.from next.owned
+pub inner_follows : (taker : TakeEnd Bundle Item) (outlet : Outlet) (items : List Item) → IsInnerAtWork taker outlet → AreTakenNext taker items
+    → IfNone outlet.cut (ItemsMayFollow outlet.putter.members (handed outlet) items)
+inner_follows taker outlet items work next =
+    only_none _ outlet.cut (λ none. follow_same taker.members outlet.putter.members taker.taken (handed outlet) items work.among (λ p. if_none _ outlet.cut none work.faithful.whole p) next)
 
-pub inner_next : (taker : TakeEnd Item Item) (outlet : Outlet) (item : Item) → IsInnerAtWork taker outlet → IsTakenNext taker item → IfNone outlet.cut (IsNextItem (handed outlet) item)
-inner_next taker outlet item work next =
-    only_none _ outlet.cut (λ none. subst (λ xs. IsNextAfter xs item) (sym (if_none _ outlet.cut none work.faithful.whole item.from)) next.next)
-
--- an item was taken, and the outlet was handed it
-pub inner_taken : (old new : TakeEnd Item Item) (outlet more : Outlet) (item : Item) → IsInnerAtWork old outlet → new ≡ record old { taken = old.taken ++ item ∷ [] }
+-- a bundle was taken, and the outlet was handed it
+pub inner_taken : (old new : TakeEnd Bundle Item) (outlet more : Outlet) (items : List Item) → IsInnerAtWork old outlet → new ≡ record old { taken = old.taken ++ items }
     → IsSameOutlet outlet more → IsSound more
-    → IfNone more.cut ((outlet.cut ≡ None) × (handed more ≡ handed outlet ++ item ∷ [])) → IfSome more.cut (λ cut. handed more ≡ handed outlet)
+    → ((taken : ℕ → List Item) → IsFaithful taken outlet → IsFaithful (λ p. taken p ++ items_of p items) more)
     → IsInnerAtWork new more
-inner_taken old new outlet more item work is same sound passed let_go =
+inner_taken old new outlet more items work is same sound faithful =
     record {
-      among = λ p own. ap (λ m. set.contains m p) same.1 ∙ work.among p (sym (ap (λ (e : TakeEnd Item Item). set.contains e.members p) is) ∙ own);
+      among = λ p own. ap (λ m. set.contains m p) same.1 ∙ work.among p (sym (ap (λ (e : TakeEnd Bundle Item). set.contains e.members p) is) ∙ own);
       sound = sound;
-      faithful = faithful_more (λ p. items_of p old.taken) (λ p. items_of p new.taken) outlet more item work.faithful
-          (λ p. ap (λ (e : TakeEnd Item Item). items_of p e.taken) is ∙ items_of-append p old.taken (item ∷ [])) passed let_go;
+      faithful = faithful_same (λ p. items_of p old.taken ++ items_of p items) (λ p. items_of p new.taken) more more (faithful (λ p. items_of p old.taken) work.faithful)
+          (λ p. ap (λ (e : TakeEnd Bundle Item). items_of p e.taken) is ∙ items_of-append p old.taken items) refl (λ none. none);
     }
 
 -- nothing was taken, and the outlet passed on what it holds
-pub inner_passed : (old new : TakeEnd Item Item) (outlet more : Outlet) → IsInnerAtWork old outlet → new ≡ old → IsSameOutlet outlet more → IsSound more
+pub inner_passed : (old new : TakeEnd Bundle Item) (outlet more : Outlet) → IsInnerAtWork old outlet → new ≡ old → IsSameOutlet outlet more → IsSound more
     → handed more ≡ handed outlet → (more.cut ≡ None → outlet.cut ≡ None) → IsInnerAtWork new more
 inner_passed old new outlet more work is same sound whole uncut =
     record {
-      among = λ p own. ap (λ m. set.contains m p) same.1 ∙ work.among p (sym (ap (λ (e : TakeEnd Item Item). set.contains e.members p) is) ∙ own);
+      among = λ p own. ap (λ m. set.contains m p) same.1 ∙ work.among p (sym (ap (λ (e : TakeEnd Bundle Item). set.contains e.members p) is) ∙ own);
       sound = sound;
       faithful = faithful_same (λ p. items_of p old.taken) (λ p. items_of p new.taken) outlet more work.faithful
-          (λ p. ap (λ (e : TakeEnd Item Item). items_of p e.taken) is) whole uncut;
+          (λ p. ap (λ (e : TakeEnd Bundle Item). items_of p e.taken) is) whole uncut;
     }
 
 abbrev EndsWell : List Item → Type 0
@@ -59,40 +59,53 @@ ended_not_next : (items : List Item) → EndsWell items → All (λ (i : Item). 
 ended_not_next items ended all =
     true≢false (sym ended.3 ∙ last_of_all ended.0 ended.1 (subst (All (λ (i : Item). is_close i.note ≡ false)) ended.2 all))
 
-taken_other : (old new : TakeEnd Item Item) (item : Item) (p : ℕ) → new ≡ record old { taken = old.taken ++ item ∷ [] } → p ≢ item.from → items_of p new.taken ≡ items_of p old.taken
-taken_other old new item p is apart =
-    ap (λ (e : TakeEnd Item Item). items_of p e.taken) is ∙ items_of-append p old.taken (item ∷ [])
-    ∙ ap (λ xs. items_of p old.taken ++ xs) (items_of-other p item (λ e. apart (sym e))) ∙ append-nil (items_of p old.taken)
-
-taken_own : (old new : TakeEnd Item Item) (item : Item) (p : ℕ) → new ≡ record old { taken = old.taken ++ item ∷ [] } → item.from ≡ p → items_of p new.taken ≡ items_of p old.taken ++ item ∷ []
-taken_own old new item p is own =
-    ap (λ (e : TakeEnd Item Item). items_of p e.taken) is ∙ items_of-append p old.taken (item ∷ [])
-    ∙ ap (λ xs. items_of p old.taken ++ xs) (items_of-own p item own)
-
--- what ended with a close mark stays so
-pub ended_kept : (closed : Numbers) (old new : TakeEnd Item Item) (item : Item) → AreClosed closed (λ p. items_of p old.taken) → IsTakenNext old item
-    → new ≡ record old { taken = old.taken ++ item ∷ [] } → AreClosed closed (λ p. items_of p new.taken)
-ended_kept closed old new item ended next is p own =
+-- what ended with a close mark stays so as an item more is taken
+ended_step : (closed members : Numbers) (before : List Item) (item : Item) → AreClosed closed (λ p. items_of p before) → ItemMayFollow members before item
+    → AreClosed closed (λ p. items_of p (before ++ item ∷ []))
+ended_step closed members before item ended next p own =
     ⊎_elim
     (λ (here : p ≡ item.from).
-    absurd (ended_not_next (items_of item.from old.taken) (subst (λ q. EndsWell (items_of q old.taken)) here (ended p own)) next.next.unended))
-    (λ (apart : p ≢ item.from). subst EndsWell (sym (taken_other old new item p is apart)) (ended p own))
+    absurd (ended_not_next (items_of item.from before) (subst (λ q. EndsWell (items_of q before)) here (ended p own)) next.next.unended))
+    (λ (apart : p ≢ item.from).
+    subst EndsWell (sym (items_of-append p before (item ∷ []) ∙ ap (λ xs. items_of p before ++ xs) (items_of-other p item (λ e. apart (sym e))) ∙ append-nil (items_of p before))) (ended p own))
     (either_number p item.from)
+
+ended_all : (closed members : Numbers) (before items : List Item) → AreClosed closed (λ p. items_of p before) → ItemsMayFollow members before items
+    → AreClosed closed (λ p. items_of p (before ++ items))
+ended_all closed members before [] ended follow = subst (λ xs. AreClosed closed (λ p. items_of p xs)) (sym (append-nil before)) ended
+ended_all closed members before (x ∷ xs) ended follow =
+    subst (λ ys. AreClosed closed (λ p. items_of p ys)) (append_assoc before (x ∷ []) xs)
+    (ended_all closed members (before ++ x ∷ []) xs (ended_step closed members before x ended follow.0) follow.1)
+
+-- what ended with a close mark stays so as a bundle more is taken
+pub ended_kept : (closed : Numbers) (old new : TakeEnd Bundle Item) (items : List Item) → AreClosed closed (λ p. items_of p old.taken) → AreTakenNext old items
+    → new ≡ record old { taken = old.taken ++ items } → AreClosed closed (λ p. items_of p new.taken)
+ended_kept closed old new items ended next is =
+    subst (λ (e : TakeEnd Bundle Item). AreClosed closed (λ p. items_of p e.taken)) (sym is) (ended_all closed old.members old.taken items ended next)
 
 inserted : (closed : Numbers) (p q : ℕ) → p ≢ q → set.contains (set.insert closed q) p ≡ set.contains closed p
 inserted closed p q apart =
     let not_it : nat_eq p q ≡ false = grind (arith, nat_tests) in
     set.contains-insert nat_cmp_total closed q p ∙ ap (λ b. b || set.contains closed p) (unsigned_tied p q ∙ not_it)
 
--- a close mark was taken
-pub ended_more : (closed : Numbers) (old new : TakeEnd Item Item) (item : Item) → AreClosed closed (λ p. items_of p old.taken) → IsTakenNext old item
-    → new ≡ record old { taken = old.taken ++ item ∷ [] } → is_close item.note ≡ true → AreClosed (set.insert closed item.from) (λ p. items_of p new.taken)
-ended_more closed old new item ended next is close p own =
+-- a bundle that ends with a close mark was taken
+pub ended_more : (closed : Numbers) (old new : TakeEnd Bundle Item) (items front : List Item) (end : Item) → AreClosed closed (λ p. items_of p old.taken) → AreTakenNext old items
+    → new ≡ record old { taken = old.taken ++ items } → items ≡ front ++ end ∷ [] → is_close end.note ≡ true → AreClosed (set.insert closed end.from) (λ p. items_of p new.taken)
+ended_more closed old new items front end ended next is last close p own =
     ⊎_elim
-    (λ (here : p ≡ item.from). (items_of p old.taken, item, taken_own old new item p is (sym here), close))
-    (λ (apart : p ≢ item.from).
-    ended_kept closed old new item ended next is p (sym (inserted closed p item.from apart) ∙ own))
-    (either_number p item.from)
+    (λ (here : p ≡ end.from). (
+      items_of p (old.taken ++ front),
+      end,
+      ap (λ (e : TakeEnd Bundle Item). items_of p e.taken) is
+          ∙ ap (λ xs. items_of p (old.taken ++ xs)) last
+          ∙ ap (items_of p) (sym (append_assoc old.taken front (end ∷ [])))
+          ∙ items_of-append p (old.taken ++ front) (end ∷ [])
+          ∙ ap (λ xs. items_of p (old.taken ++ front) ++ xs) (items_of-own p end (sym here)),
+      close,
+    ))
+    (λ (apart : p ≢ end.from).
+    ended_kept closed old new items ended next is p (sym (inserted closed p end.from apart) ∙ own))
+    (either_number p end.from)
 
 pub none_ended : (taken : ℕ → List Item) (closed : Numbers) → closed ≡ set.empty → AreClosed closed taken
 none_ended taken closed none p own = absurd (true≢false (sym own ∙ ap (λ (s : Numbers). set.contains s p) none ∙ set.contains-empty nat_cmp p))

@@ -15,3 +15,5 @@ pub mod Passing
 pub mod Seating
 pub mod Serving
 pub mod Shares
+pub mod Accepting
+pub mod Bundling

@@ -13,6 +13,7 @@ use Rattle.wcp_model.specs.PlanFault.{IsCheckedPlan}
 use Rattle.wcp_model.specs.Tree.{leaf_of, parent_of}
 use Rattle.wcp_ring.specs.Ends.{TakeSide}
 use Rattle.wcp_lane.specs.Ends.{LaneName, PutEnd}
+use Rattle.wcp_tree.specs.declared.bundle.Bundle.{Bundle}
 use Rattle.wcp_tree.specs.declared.relay.Relay.{Relay}
 use Rattle.wcp_tree.specs.declared.source.Source.{Source}
 use Rattle.wcp_tree.specs.declared.source.Source.TheVariants.{Leaf, Inner}
@@ -50,22 +51,22 @@ same_source plan before now relay (Leaf feeds sleeper) here is = (
 )
 same_source plan before now relay (Inner taker) here is = is
 
-module _ (plan : Plan) (watch : ℕ) (root : LaneName Item) (before : List (Option TakeSide)) where
+module _ (plan : Plan) (watch : ℕ) (root : LaneName Bundle) (before : List (Option TakeSide)) where
   -- the relay's seat is taken, on the lane of this owner
-  abbrev pub IsSeated : List Relay → List (Option (PutEnd Item Item)) → ℕ → Parent → Type 0
+  abbrev pub IsSeated : List Relay → List (Option (PutEnd Bundle Item)) → ℕ → Parent → Type 0
   IsSeated relays seats relay owner =
-      (lane : LaneName Item) × (lane_to root relays owner ≡ Some lane)
-      × (putter : PutEnd Item Item) × (slice_get seats relay ≡ Some (Some putter)) × IsSeatOf plan relay lane putter
+      (lane : LaneName Bundle) × (lane_to root relays owner ≡ Some lane)
+      × (putter : PutEnd Bundle Item) × (slice_get seats relay ≡ Some (Some putter)) × IsSeatOf plan relay lane putter
 
   -- these relays are open, the relays after them whose parents take from a lane are seated, and the feeds of leaves
   -- after them are here
-  pub record AreOpened (relays : List Relay) (seats : List (Option (PutEnd Item Item))) (now : List (Option TakeSide)) : Type 0 where
+  pub record AreOpened (relays : List Relay) (seats : List (Option (PutEnd Bundle Item))) (now : List (Option TakeSide)) : Type 0 where
     pub each : (place : ℕ) → place < length relays → IsLinked plan watch root before relays place
     pub seated : (relay : ℕ) (owner : Parent) → length relays ≤ relay → parent_of plan relay ≡ Some owner
         → IsOpen (length relays) owner → IsSeated relays seats relay owner
     pub here : (p leaf : ℕ) → leaf_of plan p ≡ Some leaf → length relays ≤ leaf → slice_get now p ≡ slice_get before p
 
-  pub none_open : (seats : List (Option (PutEnd Item Item))) → AreSeatedUnder plan root seats → AreOpened [] seats before
+  pub none_open : (seats : List (Option (PutEnd Bundle Item))) → AreSeatedUnder plan root seats → AreOpened [] seats before
   none_open seats under = record {
     each = λ place below. absurd (omega (arith, below));
     seated = first;
@@ -94,14 +95,14 @@ module _ (plan : Plan) (watch : ℕ) (root : LaneName Item) (before : List (Opti
     open_below (parent.Relay above) low high most is = omega (arith, is, most)
 
     -- the seat of the next relay
-    pub next_seat : (relays : List Relay) (seats : List (Option (PutEnd Item Item))) (now : List (Option TakeSide))
+    pub next_seat : (relays : List Relay) (seats : List (Option (PutEnd Bundle Item))) (now : List (Option TakeSide))
         → AreOpened relays seats now → length relays < length plan.parents.items
         → (owner : Parent) × (parent_of plan (length relays) ≡ Some owner) × IsSeated relays seats (length relays) owner
     next_seat relays seats now opened within =
         let at = slice_get-get_or plan.parents.items (length relays) parent.Root within in
         (_, at, opened.seated (length relays) _ (omega arith) at (owner_is_open (length relays) _ at))
 
-    module _ (relays : List Relay) (seats new_seats : List (Option (PutEnd Item Item))) (now new : List (Option TakeSide))
+    module _ (relays : List Relay) (seats new_seats : List (Option (PutEnd Bundle Item))) (now new : List (Option TakeSide))
         (relay : Relay) (opened : AreOpened relays seats now) (within : length relays < length plan.parents.items)
         (is : IsRelayOf plan watch now (length relays) relay)
         (seat : slice_get seats (length relays) ≡ Some (Some relay.putter))
@@ -146,7 +147,7 @@ module _ (plan : Plan) (watch : ℕ) (root : LaneName Item) (before : List (Opti
             above = subst (λ owner. lane_to root more owner ≡ Some relay.putter.lane)
                 (let both = sym next.1 ∙ is.parent in cc)
                 (lane_stays relays relay next.0 (owner_is_open (length relays) next.0 next.1) ∙ next.2.1
-                ∙ ap Some (sym next.2.4.on ∙ ap (λ (p : PutEnd Item Item). p.lane) its));
+                ∙ ap Some (sym next.2.4.on ∙ ap (λ (p : PutEnd Bundle Item). p.lane) its));
           }
 
       seated_after : (other : ℕ) (owner : Parent) → length more ≤ other → parent_of plan other ≡ Some owner
@@ -195,7 +196,7 @@ module _ (plan : Plan) (watch : ℕ) (root : LaneName Item) (before : List (Opti
       }
 
     -- the next relay is open, whose number is that of the relays before it
-    pub next_opened : (relays : List Relay) (seats new_seats : List (Option (PutEnd Item Item))) (now new : List (Option TakeSide))
+    pub next_opened : (relays : List Relay) (seats new_seats : List (Option (PutEnd Bundle Item))) (now new : List (Option TakeSide))
         (relay : Relay) → AreOpened relays seats now → length relays < length plan.parents.items
         → (k : ℕ) → k ≡ length relays → IsRelayOf plan watch now k relay
         → slice_get seats k ≡ Some (Some relay.putter) → AreSeated plan k relay.source new_seats
@@ -214,6 +215,6 @@ module _ (plan : Plan) (watch : ℕ) (root : LaneName Item) (before : List (Opti
         (sym is_k)
         (one_opened relays seats new_seats now new relay opened within)
 
-  pub all_opened : (relays : List Relay) (seats : List (Option (PutEnd Item Item))) (now : List (Option TakeSide))
+  pub all_opened : (relays : List Relay) (seats : List (Option (PutEnd Bundle Item))) (now : List (Option TakeSide))
       → AreOpened relays seats now → length relays ≡ length plan.parents.items → AreLinked plan watch root before relays
   all_opened relays seats now opened count = record { count = count; each = opened.each }

@@ -16,6 +16,7 @@ use Rattle.wcp_clock.specs.declared.note.Item.{Item}
 use Rattle.wcp_lane.specs.Ends.{LaneName, PutEnd, new_putter}
 use Rattle.wcp_lane.specs.Owners.{AreApart}
 use Rattle.wcp_lane.specs.Passes.{Numbers}
+use Rattle.wcp_tree.specs.declared.bundle.Bundle.{Bundle}
 use Rattle.wcp_tree.specs.Members.{IsBelow}
 use Rattle.wcp_tree.specs.Wiring.{IsShareOf, AreShares, AreBelowChildren, IsSeatOf}
 use Rattle.wcp_tree.proofs.Entries.{mapped_entry}
@@ -65,14 +66,14 @@ module _ (plan : Plan) (owner : Parent) where
         (same_or_other (get_or plan.parents.items relay Root) owner)
 
     -- the ends of such a lane are the children's seats
-    pub seats_of_shares : (lane : LaneName Item) (ends : List (PutEnd Item Item)) → ends ≡ map (new_putter lane) sets
+    pub seats_of_shares : (lane : LaneName Bundle) (ends : List (PutEnd Bundle Item)) → ends ≡ map (new_putter lane) sets
         → (relay : ℕ) → parent_of plan relay ≡ Some owner
-        → (putter : PutEnd Item Item) × (slice_get ends relay ≡ Some putter) × IsSeatOf plan relay lane putter
+        → (putter : PutEnd Bundle Item) × (slice_get ends relay ≡ Some putter) × IsSeatOf plan relay lane putter
     seats_of_shares lane ends are relay child =
         let within : relay < length sets =
         let inside = slice_get_within plan.parents.items relay owner child in omega (arith, count) in (
           new_putter lane (get_or sets relay set.empty),
-          ap (λ (xs : List (PutEnd Item Item)). slice_get xs relay) are
+          ap (λ (xs : List (PutEnd Bundle Item)). slice_get xs relay) are
               ∙ mapped_entry (new_putter lane) sets relay set.empty within,
           record { on = refl; members = (each relay set.empty within).child child; empty = refl },
         )

@@ -7,3 +7,4 @@ pub mod Relays
 pub mod Rings
 pub mod Watches
 pub mod Wiring
+pub mod Bundles

@@ -7,8 +7,9 @@ use Rattle.wcp_clock.specs.declared.note.Item.{Item}
 use Rattle.wcp_model.specs.LaneRule.{IsNext, AreInSequence}
 use Rattle.wcp_lane.specs.Passes.{Numbers}
 use Rattle.wcp_lane.specs.Ends.{TakeEnd}
-use Rattle.wcp_lane.specs.Message.{MayFollow}
+use Rattle.wcp_lane.specs.Message.{AllMayFollow}
 use Rattle.wcp_clock.specs.Notes.{place_of, is_close}
+use Rattle.wcp_tree.specs.declared.bundle.Bundle.{Bundle}
 use Rattle.wcp_tree.specs.declared.outlet.Outlet.{Outlet}
 use Rattle.wcp_tree.specs.declared.feed.Feed.{Feed}
 use Rattle.wcp_tree.specs.declared.source.Source.{Source}
@@ -28,6 +29,13 @@ IsNextAfter before item = IsNext (λ (i : Item). place_of i.note) (λ (i : Item)
 -- An item is the next one after those of its process among these.
 abbrev pub IsNextItem : List Item → Item → Type 0
 IsNextItem items item = IsNextAfter (items_of item.from items) item
+
+-- Items may follow these on a lane: each is of one of its processes, and the next one of its process after those before
+-- it.
+abbrev pub ItemsMayFollow : Numbers → List Item → List Item → Type 0
+ItemsMayFollow members before items =
+    AllMayFollow (λ (i : Item). i.from) (λ (i : Item). place_of i.note) (λ (i : Item). is_close i.note)
+    members before items
 
 -- These items are a run.
 abbrev pub AreItemsInSequence : List Item → Type 0
@@ -68,19 +76,17 @@ IsGapAt p taken =
     (before : List Item) × (item : Item) × (taken p ≡ before ++ item ∷ []) × ¬ IsNextAfter before item
 
 -- A relay with a lane takes items of its putter's processes, and its outlet was handed what it took.
-pub record IsInnerAtWork (taker : TakeEnd Item Item) (outlet : Outlet) : Type 0 where
+pub record IsInnerAtWork (taker : TakeEnd Bundle Item) (outlet : Outlet) : Type 0 where
   pub among : (p : ℕ) → set.contains taker.members p ≡ true → set.contains outlet.putter.members p ≡ true
   pub sound : IsSound outlet
   pub faithful : IsFaithful (λ p. items_of p taker.taken) outlet
 
--- An item that a taker takes is of its processes, and the next one after those of its process that were taken.
-abbrev pub IsTakenNext : TakeEnd Item Item → Item → Type 0
-IsTakenNext taker item =
-    MayFollow (λ (i : Item). i.from) (λ (i : Item). place_of i.note) (λ (i : Item). is_close i.note)
-    taker.members taker.taken item
+-- The items of a bundle that a taker takes may follow those that were taken before.
+abbrev pub AreTakenNext : TakeEnd Bundle Item → List Item → Type 0
+AreTakenNext taker items = ItemsMayFollow taker.members taker.taken items
 
 -- A taker keeps its lane and its processes.
-abbrev pub IsSameTaker : TakeEnd Item Item → TakeEnd Item Item → Type 0
+abbrev pub IsSameTaker : TakeEnd Bundle Item → TakeEnd Bundle Item → Type 0
 IsSameTaker old new = (new.lane ≡ old.lane) × (new.members ≡ old.members)
 
 -- The items of each process of the set end with its close mark.

@@ -6,6 +6,7 @@ use Rattle.wcp_model.specs.declared.plan.Plan.{Plan}
 use Rattle.wcp_model.specs.Tree.{is_leaf, parent_of}
 use Rattle.wcp_ring.specs.Ends.{TakeSide}
 use Rattle.wcp_lane.specs.Ends.{LaneName, PutEnd}
+use Rattle.wcp_tree.specs.declared.bundle.Bundle.{Bundle}
 use Rattle.wcp_tree.specs.declared.relay.Relay.{Relay}
 use Rattle.wcp_tree.specs.declared.source.Source.{Source}
 use Rattle.wcp_tree.specs.declared.source.Source.TheVariants.{Leaf, Inner}
@@ -22,16 +23,16 @@ IsSource plan takers relay (Inner taker) =
     (is_leaf plan relay ≡ false) × (taker.taken ≡ []) × AreBelow plan relay taker.members
 
 -- The lane by which a relay takes, if it serves relays.
-abbrev pub lane_of : Source → Option (LaneName Item)
+abbrev pub lane_of : Source → Option (LaneName Bundle)
 lane_of (Leaf feeds sleeper) = None
 lane_of (Inner taker) = Some taker.lane
 
 -- The relays whose parent this one is are seated on its lane.
-abbrev pub AreSeated : Plan → ℕ → Source → List (Option (PutEnd Item Item)) → Type 0
+abbrev pub AreSeated : Plan → ℕ → Source → List (Option (PutEnd Bundle Item)) → Type 0
 AreSeated plan relay source seats =
     (child : ℕ) → parent_of plan child ≡ Some (parent.Relay relay)
-    → (lane : LaneName Item) × (lane_of source ≡ Some lane)
-    × (putter : PutEnd Item Item) × (slice_get seats child ≡ Some (Some putter)) × IsSeatOf plan child lane putter
+    → (lane : LaneName Bundle) × (lane_of source ≡ Some lane)
+    × (putter : PutEnd Bundle Item) × (slice_get seats child ≡ Some (Some putter)) × IsSeatOf plan child lane putter
 
 -- A relay of a watch before it runs: it knows its parent, and has its source, an empty hold, and an end of a lane that
 -- puts for just the processes below it.

@@ -8,6 +8,7 @@ use Rattle.wcp_model.specs.declared.plan.Plan.{Plan}
 use Rattle.wcp_model.specs.Tree.{parent_of}
 use Rattle.wcp_ring.specs.Ends.{TakeSide}
 use Rattle.wcp_lane.specs.Ends.{LaneName, PutEnd}
+use Rattle.wcp_tree.specs.declared.bundle.Bundle.{Bundle}
 use Rattle.wcp_tree.specs.declared.relay.Relay.{Relay}
 use Rattle.wcp_tree.specs.declared.watch.Watch.{Watch}
 use Rattle.wcp_tree.specs.Relays.{IsRelayOf, lane_of}
@@ -15,23 +16,23 @@ use Rattle.wcp_tree.specs.Rings.{AreRings}
 use Rattle.wcp_tree.specs.Wiring.{IsSeatOf}
 
 -- The lane by which a relay takes, if it is there and serves relays.
-abbrev pub lane_below : Option Relay → Option (LaneName Item)
+abbrev pub lane_below : Option Relay → Option (LaneName Bundle)
 lane_below (Some relay) = lane_of relay.source
 lane_below None = None
 
 -- The lane by which an owner takes: the root's, or that of a relay.
-abbrev pub lane_to : LaneName Item → List Relay → Parent → Option (LaneName Item)
+abbrev pub lane_to : LaneName Bundle → List Relay → Parent → Option (LaneName Bundle)
 lane_to root relays parent.Root = Some root
 lane_to root relays (parent.Relay above) = lane_below (slice_get relays above)
 
 -- The relays under the root are seated on its lane.
-abbrev pub AreSeatedUnder : Plan → LaneName Item → List (Option (PutEnd Item Item)) → Type 0
+abbrev pub AreSeatedUnder : Plan → LaneName Bundle → List (Option (PutEnd Bundle Item)) → Type 0
 AreSeatedUnder plan root seats =
     (relay : ℕ) → parent_of plan relay ≡ Some parent.Root
-    → (putter : PutEnd Item Item) × (slice_get seats relay ≡ Some (Some putter)) × IsSeatOf plan relay root putter
+    → (putter : PutEnd Bundle Item) × (slice_get seats relay ≡ Some (Some putter)) × IsSeatOf plan relay root putter
 
 -- The relay at a place is that of the plan, and puts on the lane that its parent takes from.
-pub record IsLinked (plan : Plan) (watch_number : ℕ) (root : LaneName Item) (takers : List (Option TakeSide))
+pub record IsLinked (plan : Plan) (watch_number : ℕ) (root : LaneName Bundle) (takers : List (Option TakeSide))
     (relays : List Relay) (place : ℕ) : Type 0 where
   pub relay : Relay
   pub is_relay : slice_get relays place ≡ Some relay
@@ -39,7 +40,7 @@ pub record IsLinked (plan : Plan) (watch_number : ℕ) (root : LaneName Item) (t
   pub above : lane_to root relays relay.parent ≡ Some relay.putter.lane
 
 -- There is a relay for each of the plan, in rising numbers.
-pub record AreLinked (plan : Plan) (watch_number : ℕ) (root : LaneName Item) (takers : List (Option TakeSide))
+pub record AreLinked (plan : Plan) (watch_number : ℕ) (root : LaneName Bundle) (takers : List (Option TakeSide))
     (relays : List Relay) : Type 0 where
   pub count : length relays ≡ length plan.parents.items
   pub each : (place : ℕ) → place < length relays → IsLinked plan watch_number root takers relays place

@@ -7,6 +7,7 @@ use Rattle.wcp_model.specs.declared.plan.Plan.{Plan}
 use Rattle.wcp_model.specs.Tree.{parent_of}
 use Rattle.wcp_lane.specs.Ends.{LaneName, PutEnd}
 use Rattle.wcp_lane.specs.Passes.{Numbers}
+use Rattle.wcp_tree.specs.declared.bundle.Bundle.{Bundle}
 use Rattle.wcp_tree.specs.Members.{AreBelow, IsBelow}
 
 -- A relay's set in the lane of an owner: the processes below it where the owner is its parent, and else none.
@@ -25,7 +26,7 @@ AreBelowChildren plan owner members = (p : ℕ)
     → (set.contains members p ≡ true) ↔ ((relay : ℕ) × (parent_of plan relay ≡ Some owner) × IsBelow plan relay p)
 
 -- A relay's end of a lane before any put: it puts for just the processes below the relay.
-pub record IsSeatOf (plan : Plan) (relay : ℕ) (lane : LaneName Item) (putter : PutEnd Item Item) : Type 0 where
+pub record IsSeatOf (plan : Plan) (relay : ℕ) (lane : LaneName Bundle) (putter : PutEnd Bundle Item) : Type 0 where
   pub on : putter.lane ≡ lane
   pub members : AreBelow plan relay putter.members
   pub empty : putter.put ≡ []

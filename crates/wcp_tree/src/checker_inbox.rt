@@ -1,6 +1,6 @@
 ghost use Rattle.std.specs.Prelude.{◌≡◌};
 
-use wcp_clock::Item;
+use crate::bundle::Bundle;
 use wcp_lane::Taker;
 
 /// Where the items of all processes of a watch arrive: the end of the root's lane that takes.
@@ -10,12 +10,12 @@ pub struct CheckerInbox {
     watch: u64,
     /// How many relays its watch has.
     relays: u32,
-    taker: Taker<Item>,
+    taker: Taker<Bundle>,
 }
 
 impl CheckerInbox {
     /// The inbox of a watch of this number, which has so many relays.
-    pub(crate) fn new(watch: u64, relays: u32, taker: Taker<Item>) -> CheckerInbox
+    pub(crate) fn new(watch: u64, relays: u32, taker: Taker<Bundle>) -> CheckerInbox
         ensures watch { result.watch ≡ watch }
         ensures relays { result.relays ≡ relays }
         ensures taker { result.taker ≡ taker }
@@ -42,7 +42,7 @@ impl CheckerInbox {
     }
 
     /// The end of the root's lane that takes.
-    pub fn into_taker(self) -> Taker<Item>
+    pub fn into_taker(self) -> Taker<Bundle>
         ensures { result ≡ self.taker }
     {
         self.taker

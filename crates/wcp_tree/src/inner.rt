@@ -1,19 +1,20 @@
-ghost use Rattle.std.specs.Prelude.{◌≡◌, ℕ, true, [], ◌∷◌, ◌++◌, ◌↔◌, ◌<◌, IsTrue, IfOk, IfSome, IfNone, OnErr, OnOk};
+ghost use Rattle.std.specs.Prelude.{◌≡◌, ℕ, true, [], ◌++◌, ◌↔◌, ◌<◌, IsTrue, IfOk, IfSome, IfNone, OnErr, OnOk};
 ghost use Rattle.std.specs.FinSet as set;
 ghost use Rattle.wcp_lane.specs.Within.{IsWithin};
 ghost use Rattle.wcp_tree.specs.Feeding.{items_of};
-ghost use Rattle.wcp_tree.specs.RelayWork.{IsInnerAtWork, IsSameOutlet, IsSameTaker, IsTakenNext, AreClosed};
+ghost use Rattle.wcp_tree.specs.RelayWork.{IsInnerAtWork, IsSameOutlet, IsSameTaker, AreTakenNext, AreClosed};
 
+use crate::bundle::Bundle;
 use crate::outlet::Outlet;
 use crate::patience;
 use std::sync::Wait;
-use wcp_clock::{Item, MAX_PROCS};
+use wcp_clock::MAX_PROCS;
 use wcp_lane::{Cut, Origin, Origins, Taker};
 
 /// Passes on what the lane gives, until the close mark of each process of the putter was taken.
 pub(crate) fn run_inner<R: Wait>(
     rt: &R,
-    taker: &mut Taker<Item>,
+    taker: &mut Taker<Bundle>,
     outlet: &mut Outlet,
 ) -> Result<(), Cut>
     requires { IsInnerAtWork taker.old outlet.old }
@@ -30,13 +31,14 @@ pub(crate) fn run_inner<R: Wait>(
         if finished {
             break;
         }
-        let Some(item) = next_item(rt, taker, outlet.is_idle())? else {
+        let Some(bundle) = next_bundle(rt, taker, outlet.is_idle())? else {
             outlet.pass_on(rt);
             continue;
         };
-        outlet.accept(rt, item);
-        if item.last() {
-            closed = closed.with(item.from);
+        outlet.accept_all(rt, &bundle);
+        let end = bundle.last_item();
+        if end.last() {
+            closed = closed.with(end.from);
             finished = are_among(&below, &closed);
         }
     }
@@ -44,12 +46,16 @@ pub(crate) fn run_inner<R: Wait>(
     Ok(())
 }
 
-/// The lane's next item. Where it has none, this waits for one, or answers `None`.
-fn next_item<R: Wait>(rt: &R, taker: &mut Taker<Item>, waits: bool) -> Result<Option<Item>, Cut>
+/// The lane's next bundle. Where it has none, this waits for one, or answers `None`.
+fn next_bundle<R: Wait>(
+    rt: &R,
+    taker: &mut Taker<Bundle>,
+    waits: bool,
+) -> Result<Option<Bundle>, Cut>
     ensures same { IsSameTaker taker.old taker.new }
-    ensures some { IfOk result (λ found. IfSome found (λ item.
-        IsTakenNext taker.old item
-        × (taker.new ≡ record taker.old { taken = taker.old.taken ++ item ∷ [] }))) }
+    ensures some { IfOk result (λ found. IfSome found (λ bundle.
+        AreTakenNext taker.old bundle
+        × (taker.new ≡ record taker.old { taken = taker.old.taken ++ bundle }))) }
     ensures none { IfOk result (λ found. IfNone found (taker.new ≡ taker.old)) }
     ensures err { OnErr result (taker.new ≡ taker.old) }
 {

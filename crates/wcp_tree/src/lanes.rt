@@ -4,6 +4,7 @@ ghost use Rattle.wcp_model.specs.Tree.{parent_of};
 ghost use Rattle.wcp_lane.specs.Ends.{PutEnd};
 ghost use Rattle.wcp_tree.specs.Wiring.{AreBelowChildren, AreShares, IsSeatOf, IsShareOf};
 
+use crate::bundle::Bundle;
 use crate::members::processes_below;
 use std::alloc::{AllocError, Global};
 use wcp_clock::Item;
@@ -16,13 +17,13 @@ pub(crate) fn open_lane(
     alloc: Global,
     plan: &Plan,
     owner: Parent,
-    seats: &mut Vec<Option<Putter<Item>>>,
-) -> Result<Taker<Item>, AllocError>
+    seats: &mut Vec<Option<Putter<Bundle>>>,
+) -> Result<Taker<Bundle>, AllocError>
     requires checked { IsCheckedPlan plan.now }
     requires all { length seats.old.items ≡ length plan.now.parents.items }
     ensures all { length seats.new.items ≡ length seats.old.items }
     ensures seated { IfOk result (λ taker. (relay : ℕ) → parent_of plan.now relay ≡ Some owner
-        → (putter : PutEnd Item Item) × (slice_get seats.new.items relay ≡ Some (Some putter))
+        → (putter : PutEnd Bundle Item) × (slice_get seats.new.items relay ≡ Some (Some putter))
         × IsSeatOf plan.now relay taker.lane putter) }
     ensures others { (relay : ℕ) → parent_of plan.now relay ≢ Some owner
         → slice_get seats.new.items relay ≡ slice_get seats.old.items relay }
@@ -80,13 +81,13 @@ fn is_child(plan: &Plan, relay: usize, owner: Parent) -> bool
 fn seat(
     plan: &Plan,
     owner: Parent,
-    mut putters: Vec<Putter<Item>>,
-    seats: &mut Vec<Option<Putter<Item>>>,
+    mut putters: Vec<Putter<Bundle>>,
+    seats: &mut Vec<Option<Putter<Bundle>>>,
 )
     requires ends { length putters.items ≡ length plan.now.parents.items }
     requires all { length seats.old.items ≡ length plan.now.parents.items }
     ensures all { length seats.new.items ≡ length seats.old.items }
-    ensures seated { (relay : ℕ) (putter : PutEnd Item Item) → parent_of plan.now relay ≡ Some owner
+    ensures seated { (relay : ℕ) (putter : PutEnd Bundle Item) → parent_of plan.now relay ≡ Some owner
         → slice_get putters.items relay ≡ Some putter → slice_get seats.new.items relay ≡ Some (Some putter) }
     ensures others { (relay : ℕ) → parent_of plan.now relay ≢ Some owner
         → slice_get seats.new.items relay ≡ slice_get seats.old.items relay }

@@ -1,6 +1,7 @@
 //! Live probes and relays: the tree of links from the processes to the checker, for every checked plan.
 #![tactic(auto)]
 
+mod bundle;
 mod checker_inbox;
 mod feed;
 mod inner;
@@ -17,6 +18,7 @@ mod rings;
 mod source;
 mod watch;
 
+pub use bundle::{Bundle, MAX_BUNDLE};
 pub use checker_inbox::CheckerInbox;
 pub use feed::Feed;
 pub use live_probe::{LiveProbe, ProbeEnd};

@@ -10,6 +10,7 @@ ghost use Rattle.wcp_tree.specs.Relays.{AreSeated, IsRelayOf, IsSource};
 ghost use Rattle.wcp_tree.specs.Rings.{IsTakerAt};
 ghost use Rattle.wcp_tree.specs.Watches.{AreLinked, AreSeatedUnder, IsWired};
 
+use crate::bundle::Bundle;
 use crate::checker_inbox::CheckerInbox;
 use crate::lanes::open_lane;
 use crate::relay::Relay;
@@ -54,7 +55,7 @@ fn sleepers(alloc: Global, plan: &Plan) -> Result<Vec<Sleeper>, AllocError>
 }
 
 /// A seat for each relay, where nobody sits. `Err` where memory runs out.
-fn seats(alloc: Global, plan: &Plan) -> Result<Vec<Option<Putter<Item>>>, AllocError>
+fn seats(alloc: Global, plan: &Plan) -> Result<Vec<Option<Putter<Bundle>>>, AllocError>
     ensures { IfOk result (λ seats. length seats.items ≡ length plan.now.parents.items) }
 {
     let mut seats = Vec::with_capacity(alloc, plan.parents.len())?;
@@ -72,15 +73,15 @@ fn open_relays(
     plan: &Plan,
     watch: u64,
     mut sleepers: Vec<Sleeper>,
-    mut seats: Vec<Option<Putter<Item>>>,
+    mut seats: Vec<Option<Putter<Bundle>>>,
     mut takers: Vec<Option<RingTaker>>,
 ) -> Result<Vec<Relay>, AllocError>
     requires checked { IsCheckedPlan plan.now }
     requires sleepers { length sleepers.items ≡ length plan.now.parents.items }
     requires all { length seats.items ≡ length plan.now.parents.items }
-    requires seated { (root : LaneName Item) × AreSeatedUnder plan.now root seats.items }
+    requires seated { (root : LaneName Bundle) × AreSeatedUnder plan.now root seats.items }
     requires there { (p : ℕ) → p < plan.now.n → (taker : TakeSide) × IsTakerAt takers.items p taker }
-    ensures { IfOk result (λ relays. (root : LaneName Item) → AreSeatedUnder plan.now root seats.items
+    ensures { IfOk result (λ relays. (root : LaneName Bundle) → AreSeatedUnder plan.now root seats.items
         → AreLinked plan.now watch root takers.items relays.items) }
 {
     let mut relays = Vec::with_capacity(alloc, plan.parents.len())?;
@@ -100,7 +101,7 @@ fn open_source(
     plan: &Plan,
     relay: u32,
     sleeper: Sleeper,
-    seats: &mut Vec<Option<Putter<Item>>>,
+    seats: &mut Vec<Option<Putter<Bundle>>>,
     takers: &mut Vec<Option<RingTaker>>,
 ) -> Result<Source, AllocError>
     requires checked { IsCheckedPlan plan.now }
@@ -131,12 +132,12 @@ fn open_relay(
     watch: u64,
     relay: u32,
     sleeper: Sleeper,
-    seats: &mut Vec<Option<Putter<Item>>>,
+    seats: &mut Vec<Option<Putter<Bundle>>>,
     takers: &mut Vec<Option<RingTaker>>,
 ) -> Result<Relay, AllocError>
     requires checked { IsCheckedPlan plan.now }
     requires all { length seats.old.items ≡ length plan.now.parents.items }
-    requires seat { (putter : PutEnd Item Item) × (slice_get seats.old.items relay ≡ Some (Some putter))
+    requires seat { (putter : PutEnd Bundle Item) × (slice_get seats.old.items relay ≡ Some (Some putter))
         × AreBelow plan.now relay putter.members × (putter.put ≡ []) }
     requires there { (p : ℕ) → leaf_of plan.now p ≡ Some relay
         → (taker : TakeSide) × IsTakerAt takers.old.items p taker }

@@ -2,12 +2,12 @@ ghost use Rattle.std.specs.Prelude.{◌≡◌, ◌<◌, ℕ, length, IfSome, IfN
 ghost use mathlib.Core.List.{IsPrefix};
 ghost use Rattle.wcp_tree.specs.Feeding.{Serves, Serves-prop};
 
+use crate::bundle::Bundle;
 use crate::outlet::Outlet;
 use crate::relay_end::{RelayEnd, RelayFault};
 use crate::source::Source;
 use std::snapshot::Snapshot;
 use std::sync::Wait;
-use wcp_clock::Item;
 use wcp_hold::Hold;
 use wcp_lane::Putter;
 use wcp_model::Parent;
@@ -21,7 +21,7 @@ pub struct Relay {
     watch: u64,
     parent: Parent,
     source: Source,
-    putter: Putter<Item>,
+    putter: Putter<Bundle>,
     hold: Hold,
     pub ghost room: { 0 < hold.room },
     pub ghost nothing_held: { length hold.items ≡ 0 },
@@ -39,7 +39,7 @@ impl Relay {
         watch: u64,
         parent: Parent,
         source: Source,
-        putter: Putter<Item>,
+        putter: Putter<Bundle>,
         hold: Hold,
     ) -> Relay
         requires room { 0 < hold.room }

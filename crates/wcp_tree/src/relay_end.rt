@@ -1,9 +1,9 @@
 ghost use Rattle.std.specs.Prelude.{◌≡◌};
 
+use crate::bundle::Bundle;
 use crate::feed::Feed;
 use crate::source::Source;
 use std::snapshot::Snapshot;
-use wcp_clock::Item;
 use wcp_lane::{Cut, PutReceipt, Putter, TakeReceipt};
 use wcp_model::Parent;
 
@@ -22,7 +22,7 @@ pub enum Receipts {
     /// The feeds of a leaf.
     Feeds(Vec<Feed>),
     /// The receipt of any other relay's lane.
-    Lane(TakeReceipt<Item>),
+    Lane(TakeReceipt<Bundle>),
 }
 
 /// What is left of a relay that ran.
@@ -34,7 +34,7 @@ pub enum RelayEnd {
         watch: u64,
         parent: Parent,
         taken: Receipts,
-        put: PutReceipt<Item>,
+        put: PutReceipt<Bundle>,
     },
     /// It met a fault. It holds no end of a ring or a lane any more, so that no other relay waits
     /// for it; only contracts see what its ends had taken and put.
@@ -43,7 +43,7 @@ pub enum RelayEnd {
         watch: u64,
         fault: RelayFault,
         source: Snapshot<Source>,
-        putter: Snapshot<Putter<Item>>,
+        putter: Snapshot<Putter<Bundle>>,
     },
 }
 

@@ -1,13 +1,13 @@
 ghost use Rattle.std.specs.Prelude.{◌≡◌, ℕ, [], IfErr, OnOk, IfNone};
 ghost use mathlib.Core.List.{IsPrefix};
 
+use crate::bundle::Bundle;
 use crate::feed::Feed;
 use crate::inner::run_inner;
 use crate::leaf::run_leaf;
 use crate::outlet::Outlet;
 use crate::relay_end::{Receipts, RelayFault};
 use std::sync::Wait;
-use wcp_clock::Item;
 use wcp_lane::Taker;
 use wcp_ring::Sleeper;
 
@@ -17,7 +17,7 @@ pub enum Source {
     /// A leaf serves processes. It sleeps while all its feeds are quiet.
     Leaf { feeds: Vec<Feed>, sleeper: Sleeper },
     /// Any other relay serves relays, by one lane.
-    Inner { taker: Taker<Item> },
+    Inner { taker: Taker<Bundle> },
 }
 
 impl Source {

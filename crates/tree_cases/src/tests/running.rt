@@ -3,19 +3,19 @@ use std::alloc::{AllocError, Global};
 use std::sync::Wait;
 use std::test::Fail;
 use std::thread::{Threads, join};
-use wcp_clock::{Item, MAX_PROCS};
+use wcp_clock::MAX_PROCS;
 use wcp_lane::Taker;
 use wcp_model::{Parent, Plan, plain_plan};
 use wcp_probe::Refusal;
 use wcp_tree::opening::watch;
-use wcp_tree::{LiveProbe, Relay, RelayFault, Watch};
+use wcp_tree::{Bundle, LiveProbe, Relay, RelayFault, Watch};
 
 /// The relay runs, the probe puts what is pending, sends and closes, and a third thread takes all of two processes.
 fn let_one_through<R: Threads + Wait + Sync>(
     rt: &R,
     probe: LiveProbe,
     relay: Relay,
-    taker: Taker<Item>,
+    taker: Taker<Bundle>,
 ) -> (Option<RelayFault>, bool, [Arrival; MAX_PROCS]) {
     let (fault, (sent, arrivals)) = join(
         rt,

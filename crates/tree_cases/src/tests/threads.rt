@@ -3,10 +3,10 @@ use std::alloc::{AllocError, Global};
 use std::sync::Wait;
 use std::thread;
 use std::thread::{Threads, map_vec};
-use wcp_clock::{Item, MAX_PROCS, Note};
+use wcp_clock::{MAX_PROCS, Note};
 use wcp_lane::Taker;
 use wcp_probe::Refusal;
-use wcp_tree::{LiveProbe, ProbeEnd, Relay, RelayFault};
+use wcp_tree::{Bundle, LiveProbe, ProbeEnd, Relay, RelayFault};
 
 /// What runs in a thread.
 #[derive(Drop)]
@@ -122,17 +122,19 @@ impl Arrival {
 }
 
 /// Takes until a close mark came of each of so many processes, or the lane is cut: what arrived of each.
-pub fn take_all<R: Wait>(rt: &R, mut taker: Taker<Item>, processes: u32) -> [Arrival; MAX_PROCS] {
+pub fn take_all<R: Wait>(rt: &R, mut taker: Taker<Bundle>, processes: u32) -> [Arrival; MAX_PROCS] {
     let mut arrivals = [Arrival::Open(0); MAX_PROCS];
     let mut closed = 0u32;
     for _ in rt.forever() {
-        let Ok(item) = taker.take(rt) else {
+        let Ok(bundle) = taker.take(rt) else {
             break;
         };
-        if let Some(arrival) = arrivals.get_mut(item.from as usize) {
-            *arrival = arrival.then(&item.note);
+        for item in bundle.items() {
+            if let Some(arrival) = arrivals.get_mut(item.from as usize) {
+                *arrival = arrival.then(&item.note);
+            }
         }
-        if let Note::Close { .. } = item.note {
+        if let Note::Close { .. } = bundle.last_item().note {
             closed = closed.saturating_add(1);
         }
         if closed >= processes {

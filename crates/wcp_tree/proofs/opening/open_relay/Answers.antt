@@ -4,6 +4,7 @@ use Rattle.wcp_clock.specs.Limits.{most_cap, most_hold}
 use Rattle.wcp_clock.specs.declared.note.Item.{Item}
 use Rattle.wcp_hold.specs.Held.{Held}
 use Rattle.wcp_lane.specs.Ends.{PutEnd}
+use Rattle.wcp_tree.specs.declared.bundle.Bundle.{Bundle}
 use Rattle.wcp_tree.specs.declared.source.Source.{Source}
 use Rattle.wcp_tree.specs.Members.{AreBelow}
 use Rattle.wcp_tree.specs.Relays.{AreSeated, IsSource}
@@ -29,7 +30,7 @@ new-requires-2-clause-nothing_put c =
     let one : c.requires.seat.0 ≡ c.in-Some.putter =
     taken_out c.args.seats.now.items c.args.relay c.requires.seat.0 c.requires.seat.1 c.index_mut.result.now
     c.index_mut.ensures.value c.in-Some.putter (sym c.take.ensures.value ∙ c.in-Some.is) in
-    ap (λ (p : PutEnd Item Item). length p.put) (sym one) ∙ ap length c.requires.seat.3
+    ap (λ (p : PutEnd Bundle Item). length p.put) (sym one) ∙ ap length c.requires.seat.3
 
 pub new-requires-2-clause-serves : goal.new-requires-2-clause-serves
 new-requires-2-clause-serves c =
@@ -38,7 +39,7 @@ new-requires-2-clause-serves c =
     c.index_mut.ensures.value c.in-Some.putter (sym c.take.ensures.value ∙ c.in-Some.is) in
     source_serves c.args.plan.now c.requires.checked c.args.relay c.args.takers.now.items c.in_ok-source.source
     c.in-Some.putter.members c.in_ok-source.ensures.source
-    (subst (λ (p : PutEnd Item Item). AreBelow c.args.plan.now c.args.relay p.members) one c.requires.seat.2)
+    (subst (λ (p : PutEnd Bundle Item). AreBelow c.args.plan.now c.args.relay p.members) one c.requires.seat.2)
 
 pub returns-clause-relay : goal.returns-clause-relay
 returns-clause-relay c =
@@ -54,8 +55,8 @@ returns-clause-relay c =
           ∙ ap Some (sym c.index-parent.ensures ∙ sym c.new-2.ensures.parent);
       source = subst (λ (s : Source). IsSource c.args.plan.now c.args.takers.now.items c.args.relay s)
           (sym c.new-2.ensures.source) c.in_ok-source.ensures.source;
-      members = subst (λ (p : PutEnd Item Item). AreBelow c.args.plan.now c.args.relay p.members) its c.requires.seat.2;
-      none_put = ap (λ (p : PutEnd Item Item). p.put) (sym its) ∙ c.requires.seat.3;
+      members = subst (λ (p : PutEnd Bundle Item). AreBelow c.args.plan.now c.args.relay p.members) its c.requires.seat.2;
+      none_put = ap (λ (p : PutEnd Bundle Item). p.put) (sym its) ∙ c.requires.seat.3;
       none_held = ap (λ (h : Held). h.items) c.new-2.ensures.hold ∙ c.in_ok-hold.ensures.items;
       room = ap (λ (h : Held). h.room) c.new-2.ensures.hold ∙ c.in_ok-hold.ensures.room;
     }
@@ -65,7 +66,7 @@ returns-clause-seat c =
     let one : c.requires.seat.0 ≡ c.in-Some.putter =
     taken_out c.args.seats.now.items c.args.relay c.requires.seat.0 c.requires.seat.1 c.index_mut.result.now
     c.index_mut.ensures.value c.in-Some.putter (sym c.take.ensures.value ∙ c.in-Some.is) in
-    c.requires.seat.1 ∙ ap (λ (p : PutEnd Item Item). Some (Some p)) (one ∙ sym c.new-2.ensures.putter)
+    c.requires.seat.1 ∙ ap (λ (p : PutEnd Bundle Item). Some (Some p)) (one ∙ sym c.new-2.ensures.putter)
 
 pub returns-clause-seated : goal.returns-clause-seated
 returns-clause-seated c =

@@ -4,6 +4,7 @@ use Rattle.wcp_clock.specs.Limits.{most_relays}
 use Rattle.wcp_clock.specs.declared.note.Item.{Item}
 use Rattle.wcp_lane.specs.Ends.{PutEnd}
 use Rattle.std.specs.Prelude.{slice_get}
+use Rattle.wcp_tree.specs.declared.bundle.Bundle.{Bundle}
 use Rattle.wcp_tree.specs.Members.{AreBelow}
 use Rattle.wcp_tree.specs.declared.relay.Relay.{Relay}
 use Rattle.wcp_tree.proofs.CheckedPlan.{attached_exists, few_relays}
@@ -37,7 +38,7 @@ open_relay-requires-clause-seat c =
     c.loop-alloc.seats.items c.loop-alloc.takers.items (c.loop-alloc.invariant.opened root c.requires.seated.1) within in
     let number : c.len-number.result ≡ length c.loop-alloc.relays.items = omega arith in
     subst
-    (λ k. (putter : PutEnd Item Item) × (slice_get c.loop-alloc.seats.items k ≡ Some (Some putter))
+    (λ k. (putter : PutEnd Bundle Item) × (slice_get c.loop-alloc.seats.items k ≡ Some (Some putter))
     × AreBelow c.args.plan.now k putter.members × (putter.put ≡ []))
     (sym number)
     (next.2.2, next.2.3, next.2.4.members, next.2.4.empty)

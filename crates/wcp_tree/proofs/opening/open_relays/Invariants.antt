@@ -1,6 +1,7 @@
 use Rattle.std.proofs.Common.{◌≡◌, ◌+◌, length, vec_len}
 use Rattle.wcp_clock.specs.declared.note.Item.{Item}
 use Rattle.wcp_lane.specs.Ends.{LaneName}
+use Rattle.wcp_tree.specs.declared.bundle.Bundle.{Bundle}
 use Rattle.wcp_tree.specs.Watches.{AreSeatedUnder}
 use Rattle.wcp_tree.proofs.Linking.{AreOpened}
 use Rattle.wcp_tree.proofs.opening.open_relays.Given as goal
@@ -13,6 +14,6 @@ invariant-loop-alloc l =
     record {
       count : length l.relays.items + length l.sleepers.items ≡ length l.plan.parents.items;
       seats : length l.seats.items ≡ length l.plan.parents.items;
-      opened : (root : LaneName Item) → AreSeatedUnder l.plan root l.fn.seats.items
+      opened : (root : LaneName Bundle) → AreSeatedUnder l.plan root l.fn.seats.items
           → AreOpened l.plan l.watch root l.fn.takers.items l.relays.items l.seats.items l.takers.items;
     }

@@ -3,6 +3,7 @@ use Rattle.std.specs.FinSet as set
 use Rattle.wcp_clock.specs.Limits.{most_relays}
 use Rattle.wcp_clock.specs.declared.note.Item.{Item}
 use Rattle.wcp_lane.specs.Ends.{TakeEnd}
+use Rattle.wcp_tree.specs.declared.bundle.Bundle.{Bundle}
 use Rattle.wcp_tree.specs.Watches.{AreLinked}
 use Rattle.wcp_tree.proofs.CheckedPlan.{few_relays}
 use Rattle.wcp_tree.proofs.Serving.{all_below_root}
@@ -29,13 +30,13 @@ returns c =
       takers = c.in_ok-probes.takers.items;
       rings = c.in_ok-probes.ensures;
       linked = subst
-          (λ (t : TakeEnd Item Item). AreLinked c.args.plan.now c.args.watch_number t.lane c.in_ok-probes.takers.items c.in_ok-relays.relays.items)
+          (λ (t : TakeEnd Bundle Item). AreLinked c.args.plan.now c.args.watch_number t.lane c.in_ok-probes.takers.items c.in_ok-relays.relays.items)
           same linked;
       number = c.new-inbox.ensures.watch;
       relays = c.new-inbox.ensures.relays ∙ omega (arith, linked.count);
       members = subst
-          (λ (t : TakeEnd Item Item). (p : ℕ) → (set.contains t.members p ≡ true) ↔ (p < c.args.plan.now.n))
+          (λ (t : TakeEnd Bundle Item). (p : ℕ) → (set.contains t.members p ≡ true) ↔ (p < c.args.plan.now.n))
           same
           (all_below_root c.args.plan.now c.requires c.in_ok-taker.taker.members c.in_ok-taker.ensures.members);
-      none_taken = ap (λ (t : TakeEnd Item Item). t.taken) (sym same) ∙ c.in_ok-taker.ensures.empty;
+      none_taken = ap (λ (t : TakeEnd Bundle Item). t.taken) (sym same) ∙ c.in_ok-taker.ensures.empty;
     }

@@ -2,4 +2,4 @@ use Rattle.std.proofs.Common.{◌≡◌}
 use Rattle.wcp_tree.proofs.patience.put.Given as goal
 
 abbrev pub invariant-loop : goal.invariant-loop
-invariant-loop g l = (l.putter ≡ l.initial.putter) × (l.item ≡ l.initial.item)
+invariant-loop g l = (l.putter ≡ l.initial.putter) × (l.bundle ≡ l.initial.bundle)

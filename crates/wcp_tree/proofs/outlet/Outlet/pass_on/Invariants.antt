@@ -3,8 +3,8 @@ use Rattle.wcp_tree.specs.RelayWork.{handed, IsSound, IsSameOutlet}
 use Rattle.wcp_tree.proofs.outlet.Outlet.pass_on.Given as goal
 use Rattle.std.proofs.Common.{length}
 
-abbrev pub invariant-loop-item : goal.invariant-loop-item
-invariant-loop-item g l =
+abbrev pub invariant-loop-bundle : goal.invariant-loop-bundle
+invariant-loop-bundle g l =
     record {
       same : IsSameOutlet l.initial.self l.self;
       sound : IsSound l.self;
@@ -12,5 +12,5 @@ invariant-loop-item g l =
       uncut : l.self.cut ≡ None;
     }
 
-abbrev pub decreases-loop-item : goal.decreases-loop-item
-decreases-loop-item g l = length l.self.hold.items
+abbrev pub decreases-loop-bundle : goal.decreases-loop-bundle
+decreases-loop-bundle g l = length l.self.hold.items

@@ -1,0 +1,114 @@
+ghost use Rattle.std.specs.Prelude.{◌≡◌, ◌+◌, false, true, [], ◌∷◌, IfOk, IsTrue};
+ghost use Rattle.wcp_clock.specs.Notes.{place_of, is_close};
+ghost use Rattle.wcp_tree.specs.Bundles.{Continues};
+ghost use Rattle.tree_cases.specs.BundleLanes.{HasPut};
+
+use std::alloc::Global;
+use std::sync::Wait;
+use std::test::Fail;
+use wcp_clock::{Clock, Item, Note};
+use wcp_lane::{LaneFault, Origins, Putter, Taker, lane, reconcile};
+use wcp_tree::Bundle;
+
+/// The close mark of process 0, which emitted so many snapshots.
+fn close_mark(count: u32) -> Item
+    ensures from { result.from ≡ 0 }
+    ensures place { place_of result.note ≡ count }
+{
+    Item {
+        from: 0,
+        note: Note::Close { count },
+    }
+}
+
+/// Snapshot `number` of process `from`.
+fn snap(from: u32, number: u32) -> Item
+    ensures from { result.from ≡ from }
+    ensures place { place_of result.note ≡ number }
+    ensures unended { is_close result.note ≡ false }
+{
+    let clock = Clock::new(2);
+    Item {
+        from,
+        note: Note::Snap { number, clock },
+    }
+}
+
+#[test]
+fn who_may_join_a_bundle(rt: HostRuntime) -> Result<(), Fail> {
+    let mut bundle = Bundle::one(snap(0, 3));
+    assert!(rt; bundle.add(snap(0, 4)).is_ok());
+    assert_eq!(rt; bundle.add(snap(1, 5)).err(), Some(snap(1, 5)));
+    assert_eq!(rt; bundle.add(snap(0, 6)).err(), Some(snap(0, 6)));
+    assert!(rt; bundle.add(close_mark(5)).is_ok());
+    assert_eq!(rt; bundle.add(snap(0, 5)).err(), Some(snap(0, 5)));
+    assert_eq!(rt; bundle.len(), 3);
+    assert_eq!(rt; bundle.get(2), Some(close_mark(5)));
+    assert_eq!(rt; bundle.get(3), None);
+    Ok(())
+}
+
+#[test]
+fn a_bundle_has_room_for_eight(rt: HostRuntime) -> Result<(), Fail> {
+    let mut bundle = Bundle::one(snap(1, 0));
+    for number in 1..8 {
+        assert!(rt; bundle.add(snap(1, number)).is_ok());
+    }
+    assert_eq!(rt; bundle.add(snap(1, 8)).err(), Some(snap(1, 8)));
+    assert_eq!(rt; bundle.len(), 8);
+    Ok(())
+}
+
+/// A lane of bundles with one putter, of process 0.
+fn lane_of_bundles(alloc: Global) -> Result<(Putter<Bundle>, Taker<Bundle>), LaneFault>
+    ensures lane { IfOk result (λ ends. ends.0.lane ≡ ends.1.lane) }
+    ensures new { IfOk result (λ ends. HasPut 0 ends.0) }
+{
+    let (mut putters, taker) = lane(alloc, 1, &[Origins::none().with(0)])?;
+    let Some(putter) = putters.pop() else {
+        return Err(LaneFault::Owners);
+    };
+    Ok((putter, taker))
+}
+
+/// A bundle of two items.
+fn pair(first: Item, second: Item) -> Bundle
+    requires { Continues first second }
+    ensures { result ≡ first ∷ second ∷ [] }
+{
+    let mut pair = Bundle::one(first);
+    match pair.add(second) {
+        Ok(()) => pair,
+        Err(_) => unreachable!(),
+    }
+}
+
+/// Puts snapshot `number` of process 0 and its next item as one bundle: whether the lane took it.
+fn put_pair<R: Wait>(rt: &R, putter: &mut Putter<Bundle>, number: u32, second: Item) -> bool
+    requires put { HasPut number putter.old }
+    requires from { second.from ≡ 0 }
+    requires place { place_of second.note ≡ number + 1 }
+    ensures lane { putter.new.lane ≡ putter.old.lane }
+    ensures put { IsTrue result → is_close second.note ≡ false → HasPut (number + 2) putter.new }
+{
+    match putter.put(rt, pair(snap(0, number), second)) {
+        Ok(()) => true,
+        Err(_) => false,
+    }
+}
+
+#[test]
+fn two_bundles_over_a_lane_for_one(rt: HostRuntime) -> Result<(), Fail> {
+    let (mut putter, mut taker) = lane_of_bundles(rt.alloc())?;
+    let put = put_pair(&rt, &mut putter, 0, snap(0, 1));
+    assert!(rt; put);
+    let taken = taker.take(&rt)?;
+    assert_eq!(rt; taken.items(), [snap(0, 0), snap(0, 1)].as_slice());
+    let put = put_pair(&rt, &mut putter, 2, close_mark(3));
+    assert!(rt; put);
+    let taken = taker.take(&rt)?;
+    assert_eq!(rt; taken.items(), [snap(0, 2), close_mark(3)].as_slice());
+    let receipt = reconcile(taker.end(), putter.end())?;
+    assert!(rt; receipt.matched(0));
+    Ok(())
+}

@@ -1,0 +1,12 @@
+use Rattle.std.proofs.Common.{◌≡◌, take}
+use Rattle.wcp_queue.specs.Checker.{processes}
+use Rattle.wcp_run.specs.CheckerEnds.{HasTakenLast, TakesItems}
+use Rattle.wcp_run.proofs.checking.give_all.Given as goal
+
+abbrev pub invariant-loop-item : goal.invariant-loop-item
+invariant-loop-item l =
+    record {
+      processes_are : processes l.checker ≡ processes l.initial.checker;
+      taken : TakesItems l.initial.checker l.checker (take l.item-index l.items);
+      last : HasTakenLast l.checker (take l.item-index l.items);
+    }

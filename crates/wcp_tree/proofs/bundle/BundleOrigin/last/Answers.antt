@@ -1,0 +1,17 @@
+use Rattle.std.proofs.Common.{◌≡◌, None, Some, [], ◌∷◌, ◌++◌, take, get_or, ◌-◌, ◌<◌, ◌≤◌, length, sym, ap, ◌∙◌, subst, arith, Option}
+use Rattle.std.specs.Prelude.{IfSome}
+use Rattle.std.specs.List.{last_or}
+use Rattle.std.proofs.lemmas.List.{length-take-le}
+use Rattle.wcp_clock.specs.Notes.{is_close}
+use Rattle.wcp_clock.specs.declared.note.Item.{Item}
+use Rattle.wcp_tree.proofs.Bundling.{last_or-push, front_and_last}
+use Rattle.wcp_tree.proofs.bundle.BundleOrigin.last.Goals as goal
+
+pub returns : goal.returns
+returns c =
+    let n = c.self.inside.count in
+    let items = c.self.inside.items in
+    let end = get_or items (n - 1) c.index-self-self.result in
+    let some : 0 < n = omega (arith, c.self.invariant.0.some, c.self.invariant.1, c.self.invariant.2, length-take-le n items (omega (arith, c.self.invariant.1, c.self.invariant.2))) in
+    let is = sym c.self.view_is ∙ front_and_last n items c.index-self-self.result some (omega (arith, c.self.invariant.1, c.self.invariant.2)) in
+    subst (λ (o : Option Item). IfSome o (λ (x : Item). c.last.result ≡ is_close x.note)) (sym (ap (last_or None) is ∙ last_or-push None (take (n - 1) items) end)) c.last.ensures

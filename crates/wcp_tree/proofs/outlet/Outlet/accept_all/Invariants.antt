@@ -1,0 +1,15 @@
+use Rattle.std.proofs.Common.{◌≡◌, ◌++◌, ℕ, List, None, take}
+use Rattle.std.specs.Prelude.{IfNone}
+use Rattle.wcp_clock.specs.declared.note.Item.{Item}
+use Rattle.wcp_tree.specs.Feeding.{items_of}
+use Rattle.wcp_tree.specs.RelayWork.{handed, IsFaithful, IsSound, IsSameOutlet}
+use Rattle.wcp_tree.proofs.outlet.Outlet.accept_all.Given as goal
+
+abbrev pub invariant-loop-item : goal.invariant-loop-item
+invariant-loop-item g l =
+    record {
+      same : IsSameOutlet l.initial.self l.self;
+      sound : IsSound l.self;
+      handed : IfNone l.self.cut ((l.initial.self.cut ≡ None) × (handed l.self ≡ handed l.initial.self ++ take l.item-index l.items));
+      faithful : (taken : ℕ → List Item) → IsFaithful taken l.initial.self → IsFaithful (λ p. taken p ++ items_of p (take l.item-index l.items)) l.self;
+    }

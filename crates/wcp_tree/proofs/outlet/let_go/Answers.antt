@@ -1,0 +1,11 @@
+use Rattle.std.proofs.Common.{drop, sym, ap, ◌∙◌}
+use Rattle.wcp_hold.specs.Held.{Held}
+use Rattle.wcp_tree.proofs.Bundling.{drop_one}
+use Rattle.wcp_tree.proofs.outlet.let_go.Goals as goal
+
+pub loop-preserved : goal.loop-preserved
+loop-preserved c =
+    let held = c.args.hold.now in
+    c.pop.ensures.rest
+    ∙ ap (λ (h : Held). let rest : Held = record h { items = drop 1 h.items } in rest) c.loop.invariant
+    ∙ ap (λ items. let rest : Held = record held { items = items } in rest) (sym (drop_one c.loop.counter held.items))
