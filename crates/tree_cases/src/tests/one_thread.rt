@@ -52,7 +52,10 @@ fn two_hops_bring_four_items(rt: HostRuntime) -> Result<(), Fail> {
     }
     let mut taker = inbox.into_taker();
     let mut items = Vec::with_capacity(rt.alloc(), 4)?;
-    for _ in 0..2 {
+    for _ in 0..4 {
+        if items.len() >= 4 {
+            break;
+        }
         for item in taker.take(&rt)?.items() {
             items.push(*item)?;
         }
