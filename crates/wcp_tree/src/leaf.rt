@@ -1,9 +1,10 @@
-ghost use Rattle.std.specs.Prelude.{◌≡◌, ℕ, true, [], All, IfErr, OnOk, OnErr, IfNone, IfSome};
+ghost use Rattle.std.specs.Prelude.{◌≡◌, ◌<◌, ℕ, true, [], length, All, IfErr, OnOk, OnErr, IfNone, IfSome};
 ghost use mathlib.Core.List.{IsPrefix};
 ghost use Rattle.wcp_tree.specs.Feeding.{fed, items_of};
 ghost use Rattle.wcp_tree.specs.RelayWork.{handed, IsLeafAtWork, AreSameFeeds, IsSameOutlet, IsGapAt};
 ghost use Rattle.wcp_tree.specs.declared.relay_end.RelayFault.TheVariants as fault;
 
+use crate::bundle::MAX_BUNDLE;
 use crate::feed::Feed;
 use crate::outlet::Outlet;
 use crate::relay_end::RelayFault;
@@ -45,7 +46,7 @@ pub(crate) fn run_leaf<R: Wait>(
     Ok(())
 }
 
-/// Takes a note from each feed that has one. `Ok` says whether any had one.
+/// Takes what the feeds have, from each at most so many notes as go into one bundle. `Ok` says whether any had one.
 fn take_round<R: Wait>(rt: &R, feeds: &mut [Feed], outlet: &mut Outlet) -> Result<bool, RelayFault>
     requires { IsLeafAtWork feeds.old outlet.old }
     ensures same_feeds { AreSameFeeds feeds.old feeds.new }
@@ -55,7 +56,32 @@ fn take_round<R: Wait>(rt: &R, feeds: &mut [Feed], outlet: &mut Outlet) -> Resul
     ensures gap { IfErr result (λ met. (p : ℕ) × (met ≡ fault.Gap p) × IsGapAt p (fed feeds.new)) }
 {
     let mut any = false;
-    for feed in feeds.iter_mut() {
+    for place in 0..feeds.len() {
+        if take_burst(rt, feeds, place, outlet)? {
+            any = true;
+        }
+    }
+    Ok(any)
+}
+
+/// Takes from one feed, until it has nothing or a bundle may be full. `Ok` says whether it had a note.
+fn take_burst<R: Wait>(
+    rt: &R,
+    feeds: &mut [Feed],
+    place: usize,
+    outlet: &mut Outlet,
+) -> Result<bool, RelayFault>
+    requires place { place < length feeds.old }
+    requires work { IsLeafAtWork feeds.old outlet.old }
+    ensures same_feeds { AreSameFeeds feeds.old feeds.new }
+    ensures same_outlet { IsSameOutlet outlet.old outlet.new }
+    ensures work { OnOk result (IsLeafAtWork feeds.new outlet.new) }
+    ensures front { OnErr result ((p : ℕ) → IsPrefix (items_of p (handed outlet.new)) (fed feeds.new p)) }
+    ensures gap { IfErr result (λ met. (p : ℕ) × (met ≡ fault.Gap p) × IsGapAt p (fed feeds.new)) }
+{
+    let mut any = false;
+    for _ in 0..MAX_BUNDLE {
+        let feed = &mut feeds[place];
         if let Some(item) = feed.take()? {
             outlet.accept(rt, item);
             any = true;

@@ -1,8 +1,8 @@
 use Rattle.wcp_tree.specs.RelayWork.{IsLeafAtWork, AreSameFeeds, IsSameOutlet}
 use Rattle.wcp_tree.proofs.leaf.take_round.Given as goal
 
-abbrev pub invariant-loop-feed : goal.invariant-loop-feed
-invariant-loop-feed g l =
+abbrev pub invariant-loop-place : goal.invariant-loop-place
+invariant-loop-place g l =
     record {
       work : IsLeafAtWork l.feeds l.outlet;
       feeds : AreSameFeeds l.initial.feeds l.feeds;

@@ -11,67 +11,67 @@ use Rattle.wcp_tree.proofs.Fed.{fed-set, fed-gap, processes-set}
 use Rattle.wcp_tree.proofs.Faithful.{only_none, prefix_more}
 use Rattle.wcp_tree.proofs.Passing.{if_none}
 use Rattle.wcp_tree.proofs.LeafWork.{if_some, leaf_owned, leaf_next, leaf_taken, leaf_quiet}
-use Rattle.wcp_tree.proofs.leaf.take_round.Goals as goal
-use Rattle.wcp_tree.proofs.leaf.take_round.Goals.{in-Some, in_default}
+use Rattle.wcp_tree.proofs.leaf.take_burst.Goals as goal
+use Rattle.wcp_tree.proofs.leaf.take_burst.Goals.{in-Some, in_default}
 
 pub returns-in_err-item-clause-same_feeds : goal.returns-in_err-item-clause-same_feeds
 returns-in_err-item-clause-same_feeds g c =
     let same = c.in_err-item.ensures.same in (
-      processes-set c.loop-feed.feeds c.loop-feed.feed-index c.take.new.self c.feed-item.result same.0 ∙ c.loop-feed.invariant.feeds.0,
-      map-set_same (λ (f : Feed). f.taker.ring) c.loop-feed.feeds c.loop-feed.feed-index c.take.new.self c.feed-item.result same.1
-          ∙ c.loop-feed.invariant.feeds.1,
+      processes-set c.loop.feeds c.args.place c.take.new.self c.index-feeds-place.result same.0 ∙ c.loop.invariant.feeds.0,
+      map-set_same (λ (f : Feed). f.taker.ring) c.loop.feeds c.args.place c.take.new.self c.index-feeds-place.result same.1
+          ∙ c.loop.invariant.feeds.1,
     )
 
 pub returns-in_err-item-clause-front : goal.returns-in_err-item-clause-front
 returns-in_err-item-clause-front g c =
     let p = err_from_is_err_and c.from_residual.result c.from_residual.ensures.1 in
     let gap = c.in_err-item.ensures.gap in
-    let work = c.loop-feed.invariant.work in
-    let feeds = c.loop-feed.feeds in
-    let i = c.loop-feed.feed-index in
-    let d = c.feed-item.result in
+    let work = c.loop.invariant.work in
+    let feeds = c.loop.feeds in
+    let i = c.args.place in
+    let d = c.index-feeds-place.result in
     let item : Item = record { from = (get_or feeds i d).process; note = gap.1.0 } in
-    let front : (q : ℕ) → IsPrefix (items_of q (handed c.loop-feed.outlet)) (fed (set feeds i c.take.new.self) q) =
-    λ q. subst (IsPrefix (items_of q (handed c.loop-feed.outlet)))
+    let front : (q : ℕ) → IsPrefix (items_of q (handed c.loop.outlet)) (fed (set feeds i c.take.new.self) q) =
+    λ q. subst (IsPrefix (items_of q (handed c.loop.outlet)))
     (sym (fed-set feeds i c.take.new.self d item (omega arith) work.apart c.in_err-item.ensures.same.0 gap.1.1 refl q))
-    (prefix_more (items_of q (handed c.loop-feed.outlet)) (fed feeds q) (items_of q (item ∷ [])) (work.faithful.front q)) in
+    (prefix_more (items_of q (handed c.loop.outlet)) (fed feeds q) (items_of q (item ∷ [])) (work.faithful.front q)) in
     rw p.1 front
 
 pub returns-in_err-item-clause-gap : goal.returns-in_err-item-clause-gap
 returns-in_err-item-clause-gap g c =
     let p = err_from_is_err_and c.from_residual.result c.from_residual.ensures.1 in
     let gap = c.in_err-item.ensures.gap in
-    let feeds = c.loop-feed.feeds in
-    let i = c.loop-feed.feed-index in
-    let d = c.feed-item.result in
+    let feeds = c.loop.feeds in
+    let i = c.args.place in
+    let d = c.index-feeds-place.result in
     rw p.1 (
       (get_or feeds i d).process,
       p.2 ∙ gap.0,
-      fed-gap feeds i c.take.new.self d gap.1.0 (omega arith) c.loop-feed.invariant.work.apart c.in_err-item.ensures.same.0 gap.1.1 gap.1.2,
+      fed-gap feeds i c.take.new.self d gap.1.0 (omega arith) c.loop.invariant.work.apart c.in_err-item.ensures.same.0 gap.1.1 gap.1.2,
     )
 
 pub accept-requires-clause-owned : goal.accept-requires-clause-owned
 accept-requires-clause-owned g c =
     let got = if_some _ _ _ c.in-Some.is c.in_ok-item.ensures.some in
     only_none _ _ (λ none.
-    leaf_owned c.loop-feed.feeds c.loop-feed.feed-index c.feed-item.result c.loop-feed.outlet c.in-Some.item.from
-    c.loop-feed.invariant.work (omega arith) got.0)
+    leaf_owned c.loop.feeds c.args.place c.index-feeds-place.result c.loop.outlet c.in-Some.item.from
+    c.loop.invariant.work (omega arith) got.0)
 
 pub accept-requires-clause-next : goal.accept-requires-clause-next
 accept-requires-clause-next g c =
     let got = if_some _ _ _ c.in-Some.is c.in_ok-item.ensures.some in
-    leaf_next c.loop-feed.feeds c.loop-feed.feed-index c.feed-item.result c.loop-feed.outlet c.in-Some.item
-    c.loop-feed.invariant.work (omega arith) got.0 got.2
+    leaf_next c.loop.feeds c.args.place c.index-feeds-place.result c.loop.outlet c.in-Some.item
+    c.loop.invariant.work (omega arith) got.0 got.2
 
-pub loop-feed-preserved : goal.loop-feed-preserved
-loop-feed-preserved g c =
-    let old = c.loop-feed.invariant in
+pub loop-preserved : goal.loop-preserved
+loop-preserved g c =
+    let old = c.loop.invariant in
     let same = c.in_ok-item.ensures.same in
-    let feeds = c.loop-feed.feeds in
-    let i = c.loop-feed.feed-index in
+    let feeds = c.loop.feeds in
+    let i = c.args.place in
     let new = c.take.new.self in
-    let d = c.feed-item.result in
-    let step : (o : Outlet) → c.match-branch-2.outlet ≡ o → IsLeafAtWork (set feeds i new) o → IsSameOutlet c.loop-feed.outlet o
+    let d = c.index-feeds-place.result in
+    let step : (o : Outlet) → c.match-branch-2.outlet ≡ o → IsLeafAtWork (set feeds i new) o → IsSameOutlet c.loop.outlet o
     → IsLeafAtWork (set feeds i new) c.match-branch-2.outlet × IsSameOutlet c.args.outlet.now c.match-branch-2.outlet =
     λ o is work outlet. (
       subst (IsLeafAtWork (set feeds i new)) (sym is) work,
@@ -81,11 +81,11 @@ loop-feed-preserved g c =
       | in-Some w ↦ (
           let got = if_some _ _ _ w.in-Some.is c.in_ok-item.ensures.some in
           step w.accept.new.self w.outlet-is
-          (leaf_taken feeds i new d c.loop-feed.outlet w.accept.new.self w.in-Some.item old.work (omega arith) same.0 got.1 got.0 c.in_ok-item.ensures.in_order
+          (leaf_taken feeds i new d c.loop.outlet w.accept.new.self w.in-Some.item old.work (omega arith) same.0 got.1 got.0 c.in_ok-item.ensures.in_order
           w.accept.ensures.same w.accept.ensures.sound w.accept.ensures.handed w.accept.ensures.let_go)
           w.accept.ensures.same)
-      | in_default w ↦ step c.loop-feed.outlet w.outlet-is
-          (leaf_quiet feeds i new d c.loop-feed.outlet old.work same.0 (if_none _ _ w.in_default.is c.in_ok-item.ensures.none) c.in_ok-item.ensures.in_order)
+      | in_default w ↦ step c.loop.outlet w.outlet-is
+          (leaf_quiet feeds i new d c.loop.outlet old.work same.0 (if_none _ _ w.in_default.is c.in_ok-item.ensures.none) c.in_ok-item.ensures.in_order)
           (refl, refl)
     ] in
     record {
