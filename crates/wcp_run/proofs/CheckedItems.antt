@@ -78,12 +78,12 @@ last_taken now new taken items i d below same stands may step front end is close
 
 -- without memory for an item, those before it were given
 pub stops_short : (items : List Item) (i : ℕ) (d : Item) → i < length items → length items ≤ most_bundle → is_close (get_or items i d).note ≡ false → StopsShort items (take i items)
-stops_short items i d below few open = record {
+stops_short items i d below few still_open = record {
   refused = get_or items i d;
   behind = drop (i + 1) items;
   is = sym (take-append-drop (i + 1) items) ∙ ap (λ front. front ++ drop (i + 1) items) (take_more items i d below)
       ∙ append_assoc (take i items) (get_or items i d ∷ []) (drop (i + 1) items);
-  snapshot = open;
+  snapshot = still_open;
   few = omega (arith, length-drop (i + 1) items, below, few);
 }
 
