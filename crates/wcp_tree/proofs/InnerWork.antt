@@ -1,6 +1,6 @@
 -- A relay with a lane stays at work.
 use Rattle.std.proofs.Common.{◌≡◌, ◌≢◌, ℕ, suc, true, false, true≢false, ◌||◌, None, List, [], ◌∷◌, ◌++◌, sym, ap, ◌∙◌, subst, refl, append_assoc, ⊎_elim, arith}
-use Rattle.std.specs.Prelude.{All, IfNone, IfSome, nat_eq}
+use Rattle.std.specs.Prelude.{All, IfNone, nat_eq}
 use Rattle.std.specs.FinSet as set
 use Rattle.std.specs.Ordering.{nat_cmp}
 use Rattle.std.specs.Cmp.{unsigned_tied, nat_cmp_total}

@@ -1,6 +1,6 @@
 -- What a live probe has, and the log of calls that it stands for.
 use Rattle.std.specs.Prelude.{◌≡◌, ℕ, false, not, Option, Some, None}
-use Rattle.std.specs.Prelude.{List, [], ◌∷◌, ◌++◌, length, count_by, replicate}
+use Rattle.std.specs.Prelude.{List, [], ◌∷◌, ◌++◌, count_by, replicate}
 use Rattle.wcp_clock.specs.Limits.{most_events}
 use Rattle.wcp_clock.specs.declared.note.Note.{Note}
 use Rattle.wcp_model.specs.ProbeLog.{Call, state_of_log}
