@@ -9,7 +9,7 @@ use Rattle.wcp_lane.specs.declared.passes.Hand.{Hand}
 use Rattle.wcp_lane.specs.Message.{AllMayFollow}
 use Rattle.std.specs.Prelude.{All}
 use Rattle.std.specs.List.{flat_map}
-use Rattle.wcp_lane.specs.Within.{IsWithin}
+use Rattle.wcp_lane.specs.ProcessNumbers.{AreProcessNumbers}
 use Rattle.wcp_lane.specs.Passes.{Numbers, home, putter, taker, nobody, without, joined, with_put, with_taken, IsPut, IsBalanced, IsRuled}
 use Rattle.wcp_lane.specs.Ends.{put_by, unowned_by, AreCounts}
 use Rattle.wcp_lane.proofs.Lists.{items-push}
@@ -20,7 +20,7 @@ module _ {M I : Type 0} (items : M → List I) (origin place : I → ℕ) (is_la
   Rule = IsRuled items origin place is_last
 
   -- the steps, at what an end is known to know
-  pub puts_as : (n pass : ℕ) (v : Hand M) (numbers : Numbers) (put : List M) (m : M) → v ≡ putter numbers put → IsWithin numbers
+  pub puts_as : (n pass : ℕ) (v : Hand M) (numbers : Numbers) (put : List M) (m : M) → v ≡ putter numbers put → AreProcessNumbers numbers
       → AllMayFollow origin place is_last numbers (flat_map items put) (items m) → Pushes Rule n pass v m (IsPut v m)
   puts_as n pass v numbers put m is within may =
       let owned = all_owned origin place is_last numbers (flat_map items put) (items m) may in

@@ -3,4 +3,4 @@ pub mod Message
 pub mod Numbers
 pub mod Owners
 pub mod Passes
-pub mod Within
+pub mod ProcessNumbers

@@ -1,7 +1,7 @@
 ghost use Rattle.std.specs.Prelude.{◌≡◌, ℕ, ◌<◌, ◌↔◌, ◌||◌, true, false, length, slice_index_or, IsTrue};
 ghost use Rattle.std.specs.FinSet as set;
 ghost use Rattle.wcp_clock.specs.Limits.{most_processes};
-ghost use Rattle.wcp_lane.specs.Within.{IsWithin};
+ghost use Rattle.wcp_lane.specs.ProcessNumbers.{AreProcessNumbers};
 
 use std::marker::Model;
 use wcp_clock::MAX_PROCS;
@@ -57,7 +57,7 @@ impl Origins {
     pub fn has(&self, p: u32) -> bool
         requires { p < most_processes }
         ensures value { result ≡ set.contains self.now p }
-        ensures within { IsWithin self.now }
+        ensures within { AreProcessNumbers self.now }
     {
         self.has[p as usize]
     }
@@ -77,7 +77,7 @@ impl Origins {
     /// The numbers of either set.
     pub(crate) fn joined(&self, other: &Origins) -> Origins
         ensures value { result ≡ set.union self.now other.now }
-        ensures within { IsWithin other.now }
+        ensures within { AreProcessNumbers other.now }
     {
         Origins {
             has: either(&self.has, &other.has),

@@ -15,7 +15,7 @@ use Rattle.wcp_tree.specs.declared.bundle.Bundle.{Bundle}
 use Rattle.wcp_tree.specs.Feeding.{Serves, fed, items_by, items_of}
 use Rattle.wcp_tree.specs.LiveProbe.{ClosedSide}
 use Rattle.wcp_tree.specs.Members.{IsBelow, Itself}
-use Rattle.wcp_tree.specs.RelayEnds.{AreReceiptsOf, IsReceiptOf, fault_of, put_by, taken_by, taken_in}
+use Rattle.wcp_tree.specs.RelayEnds.{AreReceiptsOf, IsReceiptOf, fault_of, relay_put, relay_taken, taken_in}
 use Rattle.wcp_tree.specs.Relays.{IsSource}
 use Rattle.wcp_tree.specs.declared.feed.Feed.{Feed}
 use Rattle.wcp_tree.specs.declared.relay.Relay.{Relay}
@@ -45,7 +45,7 @@ notes_of_items p items notes same =
 -- what a lane was matched for
 lane_taken : (root : TakenEnd Bundle Item) (IsRelay : ℕ → RelayEnd → Type 0) (relay : Relay) (end : RelayEnd) (p : ℕ) → fault_of end ≡ None
     → AreReceiptsOf relay end → set.contains relay.putter.members p ≡ true → IsLaneMatched root IsRelay end
-    → AreTakenFrom root IsRelay relay.parent p (put_by end p)
+    → AreTakenFrom root IsRelay relay.parent p (relay_put end p)
 lane_taken root IsRelay relay (Whole number watch owner taken put) p none receipts has matched =
     subst (λ owner. AreTakenFrom root IsRelay owner p (items_of p put.put)) receipts.0
     (matched p (ap (λ members. set.contains members p) receipts.3 ∙ has))
@@ -60,10 +60,10 @@ module _ {count : ℕ} {probe_ends : List (Option ClosedSide)} {root : TakenEnd 
   end_of : (k : ℕ) → k < count → RelayEnd
   end_of k below = (there.relay k below).end
 
-  put_is_taken : (k : ℕ) (below : k < count) → put_by (there.relay k below).end p ≡ taken_by (there.relay k below).end p
+  put_is_taken : (k : ℕ) (below : k < count) → relay_put (there.relay k below).end p ≡ relay_taken (there.relay k below).end p
   put_is_taken k below =
       let has = there.relay k below in
-      subst (λ fault. IfNone fault ((p : ℕ) → put_by has.end p ≡ taken_by has.end p)) has.whole has.is_end.whole p
+      subst (λ fault. IfNone fault ((p : ℕ) → relay_put has.end p ≡ relay_taken has.end p)) has.whole has.is_end.whole p
 
   -- the feed of a process took what its probe put
   feed_took : (leaf : ℕ) → leaf_of there.plan p ≡ Some leaf → (source : Source) (taken : Receipts)
@@ -86,14 +86,14 @@ module _ {count : ℕ} {probe_ends : List (Option ClosedSide)} {root : TakenEnd 
 
   leaf_took : (leaf : ℕ) → leaf_of there.plan p ≡ Some leaf → (relay : Relay) (end : RelayEnd) → fault_of end ≡ None
       → AreReceiptsOf relay end → IsSource there.plan there.wired.takers leaf relay.source
-      → All (IsRingMatched (SitsAt probe_ends)) (feeds_of end) → taken_by end p ≡ emitted
+      → All (IsRingMatched (SitsAt probe_ends)) (feeds_of end) → relay_taken end p ≡ emitted
   leaf_took leaf at relay (Whole number watch owner taken put) none receipts is rings =
       feed_took leaf at relay.source taken is receipts.1 relay.putter.members relay.serves rings
   leaf_took leaf at relay (Faulted number watch fault source putter) none receipts is rings = absurd (cc)
 
   -- from a relay that put it, it comes to the checker
   climbs : (bound from : ℕ) → from < bound → (below : from < count) → IsBelow there.plan from p
-      → put_by (there.relay from below).end p ≡ emitted → items_of p root.taken ≡ emitted
+      → relay_put (there.relay from below).end p ≡ emitted → items_of p root.taken ≡ emitted
   climbs zero from less below is put = absurd (omega (arith, less))
   climbs (suc bound) from less below is put =
       let has = there.relay from below in
@@ -104,9 +104,9 @@ module _ {count : ℕ} {probe_ends : List (Option ClosedSide)} {root : TakenEnd 
       by_owner (λ above lower next. climbs bound above (omega (arith, lower, less)) next) link.relay.parent link.of_plan.parent taken
     where
       by_owner : ((above : ℕ) → above < from → (next : above < count) → IsBelow there.plan above p
-          → put_by (there.relay above next).end p ≡ emitted → items_of p root.taken ≡ emitted)
+          → relay_put (there.relay above next).end p ≡ emitted → items_of p root.taken ≡ emitted)
           → (owner : Parent) → parent_of there.plan from ≡ Some owner
-          → AreTakenFrom root (SitsAt relay_ends) owner p (put_by (there.relay from below).end p)
+          → AreTakenFrom root (SitsAt relay_ends) owner p (relay_put (there.relay from below).end p)
           → items_of p root.taken ≡ emitted
       by_owner climb parent.Root at taken = taken ∙ put
       by_owner climb (parent.Relay above) at taken =

@@ -15,8 +15,8 @@ use Rattle.wcp_lane.specs.Ends.{LaneName, PutEnd, TakenEnd}
 use Rattle.wcp_tree.specs.declared.bundle.Bundle.{Bundle}
 use Rattle.wcp_tree.specs.Feeding.{items_of, processes_of}
 use Rattle.wcp_tree.specs.LiveProbe.{ClosedSide, LiveSide}
-use Rattle.wcp_tree.specs.RelayEnds.{AreReceiptsOf, IsReceiptOf, fault_of, taken_by}
-use Rattle.wcp_tree.specs.Relays.{IsSource, lane_of}
+use Rattle.wcp_tree.specs.RelayEnds.{AreReceiptsOf, IsReceiptOf, fault_of, relay_taken}
+use Rattle.wcp_tree.specs.Relays.{IsSource, inbox_lane}
 use Rattle.wcp_tree.specs.Rings.{IsFeed, IsTakerAt}
 use Rattle.wcp_tree.specs.Watches.{IsLinked, lane_below, lane_to}
 use Rattle.wcp_tree.specs.declared.feed.Feed.{Feed}
@@ -52,14 +52,14 @@ receipt_in (Faulted number watch fault source putter) = None
 
 -- what its end took is what is in the receipt
 taken_in_receipt : (end : RelayEnd) (receipt : TakenEnd Bundle Item) (p : ℕ) → receipt_in end ≡ Some receipt
-    → taken_by end p ≡ items_of p receipt.taken
+    → relay_taken end p ≡ items_of p receipt.taken
 taken_in_receipt (Whole number watch parent (Feeds feeds) put) receipt p is = cc
 taken_in_receipt (Whole number watch parent (Lane own) put) receipt p is =
     let same : own ≡ receipt = cc in ap (λ (r : TakenEnd Bundle Item). items_of p r.taken) same
 taken_in_receipt (Faulted number watch fault source putter) receipt p is = cc
 
 -- a source with a lane leaves its receipt
-lane_left : (source : Source) (taken : Receipts) (lane : LaneName Bundle) → IsReceiptOf source taken → lane_of source ≡ Some lane
+lane_left : (source : Source) (taken : Receipts) (lane : LaneName Bundle) → IsReceiptOf source taken → inbox_lane source ≡ Some lane
     → (receipt : TakenEnd Bundle Item) × (inbox_in taken ≡ Some receipt) × (receipt.lane ≡ lane)
 lane_left (Leaf feeds parker) (Feeds left) lane are is = absurd (cc)
 lane_left (Leaf feeds parker) (Lane receipt) lane are is = absurd are
@@ -67,7 +67,7 @@ lane_left (Inner taker) (Feeds left) lane are is = absurd are
 lane_left (Inner taker) (Lane receipt) lane are is = (receipt, refl, are.0 ∙ (let same : taker.lane ≡ lane = cc in same))
 
 receipt_left : (relay : Relay) (end : RelayEnd) (lane : LaneName Bundle) → fault_of end ≡ None → AreReceiptsOf relay end
-    → lane_of relay.source ≡ Some lane → (receipt : TakenEnd Bundle Item) × (receipt_in end ≡ Some receipt) × (receipt.lane ≡ lane)
+    → inbox_lane relay.source ≡ Some lane → (receipt : TakenEnd Bundle Item) × (receipt_in end ≡ Some receipt) × (receipt.lane ≡ lane)
 receipt_left relay (Whole number watch parent taken put) lane none are is = lane_left relay.source taken lane are.1 is
 receipt_left relay (Faulted number watch fault source putter) lane none are is = absurd (cc)
 
@@ -150,7 +150,7 @@ module _ {count : ℕ} {probe_ends : List (Option ClosedSide)} {root : TakenEnd 
   )
   in_receipt (parent.Relay above) receipt (end, sits, is) p items = (
     (λ same relay at.
-        ap (λ e. taken_by e p) (sits_alone relay_ends above relay end at sits) ∙ taken_in_receipt end receipt p is ∙ same),
+        ap (λ e. relay_taken e p) (sits_alone relay_ends above relay end at sits) ∙ taken_in_receipt end receipt p is ∙ same),
     (λ taken. sym (taken_in_receipt end receipt p is) ∙ taken end sits),
   )
 

@@ -17,7 +17,7 @@ use Rattle.wcp_queue.specs.Checker.{IsReportOfAnyClocks}
 use Rattle.wcp_tree.specs.declared.bundle.Bundle.{Bundle}
 use Rattle.wcp_tree.specs.Feeding.{items_of}
 use Rattle.wcp_tree.specs.LiveProbe.{LiveSide, ClosedSide, snapshots_in}
-use Rattle.wcp_tree.specs.RelayEnds.{AreReceiptsOf, fault_of, number_of, put_by, taken_by, watch_of}
+use Rattle.wcp_tree.specs.RelayEnds.{AreReceiptsOf, fault_of, number_of, relay_put, relay_taken, watch_of}
 use Rattle.wcp_tree.specs.Watches.{IsWired}
 use Rattle.wcp_tree.specs.declared.feed.Feed.{Feed}
 use Rattle.wcp_tree.specs.declared.relay.Relay.{Relay}
@@ -45,7 +45,7 @@ pub record IsEndOfSomeRelay (relays : List Relay) (end : RelayEnd) : Type 0 wher
   pub relay : Relay
   pub is_relay : slice_get relays (number_of end) ≡ Some relay
   pub receipts : AreReceiptsOf relay end
-  pub whole : IfNone (fault_of end) ((p : ℕ) → put_by end p ≡ taken_by end p)
+  pub whole : IfNone (fault_of end) ((p : ℕ) → relay_put end p ≡ relay_taken end p)
 
 -- The checker's end comes from a watch that was wired by a checked plan, and so does each end that carries the number
 -- of this watch.
@@ -66,7 +66,7 @@ IsRingMatched IsProbe feed = (probe : ClosedSide) → IsProbe feed.process probe
 abbrev pub AreTakenFrom : TakenEnd Bundle Item → (ℕ → RelayEnd → Type 0) → Parent → ℕ → List Item → Type 0
 AreTakenFrom root IsRelay parent.Root p items = items_of p root.taken ≡ items
 AreTakenFrom root IsRelay (parent.Relay above) p items =
-    (relay : RelayEnd) → IsRelay above relay → taken_by relay p ≡ items
+    (relay : RelayEnd) → IsRelay above relay → relay_taken relay p ≡ items
 
 -- The lane of a relay was matched: what it put of each of its processes was taken from the inbox of its parent.
 abbrev pub IsLaneMatched : TakenEnd Bundle Item → (ℕ → RelayEnd → Type 0) → RelayEnd → Type 0

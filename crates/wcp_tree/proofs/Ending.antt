@@ -14,7 +14,7 @@ use Rattle.wcp_tree.specs.declared.source.Source.{Source}
 use Rattle.wcp_tree.specs.declared.source.Source.TheVariants.{Leaf, Inner}
 use Rattle.wcp_tree.specs.declared.relay_end.Receipts.{Receipts}
 use Rattle.wcp_tree.specs.declared.relay_end.Receipts.TheVariants.{Feeds, Lane}
-use Rattle.wcp_tree.specs.Feeding.{fed, items_by, items_of, taken_of, Serves, IsNewFeed, IsInOrder}
+use Rattle.wcp_tree.specs.Feeding.{fed, items_by, items_of, source_taken, Serves, IsNewFeed, IsInOrder}
 use Rattle.wcp_tree.specs.RelayWork.{handed, AreItemsInSequence, IsSound, IsFaithful, IsLeafAtWork, IsAtWork, AreClosed}
 use Rattle.wcp_tree.specs.RelayEnds.{IsEndOfSource, taken_in}
 use Rattle.wcp_tree.proofs.Lists.{AreInSequence-none, items_of-append}
@@ -115,7 +115,7 @@ leaf_all_closed (Ok done) feeds outlet work closed = leaf_closed feeds outlet wo
 leaf_all_closed (Err met) feeds outlet work closed = tt
 
 -- what is left of a source took what it took
-pub end_taken : (source : Source) (left : Receipts) → IsEndOfSource source left → (p : ℕ) → taken_in left p ≡ taken_of source p
+pub end_taken : (source : Source) (left : Receipts) → IsEndOfSource source left → (p : ℕ) → taken_in left p ≡ source_taken source p
 end_taken (Leaf feeds sleeper) (Feeds left) is p = λ j. fed (is j).items p
 end_taken (Inner taker) (Lane receipt) is p = ap (items_of p) is.3
 end_taken (Leaf feeds sleeper) (Lane receipt) is p = absurd is

@@ -65,6 +65,6 @@ fed [] p = []
 fed (feed ∷ feeds) p = if feed.process == p then items_by p feed.taker.taken else fed feeds p
 
 -- The items of process p that a relay took.
-abbrev pub taken_of : Source → ℕ → List Item
-taken_of (Leaf feeds sleeper) p = fed feeds.items p
-taken_of (Inner taker) p = items_of p taker.taken
+abbrev pub source_taken : Source → ℕ → List Item
+source_taken (Leaf feeds sleeper) p = fed feeds.items p
+source_taken (Inner taker) p = items_of p taker.taken

@@ -10,7 +10,7 @@ use Rattle.wcp_tree.specs.declared.relay_end.Receipts.TheVariants.{Feeds, Lane}
 use Rattle.wcp_tree.specs.declared.relay_end.RelayFault.{RelayFault}
 use Rattle.wcp_tree.specs.declared.relay_end.RelayEnd.{RelayEnd}
 use Rattle.wcp_tree.specs.declared.relay_end.RelayEnd.TheVariants.{Whole, Faulted}
-use Rattle.wcp_tree.specs.Feeding.{fed, items_of, taken_of}
+use Rattle.wcp_tree.specs.Feeding.{fed, items_of, source_taken}
 use Rattle.wcp_tree.specs.RelayWork.{AreSameFeeds}
 
 -- What is left of a source: the feeds of a leaf, or the receipt of a lane, which was matched with no putter yet.
@@ -40,14 +40,14 @@ abbrev pub taken_in : Receipts → ℕ → List Item
 taken_in (Feeds feeds) p = fed feeds.items p
 taken_in (Lane receipt) p = items_of p receipt.taken
 
-abbrev pub taken_by : RelayEnd → ℕ → List Item
-taken_by (Whole number watch parent taken put) p = taken_in taken p
-taken_by (Faulted number watch fault source putter) p = taken_of source.value p
+abbrev pub relay_taken : RelayEnd → ℕ → List Item
+relay_taken (Whole number watch parent taken put) p = taken_in taken p
+relay_taken (Faulted number watch fault source putter) p = source_taken source.value p
 
 -- The items of process p that a relay put.
-abbrev pub put_by : RelayEnd → ℕ → List Item
-put_by (Whole number watch parent taken put) p = items_of p put.put
-put_by (Faulted number watch fault source putter) p = items_of p putter.value.put
+abbrev pub relay_put : RelayEnd → ℕ → List Item
+relay_put (Whole number watch parent taken put) p = items_of p put.put
+relay_put (Faulted number watch fault source putter) p = items_of p putter.value.put
 
 -- The number of a relay, and of its watch.
 abbrev pub number_of : RelayEnd → ℕ

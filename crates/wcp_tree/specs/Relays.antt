@@ -23,15 +23,15 @@ IsSource plan takers relay (Inner taker) =
     (is_leaf plan relay ≡ false) × (taker.taken ≡ []) × AreBelow plan relay taker.members
 
 -- The lane by which a relay takes, if it serves relays.
-abbrev pub lane_of : Source → Option (LaneName Bundle)
-lane_of (Leaf feeds sleeper) = None
-lane_of (Inner taker) = Some taker.lane
+abbrev pub inbox_lane : Source → Option (LaneName Bundle)
+inbox_lane (Leaf feeds sleeper) = None
+inbox_lane (Inner taker) = Some taker.lane
 
 -- The relays whose parent this one is are seated on its lane.
 abbrev pub AreSeated : Plan → ℕ → Source → List (Option (PutEnd Bundle Item)) → Type 0
 AreSeated plan relay source seats =
     (child : ℕ) → parent_of plan child ≡ Some (parent.Relay relay)
-    → (lane : LaneName Bundle) × (lane_of source ≡ Some lane)
+    → (lane : LaneName Bundle) × (inbox_lane source ≡ Some lane)
     × (putter : PutEnd Bundle Item) × (slice_get seats child ≡ Some (Some putter)) × IsSeatOf plan child lane putter
 
 -- A relay of a watch before it runs: it knows its parent, and has its source, an empty hold, and an end of a lane that

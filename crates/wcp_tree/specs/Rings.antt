@@ -13,7 +13,7 @@ abbrev pub IsTakerAt : List (Option TakeSide) → ℕ → TakeSide → Type 0
 IsTakerAt takers p taker = (slice_get takers p ≡ Some (Some taker)) × (taker.taken ≡ [])
 
 -- The ring of process p: its probe is fresh and has put nothing, and the end that takes is of the same ring.
-pub record IsRing (plan : Plan) (watch p : ℕ) (probes : List LiveSide) (takers : List (Option TakeSide)) : Type 0 where
+pub record IsNewRing (plan : Plan) (watch p : ℕ) (probes : List LiveSide) (takers : List (Option TakeSide)) : Type 0 where
   pub probe : LiveSide
   pub taker : TakeSide
   pub is_probe : slice_get probes p ≡ Some probe
@@ -27,7 +27,7 @@ pub record AreRings (plan : Plan) (watch k : ℕ)
     (probes : List LiveSide) (takers : List (Option TakeSide)) : Type 0 where
   pub probes_count : length probes ≡ k
   pub takers_count : length takers ≡ k
-  pub each : (p : ℕ) → p < k → IsRing plan watch p probes takers
+  pub each : (p : ℕ) → p < k → IsNewRing plan watch p probes takers
 
 -- A feed that has taken nothing has the end of its process's ring that was here to be given.
 pub record IsFeed (plan : Plan) (leaf : ℕ) (takers : List (Option TakeSide)) (k : ℕ) (feed : Feed) : Type 0 where

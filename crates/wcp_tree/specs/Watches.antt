@@ -11,13 +11,13 @@ use Rattle.wcp_lane.specs.Ends.{LaneName, PutEnd}
 use Rattle.wcp_tree.specs.declared.bundle.Bundle.{Bundle}
 use Rattle.wcp_tree.specs.declared.relay.Relay.{Relay}
 use Rattle.wcp_tree.specs.declared.watch.Watch.{Watch}
-use Rattle.wcp_tree.specs.Relays.{IsRelayOf, lane_of}
+use Rattle.wcp_tree.specs.Relays.{IsRelayOf, inbox_lane}
 use Rattle.wcp_tree.specs.Rings.{AreRings}
 use Rattle.wcp_tree.specs.Wiring.{IsSeatOf}
 
 -- The lane by which a relay takes, if it is there and serves relays.
 abbrev pub lane_below : Option Relay → Option (LaneName Bundle)
-lane_below (Some relay) = lane_of relay.source
+lane_below (Some relay) = inbox_lane relay.source
 lane_below None = None
 
 -- The lane by which an owner takes: the root's, or that of a relay.

@@ -1,6 +1,6 @@
 ghost use Rattle.std.specs.Prelude.{◌≡◌, ℕ, true, [], ◌++◌, ◌↔◌, ◌<◌, IsTrue, IfOk, IfSome, IfNone, OnErr, OnOk};
 ghost use Rattle.std.specs.FinSet as set;
-ghost use Rattle.wcp_lane.specs.Within.{IsWithin};
+ghost use Rattle.wcp_lane.specs.ProcessNumbers.{AreProcessNumbers};
 ghost use Rattle.wcp_tree.specs.Feeding.{items_of};
 ghost use Rattle.wcp_tree.specs.RelayWork.{IsInnerAtWork, IsSameOutlet, IsSameTaker, AreTakenNext, AreClosed};
 
@@ -70,7 +70,7 @@ fn next_bundle<R: Wait>(
 fn are_among(numbers: &Origins, all: &Origins) -> bool
     ensures among { IsTrue result
         ↔ ((p : ℕ) → set.contains numbers.now p ≡ true → set.contains all.now p ≡ true) }
-    ensures within { IsWithin numbers.now }
+    ensures within { AreProcessNumbers numbers.now }
 {
     for p in 0..MAX_PROCS as u32 {
         if numbers.has(p) && !all.has(p) {

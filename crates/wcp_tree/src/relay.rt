@@ -31,7 +31,7 @@ pub struct Relay {
 
 impl Relay {
     ghost use Rattle.wcp_tree.specs.RelayWork.{IsFaultAfter, AreClosed};
-    ghost use Rattle.wcp_tree.specs.RelayEnds.{AreReceiptsOf, taken_by, put_by, fault_of, number_of, watch_of};
+    ghost use Rattle.wcp_tree.specs.RelayEnds.{AreReceiptsOf, relay_taken, relay_put, fault_of, number_of, watch_of};
 
     /// The relay of this number in the plan of a watch, and with this parent.
     pub(crate) fn new(
@@ -78,10 +78,10 @@ impl Relay {
         ensures number { number_of result ≡ self.number }
         ensures watch { watch_of result ≡ self.watch }
         ensures receipts { AreReceiptsOf self result }
-        ensures front { (p : ℕ) → IsPrefix (put_by result p) (taken_by result p) }
-        ensures whole { IfNone (fault_of result) ((p : ℕ) → put_by result p ≡ taken_by result p) }
-        ensures closed { IfNone (fault_of result) (AreClosed self.putter.members (taken_by result)) }
-        ensures fault { IfSome (fault_of result) (λ met. IsFaultAfter met (taken_by result)) }
+        ensures front { (p : ℕ) → IsPrefix (relay_put result p) (relay_taken result p) }
+        ensures whole { IfNone (fault_of result) ((p : ℕ) → relay_put result p ≡ relay_taken result p) }
+        ensures closed { IfNone (fault_of result) (AreClosed self.putter.members (relay_taken result)) }
+        ensures fault { IfSome (fault_of result) (λ met. IsFaultAfter met (relay_taken result)) }
     {
         let Relay {
             number,

@@ -21,7 +21,7 @@ pub enum Source {
 }
 
 impl Source {
-    ghost use Rattle.wcp_tree.specs.Feeding.{items_of, taken_of};
+    ghost use Rattle.wcp_tree.specs.Feeding.{items_of, source_taken};
     ghost use Rattle.wcp_tree.specs.RelayWork.{handed, IsAtWork, IsSameSource, IsSameOutlet, AreClosed, IsFaultAfter};
     ghost use Rattle.wcp_tree.specs.RelayEnds.{IsEndOfSource};
 
@@ -30,11 +30,11 @@ impl Source {
         requires { IsAtWork self.old outlet.old }
         ensures same_source { IsSameSource self.old self.new }
         ensures same_outlet { IsSameOutlet outlet.old outlet.new }
-        ensures front { (p : ℕ) → IsPrefix (items_of p (handed outlet.new)) (taken_of self.new p) }
+        ensures front { (p : ℕ) → IsPrefix (items_of p (handed outlet.new)) (source_taken self.new p) }
         ensures whole { OnOk result (IfNone outlet.new.cut
-            ((p : ℕ) → items_of p outlet.new.putter.put ≡ taken_of self.new p)) }
-        ensures closed { OnOk result (AreClosed outlet.new.putter.members (taken_of self.new)) }
-        ensures fault { IfErr result (λ met. IsFaultAfter met (taken_of self.new)) }
+            ((p : ℕ) → items_of p outlet.new.putter.put ≡ source_taken self.new p)) }
+        ensures closed { OnOk result (AreClosed outlet.new.putter.members (source_taken self.new)) }
+        ensures fault { IfErr result (λ met. IsFaultAfter met (source_taken self.new)) }
     {
         match self {
             Source::Leaf { feeds, sleeper } => run_leaf(rt, feeds, sleeper, outlet),

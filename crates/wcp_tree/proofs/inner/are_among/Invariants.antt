@@ -1,11 +1,11 @@
 use Rattle.std.proofs.Common.{◌≡◌, ℕ, ◌<◌, true}
 use Rattle.std.specs.FinSet as set
-use Rattle.wcp_lane.specs.Within.{IsWithin}
+use Rattle.wcp_lane.specs.ProcessNumbers.{AreProcessNumbers}
 use Rattle.wcp_tree.proofs.inner.are_among.Given as goal
 
 abbrev pub invariant-loop-p : goal.invariant-loop-p
 invariant-loop-p l =
     record {
       below : (q : ℕ) → q < l.p → set.contains l.numbers q ≡ true → set.contains l.all q ≡ true;
-      within : 0 < l.p → IsWithin l.numbers;
+      within : 0 < l.p → AreProcessNumbers l.numbers;
     }

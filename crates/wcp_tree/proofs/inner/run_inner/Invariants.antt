@@ -1,6 +1,6 @@
 use Rattle.std.proofs.Common.{◌≡◌, ℕ, true}
 use Rattle.std.specs.FinSet as set
-use Rattle.wcp_lane.specs.Within.{IsWithin}
+use Rattle.wcp_lane.specs.ProcessNumbers.{AreProcessNumbers}
 use Rattle.wcp_tree.specs.Feeding.{items_of}
 use Rattle.wcp_tree.specs.RelayWork.{IsInnerAtWork, IsSameOutlet, IsSameTaker, AreClosed}
 use Rattle.wcp_tree.proofs.inner.run_inner.Given as goal
@@ -14,7 +14,7 @@ invariant-loop g l =
       taker : IsSameTaker l.initial.taker l.taker;
       outlet : IsSameOutlet l.initial.outlet l.outlet;
       below : l.below ≡ l.outlet.putter.members;
-      within : IsWithin l.below;
+      within : AreProcessNumbers l.below;
       ended : AreClosed l.closed (λ p. items_of p l.taker.taken);
       finished : l.finished ≡ true → (p : ℕ) → set.contains l.below p ≡ true → set.contains l.closed p ≡ true;
     }

@@ -4,5 +4,5 @@ use Rattle.std.specs.FinSet as set
 use Rattle.wcp_clock.specs.Limits.{most_processes}
 
 -- Every number of the set is below 16.
-abbrev pub IsWithin : set.FinSet nat_cmp → Type 0
-IsWithin numbers = (p : ℕ) → set.contains numbers p ≡ true → p < most_processes
+abbrev pub AreProcessNumbers : set.FinSet nat_cmp → Type 0
+AreProcessNumbers numbers = (p : ℕ) → set.contains numbers p ≡ true → p < most_processes
