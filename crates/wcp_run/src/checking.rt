@@ -27,7 +27,7 @@ pub fn check_loop<R: Wait>(
     book: &Mutex<Book>,
 ) -> CheckerEnd
     requires { IsFreshFor inbox checker }
-    ensures end { IsEndOfLoop inbox result }
+    ensures { IsEndOfLoop inbox result }
 {
     let watch = inbox.watch();
     let relays = inbox.relays();

@@ -44,7 +44,10 @@ pub(crate) fn match_links(
 }
 
 /// Takes the end of a relay out of its place: the relay's parent, its receipts, and what it put.
-fn take_end(relays: &mut [Option<RelayEnd>], number: usize) -> (Parent, Receipts, PutReceipt<Bundle>)
+fn take_end(
+    relays: &mut [Option<RelayEnd>],
+    number: usize,
+) -> (Parent, Receipts, PutReceipt<Bundle>)
     requires { (end : RelayEnd) × SitsAt relays.old number end × (fault_of end ≡ None) }
     ensures sat { (own watch : ℕ) × SitsAt relays.old number (relay_end.Whole own watch result.0 result.1 result.2) }
     ensures gone { relays.new ≡ slice_set relays.old number None }

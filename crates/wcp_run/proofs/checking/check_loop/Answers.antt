@@ -6,8 +6,8 @@ use Rattle.wcp_run.proofs.CheckedItems.{all_checked, all_drained}
 use Rattle.wcp_run.proofs.checking.check_loop.Goals as goal
 use Rattle.wcp_tree.specs.declared.bundle.Bundle.{Bundle}
 
-pub returns-clause-end : goal.returns-clause-end
-returns-clause-end g c =
+pub returns : goal.returns
+returns g c =
     let met = c.take_all.result in
     let checker = c.take_all.new.checker in
     let taker = c.take_all.new.taker in

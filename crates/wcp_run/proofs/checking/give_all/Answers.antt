@@ -30,12 +30,14 @@ returns-in-Err-clause-memory c =
     let i = c.loop-item.item-index in
     let few : length items ≤ most_bundle = omega (arith, ap length c.items-items.ensures.value, c.items-items.ensures.bundle.within) in
     let open' = ap (λ (item : Item). is_close item.note) (sym c.item-item.is) ∙ c.in-Err.ensures.snapshot in
-    let kept = subst (λ (k : CheckerState). TakesItems c.args.checker.now k (take i items)) (sym c.in-Err.ensures.unchanged) c.loop-item.invariant.taken in
-    (c.in-Err.ensures.memory, (
-      take i items,
-      subst (λ bundle. StopsShort bundle (take i items)) c.items-items.ensures.value (stops_short items i _ c.loop-item-test.true few open'),
-      kept,
-    ))
+    let kept = subst (λ (k : CheckerState). TakesItems c.args.checker.now k (take i items)) (sym c.in-Err.ensures.unchanged) c.loop-item.invariant.taken in (
+      c.in-Err.ensures.memory,
+      (
+        take i items,
+        subst (λ bundle. StopsShort bundle (take i items)) c.items-items.ensures.value (stops_short items i _ c.loop-item-test.true few open'),
+        kept,
+      ),
+    )
 
 pub loop-item-preserved : goal.loop-item-preserved
 loop-item-preserved c =

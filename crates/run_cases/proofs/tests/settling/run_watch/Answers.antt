@@ -5,4 +5,4 @@ pub returns : goal.returns
 returns g c =
     come_from_watch c.args.plan.now c.in_ok-watch.watch c.in_ok-probes.probes.items c.in_ok-relays.relays.items
     c.check_loop-checker.result c.requires c.in_ok-watch.ensures.wired c.in_ok-probes.ensures c.in_ok-relays.ensures
-    c.check_loop-checker.ensures.end
+    c.check_loop-checker.ensures
