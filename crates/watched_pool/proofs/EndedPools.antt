@@ -19,7 +19,7 @@ use Rattle.wcp_worker.proofs.FreshProbes.{probes_fresh}
 use Rattle.wcp_run.specs.declared.running.Ends.{Ends}
 use Rattle.wcp_run.specs.declared.settled.Settled.{Settled}
 use Rattle.wcp_run.specs.CheckerEnds.{IsEndOfLoop}
-use Rattle.wcp_run.specs.Settling.{ComeFromWatch, IsEndOfProbe, IsEndOfRelay, IsSettled}
+use Rattle.wcp_run.specs.Settling.{ComeFromWatch, IsEndOfSomeProbe, IsEndOfSomeRelay, IsSettled}
 use Rattle.wcp_run.proofs.SettledEnds.{processes_are}
 use Rattle.watched_pool.specs.declared.dispatcher.Dispatcher.{Dispatcher}
 use Rattle.watched_pool.specs.declared.member.Member.{Member}
@@ -62,7 +62,7 @@ mapped_at f xs k x at = mapped_entry f xs k x (slice_get_within xs k x at) ∙ a
 
 module _ (plan : Plan) (ends : Ends MemberEnd) (pool : AreEndsOfPool plan ends) where
   -- each relay's end is of the relay at its place
-  relay_at : (k : ℕ) (end : RelayEnd) → slice_get ends.relays.items k ≡ Some end → IsEndOfRelay pool.are.watch.relays.items end
+  relay_at : (k : ℕ) (end : RelayEnd) → slice_get ends.relays.items k ≡ Some end → IsEndOfSomeRelay pool.are.watch.relays.items end
   relay_at k end at =
       let below = slice_get_within ends.relays.items k end at in
       let link = pool.are.wired.linked.each k (omega (arith, below, pool.ended.relays.count, ap length pool.are.relays)) in
@@ -104,7 +104,7 @@ module _ (plan : Plan) (ends : Ends MemberEnd) (pool : AreEndsOfPool plan ends) 
       let (one, one_at) = element_within pool.parts.workers.items k (omega (arith, slice_get_within ends.workers.items k end at, pool.ended.workers.count)) in
       record { one = one; one_at = one_at; is_end = pool.ended.workers.each k one end one_at at; is_own = own k one one_at }
 
-  probe_at : (k : ℕ) (end : MemberEnd) → slice_get ends.workers.items k ≡ Some end → IsEndOfProbe pool.are.watch.probes.items end.probe
+  probe_at : (k : ℕ) (end : MemberEnd) → slice_get ends.workers.items k ≡ Some end → IsEndOfSomeProbe pool.are.watch.probes.items end.probe
   probe_at k end at =
       let has = end_at k end at in
       let closed = closed_probe has.one end has.is_end in
@@ -115,7 +115,7 @@ module _ (plan : Plan) (ends : Ends MemberEnd) (pool : AreEndsOfPool plan ends) 
       }
 
   abbrev IsOfWatch : ClosedSide → Type 0
-  IsOfWatch probe = IsEndOfProbe pool.are.watch.probes.items probe
+  IsOfWatch probe = IsEndOfSomeProbe pool.are.watch.probes.items probe
 
   probes_of : All IsOfWatch (map (λ end. end.probe) ends.workers.items)
   probes_of k d within =
@@ -144,7 +144,7 @@ module _ (plan : Plan) (ends : Ends MemberEnd) (pool : AreEndsOfPool plan ends) 
       (book : List (Option Tally)) (settled : Settled) (is : IsSettled probes ends.checker book settled) where
     n_is : ends.checker.processes ≡ plan.n
     unfolding come
-    n_is = processes_are probes ends.relays.items ends.checker (come probes apart)
+    n_is = processes_are (come probes apart)
 
     count : length ends.workers.items ≡ plan.n
     count = omega (arith, pool.ended.workers.count, sym (length-map pool.parts.workers.items probe_of) ∙ ap length pool.are.members, pool.are.wired.rings.probes_count)
