@@ -20,7 +20,8 @@ pub(crate) fn match_lane(
     put: PutReceipt<Bundle>,
     inboxes: &mut [Option<TakeReceipt<Bundle>>],
 ) -> Result<(), SettleFault>
-    requires { (receipt : TakenEnd Bundle Item) × SitsAt inboxes.old (inbox_place parent) receipt × (receipt.lane ≡ put.lane) }
+    requires { (receipt : TakenEnd Bundle Item) × SitsAt inboxes.old (inbox_place parent) receipt
+        × (receipt.lane ≡ put.lane) }
     ensures exact { (receipt : TakenEnd Bundle Item) → SitsAt inboxes.old (inbox_place parent) receipt
         → IsOk result ↔ ((p : ℕ) → set.contains put.members p ≡ true
         → items_of p receipt.taken ≡ items_of p put.put) }
