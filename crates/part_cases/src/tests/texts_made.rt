@@ -21,7 +21,9 @@ fn a_ring_of_two(rt: HostRuntime) -> Result<(), Fail> {
     );
     assert_eq!(rt;
         ring_text(rt.alloc(), true)?.as_slice(),
-        b"wcp 1\nprocs 2\np 1 true\np 1 false\np 0 true\np 0 false\np 0 send 1\np 1 recv 0\np 1 true\np 1 false\n".as_slice()
+        b"wcp 1\nprocs 2\np 1 true\np 1 false\np 0 true\np 0 false\np 0 send 1\np 1 recv 0\np 1 true\n\
+            p 1 false\n"
+            .as_slice()
     );
     Ok(())
 }
@@ -72,7 +74,9 @@ fn a_workload_with_a_tree_of_relays(rt: HostRuntime) -> Result<(), Fail> {
     let text = workload_text(alloc, &Workload { plan, tasks })?;
     assert_eq!(rt;
         text.as_slice(),
-        b"wcp 1\nprocs 3\ncap 1024\nhold 1\nrelay 0 root\nrelay 1 0\nrelay 2 0\nrelay 3 0\nattach 0 1\nattach 1 2\nattach 2 3\np 0 true\np 0 send 2\np 2 recv 0\np 1 false\n".as_slice()
+        b"wcp 1\nprocs 3\ncap 1024\nhold 1\nrelay 0 root\nrelay 1 0\nrelay 2 0\nrelay 3 0\nattach 0 1\nattach 1 2\n\
+            attach 2 3\np 0 true\np 0 send 2\np 2 recv 0\np 1 false\n"
+            .as_slice()
     );
     Ok(())
 }
