@@ -11,7 +11,7 @@ use Rattle.wcp_probe.specs.Core.{Core, StandsForLog}
 use Rattle.wcp_tree.specs.LiveProbe.{LiveSide, LiveFor, fresh_core, pending_notes}
 use Rattle.wcp_tree.specs.Watches.{IsWired}
 use Rattle.wcp_tree.specs.declared.watch.Watch.{Watch}
-use Rattle.wcp_tree.proofs.CheckedPlan.{few_processes}
+use Rattle.wcp_model.proofs.CheckedPlans.{few_processes}
 use Rattle.wcp_worker.proofs.FreshProbes.{probes_fresh}
 
 -- a checked plan has a process

@@ -1,13 +1,24 @@
 -- What a checked plan keeps.
-use Rattle.std.proofs.Common.{◌≡◌, ℕ, ◌<◌, ◌≤◌, length, get_or, slice_get, Option, Some, None, inr, refl, ap, ◌∙◌, arith}
+use Rattle.std.proofs.Common.{◌≡◌, ◌≢◌, ℕ, true, false, ◌<◌, ◌≤◌, length, take, get_or, slice_get, Option, Some, None, inr, refl, sym, ap, ◌∙◌, eqb-true, eq-eqb, arith}
 use Rattle.std.specs.Option.{option_flatten}
+use Rattle.std.specs.List.{list_any}
+use Rattle.std.proofs.Math.Seq.{take-length}
+use Rattle.std.proofs.lemmas.List.Folds.{list_any_at}
 use Rattle.std.proofs.lemmas.Option.{slice_get-get_or, slice_get_within, get_or_from_slice_get}
-use Rattle.wcp_clock.specs.Limits.{most_processes, most_cap, most_hold}
+use Rattle.wcp_clock.specs.Limits.{most_processes, most_cap, most_hold, most_relays}
 use Rattle.wcp_model.specs.declared.plan.Parent.TheVariants.{Relay}
 use Rattle.wcp_model.specs.declared.plan.Plan.{Plan}
 use Rattle.wcp_model.specs.declared.plan.PlanFault.TheVariants as fault
 use Rattle.wcp_model.specs.PlanFault.{IsCheckedPlan}
-use Rattle.wcp_model.specs.Tree.{leaf_of, parent_of}
+use Rattle.wcp_model.specs.Tree.{is_number, is_leaf, leaf_of, parent_of}
+
+-- which relay a number stands for
+pub is_its_number : (relay : ℕ) (o : Option ℕ) → is_number relay o ≡ true → o ≡ Some relay
+is_its_number relay None is = cc
+is_its_number relay (Some other) is = ap Some (eqb-true other relay is)
+
+pub is_not_its_number : (relay : ℕ) (o : Option ℕ) → is_number relay o ≡ false → o ≢ Some relay
+is_not_its_number relay o fails same = let own = ap (is_number relay) same in let equal = eq-eqb relay relay refl in cc
 
 module _ (plan : Plan) (checked : IsCheckedPlan plan) where
   -- there are 1 to 16 processes
@@ -24,6 +35,13 @@ module _ (plan : Plan) (checked : IsCheckedPlan plan) where
   pub hold_room : (0 < plan.hold) × (plan.hold ≤ most_hold)
   hold_room = grind (arith, checked fault.Hold)
 
+  -- there are 1 to 15 relays
+  pub some_relays : 0 < length plan.parents.items
+  some_relays = grind (arith, checked fault.Parent)
+
+  pub few_relays : length plan.parents.items ≤ most_relays
+  few_relays = grind (arith, checked fault.Parent)
+
   -- the parent of a relay is lower
   pub parent_below : (relay above : ℕ) → parent_of plan relay ≡ Some (Relay above) → above < relay
   parent_below relay above at = grind (arith, checked fault.Parent)
@@ -32,10 +50,18 @@ module _ (plan : Plan) (checked : IsCheckedPlan plan) where
   pub attached_all : length plan.attach.items ≡ plan.n
   attached_all = grind (arith, checked fault.Unattached)
 
+  -- the entries are just those of the n processes
+  pub all_served : take plan.n plan.attach.items ≡ plan.attach.items
+  all_served = ap (λ n. take n plan.attach.items) (sym attached_all) ∙ take-length plan.attach.items
+
+  -- the entry of a process that has a leaf
+  pub entry_of : (p relay : ℕ) → leaf_of plan p ≡ Some relay → slice_get plan.attach.items p ≡ Some (Some relay)
+  entry_of p relay is = grind arith
+
   -- a process that has a leaf is one of the n, and its leaf is one of the relays
   pub attached_exists : (p relay : ℕ) → leaf_of plan p ≡ Some relay → (p < plan.n) × (relay < length plan.parents.items)
   attached_exists p relay is =
-      let entry : slice_get plan.attach.items p ≡ Some (Some relay) = grind arith in
+      let entry = entry_of p relay is in
       let within = slice_get_within plan.attach.items p (Some relay) entry in
       let read = get_or_from_slice_get plan.attach.items p (Some relay) (Some relay) entry in
       let named = λ (none : length plan.parents.items ≤ relay). checked fault.Unattached (inr (p, Some relay, within, read, none)) in
@@ -51,3 +77,19 @@ module _ (plan : Plan) (checked : IsCheckedPlan plan) where
       named : (entry : Option ℕ) → get_or plan.attach.items p None ≡ entry → (leaf : ℕ) × (leaf_of plan p ≡ Some leaf)
       named (Some leaf) is = (leaf, ap option_flatten (slice_get-get_or plan.attach.items p None within ∙ ap Some is))
       named None is = absurd (checked fault.Unattached (inr (p, None, within, is, tt)))
+
+  -- a relay that serves a process is a leaf
+  pub is_its_leaf : (p relay : ℕ) → leaf_of plan p ≡ Some relay → is_leaf plan relay ≡ true
+  is_its_leaf p relay is =
+      let entry = entry_of p relay is in
+      let within = slice_get_within plan.attach.items p (Some relay) entry in
+      let read = get_or_from_slice_get plan.attach.items p (Some relay) None entry in
+      ap (list_any (is_number relay)) all_served
+      ∙ list_any_at (is_number relay) plan.attach.items p None within (ap (is_number relay) read ∙ eq-eqb relay relay refl)
+
+  -- a relay that serves a process serves no relay
+  pub not_mixed : (relay child p : ℕ) → leaf_of plan p ≡ Some relay → parent_of plan child ≡ Some (Relay relay) → ⊥
+  not_mixed relay child p is at =
+      let within = slice_get_within plan.parents.items child (Relay relay) at in
+      let read = get_or_from_slice_get plan.parents.items child (Relay relay) (Relay relay) at in
+      checked fault.Mixed (relay, (attached_exists p relay is).1, is_its_leaf p relay is, (child, within, read))

@@ -25,7 +25,7 @@ use Rattle.wcp_tree.specs.declared.relay_end.RelayEnd.{RelayEnd}
 use Rattle.wcp_tree.specs.declared.relay_end.RelayEnd.TheVariants.{Whole, Faulted}
 use Rattle.wcp_tree.specs.declared.source.Source.{Source}
 use Rattle.wcp_tree.specs.declared.source.Source.TheVariants.{Leaf, Inner}
-use Rattle.wcp_tree.proofs.CheckedPlan.{attached_exists, has_leaf, is_its_leaf, parent_below}
+use Rattle.wcp_model.proofs.CheckedPlans.{attached_exists, has_leaf, is_its_leaf, parent_below}
 use Rattle.wcp_tree.proofs.Climbs.{members_pass_up}
 use Rattle.wcp_tree.proofs.Fed.{fed-at}
 use Rattle.wcp_run.specs.Matching.{AreEndsThere, AreFirstMatched}

@@ -27,7 +27,7 @@ use Rattle.wcp_tree.specs.declared.relay_end.RelayEnd.{RelayEnd}
 use Rattle.wcp_tree.specs.declared.relay_end.RelayEnd.TheVariants.{Whole, Faulted}
 use Rattle.wcp_tree.specs.declared.source.Source.{Source}
 use Rattle.wcp_tree.specs.declared.source.Source.TheVariants.{Leaf, Inner}
-use Rattle.wcp_tree.proofs.CheckedPlan.{few_relays, parent_below}
+use Rattle.wcp_model.proofs.CheckedPlans.{few_relays, parent_below}
 use Rattle.wcp_tree.proofs.Entries.{set_here, set_elsewhere}
 use Rattle.wcp_tree.proofs.Linking.{IsOpen}
 use Rattle.wcp_run.specs.Matching.{AreEndsThere, AreFirstMatched, HasProbe, IsKeptAt, KeepInboxes, inbox_place}

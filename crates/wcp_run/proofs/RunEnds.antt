@@ -22,7 +22,7 @@ use Rattle.wcp_tree.specs.Watches.{IsWired}
 use Rattle.wcp_tree.specs.declared.checker_inbox.CheckerInbox.{CheckerInbox}
 use Rattle.wcp_tree.specs.declared.relay.Relay.{Relay}
 use Rattle.wcp_tree.specs.declared.relay_end.RelayEnd.{RelayEnd}
-use Rattle.wcp_tree.proofs.CheckedPlan.{few_processes}
+use Rattle.wcp_model.proofs.CheckedPlans.{few_processes}
 use Rattle.wcp_worker.specs.declared.mailbox.Mailbox.{Mailbox}
 use Rattle.wcp_worker.specs.declared.worker_end.WorkerEnd.{WorkerEnd}
 use Rattle.wcp_worker.specs.Runs.{AreMatched, AreOfLane, HaveRun, ends_between}

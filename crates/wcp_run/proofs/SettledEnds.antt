@@ -25,7 +25,7 @@ use Rattle.wcp_tree.specs.LiveProbe.{ClosedSide, snapshots_in}
 use Rattle.wcp_tree.specs.RelayEnds.{fault_of, number_of, watch_of}
 use Rattle.wcp_tree.specs.declared.relay_end.RelayEnd.{RelayEnd}
 use Rattle.wcp_tree.specs.declared.relay_end.RelayEnd.TheVariants.{Whole, Faulted}
-use Rattle.wcp_tree.proofs.CheckedPlan.{few_processes, few_relays}
+use Rattle.wcp_model.proofs.CheckedPlans.{few_processes, few_relays}
 use Rattle.wcp_run.specs.Matching.{AreEndsThere, AreFirstMatched}
 use Rattle.wcp_run.specs.Seats.{AreAllThere, AreOfWatch, AreAllSeated, AreSeats, IsEndAt, SitsAt}
 use Rattle.wcp_run.specs.Settling.{AreLinksMatched, AreTakenFrom, ComeFromWatch, IsEndOfSomeProbe, IsEndOfSomeRelay, IsFreeOf, IsSettled, IsLaneMatched, share_of}

@@ -8,7 +8,7 @@ use Rattle.wcp_model.specs.declared.plan.Plan.{Plan}
 use Rattle.wcp_model.specs.PlanFault.{IsCheckedPlan}
 use Rattle.wcp_model.specs.Tree.{parent_of}
 use Rattle.wcp_tree.specs.Members.{IsMetFrom, Itself, Above, IsBelow}
-use Rattle.wcp_tree.proofs.CheckedPlan.{parent_below}
+use Rattle.wcp_model.proofs.CheckedPlans.{parent_below}
 
 module _ (plan : Plan) (checked : IsCheckedPlan plan) where
   -- a climb goes down in number

@@ -6,7 +6,6 @@ pub mod LeafWork
 pub mod Linking
 pub mod Lists
 pub mod Ordering
-pub mod CheckedPlan
 pub mod Climbs
 pub mod Entries
 pub mod Gathering

@@ -21,7 +21,7 @@ use Rattle.wcp_tree.specs.Relays.{AreSeated, IsRelayOf, IsSource}
 use Rattle.wcp_tree.specs.Rings.{IsFeed}
 use Rattle.wcp_tree.specs.Watches.{AreLinked, AreSeatedUnder, IsLinked, lane_below, lane_to}
 use Rattle.wcp_tree.specs.Wiring.{IsSeatOf}
-use Rattle.wcp_tree.proofs.CheckedPlan.{parent_below}
+use Rattle.wcp_model.proofs.CheckedPlans.{parent_below}
 use Rattle.wcp_tree.proofs.Entries.{last_entry, earlier_entry}
 
 -- the owner takes from a lane while k relays are open

@@ -22,7 +22,7 @@ use Rattle.wcp_tree.specs.Feeding.{IsNewFeed, Serves, processes_of}
 use Rattle.wcp_tree.specs.Relays.{IsSource}
 use Rattle.wcp_tree.specs.Rings.{IsFeed}
 use Rattle.wcp_tree.specs.Wiring.{AreBelowChildren}
-use Rattle.wcp_tree.proofs.CheckedPlan.{all_served, attached_exists, has_leaf, is_its_leaf, is_its_number, not_mixed}
+use Rattle.wcp_model.proofs.CheckedPlans.{all_served, attached_exists, has_leaf, is_its_leaf, is_its_number, not_mixed}
 use Rattle.wcp_tree.proofs.Climbs.{members_pass_up, child_is_met, root_is_reached}
 
 module _ (plan : Plan) (checked : IsCheckedPlan plan) (relay : ℕ) where

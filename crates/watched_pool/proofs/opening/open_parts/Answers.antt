@@ -1,5 +1,5 @@
 use Rattle.std.proofs.Common.{refl}
-use Rattle.wcp_tree.proofs.CheckedPlan.{few_processes}
+use Rattle.wcp_model.proofs.CheckedPlans.{few_processes}
 use Rattle.watched_pool.proofs.OpenedPools.{some_process, some_probe, few_probes, all_fresh}
 use Rattle.watched_pool.proofs.opening.open_parts.Goals as goal
 

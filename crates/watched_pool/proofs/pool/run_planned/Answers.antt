@@ -1,5 +1,5 @@
 use Rattle.std.proofs.Common.{Result, Ok, Err, IfOk, arith}
-use Rattle.wcp_tree.proofs.CheckedPlan.{few_processes}
+use Rattle.wcp_model.proofs.CheckedPlans.{few_processes}
 use Rattle.watched_pool.proofs.OpenedPools.{some_process}
 use Rattle.watched_pool.proofs.pool.run_planned.Goals as goal
 

@@ -7,7 +7,7 @@ use Rattle.wcp_lane.specs.declared.fault.LaneFault.TheVariants.{Cap, Owners}
 use Rattle.wcp_lane.specs.Ends.{new_putter}
 use Rattle.wcp_lane.specs.Owners.{AreOwners, IsFirstLaneFault}
 use Rattle.wcp_lane.specs.Passes.{Numbers}
-use Rattle.wcp_tree.proofs.CheckedPlan.{some_relays, capacity}
+use Rattle.wcp_model.proofs.CheckedPlans.{some_relays, capacity}
 use Rattle.wcp_tree.proofs.Shares.{seats_of_shares, shares_apart, shares_together}
 use Rattle.wcp_tree.proofs.lanes.open_lane.Goals as goal
 

@@ -8,7 +8,7 @@ use Rattle.wcp_tree.specs.declared.bundle.Bundle.{Bundle}
 use Rattle.wcp_tree.specs.declared.source.Source.{Source}
 use Rattle.wcp_tree.specs.Members.{AreBelow}
 use Rattle.wcp_tree.specs.Relays.{AreSeated, IsSource}
-use Rattle.wcp_tree.proofs.CheckedPlan.{hold_room}
+use Rattle.wcp_model.proofs.CheckedPlans.{hold_room}
 use Rattle.wcp_tree.proofs.Entries.{set_elsewhere, taken_out}
 use Rattle.wcp_tree.proofs.Serving.{source_serves}
 use Rattle.wcp_tree.proofs.opening.open_relay.Goals as goal

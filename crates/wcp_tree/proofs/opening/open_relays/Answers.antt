@@ -7,7 +7,7 @@ use Rattle.std.specs.Prelude.{slice_get}
 use Rattle.wcp_tree.specs.declared.bundle.Bundle.{Bundle}
 use Rattle.wcp_tree.specs.Members.{AreBelow}
 use Rattle.wcp_tree.specs.declared.relay.Relay.{Relay}
-use Rattle.wcp_tree.proofs.CheckedPlan.{attached_exists, few_relays}
+use Rattle.wcp_model.proofs.CheckedPlans.{attached_exists, few_relays}
 use Rattle.wcp_tree.proofs.Linking.{AreOpened, all_opened, next_seat, none_open, next_opened}
 use Rattle.wcp_tree.proofs.opening.open_relays.Goals as goal
 

@@ -5,7 +5,7 @@ use Rattle.wcp_clock.specs.declared.note.Item.{Item}
 use Rattle.wcp_lane.specs.Ends.{TakeEnd}
 use Rattle.wcp_tree.specs.declared.bundle.Bundle.{Bundle}
 use Rattle.wcp_tree.specs.Watches.{AreLinked}
-use Rattle.wcp_tree.proofs.CheckedPlan.{few_relays}
+use Rattle.wcp_model.proofs.CheckedPlans.{few_relays}
 use Rattle.wcp_tree.proofs.Serving.{all_below_root}
 use Rattle.wcp_tree.proofs.opening.watch.Goals as goal
 

@@ -1,7 +1,7 @@
 use Rattle.std.proofs.Common.{inl, ⊎_elim}
 use Rattle.std.proofs.lemmas.Bool.{cases_lt}
 use Rattle.wcp_model.specs.declared.plan.PlanFault.TheVariants as fault
-use Rattle.wcp_tree.proofs.CheckedPlan.{few_processes}
+use Rattle.wcp_model.proofs.CheckedPlans.{few_processes}
 use Rattle.run_cases.proofs.tests.watches.open_once.Goals as goal
 
 pub new-requires-clause-some : goal.new-requires-clause-some
