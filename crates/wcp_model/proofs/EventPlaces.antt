@@ -5,42 +5,8 @@ use Rattle.wcp_model.specs.declared.step.Step.{Step}
 use Rattle.wcp_model.specs.declared.step.Step.TheVariants.{Send, Recv}
 use Rattle.wcp_model.specs.Computation.{Computation, is_communication_of, is_send, communications, interval_at, message_at}
 use Rattle.wcp_model.proofs.Places.{count_before-mono, count_before-place}
+use Rattle.wcp_model.proofs.SamePlace.{element_after}
 use Rattle.wcp_model.proofs.Reached.{interval_at-event, interval_at-le}
-
--- the place of an element that passes, after k others that do
-pub record IsPlaceOf {X : Type 0} (test : X → Bool) (xs : List X) (k : ℕ) : Type 0 where
-  pub place : ℕ
-  pub element : X
-  pub at : slice_get xs place ≡ Some element
-  pub passes : test element ≡ true
-  pub earlier : count_by test (take place xs) ≡ k
-
--- one place on, behind an element that passes or not
-behind_one : {X : Type 0} (test : X → Bool) (x : X) (xs : List X) (one k : ℕ) → cond (test x) 1 0 ≡ one → IsPlaceOf test xs k → IsPlaceOf test (x ∷ xs) (one + k)
-behind_one test x xs one k here there = record {
-  place = suc there.place;
-  element = there.element;
-  at = there.at;
-  passes = there.passes;
-  earlier = sum_by-cons (λ x. cond (test x) 1 0) x (take there.place xs) ∙ (cc (here, there.earlier));
-}
-
--- behind an element that passes
-behind_first : {X : Type 0} (test : X → Bool) (x : X) (xs : List X) → test x ≡ true → ((j : ℕ) → j < count_by test xs → IsPlaceOf test xs j) → (k : ℕ) → k < count_by test (x ∷ xs) → IsPlaceOf test (x ∷ xs) k
-behind_first test x xs passes rest zero below = record { place = 0; element = x; at = refl; passes = passes; earlier = refl }
-behind_first test x xs passes rest (suc k) below =
-    let one : cond (test x) 1 0 ≡ 1 = cond-true (test x) 1 0 passes in
-    subst (IsPlaceOf test (x ∷ xs)) (one-add k) (behind_one test x xs 1 k one (rest k (omega (arith, one, sum_by-cons (λ x. cond (test x) 1 0) x xs))))
-
--- each number below the count is that of a place
-pub place_of : {X : Type 0} (test : X → Bool) (xs : List X) (k : ℕ) → k < count_by test xs → IsPlaceOf test xs k
-place_of test [] k below = absurd (omega arith)
-place_of test (x ∷ xs) k below =
-    ⊎_elim (λ (passes : test x ≡ true). behind_first test x xs passes (place_of test xs) k below)
-    (λ (fails : test x ≡ false).
-    let none : cond (test x) 1 0 ≡ 0 = cond-false (test x) 1 0 fails in
-    subst (IsPlaceOf test (x ∷ xs)) (zero-add k) (behind_one test x xs 0 k none (place_of test xs k (omega (arith, none, sum_by-cons (λ x. cond (test x) 1 0) x xs)))))
-    (cases_Bool (test x))
 
 -- communication event k of a process stands at a place
 pub record IsEventOf (c : Computation) (p k place : ℕ) : Type 0 where
@@ -74,7 +40,7 @@ later_event c p k l a b at_a at_b lt =
 
 -- each number below the number of a process's events is that of one
 pub event_of : (c : Computation) (p k : ℕ) → k < communications c p → (place : ℕ) × IsEventOf c p k place
-event_of c p k below = grind (arith, place_of (is_communication_of p) c k below)
+event_of c p k below = grind (arith, element_after (is_communication_of p) c k below)
 
 -- the number of an event is below the number of the process's events
 pub event_below : (c : Computation) (p k place : ℕ) → IsEventOf c p k place → k < communications c p

@@ -8,7 +8,8 @@ use Rattle.wcp_model.specs.declared.workload.Action.TheVariants as action
 use Rattle.wcp_model.specs.declared.workload.Task.{Task}
 use Rattle.wcp_model.specs.Computation.{message_at}
 use Rattle.wcp_model.specs.WorkloadComputation.{sends, receives, message_number, place_after, computation_of, IsFitOrder}
-use Rattle.wcp_model.proofs.SamePlace.{count_by_yes, count_by_no, count_by-take_more, slice_get-take, element_after, one_place}
+use Rattle.wcp_model.proofs.Places.{count_before-place}
+use Rattle.wcp_model.proofs.SamePlace.{count_by_yes, count_by_no, count_by-take_more, slice_get-take, element_after}
 use Rattle.wcp_model.proofs.StepsOfOrder.{sends_any, step_at, send_task, receive_task, message_at_is}
 
 -- one element further, where the first passes both tests
@@ -74,7 +75,7 @@ send_of_receive {tasks} {order} fit p q received found =
 
 -- in a fit order the send of a delivery stands before its receive
 pub delivery_later : {tasks order : List Task} → IsFitOrder tasks order → {p q sent received : ℕ} → IsDelivery order p q sent received → sent < received
-delivery_later {tasks} {order} fit {p} {q} {sent} {received} d = grind (arith, one_place, send_of_receive)
+delivery_later {tasks} {order} fit {p} {q} {sent} {received} d = grind (arith, count_before-place, send_of_receive)
 
 -- the receive of a delivery takes the message that its send made
 pub delivery_step : (n : ℕ) {order : List Task} {p q sent received : ℕ} → IsDelivery order p q sent received → slice_get (computation_of n order) received ≡ Some (step.Recv q (message_at (computation_of n order) sent))
@@ -91,7 +92,7 @@ delivery_of n {tasks} {order} fit p to q sent received put taken =
     let number : count_by sends_any (take earlier.0 order) ≡ count_by sends_any (take sent order) =
     sym (message_number_is order from q _ earlier.0 earlier.2.send earlier.2.same_rank) ∙ receive.2 ∙ message_at_is n order sent in
     let there = send_task n order sent p to put in
-    let same : earlier.0 ≡ sent = one_place sends_any order earlier.0 sent _ _ earlier.2.send refl there refl number in
+    let same : earlier.0 ≡ sent = count_before-place sends_any order earlier.0 sent _ _ earlier.2.send there refl refl number in
     let process : from ≡ p = ap (λ (task : Task). task.p) (same_Some _ _ (sym earlier.2.send ∙ ap (slice_get order) same ∙ there)) in
     subst₂ (λ r place. IsDelivery order r q place received) process same earlier.2
 

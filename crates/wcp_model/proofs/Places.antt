@@ -35,21 +35,3 @@ count_before-place test xs one other x y here there passes also same =
 -- past the end the count is the same
 pub count_before-past : {X : Type 0} (test : X → Bool) (xs : List X) (place : ℕ) → length xs ≤ place → count_before test xs (place + 1) ≡ count_before test xs place
 count_before-past test xs place past = rw (take_all (place + 1) xs (omega arith), take_all place xs past) refl
-
--- one place further the count is at most one more
-pub count_before-step : {X : Type 0} (test : X → Bool) (xs : List X) (place : ℕ) → count_before test xs (place + 1) ≤ count_before test xs place + 1
-count_before-step test xs place =
-    ⊎_elim
-    (grind (arith, common_steps))
-    (λ past. omega (arith, count_before-past test xs place past.0))
-    (slice_get_cases xs place).1
-
--- each count up to that of a place is that of some place at or before it
-pub place_of_count : {X : Type 0} (test : X → Bool) (xs : List X) (count place : ℕ) → count ≤ count_before test xs place → (earlier : ℕ) × (earlier ≤ place) × (count_before test xs earlier ≡ count)
-place_of_count test xs count zero low = (0, omega arith, omega arith)
-place_of_count test xs count (suc place) low =
-    let step : count_before test xs (suc place) ≤ count_before test xs place + 1 = rw (add-one place) at (count_before-step test xs place) in
-    ⊎_elim (λ (above : count_before test xs place < count). (suc place, omega arith, omega arith))
-    (λ (below : count ≤ count_before test xs place).
-    grind (arith, place_of_count test xs count place below))
-    (cases_lt (count_before test xs place) count)

@@ -1,5 +1,5 @@
 use Rattle.std.proofs.Common.{◌≡◌, ◌≢◌, ℕ, zero, suc, ◌+◌, ◌<◌, ◌≤◌, ◌⊎◌, true, false, List, length, count_by, slice_get, Some, refl, sym, ◌∙◌, ap, subst, inl, inr, ⊎_elim, arith}
-use Rattle.std.proofs.lemmas.Bool.{cases_lt, cases_eq, cases_Bool, eqb-true, eq-eqb}
+use Rattle.std.proofs.lemmas.Bool.{cases_lt, cases_eq, cases_Bool, cases_order, eqb-true, eq-eqb}
 use Rattle.std.proofs.lemmas.List.{take_all}
 use Rattle.std.proofs.lemmas.List.Sums.{sum_by-take-le}
 use Rattle.std.proofs.lemmas.Option.{slice_get_within, slice_get_cases}
@@ -10,7 +10,8 @@ use Rattle.wcp_model.specs.Computation.{Computation, is_communication_of, commun
 use Rattle.wcp_model.specs.Order.{DirectlyPrecedes, Next, Message, HappenedBefore, Direct, Chain}
 use Rattle.wcp_model.specs.Cut.{member, IsConsistent, IsSatisfyingCut}
 use Rattle.wcp_model.proofs.Decided.{Decided, decided_from, both_decided, either_decided, not_decided, under_decided, some_below_decided, all_below_decided}
-use Rattle.wcp_model.proofs.Places.{count_before-yes, count_before-no, count_before-past, count_before-place, place_of_count}
+use Rattle.wcp_model.proofs.Places.{count_before-yes, count_before-no, count_before-past, count_before-place}
+use Rattle.wcp_model.proofs.SamePlace.{element_after}
 
 -- states of one process in one interval are one state
 pub same_state : (s t : State) → s.process ≡ t.process → s.interval ≡ t.interval → s ≡ t
@@ -126,61 +127,45 @@ sent_after_at c s message sent _ here before =
 pub sent_after_decided : (c : Computation) (s : State) (message sent : ℕ) → ((p : ℕ) → Decided (HappenedBefore c s (state_at c p sent))) → Decided (IsSentAfter c s message sent)
 sent_after_decided c s message sent before = search (arith, slice_get_cases c sent, sent_after_at)
 
+message_decided : (c : Computation) (s : State) (p place : ℕ) (step : Step) → is_communication_of p step ≡ true → ((message : ℕ) → Decided (Carries c s place message)) → Decided ((message : ℕ) × (step ≡ Recv p message) × Carries c s place message)
+message_decided c s p place (Recv q message) own carries = grind (arith, carries message)
+message_decided c s p place step own carries = inr (λ by. let same = by.1 in cc)
+
 next_decided : (c : Computation) (s : State) (p place : ℕ) (step : Step) → slice_get c place ≡ Some step → is_communication_of p step ≡ true → ((message : ℕ) → Decided (Carries c s place message)) → Decided (HappenedBefore c s (state_at c p place)) → Decided (HappenedBefore c s (state_at c p (place + 1)))
-next_decided c s p place (Recv q message) here own carries before =
-    let to : q ≡ p = eqb-true q p own in
-    let receive : slice_get c place ≡ Some (Recv p message) = here ∙ ap (λ r. Some (Recv r message)) to in
-    decided_from (λ (from : AtOrAfter c s (state_at c p place) ⊎ Carries c s place message).
-    ⊎_elim (λ at. before_next c s p place (Recv q message) here own at) (λ carried. before_receive c s p place message receive carried) from)
-    (λ (after : HappenedBefore c s (state_at c p (place + 1))).
-    ⊎_elim (λ (at : AtOrAfter c s (state_at c p place)). inl at)
-    (grind arith)
-    (comes_from c s p place (Recv q message) here own after))
-    (either_decided (either_decided (same_state_decided s (state_at c p place)) before) (carries message))
 next_decided c s p place step here own carries before =
-    decided_from (λ (from : AtOrAfter c s (state_at c p place)). before_next c s p place step here own from)
-    (λ (after : HappenedBefore c s (state_at c p (place + 1))).
-    ⊎_elim (λ (at : AtOrAfter c s (state_at c p place)). at)
-    (λ by_message. let step = by_message.1 in absurd (cc))
-    (comes_from c s p place step here own after))
-    (either_decided (same_state_decided s (state_at c p place)) before)
+    decided_from (⊎_elim (before_next c s p place step here own) (λ by. before_receive c s p place by.0 (here ∙ ap Some by.1) by.2)) (comes_from c s p place step here own)
+    (either_decided (either_decided (same_state_decided s (state_at c p place)) before) (message_decided c s p place step own carries))
 
 -- the order at a place, once it is decided at the place itself and before it
 at_next_decided : (c : Computation) (s : State) (place : ℕ) → ((earlier : ℕ) → earlier ≤ place → (p : ℕ) → Decided (HappenedBefore c s (state_at c p earlier))) → (p : ℕ) → Decided (HappenedBefore c s (state_at c p (place + 1)))
-at_next_decided c s place decided p =
-    let stays : interval_at c p (place + 1) ≡ interval_at c p place → Decided (HappenedBefore c s (state_at c p (place + 1))) =
-    λ same. subst (λ k. Decided (HappenedBefore c s (record { process = p; interval = k }))) (sym same) (decided place (omega arith) p) in
-    ⊎_elim
-    (λ here.
-    ⊎_elim
-    (λ (own : is_communication_of p here.0 ≡ true).
-    next_decided c s p place here.0 here.2 own
-    (λ message. some_below_decided (λ sent. IsSentAfter c s message sent) place (λ sent below. sent_after_decided c s message sent (λ q. decided sent (omega arith) q)))
-    (decided place (omega arith) p))
-    (λ (other : is_communication_of p here.0 ≡ false). stays (interval_at-other c p place here.0 here.2 other))
-    (cases_Bool (is_communication_of p here.0)))
-    (λ past. stays (count_before-past (is_communication_of p) c place past.0))
-    (slice_get_cases c place).1
+at_next_decided c s place decided p = elim (slice_get_cases c place).1 [
+  | inl here ↦ elim (cases_Bool (is_communication_of p here.0)) [
+    | inl own ↦
+        next_decided c s p place here.0 here.2 own
+        (λ message. some_below_decided (λ sent. IsSentAfter c s message sent) place (λ sent below. sent_after_decided c s message sent (decided sent (omega arith))))
+        (decided place (omega arith) p)
+    | inr other ↦ rw (interval_at-other c p place here.0 here.2 other) (decided place (omega arith) p)
+  ]
+  | inr past ↦ rw (count_before-past (is_communication_of p) c place past.0) (decided place (omega arith) p)
+]
 
 by_place_decided : (c : Computation) (s : State) (place earlier : ℕ) → earlier ≤ place → (p : ℕ) → Decided (HappenedBefore c s (state_at c p earlier))
-by_place_decided c s zero earlier low p =
-    grind (arith, before_to_later)
-by_place_decided c s (suc place) earlier low p =
-    ⊎_elim (λ (below : earlier < suc place). by_place_decided c s place earlier (omega arith) p)
-    (λ (above : suc place ≤ earlier).
-    let last : place + 1 ≡ earlier = omega arith in
-    subst (λ k. Decided (HappenedBefore c s (state_at c p k))) last (at_next_decided c s place (λ k low p. by_place_decided c s place k low p) p))
-    (cases_lt earlier (suc place))
+by_place_decided c s zero earlier low p = grind (arith, before_to_later)
+by_place_decided c s (suc place) earlier low p = elim (cases_lt earlier (suc place)) [
+  | inl below ↦ by_place_decided c s place earlier (omega arith) p
+  | inr above ↦ let last : earlier ≡ place + 1 = omega arith in rw last (at_next_decided c s place (by_place_decided c s place) p)
+]
 
 -- whether one state happened before another is decided
 pub happened_before_decided : (c : Computation) (s t : State) → Decided (HappenedBefore c s t)
-happened_before_decided c s t =
-    ⊎_elim
-    (λ (is : t.interval < communications c t.process + 1).
-    let found = place_of_count (is_communication_of t.process) c t.interval (length c) (omega (arith, is, interval_at-end c t.process)) in
-    subst (λ u. Decided (HappenedBefore c s u)) (same_state (state_at c t.process found.0) t refl found.2) (by_place_decided c s found.0 found.0 (omega arith) t.process))
-    (λ (above : communications c t.process + 1 ≤ t.interval). inr (λ before. let is = before_to_state before in omega arith))
-    (cases_lt t.interval (communications c t.process + 1))
+happened_before_decided c s t = elim (cases_order t.interval (communications c t.process)) [
+  | inl last ↦ at_place (length c) (interval_at-end c t.process ∙ sym last)
+  | inr (inl below) ↦ let there = (element_after (is_communication_of t.process) c t.interval below).1 in at_place there.place there.behind
+  | inr (inr above) ↦ inr (λ before. let is = before_to_state before in omega arith)
+]
+  where
+    at_place : (place : ℕ) → interval_at c t.process place ≡ t.interval → Decided (HappenedBefore c s t)
+    at_place place here = subst (λ u. Decided (HappenedBefore c s u)) (same_state (state_at c t.process place) t refl here) (by_place_decided c s place place (omega arith) t.process)
 
 -- an observation at a place that makes a state true
 abbrev pub IsTrueAt : Computation → State → ℕ → Type 0

@@ -1,6 +1,6 @@
-use Rattle.std.proofs.Common.{◌≡◌, ℕ, zero, suc, ◌+◌, ◌<◌, Bool, true, false, List, [], ◌∷◌, length, take, filter, count_by, slice_get, Some, refl, sym, ap, ◌∙◌, inl, inr, arith}
+use Rattle.std.proofs.Common.{◌≡◌, ℕ, zero, suc, ◌+◌, ◌<◌, Bool, true, false, List, [], ◌∷◌, length, take, filter, count_by, slice_get, cond, Some, refl, sym, ap, ◌∙◌, inl, inr, arith}
 use Rattle.std.proofs.lemmas.Bool.{cases_Bool}
-use Rattle.std.proofs.lemmas.List.Sums.{length-filter, count_by_more_yes}
+use Rattle.std.proofs.lemmas.List.Sums.{length-filter, count_by_more_yes, sum_by-cons}
 use Rattle.std.proofs.lemmas.Option.{slice_get_within, get_or_from_slice_get}
 
 -- a filter keeps, and a count counts, the first element exactly where it passes
@@ -47,23 +47,20 @@ pub record StandsAfter {X : Type 0} (P : X → Bool) (xs : List X) (earlier : �
   pub passes : P x ≡ true
   pub behind : count_by P (take place xs) ≡ earlier
 
+-- one place on, behind one more element
+one_on : {X : Type 0} (P : X → Bool) (y : X) (ys : List X) (earlier k : ℕ) (x : X) → StandsAfter P ys earlier x → cond (P y) (suc earlier) earlier ≡ k → StandsAfter P (y ∷ ys) k x
+one_on P y ys earlier k x rest here = record { place = suc rest.place; found = rest.found; passes = rest.passes; behind = grind (arith, sum_by-cons (λ e. cond (P e) 1 0) y (take rest.place ys)) }
+
 -- each element of the filtered list has a place in the list
 stands_after : {X : Type 0} (P : X → Bool) (xs : List X) (earlier : ℕ) (x : X) → slice_get (filter P xs) earlier ≡ Some x → StandsAfter P xs earlier x
 stands_after P [] earlier x kept = cc
 stands_after P (y ∷ ys) zero x kept = elim (cases_Bool (P y)) [
-  | inl here ↦
-      grind arith
-  | inr here ↦
-      let rest = stands_after P ys zero x (rw here at kept) in
-      record { place = suc rest.place; found = rest.found; passes = rest.passes; behind = count_by_no P y (take rest.place ys) here ∙ rest.behind }
+  | inl here ↦ grind arith
+  | inr here ↦ one_on P y ys zero zero x (stands_after P ys zero x (rw here at kept)) (rw here)
 ]
 stands_after P (y ∷ ys) (suc earlier) x kept = elim (cases_Bool (P y)) [
-  | inl here ↦
-      let rest = stands_after P ys earlier x (rw here at kept) in
-      record { place = suc rest.place; found = rest.found; passes = rest.passes; behind = count_by_yes P y (take rest.place ys) here ∙ ap suc rest.behind }
-  | inr here ↦
-      let rest = stands_after P ys (suc earlier) x (rw here at kept) in
-      record { place = suc rest.place; found = rest.found; passes = rest.passes; behind = count_by_no P y (take rest.place ys) here ∙ rest.behind }
+  | inl here ↦ one_on P y ys earlier (suc earlier) x (stands_after P ys earlier x (rw here at kept)) (rw here)
+  | inr here ↦ one_on P y ys (suc earlier) (suc earlier) x (stands_after P ys (suc earlier) x (rw here at kept)) (rw here)
 ]
 
 -- where more elements pass than `earlier`, one passes after `earlier` others
@@ -95,19 +92,6 @@ same_place P xs ys place x same found passes =
       found = there.found;
       front = filter_front P there.place ys ∙ ap (λ n. take n (filter P ys)) long ∙ ap (take (length (filter P (take place xs)))) (sym same) ∙ sym (filter_front P place xs);
     }
-
--- two places at which the test passes after equally many others are one
-pub one_place : {X : Type 0} (P : X → Bool) (xs : List X) (i j : ℕ) (x y : X) → slice_get xs i ≡ Some x → P x ≡ true → slice_get xs j ≡ Some y → P y ≡ true → count_by P (take i xs) ≡ count_by P (take j xs) → i ≡ j
-one_place P [] i j x y at_i passes_x at_j passes_y same = cc
-one_place P (z ∷ zs) zero zero x y at_i passes_x at_j passes_y same = refl
-one_place P (z ∷ zs) zero (suc j) x y at_i passes_x at_j passes_y same =
-    grind (arith, count_by_yes)
-one_place P (z ∷ zs) (suc i) zero x y at_i passes_x at_j passes_y same =
-    grind (arith, count_by_yes)
-one_place P (z ∷ zs) (suc i) (suc j) x y at_i passes_x at_j passes_y same = elim (cases_Bool (P z)) [
-  | inl here ↦ ap suc (one_place P zs i j x y at_i passes_x at_j passes_y (omega (arith, same, count_by_yes P z (take i zs) here, count_by_yes P z (take j zs) here)))
-  | inr here ↦ ap suc (one_place P zs i j x y at_i passes_x at_j passes_y (sym (count_by_no P z (take i zs) here) ∙ same ∙ count_by_no P z (take j zs) here))
-]
 
 -- a stricter test finds in a filtered list what it finds in the list
 filter-filter : {X : Type 0} (P Q : X → Bool) → ((x : X) → Q x ≡ true → P x ≡ true) → (xs : List X) → filter Q (filter P xs) ≡ filter Q xs
