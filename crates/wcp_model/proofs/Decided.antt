@@ -18,7 +18,7 @@ either_decided one other = grind arith
 
 -- a decided fact that is denied
 pub not_decided : {P : Type 0} → Decided P → Decided (P → ⊥)
-not_decided decided = ⊎_elim (λ p. inr (λ not. not p)) (λ not. inl not) decided
+not_decided decided = grind arith
 
 -- a fact under a decided condition
 pub under_decided : {C P : Type 0} → Decided C → Decided P → Decided (C → P)
@@ -27,18 +27,14 @@ under_decided condition decided = grind arith
 -- what is decided of each number below n is decided of some of them
 pub some_below_decided : (P : ℕ → Type 0) (n : ℕ) → ((k : ℕ) → k < n → Decided (P k)) → Decided ((k : ℕ) × (k < n) × P k)
 some_below_decided P zero decided = inr (λ some. omega (arith, some.1))
-some_below_decided P (suc n) decided =
-    ⊎_elim (λ (here : P n). inl (n, omega arith, here))
-    (λ (not_here : P n → ⊥).
-    decided_from (λ (some : (k : ℕ) × (k < n) × P k). (some.0, omega (arith, some.1), some.2))
-    (grind arith)
-    (some_below_decided P n (λ k below. decided k (omega arith))))
-    (decided n (omega arith))
+some_below_decided P (suc n) decided = elim (decided n (omega arith)) [
+  | inl here ↦ inl (n, omega arith, here)
+  | inr not_here ↦ grind (arith, some_below_decided P n (λ k below. decided k (omega arith)))
+]
 
 -- what is decided of each number below n is decided of all of them
 pub all_below_decided : (P : ℕ → Type 0) (n : ℕ) → ((k : ℕ) → k < n → Decided (P k)) → Decided ((k : ℕ) → k < n → P k)
-all_below_decided P n decided =
-    ⊎_elim (λ (some : (k : ℕ) × (k < n) × (P k → ⊥)). inr (λ all. some.2 (all some.0 some.1)))
-    (λ (none : (k : ℕ) × (k < n) × (P k → ⊥) → ⊥).
-    inl (λ k below. ⊎_elim (λ p. p) (λ not. absurd (none (k, below, not))) (decided k below)))
-    (some_below_decided (λ k. P k → ⊥) n (λ k below. not_decided (decided k below)))
+all_below_decided P n decided = elim (some_below_decided (λ k. P k → ⊥) n (λ k below. not_decided (decided k below))) [
+  | inl some ↦ inr (λ all. some.2 (all some.0 some.1))
+  | inr none ↦ inl (λ k below. ⊎_elim (λ p. p) (λ not. absurd (none (k, below, not))) (decided k below))
+]

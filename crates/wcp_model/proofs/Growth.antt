@@ -31,11 +31,7 @@ count_front test xs ys i le = ap (count_by test) (take-append-le i xs ys le)
 
 -- a place with fewer before it than the front has lies in the front
 pub in_front : {X : Type 0} (test : X → Bool) (xs ys : List X) (i : ℕ) → count_by test (take i (xs ++ ys)) < count_by test xs → i < length xs
-in_front test xs ys i few =
-    ⊎_elim (λ (lt : i < length xs). lt)
-    (λ (ge : length xs ≤ i).
-    grind (arith, count_before-mono test (xs ++ ys) (length xs) i ge, take_at xs ys (length xs) refl))
-    (cases_lt i (length xs))
+in_front test xs ys i few = grind (arith, count_before-mono test (xs ++ ys) (length xs) i, take_at xs ys (length xs) refl)
 
 -- a step of the front stands there in the whole
 pub at_grows : (c e : Computation) (place : ℕ) (x : Step) → slice_get c place ≡ Some x → slice_get (c ++ e) place ≡ Some x
@@ -95,9 +91,7 @@ pub clock_shrinks : (n : ℕ) (c e : Computation) (s : State) (clock : List ℕ)
 clock_shrinks n c e s clock exists is = record {
   components = is.components;
   own = is.own;
-  others = λ q in_range other l.
-      let counts : CountsBefore (c ++ e) s q (slice_index clock q) = is.others q in_range other in
-      (λ h. (counts l).0 (before_grows c e (record { process = q; interval = l }) h), λ below. before_shrinks c e (record { process = q; interval = l }) exists ((counts l).1 below));
+  others = λ q in_range other l. grind (arith, is.others q in_range other l, before_grows c e (record { process = q; interval = l }) {t = s}, before_shrinks);
 }
 
 -- a true state stays true

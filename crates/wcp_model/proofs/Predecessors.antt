@@ -1,10 +1,10 @@
-use Rattle.std.proofs.Common.{◌≡◌, ℕ, zero, suc, ◌+◌, ◌<◌, ◌≤◌, ◌⊎◌, slice_get, Some, refl, sym, ap, subst, inl, inr, ⊎_elim, le_refl, add-one, arith}
-use Rattle.std.proofs.lemmas.Bool.{cases_order, cases_lt}
+use Rattle.std.proofs.Common.{◌≡◌, ◌==◌, true, ℕ, zero, suc, ◌+◌, ◌<◌, ◌≤◌, ◌⊎◌, slice_get, Some, refl, sym, ◌∙◌, ap, subst, inl, inr, ⊎_elim, le_refl, add-one, arith}
+use Rattle.std.proofs.lemmas.Bool.{cases_order, cases_lt, eq-eqb}
 use Rattle.wcp_model.specs.declared.state.State.{State}
-use Rattle.wcp_model.specs.declared.step.Step.TheVariants.{Send}
+use Rattle.wcp_model.specs.declared.step.Step.TheVariants.{Send, Recv}
 use Rattle.wcp_model.specs.Computation.{Computation, IsState, communications, interval_at, message_at}
 use Rattle.wcp_model.specs.Order.{IsMessage, DirectlyPrecedes, Next, Message, HappenedBefore, Direct, Chain}
-use Rattle.wcp_model.proofs.Reached.{AtOrAfter, same_state, last_step, one_more_step}
+use Rattle.wcp_model.proofs.Reached.{AtOrAfter, Carries, state_at, same_state, one_more_step, comes_from, interval_at-event}
 use Rattle.wcp_model.proofs.EventPlaces.{IsEventOf, event_of_send, event_of_receive, event_at_one_place, events_in_order, later_event, event_of, event_below, sent_once}
 
 -- the state of a process in an interval
@@ -29,16 +29,8 @@ pub record Span (c : Computation) (s t : State) : Type 0 where
 -- to the next state of the process by one event, and by a message from its send to its receive
 direct_span : (c : Computation) (s t : State) → DirectlyPrecedes c s t → Span c s t
 direct_span c s t (Next process interval exists) =
-    let event : (place : ℕ) × IsEventOf c s.process s.interval place = event_of c s.process s.interval (subst (λ p. s.interval < communications c p) (sym process) (omega arith)) in
-    record {
-      ended = event.0;
-      began = event.0;
-      last = s.interval;
-      ends = event.1;
-      begins = subst (λ p. IsEventOf c p s.interval event.0) process event.1;
-      next = interval;
-      in_order = le_refl event.0;
-    }
+    let event = event_of c s.process s.interval (grind arith) in
+    record { ended = event.0; began = event.0; last = s.interval; ends = event.1; begins = subst (λ p. IsEventOf c p s.interval event.0) process event.1; next = interval; in_order = omega arith }
 direct_span c s t (Message m) = grind arith
 
 -- spans join, since a process's state begins before it ends
@@ -63,12 +55,7 @@ before_from_state c s {t = t} h = let found : Span c s t = span c s h in omega (
 -- a state happened before each later one of its process
 pub before_later : (c : Computation) (p k l : ℕ) → k < l → IsState c (local_state p l) → HappenedBefore c (local_state p k) (local_state p l)
 before_later c p k zero below exists = absurd (omega arith)
-before_later c p k (suc l) below exists =
-    one_more_step c (local_state p k) (local_state p l) (local_state p (suc l))
-    (⊎_elim (λ (e : k ≡ l). inl (ap (local_state p) e))
-    (⊎_elim (λ (lt : k < l). inr (before_later c p k l lt (omega arith))) (λ (gt : l < k). absurd (omega arith)))
-    (cases_order k l))
-    (Next refl (add-one l) exists)
+before_later c p k (suc l) below exists = one_more_step c (local_state p k) (local_state p l) (local_state p (suc l)) (grind (arith, before_later c p k l)) (Next refl (add-one l) exists)
 
 -- where a state of a process happened before, so did each earlier one
 pub earlier_before : (c : Computation) (q k l : ℕ) {t : State} → k ≤ l → HappenedBefore c (local_state q l) t → HappenedBefore c (local_state q k) t
@@ -77,40 +64,21 @@ earlier_before c q k l {t = t} le h =
     (λ (ge : l ≤ k). subst (λ (j : ℕ). HappenedBefore c (local_state q j) t) (omega arith) h)
     (cases_lt k l)
 
--- the event that a message is received by
-pub receive_event : (c : Computation) (s : State) (p k : ℕ) (m : IsMessage c s (local_state p (k + 1))) → IsEventOf c p k m.received
-receive_event c s p k m = event_of_receive c p k (message_at c m.sent) m.received m.receive (omega (arith, m.to_state))
-
--- what directly precedes the state that an event begins: the state before it, or the sender's, where the event is a receive
-pub directly_before : (c : Computation) (p k place : ℕ) (t : State) → IsEventOf c p k place → DirectlyPrecedes c t (local_state p (k + 1)) →
-    (t ≡ local_state p k) ⊎ ((m : IsMessage c t (local_state p (k + 1))) × (m.received ≡ place))
-directly_before c p k place t event (Next process interval exists) = inl (same_state t (local_state p k) process (omega arith))
-directly_before c p k place t event (Message m) = inr (m, event_at_one_place c p k m.received place (receive_event c t p k m) event)
-
--- a send begins a state that only the one before it directly precedes
-pub directly_before_send : (c : Computation) (p k to place : ℕ) (t : State) → slice_get c place ≡ Some (Send p to) → interval_at c p place ≡ k → DirectlyPrecedes c t (local_state p (k + 1)) → t ≡ local_state p k
-directly_before_send c p k to place t at number d =
-    ⊎_elim (λ (e : t ≡ local_state p k). e)
-    (λ (h : (m : IsMessage c t (local_state p (k + 1))) × (m.received ≡ place)). absurd (cc (h.0.receive, ap (slice_get c) h.1, at)))
-    (directly_before c p k place t (event_of_send c p k to place at number) d)
-
--- so only that state, and what happened before it, happened before a state that a send begins
+-- only the state before it, and what happened before that, happened before a state that a send begins
 pub only_before_send : (c : Computation) (s : State) (p k to place : ℕ) → slice_get c place ≡ Some (Send p to) → interval_at c p place ≡ k → HappenedBefore c s (local_state p (k + 1)) →
     AtOrAfter c s (local_state p k)
-only_before_send c s p k to place at number h =
-    let last : (t : State) × AtOrAfter c s t × DirectlyPrecedes c t (local_state p (k + 1)) = last_step h in
-    subst (AtOrAfter c s) (directly_before_send c p k to place last.0 at number last.2) last.1
-
--- a receive has one sender's state
-pub one_sender : (c : Computation) (s t u : State) (m : IsMessage c s u) (l : IsMessage c t u) → m.received ≡ l.received → s ≡ t
-one_sender c s t u m l same = grind (arith, same_state, sent_once)
+only_before_send c s p k to place at number h = grind (arith, comes_from c s p place (Send p to) at (eq-eqb p p refl), interval_at-event c p place (Send p to) at (eq-eqb p p refl))
 
 -- only the state before it and the sender's, and what happened before these, happened before a state that a receive begins
 pub only_before_receive : (c : Computation) (s r : State) (p k : ℕ) → IsMessage c r (local_state p (k + 1)) → HappenedBefore c s (local_state p (k + 1)) →
     AtOrAfter c s (local_state p k) ⊎ AtOrAfter c s r
-only_before_receive c s r p k m h =
-    let last : (t : State) × AtOrAfter c s t × DirectlyPrecedes c t (local_state p (k + 1)) = last_step h in
-    ⊎_elim (λ (e : last.0 ≡ local_state p k). inl (subst (AtOrAfter c s) e last.1))
-    (λ (l : (l : IsMessage c last.0 (local_state p (k + 1))) × (l.received ≡ m.received)).
-    inr (subst (AtOrAfter c s) (one_sender c last.0 r (local_state p (k + 1)) l.0 m l.1) last.1))
-    (directly_before c p k m.received last.0 (receive_event c r p k m) last.2)
+only_before_receive c s r p k m h = grind (arith, by_sender, comes_from c s p m.received (Recv p (message_at c m.sent)) m.receive own, interval_at-event c p m.received (Recv p (message_at c m.sent)) m.receive own)
+  where
+    own : (p == p) ≡ true
+    own = eq-eqb p p refl
+
+    by_sender : (message : ℕ) → Recv p (message_at c m.sent) ≡ Recv p message → Carries c s m.received message → AtOrAfter c s r
+    by_sender message takes carries =
+        let send = carries.2.send in
+        let same : carries.0 ≡ m.sent = sent_once c carries.0 m.sent carries.2.process r.process carries.2.to m.to send m.send (carries.2.number ∙ cc) in
+        subst (AtOrAfter c s) (same_state (state_at c carries.2.process carries.0) r (cc) (cc)) carries.2.reached

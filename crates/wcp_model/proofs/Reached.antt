@@ -54,9 +54,7 @@ one_more_step c s u t from step =
 -- what a direct precedence leads to is a state
 directly_to_state : {c : Computation} {s t : State} → DirectlyPrecedes c s t → IsState c t
 directly_to_state (Next same next is) = is
-directly_to_state {c = c} {t = t} (Message m) =
-    let past = interval_at-event c t.process m.received _ m.receive (eq-eqb t.process t.process refl) in
-    omega (arith, past, m.to_state, interval_at-le c t.process (m.received + 1))
+directly_to_state {c = c} {t = t} (Message m) = omega (arith, m.to_state, interval_at-le c t.process (m.received + 1), interval_at-event c t.process m.received _ m.receive (eq-eqb t.process t.process refl))
 
 -- what a state happened before is a state
 pub before_to_state : {c : Computation} {s t : State} → HappenedBefore c s t → IsState c t
@@ -120,8 +118,7 @@ sent_after_at c s message sent (Send p to) here before =
     let process : after.process ≡ p = cc in
     (after.number, subst (λ q. AtOrAfter c s (state_at c q sent)) process after.reached))
     (both_decided (cases_eq (message_at c sent) message) (either_decided (same_state_decided s (state_at c p sent)) (before p)))
-sent_after_at c s message sent _ here before =
-    inr (λ after. let send = after.send in cc)
+sent_after_at c s message sent _ here before = grind arith
 
 -- whether a message was sent after a state is decided, where the order is at the place of sending
 pub sent_after_decided : (c : Computation) (s : State) (message sent : ℕ) → ((p : ℕ) → Decided (HappenedBefore c s (state_at c p sent))) → Decided (IsSentAfter c s message sent)
@@ -176,10 +173,7 @@ true_at_decided c s place = grind arith
 
 -- whether a state is true is decided
 pub true_state_decided : (c : Computation) (s : State) → Decided (IsTrueState c s)
-true_state_decided c s =
-    decided_from (λ (some : (place : ℕ) × (place < length c) × IsTrueAt c s place). record { place = some.0; observed = some.2.0; within = some.2.1 })
-    (λ (is : IsTrueState c s). (is.place, slice_get_within c is.place _ is.observed, (is.observed, is.within)))
-    (some_below_decided (λ place. IsTrueAt c s place) (length c) (λ place below. true_at_decided c s place))
+true_state_decided c s = grind (arith, slice_get_within, some_below_decided (λ place. IsTrueAt c s place) (length c) (λ place below. true_at_decided c s place))
 
 -- whether a cut is consistent is decided
 pub consistent_decided : (n : ℕ) (c : Computation) (cut : List ℕ) → Decided (IsConsistent n c cut)
@@ -190,8 +184,4 @@ consistent_decided n c cut =
 
 -- whether a list of intervals is a satisfying cut is decided
 pub satisfying_decided : (n : ℕ) (c : Computation) (cut : List ℕ) → IsSatisfyingCut n c cut ⊎ (IsSatisfyingCut n c cut → ⊥)
-satisfying_decided n c cut =
-    decided_from (λ (all : (length cut ≡ n) × (IsConsistent n c cut × ((p : ℕ) → p < n → IsTrueState c (member cut p)))). record { members = all.0; consistent = all.1.0; true_states = all.1.1 })
-    (λ (is : IsSatisfyingCut n c cut). (is.members, (is.consistent, is.true_states)))
-    (both_decided (cases_eq (length cut) n)
-    (both_decided (consistent_decided n c cut) (all_below_decided (λ p. IsTrueState c (member cut p)) n (λ p below. true_state_decided c (member cut p)))))
+satisfying_decided n c cut = grind (arith, cases_eq (length cut) n, consistent_decided n c cut, all_below_decided (λ p. IsTrueState c (member cut p)) n (λ p below. true_state_decided c (member cut p)))
