@@ -30,11 +30,9 @@ close_stands c p closed =
 -- after the close of a process none of its states becomes true
 pub none_new_after_close : (c e : Computation) (p : ℕ) → IsAccepted (c ++ e) → is_closed c p ≡ true → NoneNew c e p
 none_new_after_close c e p accepted closed k is =
-    let close : (place : ℕ) × (place < length c) × (slice_get c place ≡ Some (Close p)) = close_stands c p closed in
-    ⊎_elim (λ (lt : is.place < length c). true_state_of_front c e (local_state p k) is lt)
-    (λ (ge : length c ≤ is.place).
-    absurd (true≢false (sym (eq-eqb p p refl) ∙ accepted.close_last close.0 is.place p (Observe p true) (omega (arith, close.1)) (at_grows c e close.0 (Close p) close.2) is.observed)))
-    (cases_lt is.place (length c))
+    let close = close_stands c p closed in
+    let close_last = accepted.close_last close.0 is.place p (Observe p true) in
+    grind (arith, true_state_of_front c e (local_state p k) is, close_last, at_grows c e close.0 (Close p) close.2, eq-eqb p p refl)
 
 -- an accepted computation, and one more step of a process that is open; what it receives was sent
 pub accepted_push : (c : Computation) (s : Step) → IsAccepted c → ((p : ℕ) → is_step_of p s ≡ true → is_closed c p ≡ false) → ((p message : ℕ) → s ≡ Recv p message → message < count_by is_send c) → IsAccepted (c ++ s ∷ [])

@@ -16,22 +16,9 @@ use Rattle.wcp_model.proofs.AcceptedSteps.{none_new_after_close}
 use Rattle.wcp_model.proofs.Growth.{clock_grows, true_state_grows, true_state_shrinks}
 use Rattle.wcp_model.proofs.Predecessors.{local_state}
 use Rattle.wcp_model.proofs.RisingLists.{rising_front}
-use Rattle.wcp_model.proofs.RunningEmissions.{snapshots_append, NoneNew, true_state_exists}
-
--- one number counts the states of a process before a state
-count_alone : (c : Computation) (s : State) (q one other : ℕ) → CountsBefore c s q one → CountsBefore c s q other → one ≡ other
-count_alone c s q one other is also =
-    ⊎_elim (λ (same : one ≡ other). same)
-    (⊎_elim (λ (lt : one < other). absurd (omega (arith, (is one).0 ((also one).1 lt)))) (λ (gt : other < one). absurd (omega (arith, (also other).0 ((is other).1 gt)))))
-    (cases_order one other)
-
--- so a state has one clock
-pub clock_alone : (n : ℕ) (c : Computation) (s : State) (one other : List ℕ) → IsStateClock n c s one → IsStateClock n c s other → one ≡ other
-clock_alone n c s one other is also =
-    ext_get_or 0 one other (omega (arith, is.components, also.components))
-    (λ i lt. ⊎_elim (λ (own : i ≡ s.process). ap (slice_index one) own ∙ is.own ∙ sym also.own ∙ ap (slice_index other) (sym own))
-    (λ (differs : i ≡ s.process → ⊥). count_alone c s i (slice_index one i) (slice_index other i) (is.others i (omega (arith, is.components)) differs) (also.others i (omega (arith, is.components)) differs))
-    (cases_eq i s.process))
+use Rattle.wcp_model.proofs.RunningEmissions.{snapshots_append, NoneNew}
+use Rattle.wcp_model.proofs.Reached.{true_state_exists}
+use Rattle.wcp_model.proofs.StateClocks.{clock_alone}
 
 module _ (n : ℕ) (c e : Computation) (p : ℕ) (notes more : List Note) (is : AreEmissions n c p notes) (grown : AreEmissions n (c ++ e) p more) where
   -- the true states of a computation come first among those of a longer one

@@ -8,8 +8,9 @@ use Rattle.wcp_model.specs.Growth.{GrowsInto, GrowthLaw, EarlyFindLaw}
 use Rattle.wcp_model.specs.ProbeLog.{IsAccepted}
 use Rattle.wcp_model.specs.Replies.{Answered, accepted, is_event, computation}
 use Rattle.wcp_model.proofs.AcceptedReplies.{replies_accepted}
-use Rattle.wcp_model.proofs.CutLaws.{IsState-true, slice_index-minimum, minimum_is_satisfying}
+use Rattle.wcp_model.proofs.CutLaws.{slice_index-minimum, minimum_is_satisfying}
 use Rattle.wcp_model.proofs.EmissionFronts.{emissions_grow}
+use Rattle.wcp_model.proofs.Reached.{true_state_exists}
 use Rattle.wcp_model.proofs.Growth.{before_grows, before_shrinks, order_settled, true_state_grows, true_state_shrinks}
 
 -- an accepted computation grew from each of its fronts
@@ -26,14 +27,14 @@ growth_holds plan history more are = search (arith, replies_accepted plan (histo
 
 -- a satisfying cut stays one
 pub satisfying_grows : (n : ℕ) (c e : Computation) (cut : List ℕ) → IsSatisfyingCut n c cut → IsSatisfyingCut n (c ++ e) cut
-satisfying_grows n c e cut is = grind (arith, IsState-true, before_shrinks, true_state_grows)
+satisfying_grows n c e cut is = grind (arith, true_state_exists, before_shrinks, true_state_grows)
 
 -- and one that lies at or below it was one before
 satisfying_below : (n : ℕ) (c e : Computation) (cut lower : List ℕ) → IsSatisfyingCut n c cut → ((p : ℕ) → p < n → slice_index lower p ≤ slice_index cut p) → IsSatisfyingCut n (c ++ e) lower → IsSatisfyingCut n c lower
 satisfying_below n c e cut lower is below lower_is = record {
   members = lower_is.members;
   consistent = λ p q p_in_range q_in_range apart before. lower_is.consistent p q p_in_range q_in_range apart (before_grows c e (member lower p) before);
-  true_states = grind (arith, IsState-true, true_state_shrinks);
+  true_states = grind (arith, true_state_exists, true_state_shrinks);
 }
 
 -- the early-find law

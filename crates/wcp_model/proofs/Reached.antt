@@ -41,6 +41,10 @@ interval_at-le c p place = sum_by-take-le _ c place
 pub interval_at-end : (c : Computation) (p : ℕ) → interval_at c p (length c) ≡ communications c p
 interval_at-end c p = ap (count_by (is_communication_of p)) (take_all (length c) c (omega arith))
 
+-- a true state exists
+pub true_state_exists : (c : Computation) (s : State) → IsTrueState c s → IsState c s
+true_state_exists c s is = omega (arith, is.within, interval_at-le c s.process is.place)
+
 -- the last step of a chain
 pub last_step : {c : Computation} {s t : State} → HappenedBefore c s t → (u : State) × AtOrAfter c s u × DirectlyPrecedes c u t
 last_step {s = s} (Direct step) = (s, inl refl, step)

@@ -1,29 +1,26 @@
 use Rattle.std.specs.List.Sorted.{IsStrictlyIncreasing}
-use Rattle.std.proofs.Common.{◌≡◌, ◌≢◌, ℕ, zero, suc, ◌+◌, ◌-◌, ◌<◌, ◌≤◌, List, [], ◌∷◌, ◌++◌, length, slice_index, get_or, refl, sym, ap, subst, ⊎_elim, append-nil, arith}
+use Rattle.std.proofs.Common.{◌≡◌, ◌≢◌, ℕ, zero, suc, ◌+◌, ◌-◌, ◌<◌, ◌≤◌, List, [], ◌∷◌, ◌++◌, length, slice_index, get_or, refl, sym, ap, subst, inl, inr, append-nil, arith}
 use Rattle.std.proofs.lemmas.Bool.{cases_eq, cases_lt}
 use Rattle.std.proofs.lemmas.List.{length-append, get_or_append_left, get_or_past}
 use Rattle.std.proofs.lemmas.List.Elements.{Contains-get_or}
+use Rattle.std.proofs.lemmas.List.Kept.{AllPairs-from_increasing}
 use Rattle.wcp_clock.specs.declared.note.Item.{Item}
 use Rattle.wcp_clock.specs.declared.note.Note.{Note}
 use Rattle.wcp_model.specs.Computation.{Computation, IsState}
 use Rattle.wcp_model.specs.Emission.{snapshots_from, AreEmissions}
 use Rattle.wcp_model.specs.Report.{notes_taken, snapshot_clocks, clocks_taken, AreRising, ClocksRise, AreFrontsOfEmissions}
 use Rattle.wcp_model.specs.StateClock.{IsStateClock}
-use Rattle.wcp_model.proofs.CutLaws.{state, happened_before_later, IsState-true}
+use Rattle.wcp_model.proofs.CutLaws.{happened_before_later}
+use Rattle.wcp_model.proofs.Predecessors.{local_state}
+use Rattle.wcp_model.proofs.Reached.{true_state_exists}
 use Rattle.wcp_model.proofs.NotesInTurn.{snapshot_clocks-append}
 
 -- an increasing list rises from each place to each later one
-pub rises_to : (xs : List ℕ) (i j : ℕ) → IsStrictlyIncreasing xs → i ≤ j → j < length xs → slice_index xs i ≤ slice_index xs j
-rises_to xs i j rising order within = go (j - i) i (omega arith)
-  where
-    go : (steps i : ℕ) → i + steps ≡ j → slice_index xs i ≤ slice_index xs j
-    go zero i end =
-        let same : i ≡ j = omega arith in
-        omega (arith, ap (slice_index xs) same)
-    go (suc steps) i end = omega (arith, rising i (omega arith), go steps (i + 1) (omega arith))
-
 pub rises_above : (xs : List ℕ) (i j : ℕ) → IsStrictlyIncreasing xs → i < j → j < length xs → slice_index xs i < slice_index xs j
-rises_above xs i j rising order within = omega (arith, rising i (omega arith), rises_to xs (i + 1) j rising (omega arith) within)
+rises_above xs i j rising order within = AllPairs-from_increasing xs rising i j 0 order within
+
+pub rises_to : (xs : List ℕ) (i j : ℕ) → IsStrictlyIncreasing xs → i ≤ j → j < length xs → slice_index xs i ≤ slice_index xs j
+rises_to xs i j rising order within = grind (arith, rises_above xs i j rising)
 
 -- the snapshots that a process emits have the clocks of its states
 clocks_back : (number : ℕ) (clocks : List (List ℕ)) (rest : List Note) → snapshot_clocks (snapshots_from number clocks ++ rest) ≡ clocks ++ snapshot_clocks rest
@@ -34,19 +31,11 @@ pub emitted_clocks : (n : ℕ) (c : Computation) (p : ℕ) (notes : List Note) (
 emitted_clocks n c p notes emitted = grind (arith, append-nil, clocks_back)
 
 -- the clocks of later states of a process are nowhere less
-clock_never_falls : (n : ℕ) (c : Computation) (p k l : ℕ) (one other : List ℕ) → k ≤ l → IsState c (state p l) → IsStateClock n c (state p k) one → IsStateClock n c (state p l) other → (q : ℕ) → slice_index one q ≤ slice_index other q
-clock_never_falls n c p k l one other up exists earlier later q = ⊎_elim
-    (λ (own : q ≡ p). omega (arith, up, ap (slice_index one) own, ap (slice_index other) own, earlier.own, later.own))
-    (λ (apart : q ≢ p). ⊎_elim
-    (λ (within : q < n). ⊎_elim
-    (λ (falls : slice_index other q < slice_index one q).
-    let before = (earlier.others q within apart (slice_index other q)).1 falls in
-    absurd (omega (arith, (later.others q within apart (slice_index other q)).0 (happened_before_later c (state q (slice_index other q)) p k l up exists before))))
-    (λ (order : slice_index one q ≤ slice_index other q). order)
-    (cases_lt (slice_index other q) (slice_index one q)))
-    (λ (past : n ≤ q). omega (arith, get_or_past one q 0 (omega (arith, earlier.components))))
-    (cases_lt q n))
-    (cases_eq q p)
+clock_never_falls : (n : ℕ) (c : Computation) (p k l : ℕ) (one other : List ℕ) → k ≤ l → IsState c (local_state p l) → IsStateClock n c (local_state p k) one → IsStateClock n c (local_state p l) other → (q : ℕ) → slice_index one q ≤ slice_index other q
+clock_never_falls n c p k l one other up exists earlier later q =
+    let before = λ (within : q < n) (apart : q ≢ p). earlier.others q within apart (slice_index other q) in
+    let after = λ (within : q < n) (apart : q ≢ p). later.others q within apart (slice_index other q) in
+    grind (arith, cases_eq q p, get_or_past one q 0, before, after, happened_before_later c (local_state q (slice_index other q)) p k l up exists)
 
 -- so the clocks that a process emits rise
 pub emissions_rise : (n : ℕ) (c : Computation) (p : ℕ) (notes : List Note) → AreEmissions n c p notes → AreRising p (snapshot_clocks notes)
@@ -55,7 +44,7 @@ emissions_rise n c p notes emitted = subst (AreRising p) (sym (emitted_clocks n 
       let below : j < length emitted.intervals = omega (arith, emitted.same_length) in
       clock_never_falls n c p (slice_index emitted.intervals i) (slice_index emitted.intervals j) (get_or emitted.clocks i []) (get_or emitted.clocks j [])
       (rises_to emitted.intervals i j emitted.true_states.rising up below)
-      (IsState-true c (state p (slice_index emitted.intervals j)) ((emitted.true_states.each (slice_index emitted.intervals j)).0 (Contains-get_or emitted.intervals j 0 below)))
+      (true_state_exists c (local_state p (slice_index emitted.intervals j)) ((emitted.true_states.each (slice_index emitted.intervals j)).0 (Contains-get_or emitted.intervals j 0 below)))
       (emitted.each i (omega arith)) (emitted.each j below) q;
   rise = λ i j up within.
       let below : j < length emitted.intervals = omega (arith, emitted.same_length) in

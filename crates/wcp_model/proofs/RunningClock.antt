@@ -10,6 +10,7 @@ use Rattle.wcp_model.specs.Order.{IsMessage, DirectlyPrecedes, Next, Message, Ha
 use Rattle.wcp_model.specs.StateClock.{CountsBefore, IsStateClock}
 use Rattle.wcp_model.proofs.EventPlaces.{event_of_send, event_below}
 use Rattle.wcp_model.proofs.Predecessors.{local_state, before_rises, before_later, only_before_send, only_before_receive}
+use Rattle.wcp_model.proofs.StateClocks.{own_counts}
 use Rattle.wcp_model.proofs.Reached.{AtOrAfter, one_more_step, before_to_state}
 
 -- the first state of a process has a clock of zeros
@@ -18,13 +19,7 @@ clock_at_first n c p in_range = grind (arith, get_or-replicate, length-replicate
 
 -- of its own process too, a clock counts the states that happened before
 pub clock_counts : (n : ℕ) (c : Computation) (s : State) (clock : List ℕ) (q : ℕ) → IsState c s → IsStateClock n c s clock → q < n → CountsBefore c s q (slice_index clock q)
-clock_counts n c s clock q exists is in_range =
-    ⊎_elim (λ (e : q ≡ s.process).
-    let own : slice_index clock q ≡ s.interval = ap (slice_index clock) e ∙ is.own in
-    subst (CountsBefore c s q) (sym own) (subst (λ p. CountsBefore c s p s.interval) (sym e)
-    (λ l. (before_rises c s.process l s.interval, λ below. before_later c s.process l s.interval below exists))))
-    (λ (other : q ≡ s.process → ⊥). is.others q in_range other)
-    (cases_eq q s.process)
+clock_counts n c s clock q exists is in_range = grind (arith, cases_eq q s.process, own_counts c s exists)
 
 -- what the state behind a send counts is the sender's state and what happened before it
 pub sender_counts : (n : ℕ) (c : Computation) (p k to place : ℕ) (clock : List ℕ) (q l : ℕ) → slice_get c place ≡ Some (Send p to) → interval_at c p place ≡ k → IsStateClock n c (local_state p (k + 1)) clock → q < n →

@@ -14,16 +14,12 @@ use Rattle.wcp_model.specs.Computation.{Computation, IsState, IsTrueState, AreTr
 use Rattle.wcp_model.specs.Emission.{is_closed, snapshots_from}
 use Rattle.wcp_model.specs.StateClock.{IsStateClock}
 use Rattle.wcp_model.proofs.Predecessors.{local_state}
-use Rattle.wcp_model.proofs.Reached.{interval_at-le}
+use Rattle.wcp_model.proofs.Reached.{true_state_exists}
 use Rattle.wcp_model.proofs.Growth.{get_behind, clock_grows, true_state_grows, true_state_of_front}
 
 -- the process is in its last interval at the end of the front
 pub interval_at_seam : (c e : Computation) (p : ℕ) → interval_at (c ++ e) p (length c) ≡ communications c p
 interval_at_seam c e p = ap (count_by (is_communication_of p)) (take_at c e (length c) refl)
-
--- a true state exists
-pub true_state_exists : (c : Computation) (s : State) → IsTrueState c s → IsState c s
-true_state_exists c s is = omega (arith, is.within, interval_at-le c s.process is.place)
 
 -- a state is true after one more step if it was before, or if the step is a true observation in it
 pub true_state_cases : (c : Computation) (x : Step) (s : State) → IsTrueState (c ++ x ∷ []) s → IsTrueState c s ⊎ ((x ≡ step.Observe s.process true) × (communications c s.process ≡ s.interval))

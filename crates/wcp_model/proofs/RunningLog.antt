@@ -17,8 +17,9 @@ use Rattle.wcp_model.proofs.AcceptedSteps.{close_stands}
 use Rattle.wcp_model.proofs.EventPlaces.{event_of_send, event_below}
 use Rattle.wcp_model.proofs.Predecessors.{local_state}
 use Rattle.wcp_model.proofs.Growth.{get_behind, at_grows, interval_grows, message_grows, clock_grows, stamp_shrinks, true_state_grows}
+use Rattle.wcp_model.proofs.Reached.{true_state_exists}
 use Rattle.wcp_model.proofs.RunningClock.{clock_at_first, clock_after_send, clock_after_receive}
-use Rattle.wcp_model.proofs.RunningEmissions.{interval_at_seam, true_state_exists, true_state_cases, NoneNew, HasEmitted, emitted_stays, emitted_close, emitted_snapshot}
+use Rattle.wcp_model.proofs.RunningEmissions.{interval_at_seam, true_state_cases, NoneNew, HasEmitted, emitted_stays, emitted_close, emitted_snapshot}
 
 -- what the probe of a process has come to after a computation
 pub record IsStateAfter (n : ℕ) (c : Computation) (p : ℕ) (s : ProbeState) : Type 0 where
@@ -31,24 +32,17 @@ pub record IsStateAfter (n : ℕ) (c : Computation) (p : ℕ) (s : ProbeState) :
 communications_push : (c : Computation) (x : Step) (p one : ℕ) → cond (is_communication_of p x) 1 0 ≡ one → communications (c ++ x ∷ []) p ≡ communications c p + one
 communications_push c x p one here = sum_by_push (λ y. cond (is_communication_of p y) 1 0) c x ∙ ap (λ k. communications c p + k) here
 
--- a test that fails at the last element adds nothing, and one that passes settles the answer
-or_neither : (a b : Bool) → b ≡ false → (a || (b || false)) ≡ a
-or_neither a b e = grind arith
-
-or_second : (a b : Bool) → b ≡ true → (a || (b || false)) ≡ true
-or_second a b e = grind arith
-
 -- a step that is no close of the process leaves it as it was
 closed_stays : (c : Computation) (x : Step) (p : ℕ) → is_close_of p x ≡ false → is_closed (c ++ x ∷ []) p ≡ is_closed c p
-closed_stays c x p other = list_any-append (is_close_of p) c (x ∷ []) ∙ or_neither (is_closed c p) (is_close_of p x) other
+closed_stays c x p other = grind (arith, list_any-append)
 
 -- its close closes it
 closed_now : (c : Computation) (p : ℕ) → is_closed (c ++ Close p ∷ []) p ≡ true
-closed_now c p = list_any-append (is_close_of p) c (Close p ∷ []) ∙ or_second (is_closed c p) (is_close_of p (Close p)) (eq-eqb p p refl)
+closed_now c p = grind (arith, list_any-append, eq-eqb)
 
 -- a step that is no true observation makes no state true
 none_new : (c : Computation) (x : Step) (p : ℕ) → (x ≡ Observe p true → ⊥) → NoneNew c (x ∷ []) p
-none_new c x p other k is = ⊎_elim (λ (old : IsTrueState c (local_state p k)). old) (λ new. absurd (other new.0)) (true_state_cases c x (local_state p k) is)
+none_new c x p other k is = grind (arith, true_state_cases c x (local_state p k) is)
 
 -- the last state's clock stays while the process has no new event
 clock_stays : (n : ℕ) (c : Computation) (x : Step) (p : ℕ) (clock : List ℕ) → is_communication_of p x ≡ false → IsStateClock n c (local_state p (communications c p)) clock →

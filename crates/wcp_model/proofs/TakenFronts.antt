@@ -11,16 +11,17 @@ use Rattle.wcp_model.specs.Outcome.{IsReportOf}
 use Rattle.wcp_model.specs.Report.{notes_taken, snapshot_clocks, clocks_taken, IsDrained, IsNamed, IsNamedCut, IsCutByClocks, IsReportOfTaken, IsReportByClocks, AreFrontsOfEmissions, AreInTurn}
 use Rattle.wcp_model.specs.StateClock.{IsStateClock}
 use Rattle.wcp_model.proofs.Choosing.{choice_from_each}
-use Rattle.wcp_model.proofs.CutLaws.{state, slice_index-minimum, minimum_is_satisfying}
+use Rattle.wcp_model.proofs.CutLaws.{slice_index-minimum, minimum_is_satisfying}
 use Rattle.wcp_model.proofs.NotesInTurn.{snapshot_clocks-append, emissions_in_turn, nothing_follows}
+use Rattle.wcp_model.proofs.Predecessors.{local_state}
 use Rattle.wcp_model.proofs.RisingClocks.{emitted_clocks, rises_above}
 
 -- What was taken of each process is a front of its emissions.
 module _ (n : ℕ) (c : Computation) (items : List Item) (fronts : AreFrontsOfEmissions n c items) where
   -- a taken clock is that of a true state
   record IsOfState (p : ℕ) (clock : List ℕ) (interval : ℕ) : Type 0 where
-    pub clock_is : IsStateClock n c (state p interval) clock
-    pub true_state : IsTrueState c (state p interval)
+    pub clock_is : IsStateClock n c (local_state p interval) clock
+    pub true_state : IsTrueState c (local_state p interval)
 
   all_clocks : (p : ℕ) (within : p < n) → clocks_taken p items ++ snapshot_clocks (fronts p within).0 ≡ (fronts p within).1.clocks
   all_clocks p within =
@@ -34,19 +35,19 @@ module _ (n : ℕ) (c : Computation) (items : List Item) (fronts : AreFrontsOfEm
   state_at p i within below = search (arith, all_clocks p within, Contains-get_or, fewer, get_or_append_left)
 
   -- the place of the snapshot that names a state
-  named_at : (p k : ℕ) (within : p < n) (named : IsNamed items (state p k)) → (i : ℕ) × (i < length (clocks_taken p items)) × (slice_index (fronts p within).1.intervals i ≡ k) × (get_or (clocks_taken p items) i [] ≡ named.clock)
+  named_at : (p k : ℕ) (within : p < n) (named : IsNamed items (local_state p k)) → (i : ℕ) × (i < length (clocks_taken p items)) × (slice_index (fronts p within).1.intervals i ≡ k) × (get_or (clocks_taken p items) i [] ≡ named.clock)
   named_at p k within named =
       let (i, below, here) = named.taken in
       let at : get_or (clocks_taken p items) i [] ≡ named.clock = get_or_default (clocks_taken p items) i [] named.clock below ∙ here in
       (i, below, sym (state_at p i within below).clock_is.own ∙ ap (λ (clock : List ℕ). slice_index clock p) at ∙ named.own, at)
 
-  named_state : (p k : ℕ) → p < n → (named : IsNamed items (state p k)) → IsOfState p named.clock k
+  named_state : (p k : ℕ) → p < n → (named : IsNamed items (local_state p k)) → IsOfState p named.clock k
   named_state p k within named =
       let (i, below, interval, at) = named_at p k within named in
       let is = state_at p i within below in
       record {
-        clock_is = subst (IsStateClock n c (state p k)) at (subst (λ j. IsStateClock n c (state p j) (get_or (clocks_taken p items) i [])) interval is.clock_is);
-        true_state = subst (λ j. IsTrueState c (state p j)) interval is.true_state;
+        clock_is = subst (IsStateClock n c (local_state p k)) at (subst (λ j. IsStateClock n c (local_state p j) (get_or (clocks_taken p items) i [])) interval is.clock_is);
+        true_state = subst (λ j. IsTrueState c (local_state p j)) interval is.true_state;
       }
 
   -- a cut by clocks is one of named states, and the other way round
@@ -90,16 +91,16 @@ module _ (n : ℕ) (c : Computation) (items : List Item) (fronts : AreFrontsOfEm
   report_of_taken report least = grind (arith, cut_by_clocks, least_by_states)
 
   -- a true state has a place among the snapshots, and is named once that one is taken
-  place_of : (p k : ℕ) (within : p < n) → IsTrueState c (state p k) → (i : ℕ) × (i < length (fronts p within).1.intervals) × (slice_index (fronts p within).1.intervals i ≡ k)
+  place_of : (p k : ℕ) (within : p < n) → IsTrueState c (local_state p k) → (i : ℕ) × (i < length (fronts p within).1.intervals) × (slice_index (fronts p within).1.intervals i ≡ k)
   place_of p k within true_state =
       let (i, below, here) = ((fronts p within).1.true_states.each k).1 true_state in
       (i, below, get_or_default (fronts p within).1.intervals i 0 k below ∙ here)
 
-  named_by : (p k i : ℕ) (within : p < n) → slice_index (fronts p within).1.intervals i ≡ k → i < length (clocks_taken p items) → IsNamed items (state p k)
+  named_by : (p k i : ℕ) (within : p < n) → slice_index (fronts p within).1.intervals i ≡ k → i < length (clocks_taken p items) → IsNamed items (local_state p k)
   named_by p k i within here taken = grind (arith, Contains-get_or, state_at)
 
   -- so each true state below a named one is named
-  named_below : (p k l : ℕ) → p < n → IsNamed items (state p k) → IsTrueState c (state p l) → l ≤ k → IsNamed items (state p l)
+  named_below : (p k l : ℕ) → p < n → IsNamed items (local_state p k) → IsTrueState c (local_state p l) → l ≤ k → IsNamed items (local_state p l)
   named_below p k l within named true_state order =
       let emitted = (fronts p within).1 in
       let (i, i_below, interval, at) = named_at p k within named in
@@ -134,7 +135,7 @@ module _ (n : ℕ) (c : Computation) (items : List Item) (fronts : AreFrontsOfEm
   all_states_taken drained p within =
       omega (arith, (fronts p within).1.same_length, ap length (all_clocks p within), length-append (clocks_taken p items) (snapshot_clocks (fronts p within).0), ap (λ notes. length (snapshot_clocks notes)) (nothing_left drained p within))
 
-  named_when_drained : IsDrained n items → (p k : ℕ) → p < n → IsTrueState c (state p k) → IsNamed items (state p k)
+  named_when_drained : IsDrained n items → (p k : ℕ) → p < n → IsTrueState c (local_state p k) → IsNamed items (local_state p k)
   named_when_drained drained p k within true_state =
       let (i, below, here) = place_of p k within true_state in
       named_by p k i within here (omega (arith, all_states_taken drained p within))
