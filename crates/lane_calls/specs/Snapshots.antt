@@ -1,7 +1,7 @@
 use Rattle.std.specs.Prelude.{◌≡◌, ℕ, true, false, length, All}
 use Rattle.std.specs.FinSet as set
 use Rattle.wcp_clock.specs.declared.note.Item.{Item}
-use Rattle.wcp_lane.specs.Message.{items_from}
+use Rattle.wcp_model.specs.LaneRule.{items_from}
 use Rattle.wcp_clock.specs.Notes.{is_close}
 use Rattle.wcp_lane.specs.Ends.{PutEnd}
 

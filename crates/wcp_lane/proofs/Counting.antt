@@ -3,7 +3,8 @@ use Rattle.std.proofs.Common.{◌≡◌, ◌≢◌, ◌⊎◌, ℕ, ◌+◌, ◌
 use Rattle.std.specs.Prelude.{All, Bool, IfSome, slice_get}
 use Rattle.std.proofs.lemmas.List.{length-set, get_or-set_same, get_or-set_other, get_or-replicate, append-nil}
 use Rattle.wcp_clock.specs.Limits.{most_processes}
-use Rattle.wcp_lane.specs.Message.{AllMayFollow, items_from}
+use Rattle.wcp_model.specs.LaneRule.{items_from}
+use Rattle.wcp_lane.specs.Message.{AllMayFollow}
 use Rattle.wcp_lane.specs.Passes.{Numbers}
 use Rattle.wcp_lane.specs.Ends.{AreCounts}
 use Rattle.wcp_lane.proofs.Lists.{items_from-append, items_from-all, items_from-none}

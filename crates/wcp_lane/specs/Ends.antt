@@ -8,7 +8,7 @@ use Rattle.crossbeam_channel.specs.Claims.{Pass}
 use Rattle.wcp_clock.specs.Limits.{most_processes}
 use Rattle.wcp_lane.specs.declared.passes.Hand.{Hand}
 use Rattle.wcp_lane.specs.declared.passes.Home.{Home}
-use Rattle.wcp_lane.specs.Message.{items_from}
+use Rattle.wcp_model.specs.LaneRule.{items_from}
 use Rattle.wcp_lane.specs.Passes.{Numbers}
 
 -- Which lane it is: the table and the key of its channel, which no other channel shares.

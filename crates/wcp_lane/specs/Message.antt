@@ -1,11 +1,7 @@
-use Rattle.std.specs.Prelude.{◌≡◌, ◌==◌, ℕ, Bool, true, List, [], ◌∷◌, ◌++◌, filter}
+use Rattle.std.specs.Prelude.{◌≡◌, ℕ, Bool, true, List, [], ◌∷◌, ◌++◌}
 use Rattle.std.specs.Ordering.{nat_cmp}
 use Rattle.std.specs.FinSet as set
-use Rattle.wcp_model.specs.LaneRule.{IsNext}
-
--- The items of one origin among these, in order.
-abbrev pub items_from : {I : Type 0} → (I → ℕ) → ℕ → List I → List I
-items_from origin p items = filter (λ item. origin item == p) items
+use Rattle.wcp_model.specs.LaneRule.{IsNext, items_from}
 
 -- An item may follow these if it is of one of the numbers, and the next one after those of its origin.
 pub record MayFollow {I : Type 0} (origin place : I → ℕ) (is_last : I → Bool)

@@ -1,11 +1,10 @@
 -- What each end of a lane knows, and how this goes on at each step.
-use Rattle.std.specs.Prelude.{◌≡◌, ℕ, zero, suc, ◌<◌, Bool, true, false, not, List, [], ◌∷◌, ◌++◌, map, All}
+use Rattle.std.specs.Prelude.{◌≡◌, ℕ, zero, suc, ◌<◌, Bool, true, false, not, if◌then◌else◌}
+use Rattle.std.specs.Prelude.{List, [], ◌∷◌, ◌++◌, map, All}
 use Rattle.std.specs.List.{flat_map}
 use Rattle.std.specs.Ordering.{nat_cmp}
 use Rattle.std.specs.FinSet as set
 use Rattle.std.specs.Coded.{Coded, coded_ℕ}
-use mathlib.Core.Option.{some}
-use lib.ListN.{get_elem?}
 use Rattle.wcp_clock.specs.Limits.{most_processes}
 use Rattle.wcp_model.specs.LaneRule.{LaneRule, items_from}
 use Rattle.wcp_lane.specs.Message.{AllMayFollow}
@@ -50,7 +49,7 @@ module _ {M : Type 0} where
 
   -- with the numbers of another end too
   abbrev pub joined : Hand M → Hand M → Hand M
-  joined v w = record { takes = v.takes; taken = v.taken; home = v.home ++ w.home }
+  joined v w = record { takes = v.takes; taken = v.taken; home = w.home ++ v.home }
 
   -- an end has put the message, or taken it
   abbrev pub with_put : M → Hand M → Hand M
@@ -62,18 +61,6 @@ module _ {M : Type 0} where
 
   abbrev pub IsPut : Hand M → M → Hand M → Type 0
   IsPut v message w = w ≡ with_put message v
-
--- an end stands for a number
-pub record StandsFor {M : Type 0} (v : Hand M) (p : ℕ) : Type 0 where
-  pub before : List (Home M)
-  pub own : Home M
-  pub behind : List (Home M)
-  pub is : v.home ≡ before ++ own ∷ behind
-  pub member : set.contains own.numbers p ≡ true
-
--- the end with this pass stands for a number
-abbrev pub IsSeated : {M : Type 0} → List (Hand M) → ℕ → ℕ → Type 0
-IsSeated {M} ends pass p = (v : Hand M) × (get_elem? ends pass ≡ some v) × StandsFor v p
 
 -- all numbers below 16 but these
 abbrev pub IsRest : Numbers → Numbers → Type 0
@@ -92,32 +79,31 @@ module _ {M I : Type 0} (items : M → List I) (origin place : I → ℕ) (is_la
       (w ≡ with_taken message v)
       × ((unowned : Numbers) (taken : List M) → v ≡ taker unowned taken → IsFresh unowned taken message)
 
+-- what an end has taken, if it is the one that takes
+abbrev pub taken_by : {M : Type 0} → Hand M → List (List M)
+taken_by v = if v.takes then v.taken ∷ [] else []
+
 module _ {M I : Type 0} (items : M → List I) (origin : I → ℕ) where
+  -- what an end has put of a number: one list for each time that it stands for the number
+  abbrev pub put_of : ℕ → Hand M → List (List I)
+  put_of p v =
+      flat_map (λ h. if set.contains h.numbers p then items_from origin p (flat_map items h.put) ∷ [] else []) v.home
+
   -- of each number that this end stands for, what was put is what this end took and then what the lane holds
   abbrev pub IsBalanced : Hand M → List M → Type 0
   IsBalanced v within =
       v.takes ≡ true
-      → (before : List (Home M)) (h : Home M) (behind : List (Home M)) → v.home ≡ before ++ h ∷ behind
-      → (p : ℕ) → p < most_processes → set.contains h.numbers p ≡ true
-      → items_from items origin p h.put ≡ items_from items origin p v.taken ++ items_from items origin p within
+      → (p : ℕ) → p < most_processes
+      → All (λ put. put
+      ≡ items_from origin p (flat_map items v.taken) ++ items_from origin p (flat_map items within)) (put_of p v)
 
-  -- what one end knows fits: the end that takes is the reader, and it has taken what was taken; the end that stands
-  -- for a number has that number's seat, and has put what was put of it
-  pub record Fits (reader : ℕ) (seat : ℕ → ℕ) (taken : List M) (put : ℕ → List I)
-      (pass : ℕ) (v : Hand M) : Type 0 where
-    pub takes : v.takes ≡ true → (pass ≡ reader) × (v.taken ≡ taken)
-    pub stands : (before : List (Home M)) (h : Home M) (behind : List (Home M)) → v.home ≡ before ++ h ∷ behind
-        → (p : ℕ) → p < most_processes → set.contains h.numbers p ≡ true
-        → (seat p ≡ pass) × (items_from items origin p h.put ≡ put p)
-
--- the lane rule over what the lane holds and what the ends know: for each number there is one end that stands for it
+-- the lane rule over what the lane holds and what the ends know: one end takes, and has taken what was taken; and for
+-- each number one end stands for it, once, and has put what was put of it
 pub record IsRuled
     {M I : Type 0} (items : M → List I) (origin place : I → ℕ) (is_last : I → Bool)
     (within : List M) (ends : List (Hand M)) : Type 0 where
-  pub reader : ℕ
-  pub seat : ℕ → ℕ
   pub taken : List M
   pub put : ℕ → List I
-  pub rule : LaneRule items origin place is_last taken within put
-  pub seated : (p : ℕ) → p < most_processes → IsSeated ends (seat p) p
-  pub each : (pass : ℕ) (v : Hand M) → get_elem? ends pass ≡ some v → Fits items origin reader seat taken put pass v
+  pub rule : LaneRule origin place is_last (flat_map items taken) (flat_map items within) put
+  pub takes : flat_map taken_by ends ≡ taken ∷ []
+  pub stands : (p : ℕ) → p < most_processes → flat_map (put_of items origin p) ends ≡ put p ∷ []

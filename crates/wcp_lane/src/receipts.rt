@@ -1,6 +1,6 @@
 ghost use Rattle.std.specs.Prelude.{◌≡◌, ℕ, ◌<◌, ◌↔◌, true, length, IsOk, IfOk};
 ghost use Rattle.std.specs.FinSet as set;
-ghost use Rattle.wcp_lane.specs.Message.{items_from};
+ghost use Rattle.wcp_model.specs.LaneRule.{items_from};
 
 use crate::counts::agree;
 use crate::fault::Unfinished;

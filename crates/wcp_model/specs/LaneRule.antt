@@ -1,11 +1,10 @@
 use Rattle.std.specs.Prelude.{◌≡◌, ◌==◌, ℕ, ◌<◌, Bool, false, List, ◌∷◌, ◌++◌, length, filter, All}
-use Rattle.std.specs.List.{flat_map}
 use Rattle.wcp_clock.specs.Limits.{most_processes}
 
 -- A lane carries messages, each with one item or more, and an item has an origin, the number of a process: here are the
--- items of one origin among these messages, in order.
-abbrev pub items_from : {M I : Type 0} → (M → List I) → (I → ℕ) → ℕ → List M → List I
-items_from items_of origin p messages = filter (λ item. origin item == p) (flat_map items_of messages)
+-- items of one origin among these, in order.
+abbrev pub items_from : {I : Type 0} → (I → ℕ) → ℕ → List I → List I
+items_from origin p items = filter (λ item. origin item == p) items
 
 -- An item is the next one after these if its place is their number and none of them is a last one.
 pub record IsNext {I : Type 0} (place : I → ℕ) (is_last : I → Bool) (before : List I) (item : I) : Type 0 where
@@ -18,13 +17,12 @@ abbrev pub AreInSequence : {I : Type 0} → (I → ℕ) → (I → Bool) → Lis
 AreInSequence {I} place is_last items =
     (before : List I) (item : I) (behind : List I) → items ≡ before ++ item ∷ behind → IsNext place is_last before item
 
--- The lane rule, over the messages that the taker took, the messages in the lane, oldest first, and the items put of
--- each number: each item in the lane is of a number below 16, and the items taken of a number, followed by those of
--- it in the lane, are the items put of it, which are in sequence.
+-- The lane rule, over the items that the taker took, the items in the lane, oldest first, and the items put of each
+-- number: each item in the lane is of a number below 16, and the items taken of a number, followed by those of it in the
+-- lane, are the items put, which are in sequence.
 pub record LaneRule
-    {M I : Type 0} (items_of : M → List I) (origin place : I → ℕ) (is_last : I → Bool)
-    (taken within : List M) (put : ℕ → List I) : Type 0 where
-  pub numbered : All (λ item. origin item < most_processes) (flat_map items_of within)
-  pub whole : (p : ℕ) → p < most_processes
-      → items_from items_of origin p taken ++ items_from items_of origin p within ≡ put p
+    {I : Type 0} (origin place : I → ℕ) (is_last : I → Bool)
+    (taken within : List I) (put : ℕ → List I) : Type 0 where
+  pub numbered : All (λ item. origin item < most_processes) within
+  pub whole : (p : ℕ) → p < most_processes → items_from origin p taken ++ items_from origin p within ≡ put p
   pub in_sequence : (p : ℕ) → p < most_processes → AreInSequence place is_last (put p)

@@ -15,7 +15,7 @@ use Rattle.wcp_clock.specs.Notes.{is_close, place_of}
 use Rattle.wcp_model.specs.Report.{notes_taken, clocks_taken, snapshot_clocks, AreInTurn, IsNextNote, IsDrained}
 use Rattle.wcp_model.proofs.NotesInTurn.{nothing_follows}
 use Rattle.wcp_lane.specs.Ends.{TakeEnd}
-use Rattle.wcp_lane.specs.Message.{items_from}
+use Rattle.wcp_model.specs.LaneRule.{items_from}
 use Rattle.wcp_queue.specs.Checker.{CheckerState, processes, closed_of, MayTake, StandsForItems, TakesItem}
 use Rattle.wcp_queue.proofs.NotesTaken.{MayTake-next, close_mark_in, close_taken-push_close, clocks_taken-push_close}
 use Rattle.wcp_tree.specs.Bundles.{most_bundle}

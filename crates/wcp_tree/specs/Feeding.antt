@@ -6,10 +6,9 @@ use Rattle.std.specs.FinSet as set
 use Rattle.std.proofs.Props.{props}
 use Rattle.wcp_clock.specs.declared.note.Item.{Item}
 use Rattle.wcp_clock.specs.declared.note.Note.{Note}
-use Rattle.wcp_model.specs.LaneRule.{IsNext, AreInSequence}
+use Rattle.wcp_model.specs.LaneRule.{IsNext, AreInSequence, items_from}
 use Rattle.wcp_lane.specs.Passes.{Numbers}
 use Rattle.wcp_clock.specs.Notes.{place_of, is_close}
-use Rattle.wcp_lane.specs.Message as lane
 use Rattle.wcp_tree.specs.declared.feed.Feed.{Feed}
 use Rattle.wcp_tree.specs.declared.source.Source.{Source}
 use Rattle.wcp_tree.specs.declared.source.Source.TheVariants.{Leaf, Inner}
@@ -57,7 +56,7 @@ items_by p notes = map (λ note. record { from = p; note = note }) notes
 
 -- The items of process p among these.
 abbrev pub items_of : ℕ → List Item → List Item
-items_of p items = lane.items_from (λ item. item.from) p items
+items_of p items = items_from (λ item. item.from) p items
 
 -- The items of process p that its feed took.
 abbrev pub fed : List Feed → ℕ → List Item

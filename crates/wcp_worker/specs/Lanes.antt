@@ -3,14 +3,14 @@ use Rattle.std.specs.Prelude.{◌≡◌, ◌↔◌, ℕ, ◌<◌, true, Option, 
 use Rattle.std.specs.FinSet as set
 use mathlib.Core.List.{IsPrefix}
 use Rattle.wcp_probe.specs.Seal.{seal_of}
-use Rattle.wcp_lane.specs.Message as lane
+use Rattle.wcp_model.specs.LaneRule.{items_from}
 use Rattle.wcp_worker.specs.declared.message.Message.{Message}
 use Rattle.wcp_worker.specs.declared.lanes.Outbox.{Outbox}
 use Rattle.wcp_worker.specs.declared.lanes.Inbox.{Inbox}
 
 -- The messages of process p among these, in order.
 abbrev pub messages_from : ℕ → List Message → List Message
-messages_from p messages = lane.items_from (λ (m : Message). m.stamped.from) p messages
+messages_from p messages = items_from (λ (m : Message). m.stamped.from) p messages
 
 -- The clocks that the stamps of these messages carry.
 abbrev pub clocks_from : ℕ → List Message → List (List ℕ)

@@ -1,13 +1,14 @@
 use Rattle.std.proofs.Common.{◌≡◌, ◌<◌, false, not, length, replicate, take, map, sym, ap, ◌∙◌, subst, arith, [], ◌∷◌, ◌++◌}
 use Rattle.std.specs.FinSet as set
 use Rattle.std.specs.List.{flat_map}
+use Rattle.std.proofs.lemmas.Bool.{false_from_ne_true}
 use Rattle.std.proofs.lemmas.List.{take_more, map-append}
 use Rattle.crossbeam_channel.specs.Ends.{sends_on}
 use Rattle.crossbeam_channel.specs.Claims.{IsSeatAt}
 use Rattle.wcp_lane.specs.Passes.{Numbers, taker, putter, all_numbers}
 use Rattle.wcp_lane.specs.Ends.{lane_of, hand_of, unowned_by, put_by, new_putter, AreCounts, PutEnd}
 use Rattle.wcp_lane.proofs.Counting.{counts_of_none}
-use Rattle.wcp_lane.proofs.Steps.{begins, false_unless}
+use Rattle.wcp_lane.proofs.Steps.{begins}
 use Rattle.wcp_lane.proofs.Sets.{owner_of, owned_more, rest_more, none_has, rest_of_none}
 use Rattle.wcp_lane.proofs.opening.open.Goals as goal
 
@@ -32,7 +33,7 @@ give-own-requires-clause-among g c = λ p below member.
     let owners = c.args.owners.now in
     let numbers = c.numbers-item.result in
     let inside : k < length owners = c.loop-numbers-test.true in
-    let free : set.contains c.loop-numbers.origins p ≡ false = false_unless _ (λ owned.
+    let free : set.contains c.loop-numbers.origins p ≡ false = false_from_ne_true _ (λ owned.
     let owner = owner_of owners k p numbers (omega arith) (sym (c.loop-numbers.invariant.among p) ∙ owned) in
     c.requires.apart owner.0 k numbers owner.1 inside p owner.2 (ap (λ (s : Numbers). set.contains s p) (sym c.numbers-item.is) ∙ member)) in
     c.loop-numbers.invariant.rest p below ∙ ap not free

@@ -1,9 +1,9 @@
 use Rattle.std.proofs.Common.{ap, sym, ◌∙◌, true≢false, IsTrue, length}
 use Rattle.std.specs.FinSet as set
-use Rattle.wcp_lane.specs.Message.{items_from}
+use Rattle.wcp_model.specs.LaneRule.{items_from}
 use Rattle.wcp_lane.specs.Ends.{PutEnd, TakenEnd}
-use Rattle.wcp_lane.proofs.Hands.{joins_as, matched}
-use Rattle.wcp_lane.proofs.Steps.{balances}
+use Rattle.wcp_lane.proofs.Hands.{matched}
+use Rattle.wcp_lane.proofs.Steps.{joins, balances}
 use Rattle.wcp_lane.proofs.receipts.reconcile.Goals as goal
 
 pub returns-then-not-agree-clause-exact : goal.returns-then-not-agree-clause-exact
@@ -23,7 +23,7 @@ returns-then-not-agree-clause-exact g c =
 
 pub absorb-requires-clause-rule : goal.absorb-requires-clause-rule
 absorb-requires-clause-rule g c =
-    joins_as g.M.Origin.items g.M.Origin.origin g.M.Origin.place g.M.Origin.last _ _ _ _ _ _ c.taken.invariant.0 c.putter.invariant.1
+    joins g.M.Origin.items g.M.Origin.origin g.M.Origin.place g.M.Origin.last _ _ _ _ _ _ c.taken.invariant.0 c.putter.invariant.1
 
 pub learn_as-requires-clause-rule : goal.learn_as-requires-clause-rule
 learn_as-requires-clause-rule g c = balances g.M.Origin.items g.M.Origin.origin g.M.Origin.place g.M.Origin.last _ _

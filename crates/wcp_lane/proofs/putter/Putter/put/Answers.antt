@@ -2,14 +2,14 @@ use Rattle.std.proofs.Common.{sym, subst}
 use Rattle.wcp_lane.specs.Message.{AllMayFollow}
 use Rattle.wcp_lane.specs.Ends.{PutEnd}
 use Rattle.wcp_lane.proofs.Counting.{number_below, counted_next}
-use Rattle.wcp_lane.proofs.Hands.{puts_as, put_more}
-use Rattle.wcp_lane.proofs.Steps.{all_owned}
+use Rattle.wcp_lane.proofs.Hands.{put_more}
+use Rattle.wcp_lane.proofs.Steps.{all_owned, puts}
 use Rattle.wcp_lane.proofs.putter.Putter.put.Goals as goal
 
 pub send_as-requires-clause-rule : goal.send_as-requires-clause-rule
 send_as-requires-clause-rule g c =
     let origin = g.M.Origin in (
-      puts_as origin.items origin.origin origin.place origin.last _ _ _ _ _ c.args.message c.self.invariant.1 c.self.invariant.2
+      puts origin.items origin.origin origin.place origin.last _ _ _ _ _ c.args.message c.self.invariant.1 c.self.invariant.2
           (subst (λ (e : PutEnd _ _). AllMayFollow origin.origin origin.place origin.last e.members e.put (origin.items c.args.message)) (sym c.self.view_is) c.requires),
       λ items ends h at. tt,
     )
