@@ -60,15 +60,8 @@ begins : (n : ℕ) (c : Computation) (x : Step) (p : ℕ) (s : ProbeState) (cloc
     IsStateClock n (c ++ x ∷ []) (local_state p (communications c p + 1)) clock → IsStateAfter n c p s → IsStateAfter n (c ++ x ∷ []) p (record s { clock = clock; flag = false })
 begins n c x p s clock event other none clock_is h =
     let more : communications (c ++ x ∷ []) p ≡ communications c p + 1 = communications_push c x p 1 (ap (λ b. cond b 1 0) event) in
-    record {
-      clock = subst (λ k. IsStateClock n (c ++ x ∷ []) (local_state p k) clock) (sym more) clock_is;
-      flag = (
-        λ set. absurd (true≢false (sym set)),
-        λ is. absurd (omega (arith, more, true_state_exists c (local_state p (communications (c ++ x ∷ []) p)) (none (communications (c ++ x ∷ []) p) is))),
-      );
-      closed = h.closed ∙ sym (closed_stays c x p other);
-      emitted = emitted_stays n c (x ∷ []) p s.snapshots s.notes none (closed_stays c x p other) h.emitted;
-    }
+    let emitted = emitted_stays n c (x ∷ []) p s.snapshots s.notes none (closed_stays c x p other) h.emitted in
+    grind (arith, closed_stays, true_state_exists, more, clock_is, emitted, none (communications c p + 1))
 
 -- the first true observation of an interval
 observes_first : (n : ℕ) (c : Computation) (p : ℕ) (s : ProbeState) → is_closed c p ≡ false → s.flag ≡ false → IsStateAfter n c p s →
@@ -90,10 +83,9 @@ observes_first n c p s is_open clear h =
 -- a true observation
 observes : (n : ℕ) (c : Computation) (p : ℕ) (s : ProbeState) → is_closed c p ≡ false → IsStateAfter n c p s → IsStateAfter n (c ++ Observe p true ∷ []) p (after_call p s (Observed true))
 observes n c p s is_open h =
-    cond_both s.flag s (record s { flag = true; snapshots = s.snapshots + 1; notes = s.notes ++ note.Snap s.snapshots s.clock ∷ [] }) (IsStateAfter n (c ++ Observe p true ∷ []) p)
-    (λ set. stays n c (Observe p true) p s refl refl
-    (λ k is. ⊎_elim (λ (old : IsTrueState c (local_state p k)). old) (λ new. subst (λ j. IsTrueState c (local_state p j)) new.1 (h.flag.0 set)) (true_state_cases c (Observe p true) (local_state p k) is)) h)
-    (λ clear. observes_first n c p s is_open clear h)
+    let none : s.flag ≡ true → NoneNew c (Observe p true ∷ []) p = λ set k is. grind (arith, h.flag, true_state_cases c (Observe p true) (local_state p k) is) in
+    let same = λ (set : s.flag ≡ true). stays n c (Observe p true) p s refl refl (none set) h in
+    grind (arith, cases_Bool s.flag, same, observes_first n c p s is_open)
 
 -- a send
 sends : (n : ℕ) (c : Computation) (p to : ℕ) (s : ProbeState) → p < n → IsStateAfter n c p s → IsStateAfter n (c ++ Send p to ∷ []) p (after_call p s Sent)
@@ -134,16 +126,12 @@ closes n c p s is_open h = search (arith, clock_stays n c (Close p) p s.clock re
 
 -- a step of another process
 passes_by : (n : ℕ) (c : Computation) (x : Step) (p : ℕ) (s : ProbeState) → is_step_of p x ≡ false → IsStateAfter n c p s → IsStateAfter n (c ++ x ∷ []) p s
-passes_by n c (Observe q holds) p s other h = stays n c (Observe q holds) p s refl refl (none_new c (Observe q holds) p (λ e. true≢false (sym (ap (is_step_of p) e ∙ eq-eqb p p refl) ∙ other))) h
-passes_by n c (Send q to) p s other h = stays n c (Send q to) p s other refl (none_new c (Send q to) p (λ e. cc e)) h
-passes_by n c (Recv q message) p s other h = stays n c (Recv q message) p s other refl (none_new c (Recv q message) p (λ e. cc e)) h
-passes_by n c (Close q) p s other h = stays n c (Close q) p s refl other (none_new c (Close q) p (λ e. cc e)) h
-passes_by n c x p s other h = stays n c x p s refl refl (none_new c x p (λ e. cc e)) h
+passes_by n c x p s other h = stays n c x p s (grind arith) (grind arith) (none_new c x p (grind arith)) h
 
 -- a process that has another step was open
 was_open : (n : ℕ) (c e : Computation) (x : Step) (p : ℕ) → IsAccepted (c ++ x ∷ e) → is_step_of p x ≡ true → is_closed c p ≡ false
 was_open n c e x p accepted own = false_from_ne_true (is_closed c p) (λ closed.
-    let close : (place : ℕ) × (place < length c) × (slice_get c place ≡ Some (Close p)) = close_stands c p closed in
+    let close = close_stands c p closed in
     true≢false (sym own ∙ accepted.close_last close.0 (length c) p x close.1 (at_grows c (x ∷ e) close.0 (Close p) close.2) (get_behind c x e)))
 
 -- a message that is received was sent
@@ -154,16 +142,13 @@ was_sent n c e p message accepted = grind (arith, take_at c (Recv p message ∷ 
 advances : (n : ℕ) (c e : Computation) (p : ℕ) (x : Step) (s : ProbeState) (call : Call) → IsAccepted (c ++ x ∷ e) → p < n → is_step_of p x ≡ true → IsCallOf n (c ++ x ∷ e) x call →
     IsStateAfter n c p s → IsStateAfter n (c ++ x ∷ []) p (after_call p s call)
 advances n c e p (Observe q false) s (Observed false) accepted in_range own is h = stays n c (Observe q false) p s refl refl (none_new c (Observe q false) p (λ e. cc e)) h
-advances n c e p (Observe q true) s (Observed true) accepted in_range own is h =
-    subst (λ r. IsStateAfter n (c ++ Observe r true ∷ []) p (after_call p s (Observed true))) (sym (eqb-true q p own)) (observes n c p s (was_open n c e (Observe q true) p accepted own) h)
+advances n c e p (Observe q true) s (Observed true) accepted in_range own is h = grind (arith, observes n c p s (was_open n c e (Observe q true) p accepted own) h)
 advances n c e p (Observe q true) s (Observed false) accepted in_range own is h = absurd (true≢false is)
 advances n c e p (Observe q false) s (Observed true) accepted in_range own is h = absurd (true≢false (sym is))
-advances n c e p (Send q to) s Sent accepted in_range own is h =
-    subst (λ r. IsStateAfter n (c ++ Send r to ∷ []) p (after_call p s Sent)) (sym (eqb-true q p own)) (sends n c p to s in_range h)
+advances n c e p (Send q to) s Sent accepted in_range own is h = grind (arith, sends n c p to s in_range h)
 advances n c e p (Recv q message) s (Received stamp) accepted in_range own is h =
     grind (arith, receives n c p message stamp s in_range (stamp_shrinks n c (Recv q message ∷ e) message stamp (was_sent n c e q message accepted) is) h)
-advances n c e p (Close q) s Closed accepted in_range own is h =
-    subst (λ r. IsStateAfter n (c ++ Close r ∷ []) p (after_call p s Closed)) (sym (eqb-true q p own)) (closes n c p s (was_open n c e (Close q) p accepted own) h)
+advances n c e p (Close q) s Closed accepted in_range own is h = grind (arith, closes n c p s (was_open n c e (Close q) p accepted own) h)
 advances n c e p x s call accepted in_range own is h = absurd is
 
 -- a step of the process, and what the rest of the log then comes to
@@ -183,11 +168,10 @@ runs_on n p (x ∷ e) c s calls accepted in_range are h =
     let together : (c ++ x ∷ []) ++ e ≡ c ++ x ∷ e = append_assoc c (x ∷ []) e in
     let rest : (t : ProbeState) (rest : List Call) → AreCallsOf n (c ++ x ∷ e) (filter (is_step_of p) e) rest → IsStateAfter n (c ++ x ∷ []) p t → IsStateAfter n (c ++ x ∷ e) p (fold (after_call p) t rest) =
     λ t calls. grind (arith, runs_on n p e (c ++ x ∷ []) t calls (subst (IsAccepted) (sym together) accepted) in_range) in
-    ⊎_elim (λ (own : is_step_of p x ≡ true).
-    own_step n c e p x s calls accepted in_range own (subst (λ b. AreCallsOf n (c ++ x ∷ e) (cond b (x ∷ filter (is_step_of p) e) (filter (is_step_of p) e)) calls) own are) h rest)
-    (λ (other : is_step_of p x ≡ false).
-    rest s calls (subst (λ b. AreCallsOf n (c ++ x ∷ e) (cond b (x ∷ filter (is_step_of p) e) (filter (is_step_of p) e)) calls) other are) (passes_by n c x p s other h))
-    (cases_Bool (is_step_of p x))
+    elim (cases_Bool (is_step_of p x)) [
+      | inl own ↦ own_step n c e p x s calls accepted in_range own (rw own at are) h rest
+      | inr other ↦ rest s calls (rw other at are) (passes_by n c x p s other h)
+    ]
 
 -- before the first step
 at_first : (n p : ℕ) → p < n → IsStateAfter n [] p (state_of_log (setup n p) [])
