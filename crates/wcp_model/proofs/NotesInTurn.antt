@@ -74,7 +74,7 @@ pub record CountsNotes (s : ProbeState) : Type 0 where
   pub snapshots : s.snapshots ≡ length (snapshot_clocks s.notes)
   pub closed : s.closed ≡ list_any is_close s.notes
 
-counts_after : (p : ℕ) (s : ProbeState) (call : Call) → CountsNotes s → CountsNotes (after_call p s call)
+pub counts_after : (p : ℕ) (s : ProbeState) (call : Call) → CountsNotes s → CountsNotes (after_call p s call)
 counts_after p s (Observed false) is = is
 counts_after p s (Observed true) is = grind (arith, length-append, list_any-append, snapshot_clocks-append)
   where

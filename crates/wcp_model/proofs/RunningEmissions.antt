@@ -11,7 +11,7 @@ use Rattle.wcp_model.specs.declared.state.State.{State}
 use Rattle.wcp_model.specs.declared.step.Step.{Step}
 use Rattle.wcp_model.specs.declared.step.Step.TheVariants as step
 use Rattle.wcp_model.specs.Computation.{Computation, IsState, IsTrueState, AreTrueStates, is_communication_of, communications, interval_at}
-use Rattle.wcp_model.specs.Emission.{is_closed, snapshots_from}
+use Rattle.wcp_model.specs.Emission.{is_closed, snapshots_from, AreEmissions}
 use Rattle.wcp_model.specs.StateClock.{IsStateClock}
 use Rattle.wcp_model.proofs.Predecessors.{local_state}
 use Rattle.wcp_model.proofs.Reached.{true_state_exists}
@@ -38,24 +38,14 @@ snapshots_append number (clock ∷ clocks) others =
 pub snapshots_push : (number : ℕ) (clocks : List (List ℕ)) (clock : List ℕ) → snapshots_from number (clocks ++ clock ∷ []) ≡ snapshots_from number clocks ++ note.Snap (number + length clocks) clock ∷ []
 snapshots_push number clocks clock = snapshots_append number clocks (clock ∷ [])
 
--- what a process has emitted, and how many of these notes are snapshots
-pub record HasEmitted (n : ℕ) (c : Computation) (p snapshots : ℕ) (notes : List Note) : Type 0 where
-  pub intervals : List ℕ
-  pub true_states : AreTrueStates c p intervals
-  pub clocks : List (List ℕ)
-  pub same_length : length clocks ≡ length intervals
-  pub each : (i : ℕ) → i < length intervals → IsStateClock n c (local_state p (slice_index intervals i)) (slice_index_or clocks i [])
-  pub counted : snapshots ≡ length clocks
-  pub notes_are : notes ≡ snapshots_from 0 clocks ++ (if is_closed c p then note.Close (length clocks) ∷ [] else [])
-
 -- no true state is new
 abbrev pub NoneNew : Computation → Computation → ℕ → Type 0
 NoneNew c e p = (k : ℕ) → IsTrueState (c ++ e) (local_state p k) → IsTrueState c (local_state p k)
 
 -- the clocks of true states are settled
-clocks_stay : (n : ℕ) (c e : Computation) (p snapshots : ℕ) (notes : List Note) (h : HasEmitted n c p snapshots notes) →
+clocks_stay : (n : ℕ) (c e : Computation) (p : ℕ) (notes : List Note) (h : AreEmissions n c p notes) →
     (i : ℕ) → i < length h.intervals → IsStateClock n (c ++ e) (local_state p (slice_index h.intervals i)) (slice_index_or h.clocks i [])
-clocks_stay n c e p snapshots notes h i lt =
+clocks_stay n c e p notes h i lt =
     clock_grows n c e (local_state p (slice_index h.intervals i)) (slice_index_or h.clocks i [])
     (true_state_exists c (local_state p (slice_index h.intervals i)) ((h.true_states.each (slice_index h.intervals i)).0 (Contains-get_or h.intervals i 0 lt)))
     (h.each i lt)
@@ -68,26 +58,26 @@ true_states_stay c e p intervals none are = record {
 }
 
 -- and so does what was emitted
-pub emitted_stays : (n : ℕ) (c e : Computation) (p snapshots : ℕ) (notes : List Note) → NoneNew c e p → is_closed (c ++ e) p ≡ is_closed c p → HasEmitted n c p snapshots notes → HasEmitted n (c ++ e) p snapshots notes
-emitted_stays n c e p snapshots notes none closed h =
-    grind (arith, clocks_stay n c e p snapshots notes h, true_states_stay c e p h.intervals none h.true_states)
+pub emitted_stays : (n : ℕ) (c e : Computation) (p : ℕ) (notes : List Note) → NoneNew c e p → is_closed (c ++ e) p ≡ is_closed c p → AreEmissions n c p notes → AreEmissions n (c ++ e) p notes
+emitted_stays n c e p notes none closed h =
+    grind (arith, clocks_stay n c e p notes h, true_states_stay c e p h.intervals none h.true_states)
 
 -- a close emits a mark that counts the snapshots
-pub emitted_close : (n : ℕ) (c e : Computation) (p snapshots : ℕ) (notes : List Note) → NoneNew c e p → is_closed c p ≡ false → is_closed (c ++ e) p ≡ true → HasEmitted n c p snapshots notes →
-    HasEmitted n (c ++ e) p snapshots (notes ++ note.Close snapshots ∷ [])
-emitted_close n c e p snapshots notes none was_open closed h =
-    grind (arith, clocks_stay n c e p snapshots notes h, true_states_stay c e p h.intervals none h.true_states, append-nil)
+pub emitted_close : (n : ℕ) (c e : Computation) (p : ℕ) (notes : List Note) → NoneNew c e p → is_closed c p ≡ false → is_closed (c ++ e) p ≡ true → (h : AreEmissions n c p notes) →
+    AreEmissions n (c ++ e) p (notes ++ note.Close (length h.clocks) ∷ [])
+emitted_close n c e p notes none was_open closed h =
+    grind (arith, clocks_stay n c e p notes h, true_states_stay c e p h.intervals none h.true_states, append-nil)
 
 -- numbers that rise, and one above them
 rising_push : (xs : List ℕ) (k : ℕ) → IsStrictlyIncreasing xs → ((i : ℕ) → i < length xs → slice_index xs i < k) → IsStrictlyIncreasing (xs ++ k ∷ [])
 rising_push xs k rising above i below = grind (arith, get_or_append_left, get_or_push, length_push)
 
 -- a first true observation of an interval emits its snapshot
-pub emitted_snapshot : (n : ℕ) (c e : Computation) (p k snapshots : ℕ) (notes : List Note) (clock : List ℕ) → is_closed c p ≡ false → is_closed (c ++ e) p ≡ false →
+pub emitted_snapshot : (n : ℕ) (c e : Computation) (p k : ℕ) (notes : List Note) (clock : List ℕ) → is_closed c p ≡ false → is_closed (c ++ e) p ≡ false →
     ((j : ℕ) → IsTrueState c (local_state p j) → j < k) → ((j : ℕ) → IsTrueState (c ++ e) (local_state p j) → IsTrueState c (local_state p j) ⊎ (k ≡ j)) →
-    IsTrueState (c ++ e) (local_state p k) → IsStateClock n (c ++ e) (local_state p k) clock → HasEmitted n c p snapshots notes →
-    HasEmitted n (c ++ e) p (snapshots + 1) (notes ++ note.Snap snapshots clock ∷ [])
-emitted_snapshot n c e p k snapshots notes clock was_open still_open below new is clock_is h = record {
+    IsTrueState (c ++ e) (local_state p k) → IsStateClock n (c ++ e) (local_state p k) clock → (h : AreEmissions n c p notes) →
+    AreEmissions n (c ++ e) p (notes ++ note.Snap (length h.clocks) clock ∷ [])
+emitted_snapshot n c e p k notes clock was_open still_open below new is clock_is h = record {
   intervals = h.intervals ++ k ∷ [];
   true_states = record {
     rising = rising_push h.intervals k h.true_states.rising
@@ -105,9 +95,8 @@ emitted_snapshot n c e p k snapshots notes clock was_open still_open below new i
   same_length = length_push h.clocks clock ∙ ap (λ i. i + 1) h.same_length ∙ sym (length_push h.intervals k);
   each = λ i lt.
       ⊎_elim (λ (old : i < length h.intervals).
-      grind (arith, clocks_stay n c e p snapshots notes h i old, get_or_append_left h.intervals (k ∷ []) 0 i old, get_or_append_left h.clocks (clock ∷ []) [] i (omega (arith, h.same_length))))
+      grind (arith, clocks_stay n c e p notes h i old, get_or_append_left h.intervals (k ∷ []) 0 i old, get_or_append_left h.clocks (clock ∷ []) [] i (omega (arith, h.same_length))))
       (grind (arith, get_or_push, length_push))
       (cases_lt i (length h.intervals));
-  counted = ap (λ i. i + 1) h.counted ∙ sym (length_push h.clocks clock);
   notes_are = grind (arith, append-nil, snapshots_push);
 }

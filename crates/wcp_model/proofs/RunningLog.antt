@@ -11,22 +11,17 @@ use Rattle.wcp_model.specs.declared.step.Step.TheVariants.{Observe, Send, Recv, 
 use Rattle.wcp_model.specs.Computation.{Computation, IsTrueState, is_communication_of, is_send, communications, interval_at}
 use Rattle.wcp_model.specs.Emission.{is_close_of, is_closed}
 use Rattle.wcp_model.specs.Order.{IsMessage}
-use Rattle.wcp_model.specs.ProbeLog.{Call, Observed, Sent, Received, Closed, ProbeState, after_call, setup, state_of_log, is_step_of, IsStampOf, IsCallOf, AreCallsOf, IsLogOf, IsAccepted, LogLaw}
+use Rattle.wcp_model.specs.ProbeLog.{Call, Observed, Sent, Received, Closed, ProbeState, after_call, setup, state_of_log, is_step_of, IsStampOf, IsCallOf, AreCallsOf, IsLogOf, IsAccepted, HasClockAndEmissions, LogLaw}
 use Rattle.wcp_model.specs.StateClock.{IsStateClock}
 use Rattle.wcp_model.proofs.AcceptedSteps.{close_stands}
 use Rattle.wcp_model.proofs.EventPlaces.{event_of_send, event_below}
 use Rattle.wcp_model.proofs.Predecessors.{local_state}
 use Rattle.wcp_model.proofs.Growth.{get_behind, at_grows, interval_grows, message_grows, clock_grows, stamp_shrinks, true_state_grows}
+use Rattle.wcp_model.proofs.NotesInTurn.{CountsNotes, counts_after, log_counts_notes}
+use Rattle.wcp_model.proofs.RisingClocks.{emitted_clocks}
 use Rattle.wcp_model.proofs.Reached.{true_state_exists}
 use Rattle.wcp_model.proofs.RunningClock.{clock_at_first, clock_after_send, clock_after_receive}
-use Rattle.wcp_model.proofs.RunningEmissions.{interval_at_seam, true_state_cases, NoneNew, HasEmitted, emitted_stays, emitted_close, emitted_snapshot}
-
--- what the probe of a process has come to after a computation
-pub record IsStateAfter (n : ℕ) (c : Computation) (p : ℕ) (s : ProbeState) : Type 0 where
-  pub clock : IsStateClock n c (local_state p (communications c p)) s.clock
-  pub flag : IsTrue s.flag ↔ IsTrueState c (local_state p (communications c p))
-  pub closed : s.closed ≡ is_closed c p
-  pub emitted : HasEmitted n c p s.snapshots s.notes
+use Rattle.wcp_model.proofs.RunningEmissions.{interval_at_seam, true_state_cases, NoneNew, emitted_stays, emitted_close, emitted_snapshot}
 
 -- one more step: the process has one more event, or none
 communications_push : (c : Computation) (x : Step) (p one : ℕ) → cond (is_communication_of p x) 1 0 ≡ one → communications (c ++ x ∷ []) p ≡ communications c p + one
@@ -52,21 +47,21 @@ clock_stays n c x p clock quiet is =
     (clock_grows n c (x ∷ []) (local_state p (communications c p)) clock (le_refl (communications c p)) is)
 
 -- a step that is no event of the process, and makes none of its states true
-stays : (n : ℕ) (c : Computation) (x : Step) (p : ℕ) (s : ProbeState) → is_communication_of p x ≡ false → is_close_of p x ≡ false → NoneNew c (x ∷ []) p → IsStateAfter n c p s → IsStateAfter n (c ++ x ∷ []) p s
+stays : (n : ℕ) (c : Computation) (x : Step) (p : ℕ) (s : ProbeState) → is_communication_of p x ≡ false → is_close_of p x ≡ false → NoneNew c (x ∷ []) p → HasClockAndEmissions n c p s → HasClockAndEmissions n (c ++ x ∷ []) p s
 stays n c x p s quiet other none h = search (arith, clock_stays n c x p s.clock quiet h.clock, closed_stays, emitted_stays, true_state_grows)
 
 -- an event begins a state, with a clock of its own, that isn't true yet
 begins : (n : ℕ) (c : Computation) (x : Step) (p : ℕ) (s : ProbeState) (clock : List ℕ) → is_communication_of p x ≡ true → is_close_of p x ≡ false → NoneNew c (x ∷ []) p →
-    IsStateClock n (c ++ x ∷ []) (local_state p (communications c p + 1)) clock → IsStateAfter n c p s → IsStateAfter n (c ++ x ∷ []) p (record s { clock = clock; flag = false })
+    IsStateClock n (c ++ x ∷ []) (local_state p (communications c p + 1)) clock → HasClockAndEmissions n c p s → HasClockAndEmissions n (c ++ x ∷ []) p (record s { clock = clock; flag = false })
 begins n c x p s clock event other none clock_is h =
     let more : communications (c ++ x ∷ []) p ≡ communications c p + 1 = communications_push c x p 1 (ap (λ b. cond b 1 0) event) in
-    let emitted = emitted_stays n c (x ∷ []) p s.snapshots s.notes none (closed_stays c x p other) h.emitted in
+    let emitted = emitted_stays n c (x ∷ []) p s.notes none (closed_stays c x p other) h.emissions in
     grind (arith, closed_stays, true_state_exists, more, clock_is, emitted, none (communications c p + 1))
 
 -- the first true observation of an interval
-observes_first : (n : ℕ) (c : Computation) (p : ℕ) (s : ProbeState) → is_closed c p ≡ false → s.flag ≡ false → IsStateAfter n c p s →
-    IsStateAfter n (c ++ Observe p true ∷ []) p (record s { flag = true; snapshots = s.snapshots + 1; notes = s.notes ++ note.Snap s.snapshots s.clock ∷ [] })
-observes_first n c p s is_open clear h =
+observes_first : (n : ℕ) (c : Computation) (p : ℕ) (s : ProbeState) → is_closed c p ≡ false → s.flag ≡ false → CountsNotes s → HasClockAndEmissions n c p s →
+    HasClockAndEmissions n (c ++ Observe p true ∷ []) p (record s { flag = true; snapshots = s.snapshots + 1; notes = s.notes ++ note.Snap s.snapshots s.clock ∷ [] })
+observes_first n c p s is_open clear counts h =
     let d : Computation = c ++ Observe p true ∷ [] in
     let k : ℕ = communications c p in
     let now : IsTrueState d (local_state p k) = record { place = length c; observed = get_behind c (Observe p true) []; within = interval_at_seam c (Observe p true ∷ []) p } in
@@ -74,21 +69,21 @@ observes_first n c p s is_open clear h =
       clock = clock_stays n c (Observe p true) p s.clock refl h.clock;
       flag = (λ set. subst (λ l. IsTrueState d (local_state p l)) (omega (arith, communications_push c (Observe p true) p 0 refl)) now, λ is. refl);
       closed = h.closed ∙ sym (closed_stays c (Observe p true) p refl);
-      emitted = emitted_snapshot n c (Observe p true ∷ []) p k s.snapshots s.notes s.clock is_open (closed_stays c (Observe p true) p refl ∙ is_open)
+      emissions = rw (counts.snapshots ∙ ap length (emitted_clocks n c p s.notes h.emissions)) (emitted_snapshot n c (Observe p true ∷ []) p k s.notes s.clock is_open (closed_stays c (Observe p true) p refl ∙ is_open)
           (grind (arith, true_state_exists))
           (λ j is. ⊎_elim (λ (old : IsTrueState c (local_state p j)). inl old) (λ new. inr new.1) (true_state_cases c (Observe p true) (local_state p j) is))
-          now (clock_grows n c (Observe p true ∷ []) (local_state p k) s.clock (le_refl k) h.clock) h.emitted;
+          now (clock_grows n c (Observe p true ∷ []) (local_state p k) s.clock (le_refl k) h.clock) h.emissions);
     }
 
 -- a true observation
-observes : (n : ℕ) (c : Computation) (p : ℕ) (s : ProbeState) → is_closed c p ≡ false → IsStateAfter n c p s → IsStateAfter n (c ++ Observe p true ∷ []) p (after_call p s (Observed true))
-observes n c p s is_open h =
+observes : (n : ℕ) (c : Computation) (p : ℕ) (s : ProbeState) → is_closed c p ≡ false → CountsNotes s → HasClockAndEmissions n c p s → HasClockAndEmissions n (c ++ Observe p true ∷ []) p (after_call p s (Observed true))
+observes n c p s is_open counts h =
     let none : s.flag ≡ true → NoneNew c (Observe p true ∷ []) p = λ set k is. grind (arith, h.flag, true_state_cases c (Observe p true) (local_state p k) is) in
     let same = λ (set : s.flag ≡ true). stays n c (Observe p true) p s refl refl (none set) h in
     grind (arith, cases_Bool s.flag, same, observes_first n c p s is_open)
 
 -- a send
-sends : (n : ℕ) (c : Computation) (p to : ℕ) (s : ProbeState) → p < n → IsStateAfter n c p s → IsStateAfter n (c ++ Send p to ∷ []) p (after_call p s Sent)
+sends : (n : ℕ) (c : Computation) (p to : ℕ) (s : ProbeState) → p < n → HasClockAndEmissions n c p s → HasClockAndEmissions n (c ++ Send p to ∷ []) p (after_call p s Sent)
 sends n c p to s in_range h =
     let k : ℕ = communications c p in
     begins n c (Send p to) p s (slice_set s.clock p (slice_index s.clock p + 1)) (eq-eqb p p refl) refl (none_new c (Send p to) p (λ e. cc e))
@@ -97,8 +92,8 @@ sends n c p to s in_range h =
     h
 
 -- a receive, of a message whose stamp has the clock of the state behind its send
-receives : (n : ℕ) (c : Computation) (p message : ℕ) (stamp : List ℕ) (s : ProbeState) → p < n → IsStampOf n c message stamp → IsStateAfter n c p s →
-    IsStateAfter n (c ++ Recv p message ∷ []) p (after_call p s (Received stamp))
+receives : (n : ℕ) (c : Computation) (p message : ℕ) (stamp : List ℕ) (s : ProbeState) → p < n → IsStampOf n c message stamp → HasClockAndEmissions n c p s →
+    HasClockAndEmissions n (c ++ Recv p message ∷ []) p (after_call p s (Received stamp))
 receives n c p message stamp s in_range is h =
     let x : Step = Recv p message in
     let d : Computation = c ++ x ∷ [] in
@@ -121,11 +116,11 @@ receives n c p message stamp s in_range is h =
     h
 
 -- a close
-closes : (n : ℕ) (c : Computation) (p : ℕ) (s : ProbeState) → is_closed c p ≡ false → IsStateAfter n c p s → IsStateAfter n (c ++ Close p ∷ []) p (after_call p s Closed)
-closes n c p s is_open h = search (arith, clock_stays n c (Close p) p s.clock refl h.clock, closed_now, emitted_close, none_new, true_state_grows)
+closes : (n : ℕ) (c : Computation) (p : ℕ) (s : ProbeState) → is_closed c p ≡ false → CountsNotes s → HasClockAndEmissions n c p s → HasClockAndEmissions n (c ++ Close p ∷ []) p (after_call p s Closed)
+closes n c p s is_open counts h = grind (arith, clock_stays n c (Close p) p s.clock refl h.clock, closed_now, emitted_close n c (Close p ∷ []) p s.notes (none_new c (Close p) p (grind arith)), emitted_clocks n c p s.notes h.emissions, none_new, true_state_grows)
 
 -- a step of another process
-passes_by : (n : ℕ) (c : Computation) (x : Step) (p : ℕ) (s : ProbeState) → is_step_of p x ≡ false → IsStateAfter n c p s → IsStateAfter n (c ++ x ∷ []) p s
+passes_by : (n : ℕ) (c : Computation) (x : Step) (p : ℕ) (s : ProbeState) → is_step_of p x ≡ false → HasClockAndEmissions n c p s → HasClockAndEmissions n (c ++ x ∷ []) p s
 passes_by n c x p s other h = stays n c x p s (grind arith) (grind arith) (none_new c x p (grind arith)) h
 
 -- a process that has another step was open
@@ -139,53 +134,52 @@ was_sent : (n : ℕ) (c e : Computation) (p message : ℕ) → IsAccepted (c ++ 
 was_sent n c e p message accepted = grind (arith, take_at c (Recv p message ∷ e) (length c) refl, get_behind c (Recv p message) e)
 
 -- each step of the process, with the call that it is
-advances : (n : ℕ) (c e : Computation) (p : ℕ) (x : Step) (s : ProbeState) (call : Call) → IsAccepted (c ++ x ∷ e) → p < n → is_step_of p x ≡ true → IsCallOf n (c ++ x ∷ e) x call →
-    IsStateAfter n c p s → IsStateAfter n (c ++ x ∷ []) p (after_call p s call)
-advances n c e p (Observe q false) s (Observed false) accepted in_range own is h = stays n c (Observe q false) p s refl refl (none_new c (Observe q false) p (λ e. cc e)) h
-advances n c e p (Observe q true) s (Observed true) accepted in_range own is h = grind (arith, observes n c p s (was_open n c e (Observe q true) p accepted own) h)
-advances n c e p (Observe q true) s (Observed false) accepted in_range own is h = absurd (true≢false is)
-advances n c e p (Observe q false) s (Observed true) accepted in_range own is h = absurd (true≢false (sym is))
-advances n c e p (Send q to) s Sent accepted in_range own is h = grind (arith, sends n c p to s in_range h)
-advances n c e p (Recv q message) s (Received stamp) accepted in_range own is h =
+advances : (n : ℕ) (c e : Computation) (p : ℕ) (x : Step) (s : ProbeState) (call : Call) → IsAccepted (c ++ x ∷ e) → p < n → is_step_of p x ≡ true → IsCallOf n (c ++ x ∷ e) x call → CountsNotes s →
+    HasClockAndEmissions n c p s → HasClockAndEmissions n (c ++ x ∷ []) p (after_call p s call)
+advances n c e p (Observe q false) s (Observed false) accepted in_range own is counts h = stays n c (Observe q false) p s refl refl (none_new c (Observe q false) p (λ e. cc e)) h
+advances n c e p (Observe q true) s (Observed true) accepted in_range own is counts h = grind (arith, observes n c p s (was_open n c e (Observe q true) p accepted own) counts h)
+advances n c e p (Observe q true) s (Observed false) accepted in_range own is counts h = absurd (true≢false is)
+advances n c e p (Observe q false) s (Observed true) accepted in_range own is counts h = absurd (true≢false (sym is))
+advances n c e p (Send q to) s Sent accepted in_range own is counts h = grind (arith, sends n c p to s in_range h)
+advances n c e p (Recv q message) s (Received stamp) accepted in_range own is counts h =
     grind (arith, receives n c p message stamp s in_range (stamp_shrinks n c (Recv q message ∷ e) message stamp (was_sent n c e q message accepted) is) h)
-advances n c e p (Close q) s Closed accepted in_range own is h = grind (arith, closes n c p s (was_open n c e (Close q) p accepted own) h)
-advances n c e p x s call accepted in_range own is h = absurd is
+advances n c e p (Close q) s Closed accepted in_range own is counts h = grind (arith, closes n c p s (was_open n c e (Close q) p accepted own) counts h)
+advances n c e p x s call accepted in_range own is counts h = absurd is
 
 -- a step of the process, and what the rest of the log then comes to
 own_step : (n : ℕ) (c e : Computation) (p : ℕ) (x : Step) (s : ProbeState) (calls : List Call) → IsAccepted (c ++ x ∷ e) → p < n → is_step_of p x ≡ true →
-    AreCallsOf n (c ++ x ∷ e) (x ∷ filter (is_step_of p) e) calls → IsStateAfter n c p s →
-    ((t : ProbeState) (rest : List Call) → AreCallsOf n (c ++ x ∷ e) (filter (is_step_of p) e) rest → IsStateAfter n (c ++ x ∷ []) p t → IsStateAfter n (c ++ x ∷ e) p (fold (after_call p) t rest)) →
-    IsStateAfter n (c ++ x ∷ e) p (fold (after_call p) s calls)
-own_step n c e p x s [] accepted in_range own are h rest = absurd are
-own_step n c e p x s (call ∷ calls) accepted in_range own are h rest = rest (after_call p s call) calls are.1 (advances n c e p x s call accepted in_range own are.0 h)
+    AreCallsOf n (c ++ x ∷ e) (x ∷ filter (is_step_of p) e) calls → CountsNotes s → HasClockAndEmissions n c p s →
+    ((t : ProbeState) (rest : List Call) → AreCallsOf n (c ++ x ∷ e) (filter (is_step_of p) e) rest → CountsNotes t → HasClockAndEmissions n (c ++ x ∷ []) p t → HasClockAndEmissions n (c ++ x ∷ e) p (fold (after_call p) t rest)) →
+    HasClockAndEmissions n (c ++ x ∷ e) p (fold (after_call p) s calls)
+own_step n c e p x s [] accepted in_range own are counts h rest = absurd are
+own_step n c e p x s (call ∷ calls) accepted in_range own are counts h rest = rest (after_call p s call) calls are.1 (counts_after p s call counts) (advances n c e p x s call accepted in_range own are.0 counts h)
 
 -- from the state after a front, the log of the rest leads to the state after the whole
-runs_on : (n p : ℕ) (e c : Computation) (s : ProbeState) (calls : List Call) → IsAccepted (c ++ e) → p < n → AreCallsOf n (c ++ e) (filter (is_step_of p) e) calls → IsStateAfter n c p s →
-    IsStateAfter n (c ++ e) p (fold (after_call p) s calls)
-runs_on n p [] c s [] accepted in_range are h = subst (λ d. IsStateAfter n d p s) (sym (append-nil c)) h
-runs_on n p [] c s (call ∷ calls) accepted in_range are h = absurd are
-runs_on n p (x ∷ e) c s calls accepted in_range are h =
+runs_on : (n p : ℕ) (e c : Computation) (s : ProbeState) (calls : List Call) → IsAccepted (c ++ e) → p < n → AreCallsOf n (c ++ e) (filter (is_step_of p) e) calls → CountsNotes s → HasClockAndEmissions n c p s →
+    HasClockAndEmissions n (c ++ e) p (fold (after_call p) s calls)
+runs_on n p [] c s [] accepted in_range are counts h = subst (λ d. HasClockAndEmissions n d p s) (sym (append-nil c)) h
+runs_on n p [] c s (call ∷ calls) accepted in_range are counts h = absurd are
+runs_on n p (x ∷ e) c s calls accepted in_range are counts h =
     let together : (c ++ x ∷ []) ++ e ≡ c ++ x ∷ e = append_assoc c (x ∷ []) e in
-    let rest : (t : ProbeState) (rest : List Call) → AreCallsOf n (c ++ x ∷ e) (filter (is_step_of p) e) rest → IsStateAfter n (c ++ x ∷ []) p t → IsStateAfter n (c ++ x ∷ e) p (fold (after_call p) t rest) =
+    let rest : (t : ProbeState) (rest : List Call) → AreCallsOf n (c ++ x ∷ e) (filter (is_step_of p) e) rest → CountsNotes t → HasClockAndEmissions n (c ++ x ∷ []) p t → HasClockAndEmissions n (c ++ x ∷ e) p (fold (after_call p) t rest) =
     λ t calls. grind (arith, runs_on n p e (c ++ x ∷ []) t calls (subst (IsAccepted) (sym together) accepted) in_range) in
     elim (cases_Bool (is_step_of p x)) [
-      | inl own ↦ own_step n c e p x s calls accepted in_range own (rw own at are) h rest
-      | inr other ↦ rest s calls (rw other at are) (passes_by n c x p s other h)
+      | inl own ↦ own_step n c e p x s calls accepted in_range own (rw own at are) counts h rest
+      | inr other ↦ rest s calls (rw other at are) counts (passes_by n c x p s other h)
     ]
 
 -- before the first step
-at_first : (n p : ℕ) → p < n → IsStateAfter n [] p (state_of_log (setup n p) [])
+at_first : (n p : ℕ) → p < n → HasClockAndEmissions n [] p (state_of_log (setup n p) [])
 at_first n p in_range = record {
   clock = clock_at_first n [] p in_range;
   flag = (λ set. absurd (true≢false (sym set)), λ is. absurd (no_step is.place (Observe p true) is.observed));
   closed = refl;
-  emitted = record {
+  emissions = record {
     intervals = [];
     true_states = record { rising = λ k below. absurd (omega arith); each = λ k. (λ contains. absurd (omega (arith, contains.1)), λ is. absurd (no_step is.place (Observe p true) is.observed)) };
     clocks = [];
     same_length = refl;
     each = λ i below. absurd (omega arith);
-    counted = refl;
     notes_are = refl;
   };
 }
@@ -193,10 +187,6 @@ at_first n p in_range = record {
     no_step : (place : ℕ) (x : Step) → slice_get [] place ≡ Some x → ⊥
     no_step place x at = cc at
 
--- what the log of a process leads to
-pub log_leads_to : (n : ℕ) (c : Computation) (p : ℕ) (log : List Call) → IsAccepted c → p < n → IsLogOf n c p log → IsStateAfter n c p (state_of_log (setup n p) log)
-log_leads_to n c p log accepted in_range is = runs_on n p c [] (state_of_log (setup n p) []) log accepted in_range is (at_first n p in_range)
-
 -- the log law
 pub log_law_holds : LogLaw
-log_law_holds n c p log accepted in_range is = grind (arith, log_leads_to n c p log accepted in_range is)
+log_law_holds n c p log accepted in_range is = runs_on n p c [] (state_of_log (setup n p) []) log accepted in_range is (log_counts_notes n p []) (at_first n p in_range)
