@@ -1,4 +1,4 @@
-use Rattle.std.proofs.Common.{◌≡◌, ℕ, ◌+◌, ◌-◌, ◌<◌, ◌≤◌, List, All, length, take, count_by, slice_get, Some, refl, sym, ap, ◌∙◌, subst, eq-eqb, arith, ⊎_elim}
+use Rattle.std.proofs.Common.{◌≡◌, ℕ, ◌+◌, ◌-◌, ◌<◌, ◌≤◌, List, All, length, take, count_by, slice_get, Some, refl, sym, ap, ◌∙◌, subst, inl, inr, eq-eqb, arith, ⊎_elim}
 use Rattle.std.proofs.lemmas.Bool.{cases_lt}
 use Rattle.std.proofs.lemmas.List.{take_all, take-take, length-take}
 use Rattle.std.proofs.lemmas.Option.{slice_get_within, get_or_from_slice_get, same_Some}
@@ -10,7 +10,7 @@ use Rattle.wcp_model.specs.Computation.{message_at}
 use Rattle.wcp_model.specs.ProbeLog.{IsAccepted}
 use Rattle.wcp_model.specs.WorkloadComputation.{is_task_of, sends, receives, step_of, computation_of, IsFitOrder}
 use Rattle.wcp_model.proofs.SamePlace.{element_within, same_place}
-use Rattle.wcp_model.proofs.StepsOfOrder.{step_at, close_step, length-computation_of, receive_task}
+use Rattle.wcp_model.proofs.StepsOfOrder.{step_at, closes_behind, receive_task}
 use Rattle.wcp_model.proofs.MessagesOfOrder.{send_of_receive, delivery_step, message_sent_before}
 
 -- a fit order of tasks is one of itself
@@ -41,30 +41,22 @@ no_close : (order earlier : List Task) (q : ℕ) (a : Action) (p : ℕ) → step
 no_close order earlier q a p same = grind arith
 
 module _ (n : ℕ) (order : List Task) where
-  -- behind the tasks, each step is the close of the process of that number
-  closes_behind : (place : ℕ) (x : Step) → length order ≤ place → slice_get (computation_of n order) place ≡ Some x → (p : ℕ) × (place ≡ length order + p) × (x ≡ Close p)
-  closes_behind place x behind at =
-      let p : ℕ = place - length order in
-      let here : place ≡ length order + p = omega arith in
-      let within : p < n = omega (arith, slice_get_within (computation_of n order) place x at, length-computation_of n order) in
-      (p, here, same_Some _ _ (sym at ∙ ap (slice_get (computation_of n order)) here ∙ close_step n order p within))
-
-  -- so a process closes there
+  -- a process closes behind the tasks, at the place of its number
   closes_at : (place p : ℕ) → slice_get (computation_of n order) place ≡ Some (Close p) → place ≡ length order + p
-  closes_at place p at = ⊎_elim
-      (λ (before : place < length order).
-      let task = element_within order place before in
-      absurd (no_close order (take place order) task.0.p task.0.action p (same_Some _ _ (sym (step_at n order place task.0 task.1) ∙ at))))
-      (grind (arith, closes_behind))
-      (cases_lt place (length order))
+  closes_at place p at = elim (cases_lt place (length order)) [
+    | inl before ↦
+        let task = element_within order place before in
+        absurd (no_close order (take place order) task.0.p task.0.action p (same_Some _ _ (sym (step_at n order place task.0 task.1) ∙ at)))
+    | inr behind ↦ grind (arith, closes_behind n order place (Close p) behind at)
+  ]
 
   -- the computation of a fit order is accepted
   pub order_accepted : IsFitOrder order order → IsAccepted (computation_of n order)
   order_accepted fit = record {
     sent_first = λ place p message at.
-        let receive = receive_task n order place p message at in
-        let earlier = send_of_receive fit receive.0 p place receive.1 in
-        let taken : Recv p message ≡ Recv p (message_at (computation_of n order) earlier.0) = same_Some _ _ (sym at ∙ delivery_step n earlier.2) in
+        let (from, receive, takes) = receive_task n order place p message at in
+        let earlier = send_of_receive fit from p place receive in
+        let taken = same_Some _ _ (sym at ∙ delivery_step n earlier.2) in
         let same : message ≡ message_at (computation_of n order) earlier.0 = cc taken in
         omega (arith, message_sent_before n fit earlier.2);
     close_last = grind (arith, closes_at, closes_behind);

@@ -8,7 +8,7 @@ use Rattle.wcp_model.specs.declared.workload.Action.TheVariants as action
 use Rattle.wcp_model.specs.declared.workload.Task.{Task}
 use Rattle.wcp_model.specs.Computation.{message_at}
 use Rattle.wcp_model.specs.WorkloadComputation.{sends, receives, message_number, place_after, computation_of, IsFitOrder}
-use Rattle.wcp_model.proofs.Places.{count_before-place}
+use Rattle.wcp_model.proofs.Places.{count_before-mono, count_before-place, count_before-yes}
 use Rattle.wcp_model.proofs.SamePlace.{count_by_yes, count_by_no, count_by-take_more, slice_get-take, element_after}
 use Rattle.wcp_model.proofs.StepsOfOrder.{sends_any, step_at, send_task, receive_task, message_at_is}
 
@@ -99,7 +99,4 @@ delivery_of n {tasks} {order} fit p to q sent received put taken =
 -- in a fit order the message of a delivery is sent before it is received
 pub message_sent_before : (n : ℕ) {tasks order : List Task} → IsFitOrder tasks order → {p q sent received : ℕ} → IsDelivery order p q sent received → message_at (computation_of n order) sent < message_at (computation_of n order) received
 message_sent_before n {tasks} {order} fit {p} {q} {sent} {received} d =
-    let later : sent < received = delivery_later fit d in
-    let more : count_by sends_any (take (sent + 1) (take received order)) ≤ count_by sends_any (take received order) = sum_by-take-le (λ task. cond (sends_any task) 1 0) (take received order) (sent + 1) in
-    let front : count_by sends_any (take (sent + 1) (take received order)) ≡ count_by sends_any (take (sent + 1) order) = ap (count_by sends_any) (take-take (sent + 1) received order (omega arith)) in
-    omega (arith, more, front, count_by-take_more sends_any order sent _ d.send refl, message_at_is n order sent, message_at_is n order received)
+    omega (arith, count_before-yes sends_any order sent _ d.send refl, count_before-mono sends_any order (sent + 1) received (omega (arith, delivery_later fit d)), message_at_is n order sent, message_at_is n order received)

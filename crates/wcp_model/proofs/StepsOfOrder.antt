@@ -1,9 +1,10 @@
 use Rattle.std.proofs.lemmas.Grind.{common_steps}
-use Rattle.std.proofs.Common.{◌≡◌, ℕ, zero, suc, ◌+◌, ◌<◌, ◌≤◌, ◌&&◌, ◌==◌, Bool, true, false, List, [], ◌∷◌, ◌++◌, length, map, take, count_by, slice_get, Some, refl, sym, ap, ◌∙◌, inl, inr, ◌⊎◌, append-nil, append_assoc, zero-add, suc-add, arith}
+use Rattle.std.proofs.Common.{◌≡◌, ℕ, zero, suc, ◌+◌, ◌-◌, get_or, ◌<◌, ◌≤◌, ◌&&◌, ◌==◌, Bool, true, false, List, [], ◌∷◌, ◌++◌, length, map, take, count_by, slice_get, Some, refl, sym, ap, ◌∙◌, inl, inr, ◌⊎◌, append-nil, append_assoc, zero-add, suc-add, arith}
 use Rattle.std.specs.List.{range_with_len}
-use Rattle.std.proofs.lemmas.List.{take_all, length-append}
+use Rattle.std.proofs.lemmas.Bool.{cases_lt}
+use Rattle.std.proofs.lemmas.List.{take_all, length-append, get_or-append-add}
 use Rattle.std.proofs.lemmas.List.FromFn.{length-map-range_with_len, get_or-map-range_with_len}
-use Rattle.std.proofs.lemmas.Option.{slice_get-get_or}
+use Rattle.std.proofs.lemmas.Option.{slice_get-get_or, slice_get_within, same_Some}
 use Rattle.wcp_model.specs.declared.step.Step.{Step}
 use Rattle.wcp_model.specs.declared.step.Step.TheVariants as step
 use Rattle.wcp_model.specs.declared.workload.Action.{Action}
@@ -11,6 +12,7 @@ use Rattle.wcp_model.specs.declared.workload.Action.TheVariants as action
 use Rattle.wcp_model.specs.declared.workload.Task.{Task}
 use Rattle.wcp_model.specs.Computation.{is_communication_of, is_send, communications, interval_at, message_at}
 use Rattle.wcp_model.specs.WorkloadComputation.{is_task_of, is_any_send, receives, message_number, step_of, steps_from, computation_of}
+use Rattle.wcp_model.proofs.Growth.{at_grows}
 use Rattle.wcp_model.proofs.SamePlace.{count_by_no, element_within}
 
 -- an action that sends or receives
@@ -40,50 +42,32 @@ pub length-steps_from : (order earlier tasks : List Task) → length (steps_from
 length-steps_from order earlier [] = refl
 length-steps_from order earlier (first ∷ rest) = ap suc (length-steps_from order (earlier ++ first ∷ []) rest)
 
--- an element of two joined lists is one of the first list, or one of the second
-slice_get-append_left : {X : Type 0} (xs ys : List X) (place : ℕ) (x : X) → slice_get xs place ≡ Some x → slice_get (xs ++ ys) place ≡ Some x
-slice_get-append_left [] ys place x found = cc
-slice_get-append_left (z ∷ zs) ys zero x found = found
-slice_get-append_left (z ∷ zs) ys (suc place) x found = slice_get-append_left zs ys place x found
-
-slice_get-append_right : {X : Type 0} (xs ys : List X) (place : ℕ) → slice_get (xs ++ ys) (length xs + place) ≡ slice_get ys place
-slice_get-append_right [] ys place = ap (slice_get ys) (zero-add place)
-slice_get-append_right (z ∷ zs) ys place = rw suc-add (slice_get-append_right zs ys place)
-
-slice_get-append_cases : {X : Type 0} (xs ys : List X) (place : ℕ) (x : X) → slice_get (xs ++ ys) place ≡ Some x → (place < length xs) ⊎ ((there : ℕ) × (slice_get ys there ≡ Some x))
-slice_get-append_cases [] ys place x found = inr (place, found)
-slice_get-append_cases (z ∷ zs) ys zero x found = inl (omega arith)
-slice_get-append_cases (z ∷ zs) ys (suc place) x found = elim (slice_get-append_cases zs ys place x found) [ inl within ↦ inl (omega arith) | inr there ↦ inr there ]
-
--- of a list of closes each step is a close
-close_at : (processes : List ℕ) (place : ℕ) (s : Step) → slice_get (map step.Close processes) place ≡ Some s → (p : ℕ) × (step.Close p ≡ s)
-close_at [] place s found = cc
-close_at (p ∷ rest) zero s found = (p, cc)
-close_at (p ∷ rest) (suc place) s found = close_at rest place s found
-
 -- at the place of a task stands its step
 pub step_at : (n : ℕ) (order : List Task) (place : ℕ) (task : Task) → slice_get order place ≡ Some task → slice_get (computation_of n order) place ≡ Some (step_of order (take place order) task.p task.action)
-step_at n order place task found = slice_get-append_left (steps_from order [] order) (map step.Close (range_with_len 0 n)) place _ (step_from order [] order place task found)
-
--- behind the steps of the tasks each process closes, in order
-pub close_step : (n : ℕ) (order : List Task) (p : ℕ) → p < n → slice_get (computation_of n order) (length order + p) ≡ Some (step.Close p)
-close_step n order p within =
-    let closes = map step.Close (range_with_len 0 n) in
-    ap (λ k. slice_get (computation_of n order) (k + p)) (sym (length-steps_from order [] order))
-    ∙ slice_get-append_right (steps_from order [] order) closes p
-    ∙ slice_get-get_or closes p (step.Close p) (omega (arith, length-map-range_with_len step.Close 0 n))
-    ∙ ap Some (get_or-map-range_with_len step.Close 0 n p p (step.Close p) within (omega arith))
+step_at n order place task found = at_grows (steps_from order [] order) (map step.Close (range_with_len 0 n)) place _ (step_from order [] order place task found)
 
 -- the computation has a step for each task and a close for each process
 pub length-computation_of : (n : ℕ) (order : List Task) → length (computation_of n order) ≡ length order + n
 length-computation_of n order = omega (arith, length-append (steps_from order [] order) (map step.Close (range_with_len 0 n)), length-steps_from order [] order, length-map-range_with_len step.Close 0 n)
 
+-- behind the steps of the tasks each process closes, in order
+pub close_step : (n : ℕ) (order : List Task) (p : ℕ) → p < n → slice_get (computation_of n order) (length order + p) ≡ Some (step.Close p)
+close_step n order p within =
+    let there = slice_get-get_or (computation_of n order) (length order + p) (step.Close p) (omega (arith, length-computation_of n order)) in
+    there ∙ ap Some (ap (λ k. get_or (computation_of n order) (k + p) (step.Close p)) (sym (length-steps_from order [] order)) ∙ get_or-append-add (steps_from order [] order) _ p _ ∙ get_or-map-range_with_len step.Close 0 n p p (step.Close p) within (omega arith))
+
+-- behind the tasks, each step is the close of the process of that number
+pub closes_behind : (n : ℕ) (order : List Task) (place : ℕ) (x : Step) → length order ≤ place → slice_get (computation_of n order) place ≡ Some x → (p : ℕ) × (place ≡ length order + p) × (x ≡ step.Close p)
+closes_behind n order place x behind at =
+    let here : place ≡ length order + (place - length order) = omega arith in
+    let within : place - length order < n = omega (arith, slice_get_within (computation_of n order) place x at, length-computation_of n order) in
+    (place - length order, here, same_Some _ _ (sym at ∙ ap (slice_get (computation_of n order)) here ∙ close_step n order (place - length order) within))
+
 -- a step of the computation is that of the task at its place, or a close
 pub task_at : (n : ℕ) (order : List Task) (place : ℕ) (s : Step) → slice_get (computation_of n order) place ≡ Some s → ((task : Task) × (slice_get order place ≡ Some task) × (step_of order (take place order) task.p task.action ≡ s)) ⊎ ((p : ℕ) × (step.Close p ≡ s))
-task_at n order place s found = elim (slice_get-append_cases (steps_from order [] order) (map step.Close (range_with_len 0 n)) place s found) [
-  | inl within ↦
-      search (arith, element_within order place (omega (arith, length-steps_from order [] order)), step_at)
-  | inr there ↦ inr (close_at (range_with_len 0 n) there.0 s there.1)
+task_at n order place s found = elim (cases_lt place (length order)) [
+  | inl within ↦ search (arith, element_within order place within, step_at)
+  | inr behind ↦ grind (arith, closes_behind n order place s behind found)
 ]
 
 takes_message : (order earlier : List Task) (q : ℕ) (a : Action) (p message : ℕ) → step_of order earlier q a ≡ step.Recv p message → (from : ℕ) × (q ≡ p) × (a ≡ action.Recv from) × (message_number order from q (count_by (receives from q) earlier) ≡ message)
