@@ -76,7 +76,7 @@ pub before_shrinks : (c e : Computation) (s : State) {t : State} → IsState c t
 before_shrinks c e s {t = t} exists (Direct d) = Direct (direct_shrinks c e s t exists d)
 before_shrinks c e s {t = u} exists (Chain {t = t} h d) =
     let link : DirectlyPrecedes c t u = direct_shrinks c e t u exists d in
-    Chain (before_shrinks c e s (before_from_state c t (Direct link)) h) link
+    Chain (before_shrinks c e s (omega (arith, before_from_state c t (Direct link))) h) link
 
 -- the order before a state that exists is settled
 pub order_settled : (c e : Computation) (s t : State) → IsState c t → HappenedBefore c s t ↔ HappenedBefore (c ++ e) s t

@@ -21,7 +21,8 @@ use Rattle.wcp_model.proofs.EventPlaces.{event_of_send, event_below}
 use Rattle.wcp_model.proofs.Reached.{interval_at-event}
 use Rattle.wcp_model.proofs.Growth.{get_front, get_behind}
 use Rattle.wcp_model.proofs.MessagesOfOrder.{sends_yes, message_number_is, send_of_receive}
-use Rattle.wcp_model.proofs.Predecessors.{local_state, span}
+use Rattle.wcp_model.proofs.Places.{count_before-no}
+use Rattle.wcp_model.proofs.Predecessors.{local_state, before_from_state}
 use Rattle.wcp_model.proofs.RunningClock.{clock_counts}
 use Rattle.wcp_model.proofs.RunningLog.{log_law_holds}
 use Rattle.wcp_model.proofs.GrowingLogs.{log_grows, stamp_grows, accepted_front}
@@ -44,8 +45,7 @@ take_next xs i x at = take_more xs i x (slice_get_within xs i x at) ∙ ap (λ y
 -- the action of a task stands behind those of its process before it
 action_at : (order : List Task) (place : ℕ) (task : Task) → slice_get order place ≡ Some task → slice_get (actions_of task.p order) (done order task.p place) ≡ Some task.action
 action_at order place task at =
-    slice_get-map (λ (t : Task). t.action) (filter (is_task_of task.p) order) (done order task.p place)
-    ∙ ap (option_map (λ (t : Task). t.action)) (ap (slice_get (filter (is_task_of task.p) order)) (sym (length-filter (is_task_of task.p) (take place order))) ∙ slice_get-filter (is_task_of task.p) order place task at (eq-eqb task.p task.p refl))
+    grind (arith, eq-eqb task.p task.p refl, length-filter (is_task_of task.p) (take place order), slice_get-filter (is_task_of task.p) order place task at, slice_get-map (λ (t : Task). t.action) (filter (is_task_of task.p) order) (done order task.p place))
 
 -- what a process does before a place
 actions_before : (order : List Task) (p place : ℕ) → take (done order p place) (actions_of p order) ≡ actions_of p (take place order)
@@ -65,13 +65,11 @@ stamp_below : (n : ℕ) (c : Computation) (message q : ℕ) (stamp : List ℕ) �
 stamp_below n c message q stamp below is =
     let k : ℕ = interval_at c is.from is.sent in
     let exists : k + 1 ≤ communications c is.from = omega (arith, event_below c is.from k is.sent (event_of_send c is.from k is.to is.sent is.send refl)) in
-    let known : ℕ = slice_index stamp q in
-    ⊎_elim (λ (some : 0 < known).
-    let before = (clock_counts n c (local_state is.from (k + 1)) stamp q exists is.clock below (known - 1)).1 (omega arith) in
-    let path = span c (local_state q (known - 1)) before in
-    omega (arith, event_below c q (known - 1) path.ended path.ends))
-    (λ (none : known ≤ 0). omega arith)
-    (cases_lt 0 known)
+    let counted = (clock_counts n c (local_state is.from (k + 1)) stamp q exists is.clock below (slice_index stamp q - 1)).1 in
+    elim (cases_lt 0 (slice_index stamp q)) [
+      | inl some ↦ omega (arith, before_from_state c (local_state q (slice_index stamp q - 1)) (counted (omega arith)))
+      | inr none ↦ omega arith
+    ]
 
 -- the step of a task is of its process
 step_owner : (order earlier : List Task) (p q : ℕ) (a : Action) → is_step_of q (step_of order earlier p a) ≡ is_step_of q (step.Close p)
@@ -147,13 +145,10 @@ module _ (n : ℕ) (order : List Task) (within : All (IsWithin n) order) (fit : 
       let (call, made_call, is) = call_at sent send delivery.send p_below in
       let got = stamp_got_at p (actions_of q order) (logs q) (done order q received) (action.Recv p) (Received stamp) (action_at order received receive at) took (eq-eqb p p refl) in
       let same_rank = rank_of (is_receive_from p) order q received ∙ sym delivery.same_rank ∙ sym (rank_of (is_send_to q) order p sent) in
-      let clock : (state_of_log (setup n p) (log_at p (sent + 1))).clock ≡ stamp = same_Some _ _ (
-      ap (λ log. Some (state_of_log (setup n p) log).clock) (log_next sent send delivery.send p_below)
-      ∙ sym (stamp_sent_at (setup n p) q (actions_of p order) (logs p) (done order p sent) (action.Send q) call (action_at order sent send delivery.send) made_call (eq-eqb q q refl))
-      ∙ ap (slice_get (stamps_sent (setup n p) q (actions_of p order) (logs p))) (sym same_rank)
-      ∙ ap (λ stamps. slice_get stamps (count_by (is_receive_from p) (take (done order q received) (actions_of q order)))) (sym together)
-      ∙ get_front (stamps_got p (actions_of q order) (logs q)) in_transit _ (slice_get_within _ _ _ got)
-      ∙ got) in
+      let next = log_next sent send delivery.send p_below in
+      let sent_at = stamp_sent_at (setup n p) q (actions_of p order) (logs p) (done order p sent) (action.Send q) call (action_at order sent send delivery.send) made_call (eq-eqb q q refl) in
+      let stands = get_front (stamps_got p (actions_of q order) (logs q)) in_transit _ (slice_get_within _ _ _ got) in
+      let clock : (state_of_log (setup n p) (log_at p (sent + 1))).clock ≡ stamp = cc (next, sent_at, together, stands, got, same_rank) in
       let number = message_number order p q (count_by (receives p q) (take received order)) in
       let then : IsStampOf n (front n order (sent + 1)) number stamp = subst₂ (λ rank. IsStampOf n (front n order (sent + 1)) (message_number order p q rank)) delivery.same_rank clock (sent_stamp sent p q p_below delivery.send (logs_are (sent + 1) (omega (arith, earlier)))) in
       let short : take (sent + 1) (front n order received) ≡ front n order (sent + 1) = take-take (sent + 1) received (computation_of n order) (omega (arith, earlier)) in
@@ -176,31 +171,27 @@ module _ (n : ℕ) (order : List Task) (within : All (IsWithin n) order) (fit : 
       let x : Step = step_of order (take place order) task.p task.action in
       let c : Computation = front n order place in
       let (call, made, is) = call_at place task at inside in
-      subst (λ d. IsLogOf n d p (log_at p (place + 1))) (sym (take_next (computation_of n order) place x (step_at n order place task at))) (⊎_elim
-      (λ (own : p ≡ task.p).
-      subst (λ q. IsLogOf n (c ++ x ∷ []) q (log_at q (place + 1))) (sym own)
-      (subst (IsLogOf n (c ++ x ∷ []) task.p) (sym (log_next place task at inside))
-      (log_grows n c (x ∷ []) task.p (log_at task.p place) (call ∷ []) (logs_are place (omega arith) task.p inside)
-      (subst (λ b. AreCallsOf n (c ++ x ∷ []) (cond b (x ∷ []) []) (call ∷ [])) (sym (step_owner order (take place order) task.p task.p task.action ∙ eq-eqb task.p task.p refl)) (step_call place task.p task.action call inside at made is logs_are, tt)))))
-      (λ (other : p ≢ task.p).
-      let apart : (task.p == p) ≡ false = ne_eqb task.p p (λ same. other (sym same)) in
-      let same : log_at p place ++ [] ≡ log_at p (place + 1) = append-nil (log_at p place) ∙ ap (λ k. take k (logs p)) (sym (count_by_more_no (is_task_of p) order place task (slice_get_within order place task at) (ap (is_task_of p) (get_or_from_slice_get order place task task at) ∙ apart))) in
-      subst (IsLogOf n (c ++ x ∷ []) p) same
-      (log_grows n c (x ∷ []) p (log_at p place) [] (logs_are place (omega arith) p below)
-      (subst (λ b. AreCallsOf n (c ++ x ∷ []) (cond b (x ∷ []) []) []) (sym (step_owner order (take place order) task.p p task.action ∙ apart)) tt)))
-      (cases_eq p task.p))
+      let mine = step_owner order (take place order) task.p p task.action in
+      rw (take_next (computation_of n order) place x (step_at n order place task at)) (elim (cases_eq task.p p) [
+        | inl own ↦ rw (← own, log_next place task at inside)
+            (log_grows n c (x ∷ []) task.p (log_at task.p place) (call ∷ []) (logs_are place (omega arith) task.p inside)
+            (rw (step_owner order (take place order) task.p task.p task.action ∙ eq-eqb task.p task.p refl) (step_call place task.p task.action call inside at made is logs_are, tt)))
+        | inr other ↦
+            let none : (task.p == p) ≡ false = ne_eqb task.p p other in
+            let same : log_at p (place + 1) ≡ log_at p place ++ [] = ap (λ k. take k (logs p)) (count_before-no (is_task_of p) order place task at none) ∙ sym (append-nil (log_at p place)) in
+            rw same (log_grows n c (x ∷ []) p (log_at p place) [] (logs_are place (omega arith) p below) (rw (mine ∙ none) tt))
+      ])
 
   logs_until : (bound : ℕ) → bound ≤ length order → (place : ℕ) → place ≤ bound → AreLogsAt place
-  logs_until zero inside place le =
-      grind arith
-  logs_until (suc bound) inside place le = ⊎_elim
-      (λ (earlier : place < bound + 1). logs_until bound (omega arith) place (omega arith))
-      (λ (last : bound + 1 ≤ place).
-      let (task, at) = element_within order bound (omega arith) in
-      let task_within : IsWithin n task = subst (IsWithin n) (get_or_from_slice_get order bound task task at) (within bound task (omega arith)) in
-      let here : bound + 1 ≡ place = omega arith in
-      subst AreLogsAt here (logs_next bound task at task_within.0 (logs_until bound (omega arith))))
-      (cases_lt place (bound + 1))
+  logs_until zero inside place le = grind arith
+  logs_until (suc bound) inside place le = elim (cases_lt place (bound + 1)) [
+    | inl earlier ↦ logs_until bound (omega arith) place (omega arith)
+    | inr last ↦
+        let (task, at) = element_within order bound (omega arith) in
+        let task_within : IsWithin n task = rw (get_or_from_slice_get order bound task task at) at (within bound task (omega arith)) in
+        let here : bound + 1 ≡ place = omega arith in
+        subst AreLogsAt here (logs_next bound task at task_within.0 (logs_until bound (omega arith)))
+  ]
 
   -- at the end they are whole
   whole : (p : ℕ) → p < n → log_at p (length order) ≡ logs p

@@ -48,9 +48,9 @@ before_rises c p k l h =
     let found : Span c (local_state p k) (local_state p l) = span c (local_state p k) h in
     omega (arith, found.next, events_in_order c p k found.last found.ended found.began found.ends found.begins found.in_order)
 
--- what happened before a state is a state
-pub before_from_state : (c : Computation) (s : State) {t : State} → HappenedBefore c s t → IsState c s
-before_from_state c s {t = t} h = let found : Span c s t = span c s h in omega (arith, event_below c s.process s.interval found.ended found.ends)
+-- a state that happened before another has ended
+pub before_from_state : (c : Computation) (s : State) {t : State} → HappenedBefore c s t → s.interval < communications c s.process
+before_from_state c s {t = t} h = let found : Span c s t = span c s h in event_below c s.process s.interval found.ended found.ends
 
 -- a state happened before each later one of its process
 pub before_later : (c : Computation) (p k l : ℕ) → k < l → IsState c (local_state p l) → HappenedBefore c (local_state p k) (local_state p l)
@@ -60,7 +60,7 @@ before_later c p k (suc l) below exists = one_more_step c (local_state p k) (loc
 -- where a state of a process happened before, so did each earlier one
 pub earlier_before : (c : Computation) (q k l : ℕ) {t : State} → k ≤ l → HappenedBefore c (local_state q l) t → HappenedBefore c (local_state q k) t
 earlier_before c q k l {t = t} le h =
-    ⊎_elim (λ (lt : k < l). before_trans c (local_state q k) (local_state q l) (before_later c q k l lt (before_from_state c (local_state q l) h)) h)
+    ⊎_elim (λ (lt : k < l). before_trans c (local_state q k) (local_state q l) (before_later c q k l lt (omega (arith, before_from_state c (local_state q l) h))) h)
     (λ (ge : l ≤ k). subst (λ (j : ℕ). HappenedBefore c (local_state q j) t) (omega arith) h)
     (cases_lt k l)
 
