@@ -1,12 +1,12 @@
 -- What a lane gives is what its checker may take.
-use Rattle.std.proofs.Common.{◌≡◌, ℕ, suc, ◌-◌, ◌<◌, ◌≤◌, true, false, List, [], ◌∷◌, ◌++◌, ◌+◌, ◌↔◌, length, get_or, take, drop, map, sym, refl, ap, ◌∙◌, subst, append_assoc, arith}
+use Rattle.std.proofs.Common.{◌≡◌, ℕ, suc, ◌<◌, ◌≤◌, true, false, List, [], ◌∷◌, ◌++◌, ◌+◌, ◌↔◌, length, get_or, take, drop, map, sym, refl, ap, ◌∙◌, subst, append_assoc, arith}
 use Rattle.std.specs.FinSet as set
-use Rattle.std.specs.Prelude.{◌==◌, All, Result, Ok, Err, OnOk, IfErr, IfNone}
+use Rattle.std.specs.Prelude.{All, Result, Ok, Err, OnOk, IfErr, IfNone}
 use Rattle.std.specs.Result.{result_err}
 use Rattle.std.specs.List.{list_any}
 use Rattle.std.proofs.lemmas.List.{take_more, take-append-drop, length-drop}
 use Rattle.std.proofs.lemmas.Bool.{true≢false}
-use Rattle.std.proofs.lemmas.List.{length-append, length-map}
+use Rattle.std.proofs.lemmas.List.{length-map}
 use Rattle.std.proofs.lemmas.List.Elements.{All-map}
 use Rattle.wcp_clock.specs.declared.note.Item.{Item}
 use Rattle.wcp_clock.specs.declared.note.Note.{Note}

@@ -1,11 +1,11 @@
 -- The first fault of the ends of a watch.
-use Rattle.std.proofs.Common.{◌≡◌, ◌↔◌, ℕ, zero, suc, ◌<◌, List, [], ◌∷◌, ◌++◌, Option, Some, Result, Ok, Err, refl, sym, ap, subst, ◌∙◌, ⊎_elim, arith}
+use Rattle.std.proofs.Common.{◌≡◌, ◌↔◌, ℕ, zero, suc, ◌<◌, List, [], ◌∷◌, ◌++◌, Option, Some, Result, Ok, Err, refl, sym, ap, subst, ◌∙◌, arith}
 use Rattle.std.specs.Prelude.{slice_get, IsErr}
 use Rattle.std.specs.List.{AllByRecursion}
 use Rattle.std.specs.Result.{IsErrAnd}
-use Rattle.std.proofs.lemmas.Bool.{cases_order}
 use Rattle.std.proofs.lemmas.Option.{same_Some}
 use Rattle.wcp_model.specs.FirstReason.{IsFirstReason}
+use Rattle.wcp_model.proofs.FirstReasons.{first_unique}
 use Rattle.wcp_model.specs.declared.outcome.Tally.{Tally}
 use Rattle.wcp_tree.specs.LiveProbe.{ClosedSide}
 use Rattle.wcp_tree.specs.declared.relay_end.RelayEnd.{RelayEnd}
@@ -22,15 +22,6 @@ handed (Ok settled) fault is = absurd (cc)
 handed (Err given) fault is = ap Err is.1
 
 module _ {R : Type 0} (Holds : R → Type 0) where
-  -- there is one first reason
-  pub first_unique : (reasons : List R) (one other : R) → IsFirstReason Holds reasons one → IsFirstReason Holds reasons other
-      → one ≡ other
-  first_unique reasons one other left right = ⊎_elim
-      (λ (same : left.place ≡ right.place). same_Some one other (sym left.listed ∙ ap (slice_get reasons) same ∙ right.listed))
-      (⊎_elim (λ less. absurd (right.none_before left.place one less left.listed left.holds))
-      (λ more. absurd (left.none_before right.place other more right.listed right.holds)))
-      (cases_order left.place right.place)
-
   -- one reason more, which does not hold
   behind_one : (reason : R) (reasons : List R) (first : R) → ¬ Holds reason → IsFirstReason Holds reasons first
       → IsFirstReason Holds (reason ∷ reasons) first

@@ -2,7 +2,7 @@ use Rattle.std.proofs.Common.{◌≡◌, ◌<◌, ◌≤◌, arith, ◌++◌, �
 use Rattle.std.specs.FinSet as set
 use Rattle.wcp_clock.specs.declared.note.Item.{Item}
 use Rattle.wcp_clock.specs.Notes.{is_close}
-use Rattle.wcp_queue.specs.Checker.{CheckerState, processes, TakesItem}
+use Rattle.wcp_queue.specs.Checker.{CheckerState, TakesItem}
 use Rattle.wcp_tree.specs.Bundles.{most_bundle}
 use Rattle.wcp_run.specs.CheckerEnds.{StopsShort, TakesItems}
 use Rattle.wcp_tree.specs.RelayWork.{ItemsMayFollow}
