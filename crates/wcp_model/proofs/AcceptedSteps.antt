@@ -41,8 +41,5 @@ accepted_push c s accepted is_open was_sent = record {
   close_last = λ place later p x before closes at.
       let early : place < length c = omega (arith, slice_get_within (c ++ s ∷ []) later x at, length_push c s) in
       let old : slice_get c place ≡ Some (Close p) = sym (get_front c (s ∷ []) place early) ∙ closes in
-      ⊎_elim (λ (lt : later < length c). accepted.close_last place later p x before old (sym (get_front c (s ∷ []) later lt) ∙ at))
-      (λ (ge : length c ≤ later).
-      grind (arith, close_closes c place p old, get_behind c s [], length_push c s, slice_get_within (c ++ s ∷ []) later x))
-      (cases_lt later (length c));
+      grind (arith, accepted.close_last place later p x before old, get_front c (s ∷ []) later, close_closes c place p old, get_behind c s [], length_push c s, slice_get_within (c ++ s ∷ []) later x);
 }

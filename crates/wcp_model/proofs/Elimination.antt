@@ -1,4 +1,4 @@
-use Rattle.std.proofs.Common.{◌≡◌, ◌≢◌, ℕ, ◌+◌, ◌<◌, ◌≤◌, List, [], ◌++◌, length, get_or, ◌∙◌, ap, sym, ⊎_elim, arith}
+use Rattle.std.proofs.Common.{◌≡◌, ◌≢◌, ◌↔◌, ℕ, ◌+◌, ◌<◌, ◌≤◌, List, [], ◌++◌, length, get_or, ◌∙◌, ap, sym, ⊎_elim, arith}
 use Rattle.std.proofs.lemmas.Bool.{cases_lt}
 use Rattle.std.proofs.lemmas.List.{append-nil, append_assoc, length-append, get_or_append_left}
 use Rattle.wcp_model.specs.Elimination.{PrecedesAt, GrowTo, IsSatisfyingChoice, AreInOrder, IsEliminatedBelow}
@@ -25,20 +25,16 @@ get_or-grown n rows longer grow p i p_within i_within =
     ap (λ row. get_or row i []) is ∙ get_or_append_left (rows p) more [] i i_within
 
 module _ (n : ℕ) where
-  -- precedence between two candidates stays as the rows grow
-  pub PrecedesAt-grown : (rows longer : ℕ → List (List ℕ)) → GrowTo n rows longer → (p i q j : ℕ) → p < n → q < n → i < length (rows p) → j < length (rows q) → PrecedesAt rows p i q j → PrecedesAt longer p i q j
-  PrecedesAt-grown rows longer grow p i q j p_within q_within i_within j_within before = grind (arith, get_or-grown)
-
-  -- and so it does read backwards, between candidates that stood in the rows before
-  pub PrecedesAt-ungrown : (rows longer : ℕ → List (List ℕ)) → GrowTo n rows longer → (p i q j : ℕ) → p < n → q < n → i < length (rows p) → j < length (rows q) → PrecedesAt longer p i q j → PrecedesAt rows p i q j
-  PrecedesAt-ungrown rows longer grow p i q j p_within q_within i_within j_within before = grind (arith, get_or-grown)
+  -- precedence between two candidates is settled: it stays as the rows grow, and none is new
+  PrecedesAt-grown : (rows longer : ℕ → List (List ℕ)) → GrowTo n rows longer → (p i q j : ℕ) → p < n → q < n → i < length (rows p) → j < length (rows q) → PrecedesAt rows p i q j ↔ PrecedesAt longer p i q j
+  PrecedesAt-grown rows longer grow p i q j p_within q_within i_within j_within = grind (arith, get_or-grown)
 
   -- a satisfying choice stays one as the rows grow
   pub IsSatisfyingChoice-grown : (rows longer : ℕ → List (List ℕ)) (choice : ℕ → ℕ) → GrowTo n rows longer → IsSatisfyingChoice n rows choice → IsSatisfyingChoice n longer choice
   IsSatisfyingChoice-grown rows longer choice grow satisfying = record {
     within = λ p p_within. omega (arith, satisfying.within p p_within, length-grown n rows longer grow p p_within);
     concurrent = λ p q p_within q_within apart before. satisfying.concurrent p q p_within q_within apart
-        (PrecedesAt-ungrown rows longer grow p (choice p) q (choice q) p_within q_within (satisfying.within p p_within) (satisfying.within q q_within) before);
+        ((PrecedesAt-grown rows longer grow p (choice p) q (choice q) p_within q_within (satisfying.within p p_within) (satisfying.within q q_within)).1 before);
   }
 
   -- at the start nothing is eliminated: every head is the first of its row
@@ -58,7 +54,4 @@ module _ (n : ℕ) where
           let at_p : heads p ≤ choice p = eliminated.at_or_above longer grow in_order choice satisfying p p_within in
           let at_q : heads q ≤ choice q = eliminated.at_or_above longer grow in_order choice satisfying q q_within in
           let before_choice : PrecedesAt longer p (heads p) q (choice q) = grind (arith, PrecedesAt-grown) in
-          ⊎_elim
-          (λ more. omega arith)
-          (grind arith)
-          (cases_lt (heads p) (choice p))
+          grind arith

@@ -6,60 +6,38 @@ use Rattle.wcp_model.specs.FirstReason.{IsFirstReason, first_reason, FirstReason
 
 -- there is one first reason
 pub first_unique : {R : Type 0} (Holds : R → Type 0) (reasons : List R) (one other : R) → IsFirstReason Holds reasons one → IsFirstReason Holds reasons other → one ≡ other
-first_unique Holds reasons one other left right = ⊎_elim
-    (λ (same : left.place ≡ right.place). same_Some one other (sym left.listed ∙ ap (slice_get reasons) same ∙ right.listed))
-    (grind arith)
-    (cases_order left.place right.place)
+first_unique Holds reasons one other left right = grind (arith, same_Some)
 
 -- the reason is the first of these by their tests
 abbrev IsFirstByTests : {R : Type 0} → List (Bool × R) → R → Type 0
 IsFirstByTests {R} reasons first = IsFirstReason (λ (reason : Bool × R). IsTrue reason.0) reasons (true, first)
 
-computed_is_first : {R : Type 0} (test : Bool) (reason first : R) (reasons : List (Bool × R)) → (if test then Some reason else first_reason reasons) ≡ Some first → (first_reason reasons ≡ Some first → IsFirstByTests reasons first) →
-    IsFirstByTests ((test, reason) ∷ reasons) first
-computed_is_first {R} true reason first reasons is later = record {
-  place = 0;
-  listed = ap (λ r. Some (true, r)) (same_Some reason first is);
-  holds = refl;
-  none_before = λ earlier other below. absurd (omega arith);
-}
-computed_is_first {R} false reason first reasons is later = record { place = suc (later is).place; listed = (later is).listed; holds = refl; none_before = none }
+first_behind : {R : Type 0} (reason first : R) (reasons : List (Bool × R)) → IsFirstByTests reasons first → IsFirstByTests ((false, reason) ∷ reasons) first
+first_behind {R} reason first reasons later = record { place = suc later.place; listed = later.listed; holds = refl; none_before = none }
   where
-    none : (earlier : ℕ) (other : Bool × R) → earlier < suc (later is).place → slice_get ((false, reason) ∷ reasons) earlier ≡ Some other → ¬ IsTrue other.0
-    none zero other below at holds = true≢false (sym holds ∙ sym (ap (λ (r : Bool × R). r.0) (same_Some _ other at)))
-    none (suc earlier) other below at holds = (later is).none_before earlier other (omega arith) at holds
+    none : (earlier : ℕ) (other : Bool × R) → earlier < suc later.place → slice_get ((false, reason) ∷ reasons) earlier ≡ Some other → ¬ IsTrue other.0
+    none zero other below at = grind arith
+    none (suc earlier) other below at = later.none_before earlier other (omega arith) at
 
-first_is_computed : {R : Type 0} (test : Bool) (reason first : R) (reasons : List (Bool × R)) → IsFirstByTests ((test, reason) ∷ reasons) first → (IsFirstByTests reasons first → first_reason reasons ≡ Some first) →
-    (if test then Some reason else first_reason reasons) ≡ Some first
-first_is_computed {R} test reason first reasons is later = by_place is.place refl
-  where
-    by_place : (place : ℕ) → is.place ≡ place → (if test then Some reason else first_reason reasons) ≡ Some first
-    by_place zero here = grind (arith, is.listed)
-    by_place (suc place) here =
-        let fails : ¬ IsTrue test = is.none_before 0 (test, reason) (omega (arith, here)) refl in
-        let rest = later (record {
-          place = place;
-          listed = sym (ap (slice_get ((test, reason) ∷ reasons)) here) ∙ is.listed;
-          holds = refl;
-          none_before = λ earlier other below. is.none_before (suc earlier) other (omega (arith, here, below));
-        }) in
-        grind arith
+computed_is_first : {R : Type 0} (reasons : List (Bool × R)) (first : R) → first_reason reasons ≡ Some first → IsFirstByTests reasons first
+computed_is_first [] first is = cc
+computed_is_first ((true, reason) ∷ reasons) first is = record { place = 0; listed = ap (λ r. Some (true, r)) (same_Some reason first is); holds = refl; none_before = λ earlier other below. absurd (omega arith) }
+computed_is_first ((false, reason) ∷ reasons) first is = first_behind reason first reasons (computed_is_first reasons first is)
+
+first_is_computed : {R : Type 0} (reasons : List (Bool × R)) (first : R) (place : ℕ) → slice_get reasons place ≡ Some (true, first) → ((earlier : ℕ) (other : Bool × R) → earlier < place → slice_get reasons earlier ≡ Some other → ¬ IsTrue other.0) → first_reason reasons ≡ Some first
+first_is_computed [] first place listed none = cc
+first_is_computed ((true, reason) ∷ reasons) first zero listed none = grind arith
+first_is_computed ((false, reason) ∷ reasons) first zero listed none = grind arith
+first_is_computed ((true, reason) ∷ reasons) first (suc place) listed none = absurd (none 0 (true, reason) (omega arith) refl refl)
+first_is_computed ((false, reason) ∷ reasons) first (suc place) listed none = first_is_computed reasons first place listed (λ earlier other below. none (suc earlier) other (omega arith))
 
 -- of reasons with tests, the one that is computed is the first that holds
 pub first_reason_is : {R : Type 0} → FirstReasonLaw R
-first_reason_is [] first = (λ is. absurd (cc is), λ is. absurd (cc is.listed))
-first_reason_is (reason ∷ reasons) first = (
-  λ is. computed_is_first reason.0 reason.1 first reasons is (first_reason_is reasons first).0,
-  λ is. first_is_computed reason.0 reason.1 first reasons is (first_reason_is reasons first).1,
-)
+first_reason_is reasons first = (computed_is_first reasons first, λ is. first_is_computed reasons first is.place is.listed is.none_before)
 
 -- where none is computed, no test holds
 pub none_holds : {R : Type 0} (list : List (Bool × R)) (i : ℕ) (reason : Bool × R) → slice_get list i ≡ Some reason → first_reason list ≡ None → reason.0 ≡ false
-none_holds {R} [] i reason at none = cc at
-none_holds {R} (first ∷ list) i reason at none = by_place first.0 refl none i at (λ k. none_holds list k reason)
-  where
-    by_place : (test : Bool) → first.0 ≡ test → (if test then Some first.1 else first_reason list) ≡ None → (i : ℕ) → slice_get (first ∷ list) i ≡ Some reason →
-        ((k : ℕ) → slice_get list k ≡ Some reason → first_reason list ≡ None → reason.0 ≡ false) → reason.0 ≡ false
-    by_place true is some i at later = cc some
-    by_place false is none zero at later = ap (λ (r : Bool × R). r.0) (sym (same_Some first reason at)) ∙ is
-    by_place false is none (suc i) at later = later i at none
+none_holds [] i reason at none = cc
+none_holds ((true, other) ∷ list) i reason at none = cc
+none_holds ((false, other) ∷ list) zero reason at none = grind arith
+none_holds ((false, other) ∷ list) (suc i) reason at none = none_holds list i reason at none

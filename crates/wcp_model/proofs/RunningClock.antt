@@ -39,12 +39,8 @@ pub clock_after_send : (n : ℕ) (c : Computation) (p k to place : ℕ) (clock :
     IsStateClock n c (local_state p (k + 1)) (slice_set clock p (slice_index clock p + 1))
 clock_after_send n c p k to place clock in_range at number is =
     let exists : IsState c (local_state p (k + 1)) = omega (arith, event_below c p k place (event_of_send c p k to place at number)) in
-    ticked n c p k clock clock in_range is.components is.own (λ q q_in_range other l. (
-      λ h. ⊎_elim (λ (e : local_state q l ≡ local_state p k). absurd (other (ap (λ (s : State). s.process) e)))
-          (λ (g : HappenedBefore c (local_state q l) (local_state p k)). (is.others q q_in_range other l).0 g)
-          (only_before_send c (local_state q l) p k to place at number h),
-      λ below. one_more_step c (local_state q l) (local_state p k) (local_state p (k + 1)) (inr ((is.others q q_in_range other l).1 below)) (Next refl refl exists),
-    ))
+    let only = λ (q l : ℕ). only_before_send c (local_state q l) p k to place at number in
+    ticked n c p k clock clock in_range is.components is.own (λ q q_in_range other l. grind (arith, only q l, is.others q q_in_range other l, one_more_step))
 
 -- a state of another process that happened before the state behind a receive is counted by the clock or by the stamp
 receive_counts : (n : ℕ) (c : Computation) (r : State) (p k : ℕ) (clock stamp : List ℕ) (q l : ℕ) → IsMessage c r (local_state p (k + 1)) → IsStateClock n c (local_state p k) clock →
