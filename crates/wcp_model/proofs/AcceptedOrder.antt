@@ -1,9 +1,8 @@
-use Rattle.std.proofs.Common.{◌≡◌, ℕ, ◌+◌, ◌-◌, ◌<◌, ◌≤◌, List, All, length, take, count_by, slice_get, Some, refl, sym, ap, ◌∙◌, subst, inl, inr, eq-eqb, arith, ⊎_elim}
+use Rattle.std.proofs.Common.{◌≡◌, ℕ, ◌+◌, ◌<◌, ◌≤◌, List, All, length, take, count_by, slice_get, Some, refl, sym, ◌∙◌, subst, inl, inr, eq-eqb, arith, ⊎_elim}
 use Rattle.std.proofs.lemmas.Bool.{cases_lt}
 use Rattle.std.proofs.lemmas.List.{take_all, take-take, length-take}
 use Rattle.std.proofs.lemmas.Option.{slice_get_within, get_or_from_slice_get, same_Some}
-use Rattle.wcp_model.specs.declared.step.Step.{Step}
-use Rattle.wcp_model.specs.declared.step.Step.TheVariants.{Recv, Close}
+use Rattle.wcp_model.specs.declared.step.Step.TheVariants.{Close}
 use Rattle.wcp_model.specs.declared.workload.Action.{Action}
 use Rattle.wcp_model.specs.declared.workload.Task.{Task}
 use Rattle.wcp_model.specs.Computation.{message_at}

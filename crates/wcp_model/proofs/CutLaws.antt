@@ -1,12 +1,9 @@
 use Rattle.std.specs.Prelude.{slice_index}
-use Rattle.std.proofs.Common.{◌≡◌, ◌≢◌, ℕ, suc, zero, ◌+◌, ◌-◌, ◌<◌, ◌≤◌, min, List, [], ◌∷◌, length, refl, ap, subst, inl, inr, arith}
+use Rattle.std.proofs.Common.{◌≡◌, ◌≢◌, ℕ, suc, zero, ◌<◌, ◌≤◌, min, List, [], ◌∷◌, length, refl, ap, subst, inl, inr, arith}
 use Rattle.std.proofs.lemmas.Bool.{cases_lt}
-use Rattle.std.proofs.lemmas.List.Sums.{sum_by-take-le}
 use Rattle.wcp_model.specs.declared.state.State.{State}
-use Rattle.wcp_model.specs.Computation.{Computation, IsState, IsTrueState, communications}
+use Rattle.wcp_model.specs.Computation.{Computation, communications}
 use Rattle.wcp_model.specs.Order.{HappenedBefore}
-use Rattle.wcp_model.specs.Order.HappenedBefore.{Chain}
-use Rattle.wcp_model.specs.Order.DirectlyPrecedes.{Next}
 use Rattle.wcp_model.proofs.Predecessors.{local_state, before_later, before_trans}
 use Rattle.wcp_model.proofs.Reached.{true_state_exists}
 use Rattle.wcp_model.specs.Cut.{member, minimum, IsConsistent, IsSatisfyingCut, MinimumLaw}

@@ -1,6 +1,5 @@
 -- The first reason of an ordered list, by what holds and by tests.
-use Rattle.std.proofs.Common.{◌≡◌, ℕ, zero, suc, ◌<◌, Bool, true, false, IsTrue, None, Some, List, [], ◌∷◌, slice_get, if◌then◌else◌, refl, sym, ap, ◌∙◌, ⊎_elim, true≢false, arith}
-use Rattle.std.proofs.lemmas.Bool.{cases_order}
+use Rattle.std.proofs.Common.{◌≡◌, ℕ, zero, suc, ◌<◌, Bool, true, false, IsTrue, None, Some, List, [], ◌∷◌, slice_get, refl, ap, arith}
 use Rattle.std.proofs.lemmas.Option.{same_Some}
 use Rattle.wcp_model.specs.FirstReason.{IsFirstReason, first_reason, FirstReasonLaw}
 

@@ -1,5 +1,5 @@
 use Rattle.std.proofs.lemmas.Grind.{common_steps}
-use Rattle.std.proofs.Common.{◌≡◌, ℕ, ◌+◌, ◌<◌, ◌⊎◌, true, false, if◌then◌else◌, List, [], ◌∷◌, ◌++◌, length, slice_index, slice_index_or, count_by, Contains, refl, sym, ap, ◌∙◌, subst, inl, ⊎_elim, append-nil, arith}
+use Rattle.std.proofs.Common.{◌≡◌, ℕ, ◌+◌, ◌<◌, ◌⊎◌, true, false, List, [], ◌∷◌, ◌++◌, length, slice_index, slice_index_or, count_by, Contains, refl, sym, ap, ◌∙◌, subst, inl, ⊎_elim, append-nil, arith}
 use Rattle.std.proofs.lemmas.Bool.{cases_lt}
 use Rattle.std.proofs.lemmas.List.{length_push, get_or_append_left, get_or_push, take_at}
 use Rattle.std.proofs.lemmas.List.Elements.{Contains-get_or, Contains-append_left, Contains-push, Contains-push_cases}
@@ -10,7 +10,7 @@ use Rattle.wcp_clock.specs.declared.note.Note.TheVariants as note
 use Rattle.wcp_model.specs.declared.state.State.{State}
 use Rattle.wcp_model.specs.declared.step.Step.{Step}
 use Rattle.wcp_model.specs.declared.step.Step.TheVariants as step
-use Rattle.wcp_model.specs.Computation.{Computation, IsState, IsTrueState, AreTrueStates, is_communication_of, communications, interval_at}
+use Rattle.wcp_model.specs.Computation.{Computation, IsTrueState, AreTrueStates, is_communication_of, communications, interval_at}
 use Rattle.wcp_model.specs.Emission.{is_closed, snapshots_from, AreEmissions}
 use Rattle.wcp_model.specs.StateClock.{IsStateClock}
 use Rattle.wcp_model.proofs.Predecessors.{local_state}

@@ -1,5 +1,5 @@
-use Rattle.std.proofs.Common.{◌≡◌, ℕ, ◌+◌, ◌<◌, ◌↔◌, IsTrue, Bool, true, false, true≢false, cond, ◌||◌, List, [], ◌∷◌, ◌++◌, length, fold, filter, slice_get, slice_index, slice_set, count_by, Some, refl, sym, ap, ◌∙◌, subst, inl, inr, ⊎_elim, append_assoc, append-nil, eqb-true, eq-eqb, le_refl, arith}
-use Rattle.std.proofs.lemmas.Bool.{cases_Bool, cond_both, false_from_ne_true}
+use Rattle.std.proofs.Common.{◌≡◌, ℕ, ◌+◌, ◌<◌, true, false, true≢false, cond, List, [], ◌∷◌, ◌++◌, length, fold, filter, slice_get, slice_index, slice_set, count_by, Some, refl, sym, ap, ◌∙◌, subst, inl, inr, ⊎_elim, append_assoc, append-nil, eq-eqb, le_refl, arith}
+use Rattle.std.proofs.lemmas.Bool.{cases_Bool, false_from_ne_true}
 use Rattle.std.proofs.lemmas.List.{take_at}
 use Rattle.std.proofs.lemmas.List.Folds.{list_any-append}
 use Rattle.std.proofs.lemmas.List.Sums.{sum_by_push}
@@ -11,7 +11,7 @@ use Rattle.wcp_model.specs.declared.step.Step.TheVariants.{Observe, Send, Recv, 
 use Rattle.wcp_model.specs.Computation.{Computation, IsTrueState, is_communication_of, is_send, communications, interval_at}
 use Rattle.wcp_model.specs.Emission.{is_close_of, is_closed}
 use Rattle.wcp_model.specs.Order.{IsMessage}
-use Rattle.wcp_model.specs.ProbeLog.{Call, Observed, Sent, Received, Closed, ProbeState, after_call, setup, state_of_log, is_step_of, IsStampOf, IsCallOf, AreCallsOf, IsLogOf, IsAccepted, HasClockAndEmissions, LogLaw}
+use Rattle.wcp_model.specs.ProbeLog.{Call, Observed, Sent, Received, Closed, ProbeState, after_call, setup, state_of_log, is_step_of, IsStampOf, IsCallOf, AreCallsOf, IsAccepted, HasClockAndEmissions, LogLaw}
 use Rattle.wcp_model.specs.StateClock.{IsStateClock}
 use Rattle.wcp_model.proofs.AcceptedSteps.{close_stands}
 use Rattle.wcp_model.proofs.EventPlaces.{event_of_send, event_below}
