@@ -1,5 +1,5 @@
 use Rattle.std.proofs.lemmas.Grind.{common_steps}
-use Rattle.std.proofs.Common.{◌≡◌, ℕ, ◌<◌, ◌≤◌, Bool, true, false, refl, List, [], length, get_or, slice_index, sym, ◌∙◌, ap, arith}
+use Rattle.std.proofs.Common.{◌≡◌, ℕ, ◌<◌, ◌≤◌, Bool, true, false, List, [], length, get_or, slice_index, sym, ◌∙◌, ap, arith}
 use Rattle.std.proofs.lemmas.List.{append-nil, get_or_default}
 use Rattle.std.proofs.lemmas.List.Elements.{Contains-get_or}
 use Rattle.wcp_clock.specs.declared.note.Item.{Item}
@@ -70,5 +70,4 @@ module _ (n : ℕ) (items : List Item) where
       waiting (grind (arith, common_steps, rows_in_order))
     where
       not_false : (b : Bool) → (b ≡ false → ⊥) → b ≡ true
-      not_false true never = refl
-      not_false false never = absurd (never refl)
+      not_false b never = grind arith

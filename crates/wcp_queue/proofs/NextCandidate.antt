@@ -98,10 +98,7 @@ module _ (n : ℕ) (rows : ℕ → List (List ℕ)) (queues others : List (List 
       (cases_eq k p))
     where
       higher : (a : ℕ) → a < n → 1 < n → component floor a ≤ component new a
-      higher a a_within several = ⊎_elim
-          (λ (same : a ≡ p). rw same (omega (arith, raises.reached several, raises.own)))
-          (λ (other : a ≢ p). omega (arith, (raises.rises a a_within other).maximum))
-          (cases_eq a p)
+      higher a a_within several = grind (arith, cases_eq)
 
       head : IsPlaced new p (left.heads p)
       head = grind (arith, next_within, after_next, next_is)

@@ -1,4 +1,4 @@
-use Rattle.std.proofs.Common.{◌≡◌, ◌≢◌, ◌||◌, ℕ, Bool, true, false, List, [], ◌∷◌, ◌++◌, ◌<◌, refl, sym, ap, subst, ⊎_elim, arith}
+use Rattle.std.proofs.Common.{◌≡◌, ◌≢◌, ℕ, true, List, [], ◌∷◌, ◌++◌, ◌<◌, refl, sym, ap, subst, ⊎_elim, arith}
 use Rattle.std.specs.List.{list_any}
 use Rattle.std.proofs.lemmas.Bool.{cases_eq, false≢true}
 use Rattle.std.proofs.lemmas.List.{map-append, append-nil}
@@ -45,10 +45,6 @@ clocks_taken-push_close items p count q = grind (arith, append-nil, notes_taken-
 -- a snapshot closes no process, and a close mark its own
 pub close_taken-push_snapshot : (items : List Item) (p number q : ℕ) (clock : List ℕ) → list_any is_close (notes_taken q (items ++ record { from = p; note = Snap number clock } ∷ [])) ≡ list_any is_close (notes_taken q items)
 close_taken-push_snapshot items p number q clock = grind (arith, list_any-append, notes_taken-push_other, notes_taken-push_same)
-  where
-    or_false : (b : Bool) → (b || false) ≡ b
-    or_false true = refl
-    or_false false = refl
 
 pub close_taken-push_close : (items : List Item) (p count : ℕ) → list_any is_close (notes_taken p (items ++ record { from = p; note = Close count } ∷ [])) ≡ true
 close_taken-push_close items p count = grind (arith, list_any-append, notes_taken-push_same)

@@ -1,4 +1,4 @@
-use Rattle.std.proofs.Common.{◌≡◌, ◌≢◌, ℕ, ◌+◌, ◌<◌, ◌≤◌, Bool, false, List, length, slice_index, sym, ◌∙◌, arith}
+use Rattle.std.proofs.Common.{◌≡◌, ◌≢◌, ℕ, ◌+◌, ◌<◌, ◌≤◌, Bool, false, List, length, slice_index, arith}
 use Rattle.wcp_queue.specs.declared.floor.Floor.{Floor}
 use Rattle.wcp_queue.specs.Floor.{component, has_head, IsSameBut, RisesTo}
 use Rattle.wcp_queue.specs.Elimination.{queue_of}
@@ -25,11 +25,4 @@ module _ (first : Floor) (p : ℕ) (clock : List ℕ) (queues : List (List (List
 
   pub IsRaising-next : (new : Floor) (more : Bool) → q ≢ p → RisesTo q (slice_index clock q) floor new → IsSameBut q floor new →
       (more ≡ false → (uncovered ≡ false) × (component floor q < slice_index clock q → length (queue_of queues q) ≡ 0)) → new.tests ≡ floor.tests + 1 → IsRaising first p clock queues new more (q + 1)
-  IsRaising-next new more apart rises others covered tests = record {
-    at_p = let same = others p (λ is_q. apart (sym is_q)) in (same.0 ∙ is.at_p.0, same.1 ∙ is.at_p.1);
-    rises = grind arith;
-    later = λ k above other. let same = others k (λ is_q. omega (arith, is_q)) in let was = is.later k (omega arith) other in (same.0 ∙ was.0, same.1 ∙ was.1);
-    covered = grind arith;
-    tests = λ before. omega (arith, tests, is.tests (omega arith));
-    tests_after = λ after. omega (arith, tests, apart, is.tests_after (omega (arith, apart)));
-  }
+  IsRaising-next new more apart rises others covered tests = grind arith

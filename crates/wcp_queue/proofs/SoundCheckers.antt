@@ -1,5 +1,5 @@
 use Rattle.std.proofs.lemmas.Grind.{common_steps}
-use Rattle.std.proofs.Common.{◌≡◌, ℕ, ◌+◌, ◌*◌, ◌^◌, ◌<◌, ◌≤◌, false, None, List, [], length, set, replicate, sum, ◌∙◌, arith}
+use Rattle.std.proofs.Common.{◌≡◌, ℕ, ◌+◌, ◌*◌, ◌^◌, ◌<◌, ◌≤◌, false, None, [], length, set, replicate, sum, arith}
 use Rattle.std.proofs.lemmas.Nat.{mul-le}
 use Rattle.std.proofs.lemmas.List.{length-replicate, get_or-replicate}
 use Rattle.std.proofs.lemmas.List.Sums.{sum_by-le}
@@ -14,13 +14,7 @@ abbrev pub fresh_checker : ℕ → CheckerState
 fresh_checker n = record { queues = replicate n []; floor = first_floor; taken = replicate 16 0; closed = replicate 16 false; found = None }
 
 pub IsSoundChecker-fresh : (n : ℕ) → 0 < n → n ≤ 16 → IsSoundChecker (fresh_checker n)
-IsSoundChecker-fresh n some few = grind (arith, get_or-replicate, members, nothing)
-  where
-    members : length (replicate {A = List (List ℕ)} n []) ≡ n
-    members = length-replicate n []
-
-    nothing : waiting_in (replicate {A = List (List ℕ)} n []) ≡ 0
-    nothing = sum_by-replicate length n [] ∙ omega arith
+IsSoundChecker-fresh n some few = grind (arith, get_or-replicate, length-replicate, sum_by-replicate)
 
 module _ (old : CheckerState) (sound : IsSoundChecker old) where
   few_in_all : sum old.taken ≤ 16 * 2 ^ 32

@@ -66,8 +66,7 @@ module _ (old new : CheckerState) (items : List Item) (p : ℕ) (clock : List �
 
       candidates : (found : Option (List ℕ)) → MatchOption found (HaveHeads (length old.queues) new.floor → ⊥) (IsCutOfHeads (length old.queues) new.floor) →
           MatchOption found (AreLeft (processes new) (λ q. clocks_taken q longer) new.queues new.floor) (IsFoundAmong (processes new) (λ q. clocks_taken q longer))
-      candidates None waiting = now_left
-      candidates (Some cut) is = IsFoundAmong-heads (processes new) (λ q. clocks_taken q longer) new.queues new.floor cut now_left (subst (λ n. IsCutOfHeads n new.floor cut) (sym members) is)
+      candidates found is = grind (arith, now_left, IsFoundAmong-heads, members)
 
   -- a checker with a cut keeps it
   pub StandsForItems-found : is_some old.found ≡ true → new.found ≡ old.found → StandsForItems new longer
@@ -101,8 +100,7 @@ StandsForItems-close old new items p count stands may within queues floor taken 
   where
     candidates : (cut : Option (List ℕ)) → MatchOption cut (AreLeft (processes old) (λ q. clocks_taken q items) old.queues old.floor) (IsFoundAmong (processes old) (λ q. clocks_taken q items)) →
         MatchOption cut (AreLeft (processes old) (λ q. clocks_taken q (closing items p count)) old.queues old.floor) (IsFoundAmong (processes old) (λ q. clocks_taken q (closing items p count)))
-    candidates None left = AreLeft-rows (processes old) (λ q. clocks_taken q items) (λ q. clocks_taken q (closing items p count)) old.queues old.floor (λ q q_within. clocks_taken-push_close items p count q) left
-    candidates (Some cut) is = IsFoundAmong-same (processes old) (λ q. clocks_taken q items) (λ q. clocks_taken q (closing items p count)) cut (λ q q_within. clocks_taken-push_close items p count q) is
+    candidates cut is = grind (arith, AreLeft-rows, clocks_taken-push_close, IsFoundAmong-same)
 
 -- a checker that has taken nothing stands for the empty list
 pub StandsForItems-fresh : (n : ℕ) → n ≤ 16 → StandsForItems (record { queues = replicate n []; floor = first_floor; taken = replicate 16 0; closed = replicate 16 false; found = None }) []

@@ -1,14 +1,10 @@
-use Rattle.std.proofs.Common.{◌≡◌, ℕ, ◌<◌, ◌≤◌, Bool, true, false, cond, ltb, arith}
+use Rattle.std.proofs.Common.{◌≡◌, ℕ, ◌<◌, ◌≤◌, ltb, arith}
 use Rattle.std.proofs.lemmas.Bool.{cond-true, lt-ltb}
 use Rattle.wcp_queue.specs.Elimination.{tests_each}
 
 -- a snapshot costs at most a test for each process
 pub tests_each-le : (n : ℕ) → tests_each n ≤ n
-tests_each-le n = at_most (ltb 1 n)
-  where
-    at_most : (b : Bool) → cond b n 0 ≤ n
-    at_most true = omega arith
-    at_most false = omega arith
+tests_each-le n = grind arith
 
 -- and where there are several just as many
 pub tests_each-several : (n : ℕ) → 1 < n → tests_each n ≡ n

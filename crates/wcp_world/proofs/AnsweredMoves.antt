@@ -1,33 +1,41 @@
 use Rattle.std.proofs.lemmas.Grind.{common_steps}
-use Rattle.std.proofs.Common.{◌≡◌, ◌≢◌, ℕ, ◌+◌, ◌<◌, Bool, true, false, cond, nat_le, nat_lt, length, set, get_or, eqb, Option, None, Some, MatchOption, List, [], ◌∷◌, ◌++◌, slice_get, drop, take, refl, sym, ap, ap₂, subst, ◌∙◌, append-nil, eqb-true, eq-eqb, add-zero, true≢false, arith}
+use Rattle.std.proofs.Common.{◌≡◌, ◌≢◌, ℕ, ◌+◌, ◌<◌, Bool, true, false, not, cond, nat_le, nat_lt, length, set, get_or, eqb, Option, None, Some, MatchOption, List, [], ◌∷◌, ◌++◌, slice_get, drop, take, refl, sym, ap, ap₂, subst, ◌∙◌, append-nil, eqb-true, eq-eqb, add-zero, true≢false, arith}
 use Rattle.std.specs.List.{list_any}
-use Rattle.std.specs.Option.{option_and_then, option_flatten}
+use Rattle.std.specs.Option.{option_and_then, option_flatten, option_map}
 use Rattle.std.proofs.lemmas.Bool.Decides.{nat_tests}
 use Rattle.std.proofs.lemmas.List.{get_or_default, length-set, get_or-set_same, get_or-set_other}
-use Rattle.std.proofs.lemmas.Option.{slice_get-get_or}
+use Rattle.std.proofs.lemmas.Option.{slice_get-get_or, slice_get_within}
 use Rattle.wcp_clock.specs.declared.note.Item.{Item}
 use Rattle.wcp_clock.specs.declared.note.Note.{Note}
-use Rattle.wcp_model.specs.declared.plan.Parent.TheVariants.{Root}
+use Rattle.wcp_model.specs.declared.plan.Parent.{Parent}
+use Rattle.wcp_model.specs.declared.plan.Parent.TheVariants.{Root, Relay}
 use Rattle.wcp_model.specs.declared.plan.Plan.{Plan}
 use Rattle.wcp_model.specs.declared.step.Step.{Step}
 use Rattle.wcp_model.specs.declared.step.Step.TheVariants as step
-use Rattle.wcp_model.specs.declared.step.Reply.{Reply}
 use Rattle.wcp_model.specs.declared.step.Reply.TheVariants.{Done, Refused}
 use Rattle.wcp_model.specs.declared.step.Why.TheVariants as why
 use Rattle.wcp_model.specs.Tree.{IsSamePlan, is_number, is_attached, is_leaf, leaf_of, parent_of}
-use Rattle.wcp_model.specs.Occupancy.{Place, Pending, Link, InboxOf, is_same_place, source, target, is_place, takes_from, taken_from, notes_in, next_place, IsEntry, Emitted}
-use Rattle.wcp_model.specs.Replies.{accepted_by, reasons, move_reasons, names_nothing}
+use Rattle.wcp_model.specs.Occupancy.{Place, Pending, Link, HoldOf, InboxOf, is_same_place, source, target, is_place, takes_from, taken_from, notes_in, next_place, IsEntry, Emitted}
+use Rattle.wcp_model.specs.Replies.{reasons, move_reasons, names_nothing}
 use Rattle.wcp_model.specs.Report.{notes_taken}
+use Rattle.wcp_model.proofs.CheckedPlans.{attached_exists}
 use Rattle.wcp_model.proofs.Growth.{get_behind}
 use Rattle.wcp_hold.specs.Held.{Held}
 use Rattle.wcp_world.specs.Answer.{IsAnswer}
 use Rattle.wcp_world.specs.PutNotes.{put_more}
-use Rattle.wcp_world.specs.Shifts.{IsShift, Shifts}
-use Rattle.wcp_world.specs.Transport.{TransportState, IsPlaceOf, place_number, held_at, IsTransportOf, IsNextAtRoot, IsConveying, AreNeighbours, notes_along}
+use Rattle.wcp_world.specs.Transport.{TransportState, IsPlaceOf, place_number, held_at, IsTransportOf, IsNextAtRoot, IsMoveBetween, MovesBetween, IsConveying, notes_along}
 use Rattle.wcp_world.proofs.Places.{same_place, number_apart, number_within, next_is_place, itself}
 use Rattle.wcp_world.proofs.Entries.{item_if, IsStirred, gains, loses, stays, entry_grows, entry_emitted}
 use Rattle.wcp_world.proofs.Ways.{next_apart}
 use Rattle.wcp_world.proofs.OneItemMoved.{transport_after}
+
+-- the first item of one place has moved behind those of another
+pub record IsShift (old : List Held) (from to : ℕ) (new : List Held) : Type 0 where
+  pub item : Item
+  pub left : List Item
+  pub first : (held_at old from).items ≡ item ∷ left
+  pub fits : length (held_at old to).items ≢ (held_at old to).room
+  pub moved : new ≡ set (set old to (record (held_at old to) { items = (held_at old to).items ++ item ∷ [] })) from (record (held_at old from) { items = left })
 
 -- what a place holds once one was changed
 held_set : (plan : Plan) (places : List Held) (x y : Place) (new : Held) → length places ≡ plan.n + length plan.parents.items + 1 + length plan.parents.items → IsPlaceOf plan x → IsPlaceOf plan y →
@@ -58,27 +66,7 @@ pub leaf_same : (a b : Plan) → IsSamePlan a b → (relay : ℕ) → is_leaf a 
 leaf_same a b same relay = ap₂ (λ n l. list_any (is_number relay) (take n l)) same.n same.attach
 
 pub attached_is : (plan : Plan) (relay p : ℕ) → is_attached plan relay p ≡ true → leaf_of plan p ≡ Some relay
-attached_is plan relay p = named (leaf_of plan p)
-  where
-    named : (o : Option ℕ) → is_number relay o ≡ true → o ≡ Some relay
-    named (Some r) is = ap Some (eqb-true r relay is)
-    named None is = absurd (true≢false (sym is))
-
--- a place and the next are two of the places
-pub two_places : (t : TransportState) (i j : ℕ) → IsConveying t → AreNeighbours t i j → (i < length t.places) × (j < length t.places) × (i ≢ j)
-two_places t i j conveying next =
-    let stands = conveying.4 in
-    let plan = conveying.0 in
-    let are = next plan conveying.1 conveying.2 conveying.3 stands in
-    let is_to = next_is_place plan stands.checked are.from are.to are.is_next are.is_from in (
-      omega (arith, are.number_from, stands.members, number_within plan are.from are.is_from),
-      omega (arith, are.number_to, stands.members, number_within plan are.to is_to),
-      λ same. number_apart plan are.from are.to are.is_from is_to (next_apart plan stands.checked are.from are.to are.is_next) (sym are.number_from ∙ same ∙ are.number_to),
-    )
-
--- a relay of the plan inside is one of the plan that a transport stands for
-pub relay_inside : (t : TransportState) (plan : Plan) (inside : Plan) (relay : ℕ) → IsSamePlan t.plan plan → inside ≡ t.plan → relay < length inside.parents.items → relay < length plan.parents.items
-relay_inside t plan inside relay same is within = omega (arith, within, ap (λ (p : Plan). length p.parents.items) is, ap length same.parents)
+attached_is plan relay p = grind (arith, eqb-true)
 
 -- a relay that has no parent isn't there
 pub no_relay : (plan : Plan) (relay : ℕ) → parent_of plan relay ≡ None → nat_lt relay (length plan.parents.items) ≡ false
@@ -109,62 +97,72 @@ module _ (plan : Plan) (steps : List Step) (put : ℕ → List Note) (taken : Li
       none_at : (i : ℕ) (note : Note) → slice_get [] i ≡ Some note → ⊥
       none_at i note at = cc
 
-  -- one item moved from one place to the next
-  module _ (s : Step) (from to : Place) (takes : source s ≡ Some from) (puts : next_place plan from ≡ Some to) (is_from : IsPlaceOf plan from) (is_to : IsPlaceOf plan to) (apart : is_same_place from to ≡ false) where
-    target_is : target plan s ≡ Some to
-    target_is = ap (option_and_then (next_place plan)) takes ∙ puts
+  -- what a step that moves an item from one place to another does to each
+  stirred_by_shift : (s : Step) (from to : Place) → source s ≡ Some from → target plan s ≡ Some to → IsPlaceOf plan from → IsPlaceOf plan to → is_same_place from to ≡ false →
+      (new : List Held) (is : IsShift t.places (place_number plan from) (place_number plan to) new) (x : Place) → IsPlaceOf plan x → IsStirred plan s is.item x (here x) (held_at new (place_number plan x))
+  stirred_by_shift s from to takes puts is_from is_to apart new is x is_x =
+      grind (arith, by_case, held_set, length-set)
+    where
+      by_case : (a b : Bool) → is_same_place x from ≡ a → is_same_place x to ≡ b →
+          IsStirred plan s is.item x (here x) (cond a (record (here from) { items = is.left }) (cond b (record (here to) { items = (here to).items ++ is.item ∷ [] }) (here x)))
+      by_case true b at_from at_to = rw (same_place x from at_from) (loses plan s is.item from (here from) _ refl is.left (ap (is_place from) takes ∙ itself from) (ap (is_place from) puts ∙ apart) is.first refl)
+      by_case false true at_from at_to =
+          let other = subst (λ z. is_same_place z from ≡ false) (same_place x to at_to) at_from in
+          let le = (stands.held to is_to).within in
+          rw (same_place x to at_to) (gains plan s is.item to (here to) _ refl (ap (is_place to) takes ∙ other) (ap (is_place to) puts ∙ itself to) refl (omega (arith, le, is.fits)))
+      by_case false false at_from at_to = stays plan s is.item x (here x) (here x) refl (ap (is_place x) takes ∙ at_from) (ap (is_place x) puts ∙ at_to) refl
 
-    stirred_by_shift : (new : List Held) (is : IsShift t.places (place_number plan from) (place_number plan to) new) (x : Place) → IsPlaceOf plan x → IsStirred plan s is.item x (here x) (held_at new (place_number plan x))
-    stirred_by_shift new is x is_x =
-        grind (arith, by_case, held_set, length-set)
-      where
-        by_case : (a b : Bool) → is_same_place x from ≡ a → is_same_place x to ≡ b →
-            IsStirred plan s is.item x (here x) (cond a (record (here from) { items = is.left }) (cond b (record (here to) { items = (here to).items ++ is.item ∷ [] }) (here x)))
-        by_case true b at_from at_to = subst (λ z. IsStirred plan s is.item z (here z) (record (here from) { items = is.left })) (sym (same_place x from at_from))
-            (loses plan s is.item from (here from) _ refl is.left (ap (is_place from) takes ∙ itself from) (ap (is_place from) target_is ∙ apart) is.first refl)
-        by_case false true at_from at_to =
-            let other = subst (λ z. is_same_place z from ≡ false) (same_place x to at_to) at_from in
-            let le = (stands.held to is_to).within in
-            subst (λ z. IsStirred plan s is.item z (here z) (record (here to) { items = (here to).items ++ is.item ∷ [] })) (sym (same_place x to at_to))
-            (gains plan s is.item to (here to) _ refl (ap (is_place to) takes ∙ other) (ap (is_place to) target_is ∙ itself to) refl (omega (arith, le, is.fits)))
-        by_case false false at_from at_to =
-            stays plan s is.item x (here x) (here x) refl (ap (is_place x) takes ∙ at_from) (ap (is_place x) target_is ∙ at_to) refl
+  -- an item moved from the place of one number to the next
+  module _ (s : Step) (i j : ℕ) (move : IsMoveBetween plan s i j) where
+    is_to : IsPlaceOf plan move.to
+    is_to = next_is_place plan stands.checked move.from move.to move.is_next move.is_from
 
-    -- the first item of a place is the entry whose turn it is
-    module _ (no_put : (p : ℕ) → takes_from (Pending p) s ≡ false) (no_check : takes_from (InboxOf Root) s ≡ false) where
-      shift_after : (new : List Held) → IsShift t.places (place_number plan from) (place_number plan to) new → IsTransportOf plan (steps ++ s ∷ []) put taken (record t { places = new })
-      shift_after new is =
-          let entry = first_entry from is_from is.item is.left is.first in
-          subst (λ items. IsTransportOf plan (steps ++ s ∷ []) put items (record t { places = new })) (ap (λ b. taken ++ item_if b is.item) no_check ∙ append-nil taken)
-          (transport_after plan steps put taken t stands s from is.item put new takes (process_of entry)
-          (λ p yes. absurd (true≢false (sym yes ∙ no_put p)))
-          (entry_grows plan put put steps (s ∷ []) (λ p i note at. at) entry) (stirred_by_shift new is)
-          (λ p. rw (no_put p) (sym (append-nil (put p)))) (ap length is.moved ∙ length-set _ (place_number plan from) _ ∙ length-set t.places (place_number plan to) _))
+    apart : is_same_place move.from move.to ≡ false
+    apart = next_apart plan stands.checked move.from move.to move.is_next
 
-      module _ (no_event : (emissions : ℕ → List Note) → reasons plan emissions steps s ≡ move_reasons plan (notes_in plan emissions steps) s) (named : names_nothing plan s ≡ false) where
-        tests_are : (emissions : ℕ → List Note) →
-            reasons plan emissions steps s ≡ (false, why.NoSuch) ∷ (eqb (length (here from).items) 0, why.Empty) ∷ (nat_le (here to).room (length (here to).items), why.Full) ∷ []
-        tests_are emissions = no_event emissions ∙ rw (named, takes, puts, notes_are emissions from is_from, notes_are emissions to is_to, (stands.held to is_to).room) refl
+    pub two_places : (i < length t.places) × (j < length t.places) × (i ≢ j)
+    two_places = (
+      omega (arith, move.number_from, stands.members, number_within plan move.from move.is_from),
+      omega (arith, move.number_to, stands.members, number_within plan move.to is_to),
+      λ same. number_apart plan move.from move.to move.is_from is_to apart (sym move.number_from ∙ same ∙ move.number_to),
+    )
 
-        pub conveys : (answer : Reply) (new : List Held) → Shifts t.places (place_number plan from) (place_number plan to) answer new →
-            ((emissions : ℕ → List Note) → IsAnswer (reasons plan emissions steps s) answer) × IsTransportOf plan (steps ++ accepted_by s answer) put taken (record t { places = new })
-        conveys Done new is =
-            search (arith, shift_after new is, tests_are)
-        conveys (Refused why.Empty) new is =
-            grind (arith, same_after, tests_are)
-        conveys (Refused why.Full) new is =
-            grind (arith, same_after, tests_are)
-        conveys answer new is = absurd is
+    target_is : target plan s ≡ Some move.to
+    target_is = ap (option_and_then (next_place plan)) move.takes ∙ move.is_next
 
-  -- the same of a transport that was moved, between the places of two numbers
-  pub conveyed : (s : Step) (from to : Place) (i j : ℕ) → source s ≡ Some from → next_place plan from ≡ Some to → IsPlaceOf plan from → i ≡ place_number plan from → j ≡ place_number plan to →
-      ((p : ℕ) → takes_from (Pending p) s ≡ false) → takes_from (InboxOf Root) s ≡ false → ((emissions : ℕ → List Note) → reasons plan emissions steps s ≡ move_reasons plan (notes_in plan emissions steps) s) → names_nothing plan s ≡ false →
-      (answer : Reply) (new : TransportState) → new.plan ≡ t.plan → Shifts t.places i j answer new.places →
-      ((emissions : ℕ → List Note) → IsAnswer (reasons plan emissions steps s) answer) × IsTransportOf plan (steps ++ accepted_by s answer) put taken new
-  conveyed s from to i j takes puts is_from from_is to_is no_put no_check no_event named answer new same_plan shifts =
-      let told = conveys s from to takes puts is_from (next_is_place plan stands.checked from to puts is_from) (next_apart plan stands.checked from to puts) no_put no_check no_event named answer new.places
-      (rw (from_is, to_is) at shifts) in
-      (told.0, subst (λ (p : Plan). IsTransportOf plan (steps ++ accepted_by s answer) put taken (record { plan = p; places = new.places })) (sym same_plan) told.1)
+    -- such a step is no put, no check and no event
+    no_put : (p : ℕ) → takes_from (Pending p) s ≡ false
+    no_put p = grind (arith, same_place)
+
+    no_check : takes_from (InboxOf Root) s ≡ false
+    no_check = grind (arith, same_place)
+
+    no_event : (emissions : ℕ → List Note) → reasons plan emissions steps s ≡ move_reasons plan (notes_in plan emissions steps) s
+    no_event emissions = grind arith
+
+    shift_after : (new : List Held) → IsShift t.places (place_number plan move.from) (place_number plan move.to) new → IsTransportOf plan (steps ++ s ∷ []) put taken (record t { places = new })
+    shift_after new is =
+        let entry = first_entry move.from move.is_from is.item is.left is.first in
+        subst (λ items. IsTransportOf plan (steps ++ s ∷ []) put items (record t { places = new })) (ap (λ b. taken ++ item_if b is.item) no_check ∙ append-nil taken)
+        (transport_after plan steps put taken t stands s move.from is.item put new move.takes (process_of entry)
+        (λ p yes. absurd (true≢false (sym yes ∙ no_put p)))
+        (entry_grows plan put put steps (s ∷ []) (λ p i note at. at) entry) (stirred_by_shift s move.from move.to move.takes target_is move.is_from is_to apart new is)
+        (λ p. rw (no_put p) (sym (append-nil (put p)))) (ap length is.moved ∙ length-set _ (place_number plan move.from) _ ∙ length-set t.places (place_number plan move.to) _))
+
+    tests_are : (emissions : ℕ → List Note) →
+        reasons plan emissions steps s ≡ (false, why.NoSuch) ∷ (eqb (length (held_at t.places i).items) 0, why.Empty) ∷ (nat_le (held_at t.places j).room (length (held_at t.places j).items), why.Full) ∷ []
+    tests_are emissions = no_event emissions ∙ rw (move.named, move.takes, move.is_next, notes_are emissions move.from move.is_from, notes_are emissions move.to is_to, move.number_from, move.number_to, (stands.held move.to is_to).room) refl
+
+    pub was_moved : (new : List Held) → IsShift t.places i j new → ((emissions : ℕ → List Note) → IsAnswer (reasons plan emissions steps s) Done) × IsTransportOf plan (steps ++ s ∷ []) put taken (record t { places = new })
+    was_moved new is =
+        let le = rw (← move.number_to) at (stands.held move.to is_to).within in
+        (λ emissions. grind (arith, nat_tests, tests_are, le), shift_after new (rw (move.number_from, move.number_to) at is))
+
+    pub was_empty : (new : List Held) → (held_at t.places i).items ≡ [] → new ≡ t.places → ((emissions : ℕ → List Note) → IsAnswer (reasons plan emissions steps s) (Refused why.Empty)) × IsTransportOf plan (steps ++ []) put taken (record t { places = new })
+    was_empty new none same = grind (arith, same_after, tests_are)
+
+    pub was_full : (new : List Held) → 0 < length (held_at t.places i).items → length (held_at t.places j).items ≡ (held_at t.places j).room → new ≡ t.places → ((emissions : ℕ → List Note) → IsAnswer (reasons plan emissions steps s) (Refused why.Full)) × IsTransportOf plan (steps ++ []) put taken (record t { places = new })
+    was_full new some full same = grind (arith, same_after, tests_are)
 
   -- a move that names nothing
   pub refused_named : (s : Step) → ((emissions : ℕ → List Note) → reasons plan emissions steps s ≡ move_reasons plan (notes_in plan emissions steps) s) → names_nothing plan s ≡ true →
@@ -235,3 +233,50 @@ module _ (plan : Plan) (steps : List Step) (put : ℕ → List Note) (taken : Li
         rest = notes_along _ (Link item.from ∷ (after.in_order item.from (process_of entry)).way);
         front = (after.in_order item.from (process_of entry)).notes;
       }
+
+-- the places of two numbers that some step moves an item between
+pub places_apart : (t : TransportState) (i j : ℕ) → IsConveying t → (s : Step) × MovesBetween t s i j → (i < length t.places) × (j < length t.places) × (i ≢ j)
+places_apart t i j (plan, steps, put, taken, stands) (s, moves) = two_places plan steps put taken t stands s i j (moves plan steps put taken stands)
+
+-- between which places a relay's step moves an item
+pub admit_moves : (t : TransportState) (relay p j : ℕ) → is_attached t.plan relay p ≡ true → j ≡ t.plan.n + relay → MovesBetween t (step.Admit relay p) p j
+admit_moves t relay p j attached hold plan steps put taken stands =
+    let same = sym (attached_same t.plan plan stands.same_plan relay p) ∙ attached in
+    let leaf = attached_is plan relay p same in
+    record {
+      from = Link p;
+      to = HoldOf relay;
+      takes = refl;
+      is_from = (attached_exists plan stands.checked p relay leaf).0;
+      is_next = ap (option_map HoldOf) leaf;
+      named = ap not same;
+      number_from = refl;
+      number_to = omega (arith, hold, stands.same_plan.n);
+    }
+
+pub pull_moves : (t : TransportState) (relay i j : ℕ) → relay < length t.plan.parents.items → is_leaf t.plan relay ≡ false → i ≡ place_number t.plan (InboxOf (Relay relay)) → j ≡ t.plan.n + relay → MovesBetween t (step.Pull relay) i j
+pull_moves t relay i j within inner inbox hold plan steps put taken stands = record {
+  from = InboxOf (Relay relay);
+  to = HoldOf relay;
+  takes = refl;
+  is_from = omega (arith, within, ap length stands.same_plan.parents);
+  is_next = refl;
+  named = grind (arith, nat_tests, leaf_same t.plan plan stands.same_plan relay, stands.same_plan.parents);
+  number_from = omega (arith, inbox, stands.same_plan.n, ap length stands.same_plan.parents);
+  number_to = omega (arith, hold, stands.same_plan.n);
+}
+
+pub pass_moves : (t : TransportState) (relay i j : ℕ) (owner : Parent) → parent_of t.plan relay ≡ Some owner → i ≡ t.plan.n + relay → j ≡ place_number t.plan (InboxOf owner) → MovesBetween t (step.Pass relay) i j
+pass_moves t relay i j owner parent hold inbox plan steps put taken stands =
+    let same : parent_of plan relay ≡ Some owner = ap (λ l. slice_get l relay) (sym stands.same_plan.parents) ∙ parent in
+    let within = slice_get_within plan.parents.items relay owner same in
+    record {
+      from = HoldOf relay;
+      to = InboxOf owner;
+      takes = refl;
+      is_from = within;
+      is_next = ap (option_map InboxOf) same;
+      named = grind (arith, nat_tests);
+      number_from = omega (arith, hold, stands.same_plan.n);
+      number_to = inbox ∙ number_same t.plan plan stands.same_plan (InboxOf owner);
+    }

@@ -52,10 +52,7 @@ module _ (plan : Plan) (steps : List Step) (put : ℕ → List Note) (taken : Li
 
   -- what leaves a place on the way of its process comes to the next
   passes_on : (p : ℕ) (x y : Place) → IsOnWay plan p x → next_place plan x ≡ Some y → came p y ≡ left p x
-  passes_on p x y on next = grind (arith, ne_eqb, same)
-    where
-      same : item.from ≡ p → puts_into plan y s ≡ takes_from x s
-      same mine = grind (arith, entry_on_way, one_before)
+  passes_on p x y on next = grind (arith, ne_eqb, entry_on_way, one_before)
 
   at_place : (p : ℕ) (x : Place) → IsPlaceOf plan x → left p x ++ notes_at plan places p x ≡ notes_at plan t.places p x ++ came p x
   at_place p x is = grind (arith, common_steps)

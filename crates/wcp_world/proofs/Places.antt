@@ -1,10 +1,7 @@
-use Rattle.std.proofs.Common.{◌≡◌, ◌≢◌, ◌+◌, ◌<◌, true, false, length, Some, subst, arith}
-use Rattle.wcp_model.specs.declared.plan.Parent.{Parent}
-use Rattle.wcp_model.specs.declared.plan.Parent.TheVariants.{Root, Relay}
+use Rattle.std.proofs.Common.{◌≡◌, ◌≢◌, ◌+◌, ◌<◌, true, false, length, Some, arith}
 use Rattle.wcp_model.specs.declared.plan.Plan.{Plan}
 use Rattle.wcp_model.specs.PlanFault.{IsCheckedPlan}
-use Rattle.wcp_model.specs.Tree.{parent_of}
-use Rattle.wcp_model.specs.Occupancy.{Place, Pending, Link, HoldOf, InboxOf, is_same_place, next_place}
+use Rattle.wcp_model.specs.Occupancy.{Place, is_same_place, next_place}
 use Rattle.wcp_model.proofs.CheckedPlans.{few_processes, some_process, capacity, hold_room, parent_below, attached_exists}
 use Rattle.wcp_world.specs.Transport.{IsPlaceOf, place_number}
 
@@ -25,17 +22,7 @@ number_within plan x is_x = grind arith
 module _ (plan : Plan) (checked : IsCheckedPlan plan) where
   -- the place after a place is a place
   pub next_is_place : (x y : Place) → next_place plan x ≡ Some y → IsPlaceOf plan x → IsPlaceOf plan y
-  next_is_place (Pending p) y next is = absurd is
-  next_is_place (Link p) y next is =
-      grind (arith, attached_exists)
-  next_is_place (HoldOf r) y next is =
-      grind (arith, inbox)
-    where
-      inbox : (owner : Parent) → parent_of plan r ≡ Some owner → IsPlaceOf plan (InboxOf owner)
-      inbox Root at = tt
-      inbox (Relay above) at = omega (arith, parent_below plan checked r above at, is)
-  next_is_place (InboxOf Root) y next is = absurd (cc next)
-  next_is_place (InboxOf (Relay r)) y next is = let same : HoldOf r ≡ y = cc next in subst (IsPlaceOf plan) same is
+  next_is_place x y next is = grind (arith, attached_exists, parent_below)
 
 -- what the numbers of a checked plan are within
 pub ruleset plan_limits = (few_processes, some_process, capacity, hold_room)

@@ -1,7 +1,6 @@
-use Rattle.std.proofs.Common.{◌≡◌, ◌≢◌, ℕ, zero, suc, ◌+◌, ◌<◌, ◌≤◌, ◌⊎◌, true, false, cond, IsTrue, MatchOption, List, [], ◌∷◌, ◌++◌, length, slice_get, slice_index, count_by, set, eqb, Option, None, Some, refl, sym, ap, ◌∙◌, inl, inr, ⊎_elim, append-nil, eqb-true, eq-eqb, true≢false, le_refl, arith}
+use Rattle.std.proofs.Common.{◌≡◌, ◌≢◌, ℕ, zero, suc, ◌+◌, ◌<◌, ◌≤◌, ◌⊎◌, true, false, List, [], ◌∷◌, ◌++◌, length, slice_get, slice_index, count_by, set, None, Some, refl, sym, ap, ◌∙◌, inl, inr, ⊎_elim, append-nil, eqb-true, eq-eqb, le_refl, arith}
 use Rattle.std.proofs.Math.Bool.{or-false, or-true}
 use Rattle.std.proofs.Math.Seq.{map-set_same}
-use Rattle.std.specs.Option.{option_map, option_map_or}
 use Rattle.std.proofs.lemmas.Bool.{cases_lt}
 use Rattle.std.proofs.lemmas.Grind.{flat_map-append}
 use Rattle.std.proofs.lemmas.List.{length-map, map-append}
@@ -48,12 +47,7 @@ not_ahead n c message p stamp in_range is =
 
 -- a message that wasn't sent wasn't received
 unsent_unreceived : (c : Computation) (message : ℕ) → IsAccepted c → count_by is_send c ≤ message → was_received c message ≡ false
-unsent_unreceived c message accepted unsent = grind (arith, Any-from_list_any, receive_is, slice_get-get_or)
-  where
-    receive_is : (s : Step) → is_receive_of message s ≡ true → (place : ℕ) → slice_get c place ≡ Some s → ⊥
-    receive_is (Recv p m) own place at =
-        omega (arith, eqb-true m message own, accepted.sent_first place p m at, sum_by-take-le (λ x. cond (is_send x) 1 0) c place)
-    receive_is s own place at = absurd (true≢false (sym own))
+unsent_unreceived c message accepted unsent = grind (arith, Any-from_list_any, slice_get-get_or, eqb-true, sum_by-take-le)
 
 -- a message that one more event doesn't receive stays as it was
 received_stays : (c : Computation) (s : Step) (message : ℕ) → is_receive_of message s ≡ false → was_received (c ++ s ∷ []) message ≡ was_received c message
@@ -69,23 +63,11 @@ module _ (n : ℕ) (c : Computation) (letters : List Letter) (are : AreLettersOf
 
   -- a letter is addressed to the process that its message was sent to
   pub addressed_is : (message p : ℕ) → was_sent_to c message p ≡ is_addressed letters message p
-  addressed_is message p =
-      grind (arith, slice_get-map)
-    where
-      go : (o : Option Letter) → slice_get (receivers c) message ≡ option_map (λ l. l.to) o → was_sent_to c message p ≡ option_map_or (λ l. eqb l.to p) o false
-      go None there = rw there refl
-      go (Some letter) there = rw there refl
+  addressed_is message p = grind (arith, slice_get-map)
 
   -- what is said of a letter stays, where one more event doesn't receive it
   letter_stays : (s : Step) (message : ℕ) (letter : Letter) → is_receive_of message s ≡ false → IsLetterOf n c message letter → IsLetterOf n (c ++ s ∷ []) message letter
-  letter_stays s message letter other is = go letter.message is
-    where
-      IsSent : Computation → Stamped (Unit {0}) → Type 0
-      IsSent d sent = (was_received d message ≡ false) × ((seal_of sent).watch ≡ 0) × ((seal_of sent).to ≡ letter.to) × IsStampOf n d message (seal_of sent).clock
-
-      go : (o : Option (Stamped (Unit {0}))) → MatchOption o (IsTrue (was_received c message)) (IsSent c) → MatchOption o (IsTrue (was_received (c ++ s ∷ []) message)) (IsSent (c ++ s ∷ []))
-      go None is = received_stays c s message other ∙ is
-      go (Some sent) is = (received_stays c s message other ∙ is.0, is.1, is.2, stamp_grows n c (s ∷ []) message (seal_of sent).clock is.3)
+  letter_stays s message letter other is = grind (arith, received_stays, stamp_grows)
 
   -- an event that is no send and no receive leaves the letters as they are
   pub letters_stay : (s : Step) → receivers (s ∷ []) ≡ [] → ((message : ℕ) → is_receive_of message s ≡ false) → AreLettersOf n (c ++ s ∷ []) letters

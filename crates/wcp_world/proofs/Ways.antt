@@ -27,17 +27,7 @@ distance plan (InboxOf (Relay relay)) = 2 * relay + 2
 
 module _ (plan : Plan) (checked : IsCheckedPlan plan) where
   pub nearer : (x y : Place) → next_place plan x ≡ Some y → distance plan y < distance plan x
-  nearer (Pending p) y next = let same : Link p ≡ y = cc next in omega (arith, ap (distance plan) same)
-  nearer (Link p) y next =
-      grind (arith, attached_exists)
-  nearer (HoldOf r) y next =
-      grind (arith, below)
-    where
-      below : (owner : Parent) → parent_of plan r ≡ Some owner → distance plan (InboxOf owner) < 2 * r + 1
-      below Root at = omega arith
-      below (Relay above) at = omega (arith, parent_below plan checked r above at)
-  nearer (InboxOf Root) y next = absurd (cc next)
-  nearer (InboxOf (Relay r)) y next = let same : HoldOf r ≡ y = cc next in omega (arith, ap (distance plan) same)
+  nearer x y next = grind (arith, attached_exists, parent_below)
 
   pub next_apart : (x y : Place) → next_place plan x ≡ Some y → is_same_place x y ≡ false
   next_apart x y next = false_from_ne_true (is_same_place x y) (λ same. omega (arith, nearer x y next, ap (distance plan) (same_place x y same)))

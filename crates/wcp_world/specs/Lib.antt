@@ -3,7 +3,6 @@ pub mod PutNotes
 pub mod Messages
 pub mod Processes
 pub mod Transport
-pub mod Shifts
 pub mod World
 pub mod WorldView
 pub mod Plays

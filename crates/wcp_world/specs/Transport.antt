@@ -1,4 +1,4 @@
-use Rattle.std.specs.Prelude.{◌≡◌, ℕ, ◌+◌, ◌<◌, ◌≤◌, Bool, true, if◌then◌else◌, Option, Some, MatchOption}
+use Rattle.std.specs.Prelude.{◌≡◌, ℕ, ◌+◌, ◌<◌, ◌≤◌, Bool, true, false, if◌then◌else◌, Option, Some, MatchOption}
 use Rattle.std.specs.Prelude.{List, [], ◌∷◌, ◌++◌, length, count_by, slice_get, slice_index_or}
 use Rattle.wcp_clock.specs.declared.note.Item.{Item}
 use Rattle.wcp_clock.specs.declared.note.Note.{Note}
@@ -12,8 +12,8 @@ use Rattle.wcp_model.specs.declared.step.Why.TheVariants.{Full}
 use Rattle.wcp_model.specs.PlanFault.{IsCheckedPlan}
 use Rattle.wcp_model.specs.Tree.{IsSamePlan}
 use Rattle.wcp_model.specs.Occupancy.{Place, Pending, Link, HoldOf, InboxOf}
-use Rattle.wcp_model.specs.Occupancy.{next_place, puts_into, taken_from, notes_in, room_of, IsEntry}
-use Rattle.wcp_model.specs.Replies.{accepted_by, reasons}
+use Rattle.wcp_model.specs.Occupancy.{next_place, source, puts_into, taken_from, notes_in, room_of, IsEntry}
+use Rattle.wcp_model.specs.Replies.{accepted_by, names_nothing, reasons}
 use Rattle.wcp_model.specs.Report.{notes_taken}
 use Rattle.wcp_hold.specs.Held.{Held}
 use Rattle.wcp_world.specs.Answer.{IsAnswer}
@@ -135,15 +135,17 @@ TakesNext old new = (plan : Plan) (steps : List Step) (put : ℕ → List Note) 
     IsTransportOf plan steps put taken old → next_of old ≡ Some item →
     IsTransportOf plan (steps ++ step.Check ∷ []) put (taken ++ item ∷ []) new
 
--- Two numbers are those of a place and of the place after it.
-pub record AreNumbersOf (plan : Plan) (i j : ℕ) : Type 0 where
+-- A step moves an item from the place of one number to the place after it, which has the other number.
+pub record IsMoveBetween (plan : Plan) (s : Step) (i j : ℕ) : Type 0 where
   pub from : Place
   pub to : Place
+  pub takes : source s ≡ Some from
   pub is_from : IsPlaceOf plan from
   pub is_next : next_place plan from ≡ Some to
+  pub named : names_nothing plan s ≡ false
   pub number_from : i ≡ place_number plan from
   pub number_to : j ≡ place_number plan to
 
-abbrev pub AreNeighbours : TransportState → ℕ → ℕ → Type 0
-AreNeighbours t i j = (plan : Plan) (steps : List Step) (put : ℕ → List Note) (taken : List Item) →
-    IsTransportOf plan steps put taken t → AreNumbersOf plan i j
+abbrev pub MovesBetween : TransportState → Step → ℕ → ℕ → Type 0
+MovesBetween t s i j = (plan : Plan) (steps : List Step) (put : ℕ → List Note) (taken : List Item) →
+    IsTransportOf plan steps put taken t → IsMoveBetween plan s i j

@@ -2,12 +2,12 @@ ghost use Rattle.std.specs.Prelude.{◌≡◌, ℕ, ◌+◌, ◌<◌, ◌≤◌,
 ghost use Rattle.std.specs.Prelude.{IsSome, IfOk, OnOk};
 ghost use Rattle.wcp_clock.specs.Limits.{most_cap};
 ghost use Rattle.wcp_model.specs.declared.plan.Plan.{Plan};
+ghost use Rattle.wcp_model.specs.declared.step.Step.{Step};
 ghost use Rattle.wcp_model.specs.declared.step.Step.TheVariants as step;
 ghost use Rattle.wcp_model.specs.Occupancy.{InboxOf};
 ghost use Rattle.wcp_model.specs.PlanFault.{IsCheckedPlan};
 ghost use Rattle.wcp_hold.specs.Held.{empty_hold};
 ghost use Rattle.wcp_world.specs.Answer.{KeepsIfRefused};
-ghost use Rattle.wcp_world.specs.Shifts.{Shifts};
 ghost use Rattle.wcp_world.specs.Transport.{place_number};
 
 use std::alloc::{AllocError, Global};
@@ -35,7 +35,7 @@ impl Model for Transport {
 
 impl Transport {
     ghost use Rattle.wcp_world.specs.Transport.{IsTransportOf, IsConveying, Conveys, ReadsNext, TakesNext, Puts};
-    ghost use Rattle.wcp_world.specs.Transport.{AreNeighbours, next_of};
+    ghost use Rattle.wcp_world.specs.Transport.{MovesBetween, next_of};
 
     /// The transport of a plan, before any step. `Err` where memory runs out.
     #[tactic(auto, using(crate::proofs::Places::plan_limits))]
@@ -130,9 +130,9 @@ impl Transport {
     /// The first item of one place moves to the next, where there is one and room for it.
     fn convey(&mut self, from: usize, to: usize) -> Reply
         requires conveying { IsConveying self.old }
-        requires next { AreNeighbours self.old from to }
-        ensures moved { Shifts self.old.places from to result self.new.places }
-        ensures plan { self.new.plan ≡ self.old.plan }
+        requires next { (s : Step) × MovesBetween self.old s from to }
+        ensures answered { (s : Step) → MovesBetween self.old s from to → Conveys self.old s result self.new }
+        ensures refused { KeepsIfRefused self.old result self.new }
     {
         let Some(item) = self.places[from].front() else {
             return Reply::Refused(Why::Empty);
