@@ -87,22 +87,22 @@ module _ {I : Type 0} (origin place : I → ℕ) (is_last : I → Bool) where
       (cases_eq (origin x) q) in
       subst (λ ys. AreInSequence place is_last (items_from origin q ys)) (append_assoc before (x ∷ []) xs) (AreInSequence-more numbers q (before ++ x ∷ []) xs more may.1)
 
-  -- where the items of each number are in sequence, those behind a front may follow it
-  may_follow : (members : Numbers) (all : List I) → ((q : ℕ) → q < most_processes → AreInSequence place is_last (items_from origin q all))
-      → ((q : ℕ) → q < most_processes → (items_from origin q all ≡ [] → ⊥) → sets.contains members q ≡ true)
-      → (before items behind : List I) → all ≡ before ++ (items ++ behind) → All (λ item. origin item < most_processes) items
+  -- where the items of each number of a kind are in sequence, those behind a front may follow it
+  pub may_follow : (IsOne : ℕ → Type 0) (members : Numbers) (all : List I) → ((q : ℕ) → IsOne q → AreInSequence place is_last (items_from origin q all))
+      → ((q : ℕ) → IsOne q → (items_from origin q all ≡ [] → ⊥) → sets.contains members q ≡ true)
+      → (before items behind : List I) → all ≡ before ++ (items ++ behind) → All (λ item. IsOne (origin item)) items
       → AllMayFollow origin place is_last members before items
-  may_follow members all runs owned before [] behind is each = tt
-  may_follow members all runs owned before (x ∷ xs) behind is each =
+  may_follow IsOne members all runs owned before [] behind is each = tt
+  may_follow IsOne members all runs owned before (x ∷ xs) behind is each =
       let p : ℕ = origin x in
-      let within : p < most_processes = each 0 x (omega arith) in
+      let within : IsOne p = each 0 x (omega arith) in
       let split : items_from origin p all ≡ items_from origin p before ++ x ∷ items_from origin p (xs ++ behind) =
       ap (items_from origin p) is ∙ items_from-append origin p before (x ∷ (xs ++ behind)) ∙ ap (λ ys. items_from origin p before ++ ys) (items_from-own origin p x (xs ++ behind) refl) in (
         record {
           owned = owned p within (λ none. not_empty (items_from origin p before) x (items_from origin p (xs ++ behind)) (sym none ∙ split));
           next = runs p within (items_from origin p before) x (items_from origin p (xs ++ behind)) split;
         },
-        may_follow members all runs owned (before ++ x ∷ []) xs behind (is ∙ sym (append_assoc before (x ∷ []) (xs ++ behind))) (λ k d below. each (suc k) d (omega arith)),
+        may_follow IsOne members all runs owned (before ++ x ∷ []) xs behind (is ∙ sym (append_assoc before (x ∷ []) (xs ++ behind))) (λ k d below. each (suc k) d (omega arith)),
       )
 
 module _ {M I : Type 0} (items_of : M → List I) (origin place : I → ℕ) (is_last : I → Bool) where
@@ -223,7 +223,7 @@ module _ {M I : Type 0} (items_of : M → List I) (origin place : I → ℕ) (is
               record {
                 numbered = numbered;
                 follows = λ members rest.
-                    may_follow origin place is_last members all (λ q below. subst (AreInSequence place is_last) (sym (put_is q below)) (h.rule.in_sequence q below))
+                    may_follow origin place is_last (λ q. q < most_processes) members all (λ q below. subst (AreInSequence place is_last) (sym (put_is q below)) (h.rule.in_sequence q below))
                     (λ q below some_there. inside_unless (sets.contains members q) (sets.contains unowned q) (rest q below) (false_from_ne_true (sets.contains unowned q) (λ member. some_there (put_is q below ∙ unput q below member))))
                     before (items_of m) (flat_map items_of within) refl numbered;
               },
