@@ -1,19 +1,14 @@
 -- Parts that are started one by one, and their ends.
-use Rattle.std.proofs.Common.{◌≡◌, ℕ, zero, suc, ◌<◌, List, [], ◌∷◌, ◌++◌, length, map, Some, sym, refl, ap, ◌∙◌, subst, ⊎_elim, append_assoc, arith}
+use Rattle.std.proofs.Common.{◌≡◌, List, [], ◌∷◌, ◌++◌, length, map, Some, refl, ⊎_elim, append_assoc, arith}
 use Rattle.std.specs.Prelude.{slice_get}
 use Rattle.std.proofs.lemmas.List.{length-append, map-append}
+use Rattle.std.proofs.lemmas.Option.{slice_get_within}
 use Rattle.wcp_model.proofs.GrowingLogs.{get_push}
 use Rattle.wcp_run.specs.Threads.{AreEndsOf}
 
-module _ {A : Type 0} where
-  below_end : (xs : List A) (y : A) (i : ℕ) → slice_get xs i ≡ Some y → i < length xs
-  below_end [] y i at = absurd (cc)
-  below_end (z ∷ xs) y zero at = omega arith
-  below_end (z ∷ xs) y (suc i) at = let h = below_end xs y i at in omega arith
-
 module _ {P E : Type 0} (IsEnd : P → E → Type 0) where
   pub AreEndsOf-none : AreEndsOf IsEnd [] []
-  AreEndsOf-none = record { count = refl; each = λ i part end at other. let h = below_end [] part i at in absurd (omega arith) }
+  AreEndsOf-none = record { count = refl; each = λ i part end at other. absurd (cc at) }
 
   pub AreEndsOf-push : (parts : List P) (ends : List E) (part : P) (end : E) → AreEndsOf IsEnd parts ends → IsEnd part end → AreEndsOf IsEnd (parts ++ part ∷ []) (ends ++ end ∷ [])
   AreEndsOf-push parts ends part end are is = record {
@@ -21,11 +16,11 @@ module _ {P E : Type 0} (IsEnd : P → E → Type 0) where
     each = λ i p e at other. ⊎_elim
         (λ (old : slice_get parts i ≡ Some p). ⊎_elim
         (λ (before : slice_get ends i ≡ Some e). are.each i p e old before)
-        (λ (last : (i ≡ length ends) × (end ≡ e)). let h = below_end parts p i old in absurd (omega (arith, are.count, last.0)))
+        (λ (last : (i ≡ length ends) × (end ≡ e)). let h = slice_get_within parts i p old in absurd (omega (arith, are.count, last.0)))
         (get_push ends end e i other))
         (λ (new : (i ≡ length parts) × (part ≡ p)). ⊎_elim
-        (λ (before : slice_get ends i ≡ Some e). let h = below_end ends e i before in absurd (omega (arith, are.count, new.0)))
-        (λ (last : (i ≡ length ends) × (end ≡ e)). subst (λ q. IsEnd q e) new.1 (subst (IsEnd part) last.1 is))
+        (λ (before : slice_get ends i ≡ Some e). let h = slice_get_within ends i e before in absurd (omega (arith, are.count, new.0)))
+        (λ (last : (i ≡ length ends) × (end ≡ e)). rw (new.1, last.1) at is)
         (get_push ends end e i other))
         (get_push parts part p i at);
   }
@@ -34,11 +29,10 @@ module _ {P E : Type 0} (IsEnd : P → E → Type 0) where
 pub started_more : {H P : Type 0} (part_of : H → P) (started : List H) (thread : H) (part : P) (rest all : List P) → map part_of started ++ part ∷ rest ≡ all → part_of thread ≡ part
     → map part_of (started ++ thread ∷ []) ++ rest ≡ all
 started_more part_of started thread part rest all whole is =
-    ap (λ xs. xs ++ rest) (map-append part_of started (thread ∷ [])) ∙ append_assoc (map part_of started) (part_of thread ∷ []) rest
-    ∙ ap (λ p. map part_of started ++ p ∷ rest) is ∙ whole
+    rw (map-append, append_assoc, is) whole
 
 -- one more was joined of those that were left
 pub joined_more : {H P E : Type 0} (part_of : H → P) (IsEnd : P → E → Type 0) (joined : List H) (thread : H) (ends : List E) (end : E) → AreEndsOf IsEnd (map part_of joined) ends → IsEnd (part_of thread) end
     → AreEndsOf IsEnd (map part_of (joined ++ thread ∷ [])) (ends ++ end ∷ [])
 joined_more part_of IsEnd joined thread ends end are is =
-    subst (λ parts. AreEndsOf IsEnd parts (ends ++ end ∷ [])) (sym (map-append part_of joined (thread ∷ []))) (AreEndsOf-push IsEnd (map part_of joined) ends (part_of thread) end are is)
+    rw map-append (AreEndsOf-push IsEnd (map part_of joined) ends (part_of thread) end are is)

@@ -2,7 +2,7 @@ pub mod CheckedItems
 pub mod RunEnds
 pub mod ClimbedLanes
 pub mod FirstFaults
-pub mod KeptInboxes
+pub mod WatchEnds
 pub mod MatchedLinks
 pub mod MatchedRings
 pub mod Seating

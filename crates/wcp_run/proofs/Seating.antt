@@ -1,7 +1,6 @@
 -- One end after another is seated.
-use Rattle.std.proofs.Common.{◌≡◌, ◌≢◌, ℕ, zero, suc, ◌<◌, List, [], ◌∷◌, ◌++◌, length, Option, Some, None, Contains, get_or, true, false, ◌+◌, true≢false, refl, sym, ap, subst, ◌∙◌, ⊎_elim, arith}
+use Rattle.std.proofs.Common.{◌≡◌, ◌≢◌, ℕ, zero, suc, ◌<◌, List, [], ◌∷◌, ◌++◌, length, length-set, Option, Some, None, Contains, get_or, true, false, ◌+◌, true≢false, refl, sym, ap, subst, ◌∙◌, ⊎_elim, arith}
 use Rattle.std.specs.Prelude.{slice_get, slice_set, slice_index_or, is_some, All, AllPairs}
-use Rattle.std.proofs.Math.ListN.{length-set}
 use Rattle.std.proofs.lemmas.Bool.{cases_eq}
 use Rattle.std.proofs.lemmas.List.{append_assoc, append-nil}
 use Rattle.std.proofs.lemmas.List.Elements.{All-contains, All-cons, All-nil, Contains-get_or, Contains-append_right}
@@ -9,10 +8,6 @@ use Rattle.std.proofs.lemmas.List.Kept.{AllPairs-cons}
 use Rattle.std.proofs.lemmas.Option.{slice_get-get_or, get_or_from_slice_get}
 use Rattle.wcp_run.specs.Seats.{AreOfWatch, AreSeats, AreAllSeated, SitsAt}
 use Rattle.wcp_tree.proofs.Entries.{set_here, set_elsewhere}
-
--- a list stays as long
-pub length_set : {X : Type 0} (xs : List X) (k : ℕ) (x : X) → length (slice_set xs k x) ≡ length xs
-length_set xs k x = simp length-set
 
 module _ {E : Type 0} where
   -- what holds of each two holds of an element and each after it
@@ -62,16 +57,13 @@ module _ {E : Type 0} where
       (λ (apart : place ≢ count). before place (omega (arith, below, apart)))
       (cases_eq place count)
 
-  first_contained : (end : E) (done : List E) → Contains (end ∷ done) end
-  first_contained end done = (0, omega arith, refl)
-
   -- what was popped off the end stands before what was popped earlier
   pub popped : (all now left done : List E) (end : E) → all ≡ now ++ done → now ≡ left ++ end ∷ [] → all ≡ left ++ end ∷ done
   popped all now left done end is last = is ∙ ap (λ xs. xs ++ done) last ∙ append_assoc left (end ∷ []) done
 
   pub among : (all left done : List E) (end : E) → all ≡ left ++ end ∷ done → Contains all end
   among all left done end is =
-      subst (λ xs. Contains xs end) (sym is) (Contains-append_right left (end ∷ done) end (first_contained end done))
+      subst (λ xs. Contains xs end) (sym is) (Contains-append_right left (end ∷ done) end (0, omega arith, refl))
 
   contained_cases : (end : E) (done : List E) (other : E) → Contains (end ∷ done) other → (P : Type 0)
       → (end ≡ other → P) → (Contains done other → P) → P
@@ -88,14 +80,11 @@ module _ {E : Type 0} where
       pub at : AreSeats place_of done seats
 
     pub none_seated : (seats : List (Option E)) → length seats ≡ size
-        → ((place : ℕ) (end : E) → slice_get seats place ≡ Some (Some end) → ⊥) → IsSeating all seats
+        → ((place : ℕ) (end : E) → SitsAt seats place end → ⊥) → IsSeating all seats
     none_seated seats count none = record {
       done = [];
       is = sym (append-nil all);
-      of_watch = record {
-        same = All-nil (λ end. watch_of end ≡ watch);
-        apart = λ i j d less within. absurd (omega (arith, within));
-      };
+      of_watch = record { same = All-nil (λ end. watch_of end ≡ watch); apart = λ i j d less within. absurd (omega arith) };
       count = count;
       at = record {
         seated = λ place end at. absurd (omega (arith, at.0.1));
@@ -103,58 +92,51 @@ module _ {E : Type 0} where
       };
     }
 
-    module _ (left now : List E) (end : E) (seats : List (Option E)) (old : IsSeating now seats) (last : now ≡ left ++ end ∷ []) where
-      before : all ≡ left ++ end ∷ old.done
-      before = popped all now left old.done end old.is last
+  module _ {watch_of place_of : E → ℕ} {watch size : ℕ} {all : List E} (left : List E) {now : List E} (end : E) {seats : List (Option E)}
+      (old : IsSeating watch_of place_of watch size all now seats) (last : now ≡ left ++ end ∷ []) where
+    before : all ≡ left ++ end ∷ old.done
+    before = popped all now left old.done end old.is last
 
-      pub was_left : Contains all end
-      was_left = among all left old.done end before
+    pub was_left : Contains all end
+    was_left = among all left old.done end before
 
-      pub one_seated : watch_of end ≡ watch → place_of end < size
-          → ((other : E) → slice_get seats (place_of end) ≡ Some (Some other) → ⊥)
-          → IsSeating left (slice_set seats (place_of end) (Some end))
-      one_seated same within free =
-          let here : slice_get (slice_set seats (place_of end) (Some end)) (place_of end) ≡ Some (Some end) =
-          set_here seats (place_of end) (Some end) (omega (arith, within, old.count)) in
-          record {
-            done = end ∷ old.done;
-            is = before;
-            of_watch = record {
-              same = All-cons (λ end. watch_of end ≡ watch) end old.done same old.of_watch.same;
-              apart = AllPairs-cons (λ one other. place_of one ≢ place_of other) end old.done
-                  (All-from_contains (λ other. place_of end ≢ place_of other) old.done
-                  (λ other among same. free other (old.at.seated (place_of end) other (among, sym same))))
-                  old.of_watch.apart;
-            };
-            count = length_set seats (place_of end) (Some end) ∙ old.count;
-            at = record {
-              seated = λ place other at. contained_cases end old.done other at.0
-                  (SitsAt (slice_set seats (place_of end) (Some end)) place other)
-                  (λ first.
-                  subst (λ e. SitsAt (slice_set seats (place_of end) (Some end)) place e) first
-                  (ap (slice_get (slice_set seats (place_of end) (Some end))) (sym at.1 ∙ sym (ap place_of first)) ∙ here))
-                  (λ later.
-                  let there = old.at.seated place other (later, at.1) in
-                  set_elsewhere seats (place_of end) place (Some end)
-                  (λ same. free other (subst (λ place. SitsAt seats place other) same there)) ∙ there);
-              own = λ place other at. ⊎_elim
-                  (λ (same : place ≡ place_of end).
-                  let first : end ≡ other = let both = subst (λ place. slice_get (slice_set seats (place_of end) (Some end)) place ≡ Some (Some other)) same at in cc in
-                  (subst (Contains (end ∷ old.done)) first (first_contained end old.done), subst (λ e. place_of e ≡ place) first (sym same)))
-                  (λ (apart : place ≢ place_of end).
-                  let own = old.at.own place other (sym (set_elsewhere seats (place_of end) place (Some end) apart) ∙ at) in
-                  (Contains-append_right (end ∷ []) old.done other own.0, own.1))
-                  (cases_eq place (place_of end));
-            };
-          }
+    pub one_seated : watch_of end ≡ watch → place_of end < size → ((other : E) → SitsAt seats (place_of end) other → ⊥)
+        → IsSeating watch_of place_of watch size all left (slice_set seats (place_of end) (Some end))
+    one_seated same within free =
+        let here : SitsAt (slice_set seats (place_of end) (Some end)) (place_of end) end =
+        set_here seats (place_of end) (Some end) (omega (arith, old.count)) in
+        record {
+          done = end ∷ old.done;
+          is = before;
+          of_watch = record {
+            same = All-cons (λ end. watch_of end ≡ watch) end old.done same old.of_watch.same;
+            apart = AllPairs-cons (λ one other. place_of one ≢ place_of other) end old.done
+                (All-from_contains (λ other. place_of end ≢ place_of other) old.done (λ other among same. free other (old.at.seated (place_of end) other (among, sym same))))
+                old.of_watch.apart;
+          };
+          count = simp length-set old.count;
+          at = record {
+            seated = λ place other at. contained_cases end old.done other at.0
+                (SitsAt (slice_set seats (place_of end) (Some end)) place other)
+                (λ first. let same : place_of end ≡ place = ap place_of first ∙ at.1 in rw (← same, ← first) here)
+                (λ later.
+                let there = old.at.seated place other (later, at.1) in
+                set_elsewhere seats (place_of end) place (Some end) (λ same. free other (rw same at there)) ∙ there);
+            own = λ place other at. ⊎_elim
+                (λ (same : place ≡ place_of end).
+                let first : end ≡ other = let both = rw same at at in cc in
+                ((0, omega arith, first), cc))
+                (λ (apart : place ≢ place_of end).
+                let own = old.at.own place other (sym (set_elsewhere seats (place_of end) place (Some end) apart) ∙ at) in
+                (Contains-append_right (end ∷ []) old.done other own.0, own.1))
+                (cases_eq place (place_of end));
+          };
+        }
 
-      pub another_watch : watch_of end ≢ watch → AreOfWatch watch_of place_of watch all → ⊥
-      another_watch other of =
-          other (All-contains (λ end. watch_of end ≡ watch) all end of.same was_left)
+    pub another_watch : watch_of end ≢ watch → AreOfWatch watch_of place_of watch all → ⊥
+    another_watch other of = other (All-contains (λ end. watch_of end ≡ watch) all end of.same was_left)
 
-      pub came_before : (other : E) → slice_get seats (place_of end) ≡ Some (Some other)
-          → AreOfWatch watch_of place_of watch all → ⊥
-      came_before other at of =
-          let own = old.at.own (place_of end) other at in
-          pair_after (λ one other. place_of one ≢ place_of other) left end old.done other
-          (subst (AllPairs (λ one other. place_of one ≢ place_of other)) before of.apart) own.0 (sym own.1)
+    pub came_before : (other : E) → SitsAt seats (place_of end) other → AreOfWatch watch_of place_of watch all → ⊥
+    came_before other at of =
+        let own = old.at.own (place_of end) other at in
+        pair_after (λ one other. place_of one ≢ place_of other) left end old.done other (rw before at of.apart) own.0 (sym own.1)

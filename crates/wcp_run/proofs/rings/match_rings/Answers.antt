@@ -1,17 +1,13 @@
-use Rattle.std.proofs.Common.{true≢false, sym, ap, subst, ◌∙◌}
-use Rattle.std.specs.Prelude.{slice_set}
+use Rattle.std.proofs.Common.{true≢false, sym, ap, ◌∙◌}
 use Rattle.wcp_ring.specs.Ends.{EndedSide}
-use Rattle.wcp_run.proofs.MatchedRings.{AreMatching, its, one_matched, one_ring, sits_still, unmatched}
+use Rattle.wcp_run.proofs.MatchedRings.{one_matched, one_ring, sits_still, unmatched}
 use Rattle.wcp_run.proofs.Seating.{nobody_sat, sat_there}
 use Rattle.wcp_run.proofs.rings.match_rings.Goals as goal
 
 pub unreachable-requires : goal.unreachable-requires
 unreachable-requires c =
-    let has = its c.args.probes.now c.args.feeds.items c.requires.seated c.requires.apart c.pop.new.self.items
-    c.loop-feed.feeds.items c.in-Some.feed c.loop-feed.probes c.loop-feed.invariant c.in-Some.ensures.items in
-    let sits = sits_still c.args.probes.now c.args.feeds.items c.requires.seated c.requires.apart c.pop.new.self.items
-    c.loop-feed.feeds.items c.in-Some.feed c.loop-feed.probes c.loop-feed.invariant c.in-Some.ensures.items in
-    nobody_sat c.loop-feed.probes c.in-Some.feed.process c.index-probes-process.result c.take.result has.probe sits
+    let sits = sits_still c.requires.seated c.requires.apart c.pop.new.self.items c.in-Some.feed c.loop-feed.invariant c.in-Some.ensures.items in
+    nobody_sat c.loop-feed.probes c.in-Some.feed.process c.index-probes-process.result c.take.result _ sits
     c.take.ensures.value c.in_default-take.is
 
 pub match_ends-requires : goal.match_ends-requires
@@ -21,9 +17,7 @@ match_ends-requires c =
     record {
       one_ring =
           ap (λ (e : EndedSide). e.ring) c.into_link.ensures
-          ∙ one_ring c.args.probes.now c.args.feeds.items c.requires.seated c.requires.apart c.pop.new.self.items
-          c.loop-feed.feeds.items c.in-Some.feed c.loop-feed.probes c.loop-feed.invariant c.in-Some.ensures.items
-          c.in-Some-take.probe sits;
+          ∙ one_ring c.requires.seated c.requires.apart c.pop.new.self.items c.in-Some.feed c.loop-feed.invariant c.in-Some.ensures.items sits;
     }
 
 pub returns-in-Err-clause-exact : goal.returns-in-Err-clause-exact
@@ -31,10 +25,8 @@ returns-in-Err-clause-exact c =
     let sits = sat_there c.loop-feed.probes c.in-Some.feed.process c.index-probes-process.result c.take.result
     c.in-Some-take.probe c.if-prove.false c.take.ensures.value c.in-Some-take.is in (
       λ is. absurd (true≢false (sym is)),
-      λ all. absurd (unmatched c.args.probes.now c.args.feeds.items c.requires.seated c.requires.apart c.pop.new.self.items
-          c.loop-feed.feeds.items c.in-Some.feed c.loop-feed.probes c.loop-feed.invariant c.in-Some.ensures.items
-          c.in-Some-take.probe sits
-          (λ same. c.in-Err.ensures.unfinished (same ∙ ap (λ (e : EndedSide). e.put) (sym c.into_link.ensures))) all),
+      λ all. absurd (unmatched c.requires.seated c.requires.apart c.pop.new.self.items c.in-Some.feed c.loop-feed.invariant c.in-Some.ensures.items
+          sits (λ same. c.in-Err.ensures.unfinished (same ∙ ap (λ (e : EndedSide). e.put) (sym c.into_link.ensures))) all),
     )
 
 pub loop-feed-preserved-in_default-match_ends : goal.loop-feed-preserved-in_default-match_ends
@@ -42,10 +34,6 @@ loop-feed-preserved-in_default-match_ends c =
     let sits = sat_there c.loop-feed.probes c.in-Some.feed.process c.index-probes-process.result c.take.result
     c.in-Some-take.probe c.if-prove.false c.take.ensures.value c.in-Some-take.is in
     let same = c.in_default-match_ends.ensures.matched in
-    subst
-    (λ seat. AreMatching c.args.probes.now c.args.feeds.items c.pop.new.self.items
-    (slice_set c.loop-feed.probes c.in-Some.feed.process seat))
-    (sym c.take.ensures.after)
-    (one_matched c.args.probes.now c.args.feeds.items c.requires.seated c.requires.apart c.pop.new.self.items
-    c.loop-feed.feeds.items c.in-Some.feed c.loop-feed.probes c.loop-feed.invariant c.in-Some.ensures.items
-    c.in-Some-take.probe sits (sym same.1 ∙ same.0 ∙ ap (λ (e : EndedSide). e.put) c.into_link.ensures))
+    rw c.take.ensures.after
+    (one_matched c.requires.seated c.requires.apart c.pop.new.self.items c.in-Some.feed c.loop-feed.invariant c.in-Some.ensures.items sits
+    (sym same.1 ∙ same.0 ∙ ap (λ (e : EndedSide). e.put) c.into_link.ensures))

@@ -1,7 +1,6 @@
-use Rattle.std.proofs.Common.{◌≡◌, ◌<◌, Some, refl, true≢false, length, slice_get, sym, ap, subst, ◌∙◌, arith}
-use Rattle.std.specs.Prelude.{slice_set, is_some}
-use Rattle.std.proofs.lemmas.List.Elements.{All-contains}
-use Rattle.wcp_run.proofs.Seating.{IsSeating, none_seated, one_seated, another_watch, came_before, was_left, is_free, is_taken}
+use Rattle.std.proofs.Common.{refl, true≢false, length, slice_get, sym, ap, ◌∙◌, arith}
+use Rattle.std.specs.Prelude.{is_some}
+use Rattle.wcp_run.proofs.Seating.{none_seated, one_seated, another_watch, came_before, was_left, is_free, is_taken}
 use Rattle.wcp_run.proofs.seats.seat.Goals as goal
 
 pub loop-end-init : goal.loop-end-init
@@ -12,19 +11,15 @@ loop-end-init g c =
 pub returns-then-watch_number-watch-clause-exact : goal.returns-then-watch_number-watch-clause-exact
 returns-then-watch_number-watch-clause-exact g c = (
   λ is. absurd (true≢false (sym is)),
-  λ of. absurd (another_watch g.E.End.watch_of g.E.End.place_of c.args.watch (length c.args.seats.now) c.args.ends.items
-      c.pop.new.self.items c.loop-end.ends.items c.in-Some.end c.loop-end.seats c.loop-end.invariant c.in-Some.ensures.items
+  λ of. absurd (another_watch c.pop.new.self.items c.in-Some.end c.loop-end.invariant c.in-Some.ensures.items
       (λ same. c.if-watch_number-watch.true (c.watch_number.ensures ∙ same)) of),
 )
 
 pub prove-unreachable-requires : goal.prove-unreachable-requires
 prove-unreachable-requires g c =
-    let among = was_left g.E.End.watch_of g.E.End.place_of c.args.watch (length c.args.seats.now) c.args.ends.items
-    c.pop.new.self.items c.loop-end.ends.items c.in-Some.end c.loop-end.seats c.loop-end.invariant c.in-Some.ensures.items in
-    let within : g.E.End.place_of c.in-Some.end < length c.args.seats.now =
-    All-contains (λ end. g.E.End.watch_of end ≡ c.args.watch → g.E.End.place_of end < length c.args.seats.now)
-    c.args.ends.items c.in-Some.end c.requires.within among (sym c.watch_number.ensures ∙ c.if-watch_number-watch.false) in
-    omega (arith, within, c.place-place.ensures, c.loop-end.invariant.count)
+    let among = was_left c.pop.new.self.items c.in-Some.end c.loop-end.invariant c.in-Some.ensures.items in
+    let within = rw among.2 at (c.requires.within among.0 c.in-Some.end among.1) in
+    omega (arith, within (sym c.watch_number.ensures ∙ c.if-watch_number-watch.false), c.place-place.ensures, c.loop-end.invariant.count)
 
 pub returns-then-is_some-clause-exact : goal.returns-then-is_some-clause-exact
 returns-then-is_some-clause-exact g c = (
@@ -32,19 +27,13 @@ returns-then-is_some-clause-exact g c = (
   λ of.
       let there = is_taken c.loop-end.seats c.place-place.result c.index-seats-place.result (omega arith) c.index-seats-place.is
       (ap is_some c.index-seats-place.is ∙ sym c.if-is_some.ensures) in
-      absurd (came_before g.E.End.watch_of g.E.End.place_of c.args.watch (length c.args.seats.now) c.args.ends.items
-      c.pop.new.self.items c.loop-end.ends.items c.in-Some.end c.loop-end.seats c.loop-end.invariant c.in-Some.ensures.items
+      absurd (came_before c.pop.new.self.items c.in-Some.end c.loop-end.invariant c.in-Some.ensures.items
       there.0 (ap (slice_get c.loop-end.seats) (sym c.place-place.ensures) ∙ there.1) of),
 )
 
 pub loop-end-preserved : goal.loop-end-preserved
 loop-end-preserved g c =
-    subst
-    (λ place. IsSeating g.E.End.watch_of g.E.End.place_of c.args.watch (length c.args.seats.now) c.args.ends.items
-    c.pop.new.self.items (slice_set c.loop-end.seats place (Some c.in-Some.end)))
-    (sym c.place-place.ensures)
-    (one_seated g.E.End.watch_of g.E.End.place_of c.args.watch (length c.args.seats.now) c.args.ends.items
-    c.pop.new.self.items c.loop-end.ends.items c.in-Some.end c.loop-end.seats c.loop-end.invariant c.in-Some.ensures.items
+    rw c.place-place.ensures (one_seated c.pop.new.self.items c.in-Some.end c.loop-end.invariant c.in-Some.ensures.items
     (sym c.watch_number.ensures ∙ c.if-watch_number-watch.false)
     (omega (arith, c.place-place.ensures, c.loop-end.invariant.count))
     (λ other at.

@@ -94,7 +94,7 @@ match_links-requires c =
     let seats = have_seats c.args.checker (c.in_ok-seat.ensures.exact.0 refl) (c.in_ok-seat-2.ensures.exact.0 refl) c.in_ok-seat.ensures.seats c.in_ok-seat-2.ensures.seats in
     let seated : AreAllSeated c.args.checker.processes c.seat.new.seats × AreAllSeated c.args.checker.relays c.seat-2.new.seats = (c.are_seated.ensures.0 c.if-not-are_seated.false, c.are_seated-else-not-are_seated.ensures.0 c.if-not-are_seated-2.false) in
     let whole = subst (λ ends. IsFreeOf c.args.probes.items ends c.args.checker c.args.book Faulted) c.deref.ensures.value (c.are_whole-whole.ensures.0 c.if-not-whole.false) in
-    (ends_there c.requires seats seated whole.0).0
+    ends_there c.requires seats seated whole.0
 
 pub returns-in_err-match_links-clause-first : goal.returns-in_err-match_links-clause-first
 returns-in_err-match_links-clause-first c =
