@@ -21,11 +21,10 @@ pub IsFitOrder-take : (place : ℕ) (order : List Task) → IsFitOrder order ord
 IsFitOrder-take place order fit = record {
   same_tasks = λ p. refl;
   sent_first = λ k p q.
-      let SentFirst : List Task → Type 0 = λ front. count_by (receives p q) front ≤ count_by (sends p q) front in
-      ⊎_elim
-      (λ (past : place < k). subst SentFirst (sym (take_all k (take place order) (omega (arith, length-take place order)))) (fit.sent_first place p q))
-      (λ (le : k ≤ place). subst SentFirst (sym (take-take k place order le)) (fit.sent_first k p q))
-      (cases_lt place k);
+      elim (cases_lt place k) [
+        | inl past ↦ rw (take_all k (take place order) (omega (arith, length-take place order))) (fit.sent_first place p q)
+        | inr le ↦ rw (take-take k place order le) (fit.sent_first k p q)
+      ];
 }
 
 -- what holds of all tasks holds of a fit order of them

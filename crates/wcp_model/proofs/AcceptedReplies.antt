@@ -23,11 +23,7 @@ use Rattle.wcp_model.proofs.Growth.{get_behind}
 -- there are as many receivers as sends
 pub length-receivers : (c : Computation) → length (receivers c) ≡ count_by is_send c
 length-receivers [] = refl
-length-receivers (step.Send p to ∷ c) = ap suc (length-receivers c) ∙ sym (sum_by-cons (λ x. cond (is_send x) 1 0) (step.Send p to) c ∙ omega arith)
-length-receivers (step.Observe p holds ∷ c) = length-receivers c ∙ sym (sum_by-cons (λ x. cond (is_send x) 1 0) (step.Observe p holds) c ∙ omega arith)
-length-receivers (step.Recv p message ∷ c) = length-receivers c ∙ sym (sum_by-cons (λ x. cond (is_send x) 1 0) (step.Recv p message) c ∙ omega arith)
-length-receivers (step.Close p ∷ c) = length-receivers c ∙ sym (sum_by-cons (λ x. cond (is_send x) 1 0) (step.Close p) c ∙ omega arith)
-length-receivers (s ∷ c) = length-receivers c ∙ sym (sum_by-cons (λ x. cond (is_send x) 1 0) s c ∙ omega arith)
+length-receivers (s ∷ c) = grind (arith, length-receivers c, sum_by-cons (λ x. cond (is_send x) 1 0) s c)
 
 module _ (n : ℕ) (c : Computation) (pending : ℕ → Bool) (more : List (Bool × Why)) where
   -- the second reason against an event is that its process is closed

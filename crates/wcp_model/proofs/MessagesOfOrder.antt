@@ -38,17 +38,13 @@ sends_yes p q = and_from (p == p) (q == q) (eq-eqb p p refl) (eq-eqb q q refl)
 pub receives_yes : (p q : ℕ) → receives p q (record { p = q; action = action.Recv p }) ≡ true
 receives_yes p q = and_from (q == q) (p == p) (eq-eqb q q refl) (eq-eqb p p refl)
 
--- a send by p to q is a send
-sends_among : (p q : ℕ) (task : Task) → sends p q task ≡ true → sends_any task ≡ true
-sends_among p q task passes = ap sends_any (sends_is p q task passes)
-
 -- a send that stands up to a receive stands before it
 before_or_here : (order : List Task) (p q sent received : ℕ) → sent < received + 1 → slice_get order sent ≡ Some (record { p = p; action = action.Send q }) → slice_get order received ≡ Some (record { p = q; action = action.Recv p }) → sent < received
 before_or_here order p q sent received within send receive = grind arith
 
 -- the number of the message that p sends to q after `earlier` others is the number of sends before it
 pub message_number_is : (order : List Task) (p q earlier sent : ℕ) → slice_get order sent ≡ Some (record { p = p; action = action.Send q }) → count_by (sends p q) (take sent order) ≡ earlier → message_number order p q earlier ≡ count_by sends_any (take sent order)
-message_number_is order p q earlier sent found behind = place_after_is sends_any (sends p q) (sends_among p q) order sent earlier (record { p = p; action = action.Send q }) found (sends_yes p q) behind
+message_number_is order p q earlier sent found behind = place_after_is sends_any (sends p q) (λ task passes. ap sends_any (sends_is p q task passes)) order sent earlier (record { p = p; action = action.Send q }) found (sends_yes p q) behind
 
 -- the receive by q from p at a place belongs to the send by p to q at another: as many such sends stand before the send as such receives before the receive
 pub record IsDelivery (order : List Task) (p q sent received : ℕ) : Type 0 where

@@ -1,4 +1,4 @@
-use Rattle.std.proofs.Common.{◌≡◌, ◌||◌, ℕ, ◌+◌, ◌⊎◌, Bool, true, false, List, [], ◌∷◌, ◌++◌, length, fold, refl, sym, ap, ◌∙◌, inl, inr, ⊎_elim, append-nil, arith}
+use Rattle.std.proofs.Common.{◌≡◌, ◌||◌, ℕ, ◌+◌, ◌⊎◌, Bool, true, false, List, [], ◌∷◌, ◌++◌, length, fold, refl, sym, ap, ◌∙◌, inl, inr, ⊎_elim, append-nil, append_assoc, arith}
 use Rattle.std.specs.List.{list_any}
 use Rattle.std.specs.Prelude.{if◌then◌else◌}
 use Rattle.std.proofs.lemmas.List.{length-append}
@@ -45,11 +45,7 @@ split_push [] (b ∷ before) after x y is = absurd (omega (arith, ap length is, 
 split_push (a ∷ xs) [] after x y is =
     grind arith
 split_push (a ∷ xs) (b ∷ before) after x y is =
-    let first : a ≡ b = cc is in
-    ⊎_elim
-    (λ (t : (before ≡ xs) × (y ≡ x)). inl (let tail = t.0 in cc, t.1))
-    (λ (t : (more : List Note) × (xs ≡ before ++ y ∷ more)). inr (t.0, let tail = t.1 in cc))
-    (split_push xs before after x y (cc is))
+    grind (arith, split_push xs before after x y (cc is))
 
 -- none is in turn, and one more is
 pub AreInTurn-none : AreInTurn []
@@ -62,12 +58,7 @@ AreInTurn-push notes next turn is before after other at = grind (arith, split_pu
 -- nothing follows a close mark
 pub nothing_follows : (before after : List Note) (count : ℕ) → AreInTurn (before ++ note.Close count ∷ after) → after ≡ []
 nothing_follows before [] count turn = refl
-nothing_follows before (x ∷ after) count turn =
-    grind (arith, append_mark before, list_any-append is_close before (note.Close count ∷ []))
-  where
-    append_mark : (xs : List Note) → (xs ++ note.Close count ∷ []) ++ x ∷ after ≡ xs ++ note.Close count ∷ x ∷ after
-    append_mark [] = refl
-    append_mark (y ∷ xs) = ap (λ zs. y ∷ zs) (append_mark xs)
+nothing_follows before (x ∷ after) count turn = grind (arith, append_assoc before (note.Close count ∷ []) (x ∷ after), list_any-append is_close before (note.Close count ∷ []))
 
 -- what a log leads to counts the snapshots among its notes, and is closed where a close mark is among them
 pub record CountsNotes (s : ProbeState) : Type 0 where
@@ -77,10 +68,6 @@ pub record CountsNotes (s : ProbeState) : Type 0 where
 pub counts_after : (p : ℕ) (s : ProbeState) (call : Call) → CountsNotes s → CountsNotes (after_call p s call)
 counts_after p s (Observed false) is = is
 counts_after p s (Observed true) is = grind (arith, length-append, list_any-append, snapshot_clocks-append)
-  where
-    or_false : (b : Bool) → (b || false) ≡ b
-    or_false true = refl
-    or_false false = refl
 counts_after p s Sent is = record { snapshots = is.snapshots; closed = is.closed }
 counts_after p s (Received stamp) is = record { snapshots = is.snapshots; closed = is.closed }
 counts_after p s Closed is = grind (arith, append-nil, list_any-append, snapshot_clocks-append)

@@ -9,9 +9,6 @@ use Rattle.wcp_clock.specs.Limits.{most_processes, most_cap, most_hold}
 use Rattle.wcp_model.specs.Tree.{is_number, plain_attach, IsPlainPlan}
 use Rattle.wcp_model.specs.PlanFault.{IsOutside, IsPath, IsCheckedPlan}
 
-inside : (least most x : ℕ) → least ≤ x → x ≤ most → ¬ IsOutside least most x
-inside least most x low high = ⊎_elim (λ less. omega arith) (λ more. omega arith)
-
 -- one relay under the root has no relay as its parent
 pub under_root : (relay above : ℕ) → ¬ (slice_get (Root ∷ []) relay ≡ Some (Relay above))
 under_root relay above parent = grind arith
@@ -31,9 +28,9 @@ pub plain_is_checked : (n cap hold : ℕ) (plan : Plan) → IsPlainPlan n cap ho
 plain_is_checked n cap hold plan is some few cap_low cap_high hold_low hold_high = none
   where
     none : IsCheckedPlan plan
-    none fault.Procs = inside 1 most_processes plan.n (omega (arith, is.processes)) (omega (arith, is.processes))
-    none fault.Cap = inside 1 most_cap plan.cap (omega (arith, is.links)) (omega (arith, is.links))
-    none fault.Hold = inside 1 most_hold plan.hold (omega (arith, is.holds)) (omega (arith, is.holds))
+    none fault.Procs = grind (arith, is.processes)
+    none fault.Cap = grind (arith, is.links)
+    none fault.Hold = grind (arith, is.holds)
     none fault.Parent = λ has. grind (arith, under_root, is.tree)
     none fault.Depth = λ has. omega (arith, has.2, path_under_root has.0 (subst (λ (tree : List Parent). IsPath tree has.0) is.tree has.1))
     none fault.Mixed = λ has. grind (arith, is.tree)

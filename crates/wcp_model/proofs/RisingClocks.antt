@@ -52,16 +52,7 @@ emissions_rise n c p notes emitted = subst (AreRising p) (sym (emitted_clocks n 
 })
 
 AreRising-front : (p : ℕ) (clocks more : List (List ℕ)) → AreRising p (clocks ++ more) → AreRising p clocks
-AreRising-front p clocks more rising = record {
-  never_fall = λ i j q up within. omega (arith, rising.never_fall i j q up (longer j within), here i q (omega arith), here j q within);
-  rise = λ i j up within. omega (arith, rising.rise i j up (longer j within), here i p (omega arith), here j p within);
-}
-  where
-    longer : (j : ℕ) → j < length clocks → j < length (clocks ++ more)
-    longer j within = omega (arith, length-append clocks more)
-
-    here : (i q : ℕ) → i < length clocks → slice_index (get_or (clocks ++ more) i []) q ≡ slice_index (get_or clocks i []) q
-    here i q within = ap (λ (clock : List ℕ). slice_index clock q) (get_or_append_left clocks more [] i within)
+AreRising-front p clocks more rising = grind (arith, length-append clocks more, get_or_append_left clocks more)
 
 -- and those of a front of its emissions
 pub clocks_rise : (n : ℕ) (c : Computation) (items : List Item) → AreFrontsOfEmissions n c items → ClocksRise n items

@@ -102,21 +102,13 @@ count_closes f (p ∷ rest) (suc place) none = count_by_no f (step.Close p) (tak
 pub count_of_steps : (f : Step → Bool) (g : Task → Bool) (n : ℕ) (order : List Task) (place : ℕ) → ((front : List Task) (task : Task) → f (step_of order front task.p task.action) ≡ g task) → ((p : ℕ) → f (step.Close p) ≡ false) → count_by f (take place (computation_of n order)) ≡ count_by g (take place order)
 count_of_steps f g n order place alike none = count_from f g order [] order (map step.Close (range_with_len 0 n)) place alike (λ k. count_closes f (range_with_len 0 n) k none)
 
--- a step is a communication of a process where its task is
-communicates_is : (order front : List Task) (p q : ℕ) (a : Action) → is_communication_of p (step_of order front q a) ≡ (q == p) && is_communication a
-communicates_is order front p q a = grind arith
-
--- a step is a send where its task is
-sends_any_is : (order front : List Task) (q : ℕ) (a : Action) → is_send (step_of order front q a) ≡ is_any_send a
-sends_any_is order front q a = grind arith
-
 -- the interval at a place is the number of communications of the process in the front of the order
 pub interval_at_is : (n : ℕ) (order : List Task) (p place : ℕ) → interval_at (computation_of n order) p place ≡ count_by (communicates p) (take place order)
-interval_at_is n order p place = count_of_steps (is_communication_of p) (communicates p) n order place (λ front task. communicates_is order front p task.p task.action) (λ q. refl)
+interval_at_is n order p place = count_of_steps (is_communication_of p) (communicates p) n order place (λ front task. grind arith) (λ q. refl)
 
 -- the number of a message sent at a place is the number of sends in the front of the order
 pub message_at_is : (n : ℕ) (order : List Task) (place : ℕ) → message_at (computation_of n order) place ≡ count_by sends_any (take place order)
-message_at_is n order place = count_of_steps is_send sends_any n order place (λ front task. sends_any_is order front task.p task.action) (λ q. refl)
+message_at_is n order place = count_of_steps is_send sends_any n order place (λ front task. grind arith) (λ q. refl)
 
 -- the communications of a process in the whole computation are those in its tasks
 pub communications_is : (n : ℕ) (order : List Task) (p : ℕ) → communications (computation_of n order) p ≡ count_by (communicates p) order

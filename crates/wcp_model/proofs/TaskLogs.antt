@@ -98,11 +98,9 @@ pub stamp_got_at : (p : ℕ) (actions : List Action) (log : List Call) (place : 
     slice_get (stamps_got p actions log) (count_by (is_receive_from p) (take place actions)) ≡ Some (stamp_of call)
 stamp_got_at p actions log place act call at made_call receives = search (arith, slice_get-map stamp_of log place, beside_at)
 
-beside-push_passing : {X : Type 0} (test : Action → Bool) (actions : List Action) (xs : List X) (act : Action) (x : X) → length actions ≡ length xs → test act ≡ true → beside test (actions ++ act ∷ []) (xs ++ x ∷ []) ≡ beside test actions xs ++ x ∷ []
-beside-push_passing {X} test actions xs act x same passes = grind (arith, kept-push, zip-push)
-
-beside-push_failing : {X : Type 0} (test : Action → Bool) (actions : List Action) (xs : List X) (act : Action) (x : X) → length actions ≡ length xs → test act ≡ false → beside test (actions ++ act ∷ []) (xs ++ x ∷ []) ≡ beside test actions xs
-beside-push_failing {X} test actions xs act x same fails = grind (arith, append-nil, kept-push, zip-push)
+-- one more action with what stands beside it, which stays where it passes
+beside-push : {X : Type 0} (test : Action → Bool) (actions : List Action) (xs : List X) (act : Action) (x : X) → length actions ≡ length xs → beside test (actions ++ act ∷ []) (xs ++ x ∷ []) ≡ beside test actions xs ++ cond (test act) (x ∷ []) []
+beside-push {X} test actions xs act x same = grind (arith, kept-push, zip-push)
 
 -- a log that follows actions has a stamp for each send and receive among them
 module _ (actions : List Action) (log : List Call) (follows : FollowsActions actions log) where
@@ -123,15 +121,15 @@ module _ (actions : List Action) (log : List Call) (act : Action) (call : Call) 
   module _ (made : ProbeSetup) (q : ℕ) where
     -- one more send to q sends it the clock of the probe after it, and no other call does
     pub stamps_sent-push : is_send_to q act ≡ true → stamps_sent made q (actions ++ act ∷ []) (log ++ call ∷ []) ≡ stamps_sent made q actions log ++ (state_of_log made (log ++ call ∷ [])).clock ∷ []
-    stamps_sent-push sends = grind (arith, a_clock_each, beside-push_passing, log_push, scan-push)
+    stamps_sent-push sends = grind (arith, a_clock_each, beside-push, log_push, scan-push)
 
     pub stamps_sent-push_other : is_send_to q act ≡ false → stamps_sent made q (actions ++ act ∷ []) (log ++ call ∷ []) ≡ stamps_sent made q actions log
-    stamps_sent-push_other other = grind (arith, a_clock_each, beside-push_failing, log_push, scan-push)
+    stamps_sent-push_other other = grind (arith, a_clock_each, append-nil, beside-push, log_push, scan-push)
 
   module _ (p : ℕ) where
     -- one more receive from p gets the stamp that it took, and no other call does
     pub stamps_got-push : is_receive_from p act ≡ true → stamps_got p (actions ++ act ∷ []) (log ++ call ∷ []) ≡ stamps_got p actions log ++ stamp_of call ∷ []
-    stamps_got-push receives = grind (arith, a_stamp_each, beside-push_passing, map_push)
+    stamps_got-push receives = grind (arith, a_stamp_each, beside-push, map_push)
 
     pub stamps_got-push_other : is_receive_from p act ≡ false → stamps_got p (actions ++ act ∷ []) (log ++ call ∷ []) ≡ stamps_got p actions log
-    stamps_got-push_other other = grind (arith, a_stamp_each, beside-push_failing, map_push)
+    stamps_got-push_other other = grind (arith, a_stamp_each, append-nil, beside-push, map_push)
