@@ -6,7 +6,7 @@ Decided P = P ⊎ (P → ⊥)
 
 -- facts that give each other are decided together
 pub decided_from : {P Q : Type 0} → (P → Q) → (Q → P) → Decided P → Decided Q
-decided_from to back decided = ⊎_elim (λ p. inl (to p)) (λ not. inr (λ q. not (back q))) decided
+decided_from to back decided = grind arith
 
 -- two decided facts are decided together
 pub both_decided : {P Q : Type 0} → Decided P → Decided Q → Decided (P × Q)

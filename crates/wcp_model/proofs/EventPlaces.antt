@@ -32,10 +32,7 @@ events_in_order c p k l a b at_a at_b le = omega (arith, at_a.number, at_b.numbe
 
 -- a later event stands at a later place
 pub later_event : (c : Computation) (p k l a b : ℕ) → IsEventOf c p k a → IsEventOf c p l b → k < l → a < b
-later_event c p k l a b at_a at_b lt =
-    ⊎_elim (λ (below : a < b). below)
-    (λ (above : b ≤ a). let le : l ≤ k = events_in_order c p l k b a at_b at_a above in absurd (omega arith))
-    (cases_lt a b)
+later_event c p k l a b at_a at_b lt = grind (arith, events_in_order c p l k b a at_b at_a)
 
 -- each number below the number of a process's events is that of one
 pub event_of : (c : Computation) (p k : ℕ) → k < communications c p → (place : ℕ) × IsEventOf c p k place

@@ -77,11 +77,7 @@ before_shrinks c e s {t = u} exists (Chain {t = t} h d) =
     let link : DirectlyPrecedes c t u = direct_shrinks c e t u exists d in
     Chain (before_shrinks c e s (omega (arith, before_from_state c t (Direct link))) h) link
 
--- the order before a state that exists is settled
-pub order_settled : (c e : Computation) (s t : State) → IsState c t → HappenedBefore c s t ↔ HappenedBefore (c ++ e) s t
-order_settled c e s t exists = (before_grows c e s, before_shrinks c e s exists)
-
--- its clock stays
+-- the clock of a state that exists stays
 pub clock_grows : (n : ℕ) (c e : Computation) (s : State) (clock : List ℕ) → IsState c s → IsStateClock n c s clock → IsStateClock n (c ++ e) s clock
 clock_grows n c e s clock exists is = grind (arith, before_grows, before_shrinks)
 

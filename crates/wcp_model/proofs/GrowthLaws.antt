@@ -11,11 +11,11 @@ use Rattle.wcp_model.proofs.AcceptedReplies.{replies_accepted}
 use Rattle.wcp_model.proofs.CutLaws.{slice_index-minimum, minimum_is_satisfying}
 use Rattle.wcp_model.proofs.EmissionFronts.{emissions_grow}
 use Rattle.wcp_model.proofs.Reached.{true_state_exists}
-use Rattle.wcp_model.proofs.Growth.{before_grows, before_shrinks, order_settled, true_state_grows, true_state_shrinks}
+use Rattle.wcp_model.proofs.Growth.{before_grows, before_shrinks, true_state_grows, true_state_shrinks}
 
 -- an accepted computation grew from each of its fronts
 pub accepted_grows : (n : ℕ) (c e : Computation) → IsAccepted (c ++ e) → GrowsInto n c (c ++ e)
-accepted_grows n c e accepted = search (emissions_grow, order_settled, arith)
+accepted_grows n c e accepted = search (emissions_grow, before_grows, before_shrinks, arith)
 
 -- the computation of a longer history is that of its front and more
 pub computation_append : (history more : List Answered) → computation (accepted (history ++ more)) ≡ computation (accepted history) ++ computation (accepted more)

@@ -5,7 +5,7 @@ use Rattle.std.proofs.lemmas.List.{nil_from_length}
 use Rattle.std.proofs.lemmas.List.Sums.{sum_by-cons}
 use Rattle.wcp_model.specs.Computation.{Computation}
 use Rattle.wcp_model.specs.Cut.{minimum, IsSatisfyingCut, IsLeastCut, LeastCutLaw}
-use Rattle.wcp_model.proofs.Decided.{Decided, some_below_decided}
+use Rattle.wcp_model.proofs.Decided.{Decided, decided_from, some_below_decided}
 use Rattle.wcp_model.proofs.CutLaws.{minimum_is_satisfying}
 
 -- a list of this length, with a sum below the limit, has the property
@@ -20,13 +20,10 @@ sum-cons k ks = sum_by-cons (λ x. x) k ks
 
 -- whether such a list has a property that is decided can be found out
 pub smaller_decided : (n limit : ℕ) (P : List ℕ → Type 0) → ((list : List ℕ) → Decided (P list)) → Decided (Smaller P n limit)
-smaller_decided zero limit P decide = ⊎_elim
-    (λ positive. ⊎_elim
-    (λ holds. inl (record { list = []; members = refl; less = positive; holds = holds }))
-    (λ fails. inr (λ s. fails (subst P (nil_from_length s.list s.members) s.holds)))
-    (decide []))
-    (λ none. inr (λ s. absurd (omega arith)))
-    (cases_lt 0 limit)
+smaller_decided zero limit P decide = elim (cases_lt 0 limit) [
+  | inl positive ↦ decided_from (λ holds. record { list = []; members = refl; less = positive; holds = holds }) (λ s. subst P (nil_from_length s.list s.members) s.holds) (decide [])
+  | inr none ↦ inr (λ s. absurd (omega arith))
+]
 smaller_decided (suc n) limit P decide = ⊎_elim
     (grind (arith, sum-cons))
     (λ none. inr (λ s. none (first_of_it s.list s.members s.less s.holds)))

@@ -38,10 +38,6 @@ sends_yes p q = and_from (p == p) (q == q) (eq-eqb p p refl) (eq-eqb q q refl)
 pub receives_yes : (p q : ℕ) → receives p q (record { p = q; action = action.Recv p }) ≡ true
 receives_yes p q = and_from (q == q) (p == p) (eq-eqb q q refl) (eq-eqb p p refl)
 
--- a send that stands up to a receive stands before it
-before_or_here : (order : List Task) (p q sent received : ℕ) → sent < received + 1 → slice_get order sent ≡ Some (record { p = p; action = action.Send q }) → slice_get order received ≡ Some (record { p = q; action = action.Recv p }) → sent < received
-before_or_here order p q sent received within send receive = grind arith
-
 -- the number of the message that p sends to q after `earlier` others is the number of sends before it
 pub message_number_is : (order : List Task) (p q earlier sent : ℕ) → slice_get order sent ≡ Some (record { p = p; action = action.Send q }) → count_by (sends p q) (take sent order) ≡ earlier → message_number order p q earlier ≡ count_by sends_any (take sent order)
 message_number_is order p q earlier sent found behind = place_after_is sends_any (sends p q) (λ task passes. ap sends_any (sends_is p q task passes)) order sent earlier (record { p = p; action = action.Send q }) found (sends_yes p q) behind
@@ -62,7 +58,7 @@ send_of_receive {tasks} {order} fit p q received found =
     let sent : ℕ = sender.1.place in
     let within : sent < received + 1 = omega (arith, slice_get_within front sent sender.0 sender.1.found, length-take (received + 1) order) in
     let there : slice_get order sent ≡ Some (record { p = p; action = action.Send q }) = sym (slice_get-take (received + 1) order sent within) ∙ sender.1.found ∙ ap Some (sends_is p q sender.0 sender.1.passes) in
-    let before : sent < received = before_or_here order p q sent received within there found in (
+    let before : sent < received = grind (arith, there, found) in (
       sent,
       before,
       grind (arith, take-take),

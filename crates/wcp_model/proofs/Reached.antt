@@ -64,13 +64,9 @@ directly_to_state {c = c} {t = t} (Message m) = omega (arith, m.to_state, interv
 pub before_to_state : {c : Computation} {s t : State} → HappenedBefore c s t → IsState c t
 before_to_state before = directly_to_state (last_step before).2
 
--- what a direct precedence leads to is no first state
-directly_to_later : {c : Computation} {s t : State} → DirectlyPrecedes c s t → 0 < t.interval
-directly_to_later first = grind arith
-
 -- what a state happened before is no first state
 pub before_to_later : {c : Computation} {s t : State} → HappenedBefore c s t → 0 < t.interval
-before_to_later before = directly_to_later (last_step before).2
+before_to_later before = grind (arith, last_step before)
 
 -- the message was sent at this place, from the state or from one that it happened before
 pub record IsSentAfter (c : Computation) (s : State) (message sent : ℕ) : Type 0 where

@@ -43,10 +43,9 @@ rising_front (x ∷ xs) (y ∷ ys) rise rises kept new =
     (λ (late : (j : ℕ) → Contains (x ∷ xs) j → j ≤ y). late x (first_within x xs)) (new y (first_within y ys)) in
     let same : y ≡ x = omega arith in
     let found : (rest : List ℕ) × (ys ≡ xs ++ rest) = rising_front xs ys (rest_rises x xs rise) (rest_rises y ys rises)
-    (λ k within. ⊎_elim (λ (first : y ≡ k). absurd (omega (arith, first_below x xs k rise within))) (λ (other : Contains ys k). other)
-    (first_or_other y ys k (kept k (other_within x xs k within))))
+    (λ k within. grind (arith, first_below x xs k rise within, first_or_other y ys k (kept k (other_within x xs k within))))
     (λ k within. ⊎_elim
-    (λ (old : Contains (x ∷ xs) k). ⊎_elim (λ (first : x ≡ k). absurd (omega (arith, first_below y ys k rises within))) (λ (other : Contains xs k). inl other) (first_or_other x xs k old))
+    (λ (old : Contains (x ∷ xs) k). grind (arith, first_or_other x xs k old, first_below y ys k rises within))
     (λ (late : (j : ℕ) → Contains (x ∷ xs) j → j ≤ k). inr (λ j other. late j (other_within x xs j other)))
     (new k (other_within y ys k within))) in
     (found.0, ap₂ (λ z zs. z ∷ zs) same found.1)

@@ -13,6 +13,7 @@ use Rattle.wcp_model.specs.declared.workload.Task.{Task}
 use Rattle.wcp_model.specs.Computation.{is_communication_of, is_send, communications, interval_at, message_at}
 use Rattle.wcp_model.specs.WorkloadComputation.{is_task_of, is_any_send, receives, message_number, step_of, steps_from, computation_of}
 use Rattle.wcp_model.proofs.Growth.{at_grows}
+use Rattle.wcp_model.proofs.Reached.{interval_at-end}
 use Rattle.wcp_model.proofs.SamePlace.{count_by_no, element_within}
 
 -- an action that sends or receives
@@ -113,8 +114,5 @@ message_at_is n order place = count_of_steps is_send sends_any n order place (λ
 -- the communications of a process in the whole computation are those in its tasks
 pub communications_is : (n : ℕ) (order : List Task) (p : ℕ) → communications (computation_of n order) p ≡ count_by (communicates p) order
 communications_is n order p =
-    let c = computation_of n order in
-    let long : length order ≤ length c = omega (arith, length-computation_of n order) in
-    ap (count_by (is_communication_of p)) (sym (take_all (length c) c (omega arith)))
-    ∙ interval_at_is n order p (length c)
-    ∙ ap (count_by (communicates p)) (take_all (length c) order long)
+    let long = length (computation_of n order) in
+    sym (interval_at-end (computation_of n order) p) ∙ interval_at_is n order p long ∙ ap (count_by (communicates p)) (take_all long order (omega (arith, length-computation_of n order)))
