@@ -34,17 +34,13 @@ All-fit_order P tasks order fit all i d inside =
     let there = same_place (is_task_of task.p) order tasks i task (fit.same_tasks task.p) at (eq-eqb task.p task.p refl) in
     rw (get_or_from_slice_get order i task d at) (subst P (get_or_from_slice_get tasks there.other task task there.found) (all there.other task (slice_get_within tasks there.other task there.found)))
 
--- no task closes its process
-no_close : (order earlier : List Task) (q : ℕ) (a : Action) (p : ℕ) → step_of order earlier q a ≡ Close p → ⊥
-no_close order earlier q a p same = grind arith
-
 module _ (n : ℕ) (order : List Task) where
   -- a process closes behind the tasks, at the place of its number
   closes_at : (place p : ℕ) → slice_get (computation_of n order) place ≡ Some (Close p) → place ≡ length order + p
   closes_at place p at = elim (cases_lt place (length order)) [
     | inl before ↦
         let task = element_within order place before in
-        absurd (no_close order (take place order) task.0.p task.0.action p (same_Some _ _ (sym (step_at n order place task.0 task.1) ∙ at)))
+        grind (arith, step_at n order place task.0 task.1)
     | inr behind ↦ grind (arith, closes_behind n order place (Close p) behind at)
   ]
 

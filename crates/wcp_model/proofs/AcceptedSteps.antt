@@ -21,9 +21,6 @@ close_closes c place p at =
 pub close_stands : (c : Computation) (p : ℕ) → is_closed c p ≡ true → (place : ℕ) × (place < length c) × (slice_get c place ≡ Some (Close p))
 close_stands c p closed =
     grind (arith, Any-from_list_any, slice_get-get_or)
-  where
-    close_is : (y : Step) → is_close_of p y ≡ true → y ≡ Close p
-    close_is y h = grind arith
 
 -- after the close of a process none of its states becomes true
 pub none_new_after_close : (c e : Computation) (p : ℕ) → IsAccepted (c ++ e) → is_closed c p ≡ true → NoneNew c e p

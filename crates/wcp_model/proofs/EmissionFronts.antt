@@ -61,9 +61,6 @@ module _ (n : ℕ) (c e : Computation) (p : ℕ) (notes more : List Note) (is : 
       (grind (arith, append-nil, list_any-append, nil_from_length, none_behind))
       (grind (arith, append-nil, append_assoc, clocks_front, snapshots_append))
       (cases_Bool (is_closed c p))
-    where
-      noted : List (List ℕ) → Bool → List Note
-      noted clocks closed = snapshots_from 0 clocks ++ (if closed then note.Close (length clocks) ∷ [] else [])
 
 -- in an accepted computation the emissions of each process grow at their end alone
 pub emissions_grow : (n : ℕ) (c e : Computation) (p : ℕ) (notes more : List Note) → IsAccepted (c ++ e) → AreEmissions n c p notes → AreEmissions n (c ++ e) p more → (rest : List Note) × (more ≡ notes ++ rest)

@@ -18,14 +18,6 @@ pub record IsEventOf (c : Computation) (p k place : ℕ) : Type 0 where
 pub event_of_send : (c : Computation) (p k to place : ℕ) → slice_get c place ≡ Some (Send p to) → interval_at c p place ≡ k → IsEventOf c p k place
 event_of_send c p k to place at number = record { step = Send p to; at = at; own = eq-eqb p p refl; number = number }
 
--- a receive is an event of the receiver
-pub event_of_receive : (c : Computation) (p k message place : ℕ) → slice_get c place ≡ Some (Recv p message) → interval_at c p place ≡ k → IsEventOf c p k place
-event_of_receive c p k message place at number = record { step = Recv p message; at = at; own = eq-eqb p p refl; number = number }
-
--- an event stands at one place
-pub event_at_one_place : (c : Computation) (p k a b : ℕ) → IsEventOf c p k a → IsEventOf c p k b → a ≡ b
-event_at_one_place c p k a b at_a at_b = count_before-place (is_communication_of p) c a b at_a.step at_b.step at_a.at at_b.at at_a.own at_b.own (at_a.number ∙ sym at_b.number)
-
 -- the events of a process stand in order
 pub events_in_order : (c : Computation) (p k l a b : ℕ) → IsEventOf c p k a → IsEventOf c p l b → a ≤ b → k ≤ l
 events_in_order c p k l a b at_a at_b le = omega (arith, at_a.number, at_b.number, count_before-mono (is_communication_of p) c a b le)

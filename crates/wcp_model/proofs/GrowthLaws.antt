@@ -42,10 +42,9 @@ pub early_find_holds : EarlyFindLaw
 early_find_holds n c more cut least = record {
   one = in_whole;
   below = λ other other_is p in_range.
-      let both : (q : ℕ) → slice_index (minimum cut other) q ≡ min (slice_index cut q) (slice_index other q) = λ q. slice_index-minimum cut other q (omega (arith, in_whole.members, other_is.members)) in
-      let at_most : slice_index cut p ≤ slice_index (minimum cut other) p = least.below (minimum cut other)
-      (satisfying_below n c more cut (minimum cut other) least.one (λ q q_in_range. omega (arith, both q)) (minimum_is_satisfying n (c ++ more) cut other in_whole other_is)) p in_range in
-      omega (arith, both p);
+      let both = λ (q : ℕ). slice_index-minimum cut other q (omega (arith, in_whole.members, other_is.members)) in
+      let lower = satisfying_below n c more cut (minimum cut other) least.one (λ q q_in_range. omega (arith, both q)) (minimum_is_satisfying n (c ++ more) cut other in_whole other_is) in
+      omega (arith, least.below (minimum cut other) lower p in_range, both p);
 }
   where
     in_whole : IsSatisfyingCut n (c ++ more) cut

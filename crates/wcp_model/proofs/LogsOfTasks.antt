@@ -46,10 +46,6 @@ action_at : (order : List Task) (place : ℕ) (task : Task) → slice_get order 
 action_at order place task at =
     grind (arith, eq-eqb task.p task.p refl, length-filter (is_task_of task.p) (take place order), slice_get-filter (is_task_of task.p) order place task at, slice_get-map (λ (t : Task). t.action) (filter (is_task_of task.p) order) (done order task.p place))
 
--- what a process does before a place
-actions_before : (order : List Task) (p place : ℕ) → take (done order p place) (actions_of p order) ≡ actions_of p (take place order)
-actions_before order p place = grind (arith, filter_front, length-filter, take-map)
-
 -- as many actions of a process pass as tasks of it do
 pub count_actions : (test : Action → Bool) (p : ℕ) (tasks : List Task) → count_by test (actions_of p tasks) ≡ count_by (λ task. is_task_of p task && test task.action) tasks
 count_actions test p [] = refl
@@ -57,7 +53,10 @@ count_actions test p (task ∷ tasks) =
     grind (arith, common_steps, count_actions test p tasks)
 
 rank_of : (test : Action → Bool) (order : List Task) (p place : ℕ) → count_by test (take (done order p place) (actions_of p order)) ≡ count_by (λ task. is_task_of p task && test task.action) (take place order)
-rank_of test order p place = ap (count_by test) (actions_before order p place) ∙ count_actions test p (take place order)
+rank_of test order p place = ap (count_by test) actions_before ∙ count_actions test p (take place order)
+  where
+    actions_before : take (done order p place) (actions_of p order) ≡ actions_of p (take place order)
+    actions_before = grind (arith, filter_front, length-filter, take-map)
 
 -- the stamp of a message knows no event that there isn't
 stamp_below : (n : ℕ) (c : Computation) (message q : ℕ) (stamp : List ℕ) → q < n → IsStampOf n c message stamp → slice_index stamp q ≤ communications c q

@@ -172,20 +172,17 @@ runs_on n p (x ∷ e) c s calls accepted in_range are counts h =
 at_first : (n p : ℕ) → p < n → HasClockAndEmissions n [] p (state_of_log (setup n p) [])
 at_first n p in_range = record {
   clock = clock_at_first n [] p in_range;
-  flag = (λ set. absurd (true≢false (sym set)), λ is. absurd (no_step is.place (Observe p true) is.observed));
+  flag = grind arith;
   closed = refl;
   emissions = record {
     intervals = [];
-    true_states = record { rising = λ k below. absurd (omega arith); each = λ k. (λ contains. absurd (omega (arith, contains.1)), λ is. absurd (no_step is.place (Observe p true) is.observed)) };
+    true_states = grind arith;
     clocks = [];
     same_length = refl;
     each = λ i below. absurd (omega arith);
     notes_are = refl;
   };
 }
-  where
-    no_step : (place : ℕ) (x : Step) → slice_get [] place ≡ Some x → ⊥
-    no_step place x at = cc at
 
 -- the log law
 pub log_law_holds : LogLaw

@@ -7,14 +7,11 @@ use Rattle.std.proofs.lemmas.Option.{slice_get_within, get_or_from_slice_get}
 pub filter_yes : {X : Type 0} (P : X → Bool) (x : X) (xs : List X) → P x ≡ true → filter P (x ∷ xs) ≡ x ∷ filter P xs
 filter_yes P x xs passes = rw passes
 
-pub filter_no : {X : Type 0} (P : X → Bool) (x : X) (xs : List X) → P x ≡ false → filter P (x ∷ xs) ≡ filter P xs
-filter_no P x xs fails = rw fails
-
 pub count_by_yes : {X : Type 0} (P : X → Bool) (x : X) (xs : List X) → P x ≡ true → count_by P (x ∷ xs) ≡ suc (count_by P xs)
-count_by_yes P x xs passes = sym (length-filter P (x ∷ xs)) ∙ ap length (filter_yes P x xs passes) ∙ ap suc (length-filter P xs)
+count_by_yes P x xs passes = grind (arith, sum_by-cons (λ e. cond (P e) 1 0) x xs)
 
 pub count_by_no : {X : Type 0} (P : X → Bool) (x : X) (xs : List X) → P x ≡ false → count_by P (x ∷ xs) ≡ count_by P xs
-count_by_no P x xs fails = sym (length-filter P (x ∷ xs)) ∙ ap length (filter_no P x xs fails) ∙ length-filter P xs
+count_by_no P x xs fails = grind (arith, sum_by-cons (λ e. cond (P e) 1 0) x xs)
 
 -- one more counts behind an element that passes
 pub count_by-take_more : {X : Type 0} (P : X → Bool) (xs : List X) (place : ℕ) (x : X) → slice_get xs place ≡ Some x → P x ≡ true → count_by P (take (place + 1) xs) ≡ count_by P (take place xs) + 1

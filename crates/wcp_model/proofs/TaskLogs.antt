@@ -15,10 +15,6 @@ use Rattle.wcp_model.specs.WorkloadComputation.{is_task_of, is_send_to, is_recei
 kept-push : {X Y : Type 0} (f : X → Y) (keeps : X → Bool) (xs : List X) (x : X) → map f (filter keeps (xs ++ x ∷ [])) ≡ map f (filter keeps xs) ++ cond (keeps x) (f x ∷ []) []
 kept-push {X} {Y} f keeps xs x =
     grind (arith, filter-append, map-append)
-  where
-    sole : (kept : Bool) → map f (cond kept (x ∷ []) []) ≡ cond kept (f x ∷ []) []
-    sole true = refl
-    sole false = refl
 
 zip-push : {X Y : Type 0} (xs : List X) (ys : List Y) (x : X) (y : Y) → length xs ≡ length ys → zip (xs ++ x ∷ []) (ys ++ y ∷ []) ≡ zip xs ys ++ (x, y) ∷ []
 zip-push [] [] x y same = refl
