@@ -1,4 +1,4 @@
-use Rattle.std.proofs.Common.{◌≡◌, ℕ, zero, suc, ◌+◌, ◌⊎◌, List, [], ◌∷◌, ◌++◌, length, slice_get, Some, refl, sym, ap, subst, inl, inr, ⊎_elim, arith}
+use Rattle.std.proofs.Common.{◌≡◌, ℕ, zero, suc, ◌+◌, ◌⊎◌, List, [], ◌∷◌, ◌++◌, length, slice_get, Some, refl, sym, subst, inl, inr, arith}
 use Rattle.std.specs.List.{filter}
 use Rattle.std.proofs.lemmas.List.Elements.{filter-append}
 use Rattle.wcp_model.specs.declared.step.Step.{Step}
@@ -53,5 +53,4 @@ pub get_push : {X : Type 0} (xs : List X) (y z : X) (i : ℕ) → slice_get (xs 
 get_push [] y z zero at = inr (refl, cc)
 get_push [] y z (suc i) at = cc
 get_push (x ∷ xs) y z zero at = inl at
-get_push (x ∷ xs) y z (suc i) at =
-    ⊎_elim inl (λ (last : (i ≡ length xs) × (y ≡ z)). inr (ap suc last.0, last.1)) (get_push xs y z i at)
+get_push (x ∷ xs) y z (suc i) at = grind (arith, get_push xs y z i at)

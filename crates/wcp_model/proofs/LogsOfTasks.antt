@@ -13,7 +13,7 @@ use Rattle.wcp_model.specs.declared.workload.Task.{Task}
 use Rattle.wcp_model.specs.Computation.{Computation, is_send, communications, interval_at}
 use Rattle.wcp_model.specs.StateClock.{IsStateClock}
 use Rattle.wcp_model.specs.ProbeLog.{Call, Observed, Sent, Received, Closed, is_step_of, setup, state_of_log, IsStampOf, IsCallOf, AreCallsOf, IsLogOf, IsAccepted}
-use Rattle.wcp_model.specs.TaskLog.{actions_of, IsCallFor, FollowsActions, stamps_sent, stamps_got, AreLogsOfTasks, TaskLogLaw}
+use Rattle.wcp_model.specs.TaskLog.{actions_of, IsCallFor, FollowsActions, stamps_got, AreLogsOfTasks, TaskLogLaw}
 use Rattle.wcp_model.specs.WorkloadComputation.{is_task_of, is_send_to, is_receive_from, sends, receives, message_number, step_of, steps_from, computation_of, IsWithin, IsFitOrder}
 use Rattle.wcp_model.proofs.AcceptedOrder.{IsFitOrder-itself, All-fit_order, order_accepted}
 use Rattle.wcp_model.proofs.EventPlaces.{event_of_send, event_below}
@@ -240,10 +240,10 @@ module _ (n : ℕ) (tasks : List Task) (p q : ℕ) (act : Action) (acts : act �
 -- logs of tasks are logs of a fit order of them
 AreLogsOfTasks-along : (n : ℕ) (tasks order : List Task) (logs : ℕ → List Call) → IsFitOrder tasks order → AreLogsOfTasks n tasks logs → AreLogsOfTasks n order logs
 AreLogsOfTasks-along n tasks order logs fit are = record {
-  follows = λ p below. subst (λ actions. FollowsActions actions (logs p)) (sym (same p)) (are.follows p below);
+  follows = λ p below. rw (same p) (are.follows p below);
   in_order = λ p q p_below q_below some.
       let (in_transit, together) = are.in_order p q p_below q_below (omega (arith, some, same_count (is_task_of p) (sends p q) order tasks (λ t h. (and_parts _ _ h).0) (fit.same_tasks p))) in
-      (in_transit, subst₂ (λ theirs ours. stamps_got p theirs (logs q) ++ in_transit ≡ stamps_sent (setup n p) q ours (logs p)) (sym (same q)) (sym (same p)) together);
+      (in_transit, rw (same q, same p) together);
 }
   where
     same : (p : ℕ) → actions_of p order ≡ actions_of p tasks

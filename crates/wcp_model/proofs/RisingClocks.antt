@@ -46,9 +46,7 @@ emissions_rise n c p notes emitted = subst (AreRising p) (sym (emitted_clocks n 
       (rises_to emitted.intervals i j emitted.true_states.rising up below)
       (true_state_exists c (local_state p (slice_index emitted.intervals j)) ((emitted.true_states.each (slice_index emitted.intervals j)).0 (Contains-get_or emitted.intervals j 0 below)))
       (emitted.each i (omega arith)) (emitted.each j below) q;
-  rise = λ i j up within.
-      let below : j < length emitted.intervals = omega (arith, emitted.same_length) in
-      omega (arith, (emitted.each i (omega arith)).own, (emitted.each j below).own, rises_above emitted.intervals i j emitted.true_states.rising up below);
+  rise = λ i j up within. grind (arith, emitted.each i, emitted.each j, rises_above emitted.intervals i j);
 })
 
 AreRising-front : (p : ℕ) (clocks more : List (List ℕ)) → AreRising p (clocks ++ more) → AreRising p clocks

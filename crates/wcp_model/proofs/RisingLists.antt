@@ -29,8 +29,7 @@ first_within : (x : ℕ) (xs : List ℕ) → Contains (x ∷ xs) x
 first_within x xs = (0, omega arith, refl)
 
 at_least_first : (x : ℕ) (xs : List ℕ) (k : ℕ) → Rises (x ∷ xs) → Contains (x ∷ xs) k → x ≤ k
-at_least_first x xs k rises within =
-    ⊎_elim (λ (same : x ≡ k). omega arith) (λ (other : Contains xs k). omega (arith, first_below x xs k rises other)) (first_or_other x xs k within)
+at_least_first x xs k rises within = grind (arith, first_below x xs k rises, first_or_other x xs k within)
 
 -- a rising list that has the numbers of another, and no others but such as none of these exceeds, begins with the other
 pub rising_front : (xs ys : List ℕ) → Rises xs → Rises ys → ((k : ℕ) → Contains xs k → Contains ys k) → ((k : ℕ) → Contains ys k → Contains xs k ⊎ ((j : ℕ) → Contains xs j → j ≤ k)) →

@@ -1,4 +1,4 @@
-use Rattle.std.proofs.Common.{◌≡◌, ℕ, zero, suc, ◌+◌, ◌<◌, Bool, true, false, List, [], ◌∷◌, length, take, filter, count_by, slice_get, cond, Some, refl, sym, ap, ◌∙◌, inl, inr, arith}
+use Rattle.std.proofs.Common.{◌≡◌, ℕ, zero, suc, ◌+◌, ◌<◌, Bool, true, false, List, [], ◌∷◌, length, take, filter, count_by, slice_get, cond, Some, refl, ap, ◌∙◌, inl, inr, arith}
 use Rattle.std.proofs.lemmas.Bool.{cases_Bool}
 use Rattle.std.proofs.lemmas.List.Sums.{length-filter, count_by_more_yes, sum_by-cons}
 use Rattle.std.proofs.lemmas.Option.{slice_get_within, get_or_from_slice_get}
@@ -83,12 +83,7 @@ pub same_place : {X : Type 0} (P : X → Bool) (xs ys : List X) (place : ℕ) (x
 same_place P xs ys place x same found passes =
     let kept = slice_get-filter P xs place x found passes in
     let there = stands_after P ys (length (filter P (take place xs))) x (rw same at kept) in
-    let long : length (filter P (take there.place ys)) ≡ length (filter P (take place xs)) = length-filter P (take there.place ys) ∙ there.behind in
-    record {
-      other = there.place;
-      found = there.found;
-      front = filter_front P there.place ys ∙ ap (λ n. take n (filter P ys)) long ∙ ap (take (length (filter P (take place xs)))) (sym same) ∙ sym (filter_front P place xs);
-    }
+    record { other = there.place; found = there.found; front = cc (filter_front P there.place ys, filter_front P place xs, same, there.behind, length-filter P (take there.place ys)) }
 
 -- a stricter test finds in a filtered list what it finds in the list
 filter-filter : {X : Type 0} (P Q : X → Bool) → ((x : X) → Q x ≡ true → P x ≡ true) → (xs : List X) → filter Q (filter P xs) ≡ filter Q xs

@@ -42,13 +42,7 @@ module _ (n : ℕ) (c : Computation) (items : List Item) (fronts : AreFrontsOfEm
       (i, below, sym (state_at p i within below).clock_is.own ∙ ap (λ (clock : List ℕ). slice_index clock p) at ∙ named.own, at)
 
   named_state : (p k : ℕ) → p < n → (named : IsNamed items (local_state p k)) → IsOfState p named.clock k
-  named_state p k within named =
-      let (i, below, interval, at) = named_at p k within named in
-      let is = state_at p i within below in
-      record {
-        clock_is = subst (IsStateClock n c (local_state p k)) at (subst (λ j. IsStateClock n c (local_state p j) (get_or (clocks_taken p items) i [])) interval is.clock_is);
-        true_state = subst (λ j. IsTrueState c (local_state p j)) interval is.true_state;
-      }
+  named_state p k within named = grind (arith, state_at, named_at p k within named)
 
   -- a cut by clocks is one of named states, and the other way round
   cut_by_states : (cut : List ℕ) → IsCutByClocks n items cut → IsNamedCut n c items cut
