@@ -25,16 +25,12 @@ length-receivers [] = refl
 length-receivers (s ∷ c) = grind (arith, length-receivers c, sum_by-cons (λ x. cond (is_send x) 1 0) s c)
 
 module _ (n : ℕ) (c : Computation) (pending : ℕ → Bool) (more : List (Bool × Why)) where
-  -- the second reason against an event is that its process is closed
-  closed_is_second : (s : Step) (p : ℕ) → is_step_of p s ≡ true → slice_get (event_reasons n c pending s ++ more) 1 ≡ Some (is_closed c p, why.Closed)
-  closed_is_second s p own = grind arith
-
   -- a step against which no reason holds keeps the computation an accepted one
   step_accepted : (s : Step) → first_reason (event_reasons n c pending s ++ more) ≡ None → IsAccepted c → IsAccepted (c ++ computation (s ∷ []))
   step_accepted s none accepted =
       cond_both (is_event s) (s ∷ []) [] (λ e. IsAccepted (c ++ e))
       (λ event. accepted_push c s accepted
-      (λ p own. none_holds (event_reasons n c pending s ++ more) 1 (is_closed c p, why.Closed) (closed_is_second s p own) none)
+      (λ p own. none_holds (event_reasons n c pending s ++ more) 1 (is_closed c p, why.Closed) (grind arith) none)
       (grind (arith, length-receivers, slice_get_past)))
       (λ other. subst IsAccepted (sym (append-nil c)) accepted)
 

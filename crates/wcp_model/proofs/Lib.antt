@@ -1,7 +1,6 @@
 pub mod CutLaws
 pub mod Decided
 pub mod Elimination
-pub mod LeastCut
 pub mod Places
 pub mod Reached
 pub mod SamePlace
@@ -24,7 +23,6 @@ pub mod FirstReasons
 pub mod FirstFault
 pub mod CheckedPlans
 pub mod PlainPlans
-pub mod RisingLists
 pub mod AcceptedSteps
 pub mod EmissionFronts
 pub mod AcceptedReplies

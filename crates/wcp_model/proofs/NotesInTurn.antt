@@ -19,8 +19,7 @@ snapshot_clocks-append (note.Close count ∷ notes) more = snapshot_clocks-appen
 -- snapshots that are numbered from a number on, and a mark that counts them or none, are in turn
 in_turn_from : (number count : ℕ) (closed : Bool) (clocks : List (List ℕ)) (before after : List Note) (next : Note) → count ≡ number + length clocks → snapshots_from number clocks ++ (if closed then note.Close count ∷ [] else []) ≡ before ++ next ∷ after →
     (place_of next ≡ number + length (snapshot_clocks before)) × (list_any is_close before ≡ false)
-in_turn_from number count false [] [] after next counted is = absurd (cc is)
-in_turn_from number count false [] (x ∷ before) after next counted is = absurd (cc is)
+in_turn_from number count false [] before after next counted is = absurd (omega (arith, ap length is, length-append before (next ∷ after)))
 in_turn_from number count true [] [] after next counted is =
     grind arith
 in_turn_from number count true [] (x ∷ before) after next counted is = absurd (omega (arith, ap length is, length-append before (next ∷ after)))
@@ -49,8 +48,7 @@ split_push (a ∷ xs) (b ∷ before) after x y is =
 
 -- none is in turn, and one more is
 pub AreInTurn-none : AreInTurn []
-AreInTurn-none [] after next is = absurd (cc is)
-AreInTurn-none (x ∷ before) after next is = absurd (cc is)
+AreInTurn-none before after next is = absurd (omega (arith, ap length is, length-append before (next ∷ after)))
 
 pub AreInTurn-push : (notes : List Note) (next : Note) → AreInTurn notes → IsNextNote notes next → AreInTurn (notes ++ next ∷ [])
 AreInTurn-push notes next turn is before after other at = grind (arith, split_push)

@@ -24,11 +24,7 @@ count_before-mono test xs early late order = search (arith, take-take early late
 -- two elements that pass, with as many that pass before them, stand at one place
 pub count_before-place : {X : Type 0} (test : X → Bool) (xs : List X) (one other : ℕ) (x y : X) → slice_get xs one ≡ Some x → slice_get xs other ≡ Some y → test x ≡ true → test y ≡ true → count_before test xs one ≡ count_before test xs other → one ≡ other
 count_before-place test xs one other x y here there passes also same =
-    let past_one = count_before-yes test xs one x here passes in
-    let past_other = count_before-yes test xs other y there also in
-    let not_less : ¬ (one < other) = λ less. omega (arith, past_one, same, count_before-mono test xs (one + 1) other (omega arith)) in
-    let not_more : ¬ (other < one) = λ more. omega (arith, past_other, same, count_before-mono test xs (other + 1) one (omega arith)) in
-    omega arith
+    grind (arith, count_before-yes test xs one x here passes, count_before-yes test xs other y there also, count_before-mono test xs (one + 1) other, count_before-mono test xs (other + 1) one)
 
 -- past the end the count is the same
 pub count_before-past : {X : Type 0} (test : X → Bool) (xs : List X) (place : ℕ) → length xs ≤ place → count_before test xs (place + 1) ≡ count_before test xs place

@@ -34,10 +34,6 @@ snapshots_append number [] others = ap (λ k. snapshots_from k others) (omega ar
 snapshots_append number (clock ∷ clocks) others =
     ap (λ notes. note.Snap number clock ∷ notes) (snapshots_append (number + 1) clocks others ∙ ap (λ k. snapshots_from (number + 1) clocks ++ snapshots_from k others) (omega arith))
 
--- and of one more
-pub snapshots_push : (number : ℕ) (clocks : List (List ℕ)) (clock : List ℕ) → snapshots_from number (clocks ++ clock ∷ []) ≡ snapshots_from number clocks ++ note.Snap (number + length clocks) clock ∷ []
-snapshots_push number clocks clock = snapshots_append number clocks (clock ∷ [])
-
 -- no true state is new
 abbrev pub NoneNew : Computation → Computation → ℕ → Type 0
 NoneNew c e p = (k : ℕ) → IsTrueState (c ++ e) (local_state p k) → IsTrueState c (local_state p k)
@@ -98,5 +94,5 @@ emitted_snapshot n c e p k notes clock was_open still_open below new is clock_is
       grind (arith, clocks_stay n c e p notes h i old, get_or_append_left h.intervals (k ∷ []) 0 i old, get_or_append_left h.clocks (clock ∷ []) [] i (omega (arith, h.same_length))))
       (grind (arith, get_or_push, length_push))
       (cases_lt i (length h.intervals));
-  notes_are = grind (arith, append-nil, snapshots_push);
+  notes_are = grind (arith, append-nil, snapshots_append);
 }
