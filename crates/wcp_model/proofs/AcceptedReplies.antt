@@ -42,12 +42,10 @@ reply_accepted plan steps s answer is accepted = grind (arith, append-nil, filte
 goes_on : (plan : Plan) (rest history : List Answered) → AreReplies plan (history ++ rest) → IsAccepted (computation (accepted history)) → IsAccepted (computation (accepted (history ++ rest)))
 goes_on plan [] history are accepted_yet = subst (λ all. IsAccepted (computation (accepted all))) (sym (append-nil history)) accepted_yet
 goes_on plan (a ∷ rest) history are accepted_yet =
-    let together : (history ++ a ∷ []) ++ rest ≡ history ++ a ∷ rest = append_assoc history (a ∷ []) rest in
     let one_more : accepted (history ++ a ∷ []) ≡ accepted history ++ accepted_by a.step a.reply = flat_map-append _ history (a ∷ []) ∙ ap (λ e. accepted history ++ e) (append-nil (accepted_by a.step a.reply)) in
-    let is : IsReply plan (accepted history) a.step a.reply = subst (λ before. IsReply plan (accepted before) a.step a.reply) (take_at history (a ∷ rest) (length history) refl) (are (length history) a (get_behind history a rest)) in
-    subst (λ all. IsAccepted (computation (accepted all))) together
-    (goes_on plan rest (history ++ a ∷ []) (subst (AreReplies plan) (sym together) are)
-    (subst (λ steps. IsAccepted (computation steps)) (sym one_more) (reply_accepted plan (accepted history) a.step a.reply is accepted_yet)))
+    let is : IsReply plan (accepted history) a.step a.reply = rw (take_at history (a ∷ rest) (length history) refl) at (are (length history) a (get_behind history a rest)) in
+    let on = goes_on plan rest (history ++ a ∷ []) in
+    simp append_assoc at (on (simp append_assoc are) (rw one_more (reply_accepted plan (accepted history) a.step a.reply is accepted_yet)))
 
 -- where the replies are those of the definitions, the computation is an accepted one
 pub replies_accepted : (plan : Plan) (history : List Answered) → AreReplies plan history → IsAccepted (computation (accepted history))

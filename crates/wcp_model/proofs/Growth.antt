@@ -107,14 +107,13 @@ pub stamp_shrinks : (n : ℕ) (c e : Computation) (message : ℕ) (stamp : List 
 stamp_shrinks n c e message stamp sent is =
     let place : is.sent < length c = in_front is_send c e is.sent (omega (arith, is.number)) in
     let send : slice_get c is.sent ≡ Some (Send is.from is.to) = sym (get_front c e is.sent place) ∙ is.send in
-    let same : interval_at (c ++ e) is.from is.sent ≡ interval_at c is.from is.sent = interval_grows c e is.from is.sent (Send is.from is.to) send in
+    let k : ℕ = interval_at c is.from is.sent in
+    let exists = event_below c is.from k is.sent (event_of_send c is.from k is.to is.sent send refl) in
     record {
       sent = is.sent;
       from = is.from;
       to = is.to;
       send = send;
       number = sym (count_front is_send c e is.sent (omega arith)) ∙ is.number;
-      clock = clock_shrinks n c e (record { process = is.from; interval = interval_at c is.from is.sent + 1 }) stamp
-          (omega (arith, event_below c is.from (interval_at c is.from is.sent) is.sent (event_of_send c is.from (interval_at c is.from is.sent) is.to is.sent send refl)))
-          (subst (λ k. IsStateClock n (c ++ e) (record { process = is.from; interval = k + 1 }) stamp) same is.clock);
+      clock = clock_shrinks n c e (record { process = is.from; interval = k + 1 }) stamp (omega (arith, exists)) (rw (interval_grows c e is.from is.sent (Send is.from is.to) send) at is.clock);
     }

@@ -78,14 +78,12 @@ delivery_step n {order} {p} {q} {sent} {received} d =
 pub delivery_of : (n : ℕ) {tasks order : List Task} → IsFitOrder tasks order → (p to q sent received : ℕ) → slice_get (computation_of n order) sent ≡ Some (step.Send p to) → slice_get (computation_of n order) received ≡ Some (step.Recv q (message_at (computation_of n order) sent)) → IsDelivery order p q sent received
 delivery_of n {tasks} {order} fit p to q sent received put taken =
     let receive = receive_task n order received q (message_at (computation_of n order) sent) taken in
-    let from : ℕ = receive.0 in
-    let earlier = send_of_receive fit from q received receive.1 in
-    let number : count_by sends_any (take earlier.0 order) ≡ count_by sends_any (take sent order) =
-    sym (message_number_is order from q _ earlier.0 earlier.2.send earlier.2.same_rank) ∙ receive.2 ∙ message_at_is n order sent in
+    let earlier = send_of_receive fit receive.0 q received receive.1 in
+    let number = sym (message_number_is order receive.0 q _ earlier.0 earlier.2.send earlier.2.same_rank) ∙ receive.2 ∙ message_at_is n order sent in
     let there = send_task n order sent p to put in
     let same : earlier.0 ≡ sent = count_before-place sends_any order earlier.0 sent _ _ earlier.2.send there refl refl number in
-    let process : from ≡ p = ap (λ (task : Task). task.p) (same_Some _ _ (sym earlier.2.send ∙ ap (slice_get order) same ∙ there)) in
-    subst₂ (λ r place. IsDelivery order r q place received) process same earlier.2
+    let process : receive.0 ≡ p = ap (λ (task : Task). task.p) (same_Some _ _ (sym earlier.2.send ∙ ap (slice_get order) same ∙ there)) in
+    rw (same, process) at earlier.2
 
 -- in a fit order the message of a delivery is sent before it is received
 pub message_sent_before : (n : ℕ) {tasks order : List Task} → IsFitOrder tasks order → {p q sent received : ℕ} → IsDelivery order p q sent received → message_at (computation_of n order) sent < message_at (computation_of n order) received

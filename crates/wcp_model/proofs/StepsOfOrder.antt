@@ -97,7 +97,7 @@ count_from f g order earlier (first ∷ rest) closes (suc place) alike none =
 count_closes : (f : Step → Bool) (processes : List ℕ) (place : ℕ) → ((p : ℕ) → f (step.Close p) ≡ false) → count_by f (take place (map step.Close processes)) ≡ 0
 count_closes f processes zero none = refl
 count_closes f [] (suc place) none = refl
-count_closes f (p ∷ rest) (suc place) none = count_by_no f (step.Close p) (take place (map step.Close rest)) (none p) ∙ count_closes f rest place none
+count_closes f (p ∷ rest) (suc place) none = grind (arith, none, count_by_no, count_closes f rest place none)
 
 -- what counts at no close counts in a front of the computation as it does in the front of the order
 pub count_of_steps : (f : Step → Bool) (g : Task → Bool) (n : ℕ) (order : List Task) (place : ℕ) → ((front : List Task) (task : Task) → f (step_of order front task.p task.action) ≡ g task) → ((p : ℕ) → f (step.Close p) ≡ false) → count_by f (take place (computation_of n order)) ≡ count_by g (take place order)

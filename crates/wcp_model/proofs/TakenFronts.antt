@@ -86,9 +86,7 @@ module _ (n : ℕ) (c : Computation) (items : List Item) (fronts : AreFrontsOfEm
 
   -- a true state has a place among the snapshots, and is named once that one is taken
   place_of : (p k : ℕ) (within : p < n) → IsTrueState c (local_state p k) → (i : ℕ) × (i < length (fronts p within).1.intervals) × (slice_index (fronts p within).1.intervals i ≡ k)
-  place_of p k within true_state =
-      let (i, below, here) = ((fronts p within).1.true_states.each k).1 true_state in
-      (i, below, get_or_default (fronts p within).1.intervals i 0 k below ∙ here)
+  place_of p k within true_state = grind (arith, ((fronts p within).1.true_states.each k).1 true_state, get_or_default)
 
   named_by : (p k i : ℕ) (within : p < n) → slice_index (fronts p within).1.intervals i ≡ k → i < length (clocks_taken p items) → IsNamed items (local_state p k)
   named_by p k i within here taken = grind (arith, Contains-get_or, state_at)
