@@ -20,10 +20,6 @@ either_decided one other = grind arith
 pub not_decided : {P : Type 0} → Decided P → Decided (P → ⊥)
 not_decided decided = grind arith
 
--- a fact under a decided condition
-pub under_decided : {C P : Type 0} → Decided C → Decided P → Decided (C → P)
-under_decided condition decided = grind arith
-
 -- what is decided of each number below n is decided of some of them
 pub some_below_decided : (P : ℕ → Type 0) (n : ℕ) → ((k : ℕ) → k < n → Decided (P k)) → Decided ((k : ℕ) × (k < n) × P k)
 some_below_decided P zero decided = inr (λ some. omega (arith, some.1))

@@ -1,7 +1,7 @@
 use Rattle.std.proofs.Common.{◌≡◌, ℕ, ◌+◌, ◌<◌, ◌≤◌, true, List, [], ◌++◌, length, drop, slice_index, slice_index_or, ap, ◌∙◌, subst, inl, inr, ⊎_elim, append_assoc, append-nil, length-append, arith, zero, suc, ◌⊎◌, ◌∷◌, Contains, refl, ap₂}
 use Rattle.std.proofs.lemmas.Bool.{cases_Bool, cases_lt}
 use Rattle.std.proofs.lemmas.List.{get_or_append_left, nil_from_length}
-use Rattle.std.proofs.lemmas.List.Elements.{Contains-get_or}
+use Rattle.std.proofs.lemmas.List.Elements.{Contains-append_cases, Contains-append_right, Contains-push_cases, Contains-get_or}
 use Rattle.std.proofs.lemmas.List.Folds.{list_any-append}
 use Rattle.std.proofs.lemmas.List.Kept.{AllPairs-from_increasing}
 use Rattle.std.proofs.lemmas.List.Prefix.{front_from_reads}
@@ -33,14 +33,7 @@ first_below x xs k rises within =
 
 -- an element is the first or one of the others
 first_or_other : (x : ℕ) (xs : List ℕ) (k : ℕ) → Contains (x ∷ xs) k → (x ≡ k) ⊎ Contains xs k
-first_or_other x xs k within = go within.0 within.1 within.2
-  where
-    go : (i : ℕ) → i < length (x ∷ xs) → slice_index_or (x ∷ xs) i k ≡ k → (x ≡ k) ⊎ Contains xs k
-    go zero lt is = inl is
-    go (suc i) lt is = inr (i, omega arith, is)
-
-other_within : (x : ℕ) (xs : List ℕ) (k : ℕ) → Contains xs k → Contains (x ∷ xs) k
-other_within x xs k within = (suc within.0, omega (arith, within.1), within.2)
+first_or_other x xs k within = grind (arith, Contains-append_cases (x ∷ []) xs k within, Contains-push_cases [] x k)
 
 first_within : (x : ℕ) (xs : List ℕ) → Contains (x ∷ xs) x
 first_within x xs = (0, omega arith, refl)
@@ -59,11 +52,11 @@ rising_front (x ∷ xs) (y ∷ ys) rise rises kept new =
     (λ (late : (j : ℕ) → Contains (x ∷ xs) j → j ≤ y). late x (first_within x xs)) (new y (first_within y ys)) in
     let same : y ≡ x = omega arith in
     let found : (rest : List ℕ) × (ys ≡ xs ++ rest) = rising_front xs ys (rest_rises x xs rise) (rest_rises y ys rises)
-    (λ k within. grind (arith, first_below x xs k rise within, first_or_other y ys k (kept k (other_within x xs k within))))
+    (λ k within. grind (arith, first_below x xs k rise within, first_or_other y ys k (kept k (Contains-append_right (x ∷ []) xs k within))))
     (λ k within. ⊎_elim
     (λ (old : Contains (x ∷ xs) k). grind (arith, first_or_other x xs k old, first_below y ys k rises within))
-    (λ (late : (j : ℕ) → Contains (x ∷ xs) j → j ≤ k). inr (λ j other. late j (other_within x xs j other)))
-    (new k (other_within y ys k within))) in
+    (λ (late : (j : ℕ) → Contains (x ∷ xs) j → j ≤ k). inr (λ j other. late j (Contains-append_right (x ∷ []) xs j other)))
+    (new k (Contains-append_right (y ∷ []) ys k within))) in
     (found.0, ap₂ (λ z zs. z ∷ zs) same found.1)
 
 module _ (n : ℕ) (c e : Computation) (p : ℕ) (notes more : List Note) (is : AreEmissions n c p notes) (grown : AreEmissions n (c ++ e) p more) where

@@ -64,11 +64,7 @@ pub record CountsNotes (s : ProbeState) : Type 0 where
   pub closed : s.closed ≡ list_any is_close s.notes
 
 pub counts_after : (p : ℕ) (s : ProbeState) (call : Call) → CountsNotes s → CountsNotes (after_call p s call)
-counts_after p s (Observed false) is = is
-counts_after p s (Observed true) is = grind (arith, length-append, list_any-append, snapshot_clocks-append)
-counts_after p s Sent is = record { snapshots = is.snapshots; closed = is.closed }
-counts_after p s (Received stamp) is = record { snapshots = is.snapshots; closed = is.closed }
-counts_after p s Closed is = grind (arith, append-nil, list_any-append, snapshot_clocks-append)
+counts_after p s call is = grind (arith, append-nil, length-append, list_any-append, snapshot_clocks-append)
 
 counts_from : (p : ℕ) (s : ProbeState) (log : List Call) → CountsNotes s → CountsNotes (fold (after_call p) s log)
 counts_from p s [] is = is

@@ -9,7 +9,7 @@ use Rattle.wcp_model.specs.declared.step.Step.TheVariants.{Observe, Send, Recv}
 use Rattle.wcp_model.specs.Computation.{Computation, is_communication_of, communications, interval_at, message_at, IsState, IsTrueState}
 use Rattle.wcp_model.specs.Order.{DirectlyPrecedes, Next, Message, HappenedBefore, Direct, Chain}
 use Rattle.wcp_model.specs.Cut.{member, IsConsistent, IsSatisfyingCut}
-use Rattle.wcp_model.proofs.Decided.{Decided, decided_from, both_decided, either_decided, not_decided, under_decided, some_below_decided, all_below_decided}
+use Rattle.wcp_model.proofs.Decided.{Decided, decided_from, both_decided, either_decided, some_below_decided, all_below_decided}
 use Rattle.wcp_model.proofs.Places.{count_before-yes, count_before-no, count_before-past, count_before-place}
 use Rattle.wcp_model.proofs.SamePlace.{element_after}
 
@@ -179,8 +179,8 @@ true_state_decided c s = grind (arith, slice_get_within, some_below_decided (λ 
 pub consistent_decided : (n : ℕ) (c : Computation) (cut : List ℕ) → Decided (IsConsistent n c cut)
 consistent_decided n c cut =
     decided_from (λ apart p q p_below q_below. apart p p_below q q_below) (λ consistent p p_below q q_below. consistent p q p_below q_below)
-    (all_below_decided (λ p. (q : ℕ) → q < n → p ≢ q → HappenedBefore c (member cut p) (member cut q) → ⊥) n
-    (search (arith, all_below_decided, cases_eq, happened_before_decided, not_decided, under_decided)))
+    (all_below_decided (λ p. (q : ℕ) → q < n → p ≢ q → HappenedBefore c (member cut p) (member cut q) → ⊥) n (λ p p_below.
+    all_below_decided (λ q. p ≢ q → HappenedBefore c (member cut p) (member cut q) → ⊥) n (λ q q_below. grind (arith, happened_before_decided c (member cut p) (member cut q)))))
 
 -- whether a list of intervals is a satisfying cut is decided
 pub satisfying_decided : (n : ℕ) (c : Computation) (cut : List ℕ) → IsSatisfyingCut n c cut ⊎ (IsSatisfyingCut n c cut → ⊥)

@@ -31,10 +31,6 @@ communications_push c x p one here = sum_by_push (λ y. cond (is_communication_o
 closed_stays : (c : Computation) (x : Step) (p : ℕ) → is_close_of p x ≡ false → is_closed (c ++ x ∷ []) p ≡ is_closed c p
 closed_stays c x p other = grind (arith, list_any-append)
 
--- its close closes it
-closed_now : (c : Computation) (p : ℕ) → is_closed (c ++ Close p ∷ []) p ≡ true
-closed_now c p = grind (arith, list_any-append, eq-eqb)
-
 -- a step that is no true observation makes no state true
 none_new : (c : Computation) (x : Step) (p : ℕ) → (x ≡ Observe p true → ⊥) → NoneNew c (x ∷ []) p
 none_new c x p other k is = grind (arith, true_state_cases c x (local_state p k) is)
@@ -117,7 +113,7 @@ receives n c p message stamp s in_range is h =
 
 -- a close
 closes : (n : ℕ) (c : Computation) (p : ℕ) (s : ProbeState) → is_closed c p ≡ false → CountsNotes s → HasClockAndEmissions n c p s → HasClockAndEmissions n (c ++ Close p ∷ []) p (after_call p s Closed)
-closes n c p s is_open counts h = grind (arith, clock_stays n c (Close p) p s.clock refl h.clock, closed_now, emitted_close n c (Close p ∷ []) p s.notes (none_new c (Close p) p (grind arith)), emitted_clocks n c p s.notes h.emissions, none_new, true_state_grows)
+closes n c p s is_open counts h = grind (arith, clock_stays n c (Close p) p s.clock refl h.clock, list_any-append (is_close_of p) c (Close p ∷ []), eq-eqb p p refl, emitted_close n c (Close p ∷ []) p s.notes (none_new c (Close p) p (grind arith)), emitted_clocks n c p s.notes h.emissions, none_new, true_state_grows)
 
 -- a step of another process
 passes_by : (n : ℕ) (c : Computation) (x : Step) (p : ℕ) (s : ProbeState) → is_step_of p x ≡ false → HasClockAndEmissions n c p s → HasClockAndEmissions n (c ++ x ∷ []) p s
