@@ -1,11 +1,16 @@
 use Rattle.wcp_model.specs.FirstReason.{first_reason}
-use Rattle.std.proofs.Common.{◌≡◌, ◌≢◌, ℕ, ◌+◌, ◌<◌, ◌≤◌, ◌↔◌, Bool, true, false, cond, nat_lt, nat_le, IsTrue, is_some, MatchOption, List, [], ◌∷◌, ◌++◌, length, slice_get, slice_index, count_by, set, eqb, Option, None, Some, if◌then◌else◌, refl, sym, ap, ◌∙◌, subst, subst₂, ⊎_elim, append-nil, eq-eqb, arith}
-use Rattle.std.specs.Option.{option_and_then, option_map, option_to_list}
+use Rattle.std.proofs.Common.{◌≡◌, Bool, true, false, is_some, List, [], ◌∷◌, map, Option, None, Some, if◌then◌else◌, refl, arith, ◌≢◌, ℕ, ◌+◌, ◌<◌, ◌≤◌, ◌↔◌, cond, nat_lt, nat_le, IsTrue, MatchOption, ◌++◌, length, slice_get, slice_index, count_by, set, eqb, sym, ap, ◌∙◌, subst₂, ⊎_elim, append-nil, eq-eqb}
+use Rattle.std.specs.Option.{option_map, option_to_list}
+use Rattle.wcp_model.specs.declared.step.Why.{Why}
+use Rattle.wcp_model.specs.declared.step.Why.TheVariants as why
+use Rattle.wcp_probe.specs.declared.probe.Refusal.{Refusal}
+use Rattle.wcp_probe.specs.declared.probe.Refusal.TheVariants as refusal
+use Rattle.wcp_world.specs.Messages.{why_of, delivery_reasons, IsPosted, IsDelivered}
 use Rattle.std.proofs.lemmas.Bool.{cases_eq, ne_eqb}
 use Rattle.std.proofs.lemmas.Bool.Decides.{nat_tests}
 use Rattle.std.proofs.lemmas.List.{length-set, set-get_or, take_at}
 use Rattle.std.proofs.lemmas.List.Sums.{sum_by_push}
-use Rattle.std.proofs.lemmas.Option.{get_or_from_slice_get, slice_get_within, MatchOption-at_some, MatchOption-at_none}
+use Rattle.std.proofs.lemmas.Option.{get_or_from_slice_get, slice_get_past, slice_get_within, MatchOption-at_some, MatchOption-at_none}
 use Rattle.wcp_clock.specs.Limits.{most_events}
 use Rattle.wcp_clock.specs.declared.note.Note.{Note}
 use Rattle.wcp_clock.specs.declared.note.Note.TheVariants as note
@@ -13,19 +18,19 @@ use Rattle.wcp_model.specs.declared.step.Step.{Step}
 use Rattle.wcp_model.specs.declared.step.Step.TheVariants.{Observe, Send, Recv, Close}
 use Rattle.wcp_model.specs.declared.step.Reply.{Reply}
 use Rattle.wcp_model.specs.declared.step.Reply.TheVariants.{Done, Refused}
-use Rattle.wcp_model.specs.declared.step.Why.{Why}
 use Rattle.wcp_model.specs.Computation.{Computation, is_communication_of, is_send, communications, interval_at}
 use Rattle.wcp_model.specs.Emission.{is_closed}
-use Rattle.wcp_model.specs.ProbeLog.{Call, Observed, Sent, Received, Closed, ProbeSetup, after_call, setup, is_step_of, IsStampOf, IsCallOf, IsLogOf, IsAccepted}
+use Rattle.wcp_model.specs.ProbeLog.{Call, Observed, Sent, Received, Closed, ProbeSetup, after_call, setup, is_step_of, IsStampOf, IsCallOf, IsAccepted}
 use Rattle.wcp_model.specs.Replies.{accepted_by, event_reasons}
 use Rattle.wcp_model.specs.StateClock.{IsStateClock}
 use Rattle.wcp_model.proofs.Growth.{get_behind}
 use Rattle.wcp_model.proofs.GrowingLogs.{stamp_grows, log_grows}
+use Rattle.wcp_model.proofs.FirstReasons.{none_holds}
+use Rattle.wcp_model.proofs.AcceptedReplies.{length-receivers}
 use Rattle.wcp_model.proofs.AcceptedSteps.{accepted_push}
 use Rattle.wcp_model.proofs.Predecessors.{local_state}
 use Rattle.wcp_model.proofs.RunningEmissions.{interval_at_seam}
 use Rattle.wcp_model.proofs.TaskLogs.{log_push}
-use Rattle.wcp_probe.specs.declared.probe.Refusal.TheVariants as refusal
 use Rattle.wcp_probe.specs.declared.stamp.Stamped.{Stamped}
 use Rattle.wcp_probe.specs.Core.{Core, Accepts, IsSameProbe}
 use Rattle.wcp_probe.specs.Refusals.{at_clock_end, observe_refusal, close_refusal, stamp_refusal}
@@ -33,10 +38,31 @@ use Rattle.wcp_probe.specs.Seal.{seal_of}
 use Rattle.wcp_world.specs.declared.messages.Letter.{Letter}
 use Rattle.wcp_world.specs.Answer.{IsAnswer, KeepsIfRefused}
 use Rattle.wcp_world.specs.Processes.{ProcessesState, AreProcessesOf, IsProbeOf, AreLettersOf, pending_at}
-use Rattle.wcp_world.specs.Messages.{why_of, delivery_reasons, IsPosted, IsDelivered}
-use Rattle.wcp_world.proofs.SentLetters.{get_set, addressed_is, not_ahead, as_many_letters, letters_stay, letters_posted, letters_delivered}
+use Rattle.wcp_world.proofs.SentLetters.{get_set, addressed_is, not_ahead, letters_stay, letters_posted, letters_delivered}
 use Rattle.wcp_world.proofs.Probes.{clock_is, law_of_probe, is_closed_as, state, observed, closed}
-use Rattle.wcp_world.proofs.Reasons.{first_maps, only_clock_end, none_holds, no_value}
+
+one_reason : (b : Bool) (reason : Refusal) (rest : Option Refusal) (others : Option Why) → others ≡ option_map why_of rest →
+    (if b then Some (why_of reason) else others) ≡ option_map why_of (if b then Some reason else rest)
+one_reason b reason rest others same = grind arith
+
+-- the reasons of an event are those of its probe
+pub first_maps : (list : List (Bool × Refusal)) → first_reason (map (λ r. (r.0, why_of r.1)) list) ≡ option_map why_of (first_reason list)
+first_maps [] = refl
+first_maps (reason ∷ list) = one_reason reason.0 reason.1 (first_reason list) _ (first_maps list)
+
+-- a message that fits its probe is refused at the end of the clock alone
+pub only_clock_end : (closed backlog ended : Bool) →
+    first_reason ((closed, why.Closed) ∷ (backlog, why.Backlog) ∷ (ended, why.ClockEnd) ∷ []) ≡ first_reason ((closed, why.Closed) ∷ (backlog, why.Backlog)
+    ∷ (is_some (first_reason ((closed, refusal.Closed) ∷ (backlog, refusal.Backlog) ∷ (false, refusal.Stranger) ∷ (false, refusal.NotMine) ∷ (false, refusal.Ahead) ∷ (ended, refusal.ClockEnd) ∷ [])), why.ClockEnd) ∷ [])
+only_clock_end closed backlog ended = grind arith
+
+-- a probe that is willing to close has nothing pending
+nothing_pending : (core : Core) → close_refusal core ≡ None → core.pending ≡ None
+nothing_pending core willing = grind arith
+
+-- the second reason against an event is that its process is closed
+closed_is_second : (n : ℕ) (c : Computation) (pending : ℕ → Bool) (s : Step) (q : ℕ) → is_step_of q s ≡ true → slice_get (event_reasons n c pending s) 1 ≡ Some (is_closed c q, why.Closed)
+closed_is_second n c pending s q own = grind arith
 
 abbrev bit : Bool → ℕ
 bit b = cond b 1 0
@@ -139,6 +165,9 @@ module _ (n : ℕ) (c : Computation) (put : ℕ → List Note) (app : ProcessesS
     refuses s why letters same same_letters first =
         grind (arith, get_or_from_slice_get app.probes p core core, append-nil c, set-get_or app.probes p core)
 
+    pub refuses_as : (s : Step) (asked : Option Refusal) (refused : Refusal) (why : Why) (letters : List Letter) → new ≡ core → letters ≡ app.letters → first_reason (reasons s) ≡ option_map why_of asked → asked ≡ Some refused → why ≡ why_of refused → Performed s (Refused why) letters
+    refuses_as s asked refused why letters same same_letters first is why_is = refuses s why letters same same_letters (first ∙ ap (option_map why_of) is ∙ ap Some (sym why_is))
+
     module _ (s : Step) (call : Call) (owner : (q : ℕ) → is_step_of q s ≡ eqb p q) where
       abbrev grown : Computation
       grown = c ++ s ∷ []
@@ -151,23 +180,14 @@ module _ (n : ℕ) (c : Computation) (put : ℕ → List Note) (app : ProcessesS
 
       -- the probe of another process
       other_probe : (q : ℕ) (other : Core) → q ≢ p → IsProbeOf n c q (put q) other → IsProbeOf n grown q (put q) other
-      other_probe q other apart was = record {
-        log = was.log;
-        is_log = subst (IsLogOf n grown q) (append-nil was.log) (log_grows n c (s ∷ []) q was.log [] was.is_log (rw (owner q, ne_eqb p q (λ e. apart (sym e))) tt));
-        stands = was.stands;
-        watch = was.watch;
-        limit = was.limit;
-        made = was.made;
-        notes = was.notes;
-      }
+      other_probe q other apart was = grind (arith, append-nil, log_grows n c (s ∷ []) q was.log [] was.is_log (rw (owner q, ne_eqb p q (λ e. apart (sym e))) tt))
 
       -- an event that is accepted
-      accepts : (letters : List Letter) → first_reason (reasons s) ≡ None → is_closed c p ≡ false →
-          ((r message : ℕ) → s ≡ Recv r message → message < count_by is_send c) → IsCallOf n grown s call → Accepts core call new → IsSameProbe core new →
+      accepts : (letters : List Letter) → first_reason (reasons s) ≡ None → IsCallOf n grown s call → Accepts core call new → IsSameProbe core new →
           (after_call p (state n c p (put p) core is) call).notes ≡ put p ++ option_to_list new.pending → (IsAccepted grown → IsProbeOf n grown p (put p) new → AreLettersOf n grown letters) →
           IsAnswer (reasons s) Done × AreProcessesOf n grown put (record { probes = set app.probes p new; letters = letters })
-      accepts letters first is_open was_sent is_call accepted same notes letters_are =
-          let order : IsAccepted grown = grind (arith, accepted_push) in
+      accepts letters first is_call accepted same notes letters_are =
+          let order : IsAccepted grown = accepted_push c s stands.order (λ q own. none_holds (reasons s) 1 (is_closed c q, why.Closed) (closed_is_second n c (λ x. is_some (pending_at app x)) s q own) first) (grind (arith, length-receivers, slice_get_past)) in
           let now : IsProbeOf n grown p (put p) new = own_probe is_call accepted same notes in (
             rw first refl,
             grind (arith, get_set, length-set, other_probe),
@@ -179,25 +199,22 @@ module _ (n : ℕ) (c : Computation) (put : ℕ → List Note) (app : ProcessesS
     observes holds emitted willing accepted emits spared new_is =
         let first = observe_reasons holds ∙ ap (option_map why_of) willing in
         let told = observed n c p (put p) core is new holds emitted emits spared new_is in
-        accepts (Observe p holds) (Observed holds) (λ q. refl) app.letters first (none_holds (reasons (Observe p holds)) first).1.0 (λ r message e. cc) refl accepted told.0 told.1
+        accepts (Observe p holds) (Observed holds) (λ q. refl) app.letters first refl accepted told.0 told.1
         (λ order now. letters_stay n c app.letters stands.letters (Observe p holds) refl (λ message. refl))
 
     -- the process closes
     pub closes : close_refusal core ≡ None → Accepts core Closed new → new ≡ record core { closed = true; pending = Some (note.Close core.emitted) } → Performed (Close p) Done app.letters
     closes willing accepted new_is =
         let first = close_reasons ∙ ap (option_map why_of) willing in
-        let none = none_holds (reasons (Close p)) first in
-        let nothing = no_value core.pending (sym (ap (λ o. is_some (option_and_then (λ (k : Core). k.pending) o)) at) ∙ none.1.1.0) in
-        let told = closed n c p (put p) core is new nothing new_is in
-        accepts (Close p) Closed (λ q. refl) app.letters first none.1.0 (λ r message e. cc) tt accepted told.0 told.1
+        let told = closed n c p (put p) core is new (nothing_pending core willing) new_is in
+        accepts (Close p) Closed (λ q. refl) app.letters first tt accepted told.0 told.1
         (λ order now. letters_stay n c app.letters stands.letters (Close p) refl (λ message. refl))
 
     -- the process sends a message
     pub sends : (to : ℕ) (more : List Letter) → stamp_refusal core to ≡ None → IsPosted core new to app.letters more → Performed (Send p to) Done more
     sends to more willing posted =
         let first = send_reasons to ∙ ap (option_map why_of) willing in
-        let none = none_holds (reasons (Send p to)) first in
-        accepts (Send p to) Sent (λ q. refl) more first none.1.0 (λ r message e. cc) tt posted.accepted posted.same
+        accepts (Send p to) Sent (λ q. refl) more first tt posted.accepted posted.same
         (is.notes ∙ ap (λ o. put p ++ option_to_list o) (sym posted.pending))
         (λ order now. rw posted.letters_are (letters_posted n c app.letters stands.letters p to posted.message stands.order (posted.watch ∙ is.watch) posted.addressed
         (rw posted.clock (stamp_of_send n c p to (put p) new in_range order now))))
@@ -212,11 +229,9 @@ module _ (n : ℕ) (c : Computation) (put : ℕ → List Note) (app : ProcessesS
         go (Some why) first is_refused = rw is_refused (refuses (Recv p number) why fewer (kept why is_refused) (same_letters why is_refused) first)
         go None first is_done =
             let d = delivered is_done in
-            let none = none_holds (reasons (Recv p number)) first in
             let mail = MatchOption-at_some _ _ d.message d.was (stands.letters.each number d.letter d.at) in
-            let sent : number < count_by is_send c = omega (arith, slice_get_within app.letters number d.letter d.at, as_many_letters n c app.letters stands.letters) in
             rw is_done
-            (accepts (Recv p number) (Received (seal_of d.message).clock) (λ q. refl) fewer first none.1.0
-            (λ r message e. let same : number ≡ message = cc e in omega (arith, sent)) (stamp_grows n c (Recv p number ∷ []) number (seal_of d.message).clock mail.3) d.accepted d.same
+            (accepts (Recv p number) (Received (seal_of d.message).clock) (λ q. refl) fewer first
+            (stamp_grows n c (Recv p number ∷ []) number (seal_of d.message).clock mail.3) d.accepted d.same
             (is.notes ∙ ap (λ o. put p ++ option_to_list o) (sym d.pending))
             (λ order now. rw d.emptied (letters_delivered n c app.letters stands.letters p number d.letter d.at)))

@@ -24,10 +24,8 @@ use Rattle.wcp_hold.specs.Held.{Held}
 use Rattle.wcp_world.specs.Answer.{IsAnswer}
 use Rattle.wcp_world.specs.PutNotes.{put_more}
 use Rattle.wcp_world.specs.Transport.{TransportState, IsPlaceOf, place_number, held_at, IsTransportOf, IsNextAtRoot, IsMoveBetween, MovesBetween, IsConveying, notes_along}
-use Rattle.wcp_world.proofs.Places.{same_place, number_apart, number_within, next_is_place, itself}
-use Rattle.wcp_world.proofs.Entries.{item_if, IsStirred, gains, loses, stays, entry_grows, entry_emitted}
-use Rattle.wcp_world.proofs.Ways.{next_apart}
-use Rattle.wcp_world.proofs.OneItemMoved.{transport_after}
+use Rattle.wcp_world.proofs.Places.{same_place, number_apart, number_within, next_is_place, itself, next_apart}
+use Rattle.wcp_world.proofs.Entries.{item_if, IsStirred, gains, loses, stays, entry_grows, entry_emitted, transport_after}
 
 -- the first item of one place has moved behind those of another
 pub record IsShift (old : List Held) (from to : ℕ) (new : List Held) : Type 0 where

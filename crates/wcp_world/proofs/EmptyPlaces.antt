@@ -7,8 +7,7 @@ use Rattle.wcp_model.specs.Occupancy.{Place, Link, room_of}
 use Rattle.wcp_hold.specs.Held.{Held, empty_hold}
 use Rattle.wcp_world.specs.Transport.{TransportState, IsTransportOf, IsPlaceOf, IsWay, held_at, notes_at, notes_along, place_number}
 use Rattle.wcp_model.proofs.CheckedPlans.{has_leaf}
-use Rattle.wcp_world.proofs.Places.{next_is_place}
-use Rattle.wcp_world.proofs.Ways.{way_of}
+use Rattle.wcp_world.proofs.Places.{next_is_place, way_of}
 
 module _ (plan : Plan) where
   abbrev links : List Held

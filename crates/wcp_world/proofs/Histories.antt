@@ -1,7 +1,7 @@
 use Rattle.std.proofs.Common.{◌≡◌, ℕ, ◌+◌, ◌<◌, ◌≤◌, Result, Ok, Err, IfOk, OnErr, List, [], ◌∷◌, ◌++◌, length, take, sym, ap, ◌∙◌, subst, ⊎_elim, append-nil, arith}
 use Rattle.std.proofs.lemmas.Bool.{cases_lt}
 use Rattle.std.proofs.lemmas.Grind.{flat_map-append}
-use Rattle.std.proofs.lemmas.List.{length_push, take-append-le, take_at, take_all}
+use Rattle.std.proofs.lemmas.List.{length_push, take-append-le, take_at, take_all, map_push}
 use Rattle.std.proofs.lemmas.Option.{slice_get_within}
 use Rattle.wcp_model.specs.declared.plan.Plan.{Plan}
 use Rattle.wcp_model.specs.declared.step.Step.{Step}
@@ -11,6 +11,8 @@ use Rattle.wcp_model.specs.Report.{AreFrontsOfEmissions}
 use Rattle.wcp_model.proofs.GrowingLogs.{get_push}
 use Rattle.wcp_world.specs.World.{WorldState, Stands, IsReached, MakesStep, IsWorldOf}
 use Rattle.wcp_world.proofs.WorldAfterStep.{taken_fronts}
+use Rattle.wcp_model.specs.declared.outcome.Tally.{Tally}
+use Rattle.wcp_world.specs.Plays.{IsTallyOf, AreTalliesOf, HasAnswered}
 
 -- a history with one more step and its reply
 accepted_push : (history : List Answered) (a : Answered) → accepted (history ++ a ∷ []) ≡ accepted history ++ accepted_by a.step a.reply
@@ -65,3 +67,21 @@ world_after (Err e) old new s answers = answers
 pub reached_after : {E : Type 0} (result : Result Reply E) (old new : WorldState) (s : Step) → IfOk result (λ reply. MakesStep old s reply new) → OnErr result (new ≡ old) → IsReached old → IsReached new
 reached_after (Ok reply) old new s answers same reached = (reached.0, reached.1 ++ accepted_by s reply, reached.2 ++ taken_by reply, (answers reached.0 reached.1 reached.2 reached.3).1)
 reached_after (Err e) old new s answers same reached = subst IsReached (sym same) reached
+
+-- one more tally
+pub tallies_push : (w : WorldState) (p : ℕ) (tallies : List Tally) (tally : Tally) → AreTalliesOf w p tallies → ((plan : Plan) (history : List Answered) → IsWorldOf plan history w → IsTallyOf plan.n (computation (accepted history)) (items_taken history) p tally) →
+    AreTalliesOf w (p + 1) (tallies ++ tally ∷ [])
+tallies_push w p tallies tally are is = (
+  length_push tallies tally ∙ ap (λ k. k + 1) are.0,
+  grind (arith, get_push),
+)
+
+-- one more step was answered
+pub answered_push : (plan : Plan) (steps : List Step) (replies : List Reply) (old new : WorldState) (s : Step) (reply : Reply) → HasAnswered plan steps replies old →
+    ((plan : Plan) (history : List Answered) → IsWorldOf plan history old → IsWorldOf plan (history ++ record { step = s; reply = reply } ∷ []) new) → HasAnswered plan (steps ++ s ∷ []) (replies ++ reply ∷ []) new
+answered_push plan steps replies old new s reply has more = record {
+  history = has.history ++ record { step = s; reply = reply } ∷ [];
+  steps_are = map_push (λ (a : Answered). a.step) has.history (record { step = s; reply = reply }) ∙ ap (λ l. l ++ s ∷ []) has.steps_are;
+  replies_are = map_push (λ (a : Answered). a.reply) has.history (record { step = s; reply = reply }) ∙ ap (λ l. l ++ reply ∷ []) has.replies_are;
+  is = more plan has.history has.is;
+}

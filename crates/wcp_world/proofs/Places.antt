@@ -1,9 +1,15 @@
-use Rattle.std.proofs.Common.{◌≡◌, ◌≢◌, ◌+◌, ◌<◌, true, false, length, Some, arith}
+use Rattle.std.proofs.Common.{◌≡◌, ◌≢◌, ◌+◌, ◌<◌, true, false, length, Some, arith, ℕ, zero, suc, ◌*◌, ◌≤◌, get_or, Option, List, [], ◌∷◌, refl, ap, ◌∙◌, ⊎_elim}
 use Rattle.wcp_model.specs.declared.plan.Plan.{Plan}
 use Rattle.wcp_model.specs.PlanFault.{IsCheckedPlan}
-use Rattle.wcp_model.specs.Occupancy.{Place, is_same_place, next_place}
+use Rattle.wcp_model.specs.Occupancy.{Place, is_same_place, next_place, Pending, Link, HoldOf, InboxOf}
 use Rattle.wcp_model.proofs.CheckedPlans.{few_processes, some_process, capacity, hold_room, parent_below, attached_exists}
-use Rattle.wcp_world.specs.Transport.{IsPlaceOf, place_number}
+use Rattle.wcp_world.specs.Transport.{IsPlaceOf, place_number, IsWay}
+use Rattle.std.specs.Option.{option_and_then}
+use Rattle.std.proofs.lemmas.Bool.{false_from_ne_true, cases_lt}
+use Rattle.std.proofs.lemmas.Option.{slice_get-get_or, option_and_then_some}
+use Rattle.wcp_model.specs.declared.plan.Parent.{Parent}
+use Rattle.wcp_model.specs.declared.plan.Parent.TheVariants.{Root, Relay}
+use Rattle.wcp_model.specs.Tree.{leaf_of, parent_of}
 
 pub same_place : (x y : Place) → is_same_place x y ≡ true → x ≡ y
 same_place x y same = grind arith
@@ -26,3 +32,74 @@ module _ (plan : Plan) (checked : IsCheckedPlan plan) where
 
 -- what the numbers of a checked plan are within
 pub ruleset plan_limits = (few_processes, some_process, capacity, hold_room)
+
+-- a place on the way of a process to the checker
+pub data IsOnWay (plan : Plan) (p : ℕ) : Place → Type 0 where
+  Start : IsOnWay plan p (Pending p)
+  Onward : {x y : Place} → IsOnWay plan p x → next_place plan x ≡ Some y → IsOnWay plan p y
+
+-- how far a place is from the checker, at least
+abbrev pub distance : Plan → Place → ℕ
+distance plan (Pending p) = 2 * length plan.parents.items + 4
+distance plan (Link p) = 2 * length plan.parents.items + 3
+distance plan (HoldOf relay) = 2 * relay + 1
+distance plan (InboxOf Root) = 0
+distance plan (InboxOf (Relay relay)) = 2 * relay + 2
+
+module _ (plan : Plan) (checked : IsCheckedPlan plan) where
+  pub nearer : (x y : Place) → next_place plan x ≡ Some y → distance plan y < distance plan x
+  nearer x y next = grind (arith, attached_exists, parent_below)
+
+  pub next_apart : (x y : Place) → next_place plan x ≡ Some y → is_same_place x y ≡ false
+  next_apart x y next = false_from_ne_true (is_same_place x y) (λ same. omega (arith, nearer x y next, ap (distance plan) (same_place x y same)))
+
+  -- the place that so many steps lead to
+  abbrev after : ℕ → ℕ → Option Place
+  after p zero = Some (Pending p)
+  after p (suc k) = option_and_then (next_place plan) (after p k)
+
+  steps_to : (p : ℕ) {x : Place} → IsOnWay plan p x → (k : ℕ) × (after p k ≡ Some x)
+  steps_to p Start = (0, refl)
+  steps_to p (Onward on next) = let before = steps_to p on in (suc before.0, ap (option_and_then (next_place plan)) before.1 ∙ next)
+
+  nearer_later : (p k l : ℕ) (x y : Place) → k < l → after p k ≡ Some x → after p l ≡ Some y → distance plan y < distance plan x
+  nearer_later p k zero x y less at_x at_y = absurd (omega (arith, less))
+  nearer_later p k (suc l) x y less at_x at_y = option_and_then_some (next_place plan) (after p l) y at_y (λ z at_z next. ⊎_elim
+      (λ (more : k < l). omega (arith, nearer_later p k l x z more at_x at_z, nearer z y next))
+      (λ (last : l ≤ k). let now : k ≡ l = omega arith in let same : x ≡ z = cc (at_x, at_z, ap (after p) now) in omega (arith, nearer z y next, ap (distance plan) same))
+      (cases_lt k l))
+
+  -- on one way, a place follows one place alone
+  pub one_before : (p : ℕ) (x y z : Place) → IsOnWay plan p x → IsOnWay plan p y → next_place plan x ≡ Some z → next_place plan y ≡ Some z → x ≡ y
+  one_before p x y z on_x on_y next_x next_y =
+      let to_x = steps_to p on_x in
+      let to_y = steps_to p on_y in
+      let by_x = ap (option_and_then (next_place plan)) to_x.1 ∙ next_x in
+      let by_y = ap (option_and_then (next_place plan)) to_y.1 ∙ next_y in
+      ⊎_elim
+      (λ (less : to_x.0 < to_y.0). absurd (omega (arith, nearer_later p (suc to_x.0) (suc to_y.0) z z (omega (arith, less)) by_x by_y)))
+      (λ (ge : to_y.0 ≤ to_x.0). ⊎_elim
+      (λ (more : to_y.0 < to_x.0). absurd (omega (arith, nearer_later p (suc to_y.0) (suc to_x.0) z z (omega (arith, more)) by_y by_x)))
+      (λ (le : to_x.0 ≤ to_y.0). let same : to_x.0 ≡ to_y.0 = omega (arith, ge, le) in cc (to_x.1, to_y.1, ap (after p) same))
+      (cases_lt to_y.0 to_x.0))
+      (cases_lt to_x.0 to_y.0)
+
+  -- from each hold there is a way
+  way_from_hold : (bound relay : ℕ) → relay < bound → relay < length plan.parents.items → (way : List Place) × IsWay plan (HoldOf relay) way
+  way_from_hold zero relay below is = absurd (omega (arith, below))
+  way_from_hold (suc bound) relay below is =
+      onward (way_from_hold bound) (get_or plan.parents.items relay Root) (slice_get-get_or plan.parents.items relay Root is)
+    where
+      onward : ((above : ℕ) → above < bound → above < length plan.parents.items → (way : List Place) × IsWay plan (HoldOf above) way) →
+          (owner : Parent) → parent_of plan relay ≡ Some owner → (way : List Place) × IsWay plan (HoldOf relay) way
+      onward lower_ways Root at = (InboxOf Root ∷ [], rw at (refl, refl))
+      onward lower_ways (Relay above) at =
+          let lower : above < relay = parent_below plan checked relay above at in
+          let rest = lower_ways above (omega (arith, below, lower)) (omega (arith, is, lower)) in
+          (InboxOf (Relay above) ∷ HoldOf above ∷ rest.0, rw at (refl, (refl, rest.1)))
+
+  -- and from each link
+  pub way_of : (p relay : ℕ) → leaf_of plan p ≡ Some relay → (way : List Place) × IsWay plan (Link p) way
+  way_of p relay at =
+      let onward = way_from_hold (relay + 1) relay (omega arith) (attached_exists plan checked p relay at).1 in
+      (HoldOf relay ∷ onward.0, rw at (refl, onward.1))

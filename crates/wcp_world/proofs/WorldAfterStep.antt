@@ -1,11 +1,13 @@
 use Rattle.wcp_model.specs.FirstReason.{first_reason}
-use Rattle.std.proofs.Common.{◌≡◌, ℕ, ◌+◌, ◌<◌, true, false, nat_lt, is_some, Option, None, Some, MatchOption, List, [], ◌∷◌, ◌++◌, length, eqb, eq-eqb, refl, sym, ap, ◌∙◌, subst, append-nil, append_assoc, add-zero, arith}
+use Rattle.std.proofs.Common.{◌≡◌, ℕ, ◌+◌, ◌<◌, true, false, nat_lt, is_some, Option, None, Some, MatchOption, List, [], ◌∷◌, ◌++◌, length, eqb, eq-eqb, refl, sym, ap, ◌∙◌, subst, append-nil, append_assoc, add-zero, arith, ◌≤◌, Result, Ok, Err, IfOk}
+use Rattle.std.proofs.lemmas.Bool.{true≢false}
 use Rattle.std.specs.Option.{option_and_then, option_to_list}
 use Rattle.std.proofs.lemmas.Bool.Decides.{nat_tests}
 use Rattle.std.proofs.lemmas.List.{length-append}
 use Rattle.std.proofs.lemmas.List.Elements.{filter-append}
 use Rattle.wcp_clock.specs.declared.note.Item.{Item}
 use Rattle.wcp_clock.specs.declared.note.Note.{Note}
+use Rattle.wcp_clock.specs.declared.note.Note.TheVariants as note
 use Rattle.wcp_model.specs.declared.plan.Plan.{Plan}
 use Rattle.wcp_model.specs.declared.step.Step.{Step}
 use Rattle.wcp_model.specs.declared.step.Step.TheVariants as step
@@ -17,16 +19,15 @@ use Rattle.wcp_model.specs.Emission.{AreEmissions}
 use Rattle.wcp_model.specs.Occupancy.{Place, Pending, InboxOf, source, is_place, takes_from, puts_into, taken_from, next_place, notes_in, IsEntry}
 use Rattle.wcp_model.specs.Replies.{is_event, computation, accepted_by, taken_by, event_reasons, reasons, IsAcceptance, IsReply}
 use Rattle.wcp_world.specs.Processes.{ProcessesState, AreProcessesOf, Performs, WasPut, pending_at}
-use Rattle.wcp_world.specs.Transport.{TransportState, IsTransportOf, IsNextAtRoot, Conveys, Puts, TakesNext, next_of}
+use Rattle.wcp_world.specs.Transport.{TransportState, IsTransportOf, IsNextAtRoot, Conveys, Puts, TakesNext, next_of, ReadsNext}
 use Rattle.wcp_world.specs.PutNotes.{put_more}
-use Rattle.wcp_world.specs.World.{WorldState, Stands}
+use Rattle.wcp_world.specs.World.{WorldState, Stands, MakesStep}
 use Rattle.wcp_queue.specs.Checker.{CheckerState, MayTake, TakesItem, processes}
 use Rattle.wcp_model.specs.Report.{notes_taken, AreFrontsOfEmissions}
 use Rattle.wcp_model.proofs.NotesInTurn.{next_of_emissions}
-use Rattle.wcp_world.proofs.OneItemMoved.{get_grows}
+use Rattle.wcp_world.proofs.Entries.{held_after, stays as still, get_grows, bit, notes_append, count_push, entry_grows}
 use Rattle.wcp_model.specs.declared.plan.Parent.TheVariants.{Root}
-use Rattle.wcp_world.proofs.Entries.{bit, notes_append, count_push, entry_grows}
-use Rattle.wcp_world.proofs.PutAndPending.{put_and_pending}
+use Rattle.wcp_world.proofs.Probes.{put_and_pending}
 
 -- what is answered by reasons gives no item, and is a reply's first clause
 no_item : (o : Option Why) (answer : Reply) → MatchOption o (answer ≡ Done) (λ why. answer ≡ Refused why) → taken_by answer ≡ []
@@ -52,14 +53,7 @@ idle plan steps put taken t s none stands = record {
   checked = stands.checked;
   same_plan = stands.same_plan;
   members = stands.members;
-  held = λ x is.
-      let was = stands.held x is in
-      record {
-        room = was.room;
-        within = was.within;
-        count = omega (arith, was.count, none_taken x, count_push (puts_into plan x) steps s, ap bit (none_put x));
-        entries = λ i item at. subst (λ k. IsEntry plan put (steps ++ s ∷ []) x (k + i) item) (sym (none_taken x)) (entry_grows plan put put steps (s ∷ []) (λ p i note at. at) (was.entries i item at));
-      };
+  held = λ x is. held_after plan steps s put put nothing x _ _ (λ p i note at. at) (λ yes. absurd (true≢false (sym yes ∙ none_put x))) (still plan s nothing x _ _ refl (ap (is_place x) none) (none_put x) refl) (stands.held x is);
   as_many = λ p. stands.as_many p ∙ sym (none_taken (Pending p));
   known = stands.known;
   in_order = stands.in_order;
@@ -67,6 +61,9 @@ idle plan steps put taken t s none stands = record {
   where
     none_taken : (x : Place) → taken_from (steps ++ s ∷ []) x ≡ taken_from steps x
     none_taken x = count_push (takes_from x) steps s ∙ ap (λ o. taken_from steps x + bit (is_place x o)) none ∙ add-zero (taken_from steps x)
+
+    nothing : Item
+    nothing = record { from = 0; note = note.Close 0 }
 
     none_put : (x : Place) → puts_into plan x s ≡ false
     none_put x = ap (λ o. is_place x (option_and_then (next_place plan) o)) none
@@ -137,11 +134,25 @@ module _ (plan : Plan) (steps : List Step) (taken : List Item) (w : WorldState) 
         }),
       )
 
-  pub put_was_refused : (p : ℕ) (note : Note) (transport : TransportState) → pending_at w.processes p ≡ Some note → Puts w.transport p note false transport →
-      IsReply plan steps (step.Put p) (Refused why.Full)
-  put_was_refused p note transport pending puts =
+  -- a put of a process that there isn't, that has nothing pending, or whose link is full
+  pub put_of_none : (p : ℕ) → plan.n ≤ p → IsReply plan steps (step.Put p) (Refused why.NoSuch) × Stands plan (steps ++ []) (taken ++ []) w
+  put_of_none p beyond = refused_for (step.Put p) why.NoSuch (grind (arith, nat_tests))
+
+  pub put_of_nothing : (p : ℕ) → p < plan.n → pending_at w.processes p ≡ None → IsReply plan steps (step.Put p) (Refused why.Empty) × Stands plan (steps ++ []) (taken ++ []) w
+  put_of_nothing p inside nothing =
+      let none : notes_in plan emissions steps (Pending p) ≡ 0 = pending_count p ∙ ap (λ o. length (option_to_list o)) nothing in
+      refused_for (step.Put p) why.Empty (grind (arith, nat_tests))
+
+  pub put_had_no_room : (p : ℕ) (note : Note) (new : TransportState) → pending_at w.processes p ≡ Some note → Puts w.transport p note false new → new ≡ w.transport →
+      IsReply plan steps (step.Put p) (Refused why.Full) × Stands plan (steps ++ []) (taken ++ []) (record w { transport = new })
+  put_had_no_room p note new pending puts same =
       let some : 0 < notes_in plan emissions steps (Pending p) = omega (arith, pending_count p, ap (λ o. length (option_to_list o)) pending) in
-      reply_is (step.Put p) (Refused why.Full) (accepting (first_reason (reasons plan emissions steps (step.Put p))) (Refused why.Full) _ (λ e. cc e) ((puts plan steps stands.put taken stands.transport).0 emissions some))
+      let full = (puts plan steps stands.put taken stands.transport).0 emissions some in
+      rw same (reply_is (step.Put p) (Refused why.Full) (accepting (first_reason (reasons plan emissions steps (step.Put p))) (Refused why.Full) _ (λ e. cc e) full), stays)
+
+  -- an empty root inbox
+  pub check_of_nothing : ReadsNext w.transport None → IsReply plan steps step.Check (Refused why.Empty) × Stands plan (steps ++ []) (taken ++ []) w
+  check_of_nothing reads = let none = reads plan steps stands.put taken stands.transport in refused_for step.Check why.Empty (grind (arith, nat_tests))
 
   -- what was taken of each process is a front of what it emitted
   pub taken_fronts : AreFrontsOfEmissions plan.n (computation steps) taken
@@ -174,3 +185,9 @@ module _ (plan : Plan) (steps : List Step) (taken : List Item) (w : WorldState) 
           checker = takes_item taken stands.checker;
         },
       )
+
+-- a send that the processes answered is one that the world answered
+pub sends : {E : Type 0} (w : WorldState) (p to : ℕ) (result : Result Reply E) (new : ProcessesState) → IfOk result (λ reply. Performs w.processes (step.Send p to) reply new) →
+    IfOk result (λ reply. MakesStep w (step.Send p to) reply (record w { processes = new }))
+sends w p to (Ok reply) new performs = λ plan steps taken stands. event_answered plan steps taken w stands (step.Send p to) reply new refl refl (rw (pending_is plan steps taken w stands p) refl) (λ e. e) performs
+sends w p to (Err e) new performs = performs

@@ -1,4 +1,4 @@
-use Rattle.wcp_world.proofs.LongerPlays.{answered_push}
+use Rattle.wcp_world.proofs.Histories.{answered_push}
 use Rattle.wcp_world.proofs.plays.answer.Goals as goal
 
 pub returns : goal.returns

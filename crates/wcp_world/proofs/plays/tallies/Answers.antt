@@ -1,4 +1,4 @@
-use Rattle.wcp_world.proofs.LongerPlays.{tallies_push}
+use Rattle.wcp_world.proofs.Histories.{tallies_push}
 use Rattle.wcp_world.proofs.plays.tallies.Goals as goal
 
 pub loop-p-preserved : goal.loop-p-preserved

@@ -1,8 +1,7 @@
 use Rattle.std.proofs.Common.{sym, ◌∙◌, subst}
 use Rattle.wcp_world.specs.Transport.{ReadsNext}
 use Rattle.wcp_world.specs.WorldView.{state_of}
-use Rattle.wcp_world.proofs.WorldAfterStep.{check_answered, may_take}
-use Rattle.wcp_world.proofs.AnsweredSteps.{check_of_nothing}
+use Rattle.wcp_world.proofs.WorldAfterStep.{check_answered, may_take, check_of_nothing}
 use Rattle.wcp_world.proofs.detector.Detector.check.Goals as goal
 
 pub returns-in_default-clause-answered : goal.returns-in_default-clause-answered

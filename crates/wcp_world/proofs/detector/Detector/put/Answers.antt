@@ -1,8 +1,7 @@
 use Rattle.std.proofs.Common.{Bool, sym, ◌∙◌, subst, arith}
 use Rattle.wcp_world.specs.Transport.{Puts}
 use Rattle.wcp_world.specs.WorldView.{state_of}
-use Rattle.wcp_world.proofs.WorldAfterStep.{put_answered}
-use Rattle.wcp_world.proofs.AnsweredSteps.{put_of_none, put_of_nothing, put_had_no_room}
+use Rattle.wcp_world.proofs.WorldAfterStep.{put_answered, put_of_none, put_of_nothing, put_had_no_room}
 use Rattle.wcp_world.proofs.detector.Detector.put.Goals as goal
 
 pub returns-then-p-count-clause-answered : goal.returns-then-p-count-clause-answered

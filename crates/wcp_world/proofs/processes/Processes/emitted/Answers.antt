@@ -1,14 +1,10 @@
-use Rattle.std.proofs.Common.{◌≡◌, ◌<◌, Some, length, slice_get, refl, sym, subst}
+use Rattle.std.proofs.Common.{refl}
 use Rattle.std.proofs.lemmas.Option.{slice_get_read}
-use Rattle.wcp_world.specs.Processes.{ProcessesState}
-use Rattle.wcp_world.proofs.PutAndPending.{emitted_counts}
+use Rattle.wcp_world.proofs.Probes.{emitted_counts}
 use Rattle.wcp_world.proofs.processes.Processes.emitted.Goals as goal
 
 pub returns : goal.returns
 returns c =
-    let probes = c.self.inside.probes.items in
-    let app : ProcessesState = record { probes = probes; letters = c.self.inside.letters } in
-    let core = c.index.result.now in
-    let inside : c.args.p < length probes = subst (λ (a : ProcessesState). c.args.p < length a.probes) (sym c.self.view_is) c.requires in
-    let at : slice_get probes c.args.p ≡ Some core = slice_get_read probes (length probes) c.args.p core refl inside c.index.ensures in
-    rw (← c.self.view_is, c.emitted.ensures) (emitted_counts app c.args.p core at)
+    let inside = rw (← c.self.view_is) at c.requires in
+    let at = slice_get_read c.self.inside.probes.items _ c.args.p c.index.result.now refl inside c.index.ensures in
+    rw (← c.self.view_is, c.emitted.ensures) (emitted_counts _ c.args.p c.index.result.now at)

@@ -1,5 +1,5 @@
 use Rattle.std.proofs.Common.{◌≡◌, arith}
-use Rattle.wcp_world.proofs.FirstProbes.{fresh_stands}
+use Rattle.wcp_world.proofs.Probes.{fresh_stands}
 use Rattle.wcp_world.proofs.processes.Processes.new.Goals as goal
 
 pub returns : goal.returns

@@ -1,4 +1,4 @@
-use Rattle.wcp_world.proofs.FirstProbes.{AreFirstCores}
+use Rattle.wcp_world.proofs.Probes.{AreFirstCores}
 use Rattle.wcp_world.proofs.processes.Processes.new.Given as goal
 
 abbrev pub invariant-loop-id : goal.invariant-loop-id
