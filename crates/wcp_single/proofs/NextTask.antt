@@ -109,10 +109,7 @@ module _ (n : ℕ) (done : List Task) (a : ℕ) (act : Action) (within : a < n) 
 
   -- the channel on which it sends
   pub channel_pushed : (q : ℕ) (seals : List Seal) (seal : Seal) → q < n → is_send_to q act ≡ true → receives a q task ≡ false → (seal.watch ≡ 0) × (seal.to ≡ q) → seal.clock ≡ (state_of_log (setup n a) (logs a ++ call ∷ [])).clock → IsChannel n done logs a q seals → IsChannel n longer after a q (seals ++ seal ∷ [])
-  channel_pushed q seals seal below send no_receive addressed carries channel = record {
-    addressed = All-push (λ (s : Seal). (s.watch ≡ 0) × (s.to ≡ q)) seals seal channel.addressed addressed;
-    in_order = grind (arith, common_steps, got_stays, stamps_sent-push);
-  }
+  channel_pushed q seals seal below send no_receive addressed carries channel = grind (arith, All-push, common_steps, got_stays, stamps_sent-push)
 
   -- the channel from which it receives
   pub channel_popped : (p : ℕ) (seals : List Seal) (first : Seal) → p < n → sends p a task ≡ false → is_receive_from p act ≡ true → 0 < length seals → first ≡ get_or seals 0 first → stamp_of call ≡ first.clock → IsChannel n done logs p a seals → IsChannel n longer after p a (drop 1 seals)

@@ -38,8 +38,7 @@ use Rattle.wcp_probe.specs.Seal.{seal_of}
 use Rattle.wcp_world.specs.declared.messages.Letter.{Letter}
 use Rattle.wcp_world.specs.Answer.{IsAnswer, KeepsIfRefused}
 use Rattle.wcp_world.specs.Processes.{ProcessesState, AreProcessesOf, IsProbeOf, AreLettersOf, pending_at}
-use Rattle.wcp_world.proofs.SentLetters.{get_set, addressed_is, not_ahead, letters_stay, letters_posted, letters_delivered}
-use Rattle.wcp_world.proofs.Probes.{clock_is, law_of_probe, is_closed_as, state, observed, closed}
+use Rattle.wcp_world.proofs.Probes.{get_set, addressed_is, not_ahead, letters_stay, letters_posted, letters_delivered, clock_is, law_of_probe, is_closed_as, state, observed, closed}
 
 one_reason : (b : Bool) (reason : Refusal) (rest : Option Refusal) (others : Option Why) → others ≡ option_map why_of rest →
     (if b then Some (why_of reason) else others) ≡ option_map why_of (if b then Some reason else rest)

@@ -15,7 +15,7 @@ use Rattle.wcp_model.specs.declared.step.Step.TheVariants as step
 use Rattle.wcp_model.specs.declared.step.Reply.TheVariants.{Done, Refused}
 use Rattle.wcp_model.specs.declared.step.Why.TheVariants as why
 use Rattle.wcp_model.specs.Tree.{IsSamePlan, is_number, is_attached, is_leaf, leaf_of, parent_of}
-use Rattle.wcp_model.specs.Occupancy.{Place, Pending, Link, HoldOf, InboxOf, is_same_place, source, target, is_place, takes_from, taken_from, notes_in, next_place, IsEntry, Emitted}
+use Rattle.wcp_model.specs.Occupancy.{Place, Pending, Link, HoldOf, InboxOf, is_same_place, source, target, takes_from, taken_from, notes_in, next_place, IsEntry, Emitted}
 use Rattle.wcp_model.specs.Replies.{reasons, move_reasons, names_nothing}
 use Rattle.wcp_model.specs.Report.{notes_taken}
 use Rattle.wcp_model.proofs.CheckedPlans.{attached_exists}
@@ -25,7 +25,7 @@ use Rattle.wcp_world.specs.Answer.{IsAnswer}
 use Rattle.wcp_world.specs.PutNotes.{put_more}
 use Rattle.wcp_world.specs.Transport.{TransportState, IsPlaceOf, place_number, held_at, IsTransportOf, IsNextAtRoot, IsMoveBetween, MovesBetween, IsConveying, notes_along}
 use Rattle.wcp_world.proofs.Places.{same_place, number_apart, number_within, next_is_place, itself, next_apart}
-use Rattle.wcp_world.proofs.Entries.{item_if, IsStirred, gains, loses, stays, entry_grows, entry_emitted, transport_after}
+use Rattle.wcp_world.proofs.Entries.{item_if, IsStirred, entry_grows, entry_emitted, transport_after}
 
 -- the first item of one place has moved behind those of another
 pub record IsShift (old : List Held) (from to : ℕ) (new : List Held) : Type 0 where
@@ -103,12 +103,7 @@ module _ (plan : Plan) (steps : List Step) (put : ℕ → List Note) (taken : Li
     where
       by_case : (a b : Bool) → is_same_place x from ≡ a → is_same_place x to ≡ b →
           IsStirred plan s is.item x (here x) (cond a (record (here from) { items = is.left }) (cond b (record (here to) { items = (here to).items ++ is.item ∷ [] }) (here x)))
-      by_case true b at_from at_to = rw (same_place x from at_from) (loses plan s is.item from (here from) _ refl is.left (ap (is_place from) takes ∙ itself from) (ap (is_place from) puts ∙ apart) is.first refl)
-      by_case false true at_from at_to =
-          let other = subst (λ z. is_same_place z from ≡ false) (same_place x to at_to) at_from in
-          let le = (stands.held to is_to).within in
-          rw (same_place x to at_to) (gains plan s is.item to (here to) _ refl (ap (is_place to) takes ∙ other) (ap (is_place to) puts ∙ itself to) refl (omega (arith, le, is.fits)))
-      by_case false false at_from at_to = stays plan s is.item x (here x) (here x) refl (ap (is_place x) takes ∙ at_from) (ap (is_place x) puts ∙ at_to) refl
+      by_case a b at_from at_to = let le = (stands.held to is_to).within in grind (arith, same_place, itself, append-nil)
 
   -- an item moved from the place of one number to the next
   module _ (s : Step) (i j : ℕ) (move : IsMoveBetween plan s i j) where
@@ -119,11 +114,7 @@ module _ (plan : Plan) (steps : List Step) (put : ℕ → List Note) (taken : Li
     apart = next_apart plan stands.checked move.from move.to move.is_next
 
     pub two_places : (i < length t.places) × (j < length t.places) × (i ≢ j)
-    two_places = (
-      omega (arith, move.number_from, stands.members, number_within plan move.from move.is_from),
-      omega (arith, move.number_to, stands.members, number_within plan move.to is_to),
-      λ same. number_apart plan move.from move.to move.is_from is_to apart (sym move.number_from ∙ same ∙ move.number_to),
-    )
+    two_places = grind (arith, number_within, number_apart, is_to, apart)
 
     target_is : target plan s ≡ Some move.to
     target_is = ap (option_and_then (next_place plan)) move.takes ∙ move.is_next

@@ -1,5 +1,5 @@
-use Rattle.std.proofs.Common.{◌≡◌, ℕ, suc, ◌+◌, ◌-◌, ◌<◌, ◌≤◌, Bool, true, false, cond, length, take, count_by, Some, List, [], ◌∷◌, ◌++◌, slice_get, filter, map, refl, sym, ap, subst, ◌∙◌, ⊎_elim, append-nil, arith, eqb, Option, ap₂, append_assoc}
-use Rattle.std.proofs.lemmas.Bool.{cases_lt, ne_eqb}
+use Rattle.std.proofs.Common.{◌≡◌, ℕ, ◌+◌, ◌<◌, ◌⊎◌, Bool, true, false, cond, length, take, count_by, Some, List, [], ◌∷◌, ◌++◌, slice_get, filter, map, refl, sym, ap, subst, ◌∙◌, ⊎_elim, append-nil, arith, eqb, Option, ap₂, append_assoc}
+use Rattle.std.proofs.lemmas.Bool.{ne_eqb}
 use Rattle.std.proofs.lemmas.List.{length-append, map-append, take-append-le, take_at}
 use Rattle.std.proofs.lemmas.List.Elements.{filter-append}
 use Rattle.std.proofs.lemmas.List.Sums.{sum_by_push}
@@ -11,6 +11,7 @@ use Rattle.wcp_model.specs.declared.step.Step.{Step}
 use Rattle.wcp_model.specs.Occupancy.{Place, source, takes_from, puts_into, taken_from, next_place, IsEntry, Emitted, Moved, Pending, Link, InboxOf, target, is_place}
 use Rattle.wcp_model.specs.Report.{notes_taken}
 use Rattle.wcp_model.proofs.Growth.{get_front, get_behind, at_grows}
+use Rattle.wcp_model.proofs.GrowingLogs.{get_push}
 use Rattle.wcp_hold.specs.Held.{Held}
 use Rattle.wcp_world.specs.Transport.{IsHeldAt, TransportState, IsPlaceOf, IsWay, place_number, held_at, notes_along, notes_at, IsTransportOf}
 use Rattle.wcp_world.proofs.Places.{IsOnWay, Start, Onward, next_is_place, one_before}
@@ -28,12 +29,8 @@ item_if b item = cond b (item ∷ []) []
 pub length_if : (b : Bool) (item : Item) → length (item_if b item) ≡ bit b
 length_if b item = grind arith
 
-get_if : (b : Bool) (item y : Item) (i : ℕ) → slice_get (item_if b item) i ≡ Some y → (b ≡ true) × (i ≡ 0) × (item ≡ y)
-get_if b item y i at = grind arith
-
-pub get_beyond : {X : Type 0} (xs ys : List X) (i : ℕ) → slice_get (xs ++ ys) (length xs + i) ≡ slice_get ys i
-get_beyond [] ys i = ap (slice_get ys) (omega arith)
-get_beyond (x ∷ xs) ys i = let step : suc (length xs) + i ≡ suc (length xs + i) = omega arith in ap (slice_get (x ∷ (xs ++ ys))) step ∙ get_beyond xs ys i
+get_behind_if : (b : Bool) (items : List Item) (item y : Item) (i : ℕ) → slice_get (items ++ item_if b item) i ≡ Some y → (slice_get items i ≡ Some y) ⊎ ((b ≡ true) × (i ≡ length items) × (item ≡ y))
+get_behind_if b items item y i at = grind (arith, get_push, append-nil)
 
 -- a count over one more step
 pub count_push : (test : Step → Bool) (steps : List Step) (s : Step) → count_by test (steps ++ s ∷ []) ≡ count_by test steps + bit (test s)
@@ -74,15 +71,8 @@ pub record IsStirred (plan : Plan) (s : Step) (item : Item) (x : Place) (old new
   pub room : new.room ≡ old.room
   pub fits : puts_into plan x s ≡ true → length old.items < old.room
 
-module _ (plan : Plan) (s : Step) (item : Item) (x : Place) (old new : Held) (same_room : new.room ≡ old.room) where
-  pub gains : takes_from x s ≡ false → puts_into plan x s ≡ true → new.items ≡ old.items ++ item ∷ [] → length old.items < old.room → IsStirred plan s item x old new
-  gains takes puts items fits = record { items = rw (takes, puts) items; room = same_room; fits = λ yes. fits }
-
-  pub loses : (left : List Item) → takes_from x s ≡ true → puts_into plan x s ≡ false → old.items ≡ item ∷ left → new.items ≡ left → IsStirred plan s item x old new
-  loses left takes puts first items = grind (arith, append-nil old.items)
-
-  pub stays : takes_from x s ≡ false → puts_into plan x s ≡ false → new.items ≡ old.items → IsStirred plan s item x old new
-  stays takes puts items = grind (arith, append-nil old.items)
+pub stays : (plan : Plan) (s : Step) (item : Item) (x : Place) (held : Held) → takes_from x s ≡ false → puts_into plan x s ≡ false → IsStirred plan s item x held held
+stays plan s item x held takes puts = grind (arith, append-nil held.items)
 
 pub held_after : (plan : Plan) (steps : List Step) (s : Step) (put more : ℕ → List Note) (item : Item) (x : Place) (old new : Held) →
     ((p i : ℕ) (note : Note) → slice_get (put p) i ≡ Some note → slice_get (more p) i ≡ Some note) →
@@ -96,16 +86,11 @@ held_after plan steps s put more item x old new grow entry stirred is = record {
       let there : slice_get (old.items ++ item_if (puts_into plan x s) item) (bit (takes_from x s) + i) ≡ Some y =
       grind arith in
       ⊎_elim
-      (λ (old_one : bit (takes_from x s) + i < length old.items).
-      let was = is.entries (bit (takes_from x s) + i) y (sym (get_front old.items (item_if (puts_into plan x s) item) (bit (takes_from x s) + i) old_one) ∙ there) in
-      subst (λ k. IsEntry plan more (steps ++ s ∷ []) x k y) (omega (arith, count_push (takes_from x) steps s)) (entry_grows plan put more steps (s ∷ []) grow was))
-      (λ (new_one : length old.items ≤ bit (takes_from x s) + i).
-      let j : ℕ = bit (takes_from x s) + i - length old.items in
-      let split : bit (takes_from x s) + i ≡ length old.items + j = omega (arith, new_one) in
-      let found = get_if (puts_into plan x s) item y j (sym (get_beyond old.items (item_if (puts_into plan x s) item) j) ∙ ap (slice_get (old.items ++ item_if (puts_into plan x s) item)) (sym split) ∙ there) in
-      subst (λ z. IsEntry plan more (steps ++ s ∷ []) x (taken_from (steps ++ s ∷ []) x + i) z) found.2
-      (subst (λ k. IsEntry plan more (steps ++ s ∷ []) x k item) (omega (arith, split, found.1, is.count, count_push (takes_from x) steps s)) (entry found.0)))
-      (cases_lt (bit (takes_from x s) + i) (length old.items));
+      (λ (old_one : slice_get old.items (bit (takes_from x s) + i) ≡ Some y).
+      subst (λ k. IsEntry plan more (steps ++ s ∷ []) x k y) (omega (arith, count_push (takes_from x) steps s)) (entry_grows plan put more steps (s ∷ []) grow (is.entries _ y old_one)))
+      (λ (new_one : (puts_into plan x s ≡ true) × (bit (takes_from x s) + i ≡ length old.items) × (item ≡ y)).
+      rw (← new_one.2) (subst (λ k. IsEntry plan more (steps ++ s ∷ []) x k item) (omega (arith, new_one.1, is.count, count_push (takes_from x) steps s)) (entry new_one.0)))
+      (get_behind_if (puts_into plan x s) old.items item y (bit (takes_from x s) + i) there);
 }
   where
     lengths : bit (takes_from x s) + length new.items ≡ length old.items + bit (puts_into plan x s)

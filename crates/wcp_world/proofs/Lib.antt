@@ -1,10 +1,7 @@
-pub mod SentLetters
 pub mod AnsweredEvents
 pub mod Probes
-pub mod Places
 pub mod Entries
 pub mod AnsweredMoves
-pub mod EmptyPlaces
+pub mod Places
 pub mod WorldAfterStep
 pub mod Histories
-pub mod Reported

@@ -1,15 +1,17 @@
-use Rattle.std.proofs.Common.{◌≡◌, ◌≢◌, ◌+◌, ◌<◌, true, false, length, Some, arith, ℕ, zero, suc, ◌*◌, ◌≤◌, get_or, Option, List, [], ◌∷◌, refl, ap, ◌∙◌, ⊎_elim}
+use Rattle.std.proofs.Common.{◌≡◌, ◌≢◌, ◌+◌, ◌<◌, true, false, length, Some, arith, ℕ, zero, suc, ◌*◌, ◌≤◌, get_or, Option, List, [], ◌∷◌, refl, ap, ◌∙◌, ⊎_elim, ◌++◌, replicate, ap₂}
 use Rattle.wcp_model.specs.declared.plan.Plan.{Plan}
 use Rattle.wcp_model.specs.PlanFault.{IsCheckedPlan}
-use Rattle.wcp_model.specs.Occupancy.{Place, is_same_place, next_place, Pending, Link, HoldOf, InboxOf}
-use Rattle.wcp_model.proofs.CheckedPlans.{few_processes, some_process, capacity, hold_room, parent_below, attached_exists}
-use Rattle.wcp_world.specs.Transport.{IsPlaceOf, place_number, IsWay}
+use Rattle.wcp_model.specs.Occupancy.{Place, is_same_place, next_place, Pending, Link, HoldOf, InboxOf, room_of}
+use Rattle.wcp_model.proofs.CheckedPlans.{few_processes, some_process, capacity, hold_room, parent_below, attached_exists, has_leaf}
+use Rattle.wcp_world.specs.Transport.{IsPlaceOf, place_number, IsWay, TransportState, IsTransportOf, held_at, notes_at, notes_along}
 use Rattle.std.specs.Option.{option_and_then}
-use Rattle.std.proofs.lemmas.Bool.{false_from_ne_true, cases_lt}
+use Rattle.std.proofs.lemmas.Bool.{false_from_ne_true, cases_lt, cases_order}
 use Rattle.std.proofs.lemmas.Option.{slice_get-get_or, option_and_then_some}
 use Rattle.wcp_model.specs.declared.plan.Parent.{Parent}
 use Rattle.wcp_model.specs.declared.plan.Parent.TheVariants.{Root, Relay}
-use Rattle.wcp_model.specs.Tree.{leaf_of, parent_of}
+use Rattle.wcp_model.specs.Tree.{leaf_of, parent_of, IsSamePlan}
+use Rattle.std.proofs.lemmas.List.{length-append, length-replicate, get_or-replicate, get_or_append_left, get_or-append_right}
+use Rattle.wcp_hold.specs.Held.{Held, empty_hold}
 
 pub same_place : (x y : Place) → is_same_place x y ≡ true → x ≡ y
 same_place x y same = grind arith
@@ -72,17 +74,11 @@ module _ (plan : Plan) (checked : IsCheckedPlan plan) where
   -- on one way, a place follows one place alone
   pub one_before : (p : ℕ) (x y z : Place) → IsOnWay plan p x → IsOnWay plan p y → next_place plan x ≡ Some z → next_place plan y ≡ Some z → x ≡ y
   one_before p x y z on_x on_y next_x next_y =
-      let to_x = steps_to p on_x in
-      let to_y = steps_to p on_y in
-      let by_x = ap (option_and_then (next_place plan)) to_x.1 ∙ next_x in
-      let by_y = ap (option_and_then (next_place plan)) to_y.1 ∙ next_y in
-      ⊎_elim
-      (λ (less : to_x.0 < to_y.0). absurd (omega (arith, nearer_later p (suc to_x.0) (suc to_y.0) z z (omega (arith, less)) by_x by_y)))
-      (λ (ge : to_y.0 ≤ to_x.0). ⊎_elim
-      (λ (more : to_y.0 < to_x.0). absurd (omega (arith, nearer_later p (suc to_y.0) (suc to_x.0) z z (omega (arith, more)) by_y by_x)))
-      (λ (le : to_x.0 ≤ to_y.0). let same : to_x.0 ≡ to_y.0 = omega (arith, ge, le) in cc (to_x.1, to_y.1, ap (after p) same))
-      (cases_lt to_y.0 to_x.0))
-      (cases_lt to_x.0 to_y.0)
+      let (k, at_x) = steps_to p on_x in
+      let (l, at_y) = steps_to p on_y in
+      let by_x : after p (suc k) ≡ Some z = ap (option_and_then (next_place plan)) at_x ∙ next_x in
+      let by_y : after p (suc l) ≡ Some z = ap (option_and_then (next_place plan)) at_y ∙ next_y in
+      ⊎_elim (λ (same : k ≡ l). cc (at_x, at_y, ap (after p) same)) (grind (arith, nearer_later p (suc k) (suc l) z z, nearer_later p (suc l) (suc k) z z)) (cases_order k l)
 
   -- from each hold there is a way
   way_from_hold : (bound relay : ℕ) → relay < bound → relay < length plan.parents.items → (way : List Place) × IsWay plan (HoldOf relay) way
@@ -103,3 +99,45 @@ module _ (plan : Plan) (checked : IsCheckedPlan plan) where
   way_of p relay at =
       let onward = way_from_hold (relay + 1) relay (omega arith) (attached_exists plan checked p relay at).1 in
       (HoldOf relay ∷ onward.0, rw at (refl, onward.1))
+
+module _ (plan : Plan) where
+  abbrev links : List Held
+  links = replicate plan.n (empty_hold plan.cap)
+
+  abbrev holds : List Held
+  holds = replicate (length plan.parents.items) (empty_hold plan.hold)
+
+  abbrev inboxes : List Held
+  inboxes = replicate (length plan.parents.items + 1) (empty_hold plan.cap)
+
+  abbrev pub first_places : List Held
+  first_places = (links ++ holds) ++ inboxes
+
+  length_front : length (links ++ holds) ≡ plan.n + length plan.parents.items
+  length_front = omega (arith, length-append links holds, length-replicate plan.n (empty_hold plan.cap), length-replicate (length plan.parents.items) (empty_hold plan.hold))
+
+  length_all : length first_places ≡ plan.n + length plan.parents.items + 1 + length plan.parents.items
+  length_all = omega (arith, length_front, length-append (links ++ holds) inboxes, length-replicate (length plan.parents.items + 1) (empty_hold plan.cap))
+
+  -- each place is empty, with its room
+  place_is_empty : (x : Place) (default : Held) → IsPlaceOf plan x → get_or first_places (place_number plan x) default ≡ empty_hold (room_of plan x)
+  place_is_empty x default is = grind (arith, get_or-append_right, get_or-replicate, get_or_append_left, length-replicate, length_front)
+
+  none_along : IsCheckedPlan plan → (p : ℕ) (x : Place) (way : List Place) → IsWay plan x way → IsPlaceOf plan x → notes_along (notes_at plan first_places p) (x ∷ way) ≡ []
+  none_along checked p x [] is_way is = rw (place_is_empty x _ is) refl
+  none_along checked p x (y ∷ way) is_way is = ap₂ (λ a b. a ++ b) (none_along checked p y way is_way.1 (next_is_place plan checked x y is_way.0 is)) (rw (place_is_empty x _ is) refl)
+
+  -- the transport of a plan stands for nothing at first
+  pub fresh_stands : (t : TransportState) → IsCheckedPlan plan → IsSamePlan t.plan plan → t.places ≡ first_places → IsTransportOf plan [] (λ p. []) [] t
+  fresh_stands t checked same places_are = record {
+    checked = checked;
+    same_plan = same;
+    members = ap length places_are ∙ length_all;
+    held = λ x is. rw (ap (λ l. held_at l (place_number plan x)) places_are ∙ place_is_empty x _ is) (record { room = refl; within = omega arith; count = refl; entries = λ i item at. cc at });
+    as_many = λ p. refl;
+    known = λ p beyond. refl;
+    in_order = λ p in_range.
+        let leaf = has_leaf plan checked p in_range in
+        let way = way_of plan checked p leaf.0 leaf.1 in
+        record { way = way.0; is_way = way.1; notes = ap (λ l. notes_along (notes_at plan l p) (Link p ∷ way.0)) places_are ∙ none_along checked p (Link p) way.0 way.1 in_range };
+  }

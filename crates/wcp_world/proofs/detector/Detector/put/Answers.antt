@@ -12,16 +12,6 @@ pub returns-in_default-clause-answered : goal.returns-in_default-clause-answered
 returns-in_default-clause-answered c plan steps taken stands =
     put_of_nothing plan steps taken (state_of c.args.self.now) stands c.args.p (omega (arith, c.if-p-count.false, c.count.ensures, stands.processes.members)) (sym c.pending.ensures ∙ c.in_default.is)
 
-pub put-requires-clause-conveying : goal.put-requires-clause-conveying
-put-requires-clause-conveying c =
-    let (plan, steps, taken, stands) = c.requires in
-    (plan, steps, stands.put, taken, stands.transport)
-
-pub put-requires-clause-process : goal.put-requires-clause-process
-put-requires-clause-process c =
-    let (plan, steps, taken, stands) = c.requires in
-    omega (arith, c.if-p-count.false, c.count.ensures, stands.processes.members, stands.transport.same_plan.n)
-
 pub returns-then-not-put-clause-answered : goal.returns-then-not-put-clause-answered
 returns-then-not-put-clause-answered c plan steps taken stands =
     put_had_no_room plan steps taken (state_of c.args.self.now) stands c.args.p c.in-Some.note c.put.new.self (sym c.pending.ensures ∙ c.in-Some.is)

@@ -1,5 +1,5 @@
 use Rattle.wcp_world.specs.WorldView.{state_of}
-use Rattle.wcp_world.proofs.Reported.{report_holds}
+use Rattle.wcp_world.proofs.Histories.{report_holds}
 use Rattle.wcp_world.proofs.world.World.report.Goals as goal
 
 pub returns : goal.returns
