@@ -1,10 +1,10 @@
 use Rattle.std.proofs.lemmas.Grind.{common_steps}
-use Rattle.std.proofs.Common.{◌≡◌, ℕ, ◌<◌, ◌≤◌, Bool, true, false, List, [], length, get_or, slice_index, sym, ◌∙◌, ap, arith}
-use Rattle.std.proofs.lemmas.List.{append-nil, get_or_default}
-use Rattle.std.proofs.lemmas.List.Elements.{Contains-get_or}
+use Rattle.std.proofs.Common.{◌≡◌, ℕ, ◌<◌, ◌≤◌, Bool, true, false, List, [], length, get_or, slice_index, sym, ◌∙◌, ap, arith, None, Some, MatchOption, ◌∷◌, ◌++◌, take, refl, subst}
+use Rattle.std.proofs.lemmas.List.{append-nil, get_or_default, get_or-take, length-take-le}
+use Rattle.std.proofs.lemmas.List.Elements.{Contains-get_or, All-from_get_or}
 use Rattle.wcp_clock.specs.declared.note.Item.{Item}
 use Rattle.wcp_model.specs.Cut.{IsLeastOf}
-use Rattle.wcp_model.specs.Report.{clocks_taken, IsCutByClocks, ClocksRise}
+use Rattle.wcp_model.specs.Report.{clocks_taken, IsCutByClocks, ClocksRise, notes_taken, IsDrained, AreInTurn}
 use Rattle.wcp_model.specs.Elimination.{GrowTo, IsSatisfyingChoice, AreInOrder}
 use Rattle.wcp_model.proofs.Elimination.{GrowTo-same, get_or-grown, IsSatisfyingChoice-grown, IsEliminatedBelow-grown}
 use Rattle.wcp_model.proofs.Choosing.{choice_from_each}
@@ -12,6 +12,13 @@ use Rattle.wcp_queue.specs.declared.floor.Floor.{Floor}
 use Rattle.wcp_queue.specs.Floor.{HaveHeads, IsCutOfHeads}
 use Rattle.wcp_queue.specs.Elimination.{AreSettled, AreLeft, IsFoundAmong, GainCandidate}
 use Rattle.wcp_queue.proofs.LeftQueues.{GrowTo-gain}
+use Rattle.std.specs.List.{list_all}
+use Rattle.std.proofs.lemmas.Bool.{both_ways}
+use Rattle.std.proofs.lemmas.List.Sums.{AllPass-from_list_all, list_all-from_AllPass}
+use Rattle.wcp_clock.specs.declared.note.Note.TheVariants.{Close}
+use Rattle.wcp_model.proofs.NotesInTurn.{nothing_follows}
+use Rattle.wcp_queue.specs.Checker.{CheckerState, processes, StandsForItems, IsSoundChecker}
+use Rattle.wcp_queue.proofs.NotesTaken.{close_mark_in, close_mark_taken}
 
 -- where each process has a head, their cut is found
 pub IsFoundAmong-heads : (n : ℕ) (rows : ℕ → List (List ℕ)) (queues : List (List (List ℕ))) (floor : Floor) (cut : List ℕ) → AreLeft n rows queues floor → IsCutOfHeads n floor cut → IsFoundAmong n rows cut
@@ -71,3 +78,38 @@ module _ (n : ℕ) (items : List Item) where
     where
       not_false : (b : Bool) → (b ≡ false → ⊥) → b ≡ true
       not_false b never = grind arith
+
+module _ (checker : CheckerState) (sound : IsSoundChecker checker) (items : List Item) (stands : StandsForItems checker items) where
+  -- the marks tell whether all is drained
+  pub IsDrained-marks : list_all (λ closed. closed) (take (processes checker) checker.closed) ≡ true → IsDrained (processes checker) items
+  IsDrained-marks all = λ p p_within.
+      let front : length (take (processes checker) checker.closed) ≡ processes checker = length-take-le (processes checker) checker.closed (omega (arith, sound.few, sound.marks)) in
+      let here : get_or (take (processes checker) checker.closed) p false ≡ true = AllPass-from_list_all (λ closed. closed) (take (processes checker) checker.closed) all p false (omega arith) in
+      let (count, before, after, is) = close_mark_in (notes_taken p items) (sym (stands.closed p p_within) ∙ sym (get_or-take (processes checker) checker.closed p false p_within) ∙ here) in
+      let last : after ≡ [] = nothing_follows before after count (subst AreInTurn is (stands.in_turn p p_within)) in
+      (count, before, subst (λ rest. notes_taken p items ≡ before ++ Close count ∷ rest) last is)
+
+  pub marks-not_all : list_all (λ closed. closed) (take (processes checker) checker.closed) ≡ false → IsDrained (processes checker) items → ⊥
+  marks-not_all some drained = both_ways (list_all (λ mark. mark) (take (processes checker) checker.closed)) some
+      (list_all-from_AllPass (λ mark. mark) (take (processes checker) checker.closed)
+      (All-from_get_or (λ mark. mark ≡ true) (take (processes checker) checker.closed) false
+      (λ p p_listed.
+      let front : length (take (processes checker) checker.closed) ≡ processes checker = length-take-le (processes checker) checker.closed (omega (arith, sound.few, sound.marks)) in
+      get_or-take (processes checker) checker.closed p false (omega arith) ∙ stands.closed p (omega arith) ∙ (let (count, before, is) = drained p (omega arith) in close_mark_taken (notes_taken p items) before count is))))
+
+  found : (cut : List ℕ) → checker.found ≡ Some cut → IsFoundAmong (processes checker) (λ p. clocks_taken p items) cut
+  found cut is = subst (λ f. MatchOption f (AreLeft (processes checker) (λ p. clocks_taken p items) checker.queues checker.floor) (IsFoundAmong (processes checker) (λ p. clocks_taken p items))) is stands.candidates
+
+  -- a cut that was found
+  pub IsCutByClocks-report : (cut : List ℕ) → checker.found ≡ Some cut → IsCutByClocks (processes checker) items cut
+  IsCutByClocks-report cut is = IsCutByClocks-found (processes checker) items cut (found cut is)
+
+  pub IsLeastOf-report : (cut : List ℕ) → checker.found ≡ Some cut → ClocksRise (processes checker) items → IsLeastOf (processes checker) (IsCutByClocks (processes checker) items) cut
+  IsLeastOf-report cut is order = IsLeastOf-found (processes checker) items cut order (found cut is)
+
+  -- where none was found, there is none
+  pub no_cut-report : checker.found ≡ None → ClocksRise (processes checker) items → (cut : List ℕ) → IsCutByClocks (processes checker) items cut → ⊥
+  no_cut-report none order cut is =
+      let left : AreLeft (processes checker) (λ p. clocks_taken p items) checker.queues checker.floor =
+      subst (λ f. MatchOption f (AreLeft (processes checker) (λ p. clocks_taken p items) checker.queues checker.floor) (IsFoundAmong (processes checker) (λ p. clocks_taken p items))) none stands.candidates in
+      no_cut_without_heads (processes checker) items checker.queues checker.floor cut refl order left sound.settled (sound.waiting none) is

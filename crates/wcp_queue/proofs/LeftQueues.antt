@@ -1,11 +1,13 @@
-use Rattle.std.proofs.Common.{◌≡◌, ◌≢◌, ℕ, ◌<◌, ◌≤◌, false, List, [], ◌∷◌, ◌++◌, length, get_or, set, drop, slice_index, refl, sym, ◌∙◌, ap, ⊎_elim, arith}
-use Rattle.std.proofs.lemmas.Bool.{cases_eq, true≢false}
-use Rattle.std.proofs.lemmas.List.{append-nil, drop-append-le, get_or-replicate, get_or-set_same, get_or-set_other, get_or_default}
-use Rattle.wcp_model.specs.Elimination.{GrowTo}
-use Rattle.wcp_model.proofs.Elimination.{length-grown, get_or-grown, IsEliminatedBelow-start, IsEliminatedBelow-grown}
+use Rattle.std.proofs.Common.{◌≡◌, ◌≢◌, ℕ, ◌<◌, ◌≤◌, false, List, [], ◌∷◌, ◌++◌, length, get_or, set, drop, slice_index, refl, sym, ◌∙◌, ap, ⊎_elim, arith, ◌+◌, Bool, true, cond, eqb, Some, slice_get}
+use Rattle.std.proofs.lemmas.Bool.{cases_eq, true≢false, eq-eqb, ne_eqb, cond-false}
+use Rattle.std.proofs.lemmas.List.{append-nil, drop-append-le, get_or-replicate, get_or-set_same, get_or-set_other, get_or_default, length-drop, drop-drop}
+use Rattle.wcp_model.specs.Elimination.{GrowTo, AreInOrder, IsSatisfyingChoice}
+use Rattle.wcp_model.proofs.Elimination.{length-grown, get_or-grown, IsEliminatedBelow-start, IsEliminatedBelow-grown, IsEliminatedBelow-step}
 use Rattle.wcp_queue.specs.declared.floor.Floor.{Floor}
-use Rattle.wcp_queue.specs.Floor.{has_head, first_floor}
-use Rattle.wcp_queue.specs.Elimination.{queue_of, AreLeft, GainCandidate}
+use Rattle.wcp_queue.specs.Floor.{has_head, first_floor, component, RaisesFloor, RisesTo}
+use Rattle.wcp_queue.specs.Elimination.{queue_of, AreLeft, GainCandidate, candidate, HasHead, WasRaised, LeavesQueue}
+use Rattle.std.proofs.lemmas.Grind.{common_steps}
+use Rattle.wcp_model.proofs.Choosing.{choice_from_each}
 
 -- at the start nothing was taken, nothing waits and there is no head
 pub no_head_at_first : (p : ℕ) → p < 16 → has_head first_floor p ≡ false
@@ -28,22 +30,8 @@ AreLeft-grown n rows longer queues others floor gain left = record {
   head = grind (arith, get_or-grown, grow, length-grown, still);
   none = λ p p_within no.
       let was = left.none p p_within no in
-      record {
-        within = omega (arith, was.within, length-grown n rows longer grow p p_within);
-        all = still p (left.heads p) was.within p_within was.all;
-        raised = λ risen.
-            let (q, place, tested, by) = was.raised risen in (
-              q,
-              place,
-              tested,
-              record {
-                other = by.other;
-                process = by.process;
-                within = omega (arith, by.within, length-grown n rows longer grow q by.process);
-                known = by.known ∙ ap (λ (clock : List ℕ). slice_index clock p) (sym (get_or-grown n rows longer grow q place by.process by.within));
-              },
-            );
-      };
+      let now = still p (left.heads p) was.within p_within was.all in
+      grind (arith, get_or-grown n rows longer grow, length-grown n rows longer grow);
   under = grind (arith, get_or-grown, grow);
   eliminated = IsEliminatedBelow-grown n rows longer left.heads grow left.eliminated;
 }
@@ -80,3 +68,104 @@ AreLeft-gain n rows longer queues floor p clock read queue within is gain = AreL
     (grind (arith, get_or_default, queue_of-set_same))
     (λ (other : k ≢ p). ([], gain.others k k_within other ∙ sym (append-nil (rows k)), queue_of-set_other queues p k queue other ∙ sym (append-nil (queue_of queues k))))
     (cases_eq k p))
+
+pub LeavesQueue-set : (n p : ℕ) (clock : List ℕ) (queues : List (List (List ℕ))) (read queue : List (List ℕ)) → p < length queues → Some clock ≡ slice_get (get_or queues p read) 0 → queue ≡ drop 1 (get_or queues p read) →
+    LeavesQueue n p clock queues (set queues p queue)
+LeavesQueue-set n p clock queues read queue within first is = grind (arith, get_or_default, queue_of-set_other, queue_of-set_same)
+
+-- one that comes where nothing waits is the first
+pub LeavesQueue-alone : (n p : ℕ) (clock : List ℕ) (queues : List (List (List ℕ))) → p < length queues → length (queue_of queues p) ≡ 0 → LeavesQueue n p clock (set queues p (queue_of queues p ++ clock ∷ [])) queues
+LeavesQueue-alone n p clock queues within none = record {
+  next = queue_of-set_same queues p (queue_of queues p ++ clock ∷ []) within ∙ alone (queue_of queues p) none;
+  rest = λ k k_within other. sym (queue_of-set_other queues p k (queue_of queues p ++ clock ∷ []) other);
+}
+  where
+    alone : (queue : List (List ℕ)) → length queue ≡ 0 → queue ++ clock ∷ [] ≡ clock ∷ queue
+    alone [] none = refl
+    alone (one ∷ queue) none = absurd (omega arith)
+
+module _ (n : ℕ) (rows : ℕ → List (List ℕ)) (queues others : List (List (List ℕ))) (floor : Floor) (left : AreLeft n rows queues floor) (p : ℕ) (clock : List ℕ) (p_within : p < n)
+    (no_head : has_head floor p ≡ false) (taken : LeavesQueue n p clock queues others) where
+  -- it stands at its row's place
+  all_of_p : drop (left.heads p) (rows p) ≡ clock ∷ queue_of others p
+  all_of_p = sym (left.none p p_within no_head).all ∙ taken.next
+
+  next_within : left.heads p < length (rows p)
+  next_within = omega (arith, ap length all_of_p, length-drop (left.heads p) (rows p))
+
+  next_is : candidate rows p (left.heads p) ≡ clock
+  next_is = grind (arith, common_steps)
+
+  after_next : queue_of others p ≡ drop (left.heads p + 1) (rows p)
+  after_next = ap (drop 1) (sym all_of_p) ∙ drop-drop 1 (left.heads p) (rows p)
+
+  -- where the clock was compared, the head of k stands at this place, or else all from this place on waits
+  record IsPlaced (new : Floor) (k i : ℕ) : Type 0 where
+    up : left.heads k ≤ i
+    head : has_head new k ≡ true → HasHead rows (λ q. i) (queue_of others k) (component new k) k
+    within : has_head new k ≡ false → i ≤ length (rows k)
+    all : has_head new k ≡ false → queue_of others k ≡ drop i (rows k)
+    raised : has_head new k ≡ false → 0 < component new k → WasRaised n rows left.heads (component new k) k
+    under : (a : ℕ) → a < n → a ≢ k → has_head new k ≡ true → slice_index (candidate rows k i) a ≤ component new a
+    eliminated : (longer : ℕ → List (List ℕ)) → GrowTo n rows longer → AreInOrder n longer → (choice : ℕ → ℕ) → IsSatisfyingChoice n longer choice → i ≤ choice k
+
+  AreLeft-placed : (new : Floor) → ((k : ℕ) → k < n → (i : ℕ) × IsPlaced new k i) → AreLeft n rows others new
+  AreLeft-placed new each =
+      let (later, placed) = choice_from_each 0 (IsPlaced new) n each in
+      record {
+        heads = later;
+        head = λ k k_within some. grind (arith, placed k k_within);
+        none = λ k k_within no. grind (arith, placed k k_within, placed);
+        under = λ a b a_within b_within apart some. (placed b b_within).under a a_within apart some;
+        eliminated = record { at_or_above = λ longer grow in_order choice satisfying k k_within. (placed k k_within).eliminated longer grow in_order choice satisfying };
+      }
+
+  -- a candidate that lies under what a head of another process knows is eliminated
+  passed : (k known : ℕ) → k < n → left.heads k < length (rows k) → WasRaised n rows left.heads known k → slice_index (candidate rows k (left.heads k)) k < known →
+      (longer : ℕ → List (List ℕ)) → GrowTo n rows longer → AreInOrder n longer → (choice : ℕ → ℕ) → IsSatisfyingChoice n longer choice → left.heads k + 1 ≤ choice k
+  passed k known k_within head_within (q, j, below, knows) before longer grow in_order choice satisfying =
+      let moved : ℕ → ℕ = λ x. cond (eqb x k) (left.heads x + 1) (left.heads x) in
+      let own : moved k ≡ left.heads k + 1 = rw (eq-eqb k k refl) refl in
+      omega (
+        arith,
+        own,
+        (IsEliminatedBelow-step n rows left.heads moved k q j left.eliminated k_within knows.process (λ same. knows.other (sym same)) head_within knows.within below (omega (arith, before, knows.known)) (omega (arith, own))
+            (λ x x_within other. omega (arith, cond-false (eqb x k) (left.heads x + 1) (left.heads x) (ne_eqb x k other)))).at_or_above longer grow in_order choice satisfying k k_within,
+      )
+
+  -- one under the floor precedes a candidate that is or was a head, and is eliminated
+  pub AreLeft-under : (tests : ℕ) → slice_index clock p < component floor p → AreLeft n rows others (record floor { tests = tests })
+  AreLeft-under tests less = AreLeft-placed (record floor { tests = tests }) (λ k k_within. ⊎_elim
+      (λ (same : k ≡ p). rw same (left.heads p + 1, gone))
+      (λ (other : k ≢ p). (left.heads k, stays k k_within other (taken.rest k k_within other)))
+      (cases_eq k p))
+    where
+      by : WasRaised n rows left.heads (component floor p) p
+      by = (left.none p p_within no_head).raised (omega (arith, less))
+
+      gone : IsPlaced (record floor { tests = tests }) p (left.heads p + 1)
+      gone = grind (arith, next_within, after_next, next_is, passed p (component floor p) p_within next_within by)
+
+      stays : (k : ℕ) → k < n → k ≢ p → queue_of others k ≡ queue_of queues k → IsPlaced (record floor { tests = tests }) k (left.heads k)
+      stays k k_within other same = grind arith
+
+  -- else it is the head, and each head that its clock passes precedes it and is eliminated
+  pub AreLeft-raised : (new : Floor) → RaisesFloor n p clock floor new → AreLeft n rows others new
+  AreLeft-raised new raises = AreLeft-placed new (λ k k_within. ⊎_elim
+      (λ (same : k ≡ p). rw same (left.heads p, head))
+      (λ (other : k ≢ p). by_heads k k_within other (taken.rest k k_within other) (raises.rises k k_within other) (has_head floor k) (has_head new k) refl refl)
+      (cases_eq k p))
+    where
+      higher : (a : ℕ) → a < n → 1 < n → component floor a ≤ component new a
+      higher a a_within several = grind (arith, cases_eq)
+
+      head : IsPlaced new p (left.heads p)
+      head = grind (arith, next_within, after_next, next_is)
+
+      by_p : (k : ℕ) → k ≢ p → component new k ≡ slice_index clock k → WasRaised n rows left.heads (component new k) k
+      by_p k other knows = (p, left.heads p, omega arith, record { other = λ same. other (sym same); process = p_within; within = next_within; known = grind (arith, next_is) })
+
+      by_heads : (k : ℕ) → k < n → k ≢ p → queue_of others k ≡ queue_of queues k → RisesTo k (slice_index clock k) floor new → (was is : Bool) → has_head floor k ≡ was → has_head new k ≡ is → (i : ℕ) × IsPlaced new k i
+      by_heads k k_within other same rises true true before after = let h = left.head k k_within before in (left.heads k, grind arith)
+      by_heads k k_within other same rises true false before after = let h = left.head k k_within before in (left.heads k + 1, grind (arith, by_p, passed k (component new k) k_within h.within))
+      by_heads k k_within other same rises false is before after = let h = left.none k k_within before in (left.heads k, grind (arith, by_p))

@@ -1,9 +1,6 @@
-pub mod FoundCuts
 pub mod LeftQueues
-pub mod NextCandidate
 pub mod NotesTaken
 pub mod RaisedFloor
-pub mod Reporting
-pub mod SoundCheckers
+pub mod FoundCuts
 pub mod StandingForItems
-pub mod TestsOfCandidates
+pub mod SoundCheckers

@@ -1,13 +1,21 @@
+use Rattle.std.proofs.Common.{◌≡◌, ℕ, ◌<◌, ◌≤◌, ltb, arith, ◌+◌, ◌*◌, ◌^◌, false, None, [], length, set, replicate, sum}
+use Rattle.std.proofs.lemmas.Bool.{cond-true, lt-ltb}
+use Rattle.wcp_queue.specs.Elimination.{tests_each, AreSettled, waiting_in}
 use Rattle.std.proofs.lemmas.Grind.{common_steps}
-use Rattle.std.proofs.Common.{◌≡◌, ℕ, ◌+◌, ◌*◌, ◌^◌, ◌<◌, ◌≤◌, false, None, [], length, set, replicate, sum, arith}
 use Rattle.std.proofs.lemmas.Nat.{mul-le}
 use Rattle.std.proofs.lemmas.List.{length-replicate, get_or-replicate}
 use Rattle.std.proofs.lemmas.List.Sums.{sum_by-le}
 use Rattle.std.proofs.lemmas.List.Folds.{sum_by-replicate}
 use Rattle.wcp_queue.specs.Floor.{first_floor, HaveHeads}
-use Rattle.wcp_queue.specs.Elimination.{AreSettled, waiting_in, tests_each}
 use Rattle.wcp_queue.specs.Checker.{CheckerState, taken_of, IsSoundChecker}
-use Rattle.wcp_queue.proofs.TestsOfCandidates.{tests_each-le}
+
+-- a snapshot costs at most a test for each process
+pub tests_each-le : (n : ℕ) → tests_each n ≤ n
+tests_each-le n = grind arith
+
+-- and where there are several just as many
+pub tests_each-several : (n : ℕ) → 1 < n → tests_each n ≡ n
+tests_each-several n several = cond-true (ltb 1 n) n 0 (lt-ltb 1 n several)
 
 -- a checker that has taken nothing
 abbrev pub fresh_checker : ℕ → CheckerState

@@ -1,12 +1,10 @@
-use Rattle.std.proofs.Common.{◌≡◌, ℕ, ◌+◌, ◌<◌, ◌≤◌, Bool, true, false, Option, Some, None, MatchOption, is_some, List, [], ◌∷◌, ◌++◌, length, get_or, set, replicate, sum, count_by, cond, slice_index, refl, sym, ◌∙◌, ap, subst, arith}
-use Rattle.std.specs.List.{list_any}
+use Rattle.std.proofs.Common.{◌≡◌, ℕ, ◌+◌, ◌<◌, ◌≤◌, Bool, true, false, Option, Some, None, MatchOption, is_some, List, [], ◌∷◌, ◌++◌, length, get_or, set, replicate, sum, cond, slice_index, refl, sym, ◌∙◌, ap, subst, arith}
 use Rattle.std.proofs.lemmas.Bool.{false≢true}
 use Rattle.std.proofs.lemmas.List.{length-append, get_or-set_same, get_or-set_other, get_or-replicate, length-replicate}
 use Rattle.std.proofs.lemmas.List.Sums.{sum_by-set, sum_by_push}
 use Rattle.wcp_clock.specs.declared.note.Item.{Item}
 use Rattle.wcp_clock.specs.declared.note.Note.TheVariants.{Snap, Close}
-use Rattle.wcp_clock.specs.Notes.{is_close}
-use Rattle.wcp_model.specs.Report.{notes_taken, clocks_taken, AreInTurn}
+use Rattle.wcp_model.specs.Report.{clocks_taken}
 use Rattle.wcp_model.proofs.NotesInTurn.{AreInTurn-none}
 use Rattle.wcp_queue.specs.Floor.{first_floor, HaveHeads, IsCutOfHeads}
 use Rattle.wcp_queue.specs.Elimination.{AreLeft, AddsCandidate, IsFoundAmong, GainCandidate}
@@ -33,31 +31,23 @@ module _ (old new : CheckerState) (items : List Item) (p : ℕ) (clock : List �
   gain : GainCandidate (length old.queues) p clock (λ q. clocks_taken q items) (λ q. clocks_taken q longer)
   gain = GainCandidate-snapshot (length old.queues) items p (taken_of old p) clock
 
-  -- the counts after a snapshot
-  taken-snapshot : (q : ℕ) → q < processes new → taken_of new q ≡ length (clocks_taken q longer)
-  taken-snapshot q q_within = grind (arith, gain, get_or-set_other, length-append, taken_of-set_same)
-
-  snapshots-snapshot : sum new.taken ≡ count_by is_snapshot longer
-  snapshots-snapshot = ap sum taken ∙ omega (arith, sum-set old.taken p within, stands.snapshots, sum_by_push (λ item. cond (is_snapshot item) 1 0) items (record { from = p; note = Snap (taken_of old p) clock }))
-
-  closed-snapshot : (q : ℕ) → q < processes new → get_or new.closed q false ≡ list_any is_close (notes_taken q longer)
-  closed-snapshot q q_within = ap (λ (marks : List Bool). get_or marks q false) closed ∙ stands.closed q (omega arith) ∙ sym (close_taken-push_snapshot items p (taken_of old p) q clock)
-
-  in_turn-snapshot : (q : ℕ) → q < processes new → AreInTurn (notes_taken q longer)
-  in_turn-snapshot q q_within =
+  -- what the checker holds after a snapshot, with what it then has of candidates
+  counted : MatchOption new.found (AreLeft (processes new) (λ q. clocks_taken q longer) new.queues new.floor) (IsFoundAmong (processes new) (λ q. clocks_taken q longer)) → StandsForItems new longer
+  counted candidates =
       let item : Item = record { from = p; note = Snap (taken_of old p) clock } in
-      in_turn-push items item q (next_where_MayTake old items item stands (record { from = p_within; place = refl; still_open = still_open })) (stands.in_turn q (omega arith))
+      let next = next_where_MayTake old items item stands (record { from = p_within; place = refl; still_open = still_open }) in
+      record {
+        taken = λ q q_within. grind (arith, gain, get_or-set_other, length-append, taken_of-set_same);
+        snapshots = ap sum taken ∙ omega (arith, sum-set old.taken p within, stands.snapshots, sum_by_push (λ x. cond (is_snapshot x) 1 0) items item);
+        closed = λ q q_within. ap (λ (marks : List Bool). get_or marks q false) closed ∙ stands.closed q (omega arith) ∙ sym (close_taken-push_snapshot items p (taken_of old p) q clock);
+        in_turn = λ q q_within. in_turn-push items item q next (stands.in_turn q (omega arith));
+        candidates = candidates;
+      }
 
   -- a checker without a cut adds it to its candidates
   pub StandsForItems-snapshot : is_some old.found ≡ false → AddsCandidate p clock old.queues old.floor new.queues new.floor →
       MatchOption new.found (HaveHeads (length old.queues) new.floor → ⊥) (IsCutOfHeads (length old.queues) new.floor) → StandsForItems new longer
-  StandsForItems-snapshot none left cut = record {
-    taken = taken-snapshot;
-    snapshots = snapshots-snapshot;
-    closed = closed-snapshot;
-    in_turn = in_turn-snapshot;
-    candidates = candidates new.found cut;
-  }
+  StandsForItems-snapshot none left cut = counted (candidates new.found cut)
     where
       now_left : AreLeft (processes new) (λ q. clocks_taken q longer) new.queues new.floor
       now_left = subst (λ n. AreLeft n (λ q. clocks_taken q longer) new.queues new.floor) (sym members)
@@ -70,13 +60,7 @@ module _ (old new : CheckerState) (items : List Item) (p : ℕ) (clock : List �
 
   -- a checker with a cut keeps it
   pub StandsForItems-found : is_some old.found ≡ true → new.found ≡ old.found → StandsForItems new longer
-  StandsForItems-found some still = record {
-    taken = taken-snapshot;
-    snapshots = snapshots-snapshot;
-    closed = closed-snapshot;
-    in_turn = in_turn-snapshot;
-    candidates = grind (arith, candidates);
-  }
+  StandsForItems-found some still = counted (grind (arith, candidates))
     where
       candidates : (found : Option (List ℕ)) → is_some found ≡ true → MatchOption found (AreLeft (processes old) (λ q. clocks_taken q items) old.queues old.floor) (IsFoundAmong (processes old) (λ q. clocks_taken q items)) →
           MatchOption found (AreLeft (processes new) (λ q. clocks_taken q longer) new.queues new.floor) (IsFoundAmong (processes new) (λ q. clocks_taken q longer))

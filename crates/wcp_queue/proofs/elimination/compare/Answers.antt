@@ -1,10 +1,10 @@
-use Rattle.std.proofs.Common.{◌<◌, ◌≤◌, true, [], length, slice_index, sym, ◌∙◌, ap, ⊎_elim, arith}
-use Rattle.std.proofs.lemmas.Bool.{cases_lt, true≢false}
+use Rattle.std.proofs.Common.{true, length, ◌∙◌, arith}
+use Rattle.std.proofs.lemmas.Bool.{true≢false}
 use Rattle.std.proofs.lemmas.List.{get_or_default}
-use Rattle.wcp_queue.specs.Floor.{component, has_head, RaisesFloor}
-use Rattle.wcp_queue.proofs.NextCandidate.{AreLeft-under, AreLeft-raised}
+use Rattle.wcp_queue.specs.Floor.{RaisesFloor}
+use Rattle.wcp_queue.proofs.LeftQueues.{AreLeft-under, AreLeft-raised}
 use Rattle.wcp_queue.proofs.RaisedFloor.{RisesTo-before, IsRaising-itself, IsRaising-next}
-use Rattle.wcp_queue.proofs.TestsOfCandidates.{tests_each-several}
+use Rattle.wcp_queue.proofs.SoundCheckers.{tests_each-several}
 use Rattle.wcp_queue.proofs.elimination.compare.Goals as goal
 use Rattle.wcp_queue.proofs.elimination.compare.Goals.{After-loop-q, then-q-p+then-raise, else-q-p, else-q-p-via-then-q-p+else-raise, else-q-p-via-else-q-p}
 
@@ -18,16 +18,10 @@ returns-then-is_above-clause-left c = λ rows before taken left.
 
 raised : (c : After-loop-q) → RaisesFloor (length c.args.queues.now) c.args.p c.args.clock.now c.args.floor.now c.loop-q.floor
 raised c = record {
-  reached = λ several. ⊎_elim
-      (λ (above : c.get-own.result < component c.args.floor.now c.args.p). absurd (true≢false (sym (c.is_above.ensures.above.1 (several, above)) ∙ c.if-is_above.false)))
-      (λ (reached : component c.args.floor.now c.args.p ≤ c.get-own.result). omega (arith, reached, c.get-own.ensures))
-      (cases_lt c.get-own.result (component c.args.floor.now c.args.p));
+  reached = λ several. grind arith;
   head = c.loop-q.invariant.at_p.1 ∙ c.set_head.ensures.head;
   own = c.loop-q.invariant.at_p.0 ∙ c.set_head.ensures.own ∙ c.get-own.ensures;
-  rises = λ q q_within other.
-      let same = c.set_head.ensures.others q other in
-      RisesTo-before q (slice_index c.args.clock.now q) c.args.floor.now c.set_head.new.self c.loop-q.floor
-      (same.0 ∙ ap (λ floor. component floor q) c.is_above.ensures.tests, same.1 ∙ ap (λ floor. has_head floor q) c.is_above.ensures.tests) (c.loop-q.invariant.rises q (omega (arith, c.loop-q-test.false)) other);
+  rises = λ q q_within other. grind (arith, RisesTo-before, c.set_head.ensures.others q other, c.loop-q.invariant.rises q);
 }
 
 pub returns-clause-left : goal.returns-clause-left
@@ -45,7 +39,7 @@ loop-q-preserved c =
         | else-q-p-via-then-q-p+else-raise w' ↦
             rw (w.floor-is, w.uncovered-is, w'.floor-is)
             (next w'.raise.new.self c.loop-q.uncovered w'.if-q-p.true (rw w'.get.ensures at w'.raise.ensures.rises) w'.raise.ensures.others
-            (λ none. (none, λ less. ap length (sym (w'.index-queues-q.is ∙ get_or_default c.args.queues.now c.loop-q.q w'.index-queues-q.result [] c.loop-q-test.true)) ∙ w'.raise.ensures.covered w'.if-raise.false (omega (arith, less, w'.get.ensures))))
+            (λ none. (none, grind (arith, get_or_default)))
             w'.raise.ensures.tests)
         | else-q-p-via-else-q-p w' ↦
             rw (w.floor-is, w.uncovered-is, w'.floor-is) (IsRaising-itself c.set_head.new.self c.args.p c.args.clock.now c.args.queues.now c.loop-q.floor c.loop-q.uncovered c.loop-q.q c.loop-q.invariant w'.if-q-p.false)

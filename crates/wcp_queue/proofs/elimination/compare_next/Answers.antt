@@ -1,5 +1,5 @@
 use Rattle.std.proofs.lemmas.List.{length-set}
-use Rattle.wcp_queue.proofs.NextCandidate.{LeavesQueue-set}
+use Rattle.wcp_queue.proofs.LeftQueues.{LeavesQueue-set}
 use Rattle.wcp_queue.proofs.elimination.compare_next.Goals as goal
 
 pub returns-clause-left : goal.returns-clause-left

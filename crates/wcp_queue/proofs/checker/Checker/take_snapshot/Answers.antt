@@ -1,4 +1,4 @@
-use Rattle.std.proofs.Common.{◌+◌, length, set, slice_index, refl, ap, arith}
+use Rattle.std.proofs.Common.{length, refl, ap, arith}
 use Rattle.std.proofs.lemmas.List.{with_items_is}
 use Rattle.std.proofs.lemmas.Option.{MatchOption-at_none}
 use Rattle.wcp_queue.specs.CheckerView.{checker_state}
@@ -20,15 +20,11 @@ invariant_of-self-2 c =
           let items = with_items_is c.self.inside.queues w.add_candidate.new.queues (omega arith) in
           let added = w.in_ok-add_candidate.ensures in
           rw (w.self-inside-is, items)
-          (IsSoundChecker-snapshot (checker_state c.self.inside) c.self.invariant
-          (record { queues = w.add_candidate.new.queues; floor = w.add_candidate.new.floor; taken = set c.self.inside.taken c.args.p (slice_index c.self.inside.taken c.args.p + 1); closed = c.self.inside.closed; found = w.add_candidate.new.found })
-          c.args.p (omega (arith, within, c.self.invariant.few, c.self.invariant.counts)) few refl refl (omega (arith, ap length shown))
+          (IsSoundChecker-snapshot (checker_state c.self.inside) c.self.invariant _ c.args.p (omega (arith, within, c.self.invariant.few, c.self.invariant.counts)) few refl refl (omega (arith, ap length shown))
           added.settled (λ none. rw shown at (MatchOption-at_none _ _ none added.cut)) (rw shown at added.tests))
       | else-is_none w ↦
           rw w.self-inside-is
-          (IsSoundChecker-snapshot (checker_state c.self.inside) c.self.invariant
-          (record { queues = c.self.inside.queues.items; floor = c.self.inside.floor; taken = set c.self.inside.taken c.args.p (slice_index c.self.inside.taken c.args.p + 1); closed = c.self.inside.closed; found = c.self.inside.found })
-          c.args.p (omega (arith, within, c.self.invariant.few, c.self.invariant.counts)) few refl refl refl
+          (IsSoundChecker-snapshot (checker_state c.self.inside) c.self.invariant _ c.args.p (omega (arith, within, c.self.invariant.few, c.self.invariant.counts)) few refl refl refl
           c.self.invariant.settled c.self.invariant.waiting (omega arith))
     ]
 
@@ -42,13 +38,9 @@ returns-clause-taken c =
           let items = with_items_is c.self.inside.queues w.add_candidate.new.queues (omega arith) in
           let added = w.in_ok-add_candidate.ensures in
           rw (w.self-inside-is, items, ← c.self.view_is)
-          (λ list stands. StandsForItems-snapshot (checker_state c.self.inside)
-          (record { queues = w.add_candidate.new.queues; floor = w.add_candidate.new.floor; taken = set c.self.inside.taken c.args.p (slice_index c.self.inside.taken c.args.p + 1); closed = c.self.inside.closed; found = w.add_candidate.new.found })
-          list c.args.p c.args.clock.now stands within still_open (omega (arith, within, c.self.invariant.few, c.self.invariant.counts)) refl refl (omega (arith, ap length shown))
+          (λ list stands. StandsForItems-snapshot (checker_state c.self.inside) _ list c.args.p c.args.clock.now stands within still_open (omega (arith, within, c.self.invariant.few, c.self.invariant.counts)) refl refl (omega (arith, ap length shown))
           w.if-is_none.ensures (rw shown at added.left) (rw shown at added.cut))
       | else-is_none w ↦
           rw (w.self-inside-is, ← c.self.view_is)
-          (λ list stands. StandsForItems-found (checker_state c.self.inside)
-          (record { queues = c.self.inside.queues.items; floor = c.self.inside.floor; taken = set c.self.inside.taken c.args.p (slice_index c.self.inside.taken c.args.p + 1); closed = c.self.inside.closed; found = c.self.inside.found })
-          list c.args.p c.args.clock.now stands within still_open (omega (arith, within, c.self.invariant.few, c.self.invariant.counts)) refl refl refl w.if-is_none.ensures refl)
+          (λ list stands. StandsForItems-found (checker_state c.self.inside) _ list c.args.p c.args.clock.now stands within still_open (omega (arith, within, c.self.invariant.few, c.self.invariant.counts)) refl refl refl w.if-is_none.ensures refl)
     ]
