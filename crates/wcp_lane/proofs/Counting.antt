@@ -1,29 +1,29 @@
 -- How many items of each number were put or taken.
 use Rattle.std.proofs.Common.{◌≡◌, ◌≢◌, ◌⊎◌, ℕ, ◌+◌, ◌<◌, List, [], ◌∷◌, ◌++◌, length, get_or, set, replicate, refl, sym, ap, ◌∙◌, subst, ⊎_elim, arith, length-append}
-use Rattle.std.specs.Prelude.{All, Bool, IfSome, slice_get}
+use Rattle.std.specs.Prelude.{All, Bool}
 use Rattle.std.proofs.lemmas.List.{length-set, get_or-set_same, get_or-set_other, get_or-replicate, append-nil}
 use Rattle.wcp_clock.specs.Limits.{most_processes}
 use Rattle.wcp_model.specs.LaneRule.{items_from}
 use Rattle.wcp_lane.specs.Message.{AllMayFollow}
 use Rattle.wcp_lane.specs.Passes.{Numbers}
-use Rattle.wcp_lane.specs.Ends.{AreCounts}
+use Rattle.wcp_lane.specs.declared.counts.Span.{Span}
+use Rattle.wcp_lane.specs.Ends.{AreCounts, IsSpanOf}
 use Rattle.wcp_lane.proofs.Lists.{items_from-append, items_from-all, items_from-none}
 
 module _ {I : Type 0} (origin : I → ℕ) where
-  -- the one number of some items
-  pub number_below : (items : List I) (p count : ℕ) → 0 < count → count ≡ length items → All (λ item. origin item ≡ p) items → All (λ item. origin item < most_processes) items → p < most_processes
-  number_below [] p count some is own below = absurd (omega arith)
-  number_below (x ∷ xs) p count some is own below = omega (arith, own 0 x (omega arith), below 0 x (omega arith))
+  -- the origin of a span is below 16 as those of its items are
+  pub span_below : (place : I → ℕ) (items : List I) (span : Span) → IsSpanOf origin place items span → All (λ item. origin item < most_processes) items → span.origin < most_processes
+  span_below place [] span is below = absurd (omega (arith, is.some, is.counted))
+  span_below place (x ∷ xs) span is below = omega (arith, is.own 0 x (omega arith), below 0 x (omega arith))
 
-  -- the place of the first of the items that may follow
-  pub first_place : (place : I → ℕ) (is_last : I → Bool) (numbers : Numbers) (before items : List I) (p first count : ℕ) → 0 < count → count ≡ length items → All (λ item. origin item ≡ p) items
-      → IfSome (slice_get items 0) (λ item. first ≡ place item) → AllMayFollow origin place is_last numbers before items → first ≡ length (items_from origin p before)
-  first_place place is_last numbers before [] p first count some is own here may = absurd (omega arith)
-  first_place place is_last numbers before (x ∷ xs) p first count some is own here may = here ∙ may.0.next.numbered ∙ ap (λ q. length (items_from origin q before)) (own 0 x (omega arith))
+  -- its place is the number of items of its origin before them
+  first_place : (place : I → ℕ) (is_last : I → Bool) (numbers : Numbers) (before items : List I) (span : Span) → IsSpanOf origin place items span → AllMayFollow origin place is_last numbers before items → span.place ≡ length (items_from origin span.origin before)
+  first_place place is_last numbers before [] span is may = absurd (omega (arith, is.some, is.counted))
+  first_place place is_last numbers before (x ∷ xs) span is may = is.first ∙ may.0.next.numbered ∙ ap (λ q. length (items_from origin q before)) (is.own 0 x (omega arith))
 
   -- no item, and so none of any number
-  pub counts_of_none : AreCounts origin (replicate 16 0) []
-  counts_of_none = (refl, λ p below. get_or-replicate 16 p 0 0 below)
+  pub counts_of_none : (items : List I) → items ≡ [] → AreCounts origin (replicate 16 0) items
+  counts_of_none items none = subst (AreCounts origin (replicate 16 0)) (sym none) (refl, λ p below. get_or-replicate 16 p 0 0 below)
 
   -- more items of one number, and the count of this number
   pub counted : (counts : List ℕ) (before items : List I) (p count : ℕ) → AreCounts origin counts before → All (λ item. origin item ≡ p) items → p < most_processes → count ≡ length (items_from origin p before) + length items
@@ -49,9 +49,7 @@ module _ {I : Type 0} (origin : I → ℕ) where
   )
 
   -- the next items of one number were counted
-  pub counted_next : (place : I → ℕ) (is_last : I → Bool) (numbers : Numbers) (counts more : List ℕ) (before items : List I) (p first count : ℕ) → AreCounts origin counts before → 0 < count → count ≡ length items
-      → All (λ item. origin item ≡ p) items → IfSome (slice_get items 0) (λ item. first ≡ place item) → AllMayFollow origin place is_last numbers before items → All (λ item. origin item < most_processes) items → more ≡ set counts p (first + count)
-      → AreCounts origin more (before ++ items)
-  counted_next place is_last numbers counts more before items p first count old some is own here may below new =
-      let next = first_place place is_last numbers before items p first count some is own here may in
-      subst (λ cells. AreCounts origin cells (before ++ items)) (sym new) (counted counts before items p (first + count) old own (number_below items p count some is own below) (omega (arith, next, is)))
+  pub counted_next : (place : I → ℕ) (is_last : I → Bool) (numbers : Numbers) (counts : List ℕ) (before items : List I) (span : Span) (count : ℕ) → count ≡ span.place + span.items → span.origin < most_processes → IsSpanOf origin place items span
+      → AreCounts origin counts before → AllMayFollow origin place is_last numbers before items → AreCounts origin (set counts span.origin count) (before ++ items)
+  counted_next place is_last numbers counts before items span count so_many below is old may =
+      counted counts before items span.origin count old is.own below (omega (arith, first_place place is_last numbers before items span is may, is.counted))

@@ -6,9 +6,17 @@ use Rattle.wcp_clock.specs.Limits.{most_processes}
 use Rattle.wcp_model.specs.LaneRule.{items_from}
 use Rattle.wcp_lane.specs.declared.passes.Hand.{Hand}
 use Rattle.std.specs.List.{flat_map}
+use Rattle.std.specs.Prelude.{All, Bool}
+use Rattle.wcp_lane.specs.ProcessNumbers.{AreProcessNumbers}
+use Rattle.wcp_lane.specs.Message.{AllMayFollow}
+use Rattle.wcp_lane.proofs.Steps.{all_owned}
 use Rattle.wcp_lane.specs.Passes.{Numbers, putter, taker, joined, with_put, with_taken, put_of, IsPut, IsBalanced}
 use Rattle.wcp_lane.specs.Ends.{put_by, unowned_by, AreCounts}
 use Rattle.wcp_lane.proofs.Lists.{items-push}
+
+-- items of the numbers of processes that may follow are of these
+pub all_below : {I : Type 0} (origin place : I → ℕ) (is_last : I → Bool) (numbers : Numbers) (before items : List I) → AreProcessNumbers numbers → AllMayFollow origin place is_last numbers before items → All (λ item. origin item < most_processes) items
+all_below origin place is_last numbers before items within may k d below = within (origin (get_or items k d)) (all_owned origin place is_last numbers before items may k d below)
 
 module _ {M I : Type 0} (items : M → List I) (origin : I → ℕ) where
   -- what a putter knows with a message more, and its counts

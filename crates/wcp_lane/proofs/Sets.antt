@@ -1,61 +1,33 @@
 -- The sets of a lane's putters.
-use Rattle.std.proofs.Common.{◌≡◌, ℕ, suc, ◌+◌, ◌<◌, ◌≤◌, Bool, true, false, true≢false, ◌||◌, not, ◌&&◌, List, [], ◌∷◌, length, get_or, take, refl, sym, ap, ◌∙◌, subst, arith}
+use Rattle.std.proofs.Common.{◌≡◌, ℕ, ◌<◌, Bool, true, false, not, ◌&&◌, ◌||◌, List, length, get_or, take, sym, ap, ◌∙◌, subst, arith}
+use Rattle.std.specs.Prelude.{All}
 use Rattle.std.specs.List.{list_any}
 use Rattle.std.specs.FinSet as sets
-use Rattle.std.specs.Cmp.{nat_cmp_total}
-use Rattle.std.proofs.lemmas.List.{get_or-take, length-take-le}
-use Rattle.std.proofs.lemmas.List.Folds.{list_any_more, list_any_at}
-use Rattle.std.specs.Ordering.{nat_cmp}
-use Rattle.wcp_lane.specs.Passes.{Numbers, IsRest, all_numbers}
-use Rattle.wcp_lane.proofs.Steps.{all_numbers-contains}
+use Rattle.std.proofs.lemmas.Bool.{false_from_ne_true}
+use Rattle.std.proofs.lemmas.List.{get_or-take, get_or_read, length-take-le}
+use Rattle.std.proofs.lemmas.List.Folds.{list_any_none}
+use Rattle.wcp_lane.specs.Owners.{AreApart}
+use Rattle.wcp_lane.specs.ProcessNumbers.{AreProcessNumbers}
+use Rattle.wcp_lane.specs.Passes.{Numbers}
 
--- some element passes the test
-any_place : {A : Type 0} (test : A → Bool) (xs : List A) (d : A) → list_any test xs ≡ true → (i : ℕ) × (i < length xs) × (test (get_or xs i d) ≡ true)
-any_place test [] d e = absurd (true≢false (sym e))
-any_place test (x ∷ xs) d e =
-    elim (test x) as (λ b. test x ≡ b → (b || list_any test xs) ≡ true → (i : ℕ) × (i < length (x ∷ xs)) × (test (get_or (x ∷ xs) i d) ≡ true)) [
-      | true ↦ λ here _. (0, (omega arith), here)
-      | false ↦ λ _ later. let r = any_place test xs d later in (suc r.0, (omega (arith, r.1)), r.2)
-    ] refl e
+-- whether a number is in one of these sets
+abbrev pub any_has : ℕ → List Numbers → Bool
+any_has p owners = list_any (λ (s : Numbers). sets.contains s p) owners
 
--- a number of one of the first sets
-pub owner_of : (owners : List Numbers) (k p : ℕ) (d : Numbers) → k ≤ length owners → list_any (λ (s : Numbers). sets.contains s p) (take k owners) ≡ true
-    → (i : ℕ) × (i < k) × (sets.contains (get_or owners i d) p ≡ true)
-owner_of owners k p d within e =
-    let r = any_place (λ (s : Numbers). sets.contains s p) (take k owners) d e in
-    let long : length (take k owners) ≡ k = length-take-le k owners within in
-    let below : r.0 < k = subst (λ n. r.0 < n) long r.1 in
-    (r.0, below, ap (λ (s : Numbers). sets.contains s p) (sym (get_or-take k owners r.0 d below)) ∙ r.2)
+-- a number of one set is in none before it
+pub none_before : (owners : List Numbers) (k : ℕ) (numbers : Numbers) → AreApart owners → k < length owners → numbers ≡ get_or owners k numbers
+    → (p : ℕ) → sets.contains numbers p ≡ true → any_has p (take k owners) ≡ false
+none_before owners k numbers apart inside is p member =
+    let long = length-take-le k owners (omega arith) in
+    list_any_none (λ (s : Numbers). sets.contains s p) (take k owners) (λ i d below.
+    false_from_ne_true (sets.contains (get_or (take k owners) i d) p) (λ owned.
+    apart i k d (omega arith) inside p
+    (ap (λ (s : Numbers). sets.contains s p) (sym (get_or-take k owners i d (omega arith))) ∙ owned)
+    (ap (λ (s : Numbers). sets.contains s p) (sym (get_or_read owners k numbers inside is d)) ∙ member)))
 
--- the numbers of the first sets and of one more
-pub owned_more : (owners : List Numbers) (k p : ℕ) (d seen numbers : Numbers) → k < length owners → numbers ≡ get_or owners k d → sets.contains seen p ≡ list_any (λ (s : Numbers). sets.contains s p) (take k owners)
-    → sets.contains (sets.union seen numbers) p ≡ list_any (λ (s : Numbers). sets.contains s p) (take (k + 1) owners)
-owned_more owners k p d seen numbers within is so_far =
-    sets.contains-union nat_cmp_total seen numbers p
-    ∙ (λ i. so_far i || sets.contains (is i) p)
-    ∙ sym (list_any_more (λ (s : Numbers). sets.contains s p) owners k d within)
+pub within_read : (owners : List Numbers) (k : ℕ) (numbers : Numbers) → All AreProcessNumbers owners → k < length owners → numbers ≡ get_or owners k numbers → AreProcessNumbers numbers
+within_read owners k numbers all inside is = subst AreProcessNumbers (sym is) (all k numbers inside)
 
-rest_of : (rest seen given : Bool) → rest ≡ not seen → (rest && not given) ≡ not (seen || given)
+pub rest_of : (rest seen given : Bool) → rest ≡ not seen → (rest && not given) ≡ not (seen || given)
 rest_of rest true given e = ap (λ b. b && not given) e
 rest_of rest false given e = ap (λ b. b && not given) e
-
--- what is left once a set is given too
-pub rest_more : (seen rest given : Numbers) → IsRest seen rest → IsRest (sets.union seen given) (sets.difference rest given)
-rest_more seen rest given so_far p below =
-    sets.contains-difference nat_cmp_total rest given p
-    ∙ rest_of (sets.contains rest p) (sets.contains seen p) (sets.contains given p) (so_far p below)
-    ∙ ap not (sym (sets.contains-union nat_cmp_total seen given p))
-
--- no number is in no set
-pub none_has : (p : ℕ) → sets.contains (sets.empty {R = nat_cmp}) p ≡ false
-none_has p = sets.contains-empty nat_cmp p
-
--- a lane with no set yet: every number is left
-pub rest_of_none : IsRest sets.empty all_numbers
-rest_of_none p below = all_numbers-contains p below ∙ ap not (sym (none_has p))
-
--- a number of one of the first sets is one of theirs
-pub owned_by_one : (owners : List Numbers) (k p i : ℕ) (d : Numbers) → k ≤ length owners → i < k → sets.contains (get_or owners i d) p ≡ true → list_any (λ (s : Numbers). sets.contains s p) (take k owners) ≡ true
-owned_by_one owners k p i d within below e =
-    let long : length (take k owners) ≡ k = length-take-le k owners within in
-    list_any_at (λ (s : Numbers). sets.contains s p) (take k owners) i d (omega arith) (ap (λ (s : Numbers). sets.contains s p) (get_or-take k owners i d below) ∙ e)

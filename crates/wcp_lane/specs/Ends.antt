@@ -1,11 +1,12 @@
 -- The ends of a lane, as contracts see them.
-use Rattle.std.specs.Prelude.{◌≡◌, ℕ, ◌<◌, List, [], ◌∷◌, length, slice_index}
+use Rattle.std.specs.Prelude.{◌≡◌, ℕ, ◌<◌, List, [], ◌∷◌, length, slice_index, slice_get, All, IfSome}
 use Rattle.std.specs.FinSet as set
 use Rattle.atomic_table.specs.Seated.{TableId}
 use Rattle.atomic_table.specs.declared.badge.Badge.{Badge}
 use Rattle.crossbeam_channel.specs.declared.flavors.array.Key.{Key}
 use Rattle.crossbeam_channel.specs.Claims.{Pass}
 use Rattle.wcp_clock.specs.Limits.{most_processes}
+use Rattle.wcp_lane.specs.declared.counts.Span.{Span}
 use Rattle.wcp_lane.specs.declared.passes.Hand.{Hand}
 use Rattle.wcp_lane.specs.declared.passes.Home.{Home}
 use Rattle.wcp_model.specs.LaneRule.{items_from}
@@ -66,3 +67,10 @@ abbrev pub AreCounts : {I : Type 0} → (I → ℕ) → List ℕ → List I → 
 AreCounts origin counts items =
     (length counts ≡ most_processes)
     × ((p : ℕ) → p < most_processes → slice_index counts p ≡ length (items_from origin p items))
+
+-- what a span says of some items: their one origin, how many of it stand before the first of them, and how many they are
+pub record IsSpanOf {I : Type 0} (origin place : I → ℕ) (items : List I) (span : Span) : Type 0 where
+  pub own : All (λ item. origin item ≡ span.origin) items
+  pub first : IfSome (slice_get items 0) (λ item. span.place ≡ place item)
+  pub some : 0 < span.items
+  pub counted : span.items ≡ length items

@@ -10,9 +10,13 @@ use Rattle.wcp_lane.specs.Passes.{Numbers}
 abbrev pub IsCapacity : ℕ → Type 0
 IsCapacity cap = (0 < cap) × (cap ≤ most_lane)
 
+-- The two sets share no number.
+abbrev pub ShareNone : Numbers → Numbers → Type 0
+ShareNone a b = (p : ℕ) → set.contains a p ≡ true → set.contains b p ≡ true → ⊥
+
 -- No number is in two of these sets.
 abbrev pub AreApart : List Numbers → Type 0
-AreApart owners = AllPairs (λ a b. (p : ℕ) → set.contains a p ≡ true → set.contains b p ≡ true → ⊥) owners
+AreApart owners = AllPairs ShareNone owners
 
 -- The owners of a lane are some sets, no two of which share a number.
 abbrev pub AreOwners : List Numbers → Type 0

@@ -44,20 +44,18 @@ module _ {M : Type 0} where
 
   -- without the numbers of a set
   abbrev pub without : Numbers → Hand M → Hand M
-  without numbers v =
-      record { takes = v.takes; taken = v.taken; home = map (λ h. home (set.difference h.numbers numbers) h.put) v.home }
+  without numbers v = record v { home = map (λ h. home (set.difference h.numbers numbers) h.put) v.home }
 
   -- with the numbers of another end too
   abbrev pub joined : Hand M → Hand M → Hand M
-  joined v w = record { takes = v.takes; taken = v.taken; home = w.home ++ v.home }
+  joined v w = record v { home = w.home ++ v.home }
 
   -- an end has put the message, or taken it
   abbrev pub with_put : M → Hand M → Hand M
-  with_put message v =
-      record { takes = v.takes; taken = v.taken; home = map (λ h. home h.numbers (h.put ++ message ∷ [])) v.home }
+  with_put message v = record v { home = map (λ h. home h.numbers (h.put ++ message ∷ [])) v.home }
 
   abbrev pub with_taken : M → Hand M → Hand M
-  with_taken message v = record { takes = v.takes; taken = v.taken ++ message ∷ []; home = v.home }
+  with_taken message v = record v { taken = v.taken ++ message ∷ [] }
 
   abbrev pub IsPut : Hand M → M → Hand M → Type 0
   IsPut v message w = w ≡ with_put message v

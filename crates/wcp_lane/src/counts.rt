@@ -1,7 +1,11 @@
-ghost use Rattle.std.specs.Prelude.{◌≡◌, ℕ, ◌+◌, ◌<◌, ◌↔◌, true, length, slice_index, slice_set, IsTrue};
+ghost use Rattle.std.specs.Prelude.{◌≡◌, ℕ, ◌<◌, ◌↔◌, true, List, ◌++◌, length, slice_index, IsTrue};
 ghost use Rattle.std.specs.FinSet as set;
 ghost use Rattle.wcp_clock.specs.Limits.{most_processes};
+ghost use Rattle.wcp_lane.specs.Message.{AllMayFollow};
+ghost use Rattle.wcp_lane.specs.Passes.{Numbers};
+ghost use Rattle.wcp_lane.specs.Ends.{AreCounts, IsSpanOf};
 
+use crate::message::Origin;
 use crate::origins::Origins;
 use wcp_clock::MAX_PROCS;
 
@@ -9,12 +13,34 @@ use wcp_clock::MAX_PROCS;
 /// than that.
 pub type Counts = [u128; MAX_PROCS];
 
-/// Counts so many items that are the next ones of their origin, the first of them at this place.
-pub fn count_up(counts: &mut Counts, origin: u32, place: u64, items: u64)
-    requires { origin < most_processes }
-    ensures { counts.new ≡ slice_set counts.old origin (place + items) }
+/// The one origin of the items of a message, how many of it stand before them, and how many they are.
+#[derive(Clone, Copy)]
+pub struct Span {
+    origin: u32,
+    place: u64,
+    items: u64,
+}
+
+impl Span {
+    pub fn of<M: Origin>(message: &M) -> Span
+        ensures { IsSpanOf M.origin M.place (M.items message.now) result }
+    {
+        Span {
+            origin: message.origin(),
+            place: message.place(),
+            items: message.count(),
+        }
+    }
+}
+
+/// Counts the items of a message that are the next ones of their origin.
+pub fn count_up<M: Origin>(counts: &mut Counts, span: &Span)
+    requires { span.now.origin < most_processes }
+    ensures { (items before : List M.Item) (numbers : Numbers) → IsSpanOf M.origin M.place items span.now
+        → AreCounts M.origin counts.old before → AllMayFollow M.origin M.place M.last numbers before items
+        → AreCounts M.origin counts.new (before ++ items) }
 {
-    counts[origin as usize] = u128::from(place) + u128::from(items);
+    counts[span.origin as usize] = u128::from(span.place) + u128::from(span.items);
 }
 
 /// Whether the counts of all these numbers are the same.

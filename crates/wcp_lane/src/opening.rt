@@ -1,9 +1,10 @@
-ghost use Rattle.std.specs.Prelude.{◌≡◌, ℕ, ◌<◌, ◌≤◌, ◌↔◌, true, [], length, map, IsTrue, IfOk, IfErr, OnOk};
+ghost use Rattle.std.specs.Prelude.{◌≡◌, ℕ, ◌<◌, ◌≤◌, ◌↔◌, true, [], length, map, IsSome, IfSome, IfOk, IfErr, OnSome, OnOk, All};
 ghost use Rattle.std.specs.List.{list_any};
 ghost use Rattle.std.specs.FinSet as set;
 ghost use Rattle.crossbeam_channel.specs.Ends.{sends_on};
 ghost use Rattle.crossbeam_channel.specs.Claims.{view, IsSeatAt};
 ghost use Rattle.wcp_clock.specs.Limits.{most_processes};
+ghost use Rattle.wcp_lane.specs.ProcessNumbers.{AreProcessNumbers};
 ghost use Rattle.wcp_lane.specs.Passes.{taker, putter, without};
 ghost use Rattle.wcp_lane.specs.Ends.{new_putter, unowned_by, lane_of};
 ghost use Rattle.wcp_lane.specs.Owners.{AreApart, AreOwners, IsCapacity, IsFirstLaneFault};
@@ -37,36 +38,45 @@ pub fn lane<M: Origin>(
     if cap == 0 || cap > MAX_LANE {
         return Err(LaneFault::Cap);
     }
-    if owners.is_empty() || !are_apart(owners) {
+    if owners.is_empty() {
         return Err(LaneFault::Owners);
     }
-    match open(alloc, cap, owners) {
+    let Some(origins) = union_apart(owners) else {
+        return Err(LaneFault::Owners);
+    };
+    match open(alloc, cap, owners, origins) {
         Ok(ends) => Ok(ends),
         Err(AllocError) => Err(LaneFault::NoMemory),
     }
 }
 
-/// Whether no number is in two of these sets.
-fn are_apart(owners: &[Origins]) -> bool
-    ensures { IsTrue result ↔ AreApart owners.now }
+/// The numbers of all these sets, if no number is in two of them.
+fn union_apart(owners: &[Origins]) -> Option<Origins>
+    ensures apart { IsSome result ↔ AreApart owners.now }
+    ensures all { IfSome result (λ all.
+        (p : ℕ) → set.contains all p ≡ list_any (λ numbers. set.contains numbers p) owners.now) }
+    ensures within { OnSome result (All AreProcessNumbers owners.now) }
 {
-    let mut seen = Origins::none();
+    let mut all = Origins::none();
     for numbers in owners {
-        if seen.meets(numbers) {
-            return false;
+        if all.meets(numbers) {
+            return None;
         }
-        seen = seen.joined(numbers);
+        all = all.joined(numbers);
     }
-    true
+    Some(all)
 }
 
 fn open<M: Origin>(
     alloc: Global,
     cap: u32,
     owners: &[Origins],
+    origins: Origins,
 ) -> Result<(Vec<Putter<M>>, Taker<M>), AllocError>
     requires some { 0 < cap }
     requires apart { AreApart owners.now }
+    requires within { All AreProcessNumbers owners.now }
+    requires all { (p : ℕ) → set.contains origins p ≡ list_any (λ numbers. set.contains numbers p) owners.now }
     ensures putters { IfOk result (λ ends. ends.0.items ≡ map (new_putter ends.1.lane) owners.now) }
     ensures members { IfOk result (λ ends.
         (p : ℕ) → set.contains ends.1.members p ≡ list_any (λ numbers. set.contains numbers p) owners.now) }
@@ -77,13 +87,10 @@ fn open<M: Origin>(
         alloc,
         cap as usize,
     )?;
-    let mut origins = Origins::none();
     for numbers in owners {
-        let sender = sender.try_clone()?;
         let own = give::<M, Brand>(&sender, &mut pass, numbers);
-        origins = origins.joined(numbers);
         putters.push(Putter {
-            sender,
+            sender: sender.try_clone()?,
             pass: own,
             origins: *numbers,
             counts: [0; MAX_PROCS],

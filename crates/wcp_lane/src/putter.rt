@@ -2,7 +2,7 @@ ghost use Rattle.std.specs.Prelude.{◌≡◌, ◌++◌, OnOk, IfOk, IfErr, IfSo
 ghost use Rattle.wcp_lane.specs.Message.{AllMayFollow};
 ghost use Rattle.wcp_lane.specs.Ends.{PutEnd};
 
-use crate::counts::{Counts, count_up};
+use crate::counts::{Counts, Span, count_up};
 use crate::fault::Cut;
 use crate::message::Origin;
 use crate::origins::Origins;
@@ -65,12 +65,10 @@ impl<M: Origin> Putter<M> {
         ensures ok { OnOk result (self.new ≡ record self.old { put = self.old.put ++ M.items message }) }
         ensures err { IfErr result (λ e. (e.1 ≡ message) × (self.new ≡ self.old)) }
     {
-        let origin = message.origin();
-        let place = message.place();
-        let items = message.count();
+        let span = Span::of(&message);
         match self.sender.send_as::<Puts, R>(rt, &mut self.pass, message) {
             Ok(()) => {
-                count_up(&mut self.counts, origin, place, items);
+                count_up::<M>(&mut self.counts, &span);
                 Ok(())
             }
             Err(error) => Err((Cut(()), error.into_inner())),
@@ -87,15 +85,13 @@ impl<M: Origin> Putter<M> {
         ensures full { IfOk result (λ back. IfSome back (λ full. (full ≡ message) × (self.new ≡ self.old))) }
         ensures err { IfErr result (λ e. (e.1 ≡ message) × (self.new ≡ self.old)) }
     {
-        let origin = message.origin();
-        let place = message.place();
-        let items = message.count();
+        let span = Span::of(&message);
         match self
             .sender
             .try_send_as::<Puts, R>(rt, &mut self.pass, message)
         {
             Ok(()) => {
-                count_up(&mut self.counts, origin, place, items);
+                count_up::<M>(&mut self.counts, &span);
                 Ok(None)
             }
             Err(TrySendError::Full(back)) => Ok(Some(back)),

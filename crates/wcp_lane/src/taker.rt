@@ -3,7 +3,7 @@ ghost use Rattle.std.specs.FinSet as set;
 ghost use Rattle.wcp_clock.specs.Limits.{most_processes};
 ghost use Rattle.wcp_lane.specs.Message.{AllMayFollow};
 
-use crate::counts::{Counts, count_up};
+use crate::counts::{Counts, Span, count_up};
 use crate::fault::Cut;
 use crate::message::Origin;
 use crate::origins::Origins;
@@ -68,12 +68,7 @@ impl<M: Origin> Taker<M> {
     {
         match self.receiver.recv_as::<Takes, R>(rt, &mut self.pass) {
             Ok(message) => {
-                count_up(
-                    &mut self.counts,
-                    message.origin(),
-                    message.place(),
-                    message.count(),
-                );
+                count_up::<M>(&mut self.counts, &Span::of(&message));
                 Ok(message)
             }
             Err(_) => Err(Cut(())),
@@ -91,12 +86,7 @@ impl<M: Origin> Taker<M> {
     {
         match self.receiver.try_recv_as::<Takes, R>(rt, &mut self.pass) {
             Ok(message) => {
-                count_up(
-                    &mut self.counts,
-                    message.origin(),
-                    message.place(),
-                    message.count(),
-                );
+                count_up::<M>(&mut self.counts, &Span::of(&message));
                 Ok(Some(message))
             }
             Err(TryRecvError::Empty) => Ok(None),

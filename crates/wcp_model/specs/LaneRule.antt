@@ -18,8 +18,8 @@ AreInSequence {I} place is_last items =
     (before : List I) (item : I) (behind : List I) → items ≡ before ++ item ∷ behind → IsNext place is_last before item
 
 -- The lane rule, over the items that the taker took, the items in the lane, oldest first, and the items put of each
--- number: each item in the lane is of a number below 16, and the items taken of a number, followed by those of it in the
--- lane, are the items put, which are in sequence.
+-- number: each item in the lane is of a number below 16, and the items taken of a number, followed by those of it in
+-- the lane, are the items put, which are in sequence.
 pub record LaneRule
     {I : Type 0} (origin place : I → ℕ) (is_last : I → Bool)
     (taken within : List I) (put : ℕ → List I) : Type 0 where

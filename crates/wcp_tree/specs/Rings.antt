@@ -13,7 +13,8 @@ abbrev pub IsTakerAt : List (Option TakeSide) → ℕ → TakeSide → Type 0
 IsTakerAt takers p taker = (slice_get takers p ≡ Some (Some taker)) × (taker.taken ≡ [])
 
 -- The ring of process p: its probe is fresh and has put nothing, and the end that takes is of the same ring.
-pub record IsNewRing (plan : Plan) (watch p : ℕ) (probes : List LiveSide) (takers : List (Option TakeSide)) : Type 0 where
+pub record IsNewRing (plan : Plan) (watch p : ℕ)
+    (probes : List LiveSide) (takers : List (Option TakeSide)) : Type 0 where
   pub probe : LiveSide
   pub taker : TakeSide
   pub is_probe : slice_get probes p ≡ Some probe

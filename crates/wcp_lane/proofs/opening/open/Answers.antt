@@ -1,15 +1,16 @@
-use Rattle.std.proofs.Common.{◌≡◌, ◌<◌, false, not, length, replicate, take, map, sym, ap, ◌∙◌, subst, arith, [], ◌∷◌, ◌++◌}
+use Rattle.std.proofs.Common.{◌≡◌, ◌+◌, not, ◌||◌, take, map, List, sym, ap, ◌∙◌, subst, arith, [], ◌∷◌, ◌++◌}
 use Rattle.std.specs.FinSet as set
+use Rattle.std.specs.Cmp.{nat_cmp_total}
 use Rattle.std.specs.List.{flat_map}
-use Rattle.std.proofs.lemmas.Bool.{false_from_ne_true}
-use Rattle.std.proofs.lemmas.List.{take_more, map-append}
-use Rattle.crossbeam_channel.specs.Ends.{sends_on}
+use Rattle.std.proofs.lemmas.Grind.{common_steps}
+use Rattle.std.proofs.lemmas.List.{take_all, map-append}
+use Rattle.std.proofs.lemmas.List.Folds.{list_any_more}
 use Rattle.crossbeam_channel.specs.Claims.{IsSeatAt}
-use Rattle.wcp_lane.specs.Passes.{Numbers, taker, putter, all_numbers}
-use Rattle.wcp_lane.specs.Ends.{lane_of, hand_of, unowned_by, put_by, new_putter, AreCounts, PutEnd}
+use Rattle.wcp_lane.specs.Passes.{Numbers, taker, putter}
+use Rattle.wcp_lane.specs.Ends.{lane_of, hand_of, unowned_by, put_by, new_putter, PutEnd}
 use Rattle.wcp_lane.proofs.Counting.{counts_of_none}
-use Rattle.wcp_lane.proofs.Steps.{begins}
-use Rattle.wcp_lane.proofs.Sets.{owner_of, owned_more, rest_more, none_has, rest_of_none}
+use Rattle.wcp_lane.proofs.Sets.{any_has, none_before, within_read, rest_of}
+use Rattle.wcp_lane.proofs.Steps.{begins, all_numbers-contains}
 use Rattle.wcp_lane.proofs.opening.open.Goals as goal
 
 pub bounded_with-requires-clause-rule : goal.bounded_with-requires-clause-rule
@@ -18,60 +19,57 @@ bounded_with-requires-clause-rule g c = begins g.M.Origin.items g.M.Origin.origi
 pub loop-numbers-init : goal.loop-numbers-init
 loop-numbers-init g c =
     let made = c.in_ok-sender.ensures in
-    let rest : unowned_by (hand_of c.in_ok-sender.pass) ≡ all_numbers = ap unowned_by made.3 in
     record {
       seat = made.2;
-      knows = made.3 ∙ ap (λ numbers. taker numbers []) (sym rest);
-      rest = λ p below. ap (λ numbers. set.contains numbers p) rest ∙ rest_of_none p below ∙ ap (λ numbers. not (set.contains numbers p)) (sym c.none-origins.ensures);
-      among = λ p. ap (λ numbers. set.contains numbers p) c.none-origins.ensures ∙ none_has p;
+      knows = made.3 ∙ ap (λ v. taker (unowned_by v) []) (sym made.3);
+      rest = λ p below. ap (λ v. set.contains (unowned_by v) p) made.3 ∙ all_numbers-contains p below;
       made = c.in_ok-putters.ensures.items;
     }
 
 pub give-own-requires-clause-among : goal.give-own-requires-clause-among
 give-own-requires-clause-among g c = λ p below member.
-    let k = c.loop-numbers.numbers-index in
-    let owners = c.args.owners.now in
-    let numbers = c.numbers-item.result in
-    let inside : k < length owners = c.loop-numbers-test.true in
-    let free : set.contains c.loop-numbers.origins p ≡ false = false_from_ne_true _ (λ owned.
-    let owner = owner_of owners k p numbers (omega arith) (sym (c.loop-numbers.invariant.among p) ∙ owned) in
-    c.requires.apart owner.0 k numbers owner.1 inside p owner.2 (ap (λ (s : Numbers). set.contains s p) (sym c.numbers-item.is) ∙ member)) in
-    c.loop-numbers.invariant.rest p below ∙ ap not free
+    c.loop-numbers.invariant.rest p below ∙ ap not (none_before _ _ _ c.requires.apart c.loop-numbers-test.true c.numbers-item.is p member)
 
 pub invariant_of-push : goal.invariant_of-push
 invariant_of-push g c =
-    let nothing : put_by (hand_of c.give-own.result) ≡ [] = ap put_by c.give-own.ensures.putter in (
-      c.give-own.ensures.lane.1,
-      c.give-own.ensures.putter ∙ ap (putter c.numbers-item.result) (sym nothing),
-      c.joined-origins.ensures.within,
-      subst (λ messages. AreCounts g.M.Origin.origin (replicate 16 0) (flat_map g.M.Origin.items messages)) (sym nothing) (counts_of_none g.M.Origin.origin),
+    let given = c.give-own.ensures.putter in (
+      rw (c.in_ok-try_clone.ensures) c.give-own.ensures.lane.1,
+      given ∙ ap (λ v. putter c.numbers-item.result (put_by v)) (sym given),
+      within_read _ _ _ c.requires.within c.loop-numbers-test.true c.numbers-item.is,
+      counts_of_none g.M.Origin.origin _ (ap (λ v. flat_map g.M.Origin.items (put_by v)) given),
     )
 
 pub loop-numbers-preserved : goal.loop-numbers-preserved
 loop-numbers-preserved g c =
+    let old = c.loop-numbers.invariant in
+    let numbers = c.numbers-item.result in
     let k = c.loop-numbers.numbers-index in
     let owners = c.args.owners.now in
-    let numbers = c.numbers-item.result in
-    let old = c.loop-numbers.invariant in
-    let inside : k < length owners = c.loop-numbers-test.true in
-    let seat : IsSeatAt (sends_on c.in_ok-sender.sender) c.give-own.new.pass = subst (λ channel. IsSeatAt channel c.give-own.new.pass) c.in_ok-sender-2.ensures c.give-own.ensures.lane.0 in
-    let own : IsSeatAt (sends_on c.in_ok-sender.sender) c.give-own.result = subst (λ channel. IsSeatAt channel c.give-own.result) c.in_ok-sender-2.ensures c.give-own.ensures.lane.1 in
-    let rest = ap unowned_by c.give-own.ensures.taker in
-    let same_lane : lane_of c.loop-numbers.pass ≡ lane_of c.give-own.new.pass = λ i. ((old.seat.0 ∙ sym seat.0) i, (old.seat.1 ∙ sym seat.1) i) in
-    let own_lane : lane_of c.give-own.result ≡ lane_of c.give-own.new.pass = λ i. ((own.0 ∙ sym seat.0) i, (own.1 ∙ sym seat.1) i) in
-    let putter : PutEnd g.row.M.Denot g.row.M-Item.Denot = record { lane = lane_of c.give-own.result; members = numbers; put = flat_map g.M.Origin.items (put_by (hand_of c.give-own.result)) } in
-    let element : putter ≡ new_putter (lane_of c.give-own.new.pass) numbers = λ i. record { lane = own_lane i; members = numbers; put = flat_map g.M.Origin.items (put_by (c.give-own.ensures.putter i)) } in
+    let (seat, own) = c.give-own.ensures.lane in
+    let left = c.give-own.ensures.taker in
+    let given = c.give-own.ensures.putter in
+    let more : take (k + 1) owners ≡ take k owners ++ numbers ∷ [] = grind (arith, common_steps) in
+    let new : List Numbers → List (PutEnd g.row.M.Denot g.row.M-Item.Denot) = map (new_putter (lane_of c.give-own.new.pass)) in
     record {
       seat = seat;
-      knows = c.give-own.ensures.taker ∙ ap (λ left. taker left []) (sym rest);
+      knows = left ∙ ap (λ v. taker (unowned_by v) []) (sym left);
       rest = λ p below.
-          ap (λ left. set.contains left p) rest
-          ∙ rest_more c.loop-numbers.origins (unowned_by (hand_of c.loop-numbers.pass)) numbers old.rest p below
-          ∙ ap (λ all. not (set.contains all p)) (sym c.joined-origins.ensures.value);
-      among = λ p. ap (λ (s : Numbers). set.contains s p) c.joined-origins.ensures.value ∙ owned_more owners k p numbers c.loop-numbers.origins numbers inside c.numbers-item.is (old.among p);
+          ap (λ v. set.contains (unowned_by v) p) left
+          ∙ set.contains-difference nat_cmp_total _ numbers p
+          ∙ rest_of _ _ (set.contains numbers p) (old.rest p below)
+          ∙ ap not (sym (list_any_more (λ (s : Numbers). set.contains s p) owners k numbers c.loop-numbers-test.true ∙ (λ i. any_has p (take k owners) || set.contains (sym c.numbers-item.is i) p)));
       made =
           c.in_ok-push.ensures.items
-          ∙ (λ i. (old.made ∙ ap (λ name. map (new_putter name) (take k owners)) same_lane) i ++ element i ∷ [])
-          ∙ sym (map-append (new_putter (lane_of c.give-own.new.pass)) (take k owners) (numbers ∷ []))
-          ∙ ap (map (new_putter (lane_of c.give-own.new.pass))) (ap (λ (s : Numbers). take k owners ++ s ∷ []) c.numbers-item.is ∙ sym (take_more owners k numbers inside));
+          ∙ (λ i. (old.made ∙ (λ j. map (new_putter ((old.seat.0 ∙ sym seat.0) j, (old.seat.1 ∙ sym seat.1) j)) (take k owners))) i
+          ++ record { lane = ((own.0 ∙ sym seat.0) i, (own.1 ∙ sym seat.1) i); members = numbers; put = flat_map g.M.Origin.items (put_by (given i)) } ∷ [])
+          ∙ sym (ap new more ∙ map-append _ (take k owners) (numbers ∷ []));
     }
+
+pub invariant_of-taker : goal.invariant_of-taker
+invariant_of-taker g c =
+    let old = c.loop-numbers.invariant in (
+      subst (λ channel. IsSeatAt channel c.loop-numbers.pass) (sym c.in_ok-sender.ensures.0) old.seat,
+      old.knows ∙ ap (λ v. taker (unowned_by (hand_of c.loop-numbers.pass)) v.taken) (sym old.knows),
+      λ p below. old.rest p below ∙ ap not (ap (any_has p) (take_all _ _ c.loop-numbers-test.false) ∙ sym (c.requires.all p)),
+      counts_of_none g.M.Origin.origin _ (ap (λ v. flat_map g.M.Origin.items v.taken) old.knows),
+    )

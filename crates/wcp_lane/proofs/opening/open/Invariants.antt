@@ -1,9 +1,10 @@
-use Rattle.std.proofs.Common.{◌≡◌, ℕ, [], map, take}
+use Rattle.std.proofs.Common.{◌≡◌, ℕ, ◌<◌, not, [], map, take}
 use Rattle.std.specs.List.{list_any}
 use Rattle.std.specs.FinSet as set
 use Rattle.crossbeam_channel.specs.Ends.{sends_on}
 use Rattle.crossbeam_channel.specs.Claims.{IsSeatAt}
-use Rattle.wcp_lane.specs.Passes.{Numbers, IsRest, taker}
+use Rattle.wcp_clock.specs.Limits.{most_processes}
+use Rattle.wcp_lane.specs.Passes.{Numbers, taker}
 use Rattle.wcp_lane.specs.Ends.{lane_of, hand_of, unowned_by, new_putter}
 use Rattle.wcp_lane.proofs.opening.open.Given as goal
 
@@ -14,7 +15,7 @@ abbrev pub invariant-loop-numbers : goal.invariant-loop-numbers
 invariant-loop-numbers g l = record {
   seat : IsSeatAt (sends_on l.sender) l.pass;
   knows : hand_of l.pass ≡ taker (unowned_by (hand_of l.pass)) [];
-  rest : IsRest l.origins (unowned_by (hand_of l.pass));
-  among : (p : ℕ) → set.contains l.origins p ≡ list_any (λ (s : Numbers). set.contains s p) (take l.numbers-index l.owners);
+  rest : (p : ℕ) → p < most_processes
+      → set.contains (unowned_by (hand_of l.pass)) p ≡ not (list_any (λ (s : Numbers). set.contains s p) (take l.numbers-index l.owners));
   made : l.putters.items ≡ map (new_putter (lane_of l.pass)) (take l.numbers-index l.owners);
 }
