@@ -29,28 +29,6 @@ enum Job {
     Relay(Relay),
 }
 
-fn flush_waiting(rt: &impl Wait, probe: &mut LiveProbe) {
-    for _ in rt.forever() {
-        if probe.flush() {
-            return;
-        }
-        thread::yield_now();
-    }
-    unreachable!()
-}
-
-fn close_waiting(rt: &impl Wait, probe: LiveProbe) {
-    let mut open = probe;
-    for _ in rt.forever() {
-        match open.close() {
-            Ok(_) => return,
-            Err((_, back)) => open = back,
-        }
-        thread::yield_now();
-    }
-    unreachable!()
-}
-
 /// Waits, makes the snapshots and closes.
 fn do_work<R: Wait + Clock>(rt: &R, probe: LiveProbe, work: Work) {
     let mut probe = probe;
@@ -60,10 +38,10 @@ fn do_work<R: Wait + Clock>(rt: &R, probe: LiveProbe, work: Work) {
     let to = if probe.id() == 0 { 1 } else { 0 };
     for _ in 0..work.snapshots {
         probe.observe(true);
-        flush_waiting(rt, &mut probe);
+        probe.flush_waiting(rt);
         let _ = probe.stamp(to, ());
     }
-    close_waiting(rt, probe);
+    drop(probe.close_waiting(rt));
 }
 
 /// Takes until the lane is cut or so many close marks came.

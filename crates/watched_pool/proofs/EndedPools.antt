@@ -1,20 +1,20 @@
 -- The ends of a pool come from its watch, and what a settled report of them is about.
 use Rattle.std.proofs.Common.{◌≡◌, ℕ, zero, suc, ◌<◌, Option, Some, Result, Ok, Err, OnOk, List, [], ◌∷◌, ◌++◌, length, map, slice_get, get_or, All, sym, ap, subst, ◌∙◌, arith}
 use Rattle.std.proofs.lemmas.List.{length-map, length-replicate}
-use Rattle.std.proofs.lemmas.Option.{slice_get-get_or, slice_get_within, get_or_from_slice_get}
+use Rattle.std.proofs.lemmas.Option.{slice_get-get_or, slice_get_within}
 use Rattle.wcp_model.specs.declared.outcome.Tally.{Tally}
 use Rattle.wcp_model.specs.declared.plan.Plan.{Plan}
 use Rattle.wcp_model.specs.ProbeLog.{Call, Closed, setup, state_of_log}
 use Rattle.wcp_model.specs.Report.{ClocksRise, IsDrained, IsReportByClocks, notes_taken}
+use Rattle.wcp_model.proofs.CheckedPlans.{some_process}
 use Rattle.wcp_model.proofs.SamePlace.{element_within}
 use Rattle.wcp_probe.specs.Core.{Core, setup_of}
-use Rattle.wcp_tree.specs.LiveProbe.{LiveSide, ClosedSide}
+use Rattle.wcp_tree.specs.LiveProbe.{ClosedSide, HasEmitted, IsEndOfProbe, LiveSide}
 use Rattle.wcp_tree.specs.Watches.{IsWired}
 use Rattle.wcp_tree.specs.declared.checker_inbox.CheckerInbox.{CheckerInbox}
 use Rattle.wcp_tree.specs.declared.relay.Relay.{Relay}
 use Rattle.wcp_tree.specs.declared.relay_end.RelayEnd.{RelayEnd}
-use Rattle.wcp_tree.proofs.Entries.{mapped_entry}
-use Rattle.wcp_worker.specs.Probes as live
+use Rattle.wcp_tree.proofs.Entries.{All-at, mapped_at}
 use Rattle.wcp_worker.proofs.FreshProbes.{probes_fresh}
 use Rattle.wcp_run.specs.declared.running.Ends.{Ends}
 use Rattle.wcp_run.specs.declared.settled.Settled.{Settled}
@@ -28,18 +28,13 @@ use Rattle.watched_pool.specs.declared.member.MemberEnd.{MemberEnd}
 use Rattle.watched_pool.specs.declared.member.Share.{Share}
 use Rattle.watched_pool.specs.declared.member.Stop.{Stop}
 use Rattle.watched_pool.specs.Logs.{IsReplicaLog, IsDispatcherLog}
-use Rattle.watched_pool.specs.Members.{HasEmitted, IsEndOfMember, IsReplica, probe_of}
+use Rattle.watched_pool.specs.Members.{IsEndOfMember, IsReplica, probe_of}
 use Rattle.watched_pool.specs.Pools.{AreEndsOfPool, IsAllTaken, IsPoolReport}
-use Rattle.watched_pool.proofs.OpenedPools.{some_process}
 
 -- what is left of a member is the end of its probe
-closed_probe : (one : Member) (end : MemberEnd) → IsEndOfMember one end → live.IsEndOfProbe (probe_of one) end.probe
+closed_probe : (one : Member) (end : MemberEnd) → IsEndOfMember one end → IsEndOfProbe (probe_of one) end.probe
 closed_probe (member.Dispatcher dispatcher) end is = is.closed
 closed_probe (member.Replica replica) end is = is.closed
-
--- what holds of all holds of the one at a place
-All-at : {X : Type 0} (P : X → Type 0) (xs : List X) (k : ℕ) (x : X) → All P xs → slice_get xs k ≡ Some x → P x
-All-at P xs k x all at = subst P (get_or_from_slice_get xs k x x at) (all k x (slice_get_within xs k x at))
 
 -- what holds on Ok holds of an answer that is Ok
 of_ok : (done : Result Share Stop) (share : Share) (P : Type 0) → done ≡ Ok share → OnOk done P → P
@@ -47,18 +42,14 @@ of_ok (Ok other) share P is holds = holds
 of_ok (Err stop) share P is holds = absurd (cc)
 
 -- the part that a replica did, and that the dispatcher did
-part_of_replica : (one : Member) (end : MemberEnd) → IsReplica one → IsEndOfMember one end → (share : Share) → end.done ≡ Ok share → (log : List Call) × IsReplicaLog log × HasEmitted (probe_of one) log end
+part_of_replica : (one : Member) (end : MemberEnd) → IsReplica one → IsEndOfMember one end → (share : Share) → end.done ≡ Ok share → (log : List Call) × IsReplicaLog log × HasEmitted (probe_of one) log end.probe
 part_of_replica (member.Replica replica) end kind is share done = of_ok end.done share _ done is.part
 part_of_replica (member.Dispatcher dispatcher) end kind is share done = absurd kind
 
 part_of_dispatcher : (one : Member) (end : MemberEnd) (dispatcher : Dispatcher) → one ≡ member.Dispatcher dispatcher → IsEndOfMember one end → (share : Share) → end.done ≡ Ok share
-    → (log : List Call) × IsDispatcherLog 0 log × HasEmitted (probe_of one) log end
+    → (log : List Call) × IsDispatcherLog 0 log × HasEmitted (probe_of one) log end.probe
 part_of_dispatcher (member.Dispatcher dispatcher) end same kind is share done = of_ok end.done share _ done is.part
 part_of_dispatcher (member.Replica replica) end same kind is share done = absurd (cc)
-
--- an entry of a list that was mapped
-pub mapped_at : {X Y : Type 0} (f : X → Y) (xs : List X) (k : ℕ) (x : X) → slice_get xs k ≡ Some x → slice_get (map f xs) k ≡ Some (f x)
-mapped_at f xs k x at = mapped_entry f xs k x (slice_get_within xs k x at) ∙ ap (λ y. Some (f y)) (get_or_from_slice_get xs k x x at)
 
 module _ (plan : Plan) (ends : Ends MemberEnd) (pool : AreEndsOfPool plan ends) where
   -- each relay's end is of the relay at its place
@@ -158,7 +149,7 @@ module _ (plan : Plan) (ends : Ends MemberEnd) (pool : AreEndsOfPool plan ends) 
         (share, cc)
 
     -- what was taken of a process is what its probe emitted
-    taken_at : (k : ℕ) (end : MemberEnd) → slice_get ends.workers.items k ≡ Some end → (has : HasEnd k end) → (log : List Call) → HasEmitted (probe_of has.one) log end
+    taken_at : (k : ℕ) (end : MemberEnd) → slice_get ends.workers.items k ≡ Some end → (has : HasEnd k end) → (log : List Call) → HasEmitted (probe_of has.one) log end.probe
         → IsAllTaken plan.n ends.checker.receipt.taken k log
     taken_at k end at has log emitted =
         let in_probes : slice_get probes k ≡ Some end.probe = ap (λ (ps : List ClosedSide). slice_get ps k) (sym apart) ∙ mapped_at (λ (e : MemberEnd). e.probe) ends.workers.items k end at in

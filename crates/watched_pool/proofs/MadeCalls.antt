@@ -1,8 +1,7 @@
 -- Calls that follow one another.
-use Rattle.std.proofs.Common.{List, [], ◌∷◌, ◌++◌, ◌∙◌, subst, append_assoc}
+use Rattle.std.proofs.Common.{List, [], ◌∷◌, ◌++◌, subst, append_assoc}
 use Rattle.wcp_model.specs.ProbeLog.{Call}
 use Rattle.wcp_tree.specs.LiveProbe.{LiveSide, LiveFor, LiveAccepts}
-use Rattle.wcp_worker.specs.Probes.{IsSameLive}
 
 -- a call, then another, and then what makes none
 pub two_calls : (start one two last : LiveSide) (first second : Call) → LiveAccepts start first one → LiveAccepts one second two
@@ -15,14 +14,3 @@ pub third_call : (start two three : LiveSide) (first second third : Call) → ((
     → LiveAccepts two third three → (log : List Call) → LiveFor start log → LiveFor three (log ++ first ∷ second ∷ third ∷ [])
 third_call start two three first second third is then log stands =
     subst (LiveFor three) (append_assoc log (first ∷ second ∷ []) (third ∷ [])) (then _ (is log stands))
-
--- a probe that stays the same, twice
-pub same_live : (start middle last : LiveSide) → IsSameLive start middle → IsSameLive middle last → IsSameLive start last
-same_live start middle last first then = (
-  record {
-    watch = then.0.watch ∙ first.0.watch;
-    limit = then.0.limit ∙ first.0.limit;
-    made = then.0.made ∙ first.0.made;
-  },
-  then.1 ∙ first.1,
-)

@@ -1,9 +1,8 @@
 -- The members of a pool before they run, and what they leave.
-use Rattle.std.specs.Prelude.{◌≡◌, ◌≤◌, List, [], ◌∷◌, ◌++◌, length, All, OnOk}
+use Rattle.std.specs.Prelude.{◌≡◌, ◌≤◌, List, [], ◌∷◌, length, All, OnOk}
 use Rattle.wcp_clock.specs.Limits.{most_processes}
-use Rattle.wcp_model.specs.ProbeLog.{Call, Closed}
-use Rattle.wcp_tree.specs.LiveProbe.{LiveSide, LiveFor, emissions_of}
-use Rattle.wcp_worker.specs.Probes.{IsEndOfProbe}
+use Rattle.wcp_model.specs.ProbeLog.{Call}
+use Rattle.wcp_tree.specs.LiveProbe.{HasEmitted, IsEndOfProbe, LiveFor, LiveSide}
 use Rattle.watched_pool.specs.Logs.{IsReplicaLog, IsDispatcherLog}
 use Rattle.watched_pool.specs.declared.dispatcher.Dispatcher.{Dispatcher}
 use Rattle.watched_pool.specs.declared.member.Member.{Member}
@@ -21,19 +20,15 @@ abbrev pub IsNew : Member → Type 0
 IsNew (member.Dispatcher dispatcher) = IsNewDispatcher dispatcher
 IsNew (member.Replica replica) = LiveFor replica.probe []
 
--- What the probe of a process emitted that made these calls and then closed.
-abbrev pub HasEmitted : LiveSide → List Call → MemberEnd → Type 0
-HasEmitted probe log end = end.probe.link.put ≡ emissions_of probe.core (log ++ Closed ∷ [])
-
 -- What is left of a replica is the end of its probe; where it did its part, the probe emitted what a replica's does.
 pub record IsEndOfReplica (probe : LiveSide) (end : MemberEnd) : Type 0 where
   pub closed : IsEndOfProbe probe end.probe
-  pub part : OnOk end.done ((log : List Call) × IsReplicaLog log × HasEmitted probe log end)
+  pub part : OnOk end.done ((log : List Call) × IsReplicaLog log × HasEmitted probe log end.probe)
 
 -- What is left of a dispatcher; where it did its part, no job was left unanswered.
 pub record IsEndOfDispatcher (probe : LiveSide) (end : MemberEnd) : Type 0 where
   pub closed : IsEndOfProbe probe end.probe
-  pub part : OnOk end.done ((log : List Call) × IsDispatcherLog 0 log × HasEmitted probe log end)
+  pub part : OnOk end.done ((log : List Call) × IsDispatcherLog 0 log × HasEmitted probe log end.probe)
 
 abbrev pub IsEndOfMember : Member → MemberEnd → Type 0
 IsEndOfMember (member.Dispatcher dispatcher) end = IsEndOfDispatcher dispatcher.desk.probe end

@@ -1,10 +1,9 @@
 ghost use Rattle.std.specs.Prelude.{◌≡◌, ◌+◌, ◌<◌, ◌≤◌, length, OnOk};
 ghost use Rattle.wcp_clock.specs.Limits.{most_processes};
-ghost use Rattle.wcp_worker.specs.Probes.{IsSameLive};
+ghost use Rattle.wcp_tree.specs.LiveProbe.{IsSameLive};
 
 use crate::job::{Answer, Job};
 use crate::member::{MemberEnd, Share, Stop};
-use crate::ring_room::{close, flush};
 use crossbeam_channel::{Receiver, Sender};
 use std::sync::Wait;
 use wcp_probe::Stamped;
@@ -73,7 +72,7 @@ impl Desk {
         };
         self.unanswered += 1;
         self.probe.observe(true);
-        flush(rt, &mut self.probe);
+        self.probe.flush_waiting(rt);
         match partner.jobs.send(rt, stamped) {
             Ok(()) => Ok(()),
             Err(_) => Err(Stop::Gone),
@@ -97,7 +96,7 @@ impl Desk {
         };
         self.unanswered -= 1;
         self.probe.observe(self.unanswered > 0);
-        flush(rt, &mut self.probe);
+        self.probe.flush_waiting(rt);
         self.answered = self.answered.with(answer);
         Ok(())
     }
@@ -219,7 +218,7 @@ impl Dispatcher {
             answered,
         } = desk;
         MemberEnd {
-            probe: close(rt, probe),
+            probe: probe.close_waiting(rt),
             done: match done {
                 Ok(()) => Ok(answered),
                 Err(stop) => Err(stop),

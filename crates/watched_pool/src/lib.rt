@@ -10,7 +10,6 @@ mod pool_fault;
 mod pool_text;
 mod program;
 mod replica;
-mod ring_room;
 
 pub use dispatcher::{Desk, Dispatcher, Pace, Partner};
 pub use job::{Answer, Job, Numbers};

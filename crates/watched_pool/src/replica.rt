@@ -1,13 +1,11 @@
 ghost use Rattle.std.specs.Prelude.{◌≡◌, ◌++◌, ◌∷◌, [], OnOk, IfOk, List};
 ghost use Rattle.wcp_model.specs.ProbeLog.{Call};
-ghost use Rattle.wcp_tree.specs.LiveProbe.{LiveFor};
-ghost use Rattle.wcp_worker.specs.Probes.{IsSameLive};
+ghost use Rattle.wcp_tree.specs.LiveProbe.{IsSameLive, LiveFor};
 ghost use Rattle.watched_pool.specs.Logs.{AnswersJob, IsAnswering};
 ghost use Rattle.watched_pool.specs.Members.{IsEndOfReplica};
 
 use crate::job::{Answer, Job, Numbers};
 use crate::member::{MemberEnd, Share, Stop};
-use crate::ring_room::{close, flush};
 use crossbeam_channel::{Receiver, Sender};
 use std::sync::Wait;
 use wcp_probe::Stamped;
@@ -39,7 +37,7 @@ impl Replica {
         drop(jobs);
         drop(answers);
         MemberEnd {
-            probe: close(rt, probe),
+            probe: probe.close_waiting(rt),
             done,
         }
     }
@@ -81,7 +79,7 @@ fn answer_one<R: Wait>(
         Err((refusal, _)) => return Err(Stop::Refused(refusal)),
     };
     probe.observe(true);
-    flush(rt, probe);
+    probe.flush_waiting(rt);
     let answer = numbers.answer(job);
     match probe.stamp(DISPATCHER, answer) {
         Ok(stamped) => match answers.send(rt, stamped) {

@@ -1,7 +1,8 @@
 -- The entries of a list.
-use Rattle.std.proofs.Common.{◌≡◌, ◌≢◌, ℕ, zero, suc, ◌<◌, List, [], ◌∷◌, ◌++◌, length, map, get_or, Option, Some, refl, ap, arith}
+use Rattle.std.proofs.Common.{◌≡◌, ◌≢◌, ℕ, zero, suc, ◌<◌, List, [], ◌∷◌, ◌++◌, length, map, get_or, All, Option, Some, refl, ap, ◌∙◌, subst, arith}
 use Rattle.std.specs.Prelude.{slice_get, slice_set}
-use Rattle.std.proofs.lemmas.Option.{get_or_from_slice_get}
+use Rattle.std.specs.Option.{option_map}
+use Rattle.std.proofs.lemmas.Option.{get_or_from_slice_get, slice_get-map, slice_get_within}
 
 module _ {X : Type 0} where
   -- what was written is there
@@ -29,11 +30,12 @@ module _ {X : Type 0} where
   earlier_entry (x ∷ xs) ys (suc i) within = earlier_entry xs ys i (omega arith)
 
 -- an entry of a mapped list
-pub mapped_entry : {X Y : Type 0} (f : X → Y) (xs : List X) (k : ℕ) (d : X) → k < length xs
-    → slice_get (map f xs) k ≡ Some (f (get_or xs k d))
-mapped_entry f [] k d within = absurd (omega arith)
-mapped_entry f (x ∷ xs) zero d within = refl
-mapped_entry f (x ∷ xs) (suc k) d within = mapped_entry f xs k d (omega arith)
+pub mapped_at : {X Y : Type 0} (f : X → Y) (xs : List X) (k : ℕ) (x : X) → slice_get xs k ≡ Some x → slice_get (map f xs) k ≡ Some (f x)
+mapped_at f xs k x at = slice_get-map f xs k ∙ ap (option_map f) at
+
+-- what holds of all holds of the one at a place
+pub All-at : {X : Type 0} (P : X → Type 0) (xs : List X) (k : ℕ) (x : X) → All P xs → slice_get xs k ≡ Some x → P x
+All-at P xs k x all at = subst P (get_or_from_slice_get xs k x x at) (all k x (slice_get_within xs k x at))
 
 -- what an entry was, where its value is taken out
 pub taken_out : {X : Type 0} (xs : List (Option X)) (k : ℕ) (x : X) → slice_get xs k ≡ Some (Some x)

@@ -5,6 +5,7 @@ pub mod InnerWork
 pub mod LeafWork
 pub mod Linking
 pub mod Lists
+pub mod LiveProbes
 pub mod Ordering
 pub mod Climbs
 pub mod Entries

@@ -19,7 +19,7 @@ use Rattle.wcp_lane.specs.Passes.{Numbers}
 use Rattle.wcp_tree.specs.declared.bundle.Bundle.{Bundle}
 use Rattle.wcp_tree.specs.Members.{IsBelow}
 use Rattle.wcp_tree.specs.Wiring.{IsShareOf, AreShares, AreBelowChildren, IsSeatOf}
-use Rattle.wcp_tree.proofs.Entries.{mapped_entry}
+use Rattle.wcp_tree.proofs.Entries.{mapped_at}
 use Rattle.wcp_tree.proofs.Climbs.{siblings_apart}
 
 -- two owners are one, or they aren't
@@ -74,7 +74,7 @@ module _ (plan : Plan) (owner : Parent) where
         let inside = slice_get_within plan.parents.items relay owner child in omega (arith, count) in (
           new_putter lane (get_or sets relay set.empty),
           ap (λ (xs : List (PutEnd Bundle Item)). slice_get xs relay) are
-              ∙ mapped_entry (new_putter lane) sets relay set.empty within,
+              ∙ mapped_at (new_putter lane) sets relay _ (slice_get-get_or sets relay set.empty within),
           record { on = refl; members = (each relay set.empty within).child child; empty = refl },
         )
 

@@ -3,8 +3,8 @@ use Rattle.std.specs.Prelude.{◌≡◌, ℕ, false, not, Option, Some, None}
 use Rattle.std.specs.Prelude.{List, [], ◌∷◌, ◌++◌, count_by, replicate}
 use Rattle.wcp_clock.specs.Limits.{most_events}
 use Rattle.wcp_clock.specs.declared.note.Note.{Note}
-use Rattle.wcp_model.specs.ProbeLog.{Call, state_of_log}
-use Rattle.wcp_probe.specs.Core.{Core, StandsForLog, setup_of}
+use Rattle.wcp_model.specs.ProbeLog.{Call, Closed, state_of_log}
+use Rattle.wcp_probe.specs.Core.{Core, StandsForLog, IsSameProbe, setup_of}
 use Rattle.wcp_ring.specs.Ends.{PutSide, EndedSide}
 use Rattle.wcp_clock.specs.Notes.{is_close}
 
@@ -58,3 +58,17 @@ pub record LiveFor (probe : LiveSide) (log : List Call) : Type 0 where
 -- at its end.
 abbrev pub LiveAccepts : LiveSide → Call → LiveSide → Type 0
 LiveAccepts old call new = (log : List Call) → LiveFor old log → LiveFor new (log ++ call ∷ [])
+
+-- A probe keeps its core's numbers and its ring.
+abbrev pub IsSameLive : LiveSide → LiveSide → Type 0
+IsSameLive old new = IsSameProbe old.core new.core × (new.link.ring ≡ old.link.ring)
+
+-- A closed probe is what became of a live one.
+pub record IsEndOfProbe (probe : LiveSide) (end : ClosedSide) : Type 0 where
+  pub watch : end.watch ≡ probe.core.watch
+  pub id : end.id ≡ probe.core.id
+  pub ring : end.link.ring ≡ probe.link.ring
+
+-- A closed probe has put the emissions of the calls of a log and of the close.
+abbrev pub HasEmitted : LiveSide → List Call → ClosedSide → Type 0
+HasEmitted probe log end = end.link.put ≡ emissions_of probe.core (log ++ Closed ∷ [])

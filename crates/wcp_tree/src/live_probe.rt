@@ -4,20 +4,22 @@ ghost use Rattle.std.specs.Prelude.{IsErr, MatchResult, Option, IsSome, if◌the
 ghost use Rattle.wcp_clock.specs.Limits.{most_processes};
 ghost use Rattle.wcp_clock.specs.declared.note.Note.TheVariants as note;
 ghost use Rattle.wcp_model.specs.ProbeLog.{Call, Observed, Sent, Received};
-ghost use Rattle.wcp_model.specs.ProbeLog.{Closed as closed_call};
 ghost use Rattle.wcp_probe.specs.declared.probe.Refusal.TheVariants as refusal;
 ghost use Rattle.wcp_probe.specs.Core.{IsSameProbe};
 ghost use Rattle.wcp_probe.specs.Seal.{seal_of, value_of, IsSealed};
 ghost use Rattle.wcp_probe.specs.Refusals.{stamp_refusal, receive_refusal};
-ghost use Rattle.wcp_tree.specs.LiveProbe.{LiveFor, LiveAccepts, fresh_core, emitted_by, emissions_of, snapshots_in};
+ghost use Rattle.wcp_tree.specs.LiveProbe.{LiveFor, LiveAccepts, HasEmitted, IsEndOfProbe};
+ghost use Rattle.wcp_tree.specs.LiveProbe.{fresh_core, emitted_by, snapshots_in};
 
 use std::marker::Model;
+use std::sync::Wait;
+use std::thread::yield_now;
 use wcp_clock::{CLOCK_LIMIT, Note};
 use wcp_probe::{ProbeCore, Refusal, Stamped};
 use wcp_ring::{PutterEnd, RingPutter};
 
 /// The probe of a process that runs: its core, and the end of the ring by which its notes go to its
-/// relay. None of its calls waits, and none takes memory.
+/// relay. None of its calls takes memory, and none waits but `flush_waiting` and `close_waiting`.
 ///
 /// A contract sees it as its core and its end of the ring.
 #[derive(Drop)]
@@ -165,8 +167,7 @@ impl LiveProbe {
           id = self.core.id;
           link = record { ring = self.link.ring; put = self.link.put ++ note.Close self.core.emitted ∷ [] };
         }) }
-        ensures accepted { IfOk result (λ end. (log : List Call) → LiveFor self log
-            → end.link.put ≡ emissions_of self.core (log ++ closed_call ∷ [])) }
+        ensures accepted { IfOk result (λ end. (log : List Call) → LiveFor self log → HasEmitted self log end) }
     {
         if self.core.pending().is_some() {
             return Err((Refusal::Backlog, self));
@@ -181,6 +182,42 @@ impl LiveProbe {
             }),
             Err(_) => Err((Refusal::Backlog, self)),
         }
+    }
+
+    /// Puts what is pending, and gives up its turn while the ring is full. The relay makes room as long as it runs,
+    /// also where its own lane is cut. Once it is dropped, or has ended by another fault, a full ring stays full, and
+    /// this never returns: where that may be, call `flush` instead.
+    pub fn flush_waiting<R: Wait>(&mut self, rt: &R)
+        ensures core { self.new.core ≡ record self.old.core { pending = None } }
+        ensures ring { self.new.link.ring ≡ self.old.link.ring }
+        ensures stands { (log : List Call) → LiveFor self.old log → LiveFor self.new log }
+    {
+        for _ in rt.forever() {
+            if self.flush() {
+                break;
+            }
+            yield_now();
+        }
+    }
+
+    /// Puts what is pending, and closes the probe. It gives up its turn while the ring is full, and waits for its
+    /// relay as `flush_waiting` does: where the relay may be gone, call `flush` and `close` instead.
+    pub fn close_waiting<R: Wait>(mut self, rt: &R) -> ProbeEnd
+        ensures closed { IsEndOfProbe self result }
+        ensures emitted { (log : List Call) → LiveFor self log → HasEmitted self log result }
+    {
+        self.flush_waiting(rt);
+        let mut probe = self;
+        for _ in rt.forever() {
+            match probe.close() {
+                Ok(end) => return end,
+                Err((_, same)) => {
+                    probe = same;
+                    yield_now();
+                }
+            }
+        }
+        unreachable!()
     }
 }
 

@@ -7,25 +7,15 @@ use Rattle.wcp_model.specs.TaskLog.{FollowsActions, stamp_of, stamps_sent, stamp
 use Rattle.wcp_model.specs.WorkloadComputation.{is_send_to, is_receive_from}
 use Rattle.wcp_model.proofs.TaskLogs.{FollowsActions-push, stamps_sent-push, stamps_sent-push_other, stamps_got-push, stamps_got-push_other}
 use Rattle.wcp_probe.specs.Core.{setup_of}
-use Rattle.wcp_tree.specs.LiveProbe.{LiveSide, ClosedSide, emissions_of}
+use Rattle.wcp_tree.specs.LiveProbe.{ClosedSide, HasEmitted, IsEndOfProbe, IsSameLive}
+use Rattle.wcp_tree.proofs.LiveProbes.{same_live}
 use Rattle.wcp_worker.specs.declared.mailbox.Mailbox.{Mailbox}
 use Rattle.wcp_worker.specs.declared.player.Player.{Player}
 use Rattle.wcp_worker.specs.declared.worker.Worker.{Worker}
 use Rattle.wcp_worker.specs.Lanes.{IfBoth, HasTakenMore, IsSameOutbox, IsSameInbox}
 use Rattle.wcp_worker.specs.Mailboxes.{HasSameLanes, outbox_to, inbox_from, clocks_sent_to, clocks_taken_from}
-use Rattle.wcp_worker.specs.Probes.{IsSameLive, IsEndOfProbe}
 use Rattle.wcp_worker.specs.Played.{DoesAction, HasDoneActions, HasPlayed}
 use Rattle.wcp_worker.proofs.TakenMore.{both_then, entry_same, entry_front}
-
-same_live : (a b c : LiveSide) → IsSameLive a b → IsSameLive b c → IsSameLive a c
-same_live a b c first then = (
-  record {
-    watch = then.0.watch ∙ first.0.watch;
-    limit = then.0.limit ∙ first.0.limit;
-    made = then.0.made ∙ first.0.made;
-  },
-  then.1 ∙ first.1,
-)
 
 same_lanes : (a b c : Mailbox) → HasSameLanes a b → HasSameLanes b c → HasSameLanes a c
 same_lanes a b c first then =
@@ -78,7 +68,7 @@ done_more start old new actions log act call done by same =
 -- a player that has done all its worker's actions, and then closed its probe and taken more, has played them
 pub all_played : (worker : Worker) (now : Player) (log : List Call) (probe : ClosedSide) (mailbox : Mailbox)
     → HasDoneActions (record { probe = worker.probe; mailbox = worker.mailbox }) worker.actions.items log now
-    → IsEndOfProbe now.probe probe → probe.link.put ≡ emissions_of now.probe.core (log ++ Closed ∷ [])
+    → IsEndOfProbe now.probe probe → HasEmitted now.probe log probe
     → mailbox.outboxes ≡ now.mailbox.outboxes
     → ((q : ℕ) → IfBoth (HasTakenMore q) (inbox_from now.mailbox q) (inbox_from mailbox q))
     → HasPlayed worker log probe mailbox

@@ -1,15 +1,16 @@
 -- The workers of a workload, once all their lanes are opened.
-use Rattle.std.proofs.Common.{◌≡◌, ◌⊎◌, ℕ, ◌<◌, ◌≤◌, Option, Some, None, List, [], ◌++◌, length, map, filter, get_or, replicate, All, refl, sym, ap, ◌∙◌, subst, ⊎_elim, arith}
+use Rattle.std.proofs.Common.{◌≡◌, ◌⊎◌, ℕ, ◌<◌, ◌≤◌, Option, Some, None, List, [], ◌++◌, length, map, filter, get_or, All, refl, sym, ap, ◌∙◌, subst, ⊎_elim, arith}
 use Rattle.std.specs.Prelude.{IfSome, slice_get, count_by}
-use Rattle.std.proofs.lemmas.List.{get_or_past, length-map, length-replicate}
+use Rattle.std.proofs.lemmas.List.{get_or_past, length-map}
 use Rattle.std.proofs.lemmas.List.Sums.{length-filter, count_by-le-length}
-use Rattle.std.proofs.lemmas.Option.{get_or_from_slice_get, slice_get_within}
+use Rattle.std.proofs.lemmas.Option.{get_or_from_slice_get, slice_get-get_or, slice_get_within}
 use Rattle.wcp_model.specs.declared.workload.Task.{Task}
 use Rattle.wcp_model.specs.TaskLog.{actions_of}
 use Rattle.wcp_model.specs.WorkloadComputation.{is_task_of, is_send_to}
-use Rattle.wcp_probe.specs.Core.{Core, StandsForLog}
-use Rattle.wcp_tree.specs.LiveProbe.{LiveSide, LiveFor, fresh_core, pending_notes}
-use Rattle.wcp_tree.proofs.Entries.{mapped_entry}
+use Rattle.wcp_probe.specs.Core.{Core}
+use Rattle.wcp_tree.specs.LiveProbe.{LiveSide, LiveFor}
+use Rattle.wcp_tree.proofs.LiveProbes.{fresh_stands}
+use Rattle.wcp_tree.proofs.Entries.{mapped_at}
 use Rattle.wcp_worker.specs.declared.lanes.Outbox.{Outbox}
 use Rattle.wcp_worker.specs.declared.lanes.Inbox.{Inbox}
 use Rattle.wcp_worker.specs.declared.player.Player.{Player}
@@ -37,16 +38,6 @@ new_inbox : (p count : ℕ) (o : Option Outbox) (i : Option Inbox) → IsLaneFor
 new_inbox p count (Some o) (Some i) lane = (lane.1.takes, lane.1.none_taken)
 new_inbox p count None (Some i) lane = absurd lane.1
 new_inbox p count o None lane = tt
-
--- before any call, a probe stands for no calls
-fresh_stands : (watch p n : ℕ) (probe : LiveSide) → probe.core ≡ fresh_core watch p n → probe.link.put ≡ [] → LiveFor probe []
-fresh_stands watch p n probe fresh empty =
-    let stands : StandsForLog (fresh_core watch p n) [] =
-    record { clock = ap (λ k. replicate k 0) (sym (length-replicate n 0)); flag = refl; closed = refl; emitted = refl; pending = tt } in
-    record {
-      core = subst (λ (core : Core). StandsForLog core []) (sym fresh) stands;
-      emissions = λ i. empty i ++ pending_notes (fresh i).pending;
-    }
 
 -- a player with a fresh probe and new lanes has done nothing
 module _
@@ -132,7 +123,7 @@ module _
             let is : get_or opened p worker ≡ worker = get_or_from_slice_get opened p worker worker at in
             let probe = ap (λ (w : Worker). w.probe) (sym is) ∙ have.probe p worker within ∙ (tasked p worker below).probe in
             let there : slice_get probes p ≡ Some worker.probe =
-            ap (λ ps. slice_get ps p) (sym made) ∙ mapped_entry (λ (w : Worker). w.probe) idle p worker below ∙ ap (λ s. Some s) (sym probe) in
+            ap (λ ps. slice_get ps p) (sym made) ∙ mapped_at (λ (w : Worker). w.probe) idle p _ (slice_get-get_or idle p worker below) ∙ ap (λ s. Some s) (sym probe) in
             let new = fresh.each p worker.probe there in
             record {
               probe = there;

@@ -1,7 +1,6 @@
 pub mod Lanes
 pub mod Mailboxes
 pub mod Played
-pub mod Probes
 pub mod Workers
 pub mod Opening
 pub mod Runs

@@ -2,17 +2,16 @@
 use Rattle.std.specs.Prelude.{◌≡◌, ℕ, IfSome, IsSome, List, [], ◌∷◌, ◌++◌, if◌then◌else◌}
 use mathlib.Core.List.{IsPrefix}
 use Rattle.wcp_model.specs.declared.workload.Action.{Action}
-use Rattle.wcp_model.specs.ProbeLog.{Call, Closed}
+use Rattle.wcp_model.specs.ProbeLog.{Call}
 use Rattle.wcp_model.specs.TaskLog.{IsCallFor, FollowsActions, stamp_of, stamps_sent, stamps_got}
 use Rattle.wcp_model.specs.WorkloadComputation.{is_send_to, is_receive_from}
 use Rattle.wcp_probe.specs.Core.{setup_of}
-use Rattle.wcp_tree.specs.LiveProbe.{ClosedSide, LiveFor, LiveAccepts, emissions_of}
+use Rattle.wcp_tree.specs.LiveProbe.{ClosedSide, HasEmitted, IsEndOfProbe, IsSameLive, LiveFor, LiveAccepts}
 use Rattle.wcp_worker.specs.declared.mailbox.Mailbox.{Mailbox}
 use Rattle.wcp_worker.specs.declared.player.Player.{Player}
 use Rattle.wcp_worker.specs.declared.worker.Worker.{Worker}
 use Rattle.wcp_worker.specs.declared.worker_end.WorkerEnd.{WorkerEnd}
 use Rattle.wcp_worker.specs.declared.worker_end.WorkerEnd.TheVariants.{Whole, GaveUp}
-use Rattle.wcp_worker.specs.Probes.{IsSameLive, IsEndOfProbe}
 use Rattle.wcp_worker.specs.Mailboxes.{IsMailboxOf, HasSameLanes, clocks_sent_to, clocks_taken_from}
 
 -- A player makes the call of an action: what it sends to q has the clock of its probe after the send, and what it
@@ -49,7 +48,7 @@ IsFreshPlayer player = HasDoneActions player [] [] player
 pub record HasPlayed (worker : Worker) (log : List Call) (probe : ClosedSide) (mailbox : Mailbox) : Type 0 where
   pub follows : FollowsActions worker.actions.items log
   pub closed : IsEndOfProbe worker.probe probe
-  pub emitted : probe.link.put ≡ emissions_of worker.probe.core (log ++ Closed ∷ [])
+  pub emitted : HasEmitted worker.probe log probe
   pub lanes : HasSameLanes worker.mailbox mailbox
   pub sent : (q : ℕ) → clocks_sent_to worker.probe.core.id mailbox q
       ≡ stamps_sent (setup_of worker.probe.core) q worker.actions.items log

@@ -10,7 +10,6 @@ mod message;
 mod new_lane;
 mod opening;
 mod player;
-mod ring_room;
 mod worker;
 mod worker_end;
 

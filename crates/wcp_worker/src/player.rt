@@ -2,11 +2,10 @@ ghost use Rattle.std.specs.Prelude.{List, OnOk};
 ghost use Rattle.wcp_model.specs.declared.workload.Action.TheVariants as action;
 ghost use Rattle.wcp_model.specs.ProbeLog.{Call};
 ghost use Rattle.wcp_model.specs.ProbeLog.{Observed, Sent};
-ghost use Rattle.wcp_worker.specs.Probes.{IsSameLive};
+ghost use Rattle.wcp_tree.specs.LiveProbe.{IsSameLive};
 
 use crate::gate::{Gate, may_step};
 use crate::mailbox::Mailbox;
-use crate::ring_room::flush;
 use crate::worker_end::WorkerFault;
 use std::sync::Wait;
 use wcp_model::Action;
@@ -66,7 +65,7 @@ impl Player {
         ensures same { IsSameLive self.old.probe self.new.probe }
     {
         self.probe.observe(holds);
-        flush(rt, &mut self.probe);
+        self.probe.flush_waiting(rt);
     }
 
     fn send<R: Wait>(&mut self, rt: &R, to: u32) -> Result<(), WorkerFault>

@@ -1,11 +1,9 @@
 ghost use Rattle.std.specs.Prelude.{◌≡◌, Some};
-ghost use Rattle.wcp_tree.specs.LiveProbe.{ClosedSide};
-ghost use Rattle.wcp_worker.specs.Probes.{IsEndOfProbe};
+ghost use Rattle.wcp_tree.specs.LiveProbe.{ClosedSide, IsEndOfProbe};
 
 use crate::gate::Gate;
 use crate::mailbox::Mailbox;
 use crate::player::Player;
-use crate::ring_room::close;
 use crate::worker_end::{WorkerEnd, WorkerFault};
 use std::sync::Wait;
 use wcp_model::Action;
@@ -42,7 +40,7 @@ impl Worker {
         if let Err(fault) = played {
             return give_up(rt, fault, probe, mailbox);
         }
-        let probe = close(rt, probe);
+        let probe = probe.close_waiting(rt);
         match mailbox.take_rest(rt) {
             Ok(()) => WorkerEnd::Whole { probe, mailbox },
             Err(fault) => WorkerEnd::GaveUp {
@@ -60,6 +58,6 @@ fn give_up<R: Wait>(rt: &R, fault: WorkerFault, probe: LiveProbe, mailbox: Mailb
     drop(mailbox);
     WorkerEnd::GaveUp {
         fault,
-        probe: Some(close(rt, probe)),
+        probe: Some(probe.close_waiting(rt)),
     }
 }

@@ -6,7 +6,6 @@ ghost use Rattle.wcp_tree.specs.Watches.{IsWired};
 
 use std::alloc::{AllocError, Global};
 use std::sync::{Mutex, Wait};
-use std::thread;
 use wcp_book::Book;
 use wcp_model::Plan;
 use wcp_queue::Checker;
@@ -68,32 +67,8 @@ pub fn emit_all(rt: &impl Wait, mut probe: LiveProbe, snapshots: u32) -> ProbeEn
     let to = if probe.id() == 0 { 1 } else { 0 };
     for _ in 0..snapshots {
         probe.observe(true);
-        flush_waiting(rt, &mut probe);
+        probe.flush_waiting(rt);
         let _ = probe.stamp(to, ());
     }
-    close_waiting(rt, probe)
-}
-
-/// Puts what is pending, and waits for room.
-fn flush_waiting(rt: &impl Wait, probe: &mut LiveProbe) {
-    for _ in rt.forever() {
-        if probe.flush() {
-            return;
-        }
-        thread::yield_now();
-    }
-    unreachable!()
-}
-
-/// Closes the probe, and waits for room for its close mark.
-fn close_waiting(rt: &impl Wait, probe: LiveProbe) -> ProbeEnd {
-    let mut open = probe;
-    for _ in rt.forever() {
-        match open.close() {
-            Ok(end) => return end,
-            Err((_, back)) => open = back,
-        }
-        thread::yield_now();
-    }
-    unreachable!()
+    probe.close_waiting(rt)
 }

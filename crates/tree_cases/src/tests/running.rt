@@ -1,4 +1,4 @@
-use super::threads::{Arrival, Done, close_waiting, flush_waiting, jobs_of, run_all, take_all};
+use super::threads::{Arrival, Done, jobs_of, run_all, take_all};
 use std::alloc::{AllocError, Global};
 use std::sync::Wait;
 use std::test::Fail;
@@ -28,9 +28,9 @@ fn let_one_through<R: Threads + Wait + Sync>(
 /// Puts what is pending, sends and closes; whether the send was accepted.
 fn flush_and_send(rt: &impl Wait, probe: LiveProbe) -> bool {
     let mut probe = probe;
-    flush_waiting(rt, &mut probe);
+    probe.flush_waiting(rt);
     let sent = probe.stamp(1, 7).is_ok();
-    close_waiting(rt, probe);
+    drop(probe.close_waiting(rt));
     sent
 }
 

@@ -1,12 +1,11 @@
 //! Watches whose probes and relays run in threads of their own.
 use std::alloc::{AllocError, Global};
 use std::sync::Wait;
-use std::thread;
 use std::thread::{Threads, map_vec};
 use wcp_clock::{MAX_PROCS, Note};
 use wcp_lane::Taker;
 use wcp_probe::Refusal;
-use wcp_tree::{Bundle, LiveProbe, ProbeEnd, Relay, RelayFault};
+use wcp_tree::{Bundle, LiveProbe, Relay, RelayFault};
 
 /// What runs in a thread.
 #[derive(Drop)]
@@ -26,42 +25,18 @@ pub enum Done {
     Refused(Refusal),
 }
 
-/// Puts what is pending, and waits for room.
-pub fn flush_waiting(rt: &impl Wait, probe: &mut LiveProbe) {
-    for _ in rt.forever() {
-        if probe.flush() {
-            return;
-        }
-        thread::yield_now();
-    }
-    unreachable!()
-}
-
-/// Closes the probe, and waits for room for its close mark.
-pub fn close_waiting(rt: &impl Wait, probe: LiveProbe) -> ProbeEnd {
-    let mut open = probe;
-    for _ in rt.forever() {
-        match open.close() {
-            Ok(end) => return end,
-            Err((_, back)) => open = back,
-        }
-        thread::yield_now();
-    }
-    unreachable!()
-}
-
 /// Emits so many snapshots, with a send behind each, and closes.
 fn emit_all(rt: &impl Wait, probe: LiveProbe, snapshots: u32) -> Done {
     let mut probe = probe;
     let to = if probe.id() == 0 { 1 } else { 0 };
     for _ in 0..snapshots {
         probe.observe(true);
-        flush_waiting(rt, &mut probe);
+        probe.flush_waiting(rt);
         if let Err((refusal, ())) = probe.stamp(to, ()) {
             return Done::Refused(refusal);
         }
     }
-    Done::Probe(close_waiting(rt, probe).emitted())
+    Done::Probe(probe.close_waiting(rt).emitted())
 }
 
 /// Runs each in a thread of its own; each probe emits so many snapshots.

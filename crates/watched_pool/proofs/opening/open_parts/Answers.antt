@@ -1,6 +1,6 @@
 use Rattle.std.proofs.Common.{refl}
-use Rattle.wcp_model.proofs.CheckedPlans.{few_processes}
-use Rattle.watched_pool.proofs.OpenedPools.{some_process, some_probe, few_probes, all_fresh}
+use Rattle.wcp_model.proofs.CheckedPlans.{few_processes, some_process}
+use Rattle.watched_pool.proofs.OpenedPools.{some_probe, few_probes, all_fresh}
 use Rattle.watched_pool.proofs.opening.open_parts.Goals as goal
 
 pub open_members-requires-clause-some : goal.open_members-requires-clause-some

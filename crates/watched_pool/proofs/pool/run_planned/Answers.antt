@@ -1,6 +1,5 @@
 use Rattle.std.proofs.Common.{Result, Ok, Err, IfOk, arith}
-use Rattle.wcp_model.proofs.CheckedPlans.{few_processes}
-use Rattle.watched_pool.proofs.OpenedPools.{some_process}
+use Rattle.wcp_model.proofs.CheckedPlans.{few_processes, some_process}
 use Rattle.watched_pool.proofs.pool.run_planned.Goals as goal
 
 -- what follows from what holds of an answer holds of it

@@ -1,6 +1,6 @@
 use Rattle.std.proofs.Common.{◌++◌}
 use Rattle.watched_pool.specs.Logs.{OneMore, calls_for}
-use Rattle.watched_pool.proofs.MadeCalls.{same_live}
+use Rattle.wcp_tree.proofs.LiveProbes.{same_live}
 use Rattle.watched_pool.proofs.replica.answer_all.Goals as goal
 
 pub loop-stamped-preserved : goal.loop-stamped-preserved

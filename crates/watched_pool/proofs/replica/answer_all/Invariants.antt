@@ -1,4 +1,4 @@
-use Rattle.wcp_worker.specs.Probes.{IsSameLive}
+use Rattle.wcp_tree.specs.LiveProbe.{IsSameLive}
 use Rattle.watched_pool.specs.Logs.{IsAnswering}
 use Rattle.watched_pool.proofs.replica.answer_all.Given as goal
 

@@ -9,6 +9,6 @@ returns-in-Ok-send-clause-answers g c =
     let stamp = (seal_of c.args.stamped).clock in (
       stamp,
       third_call _ _ _ (Received stamp) (Observed true) Sent
-          (two_calls _ _ _ _ (Received stamp) (Observed true) c.in-Ok.ensures.accepted c.observe.ensures.accepted c.flush.ensures.stands)
+          (two_calls _ _ _ _ (Received stamp) (Observed true) c.in-Ok.ensures.accepted c.observe.ensures.accepted c.flush_waiting.ensures.stands)
           c.in-Ok-stamp.ensures.accepted,
     )

@@ -10,5 +10,5 @@ returns-in-Ok-send-clause-at_work g c =
     record {
       log = was.log ++ Sent ∷ Observed true ∷ [];
       is_log = GaveOut was.is_log;
-      stands = two_calls _ _ _ _ Sent (Observed true) c.in-Ok.ensures.accepted c.observe.ensures.accepted c.flush.ensures.stands was.log was.stands;
+      stands = two_calls _ _ _ _ Sent (Observed true) c.in-Ok.ensures.accepted c.observe.ensures.accepted c.flush_waiting.ensures.stands was.log was.stands;
     }

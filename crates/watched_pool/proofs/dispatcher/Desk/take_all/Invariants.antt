@@ -1,5 +1,5 @@
 use Rattle.std.proofs.Common.{◌≡◌, ◌+◌, length}
-use Rattle.wcp_worker.specs.Probes.{IsSameLive}
+use Rattle.wcp_tree.specs.LiveProbe.{IsSameLive}
 use Rattle.watched_pool.specs.Logs.{IsDispatching}
 use Rattle.watched_pool.proofs.dispatcher.Desk.take_all.Given as goal
 

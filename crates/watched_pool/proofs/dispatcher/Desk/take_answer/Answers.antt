@@ -14,5 +14,5 @@ returns-clause-at_work g c =
     record {
       log = was.log ++ Received stamp ∷ Observed (nat_lt 0 left) ∷ [];
       is_log = WasAnswered stamp (subst (λ k. IsDispatcherLog k was.log) one_less was.is_log);
-      stands = two_calls _ _ _ _ (Received stamp) (Observed (nat_lt 0 left)) c.in-Ok-receive.ensures.accepted c.observe.ensures.accepted c.flush.ensures.stands was.log was.stands;
+      stands = two_calls _ _ _ _ (Received stamp) (Observed (nat_lt 0 left)) c.in-Ok-receive.ensures.accepted c.observe.ensures.accepted c.flush_waiting.ensures.stands was.log was.stands;
     }

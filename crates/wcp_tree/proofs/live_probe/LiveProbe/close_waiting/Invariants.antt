@@ -1,14 +1,14 @@
 use Rattle.std.proofs.Common.{◌≡◌, None, List}
 use Rattle.wcp_model.specs.ProbeLog.{Call}
 use Rattle.wcp_tree.specs.LiveProbe.{LiveFor}
-use Rattle.wcp_worker.proofs.ring_room.close.Given as goal
+use Rattle.wcp_tree.proofs.live_probe.LiveProbe.close_waiting.Given as goal
 
 abbrev pub invariant-loop : goal.invariant-loop
 invariant-loop g l =
     record {
       goes_on : (goal.iterator-loop g).can_next l.iterator';
       ends : (goal.iterator-loop g).is_finite l.iterator';
-      core : l.probe.core ≡ (record l.fn.probe.core { pending = None });
-      ring : l.probe.link.ring ≡ l.fn.probe.link.ring;
-      stands : (log : List Call) → LiveFor l.fn.probe log → LiveFor l.probe log;
+      core : l.probe.core ≡ (record l.fn.self.core { pending = None });
+      ring : l.probe.link.ring ≡ l.fn.self.link.ring;
+      stands : (log : List Call) → LiveFor l.fn.self log → LiveFor l.probe log;
     }
