@@ -1,12 +1,10 @@
 -- How a relay begins and ends.
-use Rattle.std.proofs.Common.{◌≡◌, ℕ, suc, ◌<◌, Bool, true, false, true≢false, List, [], ◌∷◌, ◌++◌, length, get_or, sym, refl, ap, ◌∙◌, subst, append_assoc, arith}
-use Rattle.std.specs.Prelude.{All, IfNone, if◌then◌else◌, ◌==◌, Result, Ok, Err, OnOk, OnErr}
-use Rattle.std.specs.FinSet as set
-use Rattle.std.proofs.lemmas.List.{append-nil}
+use Rattle.std.proofs.Common.{◌≡◌, ℕ, suc, ◌<◌, true, true≢false, List, [], ◌∷◌, ◌++◌, length, get_or, sym, refl, ap, ◌∙◌, subst, append_assoc, arith}
+use Rattle.std.specs.Prelude.{All, IfNone, Result, Ok, Err, OnOk, OnErr}
+use Rattle.std.proofs.lemmas.List.{append-nil, nil_from_length}
+use Rattle.std.proofs.lemmas.List.Elements.{All-nil}
 use mathlib.Core.List.{IsPrefix}
 use Rattle.wcp_clock.specs.declared.note.Item.{Item}
-use Rattle.wcp_clock.specs.declared.note.Note.{Note}
-use Rattle.wcp_model.specs.LaneRule.{AreInSequence}
 use Rattle.wcp_clock.specs.Notes.{place_of, is_close}
 use Rattle.wcp_tree.specs.declared.feed.Feed.{Feed}
 use Rattle.wcp_tree.specs.declared.outlet.Outlet.{Outlet}
@@ -22,42 +20,29 @@ use Rattle.wcp_tree.proofs.Faithful.{only_none, prefix_same}
 use Rattle.wcp_tree.proofs.Passing.{if_none}
 use Rattle.wcp_tree.proofs.Fed.{all_ended}
 
-nothing : {A : Type 0} (xs : List A) → length xs ≡ 0 → xs ≡ []
-nothing [] none = refl
-nothing (x ∷ xs) none = absurd (omega arith)
-
-none_is : (P : Item → Type 0) → All P []
-none_is P k d below = absurd (omega arith)
-
-note_none : All (λ (n : Note). is_close n ≡ false) []
-note_none k d below = absurd (omega arith)
-
 sound_new : (outlet : Outlet) → 0 < outlet.hold.room → outlet.hold.items ≡ [] → handed outlet ≡ [] → IsSound outlet
 sound_new outlet room held all =
     record {
       room = room;
-      owned = subst (All (λ (i : Item). set.contains outlet.putter.members i.from ≡ true)) (sym held) (none_is (λ i. set.contains outlet.putter.members i.from ≡ true));
-      runs = λ p. subst (λ xs. AreItemsInSequence (items_of p xs)) (sym all) (AreInSequence-none (λ (i : Item). place_of i.note) (λ (i : Item). is_close i.note));
+      owned = rw held (All-nil _);
+      runs = λ p. subst (λ xs. AreItemsInSequence (items_of p xs)) (sym all) (AreInSequence-none _ _);
     }
 
 feed_new : (feed : Feed) → IsNewFeed feed → IsInOrder feed
 feed_new feed new =
-    let none = nothing feed.taker.taken new.2 in
+    let none = nil_from_length feed.taker.taken new.2 in
     record {
-      run = subst (AreInSequence place_of is_close) (sym none) (AreInSequence-none place_of is_close);
-      counted = λ _. (new.0 ∙ sym new.2, subst (All (λ (n : Note). is_close n ≡ false)) (sym none) note_none);
+      run = rw none (AreInSequence-none place_of is_close);
+      counted = λ _. (new.0 ∙ sym new.2, rw none (All-nil _));
       ended = λ closed. absurd (true≢false (sym closed ∙ new.1));
     }
-
-same_either : (b : Bool) (xs : List Item) → (if b then xs else xs) ≡ xs
-same_either true xs = refl
-same_either false xs = refl
 
 fed_new : (feeds : List Feed) → All IsNewFeed feeds → (p : ℕ) → fed feeds p ≡ []
 fed_new [] new p = refl
 fed_new (f ∷ fs) new p =
-    (λ j. if f.process == p then items_by p (nothing f.taker.taken (new 0 f (omega arith)).2 j) else fed_new fs (λ k d below. new (suc k) d (omega arith)) p j)
-    ∙ same_either (f.process == p) []
+    let none = ap (items_by p) (nil_from_length f.taker.taken (new 0 f (omega arith)).2) in
+    let rest = fed_new fs (λ k d below. new (suc k) d (omega arith)) p in
+    grind arith
 
 faithful_new : (taken : ℕ → List Item) (outlet : Outlet) → ((p : ℕ) → taken p ≡ []) → handed outlet ≡ [] → IsFaithful taken outlet
 faithful_new taken outlet none all =
@@ -67,8 +52,8 @@ faithful_new taken outlet none all =
 pub starts : (source : Source) (outlet : Outlet) → Serves source outlet.putter.members → 0 < outlet.hold.room → length outlet.hold.items ≡ 0 → length outlet.putter.put ≡ 0
     → IsAtWork source outlet
 starts (Leaf feeds sleeper) outlet serves room held put =
-    let held_none = nothing outlet.hold.items held in
-    let all : handed outlet ≡ [] = λ j. nothing outlet.putter.put put j ++ held_none j in
+    let held_none = nil_from_length outlet.hold.items held in
+    let all : handed outlet ≡ [] = λ j. nil_from_length outlet.putter.put put j ++ held_none j in
     record {
       apart = serves.1;
       served = serves.2;
@@ -77,12 +62,12 @@ starts (Leaf feeds sleeper) outlet serves room held put =
       faithful = faithful_new (fed feeds.items) outlet (fed_new feeds.items serves.0) all;
     }
 starts (Inner taker) outlet serves room held put =
-    let held_none = nothing outlet.hold.items held in
-    let all : handed outlet ≡ [] = λ j. nothing outlet.putter.put put j ++ held_none j in
+    let held_none = nil_from_length outlet.hold.items held in
+    let all : handed outlet ≡ [] = λ j. nil_from_length outlet.putter.put put j ++ held_none j in
     record {
       among = serves.1;
       sound = sound_new outlet room held_none all;
-      faithful = faithful_new (λ p. items_of p taker.taken) outlet (λ p. ap (items_of p) (nothing taker.taken serves.0)) all;
+      faithful = faithful_new (λ p. items_of p taker.taken) outlet (λ p. ap (items_of p) (nil_from_length taker.taken serves.0)) all;
     }
 
 -- a front of what was handed over is what was put
@@ -93,7 +78,7 @@ put_front outlet taken p front =
       sym (append_assoc (items_of p outlet.putter.put) (items_of p outlet.hold.items) front.0) ∙ ap (λ xs. xs ++ front.0) (sym split) ∙ front.1,
     )
 
--- where nothing is held, all was put
+-- where nil_from_length is held, all was put
 pub all_put : (taken : ℕ → List Item) (outlet : Outlet) → IsFaithful taken outlet → IfNone outlet.cut (outlet.hold.items ≡ [])
     → IfNone outlet.cut ((p : ℕ) → items_of p outlet.putter.put ≡ taken p)
 all_put taken outlet faithful empty =

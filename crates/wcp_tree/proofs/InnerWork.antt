@@ -4,6 +4,7 @@ use Rattle.std.specs.Prelude.{All, IfNone, nat_eq}
 use Rattle.std.specs.FinSet as set
 use Rattle.std.specs.Ordering.{nat_cmp}
 use Rattle.std.specs.Cmp.{unsigned_tied, nat_cmp_total}
+use Rattle.std.proofs.lemmas.Bool.{cases_eq}
 use Rattle.std.proofs.lemmas.Bool.Decides.{nat_tests}
 use Rattle.std.proofs.lemmas.List.{append-nil}
 use Rattle.wcp_clock.specs.declared.note.Item.{Item}
@@ -15,7 +16,7 @@ use Rattle.wcp_tree.specs.declared.outlet.Outlet.{Outlet}
 use Rattle.wcp_tree.specs.Feeding.{items_of, IsEnded}
 use Rattle.wcp_tree.specs.RelayWork.{handed, IsFaithful, IsSound, AreTakenNext, IsSameOutlet, IsInnerAtWork, ItemsMayFollow, AreClosed}
 use Rattle.wcp_tree.proofs.Accepting.{ItemMayFollow, follow_same}
-use Rattle.wcp_tree.proofs.Lists.{either_number, items_of-append, items_of-own, items_of-other}
+use Rattle.wcp_tree.proofs.Lists.{items_of-append, items_of-own, items_of-other}
 use Rattle.wcp_tree.proofs.Faithful.{faithful_same, only_none}
 use Rattle.wcp_tree.proofs.Passing.{if_none}
 
@@ -68,7 +69,7 @@ ended_step closed members before item ended next p own =
     absurd (ended_not_next (items_of item.from before) (subst (λ q. EndsWell (items_of q before)) here (ended p own)) next.next.unended))
     (λ (apart : p ≢ item.from).
     subst EndsWell (sym (items_of-append p before (item ∷ []) ∙ ap (λ xs. items_of p before ++ xs) (items_of-other p item (λ e. apart (sym e))) ∙ append-nil (items_of p before))) (ended p own))
-    (either_number p item.from)
+    (cases_eq p item.from)
 
 ended_all : (closed members : Numbers) (before items : List Item) → AreClosed closed (λ p. items_of p before) → ItemsMayFollow members before items
     → AreClosed closed (λ p. items_of p (before ++ items))
@@ -105,7 +106,7 @@ ended_more closed old new items front end ended next is last close p own =
     ))
     (λ (apart : p ≢ end.from).
     ended_kept closed old new items ended next is p (sym (inserted closed p end.from apart) ∙ own))
-    (either_number p end.from)
+    (cases_eq p end.from)
 
 pub none_ended : (taken : ℕ → List Item) (closed : Numbers) → closed ≡ set.empty → AreClosed closed taken
 none_ended taken closed none p own = absurd (true≢false (sym own ∙ ap (λ (s : Numbers). set.contains s p) none ∙ set.contains-empty nat_cmp p))

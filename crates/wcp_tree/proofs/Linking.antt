@@ -179,6 +179,7 @@ module _ (plan : Plan) (watch : ℕ) (root : LaneName Bundle) (before : List (Op
           ))
           (cases_eq above (length relays))
 
+      -- and then one relay more is open
       pub one_opened : AreOpened (relays ++ relay ∷ []) new_seats new
       one_opened = record {
         each = λ place below. ⊎_elim
@@ -194,26 +195,6 @@ module _ (plan : Plan) (watch : ℕ) (root : LaneName Bundle) (before : List (Op
             omega (arith, same, past, length_push relays relay))
             ∙ opened.here p leaf at (omega (arith, past, length_push relays relay));
       }
-
-    -- the next relay is open, whose number is that of the relays before it
-    pub next_opened : (relays : List Relay) (seats new_seats : List (Option (PutEnd Bundle Item))) (now new : List (Option TakeSide))
-        (relay : Relay) → AreOpened relays seats now → length relays < length plan.parents.items
-        → (k : ℕ) → k ≡ length relays → IsRelayOf plan watch now k relay
-        → slice_get seats k ≡ Some (Some relay.putter) → AreSeated plan k relay.source new_seats
-        → ((other : ℕ) → other ≢ k → parent_of plan other ≢ Some (parent.Relay k)
-        → slice_get new_seats other ≡ slice_get seats other)
-        → ((p : ℕ) → leaf_of plan p ≢ Some k → slice_get new p ≡ slice_get now p)
-        → AreOpened (relays ++ relay ∷ []) new_seats new
-    next_opened relays seats new_seats now new relay opened within k is_k =
-        subst
-        (λ k. IsRelayOf plan watch now k relay
-        → slice_get seats k ≡ Some (Some relay.putter) → AreSeated plan k relay.source new_seats
-        → ((other : ℕ) → other ≢ k → parent_of plan other ≢ Some (parent.Relay k)
-        → slice_get new_seats other ≡ slice_get seats other)
-        → ((p : ℕ) → leaf_of plan p ≢ Some k → slice_get new p ≡ slice_get now p)
-        → AreOpened (relays ++ relay ∷ []) new_seats new)
-        (sym is_k)
-        (one_opened relays seats new_seats now new relay opened within)
 
   pub all_opened : (relays : List Relay) (seats : List (Option (PutEnd Bundle Item))) (now : List (Option TakeSide))
       → AreOpened relays seats now → length relays ≡ length plan.parents.items → AreLinked plan watch root before relays

@@ -7,9 +7,6 @@ use Rattle.wcp_clock.specs.declared.note.Item.{Item}
 use Rattle.wcp_model.specs.LaneRule.{IsNext, AreInSequence}
 use Rattle.wcp_tree.specs.Feeding.{items_of}
 
-pub either_number : (p q : ℕ) → (p ≡ q) ⊎ (p ≢ q)
-either_number p q = grind arith
-
 module _ {A : Type 0} where
   pub not_empty : (before : List A) (x : A) (behind : List A) → [] ≡ before ++ x ∷ behind → ⊥
   not_empty [] x behind e = cc

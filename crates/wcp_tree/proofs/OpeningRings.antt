@@ -4,7 +4,6 @@ use Rattle.std.specs.Prelude.{slice_get, slice_set}
 use Rattle.std.specs.List.{list_any}
 use Rattle.std.proofs.lemmas.Bool.{cases_eq}
 use Rattle.std.proofs.lemmas.List.{length-set, length_push}
-use Rattle.std.proofs.lemmas.Option.{get_or_from_slice_get}
 use Rattle.std.proofs.lemmas.List.Elements.{All-push, All-weaker}
 use Rattle.std.proofs.lemmas.List.Folds.{list_any-append}
 use Rattle.std.proofs.lemmas.List.Quantifiers.{all_pairs_push}
@@ -14,7 +13,7 @@ use Rattle.wcp_ring.specs.Ends.{TakeSide}
 use Rattle.wcp_tree.specs.declared.feed.Feed.{Feed}
 use Rattle.wcp_tree.specs.LiveProbe.{LiveSide, fresh_core}
 use Rattle.wcp_tree.specs.Rings.{IsTakerAt, AreRings, IsFeed, AreFeeds}
-use Rattle.wcp_tree.proofs.Entries.{set_elsewhere, last_entry, earlier_entry}
+use Rattle.wcp_tree.proofs.Entries.{set_elsewhere, last_entry, earlier_entry, taken_out}
 
 module _ (plan : Plan) (watch : ℕ) where
   pub no_rings : AreRings plan watch 0 [] []
@@ -94,9 +93,7 @@ module _ (plan : Plan) (leaf : ℕ) (before : List (Option TakeSide)) where
       → (found : TakeSide) → entry ≡ Some found → IsTakerAt before k found
   its_taker now k feeds taken taker at entry is found some =
       let here : slice_get now k ≡ Some (Some taker) = taken.here k (inl (omega arith)) ∙ at.0 in
-      let same : get_or now k entry ≡ Some taker = get_or_from_slice_get now k (Some taker) entry here in
-      let one : taker ≡ found = cc in
-      subst (λ (t : TakeSide). IsTakerAt before k t) one at
+      subst (λ (t : TakeSide). IsTakerAt before k t) (taken_out now k taker here entry is found some) at
 
   -- a process of another leaf
   pub not_taken : (now : List (Option TakeSide)) (k : ℕ) (feeds : List Feed) → AreTaken now k feeds

@@ -1,17 +1,12 @@
 -- A feed stays in order as it takes the next note of its process.
-use Rattle.std.proofs.Common.{◌≡◌, zero, suc, ◌+◌, true, false, true≢false, [], ◌∷◌, ◌++◌, length, length-append, sym, ap, ◌∙◌, subst, arith}
-use Rattle.std.specs.Prelude.{All}
-use Rattle.std.proofs.lemmas.List.Elements.{All-append}
+use Rattle.std.proofs.Common.{◌≡◌, ◌+◌, true, false, true≢false, [], ◌∷◌, ◌++◌, length, length-append, sym, ap, ◌∙◌, subst, arith}
+use Rattle.std.proofs.lemmas.List.Elements.{All-push}
 use Rattle.wcp_clock.specs.declared.note.Note.{Note}
 use Rattle.wcp_model.specs.LaneRule.{AreInSequence}
 use Rattle.wcp_clock.specs.Notes.{place_of, is_close}
 use Rattle.wcp_tree.proofs.Lists.{AreInSequence-push}
 use Rattle.wcp_tree.specs.declared.feed.Feed.{Feed}
 use Rattle.wcp_tree.specs.Feeding.{IsInOrder, IsNextOfProcess}
-
-only_snap : (note : Note) → is_close note ≡ false → All (λ n. is_close n ≡ false) (note ∷ [])
-only_snap note snap zero d k = snap
-only_snap note snap (suc i) d k = absurd (omega arith)
 
 -- a note at the place that is counted is the next one
 pub next_note : (feed : Feed) (note : Note) → IsInOrder feed → feed.closed ≡ false → place_of note ≡ feed.next → IsNextOfProcess feed.taker.taken note
@@ -24,7 +19,7 @@ in_order_snap feed more note order not_closed place snap taken next still =
     let counted = order.counted not_closed in
     record {
       run = subst (AreInSequence place_of is_close) (sym taken) (AreInSequence-push place_of is_close feed.taker.taken note order.run (next_note feed note order not_closed place));
-      counted = λ _. (omega (arith, ap length taken, length-append feed.taker.taken (note ∷ [])), subst (All (λ n. is_close n ≡ false)) (sym taken) (All-append (λ n. is_close n ≡ false) feed.taker.taken (note ∷ []) counted.1 (only_snap note snap)));
+      counted = λ _. (omega (arith, ap length taken, length-append feed.taker.taken (note ∷ [])), rw taken (All-push (λ n. is_close n ≡ false) feed.taker.taken note counted.1 snap));
       ended = λ closed. absurd (true≢false (sym closed ∙ still));
     }
 

@@ -1,10 +1,11 @@
 -- An outlet stays sound as it passes an item on, and as it takes one in.
-use Rattle.std.proofs.Common.{◌≡◌, ◌≢◌, ℕ, zero, suc, ◌<◌, true, false, Option, None, Some, List, [], ◌∷◌, ◌++◌, length, drop, length-append, sym, refl, ap, ◌∙◌, subst, ⊎_elim, append_assoc, rules, arith}
+use Rattle.std.proofs.Common.{◌≡◌, ◌≢◌, ℕ, ◌<◌, true, false, Option, None, Some, List, [], ◌∷◌, ◌++◌, length, drop, length-append, sym, refl, ap, ◌∙◌, subst, ⊎_elim, append_assoc, rules, arith}
 use Rattle.std.specs.Prelude.{All, slice_get, Result, Ok, Err, IsErr, OnOk, IfNone}
 use Rattle.std.specs.Option.{is_some}
 use Rattle.std.specs.FinSet as set
+use Rattle.std.proofs.lemmas.Bool.{cases_eq}
 use Rattle.std.proofs.lemmas.List.{append-nil, drop_at}
-use Rattle.std.proofs.lemmas.List.Elements.{All-append, All-drop}
+use Rattle.std.proofs.lemmas.List.Elements.{All-drop, All-push}
 use Rattle.wcp_clock.specs.declared.note.Item.{Item}
 use Rattle.wcp_model.specs.LaneRule.{IsNext}
 use Rattle.wcp_clock.specs.Notes.{place_of, is_close}
@@ -16,11 +17,7 @@ use Rattle.wcp_tree.specs.declared.outlet.Outlet.{Outlet}
 use Rattle.wcp_tree.specs.Feeding.{items_of}
 use Rattle.wcp_tree.specs.Bundles.{IsFirstBundle}
 use Rattle.wcp_tree.specs.RelayWork.{handed, IsNextItem, AreItemsInSequence, IsSound, ItemsMayFollow}
-use Rattle.wcp_tree.proofs.Lists.{either_number, AreInSequence-push, items_of-append, items_of-own, items_of-other}
-
-All-one : (P : Item → Type 0) (item : Item) → P item → All P (item ∷ [])
-All-one P item is zero d k = is
-All-one P item is (suc i) d k = absurd (omega arith)
+use Rattle.wcp_tree.proofs.Lists.{AreInSequence-push, items_of-append, items_of-own, items_of-other}
 
 -- the first bundle may follow what was put
 pub first_follow : (o : Outlet) (bundle : List Item) → IsSound o → IsFirstBundle o.hold.items bundle → ItemsMayFollow o.putter.members o.putter.put bundle
@@ -92,12 +89,12 @@ sound_taken o new item sound own next putter hold =
       room = subst (λ n. 0 < n) (sym (ap (λ (h : Held). h.room) hold)) sound.room;
       owned = subst (λ m. All (λ (i : Item). set.contains m i.from ≡ true) new.hold.items) (sym (ap (λ (e : PutEnd Bundle Item). e.members) putter))
           (subst (All (λ (i : Item). set.contains o.putter.members i.from ≡ true)) (sym (ap (λ (h : Held). h.items) hold))
-          (All-append (λ (i : Item). set.contains o.putter.members i.from ≡ true) o.hold.items (item ∷ []) sound.owned (All-one (λ i. set.contains o.putter.members i.from ≡ true) item own)));
+          (All-push (λ (i : Item). set.contains o.putter.members i.from ≡ true) o.hold.items item sound.owned own));
       runs = λ p. ⊎_elim
           (λ (here : p ≡ item.from).
           subst AreItemsInSequence (sym (split p ∙ ap (λ xs. items_of p (handed o) ++ xs) (items_of-own p item (sym here))))
           (AreInSequence-push (λ (i : Item). place_of i.note) (λ (i : Item). is_close i.note) (items_of p (handed o)) item (sound.runs p) (subst (λ q. IsNext (λ (i : Item). place_of i.note) (λ (i : Item). is_close i.note) (items_of q (handed o)) item) (sym here) next)))
           (λ (apart : p ≢ item.from).
           subst AreItemsInSequence (sym (split p ∙ ap (λ xs. items_of p (handed o) ++ xs) (items_of-other p item (λ e. apart (sym e))) ∙ append-nil (items_of p (handed o)))) (sound.runs p))
-          (either_number p item.from);
+          (cases_eq p item.from);
     }

@@ -1,14 +1,8 @@
-use Rattle.std.proofs.Common.{◌≡◌, ◌<◌, ◌≤◌, [], List, Some, length, vec_len, eqb-true, sym, ap, subst, ◌∙◌, lit≤, arith}
+use Rattle.std.proofs.Common.{◌≡◌, ◌<◌, ◌≤◌, length, vec_len, eqb-true, sym, ap, ◌∙◌, lit≤, arith}
 use Rattle.std.proofs.lemmas.List.{length_push}
 use Rattle.wcp_clock.specs.Limits.{most_relays}
-use Rattle.wcp_clock.specs.declared.note.Item.{Item}
-use Rattle.wcp_lane.specs.Ends.{PutEnd}
-use Rattle.std.specs.Prelude.{slice_get}
-use Rattle.wcp_tree.specs.declared.bundle.Bundle.{Bundle}
-use Rattle.wcp_tree.specs.Members.{AreBelow}
-use Rattle.wcp_tree.specs.declared.relay.Relay.{Relay}
 use Rattle.wcp_model.proofs.CheckedPlans.{attached_exists, few_relays}
-use Rattle.wcp_tree.proofs.Linking.{AreOpened, all_opened, next_seat, none_open, next_opened}
+use Rattle.wcp_tree.proofs.Linking.{all_opened, next_seat, none_open, one_opened}
 use Rattle.wcp_tree.proofs.opening.open_relays.Goals as goal
 
 pub loop-alloc-init : goal.loop-alloc-init
@@ -17,9 +11,7 @@ loop-alloc-init c =
       count = omega (arith, ap length c.in_ok-relays.ensures.items, c.requires.sleepers);
       seats = c.requires.all;
       opened = λ root under.
-          subst
-          (λ (relays : List Relay). AreOpened c.args.plan.now c.args.watch root c.args.takers.items relays c.args.seats.items c.args.takers.items)
-          (sym c.in_ok-relays.ensures.items)
+          rw c.in_ok-relays.ensures.items
           (none_open c.args.plan.now c.args.watch root c.args.takers.items c.args.seats.items under);
     }
 
@@ -37,11 +29,7 @@ open_relay-requires-clause-seat c =
     next_seat c.args.plan.now c.args.watch root c.args.takers.items c.requires.checked c.loop-alloc.relays.items
     c.loop-alloc.seats.items c.loop-alloc.takers.items (c.loop-alloc.invariant.opened root c.requires.seated.1) within in
     let number : c.len-number.result ≡ length c.loop-alloc.relays.items = omega arith in
-    subst
-    (λ k. (putter : PutEnd Bundle Item) × (slice_get c.loop-alloc.seats.items k ≡ Some (Some putter))
-    × AreBelow c.args.plan.now k putter.members × (putter.put ≡ []))
-    (sym number)
-    (next.2.2, next.2.3, next.2.4.members, next.2.4.empty)
+    rw number (next.2.2, next.2.3, next.2.4.members, next.2.4.empty)
 
 pub open_relay-requires-clause-there : goal.open_relay-requires-clause-there
 open_relay-requires-clause-there c = λ p at.
@@ -66,13 +54,12 @@ loop-alloc-preserved c =
       );
       seats = ends.all.0 ∙ c.loop-alloc.invariant.seats;
       opened = λ root under.
-          subst
-          (λ (relays : List Relay). AreOpened c.args.plan.now c.args.watch root c.args.takers.items relays c.open_relay.new.seats.items c.open_relay.new.takers.items)
-          (sym c.in_ok-push.ensures.items)
-          (next_opened c.args.plan.now c.args.watch root c.args.takers.items c.requires.checked
+          rw c.in_ok-push.ensures.items
+          (one_opened c.args.plan.now c.args.watch root c.args.takers.items c.requires.checked
           c.loop-alloc.relays.items c.loop-alloc.seats.items c.open_relay.new.seats.items c.loop-alloc.takers.items
           c.open_relay.new.takers.items c.in_ok-relay.relay (c.loop-alloc.invariant.opened root under) within
-          c.len-number.result number ends.relay ends.seat ends.seated ends.other_seats ends.other_takers);
+          (rw number at ends.relay) (rw number at ends.seat) (rw number at ends.seated) (rw number at ends.other_seats)
+          (rw number at ends.other_takers));
     }
 
 pub returns : goal.returns

@@ -1,11 +1,11 @@
-use Rattle.std.proofs.Common.{◌≡◌, ◌≢◌, ◌+◌, ◌++◌, ◌∷◌, [], List, Option, Some, None, Vec, Global, sym, ap, subst, ◌∙◌}
+use Rattle.std.proofs.Common.{◌≡◌, ◌≢◌, ◌++◌, ◌∷◌, [], Option, Some, None, Vec, Global, sym, ap, subst, ◌∙◌}
 use Rattle.std.specs.Prelude.{slice_set}
 use Rattle.wcp_model.specs.Tree.{leaf_of}
 use Rattle.wcp_ring.specs.Ends.{TakeSide}
 use Rattle.wcp_tree.specs.declared.feed.Feed.{Feed}
 use Rattle.wcp_tree.specs.Rings.{IsTakerAt}
 use Rattle.wcp_model.proofs.CheckedPlans.{is_its_number, is_not_its_number}
-use Rattle.wcp_tree.proofs.OpeningRings.{AreTaken, its_taker, not_taken, one_taken}
+use Rattle.wcp_tree.proofs.OpeningRings.{its_taker, not_taken, one_taken}
 use Rattle.wcp_tree.proofs.rings.take_feeds.Goals.{then-is_attached+in-Some+in_ok-push-in-Some, else-is_attached}
 use Rattle.wcp_tree.proofs.rings.take_feeds.Goals as goal
 
@@ -17,7 +17,6 @@ loop-p-preserved c =
     let k = c.loop-p.p in
     let now = c.loop-p.takers.items in
     let feeds = c.loop-p.feeds.items in
-    let Taken : List (Option TakeSide) → List Feed → Type 0 = λ ends taken. AreTaken plan leaf before ends (k + 1) taken in
     elim c.if-is_attached.branch [
       | then-is_attached+in-Some+in_ok-push-in-Some w ↦
           let own : leaf_of plan k ≡ Some leaf =
@@ -35,13 +34,10 @@ loop-p-preserved c =
           ∙ ap (λ (e : Option TakeSide). slice_set now k e) w.take.ensures.after in
           let taken : c.if-is_attached.feeds.items ≡ feeds ++ w.new.result ∷ [] =
           ap (λ (v : Vec Feed Global). v.items) w.feeds-is ∙ w.in_ok-push-in-Some.ensures.items in
-          subst (λ (e : List (Option TakeSide)). Taken e c.if-is_attached.feeds.items) (sym ends)
-          (subst (λ (f : List Feed). Taken (slice_set now k None) f) (sym taken) one)
+          rw (ends, taken) one
       | else-is_attached w ↦
           let other : leaf_of plan k ≢ Some leaf =
           is_not_its_number leaf (leaf_of plan k) (sym c.is_attached.ensures ∙ w.if-is_attached.false) in
           let none = not_taken plan leaf before now k feeds c.loop-p.invariant other in
-          subst (λ (e : List (Option TakeSide)). Taken e c.if-is_attached.feeds.items)
-          (sym (ap (λ (v : Vec (Option TakeSide) Global). v.items) w.takers-is))
-          (subst (λ (f : List Feed). Taken now f) (sym (ap (λ (v : Vec Feed Global). v.items) w.feeds-is)) none)
+          rw (w.takers-is, w.feeds-is) none
     ]
