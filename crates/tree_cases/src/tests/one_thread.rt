@@ -15,11 +15,11 @@ fn first_snap(from: u32) -> Item {
     }
 }
 
-/// The close mark of a process that has emitted one snapshot.
-fn close_mark(from: u32) -> Item {
+/// The close mark of a process that has emitted so many snapshots.
+fn close_mark(from: u32, count: u32) -> Item {
     Item {
         from,
-        note: Note::Close { count: 1 },
+        note: Note::Close { count },
     }
 }
 
@@ -63,7 +63,43 @@ fn two_hops_bring_four_items(rt: HostRuntime) -> Result<(), Fail> {
     assert_eq!(rt; items.len(), 4);
     for from in 0..2 {
         assert!(rt; items.contains(&first_snap(from)));
-        assert!(rt; items.contains(&close_mark(from)));
+        assert!(rt; items.contains(&close_mark(from, 1)));
+    }
+    assert!(rt; taker.take(&rt).is_err());
+    Ok(())
+}
+
+/// The inner relay holds an item of one leaf, and has room for one more, when it takes a bundle of two of the other
+/// leaf: the second of these waits until the two before it were passed on.
+#[test]
+fn what_does_not_fit_in_a_hold_comes_behind(rt: HostRuntime) -> Result<(), Fail> {
+    let plan = Plan {
+        n: 2,
+        cap: 8,
+        hold: 2,
+        parents: vec![in rt.alloc(); Parent::Root, Parent::Relay(0), Parent::Relay(0)]?,
+        attach: vec![in rt.alloc(); Some(1), Some(2)]?,
+    };
+    assert!(rt; plan.check().is_ok());
+    let Watch {
+        mut probes,
+        mut relays,
+        inbox,
+    } = watch(rt.alloc(), &plan, 7)?;
+    let second = probes.pop().expect(&rt, "a probe");
+    assert_eq!(rt; second.close_waiting(&rt).emitted(), 0);
+    let mut first = probes.pop().expect(&rt, "a probe");
+    assert!(rt; first.observe(true));
+    first.flush_waiting(&rt);
+    assert_eq!(rt; first.close_waiting(&rt).emitted(), 1);
+    for number in [2, 1, 0] {
+        let relay = relays.pop().expect(&rt, "a relay");
+        assert_eq!(rt; relay.number(), number);
+        assert!(rt; relay.run(&rt).fault().is_none());
+    }
+    let mut taker = inbox.into_taker();
+    for item in [close_mark(1, 0), first_snap(0), close_mark(0, 1)] {
+        assert_eq!(rt; taker.take(&rt)?.items(), [item].as_slice());
     }
     assert!(rt; taker.take(&rt).is_err());
     Ok(())
