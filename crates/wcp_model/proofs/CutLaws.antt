@@ -1,5 +1,4 @@
-use Rattle.std.specs.Prelude.{slice_index}
-use Rattle.std.proofs.Common.{◌≡◌, ◌≢◌, ℕ, suc, zero, ◌<◌, ◌≤◌, min, List, [], ◌∷◌, length, refl, ap, subst, inl, inr, arith, ◌+◌, ◌-◌, ◌⊎◌, sum, ⊎_elim}
+use Rattle.std.proofs.Common.{◌≡◌, ◌≢◌, ℕ, suc, zero, ◌<◌, ◌≤◌, min, List, [], ◌∷◌, length, refl, ap, subst, inl, inr, arith, ◌+◌, ◌-◌, ◌⊎◌, sum, ⊎_elim, slice_index}
 use Rattle.std.proofs.lemmas.Bool.{cases_lt}
 use Rattle.wcp_model.specs.declared.state.State.{State}
 use Rattle.wcp_model.specs.Computation.{Computation, communications}

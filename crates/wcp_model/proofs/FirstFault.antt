@@ -22,7 +22,4 @@ after_parent k among = grind arith
 
 -- to answer with the first fault is to answer with each first fault
 pub first_alone : (plan : Plan) (one : PlanFault) → IsFirstFault plan one → (first : PlanFault) → (◌≡◌ {A = Result (Unit {0}) PlanFault} (Err one) (Err first)) ↔ IsFirstFault plan first
-first_alone plan one is_first first = (
-  λ same. subst (IsFirstFault plan) (let e : one ≡ first = cc in e) is_first,
-  λ also. ap Err (first_unique (HasFault plan) plan_faults one first is_first also),
-)
+first_alone plan one is_first first = grind (arith, first_unique (HasFault plan) plan_faults one first is_first)

@@ -69,10 +69,6 @@ stamp_below n c message q stamp below is =
       | inr none ↦ omega arith
     ]
 
--- the step of a task is of its process
-step_owner : (order earlier : List Task) (p q : ℕ) (a : Action) → is_step_of q (step_of order earlier p a) ≡ is_step_of q (step.Close p)
-step_owner order earlier p q a = grind arith
-
 -- the closes of n processes from a number on
 abbrev closes : ℕ → ℕ → Computation
 closes from n = map step.Close (range_with_len from n)
@@ -169,15 +165,15 @@ module _ (n : ℕ) (order : List Task) (within : All (IsWithin n) order) (fit : 
       let x : Step = step_of order (take place order) task.p task.action in
       let c : Computation = front n order place in
       let (call, made, is) = call_at place task at inside in
-      let mine = step_owner order (take place order) task.p p task.action in
+      let owner : (q : ℕ) → is_step_of q x ≡ (task.p == q) = λ q. grind arith in
       rw (take_next (computation_of n order) place x (step_at n order place task at)) (elim (cases_eq task.p p) [
         | inl own ↦ rw (← own, log_next place task at inside)
             (log_grows n c (x ∷ []) task.p (log_at task.p place) (call ∷ []) (logs_are place (omega arith) task.p inside)
-            (rw (step_owner order (take place order) task.p task.p task.action ∙ eq-eqb task.p task.p refl) (step_call place task.p task.action call inside at made is logs_are, tt)))
+            (rw (owner task.p ∙ eq-eqb task.p task.p refl) (step_call place task.p task.action call inside at made is logs_are, tt)))
         | inr other ↦
             let none : (task.p == p) ≡ false = ne_eqb task.p p other in
             let same : log_at p (place + 1) ≡ log_at p place ++ [] = ap (λ k. take k (logs p)) (count_before-no (is_task_of p) order place task at none) ∙ sym (append-nil (log_at p place)) in
-            rw same (log_grows n c (x ∷ []) p (log_at p place) [] (logs_are place (omega arith) p below) (rw (mine ∙ none) tt))
+            rw same (log_grows n c (x ∷ []) p (log_at p place) [] (logs_are place (omega arith) p below) (rw (owner p ∙ none) tt))
       ])
 
   logs_until : (bound : ℕ) → bound ≤ length order → (place : ℕ) → place ≤ bound → AreLogsAt place

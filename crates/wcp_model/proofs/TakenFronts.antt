@@ -119,8 +119,7 @@ module _ (n : ℕ) (c : Computation) (items : List Item) (fronts : AreFrontsOfEm
   nothing_left drained p within =
       let (rest, emitted) = fronts p within in
       let (count, before, is) = drained p within in
-      let all : notes_taken p items ++ rest ≡ before ++ note.Close count ∷ rest = ap (λ notes. notes ++ rest) is ∙ append_assoc before (note.Close count ∷ []) rest in
-      nothing_follows before rest count (subst AreInTurn all (emissions_in_turn n c p (notes_taken p items ++ rest) emitted))
+      nothing_follows before rest count (rw (is, append_assoc) at (emissions_in_turn n c p (notes_taken p items ++ rest) emitted))
 
   -- a process's true states are as many as its snapshots taken
   pub all_states_taken : IsDrained n items → (p : ℕ) (within : p < n) → length (fronts p within).1.intervals ≡ length (clocks_taken p items)
