@@ -1,4 +1,4 @@
-use Rattle.std.proofs.Common.{◌≡◌, ℕ, Bool, true, cond, None, Some, List, [], ◌∷◌, ◌++◌, length, slice_get, count_by, refl, sym, ap, ◌∙◌, subst, append_assoc, append-nil, arith}
+use Rattle.std.proofs.Common.{◌≡◌, ℕ, Bool, cond, None, List, [], ◌∷◌, ◌++◌, length, count_by, refl, sym, ap, ◌∙◌, subst, append_assoc, append-nil, arith}
 use Rattle.std.proofs.lemmas.Bool.{cond_both}
 use Rattle.std.proofs.lemmas.Grind.{flat_map-append}
 use Rattle.std.proofs.lemmas.List.{take_at}
@@ -12,7 +12,7 @@ use Rattle.wcp_model.specs.declared.step.Why.{Why}
 use Rattle.wcp_model.specs.declared.step.Why.TheVariants as why
 use Rattle.wcp_model.specs.Computation.{Computation, is_send}
 use Rattle.wcp_model.specs.Emission.{is_closed}
-use Rattle.wcp_model.specs.ProbeLog.{is_step_of, IsAccepted}
+use Rattle.wcp_model.specs.ProbeLog.{IsAccepted}
 use Rattle.wcp_model.specs.FirstReason.{first_reason}
 use Rattle.wcp_model.specs.Replies.{Answered, accepted_by, accepted, is_event, computation, receivers, event_reasons, IsReply, AreReplies}
 use Rattle.wcp_model.proofs.AcceptedSteps.{accepted_push}

@@ -8,14 +8,6 @@ Decided P = P ⊎ (P → ⊥)
 pub decided_from : {P Q : Type 0} → (P → Q) → (Q → P) → Decided P → Decided Q
 decided_from to back decided = grind arith
 
--- two decided facts are decided together
-pub both_decided : {P Q : Type 0} → Decided P → Decided Q → Decided (P × Q)
-both_decided one other = grind arith
-
--- of two decided facts it is decided whether one of them holds
-pub either_decided : {P Q : Type 0} → Decided P → Decided Q → Decided (P ⊎ Q)
-either_decided one other = grind arith
-
 -- a decided fact that is denied
 pub not_decided : {P : Type 0} → Decided P → Decided (P → ⊥)
 not_decided decided = grind arith

@@ -1,4 +1,4 @@
-use Rattle.std.proofs.Common.{◌≡◌, ℕ, ◌<◌, Result, Err, ◌↔◌, Some, slice_get, get_or, Contains, lit<, arith, refl, ap, subst}
+use Rattle.std.proofs.Common.{◌≡◌, ℕ, ◌<◌, Result, Err, ◌↔◌, Some, slice_get, get_or, Contains, lit<, arith, refl}
 use Rattle.wcp_model.specs.declared.plan.Plan.{Plan}
 use Rattle.wcp_model.specs.declared.plan.PlanFault.{PlanFault}
 use Rattle.wcp_model.specs.declared.plan.PlanFault.TheVariants.{Procs, Cap, Hold, Parent, Depth, Mixed, Childless, Unattached}

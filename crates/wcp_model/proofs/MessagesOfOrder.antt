@@ -1,4 +1,4 @@
-use Rattle.std.proofs.Common.{◌≡◌, ℕ, zero, suc, ◌+◌, ◌<◌, ◌==◌, Bool, true, List, [], ◌∷◌, take, filter, count_by, slice_get, Some, refl, sym, ap, subst₂, ◌∙◌, inl, inr, arith}
+use Rattle.std.proofs.Common.{◌≡◌, ℕ, zero, suc, ◌+◌, ◌<◌, ◌==◌, Bool, true, List, [], ◌∷◌, take, filter, count_by, slice_get, Some, refl, sym, ap, ◌∙◌, inl, inr, arith}
 use Rattle.std.proofs.lemmas.Bool.{cases_Bool, and_from, eq-eqb}
 use Rattle.std.proofs.lemmas.List.{length-take, take-take}
 use Rattle.std.proofs.lemmas.Option.{slice_get_within, same_Some}
@@ -11,10 +11,6 @@ use Rattle.wcp_model.proofs.Places.{count_before-mono, count_before-place, count
 use Rattle.wcp_model.proofs.SamePlace.{count_by_yes, count_by_no, count_by-take_more, slice_get-take, element_after}
 use Rattle.wcp_model.proofs.StepsOfOrder.{sends_any, step_at, send_task, receive_task, message_at_is}
 
--- one element further, where the first passes both tests
-both_pass : (any test : Task → Bool) (first : Task) (rest : List Task) (place earlier : ℕ) → any first ≡ true → test first ≡ true → count_by test (first ∷ take place rest) ≡ earlier → ((k : ℕ) → count_by test (take place rest) ≡ k → place_after test k (filter any rest) ≡ count_by any (take place rest)) → place_after test earlier (filter any (first ∷ rest)) ≡ count_by any (first ∷ take place rest)
-both_pass any test first rest place earlier among here behind further = grind (arith, count_by_yes)
-
 -- among the elements that pass a test, the place of one that passes a stricter test is the number of them before it
 place_after_is : (any test : Task → Bool) → ((task : Task) → test task ≡ true → any task ≡ true) → (order : List Task) (place earlier : ℕ) (task : Task) → slice_get order place ≡ Some task → test task ≡ true → count_by test (take place order) ≡ earlier → place_after test earlier (filter any order) ≡ count_by any (take place order)
 place_after_is any test implies [] place earlier task found passes behind = cc
@@ -22,7 +18,7 @@ place_after_is any test implies (first ∷ rest) zero earlier task found passes 
     grind arith
 place_after_is any test implies (first ∷ rest) (suc place) earlier task found passes behind =
     elim (cases_Bool (test first)) [
-      | inl here ↦ both_pass any test first rest place earlier (implies first here) here behind (λ k. place_after_is any test implies rest place k task found passes)
+      | inl here ↦ grind (arith, count_by_yes, implies first here, λ (k : ℕ). place_after_is any test implies rest place k task found passes)
       | inr other ↦
           grind (arith, count_by_yes, place_after_is any test implies rest place earlier task found passes (sym (count_by_no test first (take place rest) other) ∙ behind))
     ]

@@ -7,7 +7,7 @@ use Rattle.wcp_clock.specs.declared.note.Note.{Note}
 use Rattle.wcp_clock.specs.declared.note.Note.TheVariants as note
 use Rattle.wcp_model.specs.Computation.{Computation}
 use Rattle.wcp_model.specs.Emission.{snapshots_from, is_closed, AreEmissions}
-use Rattle.wcp_model.specs.ProbeLog.{Call, Observed, Sent, Received, Closed, ProbeState, after_call, setup, state_of_log}
+use Rattle.wcp_model.specs.ProbeLog.{Call, ProbeState, after_call, setup, state_of_log}
 use Rattle.wcp_clock.specs.Notes.{is_close, place_of}
 use Rattle.wcp_model.specs.Report.{snapshot_clocks, IsNextNote, AreInTurn}
 

@@ -9,7 +9,7 @@ use Rattle.wcp_model.specs.declared.step.Step.TheVariants.{Observe, Send, Recv}
 use Rattle.wcp_model.specs.Computation.{Computation, is_communication_of, communications, interval_at, message_at, IsState, IsTrueState}
 use Rattle.wcp_model.specs.Order.{DirectlyPrecedes, Next, Message, HappenedBefore, Direct, Chain}
 use Rattle.wcp_model.specs.Cut.{member, IsConsistent, IsSatisfyingCut}
-use Rattle.wcp_model.proofs.Decided.{Decided, decided_from, both_decided, either_decided, some_below_decided, all_below_decided}
+use Rattle.wcp_model.proofs.Decided.{Decided, decided_from, some_below_decided, all_below_decided}
 use Rattle.wcp_model.proofs.Places.{count_before-yes, count_before-no, count_before-past, count_before-place}
 use Rattle.wcp_model.proofs.SamePlace.{element_after}
 
@@ -117,7 +117,7 @@ sent_after_at c s message sent (Send p to) here before =
     let send = after.send in
     let process : after.process ≡ p = cc in
     (after.number, subst (λ q. AtOrAfter c s (state_at c q sent)) process after.reached))
-    (both_decided (cases_eq (message_at c sent) message) (either_decided (same_state_decided s (state_at c p sent)) (before p)))
+    (grind (arith, cases_eq (message_at c sent) message, same_state_decided s (state_at c p sent), before p))
 sent_after_at c s message sent _ here before = grind arith
 
 -- whether a message was sent after a state is decided, where the order is at the place of sending
@@ -131,7 +131,7 @@ message_decided c s p place step own carries = inr (λ by. let same = by.1 in cc
 next_decided : (c : Computation) (s : State) (p place : ℕ) (step : Step) → slice_get c place ≡ Some step → is_communication_of p step ≡ true → ((message : ℕ) → Decided (Carries c s place message)) → Decided (HappenedBefore c s (state_at c p place)) → Decided (HappenedBefore c s (state_at c p (place + 1)))
 next_decided c s p place step here own carries before =
     decided_from (⊎_elim (before_next c s p place step here own) (λ by. before_receive c s p place by.0 (here ∙ ap Some by.1) by.2)) (comes_from c s p place step here own)
-    (either_decided (either_decided (same_state_decided s (state_at c p place)) before) (message_decided c s p place step own carries))
+    (grind (arith, same_state_decided s (state_at c p place), before, message_decided c s p place step own carries))
 
 -- the order at a place, once it is decided at the place itself and before it
 at_next_decided : (c : Computation) (s : State) (place : ℕ) → ((earlier : ℕ) → earlier ≤ place → (p : ℕ) → Decided (HappenedBefore c s (state_at c p earlier))) → (p : ℕ) → Decided (HappenedBefore c s (state_at c p (place + 1)))
