@@ -41,11 +41,9 @@ clock_never_falls n c p k l one other up exists earlier later q =
 pub emissions_rise : (n : ℕ) (c : Computation) (p : ℕ) (notes : List Note) → AreEmissions n c p notes → AreRising p (snapshot_clocks notes)
 emissions_rise n c p notes emitted = subst (AreRising p) (sym (emitted_clocks n c p notes emitted)) (record {
   never_fall = λ i j q up within.
-      let below : j < length emitted.intervals = omega (arith, emitted.same_length) in
-      clock_never_falls n c p (slice_index emitted.intervals i) (slice_index emitted.intervals j) (get_or emitted.clocks i []) (get_or emitted.clocks j [])
-      (rises_to emitted.intervals i j emitted.true_states.rising up below)
-      (true_state_exists c (local_state p (slice_index emitted.intervals j)) ((emitted.true_states.each (slice_index emitted.intervals j)).0 (Contains-get_or emitted.intervals j 0 below)))
-      (emitted.each i (omega arith)) (emitted.each j below) q;
+      let k = slice_index emitted.intervals j in
+      let exists = true_state_exists c (local_state p k) ((emitted.true_states.each k).0 (Contains-get_or emitted.intervals j 0 (omega (arith, emitted.same_length)))) in
+      grind (arith, emitted.each i, emitted.each j, rises_to emitted.intervals i j, exists, clock_never_falls n c p (slice_index emitted.intervals i) k (get_or emitted.clocks i []) (get_or emitted.clocks j []));
   rise = λ i j up within. grind (arith, emitted.each i, emitted.each j, rises_above emitted.intervals i j);
 })
 
