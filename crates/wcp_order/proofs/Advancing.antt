@@ -1,6 +1,6 @@
 use Rattle.std.proofs.Common.{◌≡◌, ℕ, ◌+◌, ◌<◌, ◌≤◌, true, List, [], ◌∷◌, ◌++◌, length, take, count_by, Some, refl, sym, ◌∙◌, ap, arith, ⊎_elim, get_or, set, get_or-set_same, get_or-set_other}
 use Rattle.std.specs.List.{slice_get, slice_index, filter, All}
-use Rattle.std.proofs.lemmas.Bool.{cases_lt}
+use Rattle.std.proofs.lemmas.Bool.{cases_eq, cases_lt}
 use Rattle.std.proofs.lemmas.List.{append-nil, length-set, take-append-le, take_all, length_push}
 use Rattle.std.proofs.lemmas.List.Elements.{All-push, filter-append, filter_more}
 use Rattle.std.proofs.lemmas.Option.{slice_get_within, get_or_from_slice_get}
@@ -54,10 +54,6 @@ module _ (n : ℕ) (tasks order : List Task) (fronts in_transit : List ℕ) (wit
     stays : (q : ℕ) → (q ≡ p → ⊥) → slice_index advanced q ≡ slice_index fronts q
     stays q other = get_or-set_other fronts p q next 0 other
 
-    -- what holds of the place behind the task, and of the other processes' fronts, holds of all new fronts
-    at_advanced : (P : ℕ → ℕ → Type 0) → P p next → ((q : ℕ) → (q ≡ p → ⊥) → P q (slice_index fronts q)) → (q : ℕ) → P q (slice_index advanced q)
-    at_advanced P here elsewhere q = grind (arith, moved, stays)
-
     abbrev longer : List Task
     longer = order ++ record { p = p; action = act } ∷ []
 
@@ -66,10 +62,6 @@ module _ (n : ℕ) (tasks order : List Task) (fronts in_transit : List ℕ) (wit
 
     all_counted : IsCounted n longer (in_transit_after n in_transit p act)
     all_counted = counted_after n order in_transit progress.channels progress.counted p act front_within ready
-
-    advanced_own : (q : ℕ) (task : Task) → q < n → slice_get tasks (slice_index advanced q) ≡ Some task → task.p ≡ q
-    advanced_own q task q_within here =
-        at_advanced (λ r place. r < n → slice_get tasks place ≡ Some task → task.p ≡ r) (λ _ there. step.own task there) (λ r other r_within there. progress.own r task r_within there) q q_within here
 
     done_here : p < n → filter (is_task_of p) longer ≡ filter (is_task_of p) (take next tasks)
     done_here p_within =
@@ -85,36 +77,20 @@ module _ (n : ℕ) (tasks order : List Task) (fronts in_transit : List ℕ) (wit
     done_elsewhere : (q : ℕ) → (q ≡ p → ⊥) → q < n → filter (is_task_of q) longer ≡ filter (is_task_of q) (take (slice_index fronts q) tasks)
     done_elsewhere q other q_within = grind (arith, append-nil, filter-append)
 
-    advanced_done : (q : ℕ) → q < n → filter (is_task_of q) longer ≡ filter (is_task_of q) (take (slice_index advanced q) tasks)
-    advanced_done = at_advanced (λ r place. r < n → filter (is_task_of r) longer ≡ filter (is_task_of r) (take place tasks)) done_here done_elsewhere
-
-    can_here : (i : ℕ) (task : Task) → slice_get tasks i ≡ Some task → task.p ≡ p → i < next → CanBeDone tasks i
-    can_here i task here of_process below = grind (arith, front_can, none_skipped)
-
-    advanced_can : (i : ℕ) (task : Task) → slice_get tasks i ≡ Some task → i < slice_index advanced task.p → CanBeDone tasks i
-    advanced_can i task here below =
-        at_advanced (λ r place. task.p ≡ r → i < place → CanBeDone tasks i) (can_here i task here)
-        (λ r other of_process before. progress.can_be_done i task here (rw of_process before)) task.p refl below
-
-    advanced_sent_first : (place from to : ℕ) → count_by (receives from to) (take place longer) ≤ count_by (sends from to) (take place longer)
-    advanced_sent_first place from to =
-        ⊎_elim (λ (whole : length order < place).
-        rw (take_all place longer (omega (arith, length_push order (record { p = p; action = act }))))
-        (sent_at_end n longer (in_transit_after n in_transit p act) all_within all_counted from to))
-        (λ (old : place ≤ length order). rw (take-append-le place order (record { p = p; action = act } ∷ []) old) (progress.sent_first place from to))
-        (cases_lt (length order) place)
-
     pub advance : IsProgress n tasks longer advanced (in_transit_after n in_transit p act)
     advance = record {
       processes = length-set fronts p next ∙ progress.processes;
       channels = length-in_transit_after n in_transit p act ∙ progress.channels;
       within = all_within;
-      inside = at_advanced (λ r place. r < n → place ≤ length tasks) (λ _. step.inside) (λ r other r_within. progress.inside r r_within);
-      own = advanced_own;
-      done = advanced_done;
+      inside = λ q q_within. grind (arith, moved, stays q, cases_eq q p);
+      own = λ q task q_within here. grind (arith, moved, stays q, cases_eq q p);
+      done = λ q q_within. grind (arith, moved, stays q, cases_eq q p, done_here, done_elsewhere);
       counted = all_counted;
-      sent_first = advanced_sent_first;
-      can_be_done = advanced_can;
+      sent_first = λ place from to. ⊎_elim
+          (λ (whole : length order < place). rw (take_all place longer (omega (arith, length_push order (record { p = p; action = act })))) (sent_at_end n longer (in_transit_after n in_transit p act) all_within all_counted from to))
+          (λ (old : place ≤ length order). rw (take-append-le place order (record { p = p; action = act } ∷ []) old) (progress.sent_first place from to))
+          (cases_lt (length order) place);
+      can_be_done = λ i task here below. grind (arith, moved, stays task.p, cases_eq task.p p, front_can, none_skipped);
     }
 
 -- what `perform` leaves after the first task of process p that isn't done, which is ready

@@ -1,6 +1,6 @@
 use Rattle.std.proofs.Common.{◌≡◌, ℕ, ◌+◌, ◌<◌, ◌≤◌, List, length, take, count_by, Some, refl, sym, ◌∙◌, ap, arith, ⊎_elim, get_or}
 use Rattle.std.specs.List.{slice_get, slice_index, All}
-use Rattle.std.proofs.lemmas.Bool.{cases_lt}
+use Rattle.std.proofs.lemmas.Bool.{cases_order}
 use Rattle.std.proofs.lemmas.Option.{slice_get_within, slice_get-get_or, same_Some}
 use Rattle.wcp_model.specs.declared.workload.Action.TheVariants as action
 use Rattle.wcp_model.specs.declared.workload.Task.{Task}
@@ -19,13 +19,13 @@ module _ (n : ℕ) (tasks order : List Task) (fronts in_transit : List ℕ) (wit
   IsDone i = (task : Task) → slice_get tasks i ≡ Some task → i < slice_index fronts task.p
 
   -- a task that isn't ready at the front of its process is done if all earlier tasks of the process are
-  before_front : (i : ℕ) (task : Task) → slice_get tasks i ≡ Some task → ((j : ℕ) → IsEarlier tasks task.p j i → IsDone j) → (slice_index fronts task.p ≡ i → ⊥) → i < slice_index fronts task.p
-  before_front i task at earlier elsewhere =
+  before_front : (i : ℕ) (task : Task) → slice_get tasks i ≡ Some task → ((j : ℕ) → IsEarlier tasks task.p j i → IsDone j) → (slice_index fronts task.p ≡ i → ⊥) → IsDone i
+  before_front i task at earlier elsewhere other there =
+      let same : task ≡ other = same_Some task other (sym at ∙ there) in
       let front : ℕ = slice_index fronts task.p in
       let p_within : task.p < n = (at_place (IsWithin n) tasks i task within at).0 in
-      ⊎_elim (λ (done : i < front). done)
-      (λ (left : front ≤ i).
-      ⊎_elim (λ (before : front < i).
+      rw (← same) (⊎_elim (λ (here : front ≡ i). absurd (elsewhere here))
+      (⊎_elim (λ (before : front < i).
       let inside : front < length tasks = omega (arith, slice_get_within tasks i task at) in
       let here : Task = get_or tasks front task in
       let at_front : slice_get tasks front ≡ Some here = slice_get-get_or tasks front task inside in
@@ -33,9 +33,8 @@ module _ (n : ℕ) (tasks order : List Task) (fronts in_transit : List ℕ) (wit
       let same_process : slice_get tasks front ≡ Some (record { p = task.p; action = here.action }) = at_front ∙ ap Some (same_task here task.p here.action own refl) in
       let done : front < front = earlier front (record { before = before; act = here.action; same_process = same_process }) (record { p = task.p; action = here.action }) same_process in
       absurd (omega (arith, done)))
-      (λ (not_before : i ≤ front). absurd (elsewhere (omega arith)))
-      (cases_lt front i))
-      (cases_lt i front)
+      (λ (done : i < front). done))
+      (cases_order front i))
 
   -- a receive whose message was sent is ready at its front
   received_elsewhere : (i sent : ℕ) (message : AreSendAndReceive tasks sent i) → IsDone sent → slice_index fronts message.to ≡ i → ⊥
@@ -57,15 +56,9 @@ module _ (n : ℕ) (tasks order : List Task) (fronts in_transit : List ℕ) (wit
 
   -- what can be done is done
   pub done_if_can : {i : ℕ} → CanBeDone tasks i → IsDone i
-  done_if_can (Observing i p holds at earlier) task here =
-      let same : record { p = p; action = action.Observe holds } ≡ task = same_Some _ _ (sym at ∙ here) in
-      rw (← same) (before_front i (record { p = p; action = action.Observe holds }) at (λ j before. done_if_can (earlier j before))
-      (λ front. blocked p (at_place (IsWithin n) tasks i _ within at).0 _ (ap (slice_get tasks) front ∙ at) tt))
-  done_if_can (Sending i p to at earlier) task here =
-      let same : record { p = p; action = action.Send to } ≡ task = same_Some _ _ (sym at ∙ here) in
-      rw (← same) (before_front i (record { p = p; action = action.Send to }) at (λ j before. done_if_can (earlier j before))
-      (λ front. blocked p (at_place (IsWithin n) tasks i _ within at).0 _ (ap (slice_get tasks) front ∙ at) tt))
-  done_if_can (Receiving i sent message sent_can earlier) task here =
-      let same : record { p = message.to; action = action.Recv message.from } ≡ task = same_Some _ _ (sym message.receive ∙ here) in
-      rw (← same) (before_front i (record { p = message.to; action = action.Recv message.from }) message.receive (λ j before. done_if_can (earlier j before))
-      (received_elsewhere i sent message (done_if_can sent_can)))
+  done_if_can (Observing i p holds at earlier) = before_front i _ at (λ j before. done_if_can (earlier j before))
+      (λ front. blocked p (at_place (IsWithin n) tasks i _ within at).0 _ (ap (slice_get tasks) front ∙ at) tt)
+  done_if_can (Sending i p to at earlier) = before_front i _ at (λ j before. done_if_can (earlier j before))
+      (λ front. blocked p (at_place (IsWithin n) tasks i _ within at).0 _ (ap (slice_get tasks) front ∙ at) tt)
+  done_if_can (Receiving i sent message sent_can earlier) = before_front i _ message.receive (λ j before. done_if_can (earlier j before))
+      (received_elsewhere i sent message (done_if_can sent_can))
