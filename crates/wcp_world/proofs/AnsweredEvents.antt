@@ -63,20 +63,13 @@ nothing_pending core willing = grind arith
 closed_is_second : (n : ℕ) (c : Computation) (pending : ℕ → Bool) (s : Step) (q : ℕ) → is_step_of q s ≡ true → slice_get (event_reasons n c pending s) 1 ≡ Some (is_closed c q, why.Closed)
 closed_is_second n c pending s q own = grind arith
 
-abbrev bit : Bool → ℕ
-bit b = cond b 1 0
-
--- one more event of a process
-events_push : (c : Computation) (s : Step) (p : ℕ) → communications (c ++ s ∷ []) p ≡ communications c p + bit (is_communication_of p s)
-events_push c s p = sum_by_push (λ x. bit (is_communication_of p x)) c s
-
 -- the clock after a send is that of the state behind it
 stamp_of_send : (n : ℕ) (c : Computation) (p to : ℕ) (put : List Note) (new : Core) → p < n → IsAccepted (c ++ Send p to ∷ []) →
     IsProbeOf n (c ++ Send p to ∷ []) p put new → IsStampOf n (c ++ Send p to ∷ []) (count_by is_send c) new.clock
 stamp_of_send n c p to put new in_range order is =
     let d = c ++ Send p to ∷ [] in
-    let own : bit (eqb p p) ≡ 1 = ap bit (eq-eqb p p refl) in
-    let last : communications d p ≡ interval_at d p (length c) + 1 = omega (arith, events_push c (Send p to) p, own, interval_at_seam c (Send p to ∷ []) p) in
+    let own : eqb p p ≡ true = eq-eqb p p refl in
+    let last : communications d p ≡ interval_at d p (length c) + 1 = grind (arith, sum_by_push (λ x. cond (is_communication_of p x) 1 0) c (Send p to), interval_at_seam c (Send p to ∷ []) p) in
     record {
       sent = length c;
       from = p;

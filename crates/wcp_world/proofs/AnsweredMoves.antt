@@ -4,7 +4,7 @@ use Rattle.std.specs.List.{list_any}
 use Rattle.std.specs.Option.{option_and_then, option_flatten, option_map}
 use Rattle.std.proofs.lemmas.Bool.Decides.{nat_tests}
 use Rattle.std.proofs.lemmas.List.{get_or_default, length-set, get_or-set_same, get_or-set_other}
-use Rattle.std.proofs.lemmas.Option.{slice_get-get_or, slice_get_within}
+use Rattle.std.proofs.lemmas.Option.{slice_get_cases, slice_get_within}
 use Rattle.wcp_clock.specs.declared.note.Item.{Item}
 use Rattle.wcp_clock.specs.declared.note.Note.{Note}
 use Rattle.wcp_model.specs.declared.plan.Parent.{Parent}
@@ -68,10 +68,7 @@ attached_is plan relay p = grind (arith, eqb-true)
 
 -- a relay that has no parent isn't there
 pub no_relay : (plan : Plan) (relay : ℕ) → parent_of plan relay ≡ None → nat_lt relay (length plan.parents.items) ≡ false
-no_relay plan relay none = grind (arith, slice_get-get_or, some_is_none)
-  where
-    some_is_none : Some (get_or plan.parents.items relay Root) ≡ None → ⊥
-    some_is_none e = cc
+no_relay plan relay none = grind (arith, slice_get_cases)
 
 module _ (plan : Plan) (steps : List Step) (put : ℕ → List Note) (taken : List Item) (t : TransportState) (stands : IsTransportOf plan steps put taken t) where
   abbrev here : Place → Held
@@ -91,9 +88,6 @@ module _ (plan : Plan) (steps : List Step) (put : ℕ → List Note) (taken : Li
 
   process_of : {x : Place} {i : ℕ} {item : Item} → IsEntry plan put steps x i item → item.from < plan.n
   process_of {item = item} entry = grind (arith, entry_emitted)
-    where
-      none_at : (i : ℕ) (note : Note) → slice_get [] i ≡ Some note → ⊥
-      none_at i note at = cc
 
   -- what a step that moves an item from one place to another does to each
   stirred_by_shift : (s : Step) (from to : Place) → source s ≡ Some from → target plan s ≡ Some to → IsPlaceOf plan from → IsPlaceOf plan to → is_same_place from to ≡ false →

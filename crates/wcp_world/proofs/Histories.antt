@@ -52,7 +52,7 @@ pub world_push : (plan : Plan) (history : List Answered) (old new : WorldState) 
 world_push plan history old new s reply answers is =
     let a : Answered = record { step = s; reply = reply } in
     let told = answers plan (accepted history) (items_taken history) is.stands in
-    let stands = subst (λ steps. Stands plan steps (items_taken (history ++ a ∷ [])) new) (sym (accepted_push history a)) (subst (λ items. Stands plan (accepted history ++ accepted_by s reply) items new) (sym (taken_push history a)) told.1) in
+    let stands : Stands plan (accepted (history ++ a ∷ [])) (items_taken (history ++ a ∷ [])) new = rw (accepted_push history a, taken_push history a) told.1 in
     record {
       replies = replies_push plan history a is.replies told.0;
       fronts = fronts_push plan history a is.fronts (taken_fronts plan (accepted (history ++ a ∷ [])) (items_taken (history ++ a ∷ [])) new stands);

@@ -18,7 +18,7 @@ use Rattle.wcp_model.specs.declared.step.Why.TheVariants as why
 use Rattle.wcp_model.specs.Emission.{AreEmissions}
 use Rattle.wcp_model.specs.Occupancy.{Place, Pending, InboxOf, source, is_place, takes_from, puts_into, taken_from, next_place, notes_in, IsEntry}
 use Rattle.wcp_model.specs.Replies.{is_event, computation, accepted_by, taken_by, event_reasons, reasons, IsAcceptance, IsReply}
-use Rattle.wcp_world.specs.Processes.{ProcessesState, AreProcessesOf, Performs, WasPut, pending_at}
+use Rattle.wcp_world.specs.Processes.{ProcessesState, Performs, WasPut, pending_at}
 use Rattle.wcp_world.specs.Transport.{TransportState, IsTransportOf, IsNextAtRoot, Conveys, Puts, TakesNext, next_of, ReadsNext}
 use Rattle.wcp_world.specs.PutNotes.{put_more}
 use Rattle.wcp_world.specs.World.{WorldState, Stands, MakesStep}
@@ -123,15 +123,16 @@ module _ (plan : Plan) (steps : List Step) (taken : List Item) (w : WorldState) 
       IsReply plan steps (step.Put p) Done × Stands plan (steps ++ step.Put p ∷ []) (taken ++ []) (record w { processes = processes; transport = transport })
   put_answered p note processes transport within pending puts was_put =
       let told = puts plan steps stands.put taken stands.transport in
-      let some : 0 < notes_in plan emissions steps (Pending p) = omega (arith, pending_count p, ap (λ o. length (option_to_list o)) pending) in (
+      let some : 0 < notes_in plan emissions steps (Pending p) = omega (arith, pending_count p, ap (λ o. length (option_to_list o)) pending) in
+      rw (append-nil taken) (
         reply_is (step.Put p) Done (told.0 emissions some),
-        subst (λ items. Stands plan (steps ++ step.Put p ∷ []) items (record w { processes = processes; transport = transport })) (sym (append-nil taken)) (record {
+        record {
           put = put_more stands.put p note;
-          processes = subst (λ c. AreProcessesOf plan.n c (put_more stands.put p note) processes) (sym (computation_stays steps (step.Put p) Done refl)) (was_put plan.n (computation steps) stands.put note stands.processes pending);
+          processes = rw (computation_stays steps (step.Put p) Done refl) (was_put plan.n (computation steps) stands.put note stands.processes pending);
           transport = told.1 refl;
           processes_are = stands.processes_are;
           checker = stands.checker;
-        }),
+        },
       )
 
   -- a put of a process that there isn't, that has nothing pending, or whose link is full
@@ -179,7 +180,7 @@ module _ (plan : Plan) (steps : List Step) (taken : List Item) (w : WorldState) 
         reply_is step.Check (Took item) (rw some (item, refl, subst (λ l. IsEntry plan emissions l (InboxOf Root) (taken_from steps (InboxOf Root)) item) (append-nil steps) entry)),
         record {
           put = stands.put;
-          processes = subst (λ c. AreProcessesOf plan.n c stands.put w.processes) (sym (computation_stays steps step.Check (Took item) refl)) stands.processes;
+          processes = rw (computation_stays steps step.Check (Took item) refl) stands.processes;
           transport = takes_next plan steps stands.put taken item stands.transport is_next;
           processes_are = same_processes ∙ stands.processes_are;
           checker = takes_item taken stands.checker;
