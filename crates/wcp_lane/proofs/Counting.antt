@@ -1,7 +1,8 @@
 -- How many items of each number were put or taken.
-use Rattle.std.proofs.Common.{◌≡◌, ◌≢◌, ◌⊎◌, ℕ, ◌+◌, ◌<◌, List, [], ◌∷◌, ◌++◌, length, get_or, set, replicate, refl, sym, ap, ◌∙◌, subst, ⊎_elim, arith, length-append}
+use Rattle.std.proofs.Common.{◌≡◌, ◌≢◌, ℕ, ◌+◌, ◌<◌, List, [], ◌∷◌, ◌++◌, length, set, replicate, refl, sym, ap, ◌∙◌, subst, ⊎_elim, arith, length-append}
 use Rattle.std.specs.Prelude.{All, Bool}
 use Rattle.std.proofs.lemmas.List.{length-set, get_or-set_same, get_or-set_other, get_or-replicate, append-nil}
+use Rattle.std.proofs.lemmas.Bool.{cases_eq}
 use Rattle.wcp_clock.specs.Limits.{most_processes}
 use Rattle.wcp_model.specs.LaneRule.{items_from}
 use Rattle.wcp_lane.specs.Message.{AllMayFollow}
@@ -29,23 +30,11 @@ module _ {I : Type 0} (origin : I → ℕ) where
   pub counted : (counts : List ℕ) (before items : List I) (p count : ℕ) → AreCounts origin counts before → All (λ item. origin item ≡ p) items → p < most_processes → count ≡ length (items_from origin p before) + length items
       → AreCounts origin (set counts p count) (before ++ items)
   counted counts before items p count old own below next = (
-    (length-set counts p count ∙ old.0),
+    length-set counts p count ∙ old.0,
     λ q within. ⊎_elim
-        (λ (same : q ≡ p).
-        ap (λ i. get_or (set counts p count) i 0) same
-        ∙ get_or-set_same counts p count 0 (omega (arith, old.0))
-        ∙ next
-        ∙ ap (λ xs. length (items_from origin p before) + length xs) (sym (items_from-all origin p items own))
-        ∙ sym (length-append (items_from origin p before) (items_from origin p items))
-        ∙ ap length (sym (items_from-append origin p before items))
-        ∙ ap (λ i. length (items_from origin i (before ++ items))) (sym same))
-        (λ (apart : q ≢ p).
-        get_or-set_other counts p q count 0 apart
-        ∙ old.1 q within
-        ∙ ap length (sym (append-nil (items_from origin q before)))
-        ∙ ap (λ xs. length (items_from origin q before ++ xs)) (sym (items_from-none origin q items (λ k d inside here. apart (sym here ∙ own k d inside))))
-        ∙ ap length (sym (items_from-append origin q before items)))
-        (let either : (q ≡ p) ⊎ (q ≢ p) = grind arith in either),
+        (λ (same : q ≡ p). rw (same, get_or-set_same counts p count 0 (omega (arith, old.0)), items_from-append origin p before items, items_from-all origin p items own, length-append) next)
+        (λ (apart : q ≢ p). rw (get_or-set_other counts p q count 0 apart, items_from-append origin q before items, items_from-none origin q items (λ k d inside here. apart (sym here ∙ own k d inside)), append-nil) (old.1 q within))
+        (cases_eq q p),
   )
 
   -- the next items of one number were counted

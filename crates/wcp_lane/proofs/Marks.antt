@@ -1,10 +1,10 @@
 -- Sets of numbers, by the marks that say which numbers are in them.
-use Rattle.std.proofs.Common.{◌≡◌, ◌≢◌, ◌⊎◌, ℕ, ◌<◌, ◌≤◌, Bool, true, false, true≢false, ◌||◌, List, length, get_or, set, sym, ap, ◌∙◌, arith, ⊎_elim}
+use Rattle.std.proofs.Common.{◌≡◌, ℕ, ◌<◌, Bool, true, false, ◌||◌, List, length, get_or, set, sym, ap, ◌∙◌, arith, ⊎_elim}
 use Rattle.std.specs.Prelude.{nat_eq}
 use Rattle.std.specs.Ordering.{nat_cmp}
 use Rattle.std.specs.Cmp.{unsigned_tied, nat_cmp_total}
 use Rattle.std.specs.FinSet as sets
-use Rattle.std.proofs.lemmas.Bool.{cases_lt}
+use Rattle.std.proofs.lemmas.Bool.{cases_lt, both_ways}
 use Rattle.std.proofs.lemmas.Bool.Decides.{nat_tests}
 use Rattle.std.proofs.lemmas.List.{get_or-set_same, get_or-set_other, get_or_past}
 use Rattle.std.specs.FinMap.{nat_cmp-IsAntisymmetric}
@@ -13,20 +13,14 @@ use Rattle.wcp_lane.specs.Numbers.{set_of, contains-marks}
 -- a number in the set is below the number of marks
 pub contains_below : (marks : List Bool) (q : ℕ) → sets.contains (set_of marks) q ≡ true → q < length marks
 contains_below marks q is =
-    ⊎_elim (λ below. below) (λ (past : length marks ≤ q). absurd (true≢false (sym is ∙ contains-marks marks q ∙ get_or_past marks q false past))) (cases_lt q (length marks))
+    ⊎_elim (λ below. below) (λ past. absurd (both_ways _ (contains-marks marks q ∙ get_or_past marks q false past) is)) (cases_lt q (length marks))
 
 -- what a set contains once p is added
 pub contains_with : (numbers : sets.FinSet nat_cmp) (p q : ℕ) → sets.contains (sets.insert numbers p) q ≡ (nat_eq q p || sets.contains numbers q)
 contains_with numbers p q = sets.contains-insert nat_cmp_total numbers p q ∙ ap (λ b. b || sets.contains numbers q) (unsigned_tied q p)
 
 marks_with : (marks : List Bool) (p q : ℕ) → p < length marks → get_or (set marks p true) q false ≡ (nat_eq q p || get_or marks q false)
-marks_with marks p q within =
-    ⊎_elim
-    (λ (same : q ≡ p). let is : nat_eq q p ≡ true = grind (arith, nat_tests) in
-    ap (λ i. get_or (set marks p true) i false) same ∙ get_or-set_same marks p true false within ∙ sym (ap (λ b. b || get_or marks q false) is))
-    (λ (apart : q ≢ p). let not_it : nat_eq q p ≡ false = grind (arith, nat_tests) in
-    get_or-set_other marks p q true false apart ∙ sym (ap (λ b. b || get_or marks q false) not_it))
-    (let either : (q ≡ p) ⊎ (q ≢ p) = grind arith in either)
+marks_with marks p q within = grind (arith, nat_tests, get_or-set_same, get_or-set_other)
 
 -- a mark more is a number more
 pub set_of-set : (marks : List Bool) (p : ℕ) → p < length marks → set_of (set marks p true) ≡ sets.insert (set_of marks) p

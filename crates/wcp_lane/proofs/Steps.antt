@@ -4,11 +4,10 @@ use Rattle.std.specs.Prelude.{All, nat_eq}
 use Rattle.std.specs.FinSet as sets
 use Rattle.std.specs.Cmp.{nat_cmp_total}
 use Rattle.std.specs.List.{flat_map}
-use Rattle.std.proofs.lemmas.Bool.{cases_eq, cases_Bool, false_from_ne_true, and_right}
-use Rattle.std.proofs.lemmas.Bool.Decides.{nat_tests}
+use Rattle.std.proofs.lemmas.Bool.{cases_eq, cases_Bool, eq-eqb, or_right, false_from_ne_true, not-false, and_right}
 use Rattle.std.proofs.lemmas.Grind.{flat_map-append}
-use Rattle.std.proofs.lemmas.List.{append-nil}
-use Rattle.std.proofs.lemmas.List.Elements.{All-append, All-cons}
+use Rattle.std.proofs.lemmas.List.{append-nil, take_at, drop_at}
+use Rattle.std.proofs.lemmas.List.Elements.{All-append, All-cons, All-take, All-drop}
 use mathlib.Core.Option.{some}
 use lib.ListN.{get_elem?}
 use Rattle.crossbeam_channel.specs.Fifo.{Pushes, Pops, Forks, Merges, Learns}
@@ -32,8 +31,8 @@ numbers_below-contains zero p below = absurd (omega arith)
 numbers_below-contains (suc n) p below =
     contains_with (numbers_below n) n p
     ∙ ⊎_elim
-    (λ (last : p ≡ n). let is : nat_eq p n ≡ true = grind (arith, nat_tests) in ap (λ b. b || sets.contains (numbers_below n) p) is)
-    (λ (earlier : p ≢ n). let not_it : nat_eq p n ≡ false = grind (arith, nat_tests) in ap (λ b. b || sets.contains (numbers_below n) p) not_it ∙ numbers_below-contains n p (omega arith))
+    (λ (last : p ≡ n). ap (λ b. b || sets.contains (numbers_below n) p) (eq-eqb p n last))
+    (λ (earlier : p ≢ n). or_right (nat_eq p n) (sets.contains (numbers_below n) p) (numbers_below-contains n p (omega arith)))
     (cases_eq p n)
 
 pub all_numbers-contains : (p : ℕ) → p < most_processes → sets.contains all_numbers p ≡ true
@@ -49,20 +48,12 @@ module _ {I : Type 0} (place : I → ℕ) (is_last : I → Bool) where
       (λ (new : (xs ≡ before) × (x ≡ item)). subst (λ (y : List I × I). IsNext place is_last y.0 y.1) (λ i. (new.0 i, new.1 i)) next)
       (of_snoc xs x before item behind e)
 
--- what isn't outside is inside
-inside_unless : (b c : Bool) → c ≡ not b → c ≡ false → b ≡ true
-inside_unless true c e out = refl
-inside_unless false c e out = absurd (true≢false (sym e ∙ out))
-
 module _ {A : Type 0} (P : A → Type 0) where
   pub All-front : (xs ys : List A) → All P (xs ++ ys) → All P xs
-  All-front [] ys all k d below = absurd (omega arith)
-  All-front (x ∷ xs) ys all zero d below = all 0 d (omega arith)
-  All-front (x ∷ xs) ys all (suc k) d below = All-front xs ys (λ j e within. all (suc j) e (omega arith)) k d (omega arith)
+  All-front xs ys all = subst (All P) (take_at xs ys (length xs) refl) (All-take P (length xs) (xs ++ ys) all)
 
   All-back : (xs ys : List A) → All P (xs ++ ys) → All P ys
-  All-back [] ys all = all
-  All-back (x ∷ xs) ys all = All-back xs ys (λ k d below. all (suc k) d (omega arith))
+  All-back xs ys all = subst (All P) (drop_at xs ys (length xs) refl) (All-drop P (length xs) (xs ++ ys) all)
 
 module _ {I : Type 0} (origin place : I → ℕ) (is_last : I → Bool) where
   -- items that may follow are of the numbers
@@ -76,15 +67,12 @@ module _ {I : Type 0} (origin place : I → ℕ) (is_last : I → Bool) where
       → AreInSequence place is_last (items_from origin q (before ++ items))
   AreInSequence-more numbers q before [] run may = subst (λ xs. AreInSequence place is_last (items_from origin q xs)) (sym (append-nil before)) run
   AreInSequence-more numbers q before (x ∷ xs) run may =
-      let one : items_from origin q (before ++ x ∷ []) ≡ items_from origin q before ++ items_from origin q (x ∷ []) = items_from-append origin q before (x ∷ []) in
       let more : AreInSequence place is_last (items_from origin q (before ++ x ∷ [])) =
-      ⊎_elim
-      (λ (here : origin x ≡ q).
-      subst (AreInSequence place is_last) (sym (one ∙ ap (λ ys. items_from origin q before ++ ys) (items_from-own origin q x [] here)))
-      (AreInSequence-push place is_last (items_from origin q before) x run (subst (λ p. IsNext place is_last (items_from origin p before) x) here may.0.next)))
-      (λ (apart : origin x ≢ q).
-      subst (AreInSequence place is_last) (sym (one ∙ ap (λ ys. items_from origin q before ++ ys) (items_from-other origin q x [] apart) ∙ append-nil (items_from origin q before))) run)
-      (cases_eq (origin x) q) in
+      rw (items_from-append origin q before (x ∷ []))
+      (⊎_elim
+      (λ (here : origin x ≡ q). rw (items_from-own origin q x [] here) (AreInSequence-push place is_last (items_from origin q before) x run (subst (λ p. IsNext place is_last (items_from origin p before) x) here may.0.next)))
+      (λ (apart : origin x ≢ q). rw (items_from-other origin q x [] apart, append-nil) run)
+      (cases_eq (origin x) q)) in
       subst (λ ys. AreInSequence place is_last (items_from origin q ys)) (append_assoc before (x ∷ []) xs) (AreInSequence-more numbers q (before ++ x ∷ []) xs more may.1)
 
   -- where the items of each number of a kind are in sequence, those behind a front may follow it
@@ -168,7 +156,7 @@ module _ {M I : Type 0} (items_of : M → List I) (origin place : I → ℕ) (is
           rule = record {
             numbered = subst (All (λ item. origin item < most_processes)) (sym (items-push items_of within m))
                 (All-append (λ item. origin item < most_processes) (flat_map items_of within) (items_of m) h.rule.numbered (λ k d inside. below_most (origin (get_or (items_of m) k d)) (owned k d inside)));
-            whole = λ q below. ap (λ xs. from q h.taken ++ xs) (items_from-push items_of origin q within m) ∙ sym (append_assoc (from q h.taken) (from q within) (items_from origin q (items_of m))) ∙ ap (λ xs. xs ++ items_from origin q (items_of m)) (h.rule.whole q below);
+            whole = λ q below. rw (items_from-push items_of origin q within m, ← append_assoc, h.rule.whole q below) refl;
             in_sequence = λ q below. (step q below).0;
           };
           takes = flat_map-set_same taken_by ends pass v w at refl ∙ h.takes;
@@ -197,11 +185,7 @@ module _ {M I : Type 0} (items_of : M → List I) (origin place : I → ℕ) (is
           put = h.put;
           rule = record {
             numbered = All-back (λ item. origin item < most_processes) (items_of m) (flat_map items_of within) h.rule.numbered;
-            whole = λ q below.
-                ap (λ xs. xs ++ from q within) (items_from-push items_of origin q h.taken m)
-                ∙ append_assoc (from q h.taken) (items_from origin q (items_of m)) (from q within)
-                ∙ ap (λ xs. from q h.taken ++ xs) (sym (items_from-append origin q (items_of m) (flat_map items_of within)))
-                ∙ h.rule.whole q below;
+            whole = λ q below. rw (items_from-push items_of origin q h.taken m, append_assoc, ← items_from-append origin q (items_of m) (flat_map items_of within)) (h.rule.whole q below);
             in_sequence = h.rule.in_sequence;
           };
           takes = flat_map-set_own taken_by ends pass v w at (omega (arith, ap length own, ap length h.takes)) ∙ ap (λ b. cond b (w.taken ∷ []) []) may ∙ ap (λ xs. (xs ++ m ∷ []) ∷ []) known;
@@ -224,7 +208,7 @@ module _ {M I : Type 0} (items_of : M → List I) (origin place : I → ℕ) (is
                 numbered = numbered;
                 follows = λ members rest.
                     may_follow origin place is_last (λ q. q < most_processes) members all (λ q below. subst (AreInSequence place is_last) (sym (put_is q below)) (h.rule.in_sequence q below))
-                    (λ q below some_there. inside_unless (sets.contains members q) (sets.contains unowned q) (rest q below) (false_from_ne_true (sets.contains unowned q) (λ member. some_there (put_is q below ∙ unput q below member))))
+                    (λ q below some_there. not-false (sets.contains members q) (sym (rest q below) ∙ false_from_ne_true (sets.contains unowned q) (λ member. some_there (put_is q below ∙ unput q below member))))
                     before (items_of m) (flat_map items_of within) refl numbered;
               },
         ),

@@ -67,7 +67,7 @@ impl Origins {
         ensures { IsTrue result ↔ ((p : ℕ) × (set.contains self.now p ≡ true) × (set.contains other.now p ≡ true)) }
     {
         for p in 0..MAX_PROCS {
-            if self.has[p] && other.has[p] {
+            if self.has(p as u32) && other.has(p as u32) {
                 return true;
             }
         }

@@ -1,5 +1,10 @@
-use Rattle.std.proofs.Common.{◌≡◌, ℕ, ◌<◌, true, false, get_or}
+use Rattle.std.proofs.Common.{◌≡◌, ℕ, ◌<◌, true}
+use Rattle.std.specs.FinSet as set
+use Rattle.wcp_lane.specs.ProcessNumbers.{AreProcessNumbers}
 use Rattle.wcp_lane.proofs.origins.Origins.meets.Given as goal
 
 abbrev pub invariant-loop-p : goal.invariant-loop-p
-invariant-loop-p l = (q : ℕ) → q < l.p → get_or l.self-inside.has q false ≡ true → get_or l.other-inside.has q false ≡ true → ⊥
+invariant-loop-p l = record {
+  within : 0 < l.p → AreProcessNumbers l.self;
+  apart : (q : ℕ) → q < l.p → set.contains l.self q ≡ true → set.contains l.other q ≡ true → ⊥;
+}
