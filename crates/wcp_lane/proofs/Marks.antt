@@ -8,12 +8,16 @@ use Rattle.std.proofs.lemmas.Bool.{cases_lt, both_ways}
 use Rattle.std.proofs.lemmas.Bool.Decides.{nat_tests}
 use Rattle.std.proofs.lemmas.List.{get_or-set_same, get_or-set_other, get_or_past}
 use Rattle.std.specs.FinMap.{nat_cmp-IsAntisymmetric}
+use Rattle.wcp_clock.specs.Limits.{most_processes}
+use Rattle.wcp_lane.specs.ProcessNumbers.{AreProcessNumbers}
 use Rattle.wcp_lane.specs.Numbers.{set_of, contains-marks}
 
--- a number in the set is below the number of marks
-pub contains_below : (marks : List Bool) (q : ℕ) → sets.contains (set_of marks) q ≡ true → q < length marks
-contains_below marks q is =
-    ⊎_elim (λ below. below) (λ past. absurd (both_ways _ (contains-marks marks q ∙ get_or_past marks q false past) is)) (cases_lt q (length marks))
+-- the numbers of a set of so many marks are those of processes
+pub process_numbers : (marks : List Bool) (numbers : sets.FinSet nat_cmp) → length marks ≡ most_processes → set_of marks ≡ numbers → AreProcessNumbers numbers
+process_numbers marks numbers full is q member =
+    ⊎_elim (λ below. below)
+    (λ past. absurd (both_ways _ (contains-marks marks q ∙ get_or_past marks q false (omega arith)) (ap (λ s. sets.contains s q) is ∙ member)))
+    (cases_lt q most_processes)
 
 -- what a set contains once p is added
 pub contains_with : (numbers : sets.FinSet nat_cmp) (p q : ℕ) → sets.contains (sets.insert numbers p) q ≡ (nat_eq q p || sets.contains numbers q)

@@ -1,10 +1,10 @@
 -- Each step on a lane keeps the lane rule.
-use Rattle.std.proofs.Common.{◌≡◌, ◌≢◌, ℕ, zero, suc, ◌<◌, Bool, true, false, true≢false, not, ◌&&◌, ◌||◌, List, [], ◌∷◌, ◌++◌, length, get_or, set, cond, sym, refl, ap, ◌∙◌, subst, ⊎_elim, arith, append_assoc}
+use Rattle.std.proofs.Common.{◌≡◌, ◌≢◌, ℕ, zero, suc, ◌<◌, Bool, true, false, true≢false, not, ◌&&◌, List, [], ◌∷◌, ◌++◌, length, get_or, set, cond, sym, refl, ap, ◌∙◌, subst, ⊎_elim, arith, append_assoc}
 use Rattle.std.specs.Prelude.{All, nat_eq}
 use Rattle.std.specs.FinSet as sets
 use Rattle.std.specs.Cmp.{nat_cmp_total}
-use Rattle.std.specs.List.{flat_map}
-use Rattle.std.proofs.lemmas.Bool.{cases_eq, cases_Bool, eq-eqb, or_right, false_from_ne_true, not-false, and_right}
+use Rattle.std.specs.List.{flat_map, list_any, range_with_len}
+use Rattle.std.proofs.lemmas.Bool.{cases_eq, cases_Bool, agree_below_at, false_from_ne_true, not-false, and_right}
 use Rattle.std.proofs.lemmas.Grind.{flat_map-append}
 use Rattle.std.proofs.lemmas.List.{append-nil, take_at, drop_at}
 use Rattle.std.proofs.lemmas.List.Elements.{All-append, All-cons, All-take, All-drop}
@@ -17,27 +17,18 @@ use Rattle.wcp_lane.specs.declared.passes.Hand.{Hand}
 use Rattle.wcp_lane.specs.declared.passes.Home.{Home}
 use Rattle.wcp_lane.specs.Message.{AllMayFollow}
 use Rattle.wcp_lane.specs.ProcessNumbers.{AreProcessNumbers}
-use Rattle.wcp_lane.specs.Passes.{Numbers, numbers_below, all_numbers, putter, taker, nobody, without, joined, with_put, with_taken, taken_by, put_of, IsPut, IsTaken, IsBalanced, IsRuled}
-use Rattle.wcp_lane.proofs.Marks.{contains_with}
+use Rattle.wcp_lane.specs.Passes.{Numbers, all_numbers, putter, taker, nobody, without, joined, with_put, with_taken, taken_by, put_of, IsPut, IsTaken, IsBalanced, IsRuled}
 use Rattle.wcp_lane.proofs.Lists.{not_empty, of_snoc, flat_map-set_same, flat_map-set_own, flat_map-one, flat_map-merge, items_from-append, items_from-own, items_from-other, items_from-none, items-push, items_from-push}
 
 and_true : (b : Bool) → (b && true) ≡ b
 and_true true = refl
 and_true false = refl
 
-numbers_below-contains : (n p : ℕ) → p < n → sets.contains (numbers_below n) p ≡ true
-unfolding numbers_below
-numbers_below-contains zero p below = absurd (omega arith)
-numbers_below-contains (suc n) p below =
-    contains_with (numbers_below n) n p
-    ∙ ⊎_elim
-    (λ (last : p ≡ n). ap (λ b. b || sets.contains (numbers_below n) p) (eq-eqb p n last))
-    (λ (earlier : p ≢ n). or_right (nat_eq p n) (sets.contains (numbers_below n) p) (numbers_below-contains n p (omega arith)))
-    (cases_eq p n)
-
 pub all_numbers-contains : (p : ℕ) → p < most_processes → sets.contains all_numbers p ≡ true
 unfolding all_numbers
-all_numbers-contains p below = numbers_below-contains most_processes p below
+all_numbers-contains p below =
+    sets.contains-from_list_nat (range_with_len 0 most_processes) p
+    ∙ agree_below_at (λ q. list_any (λ y. nat_eq y q) (range_with_len 0 most_processes)) (λ q. true) most_processes p refl below
 
 module _ {I : Type 0} (place : I → ℕ) (is_last : I → Bool) where
   -- a run with its next item is a run

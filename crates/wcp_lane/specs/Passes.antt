@@ -1,7 +1,7 @@
 -- What each end of a lane knows, and how this goes on at each step.
-use Rattle.std.specs.Prelude.{◌≡◌, ℕ, zero, suc, ◌<◌, Bool, true, false, not, if◌then◌else◌}
+use Rattle.std.specs.Prelude.{◌≡◌, ℕ, ◌<◌, Bool, true, false, not, if◌then◌else◌}
 use Rattle.std.specs.Prelude.{List, [], ◌∷◌, ◌++◌, map, All}
-use Rattle.std.specs.List.{flat_map}
+use Rattle.std.specs.List.{flat_map, range_with_len}
 use Rattle.std.specs.Ordering.{nat_cmp}
 use Rattle.std.specs.FinSet as set
 use Rattle.std.specs.Coded.{Coded, coded_ℕ}
@@ -17,14 +17,9 @@ Numbers = set.FinSet nat_cmp
 abbrev pub numbers_code : Coded Numbers
 numbers_code = set.code coded_ℕ
 
--- the numbers below n
-unfoldable pub numbers_below : ℕ → Numbers
-numbers_below zero = set.empty
-numbers_below (suc n) = set.insert (numbers_below n) n
-
 -- every number that an item in a lane may have
 unfoldable pub all_numbers : Numbers
-all_numbers = numbers_below most_processes
+all_numbers = set.from_list (range_with_len 0 most_processes)
 
 module _ {M : Type 0} where
   abbrev pub home : Numbers → List M → Home M

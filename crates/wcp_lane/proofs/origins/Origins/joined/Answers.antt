@@ -1,6 +1,6 @@
-use Rattle.std.proofs.Common.{ap, ◌∙◌, arith}
+use Rattle.std.proofs.Common.{◌∙◌}
 use Rattle.std.specs.FinSet as set
-use Rattle.wcp_lane.proofs.Marks.{contains_below, set_of-either}
+use Rattle.wcp_lane.proofs.Marks.{process_numbers, set_of-either}
 use Rattle.wcp_lane.proofs.origins.Origins.joined.Goals as goal
 
 pub returns-clause-value : goal.returns-clause-value
@@ -9,6 +9,4 @@ returns-clause-value c =
     ∙ (λ i. set.union (c.self.view_is i) (c.other.view_is i))
 
 pub returns-clause-within : goal.returns-clause-within
-returns-clause-within c = λ q is.
-    let below = contains_below c.other.inside.has q (ap (λ numbers. set.contains numbers q) c.other.view_is ∙ is) in
-    omega (arith, c.other.invariant)
+returns-clause-within c = process_numbers c.other.inside.has _ c.other.invariant c.other.view_is
