@@ -5,7 +5,7 @@ use Rattle.std.proofs.lemmas.Bool.{cases_eq}
 use Rattle.std.proofs.lemmas.List.{append_assoc, append-nil}
 use Rattle.std.proofs.lemmas.List.Elements.{All-contains, All-cons, All-nil, Contains-get_or, Contains-append_right}
 use Rattle.std.proofs.lemmas.List.Kept.{AllPairs-cons}
-use Rattle.std.proofs.lemmas.Option.{slice_get-get_or, get_or_from_slice_get}
+use Rattle.std.proofs.lemmas.Option.{slice_get-get_or}
 use Rattle.wcp_run.specs.Seats.{AreOfWatch, AreSeats, AreAllSeated, SitsAt}
 use Rattle.wcp_tree.proofs.Entries.{set_here, set_elsewhere}
 
@@ -37,17 +37,6 @@ module _ {E : Type 0} where
   is_free seats place seat within is none end at =
       let one : seat ≡ Some end = let both = sym (seat_at seats place seat within is) ∙ at in cc in
       true≢false (sym (ap is_some one) ∙ none)
-
-  -- who is taken from a place sat there
-  pub sat_there : (seats : List (Option E)) (place : ℕ) (d seat : Option E) (end : E) → place < length seats
-      → seat ≡ get_or seats place d → seat ≡ Some end → SitsAt seats place end
-  sat_there seats place d seat end within is some =
-      slice_get-get_or seats place d within ∙ ap Some (sym is ∙ some)
-
-  pub nobody_sat : (seats : List (Option E)) (place : ℕ) (d seat : Option E) (end : E) → SitsAt seats place end
-      → seat ≡ get_or seats place d → seat ≡ None → ⊥
-  nobody_sat seats place d seat end sits is none =
-      let there : get_or seats place d ≡ Some end = get_or_from_slice_get seats place (Some end) d sits in cc
 
   -- the next place is taken too
   pub one_more_seated : (seats : List (Option E)) (count : ℕ) → AreAllSeated count seats

@@ -1,19 +1,18 @@
-use Rattle.std.proofs.Common.{true≢false, sym, ap, ◌∙◌}
+use Rattle.std.proofs.Common.{arith, true≢false, sym, ap, ◌∙◌}
+use Rattle.std.proofs.lemmas.Option.{gets}
 use Rattle.wcp_ring.specs.Ends.{EndedSide}
 use Rattle.wcp_run.proofs.MatchedRings.{one_matched, one_ring, sits_still, unmatched}
-use Rattle.wcp_run.proofs.Seating.{nobody_sat, sat_there}
+use Rattle.wcp_run.specs.Seats.{SitsAt}
 use Rattle.wcp_run.proofs.rings.match_rings.Goals as goal
 
 pub unreachable-requires : goal.unreachable-requires
 unreachable-requires c =
     let sits = sits_still c.requires.seated c.requires.apart c.pop.new.self.items c.in-Some.feed c.loop-feed.invariant c.in-Some.ensures.items in
-    nobody_sat c.loop-feed.probes c.in-Some.feed.process c.index-probes-process.result c.take.result _ sits
-    c.take.ensures.value c.in_default-take.is
+    grind (arith, gets, sits)
 
 pub match_ends-requires : goal.match_ends-requires
 match_ends-requires c =
-    let sits = sat_there c.loop-feed.probes c.in-Some.feed.process c.index-probes-process.result c.take.result
-    c.in-Some-take.probe c.if-prove.false c.take.ensures.value c.in-Some-take.is in
+    let sits : SitsAt c.loop-feed.probes c.in-Some.feed.process c.in-Some-take.probe = grind (arith, gets) in
     record {
       one_ring =
           ap (λ (e : EndedSide). e.ring) c.into_link.ensures
@@ -22,8 +21,7 @@ match_ends-requires c =
 
 pub returns-in-Err-clause-exact : goal.returns-in-Err-clause-exact
 returns-in-Err-clause-exact c =
-    let sits = sat_there c.loop-feed.probes c.in-Some.feed.process c.index-probes-process.result c.take.result
-    c.in-Some-take.probe c.if-prove.false c.take.ensures.value c.in-Some-take.is in (
+    let sits : SitsAt c.loop-feed.probes c.in-Some.feed.process c.in-Some-take.probe = grind (arith, gets) in (
       λ is. absurd (true≢false (sym is)),
       λ all. absurd (unmatched c.requires.seated c.requires.apart c.pop.new.self.items c.in-Some.feed c.loop-feed.invariant c.in-Some.ensures.items
           sits (λ same. c.in-Err.ensures.unfinished (same ∙ ap (λ (e : EndedSide). e.put) (sym c.into_link.ensures))) all),
@@ -31,8 +29,7 @@ returns-in-Err-clause-exact c =
 
 pub loop-feed-preserved-in_default-match_ends : goal.loop-feed-preserved-in_default-match_ends
 loop-feed-preserved-in_default-match_ends c =
-    let sits = sat_there c.loop-feed.probes c.in-Some.feed.process c.index-probes-process.result c.take.result
-    c.in-Some-take.probe c.if-prove.false c.take.ensures.value c.in-Some-take.is in
+    let sits : SitsAt c.loop-feed.probes c.in-Some.feed.process c.in-Some-take.probe = grind (arith, gets) in
     let same = c.in_default-match_ends.ensures.matched in
     rw c.take.ensures.after
     (one_matched c.requires.seated c.requires.apart c.pop.new.self.items c.in-Some.feed c.loop-feed.invariant c.in-Some.ensures.items sits

@@ -1,15 +1,10 @@
-use Rattle.std.proofs.Common.{sym, true≢false, arith}
-use Rattle.wcp_run.proofs.Seating.{is_free, is_taken, one_more_seated}
+use Rattle.std.proofs.Common.{arith}
+use Rattle.std.proofs.lemmas.Option.{gets}
+use Rattle.wcp_run.proofs.Seating.{is_taken, one_more_seated}
 use Rattle.wcp_run.proofs.seats.are_seated.Goals as goal
 
 pub returns-then-is_none : goal.returns-then-is_none
-returns-then-is_none g c = (
-  λ none. absurd (true≢false (sym none)),
-  λ all.
-      let there = all c.loop-place.place c.loop-place-test.true in
-      absurd (is_free c.args.seats.now c.loop-place.place c.index-seats-place.result (omega arith) c.index-seats-place.is
-      c.if-is_none.ensures there.0 there.1),
-)
+returns-then-is_none g c = (λ none. grind arith, λ all. grind (arith, gets, all c.loop-place.place c.loop-place-test.true))
 
 pub loop-place-preserved : goal.loop-place-preserved
 loop-place-preserved g c =

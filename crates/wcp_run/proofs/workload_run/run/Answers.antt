@@ -1,5 +1,6 @@
-use Rattle.std.proofs.Common.{Result, Ok, Err, List, get_or, IfOk}
+use Rattle.std.proofs.Common.{List, get_or}
 use Rattle.std.proofs.lemmas.Option.{slice_get-get_or}
+use Rattle.std.proofs.lemmas.Result.{IfOk-weaker}
 use Rattle.wcp_model.specs.declared.plan.Plan.{Plan}
 use Rattle.wcp_model.specs.declared.workload.Task.{Task}
 use Rattle.wcp_model.specs.PlanFault.{IsCheckedPlan}
@@ -14,14 +15,10 @@ use Rattle.wcp_run.specs.RunWorkload.{AreEndsOfRun, ArePartsOf}
 use Rattle.wcp_run.proofs.workload_run.run.Goals as goal
 
 -- the ends of opened parts are those of the run
-ends_of_run : (plan : Plan) (tasks : List Task) (parts : Parts Worker) (ends : Ends WorkerEnd) → CouldBeRead plan.n tasks → IsCheckedPlan plan → ArePartsOf plan tasks parts → HaveEnded IsEndOfWorker parts ends
-    → AreEndsOfRun plan tasks ends
-ends_of_run plan tasks parts ends read checked are ended = record { checked = checked; within = read.within; parts = parts; are = are; ended = ended }
-
--- what follows from what holds of an outcome holds of it
-ok_follows : {T E : Type 0} (result : Result T E) (P Q : T → Type 0) → ((x : T) → P x → Q x) → IfOk result P → IfOk result Q
-ok_follows (Ok x) P Q follows is = follows x is
-ok_follows (Err e) P Q follows is = tt
+ends_of_run : {plan : Plan} {tasks : List Task} {parts : Parts Worker} {ends : Ends WorkerEnd} → CouldBeRead plan.n tasks → IsCheckedPlan plan
+    → ArePartsOf plan tasks parts → HaveEnded IsEndOfWorker parts ends → AreEndsOfRun plan tasks ends
+ends_of_run {parts = parts} read checked are ended =
+    record { checked = checked; within = read.within; parts = parts; are = are; ended = ended }
 
 pub run_parts-requires-after_bounds : goal.run_parts-requires-after_bounds
 run_parts-requires-after_bounds g c κs within =
@@ -33,17 +30,9 @@ run_parts-requires-after_bounds g c κs within =
     }
 
 pub conclude-requires : goal.conclude-requires
-conclude-requires g c =
-    let workload = c.args.workload.now in (
-      workload.plan,
-      workload.tasks.items,
-      ends_of_run workload.plan workload.tasks.items c.in-Ok.parts c.in-Ok-run_parts.ends c.requires.read c.requires.checked c.in-Ok.ensures c.in-Ok-run_parts.ensures,
-    )
+conclude-requires g c = (_, _, ends_of_run c.requires.read c.requires.checked c.in-Ok.ensures c.in-Ok-run_parts.ensures)
 
 pub returns-in-Ok-run_parts : goal.returns-in-Ok-run_parts
-returns-in-Ok-run_parts g c =
-    let workload = c.args.workload.now in
-    ok_follows c.conclude.result _ _
-    (λ outcome is. is workload.plan workload.tasks.items
-    (ends_of_run workload.plan workload.tasks.items c.in-Ok.parts c.in-Ok-run_parts.ends c.requires.read c.requires.checked c.in-Ok.ensures c.in-Ok-run_parts.ensures))
+returns-in-Ok-run_parts g c = IfOk-weaker c.conclude.result _ _
+    (λ outcome is. is _ _ (ends_of_run c.requires.read c.requires.checked c.in-Ok.ensures c.in-Ok-run_parts.ensures))
     c.conclude.ensures
