@@ -1,7 +1,6 @@
 use Rattle.std.proofs.Common.{◌≡◌, ◌≢◌, ℕ, ◌<◌, None, Some, refl, List, [], ◌∷◌, ◌++◌, length, slice_get, All, sym, ap, subst, ◌∙◌}
 use Rattle.std.proofs.lemmas.List.Elements.{All-nil, All-cons, All-head, All-tail, All-append, All-from_get_or}
 use Rattle.std.proofs.lemmas.Option.{get_or_from_slice_get}
-use Rattle.wcp_model.specs.PlanFault.{IsCheckedPlan}
 use Rattle.wcp_model.specs.declared.plan.Plan.{Plan}
 use Rattle.wcp_tree.specs.LiveProbe.{ClosedSide}
 use Rattle.wcp_tree.specs.Watches.{IsWired}
@@ -10,7 +9,6 @@ use Rattle.wcp_tree.specs.declared.relay.Relay.{Relay}
 use Rattle.wcp_tree.specs.declared.relay_end.RelayEnd.{RelayEnd}
 use Rattle.wcp_tree.specs.declared.relay_end.RelayEnd.TheVariants.{Whole, Faulted}
 use Rattle.wcp_tree.specs.declared.watch.Watch.{Watch}
-use Rattle.wcp_run.specs.CheckerEnds.{IsEndOfLoop}
 use Rattle.wcp_run.specs.Settling.{ComeFromWatch, IsEndOfSomeProbe, IsEndOfSomeRelay}
 use Rattle.wcp_run.specs.declared.checker_end.CheckerEnd.{CheckerEnd}
 
@@ -28,17 +26,6 @@ own_probes plan watch wired = own_places (λ probe. probe.core.id) watch.probes.
 pub own_relays : (plan : Plan) (watch : Watch) → IsWired plan 7 watch → All (λ relay. slice_get watch.relays.items relay.number ≡ Some relay) watch.relays.items
 own_relays plan watch wired = own_places (λ relay. relay.number) watch.relays.items (λ p within.
     let linked = wired.linked.each p within in (linked.relay, linked.is_relay, linked.of_plan.number))
-
-pub come_from_watch : (plan : Plan) (watch : Watch) (probes : List ClosedSide) (relays : List RelayEnd) (checker : CheckerEnd) → IsCheckedPlan plan → IsWired plan 7 watch → All (IsEndOfSomeProbe watch.probes.items) probes → All (IsEndOfSomeRelay watch.relays.items) relays → IsEndOfLoop watch.inbox checker → ComeFromWatch probes relays checker
-come_from_watch plan watch probes relays checker checked wired of_probes of_relays of_checker = record {
-  plan = plan;
-  watch = watch;
-  checked = checked;
-  wired = subst (λ number. IsWired plan number watch) (sym (of_checker.watch ∙ wired.number)) wired;
-  of_probes = λ k d within of. of_probes k d within;
-  of_relays = λ k d within of. of_relays k d within;
-  of_checker = of_checker;
-}
 
 pub front_of : {X : Type 0} (P : X → Type 0) (xs ys : List X) → All P (xs ++ ys) → All P xs
 front_of P [] ys all = All-nil P
