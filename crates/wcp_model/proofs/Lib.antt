@@ -1,6 +1,5 @@
 pub mod CutLaws
 pub mod Decided
-pub mod Elimination
 pub mod Places
 pub mod Reached
 pub mod SamePlace

@@ -11,7 +11,6 @@ pub mod FirstReason
 pub mod PlanFault
 pub mod Report
 pub mod Tree
-pub mod Elimination
 pub mod Occupancy
 pub mod Replies
 pub mod Growth

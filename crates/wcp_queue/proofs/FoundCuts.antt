@@ -5,8 +5,8 @@ use Rattle.std.proofs.lemmas.List.Elements.{Contains-get_or, All-from_get_or}
 use Rattle.wcp_clock.specs.declared.note.Item.{Item}
 use Rattle.wcp_model.specs.Cut.{IsLeastOf}
 use Rattle.wcp_model.specs.Report.{clocks_taken, IsCutByClocks, ClocksRise, notes_taken, IsDrained, AreInTurn}
-use Rattle.wcp_model.specs.Elimination.{GrowTo, IsSatisfyingChoice, AreInOrder}
-use Rattle.wcp_model.proofs.Elimination.{GrowTo-same, get_or-grown, IsSatisfyingChoice-grown, IsEliminatedBelow-grown}
+use Rattle.wcp_queue.specs.Choices.{GrowTo, IsSatisfyingChoice, AreInOrder}
+use Rattle.wcp_queue.proofs.Choices.{GrowTo-same, get_or-grown, IsSatisfyingChoice-grown, IsEliminatedBelow-grown}
 use Rattle.wcp_model.proofs.Choosing.{choice_from_each}
 use Rattle.wcp_queue.specs.declared.floor.Floor.{Floor}
 use Rattle.wcp_queue.specs.Floor.{HaveHeads, IsCutOfHeads}

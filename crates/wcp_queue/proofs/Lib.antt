@@ -1,3 +1,4 @@
+pub mod Choices
 pub mod LeftQueues
 pub mod NotesTaken
 pub mod RaisedFloor

@@ -1,4 +1,5 @@
 pub mod Checker
 pub mod CheckerView
+pub mod Choices
 pub mod Elimination
 pub mod Floor
