@@ -1,26 +1,19 @@
 -- The ends of a pool come from its watch, and what a settled report of them is about.
 use Rattle.std.proofs.Common.{◌≡◌, ℕ, zero, suc, ◌<◌, Option, Some, Result, Ok, Err, OnOk, List, [], ◌∷◌, ◌++◌, length, map, slice_get, get_or, All, sym, ap, subst, ◌∙◌, arith}
-use Rattle.std.proofs.lemmas.List.{length-map, length-replicate}
+use Rattle.std.proofs.lemmas.List.{length-map}
 use Rattle.std.proofs.lemmas.Option.{slice_get-get_or, slice_get_within}
 use Rattle.wcp_model.specs.declared.outcome.Tally.{Tally}
 use Rattle.wcp_model.specs.declared.plan.Plan.{Plan}
-use Rattle.wcp_model.specs.ProbeLog.{Call, Closed, setup, state_of_log}
+use Rattle.wcp_model.specs.ProbeLog.{Call, Closed, state_of_log}
 use Rattle.wcp_model.specs.Report.{ClocksRise, IsDrained, IsReportByClocks, notes_taken}
 use Rattle.wcp_model.proofs.CheckedPlans.{some_process}
 use Rattle.wcp_model.proofs.SamePlace.{element_within}
-use Rattle.wcp_probe.specs.Core.{Core, setup_of}
 use Rattle.wcp_tree.specs.LiveProbe.{ClosedSide, HasEmitted, IsEndOfProbe, LiveSide}
-use Rattle.wcp_tree.specs.Watches.{IsWired}
-use Rattle.wcp_tree.specs.declared.checker_inbox.CheckerInbox.{CheckerInbox}
-use Rattle.wcp_tree.specs.declared.relay.Relay.{Relay}
-use Rattle.wcp_tree.specs.declared.relay_end.RelayEnd.{RelayEnd}
 use Rattle.wcp_tree.proofs.Entries.{All-at, mapped_at}
-use Rattle.wcp_worker.proofs.FreshProbes.{probes_fresh}
 use Rattle.wcp_run.specs.declared.running.Ends.{Ends}
 use Rattle.wcp_run.specs.declared.settled.Settled.{Settled}
-use Rattle.wcp_run.specs.CheckerEnds.{IsEndOfLoop}
-use Rattle.wcp_run.specs.Settling.{ComeFromWatch, IsEndOfSomeProbe, IsEndOfSomeRelay, IsSettled}
-use Rattle.wcp_run.proofs.SettledEnds.{processes_are}
+use Rattle.wcp_run.specs.Settling.{ComeFromWatch, IsEndOfSomeProbe, IsSettled}
+use Rattle.wcp_run.proofs.WatchEnds.{IsEndOfProcess, all_processes, come_from_parts, end_of_process}
 use Rattle.watched_pool.specs.declared.dispatcher.Dispatcher.{Dispatcher}
 use Rattle.watched_pool.specs.declared.member.Member.{Member}
 use Rattle.watched_pool.specs.declared.member.Member.TheVariants as member
@@ -29,7 +22,7 @@ use Rattle.watched_pool.specs.declared.member.Share.{Share}
 use Rattle.watched_pool.specs.declared.member.Stop.{Stop}
 use Rattle.watched_pool.specs.Logs.{IsReplicaLog, IsDispatcherLog}
 use Rattle.watched_pool.specs.Members.{IsEndOfMember, IsReplica, probe_of}
-use Rattle.watched_pool.specs.Pools.{AreEndsOfPool, IsAllTaken, IsPoolReport}
+use Rattle.watched_pool.specs.Pools.{AreEndsOfPool, IsLogTaken, IsPoolReport}
 
 -- what is left of a member is the end of its probe
 closed_probe : (one : Member) (end : MemberEnd) → IsEndOfMember one end → IsEndOfProbe (probe_of one) end.probe
@@ -52,58 +45,20 @@ part_of_dispatcher (member.Dispatcher dispatcher) end same kind is share done = 
 part_of_dispatcher (member.Replica replica) end same kind is share done = absurd (cc)
 
 module _ (plan : Plan) (ends : Ends MemberEnd) (pool : AreEndsOfPool plan ends) where
-  -- each relay's end is of the relay at its place
-  relay_at : (k : ℕ) (end : RelayEnd) → slice_get ends.relays.items k ≡ Some end → IsEndOfSomeRelay pool.are.watch.relays.items end
-  relay_at k end at =
-      let below = slice_get_within ends.relays.items k end at in
-      let link = pool.are.wired.linked.each k (omega (arith, below, pool.ended.relays.count, ap length pool.are.relays)) in
-      let here : slice_get pool.parts.relays.items k ≡ Some link.relay = ap (λ (relays : List Relay). slice_get relays k) pool.are.relays ∙ link.is_relay in
-      let is = pool.ended.relays.each k link.relay end here at in
-      record {
-        relay = link.relay;
-        is_relay = ap (slice_get pool.are.watch.relays.items) (is.number ∙ link.of_plan.number) ∙ link.is_relay;
-        receipts = is.receipts;
-        whole = is.whole;
-      }
-
-  -- the probe of the member at a place is that of its process
-  record IsOwn (k : ℕ) (one : Member) : Type 0 where
-    pub is_probe : slice_get pool.are.watch.probes.items k ≡ Some (probe_of one)
-    pub id : (probe_of one).core.id ≡ k
-    pub made : setup_of (probe_of one).core ≡ setup plan.n k
-
-  own : (k : ℕ) (one : Member) → slice_get pool.parts.workers.items k ≡ Some one → IsOwn k one
-  own k one at =
-      let there : slice_get pool.are.watch.probes.items k ≡ Some (probe_of one) =
-      ap (λ (probes : List LiveSide). slice_get probes k) (sym pool.are.members) ∙ mapped_at probe_of pool.parts.workers.items k one at in
-      let core = ((probes_fresh plan pool.are.number pool.are.watch pool.are.wired).each k (probe_of one) there).0 in
-      record {
-        is_probe = there;
-        id = ap (λ (c : Core). c.id) core;
-        made = ap setup_of core ∙ ap (λ n. setup n k) (length-replicate plan.n 0);
-      }
-
-  -- and the end at this place is that of this member
+  -- the end at a place is that of the member there, whose probe is that of its process
   record HasEnd (k : ℕ) (end : MemberEnd) : Type 0 where
     pub one : Member
     pub one_at : slice_get pool.parts.workers.items k ≡ Some one
     pub is_end : IsEndOfMember one end
-    pub is_own : IsOwn k one
+    pub of_process : IsEndOfProcess pool.are.watch plan.n k (probe_of one) end.probe
 
   end_at : (k : ℕ) (end : MemberEnd) → slice_get ends.workers.items k ≡ Some end → HasEnd k end
   end_at k end at =
       let (one, one_at) = element_within pool.parts.workers.items k (omega (arith, slice_get_within ends.workers.items k end at, pool.ended.workers.count)) in
-      record { one = one; one_at = one_at; is_end = pool.ended.workers.each k one end one_at at; is_own = own k one one_at }
-
-  probe_at : (k : ℕ) (end : MemberEnd) → slice_get ends.workers.items k ≡ Some end → IsEndOfSomeProbe pool.are.watch.probes.items end.probe
-  probe_at k end at =
-      let has = end_at k end at in
-      let closed = closed_probe has.one end has.is_end in
-      record {
-        probe = probe_of has.one;
-        is_probe = ap (slice_get pool.are.watch.probes.items) (closed.id ∙ has.is_own.id) ∙ has.is_own.is_probe;
-        one_ring = closed.ring;
-      }
+      let is_end = pool.ended.workers.each k one end one_at at in
+      let there : slice_get pool.are.watch.probes.items k ≡ Some (probe_of one) =
+      ap (λ (probes : List LiveSide). slice_get probes k) (sym pool.are.members) ∙ mapped_at probe_of pool.parts.workers.items k one one_at in
+      record { one = one; one_at = one_at; is_end = is_end; of_process = end_of_process pool.are.wired k (probe_of one) end.probe there (closed_probe one end is_end) }
 
   abbrev IsOfWatch : ClosedSide → Type 0
   IsOfWatch probe = IsEndOfSomeProbe pool.are.watch.probes.items probe
@@ -116,26 +71,15 @@ module _ (plan : Plan) (ends : Ends MemberEnd) (pool : AreEndsOfPool plan ends) 
       let there : slice_get of k ≡ Some (get_or of k d) = slice_get-get_or of k d within in
       let same : Some end.probe ≡ Some (get_or of k d) = sym (mapped_at (λ (e : MemberEnd). e.probe) ends.workers.items k end at) ∙ there in
       let is : end.probe ≡ get_or of k d = cc in
-      subst IsOfWatch is (probe_at k end at)
+      subst IsOfWatch is (end_at k end at).of_process.is_end
 
   pub come : (probes : List ClosedSide) → map (λ end. end.probe) ends.workers.items ≡ probes → ComeFromWatch probes ends.relays.items ends.checker
-  come probes apart = record {
-    plan = plan;
-    watch = pool.are.watch;
-    checked = pool.checked;
-    wired = subst (λ number. IsWired plan number pool.are.watch)
-        (sym (pool.ended.checker.watch ∙ ap (λ (inbox : CheckerInbox). inbox.watch) pool.are.inbox ∙ pool.are.wired.number)) pool.are.wired;
-    of_probes = λ k d within same. subst (All IsOfWatch) apart probes_of k d within;
-    of_relays = λ k d within same.
-        relay_at k (get_or ends.relays.items k d) (slice_get-get_or ends.relays.items k d within);
-    of_checker = subst (λ inbox. IsEndOfLoop inbox ends.checker) pool.are.inbox pool.ended.checker;
-  }
+  come probes apart = come_from_parts pool.are.wired pool.checked (rw apart at probes_of) pool.ended pool.are.relays pool.are.inbox
 
   module _ (probes : List ClosedSide) (shares : List Share) (apart : map (λ end. end.probe) ends.workers.items ≡ probes) (done : map (λ end. end.done) ends.workers.items ≡ map Ok shares)
       (book : List (Option Tally)) (settled : Settled) (is : IsSettled probes ends.checker book settled) where
     n_is : ends.checker.processes ≡ plan.n
-    unfolding come
-    n_is = processes_are (come probes apart)
+    n_is = all_processes pool.are.wired (rw pool.are.inbox at pool.ended.checker)
 
     count : length ends.workers.items ≡ plan.n
     count = omega (arith, pool.ended.workers.count, sym (length-map pool.parts.workers.items probe_of) ∙ ap length pool.are.members, pool.are.wired.rings.probes_count)
@@ -150,14 +94,14 @@ module _ (plan : Plan) (ends : Ends MemberEnd) (pool : AreEndsOfPool plan ends) 
 
     -- what was taken of a process is what its probe emitted
     taken_at : (k : ℕ) (end : MemberEnd) → slice_get ends.workers.items k ≡ Some end → (has : HasEnd k end) → (log : List Call) → HasEmitted (probe_of has.one) log end.probe
-        → IsAllTaken plan.n ends.checker.receipt.taken k log
+        → IsLogTaken plan.n ends.checker.receipt.taken k log
     taken_at k end at has log emitted =
         let in_probes : slice_get probes k ≡ Some end.probe = ap (λ (ps : List ClosedSide). slice_get ps k) (sym apart) ∙ mapped_at (λ (e : MemberEnd). e.probe) ends.workers.items k end at in
         let whole = All-at (λ (e : ClosedSide). notes_taken e.id ends.checker.receipt.taken ≡ e.link.put) probes k end.probe is.whole in_probes in
-        let id = (closed_probe has.one end has.is_end).id ∙ has.is_own.id in
-        ap (λ q. notes_taken q ends.checker.receipt.taken) (sym id) ∙ whole ∙ emitted ∙ ap (λ made. (state_of_log made (log ++ Closed ∷ [])).notes) has.is_own.made
+        ap (λ q. notes_taken q ends.checker.receipt.taken) (sym has.of_process.id) ∙ whole ∙ emitted
+        ∙ ap (λ made. (state_of_log made (log ++ Closed ∷ [])).notes) has.of_process.made
 
-    dispatcher : (log : List Call) × IsDispatcherLog 0 log × IsAllTaken plan.n ends.checker.receipt.taken 0 log
+    dispatcher : (log : List Call) × IsDispatcherLog 0 log × IsLogTaken plan.n ends.checker.receipt.taken 0 log
     dispatcher =
         let (end, at) = element_within ends.workers.items 0 (omega (arith, count, some_process plan pool.checked)) in
         let has = end_at 0 end at in
@@ -166,7 +110,7 @@ module _ (plan : Plan) (ends : Ends MemberEnd) (pool : AreEndsOfPool plan ends) 
         let part = part_of_dispatcher has.one end pool.are.pool.dispatcher (cc) has.is_end share.0 share.1 in
         (part.0, part.1, taken_at 0 end at has part.0 part.2)
 
-    replica : (p : ℕ) → 0 < p → p < plan.n → (log : List Call) × IsReplicaLog log × IsAllTaken plan.n ends.checker.receipt.taken p log
+    replica : (p : ℕ) → 0 < p → p < plan.n → (log : List Call) × IsReplicaLog log × IsLogTaken plan.n ends.checker.receipt.taken p log
     replica zero some within = absurd (omega arith)
     replica (suc k) some within =
         let (end, at) = element_within ends.workers.items (suc k) (omega (arith, count, within)) in

@@ -19,7 +19,7 @@ use Rattle.watched_pool.specs.Logs.{IsReplicaLog, IsDispatcherLog}
 
 -- The parts of a watch that was wired as a plan says: a new member for each process, which has its probe and is the
 -- dispatcher or a replica, the relays, and a fresh checker.
-pub record ArePartsOf (plan : Plan) (parts : Parts Member) : Type 0 where
+pub record ArePartsOfPool (plan : Plan) (parts : Parts Member) : Type 0 where
   pub number : ℕ
   pub watch : Watch
   pub wired : IsWired plan number watch
@@ -34,18 +34,18 @@ pub record ArePartsOf (plan : Plan) (parts : Parts Member) : Type 0 where
 pub record AreEndsOfPool (plan : Plan) (ends : Ends MemberEnd) : Type 0 where
   pub checked : IsCheckedPlan plan
   pub parts : Parts Member
-  pub are : ArePartsOf plan parts
+  pub are : ArePartsOfPool plan parts
   pub ended : HaveEnded IsEndOfMember parts ends
 
 -- What was taken of process p of n is all that its probe emits where it makes these calls and then closes.
-abbrev pub IsAllTaken : ℕ → List Item → ℕ → List Call → Type 0
-IsAllTaken n items p log = notes_taken p items ≡ (state_of_log (setup n p) (log ++ Closed ∷ [])).notes
+abbrev pub IsLogTaken : ℕ → List Item → ℕ → List Call → Type 0
+IsLogTaken n items p log = notes_taken p items ≡ (state_of_log (setup n p) (log ++ Closed ∷ [])).notes
 
 -- What a report of a pool of n processes is about: all that the dispatcher's probe and those of the replicas emitted,
 -- by their logs; it is the exact one of this, by clocks.
 pub record IsPoolReport (n : ℕ) (report : Report) : Type 0 where
   pub items : List Item
-  pub dispatcher : (log : List Call) × IsDispatcherLog 0 log × IsAllTaken n items 0 log
-  pub replica : (p : ℕ) → 0 < p → p < n → (log : List Call) × IsReplicaLog log × IsAllTaken n items p log
+  pub dispatcher : (log : List Call) × IsDispatcherLog 0 log × IsLogTaken n items 0 log
+  pub replica : (p : ℕ) → 0 < p → p < n → (log : List Call) × IsReplicaLog log × IsLogTaken n items p log
   pub drained : IsDrained n items
   pub exact : ClocksRise n items → IsReportByClocks n items report

@@ -2,7 +2,7 @@ ghost use Rattle.std.specs.Prelude.{◌≡◌, ◌+◌, ◌<◌, ◌≤◌, leng
 ghost use Rattle.wcp_clock.specs.Limits.{most_processes};
 ghost use Rattle.wcp_tree.specs.LiveProbe.{IsSameLive};
 
-use crate::job::{Answer, Job};
+use crate::job::{Job, JobSum};
 use crate::member::{MemberEnd, Share, Stop};
 use crossbeam_channel::{Receiver, Sender};
 use std::sync::Wait;
@@ -24,7 +24,7 @@ pub struct Partner {
     /// The replica's process.
     pub(crate) replica: u32,
     pub(crate) jobs: Sender<Stamped<Job>>,
-    pub(crate) answers: Receiver<Stamped<Answer>>,
+    pub(crate) answers: Receiver<Stamped<JobSum>>,
 }
 
 /// What the dispatcher works with. Its condition is that a job is unanswered.

@@ -14,7 +14,7 @@ pub struct Job {
 
 /// The sum that a job asked for.
 #[derive(Clone, Copy, Debug, PartialEq, Eq)]
-pub struct Answer {
+pub struct JobSum {
     /// Which job it was.
     pub job: u32,
     pub sum: u64,
@@ -39,7 +39,7 @@ impl Numbers {
     }
 
     /// Does a job: the sum of its numbers, which wraps at 2^64.
-    pub(crate) fn answer(&self, job: Job) -> Answer
+    pub(crate) fn answer(&self, job: Job) -> JobSum
         ensures job { result.job ≡ job.number }
         ensures sum { IfSome (slice_get self.now.jobs.items (job.number - 1)) (λ numbers.
             result.sum ≡ sum numbers.items % 2 ^ 64) }
@@ -48,7 +48,7 @@ impl Numbers {
             Some(numbers) => wrapping_sum(numbers),
             None => 0,
         };
-        Answer {
+        JobSum {
             job: job.number,
             sum,
         }

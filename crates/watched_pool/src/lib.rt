@@ -12,7 +12,7 @@ mod program;
 mod replica;
 
 pub use dispatcher::{Desk, Dispatcher, Pace, Partner};
-pub use job::{Answer, Job, Numbers};
+pub use job::{Job, JobSum, Numbers};
 pub use member::{Member, MemberEnd, Share, Stop};
 pub use pool::{PoolReport, run_pool};
 pub use pool_fault::PoolFault;

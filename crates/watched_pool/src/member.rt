@@ -1,5 +1,5 @@
 use crate::dispatcher::Dispatcher;
-use crate::job::{Answer, Numbers};
+use crate::job::{JobSum, Numbers};
 use crate::replica::Replica;
 use std::sync::Wait;
 use thiserror::Error;
@@ -39,7 +39,7 @@ impl Share {
     }
 
     /// The share with one more answer.
-    pub(crate) fn with(self, answer: Answer) -> Share {
+    pub(crate) fn with(self, answer: JobSum) -> Share {
         Share {
             jobs: self.jobs.saturating_add(1),
             sum: self.sum.wrapping_add(answer.sum),

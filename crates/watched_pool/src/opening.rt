@@ -3,7 +3,7 @@ ghost use Rattle.wcp_clock.specs.Limits.{most_processes};
 ghost use Rattle.wcp_model.specs.PlanFault.{IsCheckedPlan};
 ghost use Rattle.wcp_tree.specs.LiveProbe.{LiveFor};
 ghost use Rattle.watched_pool.specs.Members.{IsNew, IsPool, IsReplica, probe_of};
-ghost use Rattle.watched_pool.specs.Pools.{ArePartsOf};
+ghost use Rattle.watched_pool.specs.Pools.{ArePartsOfPool};
 
 use crate::dispatcher::{Desk, Dispatcher, Pace, Partner};
 use crate::member::{Member, Share};
@@ -42,7 +42,7 @@ pub(crate) fn open_parts(
     pace: Pace,
 ) -> Result<Parts<Member>, AllocError>
     requires { IsCheckedPlan plan.now }
-    ensures { IfOk result (ArePartsOf plan.now) }
+    ensures { IfOk result (ArePartsOfPool plan.now) }
 {
     let Watch {
         probes,

@@ -4,7 +4,7 @@ ghost use Rattle.wcp_tree.specs.LiveProbe.{IsSameLive, LiveFor};
 ghost use Rattle.watched_pool.specs.Logs.{AnswersJob, IsAnswering};
 ghost use Rattle.watched_pool.specs.Members.{IsEndOfReplica};
 
-use crate::job::{Answer, Job, Numbers};
+use crate::job::{Job, JobSum, Numbers};
 use crate::member::{MemberEnd, Share, Stop};
 use crossbeam_channel::{Receiver, Sender};
 use std::sync::Wait;
@@ -19,7 +19,7 @@ const DISPATCHER: u32 = 0;
 pub struct Replica {
     pub(crate) probe: LiveProbe,
     pub(crate) jobs: Receiver<Stamped<Job>>,
-    pub(crate) answers: Sender<Stamped<Answer>>,
+    pub(crate) answers: Sender<Stamped<JobSum>>,
 }
 
 impl Replica {
@@ -48,7 +48,7 @@ fn answer_all<R: Wait>(
     rt: &R,
     probe: &mut LiveProbe,
     jobs: &Receiver<Stamped<Job>>,
-    answers: &Sender<Stamped<Answer>>,
+    answers: &Sender<Stamped<JobSum>>,
     numbers: &Numbers,
 ) -> Result<Share, Stop>
     requires { IsAnswering probe.old }
@@ -67,10 +67,10 @@ fn answer_all<R: Wait>(
 fn answer_one<R: Wait>(
     rt: &R,
     probe: &mut LiveProbe,
-    answers: &Sender<Stamped<Answer>>,
+    answers: &Sender<Stamped<JobSum>>,
     numbers: &Numbers,
     stamped: Stamped<Job>,
-) -> Result<Answer, Stop>
+) -> Result<JobSum, Stop>
     ensures answers { OnOk result (AnswersJob probe.old probe.new) }
     ensures same { IsSameLive probe.old probe.new }
 {

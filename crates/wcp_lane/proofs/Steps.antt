@@ -17,7 +17,7 @@ use Rattle.wcp_lane.specs.declared.passes.Hand.{Hand}
 use Rattle.wcp_lane.specs.declared.passes.Home.{Home}
 use Rattle.wcp_lane.specs.Message.{AllMayFollow}
 use Rattle.wcp_lane.specs.ProcessNumbers.{AreProcessNumbers}
-use Rattle.wcp_lane.specs.Passes.{Numbers, all_numbers, putter, taker, nobody, without, joined, with_put, with_taken, taken_by, put_of, IsPut, IsTaken, IsBalanced, IsRuled}
+use Rattle.wcp_lane.specs.Passes.{Numbers, all_numbers, putter, taker, nobody, without, joined, with_put, with_taken, taken_of, put_of, IsPut, IsTaken, IsBalanced, IsRuled}
 use Rattle.wcp_lane.proofs.Lists.{not_empty, of_snoc, flat_map-set_same, flat_map-set_own, flat_map-one, flat_map-merge, items_from-append, items_from-own, items_from-other, items_from-none, items-push, items_from-push}
 
 and_true : (b : Bool) → (b && true) ≡ b
@@ -32,7 +32,7 @@ all_numbers-contains p below =
 
 module _ {I : Type 0} (place : I → ℕ) (is_last : I → Bool) where
   -- a run with its next item is a run
-  AreInSequence-push : (xs : List I) (x : I) → AreInSequence place is_last xs → IsNext place is_last xs x → AreInSequence place is_last (xs ++ x ∷ [])
+  pub AreInSequence-push : (xs : List I) (x : I) → AreInSequence place is_last xs → IsNext place is_last xs x → AreInSequence place is_last (xs ++ x ∷ [])
   AreInSequence-push xs x run next before item behind e =
       ⊎_elim
       (λ (old : (rest : List I) × (xs ≡ before ++ item ∷ rest)). run before item old.0 old.1)
@@ -150,7 +150,7 @@ module _ {M I : Type 0} (items_of : M → List I) (origin place : I → ℕ) (is
             whole = λ q below. rw (items_from-push items_of origin q within m, ← append_assoc, h.rule.whole q below) refl;
             in_sequence = λ q below. (step q below).0;
           };
-          takes = flat_map-set_same taken_by ends pass v w at refl ∙ h.takes;
+          takes = flat_map-set_same taken_of ends pass v w at refl ∙ h.takes;
           stands = λ q below. (step q below).1;
         },
         refl,
@@ -159,8 +159,8 @@ module _ {M I : Type 0} (items_of : M → List I) (origin place : I → ℕ) (is
   -- the end that takes has taken what was taken
   taken_all : (within : List M) (ends : List (Hand M)) (pass : ℕ) (v : Hand M) (h : Rule within ends) → v.takes ≡ true → get_elem? ends pass ≡ some v → v.taken ≡ h.taken
   taken_all within ends pass v h may at =
-      let own : taken_by v ≡ v.taken ∷ [] = ap (λ b. cond b (v.taken ∷ []) []) may in
-      let one : taken_by v ≡ h.taken ∷ [] = flat_map-one taken_by ends pass v h.taken at h.takes (omega (arith, ap length own)) in
+      let own : taken_of v ≡ v.taken ∷ [] = ap (λ b. cond b (v.taken ∷ []) []) may in
+      let one : taken_of v ≡ h.taken ∷ [] = flat_map-one taken_of ends pass v h.taken at h.takes (omega (arith, ap length own)) in
       cc
 
   -- a message is taken
@@ -168,7 +168,7 @@ module _ {M I : Type 0} (items_of : M → List I) (origin place : I → ℕ) (is
   takes pass v may m within ends h at =
       let w : Hand M = with_taken m v in
       let known = taken_all (m ∷ within) ends pass v h may at in
-      let own : taken_by v ≡ v.taken ∷ [] = ap (λ b. cond b (v.taken ∷ []) []) may in
+      let own : taken_of v ≡ v.taken ∷ [] = ap (λ b. cond b (v.taken ∷ []) []) may in
       let numbered : All (λ item. origin item < most_processes) (items_of m) = All-front (λ item. origin item < most_processes) (items_of m) (flat_map items_of within) h.rule.numbered in (
         w,
         record {
@@ -179,7 +179,7 @@ module _ {M I : Type 0} (items_of : M → List I) (origin place : I → ℕ) (is
             whole = λ q below. rw (items_from-push items_of origin q h.taken m, append_assoc, ← items_from-append origin q (items_of m) (flat_map items_of within)) (h.rule.whole q below);
             in_sequence = h.rule.in_sequence;
           };
-          takes = flat_map-set_own taken_by ends pass v w at (omega (arith, ap length own, ap length h.takes)) ∙ ap (λ b. cond b (w.taken ∷ []) []) may ∙ ap (λ xs. (xs ++ m ∷ []) ∷ []) known;
+          takes = flat_map-set_own taken_of ends pass v w at (omega (arith, ap length own, ap length h.takes)) ∙ ap (λ b. cond b (w.taken ∷ []) []) may ∙ ap (λ xs. (xs ++ m ∷ []) ∷ []) known;
           stands = λ q below. flat_map-set_same (put_by q) ends pass v w at refl ∙ h.stands q below;
         },
         (
@@ -217,7 +217,7 @@ module _ {M I : Type 0} (items_of : M → List I) (origin place : I → ℕ) (is
         taken = h.taken;
         put = h.put;
         rule = h.rule;
-        takes = flat_map-append taken_by (set ends pass left) (right ∷ []) ∙ append-nil (flat_map taken_by (set ends pass left)) ∙ flat_map-set_same taken_by ends pass v left at refl ∙ h.takes;
+        takes = flat_map-append taken_of (set ends pass left) (right ∷ []) ∙ append-nil (flat_map taken_of (set ends pass left)) ∙ flat_map-set_same taken_of ends pass v left at refl ∙ h.takes;
         stands = λ p below. flat_map-append (put_by p) (set ends pass left) (right ∷ []) ∙ ⊎_elim
             (λ (given : sets.contains numbers p ≡ true).
             let own : put_by p v ≡ [] ∷ [] = ap (put_by p) is ∙ own_put p unowned [] (among p below given) in
@@ -239,7 +239,7 @@ module _ {M I : Type 0} (items_of : M → List I) (origin place : I → ℕ) (is
     taken = h.taken;
     put = h.put;
     rule = h.rule;
-    takes = flat_map-merge taken_by ends pass other v u (joined v u) nobody h.taken at apart at_other (sym (ap (λ (x : Hand M). taken_by x ++ taken_by v) is)) refl h.takes;
+    takes = flat_map-merge taken_of ends pass other v u (joined v u) nobody h.taken at apart at_other (sym (ap (λ (x : Hand M). taken_of x ++ taken_of v) is)) refl h.takes;
     stands = λ p below. flat_map-merge (put_by p) ends pass other v u (joined v u) nobody (h.put p) at apart at_other
         (flat_map-append (λ (x : Home M). cond (sets.contains x.numbers p) (from p x.put ∷ []) []) u.home v.home) refl (h.stands p below);
   }

@@ -73,8 +73,8 @@ module _ {M I : Type 0} (items : M → List I) (origin place : I → ℕ) (is_la
       × ((unowned : Numbers) (taken : List M) → v ≡ taker unowned taken → IsFresh unowned taken message)
 
 -- what an end has taken, if it is the one that takes
-abbrev pub taken_by : {M : Type 0} → Hand M → List (List M)
-taken_by v = if v.takes then v.taken ∷ [] else []
+abbrev pub taken_of : {M : Type 0} → Hand M → List (List M)
+taken_of v = if v.takes then v.taken ∷ [] else []
 
 module _ {M I : Type 0} (items : M → List I) (origin : I → ℕ) where
   -- what an end has put of a number: one list for each time that it stands for the number
@@ -98,5 +98,5 @@ pub record IsRuled
   pub taken : List M
   pub put : ℕ → List I
   pub rule : LaneRule origin place is_last (flat_map items taken) (flat_map items within) put
-  pub takes : flat_map taken_by ends ≡ taken ∷ []
+  pub takes : flat_map taken_of ends ≡ taken ∷ []
   pub stands : (p : ℕ) → p < most_processes → flat_map (put_of items origin p) ends ≡ put p ∷ []

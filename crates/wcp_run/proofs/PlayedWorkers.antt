@@ -15,7 +15,7 @@ use Rattle.wcp_worker.specs.Played.{HasPlayed, IsEndOfWorker}
 use Rattle.wcp_worker.specs.Runs.{AreOfLane, ends_between, outbox_of, inbox_of}
 use Rattle.wcp_worker.specs.Workers.{AreWorkersOf}
 use Rattle.wcp_worker.proofs.PlayedLanes.{ends_of_lane}
-use Rattle.wcp_run.specs.declared.played.Played.{Played}
+use Rattle.wcp_run.specs.declared.played_ends.PlayedEnds.{PlayedEnds}
 use Rattle.wcp_run.specs.PlayedEnds.{probe_left, mailbox_left, AreOfWorkers}
 use Rattle.wcp_run.specs.Threads.{AreEndsOf}
 
@@ -38,7 +38,7 @@ whole_end worker (Whole own kept) probe mailbox is_probe is_mailbox (log, has) =
     (log, subst₂ (HasPlayed worker log) one two has)
 whole_end worker (GaveUp fault own) probe mailbox is_probe is_mailbox is = cc
 
-module _ {workers : List Worker} {ends : List WorkerEnd} (ended : AreEndsOf IsEndOfWorker workers ends) {played : Played} (are : AreOfWorkers ends played) where
+module _ {workers : List Worker} {ends : List WorkerEnd} (ended : AreEndsOf IsEndOfWorker workers ends) {played : PlayedEnds} (are : AreOfWorkers ends played) where
   -- the worker of a process played, and what it left is at its place
   pub record HasPlayedAt (p : ℕ) : Type 0 where
     pub worker : Worker

@@ -17,7 +17,7 @@ use Rattle.wcp_tree.specs.LiveProbe.{ClosedSide, snapshots_in}
 use Rattle.wcp_worker.specs.declared.worker_end.WorkerEnd.{WorkerEnd}
 use Rattle.wcp_worker.specs.Runs.{AreMatched, AreOfLane, HaveRun, ends_between}
 use Rattle.wcp_worker.proofs.RunOutcomes.{IsWorkloadOutcome-run}
-use Rattle.wcp_run.specs.declared.played.Played.{Played}
+use Rattle.wcp_run.specs.declared.played_ends.PlayedEnds.{PlayedEnds}
 use Rattle.wcp_run.specs.declared.running.Ends.{Ends}
 use Rattle.wcp_run.specs.declared.settled.Settled.{Settled}
 use Rattle.wcp_run.specs.PlayedEnds.{AreOfWorkers}
@@ -41,7 +41,7 @@ module _ {plan : Plan} {tasks : List Task} {ends : Ends WorkerEnd} (run : AreEnd
   pub few_ends : length ends.workers.items ≤ most_processes
   few_ends = omega (arith, few_processes plan run.checked, run.ended.workers.count, workers_count)
 
-  module _ {played : Played} (left : AreOfWorkers ends.workers.items played) where
+  module _ {played : PlayedEnds} (left : AreOfWorkers ends.workers.items played) where
     pub few_mailboxes : length played.mailboxes.items ≤ most_processes
     few_mailboxes = omega (arith, few_processes plan run.checked, as_many run.ended.workers left, workers_count)
 

@@ -9,7 +9,7 @@ mod lanes;
 mod matching;
 mod opening;
 mod part;
-mod played;
+mod played_ends;
 mod rings;
 mod run_fault;
 mod running;

@@ -9,13 +9,13 @@ use wcp_worker::{Mailbox, WorkerEnd, WorkerFault};
 
 /// What workers leave that all played to their end, by the numbers of their processes.
 #[derive(Drop)]
-pub struct Played {
+pub struct PlayedEnds {
     pub(crate) probes: Vec<ProbeEnd>,
     pub(crate) mailboxes: Vec<Mailbox>,
 }
 
 /// Takes the ends of workers apart. `Err` where one of them gave up, or memory runs out.
-pub(crate) fn take_apart(alloc: Global, workers: Vec<WorkerEnd>) -> Result<Played, RunFault>
+pub(crate) fn take_apart(alloc: Global, workers: Vec<WorkerEnd>) -> Result<PlayedEnds, RunFault>
     ensures { IfOk result (AreOfWorkers workers.items) }
 {
     let Ok(mut probes) = Vec::with_capacity(alloc, workers.len()) else {
@@ -32,7 +32,7 @@ pub(crate) fn take_apart(alloc: Global, workers: Vec<WorkerEnd>) -> Result<Playe
             return Err(RunFault::Memory);
         };
     }
-    Ok(Played { probes, mailboxes })
+    Ok(PlayedEnds { probes, mailboxes })
 }
 
 /// Why a run fails whose workers left these ends, if one of them tells: the first reason that applies.

@@ -10,7 +10,7 @@ ghost use Rattle.wcp_run.specs.RunWorkload.{AreEndsOfRun};
 
 use crate::checker_end::CheckFault;
 use crate::opening::open_parts;
-use crate::played::{Played, fault_of_workers, take_apart};
+use crate::played_ends::{PlayedEnds, fault_of_workers, take_apart};
 use crate::run_fault::RunFault;
 use crate::running::{Ends, StartFault, run_parts};
 use crate::settle::settle;
@@ -59,7 +59,7 @@ fn conclude(alloc: Global, ends: Ends<WorkerEnd>, book: Book) -> Result<Outcome,
         relays,
         checker,
     } = ends;
-    let Played { probes, mailboxes } = take_apart(alloc, workers)?;
+    let PlayedEnds { probes, mailboxes } = take_apart(alloc, workers)?;
     if let Err(_) = match_lanes(mailboxes) {
         return Err(RunFault::Unfinished);
     }

@@ -4,7 +4,7 @@ use Rattle.std.proofs.lemmas.List.Elements.{All-push}
 use Rattle.wcp_clock.specs.declared.note.Note.{Note}
 use Rattle.wcp_model.specs.LaneRule.{AreInSequence}
 use Rattle.wcp_clock.specs.Notes.{place_of, is_close}
-use Rattle.wcp_tree.proofs.Lists.{AreInSequence-push}
+use Rattle.wcp_lane.proofs.Steps.{AreInSequence-push}
 use Rattle.wcp_tree.specs.declared.feed.Feed.{Feed}
 use Rattle.wcp_tree.specs.Feeding.{IsInOrder, IsNextOfProcess}
 

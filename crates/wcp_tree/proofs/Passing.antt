@@ -10,14 +10,14 @@ use Rattle.wcp_clock.specs.declared.note.Item.{Item}
 use Rattle.wcp_model.specs.LaneRule.{IsNext}
 use Rattle.wcp_clock.specs.Notes.{place_of, is_close}
 use Rattle.wcp_lane.specs.Ends.{PutEnd}
-use Rattle.wcp_lane.proofs.Steps.{All-front, may_follow}
+use Rattle.wcp_lane.proofs.Steps.{All-front, AreInSequence-push, may_follow}
 use Rattle.wcp_hold.specs.Held.{Held}
 use Rattle.wcp_tree.specs.declared.bundle.Bundle.{Bundle}
 use Rattle.wcp_tree.specs.declared.outlet.Outlet.{Outlet}
 use Rattle.wcp_tree.specs.Feeding.{items_of}
 use Rattle.wcp_tree.specs.Bundles.{IsFirstBundle}
 use Rattle.wcp_tree.specs.RelayWork.{handed, IsNextItem, AreItemsInSequence, IsSound, ItemsMayFollow}
-use Rattle.wcp_tree.proofs.Lists.{AreInSequence-push, items_of-append, items_of-own, items_of-other}
+use Rattle.wcp_tree.proofs.Lists.{items_of-append, items_of-own, items_of-other}
 
 -- the first bundle may follow what was put
 pub first_follow : (o : Outlet) (bundle : List Item) → IsSound o → IsFirstBundle o.hold.items bundle → ItemsMayFollow o.putter.members o.putter.put bundle

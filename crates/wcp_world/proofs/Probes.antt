@@ -21,7 +21,7 @@ use Rattle.wcp_model.proofs.GrowingLogs.{stamp_grows, get_push}
 use Rattle.wcp_probe.specs.Seal.{seal_of}
 use Rattle.wcp_probe.specs.declared.stamp.Stamped.{Stamped}
 use Rattle.wcp_world.specs.declared.messages.Letter.{Letter}
-use Rattle.wcp_world.specs.Processes.{AreLettersOf, IsLetterOf, IsProbeOf, ProcessesState, AreProcessesOf, HasEmitted, WasPut, pending_at}
+use Rattle.wcp_world.specs.Processes.{AreLettersOf, IsLetterOf, IsProbeOf, ProcessesState, AreProcessesOf, CountsEmissions, WasPut, pending_at}
 use Rattle.wcp_world.specs.Messages.{is_addressed}
 use Rattle.std.specs.Option.{option_to_list}
 use Rattle.wcp_clock.specs.declared.note.Note.{Note}
@@ -144,7 +144,7 @@ module _ (n : ℕ) (c : Computation) (put : ℕ → List Note) (app : ProcessesS
 
 module _ (app : ProcessesState) (p : ℕ) (core : Core) (at : slice_get app.probes p ≡ Some core) where
   -- a probe counts the snapshots among the emissions of its process
-  pub emitted_counts : HasEmitted app p core.emitted
+  pub emitted_counts : CountsEmissions app p core.emitted
   emitted_counts n c put stands =
       let is = stands.probes p core at in
       let within : p < n = omega (arith, slice_get_within app.probes p core at, stands.members) in (

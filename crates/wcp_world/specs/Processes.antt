@@ -72,6 +72,6 @@ WasPut old p new = (n : ℕ) (c : Computation) (put : ℕ → List Note) (note :
     AreProcessesOf n c put old → pending_at old p ≡ Some note → AreProcessesOf n c (put_more put p note) new
 
 -- A process has emitted so many snapshots.
-abbrev pub HasEmitted : ProcessesState → ℕ → ℕ → Type 0
-HasEmitted app p count = (n : ℕ) (c : Computation) (put : ℕ → List Note) → AreProcessesOf n c put app →
+abbrev pub CountsEmissions : ProcessesState → ℕ → ℕ → Type 0
+CountsEmissions app p count = (n : ℕ) (c : Computation) (put : ℕ → List Note) → AreProcessesOf n c put app →
     (notes : List Note) × AreEmissions n c p notes × (count ≡ length (snapshot_clocks notes))

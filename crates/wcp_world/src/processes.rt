@@ -4,7 +4,7 @@ ghost use Rattle.wcp_clock.specs.declared.note.Note.{Note};
 ghost use Rattle.wcp_model.specs.declared.step.Step.TheVariants as step;
 ghost use Rattle.wcp_model.specs.Computation.{Computation};
 ghost use Rattle.wcp_world.specs.Answer.{KeepsIfRefused};
-ghost use Rattle.wcp_world.specs.Processes.{AreProcessesOf, HasEmitted, Performs, WasPut, pending_at};
+ghost use Rattle.wcp_world.specs.Processes.{AreProcessesOf, CountsEmissions, Performs, WasPut, pending_at};
 ghost use Rattle.wcp_world.specs.Messages.{why_of};
 
 use crate::messages::Letters;
@@ -126,7 +126,7 @@ impl Processes {
     /// How many snapshots process `p` has emitted.
     pub fn emitted(&self, p: u32) -> u32
         requires { p < length self.now.probes }
-        ensures { HasEmitted self.now p result }
+        ensures { CountsEmissions self.now p result }
     {
         self.probes[p as usize].emitted()
     }
