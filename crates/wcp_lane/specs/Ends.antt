@@ -68,7 +68,8 @@ AreCounts origin counts items =
     (length counts ≡ most_processes)
     × ((p : ℕ) → p < most_processes → slice_index counts p ≡ length (items_from origin p items))
 
--- what a span says of some items: their one origin, how many of it stand before the first of them, and how many they are
+-- what a span says of some items: their one origin, how many of it stand before the first of them, and how many they
+-- are
 pub record IsSpanOf {I : Type 0} (origin place : I → ℕ) (items : List I) (span : Span) : Type 0 where
   pub own : All (λ item. origin item ≡ span.origin) items
   pub first : IfSome (slice_get items 0) (λ item. span.place ≡ place item)
