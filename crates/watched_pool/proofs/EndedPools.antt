@@ -1,5 +1,5 @@
 -- The ends of a pool come from its watch, and what a settled report of them is about.
-use Rattle.std.proofs.Common.{◌≡◌, ℕ, zero, suc, ◌<◌, Option, Some, Result, Ok, Err, OnOk, List, [], ◌∷◌, ◌++◌, length, map, slice_get, get_or, All, sym, ap, subst, ◌∙◌, arith}
+use Rattle.std.proofs.Common.{◌≡◌, ℕ, zero, suc, ◌+◌, ◌<◌, ◌≤◌, Option, Some, Result, Ok, Err, OnOk, List, [], ◌∷◌, ◌++◌, length, map, slice_get, get_or, All, refl, sym, ap, subst, ◌∙◌, arith}
 use Rattle.std.proofs.lemmas.List.{length-map}
 use Rattle.std.proofs.lemmas.Option.{slice_get-get_or, slice_get_within}
 use Rattle.wcp_model.specs.declared.outcome.Tally.{Tally}
@@ -15,13 +15,14 @@ use Rattle.wcp_run.specs.declared.settled.Settled.{Settled}
 use Rattle.wcp_run.specs.Settling.{ComeFromWatch, IsEndOfSomeProbe, IsSettled}
 use Rattle.wcp_run.proofs.WatchEnds.{IsEndOfProcess, all_processes, come_from_parts, end_of_process}
 use Rattle.watched_pool.specs.declared.dispatcher.Dispatcher.{Dispatcher}
+use Rattle.watched_pool.specs.declared.dispatcher.Pace.{Pace}
 use Rattle.watched_pool.specs.declared.member.Member.{Member}
 use Rattle.watched_pool.specs.declared.member.Member.TheVariants as member
 use Rattle.watched_pool.specs.declared.member.MemberEnd.{MemberEnd}
 use Rattle.watched_pool.specs.declared.member.Share.{Share}
 use Rattle.watched_pool.specs.declared.member.Stop.{Stop}
-use Rattle.watched_pool.specs.Logs.{IsReplicaLog, IsDispatcherLog}
-use Rattle.watched_pool.specs.Members.{IsEndOfMember, IsReplica, probe_of}
+use Rattle.watched_pool.specs.Logs.{IsReplicaLog, IsDispatcherLog, most_unanswered}
+use Rattle.watched_pool.specs.Members.{IsEndOfMember, IsReplica, most_of, probe_of}
 use Rattle.watched_pool.specs.Pools.{AreEndsOfPool, IsLogTaken, IsPoolReport}
 
 -- what is left of a member is the end of its probe
@@ -40,11 +41,12 @@ part_of_replica (member.Replica replica) end kind is share done = of_ok end.done
 part_of_replica (member.Dispatcher dispatcher) end kind is share done = absurd kind
 
 part_of_dispatcher : (one : Member) (end : MemberEnd) (dispatcher : Dispatcher) → one ≡ member.Dispatcher dispatcher → IsEndOfMember one end → (share : Share) → end.done ≡ Ok share
-    → (log : List Call) × IsDispatcherLog 0 log × HasEmitted (probe_of one) log end.probe
-part_of_dispatcher (member.Dispatcher dispatcher) end same kind is share done = of_ok end.done share _ done is.part
-part_of_dispatcher (member.Replica replica) end same kind is share done = absurd (cc)
+    → (log : List Call) × IsDispatcherLog (most_of dispatcher) 0 log × HasEmitted (probe_of one) log end.probe
+part_of_dispatcher (member.Dispatcher other) end dispatcher kind is share done =
+    let same : other ≡ dispatcher = cc in rw (sym same) (of_ok end.done share _ done is.part)
+part_of_dispatcher (member.Replica replica) end dispatcher kind is share done = absurd (cc)
 
-module _ (plan : Plan) (ends : Ends MemberEnd) (pool : AreEndsOfPool plan ends) where
+module _ (plan : Plan) (pace : Pace) (ends : Ends MemberEnd) (pool : AreEndsOfPool plan pace ends) where
   -- the end at a place is that of the member there, whose probe is that of its process
   record HasEnd (k : ℕ) (end : MemberEnd) : Type 0 where
     pub one : Member
@@ -101,30 +103,38 @@ module _ (plan : Plan) (ends : Ends MemberEnd) (pool : AreEndsOfPool plan ends) 
         ap (λ q. notes_taken q ends.checker.receipt.taken) (sym has.of_process.id) ∙ whole ∙ emitted
         ∙ ap (λ made. (state_of_log made (log ++ Closed ∷ [])).notes) has.of_process.made
 
-    dispatcher : (log : List Call) × IsDispatcherLog 0 log × IsLogTaken plan.n ends.checker.receipt.taken 0 log
-    dispatcher =
-        let (end, at) = element_within ends.workers.items 0 (omega (arith, count, some_process plan pool.checked)) in
-        let has = end_at 0 end at in
-        let share = share_at 0 end at in
-        let first : Some has.one ≡ Some (member.Dispatcher pool.are.pool.dispatcher) = sym has.one_at ∙ ap (λ (ms : List Member). slice_get ms 0) pool.are.pool.all in
-        let part = part_of_dispatcher has.one end pool.are.pool.dispatcher (cc) has.is_end share.0 share.1 in
-        (part.0, part.1, taken_at 0 end at has part.0 part.2)
+    -- one process is the dispatcher, and each other is a replica, its partner
+    module _ (replicas : ℕ) (of_replicas : plan.n ≡ replicas + 1) where
+      partners : most_of pool.are.pool.dispatcher ≡ most_unanswered pace replicas
+      partners =
+          let members = ap (λ (ms : List Member). length ms) pool.are.pool.all in
+          let few : length pool.are.pool.dispatcher.partners.items ≡ replicas = omega (arith, members, pool.are.pool.partners, count, pool.ended.workers.count, of_replicas) in
+          rw (pool.are.pool.has_pace, few) refl
 
-    replica : (p : ℕ) → 0 < p → p < plan.n → (log : List Call) × IsReplicaLog log × IsLogTaken plan.n ends.checker.receipt.taken p log
-    replica zero some within = absurd (omega arith)
-    replica (suc k) some within =
-        let (end, at) = element_within ends.workers.items (suc k) (omega (arith, count, within)) in
-        let has = end_at (suc k) end at in
-        let share = share_at (suc k) end at in
-        let rest : slice_get pool.are.pool.replicas k ≡ Some has.one = ap (λ (ms : List Member). slice_get ms (suc k)) (sym pool.are.pool.all) ∙ has.one_at in
-        let part = part_of_replica has.one end (All-at IsReplica pool.are.pool.replicas k has.one pool.are.pool.rest rest) has.is_end share.0 share.1 in
-        (part.0, part.1, taken_at (suc k) end at has part.0 part.2)
+      dispatcher : (log : List Call) × IsDispatcherLog (most_unanswered pace replicas) 0 log × IsLogTaken plan.n ends.checker.receipt.taken 0 log
+      dispatcher =
+          let (end, at) = element_within ends.workers.items 0 (omega (arith, count, some_process plan pool.checked)) in
+          let has = end_at 0 end at in
+          let share = share_at 0 end at in
+          let first : Some has.one ≡ Some (member.Dispatcher pool.are.pool.dispatcher) = sym has.one_at ∙ ap (λ (ms : List Member). slice_get ms 0) pool.are.pool.all in
+          let part = part_of_dispatcher has.one end pool.are.pool.dispatcher (cc) has.is_end share.0 share.1 in
+          (part.0, subst (λ most. IsDispatcherLog most 0 part.0) partners part.1, taken_at 0 end at has part.0 part.2)
 
-    pub is_pool_report : IsPoolReport plan.n settled.report
-    is_pool_report = record {
-      items = ends.checker.receipt.taken;
-      dispatcher = dispatcher;
-      replica = replica;
-      drained = subst (λ n. IsDrained n ends.checker.receipt.taken) n_is is.drained;
-      exact = subst (λ n. ClocksRise n ends.checker.receipt.taken → IsReportByClocks n ends.checker.receipt.taken settled.report) n_is is.exact;
-    }
+      replica : (p : ℕ) → 0 < p → p ≤ replicas → (log : List Call) × IsReplicaLog log × IsLogTaken plan.n ends.checker.receipt.taken p log
+      replica zero some within = absurd (omega arith)
+      replica (suc k) some within =
+          let (end, at) = element_within ends.workers.items (suc k) (omega (arith, count, within, of_replicas)) in
+          let has = end_at (suc k) end at in
+          let share = share_at (suc k) end at in
+          let rest : slice_get pool.are.pool.replicas k ≡ Some has.one = ap (λ (ms : List Member). slice_get ms (suc k)) (sym pool.are.pool.all) ∙ has.one_at in
+          let part = part_of_replica has.one end (All-at IsReplica pool.are.pool.replicas k has.one pool.are.pool.rest rest) has.is_end share.0 share.1 in
+          (part.0, part.1, taken_at (suc k) end at has part.0 part.2)
+
+      pub is_pool_report : IsPoolReport replicas pace settled.report
+      is_pool_report = record {
+        items = ends.checker.receipt.taken;
+        dispatcher = rw (sym of_replicas) dispatcher;
+        replica = rw (sym of_replicas) replica;
+        drained = subst (λ n. IsDrained n ends.checker.receipt.taken) (n_is ∙ of_replicas) is.drained;
+        exact = subst (λ n. ClocksRise n ends.checker.receipt.taken → IsReportByClocks n ends.checker.receipt.taken settled.report) (n_is ∙ of_replicas) is.exact;
+      }

@@ -1,10 +1,11 @@
 -- The members of a pool before they run, and what they leave.
-use Rattle.std.specs.Prelude.{◌≡◌, ◌≤◌, List, [], ◌∷◌, length, All, OnOk}
+use Rattle.std.specs.Prelude.{◌≡◌, ℕ, ◌≤◌, List, [], ◌∷◌, length, All, OnOk}
 use Rattle.wcp_clock.specs.Limits.{most_processes}
 use Rattle.wcp_model.specs.ProbeLog.{Call}
 use Rattle.wcp_tree.specs.LiveProbe.{HasEmitted, IsEndOfProbe, LiveFor, LiveSide}
-use Rattle.watched_pool.specs.Logs.{IsReplicaLog, IsDispatcherLog}
+use Rattle.watched_pool.specs.Logs.{IsReplicaLog, IsDispatcherLog, most_unanswered}
 use Rattle.watched_pool.specs.declared.dispatcher.Dispatcher.{Dispatcher}
+use Rattle.watched_pool.specs.declared.dispatcher.Pace.{Pace}
 use Rattle.watched_pool.specs.declared.member.Member.{Member}
 use Rattle.watched_pool.specs.declared.member.Member.TheVariants as member
 use Rattle.watched_pool.specs.declared.member.MemberEnd.{MemberEnd}
@@ -25,13 +26,18 @@ pub record IsEndOfReplica (probe : LiveSide) (end : MemberEnd) : Type 0 where
   pub closed : IsEndOfProbe probe end.probe
   pub part : OnOk end.done ((log : List Call) × IsReplicaLog log × HasEmitted probe log end.probe)
 
+-- The most jobs that a dispatcher leaves unanswered at once: it has a partner for each replica.
+abbrev pub most_of : Dispatcher → ℕ
+most_of dispatcher = most_unanswered dispatcher.pace (length dispatcher.partners.items)
+
 -- What is left of a dispatcher; where it did its part, no job was left unanswered.
-pub record IsEndOfDispatcher (probe : LiveSide) (end : MemberEnd) : Type 0 where
-  pub closed : IsEndOfProbe probe end.probe
-  pub part : OnOk end.done ((log : List Call) × IsDispatcherLog 0 log × HasEmitted probe log end.probe)
+pub record IsEndOfDispatcher (dispatcher : Dispatcher) (end : MemberEnd) : Type 0 where
+  pub closed : IsEndOfProbe dispatcher.desk.probe end.probe
+  pub part : OnOk end.done
+      ((log : List Call) × IsDispatcherLog (most_of dispatcher) 0 log × HasEmitted dispatcher.desk.probe log end.probe)
 
 abbrev pub IsEndOfMember : Member → MemberEnd → Type 0
-IsEndOfMember (member.Dispatcher dispatcher) end = IsEndOfDispatcher dispatcher.desk.probe end
+IsEndOfMember (member.Dispatcher dispatcher) end = IsEndOfDispatcher dispatcher end
 IsEndOfMember (member.Replica replica) end = IsEndOfReplica replica.probe end
 
 -- The probe of a member.
@@ -44,9 +50,11 @@ abbrev pub IsReplica : Member → Type 0
 IsReplica (member.Dispatcher dispatcher) = ⊥
 IsReplica (member.Replica replica) = Unit {0}
 
--- The first of these members is the dispatcher, and all others are replicas.
-pub record IsPool (members : List Member) : Type 0 where
+-- The first of these members is the dispatcher, of this pace, and all others are replicas, its partners.
+pub record IsPool (pace : Pace) (members : List Member) : Type 0 where
   pub dispatcher : Dispatcher
   pub replicas : List Member
+  pub has_pace : dispatcher.pace ≡ pace
+  pub partners : length dispatcher.partners.items ≡ length replicas
   pub all : members ≡ member.Dispatcher dispatcher ∷ replicas
   pub rest : All IsReplica replicas

@@ -1,4 +1,4 @@
-ghost use Rattle.std.specs.Prelude.{◌≡◌, ◌+◌, ◌<◌, ◌≤◌, length, OnOk};
+ghost use Rattle.std.specs.Prelude.{◌≡◌, ℕ, ◌+◌, ◌<◌, ◌≤◌, length, OnOk};
 ghost use Rattle.wcp_clock.specs.Limits.{most_processes};
 ghost use Rattle.wcp_tree.specs.LiveProbe.{IsSameLive};
 
@@ -56,13 +56,13 @@ pub(crate) fn job_of(round: u32, replica: u32) -> Job {
 pub const REPLICAS: u32 = 3;
 
 impl Desk {
-    ghost use Rattle.watched_pool.specs.Logs.{IsDispatching};
+    ghost use Rattle.watched_pool.specs.Logs.{IsDispatching, most_unanswered};
 
     /// Sends a job to a replica.
     fn give_out<R: Wait>(&mut self, rt: &R, partner: &Partner, job: Job) -> Result<(), Stop>
-        requires at_work { IsDispatching self.old }
         requires few { self.old.unanswered < most_processes }
-        ensures at_work { OnOk result (IsDispatching self.new) }
+        ensures at_work { OnOk result ((most : ℕ) → self.old.unanswered < most
+            → IsDispatching most self.old → IsDispatching most self.new) }
         ensures unanswered { OnOk result (self.new.unanswered ≡ self.old.unanswered + 1) }
         ensures same { IsSameLive self.old.probe self.new.probe }
     {
@@ -81,9 +81,8 @@ impl Desk {
 
     /// Waits for the answer of a replica.
     fn take_answer<R: Wait>(&mut self, rt: &R, partner: &Partner) -> Result<(), Stop>
-        requires at_work { IsDispatching self.old }
         requires some { 0 < self.old.unanswered }
-        ensures at_work { OnOk result (IsDispatching self.new) }
+        ensures at_work { OnOk result ((most : ℕ) → IsDispatching most self.old → IsDispatching most self.new) }
         ensures unanswered { OnOk result (self.new.unanswered + 1 ≡ self.old.unanswered) }
         ensures same { IsSameLive self.old.probe self.new.probe }
     {
@@ -108,10 +107,10 @@ impl Desk {
         partners: &[Partner],
         round: u32,
     ) -> Result<(), Stop>
-        requires at_work { IsDispatching self.old }
+        requires at_work { IsDispatching (length partners.now) self.old }
         requires none { self.old.unanswered ≡ 0 }
         requires few { length partners.now ≤ most_processes }
-        ensures at_work { OnOk result (IsDispatching self.new) }
+        ensures at_work { OnOk result (IsDispatching (length partners.now) self.new) }
         ensures unanswered { OnOk result (self.new.unanswered ≡ length partners.now) }
         ensures same { IsSameLive self.old.probe self.new.probe }
     {
@@ -123,9 +122,9 @@ impl Desk {
 
     /// Waits for the answers of a round, all of them.
     fn take_all<R: Wait>(&mut self, rt: &R, partners: &[Partner]) -> Result<(), Stop>
-        requires at_work { IsDispatching self.old }
+        requires at_work { IsDispatching (length partners.now) self.old }
         requires all { self.old.unanswered ≡ length partners.now }
-        ensures at_work { OnOk result (IsDispatching self.new) }
+        ensures at_work { OnOk result (IsDispatching (length partners.now) self.new) }
         ensures unanswered { OnOk result (self.new.unanswered ≡ 0) }
         ensures same { IsSameLive self.old.probe self.new.probe }
     {
@@ -137,9 +136,9 @@ impl Desk {
 
     /// Gives out each job of a round and waits for its answer.
     fn ask_in_turn<R: Wait>(&mut self, rt: &R, partners: &[Partner], round: u32) -> Result<(), Stop>
-        requires at_work { IsDispatching self.old }
+        requires at_work { IsDispatching 1 self.old }
         requires none { self.old.unanswered ≡ 0 }
-        ensures at_work { OnOk result (IsDispatching self.new) }
+        ensures at_work { OnOk result (IsDispatching 1 self.new) }
         ensures unanswered { OnOk result (self.new.unanswered ≡ 0) }
         ensures same { IsSameLive self.old.probe self.new.probe }
     {
@@ -158,10 +157,10 @@ impl Desk {
         pace: Pace,
         round: u32,
     ) -> Result<(), Stop>
-        requires at_work { IsDispatching self.old }
+        requires at_work { IsDispatching (most_unanswered pace (length partners.now)) self.old }
         requires none { self.old.unanswered ≡ 0 }
         requires few { length partners.now ≤ most_processes }
-        ensures at_work { OnOk result (IsDispatching self.new) }
+        ensures at_work { OnOk result (IsDispatching (most_unanswered pace (length partners.now)) self.new) }
         ensures unanswered { OnOk result (self.new.unanswered ≡ 0) }
         ensures same { IsSameLive self.old.probe self.new.probe }
     {
@@ -182,10 +181,10 @@ impl Desk {
         pace: Pace,
         rounds: u32,
     ) -> Result<(), Stop>
-        requires at_work { IsDispatching self.old }
+        requires at_work { IsDispatching (most_unanswered pace (length partners.now)) self.old }
         requires none { self.old.unanswered ≡ 0 }
         requires few { length partners.now ≤ most_processes }
-        ensures at_work { OnOk result (IsDispatching self.new) }
+        ensures at_work { OnOk result (IsDispatching (most_unanswered pace (length partners.now)) self.new) }
         ensures unanswered { OnOk result (self.new.unanswered ≡ 0) }
         ensures same { IsSameLive self.old.probe self.new.probe }
     {
@@ -202,7 +201,7 @@ impl Dispatcher {
     /// Runs all rounds, lets the replicas know that no more jobs come, and closes its probe.
     pub(crate) fn run<R: Wait>(self, rt: &R) -> MemberEnd
         requires { IsNewDispatcher self }
-        ensures { IsEndOfDispatcher self.desk.probe result }
+        ensures { IsEndOfDispatcher self result }
     {
         let Dispatcher {
             mut desk,

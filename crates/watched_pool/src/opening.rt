@@ -42,7 +42,7 @@ pub(crate) fn open_parts(
     pace: Pace,
 ) -> Result<Parts<Member>, AllocError>
     requires { IsCheckedPlan plan.now }
-    ensures { IfOk result (ArePartsOfPool plan.now) }
+    ensures { IfOk result (ArePartsOfPool plan.now pace) }
 {
     let Watch {
         probes,
@@ -68,7 +68,7 @@ fn open_members(
     requires few { length probes.items ≤ most_processes }
     requires fresh { All (λ probe. LiveFor probe []) probes.items }
     ensures probes { IfOk result (λ members. map probe_of members.items ≡ probes.items) }
-    ensures pool { IfOk result (λ members. IsPool members.items) }
+    ensures pool { IfOk result (λ members. IsPool pace members.items) }
     ensures fresh { IfOk result (λ members. All IsNew members.items) }
 {
     let probe = probes.remove(0);

@@ -1,9 +1,10 @@
 //! A run of the pool, from the plan of its watch to the report.
-ghost use Rattle.std.specs.Prelude.{◌≡◌, map, IfOk, Ok};
+ghost use Rattle.std.specs.Prelude.{◌≡◌, ℕ, ◌+◌, map, IfOk, Ok};
 ghost use Rattle.wcp_model.specs.PlanFault.{IsCheckedPlan};
 ghost use Rattle.wcp_model.specs.declared.plan.Plan.{Plan};
 ghost use Rattle.wcp_run.specs.RunParts.{AreReady, HaveEnded};
 ghost use Rattle.watched_pool.specs.Members.{IsNew, IsEndOfMember};
+ghost use Rattle.watched_pool.specs.declared.dispatcher.Pace.{Pace};
 ghost use Rattle.watched_pool.specs.Pools.{AreEndsOfPool, IsPoolReport};
 
 use crate::dispatcher::{Pace, REPLICAS};
@@ -41,7 +42,7 @@ pub fn run_pool<R: Threads + Wait + Clock + Sync>(
     alloc: Global,
     pace: Pace,
 ) -> Result<PoolReport, PoolFault>
-    ensures { IfOk result (λ told. IsPoolReport 4 told.outcome.report) }
+    ensures { IfOk result (λ told. IsPoolReport 3 pace told.outcome.report) }
 {
     let plan = pool_plan(alloc)?;
     if plan.check().is_err() {
@@ -58,7 +59,8 @@ fn run_planned<R: Threads + Wait + Clock + Sync>(
     pace: Pace,
 ) -> Result<PoolReport, PoolFault>
     requires { IsCheckedPlan plan.now }
-    ensures { IfOk result (λ told. IsPoolReport plan.now.n told.outcome.report) }
+    ensures { IfOk result (λ told. (replicas : ℕ) → plan.now.n ≡ replicas + 1
+        → IsPoolReport replicas pace told.outcome.report) }
 {
     let parts = open_parts(alloc, plan, pace)?;
     let numbers = Numbers::new(alloc, ROUNDS * REPLICAS)?;
@@ -117,8 +119,9 @@ fn conclude(
     book: Book,
     totals: Tally,
 ) -> Result<PoolReport, PoolFault>
-    requires { (plan : Plan) × AreEndsOfPool plan ends }
-    ensures { IfOk result (λ told. (plan : Plan) → AreEndsOfPool plan ends → IsPoolReport plan.n told.outcome.report) }
+    requires { (plan : Plan) × (pace : Pace) × AreEndsOfPool plan pace ends }
+    ensures { IfOk result (λ told. (plan : Plan) (pace : Pace) (replicas : ℕ) → AreEndsOfPool plan pace ends
+        → plan.n ≡ replicas + 1 → IsPoolReport replicas pace told.outcome.report) }
 {
     let Ends {
         workers,

@@ -3,9 +3,9 @@ use Rattle.watched_pool.proofs.pool.conclude.Goals as goal
 
 pub settle-requires : goal.settle-requires
 settle-requires c =
-    let (plan, pool) = c.requires in come plan c.args.ends pool c.in_ok-probes.probes.items c.in_ok-probes.ensures.probes
+    let (plan, pace, pool) = c.requires in come plan pace c.args.ends pool c.in_ok-probes.probes.items c.in_ok-probes.ensures.probes
 
 pub returns : goal.returns
-returns c = λ plan pool.
-    is_pool_report plan c.args.ends pool c.in_ok-probes.probes.items c.in_ok-probes.shares.items c.in_ok-probes.ensures.probes c.in_ok-probes.ensures.shares
-    c.args.book c.in_ok-settled.settled c.in_ok-settled.ensures.settled
+returns c = λ plan pace replicas pool of_replicas.
+    is_pool_report plan pace c.args.ends pool c.in_ok-probes.probes.items c.in_ok-probes.shares.items c.in_ok-probes.ensures.probes c.in_ok-probes.ensures.shares
+    c.args.book c.in_ok-settled.settled c.in_ok-settled.ensures.settled replicas of_replicas

@@ -16,11 +16,12 @@ new-requires-2-clause-within g c = few_processes c.args.plan.now c.requires
 pub conclude-requires : goal.conclude-requires
 conclude-requires g c = (
   c.args.plan.now,
+  c.args.pace,
   record { checked = c.requires; parts = c.in_ok-parts.parts; are = c.in_ok-parts.ensures; ended = c.in_ok-ends.ensures },
 )
 
 pub returns : goal.returns
 returns g c =
     ok_follows c.conclude.result _ _
-    (λ told is. is c.args.plan.now (record { checked = c.requires; parts = c.in_ok-parts.parts; are = c.in_ok-parts.ensures; ended = c.in_ok-ends.ensures }))
+    (λ told is replicas of_replicas. is c.args.plan.now c.args.pace replicas (record { checked = c.requires; parts = c.in_ok-parts.parts; are = c.in_ok-parts.ensures; ended = c.in_ok-ends.ensures }) of_replicas)
     c.conclude.ensures

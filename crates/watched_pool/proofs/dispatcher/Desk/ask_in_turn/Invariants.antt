@@ -5,4 +5,4 @@ use Rattle.watched_pool.proofs.dispatcher.Desk.ask_in_turn.Given as goal
 
 abbrev pub invariant-loop-partner : goal.invariant-loop-partner
 invariant-loop-partner g l =
-    record { at_work : IsDispatching l.self; unanswered : l.self.unanswered ≡ 0; same : IsSameLive l.initial.self.probe l.self.probe }
+    record { at_work : IsDispatching 1 l.self; unanswered : l.self.unanswered ≡ 0; same : IsSameLive l.initial.self.probe l.self.probe }

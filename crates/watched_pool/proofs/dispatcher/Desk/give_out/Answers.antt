@@ -5,10 +5,9 @@ use Rattle.watched_pool.proofs.MadeCalls.{two_calls}
 use Rattle.watched_pool.proofs.dispatcher.Desk.give_out.Goals as goal
 
 pub returns-in-Ok-send-clause-at_work : goal.returns-in-Ok-send-clause-at_work
-returns-in-Ok-send-clause-at_work g c =
-    let was = c.requires.at_work in
+returns-in-Ok-send-clause-at_work g c = λ most below was.
     record {
       log = was.log ++ Sent ∷ Observed true ∷ [];
-      is_log = GaveOut was.is_log;
+      is_log = GaveOut below was.is_log;
       stands = two_calls _ _ _ _ Sent (Observed true) c.in-Ok.ensures.accepted c.observe.ensures.accepted c.flush_waiting.ensures.stands was.log was.stands;
     }

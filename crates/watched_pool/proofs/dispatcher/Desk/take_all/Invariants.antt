@@ -5,4 +5,4 @@ use Rattle.watched_pool.proofs.dispatcher.Desk.take_all.Given as goal
 
 abbrev pub invariant-loop-partner : goal.invariant-loop-partner
 invariant-loop-partner g l =
-    record { at_work : IsDispatching l.self; unanswered : l.self.unanswered + l.partner-index ≡ length l.partners; same : IsSameLive l.initial.self.probe l.self.probe }
+    record { at_work : IsDispatching (length l.partners) l.self; unanswered : l.self.unanswered + l.partner-index ≡ length l.partners; same : IsSameLive l.initial.self.probe l.self.probe }
