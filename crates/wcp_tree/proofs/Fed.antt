@@ -11,7 +11,7 @@ use Rattle.wcp_clock.specs.declared.note.Item.{Item}
 use Rattle.wcp_clock.specs.declared.note.Note.{Note}
 use Rattle.wcp_clock.specs.Notes.{is_close}
 use Rattle.wcp_tree.specs.declared.feed.Feed.{Feed}
-use Rattle.wcp_tree.specs.Feeding.{fed, items_by, items_of, processes_of, IsNextOfProcess, IsInOrder, IsEnded}
+use Rattle.wcp_tree.specs.Feeding.{fed, items_by, items_of, processes_of, IsNextOfProcess, IsInOrder, EndsWithClose}
 use Rattle.wcp_tree.specs.RelayWork.{IsNextAfter, IsGapAt}
 use Rattle.wcp_tree.proofs.Lists.{items_of-own}
 
@@ -109,21 +109,18 @@ process_served feeds i d below =
     let long = length-map feeds (λ (f : Feed). f.process) in
     list_any_at (λ q. q == (get_or feeds i d).process) (processes_of feeds) i d.process (omega arith) (eq-eqb _ _ (process_at feeds i d below))
 
-abbrev EndsWell : List Item → Type 0
-EndsWell items = IsEnded (λ (i : Item). is_close i.note) items
-
 -- where each feed is closed, what was taken of each process that is served ends with its close mark
 pub all_ended : (feeds : List Feed) → All (λ (f : Feed). f.closed ≡ true) feeds → All IsInOrder feeds → (p : ℕ) → list_any (λ q. q == p) (processes_of feeds) ≡ true
-    → EndsWell (fed feeds p)
+    → EndsWithClose (fed feeds p)
 all_ended [] closed order p served = cc
 all_ended (f ∷ fs) closed order p served =
     let last = (order 0 f (omega arith)).ended (closed 0 f (omega arith)) in
     let whole = ap (items_by p) last.2 ∙ map-append (λ (n : Note). record { from = p; note = n }) last.0 (last.1 ∷ []) in
-    let own : EndsWell (items_by p f.taker.taken) = (items_by p last.0, record { from = p; note = last.1 }, whole, last.3) in
+    let own : EndsWithClose (items_by p f.taker.taken) = (items_by p last.0, record { from = p; note = last.1 }, whole, last.3) in
     let rest = all_ended fs (λ k d below. closed (suc k) d (omega arith)) (λ k d below. order (suc k) d (omega arith)) p in
     either (f.process == p) own rest served
   where
-    either : (b : Bool) → EndsWell (items_by p f.taker.taken) → (list_any (λ q. q == p) (processes_of fs) ≡ true → EndsWell (fed fs p))
-        → (b || list_any (λ q. q == p) (processes_of fs)) ≡ true → EndsWell (if b then items_by p f.taker.taken else fed fs p)
+    either : (b : Bool) → EndsWithClose (items_by p f.taker.taken) → (list_any (λ q. q == p) (processes_of fs) ≡ true → EndsWithClose (fed fs p))
+        → (b || list_any (λ q. q == p) (processes_of fs)) ≡ true → EndsWithClose (if b then items_by p f.taker.taken else fed fs p)
     either true own rest served = own
     either false own rest served = rest served

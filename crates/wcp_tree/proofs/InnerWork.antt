@@ -13,7 +13,7 @@ use Rattle.wcp_lane.specs.Ends.{TakeEnd}
 use Rattle.wcp_lane.specs.Passes.{Numbers}
 use Rattle.wcp_tree.specs.declared.bundle.Bundle.{Bundle}
 use Rattle.wcp_tree.specs.declared.outlet.Outlet.{Outlet}
-use Rattle.wcp_tree.specs.Feeding.{items_of, IsEnded}
+use Rattle.wcp_tree.specs.Feeding.{items_of, EndsWithClose}
 use Rattle.wcp_tree.specs.RelayWork.{handed, IsFaithful, IsSound, AreTakenNext, IsSameOutlet, IsInnerAtWork, ItemsMayFollow, AreClosed}
 use Rattle.wcp_tree.proofs.Accepting.{ItemMayFollow, follow_same}
 use Rattle.wcp_tree.proofs.Lists.{items_of-append, items_of-own, items_of-other}
@@ -49,14 +49,11 @@ inner_passed old new outlet more work is same sound whole uncut =
           (λ p. ap (λ (e : TakeEnd Bundle Item). items_of p e.taken) is) whole uncut;
     }
 
-abbrev EndsWell : List Item → Type 0
-EndsWell items = IsEnded (λ (i : Item). is_close i.note) items
-
 last_of_all : (before : List Item) (item : Item) → All (λ (i : Item). is_close i.note ≡ false) (before ++ item ∷ []) → is_close item.note ≡ false
 last_of_all [] item all = all 0 item (omega arith)
 last_of_all (b ∷ before) item all = last_of_all before item (λ k d below. all (suc k) d (omega arith))
 
-ended_not_next : (items : List Item) → EndsWell items → All (λ (i : Item). is_close i.note ≡ false) items → ⊥
+ended_not_next : (items : List Item) → EndsWithClose items → All (λ (i : Item). is_close i.note ≡ false) items → ⊥
 ended_not_next items ended all =
     true≢false (sym ended.3 ∙ last_of_all ended.0 ended.1 (subst (All (λ (i : Item). is_close i.note ≡ false)) ended.2 all))
 
@@ -66,9 +63,9 @@ ended_step : (closed members : Numbers) (before : List Item) (item : Item) → A
 ended_step closed members before item ended next p own =
     ⊎_elim
     (λ (here : p ≡ item.from).
-    absurd (ended_not_next (items_of item.from before) (subst (λ q. EndsWell (items_of q before)) here (ended p own)) next.next.unended))
+    absurd (ended_not_next (items_of item.from before) (subst (λ q. EndsWithClose (items_of q before)) here (ended p own)) next.next.unended))
     (λ (apart : p ≢ item.from).
-    subst EndsWell (sym (items_of-append p before (item ∷ []) ∙ ap (λ xs. items_of p before ++ xs) (items_of-other p item (λ e. apart (sym e))) ∙ append-nil (items_of p before))) (ended p own))
+    subst EndsWithClose (sym (items_of-append p before (item ∷ []) ∙ ap (λ xs. items_of p before ++ xs) (items_of-other p item (λ e. apart (sym e))) ∙ append-nil (items_of p before))) (ended p own))
     (cases_eq p item.from)
 
 ended_all : (closed members : Numbers) (before items : List Item) → AreClosed closed (λ p. items_of p before) → ItemsMayFollow members before items

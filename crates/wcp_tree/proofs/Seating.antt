@@ -47,10 +47,8 @@ module _ {X : Type 0} (plan : Plan) (owner : Parent) (ends : List X) (before : L
         ∙ sym (ap (λ xs. slice_get xs relay) is)
         ∙ seats.kept relay (omega (arith, one_fewer))
 
-    -- the relay of the last end is a child, and takes its seat
-    pub one_seated : parent_of plan (length rest) ≡ Some owner
-        → AreSeated (slice_set now (length rest) (Some end)) rest
-    one_seated child = record {
+    last_seated : parent_of plan (length rest) ≡ Some owner → AreSeated (slice_set now (length rest) (Some end)) rest
+    last_seated child = record {
       within = omega (arith, seats.within, one_fewer);
       room = seats.room;
       all = length-set now (length rest) (Some end) ∙ seats.all;
@@ -73,15 +71,20 @@ module _ {X : Type 0} (plan : Plan) (owner : Parent) (ends : List X) (before : L
           ∙ seats.others relay other;
     }
 
+    -- the relay of the last end is a child, and takes its seat
+    pub one_seated : (last : ℕ) → last ≡ length rest → parent_of plan last ≡ Some owner
+        → AreSeated (slice_set now last (Some end)) rest
+    one_seated last is_last child = rw is_last (last_seated (rw (sym is_last) child))
+
     -- it is no child
-    pub none_seated : parent_of plan (length rest) ≢ Some owner → AreSeated now rest
-    none_seated no_child = record {
+    pub none_seated : (last : ℕ) → last ≡ length rest → parent_of plan last ≢ Some owner → AreSeated now rest
+    none_seated last is_last no_child = record {
       within = omega (arith, seats.within, one_fewer);
       room = seats.room;
       all = seats.all;
       kept = kept_rest;
       seated = λ relay other past at is_end. ⊎_elim
-          (λ (same : relay ≡ length rest). absurd (no_child (ap (parent_of plan) (sym same) ∙ at)))
+          (λ (same : relay ≡ length rest). absurd (no_child (ap (parent_of plan) (is_last ∙ sym same) ∙ at)))
           (λ (apart : relay ≢ length rest).
           seats.seated relay other (omega (arith, one_fewer, past, apart)) at is_end)
           (cases_eq relay (length rest));

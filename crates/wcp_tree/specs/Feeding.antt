@@ -21,6 +21,10 @@ IsNextOfProcess before note = IsNext place_of is_close before note
 abbrev pub IsEnded : {I : Type 0} → (I → Bool) → List I → Type 0
 IsEnded {I} is_last items = (before : List I) × (item : I) × (items ≡ before ++ item ∷ []) × (is_last item ≡ true)
 
+-- The last of these items is a close mark.
+abbrev pub EndsWithClose : List Item → Type 0
+EndsWithClose items = IsEnded (λ (item : Item). is_close item.note) items
+
 -- The notes that a feed took are a run, it counts the snapshots among them, and it knows whether the close mark came.
 pub record IsInOrder (feed : Feed) : Type 0 where
   pub run : AreInSequence place_of is_close feed.taker.taken

@@ -16,7 +16,7 @@ use Rattle.wcp_tree.specs.declared.source.Source.{Source}
 use Rattle.wcp_tree.specs.declared.source.Source.TheVariants.{Leaf, Inner}
 use Rattle.wcp_tree.specs.declared.relay_end.RelayFault.{RelayFault}
 use Rattle.wcp_tree.specs.declared.relay_end.RelayFault.TheVariants.{Gap, Cut}
-use Rattle.wcp_tree.specs.Feeding.{items_of, processes_of, fed, IsInOrder, IsEnded}
+use Rattle.wcp_tree.specs.Feeding.{items_of, processes_of, fed, IsInOrder, EndsWithClose}
 
 -- What was handed to an outlet: what it put, and then what it holds.
 abbrev pub handed : Outlet → List Item
@@ -91,8 +91,7 @@ IsSameTaker old new = (new.lane ≡ old.lane) × (new.members ≡ old.members)
 
 -- The items of each process of the set end with its close mark.
 abbrev pub AreClosed : Numbers → (ℕ → List Item) → Type 0
-AreClosed members taken =
-    (p : ℕ) → set.contains members p ≡ true → IsEnded (λ (item : Item). is_close item.note) (taken p)
+AreClosed members taken = (p : ℕ) → set.contains members p ≡ true → EndsWithClose (taken p)
 
 -- A relay is at work.
 abbrev pub IsAtWork : Source → Outlet → Type 0
