@@ -39,7 +39,8 @@ pub struct Plan {
 pub fn plain_plan(alloc: Global, n: u32, cap: u32, hold: u32) -> Result<Plan, AllocError>
     ensures plain { IfOk result (IsPlainPlan n cap hold) }
     ensures checked { IfOk result (λ plan.
-        1 ≤ n → n ≤ most_processes → 1 ≤ cap → cap ≤ most_cap → 1 ≤ hold → hold ≤ most_hold → IsCheckedPlan plan) }
+        1 ≤ n → n ≤ most_processes → 1 ≤ cap → cap ≤ most_cap → 1 ≤ hold → hold ≤ most_hold
+            → IsCheckedPlan plan) }
 {
     Ok(Plan {
         n,
