@@ -1,42 +1,25 @@
 -- What an end knows after a step.
-use Rattle.std.proofs.Common.{◌≡◌, ℕ, ◌<◌, true, List, [], ◌∷◌, ◌++◌, length, get_or, cond, sym, ap, ◌∙◌, subst, arith, length-append}
+use Rattle.std.proofs.Common.{◌≡◌, ℕ, ◌<◌, true, List, [], ◌∷◌, ◌++◌, length, get_or, cond, sym, ap, ◌∙◌, arith, length-append}
 use Rattle.std.specs.FinSet as sets
 use Rattle.std.proofs.lemmas.List.{append-nil}
 use Rattle.wcp_clock.specs.Limits.{most_processes}
 use Rattle.wcp_model.specs.LaneRule.{items_from}
 use Rattle.wcp_lane.specs.declared.passes.Hand.{Hand}
 use Rattle.std.specs.List.{flat_map}
-use Rattle.std.specs.Prelude.{All, Bool}
-use Rattle.wcp_lane.specs.ProcessNumbers.{AreProcessNumbers}
-use Rattle.wcp_lane.specs.Message.{AllMayFollow}
-use Rattle.wcp_lane.proofs.Steps.{all_owned}
-use Rattle.wcp_lane.specs.Passes.{Numbers, putter, taker, joined, with_put, with_taken, put_of, IsPut, IsBalanced}
-use Rattle.wcp_lane.specs.Ends.{PutEnd, put_by, unowned_by, AreCounts}
+use Rattle.wcp_lane.specs.Passes.{Numbers, putter, taker, joined, with_put, with_taken, put_of, IsRest, IsBalanced}
+use Rattle.wcp_lane.specs.Ends.{put_by, unowned_by, AreCounts}
 use Rattle.wcp_lane.proofs.Lists.{items-push}
-
-module _ {I : Type 0} (origin place : I → ℕ) (is_last : I → Bool) (message : List I) where
-  -- what is asked of what a contract sees of an end is so of what the end knows
-  pub may_put : {M : Type 0} (seen end : PutEnd M I) → seen ≡ end → AllMayFollow origin place is_last end.members end.put message → AllMayFollow origin place is_last seen.members seen.put message
-  may_put {M} seen end is may = subst (λ (e : PutEnd M I). AllMayFollow origin place is_last e.members e.put message) (sym is) may
-
-  -- items that may follow, of the numbers of processes, are of these
-  pub all_below : (numbers : Numbers) (before : List I) → AreProcessNumbers numbers → AllMayFollow origin place is_last numbers before message → All (λ item. origin item < most_processes) message
-  all_below numbers before within may k d below = within (origin (get_or message k d)) (all_owned origin place is_last numbers before message may k d below)
 
 module _ {M I : Type 0} (items : M → List I) (origin : I → ℕ) where
   -- what a putter knows with a message more, and its counts
-  pub put_more : (v w : Hand M) (numbers : Numbers) (m : M) (counts : List ℕ) → v ≡ putter numbers (put_by v) → IsPut v m w → AreCounts origin counts (flat_map items (put_by v) ++ items m)
+  pub put_more : (v w : Hand M) (numbers : Numbers) (m : M) (counts : List ℕ) → v ≡ putter numbers (put_by v) → w ≡ with_put m v → AreCounts origin counts (flat_map items (put_by v) ++ items m)
       → (w ≡ putter numbers (put_by w)) × AreCounts origin counts (flat_map items (put_by w))
-  put_more v w numbers m counts is puts_it counted =
-      let whole : w ≡ putter numbers (put_by v ++ m ∷ []) = puts_it ∙ ap (with_put m) is in
-      (whole ∙ ap (λ u. putter numbers (put_by u)) (sym whole), rw (ap (λ u. flat_map items (put_by u)) whole, items-push items (put_by v) m) counted)
+  put_more v w numbers m counts is puts_it counted = (rw (puts_it, is), rw (puts_it, is, items-push items (put_by v) m) counted)
 
   -- what a taker knows with a message more, and its counts
-  pub take_more : (v w : Hand M) (m : M) (counts : List ℕ) → v ≡ taker (unowned_by v) v.taken → w ≡ with_taken m v → AreCounts origin counts (flat_map items v.taken ++ items m)
-      → (w ≡ taker (unowned_by w) w.taken) × AreCounts origin counts (flat_map items w.taken) × (unowned_by w ≡ unowned_by v)
-  take_more v w m counts is takes_it counted =
-      let whole : w ≡ taker (unowned_by v) (v.taken ++ m ∷ []) = takes_it ∙ ap (with_taken m) is in
-      (whole ∙ ap (λ (u : Hand M). taker (unowned_by u) u.taken) (sym whole), rw (ap (λ (u : Hand M). flat_map items u.taken) whole, items-push items v.taken m) counted, ap unowned_by whole)
+  pub take_more : (v w : Hand M) (members : Numbers) (m : M) (counts : List ℕ) → v ≡ taker (unowned_by v) v.taken → IsRest members (unowned_by v) → w ≡ with_taken m v
+      → AreCounts origin counts (flat_map items v.taken ++ items m) → (w ≡ taker (unowned_by w) w.taken) × IsRest members (unowned_by w) × AreCounts origin counts (flat_map items w.taken)
+  take_more v w members m counts is rest takes_it counted = (rw (takes_it, is), rw takes_it rest, rw (takes_it, items-push items v.taken m) counted)
 
 -- as many taken as put, then nothing is left in between
 pub same_lists : {X : Type 0} (put taken left : List X) → put ≡ taken ++ left → length taken ≡ length put → taken ≡ put

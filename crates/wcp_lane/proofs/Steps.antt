@@ -48,10 +48,14 @@ module _ {A : Type 0} (P : A → Type 0) where
 
 module _ {I : Type 0} (origin place : I → ℕ) (is_last : I → Bool) where
   -- items that may follow are of the numbers
-  pub all_owned : (numbers : Numbers) (before items : List I) → AllMayFollow origin place is_last numbers before items → All (λ item. sets.contains numbers (origin item) ≡ true) items
+  all_owned : (numbers : Numbers) (before items : List I) → AllMayFollow origin place is_last numbers before items → All (λ item. sets.contains numbers (origin item) ≡ true) items
   all_owned numbers before [] may k d below = absurd (omega arith)
   all_owned numbers before (x ∷ xs) may zero d below = may.0.owned
   all_owned numbers before (x ∷ xs) may (suc k) d below = all_owned numbers (before ++ x ∷ []) xs may.1 k d (omega arith)
+
+  -- items that may follow, of the numbers of processes, are of these
+  pub all_below : (numbers : Numbers) (before items : List I) → AreProcessNumbers numbers → AllMayFollow origin place is_last numbers before items → All (λ item. origin item < most_processes) items
+  all_below numbers before items within may k d below = within (origin (get_or items k d)) (all_owned numbers before items may k d below)
 
   -- with items that may follow, the items of each number stay in sequence
   AreInSequence-more : (numbers : Numbers) (q : ℕ) (before items : List I) → AreInSequence place is_last (items_from origin q before) → AllMayFollow origin place is_last numbers before items
@@ -146,7 +150,7 @@ module _ {M I : Type 0} (items_of : M → List I) (origin place : I → ℕ) (is
           put = more;
           rule = record {
             numbered = subst (All (λ item. origin item < most_processes)) (sym (items-push items_of within m))
-                (All-append (λ item. origin item < most_processes) (flat_map items_of within) (items_of m) h.rule.numbered (λ k d inside. below_most (origin (get_or (items_of m) k d)) (owned k d inside)));
+                (All-append (λ item. origin item < most_processes) (flat_map items_of within) (items_of m) h.rule.numbered (all_below origin place is_last numbers (flat_map items_of put) (items_of m) below_most may));
             whole = λ q below. rw (items_from-push items_of origin q within m, ← append_assoc, h.rule.whole q below) refl;
             in_sequence = λ q below. (step q below).0;
           };
