@@ -1,5 +1,5 @@
 ghost use Rattle.std.specs.Prelude.{◌≡◌, ◌+◌, IfOk, OnOk};
-ghost use Rattle.lane_calls.specs.Snapshots.{HasPut};
+ghost use Rattle.wcp_lane.specs.Snapshots.{HasPut};
 
 use crate::{ROOM, Sum, snap};
 use std::alloc::{AllocError, Global};

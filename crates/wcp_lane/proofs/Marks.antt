@@ -23,6 +23,14 @@ process_numbers marks numbers full is q member =
 pub contains_with : (numbers : sets.FinSet nat_cmp) (p q : ℕ) → sets.contains (sets.insert numbers p) q ≡ (nat_eq q p || sets.contains numbers q)
 contains_with numbers p q = sets.contains-insert nat_cmp_total numbers p q ∙ ap (λ b. b || sets.contains numbers q) (unsigned_tied q p)
 
+-- the set of one number
+abbrev pub alone : ℕ → sets.FinSet nat_cmp
+alone p = sets.insert sets.empty p
+
+-- that number is in it
+pub alone_has : (p : ℕ) → sets.contains (alone p) p ≡ true
+alone_has p = grind (arith, nat_tests, contains_with)
+
 marks_with : (marks : List Bool) (p q : ℕ) → p < length marks → get_or (set marks p true) q false ≡ (nat_eq q p || get_or marks q false)
 marks_with marks p q within = grind (arith, nat_tests, get_or-set_same, get_or-set_other)
 

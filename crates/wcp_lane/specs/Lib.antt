@@ -4,3 +4,4 @@ pub mod Numbers
 pub mod Owners
 pub mod Passes
 pub mod ProcessNumbers
+pub mod Snapshots

@@ -1,7 +1,7 @@
 //! Lanes of snapshots, for the tests.
 ghost use Rattle.std.specs.Prelude.{◌≡◌, ◌+◌, false, IfOk, OnOk, IsTrue};
 ghost use Rattle.wcp_clock.specs.Notes.{place_of, is_close};
-ghost use Rattle.lane_cases.specs.Snapshots.{HasPut};
+ghost use Rattle.wcp_lane.specs.Snapshots.{HasPut};
 
 use std::alloc::Global;
 use std::sync::Wait;

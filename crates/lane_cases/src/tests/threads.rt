@@ -1,5 +1,5 @@
 ghost use Rattle.std.specs.Prelude.{◌≡◌, IfSome};
-ghost use Rattle.lane_cases.specs.Snapshots.{HasPut};
+ghost use Rattle.wcp_lane.specs.Snapshots.{HasPut};
 
 use super::lanes::{lane_of_three, lane_of_two, put_snap};
 use std::sync::Wait;

@@ -1,4 +1,4 @@
-use Rattle.lane_calls.specs.Snapshots.{HasPut}
+use Rattle.wcp_lane.specs.Snapshots.{HasPut}
 use Rattle.lane_calls.proofs.lanes.one_thread.Given as goal
 
 abbrev pub invariant-loop-number : goal.invariant-loop-number

@@ -1,4 +1,4 @@
-use Rattle.lane_calls.specs.Snapshots.{HasPut}
+use Rattle.wcp_lane.specs.Snapshots.{HasPut}
 use Rattle.lane_calls.proofs.lanes.put_all.Given as goal
 
 abbrev pub invariant-loop-number : goal.invariant-loop-number

@@ -1,13 +1,9 @@
-use Rattle.std.proofs.Common.{◌≡◌, sym, subst, rules, arith}
+use Rattle.std.proofs.Common.{arith}
 use Rattle.std.proofs.lemmas.Grind.{common_steps}
-use Rattle.wcp_lane.specs.Ends.{new_putter}
-use Rattle.lane_cases.specs.Snapshots.{HasPut}
-use Rattle.lane_cases.proofs.Opened.{alone, new_HasPut}
+use Rattle.wcp_lane.proofs.NewPutters.{new_HasPut}
 use Rattle.lane_cases.proofs.tests.lanes.lane_of_two.Goals as goal
 
 pub returns-clause-new : goal.returns-clause-new
 returns-clause-new c =
-    let name = c.in_ok-putters.taker.lane in
-    let second : c.in-Some.second ≡ new_putter name (alone 1) = first_of (search rules, grind (arith, common_steps)) in
-    let first : c.in-Some-pop.first ≡ new_putter name (alone 0) = first_of (search rules, grind (arith, common_steps)) in
-    (subst (HasPut 0 0) (sym first) (new_HasPut name 0), subst (HasPut 1 0) (sym second) (new_HasPut name 1))
+    let lane = c.in_ok-putters.taker.lane in
+    (new_HasPut c.in-Some-pop.first lane 0 (grind (arith, common_steps)), new_HasPut c.in-Some.second lane 1 (grind (arith, common_steps)))

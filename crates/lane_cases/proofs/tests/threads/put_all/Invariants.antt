@@ -1,5 +1,5 @@
 use Rattle.std.proofs.Common.{◌≡◌}
-use Rattle.lane_cases.specs.Snapshots.{HasPut}
+use Rattle.wcp_lane.specs.Snapshots.{HasPut}
 use Rattle.lane_cases.proofs.tests.threads.put_all.Given as goal
 
 abbrev pub invariant-loop-number : goal.invariant-loop-number
