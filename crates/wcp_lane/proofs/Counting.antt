@@ -1,5 +1,5 @@
 -- How many items of each number were put or taken.
-use Rattle.std.proofs.Common.{◌≡◌, ◌≢◌, ℕ, ◌+◌, ◌<◌, List, [], ◌∷◌, ◌++◌, length, set, replicate, refl, sym, ap, ◌∙◌, subst, ⊎_elim, arith, length-append}
+use Rattle.std.proofs.Common.{◌≡◌, ◌≢◌, ℕ, ◌+◌, ◌<◌, List, [], ◌∷◌, ◌++◌, length, set, replicate, refl, sym, ap, ◌∙◌, ⊎_elim, arith, length-append}
 use Rattle.std.specs.Prelude.{All, Bool}
 use Rattle.std.proofs.lemmas.List.{length-set, get_or-set_same, get_or-set_other, get_or-replicate, append-nil}
 use Rattle.std.proofs.lemmas.Bool.{cases_eq}
@@ -24,7 +24,7 @@ module _ {I : Type 0} (origin : I → ℕ) where
 
   -- no item, and so none of any number
   pub counts_of_none : (items : List I) → items ≡ [] → AreCounts origin (replicate 16 0) items
-  counts_of_none items none = subst (AreCounts origin (replicate 16 0)) (sym none) (refl, λ p below. get_or-replicate 16 p 0 0 below)
+  counts_of_none items none = rw none (refl, λ p below. get_or-replicate 16 p 0 0 below)
 
   -- more items of one number, and the count of this number
   pub counted : (counts : List ℕ) (before items : List I) (p count : ℕ) → AreCounts origin counts before → All (λ item. origin item ≡ p) items → p < most_processes → count ≡ length (items_from origin p before) + length items

@@ -1,12 +1,12 @@
 -- What an end knows after a step.
-use Rattle.std.proofs.Common.{◌≡◌, ℕ, ◌<◌, true, List, [], ◌∷◌, ◌++◌, length, get_or, cond, sym, ap, ◌∙◌, arith, length-append}
+use Rattle.std.proofs.Common.{◌≡◌, ℕ, ◌<◌, true, List, [], ◌∷◌, ◌++◌, length, sym, ap, ◌∙◌, arith, length-append}
 use Rattle.std.specs.FinSet as sets
 use Rattle.std.proofs.lemmas.List.{append-nil}
 use Rattle.wcp_clock.specs.Limits.{most_processes}
 use Rattle.wcp_model.specs.LaneRule.{items_from}
 use Rattle.wcp_lane.specs.declared.passes.Hand.{Hand}
 use Rattle.std.specs.List.{flat_map}
-use Rattle.wcp_lane.specs.Passes.{Numbers, putter, taker, joined, with_put, with_taken, put_of, IsRest, IsBalanced}
+use Rattle.wcp_lane.specs.Passes.{Numbers, putter, taker, joined, with_put, with_taken, IsRest, IsBalanced}
 use Rattle.wcp_lane.specs.Ends.{put_by, unowned_by, AreCounts}
 use Rattle.wcp_lane.proofs.Lists.{items-push}
 
@@ -29,10 +29,5 @@ same_lists put taken (x ∷ left) e as_many = absurd (omega (arith, ap length e,
 -- where as many were taken as were put, they are the same
 pub matched : {M I : Type 0} (items : M → List I) (origin : I → ℕ) (v u w : Hand M) (numbers : Numbers) (within : List M) → v.takes ≡ true → u ≡ putter numbers (put_by u) → w ≡ joined v u → IsBalanced items origin w within
     → (p : ℕ) → p < most_processes → sets.contains numbers p ≡ true → length (items_from origin p (flat_map items v.taken)) ≡ length (items_from origin p (flat_map items (put_by u))) → items_from origin p (flat_map items v.taken) ≡ items_from origin p (flat_map items (put_by u))
-matched {M} items origin v u w numbers within may is both balanced p below member as_many =
-    let taken : w.taken ≡ v.taken = ap (λ (x : Hand M). x.taken) both in
-    let put : List _ = items_from origin p (flat_map items (put_by u)) in
-    let first : put_of items origin p w ≡ put ∷ put_of items origin p v =
-    ap (put_of items origin p) (both ∙ ap (joined v) is) ∙ ap (λ b. cond b (put ∷ []) [] ++ put_of items origin p v) member in
-    let all = balanced (ap (λ (x : Hand M). x.takes) both ∙ may) p below 0 put (omega (arith, ap length first)) in
-    same_lists put (items_from origin p (flat_map items v.taken)) (items_from origin p (flat_map items within)) (sym (ap (λ xs. get_or xs 0 put) first) ∙ all ∙ ap (λ xs. items_from origin p (flat_map items xs) ++ items_from origin p (flat_map items within)) taken) as_many
+matched items origin v u w numbers within may is both balanced p below member as_many =
+    same_lists _ _ (items_from origin p (flat_map items within)) ((rw (both, is, member) at (balanced (rw both may) p below)) 0 [] (omega arith)) as_many

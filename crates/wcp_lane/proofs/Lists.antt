@@ -1,5 +1,5 @@
 -- Lists that are read by their places, and the items of one origin in them.
-use Rattle.std.proofs.Common.{◌≡◌, ◌≢◌, ◌⊎◌, ℕ, zero, suc, ◌<◌, ◌≤◌, true, false, List, [], ◌∷◌, ◌++◌, length, set, cond, sym, refl, ap, ◌∙◌, inl, inr, ⊎_elim, arith, length-append}
+use Rattle.std.proofs.Common.{◌≡◌, ◌≢◌, ◌⊎◌, ℕ, zero, suc, ◌<◌, ◌≤◌, true, false, List, [], ◌∷◌, ◌++◌, length, set, sym, refl, ap, ◌∙◌, inl, inr, ⊎_elim, arith, length-append}
 use Rattle.std.specs.Prelude.{◌==◌, All}
 use Rattle.std.specs.List.{flat_map}
 use Rattle.std.proofs.lemmas.Grind.{flat_map-append}
@@ -40,8 +40,8 @@ module _ {A B : Type 0} (F : A → List B) where
   -- an element is replaced by one that gives the same
   pub flat_map-set_same : (xs : List A) (i : ℕ) (x y : A) → get_elem? xs i ≡ some x → F y ≡ F x → flat_map F (set xs i y) ≡ flat_map F xs
   flat_map-set_same [] i x y at same = refl
-  flat_map-set_same (z ∷ zs) zero x y at same = ap (λ s. s ++ flat_map F zs) (same ∙ ap F (sym (some-injective z x at)))
-  flat_map-set_same (z ∷ zs) (suc i) x y at same = ap (λ s. F z ++ s) (flat_map-set_same zs i x y at same)
+  flat_map-set_same (z ∷ zs) zero x y at same = rw (same, some-injective z x at) refl
+  flat_map-set_same (z ∷ zs) (suc i) x y at same = rw (flat_map-set_same zs i x y at same) refl
 
   -- an element that gives all that is given is replaced
   pub flat_map-set_own : (xs : List A) (i : ℕ) (x y : A) → get_elem? xs i ≡ some x → length (flat_map F xs) ≤ length (F x) → flat_map F (set xs i y) ≡ F y
@@ -78,10 +78,10 @@ module _ {I : Type 0} (origin : I → ℕ) (p : ℕ) where
   items_from-append xs ys = filter-append (λ (x : I). origin x == p) xs ys
 
   pub items_from-own : (x : I) (xs : List I) → origin x ≡ p → items_from origin p (x ∷ xs) ≡ x ∷ items_from origin p xs
-  items_from-own x xs own = let is : (origin x == p) ≡ true = grind (arith, nat_tests) in ap (λ b. cond b (x ∷ items_from origin p xs) (items_from origin p xs)) is
+  items_from-own x xs own = let is : (origin x == p) ≡ true = grind (arith, nat_tests) in rw is
 
   pub items_from-other : (x : I) (xs : List I) → origin x ≢ p → items_from origin p (x ∷ xs) ≡ items_from origin p xs
-  items_from-other x xs other = let is : (origin x == p) ≡ false = grind (arith, nat_tests) in ap (λ b. cond b (x ∷ items_from origin p xs) (items_from origin p xs)) is
+  items_from-other x xs other = let is : (origin x == p) ≡ false = grind (arith, nat_tests) in rw is
 
   pub items_from-all : (xs : List I) → All (λ x. origin x ≡ p) xs → items_from origin p xs ≡ xs
   items_from-all [] all = refl
@@ -94,7 +94,7 @@ module _ {I : Type 0} (origin : I → ℕ) (p : ℕ) where
 module _ {M I : Type 0} (items : M → List I) where
   -- the items of some messages and of one more
   pub items-push : (messages : List M) (m : M) → flat_map items (messages ++ m ∷ []) ≡ flat_map items messages ++ items m
-  items-push messages m = flat_map-append items messages (m ∷ []) ∙ ap (λ xs. flat_map items messages ++ xs) (append-nil (items m))
+  items-push messages m = rw (flat_map-append items messages (m ∷ []), append-nil (items m)) refl
 
   pub items_from-push : (origin : I → ℕ) (p : ℕ) (messages : List M) (m : M) → items_from origin p (flat_map items (messages ++ m ∷ [])) ≡ items_from origin p (flat_map items messages) ++ items_from origin p (items m)
-  items_from-push origin p messages m = ap (items_from origin p) (items-push messages m) ∙ items_from-append origin p (flat_map items messages) (items m)
+  items_from-push origin p messages m = rw (items-push messages m) (items_from-append origin p (flat_map items messages) (items m))

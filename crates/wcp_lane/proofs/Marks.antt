@@ -1,10 +1,9 @@
 -- Sets of numbers, by the marks that say which numbers are in them.
-use Rattle.std.proofs.Common.{◌≡◌, ℕ, ◌<◌, Bool, true, false, ◌||◌, List, length, get_or, set, sym, ap, ◌∙◌, arith, ⊎_elim}
+use Rattle.std.proofs.Common.{◌≡◌, ℕ, ◌<◌, Bool, true, false, ◌||◌, List, length, get_or, set, ap, ◌∙◌, arith}
 use Rattle.std.specs.Prelude.{nat_eq}
 use Rattle.std.specs.Ordering.{nat_cmp}
 use Rattle.std.specs.Cmp.{unsigned_tied, nat_cmp_total}
 use Rattle.std.specs.FinSet as sets
-use Rattle.std.proofs.lemmas.Bool.{cases_lt, both_ways}
 use Rattle.std.proofs.lemmas.Bool.Decides.{nat_tests}
 use Rattle.std.proofs.lemmas.List.{get_or-set_same, get_or-set_other, get_or_past}
 use Rattle.std.specs.FinMap.{nat_cmp-IsAntisymmetric}
@@ -14,10 +13,7 @@ use Rattle.wcp_lane.specs.Numbers.{set_of, contains-marks}
 
 -- the numbers of a set of so many marks are those of processes
 pub process_numbers : (marks : List Bool) (numbers : sets.FinSet nat_cmp) → length marks ≡ most_processes → set_of marks ≡ numbers → AreProcessNumbers numbers
-process_numbers marks numbers full is q member =
-    ⊎_elim (λ below. below)
-    (λ past. absurd (both_ways _ (contains-marks marks q ∙ get_or_past marks q false (omega arith)) (ap (λ s. sets.contains s q) is ∙ member)))
-    (cases_lt q most_processes)
+process_numbers marks numbers full is q member = grind (arith, contains-marks, get_or_past)
 
 -- what a set contains once p is added
 pub contains_with : (numbers : sets.FinSet nat_cmp) (p q : ℕ) → sets.contains (sets.insert numbers p) q ≡ (nat_eq q p || sets.contains numbers q)
@@ -37,11 +33,9 @@ marks_with marks p q within = grind (arith, nat_tests, get_or-set_same, get_or-s
 -- a mark more is a number more
 pub set_of-set : (marks : List Bool) (p : ℕ) → p < length marks → set_of (set marks p true) ≡ sets.insert (set_of marks) p
 set_of-set marks p within =
-    sets.same_set nat_cmp_total nat_cmp-IsAntisymmetric _ _ (λ q.
-    contains-marks (set marks p true) q ∙ marks_with marks p q within ∙ ap (λ b. nat_eq q p || b) (sym (contains-marks marks q)) ∙ sym (contains_with (set_of marks) p q))
+    sets.same_set nat_cmp_total nat_cmp-IsAntisymmetric _ _ (λ q. rw (contains_with, contains-marks (set marks p true) q, contains-marks marks q) (marks_with marks p q within))
 
 -- the marks of either set are the marks of their union
 pub set_of-either : (marks mine theirs : List Bool) → ((p : ℕ) → get_or marks p false ≡ (get_or mine p false || get_or theirs p false)) → set_of marks ≡ sets.union (set_of mine) (set_of theirs)
 set_of-either marks mine theirs each =
-    sets.same_set nat_cmp_total nat_cmp-IsAntisymmetric _ _ (λ q.
-    contains-marks marks q ∙ each q ∙ (λ i. sym (contains-marks mine q) i || sym (contains-marks theirs q) i) ∙ sym (sets.contains-union nat_cmp_total (set_of mine) (set_of theirs) q))
+    sets.same_set nat_cmp_total nat_cmp-IsAntisymmetric _ _ (λ q. rw (sets.contains-union nat_cmp_total, contains-marks marks q, contains-marks mine q, contains-marks theirs q) (each q))

@@ -1,5 +1,5 @@
 -- The sets of a lane's putters.
-use Rattle.std.proofs.Common.{◌≡◌, ℕ, ◌<◌, Bool, true, false, not, ◌&&◌, ◌||◌, List, length, get_or, take, sym, ap, ◌∙◌, subst, arith}
+use Rattle.std.proofs.Common.{◌≡◌, ℕ, ◌<◌, Bool, true, false, not, ◌&&◌, ◌||◌, List, length, get_or, take, sym, ap, ◌∙◌, arith}
 use Rattle.std.specs.Prelude.{All}
 use Rattle.std.specs.List.{list_any}
 use Rattle.std.specs.FinSet as sets
@@ -26,8 +26,7 @@ none_before owners k numbers apart inside is p member =
     (ap (λ (s : Numbers). sets.contains s p) (sym (get_or_read owners k numbers inside is d)) ∙ member)))
 
 pub within_read : (owners : List Numbers) (k : ℕ) (numbers : Numbers) → All AreProcessNumbers owners → k < length owners → numbers ≡ get_or owners k numbers → AreProcessNumbers numbers
-within_read owners k numbers all inside is = subst AreProcessNumbers (sym is) (all k numbers inside)
+within_read owners k numbers all inside is = rw is (all k numbers inside)
 
 pub rest_of : (rest seen given : Bool) → rest ≡ not seen → (rest && not given) ≡ not (seen || given)
-rest_of rest true given e = ap (λ b. b && not given) e
-rest_of rest false given e = ap (λ b. b && not given) e
+rest_of rest seen given e = grind arith
