@@ -47,10 +47,10 @@ module _ {A B : Type 0} (F : A → List B) where
   pub flat_map-set_own : (xs : List A) (i : ℕ) (x y : A) → get_elem? xs i ≡ some x → length (flat_map F xs) ≤ length (F x) → flat_map F (set xs i y) ≡ F y
   flat_map-set_own [] i x y at all = absurd (some-ne-none x (sym at))
   flat_map-set_own (z ∷ zs) zero x y at all =
-      ap (λ s. F y ++ s) (drop_all 0 (flat_map F zs) (omega (arith, length-append (F z) (flat_map F zs), ap (λ a. length (F a)) (some-injective z x at)))) ∙ append-nil (F y)
+      rw (drop_all 0 (flat_map F zs) (omega (arith, length-append (F z) (flat_map F zs), ap (λ a. length (F a)) (some-injective z x at)))) (append-nil (F y))
   flat_map-set_own (z ∷ zs) (suc i) x y at all =
       let both = length-append (F z) (flat_map F zs) in
-      ap (λ s. s ++ flat_map F (set zs i y)) (drop_all 0 (F z) (omega (arith, both, length-of_flat_map zs i x at))) ∙ flat_map-set_own zs i x y at (omega (arith, both))
+      rw (drop_all 0 (F z) (omega (arith, both, length-of_flat_map zs i x at))) (flat_map-set_own zs i x y at (omega (arith, both)))
 
   -- where one thing is given, an element that gives something gives just this
   pub flat_map-one : (xs : List A) (i : ℕ) (x : A) (t : B) → get_elem? xs i ≡ some x → flat_map F xs ≡ t ∷ [] → 0 < length (F x) → F x ≡ t ∷ []

@@ -1,5 +1,5 @@
 -- The sets of a lane's putters.
-use Rattle.std.proofs.Common.{◌≡◌, ℕ, ◌<◌, Bool, true, false, not, ◌&&◌, ◌||◌, List, length, get_or, take, sym, ap, ◌∙◌, arith}
+use Rattle.std.proofs.Common.{◌≡◌, ℕ, ◌<◌, Bool, true, false, not, ◌&&◌, ◌||◌, List, length, get_or, take, arith}
 use Rattle.std.specs.Prelude.{All}
 use Rattle.std.specs.List.{list_any}
 use Rattle.std.specs.FinSet as sets
@@ -22,8 +22,8 @@ none_before owners k numbers apart inside is p member =
     list_any_none (λ (s : Numbers). sets.contains s p) (take k owners) (λ i d below.
     false_from_ne_true (sets.contains (get_or (take k owners) i d) p) (λ owned.
     apart i k d (omega arith) inside p
-    (ap (λ (s : Numbers). sets.contains s p) (sym (get_or-take k owners i d (omega arith))) ∙ owned)
-    (ap (λ (s : Numbers). sets.contains s p) (sym (get_or_read owners k numbers inside is d)) ∙ member)))
+    (rw (← get_or-take k owners i d (omega arith)) owned)
+    (rw (← get_or_read owners k numbers inside is d) member)))
 
 pub within_read : (owners : List Numbers) (k : ℕ) (numbers : Numbers) → All AreProcessNumbers owners → k < length owners → numbers ≡ get_or owners k numbers → AreProcessNumbers numbers
 within_read owners k numbers all inside is = rw is (all k numbers inside)

@@ -5,6 +5,7 @@ use Rattle.std.specs.FinSet as sets
 use Rattle.std.specs.Cmp.{nat_cmp_total}
 use Rattle.std.specs.List.{flat_map, list_any, range_with_len}
 use Rattle.std.proofs.lemmas.Bool.{cases_eq, cases_Bool, agree_below_at, false_from_ne_true, not-false, and_right}
+use Rattle.std.proofs.Math.Bool.{and-true}
 use Rattle.std.proofs.lemmas.Grind.{flat_map-append}
 use Rattle.std.proofs.lemmas.List.{append-nil, take_at, drop_at}
 use Rattle.std.proofs.lemmas.List.Elements.{All-append, All-cons, All-take, All-drop}
@@ -20,10 +21,6 @@ use Rattle.wcp_lane.specs.ProcessNumbers.{AreProcessNumbers}
 use Rattle.wcp_lane.specs.Passes.{Numbers, all_numbers, putter, taker, nobody, without, joined, with_put, with_taken, taken_of, put_of, IsPut, IsTaken, IsBalanced, IsRuled}
 use Rattle.wcp_lane.proofs.Lists.{not_empty, of_snoc, flat_map-set_same, flat_map-set_own, flat_map-one, flat_map-merge, items_from-append, items_from-own, items_from-other, items_from-none, items-push, items_from-push}
 
-and_true : (b : Bool) → (b && true) ≡ b
-and_true true = refl
-and_true false = refl
-
 pub all_numbers-contains : (p : ℕ) → p < most_processes → sets.contains all_numbers p ≡ true
 unfolding all_numbers
 all_numbers-contains p below =
@@ -36,7 +33,7 @@ module _ {I : Type 0} (place : I → ℕ) (is_last : I → Bool) where
   AreInSequence-push xs x run next before item behind e =
       ⊎_elim
       (λ (old : (rest : List I) × (xs ≡ before ++ item ∷ rest)). run before item old.0 old.1)
-      (λ (new : (xs ≡ before) × (x ≡ item)). subst (λ (y : List I × I). IsNext place is_last y.0 y.1) (λ i. (new.0 i, new.1 i)) next)
+      (λ (new : (xs ≡ before) × (x ≡ item)). rw (← new.0, ← new.1) next)
       (of_snoc xs x before item behind e)
 
 module _ {A : Type 0} (P : A → Type 0) where
@@ -60,15 +57,15 @@ module _ {I : Type 0} (origin place : I → ℕ) (is_last : I → Bool) where
   -- with items that may follow, the items of each number stay in sequence
   AreInSequence-more : (numbers : Numbers) (q : ℕ) (before items : List I) → AreInSequence place is_last (items_from origin q before) → AllMayFollow origin place is_last numbers before items
       → AreInSequence place is_last (items_from origin q (before ++ items))
-  AreInSequence-more numbers q before [] run may = subst (λ xs. AreInSequence place is_last (items_from origin q xs)) (sym (append-nil before)) run
+  AreInSequence-more numbers q before [] run may = rw append-nil run
   AreInSequence-more numbers q before (x ∷ xs) run may =
       let more : AreInSequence place is_last (items_from origin q (before ++ x ∷ [])) =
       rw (items_from-append origin q before (x ∷ []))
       (⊎_elim
-      (λ (here : origin x ≡ q). rw (items_from-own origin q x [] here) (AreInSequence-push place is_last (items_from origin q before) x run (subst (λ p. IsNext place is_last (items_from origin p before) x) here may.0.next)))
+      (λ (here : origin x ≡ q). rw (items_from-own origin q x [] here) (AreInSequence-push place is_last (items_from origin q before) x run (rw (← here) may.0.next)))
       (λ (apart : origin x ≢ q). rw (items_from-other origin q x [] apart, append-nil) run)
       (cases_eq (origin x) q)) in
-      subst (λ ys. AreInSequence place is_last (items_from origin q ys)) (append_assoc before (x ∷ []) xs) (AreInSequence-more numbers q (before ++ x ∷ []) xs more may.1)
+      rw (← append_assoc before (x ∷ []) xs) (AreInSequence-more numbers q (before ++ x ∷ []) xs more may.1)
 
   -- where the items of each number of a kind are in sequence, those behind a front may follow it
   pub may_follow : (IsOne : ℕ → Type 0) (members : Numbers) (all : List I) → ((q : ℕ) → IsOne q → AreInSequence place is_last (items_from origin q all))
@@ -80,12 +77,12 @@ module _ {I : Type 0} (origin place : I → ℕ) (is_last : I → Bool) where
       let p : ℕ = origin x in
       let within : IsOne p = each 0 x (omega arith) in
       let split : items_from origin p all ≡ items_from origin p before ++ x ∷ items_from origin p (xs ++ behind) =
-      ap (items_from origin p) is ∙ items_from-append origin p before (x ∷ (xs ++ behind)) ∙ ap (λ ys. items_from origin p before ++ ys) (items_from-own origin p x (xs ++ behind) refl) in (
+      rw (is, items_from-append origin p before (x ∷ (xs ++ behind)), items_from-own origin p x (xs ++ behind) refl) refl in (
         record {
           owned = owned p within (λ none. not_empty (items_from origin p before) x (items_from origin p (xs ++ behind)) (sym none ∙ split));
           next = runs p within (items_from origin p before) x (items_from origin p (xs ++ behind)) split;
         },
-        may_follow IsOne members all runs owned (before ++ x ∷ []) xs behind (is ∙ sym (append_assoc before (x ∷ []) (xs ++ behind))) (λ k d below. each (suc k) d (omega arith)),
+        may_follow IsOne members all runs owned (before ++ x ∷ []) xs behind (rw append_assoc is) (λ k d below. each (suc k) d (omega arith)),
       )
 
 module _ {M I : Type 0} (items_of : M → List I) (origin place : I → ℕ) (is_last : I → Bool) where
@@ -121,27 +118,26 @@ module _ {M I : Type 0} (items_of : M → List I) (origin place : I → ℕ) (is
   -- a message is put
   pub puts : (n pass : ℕ) (v : Hand M) (numbers : Numbers) (put : List M) (m : M) → v ≡ putter numbers put → AreProcessNumbers numbers
       → AllMayFollow origin place is_last numbers (flat_map items_of put) (items_of m) → Pushes Rule n pass v m (IsPut v m)
-  puts n pass v numbers put m is below_most may within ends room h at =
+  puts n pass v numbers put m is below_most may = rw is (λ within ends room h at.
+      let v : Hand M = putter numbers put in
       let w : Hand M = with_put m v in
       let owned = all_owned origin place is_last numbers (flat_map items_of put) (items_of m) may in
       let more : ℕ → List I = λ q. h.put q ++ items_from origin q (items_of m) in
       let step : (q : ℕ) → q < most_processes → AreInSequence place is_last (more q) × (flat_map (put_by q) (set ends pass w) ≡ more q ∷ []) = λ q below. ⊎_elim
       (λ (member : sets.contains numbers q ≡ true).
-      let own : put_by q v ≡ from q put ∷ [] = ap (put_by q) is ∙ own_put q numbers put member in
+      let own : put_by q v ≡ from q put ∷ [] = own_put q numbers put member in
       let one : put_by q v ≡ h.put q ∷ [] = flat_map-one (put_by q) ends pass v (h.put q) at (h.stands q below) (omega (arith, ap length own)) in
       let known : from q put ≡ h.put q = cc in
       let next : from q (put ++ m ∷ []) ≡ more q = items_from-push items_of origin q put m ∙ ap (λ xs. xs ++ items_from origin q (items_of m)) known in (
-        subst (AreInSequence place is_last) (sym (ap (items_from origin q) (items-push items_of put m)) ∙ next)
-            (AreInSequence-more origin place is_last numbers q (flat_map items_of put) (items_of m) (subst (AreInSequence place is_last) (sym known) (h.rule.in_sequence q below)) may),
-        flat_map-set_own (put_by q) ends pass v w at (omega (arith, ap length own, ap length (h.stands q below)))
-            ∙ ap (λ u. put_by q (with_put m u)) is ∙ own_put q numbers (put ++ m ∷ []) member ∙ ap (λ xs. xs ∷ []) next,
+        rw (← next, items-push items_of put m) (AreInSequence-more origin place is_last numbers q (flat_map items_of put) (items_of m) (rw known (h.rule.in_sequence q below)) may),
+        rw (← next) (flat_map-set_own (put_by q) ends pass v w at (omega (arith, ap length own, ap length (h.stands q below))) ∙ own_put q numbers (put ++ m ∷ []) member),
       ))
       (λ (out : sets.contains numbers q ≡ false).
       let same : more q ≡ h.put q =
       ap (λ xs. h.put q ++ xs) (items_from-none origin q (items_of m) (λ k d inside here. true≢false (sym (ap (sets.contains numbers) (sym here) ∙ owned k d inside) ∙ out))) ∙ append-nil (h.put q) in
-      let nothing : put_by q w ≡ put_by q v = ap (λ u. put_by q (with_put m u)) is ∙ no_put q numbers (put ++ m ∷ []) out ∙ sym (ap (put_by q) is ∙ no_put q numbers put out) in (
-        subst (AreInSequence place is_last) (sym same) (h.rule.in_sequence q below),
-        flat_map-set_same (put_by q) ends pass v w at nothing ∙ h.stands q below ∙ ap (λ xs. xs ∷ []) (sym same),
+      let nothing : put_by q w ≡ put_by q v = no_put q numbers (put ++ m ∷ []) out ∙ sym (no_put q numbers put out) in (
+        rw same (h.rule.in_sequence q below),
+        rw same (flat_map-set_same (put_by q) ends pass v w at nothing ∙ h.stands q below),
       ))
       (cases_Bool (sets.contains numbers q)) in (
         w,
@@ -149,8 +145,7 @@ module _ {M I : Type 0} (items_of : M → List I) (origin place : I → ℕ) (is
           taken = h.taken;
           put = more;
           rule = record {
-            numbered = subst (All (λ item. origin item < most_processes)) (sym (items-push items_of within m))
-                (All-append (λ item. origin item < most_processes) (flat_map items_of within) (items_of m) h.rule.numbered (all_below origin place is_last numbers (flat_map items_of put) (items_of m) below_most may));
+            numbered = rw (items-push items_of within m) (All-append (λ item. origin item < most_processes) (flat_map items_of within) (items_of m) h.rule.numbered (all_below origin place is_last numbers (flat_map items_of put) (items_of m) below_most may));
             whole = λ q below. rw (items_from-push items_of origin q within m, ← append_assoc, h.rule.whole q below) refl;
             in_sequence = λ q below. (step q below).0;
           };
@@ -158,12 +153,12 @@ module _ {M I : Type 0} (items_of : M → List I) (origin place : I → ℕ) (is
           stands = λ q below. (step q below).1;
         },
         refl,
-      )
+      ))
 
   -- the end that takes has taken what was taken
   taken_all : (within : List M) (ends : List (Hand M)) (pass : ℕ) (v : Hand M) (h : Rule within ends) → v.takes ≡ true → get_elem? ends pass ≡ some v → v.taken ≡ h.taken
   taken_all within ends pass v h may at =
-      let own : taken_of v ≡ v.taken ∷ [] = ap (λ b. cond b (v.taken ∷ []) []) may in
+      let own : taken_of v ≡ v.taken ∷ [] = rw may in
       let one : taken_of v ≡ h.taken ∷ [] = flat_map-one taken_of ends pass v h.taken at h.takes (omega (arith, ap length own)) in
       cc
 
@@ -172,7 +167,7 @@ module _ {M I : Type 0} (items_of : M → List I) (origin place : I → ℕ) (is
   takes pass v may m within ends h at =
       let w : Hand M = with_taken m v in
       let known = taken_all (m ∷ within) ends pass v h may at in
-      let own : taken_of v ≡ v.taken ∷ [] = ap (λ b. cond b (v.taken ∷ []) []) may in
+      let own : taken_of v ≡ v.taken ∷ [] = rw may in
       let numbered : All (λ item. origin item < most_processes) (items_of m) = All-front (λ item. origin item < most_processes) (items_of m) (flat_map items_of within) h.rule.numbered in (
         w,
         record {
@@ -183,7 +178,7 @@ module _ {M I : Type 0} (items_of : M → List I) (origin place : I → ℕ) (is
             whole = λ q below. rw (items_from-push items_of origin q h.taken m, append_assoc, ← items_from-append origin q (items_of m) (flat_map items_of within)) (h.rule.whole q below);
             in_sequence = h.rule.in_sequence;
           };
-          takes = flat_map-set_own taken_of ends pass v w at (omega (arith, ap length own, ap length h.takes)) ∙ ap (λ b. cond b (w.taken ∷ []) []) may ∙ ap (λ xs. (xs ++ m ∷ []) ∷ []) known;
+          takes = rw (flat_map-set_own taken_of ends pass v w at (omega (arith, ap length own, ap length h.takes)), may, known) refl;
           stands = λ q below. flat_map-set_same (put_by q) ends pass v w at refl ∙ h.stands q below;
         },
         (
@@ -196,13 +191,13 @@ module _ {M I : Type 0} (items_of : M → List I) (origin place : I → ℕ) (is
               ∙ ap (λ (xs : List M). from q xs ++ from q (m ∷ within)) (sym (ap (λ (x : Hand M). x.taken) is) ∙ known)
               ∙ h.rule.whole q below in
               let unput : (q : ℕ) → q < most_processes → sets.contains unowned q ≡ true → h.put q ≡ [] = λ q below member.
-              let nothing : put_by q v ≡ [] ∷ [] = ap (put_by q) is ∙ own_put q unowned [] member in
+              let nothing : put_by q v ≡ [] ∷ [] = rw is (own_put q unowned [] member) in
               let one : put_by q v ≡ h.put q ∷ [] = flat_map-one (put_by q) ends pass v (h.put q) at (h.stands q below) (omega (arith, ap length nothing)) in
               cc in
               record {
                 numbered = numbered;
                 follows = λ members rest.
-                    may_follow origin place is_last (λ q. q < most_processes) members all (λ q below. subst (AreInSequence place is_last) (sym (put_is q below)) (h.rule.in_sequence q below))
+                    may_follow origin place is_last (λ q. q < most_processes) members all (λ q below. rw (put_is q below) (h.rule.in_sequence q below))
                     (λ q below some_there. not-false (sets.contains members q) (sym (rest q below) ∙ false_from_ne_true (sets.contains unowned q) (λ member. some_there (put_is q below ∙ unput q below member))))
                     before (items_of m) (flat_map items_of within) refl numbered;
               },
@@ -212,7 +207,8 @@ module _ {M I : Type 0} (items_of : M → List I) (origin place : I → ℕ) (is
   -- an end is given the numbers of a set
   pub gives : (pass : ℕ) (v : Hand M) (unowned numbers : Numbers) → v ≡ taker unowned [] → ((p : ℕ) → p < most_processes → sets.contains numbers p ≡ true → sets.contains unowned p ≡ true)
       → Forks Rule pass v (without numbers v) (putter numbers [])
-  gives pass v unowned numbers is among items ends h at =
+  gives pass v unowned numbers is among = rw is (λ items ends h at.
+      let v : Hand M = taker unowned [] in
       let left : Hand M = without numbers v in
       let right : Hand M = putter numbers [] in
       let rest = sets.difference unowned numbers in
@@ -221,21 +217,21 @@ module _ {M I : Type 0} (items_of : M → List I) (origin place : I → ℕ) (is
         taken = h.taken;
         put = h.put;
         rule = h.rule;
-        takes = flat_map-append taken_of (set ends pass left) (right ∷ []) ∙ append-nil (flat_map taken_of (set ends pass left)) ∙ flat_map-set_same taken_of ends pass v left at refl ∙ h.takes;
+        takes = rw (flat_map-append taken_of (set ends pass left) (right ∷ []), append-nil (flat_map taken_of (set ends pass left)), flat_map-set_same taken_of ends pass v left at refl) h.takes;
         stands = λ p below. flat_map-append (put_by p) (set ends pass left) (right ∷ []) ∙ ⊎_elim
             (λ (given : sets.contains numbers p ≡ true).
-            let own : put_by p v ≡ [] ∷ [] = ap (put_by p) is ∙ own_put p unowned [] (among p below given) in
+            let own : put_by p v ≡ [] ∷ [] = own_put p unowned [] (among p below given) in
             let one : put_by p v ≡ h.put p ∷ [] = flat_map-one (put_by p) ends pass v (h.put p) at (h.stands p below) (omega (arith, ap length own)) in
             let gone : sets.contains rest p ≡ false = what_is_left p ∙ and_right (sets.contains unowned p) (not (sets.contains numbers p)) (ap not given) in
-            let nothing : flat_map (put_by p) (set ends pass left) ≡ [] = flat_map-set_own (put_by p) ends pass v left at (omega (arith, ap length own, ap length (h.stands p below))) ∙ ap (λ u. put_by p (without numbers u)) is ∙ no_put p rest [] gone in
+            let nothing : flat_map (put_by p) (set ends pass left) ≡ [] = flat_map-set_own (put_by p) ends pass v left at (omega (arith, ap length own, ap length (h.stands p below))) ∙ no_put p rest [] gone in
             let unput : h.put p ≡ [] = cc in
             (λ k. nothing k ++ (own_put p numbers [] given k ++ [])) ∙ ap (λ xs. xs ∷ []) (sym unput))
             (λ (out : sets.contains numbers p ≡ false).
-            let stays : sets.contains rest p ≡ sets.contains unowned p = what_is_left p ∙ ap (λ b. sets.contains unowned p && not b) out ∙ and_true (sets.contains unowned p) in
-            let same : put_by p left ≡ put_by p v = ap (λ u. put_by p (without numbers u)) is ∙ put_is p rest [] ∙ ap (λ b. cond b ([] ∷ []) []) stays ∙ sym (ap (put_by p) is ∙ put_is p unowned []) in
+            let stays : sets.contains rest p ≡ sets.contains unowned p = rw (what_is_left p, out) (and-true (sets.contains unowned p)) in
+            let same : put_by p left ≡ put_by p v = rw stays in
             ap (λ xs. flat_map (put_by p) (set ends pass left) ++ (xs ++ [])) (no_put p numbers [] out) ∙ append-nil (flat_map (put_by p) (set ends pass left)) ∙ flat_map-set_same (put_by p) ends pass v left at same ∙ h.stands p below)
             (cases_Bool (sets.contains numbers p));
-      }
+      })
 
   -- the numbers of a putter go to the taker
   pub joins : (pass : ℕ) (v : Hand M) (other : ℕ) (u : Hand M) (numbers : Numbers) (put : List M) → v.takes ≡ true → u ≡ putter numbers put → Merges Rule pass v other u (joined v u) nobody
@@ -243,7 +239,7 @@ module _ {M I : Type 0} (items_of : M → List I) (origin place : I → ℕ) (is
     taken = h.taken;
     put = h.put;
     rule = h.rule;
-    takes = flat_map-merge taken_of ends pass other v u (joined v u) nobody h.taken at apart at_other (sym (ap (λ (x : Hand M). taken_of x ++ taken_of v) is)) refl h.takes;
+    takes = flat_map-merge taken_of ends pass other v u (joined v u) nobody h.taken at apart at_other (rw is) refl h.takes;
     stands = λ p below. flat_map-merge (put_by p) ends pass other v u (joined v u) nobody (h.put p) at apart at_other
         (flat_map-append (λ (x : Home M). cond (sets.contains x.numbers p) (from p x.put ∷ []) []) u.home v.home) refl (h.stands p below);
   }
@@ -253,5 +249,5 @@ module _ {M I : Type 0} (items_of : M → List I) (origin place : I → ℕ) (is
   balances pass v items ends h at = λ may p below k d inside.
       let one : put_by p v ≡ h.put p ∷ [] = flat_map-one (put_by p) ends pass v (h.put p) at (h.stands p below) (omega arith) in
       let is : h.put p ≡ from p v.taken ++ from p items = sym (h.rule.whole p below) ∙ ap (λ xs. from p xs ++ from p items) (sym (taken_all items ends pass v h may at)) in
-      let all : All (λ xs. xs ≡ from p v.taken ++ from p items) (h.put p ∷ []) = All-cons (λ xs. xs ≡ from p v.taken ++ from p items) (h.put p) [] is (λ j e none. absurd (omega arith)) in
-      subst (All (λ xs. xs ≡ from p v.taken ++ from p items)) (sym one) all k d inside
+      let all : All (λ xs. xs ≡ from p v.taken ++ from p items) (put_by p v) = rw one (All-cons (λ xs. xs ≡ from p v.taken ++ from p items) (h.put p) [] is (λ j e none. absurd (omega arith))) in
+      all k d inside

@@ -1,13 +1,12 @@
-use Rattle.std.proofs.Common.{◌≡◌, ◌+◌, not, ◌||◌, take, map, List, sym, ap, ◌∙◌, subst, arith, [], ◌∷◌, ◌++◌}
+use Rattle.std.proofs.Common.{◌≡◌, ◌+◌, not, ◌||◌, take, map, List, sym, ap, ◌∙◌, arith, [], ◌∷◌, ◌++◌}
 use Rattle.std.specs.FinSet as set
 use Rattle.std.specs.Cmp.{nat_cmp_total}
 use Rattle.std.specs.List.{flat_map}
 use Rattle.std.proofs.lemmas.Grind.{common_steps}
 use Rattle.std.proofs.lemmas.List.{take_all, map-append}
 use Rattle.std.proofs.lemmas.List.Folds.{list_any_more}
-use Rattle.crossbeam_channel.specs.Claims.{IsSeatAt}
-use Rattle.wcp_lane.specs.Passes.{Numbers, taker, putter}
-use Rattle.wcp_lane.specs.Ends.{lane_of, hand_of, unowned_by, put_by, new_putter, PutEnd}
+use Rattle.wcp_lane.specs.Passes.{Numbers}
+use Rattle.wcp_lane.specs.Ends.{lane_of, unowned_by, put_by, new_putter, PutEnd}
 use Rattle.wcp_lane.proofs.Counting.{counts_of_none}
 use Rattle.wcp_lane.proofs.Sets.{any_has, none_before, within_read, rest_of}
 use Rattle.wcp_lane.proofs.Steps.{begins, all_numbers-contains}
@@ -21,8 +20,8 @@ loop-numbers-init g c =
     let made = c.in_ok-sender.ensures in
     record {
       seat = made.2;
-      knows = made.3 ∙ ap (λ v. taker (unowned_by v) []) (sym made.3);
-      rest = λ p below. ap (λ v. set.contains (unowned_by v) p) made.3 ∙ all_numbers-contains p below;
+      knows = rw made.3;
+      rest = λ p below. rw made.3 (all_numbers-contains p below);
       made = c.in_ok-putters.ensures.items;
     }
 
@@ -34,9 +33,9 @@ pub invariant_of-push : goal.invariant_of-push
 invariant_of-push g c =
     let given = c.give-own.ensures.putter in (
       rw (c.in_ok-try_clone.ensures) c.give-own.ensures.lane.1,
-      given ∙ ap (λ v. putter c.numbers-item.result (put_by v)) (sym given),
+      rw given,
       within_read _ _ _ c.requires.within c.loop-numbers-test.true c.numbers-item.is,
-      counts_of_none g.M.Origin.origin _ (ap (λ v. flat_map g.M.Origin.items (put_by v)) given),
+      counts_of_none g.M.Origin.origin _ (rw given),
     )
 
 pub loop-numbers-preserved : goal.loop-numbers-preserved
@@ -52,7 +51,7 @@ loop-numbers-preserved g c =
     let new : List Numbers → List (PutEnd g.row.M.Denot g.row.M-Item.Denot) = map (new_putter (lane_of c.give-own.new.pass)) in
     record {
       seat = seat;
-      knows = left ∙ ap (λ v. taker (unowned_by v) []) (sym left);
+      knows = rw left;
       rest = λ p below.
           ap (λ v. set.contains (unowned_by v) p) left
           ∙ set.contains-difference nat_cmp_total _ numbers p
@@ -68,8 +67,8 @@ loop-numbers-preserved g c =
 pub invariant_of-taker : goal.invariant_of-taker
 invariant_of-taker g c =
     let old = c.loop-numbers.invariant in (
-      subst (λ channel. IsSeatAt channel c.loop-numbers.pass) (sym c.in_ok-sender.ensures.0) old.seat,
-      old.knows ∙ ap (λ v. taker (unowned_by (hand_of c.loop-numbers.pass)) v.taken) (sym old.knows),
+      rw (c.in_ok-sender.ensures.0) old.seat,
+      rw old.knows,
       λ p below. old.rest p below ∙ ap not (ap (any_has p) (take_all _ _ c.loop-numbers-test.false) ∙ sym (c.requires.all p)),
-      counts_of_none g.M.Origin.origin _ (ap (λ v. flat_map g.M.Origin.items v.taken) old.knows),
+      counts_of_none g.M.Origin.origin _ (rw old.knows),
     )

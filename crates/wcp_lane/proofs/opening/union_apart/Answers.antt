@@ -33,7 +33,7 @@ loop-numbers-preserved c =
     let more : take (c.loop-numbers.numbers-index + 1) c.args.owners.now ≡ take c.loop-numbers.numbers-index c.args.owners.now ++ numbers ∷ [] = grind (arith, common_steps) in
     record {
       among = λ p. grind (arith, common_steps, set.contains-union nat_cmp_total, c.loop-numbers.invariant.among p);
-      apart = subst AreApart (sym more) (all_pairs_push ShareNone _ numbers c.loop-numbers.invariant.apart (λ i d below p first second.
+      apart = rw more (all_pairs_push ShareNone _ numbers c.loop-numbers.invariant.apart (λ i d below p first second.
           both_ways _ c.if-meets.false (c.meets.ensures.1 (p, c.loop-numbers.invariant.among p ∙ list_any_at (λ (s : Numbers). set.contains s p) _ i d below first, second))));
       within = grind (arith, common_steps);
     }
