@@ -34,52 +34,51 @@ fn take_all<R: Wait>(rt: &R, mut taker: Taker<Item>, count: u32) -> TakeReceipt<
     taker.end()
 }
 
-/// Two threads put.
-fn put_both<R: Threads + Wait + Sync>(
+/// One thread puts snapshots of process `from` while `rest` goes on; what that took is reconciled with them.
+fn put_beside<R: Threads + Wait + Sync, F: FnOnce() -> Option<TakeReceipt<Item>>>(
     rt: &R,
-    first: Putter<Item>,
-    second: Putter<Item>,
-) -> (Option<PutReceipt<Item>>, Option<PutReceipt<Item>>)
-    requires { HasPut 0 0 first × HasPut 1 0 second }
-    ensures first { IfSome result.0 (λ receipt. receipt.lane ≡ first.lane) }
-    ensures second { IfSome result.1 (λ receipt. receipt.lane ≡ second.lane) }
+    putter: Putter<Item>,
+    from: u32,
+    rest: F,
+) -> Option<TakeReceipt<Item>>
+    requires put { HasPut from 0 putter }
+    requires rest { F.pre rest }
+    requires lane { (taken : _) → F.post rest taken → IfSome taken (λ receipt. receipt.lane ≡ putter.lane) }
+    ensures { IfSome result (λ receipt. receipt.lane ≡ putter.lane) }
 {
-    join(
+    let (put, taken) = join(
         rt,
         move || -> Option<PutReceipt<Item>>
-            requires { HasPut 0 0 first }
-            ensures { IfSome result (λ receipt. receipt.lane ≡ first.lane) }
-        { put_all(rt, first, 0) },
-        move || -> Option<PutReceipt<Item>>
-            requires { HasPut 1 0 second }
-            ensures { IfSome result (λ receipt. receipt.lane ≡ second.lane) }
-        { put_all(rt, second, 1) },
-    )
+            requires { HasPut from 0 putter }
+            ensures { IfSome result (λ receipt. receipt.lane ≡ putter.lane) }
+        { put_all(rt, putter, from) },
+        rest,
+    );
+    reconcile(taken?, put?).ok()
 }
 
-/// Two threads put and a third takes.
+/// Two threads put and a third takes `count` items.
 fn two_put<R: Threads + Wait + Sync>(
     rt: &R,
     first: Putter<Item>,
     second: Putter<Item>,
     taker: Taker<Item>,
+    count: u32,
 ) -> Option<TakeReceipt<Item>>
     requires put { HasPut 0 0 first × HasPut 1 0 second }
     requires lane { (first.lane ≡ taker.lane) × (second.lane ≡ taker.lane) }
+    ensures { IfSome result (λ receipt. receipt.lane ≡ taker.lane) }
 {
-    let ((first, second), taken) = join(
-        rt,
-        move || -> (Option<PutReceipt<Item>>, Option<PutReceipt<Item>>)
-            requires { HasPut 0 0 first × HasPut 1 0 second }
-            ensures { IfSome result.0 (λ receipt. receipt.lane ≡ first.lane)
-                × IfSome result.1 (λ receipt. receipt.lane ≡ second.lane) }
-        { put_both(rt, first, second) },
-        move || -> TakeReceipt<Item>
-            ensures { result.lane ≡ taker.lane }
-        { take_all(rt, taker, 2 * COUNT) },
-    );
-    let taken = reconcile(taken, first?).ok()?;
-    reconcile(taken, second?).ok()
+    let put_second = move || -> Option<TakeReceipt<Item>>
+        requires { HasPut 1 0 second × (second.lane ≡ taker.lane) }
+        ensures { IfSome result (λ receipt. receipt.lane ≡ taker.lane) }
+    {
+        let take = move || -> Option<TakeReceipt<Item>>
+            ensures { IfSome result (λ receipt. receipt.lane ≡ taker.lane) }
+        { Some(take_all(rt, taker, count)) };
+        put_beside(rt, second, 1, take)
+    };
+    put_beside(rt, first, 0, put_second)
 }
 
 /// Three threads put and a fourth takes.
@@ -93,49 +92,21 @@ fn three_put<R: Threads + Wait + Sync>(
     requires put { HasPut 0 0 first × HasPut 1 0 second × HasPut 2 0 third }
     requires lane { (first.lane ≡ taker.lane) × (second.lane ≡ taker.lane) × (third.lane ≡ taker.lane) }
 {
-    let ((first, second), (third, taken)) = join(
+    put_beside(
         rt,
-        move || -> (Option<PutReceipt<Item>>, Option<PutReceipt<Item>>)
-            requires { HasPut 0 0 first × HasPut 1 0 second }
-            ensures { IfSome result.0 (λ receipt. receipt.lane ≡ first.lane)
-                × IfSome result.1 (λ receipt. receipt.lane ≡ second.lane) }
-        { put_both(rt, first, second) },
-        move || -> (Option<PutReceipt<Item>>, TakeReceipt<Item>)
-            requires { HasPut 2 0 third }
-            ensures { IfSome result.0 (λ receipt. receipt.lane ≡ third.lane) × (result.1.lane ≡ taker.lane) }
-        { put_and_take(rt, third, taker) },
-    );
-    let taken = reconcile(taken, first?).ok()?;
-    let taken = reconcile(taken, second?).ok()?;
-    reconcile(taken, third?).ok()
-}
-
-/// One thread puts snapshots of process 2 and another takes three times as many.
-fn put_and_take<R: Threads + Wait + Sync>(
-    rt: &R,
-    putter: Putter<Item>,
-    taker: Taker<Item>,
-) -> (Option<PutReceipt<Item>>, TakeReceipt<Item>)
-    requires { HasPut 2 0 putter }
-    ensures put { IfSome result.0 (λ receipt. receipt.lane ≡ putter.lane) }
-    ensures taken { result.1.lane ≡ taker.lane }
-{
-    join(
-        rt,
-        move || -> Option<PutReceipt<Item>>
-            requires { HasPut 2 0 putter }
-            ensures { IfSome result (λ receipt. receipt.lane ≡ putter.lane) }
-        { put_all(rt, putter, 2) },
-        move || -> TakeReceipt<Item>
-            ensures { result.lane ≡ taker.lane }
-        { take_all(rt, taker, 3 * COUNT) },
+        third,
+        2,
+        move || -> Option<TakeReceipt<Item>>
+            requires { HasPut 0 0 first × HasPut 1 0 second × (first.lane ≡ taker.lane) × (second.lane ≡ taker.lane) }
+            ensures { IfSome result (λ receipt. receipt.lane ≡ taker.lane) }
+        { two_put(rt, first, second, taker, 3 * COUNT) },
     )
 }
 
 #[test]
 fn two_threads_put_and_one_takes(rt: HostRuntime) -> Result<(), Fail> {
     let (first, second, taker) = lane_of_two(rt.alloc(), 2)?;
-    let taken = two_put(&rt, first, second, taker);
+    let taken = two_put(&rt, first, second, taker, 2 * COUNT);
     assert!(rt; taken.is_some_and(|taken| taken.matched(0) && taken.matched(1)));
     Ok(())
 }
