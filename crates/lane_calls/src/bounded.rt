@@ -1,5 +1,5 @@
-use crate::{ROOM, Sum, snap};
-use crossbeam_channel::{Receiver, Sender, bounded};
+use crate::{ROOM, Sum, snap, sum_of};
+use crossbeam_channel::{Sender, bounded};
 use std::alloc::{AllocError, Global};
 use std::sync::Wait;
 use std::thread::{Threads, join};
@@ -29,17 +29,6 @@ fn send_all<R: Wait>(rt: &R, sender: Sender<Item>, items: u32) {
     }
 }
 
-fn receive_all<R: Wait>(rt: &R, receiver: Receiver<Item>, items: u32) -> Sum {
-    let mut sum = Sum(0);
-    for _ in 0..items {
-        match receiver.recv(rt) {
-            Ok(item) => sum = sum.with(&item),
-            Err(_) => return sum,
-        }
-    }
-    sum
-}
-
 /// One thread sends and another receives.
 pub fn two_threads<R: Threads + Wait + Sync>(
     rt: &R,
@@ -50,7 +39,7 @@ pub fn two_threads<R: Threads + Wait + Sync>(
     let ((), sum) = join(
         rt,
         move || send_all(rt, sender, items),
-        move || receive_all(rt, receiver, items),
+        move || sum_of(items, || receiver.recv(rt).ok()),
     );
     Ok(sum)
 }

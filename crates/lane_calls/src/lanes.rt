@@ -1,7 +1,7 @@
 ghost use Rattle.std.specs.Prelude.{◌≡◌, ◌+◌, IfOk, OnOk};
 ghost use Rattle.wcp_lane.specs.Snapshots.{HasPut};
 
-use crate::{ROOM, Sum, snap};
+use crate::{ROOM, Sum, snap, sum_of};
 use std::alloc::{AllocError, Global};
 use std::sync::Wait;
 use std::thread::{Threads, join};
@@ -56,30 +56,19 @@ fn put_all<R: Wait>(rt: &R, mut putter: Putter<Item>, items: u32)
     }
 }
 
-fn take_all<R: Wait>(rt: &R, mut taker: Taker<Item>, items: u32) -> Sum {
-    let mut sum = Sum(0);
-    for _ in 0..items {
-        match taker.take(rt) {
-            Ok(item) => sum = sum.with(&item),
-            Err(_) => return sum,
-        }
-    }
-    sum
-}
-
 /// One thread puts and another takes.
 pub fn two_threads<R: Threads + Wait + Sync>(
     rt: &R,
     alloc: Global,
     items: u32,
 ) -> Result<Sum, AllocError> {
-    let (putter, taker) = ends(alloc)?;
+    let (putter, mut taker) = ends(alloc)?;
     let ((), sum) = join(
         rt,
         move ||
             requires { HasPut 0 0 putter }
         { put_all(rt, putter, items) },
-        move || take_all(rt, taker, items),
+        move || sum_of(items, || taker.take(rt).ok()),
     );
     Ok(sum)
 }

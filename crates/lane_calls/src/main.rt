@@ -53,6 +53,20 @@ impl Sum {
     }
 }
 
+/// Adds up `items` items, or all that come.
+fn sum_of<F: FnMut() -> Option<Item>>(items: u32, mut next: F) -> Sum
+    requires { F.IsAlwaysCallable next }
+{
+    let mut sum = Sum(0);
+    for _ in 0..items {
+        match next() {
+            Some(item) => sum = sum.with(&item),
+            None => return sum,
+        }
+    }
+    sum
+}
+
 fn hops<R: Threads + Wait + Sync>(
     rt: &R,
     alloc: Global,
