@@ -3,6 +3,7 @@ use Rattle.std.specs.List.{list_all}
 use Rattle.std.specs.Str.{bytes_eq}
 use Rattle.std.specs.Char.{digit_value}
 use Rattle.std.specs.Str.Parse.{AllDigits, IsNumeral, digits_value}
+use Rattle.std.proofs.lemmas.Bool.{and_parts, cases_Bool}
 use Rattle.std.proofs.lemmas.Fmt.{decimal_is_IsNumeral}
 use Rattle.std.proofs.lemmas.Str.Parse.{digit_from_value}
 use Rattle.clap.specs.Lexer.{strip_byte}
@@ -15,39 +16,33 @@ pub record IsNumberIn (least most : ℕ) (inside : Bool) (word : Text) : Type 0 
   pub no_end : bytes_eq word (45 ∷ 45 ∷ []) ≡ false
   pub tested : is_signed_in (pos least) (pos most) word ≡ inside
 
-no_hyphen_first : (byte : ℕ) → digit_value byte < 10 → (byte == 45) ≡ false
-no_hyphen_first byte is_digit = ne_eqb byte 45 (λ e. omega (arith, digit_from_value byte is_digit))
-
-no_plus_first : (byte : ℕ) → digit_value byte < 10 → (byte == 43) ≡ false
-no_plus_first byte is_digit = ne_eqb byte 43 (λ e. omega (arith, digit_from_value byte is_digit))
+-- no digit is a hyphen or a plus
+no_sign_first : (sign byte : ℕ) → sign < 48 → digit_value byte < 10 → (byte == sign) ≡ false
+no_sign_first sign byte low is_digit = ne_eqb byte sign (λ e. omega (arith, digit_from_value byte is_digit))
 
 all_digits : (digits : List ℕ) → AllDigits 10 digits → list_all (λ d. nat_lt (digit_value d) 10) digits ≡ true
 all_digits [] are = refl
 all_digits (byte ∷ bytes) are = rw (lt-ltb (digit_value byte) 10 are.0) (all_digits bytes are.1)
 
 -- clap reads a number of 64 bits with a sign
-abbrev is_in : ℕ → ℕ → ℕ → Bool
+abbrev pub is_in : ℕ → ℕ → ℕ → Bool
 is_in least most n = nat_lt n (2 ^ 63) && (nat_le least n && nat_le n most)
 
 digits_in : (least most : ℕ) (digits : List ℕ) → IsNumeral 10 digits → IsNumberIn least most (is_in least most (digits_value 10 digits)) digits
 digits_in least most [] are = absurd (omega (arith, are.0))
 digits_in least most (byte ∷ bytes) are =
-    let hyphen = no_hyphen_first byte are.1.0 in
-    let plus = no_plus_first byte are.1.0 in
+    let hyphen = no_sign_first 45 byte (omega arith) are.1.0 in
+    let plus = no_sign_first 43 byte (omega arith) are.1.0 in
     record {
       no_hyphen = rw hyphen refl;
       no_end = rw hyphen refl;
       tested = rw (hyphen, plus, lt-ltb 0 (length (byte ∷ bytes)) (omega arith), lt-ltb (digit_value byte) 10 are.1.0, all_digits bytes are.1.1) refl;
     }
 
-decimal_in : (least most n : ℕ) → n < 2 ^ 64 → IsNumberIn least most (is_in least most n) (decimal n)
+pub decimal_in : (least most n : ℕ) → n < 2 ^ 64 → IsNumberIn least most (is_in least most n) (decimal n)
 decimal_in least most n small =
     let numeral = decimal_is_IsNumeral n small in
     subst (λ m. IsNumberIn least most (is_in least most m) (decimal n)) numeral.1 (digits_in least most (decimal n) numeral.0)
-
-both_true : (a b : Bool) → (a && b) ≡ true → (a ≡ true) × (b ≡ true)
-both_true true b e = (refl, e)
-both_true false b e = cc
 
 -- the decimal text of a number in a range is a word that clap takes
 pub decimal-taken : (least most n : ℕ) → least ≤ n → n ≤ most → most < 2 ^ 63 → IsNumberIn least most true (decimal n)
@@ -57,10 +52,11 @@ decimal-taken least most n low high small =
 
 -- a number is in the range and clap takes its text, or clap refuses it
 pub decimal-cases : (least most n : ℕ) → n < 2 ^ 64 → ((least ≤ n) × (n ≤ most) × IsNumberIn least most true (decimal n)) ⊎ IsNumberIn least most false (decimal n)
-decimal-cases least most n small = go (is_in least most n) refl
-  where
-    go : (inside : Bool) → is_in least most n ≡ inside → ((least ≤ n) × (n ≤ most) × IsNumberIn least most true (decimal n)) ⊎ IsNumberIn least most false (decimal n)
-    go true is =
-        let parts = both_true (nat_le least n) (nat_le n most) (both_true (nat_lt n (2 ^ 63)) _ is).1 in
-        inl (leb-true least n parts.0, leb-true n most parts.1, subst (λ b. IsNumberIn least most b (decimal n)) is (decimal_in least most n small))
-    go false is = inr (subst (λ b. IsNumberIn least most b (decimal n)) is (decimal_in least most n small))
+decimal-cases least most n small =
+    let tested = decimal_in least most n small in
+    elim (cases_Bool (is_in least most n)) [
+      | inl is ↦
+          let within = and_parts (nat_le least n) (nat_le n most) (and_parts (nat_lt n (2 ^ 63)) _ is).1 in
+          inl (leb-true least n within.0, leb-true n most within.1, subst (λ b. IsNumberIn least most b (decimal n)) is tested)
+      | inr is ↦ inr (subst (λ b. IsNumberIn least most b (decimal n)) is tested)
+    ]

@@ -2,7 +2,7 @@ use Rattle.std.proofs.Common.{◌≡◌, ℕ, refl, sym, true≢false, IsErr, Re
 use Rattle.std.specs.Io.KnownBytes.{Keeps}
 use Rattle.wcp_cli.specs.declared.fault.Fault.{Fault}
 use Rattle.wcp_cli.specs.declared.words.Request.{Request}
-use Rattle.wcp_cli.specs.declared.words.Request.TheVariants.{Single, Run, Replay, Ring, Help, Unknown}
+use Rattle.wcp_cli.specs.declared.words.Request.TheVariants.{Single, Run, Replay, Help}
 use Rattle.wcp_cli.specs.RequestAnswers.{Known, Reads}
 use Rattle.wcp_cli.specs.Edge.{status_after}
 use Rattle.wcp_cli.specs.Words.{IsSameRequest}
@@ -12,18 +12,12 @@ pub reads_nothing : (request : Request) (old new : Known) → Keeps old new → 
 reads_nothing Single old new kept = tt
 reads_nothing Run old new kept = tt
 reads_nothing Replay old new kept = tt
-reads_nothing (Ring ring) old new kept = kept
-reads_nothing (Help text) old new kept = kept
-reads_nothing Unknown old new kept = kept
+reads_nothing _ old new kept = kept
 
 -- each request is the one that was asked for, where it was
 pub same_request : (request : Request) → IsSameRequest request request
-same_request Single = refl
-same_request Run = refl
-same_request Replay = refl
-same_request (Ring ring) = refl
 same_request (Help text) = tt
-same_request Unknown = refl
+same_request _ = refl
 
 -- a fault is followed by status 2
 pub status_after_err : (r : Result ℕ Fault) → IsErr r → status_after r ≡ 2

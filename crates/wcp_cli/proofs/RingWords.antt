@@ -1,14 +1,14 @@
-use Rattle.std.proofs.Common.{◌≡◌, ◌∙◌, ℕ, Bool, true, false, List, [], ◌∷◌, codes, ap, ap₂, Some, None, Option, refl, decimal, arith, get_or}
+use Rattle.std.proofs.Common.{◌≡◌, ◌∙◌, ℕ, Bool, true, false, List, [], ◌∷◌, codes, ap, ap₂, Some, None, Option, refl, decimal, arith, get_or, if◌then◌else◌}
 use Rattle.clap.proofs.OnLiterals.{clap_on_literals}
-use Rattle.std.specs.Str.{bytes_eq}
 use Rattle.clap.specs.Kinds.{Kinds, or_else}
-use Rattle.clap.specs.Lexer.{strip_byte}
 use Rattle.clap.proofs.FaultLemmas.{stopped_fault}
-use Rattle.clap.specs.Words.{Rule, Shape, Text, Row, built, fault_of, subcommand_of}
+use Rattle.clap.specs.Words.{Shape, Text, Row, built, fault_of, subcommand_of}
 use Rattle.clap.specs.Faults.{built_fault, check_fault, defaults_fault, level_fault, settle_fault, walk_fault}
 use Rattle.clap.specs.Simple.{entered, names_of}
-use Rattle.clap.specs.Walk.{Held, Walk, arg_by_id, finished, idle, nothing_held, option, option_word, settled, stop_after, walk, walk_from, walked}
+use Rattle.clap.specs.Walk.{Held, finished, nothing_held, settled, stop_after, walk, walk_from, walked}
 use Rattle.clap.specs.Values.{bool_text}
+use Rattle.clap.specs.declared.error.kind.ErrorKind.{ErrorKind}
+use Rattle.clap.specs.declared.error.kind.ErrorKind.TheVariants as kind
 use Rattle.clap.specs.declared.builder.value_parser.Reading.TheVariants.{AsWritten, WithoutMinus}
 use Rattle.clap.specs.declared.parser.matches.ValueSource.{ValueSource}
 use Rattle.clap.specs.declared.parser.matches.ValueSource.TheVariants.{CommandLine, DefaultValue}
@@ -53,71 +53,48 @@ ring_rows procs rounds fault = number_row (codes "procs") procs ∷ number_row (
 abbrev pub ring_built : Shape
 ring_built = get_or (built program).subs 3 ring_shape
 
--- a walk at which an option waits for its value
-abbrev pub waits_for : Text → Held → Walk
-waits_for id h = record { held = h; waiting = option id; position = 1; is_trailing = false; stopped = None }
-
--- and that walk after the value
-abbrev pub given : List Rule → Text → Text → Held → Walk
-given rules id word h = record (waits_for id h) {
-  held = (option_word (arg_by_id rules id) id word h).0;
-  waiting = (option_word (arg_by_id rules id) id word h).1;
-}
-
--- a word that is no flag is the value of the option that waits
-pub value_step : (s : Shape) (id word : Text) (h : Held) (rest : List Text) → strip_byte 45 word ≡ None → bytes_eq word (45 ∷ 45 ∷ []) ≡ false
-    → walk_fault s [] (waits_for id h) (word ∷ rest) ≡ walk_fault s [] (given s.rules id word h) rest
-unfolding walk_fault walked
-value_step s id word h rest no_hyphen no_end = simp (no_hyphen, no_end) refl
-
--- the words after `--procs` and its value
-second_option : (procs rounds : Text) (rest : List Text) → IsNumberIn 2 16 true procs
-    → walk_fault ring_built [] (given ring_built.rules (codes "procs") procs (record { rows = []; pending = Some (codes "procs", []); skip = 0 })) (codes "--rounds" ∷ rounds ∷ rest)
-    ≡ walk_fault ring_built [] (waits_for (codes "rounds") (record { rows = number_row (codes "procs") procs ∷ []; pending = Some (codes "rounds", []); skip = 0 })) (rounds ∷ rest)
-unfolding clap_on_literals
-second_option procs rounds rest p = simp (p.tested) refl
-
 -- what is held after the last word
-abbrev pub held_after : Text → Text → Bool → Held
+abbrev held_after : Text → Text → Bool → Held
 held_after procs rounds false = record { rows = number_row (codes "procs") procs ∷ []; pending = Some (codes "rounds", rounds ∷ []); skip = 0 }
 held_after procs rounds true = record { rows = ring_rows procs rounds true; pending = None; skip = 0 }
 
-abbrev pub ended : Held → Walk
-ended h = record { held = h; waiting = idle; position = 1; is_trailing = false; stopped = None }
-
-pub numbers_walked : (procs rounds : Text) (rest : List Text) (inside : Bool) → IsNumberIn 2 16 true procs → IsNumberIn 1 1000 inside rounds
-    → walk_fault ring_built [] (walk_from nothing_held) (codes "--procs" ∷ procs ∷ codes "--rounds" ∷ rounds ∷ rest)
-    ≡ walk_fault ring_built [] (ended (held_after procs rounds false)) rest
-unfolding clap_on_literals
-numbers_walked procs rounds rest inside p r =
-    value_step ring_built (codes "procs") procs (record { rows = []; pending = Some (codes "procs", []); skip = 0 }) (codes "--rounds" ∷ rounds ∷ rest) p.no_hyphen p.no_end
-    ∙ second_option procs rounds rest p
-    ∙ value_step ring_built (codes "rounds") rounds (record { rows = number_row (codes "procs") procs ∷ []; pending = Some (codes "rounds", []); skip = 0 }) rest r.no_hyphen r.no_end
-
-flag_walked : (procs rounds : Text) (fault : Bool) → IsNumberIn 1 1000 true rounds
-    → walk_fault ring_built [] (ended (held_after procs rounds false)) (flag_words fault) ≡ []
-unfolding clap_on_literals
-flag_walked procs rounds false r = refl
-flag_walked procs rounds true r = simp (r.tested) refl
-
 -- what is tested after the last word
-abbrev pub end_fault : Held → Kinds
+abbrev end_fault : Held → Kinds
 end_fault end = or_else (settle_fault ring_built.rules ring_built.args_override_self end)
     (or_else (defaults_fault (settled ring_built.rules end).rows ring_built.rules) (check_fault ring_built (finished ring_built.rules end) false))
 
-pub ring_walk : (procs rounds : Text) (fault inside : Bool) → IsNumberIn 2 16 true procs → IsNumberIn 1 1000 inside rounds
-    → walk ring_built.rules [] nothing_held (codes "--procs" ∷ procs ∷ codes "--rounds" ∷ rounds ∷ flag_words fault) ≡ ended (held_after procs rounds fault)
-unfolding clap_on_literals
-ring_walk procs rounds false inside p r = simp (p.no_hyphen, p.no_end, r.no_hyphen, r.no_end) refl
-ring_walk procs rounds true inside p r = simp (p.no_hyphen, p.no_end, r.no_hyphen, r.no_end) refl
+-- what `ring` itself finds wrong with the words after it
+abbrev pub wrong : List Text → Kinds
+wrong words = level_fault ring_built [] nothing_held words false []
 
-ring_end : (procs rounds : Text) (fault : Bool) → IsNumberIn 1 1000 true rounds → end_fault (held_after procs rounds fault) ≡ []
+-- where a walk finds nothing wrong, the end tells
+pub wrong_at_end : (words : List Text) (end : Held) (kinds : Kinds) → walk_fault ring_built [] (walk_from nothing_held) words ≡ []
+    → (walk ring_built.rules [] nothing_held words).held ≡ end → end_fault end ≡ kinds → wrong words ≡ kinds
+wrong_at_end words end kinds walked ends found = ap₂ or_else walked (ap end_fault ends ∙ found)
+
+-- a walk that finds one thing wrong tells
+wrong_on_the_way : (words : List Text) (why : ErrorKind) → walk_fault ring_built [] (walk_from nothing_held) words ≡ why ∷ [] → wrong words ≡ why ∷ []
+wrong_on_the_way words why walked = ap (λ ks. or_else ks (end_fault (walk ring_built.rules [] nothing_held words).held)) walked
+
+-- the words that say both numbers, and what follows them
+abbrev numbers : Text → Text → List Text → List Text
+numbers procs rounds rest = codes "--procs" ∷ procs ∷ codes "--rounds" ∷ rounds ∷ rest
+
+-- where the first number is in its range, the second decides
+pub both_numbers : (procs rounds : Text) (fault inside : Bool) → IsNumberIn 2 16 true procs → IsNumberIn 1 1000 inside rounds
+    → wrong (numbers procs rounds (flag_words fault)) ≡ (if inside then [] else kind.ValueValidation ∷ [])
 unfolding clap_on_literals
-ring_end procs rounds false r = simp (r.tested) refl
-ring_end procs rounds true r = refl
+both_numbers procs rounds true true p r = wrong_at_end (numbers procs rounds (flag_words true)) (held_after procs rounds true) []
+    (simp (p.no_hyphen, p.no_end, p.tested, r.no_hyphen, r.no_end, r.tested) refl) (simp (p.no_hyphen, p.no_end, r.no_hyphen, r.no_end) refl) refl
+both_numbers procs rounds true false p r = wrong_on_the_way (numbers procs rounds (flag_words true)) kind.ValueValidation
+    (simp (p.no_hyphen, p.no_end, p.tested, r.no_hyphen, r.no_end, r.tested) refl)
+both_numbers procs rounds false true p r = wrong_at_end (numbers procs rounds []) (held_after procs rounds false) []
+    (simp (p.no_hyphen, p.no_end, p.tested, r.no_hyphen, r.no_end) refl) (simp (p.no_hyphen, p.no_end, r.no_hyphen, r.no_end) refl) (simp (r.tested) refl)
+both_numbers procs rounds false false p r = wrong_at_end (numbers procs rounds []) (held_after procs rounds false) (kind.ValueValidation ∷ [])
+    (simp (p.no_hyphen, p.no_end, p.tested, r.no_hyphen, r.no_end) refl) (simp (p.no_hyphen, p.no_end, r.no_hyphen, r.no_end) refl) (simp (r.tested) refl)
 
 -- the command above `ring` refuses just what `ring` refuses
-pub top_fault : (words : List Text) (kinds : Kinds) → level_fault ring_built [] nothing_held words false [] ≡ kinds → built_fault (built program) nothing_held (codes "ring" ∷ words) ≡ kinds
+pub top_fault : (words : List Text) (kinds : Kinds) → wrong words ≡ kinds → built_fault (built program) nothing_held (codes "ring" ∷ words) ≡ kinds
 unfolding clap_on_literals
 top_fault words [] found =
     let stops = stays_as_stopped (built program).top.rules (names_of (built program)) (walk_from nothing_held) (codes "ring") [] words in
@@ -127,13 +104,6 @@ top_fault words (why ∷ more) found =
     let stops = stays_as_stopped (built program).top.rules (names_of (built program)) (walk_from nothing_held) (codes "ring") [] words in
     let passed = stopped_fault (built program).top (names_of (built program)) (walk_from nothing_held) (codes "ring", []) words in
     simp (stops, passed, found) refl
-
-ring_passes : (procs rounds : Text) (fault : Bool) → IsNumberIn 2 16 true procs → IsNumberIn 1 1000 true rounds
-    → built_fault (built program) nothing_held (codes "ring" ∷ codes "--procs" ∷ procs ∷ codes "--rounds" ∷ rounds ∷ flag_words fault) ≡ []
-unfolding walk_fault
-ring_passes procs rounds fault p r = top_fault (codes "--procs" ∷ procs ∷ codes "--rounds" ∷ rounds ∷ flag_words fault) []
-    (ap₂ or_else (numbers_walked procs rounds (flag_words fault) true p r ∙ flag_walked procs rounds fault r)
-    (ap (λ (w : Walk). end_fault w.held) (ring_walk procs rounds fault true p r) ∙ ring_end procs rounds fault r))
 
 -- ---- and finds the options
 
@@ -161,7 +131,8 @@ rounds_taken n rounds is = decimal-taken 1 1000 rounds is.some_rounds is.few_rou
 
 pub ring-passes : (n rounds : ℕ) (fault : Bool) (words : List Text) → IsRing n rounds → AskForRing n rounds fault words → fault_of program words ≡ []
 ring-passes n rounds fault words is asked =
-    ap (built_fault (built program) nothing_held) asked ∙ ring_passes (decimal n) (decimal rounds) fault (procs_taken n rounds is) (rounds_taken n rounds is)
+    ap (built_fault (built program) nothing_held) asked
+    ∙ top_fault _ [] (both_numbers (decimal n) (decimal rounds) fault true (procs_taken n rounds is) (rounds_taken n rounds is))
 
 pub ring-found : (n rounds : ℕ) (fault : Bool) (words : List Text) → IsRing n rounds → AskForRing n rounds fault words
     → AsksForRing n rounds fault (subcommand_of program words)

@@ -1,4 +1,4 @@
-use Rattle.std.proofs.Common.{◌≡◌, true, false, List, [], ◌∷◌, codes, ap, ◌∙◌, sym, refl, subst, None, inl, inr}
+use Rattle.std.proofs.Common.{◌≡◌, ◌≢◌, Bool, true, false, List, [], ◌∷◌, codes, ap, ◌∙◌, sym, refl, None, inl, inr}
 use Rattle.clap.proofs.OnLiterals.{clap_on_literals}
 use Rattle.clap.specs.Words.{IsAmong, Kinds, Text, fault_of, is_simple, is_simple_and_free, built}
 use Rattle.clap.specs.Faults.{built_fault}
@@ -8,11 +8,12 @@ use Rattle.clap.specs.Walk.{nothing_held, walk_from}
 use Rattle.clap.proofs.FaultLemmas.{stopped_fault}
 use Rattle.std.proofs.lemmas.Bool.{false_from_ne_true}
 use Rattle.std.proofs.lemmas.Slice.Eq.{bytes_eq-Decides}
+use Rattle.clap.specs.declared.error.kind.ErrorKind.{ErrorKind}
 use Rattle.clap.specs.declared.error.kind.ErrorKind.TheVariants as kind
 use Rattle.std.specs.Str.{bytes_eq}
-use Rattle.wcp_cli.proofs.NoRingWords.{no_ring-fails}
+use Rattle.wcp_cli.proofs.NoRingWords.{alone, no_ring-fails}
 use Rattle.wcp_cli.proofs.StoppedWalk.{stays_stopped}
-use Rattle.wcp_cli.specs.Words.{AskForSingle, AskForHelp, AskForUnknown, IsAlone, IsReader, UnknownWord, Further, NoRing, is_flag, program}
+use Rattle.wcp_cli.specs.Words.{AskForSingle, AskForHelp, AskForUnknown, IsAlone, IsReader, IsUnknown, UnknownWord, Further, NoRing, is_flag, program}
 
 pub program_is_free : is_simple_and_free program ≡ true
 unfolding clap_on_literals
@@ -41,23 +42,12 @@ pub single-passes : (words : List Text) → AskForSingle words → fault_of prog
 single-passes words (inl none) = ap (built_fault (built program) nothing_held) none ∙ no_word_passes
 single-passes words (inr one) = reader-passes (codes "single") words (inl refl) one
 
-help_fails : built_fault (built program) nothing_held (codes "help" ∷ []) ≡ [] → ⊥
-unfolding clap_on_literals
-help_fails bad = cc
-
-short_flag_fails : built_fault (built program) nothing_held (codes "-h" ∷ []) ≡ [] → ⊥
-unfolding clap_on_literals
-short_flag_fails bad = cc
-
-long_flag_fails : built_fault (built program) nothing_held (codes "--help" ∷ []) ≡ [] → ⊥
-unfolding clap_on_literals
-long_flag_fails bad = cc
-
 -- the words that ask for help make a parse fail
 pub help-fails : (words : List Text) → AskForHelp words → fault_of program words ≡ [] → ⊥
-help-fails words (inl e) passes = help_fails (sym (ap (built_fault (built program) nothing_held) e) ∙ passes)
-help-fails words (inr (inl e)) passes = short_flag_fails (sym (ap (built_fault (built program) nothing_held) e) ∙ passes)
-help-fails words (inr (inr e)) passes = long_flag_fails (sym (ap (built_fault (built program) nothing_held) e) ∙ passes)
+unfolding clap_on_literals
+help-fails words (inl e) passes = let bad = sym (ap (built_fault (built program) nothing_held) e) ∙ passes in cc
+help-fails words (inr (inl e)) passes = let bad = sym (ap (built_fault (built program) nothing_held) e) ∙ passes in cc
+help-fails words (inr (inr e)) passes = let bad = sym (ap (built_fault (built program) nothing_held) e) ∙ passes in cc
 
 -- ---- words that the command doesn't know
 
@@ -73,17 +63,26 @@ not_equal : (name word : Text) → (word ≡ name → ⊥) → bytes_eq name wor
 not_equal name word differs = false_from_ne_true (bytes_eq name word) (λ same. differs (sym ((bytes_eq-Decides name word).0 same)))
 
 -- the first word is unknown
-unknown_first : (word : Text) (rest : List Text) → strip_byte 45 word ≡ None → bytes_eq (codes "single") word ≡ false → bytes_eq (codes "run") word ≡ false
-    → bytes_eq (codes "replay") word ≡ false → bytes_eq (codes "ring") word ≡ false → bytes_eq (codes "help") word ≡ false → bytes_eq word (45 ∷ 45 ∷ []) ≡ false
-    → built_fault (built program) nothing_held (word ∷ rest) ≡ kind.UnknownArgument ∷ kind.InvalidSubcommand ∷ []
+unknown_first : (word : Text) (rest : List Text) → IsUnknown word → built_fault (built program) nothing_held (word ∷ rest) ≡ kind.UnknownArgument ∷ kind.InvalidSubcommand ∷ []
 unfolding clap_on_literals
-unknown_first word rest no_flag not_single not_run not_replay not_ring not_help not_end = simp (not_single, not_run, not_replay, not_ring, not_help, not_end, no_flag) refl
+unknown_first word rest unknown =
+    simp (
+      not_equal (codes "single") word (λ same. unknown.not_reader (inl same)),
+      not_equal (codes "run") word (λ same. unknown.not_reader (inr (inl same))),
+      not_equal (codes "replay") word (λ same. unknown.not_reader (inr (inr same))),
+      not_equal (codes "ring") word unknown.not_ring,
+      not_equal (codes "help") word unknown.not_help,
+      not_end_of_flags word unknown.no_flag,
+      no_hyphen word unknown.no_flag,
+    ) refl
 
 -- a word that reads the input has a further word
-further_word : (reader word : Text) (rest : List Text) → IsReader reader → strip_byte 45 word ≡ None → bytes_eq word (45 ∷ 45 ∷ []) ≡ false
+further_word : (reader word : Text) (rest : List Text) → IsReader reader → is_flag word ≡ false
     → built_fault (built program) nothing_held (reader ∷ word ∷ rest) ≡ kind.UnknownArgument ∷ []
 unfolding clap_on_literals
-further_word reader word rest is no_flag not_end =
+further_word reader word rest is not_flag =
+    let no_flag = no_hyphen word not_flag in
+    let not_end = not_end_of_flags word not_flag in
     let stops = λ (name : Text). stays_stopped (built program).top.rules (names_of (built program)) (walk_from nothing_held) name (word ∷ []) rest in
     let passes = λ (name : Text). stopped_fault (built program).top (names_of (built program)) (walk_from nothing_held) (name, word ∷ []) rest in
     elim is [
@@ -103,26 +102,20 @@ fails_by_word = record {
   no_help = λ among. elim among [ inl bad ↦ cc | inr rest ↦ elim rest [ inl bad ↦ cc | inr none ↦ none ] ];
 }
 
-fails_by_argument : FailsPlainly (kind.UnknownArgument ∷ [])
-fails_by_argument = record { fails = λ bad. cc; no_help = λ among. elim among [ inl bad ↦ cc | inr none ↦ none ] }
+-- one reason other than help
+fails_by : (why : ErrorKind) → why ≢ kind.DisplayHelp → FailsPlainly (why ∷ [])
+fails_by why other = record { fails = λ bad. cc; no_help = λ among. elim among [ inl same ↦ other (sym same) | inr none ↦ none ] }
 
-fails_by_value : FailsPlainly (kind.ValueValidation ∷ [])
-fails_by_value = record { fails = λ bad. cc; no_help = λ among. elim among [ inl bad ↦ cc | inr none ↦ none ] }
-
-fails_by_want : FailsPlainly (kind.MissingRequiredArgument ∷ [])
-fails_by_want = record { fails = λ bad. cc; no_help = λ among. elim among [ inl bad ↦ cc | inr none ↦ none ] }
+fails_alone : (inside : Bool) → FailsPlainly (alone inside)
+fails_alone true = fails_by kind.MissingRequiredArgument (λ same. cc)
+fails_alone false = fails_by kind.ValueValidation (λ same. cc)
 
 -- words that ask for what the program doesn't know are refused, and not as a wish for help
 pub unknown-fails : (words : List Text) → AskForUnknown words → FailsPlainly (fault_of program words)
 unknown-fails words (UnknownWord word rest is unknown) =
-    let fault = unknown_first word rest (no_hyphen word unknown.no_flag) (not_equal (codes "single") word (λ same. unknown.not_reader (inl same)))
-    (not_equal (codes "run") word (λ same. unknown.not_reader (inr (inl same)))) (not_equal (codes "replay") word (λ same. unknown.not_reader (inr (inr same))))
-    (not_equal (codes "ring") word unknown.not_ring) (not_equal (codes "help") word unknown.not_help) (not_end_of_flags word unknown.no_flag) in
-    subst FailsPlainly (sym (ap (built_fault (built program) nothing_held) is ∙ fault)) fails_by_word
+    rw (ap (built_fault (built program) nothing_held) is ∙ unknown_first word rest unknown) fails_by_word
 unknown-fails words (Further reader word rest is reads no_flag) =
-    let fault = further_word reader word rest reads (no_hyphen word no_flag) (not_end_of_flags word no_flag) in
-    subst FailsPlainly (sym (ap (built_fault (built program) nothing_held) is ∙ fault)) fails_by_argument
-unknown-fails words (NoRing asked) = elim (no_ring-fails words asked) [
-  | inl fault ↦ subst FailsPlainly (sym fault) fails_by_value
-  | inr fault ↦ subst FailsPlainly (sym fault) fails_by_want
-]
+    rw (ap (built_fault (built program) nothing_held) is ∙ further_word reader word rest reads no_flag) (fails_by kind.UnknownArgument (λ same. cc))
+unknown-fails words (NoRing asked) =
+    let fails = no_ring-fails words asked in
+    rw fails.1 (fails_alone fails.0)

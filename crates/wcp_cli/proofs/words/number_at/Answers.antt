@@ -1,19 +1,16 @@
-use Rattle.std.proofs.Common.{◌≡◌, ◌∙◌, ◌<◌, ◌^◌, ℕ, List, Option, Some, None, Result, Ok, Err, ap, refl, arith, decimal, IfOk}
+use Rattle.std.proofs.Common.{◌≡◌, ◌∙◌, ◌<◌, ◌^◌, ℕ, List, Option, Some, None, Result, Ok, Err, refl, arith, decimal}
 use Rattle.std.specs.Str.Parse.{ParsesUnsigned, ExplainsUnsignedError, HasUnsignedDigitsIfOk}
 use Rattle.std.proofs.lemmas.Fmt.{parse-decimal}
 use Rattle.clap.specs.Words.{ReadsOne, found_of}
 use Rattle.clap.proofs.WalkLemmas.{one_text-rows}
 use Rattle.wcp_cli.proofs.words.number_at.Goals as goal
 
-value_of : {E : Type 0} (r : Result ℕ E) (n : ℕ) → r ≡ Ok n → IfOk r (λ v. v ≡ n)
-value_of r n e = rw e refl
-
 -- the number that `from_str` reads from its decimal text
 reads_number : {E : Type 0} (G : List ℕ → Result ℕ E → Type 0) (n : ℕ) (r : Option ℕ) → n < 2 ^ 32 → ((u : List ℕ) (x : Result ℕ E) → G u x → ParsesUnsigned 32 10 u x)
     → ReadsOne G (decimal n) r → r ≡ Some n
 reads_number {E} G n (Some v) small only reads =
     let same = parse-decimal {E = E} 32 n (decimal n) (Ok v) small (omega arith) refl (only (decimal n) (Ok v) reads) in
-    ap (λ m. Some m) (value_of (Ok v) n same)
+    cc
 reads_number {E} G n None small only reads =
     let bad = parse-decimal {E = E} 32 n (decimal n) (Err reads.0) small (omega arith) refl (only (decimal n) (Err reads.0) reads.1) in
     cc
