@@ -1,4 +1,4 @@
-use Rattle.std.proofs.Common.{◌≡◌, ◌==◌, ℕ, zero, suc, ◌+◌, ◌<◌, ◌≤◌, ◌⊎◌, ◌↔◌, Bool, true, false, List, [], ◌∷◌, ◌++◌, length, slice_get, Some, Contains, IsTrue, if◌then◌else◌, refl, sym, ◌∙◌, ap, subst, inl, inr, ⊎_elim, arith}
+use Rattle.std.proofs.Common.{◌≡◌, ◌==◌, ℕ, ◌+◌, ◌<◌, ◌≤◌, ◌⊎◌, ◌↔◌, Bool, true, false, List, [], ◌∷◌, ◌++◌, length, slice_get, Some, Contains, IsTrue, if◌then◌else◌, refl, sym, ◌∙◌, ap, subst, inl, inr, ⊎_elim, arith}
 use Rattle.std.proofs.lemmas.Bool.{cases_lt, cases_eq, eq-eqb, ne_eqb}
 use Rattle.std.proofs.lemmas.List.{length_push}
 use Rattle.std.proofs.lemmas.Option.{slice_get_within, same_Some}
@@ -7,28 +7,14 @@ use Rattle.wcp_model.specs.declared.step.Step.{Step}
 use Rattle.wcp_model.specs.declared.step.Step.TheVariants.{Send, Recv}
 use Rattle.wcp_model.specs.Computation.{Computation, is_communication_of, is_send, interval_at, message_at}
 use Rattle.wcp_model.specs.Order.{HappenedBefore}
+use Rattle.wcp_model.proofs.Growth.{get_front, get_behind}
 use Rattle.wcp_model.proofs.Places.{count_before-yes, count_before-no, count_before-mono}
 use Rattle.wcp_model.proofs.Reached.{state_at, AtOrAfter, Carries, same_state, interval_at-event, interval_at-other, before_next, before_receive, comes_from}
-
--- an element before the one that was pushed
-slice_get-push_before : {X : Type 0} (xs : List X) (y : X) (i : ℕ) → i < length xs → slice_get (xs ++ y ∷ []) i ≡ slice_get xs i
-slice_get-push_before [] y i below = absurd (omega arith)
-slice_get-push_before (x ∷ xs) y zero below = refl
-slice_get-push_before (x ∷ xs) y (suc i) below = slice_get-push_before xs y i (omega arith)
-
--- the element that was pushed
-slice_get-push_at : {X : Type 0} (xs : List X) (y : X) → slice_get (xs ++ y ∷ []) (length xs) ≡ Some y
-slice_get-push_at [] y = refl
-slice_get-push_at (x ∷ xs) y = slice_get-push_at xs y
 
 -- no message is carried before it is sent
 carries_below : (c : Computation) (s : State) (place message : ℕ) → Carries c s place message → message < message_at c place
 carries_below c s place message carries =
     grind (arith, count_before-yes is_send c carries.0 (Send carries.2.process carries.2.to) carries.2.send refl, count_before-mono is_send c (carries.0 + 1) place (omega (arith, carries.1)))
-
--- a step that is no send carries no message
-carries_stay : (c : Computation) (s : State) (place : ℕ) (step : Step) → slice_get c place ≡ Some step → is_send step ≡ false → (message : ℕ) → Carries c s (place + 1) message ↔ Carries c s place message
-carries_stay c s place step here no_send message = grind arith
 
 -- a process has reached a state if it is after it or in it
 abbrev pub HasReached : State → ℕ → List ℕ → ℕ → Type 0
@@ -46,20 +32,13 @@ module _ (c : Computation) (s : State) (place interval : ℕ) (after : List ℕ)
   -- the processes that have reached the state are those that are in it or after it
   reached_is : (p : ℕ) → HasReached s interval after p ↔ AtOrAfter c s (state_at c p place)
   reached_is p = (
-    λ reached.
-        ⊎_elim (λ (contains : Contains after p). inr ((pass.after_is p).0 contains))
-        (λ (at : (p ≡ s.process) × (interval ≡ s.interval)).
-        inl (same_state s (state_at c p place) (sym at.0) (sym at.1 ∙ pass.interval_is ∙ ap (λ q. interval_at c q place) (sym at.0))))
-        reached,
-    λ from.
-        ⊎_elim
-        (λ (same : s ≡ state_at c p place).
-        let process : s.process ≡ p = ap (λ u. u.process) same in
-        let in_interval : s.interval ≡ interval_at c p place = ap (λ u. u.interval) same in
-        inr (sym process, pass.interval_is ∙ ap (λ q. interval_at c q place) process ∙ sym in_interval))
-        (λ (before : HappenedBefore c s (state_at c p place)). inl ((pass.after_is p).1 before))
-        from,
+    λ reached. elim reached [ inl contains ↦ inr ((pass.after_is p).0 contains) | inr at ↦ inl (same_state s (state_at c p place) (cc) (let now = pass.interval_is in cc)) ],
+    λ from. elim from [ inl same ↦ inr (cc, cc pass.interval_is) | inr before ↦ inl ((pass.after_is p).1 before) ],
   )
+
+  -- a step that is no send carries no message
+  carries_kept : (step : Step) → slice_get c place ≡ Some step → is_send step ≡ false → (message : ℕ) → (slice_get carries message ≡ Some true) ↔ Carries c s (place + 1) message
+  carries_kept step here no_send message = grind (arith, pass.carries_is message)
 
   -- a step that begins no state and sends no message leaves what is known
   pub pass_other : (step : Step) → slice_get c place ≡ Some step → ((p : ℕ) → is_communication_of p step ≡ false) → is_send step ≡ false → IsPass c s (place + 1) interval after carries
@@ -67,67 +46,38 @@ module _ (c : Computation) (s : State) (place interval : ℕ) (after : List ℕ)
       let stays : (p : ℕ) → interval_at c p (place + 1) ≡ interval_at c p place = λ p. interval_at-other c p place step here (no_event p) in
       record {
         interval_is = pass.interval_is ∙ sym (stays s.process);
-        after_is = λ p. subst (λ k. Contains after p ↔ HappenedBefore c s (record { process = p; interval = k })) (sym (stays p)) (pass.after_is p);
+        after_is = λ p. rw (stays p) (pass.after_is p);
         messages = pass.messages ∙ sym (count_before-no is_send c place step here no_send);
-        carries_is =
-            λ message. (
-              λ some. (carries_stay c s place step here no_send message).1 ((pass.carries_is message).0 some),
-              λ carried. (pass.carries_is message).1 ((carries_stay c s place step here no_send message).0 carried),
-            );
+        carries_is = carries_kept step here no_send;
       }
 
   -- the state that a send begins is after the state, if the sender has reached it
   pub sent_is : (p to : ℕ) (later : Bool) → slice_get c place ≡ Some (Send p to) → IsTrue later ↔ HasReached s interval after p → IsTrue later ↔ HappenedBefore c s (state_at c p (place + 1))
   sent_is p to later here is =
-      let own = eq-eqb p p refl in (
-        λ yes. before_next c s p place (Send p to) here own ((reached_is p).0 (is.0 yes)),
-        λ before.
-            ⊎_elim (λ (from : AtOrAfter c s (state_at c p place)). is.1 ((reached_is p).1 from))
-            (λ by_message. let same = by_message.1 in absurd (cc))
-            (comes_from c s p place (Send p to) here own before),
-      )
+      let own = eq-eqb p p refl in
+      grind (arith, reached_is p, before_next c s p place (Send p to) here own, comes_from c s p place (Send p to) here own)
 
   -- the state that a receive begins is after the state, if the receiver has reached it or its message was sent there
   pub received_is : (p message : ℕ) (later : Bool) → slice_get c place ≡ Some (Recv p message) → IsTrue later ↔ (HasReached s interval after p ⊎ slice_get carries message ≡ Some true) → IsTrue later ↔ HappenedBefore c s (state_at c p (place + 1))
   received_is p message later here is =
-      let own = eq-eqb p p refl in (
-        λ yes.
-            ⊎_elim (λ (reached : HasReached s interval after p). before_next c s p place (Recv p message) here own ((reached_is p).0 reached))
-            (λ (carried : slice_get carries message ≡ Some true). before_receive c s p place message here ((pass.carries_is message).0 carried))
-            (is.0 yes),
-        λ before.
-            ⊎_elim (λ (from : AtOrAfter c s (state_at c p place)). is.1 (inl ((reached_is p).1 from)))
-            (λ (by_message : (m : ℕ) × (Recv p message ≡ Recv p m) × Carries c s place m).
-            let step = by_message.1 in
-            let same : by_message.0 ≡ message = cc in
-            is.1 (inr ((pass.carries_is message).1 (subst (λ m. Carries c s place m) same by_message.2))))
-            (comes_from c s p place (Recv p message) here own before),
-      )
+      let own = eq-eqb p p refl in
+      grind (arith, reached_is p, pass.carries_is message, before_receive c s p place message here, before_next c s p place (Recv p message) here own, comes_from c s p place (Recv p message) here own)
 
   -- an event of process p puts it after the state or not, and leaves the others
   after_event : (p : ℕ) (step : Step) (later : Bool) (grown : List ℕ) → slice_get c place ≡ Some step → ((q : ℕ) → is_communication_of q step ≡ (p == q)) → IsTrue later ↔ HappenedBefore c s (state_at c p (place + 1)) → ((q : ℕ) → Contains grown q ↔ (Contains after q ⊎ (q ≡ p) × IsTrue later)) → (q : ℕ) → Contains grown q ↔ HappenedBefore c s (state_at c q (place + 1))
   after_event p step later grown here event is grows q =
-      let move : (k l : ℕ) → k ≡ l → HappenedBefore c s (record { process = q; interval = k }) → HappenedBefore c s (record { process = q; interval = l }) =
-      λ k l same before. subst (λ m. HappenedBefore c s (record { process = q; interval = m })) same before in
       ⊎_elim
       (λ (same : q ≡ p).
       let own : is_communication_of q step ≡ true = event q ∙ eq-eqb p q (sym same) in (
         λ contains.
             ⊎_elim (λ (already : Contains after q). before_next c s q place step here own (inr ((pass.after_is q).0 already)))
-            (λ (now : (q ≡ p) × IsTrue later). subst (λ r. HappenedBefore c s (state_at c r (place + 1))) (sym same) (is.0 now.1))
+            (λ (now : (q ≡ p) × IsTrue later). rw same (is.0 now.1))
             ((grows q).0 contains),
-        λ before.
-            let yes : IsTrue later = is.1 (subst (λ r. HappenedBefore c s (state_at c r (place + 1))) same before) in
-            (grows q).1 (inr (same, yes)),
+        λ before. (grows q).1 (inr (same, is.1 (rw same at before))),
       ))
       (λ (other : q ≡ p → ⊥).
-      let stays : interval_at c q (place + 1) ≡ interval_at c q place = interval_at-other c q place step here (event q ∙ ne_eqb p q (λ same. other (sym same))) in (
-        λ contains.
-            ⊎_elim (λ (already : Contains after q). move _ _ (sym stays) ((pass.after_is q).0 already))
-            (λ (now : (q ≡ p) × IsTrue later). absurd (other now.0))
-            ((grows q).0 contains),
-        λ before. (grows q).1 (inl ((pass.after_is q).1 (move _ _ stays before))),
-      ))
+      let stays : interval_at c q (place + 1) ≡ interval_at c q place = interval_at-other c q place step here (event q ∙ ne_eqb p q (λ same. other (sym same))) in
+      rw stays (grind (arith, grows q, pass.after_is q)))
       (cases_eq q p)
 
   -- an event of process p counts for the state's process, if that is p
@@ -140,12 +90,12 @@ module _ (c : Computation) (s : State) (place interval : ℕ) (after : List ℕ)
     λ some.
         ⊎_elim
         (λ (below : message < length carries).
-        let carried = (pass.carries_is message).0 (sym (slice_get-push_before carries later message below) ∙ some) in
+        let carried = (pass.carries_is message).0 (sym (get_front carries (later ∷ []) message below) ∙ some) in
         (carried.0, omega (arith, carried.1), carried.2))
         (λ (above : length carries ≤ message).
         let within = slice_get_within (carries ++ later ∷ []) message true some in
         let last : length carries ≡ message = omega (arith, within, length_push carries later) in
-        let yes : later ≡ true = same_Some _ _ (sym (slice_get-push_at carries later) ∙ ap (λ k. slice_get (carries ++ later ∷ []) k) last ∙ some) in (
+        let yes : later ≡ true = same_Some _ _ (sym (get_behind carries later []) ∙ ap (λ k. slice_get (carries ++ later ∷ []) k) last ∙ some) in (
           place,
           omega arith,
           record {
@@ -163,7 +113,7 @@ module _ (c : Computation) (s : State) (place interval : ℕ) (after : List ℕ)
         ⊎_elim
         (λ (below : sent < place).
         let earlier : Carries c s place message = (sent, below, from) in
-        slice_get-push_before carries later message (omega (arith, carries_below c s place message earlier, pass.messages)) ∙ (pass.carries_is message).1 earlier)
+        get_front carries (later ∷ []) message (omega (arith, carries_below c s place message earlier, pass.messages)) ∙ (pass.carries_is message).1 earlier)
         (λ (above : place ≤ sent).
         let at : sent ≡ place = omega (arith, carried.1) in
         let last : length carries ≡ message = pass.messages ∙ ap (λ k. message_at c k) (sym at) ∙ from.number in
@@ -171,7 +121,7 @@ module _ (c : Computation) (s : State) (place interval : ℕ) (after : List ℕ)
         let sender : from.process ≡ p = cc in
         let reached : AtOrAfter c s (state_at c p place) = subst (λ k. AtOrAfter c s (state_at c p k)) at (subst (λ q. AtOrAfter c s (state_at c q sent)) sender from.reached) in
         let yes : later ≡ true = is.1 ((reached_is p).1 reached) in
-        ap (λ k. slice_get (carries ++ later ∷ []) k) (sym last) ∙ slice_get-push_at carries later ∙ ap (λ b. Some b) yes)
+        ap (λ k. slice_get (carries ++ later ∷ []) k) (sym last) ∙ get_behind carries later [] ∙ ap (λ b. Some b) yes)
         (cases_lt sent place),
   )
 
@@ -192,9 +142,5 @@ module _ (c : Computation) (s : State) (place interval : ℕ) (after : List ℕ)
         interval_is = interval_event p (Recv p message) here refl;
         after_is = after_event p (Recv p message) later grown here (λ q. refl) (received_is p message later here is) grows;
         messages = pass.messages ∙ sym (count_before-no is_send c place (Recv p message) here refl);
-        carries_is =
-            λ m. (
-              λ some. (carries_stay c s place (Recv p message) here refl m).1 ((pass.carries_is m).0 some),
-              λ carried. (pass.carries_is m).1 ((carries_stay c s place (Recv p message) here refl m).0 carried),
-            );
+        carries_is = carries_kept (Recv p message) here refl;
       }
