@@ -1,5 +1,5 @@
 -- Which words are numbers.
-use Rattle.std.proofs.Common.{◌≡◌, ℕ, ◌+◌, ◌*◌, ◌^◌, ◌<◌, ◌≤◌, List, ◌∷◌, ◌++◌, length, get_or, take, Option, Some, None, MatchOption, refl, sym, ap, ◌∙◌, arith}
+use Rattle.std.proofs.Common.{◌≡◌, ℕ, ◌+◌, ◌*◌, ◌^◌, ◌<◌, ◌≤◌, List, ◌∷◌, ◌++◌, length, get_or, take, Option, Some, None, MatchOption, refl, sym, ap, arith}
 use Rattle.std.specs.Str.Parse.{digits_value, AllDigits}
 use Rattle.std.specs.Fmt.{decimal}
 use Rattle.std.proofs.lemmas.Slice.Eq.{bytes_eq-Decides}
@@ -42,9 +42,7 @@ no_number_of_nothing word none = no_number word (λ n e small. absurd (omega (ar
 
 pub number_from_digits : (word : List ℕ) (value : ℕ) → AllDigits 10 word → value ≡ digits_value 10 word → value < 2 ^ 32 → 0 < length word → (get_or word 0 0 ≡ 48 → length word ≡ 1) → Some value ≡ number_spelled word
 number_from_digits word value digits same small some canonical =
-    let spelled : decimal (digits_value 10 word) ≡ word = decimal-digits_value own word digits some canonical (omega arith) in
-    let spelled' : decimal value ≡ word = ap decimal same ∙ spelled in
-    sym (number_spelled-decimal value small) ∙ ap number_spelled spelled'
+    grind (arith, decimal-digits_value own word digits some canonical, number_spelled-decimal value small)
 
 pub no_digit : (ds : List ℕ) (i : ℕ) → i < length ds → (digit_value (get_or ds i 0) < 10 → ⊥) → AllDigits 10 ds → ⊥
 no_digit ds i lt none digits = grind (arith, digit_at ds i digits lt)

@@ -31,33 +31,22 @@ inside : (least most x : ℕ) → ¬ IsOutside least most x → (least ≤ x) ×
 inside least most x not = grind arith
 
 record Sound (plan : Plan) : Type 0 where
-  some : 1 ≤ plan.n
-  few : plan.n ≤ 16
-  cap_low : 1 ≤ plan.cap
-  cap_high : plan.cap ≤ 1024
-  hold_low : 1 ≤ plan.hold
-  hold_high : plan.hold ≤ 64
-  relays : 1 ≤ length plan.parents.items
-  few_relays : length plan.parents.items ≤ 15
+  procs : (1 ≤ plan.n) × (plan.n ≤ 16)
+  cap : (1 ≤ plan.cap) × (plan.cap ≤ 1024)
+  hold : (1 ≤ plan.hold) × (plan.hold ≤ 64)
+  relays : (1 ≤ length plan.parents.items) × (length plan.parents.items ≤ 15)
   lower : (i above : ℕ) → slice_get plan.parents.items i ≡ Some (Relay above) → above < i
   entries : length plan.attach.items ≡ plan.n
   served : (i relay : ℕ) → slice_get plan.attach.items i ≡ Some (Some relay) → relay < 15
 
 sound_from : (plan : Plan) → IsCheckedPlan plan → Sound plan
 sound_from plan checked =
-    let n = inside 1 16 plan.n (checked fault.Procs) in
-    let cap = inside 1 1024 plan.cap (checked fault.Cap) in
-    let hold = inside 1 64 plan.hold (checked fault.Hold) in
     let size = inside 1 15 (length plan.parents.items) (λ outside. checked fault.Parent (inl outside)) in
     record {
-      some = n.0;
-      few = n.1;
-      cap_low = cap.0;
-      cap_high = cap.1;
-      hold_low = hold.0;
-      hold_high = hold.1;
-      relays = size.0;
-      few_relays = size.1;
+      procs = inside 1 16 plan.n (checked fault.Procs);
+      cap = inside 1 1024 plan.cap (checked fault.Cap);
+      hold = inside 1 64 plan.hold (checked fault.Hold);
+      relays = size;
       lower = λ i above is. ⊎_elim (λ (less : above < i). less) (λ (not : i ≤ above). absurd (checked fault.Parent (inr (i, above, is, not)))) (cases_lt above i);
       entries = ⊎_elim (λ (same : length plan.attach.items ≡ plan.n). same) (λ (other : length plan.attach.items ≢ plan.n). absurd (checked fault.Unattached (inl other))) (cases_eq (length plan.attach.items) plan.n);
       served = λ i relay is. ⊎_elim (λ (less : relay < length plan.parents.items). omega (arith, size.1))
@@ -76,10 +65,7 @@ first_is entry first = grind arith
 all_first : (attach : List (Option ℕ)) → list_all is_first attach ≡ true → attach ≡ replicate (length attach) (Some 0)
 all_first [] each = refl
 all_first (entry ∷ attach) each =
-    let parts = and_parts (is_first entry) (list_all is_first attach) each in
-    let one = first_is entry parts.0 in
-    let rest = all_first attach parts.1 in
-    cc
+    grind (arith, and_parts (is_first entry) (list_all is_first attach) each, first_is entry, all_first attach)
 
 -- ---- the head
 
@@ -97,12 +83,12 @@ tree_makes plan true is sound =
 tree_makes plan false is sound =
     let parents = plan.parents.items in
     let attach = plan.attach.items in
-    let relays = relays_make (capacities plan) [] parents 0 refl refl (omega (arith, sound.few_relays)) (λ i above here. omega (arith, sound.lower i above here)) in
+    let relays = relays_make (capacities plan) [] parents 0 refl refl (omega (arith, sound.relays.1)) (λ i above here. omega (arith, sound.lower i above here)) in
     let with_relays : Head = record (capacities plan) { parents = parents } in
     let attached = attaches_make with_relays [] attach (replicate plan.n None) attach None 0 refl (ap (λ k. replicate k None) (sym sound.entries)) refl
-    sound.relays (omega (arith, sound.entries)) sound.few sound.served (λ p past. refl) in
+    sound.relays.0 (omega (arith, sound.entries)) sound.procs.1 sound.served (λ p past. refl) in
     let head : Head = record with_relays { attach = attach; last_attached = attached.0 } in
-    let some : eqb (length parents) 0 ≡ false = ne_eqb (length parents) 0 (λ e. absurd (omega (arith, sound.relays))) in (
+    let some : eqb (length parents) 0 ≡ false = ne_eqb (length parents) 0 (λ e. absurd (omega (arith, sound.relays.0))) in (
       head,
       Makes-append (capacities plan) with_relays head (numbered relay_lines 0 parents) (numbered attach_lines 0 attach) relays attached.1,
       grind (arith, unwrap_or-said_unless),
@@ -114,7 +100,7 @@ further_lines plan = cap_lines plan.cap ++ (hold_lines plan.hold ++ tree_lines p
 
 further_make : (plan : Plan) → Sound plan → (head : Head) × Makes (first_head plan.n) (further_lines plan) head × IsPlanOf head plan
 further_make plan sound =
-    grind (arith, tree_makes plan (has_one_relay plan) refl sound, hold_makes plan.n plan.hold (said_unless 8 plan.cap) (eqb plan.hold 4) sound.hold_low sound.hold_high, cap_makes plan.n plan.cap (eqb plan.cap 8) sound.cap_low sound.cap_high)
+    grind (arith, tree_makes plan (has_one_relay plan) refl sound, hold_makes plan.n plan.hold (said_unless 8 plan.cap) (eqb plan.hold 4) sound.hold.0 sound.hold.1, cap_makes plan.n plan.cap (eqb plan.cap 8) sound.cap.0 sound.cap.1)
 
 -- ---- the whole text
 
@@ -141,13 +127,11 @@ head_ends n head last (task ∷ tasks) few within =
 lines_of-opening : (plan : Plan) (steps : List ℕ) → plan.n ≤ 16
     → lines_of (text_of (head_lines plan) ++ steps) ≡ worded (codes "wcp" ∷ codes "1" ∷ []) ∷ worded (codes "procs" ∷ decimal plan.n ∷ []) ∷ lines_of (text_of (further_lines plan) ++ steps)
 lines_of-opening plan steps few =
-    let version : List Word = codes "wcp" ∷ codes "1" ∷ [] in
     let procs : List Word = codes "procs" ∷ decimal plan.n ∷ [] in
     let rest : List ℕ = text_of (further_lines plan) ++ steps in
-    let regrouped : text_of (head_lines plan) ++ steps ≡ line_text version ++ (line_text procs ++ rest) = simp append_assoc refl in
-    ap lines_of regrouped
-    ∙ lines_of-line_text version (line_text procs ++ rest) (IsWord-literal (codes "wcp") refl, (IsWord-literal (codes "1") refl, tt))
-    ∙ ap (λ others. worded version ∷ others) (lines_of-line_text procs rest (procs_are_words plan.n few))
+    let first = lines_of-line_text (codes "wcp" ∷ codes "1" ∷ []) (line_text procs ++ rest) (IsWord-literal (codes "wcp") refl, (IsWord-literal (codes "1") refl, tt)) in
+    let second = lines_of-line_text procs rest (procs_are_words plan.n few) in
+    grind (arith, append_assoc)
 
 pub text_spells : (plan : Plan) (tasks : List Task) → IsCheckedPlan plan → CouldBeRead plan.n tasks → Spells workloads (text_of_workload plan tasks) plan tasks
 unfolding head_of processes_by
@@ -155,16 +139,16 @@ text_spells plan tasks checked could =
     let sound = sound_from plan checked in
     let steps : List ℕ = flat_map task_line tasks in
     let within = recursion_from_All (IsWithin plan.n) tasks could.within in
-    let lines = ap lines_of (text_of-head_and_tasks plan tasks) ∙ lines_of-opening plan steps sound.few in
+    let lines = ap lines_of (text_of-head_and_tasks plan tasks) ∙ lines_of-opening plan steps sound.procs.1 in
     let made = further_make plan sound in
     let begun = made_is_read (first_head plan.n) made.0 (further_lines plan) 2 steps made.1 in
-    let ends = head_ends plan.n made.0 begun.0 tasks sound.few within in
+    let ends = head_ends plan.n made.0 begun.0 tasks sound.procs.1 within in
     let read : HeadRead = record { head = made.0; last = begun.0; after = lines_of steps } in
     let head_is : head_by is_task_word (first_head plan.n) 2 (lines_of (text_of (further_lines plan) ++ steps)) ≡ Ok read = begun.1 ∙ ends in
     record {
       read = read;
-      head = rw (lines, processes_in-worded plan.n sound.some sound.few) head_is;
+      head = rw (lines, processes_in-worded plan.n sound.procs.0 sound.procs.1) head_is;
       plan_of_head = made.2;
       checked = checked;
-      lines = ap (λ n. steps_by workloads n begun.0 0 (lines_of steps)) (sym made.2.n) ∙ steps_by-task_lines plan.n begun.0 0 tasks sound.few within (omega (arith, could.few_tasks));
+      lines = ap (λ n. steps_by workloads n begun.0 0 (lines_of steps)) (sym made.2.n) ∙ steps_by-task_lines plan.n begun.0 0 tasks sound.procs.1 within (omega (arith, could.few_tasks));
     }

@@ -1,12 +1,12 @@
 -- The lines of a plan's head are read as that head.
-use Rattle.std.proofs.Common.{◌≡◌, ℕ, suc, ◌+◌, ◌^◌, ◌<◌, ◌≤◌, Bool, true, false, cond, eqb, List, [], ◌∷◌, ◌++◌, length, Option, Some, None, Ok, refl, sym, ap, subst, ◌∙◌, append_assoc, length-append, arith, lt-ltb, le-leb, ⊎_elim}
+use Rattle.std.proofs.Common.{◌≡◌, ℕ, suc, ◌+◌, ◌^◌, ◌<◌, ◌≤◌, Bool, true, false, cond, eqb, List, [], ◌∷◌, ◌++◌, length, Option, Some, None, Ok, refl, sym, ap, subst, ◌∙◌, append_assoc, length-append, arith, lt-ltb, le-leb}
 use Rattle.std.specs.Prelude.{codes, replicate, slice_get, slice_set}
 use Rattle.std.specs.List.{AllByRecursion}
 use Rattle.std.specs.Fmt.{decimal}
 use Rattle.std.specs.Option.{unwrap_or}
 use Rattle.std.specs.Str.{bytes_eq}
 use Rattle.std.proofs.Math.Seq.{set-append_seam}
-use Rattle.std.proofs.lemmas.Bool.{cases_Bool, true≢false}
+use Rattle.std.proofs.lemmas.Bool.{false_from_ne_true, true≢false}
 use Rattle.std.proofs.lemmas.List.{append-nil}
 use Rattle.std.proofs.lemmas.Slice.Eq.{bytes_eq-Decides}
 use Rattle.wcp_model.specs.declared.plan.Parent.{Parent}
@@ -75,12 +75,9 @@ hold_makes n hold cap false low high = (
 
 -- a number isn't the word `root`
 not_root : (above : ℕ) → above < 2 ^ 32 → bytes_eq (decimal above) (codes "root") ≡ false
-not_root above small =
-    ⊎_elim (λ (same : bytes_eq (decimal above) (codes "root") ≡ true).
+not_root above small = false_from_ne_true (bytes_eq (decimal above) (codes "root")) (λ same.
     let lacks = lacks-decimal 114 above small (λ range. absurd (omega (arith, range.1))) in
-    absurd (true≢false ((rw ((bytes_eq-Decides (decimal above) (codes "root")).0 same) at lacks) 0 0 (omega arith))))
-    (λ (other : bytes_eq (decimal above) (codes "root") ≡ false). other)
-    (cases_Bool (bytes_eq (decimal above) (codes "root")))
+    true≢false ((rw ((bytes_eq-Decides (decimal above) (codes "root")).0 same) at lacks) 0 0 (omega arith)))
 
 parent_in-parent_word : (relay : ℕ) (parent : Parent) → relay < 2 ^ 32 → is_above relay parent ≡ true → IsWord (parent_word parent) × (parent_in (parent_word parent) ≡ Ok parent)
 parent_in-parent_word relay parent small lower = grind (arith, IsWord-decimal, not_root, number_in-decimal)

@@ -1,45 +1,27 @@
 -- The line of a task is read as that task.
-use Rattle.std.proofs.Common.{◌≡◌, ℕ, ◌+◌, ◌≤◌, true, false, ltb, List, [], ◌∷◌, ◌++◌, length, Ok, refl, sym, ap, ◌∙◌, append_assoc, arith, lt-ltb}
+use Rattle.std.proofs.Common.{◌≡◌, ℕ, ◌+◌, ◌≤◌, true, List, [], ◌∷◌, ◌++◌, length, Ok, refl, sym, ap, ◌∙◌, append_assoc, arith, lt-ltb}
 use Rattle.std.specs.Prelude.{codes}
 use Rattle.std.specs.List.{flat_map, AllByRecursion}
 use Rattle.std.specs.Fmt.{decimal}
-use Rattle.std.proofs.lemmas.Bool.{and_from}
 use Rattle.wcp_model.specs.declared.workload.Action.{Action}
-use Rattle.wcp_model.specs.declared.workload.Action.TheVariants as action
 use Rattle.wcp_model.specs.declared.workload.Task.{Task}
-use Rattle.wcp_model.specs.WorkloadComputation.{HasPartner, IsWithin}
+use Rattle.wcp_model.specs.WorkloadComputation.{IsWithin}
 use Rattle.wcp_script.specs.Lines.{TextLine, line_text, lines_of}
 use Rattle.wcp_script.specs.WorkloadText.{action_words, task_words, task_line}
-use Rattle.wcp_script.specs.WorkloadLines.{form_of, has_partner, is_within, task_in}
+use Rattle.wcp_script.specs.WorkloadLines.{form_of, is_within, task_in}
 use Rattle.wcp_script.specs.TextFault.{workloads, steps_by}
 use Rattle.wcp_script.proofs.LinesOfWords.{IsWord, IsWord-decimal, number_in-decimal, words_of-joined, worded, lines_of-line_text, lines_of_nothing}
 
 pub task_is_words : (n : ℕ) (task : Task) → n ≤ 16 → IsWithin n task → AllByRecursion IsWord (task_words task)
 task_is_words n task few within = grind (arith, IsWord-decimal)
 
-has_partner_from : (n p : ℕ) (does : Action) → HasPartner n p does → has_partner n p does ≡ true
-has_partner_from n p does h = grind arith
-
 is_within_from : (n : ℕ) (task : Task) → IsWithin n task → is_within n task ≡ true
-is_within_from n task h = and_from (ltb task.p n) (has_partner n task.p task.action) (lt-ltb task.p n h.0) (has_partner_from n task.p task.action h.1)
-
-task_by_words : (n p : ℕ) (does : Action) → n ≤ 16 → IsWithin n (record { p = p; action = does }) → task_in n (worded (codes "p" ∷ decimal p ∷ action_words does)) ≡ Ok (record { p = p; action = does })
-unfolding task_in form_of
-task_by_words n p (action.Observe true) few h =
-    let task : Task = record { p = p; action = action.Observe true } in
-    rw (words_of-joined _ _ (task_is_words n task few h), number_in-decimal p (omega (arith, h.0)), is_within_from n task h) refl
-task_by_words n p (action.Observe false) few h =
-    let task : Task = record { p = p; action = action.Observe false } in
-    rw (words_of-joined _ _ (task_is_words n task few h), number_in-decimal p (omega (arith, h.0)), is_within_from n task h) refl
-task_by_words n p (action.Send to) few h =
-    let task : Task = record { p = p; action = action.Send to } in
-    rw (words_of-joined _ _ (task_is_words n task few h), number_in-decimal p (omega (arith, h.0)), number_in-decimal to (omega (arith, h.1.0)), is_within_from n task h) refl
-task_by_words n p (action.Recv from) few h =
-    let task : Task = record { p = p; action = action.Recv from } in
-    rw (words_of-joined _ _ (task_is_words n task few h), number_in-decimal p (omega (arith, h.0)), number_in-decimal from (omega (arith, h.1.0)), is_within_from n task h) refl
+is_within_from n task h = grind arith
 
 task_in-worded : (n : ℕ) (task : Task) → n ≤ 16 → IsWithin n task → task_in n (worded (task_words task)) ≡ Ok task
-task_in-worded n task few within = task_by_words n task.p task.action few within
+unfolding task_in form_of
+task_in-worded n task few within =
+    grind (arith, words_of-joined (codes "p") (decimal task.p ∷ action_words task.action) (task_is_words n task few within), number_in-decimal, is_within_from n task within)
 
 pub lines_of-task_line : (n : ℕ) (task : Task) (rest : List ℕ) → n ≤ 16 → IsWithin n task → lines_of (task_line task ++ rest) ≡ worded (task_words task) ∷ lines_of rest
 lines_of-task_line n task rest few within = lines_of-line_text (task_words task) rest (task_is_words n task few within)

@@ -1,5 +1,5 @@
 -- What a range of numbers gives, piece by piece.
-use Rattle.std.proofs.Common.{◌≡◌, ℕ, zero, suc, ◌+◌, ◌*◌, ◌<◌, ◌≤◌, List, [], ◌++◌, length, sym, ap, ◌∙◌, append_assoc, length-append, mul-suc, arith}
+use Rattle.std.proofs.Common.{◌≡◌, ℕ, zero, suc, ◌+◌, ◌*◌, ◌<◌, ◌≤◌, List, [], ◌++◌, length, ap, ◌∙◌, append_assoc, length-append, mul-suc, arith}
 use Rattle.std.specs.List.{flat_map, range_with_len}
 use Rattle.std.proofs.lemmas.List.{append-nil}
 
@@ -30,8 +30,4 @@ length-flat_map-range f size a (suc n) each =
 pub flat_map-range_shifted : {X : Type 0} (f block front : ℕ → List X) (i len : ℕ) → ((k : ℕ) → k < i + len → front k ++ f k ≡ block k ++ front (k + 1)) → front i ++ flat_map f (range_with_len i len) ≡ flat_map block (range_with_len i len) ++ front (i + len)
 flat_map-range_shifted f block front i zero each = append-nil (front i) ∙ ap front (omega arith)
 flat_map-range_shifted f block front i (suc len) each =
-    let rest = flat_map f (range_with_len (i + 1) len) in
-    let blocks = flat_map block (range_with_len (i + 1) len) in
-    sym (append_assoc (front i) (f i) rest) ∙ ap (λ first. first ++ rest) (each i (omega arith)) ∙ append_assoc (block i) (front (i + 1)) rest
-    ∙ ap (λ others. block i ++ others) (flat_map-range_shifted f block front (i + 1) len (λ k inside. each k (omega arith)) ∙ ap (λ last. blocks ++ front last) (omega arith))
-    ∙ sym (append_assoc (block i) blocks (front (i + suc len)))
+    grind (arith, append_assoc, each i (omega arith), flat_map-range_shifted f block front (i + 1) len (λ k inside. each k (omega arith)))

@@ -1,8 +1,8 @@
 -- The tasks of a ring, as they stand, are a fit order of themselves.
 use Rattle.std.proofs.lemmas.Grind.{common_steps}
-use Rattle.std.proofs.Common.{◌≡◌, ℕ, zero, suc, ◌+◌, ◌*◌, ◌-◌, ◌<◌, ◌≤◌, Bool, true, false, cond, ◌&&◌, eqb, List, [], ◌∷◌, ◌++◌, length, take, refl, ap, ◌∙◌, length-append, mul-suc, arith, ⊎_elim}
+use Rattle.std.proofs.Common.{◌≡◌, ℕ, zero, suc, ◌+◌, ◌*◌, ◌-◌, ◌<◌, ◌≤◌, Bool, true, false, cond, ◌&&◌, eqb, List, [], ◌∷◌, ◌++◌, length, take, refl, ap, ◌∙◌, length-append, mul-suc, arith}
 use Rattle.std.specs.List.{flat_map, range_with_len, All, count_by}
-use Rattle.std.proofs.lemmas.Bool.{cases_lt, cond_both}
+use Rattle.std.proofs.lemmas.Bool.{cond_both}
 use Rattle.std.proofs.lemmas.List.{append-nil, take-append-le, take_all}
 use Rattle.std.proofs.lemmas.List.Elements.{All-from_recursion, All-append}
 use Rattle.std.proofs.lemmas.List.Sums.{sum_by-append}
@@ -23,19 +23,7 @@ count_by-append test xs ys = sum_by-append (λ x. cond (test x) 1 0) xs ys
 
 fits_both : (xs ys : List Task) → Fits xs → Fits ys → Fits (xs ++ ys)
 fits_both xs ys one other place p q =
-    ⊎_elim (λ (inside : place < length xs).
-    let front : take place (xs ++ ys) ≡ take place xs = take-append-le place xs ys (omega arith) in
-    rw front (one place p q))
-    (λ (past : length xs ≤ place).
-    let here : place ≡ length xs + (place - length xs) = omega arith in
-    let front : take place (xs ++ ys) ≡ xs ++ take (place - length xs) ys = ap (λ i. take i (xs ++ ys)) here ∙ take-append-add xs ys (place - length xs) in
-    let whole : take (length xs) xs ≡ xs = take_all (length xs) xs (omega arith) in
-    let first : count_by (receives p q) xs ≤ count_by (sends p q) xs = rw whole at (one (length xs) p q) in
-    let rest = other (place - length xs) p q in
-    let both : count_by (receives p q) (xs ++ take (place - length xs) ys) ≤ count_by (sends p q) (xs ++ take (place - length xs) ys) =
-    omega (arith, count_by-append (receives p q) xs (take (place - length xs) ys), count_by-append (sends p q) xs (take (place - length xs) ys), first, rest) in
-    rw front both)
-    (cases_lt place (length xs))
+    grind (arith, take-append-le place xs ys, take-append-add xs ys (place - length xs), take_all (length xs) xs, one place p q, one (length xs) p q, other (place - length xs) p q, count_by-append)
 
 nothing_taken : (place : ℕ) → ◌≡◌ {A = List Task} (take place []) []
 nothing_taken place = grind arith
@@ -86,9 +74,7 @@ nothing_left n rounds some = grind arith
 
 rounds_are : (n rounds : ℕ) → 1 ≤ n → flat_map (ring_round n rounds) (range_with_len 0 rounds) ≡ flat_map (block_round n rounds) (range_with_len 0 rounds)
 rounds_are n rounds some =
-    let blocks = flat_map (block_round n rounds) (range_with_len 0 rounds) in
-    let none : pending n rounds (0 + rounds) 0 ≡ [] = ap (λ r. pending n rounds r 0) (omega arith) ∙ nothing_left n rounds some in
-    flat_map-range_shifted (ring_round n rounds) (block_round n rounds) (λ r. pending n rounds r 0) 0 rounds (λ r early. round_shifted n rounds r some) ∙ ap (λ last. blocks ++ last) none ∙ append-nil blocks
+    grind (arith, append-nil, nothing_left n rounds some, flat_map-range_shifted (ring_round n rounds) (block_round n rounds) (λ r. pending n rounds r 0) 0 rounds (λ r early. round_shifted n rounds r some))
 
 -- a block is a message that is passed, and what its receiver finds; but for the first
 block_is : (n rounds round p : ℕ) → 2 ≤ n → round < rounds → p < n → block n rounds round p ≡ cond (eqb round 0 && eqb p 0) (finds_both p) (passed (before n p) p ++ finds_both p)

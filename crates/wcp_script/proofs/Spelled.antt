@@ -5,7 +5,6 @@ use Rattle.std.proofs.lemmas.List.Elements.{All-from_recursion}
 use Rattle.wcp_model.specs.declared.plan.Plan.{Plan}
 use Rattle.wcp_model.specs.declared.workload.Task.{Task}
 use Rattle.wcp_model.specs.WorkloadComputation.{IsWithin, IsFitOrder, CouldBeRead}
-use Rattle.wcp_script.specs.declared.fault.FaultKind.TheVariants as kind
 use Rattle.wcp_script.specs.Lines.{TextLine}
 use Rattle.wcp_script.specs.Judgement.{◌>>=◌, at_line}
 use Rattle.wcp_script.specs.WorkloadLines.{task_in}

@@ -2,7 +2,6 @@
 use Rattle.std.proofs.Common.{◌≡◌, ℕ, ◌+◌, ◌<◌, List, [], ◌∷◌, ◌++◌, Result, Ok, Err, refl, sym, ap, append_assoc, arith}
 use Rattle.std.proofs.lemmas.List.{append-nil}
 use Rattle.wcp_script.specs.declared.fault.FaultKind.{FaultKind}
-use Rattle.wcp_script.specs.declared.fault.FaultKind.TheVariants as kind
 use Rattle.wcp_script.specs.declared.fault.ScriptFault.{ScriptFault}
 use Rattle.wcp_script.specs.Lines.{TextLine}
 use Rattle.wcp_script.specs.Judgement.{◌>>=◌}
@@ -36,6 +35,3 @@ pub record IsStep {S : Type 0} (text_kind : TextKind S) (n earlier : ℕ) (line 
 
 pub step_after_is : {S : Type 0} (text_kind : TextKind S) (n earlier : ℕ) (line : TextLine) (step : S) → step_after text_kind n earlier line ≡ Ok step → IsStep text_kind n earlier line step
 step_after_is text_kind n earlier line step e = grind arith
-
-pub few_before : {S : Type 0} (text_kind : TextKind S) (n earlier : ℕ) (line : TextLine) (step : S) → step_after text_kind n earlier line ≡ Ok step → earlier < 65536
-few_before text_kind n earlier line step e = (step_after_is text_kind n earlier line step e).few

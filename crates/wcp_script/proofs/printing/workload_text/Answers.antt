@@ -18,5 +18,4 @@ pub returns-clause-spells : goal.returns-clause-spells
 returns-clause-spells c checked could =
     let plan = c.args.workload.now.plan in
     let tasks = c.args.workload.now.tasks.items in
-    let is : c.into_bytes.result.items ≡ text_of (head_lines plan) ++ flat_map task_line tasks = search (rules, append_assoc) in
-    subst (λ text. Spells workloads text plan tasks) (sym (is ∙ sym (text_of-head_and_tasks plan tasks))) (text_spells plan tasks checked could)
+    subst (λ text. Spells workloads text plan tasks) (sym (returns-clause-text c)) (text_spells plan tasks checked could)

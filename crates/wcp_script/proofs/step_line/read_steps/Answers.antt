@@ -1,5 +1,5 @@
 use Rattle.std.proofs.Common.{vec_len, sym, arith}
-use Rattle.wcp_script.proofs.StepLines.{steps_more, steps_fail, steps_end, few_before}
+use Rattle.wcp_script.proofs.StepLines.{steps_more, steps_fail, steps_end, step_after_is}
 use Rattle.wcp_script.proofs.step_line.read_steps.Goals as goal
 
 pub returns-in-Err : goal.returns-in-Err
@@ -9,10 +9,11 @@ returns-in-Err g c =
 
 pub loop-said-preserved : goal.loop-said-preserved
 loop-said-preserved g c =
-    let more = steps_more g.S.StepLine.text_kind c.args.n c.args.last c.len.result c.loop-said.steps.items c.in-Some.ensures.line.0 c.in-Ok.step _ _ c.in-Some.ensures.line.1 (sym (c.in-Ok.ensures g.S.StepLine.text_kind c.args.n c.in-Some.ensures.line.0 c.in-Some.ensures.line.2)) in
+    let said = sym (c.in-Ok.ensures g.S.StepLine.text_kind c.args.n c.in-Some.ensures.line.0 c.in-Some.ensures.line.2) in
+    let more = steps_more g.S.StepLine.text_kind c.args.n c.args.last c.len.result c.loop-said.steps.items c.in-Some.ensures.line.0 c.in-Ok.step _ _ c.in-Some.ensures.line.1 said in
     let pushed = c.in_ok-push.ensures in
     record {
-      few = omega (arith, few_before g.S.StepLine.text_kind c.args.n c.len.result c.in-Some.ensures.line.0 c.in-Ok.step (sym (c.in-Ok.ensures g.S.StepLine.text_kind c.args.n c.in-Some.ensures.line.0 c.in-Some.ensures.line.2)), c.len.ensures, pushed.len);
+      few = omega (arith, (step_after_is g.S.StepLine.text_kind c.args.n c.len.result c.in-Some.ensures.line.0 c.in-Ok.step said).few, c.len.ensures, pushed.len);
       so_far = cc (pushed.items, pushed.len);
     }
 
