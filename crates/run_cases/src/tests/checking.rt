@@ -1,6 +1,9 @@
+ghost use Rattle.std.specs.Prelude.{IfOk};
+ghost use Rattle.wcp_model.specs.PlanFault.{IsCheckedPlan};
+
 use super::watches::run_in_one_thread;
 use std::alloc::{AllocError, Global};
-use std::sync::Mutex;
+use std::process::Abort;
 use std::test::Fail;
 use wcp_book::Book;
 use wcp_model::{GlobalCut, Parent, Plan, Report, Tally, plain_plan};
@@ -13,27 +16,28 @@ pub const ONE: Tally = Tally {
 };
 
 /// Two processes under a relay that is under another. Where memory runs out, asking again makes it.
-pub fn two_hops(alloc: Global) -> Result<Plan, AllocError> {
+pub fn two_hops(rt: &impl Abort, alloc: Global) -> Result<Plan, AllocError>
+    ensures { IfOk result IsCheckedPlan }
+{
     let parents = [Parent::Root, Parent::Relay(0)];
     let attach = [Some(1), Some(1)];
-    Ok(Plan {
+    let plan = Plan {
         n: 2,
         cap: 8,
         hold: 4,
         parents: parents.to_vec(alloc).or_else(|_| parents.to_vec(alloc))?,
         attach: attach.to_vec(alloc).or_else(|_| attach.to_vec(alloc))?,
-    })
+    };
+    assert!(rt; plan.check().is_ok());
+    Ok(plan)
 }
 
 #[test]
 fn two_hops_find_the_first_cut(rt: HostRuntime) -> Result<(), Fail> {
-    let plan = two_hops(rt.alloc())?;
-    assert!(rt; plan.check().is_ok());
-    let book = Mutex::new(Book::new(2));
-    let end = run_in_one_thread(&rt, rt.alloc(), &plan, 2, &book)?;
+    let plan = two_hops(&rt, rt.alloc())?;
+    let (end, book) = run_in_one_thread(&rt, rt.alloc(), &plan, 2, Book::new(2))?;
     assert_eq!(rt; (end.watch(), end.fault()), (7, None));
     assert_eq!(rt; end.report(), Report::Found(GlobalCut::new(&[0, 0])));
-    let book = book.into_inner();
     assert_eq!(rt; (book.share(0), book.share(1)), (Some(ONE), Some(ONE)));
     assert_eq!(rt;
         book.totals(),
@@ -48,10 +52,8 @@ fn two_hops_find_the_first_cut(rt: HostRuntime) -> Result<(), Fail> {
 /// Where a growth of the checker is refused, the loop says so, and nothing is found.
 #[test]
 fn a_growth_that_is_refused_ends_the_loop(rt: HostRuntime) -> Result<(), Fail> {
-    let plan = two_hops(rt.alloc())?;
-    assert!(rt; plan.check().is_ok());
-    let book = Mutex::new(Book::new(2));
-    let end = run_in_one_thread(&rt, rt.alloc(), &plan, 2, &book)?;
+    let plan = two_hops(&rt, rt.alloc())?;
+    let (end, _) = run_in_one_thread(&rt, rt.alloc(), &plan, 2, Book::new(2))?;
     let report = match end.fault() {
         None => Report::Found(GlobalCut::new(&[0, 0])),
         Some(fault) => {
@@ -66,11 +68,9 @@ fn a_growth_that_is_refused_ends_the_loop(rt: HostRuntime) -> Result<(), Fail> {
 #[test]
 fn a_post_that_is_refused_holds_nothing_up(rt: HostRuntime) -> Result<(), Fail> {
     let plan = plain_plan(rt.alloc(), 2, 8, 4)?;
-    let book = Mutex::new(Book::new(1));
-    let end = run_in_one_thread(&rt, rt.alloc(), &plan, 1, &book)?;
+    let (end, book) = run_in_one_thread(&rt, rt.alloc(), &plan, 1, Book::new(1))?;
     assert_eq!(rt; end.fault(), None);
     assert_eq!(rt; end.report(), Report::Found(GlobalCut::new(&[0, 0])));
-    let book = book.into_inner();
     assert_eq!(rt; (book.share(0), book.totals()), (Some(ONE), ONE));
     Ok(())
 }
@@ -85,11 +85,9 @@ fn a_lane_that_is_cut_ends_the_loop(rt: HostRuntime) -> Result<(), Fail> {
         attach: vec![in rt.alloc(); Some(0), Some(1)]?,
     };
     assert!(rt; plan.check().is_ok());
-    let book = Mutex::new(Book::new(2));
-    let end = run_in_one_thread(&rt, rt.alloc(), &plan, 1, &book)?;
+    let (end, book) = run_in_one_thread(&rt, rt.alloc(), &plan, 1, Book::new(2))?;
     assert!(rt; matches!(end.fault(), Some(CheckFault::Cut(_))));
     assert_eq!(rt; end.report(), Report::Undecided);
-    let book = book.into_inner();
     assert_eq!(rt; (book.share(0), book.share(1)), (Some(ONE), None));
     Ok(())
 }

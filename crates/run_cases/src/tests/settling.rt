@@ -7,6 +7,7 @@ ghost use Rattle.wcp_run.specs.Settling.{ComeFromWatch, IsEndOfSomeProbe, IsEndO
 use super::checking::{ONE, two_hops};
 use super::watches::open;
 use std::alloc::{AllocError, Global};
+use std::process::Abort;
 use std::sync::{Mutex, Wait};
 use std::test::Fail;
 use wcp_book::Book;
@@ -22,6 +23,7 @@ struct Ends {
     probes: Vec<ProbeEnd>,
     relays: Vec<RelayEnd>,
     checker: CheckerEnd,
+    book: Book,
 }
 
 /// The process emits one snapshot, and closes. `None` where its ring has no room.
@@ -63,78 +65,51 @@ fn run_all(
     Ok(ends)
 }
 
-/// A watch that runs in one thread: the processes, then the relays, and then the checker's loop.
+/// A watch of two hops that runs in one thread: the processes, then the relays, and then the checker's loop.
 #[tactic(auto, using(crate::proofs::EndsOfWatch::own_probes, crate::proofs::EndsOfWatch::own_relays))]
-fn run_watch(
-    rt: &impl Wait,
-    alloc: Global,
-    plan: &Plan,
-    book: &Mutex<Book>,
-) -> Result<Ends, AllocError>
-    requires { IsCheckedPlan plan.now }
+fn run_watch(rt: &(impl Abort + Wait), alloc: Global) -> Result<Ends, AllocError>
     ensures { IfOk result (λ ends. ComeFromWatch ends.probes.items ends.relays.items ends.checker) }
 {
-    let (watch, checker) = open(alloc, plan)?;
+    let plan = two_hops(rt, alloc)?;
+    let (watch, checker) = open(alloc, &plan)?;
     let Watch {
         probes,
         relays,
         inbox,
     } = watch;
+    let book = Mutex::new(Book::new(2));
     let probes = close_all(alloc, probes)?;
     let relays = run_all(rt, alloc, relays)?;
-    let checker = check_loop(rt, inbox, checker, book);
+    let checker = check_loop(rt, inbox, checker, &book);
+    let book = book.into_inner();
     Ok(Ends {
         probes,
         relays,
         checker,
+        book,
     })
 }
 
-/// Takes the end out that came first. `None` where there is none.
-fn first_relay(relays: &mut Vec<RelayEnd>) -> Option<RelayEnd>
-    ensures { IfSome result (λ first. relays.old.items ≡ first ∷ relays.new.items) }
-{
-    if relays.is_empty() {
-        return None;
-    }
-    Some(relays.remove(0))
-}
-
-/// The ends but for that of the relay that ran first.
-fn without_a_relay(ends: Ends) -> Option<Ends>
+/// The ends but for that of a relay which came `at` this place.
+fn without_a_relay(mut ends: Ends, at: usize) -> Option<Ends>
     requires { ComeFromWatch ends.probes.items ends.relays.items ends.checker }
     ensures { IfSome result (λ ends. ComeFromWatch ends.probes.items ends.relays.items ends.checker) }
 {
-    let Ends {
-        probes,
-        mut relays,
-        checker,
-    } = ends;
-    let _first = first_relay(&mut relays)?;
-    Some(Ends {
-        probes,
-        relays,
-        checker,
-    })
+    if at >= ends.relays.len() {
+        return None;
+    }
+    drop(ends.relays.remove(at));
+    Some(ends)
 }
 
 /// The ends, and behind them that of a probe of another watch.
-fn with_a_stranger(ends: Ends, stranger: ProbeEnd) -> Result<Ends, AllocError>
+fn with_a_stranger(mut ends: Ends, stranger: ProbeEnd) -> Result<Ends, AllocError>
     requires come { ComeFromWatch ends.probes.items ends.relays.items ends.checker }
     requires other { stranger.watch ≢ ends.checker.watch }
     ensures { IfOk result (λ ends. ComeFromWatch ends.probes.items ends.relays.items ends.checker) }
 {
-    let Ends {
-        mut probes,
-        relays,
-        checker,
-    } = ends;
-    probes.push(stranger)?;
-    Ok(Ends {
-        probes,
-        relays,
-        checker,
-    })
+    ends.probes.push(stranger)?;
+    Ok(ends)
 }
 
 /// Takes the end out that came last.
@@ -152,68 +127,32 @@ fn is_fault_of_same(faulted: &RelayEnd, last: &RelayEnd, watch: u64) -> bool
     faulted.fault().is_some() && faulted.number() == last.number() && last.watch() == watch
 }
 
-/// The ends with this one in place of that of the relay that ran last. `None` where it met no fault, or is of another
-/// relay.
-fn with_a_fault(ends: Ends, faulted: RelayEnd) -> Result<Option<Ends>, AllocError>
-    requires { ComeFromWatch ends.probes.items ends.relays.items ends.checker }
-    ensures { IfOk result (λ some. IfSome some (λ ends.
-        ComeFromWatch ends.probes.items ends.relays.items ends.checker)) }
-{
-    let Ends {
-        probes,
-        mut relays,
-        checker,
-    } = ends;
-    let Some(last) = last_relay(&mut relays) else {
-        return Ok(None);
-    };
-    if is_fault_of_same(&faulted, &last, checker.watch()) {
-        relays.push(faulted)?;
-        return Ok(Some(Ends {
-            probes,
-            relays,
-            checker,
-        }));
-    }
-    Ok(None)
-}
-
 /// The ends, and behind them this one, a second one of the relay that ran last. `None` where it met no fault, or is of
 /// another relay.
-fn with_a_second_end(ends: Ends, faulted: RelayEnd) -> Result<Option<Ends>, AllocError>
+fn with_a_second_end(mut ends: Ends, faulted: RelayEnd) -> Result<Option<Ends>, AllocError>
     requires { ComeFromWatch ends.probes.items ends.relays.items ends.checker }
     ensures { IfOk result (λ some. IfSome some (λ ends.
         ComeFromWatch ends.probes.items ends.relays.items ends.checker)) }
 {
-    let Ends {
-        probes,
-        mut relays,
-        checker,
-    } = ends;
-    let Some(last) = last_relay(&mut relays) else {
+    let Some(last) = last_relay(&mut ends.relays) else {
         return Ok(None);
     };
-    if is_fault_of_same(&faulted, &last, checker.watch()) {
-        relays.push(last)?;
-        relays.push(faulted)?;
-        return Ok(Some(Ends {
-            probes,
-            relays,
-            checker,
-        }));
+    if is_fault_of_same(&faulted, &last, ends.checker.watch()) {
+        ends.relays.push(last)?;
+        ends.relays.push(faulted)?;
+        return Ok(Some(ends));
     }
     Ok(None)
 }
 
-/// The end of the first relay of a watch whose inbox is gone.
-fn cut_relay(rt: &impl Wait, alloc: Global, plan: &Plan) -> Result<Option<RelayEnd>, AllocError>
-    requires { IsCheckedPlan plan.now }
-{
+/// The end of the first relay of a watch of two hops whose inbox is gone.
+fn cut_relay(rt: &(impl Abort + Wait), alloc: Global) -> Result<Option<RelayEnd>, AllocError> {
+    let plan = two_hops(rt, alloc)?;
     let Watch {
         probes,
         mut relays,
         inbox,
-    } = watch(alloc, plan, 7)?;
+    } = watch(alloc, &plan, 7)?;
     drop(inbox);
     for probe in probes {
         drop(emit_one(probe));
@@ -228,25 +167,27 @@ fn cut_relay(rt: &impl Wait, alloc: Global, plan: &Plan) -> Result<Option<RelayE
     Ok(Some(first.run(rt)))
 }
 
+/// Why the ends are not settled.
+fn settle_fault(ends: Ends) -> Option<SettleFault>
+    requires { ComeFromWatch ends.probes.items ends.relays.items ends.checker }
+{
+    settle(ends.probes, ends.relays, ends.checker, ends.book).err()
+}
+
 #[test]
 fn two_hops_are_settled(rt: HostRuntime) -> Result<(), Fail> {
-    let plan = two_hops(rt.alloc())?;
-    assert!(rt; plan.check().is_ok());
-    let book = Mutex::new(Book::new(2));
-    let Ends {
-        probes,
-        relays,
-        checker,
-    } = run_watch(&rt, rt.alloc(), &plan, &book)?;
-    let book = book.into_inner();
+    let ends = run_watch(&rt, rt.alloc())?;
     assert_eq!(rt;
-        book.totals(),
+        ends.book.totals(),
         Tally {
             emitted: 2,
             taken: 2
         }
     );
-    let settled = settle(probes, relays, checker, book).expect(&rt, "all is there");
+    let settled = settle(ends.probes, ends.relays, ends.checker, ends.book).expect(
+        &rt,
+        "all is there",
+    );
     assert_eq!(rt; settled.report, Report::Found(GlobalCut::new(&[0, 0])));
     assert_eq!(rt; settled.tallies, Tallies::new(&[ONE, ONE]));
     Ok(())
@@ -254,73 +195,44 @@ fn two_hops_are_settled(rt: HostRuntime) -> Result<(), Fail> {
 
 #[test]
 fn a_relay_without_an_end_is_missing(rt: HostRuntime) -> Result<(), Fail> {
-    let plan = two_hops(rt.alloc())?;
-    assert!(rt; plan.check().is_ok());
-    let book = Mutex::new(Book::new(2));
-    let ends = run_watch(&rt, rt.alloc(), &plan, &book)?;
-    let Ends {
-        probes,
-        relays,
-        checker,
-    } = without_a_relay(ends).expect(&rt, "a relay");
-    let fault = settle(probes, relays, checker, book.into_inner()).err();
-    assert_eq!(rt; fault, Some(SettleFault::Missing));
+    let ends = run_watch(&rt, rt.alloc())?;
+    let ends = without_a_relay(ends, 0).expect(&rt, "a relay");
+    assert_eq!(rt; settle_fault(ends), Some(SettleFault::Missing));
     Ok(())
 }
 
 #[test]
 fn a_probe_of_another_watch_is_a_stranger(rt: HostRuntime) -> Result<(), Fail> {
-    let plan = two_hops(rt.alloc())?;
-    assert!(rt; plan.check().is_ok());
-    let book = Mutex::new(Book::new(2));
-    let ends = run_watch(&rt, rt.alloc(), &plan, &book)?;
+    let ends = run_watch(&rt, rt.alloc())?;
+    let plan = two_hops(&rt, rt.alloc())?;
     let mut other = watch(rt.alloc(), &plan, 8)?;
     let probe = other.probes.pop().expect(&rt, "a probe");
     let stranger = emit_one(probe).expect(&rt, "room");
     assert!(rt; stranger.watch() != ends.checker.watch());
-    let Ends {
-        probes,
-        relays,
-        checker,
-    } = with_a_stranger(ends, stranger)?;
-    let fault = settle(probes, relays, checker, book.into_inner()).err();
-    assert_eq!(rt; fault, Some(SettleFault::Stranger));
+    let ends = with_a_stranger(ends, stranger)?;
+    assert_eq!(rt; settle_fault(ends), Some(SettleFault::Stranger));
     Ok(())
 }
 
 #[test]
 fn a_relay_that_was_cut_is_faulted(rt: HostRuntime) -> Result<(), Fail> {
-    let plan = two_hops(rt.alloc())?;
-    assert!(rt; plan.check().is_ok());
-    let book = Mutex::new(Book::new(2));
-    let ends = run_watch(&rt, rt.alloc(), &plan, &book)?;
-    let faulted = cut_relay(&rt, rt.alloc(), &plan)?.expect(&rt, "a relay");
-    let Ends {
-        probes,
-        relays,
-        checker,
-    } = with_a_fault(ends, faulted)?.expect(&rt, "a fault of the first relay");
-    let fault = settle(probes, relays, checker, book.into_inner()).err();
-    assert_eq!(rt; fault, Some(SettleFault::Faulted));
+    let ends = run_watch(&rt, rt.alloc())?;
+    let faulted = cut_relay(&rt, rt.alloc())?.expect(&rt, "a relay");
+    let ends = with_a_second_end(ends, faulted)?.expect(&rt, "a fault of the first relay");
+    let ends = without_a_relay(ends, 1).expect(&rt, "the first relay's other end");
+    assert_eq!(rt; ends.relays.len(), 2);
+    assert_eq!(rt; settle_fault(ends), Some(SettleFault::Faulted));
     Ok(())
 }
 
 /// One relay has two ends, of which one has a fault, and the other relay has none: the strangers count first.
 #[test]
 fn two_ends_of_a_relay_are_strangers(rt: HostRuntime) -> Result<(), Fail> {
-    let plan = two_hops(rt.alloc())?;
-    assert!(rt; plan.check().is_ok());
-    let book = Mutex::new(Book::new(2));
-    let ends = run_watch(&rt, rt.alloc(), &plan, &book)?;
-    let second = cut_relay(&rt, rt.alloc(), &plan)?.expect(&rt, "a relay");
-    let ends = without_a_relay(ends).expect(&rt, "a relay");
-    let Ends {
-        probes,
-        relays,
-        checker,
-    } = with_a_second_end(ends, second)?.expect(&rt, "a fault of the first relay");
-    assert_eq!(rt; relays.len(), 2);
-    let fault = settle(probes, relays, checker, book.into_inner()).err();
-    assert_eq!(rt; fault, Some(SettleFault::Stranger));
+    let ends = run_watch(&rt, rt.alloc())?;
+    let second = cut_relay(&rt, rt.alloc())?.expect(&rt, "a relay");
+    let ends = without_a_relay(ends, 0).expect(&rt, "a relay");
+    let ends = with_a_second_end(ends, second)?.expect(&rt, "a fault of the first relay");
+    assert_eq!(rt; ends.relays.len(), 2);
+    assert_eq!(rt; settle_fault(ends), Some(SettleFault::Stranger));
     Ok(())
 }

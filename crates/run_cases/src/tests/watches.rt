@@ -36,14 +36,14 @@ fn open_once(alloc: Global, plan: &Plan) -> Result<(Watch, Checker), AllocError>
 }
 
 /// A watch that runs in one thread: each process emits one snapshot, then the first `count` relays run, the highest
-/// number first, and then the checker's loop. The other relays are gone.
+/// number first, and then the checker's loop, which posts in this book. The other relays are gone.
 pub fn run_in_one_thread(
     rt: &impl Wait,
     alloc: Global,
     plan: &Plan,
     count: usize,
-    book: &Mutex<Book>,
-) -> Result<CheckerEnd, AllocError>
+    book: Book,
+) -> Result<(CheckerEnd, Book), AllocError>
     requires { IsCheckedPlan plan.now }
 {
     let (watch, checker) = open(alloc, plan)?;
@@ -59,7 +59,9 @@ pub fn run_in_one_thread(
     for relay in relays.into_iter().rev() {
         let _ = relay.run(rt);
     }
-    Ok(check_loop(rt, inbox, checker, book))
+    let book = Mutex::new(book);
+    let end = check_loop(rt, inbox, checker, &book);
+    Ok((end, book.into_inner()))
 }
 
 /// Emits so many snapshots, with a send behind each, and closes.

@@ -1,23 +1,22 @@
 use Rattle.std.proofs.Common.{◌≡◌, All, Some, slice_get, sym, ap, subst, ◌∙◌}
+use Rattle.std.proofs.lemmas.List.Elements.{All-pop, All-push}
 use Rattle.wcp_run.specs.Settling.{IsEndOfSomeProbe}
-use Rattle.run_cases.proofs.EndsOfWatch.{front_of, last_of, joined}
 use Rattle.run_cases.proofs.tests.settling.close_all.Goals as goal
 
 pub loop-probe-preserved-in-Continue-branch-2 : goal.loop-probe-preserved-in-Continue-branch-2
 loop-probe-preserved-in-Continue-branch-2 c =
     let all = c.args.probes.items in
-    let split = subst (All (λ probe. slice_get all probe.core.id ≡ Some probe)) c.in-Some.ensures.items c.loop-probe.invariant.0 in (
-      front_of (λ probe. slice_get all probe.core.id ≡ Some probe) c.pop.new.self.items _ split,
-      subst (All (IsEndOfSomeProbe all)) (sym c.in_ok-push.ensures.items) (joined (IsEndOfSomeProbe all) c.loop-probe.ends.items c.in-Some-emit_one.end c.loop-probe.invariant.1 (record {
+    let split = All-pop (λ probe. slice_get all probe.core.id ≡ Some probe) _ _ (Some c.in-Some.probe) c.in-Some.ensures.items c.loop-probe.invariant.0 in (
+      split.0,
+      subst (All (IsEndOfSomeProbe all)) (sym c.in_ok-push.ensures.items) (All-push (IsEndOfSomeProbe all) c.loop-probe.ends.items c.in-Some-emit_one.end c.loop-probe.invariant.1 (record {
         probe = c.in-Some.probe;
-        is_probe = ap (slice_get all) c.in-Some-emit_one.ensures.0 ∙ last_of (λ probe. slice_get all probe.core.id ≡ Some probe) c.pop.new.self.items c.in-Some.probe split;
+        is_probe = ap (slice_get all) c.in-Some-emit_one.ensures.0 ∙ split.1;
         one_ring = c.in-Some-emit_one.ensures.1;
       })),
     )
 
 pub loop-probe-preserved : goal.loop-probe-preserved
-loop-probe-preserved c =
-    let all = c.args.probes.items in (
-      front_of (λ probe. slice_get all probe.core.id ≡ Some probe) c.pop.new.self.items _ (subst (All (λ probe. slice_get all probe.core.id ≡ Some probe)) c.in-Some.ensures.items c.loop-probe.invariant.0),
-      c.loop-probe.invariant.1,
-    )
+loop-probe-preserved c = (
+  (All-pop (λ probe. slice_get c.args.probes.items probe.core.id ≡ Some probe) _ _ (Some c.in-Some.probe) c.in-Some.ensures.items c.loop-probe.invariant.0).0,
+  c.loop-probe.invariant.1,
+)

@@ -1,6 +1,9 @@
-use Rattle.run_cases.proofs.EndsOfWatch.{fewer_relays}
+use Rattle.std.proofs.Common.{sym, subst}
+use Rattle.wcp_run.specs.Settling.{ComeFromWatch}
+use Rattle.run_cases.proofs.EndsOfWatch.{without_one}
 use Rattle.run_cases.proofs.tests.settling.without_a_relay.Goals as goal
 
 pub returns : goal.returns
 returns c =
-    fewer_relays c.args.ends.probes.items c.args.ends.relays.items c.first_relay.new.relays.items c.in_ok-_first._first c.args.ends.checker c.requires c.in_ok-_first.ensures
+    subst (λ relays. ComeFromWatch c.args.ends.probes.items relays c.args.ends.checker) (sym c.remove.ensures.items)
+    (without_one c.args.ends.probes.items c.args.ends.relays.items c.args.at c.args.ends.checker c.requires)
