@@ -2,6 +2,7 @@ mod books;
 mod checker;
 mod clocks;
 mod computations;
+mod faults;
 mod heads;
 mod holds;
 mod orders;

@@ -1,20 +1,11 @@
+use crate::tests::faults::{
+    Row, Script, TWO_PROCESSES, assert_faults, assert_faults_of_both, text_of,
+};
+use crate::tests::plans::assert_plan;
 use FaultKind::{Line, Number, Plan, Process};
-use std::alloc::{AllocError, Global};
 use std::test::Fail;
 use wcp_model::Parent;
-use wcp_script::{FaultKind, ReadFault, ScriptFault, read_schedule, read_workload};
-
-/// A text of two processes with these further lines.
-fn two_processes(alloc: Global, lines: &[u8]) -> Result<Vec<u8>, AllocError> {
-    let mut text = Vec::from_slice(alloc, b"wcp 1\nprocs 2\n")?;
-    text.extend_from_slice(lines)?;
-    Ok(text)
-}
-
-/// The fault of this kind at a line.
-fn fault(line: u32, kind: FaultKind) -> Option<ReadFault> {
-    Some(ReadFault::Script(ScriptFault { line, kind }))
-}
+use wcp_script::{FaultKind, read_schedule, read_workload};
 
 /// Fifteen relays under the root.
 const RELAYS: &[u8] = b"relay 0 root\nrelay 1 root\nrelay 2 root\nrelay 3 root\nrelay 4 root\n\
@@ -26,7 +17,7 @@ const CHAIN: &[u8] = b"relay 0 root\nrelay 1 0\nrelay 2 1\nrelay 3 2\nrelay 4 3\
 relay 6 5\nrelay 7 6\nrelay 8 7\nattach 0 8\nattach 1 8\n";
 
 /// Lines behind the first two of a text of two processes, with the fault that both readers find.
-const HEADS: &[(&[u8], u32, FaultKind)] = &[
+const HEADS: &[Row] = &[
     // the capacities
     (b"cap 8", 3, Line),
     (b"cap\n", 3, Line),
@@ -103,30 +94,26 @@ const HEADS: &[(&[u8], u32, FaultKind)] = &[
 
 #[test]
 fn faults_of_heads(rt: HostRuntime) -> Result<(), Fail> {
-    for (lines, line, kind) in HEADS {
-        let text = two_processes(rt.alloc(), lines)?;
-        assert_eq!(rt; read_workload(rt.alloc(), &text).err(), fault(*line, *kind));
-        assert_eq!(rt; read_schedule(rt.alloc(), &text).err(), fault(*line, *kind));
-    }
+    assert_faults_of_both(&rt, rt.alloc(), TWO_PROCESSES, HEADS)?;
     Ok(())
 }
 
+/// Lines behind fifteen relays.
+const SIXTEENTH_RELAY: &[Row] = &[
+    (b"relay 15 root\n", 18, Plan),
+    (b"relay 15 x\n", 18, Number),
+    (b"relay 16 root\n", 18, Line),
+];
+
 #[test]
 fn a_sixteenth_relay(rt: HostRuntime) -> Result<(), Fail> {
-    for (last, kind) in [
-        (b"relay 15 root\n".as_slice(), Plan),
-        (b"relay 15 x\n", Number),
-        (b"relay 16 root\n", Line),
-    ] {
-        let mut text = two_processes(rt.alloc(), RELAYS)?;
-        text.extend_from_slice(last)?;
-        assert_eq!(rt; read_workload(rt.alloc(), &text).err(), fault(18, kind));
-    }
+    let head = text_of(rt.alloc(), TWO_PROCESSES, RELAYS)?;
+    assert_faults(&rt, rt.alloc(), Script::Workload, &head, SIXTEENTH_RELAY)?;
     Ok(())
 }
 
 /// Lines of which one begins with a step word of a workload, with the fault.
-const BEFORE_TASKS: &[(&[u8], u32, FaultKind)] = &[
+const BEFORE_TASKS: &[Row] = &[
     (b"relay 0 root\nattach 0 0\np 0 true\n", 4, Plan),
     (b"relay 0 root\nattach 0 0\np x maybe\n", 4, Plan),
     (b"relay 0 root\nattach 0 0\np", 4, Plan),
@@ -143,7 +130,7 @@ const BEFORE_TASKS: &[(&[u8], u32, FaultKind)] = &[
 ];
 
 /// Lines of which one begins with a step word of a schedule, with the fault.
-const BEFORE_STEPS: &[(&[u8], u32, FaultKind)] = &[
+const BEFORE_STEPS: &[Row] = &[
     (b"relay 0 root\nattach 0 0\ncheck\n", 4, Plan),
     (b"relay 0 root\nattach 0 0\nobserve x maybe\n", 4, Plan),
     (b"relay 0 root\nattach 0 0\npull", 4, Plan),
@@ -155,35 +142,40 @@ const BEFORE_STEPS: &[(&[u8], u32, FaultKind)] = &[
 
 #[test]
 fn faults_at_the_first_step_line(rt: HostRuntime) -> Result<(), Fail> {
-    for (lines, line, kind) in BEFORE_TASKS {
-        let text = two_processes(rt.alloc(), lines)?;
-        assert_eq!(rt; read_workload(rt.alloc(), &text).err(), fault(*line, *kind));
-    }
-    for (lines, line, kind) in BEFORE_STEPS {
-        let text = two_processes(rt.alloc(), lines)?;
-        assert_eq!(rt; read_schedule(rt.alloc(), &text).err(), fault(*line, *kind));
-    }
+    assert_faults(
+        &rt,
+        rt.alloc(),
+        Script::Workload,
+        TWO_PROCESSES,
+        BEFORE_TASKS,
+    )?;
+    assert_faults(
+        &rt,
+        rt.alloc(),
+        Script::Schedule,
+        TWO_PROCESSES,
+        BEFORE_STEPS,
+    )?;
     Ok(())
 }
 
+/// A head that says all that a head can say.
+const WHOLE: &[u8] =
+    b"cap 1024\nhold 64\nrelay 0 root\nrelay 1 0\nrelay 2 0\nattach 0 2\nattach 1 1\n";
+
 #[test]
 fn a_whole_head(rt: HostRuntime) -> Result<(), Fail> {
-    let lines = b"cap 1024\nhold 64\nrelay 0 root\nrelay 1 0\nrelay 2 0\nattach 0 2\nattach 1 1\n";
-    let text = two_processes(rt.alloc(), lines)?;
+    let text = text_of(rt.alloc(), TWO_PROCESSES, WHOLE)?;
     let plan = read_schedule(rt.alloc(), &text)?.plan;
-    assert_eq!(rt; (plan.n, plan.cap, plan.hold), (2, 1024, 64));
-    let parents = [Parent::Root, Parent::Relay(0), Parent::Relay(0)];
-    assert_eq!(rt; plan.parents.as_slice(), parents.as_slice());
-    assert_eq!(rt; plan.attach.as_slice(), [Some(2), Some(1)].as_slice());
+    let parents = &[Parent::Root, Parent::Relay(0), Parent::Relay(0)];
+    assert_plan(&rt, &plan, (2, 1024, 64), parents, &[Some(2), Some(1)]);
     Ok(())
 }
 
 #[test]
 fn a_head_that_says_nothing_of_relays(rt: HostRuntime) -> Result<(), Fail> {
-    let text = two_processes(rt.alloc(), b"hold 1\np 0 true\n")?;
+    let text = text_of(rt.alloc(), TWO_PROCESSES, b"hold 1\np 0 true\n")?;
     let plan = read_workload(rt.alloc(), &text)?.plan;
-    assert_eq!(rt; (plan.n, plan.cap, plan.hold), (2, 8, 1));
-    assert_eq!(rt; plan.parents.as_slice(), [Parent::Root].as_slice());
-    assert_eq!(rt; plan.attach.as_slice(), [Some(0), Some(0)].as_slice());
+    assert_plan(&rt, &plan, (2, 8, 1), &[Parent::Root], &[Some(0), Some(0)]);
     Ok(())
 }
