@@ -1,10 +1,11 @@
 use crate::tests::replays::Expected::{Made, Refused, TookClose, TookSnap};
-use crate::tests::replays::{Replay, assert_played};
-use std::alloc::{AllocError, Global};
+use crate::tests::replays::{
+    Replay, assert_made_one_by_one, assert_played_by_one_relay, one_relay,
+};
 use std::process::Abort;
 use std::test::Fail;
 use wcp_model::Step::{Admit, Check, Close, Observe, Pass, Put, Recv, Send};
-use wcp_model::{GlobalCut, Report, Why, plain_plan};
+use wcp_model::{GlobalCut, Report, Why};
 
 static CLOCK_TAKES_EVERY_COMPONENT: Replay<'static> = Replay {
     name: "clock_takes_every_component",
@@ -73,6 +74,8 @@ static MESSAGES_OVERTAKE: Replay<'static> = Replay {
     tallies: &[(1, 1), (1, 1)],
 };
 
+/// The first snapshots of the two processes make the least satisfying cut, which is lost where an item that came later
+/// overtakes them and they are dropped.
 static NEWEST_FIRST_HOLD_LOSES_CUT: Replay<'static> = Replay {
     name: "newest_first_hold_loses_cut",
     steps: &[
@@ -97,50 +100,60 @@ static NEWEST_FIRST_HOLD_LOSES_CUT: Replay<'static> = Replay {
     tallies: &[(2, 2), (1, 1)],
 };
 
-static UNDECIDED_BEFORE_ALL_TAKEN: Replay<'static> = Replay {
-    name: "undecided_before_all_taken",
-    steps: &[
-        (Observe(0, true), Made),
-        (Put(0), Made),
-        (Observe(1, true), Made),
-        (Put(1), Made),
-        (Send(1, 0), Made),
-        (Recv(0, 0), Made),
-        (Observe(0, true), Made),
-        (Put(0), Made),
-        (Admit(0, 0), Made),
-        (Admit(0, 1), Made),
-        (Admit(0, 0), Made),
-        (Pass(0), Made),
-        (Pass(0), Made),
-        (Pass(0), Made),
-        (Check, TookSnap(0, 0, &[0, 0])),
-    ],
-    tallies: &[(2, 1), (1, 0)],
-};
-
-/// Plays the steps under a plan of one relay.
-fn played(
+/// The first steps of a replay, and the tallies after them.
+fn beginning<'a>(
     rt: &impl Abort,
-    alloc: Global,
-    replay: &Replay,
-    report: Report,
-) -> Result<(), AllocError> {
-    let n = replay.tallies.len();
-    assert!(rt; 0 < n && n <= 16);
-    let plan = plain_plan(alloc, n as u32, 8, 4)?;
-    assert_played(rt, alloc, &plan, replay, report)
+    name: &'a str,
+    replay: &Replay<'a>,
+    count: usize,
+    tallies: &'a [(u64, u64)],
+) -> Replay<'a> {
+    assert!(rt; count <= replay.steps.len());
+    Replay {
+        name,
+        steps: &replay.steps[..count],
+        tallies,
+    }
 }
 
 #[test]
 fn items_are_taken_in_the_order_of_their_emission(rt: HostRuntime) -> Result<(), Fail> {
     let first = Report::Found(GlobalCut::new(&[0]));
-    let both = Report::Found(GlobalCut::new(&[0, 0]));
     let alloc = rt.alloc();
-    played(&rt, alloc, &CLOCK_TAKES_EVERY_COMPONENT, Report::Undecided)?;
-    played(&rt, alloc, &CLOSE_GOES_THE_SAME_WAY, first)?;
-    played(&rt, alloc, &MESSAGES_OVERTAKE, Report::Nothing)?;
-    played(&rt, alloc, &NEWEST_FIRST_HOLD_LOSES_CUT, both)?;
-    played(&rt, alloc, &UNDECIDED_BEFORE_ALL_TAKEN, Report::Undecided)?;
+    assert_played_by_one_relay(
+        &rt,
+        alloc,
+        &CLOCK_TAKES_EVERY_COMPONENT,
+        8,
+        Report::Undecided,
+    )?;
+    assert_played_by_one_relay(&rt, alloc, &CLOSE_GOES_THE_SAME_WAY, 8, first)?;
+    assert_played_by_one_relay(&rt, alloc, &MESSAGES_OVERTAKE, 8, Report::Nothing)?;
+    Ok(())
+}
+
+#[test]
+fn the_least_cut_is_found_once_all_is_taken(rt: HostRuntime) -> Result<(), Fail> {
+    let alloc = rt.alloc();
+    let both = Report::Found(GlobalCut::new(&[0, 0]));
+    let whole = &NEWEST_FIRST_HOLD_LOSES_CUT;
+    assert_played_by_one_relay(&rt, alloc, whole, 8, both)?;
+    let first = beginning(
+        &rt,
+        "undecided_before_all_taken",
+        whole,
+        15,
+        &[(2, 1), (1, 0)],
+    );
+    assert_played_by_one_relay(&rt, alloc, &first, 8, Report::Undecided)?;
+    Ok(())
+}
+
+#[test]
+fn a_step_asked_again_is_answered_as_with_ample_memory(rt: HostRuntime) -> Result<(), Fail> {
+    let both = Report::Found(GlobalCut::new(&[0, 0]));
+    let whole = &NEWEST_FIRST_HOLD_LOSES_CUT;
+    let plan = one_relay(&rt, rt.alloc(), whole, 8)?;
+    assert_made_one_by_one(&rt, rt.alloc(), &plan, whole, both)?;
     Ok(())
 }

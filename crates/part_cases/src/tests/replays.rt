@@ -1,8 +1,8 @@
 use std::alloc::{AllocError, Global};
 use std::process::Abort;
 use wcp_clock::{Clock, Item, Note};
-use wcp_model::{Plan, Reply, Report, Step, Tally, Why};
-use wcp_world::play;
+use wcp_model::{Plan, Reply, Report, Step, Tallies, Tally, Why, plain_plan};
+use wcp_world::{World, play};
 
 /// What a step is answered, as worked out by hand.
 #[derive(Drop)]
@@ -66,7 +66,7 @@ fn reply_of(rt: &impl Abort, expected: &Expected) -> Reply {
 }
 
 /// Compares the whole reply to a step.
-pub fn assert_reply(rt: &impl Abort, step: Step, reply: Reply, expected: &Expected) {
+fn assert_reply(rt: &impl Abort, step: Step, reply: Reply, expected: &Expected) {
     let expected = reply_of(rt, expected);
     assert_eq!(rt; reply, expected, "{step:?}");
 }
@@ -79,7 +79,28 @@ fn steps_of(alloc: Global, replay: &Replay) -> Result<Vec<Step>, AllocError> {
     Ok(steps)
 }
 
-/// Plays the steps under a plan, and compares each reply, the report and the tallies.
+/// Compares the reply to each step.
+fn assert_replies(rt: &impl Abort, replies: &[Reply], replay: &Replay) {
+    assert_eq!(rt; replies.len(), replay.steps.len(), "{}", replay.name);
+    for (reply, row) in replies.iter().zip(replay.steps) {
+        assert_reply(rt, row.0, *reply, &row.1);
+    }
+}
+
+/// Compares how many snapshots of each process were emitted and taken.
+fn assert_tallies(rt: &impl Abort, tallies: &Tallies, replay: &Replay) {
+    let name = replay.name;
+    assert_eq!(rt; tallies.len() as usize, replay.tallies.len(), "{name}");
+    for (p, counts) in replay.tallies.iter().enumerate() {
+        let p = p as u32;
+        let (emitted, taken) = *counts;
+        assert!(rt; p < tallies.len());
+        assert_eq!(rt; tallies.get(p), Tally { emitted, taken }, "{name}");
+    }
+}
+
+/// Plays the steps under a plan, and compares each reply, the report and the tallies. Where memory runs out, asking
+/// again plays them.
 pub fn assert_played(
     rt: &impl Abort,
     alloc: Global,
@@ -87,25 +108,97 @@ pub fn assert_played(
     replay: &Replay,
     report: Report,
 ) -> Result<(), AllocError> {
-    let name = replay.name;
     assert!(rt; plan.check().is_ok());
     let steps = steps_of(alloc, replay)?;
-    let played = play(alloc, plan, &steps)?;
-    assert_eq!(rt; played.replies.len(), replay.steps.len(), "{name}");
-    for (reply, row) in played.replies.iter().zip(replay.steps) {
-        assert_reply(rt, row.0, *reply, &row.1);
+    let played = match play(alloc, plan, &steps) {
+        Ok(played) => played,
+        Err(_) => play(alloc, plan, &steps)?,
+    };
+    assert_replies(rt, played.replies.as_slice(), replay);
+    assert_eq!(rt; played.report, report, "{}", replay.name);
+    assert_tallies(rt, &played.tallies, replay);
+    Ok(())
+}
+
+/// The plan of one relay for the processes of a replay, with room for so many in a ring. Where memory runs out, asking
+/// again makes it.
+pub fn one_relay(
+    rt: &impl Abort,
+    alloc: Global,
+    replay: &Replay,
+    cap: u32,
+) -> Result<Plan, AllocError> {
+    let n = replay.tallies.len();
+    assert!(rt; 0 < n && n <= 16);
+    match plain_plan(alloc, n as u32, cap, 4) {
+        Ok(plan) => Ok(plan),
+        Err(_) => plain_plan(alloc, n as u32, cap, 4),
     }
-    assert_eq!(rt; played.report, report, "{name}");
-    assert_eq!(rt;
-        played.tallies.len() as usize,
-        replay.tallies.len(),
-        "{name}"
-    );
-    for (p, counts) in replay.tallies.iter().enumerate() {
+}
+
+/// Plays the steps under a plan of one relay, with room for so many in a ring.
+pub fn assert_played_by_one_relay(
+    rt: &impl Abort,
+    alloc: Global,
+    replay: &Replay,
+    cap: u32,
+    report: Report,
+) -> Result<(), AllocError> {
+    let plan = one_relay(rt, alloc, replay, cap)?;
+    assert_played(rt, alloc, &plan, replay, report)
+}
+
+/// The world of a plan, before any step. Where memory runs out, asking again makes it.
+fn world_of(rt: &impl Abort, alloc: Global, plan: &Plan) -> Result<World, AllocError> {
+    assert!(rt; plan.check().is_ok());
+    match World::new(alloc, plan) {
+        Ok(world) => Ok(world),
+        Err(_) => World::new(alloc, plan),
+    }
+}
+
+/// Makes a step. Where memory runs out, asking again makes it.
+fn step(world: &mut World, step: Step) -> Result<Reply, AllocError> {
+    match world.step(step) {
+        Ok(reply) => Ok(reply),
+        Err(_) => world.step(step),
+    }
+}
+
+/// Makes each step, and compares its whole reply.
+fn assert_steps(rt: &impl Abort, world: &mut World, replay: &Replay) -> Result<(), AllocError> {
+    for row in replay.steps {
+        let reply = step(world, row.0)?;
+        assert_reply(rt, row.0, reply, &row.1);
+    }
+    Ok(())
+}
+
+/// Compares how many snapshots of each process are emitted and taken in a world.
+fn assert_world_tallies(rt: &impl Abort, world: &World, tallies: &[(u64, u64)]) {
+    assert_eq!(rt; world.processes() as usize, tallies.len());
+    for (p, counts) in tallies.iter().enumerate() {
         let p = p as u32;
         let (emitted, taken) = *counts;
-        assert!(rt; p < played.tallies.len());
-        assert_eq!(rt; played.tallies.get(p), Tally { emitted, taken }, "{name}");
+        assert!(rt; p < world.processes());
+        assert_eq!(rt; world.tally(p), Tally { emitted, taken }, "process {p}");
     }
+}
+
+/// Makes the steps of a replay of two processes one by one in the world of a plan, and compares each reply, and the
+/// report and the tallies before and after them.
+pub fn assert_made_one_by_one(
+    rt: &impl Abort,
+    alloc: Global,
+    plan: &Plan,
+    replay: &Replay,
+    report: Report,
+) -> Result<(), AllocError> {
+    let mut world = world_of(rt, alloc, plan)?;
+    assert_eq!(rt; world.report(), Report::Undecided);
+    assert_world_tallies(rt, &world, &[(0, 0), (0, 0)]);
+    assert_steps(rt, &mut world, replay)?;
+    assert_eq!(rt; world.report(), report);
+    assert_world_tallies(rt, &world, replay.tallies);
     Ok(())
 }

@@ -1,11 +1,9 @@
 use crate::tests::replays::Expected::{Made, Refused, TookClose, TookSnap};
-use crate::tests::replays::{Replay, assert_played, assert_reply};
+use crate::tests::replays::{Replay, assert_made_one_by_one, assert_played};
 use std::alloc::{AllocError, Global};
-use std::process::Abort;
 use std::test::Fail;
 use wcp_model::Step::{Admit, Check, Close, Observe, Pass, Pull, Put, Recv, Send};
-use wcp_model::{GlobalCut, Parent, Plan, Reply, Report, Step, Why};
-use wcp_world::World;
+use wcp_model::{GlobalCut, Parent, Plan, Report, Why};
 
 /// Two processes, each with a leaf relay of its own, and an inner relay above both leaves.
 fn tree(alloc: Global, cap: u32, hold: u32) -> Result<Plan, AllocError> {
@@ -179,38 +177,11 @@ fn items_go_through_a_tree_of_relays(rt: HostRuntime) -> Result<(), Fail> {
     Ok(())
 }
 
-/// The world of the tree, before any step.
-fn world_of_tree(rt: &impl Abort, alloc: Global) -> Result<World, AllocError> {
-    let plan = tree(alloc, 8, 4)?;
-    assert!(rt; plan.check().is_ok());
-    World::new(alloc, &plan)
-}
-
-/// Makes a step. Where memory runs out, asking again makes it.
-fn step(world: &mut World, step: Step) -> Result<Reply, AllocError> {
-    match world.step(step) {
-        Ok(reply) => Ok(reply),
-        Err(_) => world.step(step),
-    }
-}
-
-/// Makes each step, and compares its whole reply.
-fn make_each(rt: &impl Abort, world: &mut World, replay: &Replay) -> Result<(), AllocError> {
-    for row in replay.steps {
-        let reply = step(world, row.0)?;
-        assert_reply(rt, row.0, reply, &row.1);
-    }
-    Ok(())
-}
-
 #[test]
 fn a_tree_is_drained_step_by_step(rt: HostRuntime) -> Result<(), Fail> {
-    let mut world = match world_of_tree(&rt, rt.alloc()) {
-        Ok(world) => world,
-        Err(_) => world_of_tree(&rt, rt.alloc())?,
-    };
-    assert_eq!(rt; world.report(), Report::Undecided);
-    make_each(&rt, &mut world, &LEAST_CUT)?;
-    assert_eq!(rt; world.report(), Report::Found(GlobalCut::new(&[1, 1])));
+    let alloc = rt.alloc();
+    let least = Report::Found(GlobalCut::new(&[1, 1]));
+    let plan = tree(alloc, 8, 4).or_else(|_| tree(alloc, 8, 4))?;
+    assert_made_one_by_one(&rt, alloc, &plan, &LEAST_CUT, least)?;
     Ok(())
 }
