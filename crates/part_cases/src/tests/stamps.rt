@@ -23,15 +23,50 @@ fn stamped<T: Drop>(rt: &impl Abort, probe: &mut ProbeCore, to: u32, value: T) -
     }
 }
 
-/// Why a message is refused, and the message.
+/// A message that must be refused for this reason, which comes back.
 fn refused<T: Drop>(
     rt: &impl Abort,
     probe: &mut ProbeCore,
     message: Stamped<T>,
-) -> (Refusal, Stamped<T>) {
+    reason: Refusal,
+) -> Stamped<T> {
     match probe.receive(message) {
         Ok(_) => panic!(rt; "it was received"),
-        Err(back) => back,
+        Err((why, message)) => {
+            assert_eq!(rt; why, reason);
+            message
+        }
+    }
+}
+
+/// A message that must be received.
+fn received<T: Drop>(rt: &impl Abort, probe: &mut ProbeCore, message: Stamped<T>) -> T {
+    match probe.receive(message) {
+        Ok(value) => value,
+        Err((why, _)) => panic!(rt; "refused: {why:?}"),
+    }
+}
+
+/// The link takes the pending note.
+fn put(rt: &impl Abort, probe: &mut ProbeCore) {
+    assert!(rt; probe.pending().is_some());
+    probe.was_put();
+}
+
+/// A stamp that must be refused for this reason: the value comes back.
+fn unstamped<T: Drop>(
+    rt: &impl Abort,
+    probe: &mut ProbeCore,
+    to: u32,
+    value: T,
+    reason: Refusal,
+) -> T {
+    match probe.stamp(to, value) {
+        Ok(_) => panic!(rt; "a stamp to {to}"),
+        Err((why, value)) => {
+            assert_eq!(rt; why, reason, "to {to}");
+            value
+        }
     }
 }
 
@@ -42,16 +77,9 @@ fn a_clock_ends_at_its_limit(rt: HostRuntime) -> Result<(), Fail> {
         let message = stamped(&rt, &mut probe, 1, true);
         assert_eq!(rt; (message.from(), message.to()), (0, 1));
     }
-    for (to, want) in [
-        (1, Refusal::ClockEnd),
-        (0, Refusal::NoSuch),
-        (2, Refusal::NoSuch),
-    ] {
-        match probe.stamp(to, true) {
-            Ok(_) => panic!(rt; "a stamp to {to}"),
-            Err(back) => assert_eq!(rt; back, (want, true), "to {to}"),
-        }
-    }
+    assert!(rt; unstamped(&rt, &mut probe, 1, true, Refusal::ClockEnd));
+    assert!(rt; unstamped(&rt, &mut probe, 0, true, Refusal::NoSuch));
+    assert!(rt; unstamped(&rt, &mut probe, 2, true, Refusal::NoSuch));
     assert_eq!(rt; components(&probe.clock()), [2, 0, 0]);
     Ok(())
 }
@@ -61,43 +89,45 @@ fn a_stamp_is_for_one_receiver_that_is_not_behind(rt: HostRuntime) -> Result<(),
     let (mut a, mut b, mut c) = (core(7, 0), core(7, 1), core(7, 1));
     let mut stranger = core(8, 1);
     let first = stamped(&rt, &mut b, 0, String::from_str(rt.alloc(), "first")?);
-    match a.receive(first) {
-        Ok(text) => assert_eq!(rt; text.as_str(), "first"),
-        Err((why, _)) => panic!(rt; "refused: {why:?}"),
-    }
+    let first = received(&rt, &mut a, first);
     let second = stamped(&rt, &mut a, 1, String::from_str(rt.alloc(), "second")?);
-    let (why, second) = refused(&rt, &mut c, second);
-    assert_eq!(rt; why, Refusal::Ahead);
-    let (why, second) = refused(&rt, &mut stranger, second);
-    assert_eq!(rt; why, Refusal::Stranger);
-    let (why, second) = refused(&rt, &mut a, second);
-    assert_eq!(rt; why, Refusal::NotMine);
-    match b.receive(second) {
-        Ok(text) => assert_eq!(rt; text.as_str(), "second"),
-        Err((why, _)) => panic!(rt; "refused: {why:?}"),
-    }
+    let second = refused(&rt, &mut c, second, Refusal::Ahead);
+    let second = refused(&rt, &mut stranger, second, Refusal::Stranger);
+    let second = refused(&rt, &mut a, second, Refusal::NotMine);
+    let second = received(&rt, &mut b, second);
+    assert_eq!(rt; (first.as_str(), second.as_str()), ("first", "second"));
     assert_eq!(rt; components(&b.clock()), [2, 2, 0]);
     Ok(())
+}
+
+/// Compares what an observation answers.
+fn assert_observed(
+    rt: &impl Abort,
+    probe: &mut ProbeCore,
+    holds: bool,
+    answer: Result<bool, Refusal>,
+) {
+    assert_eq!(rt; probe.observe(holds), answer);
+}
+
+/// Compares what a close answers.
+fn assert_closed(rt: &impl Abort, probe: &mut ProbeCore, answer: Result<(), Refusal>) {
+    assert_eq!(rt; probe.close(), answer);
 }
 
 #[test]
 fn a_probe_emits_once_an_interval(rt: HostRuntime) -> Result<(), Fail> {
     let mut probe = core(7, 0);
-    assert_eq!(rt; probe.observe(false), Ok(false));
-    assert_eq!(rt; probe.observe(true), Ok(true));
-    assert_eq!(rt; probe.observe(true), Ok(false));
+    assert_observed(&rt, &mut probe, false, Ok(false));
+    assert_observed(&rt, &mut probe, true, Ok(true));
+    assert_observed(&rt, &mut probe, true, Ok(false));
     let clock = probe.clock();
     assert_eq!(rt; probe.pending(), Some(Note::Snap { number: 0, clock }));
-    match probe.stamp(1, String::from_str(rt.alloc(), "kept")?) {
-        Ok(_) => panic!(rt; "a stamp over a backlog"),
-        Err((why, text)) => {
-            assert_eq!(rt; why, Refusal::Backlog);
-            assert_eq!(rt; text.as_str(), "kept");
-        }
-    }
-    assert_eq!(rt; probe.close(), Err(Refusal::Backlog));
-    assert!(rt; probe.pending().is_some());
-    probe.was_put();
+    let kept = String::from_str(rt.alloc(), "kept")?;
+    let kept = unstamped(&rt, &mut probe, 1, kept, Refusal::Backlog);
+    assert_eq!(rt; kept.as_str(), "kept");
+    assert_closed(&rt, &mut probe, Err(Refusal::Backlog));
+    put(&rt, &mut probe);
     assert_eq!(rt; probe.pending(), None);
     Ok(())
 }
@@ -105,12 +135,11 @@ fn a_probe_emits_once_an_interval(rt: HostRuntime) -> Result<(), Fail> {
 #[test]
 fn a_probe_closes_once(rt: HostRuntime) {
     let mut probe = core(7, 0);
-    assert_eq!(rt; probe.observe(true), Ok(true));
-    assert!(rt; probe.pending().is_some());
-    probe.was_put();
-    assert_eq!(rt; probe.close(), Ok(()));
+    assert_observed(&rt, &mut probe, true, Ok(true));
+    put(&rt, &mut probe);
+    assert_closed(&rt, &mut probe, Ok(()));
     assert_eq!(rt; probe.pending(), Some(Note::Close { count: 1 }));
     assert_eq!(rt; (probe.closed(), probe.emitted()), (true, 1));
-    assert_eq!(rt; probe.observe(true), Err(Refusal::Closed));
-    assert_eq!(rt; probe.close(), Err(Refusal::Closed));
+    assert_observed(&rt, &mut probe, true, Err(Refusal::Closed));
+    assert_closed(&rt, &mut probe, Err(Refusal::Closed));
 }

@@ -1,4 +1,5 @@
 use std::alloc::{AllocError, Global};
+use std::process::Abort;
 use std::test::Fail;
 use wcp_clock::{Clock, Item, Note};
 use wcp_model::{
@@ -13,18 +14,28 @@ fn ring_text(alloc: Global, fault: bool) -> Result<Vec<u8>, AllocError> {
     workload_text(alloc, &workload)
 }
 
+/// Compares the text of a ring of two processes and one round.
+fn assert_ring_text(
+    rt: &impl Abort,
+    alloc: Global,
+    fault: bool,
+    text: &[u8],
+) -> Result<(), AllocError> {
+    assert_eq!(rt; ring_text(alloc, fault)?.as_slice(), text);
+    Ok(())
+}
+
+const RING: &[u8] =
+    b"wcp 1\nprocs 2\np 0 true\np 0 false\np 0 send 1\np 1 recv 0\np 1 true\np 1 false\n";
+
+const RING_WITH_FAULT: &[u8] =
+    b"wcp 1\nprocs 2\np 1 true\np 1 false\np 0 true\np 0 false\np 0 send 1\n\
+p 1 recv 0\np 1 true\np 1 false\n";
+
 #[test]
 fn a_ring_of_two(rt: HostRuntime) -> Result<(), Fail> {
-    assert_eq!(rt;
-        ring_text(rt.alloc(), false)?.as_slice(),
-        b"wcp 1\nprocs 2\np 0 true\np 0 false\np 0 send 1\np 1 recv 0\np 1 true\np 1 false\n".as_slice()
-    );
-    assert_eq!(rt;
-        ring_text(rt.alloc(), true)?.as_slice(),
-        b"wcp 1\nprocs 2\np 1 true\np 1 false\np 0 true\np 0 false\np 0 send 1\np 1 recv 0\np 1 true\n\
-            p 1 false\n"
-            .as_slice()
-    );
+    assert_ring_text(&rt, rt.alloc(), false, RING)?;
+    assert_ring_text(&rt, rt.alloc(), true, RING_WITH_FAULT)?;
     Ok(())
 }
 
@@ -36,48 +47,60 @@ fn the_longest_ring(rt: HostRuntime) -> Result<(), Fail> {
     Ok(())
 }
 
-#[test]
-fn a_workload_with_a_tree_of_relays(rt: HostRuntime) -> Result<(), Fail> {
-    let alloc = rt.alloc();
-    let parents = [
-        Parent::Root,
-        Parent::Relay(0),
-        Parent::Relay(0),
-        Parent::Relay(0),
-    ];
-    let plan = Plan {
+/// A leaf for each of three processes, and a relay above the leaves.
+fn three_leaves(alloc: Global) -> Result<Plan, AllocError> {
+    let leaf = Parent::Relay(0);
+    Ok(Plan {
         n: 3,
         cap: 1024,
         hold: 1,
-        parents: Vec::from_slice(alloc, &parents)?,
+        parents: Vec::from_slice(alloc, &[Parent::Root, leaf, leaf, leaf])?,
         attach: Vec::from_slice(alloc, &[Some(1), Some(2), Some(3)])?,
-    };
-    let tasks = [
-        Task {
-            p: 0,
-            action: Action::Observe(true),
-        },
-        Task {
-            p: 0,
-            action: Action::Send(2),
-        },
-        Task {
-            p: 2,
-            action: Action::Recv(0),
-        },
-        Task {
-            p: 1,
-            action: Action::Observe(false),
-        },
-    ];
-    let tasks = Vec::from_slice(alloc, &tasks)?;
+    })
+}
+
+const TASKS: &[Task] = &[
+    Task {
+        p: 0,
+        action: Action::Observe(true),
+    },
+    Task {
+        p: 0,
+        action: Action::Send(2),
+    },
+    Task {
+        p: 2,
+        action: Action::Recv(0),
+    },
+    Task {
+        p: 1,
+        action: Action::Observe(false),
+    },
+];
+
+/// The text of these tasks under the plan of three leaves.
+const TREE: &[u8] =
+    b"wcp 1\nprocs 3\ncap 1024\nhold 1\nrelay 0 root\nrelay 1 0\nrelay 2 0\nrelay 3 0\n\
+attach 0 1\nattach 1 2\nattach 2 3\np 0 true\np 0 send 2\np 2 recv 0\np 1 false\n";
+
+#[test]
+fn a_workload_with_a_tree_of_relays(rt: HostRuntime) -> Result<(), Fail> {
+    let alloc = rt.alloc();
+    let plan = three_leaves(alloc)?;
+    let tasks = Vec::from_slice(alloc, TASKS)?;
     let text = workload_text(alloc, &Workload { plan, tasks })?;
-    assert_eq!(rt;
-        text.as_slice(),
-        b"wcp 1\nprocs 3\ncap 1024\nhold 1\nrelay 0 root\nrelay 1 0\nrelay 2 0\nrelay 3 0\nattach 0 1\nattach 1 2\n\
-            attach 2 3\np 0 true\np 0 send 2\np 2 recv 0\np 1 false\n"
-            .as_slice()
-    );
+    assert_eq!(rt; text.as_slice(), TREE);
+    Ok(())
+}
+
+/// Compares the line of a reply.
+fn assert_line(
+    rt: &impl Abort,
+    alloc: Global,
+    reply: &Reply,
+    line: &[u8],
+) -> Result<(), AllocError> {
+    assert_eq!(rt; reply_text(alloc, reply)?.as_slice(), line);
     Ok(())
 }
 
@@ -95,39 +118,32 @@ const REFUSED: &[(Why, &[u8])] = &[
 #[test]
 fn lines_of_replies(rt: HostRuntime) -> Result<(), Fail> {
     for (why, line) in REFUSED {
-        assert_eq!(rt;
-            reply_text(rt.alloc(), &Reply::Refused(*why))?.as_slice(),
-            *line
-        );
+        assert_line(&rt, rt.alloc(), &Reply::Refused(*why), line)?;
     }
-    assert_eq!(rt;
-        reply_text(rt.alloc(), &Reply::Done)?.as_slice(),
-        b"done\n".as_slice()
-    );
+    assert_line(&rt, rt.alloc(), &Reply::Done, b"done\n")?;
     Ok(())
+}
+
+/// The clock of process 1 of three after an event of process 2 and then one of its own.
+fn clock_of_three(rt: &impl Abort) -> Option<Clock> {
+    let sent = Clock::new(3).tick(2, 1)?;
+    assert_eq!(rt; sent.len(), 3);
+    sent.tick(1, 1)
 }
 
 #[test]
 fn lines_of_items_that_were_taken(rt: HostRuntime) -> Result<(), Fail> {
-    let sent = Clock::new(3).tick(2, 1).ok_or("the clock's end")?;
-    assert_eq!(rt; sent.len(), 3);
-    let clock = sent.tick(1, 1).ok_or("the clock's end")?;
-    let snapshot = Item {
+    let clock = clock_of_three(&rt).ok_or("the clock's end")?;
+    let snapshot = Reply::Took(Item {
         from: 1,
         note: Note::Snap { number: 4, clock },
-    };
-    assert_eq!(rt;
-        reply_text(rt.alloc(), &Reply::Took(snapshot))?.as_slice(),
-        b"took 1 snap 4 0 1 1\n".as_slice()
-    );
-    let close = Item {
+    });
+    assert_line(&rt, rt.alloc(), &snapshot, b"took 1 snap 4 0 1 1\n")?;
+    let close = Reply::Took(Item {
         from: 0,
         note: Note::Close { count: 2 },
-    };
-    assert_eq!(rt;
-        reply_text(rt.alloc(), &Reply::Took(close))?.as_slice(),
-        b"took 0 close 2\n".as_slice()
-    );
+    });
+    assert_line(&rt, rt.alloc(), &close, b"took 0 close 2\n")?;
     Ok(())
 }
 
