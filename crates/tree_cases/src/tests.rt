@@ -3,3 +3,4 @@ mod one_thread;
 mod running;
 mod stamps;
 mod threads;
+mod watches;

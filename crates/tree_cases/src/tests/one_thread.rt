@@ -1,8 +1,10 @@
+use super::watches::open;
+use std::process::Abort;
+use std::sync::Wait;
 use std::test::Fail;
 use wcp_clock::{Clock, Item, Note};
-use wcp_model::{Parent, Plan};
-use wcp_tree::Watch;
-use wcp_tree::opening::watch;
+use wcp_model::Parent;
+use wcp_tree::{Relay, Watch};
 
 /// Snapshot 0 of a process that has neither sent nor received, of two.
 fn first_snap(from: u32) -> Item {
@@ -23,21 +25,23 @@ fn close_mark(from: u32, count: u32) -> Item {
     }
 }
 
+/// Runs the relays of these numbers, from the last on. None meets a fault.
+fn run_relays(rt: &(impl Abort + Wait), mut relays: Vec<Relay>, numbers: &[u32]) {
+    for number in numbers {
+        let relay = relays.pop().expect(rt, "a relay");
+        assert_eq!(rt; relay.number(), *number);
+        assert!(rt; relay.run(rt).fault().is_none());
+    }
+}
+
 #[test]
 fn two_hops_bring_four_items(rt: HostRuntime) -> Result<(), Fail> {
-    let plan = Plan {
-        n: 2,
-        cap: 8,
-        hold: 4,
-        parents: vec![in rt.alloc(); Parent::Root, Parent::Relay(0)]?,
-        attach: vec![in rt.alloc(); Some(1), Some(1)]?,
-    };
-    assert!(rt; plan.check().is_ok());
+    let parents = [Parent::Root, Parent::Relay(0)];
     let Watch {
         mut probes,
-        mut relays,
+        relays,
         inbox,
-    } = watch(rt.alloc(), &plan, 7)?;
+    } = open(&rt, rt.alloc(), (2, 8, 4), &parents, &[Some(1), Some(1)])?;
     assert_eq!(rt; inbox.watch(), 7);
     for _ in 0..2 {
         let mut probe = probes.pop().expect(&rt, "a probe");
@@ -45,11 +49,7 @@ fn two_hops_bring_four_items(rt: HostRuntime) -> Result<(), Fail> {
         assert!(rt; probe.flush());
         assert!(rt; probe.close().is_ok());
     }
-    for number in [1, 0] {
-        let relay = relays.pop().expect(&rt, "a relay");
-        assert_eq!(rt; relay.number(), number);
-        assert!(rt; relay.run(&rt).fault().is_none());
-    }
+    run_relays(&rt, relays, &[1, 0]);
     let mut taker = inbox.into_taker();
     let mut items = Vec::with_capacity(rt.alloc(), 4)?;
     for _ in 0..4 {
@@ -73,30 +73,19 @@ fn two_hops_bring_four_items(rt: HostRuntime) -> Result<(), Fail> {
 /// leaf: the second of these waits until the two before it were passed on.
 #[test]
 fn what_does_not_fit_in_a_hold_comes_behind(rt: HostRuntime) -> Result<(), Fail> {
-    let plan = Plan {
-        n: 2,
-        cap: 8,
-        hold: 2,
-        parents: vec![in rt.alloc(); Parent::Root, Parent::Relay(0), Parent::Relay(0)]?,
-        attach: vec![in rt.alloc(); Some(1), Some(2)]?,
-    };
-    assert!(rt; plan.check().is_ok());
+    let parents = [Parent::Root, Parent::Relay(0), Parent::Relay(0)];
     let Watch {
         mut probes,
-        mut relays,
+        relays,
         inbox,
-    } = watch(rt.alloc(), &plan, 7)?;
+    } = open(&rt, rt.alloc(), (2, 8, 2), &parents, &[Some(1), Some(2)])?;
     let second = probes.pop().expect(&rt, "a probe");
     assert_eq!(rt; second.close_waiting(&rt).emitted(), 0);
     let mut first = probes.pop().expect(&rt, "a probe");
     assert!(rt; first.observe(true));
     first.flush_waiting(&rt);
     assert_eq!(rt; first.close_waiting(&rt).emitted(), 1);
-    for number in [2, 1, 0] {
-        let relay = relays.pop().expect(&rt, "a relay");
-        assert_eq!(rt; relay.number(), number);
-        assert!(rt; relay.run(&rt).fault().is_none());
-    }
+    run_relays(&rt, relays, &[2, 1, 0]);
     let mut taker = inbox.into_taker();
     for item in [close_mark(1, 0), first_snap(0), close_mark(0, 1)] {
         assert_eq!(rt; taker.take(&rt)?.items(), [item].as_slice());

@@ -1,11 +1,12 @@
 use super::threads::{Arrival, Done, jobs_of, run_all, take_all};
+use super::watches::open;
 use std::alloc::{AllocError, Global};
 use std::sync::Wait;
 use std::test::Fail;
 use std::thread::{Threads, join};
 use wcp_clock::MAX_PROCS;
 use wcp_lane::Taker;
-use wcp_model::{Parent, Plan, plain_plan};
+use wcp_model::{Parent, plain_plan};
 use wcp_probe::Refusal;
 use wcp_tree::opening::watch;
 use wcp_tree::{Bundle, LiveProbe, Relay, RelayFault, Watch};
@@ -85,15 +86,8 @@ fn sixteen_probes_under_three_levels_of_relays(rt: HostRuntime) -> Result<(), Fa
     }
     let [left, right] = [Parent::Relay(1), Parent::Relay(2)];
     let root = Parent::Relay(0);
-    let plan = Plan {
-        n: 16,
-        cap: 2,
-        hold: 3,
-        parents: vec![in rt.alloc(); Parent::Root, root, root, left, left, right, right]?,
-        attach,
-    };
-    assert!(rt; plan.check().is_ok());
-    let watch = watch(rt.alloc(), &plan, 7)?;
+    let parents = [Parent::Root, root, root, left, left, right, right];
+    let watch = open(&rt, rt.alloc(), (16, 2, 3), &parents, &attach)?;
     let (done, arrivals) = run_and_take(&rt, rt.alloc(), watch, 16)?;
     for (job, done) in done.iter().enumerate() {
         let whole = if job < 16 {
@@ -110,15 +104,9 @@ fn sixteen_probes_under_three_levels_of_relays(rt: HostRuntime) -> Result<(), Fa
 
 #[test]
 fn probes_close_where_the_relay_above_is_gone(rt: HostRuntime) -> Result<(), Fail> {
-    let plan = Plan {
-        n: 2,
-        cap: 1,
-        hold: 1,
-        parents: vec![in rt.alloc(); Parent::Root, Parent::Relay(0)]?,
-        attach: vec![in rt.alloc(); Some(1), Some(1)]?,
-    };
-    assert!(rt; plan.check().is_ok());
-    let mut watch = watch(rt.alloc(), &plan, 7)?;
+    let parents = [Parent::Root, Parent::Relay(0)];
+    let mut watch = open(&rt, rt.alloc(), (2, 1, 1), &parents, &[Some(1), Some(1)])?;
+    assert_eq!(rt; watch.relays.len(), 2);
     drop(watch.relays.remove(0));
     let (done, arrivals) = run_and_take(&rt, rt.alloc(), watch, 2)?;
     assert_eq!(rt; arrivals, [Arrival::Open(0); MAX_PROCS]);

@@ -1,0 +1,25 @@
+//! Watches of plans that are checked.
+use std::alloc::{AllocError, Global};
+use std::process::Abort;
+use wcp_model::{Parent, Plan};
+use wcp_tree::Watch;
+use wcp_tree::opening::watch;
+
+/// Watch 7 of a plan of these numbers, parents and attachments.
+pub fn open(
+    rt: &impl Abort,
+    alloc: Global,
+    (n, cap, hold): (u32, u32, u32),
+    parents: &[Parent],
+    attach: &[Option<u32>],
+) -> Result<Watch, AllocError> {
+    let plan = Plan {
+        n,
+        cap,
+        hold,
+        parents: Vec::from_slice(alloc, parents)?,
+        attach: Vec::from_slice(alloc, attach)?,
+    };
+    assert!(rt; plan.check().is_ok());
+    watch(alloc, &plan, 7)
+}
