@@ -7,21 +7,13 @@ use Rattle.std.specs.List.{list_any}
 use Rattle.std.proofs.lemmas.Bool.Decides.{nat_tests}
 use Rattle.wcp_lane.specs.Passes.{Numbers}
 use Rattle.wcp_lane.specs.Ends.{PutEnd, TakeEnd, new_putter}
-use Rattle.wcp_lane.proofs.Marks.{contains_with}
+use Rattle.wcp_lane.proofs.Marks.{alone, alone_has, contains_with}
 use Rattle.wcp_ring.specs.declared.sleeper.Bell.{Bell}
 use Rattle.wcp_ring.specs.declared.sleeper.Sleeper.{Sleeper}
 use Rattle.wcp_worker.specs.declared.message.Message.{Message}
 use Rattle.wcp_worker.specs.Lanes.{IsNewLane, messages_from}
 
--- the set of one number
-abbrev pub alone : ℕ → Numbers
-alone p = set.insert set.empty p
-
-has_itself : (p : ℕ) → set.contains (alone p) p ≡ true
-has_itself p =
-    let here : nat_eq p p ≡ true = grind (arith, nat_tests) in
-    contains_with set.empty p p ∙ ap (λ b. b || set.contains {R = nat_cmp} set.empty p) here
-
+-- the set of one number has no other
 has_no_other : (p q : ℕ) → set.contains (alone p) q ≡ true → q ≡ p
 has_no_other p q has =
     let is : (nat_eq q p || false) ≡ true =
@@ -37,13 +29,13 @@ new_ends p count putter taker bell sleeper is members empty =
     record {
       one_lane = ap (λ (e : PutEnd Message Message). e.lane) is;
       puts = record {
-        own = ap (λ (e : PutEnd Message Message). set.contains e.members p) is ∙ has_itself p;
+        own = ap (λ (e : PutEnd Message Message). set.contains e.members p) is ∙ alone_has p;
         counted = subst (λ (e : PutEnd Message Message). 0 ≡ length (messages_from p e.put)) (sym is) refl;
       };
       takes = λ q has.
           let either : (set.contains (alone p) q || false) ≡ true = sym (members q) ∙ has in
-          let alone_has : set.contains (alone p) q ≡ true = grind arith in
-          has_no_other p q alone_has;
+          let has_it : set.contains (alone p) q ≡ true = grind arith in
+          has_no_other p q has_it;
       none_put = ap (λ (e : PutEnd Message Message). e.put) is;
       none_taken = empty;
       room = refl;

@@ -4,7 +4,8 @@ use Rattle.std.specs.List.{list_any}
 use Rattle.std.proofs.lemmas.Grind.{common_steps}
 use Rattle.wcp_lane.specs.Passes.{Numbers}
 use Rattle.wcp_lane.specs.Ends.{new_putter}
-use Rattle.wcp_worker.proofs.NewLanes.{alone, new_ends}
+use Rattle.wcp_lane.proofs.Marks.{alone}
+use Rattle.wcp_worker.proofs.NewLanes.{new_ends}
 use Rattle.wcp_worker.proofs.new_lane.new_lane.Goals as goal
 
 pub returns-in-Some : goal.returns-in-Some
