@@ -40,7 +40,7 @@ pub fn plain_plan(alloc: Global, n: u32, cap: u32, hold: u32) -> Result<Plan, Al
     ensures plain { IfOk result (IsPlainPlan n cap hold) }
     ensures checked { IfOk result (λ plan.
         1 ≤ n → n ≤ most_processes → 1 ≤ cap → cap ≤ most_cap → 1 ≤ hold → hold ≤ most_hold
-            → IsCheckedPlan plan) }
+        → IsCheckedPlan plan) }
 {
     Ok(Plan {
         n,
