@@ -15,7 +15,7 @@ static BACKLOG_REFUSES_SEND: Replay<'static> = Replay {
     tallies: &[(1, 0), (0, 0)],
 };
 
-/// A ring has room for one item.
+/// A link has room for one note.
 static FULL_LINK: Replay<'static> = Replay {
     name: "full_link",
     steps: &[

@@ -120,8 +120,8 @@ pub fn assert_played(
     Ok(())
 }
 
-/// The plan of one relay for the processes of a replay, with room for so many in a ring. Where memory runs out, asking
-/// again makes it.
+/// The plan of one relay for the processes of a replay, with room for so many notes in a link. Where memory runs out,
+/// asking again makes it.
 pub fn one_relay(
     rt: &impl Abort,
     alloc: Global,
@@ -136,7 +136,7 @@ pub fn one_relay(
     }
 }
 
-/// Plays the steps under a plan of one relay, with room for so many in a ring.
+/// Plays the steps under a plan of one relay, with room for so many notes in a link.
 pub fn assert_played_by_one_relay(
     rt: &impl Abort,
     alloc: Global,
