@@ -1,12 +1,4 @@
-use Rattle.std.proofs.Common.{◌≡◌, ℕ, ◌+◌, List, All, length, take, slice_get, Some, refl, sym, ◌∙◌, subst, inl, inr, eq-eqb, arith}
-use Rattle.std.proofs.lemmas.Bool.{cases_lt}
-use Rattle.std.proofs.lemmas.List.{take_all, take-take, length-take}
-use Rattle.std.proofs.lemmas.Option.{slice_get_within, get_or_from_slice_get, same_Some}
-use Rattle.wcp_model.specs.declared.step.Step.TheVariants.{Close}
-use Rattle.wcp_model.specs.declared.workload.Task.{Task}
-use Rattle.wcp_model.specs.Computation.{message_at}
-use Rattle.wcp_model.specs.ProbeLog.{IsAccepted}
-use Rattle.wcp_model.specs.WorkloadComputation.{is_task_of, computation_of, IsFitOrder}
+use Rattle.wcp_model.proofs.Words.{◌≡◌, ℕ, ◌+◌, List, All, length, take, slice_get, Some, refl, sym, ◌∙◌, subst, inl, inr, eq-eqb, arith, cases_lt, take_all, take-take, length-take, slice_get_within, get_or_from_slice_get, same_Some, Close, Task, message_at, IsAccepted, is_task_of, computation_of, IsFitOrder}
 use Rattle.wcp_model.proofs.SamePlace.{element_within, same_place}
 use Rattle.wcp_model.proofs.StepsOfOrder.{step_at, closes_behind, receive_task}
 use Rattle.wcp_model.proofs.MessagesOfOrder.{send_of_receive, delivery_step, message_sent_before}

@@ -1,20 +1,7 @@
-use Rattle.std.proofs.Common.{◌≡◌, ℕ, Bool, cond, None, List, [], ◌∷◌, ◌++◌, length, count_by, refl, sym, ap, ◌∙◌, subst, append_assoc, append-nil, arith}
-use Rattle.std.proofs.lemmas.Bool.{cond_both}
-use Rattle.std.proofs.lemmas.Grind.{flat_map-append}
-use Rattle.std.proofs.lemmas.List.{take_at}
-use Rattle.std.proofs.lemmas.List.Elements.{filter-append}
-use Rattle.std.proofs.lemmas.List.Sums.{sum_by-cons}
-use Rattle.std.proofs.lemmas.Option.{slice_get_past}
-use Rattle.wcp_model.specs.declared.plan.Plan.{Plan}
-use Rattle.wcp_model.specs.declared.step.Step.{Step}
+use Rattle.wcp_model.proofs.Words.{◌≡◌, ℕ, Bool, cond, None, List, [], ◌∷◌, ◌++◌, length, count_by, refl, sym, ap, ◌∙◌, subst, append_assoc, append-nil, arith, cond_both, flat_map-append, take_at, filter-append, sum_by-cons, slice_get_past, Plan, Step, Computation, is_send, is_closed, IsAccepted, first_reason, Answered, accepted_by, accepted, is_event, computation, receivers, event_reasons, IsReply, AreReplies}
 use Rattle.wcp_model.specs.declared.step.Reply.{Reply}
 use Rattle.wcp_model.specs.declared.step.Why.{Why}
 use Rattle.wcp_model.specs.declared.step.Why.TheVariants as why
-use Rattle.wcp_model.specs.Computation.{Computation, is_send}
-use Rattle.wcp_model.specs.Emission.{is_closed}
-use Rattle.wcp_model.specs.ProbeLog.{IsAccepted}
-use Rattle.wcp_model.specs.FirstReason.{first_reason}
-use Rattle.wcp_model.specs.Replies.{Answered, accepted_by, accepted, is_event, computation, receivers, event_reasons, IsReply, AreReplies}
 use Rattle.wcp_model.proofs.AcceptedSteps.{accepted_push}
 use Rattle.wcp_model.proofs.FirstReasons.{none_holds}
 use Rattle.wcp_model.proofs.Growth.{get_behind}

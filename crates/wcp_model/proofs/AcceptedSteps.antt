@@ -1,12 +1,4 @@
-use Rattle.std.proofs.Common.{◌≡◌, ℕ, ◌<◌, true, false, [], ◌∷◌, ◌++◌, length, slice_get, count_by, Some, sym, refl, ap, ◌∙◌, eq-eqb, arith}
-use Rattle.std.proofs.lemmas.List.{length_push, take_at}
-use Rattle.std.proofs.lemmas.List.Folds.{list_any_at, Any-from_list_any}
-use Rattle.std.proofs.lemmas.Option.{slice_get_within, slice_get-get_or, get_or_from_slice_get}
-use Rattle.wcp_model.specs.declared.step.Step.{Step}
-use Rattle.wcp_model.specs.declared.step.Step.TheVariants.{Observe, Recv, Close}
-use Rattle.wcp_model.specs.Computation.{Computation, is_send}
-use Rattle.wcp_model.specs.Emission.{is_close_of, is_closed}
-use Rattle.wcp_model.specs.ProbeLog.{is_step_of, IsAccepted}
+use Rattle.wcp_model.proofs.Words.{◌≡◌, ℕ, ◌<◌, true, false, [], ◌∷◌, ◌++◌, length, slice_get, count_by, Some, sym, refl, ap, ◌∙◌, eq-eqb, arith, length_push, take_at, list_any_at, Any-from_list_any, slice_get_within, slice_get-get_or, get_or_from_slice_get, Step, Observe, Recv, Close, Computation, is_send, is_close_of, is_closed, is_step_of, IsAccepted}
 use Rattle.wcp_model.proofs.Growth.{get_front, get_behind, at_grows, message_grows, true_state_of_front}
 use Rattle.wcp_model.proofs.Predecessors.{local_state}
 use Rattle.wcp_model.proofs.RunningEmissions.{NoneNew}

@@ -1,16 +1,8 @@
 -- What a checked plan keeps.
-use Rattle.std.proofs.Common.{◌≡◌, ◌≢◌, ℕ, true, false, ◌<◌, ◌≤◌, length, take, get_or, slice_get, Option, Some, None, inr, refl, sym, ap, ◌∙◌, eqb-true, eq-eqb, arith}
+use Rattle.wcp_model.proofs.Words.{◌≡◌, ◌≢◌, ℕ, true, false, ◌<◌, ◌≤◌, length, take, get_or, slice_get, Option, Some, None, inr, refl, sym, ap, ◌∙◌, eqb-true, eq-eqb, arith, list_any, list_any_at, slice_get-get_or, slice_get_within, get_or_from_slice_get, most_processes, most_cap, most_hold, most_relays, Relay, Plan, IsCheckedPlan, is_number, is_leaf, leaf_of, parent_of}
 use Rattle.std.specs.Option.{option_flatten}
-use Rattle.std.specs.List.{list_any}
 use Rattle.std.proofs.Math.Seq.{take-length}
-use Rattle.std.proofs.lemmas.List.Folds.{list_any_at}
-use Rattle.std.proofs.lemmas.Option.{slice_get-get_or, slice_get_within, get_or_from_slice_get}
-use Rattle.wcp_clock.specs.Limits.{most_processes, most_cap, most_hold, most_relays}
-use Rattle.wcp_model.specs.declared.plan.Parent.TheVariants.{Relay}
-use Rattle.wcp_model.specs.declared.plan.Plan.{Plan}
 use Rattle.wcp_model.specs.declared.plan.PlanFault.TheVariants as fault
-use Rattle.wcp_model.specs.PlanFault.{IsCheckedPlan}
-use Rattle.wcp_model.specs.Tree.{is_number, is_leaf, leaf_of, parent_of}
 
 -- which relay a number stands for
 pub is_its_number : (relay : ℕ) (o : Option ℕ) → is_number relay o ≡ true → o ≡ Some relay

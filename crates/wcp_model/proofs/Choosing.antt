@@ -1,5 +1,4 @@
-use Rattle.std.proofs.Common.{ℕ, ◌<◌, ◌≤◌, ◌⊎◌, inl, inr, arith}
-use Rattle.std.proofs.lemmas.Bool.{cases_lt}
+use Rattle.wcp_model.proofs.Words.{ℕ, ◌<◌, ◌≤◌, ◌⊎◌, inl, inr, arith, cases_lt}
 
 -- one for each of the first n, from one for each
 module _ {X : Type 0} (none : X) (P : ℕ → X → Type 0) (n : ℕ) (each : (p : ℕ) → p < n → (x : X) × P p x) where

@@ -1,13 +1,6 @@
-use Rattle.std.proofs.Common.{◌≡◌, ◌≢◌, ℕ, suc, zero, ◌<◌, ◌≤◌, min, List, [], ◌∷◌, length, refl, ap, subst, inl, inr, arith, ◌+◌, ◌-◌, ◌⊎◌, sum, ⊎_elim, slice_index}
-use Rattle.std.proofs.lemmas.Bool.{cases_lt}
-use Rattle.wcp_model.specs.declared.state.State.{State}
-use Rattle.wcp_model.specs.Computation.{Computation, communications}
-use Rattle.wcp_model.specs.Order.{HappenedBefore}
+use Rattle.wcp_model.proofs.Words.{◌≡◌, ◌≢◌, ℕ, suc, zero, ◌<◌, ◌≤◌, min, List, [], ◌∷◌, length, refl, ap, subst, inl, inr, arith, ◌+◌, ◌-◌, ◌⊎◌, sum, ⊎_elim, slice_index, cases_lt, State, Computation, communications, HappenedBefore, member, minimum, IsConsistent, IsSatisfyingCut, MinimumLaw, IsLeastCut, LeastCutLaw, nil_from_length, sum_by-cons}
 use Rattle.wcp_model.proofs.Predecessors.{local_state, before_later, before_trans}
 use Rattle.wcp_model.proofs.Reached.{true_state_exists}
-use Rattle.wcp_model.specs.Cut.{member, minimum, IsConsistent, IsSatisfyingCut, MinimumLaw, IsLeastCut, LeastCutLaw}
-use Rattle.std.proofs.lemmas.List.{nil_from_length}
-use Rattle.std.proofs.lemmas.List.Sums.{sum_by-cons}
 use Rattle.wcp_model.proofs.Decided.{Decided, decided_from, some_below_decided}
 
 -- what happened before a state happened before each later state of its process

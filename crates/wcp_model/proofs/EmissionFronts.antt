@@ -1,22 +1,11 @@
-use Rattle.std.proofs.Common.{◌≡◌, ℕ, ◌+◌, ◌<◌, ◌≤◌, true, List, [], ◌++◌, length, drop, slice_index, slice_index_or, ap, ◌∙◌, subst, inl, inr, ⊎_elim, append_assoc, append-nil, length-append, arith, suc, ◌⊎◌, ◌∷◌, Contains, refl, ap₂}
-use Rattle.std.proofs.lemmas.Bool.{cases_Bool, cases_lt}
-use Rattle.std.proofs.lemmas.List.{get_or_append_left, nil_from_length}
-use Rattle.std.proofs.lemmas.List.Elements.{Contains-append_cases, Contains-append_right, Contains-push_cases, Contains-get_or}
-use Rattle.std.proofs.lemmas.List.Folds.{list_any-append}
-use Rattle.std.proofs.lemmas.List.Kept.{AllPairs-from_increasing}
+use Rattle.wcp_model.proofs.Words.{◌≡◌, ℕ, ◌+◌, ◌<◌, ◌≤◌, true, List, [], ◌++◌, length, drop, slice_index, slice_index_or, ap, ◌∙◌, subst, inl, inr, ⊎_elim, append_assoc, append-nil, length-append, arith, suc, ◌⊎◌, ◌∷◌, Contains, refl, ap₂, cases_Bool, cases_lt, get_or_append_left, nil_from_length, Contains-append_cases, Contains-append_right, Contains-push_cases, Contains-get_or, list_any-append, AllPairs-from_increasing, Note, Computation, communications, is_closed, AreEmissions, IsAccepted, IsStateClock, AllPairs}
 use Rattle.std.proofs.lemmas.List.Prefix.{front_from_reads}
-use Rattle.wcp_clock.specs.declared.note.Note.{Note}
-use Rattle.wcp_model.specs.Computation.{Computation, communications}
-use Rattle.wcp_model.specs.Emission.{is_closed, AreEmissions}
-use Rattle.wcp_model.specs.ProbeLog.{IsAccepted}
-use Rattle.wcp_model.specs.StateClock.{IsStateClock}
 use Rattle.wcp_model.proofs.AcceptedSteps.{none_new_after_close}
 use Rattle.wcp_model.proofs.Growth.{clock_grows, true_state_grows, true_state_shrinks}
 use Rattle.wcp_model.proofs.Predecessors.{local_state}
 use Rattle.wcp_model.proofs.RunningEmissions.{snapshots_append, NoneNew}
 use Rattle.wcp_model.proofs.Reached.{true_state_exists}
 use Rattle.wcp_model.proofs.StateClocks.{clock_alone}
-use Rattle.std.specs.List.{AllPairs}
 
 -- each number is below all later ones
 abbrev Rises : List ℕ → Type 0

@@ -1,7 +1,4 @@
-use Rattle.std.proofs.Common.{◌≡◌, ℕ, ◌+◌, ◌<◌, ◌≤◌, true, slice_get, Some, refl, arith, eq-eqb}
-use Rattle.wcp_model.specs.declared.step.Step.{Step}
-use Rattle.wcp_model.specs.declared.step.Step.TheVariants.{Send}
-use Rattle.wcp_model.specs.Computation.{Computation, is_communication_of, is_send, communications, interval_at, message_at}
+use Rattle.wcp_model.proofs.Words.{◌≡◌, ℕ, ◌+◌, ◌<◌, ◌≤◌, true, slice_get, Some, refl, arith, eq-eqb, Step, Send, Computation, is_communication_of, is_send, communications, interval_at, message_at}
 use Rattle.wcp_model.proofs.Places.{count_before-mono, count_before-place}
 use Rattle.wcp_model.proofs.SamePlace.{element_after}
 use Rattle.wcp_model.proofs.Reached.{interval_at-event, interval_at-le}

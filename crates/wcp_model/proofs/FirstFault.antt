@@ -1,9 +1,6 @@
-use Rattle.std.proofs.Common.{◌≡◌, ℕ, ◌<◌, Result, Err, ◌↔◌, Some, slice_get, get_or, Contains, lit<, arith, refl}
-use Rattle.wcp_model.specs.declared.plan.Plan.{Plan}
-use Rattle.wcp_model.specs.declared.plan.PlanFault.{PlanFault}
-use Rattle.wcp_model.specs.declared.plan.PlanFault.TheVariants.{Procs, Cap, Hold, Parent, Depth, Mixed, Childless, Unattached}
+use Rattle.wcp_model.proofs.Words.{◌≡◌, ℕ, ◌<◌, Result, Err, ◌↔◌, Some, slice_get, get_or, Contains, lit<, arith, refl, Plan, PlanFault, Procs, Cap, Hold, Depth, Mixed, Childless, Unattached, HasFault, IsFirstFault, IsCheckedPlan, tree_faults, plan_faults}
+use Rattle.wcp_model.specs.declared.plan.PlanFault.TheVariants.{Parent}
 use Rattle.wcp_model.proofs.FirstReasons.{first_unique}
-use Rattle.wcp_model.specs.PlanFault.{HasFault, IsFirstFault, IsCheckedPlan, tree_faults, plan_faults}
 
 -- what holds of each fault of the list holds of each fault
 pub none_listed : (plan : Plan) → ((k : ℕ) (fault : PlanFault) → k < 8 → slice_get plan_faults k ≡ Some fault → ¬ HasFault plan fault) → IsCheckedPlan plan

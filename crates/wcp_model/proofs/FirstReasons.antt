@@ -1,7 +1,5 @@
 -- The first reason of an ordered list, by what holds and by tests.
-use Rattle.std.proofs.Common.{◌≡◌, ℕ, zero, suc, ◌<◌, Bool, true, false, IsTrue, None, Some, List, [], ◌∷◌, slice_get, refl, ap, arith}
-use Rattle.std.proofs.lemmas.Option.{same_Some}
-use Rattle.wcp_model.specs.FirstReason.{IsFirstReason, first_reason, FirstReasonLaw}
+use Rattle.wcp_model.proofs.Words.{◌≡◌, ℕ, zero, suc, ◌<◌, Bool, true, false, IsTrue, None, Some, List, [], ◌∷◌, slice_get, refl, ap, arith, same_Some, IsFirstReason, first_reason, FirstReasonLaw}
 
 -- there is one first reason
 pub first_unique : {R : Type 0} (Holds : R → Type 0) (reasons : List R) (one other : R) → IsFirstReason Holds reasons one → IsFirstReason Holds reasons other → one ≡ other

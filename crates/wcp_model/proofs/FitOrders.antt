@@ -1,13 +1,7 @@
-use Rattle.std.proofs.Common.{◌≡◌, ℕ, ◌+◌, Bool, true, List, take, filter, count_by, slice_get, Some, refl, sym, ap, ◌∙◌, arith}
-use Rattle.std.proofs.lemmas.Bool.{and_parts, eq-eqb}
-use Rattle.wcp_model.specs.declared.state.State.{State}
+use Rattle.wcp_model.proofs.Words.{◌≡◌, ℕ, ◌+◌, Bool, true, List, take, filter, count_by, slice_get, Some, refl, sym, ap, ◌∙◌, arith, and_parts, eq-eqb, State, Task, communications, interval_at, IsTrueState, IsMessage, DirectlyPrecedes, HappenedBefore, is_task_of, sends, receives, computation_of, IsFitOrder, FitOrderLaw}
 use Rattle.wcp_model.specs.declared.workload.Action.TheVariants as action
-use Rattle.wcp_model.specs.declared.workload.Task.{Task}
-use Rattle.wcp_model.specs.Computation.{communications, interval_at, IsTrueState}
-use Rattle.wcp_model.specs.Order.{IsMessage, DirectlyPrecedes, HappenedBefore}
 use Rattle.wcp_model.specs.Order.DirectlyPrecedes.{Next, Message}
 use Rattle.wcp_model.specs.Order.HappenedBefore.{Direct, Chain}
-use Rattle.wcp_model.specs.WorkloadComputation.{is_task_of, sends, receives, computation_of, IsFitOrder, FitOrderLaw}
 use Rattle.wcp_model.proofs.SamePlace.{SamePlace, same_place, same_count}
 use Rattle.wcp_model.proofs.StepsOfOrder.{communicates, step_at, observe_task, interval_at_is, communications_is}
 use Rattle.wcp_model.proofs.MessagesOfOrder.{IsDelivery, delivery_later, delivery_step, delivery_of}

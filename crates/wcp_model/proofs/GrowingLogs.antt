@@ -1,11 +1,4 @@
-use Rattle.std.proofs.Common.{◌≡◌, ℕ, zero, suc, ◌+◌, ◌⊎◌, List, [], ◌∷◌, ◌++◌, length, slice_get, Some, refl, sym, subst, inl, inr, arith}
-use Rattle.std.specs.List.{filter}
-use Rattle.std.proofs.lemmas.List.Elements.{filter-append}
-use Rattle.wcp_model.specs.declared.step.Step.{Step}
-use Rattle.wcp_model.specs.declared.step.Step.TheVariants.{Send, Recv, Close}
-use Rattle.wcp_model.specs.Computation.{Computation, interval_at}
-use Rattle.wcp_model.specs.ProbeLog.{Call, is_step_of, IsStampOf, IsCallOf, AreCallsOf, IsLogOf, IsAccepted}
-use Rattle.wcp_model.specs.StateClock.{IsStateClock}
+use Rattle.wcp_model.proofs.Words.{◌≡◌, ℕ, zero, suc, ◌+◌, ◌⊎◌, List, [], ◌∷◌, ◌++◌, length, slice_get, Some, refl, sym, subst, inl, inr, arith, filter, filter-append, Step, Send, Recv, Close, Computation, interval_at, Call, is_step_of, IsStampOf, IsCallOf, AreCallsOf, IsLogOf, IsAccepted, IsStateClock}
 use Rattle.wcp_model.proofs.EventPlaces.{event_of_send, event_below}
 use Rattle.wcp_model.proofs.Predecessors.{local_state}
 use Rattle.wcp_model.proofs.Growth.{at_grows, interval_grows, message_grows, clock_grows}

@@ -1,14 +1,4 @@
-use Rattle.std.proofs.lemmas.Grind.{common_steps}
-use Rattle.std.proofs.Common.{◌≡◌, ℕ, zero, suc, ◌+◌, ◌<◌, ◌≤◌, Bool, true, List, [], ◌∷◌, ◌++◌, length, take, slice_get, count_by, Some, refl, sym, ap, ◌∙◌, arith}
-use Rattle.std.proofs.lemmas.List.{take-append-le, take_at}
-use Rattle.std.proofs.lemmas.Option.{slice_get_within}
-use Rattle.wcp_model.specs.declared.state.State.{State}
-use Rattle.wcp_model.specs.declared.step.Step.{Step}
-use Rattle.wcp_model.specs.declared.step.Step.TheVariants.{Observe, Send, Recv}
-use Rattle.wcp_model.specs.Computation.{Computation, IsState, IsTrueState, is_communication_of, is_send, communications, interval_at, message_at}
-use Rattle.wcp_model.specs.Order.{IsMessage, DirectlyPrecedes, HappenedBefore, Direct, Chain}
-use Rattle.wcp_model.specs.ProbeLog.{IsStampOf}
-use Rattle.wcp_model.specs.StateClock.{IsStateClock}
+use Rattle.wcp_model.proofs.Words.{common_steps, ◌≡◌, ℕ, zero, suc, ◌+◌, ◌<◌, ◌≤◌, Bool, true, List, [], ◌∷◌, ◌++◌, length, take, slice_get, count_by, Some, refl, sym, ap, ◌∙◌, arith, take-append-le, take_at, slice_get_within, State, Step, Observe, Send, Recv, Computation, IsState, IsTrueState, is_communication_of, is_send, communications, interval_at, message_at, IsMessage, DirectlyPrecedes, HappenedBefore, Direct, Chain, IsStampOf, IsStateClock}
 use Rattle.wcp_model.proofs.EventPlaces.{event_of_send, event_below}
 use Rattle.wcp_model.proofs.Predecessors.{before_from_state}
 use Rattle.wcp_model.proofs.Places.{count_before-mono}

@@ -1,11 +1,5 @@
-use Rattle.std.proofs.Common.{◌≡◌, ℕ, ◌<◌, ◌≤◌, List, ◌++◌, ap, ◌∙◌, arith, slice_index}
-use Rattle.std.proofs.lemmas.Grind.{flat_map-append}
-use Rattle.std.proofs.lemmas.List.Elements.{filter-append}
-use Rattle.wcp_model.specs.Computation.{Computation}
-use Rattle.wcp_model.specs.Cut.{member, minimum, IsSatisfyingCut}
+use Rattle.wcp_model.proofs.Words.{◌≡◌, ℕ, ◌<◌, ◌≤◌, List, ◌++◌, ap, ◌∙◌, arith, slice_index, flat_map-append, filter-append, Computation, member, minimum, IsSatisfyingCut, IsAccepted, Answered, accepted, is_event, computation}
 use Rattle.wcp_model.specs.Growth.{GrowsInto, GrowthLaw, EarlyFindLaw}
-use Rattle.wcp_model.specs.ProbeLog.{IsAccepted}
-use Rattle.wcp_model.specs.Replies.{Answered, accepted, is_event, computation}
 use Rattle.wcp_model.proofs.AcceptedReplies.{replies_accepted}
 use Rattle.wcp_model.proofs.CutLaws.{slice_index-minimum, minimum_is_satisfying}
 use Rattle.wcp_model.proofs.EmissionFronts.{emissions_grow}

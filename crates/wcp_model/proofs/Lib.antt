@@ -1,3 +1,4 @@
+mod Words
 pub mod CutLaws
 pub mod Decided
 pub mod Places

@@ -1,20 +1,6 @@
-use Rattle.std.proofs.lemmas.Grind.{common_steps}
-use Rattle.std.proofs.Common.{◌≡◌, ◌==◌, ℕ, zero, suc, ◌+◌, ◌-◌, ◌<◌, ◌≤◌, ◌&&◌, Bool, false, cond, Some, List, [], ◌∷◌, ◌++◌, length, count_by, filter, map, slice_get, slice_index, take, drop, All, refl, sym, ap, ap₂, subst, subst₂, inl, inr, eq-eqb, append-nil, ◌∙◌, arith}
-use Rattle.std.specs.List.{range_with_len}
-use Rattle.std.proofs.lemmas.Bool.{and_parts, cases_eq, cases_lt, ne_eqb}
-use Rattle.std.proofs.lemmas.List.{take_all, take_more, take-take, take-map, take-append-drop, length-map, length-take, take_at}
-use Rattle.std.proofs.lemmas.List.Sums.{length-filter, count_by-le-length, sum_by-take-le}
-use Rattle.std.proofs.lemmas.Option.{slice_get-map, slice_get_within, get_or_from_slice_get}
-use Rattle.wcp_model.specs.declared.step.Step.{Step}
+use Rattle.wcp_model.proofs.Words.{common_steps, ◌≡◌, ◌==◌, ℕ, zero, suc, ◌+◌, ◌-◌, ◌<◌, ◌≤◌, ◌&&◌, Bool, false, cond, Some, List, [], ◌∷◌, ◌++◌, length, count_by, filter, map, slice_get, slice_index, take, drop, All, refl, sym, ap, ap₂, subst, subst₂, inl, inr, eq-eqb, append-nil, ◌∙◌, arith, range_with_len, and_parts, cases_eq, cases_lt, ne_eqb, take_all, take_more, take-take, take-map, take-append-drop, length-map, length-take, take_at, length-filter, count_by-le-length, sum_by-take-le, slice_get-map, slice_get_within, get_or_from_slice_get, Step, Action, Task, Computation, is_send, communications, interval_at, IsStateClock, Call, Observed, Sent, Received, Closed, is_step_of, setup, state_of_log, IsStampOf, IsCallOf, AreCallsOf, IsLogOf, IsAccepted, actions_of, IsCallFor, FollowsActions, stamps_got, AreLogsOfTasks, TaskLogLaw, is_task_of, is_send_to, is_receive_from, sends, receives, message_number, step_of, steps_from, computation_of, IsWithin, IsFitOrder}
 use Rattle.wcp_model.specs.declared.step.Step.TheVariants as step
-use Rattle.wcp_model.specs.declared.workload.Action.{Action}
 use Rattle.wcp_model.specs.declared.workload.Action.TheVariants as action
-use Rattle.wcp_model.specs.declared.workload.Task.{Task}
-use Rattle.wcp_model.specs.Computation.{Computation, is_send, communications, interval_at}
-use Rattle.wcp_model.specs.StateClock.{IsStateClock}
-use Rattle.wcp_model.specs.ProbeLog.{Call, Observed, Sent, Received, Closed, is_step_of, setup, state_of_log, IsStampOf, IsCallOf, AreCallsOf, IsLogOf, IsAccepted}
-use Rattle.wcp_model.specs.TaskLog.{actions_of, IsCallFor, FollowsActions, stamps_got, AreLogsOfTasks, TaskLogLaw}
-use Rattle.wcp_model.specs.WorkloadComputation.{is_task_of, is_send_to, is_receive_from, sends, receives, message_number, step_of, steps_from, computation_of, IsWithin, IsFitOrder}
 use Rattle.wcp_model.proofs.AcceptedOrder.{IsFitOrder-itself, All-fit_order, order_accepted}
 use Rattle.wcp_model.proofs.EventPlaces.{event_of_send, event_below}
 use Rattle.wcp_model.proofs.Reached.{interval_at-event}

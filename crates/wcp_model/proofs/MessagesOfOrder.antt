@@ -1,12 +1,6 @@
-use Rattle.std.proofs.Common.{◌≡◌, ℕ, zero, suc, ◌+◌, ◌<◌, ◌==◌, Bool, true, List, [], ◌∷◌, take, filter, count_by, slice_get, Some, refl, sym, ap, ◌∙◌, inl, inr, arith}
-use Rattle.std.proofs.lemmas.Bool.{cases_Bool, and_from, eq-eqb}
-use Rattle.std.proofs.lemmas.List.{length-take, take-take}
-use Rattle.std.proofs.lemmas.Option.{slice_get_within, same_Some}
+use Rattle.wcp_model.proofs.Words.{◌≡◌, ℕ, zero, suc, ◌+◌, ◌<◌, ◌==◌, Bool, true, List, [], ◌∷◌, take, filter, count_by, slice_get, Some, refl, sym, ap, ◌∙◌, inl, inr, arith, cases_Bool, and_from, eq-eqb, length-take, take-take, slice_get_within, same_Some, Task, message_at, sends, receives, message_number, place_after, computation_of, IsFitOrder}
 use Rattle.wcp_model.specs.declared.step.Step.TheVariants as step
 use Rattle.wcp_model.specs.declared.workload.Action.TheVariants as action
-use Rattle.wcp_model.specs.declared.workload.Task.{Task}
-use Rattle.wcp_model.specs.Computation.{message_at}
-use Rattle.wcp_model.specs.WorkloadComputation.{sends, receives, message_number, place_after, computation_of, IsFitOrder}
 use Rattle.wcp_model.proofs.Places.{count_before-mono, count_before-place, count_before-yes}
 use Rattle.wcp_model.proofs.SamePlace.{count_by_yes, count_by_no, count_by-take_more, slice_get-take, element_after}
 use Rattle.wcp_model.proofs.StepsOfOrder.{sends_any, step_at, send_task, receive_task, message_at_is}

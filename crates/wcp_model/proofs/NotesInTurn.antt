@@ -1,15 +1,7 @@
-use Rattle.std.proofs.Common.{◌≡◌, ℕ, ◌+◌, ◌⊎◌, Bool, true, false, List, [], ◌∷◌, ◌++◌, length, fold, refl, sym, ap, ◌∙◌, inl, append-nil, append_assoc, arith}
-use Rattle.std.specs.List.{list_any}
+use Rattle.wcp_model.proofs.Words.{◌≡◌, ℕ, ◌+◌, ◌⊎◌, Bool, true, false, List, [], ◌∷◌, ◌++◌, length, fold, refl, sym, ap, ◌∙◌, inl, append-nil, append_assoc, arith, list_any, length-append, list_any-append, Note, Computation, snapshots_from, is_closed, AreEmissions, Call, ProbeState, after_call, setup, state_of_log, snapshot_clocks, IsNextNote, AreInTurn}
 use Rattle.std.specs.Prelude.{if◌then◌else◌}
-use Rattle.std.proofs.lemmas.List.{length-append}
-use Rattle.std.proofs.lemmas.List.Folds.{list_any-append}
-use Rattle.wcp_clock.specs.declared.note.Note.{Note}
 use Rattle.wcp_clock.specs.declared.note.Note.TheVariants as note
-use Rattle.wcp_model.specs.Computation.{Computation}
-use Rattle.wcp_model.specs.Emission.{snapshots_from, is_closed, AreEmissions}
-use Rattle.wcp_model.specs.ProbeLog.{Call, ProbeState, after_call, setup, state_of_log}
 use Rattle.wcp_clock.specs.Notes.{is_close, place_of}
-use Rattle.wcp_model.specs.Report.{snapshot_clocks, IsNextNote, AreInTurn}
 
 pub snapshot_clocks-append : (notes more : List Note) → snapshot_clocks (notes ++ more) ≡ snapshot_clocks notes ++ snapshot_clocks more
 snapshot_clocks-append [] more = refl

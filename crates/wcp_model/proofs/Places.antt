@@ -1,7 +1,4 @@
-use Rattle.std.proofs.Common.{◌≡◌, ℕ, ◌+◌, ◌≤◌, Bool, true, false, List, take, length, count_by, slice_get, Some, refl, ◌∙◌, ap, arith}
-use Rattle.std.proofs.lemmas.List.{take-take, take_all}
-use Rattle.std.proofs.lemmas.List.Sums.{count_by_more_yes, count_by_more_no, sum_by-take-le}
-use Rattle.std.proofs.lemmas.Option.{slice_get_within, get_or_from_slice_get}
+use Rattle.wcp_model.proofs.Words.{◌≡◌, ℕ, ◌+◌, ◌≤◌, Bool, true, false, List, take, length, count_by, slice_get, Some, refl, ◌∙◌, ap, arith, take-take, take_all, count_by_more_yes, count_by_more_no, sum_by-take-le, slice_get_within, get_or_from_slice_get}
 
 -- how many of the elements before a place pass a test
 abbrev pub count_before : {X : Type 0} → (X → Bool) → List X → ℕ → ℕ

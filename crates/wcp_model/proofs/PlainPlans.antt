@@ -1,13 +1,5 @@
-use Rattle.std.proofs.Common.{◌≡◌, ℕ, ◌≤◌, List, [], ◌∷◌, Some, length, take, slice_get, true, ap, subst, arith}
-use Rattle.std.specs.List.{list_any}
-use Rattle.std.proofs.lemmas.List.{length-replicate, get_or-replicate}
-use Rattle.wcp_model.specs.declared.plan.Parent.{Parent}
-use Rattle.wcp_model.specs.declared.plan.Parent.TheVariants.{Root, Relay}
-use Rattle.wcp_model.specs.declared.plan.Plan.{Plan}
+use Rattle.wcp_model.proofs.Words.{◌≡◌, ℕ, ◌≤◌, List, [], ◌∷◌, Some, length, take, slice_get, true, ap, subst, arith, list_any, length-replicate, get_or-replicate, Parent, Root, Relay, Plan, most_processes, most_cap, most_hold, is_number, plain_attach, IsPlainPlan, IsPath, IsCheckedPlan}
 use Rattle.wcp_model.specs.declared.plan.PlanFault.TheVariants as fault
-use Rattle.wcp_clock.specs.Limits.{most_processes, most_cap, most_hold}
-use Rattle.wcp_model.specs.Tree.{is_number, plain_attach, IsPlainPlan}
-use Rattle.wcp_model.specs.PlanFault.{IsPath, IsCheckedPlan}
 
 -- one relay under the root has no relay as its parent
 pub under_root : (relay above : ℕ) → ¬ (slice_get (Root ∷ []) relay ≡ Some (Relay above))

@@ -1,9 +1,4 @@
-use Rattle.std.proofs.Common.{◌≡◌, ℕ, ◌<◌, ◌≤◌, List, [], ◌∷◌, length, get_or, slice_get, Some, ◌∙◌, ap, inr, ⊎_elim, arith}
-use Rattle.std.proofs.lemmas.Bool.{cases_lt}
-use Rattle.std.proofs.lemmas.Option.{slice_get-get_or, slice_get_within}
-use Rattle.wcp_model.specs.declared.plan.Parent.{Parent}
-use Rattle.wcp_model.specs.declared.plan.Parent.TheVariants.{Root, Relay}
-use Rattle.wcp_model.specs.PlanFault.{HasWrongParent, IsPath}
+use Rattle.wcp_model.proofs.Words.{◌≡◌, ℕ, ◌<◌, ◌≤◌, List, [], ◌∷◌, length, get_or, slice_get, Some, ◌∙◌, ap, inr, ⊎_elim, arith, cases_lt, slice_get-get_or, slice_get_within, Parent, Root, Relay, HasWrongParent, IsPath}
 
 -- where no parent is wrong, each is lower
 pub is_lower : (parents : List Parent) (relay above : ℕ) → ¬ HasWrongParent parents → slice_get parents relay ≡ Some (Relay above) → above < relay

@@ -1,9 +1,4 @@
-use Rattle.std.proofs.Common.{◌≡◌, ◌==◌, true, ℕ, zero, suc, ◌+◌, ◌<◌, ◌≤◌, ◌⊎◌, slice_get, Some, refl, ◌∙◌, subst, ⊎_elim, add-one, arith}
-use Rattle.std.proofs.lemmas.Bool.{cases_lt, eq-eqb}
-use Rattle.wcp_model.specs.declared.state.State.{State}
-use Rattle.wcp_model.specs.declared.step.Step.TheVariants.{Send, Recv}
-use Rattle.wcp_model.specs.Computation.{Computation, IsState, communications, interval_at, message_at}
-use Rattle.wcp_model.specs.Order.{IsMessage, DirectlyPrecedes, Next, Message, HappenedBefore, Direct, Chain}
+use Rattle.wcp_model.proofs.Words.{◌≡◌, ◌==◌, true, ℕ, zero, suc, ◌+◌, ◌<◌, ◌≤◌, ◌⊎◌, slice_get, Some, refl, ◌∙◌, subst, ⊎_elim, add-one, arith, cases_lt, eq-eqb, State, Send, Recv, Computation, IsState, communications, interval_at, message_at, IsMessage, DirectlyPrecedes, Next, Message, HappenedBefore, Direct, Chain}
 use Rattle.wcp_model.proofs.Reached.{AtOrAfter, Carries, state_at, same_state, one_more_step, comes_from, interval_at-event}
 use Rattle.wcp_model.proofs.EventPlaces.{IsEventOf, events_in_order, later_event, event_of, event_below, sent_once}
 

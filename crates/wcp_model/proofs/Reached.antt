@@ -1,14 +1,4 @@
-use Rattle.std.proofs.Common.{◌≡◌, ◌≢◌, ℕ, zero, suc, ◌+◌, ◌<◌, ◌≤◌, ◌⊎◌, true, false, List, length, count_by, slice_get, Some, refl, sym, ◌∙◌, ap, subst, inl, inr, ⊎_elim, arith}
-use Rattle.std.proofs.lemmas.Bool.{cases_lt, cases_eq, cases_Bool, cases_order, eq-eqb}
-use Rattle.std.proofs.lemmas.List.{take_all}
-use Rattle.std.proofs.lemmas.List.Sums.{sum_by-take-le}
-use Rattle.std.proofs.lemmas.Option.{slice_get_within, slice_get_cases}
-use Rattle.wcp_model.specs.declared.state.State.{State}
-use Rattle.wcp_model.specs.declared.step.Step.{Step}
-use Rattle.wcp_model.specs.declared.step.Step.TheVariants.{Observe, Send, Recv}
-use Rattle.wcp_model.specs.Computation.{Computation, is_communication_of, communications, interval_at, message_at, IsState, IsTrueState}
-use Rattle.wcp_model.specs.Order.{DirectlyPrecedes, Next, Message, HappenedBefore, Direct, Chain}
-use Rattle.wcp_model.specs.Cut.{member, IsConsistent, IsSatisfyingCut}
+use Rattle.wcp_model.proofs.Words.{◌≡◌, ◌≢◌, ℕ, zero, suc, ◌+◌, ◌<◌, ◌≤◌, ◌⊎◌, true, false, List, length, count_by, slice_get, Some, refl, sym, ◌∙◌, ap, subst, inl, inr, ⊎_elim, arith, cases_lt, cases_eq, cases_Bool, cases_order, eq-eqb, take_all, sum_by-take-le, slice_get_within, slice_get_cases, State, Step, Observe, Send, Recv, Computation, is_communication_of, communications, interval_at, message_at, IsState, IsTrueState, DirectlyPrecedes, Next, Message, HappenedBefore, Direct, Chain, member, IsConsistent, IsSatisfyingCut}
 use Rattle.wcp_model.proofs.Decided.{Decided, decided_from, some_below_decided, all_below_decided}
 use Rattle.wcp_model.proofs.Places.{count_before-yes, count_before-no, count_before-past, count_before-place}
 use Rattle.wcp_model.proofs.SamePlace.{element_after}

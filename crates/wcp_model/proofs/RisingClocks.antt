@@ -1,15 +1,4 @@
-use Rattle.std.specs.List.Sorted.{IsStrictlyIncreasing}
-use Rattle.std.proofs.Common.{◌≡◌, ◌≢◌, ℕ, ◌+◌, ◌<◌, ◌≤◌, List, [], ◌∷◌, ◌++◌, length, slice_index, get_or, refl, sym, ap, subst, append-nil, arith}
-use Rattle.std.proofs.lemmas.Bool.{cases_eq}
-use Rattle.std.proofs.lemmas.List.{length-append, get_or_append_left, get_or_past}
-use Rattle.std.proofs.lemmas.List.Elements.{Contains-get_or}
-use Rattle.std.proofs.lemmas.List.Kept.{AllPairs-from_increasing}
-use Rattle.wcp_clock.specs.declared.note.Item.{Item}
-use Rattle.wcp_clock.specs.declared.note.Note.{Note}
-use Rattle.wcp_model.specs.Computation.{Computation, IsState}
-use Rattle.wcp_model.specs.Emission.{snapshots_from, AreEmissions}
-use Rattle.wcp_model.specs.Report.{notes_taken, snapshot_clocks, clocks_taken, AreRising, ClocksRise, AreFrontsOfEmissions}
-use Rattle.wcp_model.specs.StateClock.{IsStateClock}
+use Rattle.wcp_model.proofs.Words.{IsStrictlyIncreasing, ◌≡◌, ◌≢◌, ℕ, ◌+◌, ◌<◌, ◌≤◌, List, [], ◌∷◌, ◌++◌, length, slice_index, get_or, refl, sym, ap, subst, append-nil, arith, cases_eq, length-append, get_or_append_left, get_or_past, Contains-get_or, AllPairs-from_increasing, Item, Note, Computation, IsState, snapshots_from, AreEmissions, notes_taken, snapshot_clocks, clocks_taken, AreRising, ClocksRise, AreFrontsOfEmissions, IsStateClock}
 use Rattle.wcp_model.proofs.CutLaws.{happened_before_later}
 use Rattle.wcp_model.proofs.Predecessors.{local_state}
 use Rattle.wcp_model.proofs.Reached.{true_state_exists}

@@ -1,13 +1,5 @@
-use Rattle.std.proofs.Common.{◌≡◌, ◌≢◌, ℕ, ◌+◌, ◌<◌, ◌↔◌, max, List, length, replicate, slice_get, slice_index, slice_set, Some, refl, sym, ◌∙◌, subst, arith}
-use Rattle.std.proofs.lemmas.Bool.{cases_eq}
-use Rattle.std.proofs.lemmas.List.{length-set, length-replicate, get_or-replicate, get_or-set_same, get_or-set_other}
-use Rattle.wcp_clock.specs.Merge.{merged}
+use Rattle.wcp_model.proofs.Words.{◌≡◌, ◌≢◌, ℕ, ◌+◌, ◌<◌, ◌↔◌, max, List, length, replicate, slice_get, slice_index, slice_set, Some, refl, sym, ◌∙◌, subst, arith, cases_eq, length-set, length-replicate, get_or-replicate, get_or-set_same, get_or-set_other, merged, State, Send, Computation, IsState, interval_at, IsMessage, DirectlyPrecedes, Next, Message, HappenedBefore, Direct, CountsBefore, IsStateClock}
 use Rattle.wcp_clock.proofs.Merging.{length-merged, slice_index-merged}
-use Rattle.wcp_model.specs.declared.state.State.{State}
-use Rattle.wcp_model.specs.declared.step.Step.TheVariants.{Send}
-use Rattle.wcp_model.specs.Computation.{Computation, IsState, interval_at}
-use Rattle.wcp_model.specs.Order.{IsMessage, DirectlyPrecedes, Next, Message, HappenedBefore, Direct}
-use Rattle.wcp_model.specs.StateClock.{CountsBefore, IsStateClock}
 use Rattle.wcp_model.proofs.EventPlaces.{event_of_send, event_below}
 use Rattle.wcp_model.proofs.Predecessors.{local_state, only_before_send, only_before_receive}
 use Rattle.wcp_model.proofs.StateClocks.{own_counts}

@@ -1,18 +1,6 @@
-use Rattle.std.proofs.lemmas.Grind.{common_steps}
-use Rattle.std.proofs.Common.{◌≡◌, ℕ, ◌+◌, ◌<◌, ◌⊎◌, true, false, List, [], ◌∷◌, ◌++◌, length, slice_index, slice_index_or, count_by, Contains, refl, sym, ap, ◌∙◌, subst, inl, ⊎_elim, append-nil, arith}
-use Rattle.std.proofs.lemmas.Bool.{cases_lt}
-use Rattle.std.proofs.lemmas.List.{length_push, get_or_append_left, get_or_push, take_at}
-use Rattle.std.proofs.lemmas.List.Elements.{Contains-get_or, Contains-append_left, Contains-push, Contains-push_cases}
-use Rattle.std.proofs.lemmas.Option.{slice_get_within}
-use Rattle.std.specs.List.Sorted.{IsStrictlyIncreasing}
-use Rattle.wcp_clock.specs.declared.note.Note.{Note}
+use Rattle.wcp_model.proofs.Words.{common_steps, ◌≡◌, ℕ, ◌+◌, ◌<◌, ◌⊎◌, true, false, List, [], ◌∷◌, ◌++◌, length, slice_index, slice_index_or, count_by, Contains, refl, sym, ap, ◌∙◌, subst, inl, ⊎_elim, append-nil, arith, cases_lt, length_push, get_or_append_left, get_or_push, take_at, Contains-get_or, Contains-append_left, Contains-push, Contains-push_cases, slice_get_within, IsStrictlyIncreasing, Note, State, Step, Computation, IsTrueState, AreTrueStates, is_communication_of, communications, interval_at, is_closed, snapshots_from, AreEmissions, IsStateClock}
 use Rattle.wcp_clock.specs.declared.note.Note.TheVariants as note
-use Rattle.wcp_model.specs.declared.state.State.{State}
-use Rattle.wcp_model.specs.declared.step.Step.{Step}
 use Rattle.wcp_model.specs.declared.step.Step.TheVariants as step
-use Rattle.wcp_model.specs.Computation.{Computation, IsTrueState, AreTrueStates, is_communication_of, communications, interval_at}
-use Rattle.wcp_model.specs.Emission.{is_closed, snapshots_from, AreEmissions}
-use Rattle.wcp_model.specs.StateClock.{IsStateClock}
 use Rattle.wcp_model.proofs.Predecessors.{local_state}
 use Rattle.wcp_model.proofs.Reached.{true_state_exists}
 use Rattle.wcp_model.proofs.Growth.{get_behind, clock_grows, true_state_grows, true_state_of_front}

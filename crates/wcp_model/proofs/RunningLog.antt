@@ -1,18 +1,5 @@
-use Rattle.std.proofs.Common.{◌≡◌, ℕ, ◌+◌, ◌<◌, true, false, true≢false, cond, List, [], ◌∷◌, ◌++◌, length, fold, filter, slice_index, slice_set, count_by, Some, refl, sym, ap, ◌∙◌, subst, inl, inr, ⊎_elim, append_assoc, append-nil, eq-eqb, le_refl, arith}
-use Rattle.std.proofs.lemmas.Bool.{cases_Bool, false_from_ne_true}
-use Rattle.std.proofs.lemmas.List.{take_at}
-use Rattle.std.proofs.lemmas.List.Folds.{list_any-append}
-use Rattle.std.proofs.lemmas.List.Sums.{sum_by_push}
-use Rattle.std.proofs.lemmas.Option.{slice_get_within}
-use Rattle.wcp_clock.specs.Merge.{merged}
+use Rattle.wcp_model.proofs.Words.{◌≡◌, ℕ, ◌+◌, ◌<◌, true, false, true≢false, cond, List, [], ◌∷◌, ◌++◌, length, fold, filter, slice_index, slice_set, count_by, Some, refl, sym, ap, ◌∙◌, subst, inl, inr, ⊎_elim, append_assoc, append-nil, eq-eqb, le_refl, arith, cases_Bool, false_from_ne_true, take_at, list_any-append, sum_by_push, slice_get_within, merged, Step, Observe, Send, Recv, Close, Computation, IsTrueState, is_communication_of, is_send, communications, interval_at, is_close_of, is_closed, IsMessage, Call, Observed, Sent, Received, Closed, ProbeState, after_call, setup, state_of_log, is_step_of, IsStampOf, IsCallOf, AreCallsOf, IsAccepted, HasClockAndEmissions, LogLaw, IsStateClock}
 use Rattle.wcp_clock.specs.declared.note.Note.TheVariants as note
-use Rattle.wcp_model.specs.declared.step.Step.{Step}
-use Rattle.wcp_model.specs.declared.step.Step.TheVariants.{Observe, Send, Recv, Close}
-use Rattle.wcp_model.specs.Computation.{Computation, IsTrueState, is_communication_of, is_send, communications, interval_at}
-use Rattle.wcp_model.specs.Emission.{is_close_of, is_closed}
-use Rattle.wcp_model.specs.Order.{IsMessage}
-use Rattle.wcp_model.specs.ProbeLog.{Call, Observed, Sent, Received, Closed, ProbeState, after_call, setup, state_of_log, is_step_of, IsStampOf, IsCallOf, AreCallsOf, IsAccepted, HasClockAndEmissions, LogLaw}
-use Rattle.wcp_model.specs.StateClock.{IsStateClock}
 use Rattle.wcp_model.proofs.AcceptedSteps.{close_stands}
 use Rattle.wcp_model.proofs.EventPlaces.{event_of_send, event_below}
 use Rattle.wcp_model.proofs.Predecessors.{local_state}

@@ -1,7 +1,4 @@
-use Rattle.std.proofs.Common.{◌≡◌, ℕ, zero, suc, ◌+◌, ◌<◌, Bool, true, false, List, [], ◌∷◌, length, take, filter, count_by, slice_get, cond, Some, refl, ap, ◌∙◌, inl, inr, arith}
-use Rattle.std.proofs.lemmas.Bool.{cases_Bool}
-use Rattle.std.proofs.lemmas.List.Sums.{length-filter, count_by_more_yes, sum_by-cons}
-use Rattle.std.proofs.lemmas.Option.{slice_get_within, get_or_from_slice_get}
+use Rattle.wcp_model.proofs.Words.{◌≡◌, ℕ, zero, suc, ◌+◌, ◌<◌, Bool, true, false, List, [], ◌∷◌, length, take, filter, count_by, slice_get, cond, Some, refl, ap, ◌∙◌, inl, inr, arith, cases_Bool, length-filter, count_by_more_yes, sum_by-cons, slice_get_within, get_or_from_slice_get}
 
 -- a filter keeps, and a count counts, the first element exactly where it passes
 pub filter_yes : {X : Type 0} (P : X → Bool) (x : X) (xs : List X) → P x ≡ true → filter P (x ∷ xs) ≡ x ∷ filter P xs

@@ -1,13 +1,4 @@
-use Rattle.std.proofs.lemmas.Grind.{common_steps}
-use Rattle.std.proofs.Common.{◌≡◌, ℕ, zero, suc, ◌<◌, ◌≤◌, ◌⊎◌, ◌↔◌, List, map, inl, inr, sym, ◌∙◌, arith}
-use Rattle.std.proofs.lemmas.Bool.{cases_eq}
-use Rattle.std.proofs.lemmas.List.{ext_get_or}
-use Rattle.std.proofs.lemmas.List.FromFn.{length-map-range_with_len, get_or-map-range_with_len}
-use Rattle.std.specs.List.{range_with_len}
-use Rattle.wcp_model.specs.declared.state.State.{State}
-use Rattle.wcp_model.specs.Computation.{Computation, IsState, communications}
-use Rattle.wcp_model.specs.Order.{HappenedBefore}
-use Rattle.wcp_model.specs.StateClock.{CountsBefore, IsStateClock, StatesHaveClocks}
+use Rattle.wcp_model.proofs.Words.{common_steps, ◌≡◌, ℕ, zero, suc, ◌<◌, ◌≤◌, ◌⊎◌, ◌↔◌, List, map, inl, inr, sym, ◌∙◌, arith, cases_eq, ext_get_or, length-map-range_with_len, get_or-map-range_with_len, range_with_len, State, Computation, IsState, communications, HappenedBefore, CountsBefore, IsStateClock, StatesHaveClocks}
 use Rattle.wcp_model.proofs.Predecessors.{local_state, before_rises, before_from_state, before_later, earlier_before}
 
 -- of its own process as many states happened before a state as its interval says

@@ -1,17 +1,6 @@
-use Rattle.std.proofs.lemmas.Grind.{common_steps}
-use Rattle.std.proofs.Common.{◌≡◌, ℕ, zero, suc, ◌+◌, ◌-◌, get_or, ◌<◌, ◌≤◌, ◌&&◌, Bool, true, false, List, [], ◌∷◌, ◌++◌, length, map, take, count_by, slice_get, Some, refl, sym, ap, ◌∙◌, inl, inr, ◌⊎◌, append-nil, append_assoc, arith}
-use Rattle.std.specs.List.{range_with_len}
-use Rattle.std.proofs.lemmas.Bool.{cases_lt}
-use Rattle.std.proofs.lemmas.List.{take_all, length-append, get_or-append-add}
-use Rattle.std.proofs.lemmas.List.FromFn.{length-map-range_with_len, get_or-map-range_with_len}
-use Rattle.std.proofs.lemmas.Option.{slice_get-get_or, slice_get_within, same_Some}
-use Rattle.wcp_model.specs.declared.step.Step.{Step}
+use Rattle.wcp_model.proofs.Words.{common_steps, ◌≡◌, ℕ, zero, suc, ◌+◌, ◌-◌, get_or, ◌<◌, ◌≤◌, ◌&&◌, Bool, true, false, List, [], ◌∷◌, ◌++◌, length, map, take, count_by, slice_get, Some, refl, sym, ap, ◌∙◌, inl, inr, ◌⊎◌, append-nil, append_assoc, arith, range_with_len, cases_lt, take_all, length-append, get_or-append-add, length-map-range_with_len, get_or-map-range_with_len, slice_get-get_or, slice_get_within, same_Some, Step, Action, Task, is_communication_of, is_send, communications, interval_at, message_at, is_task_of, is_any_send, receives, message_number, step_of, steps_from, computation_of}
 use Rattle.wcp_model.specs.declared.step.Step.TheVariants as step
-use Rattle.wcp_model.specs.declared.workload.Action.{Action}
 use Rattle.wcp_model.specs.declared.workload.Action.TheVariants as action
-use Rattle.wcp_model.specs.declared.workload.Task.{Task}
-use Rattle.wcp_model.specs.Computation.{is_communication_of, is_send, communications, interval_at, message_at}
-use Rattle.wcp_model.specs.WorkloadComputation.{is_task_of, is_any_send, receives, message_number, step_of, steps_from, computation_of}
 use Rattle.wcp_model.proofs.Growth.{at_grows}
 use Rattle.wcp_model.proofs.Reached.{interval_at-end}
 use Rattle.wcp_model.proofs.SamePlace.{count_by_no, element_within}

@@ -1,14 +1,6 @@
-use Rattle.std.proofs.Common.{◌≡◌, ℕ, ◌<◌, ◌≤◌, List, [], ◌++◌, length, slice_index, get_or, Contains, refl, sym, ap, ◌∙◌, subst, arith}
-use Rattle.std.proofs.lemmas.List.{length-append, append_assoc, get_or_append_left, get_or_default}
-use Rattle.std.proofs.lemmas.List.Elements.{Contains-get_or}
-use Rattle.wcp_clock.specs.declared.note.Item.{Item}
+use Rattle.wcp_model.proofs.Words.{◌≡◌, ℕ, ◌<◌, ◌≤◌, List, [], ◌++◌, length, slice_index, get_or, Contains, refl, sym, ap, ◌∙◌, subst, arith, length-append, append_assoc, get_or_append_left, get_or_default, Contains-get_or, Item, Computation, IsTrueState, member, minimum, IsSatisfyingCut, IsLeastCut, IsLeastOf, IsReportOf, notes_taken, snapshot_clocks, clocks_taken, IsDrained, IsNamed, IsNamedCut, IsCutByClocks, IsReportOfTaken, IsReportByClocks, AreFrontsOfEmissions, IsStateClock}
 use Rattle.wcp_model.specs.declared.outcome.Report.{Report}
 use Rattle.wcp_model.specs.declared.outcome.Report.TheVariants.{Found, Nothing, Undecided}
-use Rattle.wcp_model.specs.Computation.{Computation, IsTrueState}
-use Rattle.wcp_model.specs.Cut.{member, minimum, IsSatisfyingCut, IsLeastCut, IsLeastOf}
-use Rattle.wcp_model.specs.Outcome.{IsReportOf}
-use Rattle.wcp_model.specs.Report.{notes_taken, snapshot_clocks, clocks_taken, IsDrained, IsNamed, IsNamedCut, IsCutByClocks, IsReportOfTaken, IsReportByClocks, AreFrontsOfEmissions}
-use Rattle.wcp_model.specs.StateClock.{IsStateClock}
 use Rattle.wcp_model.proofs.Choosing.{choice_from_each}
 use Rattle.wcp_model.proofs.CutLaws.{slice_index-minimum, minimum_is_satisfying}
 use Rattle.wcp_model.proofs.NotesInTurn.{snapshot_clocks-append, emissions_in_turn, nothing_follows}

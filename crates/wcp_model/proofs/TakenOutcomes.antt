@@ -1,16 +1,6 @@
-use Rattle.std.proofs.Common.{◌≡◌, ℕ, ◌<◌, List, [], ◌∷◌, ◌++◌, length, All, slice_get, Some, sym, ◌∙◌, subst, append-nil, arith}
-use Rattle.std.proofs.lemmas.Option.{slice_get_within}
-use Rattle.wcp_clock.specs.declared.note.Item.{Item}
+use Rattle.wcp_model.proofs.Words.{◌≡◌, ℕ, ◌<◌, List, [], ◌∷◌, ◌++◌, length, All, slice_get, Some, sym, ◌∙◌, subst, append-nil, arith, slice_get_within, Item, Task, Computation, AreEmissions, IsOutcomeOf, IsWorkloadOutcome, Call, Closed, setup, state_of_log, notes_taken, clocks_taken, IsDrained, IsReportByClocks, ClocksRise, AreFrontsOfEmissions, AreLogsOfTasks, computation_of, IsWithin}
 use Rattle.wcp_model.specs.declared.outcome.Outcome.{Outcome}
 use Rattle.wcp_model.specs.declared.outcome.Tally.{Tally}
-use Rattle.wcp_model.specs.declared.workload.Task.{Task}
-use Rattle.wcp_model.specs.Computation.{Computation}
-use Rattle.wcp_model.specs.Emission.{AreEmissions}
-use Rattle.wcp_model.specs.Outcome.{IsOutcomeOf, IsWorkloadOutcome}
-use Rattle.wcp_model.specs.ProbeLog.{Call, Closed, setup, state_of_log}
-use Rattle.wcp_model.specs.Report.{notes_taken, clocks_taken, IsDrained, IsReportByClocks, ClocksRise, AreFrontsOfEmissions}
-use Rattle.wcp_model.specs.TaskLog.{AreLogsOfTasks}
-use Rattle.wcp_model.specs.WorkloadComputation.{computation_of, IsWithin}
 use Rattle.wcp_model.proofs.AcceptedOrder.{order_accepted}
 use Rattle.wcp_model.proofs.LogsOfTasks.{task_log_law_holds}
 use Rattle.wcp_model.proofs.RisingClocks.{clocks_rise}

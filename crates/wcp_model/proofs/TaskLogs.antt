@@ -1,15 +1,5 @@
-use Rattle.std.proofs.Common.{◌≡◌, ℕ, zero, suc, Bool, true, false, Some, List, [], ◌∷◌, ◌++◌, length, cond, count_by, map, filter, fold, slice_get, take, refl, sym, ap, ◌∙◌, arith}
-use Rattle.std.specs.List.{scan, zip}
-use Rattle.std.proofs.lemmas.Option.{slice_get-map}
+use Rattle.wcp_model.proofs.Words.{◌≡◌, ℕ, zero, suc, Bool, true, false, Some, List, [], ◌∷◌, ◌++◌, length, cond, count_by, map, filter, fold, slice_get, take, refl, sym, ap, ◌∙◌, arith, scan, zip, slice_get-map, append-nil, map-append, map_push, length-map, filter-append, fold-append, Action, Task, Call, ProbeSetup, after_call, state_of_log, actions_of, IsCallFor, FollowsActions, beside, clocks_after, stamp_of, stamps_sent, stamps_got, is_task_of, is_send_to, is_receive_from}
 use Rattle.wcp_model.proofs.SamePlace.{count_by_yes}
-use Rattle.std.proofs.lemmas.List.{append-nil, map-append, map_push, length-map}
-use Rattle.std.proofs.lemmas.List.Elements.{filter-append}
-use Rattle.std.proofs.lemmas.List.Sums.{fold-append}
-use Rattle.wcp_model.specs.declared.workload.Action.{Action}
-use Rattle.wcp_model.specs.declared.workload.Task.{Task}
-use Rattle.wcp_model.specs.ProbeLog.{Call, ProbeSetup, after_call, state_of_log}
-use Rattle.wcp_model.specs.TaskLog.{actions_of, IsCallFor, FollowsActions, beside, clocks_after, stamp_of, stamps_sent, stamps_got}
-use Rattle.wcp_model.specs.WorkloadComputation.{is_task_of, is_send_to, is_receive_from}
 
 -- one more element, which is kept or not
 kept-push : {X Y : Type 0} (f : X → Y) (keeps : X → Bool) (xs : List X) (x : X) → map f (filter keeps (xs ++ x ∷ [])) ≡ map f (filter keeps xs) ++ cond (keeps x) (f x ∷ []) []

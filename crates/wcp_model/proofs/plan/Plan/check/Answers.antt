@@ -1,7 +1,5 @@
-use Rattle.std.proofs.Common.{refl, arith}
-use Rattle.std.proofs.lemmas.Option.{slice_get-get_or}
-use Rattle.wcp_model.specs.declared.plan.PlanFault.TheVariants.{Procs, Parent}
-use Rattle.wcp_model.specs.PlanFault.{plan_faults}
+use Rattle.wcp_model.proofs.Words.{refl, arith, slice_get-get_or, Procs, plan_faults}
+use Rattle.wcp_model.specs.declared.plan.PlanFault.TheVariants.{Parent}
 use Rattle.wcp_model.proofs.FirstFault.{none_listed, after_parent, first_alone}
 use Rattle.wcp_model.proofs.plan.Plan.check.Goals as goal
 

@@ -1,6 +1,4 @@
-use Rattle.std.proofs.Common.{◌≡◌, ℕ, ◌<◌, Some, slice_get}
-use Rattle.wcp_model.specs.declared.plan.PlanFault.{PlanFault}
-use Rattle.wcp_model.specs.PlanFault.{HasFault, plan_faults}
+use Rattle.wcp_model.proofs.Words.{◌≡◌, ℕ, ◌<◌, Some, slice_get, PlanFault, HasFault, plan_faults}
 use Rattle.wcp_model.proofs.plan.Plan.check.Given as goal
 
 abbrev pub invariant-loop-fault : goal.invariant-loop-fault

@@ -1,6 +1,4 @@
-use Rattle.std.proofs.Common.{sym, ◌∙◌, arith}
-use Rattle.std.proofs.lemmas.Bool.{false≢true}
-use borrow.Author.Count.{below_more}
+use Rattle.wcp_model.proofs.Words.{sym, ◌∙◌, arith, false≢true, below_more}
 use Rattle.wcp_model.proofs.plan.Plan.has_childless_relay.Goals as goal
 use Rattle.wcp_model.proofs.plan.Plan.has_childless_relay.Goals.{else-not-is_leaf-via-then-not-is_leaf+else-not-serves_relay, else-not-is_leaf-via-else-not-is_leaf}
 

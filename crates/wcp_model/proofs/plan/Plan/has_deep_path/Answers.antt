@@ -1,7 +1,4 @@
-use Rattle.std.proofs.Common.{ℕ, List, ◌∷◌, refl, subst, arith}
-use Rattle.std.proofs.lemmas.Bool.{false≢true}
-use Rattle.wcp_model.specs.declared.plan.Parent.{Parent}
-use Rattle.wcp_model.specs.PlanFault.{IsPath}
+use Rattle.wcp_model.proofs.Words.{ℕ, List, ◌∷◌, refl, subst, arith, false≢true, Parent, IsPath}
 use Rattle.wcp_model.proofs.PlanPaths.{no_deep_path}
 use Rattle.wcp_model.proofs.plan.Plan.has_deep_path.Goals as goal
 

@@ -1,5 +1,4 @@
-use Rattle.std.proofs.Common.{ℕ, ◌<◌, ◌≤◌, List, ◌∷◌, length}
-use Rattle.wcp_model.specs.PlanFault.{IsPath}
+use Rattle.wcp_model.proofs.Words.{ℕ, ◌<◌, ◌≤◌, List, ◌∷◌, length, IsPath}
 use Rattle.wcp_model.proofs.plan.Plan.has_deep_path.Given as goal
 
 abbrev pub invariant-loop-relay : goal.invariant-loop-relay

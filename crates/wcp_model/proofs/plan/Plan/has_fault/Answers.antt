@@ -1,5 +1,4 @@
-use Rattle.std.proofs.Common.{Contains, refl, sym, subst, arith}
-use Rattle.wcp_model.specs.PlanFault.{tree_faults}
+use Rattle.wcp_model.proofs.Words.{Contains, refl, sym, subst, arith, tree_faults}
 use Rattle.wcp_model.proofs.plan.Plan.has_fault.Goals as goal
 
 pub has_childless_relay-requires : goal.has_childless_relay-requires

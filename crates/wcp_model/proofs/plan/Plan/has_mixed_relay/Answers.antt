@@ -1,6 +1,4 @@
-use Rattle.std.proofs.Common.{sym, ◌∙◌, arith}
-use Rattle.std.proofs.lemmas.Bool.{false≢true, iff_false}
-use borrow.Author.Count.{below_more}
+use Rattle.wcp_model.proofs.Words.{sym, ◌∙◌, arith, false≢true, iff_false, below_more}
 use Rattle.wcp_model.proofs.plan.Plan.has_mixed_relay.Goals as goal
 use Rattle.wcp_model.proofs.plan.Plan.has_mixed_relay.Goals.{else-is_leaf-via-then-is_leaf+else-serves_relay, else-is_leaf-via-else-is_leaf}
 

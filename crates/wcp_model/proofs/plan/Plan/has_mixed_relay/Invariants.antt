@@ -1,6 +1,4 @@
-use Rattle.std.proofs.Common.{ℕ, ◌<◌, IsTrue}
-use Rattle.wcp_model.specs.PlanFault.{ServesRelay}
-use Rattle.wcp_model.specs.Tree.{is_leaf}
+use Rattle.wcp_model.proofs.Words.{ℕ, ◌<◌, IsTrue, ServesRelay, is_leaf}
 use Rattle.wcp_model.proofs.plan.Plan.has_mixed_relay.Given as goal
 
 abbrev pub invariant-loop-relay : goal.invariant-loop-relay

@@ -1,5 +1,4 @@
-use Rattle.std.proofs.Common.{◌≡◌, ℕ, ◌<◌, slice_get, Some}
-use Rattle.wcp_model.specs.declared.plan.Parent.TheVariants.{Relay}
+use Rattle.wcp_model.proofs.Words.{◌≡◌, ℕ, ◌<◌, slice_get, Some, Relay}
 use Rattle.wcp_model.proofs.plan.Plan.has_wrong_parent.Given as goal
 
 abbrev pub invariant-loop-relay : goal.invariant-loop-relay
