@@ -1,14 +1,6 @@
 -- How many items of each number were put or taken.
-use Rattle.std.proofs.Common.{◌≡◌, ◌≢◌, ℕ, ◌+◌, ◌<◌, List, [], ◌∷◌, ◌++◌, length, set, replicate, refl, sym, ap, ◌∙◌, ⊎_elim, arith, length-append}
-use Rattle.std.specs.Prelude.{All, Bool}
-use Rattle.std.proofs.lemmas.List.{length-set, get_or-set_same, get_or-set_other, get_or-replicate, append-nil}
-use Rattle.std.proofs.lemmas.Bool.{cases_eq}
-use Rattle.wcp_clock.specs.Limits.{most_processes}
-use Rattle.wcp_model.specs.LaneRule.{items_from}
-use Rattle.wcp_lane.specs.Message.{AllMayFollow}
-use Rattle.wcp_lane.specs.Passes.{Numbers}
+use Rattle.wcp_lane.proofs.Words.{◌≡◌, ◌≢◌, ℕ, ◌+◌, ◌<◌, List, [], ◌∷◌, ◌++◌, length, set, replicate, refl, sym, ap, ◌∙◌, ⊎_elim, arith, length-append, All, Bool, length-set, get_or-set_same, get_or-set_other, get_or-replicate, append-nil, cases_eq, most_processes, items_from, AllMayFollow, Numbers, AreCounts, IsSpanOf}
 use Rattle.wcp_lane.specs.declared.counts.Span.{Span}
-use Rattle.wcp_lane.specs.Ends.{AreCounts, IsSpanOf}
 use Rattle.wcp_lane.proofs.Lists.{items_from-append, items_from-all, items_from-none}
 
 module _ {I : Type 0} (origin : I → ℕ) where

@@ -1,13 +1,6 @@
 -- What an end knows after a step.
-use Rattle.std.proofs.Common.{◌≡◌, ℕ, ◌<◌, true, List, [], ◌∷◌, ◌++◌, length, sym, ap, ◌∙◌, arith, length-append}
+use Rattle.wcp_lane.proofs.Words.{◌≡◌, ℕ, ◌<◌, true, List, [], ◌∷◌, ◌++◌, length, sym, ap, ◌∙◌, arith, length-append, append-nil, most_processes, items_from, Hand, flat_map, Numbers, putter, taker, joined, with_put, with_taken, IsRest, IsBalanced, put_by, unowned_by, AreCounts}
 use Rattle.std.specs.FinSet as sets
-use Rattle.std.proofs.lemmas.List.{append-nil}
-use Rattle.wcp_clock.specs.Limits.{most_processes}
-use Rattle.wcp_model.specs.LaneRule.{items_from}
-use Rattle.wcp_lane.specs.declared.passes.Hand.{Hand}
-use Rattle.std.specs.List.{flat_map}
-use Rattle.wcp_lane.specs.Passes.{Numbers, putter, taker, joined, with_put, with_taken, IsRest, IsBalanced}
-use Rattle.wcp_lane.specs.Ends.{put_by, unowned_by, AreCounts}
 use Rattle.wcp_lane.proofs.Lists.{items-push}
 
 module _ {M I : Type 0} (items : M → List I) (origin : I → ℕ) where

@@ -1,3 +1,4 @@
+mod Words
 pub mod Counting
 pub mod Hands
 pub mod Lists

@@ -1,16 +1,6 @@
 -- Lists that are read by their places, and the items of one origin in them.
-use Rattle.std.proofs.Common.{◌≡◌, ◌≢◌, ◌⊎◌, ℕ, zero, suc, ◌<◌, ◌≤◌, true, false, List, [], ◌∷◌, ◌++◌, length, set, sym, refl, ap, ◌∙◌, inl, inr, ⊎_elim, arith, length-append}
-use Rattle.std.specs.Prelude.{◌==◌, All}
-use Rattle.std.specs.List.{flat_map}
-use Rattle.std.proofs.lemmas.Grind.{flat_map-append}
-use Rattle.std.proofs.lemmas.Bool.{cases_lt}
-use Rattle.std.proofs.lemmas.Bool.Decides.{nat_tests}
-use Rattle.std.proofs.lemmas.List.{append-nil, drop_all, set_comm}
-use Rattle.std.proofs.lemmas.List.Elements.{filter-append}
-use mathlib.Core.Option.{some, some-injective, some-ne-none}
-use lib.ListN.{get_elem?}
+use Rattle.wcp_lane.proofs.Words.{◌≡◌, ◌≢◌, ◌⊎◌, ℕ, zero, suc, ◌<◌, ◌≤◌, true, false, List, [], ◌∷◌, ◌++◌, length, set, sym, refl, ap, ◌∙◌, inl, inr, ⊎_elim, arith, length-append, ◌==◌, All, flat_map, flat_map-append, cases_lt, nat_tests, append-nil, drop_all, set_comm, filter-append, some, some-injective, some-ne-none, get_elem?, items_from}
 use Rattle.atomic_table.proofs.Lists.{set_else, set_again}
-use Rattle.wcp_model.specs.LaneRule.{items_from}
 
 module _ {A : Type 0} where
   pub not_empty : (before : List A) (x : A) (behind : List A) → [] ≡ before ++ x ∷ behind → ⊥

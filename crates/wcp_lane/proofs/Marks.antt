@@ -1,15 +1,7 @@
 -- Sets of numbers, by the marks that say which numbers are in them.
-use Rattle.std.proofs.Common.{◌≡◌, ℕ, ◌<◌, Bool, true, false, ◌||◌, List, length, get_or, set, ap, ◌∙◌, arith}
-use Rattle.std.specs.Prelude.{nat_eq}
-use Rattle.std.specs.Ordering.{nat_cmp}
-use Rattle.std.specs.Cmp.{unsigned_tied, nat_cmp_total}
+use Rattle.wcp_lane.proofs.Words.{◌≡◌, ℕ, ◌<◌, Bool, true, false, ◌||◌, List, length, get_or, set, ap, ◌∙◌, arith, nat_eq, nat_cmp, unsigned_tied, nat_cmp_total, nat_tests, get_or-set_same, get_or-set_other, get_or_past, most_processes, AreProcessNumbers, set_of, contains-marks}
 use Rattle.std.specs.FinSet as sets
-use Rattle.std.proofs.lemmas.Bool.Decides.{nat_tests}
-use Rattle.std.proofs.lemmas.List.{get_or-set_same, get_or-set_other, get_or_past}
 use Rattle.std.specs.FinMap.{nat_cmp-IsAntisymmetric}
-use Rattle.wcp_clock.specs.Limits.{most_processes}
-use Rattle.wcp_lane.specs.ProcessNumbers.{AreProcessNumbers}
-use Rattle.wcp_lane.specs.Numbers.{set_of, contains-marks}
 
 -- the numbers of a set of so many marks are those of processes
 pub process_numbers : (marks : List Bool) (numbers : sets.FinSet nat_cmp) → length marks ≡ most_processes → set_of marks ≡ numbers → AreProcessNumbers numbers

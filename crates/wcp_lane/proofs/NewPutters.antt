@@ -1,7 +1,6 @@
 -- The putters of a new lane.
-use Rattle.std.proofs.Common.{◌≡◌, ℕ, refl, arith}
+use Rattle.wcp_lane.proofs.Words.{◌≡◌, ℕ, refl, arith, LaneName, PutEnd, new_putter}
 use Rattle.wcp_clock.specs.declared.note.Item.{Item}
-use Rattle.wcp_lane.specs.Ends.{LaneName, PutEnd, new_putter}
 use Rattle.wcp_lane.specs.Snapshots.{HasPut}
 use Rattle.wcp_lane.proofs.Marks.{alone, alone_has}
 

@@ -1,14 +1,6 @@
 -- The sets of a lane's putters.
-use Rattle.std.proofs.Common.{◌≡◌, ℕ, ◌<◌, Bool, true, false, not, ◌&&◌, ◌||◌, List, length, get_or, take, arith}
-use Rattle.std.specs.Prelude.{All}
-use Rattle.std.specs.List.{list_any}
+use Rattle.wcp_lane.proofs.Words.{◌≡◌, ℕ, ◌<◌, Bool, true, false, not, ◌&&◌, ◌||◌, List, length, get_or, take, arith, All, list_any, false_from_ne_true, get_or-take, get_or_read, length-take-le, list_any_none, AreApart, AreProcessNumbers, Numbers}
 use Rattle.std.specs.FinSet as sets
-use Rattle.std.proofs.lemmas.Bool.{false_from_ne_true}
-use Rattle.std.proofs.lemmas.List.{get_or-take, get_or_read, length-take-le}
-use Rattle.std.proofs.lemmas.List.Folds.{list_any_none}
-use Rattle.wcp_lane.specs.Owners.{AreApart}
-use Rattle.wcp_lane.specs.ProcessNumbers.{AreProcessNumbers}
-use Rattle.wcp_lane.specs.Passes.{Numbers}
 
 -- whether a number is in one of these sets
 abbrev pub any_has : ℕ → List Numbers → Bool

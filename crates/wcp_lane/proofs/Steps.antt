@@ -1,24 +1,10 @@
 -- Each step on a lane keeps the lane rule.
-use Rattle.std.proofs.Common.{◌≡◌, ◌≢◌, ℕ, zero, suc, ◌<◌, Bool, true, false, true≢false, not, ◌&&◌, List, [], ◌∷◌, ◌++◌, length, get_or, set, cond, sym, refl, ap, ◌∙◌, subst, ⊎_elim, arith, append_assoc}
-use Rattle.std.specs.Prelude.{All, nat_eq}
+use Rattle.wcp_lane.proofs.Words.{◌≡◌, ◌≢◌, ℕ, zero, suc, ◌<◌, Bool, true, false, true≢false, not, ◌&&◌, List, [], ◌∷◌, ◌++◌, length, get_or, set, cond, sym, refl, ap, ◌∙◌, subst, ⊎_elim, arith, append_assoc, All, nat_eq, nat_cmp_total, flat_map, list_any, range_with_len, cases_eq, cases_Bool, agree_below_at, false_from_ne_true, not-false, and_right, flat_map-append, append-nil, take_at, drop_at, All-append, All-cons, All-take, All-drop, some, get_elem?, most_processes, IsNext, AreInSequence, items_from, Hand, AllMayFollow, AreProcessNumbers, Numbers, putter, taker, nobody, without, joined, with_put, with_taken, taken_of, put_of, IsPut, IsTaken, IsBalanced, IsRuled}
 use Rattle.std.specs.FinSet as sets
-use Rattle.std.specs.Cmp.{nat_cmp_total}
-use Rattle.std.specs.List.{flat_map, list_any, range_with_len}
-use Rattle.std.proofs.lemmas.Bool.{cases_eq, cases_Bool, agree_below_at, false_from_ne_true, not-false, and_right}
 use Rattle.std.proofs.Math.Bool.{and-true}
-use Rattle.std.proofs.lemmas.Grind.{flat_map-append}
-use Rattle.std.proofs.lemmas.List.{append-nil, take_at, drop_at}
-use Rattle.std.proofs.lemmas.List.Elements.{All-append, All-cons, All-take, All-drop}
-use mathlib.Core.Option.{some}
-use lib.ListN.{get_elem?}
 use Rattle.crossbeam_channel.specs.Fifo.{Pushes, Pops, Forks, Merges, Learns}
-use Rattle.wcp_clock.specs.Limits.{most_processes}
-use Rattle.wcp_model.specs.LaneRule.{IsNext, AreInSequence, items_from}
-use Rattle.wcp_lane.specs.declared.passes.Hand.{Hand}
 use Rattle.wcp_lane.specs.declared.passes.Home.{Home}
-use Rattle.wcp_lane.specs.Message.{AllMayFollow}
-use Rattle.wcp_lane.specs.ProcessNumbers.{AreProcessNumbers}
-use Rattle.wcp_lane.specs.Passes.{Numbers, all_numbers, putter, taker, nobody, without, joined, with_put, with_taken, taken_of, put_of, IsPut, IsTaken, IsBalanced, IsRuled}
+use Rattle.wcp_lane.specs.Passes.{all_numbers}
 use Rattle.wcp_lane.proofs.Lists.{not_empty, of_snoc, flat_map-set_same, flat_map-set_own, flat_map-one, flat_map-merge, items_from-append, items_from-own, items_from-other, items_from-none, items-push, items_from-push}
 
 pub all_numbers-contains : (p : ℕ) → p < most_processes → sets.contains all_numbers p ≡ true

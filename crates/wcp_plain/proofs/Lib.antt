@@ -1,2 +1,3 @@
+mod Words
 pub mod OnePass
 pub mod Turns

@@ -1,15 +1,7 @@
-use Rattle.std.proofs.Common.{◌≡◌, ◌==◌, ℕ, ◌+◌, ◌<◌, ◌≤◌, ◌⊎◌, ◌↔◌, Bool, true, false, List, [], ◌∷◌, ◌++◌, length, slice_get, Some, Contains, IsTrue, if◌then◌else◌, refl, sym, ◌∙◌, ap, subst, inl, inr, ⊎_elim, arith}
-use Rattle.std.proofs.lemmas.Bool.{cases_lt, cases_eq, eq-eqb, ne_eqb}
+use Rattle.wcp_plain.proofs.Words.{◌≡◌, ◌==◌, ℕ, ◌+◌, ◌<◌, ◌≤◌, ◌⊎◌, ◌↔◌, Bool, true, false, List, [], ◌∷◌, ◌++◌, length, slice_get, Some, Contains, IsTrue, if◌then◌else◌, refl, sym, ◌∙◌, ap, subst, inl, inr, ⊎_elim, arith, cases_lt, cases_eq, eq-eqb, ne_eqb, slice_get_within, same_Some, State, Step, Send, Recv, Computation, is_communication_of, is_send, interval_at, message_at, HappenedBefore, state_at, AtOrAfter, Carries, same_state, interval_at-event, interval_at-other, before_next, before_receive, comes_from}
 use Rattle.std.proofs.lemmas.List.{length_push}
-use Rattle.std.proofs.lemmas.Option.{slice_get_within, same_Some}
-use Rattle.wcp_model.specs.declared.state.State.{State}
-use Rattle.wcp_model.specs.declared.step.Step.{Step}
-use Rattle.wcp_model.specs.declared.step.Step.TheVariants.{Send, Recv}
-use Rattle.wcp_model.specs.Computation.{Computation, is_communication_of, is_send, interval_at, message_at}
-use Rattle.wcp_model.specs.Order.{HappenedBefore}
 use Rattle.wcp_model.proofs.Growth.{get_front, get_behind}
 use Rattle.wcp_model.proofs.Places.{count_before-yes, count_before-no, count_before-mono}
-use Rattle.wcp_model.proofs.Reached.{state_at, AtOrAfter, Carries, same_state, interval_at-event, interval_at-other, before_next, before_receive, comes_from}
 
 -- no message is carried before it is sent
 carries_below : (c : Computation) (s : State) (place message : ℕ) → Carries c s place message → message < message_at c place

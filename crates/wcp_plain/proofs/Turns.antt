@@ -1,15 +1,8 @@
 use Rattle.std.proofs.lemmas.Grind.{common_steps}
-use Rattle.std.proofs.Common.{◌≡◌, ◌==◌, ℕ, ◌+◌, ◌<◌, ◌⊎◌, ◌↔◌, Bool, List, length, true, false, [], ◌∷◌, ◌++◌, slice_get, Some, Contains, IsTrue, if◌then◌else◌, ◌∙◌, ap, subst, arith}
-use Rattle.std.proofs.lemmas.Bool.{eq-eqb, ne_eqb}
+use Rattle.wcp_plain.proofs.Words.{◌≡◌, ◌==◌, ℕ, ◌+◌, ◌<◌, ◌⊎◌, ◌↔◌, Bool, List, length, true, false, [], ◌∷◌, ◌++◌, slice_get, Some, Contains, IsTrue, if◌then◌else◌, ◌∙◌, ap, subst, arith, eq-eqb, ne_eqb, State, Step, Send, Recv, Computation, is_communication_of, is_send, interval_at, HappenedBefore, same_state, before_to_state, state_at, interval_at-event, interval_at-other}
 use Rattle.std.specs.declared.alloc.Global.{Global}
 use Rattle.std.specs.declared.vec.Vec.{Vec}
 use Rattle.wcp_plain.specs.declared.order.Pass.{Pass}
-use Rattle.wcp_model.specs.declared.state.State.{State}
-use Rattle.wcp_model.specs.declared.step.Step.{Step}
-use Rattle.wcp_model.specs.declared.step.Step.TheVariants.{Send, Recv}
-use Rattle.wcp_model.specs.Computation.{Computation, is_communication_of, is_send, interval_at}
-use Rattle.wcp_model.specs.Order.{HappenedBefore}
-use Rattle.wcp_model.proofs.Reached.{same_state, before_to_state, state_at, interval_at-event, interval_at-other}
 use Rattle.wcp_plain.proofs.OnePass.{HasReached, IsPass, pass_other, sent_is, received_is, pass_send, pass_receive}
 
 -- what is known once an event of a process was read, and before the process enters the state that it begins: what the pass

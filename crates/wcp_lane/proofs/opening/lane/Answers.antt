@@ -1,7 +1,6 @@
-use Rattle.std.proofs.Common.{rules, ◌≡◌, ℕ, zero, suc, ◌<◌, [], ◌∷◌, slice_get, Some, refl, arith}
+use Rattle.wcp_lane.proofs.Words.{rules, ◌≡◌, ℕ, zero, suc, ◌<◌, [], ◌∷◌, slice_get, Some, refl, arith, AreOwners, IsCapacity, HasLaneFault}
 use Rattle.wcp_lane.specs.declared.fault.LaneFault.{LaneFault}
 use Rattle.wcp_lane.specs.declared.fault.LaneFault.TheVariants.{Cap, Owners, NoMemory}
-use Rattle.wcp_lane.specs.Owners.{AreOwners, IsCapacity, HasLaneFault}
 use Rattle.wcp_lane.proofs.opening.lane.Goals as goal
 
 pub returns-in-Err-clause-fault : goal.returns-in-Err-clause-fault

@@ -1,12 +1,5 @@
-use Rattle.std.proofs.Common.{◌≡◌, ◌+◌, not, ◌||◌, take, map, List, sym, ap, ◌∙◌, arith, [], ◌∷◌, ◌++◌}
+use Rattle.wcp_lane.proofs.Words.{◌≡◌, ◌+◌, not, ◌||◌, take, map, List, sym, ap, ◌∙◌, arith, [], ◌∷◌, ◌++◌, nat_cmp_total, flat_map, common_steps, take_all, map-append, list_any_more, Numbers, lane_of, unowned_by, put_by, new_putter, PutEnd}
 use Rattle.std.specs.FinSet as set
-use Rattle.std.specs.Cmp.{nat_cmp_total}
-use Rattle.std.specs.List.{flat_map}
-use Rattle.std.proofs.lemmas.Grind.{common_steps}
-use Rattle.std.proofs.lemmas.List.{take_all, map-append}
-use Rattle.std.proofs.lemmas.List.Folds.{list_any_more}
-use Rattle.wcp_lane.specs.Passes.{Numbers}
-use Rattle.wcp_lane.specs.Ends.{lane_of, unowned_by, put_by, new_putter, PutEnd}
 use Rattle.wcp_lane.proofs.Counting.{counts_of_none}
 use Rattle.wcp_lane.proofs.Sets.{any_has, none_before, within_read, rest_of}
 use Rattle.wcp_lane.proofs.Steps.{begins, all_numbers-contains}

@@ -1,11 +1,7 @@
-use Rattle.std.proofs.Common.{◌≡◌, ℕ, ◌<◌, not, [], map, take}
-use Rattle.std.specs.List.{list_any}
+use Rattle.wcp_lane.proofs.Words.{◌≡◌, ℕ, ◌<◌, not, [], map, take, list_any, most_processes, Numbers, taker, lane_of, hand_of, unowned_by, new_putter}
 use Rattle.std.specs.FinSet as set
 use Rattle.crossbeam_channel.specs.Ends.{sends_on}
 use Rattle.crossbeam_channel.specs.Claims.{IsSeatAt}
-use Rattle.wcp_clock.specs.Limits.{most_processes}
-use Rattle.wcp_lane.specs.Passes.{Numbers, taker}
-use Rattle.wcp_lane.specs.Ends.{lane_of, hand_of, unowned_by, new_putter}
 use Rattle.wcp_lane.proofs.opening.open.Given as goal
 
 abbrev pub ghosts-give : goal.ghosts-give

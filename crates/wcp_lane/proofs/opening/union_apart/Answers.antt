@@ -1,14 +1,6 @@
-use Rattle.std.proofs.Common.{◌≡◌, ◌+◌, ◌++◌, ◌∷◌, [], true≢false, take, refl, sym, ◌∙◌, subst, arith}
+use Rattle.wcp_lane.proofs.Words.{◌≡◌, ◌+◌, ◌++◌, ◌∷◌, [], true≢false, take, refl, sym, ◌∙◌, subst, arith, nat_cmp, nat_cmp_total, both_ways, common_steps, take_all, list_any_at, ShareNone, AreApart, Numbers}
 use Rattle.std.specs.FinSet as set
-use Rattle.std.specs.Ordering.{nat_cmp}
-use Rattle.std.specs.Cmp.{nat_cmp_total}
-use Rattle.std.proofs.lemmas.Bool.{both_ways}
-use Rattle.std.proofs.lemmas.Grind.{common_steps}
-use Rattle.std.proofs.lemmas.List.{take_all}
-use Rattle.std.proofs.lemmas.List.Folds.{list_any_at}
 use Rattle.std.proofs.lemmas.List.Quantifiers.{all_pairs_push}
-use Rattle.wcp_lane.specs.Owners.{ShareNone, AreApart}
-use Rattle.wcp_lane.specs.Passes.{Numbers}
 use Rattle.wcp_lane.proofs.Sets.{none_before}
 use Rattle.wcp_lane.proofs.opening.union_apart.Goals as goal
 

@@ -1,10 +1,5 @@
-use Rattle.std.proofs.Common.{◌≡◌, ℕ, take}
-use Rattle.std.specs.Prelude.{All}
-use Rattle.std.specs.List.{list_any}
+use Rattle.wcp_lane.proofs.Words.{◌≡◌, ℕ, take, All, list_any, AreApart, AreProcessNumbers, Numbers}
 use Rattle.std.specs.FinSet as set
-use Rattle.wcp_lane.specs.Owners.{AreApart}
-use Rattle.wcp_lane.specs.ProcessNumbers.{AreProcessNumbers}
-use Rattle.wcp_lane.specs.Passes.{Numbers}
 use Rattle.wcp_lane.proofs.opening.union_apart.Given as goal
 
 abbrev pub invariant-loop-numbers : goal.invariant-loop-numbers

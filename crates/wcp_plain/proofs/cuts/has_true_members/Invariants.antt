@@ -1,6 +1,4 @@
-use Rattle.std.proofs.Common.{ℕ, ◌<◌, ◌≤◌, ◌^◌}
-use Rattle.wcp_model.specs.Computation.{IsTrueState}
-use Rattle.wcp_model.specs.Cut.{member}
+use Rattle.wcp_plain.proofs.Words.{ℕ, ◌<◌, ◌≤◌, ◌^◌, IsTrueState, member}
 use Rattle.wcp_plain.proofs.cuts.has_true_members.Given as goal
 
 abbrev pub invariant-loop-p : goal.invariant-loop-p

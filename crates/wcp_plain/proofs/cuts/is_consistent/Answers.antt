@@ -1,7 +1,4 @@
-use Rattle.std.proofs.Common.{ℕ, ◌<◌, ◌≢◌, length, below_more, sym, ◌∙◌}
-use Rattle.std.proofs.lemmas.Bool.{false≢true}
-use Rattle.wcp_model.specs.Cut.{member}
-use Rattle.wcp_model.specs.Order.{HappenedBefore}
+use Rattle.wcp_plain.proofs.Words.{ℕ, ◌<◌, ◌≢◌, length, below_more, sym, ◌∙◌, false≢true, member, HappenedBefore}
 use Rattle.wcp_plain.proofs.cuts.is_consistent.Goals as goal
 
 pub loop-p-preserved : goal.loop-p-preserved

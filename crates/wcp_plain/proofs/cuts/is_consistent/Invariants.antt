@@ -1,6 +1,4 @@
-use Rattle.std.proofs.Common.{ℕ, ◌<◌, ◌≢◌, length}
-use Rattle.wcp_model.specs.Cut.{member}
-use Rattle.wcp_model.specs.Order.{HappenedBefore}
+use Rattle.wcp_plain.proofs.Words.{ℕ, ◌<◌, ◌≢◌, length, member, HappenedBefore}
 use Rattle.wcp_plain.proofs.cuts.is_consistent.Given as goal
 
 abbrev pub invariant-loop-p : goal.invariant-loop-p

@@ -1,8 +1,4 @@
-use Rattle.std.proofs.Common.{◌+◌, ◌<◌, true, length, below_more, sym, ◌∙◌, ap, arith}
-use Rattle.std.proofs.lemmas.Bool.{false≢true}
-use Rattle.std.proofs.lemmas.Option.{slice_get-get_or, slice_get_within, same_Some}
-use Rattle.wcp_model.specs.declared.step.Step.TheVariants.{Observe}
-use Rattle.wcp_model.proofs.Reached.{interval_at-event, interval_at-other}
+use Rattle.wcp_plain.proofs.Words.{◌+◌, ◌<◌, true, length, below_more, sym, ◌∙◌, ap, arith, false≢true, slice_get-get_or, slice_get_within, same_Some, Observe, interval_at-event, interval_at-other}
 use Rattle.wcp_plain.proofs.cuts.is_true_in.Goals as goal
 use Rattle.wcp_plain.proofs.cuts.is_true_in.Goals.{else-current-interval-via-then-current-interval+else-is_true_observation_of, else-current-interval-via-else-current-interval, then-is_communication_of, else-is_communication_of}
 

@@ -1,6 +1,4 @@
-use Rattle.std.proofs.Common.{◌≡◌, ℕ, ◌<◌}
-use Rattle.wcp_model.specs.Computation.{interval_at}
-use Rattle.wcp_model.proofs.Reached.{IsTrueAt}
+use Rattle.wcp_plain.proofs.Words.{◌≡◌, ℕ, ◌<◌, interval_at, IsTrueAt}
 use Rattle.wcp_plain.proofs.cuts.is_true_in.Given as goal
 
 abbrev pub invariant-loop-step : goal.invariant-loop-step

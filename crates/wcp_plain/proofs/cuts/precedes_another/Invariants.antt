@@ -1,6 +1,4 @@
-use Rattle.std.proofs.Common.{ℕ, ◌<◌, ◌≢◌}
-use Rattle.wcp_model.specs.Cut.{member}
-use Rattle.wcp_model.specs.Order.{HappenedBefore}
+use Rattle.wcp_plain.proofs.Words.{ℕ, ◌<◌, ◌≢◌, member, HappenedBefore}
 use Rattle.wcp_plain.proofs.cuts.precedes_another.Given as goal
 
 abbrev pub invariant-loop-q : goal.invariant-loop-q

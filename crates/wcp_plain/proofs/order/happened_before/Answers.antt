@@ -1,7 +1,4 @@
-use Rattle.std.proofs.Common.{◌≡◌, ◌<◌, ◌⊎◌, Some, length, inl, inr, ⊎_elim, subst, sym, ◌∙◌, ap, arith}
-use Rattle.std.proofs.lemmas.Bool.{false≢true}
-use Rattle.std.proofs.lemmas.Option.{slice_get-get_or}
-use Rattle.wcp_model.specs.Computation.{interval_at}
+use Rattle.wcp_plain.proofs.Words.{◌≡◌, ◌<◌, ◌⊎◌, Some, length, inl, inr, ⊎_elim, subst, sym, ◌∙◌, ap, arith, false≢true, slice_get-get_or, interval_at}
 use Rattle.wcp_plain.proofs.Turns.{Reads, reads_send, reads_receive, entered, pass_by_other, answer_is, never_before}
 use Rattle.wcp_plain.proofs.order.happened_before.Goals as goal
 use Rattle.wcp_plain.proofs.order.happened_before.Goals.{in-Send+in_ok-push-in-Send, in-Recv+then-has_reached, in-Recv+else-has_reached, then-process-to+else-interval-to, else-process-to, Joined-step}

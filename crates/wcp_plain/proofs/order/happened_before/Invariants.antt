@@ -1,5 +1,4 @@
-use Rattle.std.proofs.Common.{◌≡◌, ◌<◌, ◌⊎◌}
-use Rattle.wcp_model.specs.Computation.{interval_at}
+use Rattle.wcp_plain.proofs.Words.{◌≡◌, ◌<◌, ◌⊎◌, interval_at}
 use Rattle.wcp_plain.proofs.OnePass.{IsPass}
 use Rattle.wcp_plain.proofs.order.happened_before.Given as goal
 

@@ -1,5 +1,4 @@
-use Rattle.std.proofs.Common.{sym}
-use Rattle.wcp_lane.specs.Numbers.{contains-marks}
+use Rattle.wcp_lane.proofs.Words.{sym, contains-marks}
 use Rattle.wcp_lane.proofs.Marks.{process_numbers}
 use Rattle.wcp_lane.proofs.origins.Origins.has.Goals as goal
 

@@ -1,6 +1,4 @@
-use Rattle.std.proofs.Common.{ap, arith}
-use Rattle.std.proofs.lemmas.Grind.{common_steps}
-use Rattle.wcp_lane.specs.declared.passes.Hand.{Hand}
+use Rattle.wcp_lane.proofs.Words.{ap, arith, common_steps, Hand}
 use Rattle.wcp_lane.proofs.Counting.{span_below}
 use Rattle.wcp_lane.proofs.Hands.{take_more}
 use Rattle.wcp_lane.proofs.Steps.{takes}
