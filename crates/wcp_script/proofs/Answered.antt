@@ -1,21 +1,7 @@
 -- What follows for a text from what reading it answered.
-use Rattle.std.proofs.Common.{◌≡◌, ℕ, ◌≤◌, List, length, Result, Ok, Err, sym, ap, subst, ◌∙◌, arith}
-use Rattle.std.specs.Prelude.{IfOk, IfErr}
-use Rattle.wcp_model.specs.declared.plan.Plan.{Plan}
-use Rattle.wcp_model.specs.declared.step.Step.{Step}
-use Rattle.wcp_model.specs.declared.workload.Task.{Task}
+use Rattle.wcp_script.proofs.Words.{◌≡◌, ℕ, ◌≤◌, List, length, Result, Ok, Err, sym, ap, subst, ◌∙◌, arith, IfOk, IfErr, Plan, Step, Task, IsCheckedPlan, IsSamePlan, IsFitOrder, CouldBeRead, ScriptFault, ReadFault, Script, NoMemory, IsStuckAt, HeadRead, head_of, IsPlanOf, TextKind, workloads, schedules, steps_by, Spells, HasTextFault, InHead, OfPlan, InStep, HasWorkloadFault, InText, AtEnd, IsReadAs, IsRefusedFor, IsFaultOf, ReadsSchedule, ReadsWorkload}
 use Rattle.wcp_model.specs.declared.workload.Workload.{Workload}
-use Rattle.wcp_model.specs.PlanFault.{IsCheckedPlan}
-use Rattle.wcp_model.specs.Tree.{IsSamePlan}
-use Rattle.wcp_model.specs.WorkloadComputation.{IsFitOrder, CouldBeRead}
-use Rattle.wcp_script.specs.declared.fault.ScriptFault.{ScriptFault}
-use Rattle.wcp_script.specs.declared.fault.ReadFault.{ReadFault}
-use Rattle.wcp_script.specs.declared.fault.ReadFault.TheVariants.{Script, NoMemory}
 use Rattle.wcp_script.specs.declared.schedule.Schedule.{Schedule}
-use Rattle.wcp_order.specs.Stuck.{IsStuckAt}
-use Rattle.wcp_script.specs.Head.{HeadRead, head_of, IsPlanOf}
-use Rattle.wcp_script.specs.TextFault.{TextKind, workloads, schedules, steps_by, Spells, HasTextFault, InHead, OfPlan, InStep, HasWorkloadFault, InText, AtEnd}
-use Rattle.wcp_script.specs.ReadAnswers.{IsReadAs, IsRefusedFor, IsFaultOf, ReadsSchedule, ReadsWorkload}
 use Rattle.wcp_script.proofs.Questions.{ok_is}
 use Rattle.wcp_script.proofs.SamePlan.{same_plan, same_fault_of_plan}
 use Rattle.wcp_script.proofs.Spelled as spelled

@@ -1,10 +1,6 @@
 -- Where a list is cut.
-use Rattle.std.proofs.Common.{◌≡◌, ℕ, ◌+◌, ◌-◌, ◌≤◌, Bool, true, eqb, List, [], ◌∷◌, length, take, drop, Some, None, ap, ◌∙◌, arith}
-use Rattle.std.specs.List.{slice_split, position}
-use Rattle.std.proofs.lemmas.List.{take_rest}
-use Rattle.std.proofs.lemmas.List.Sums.{fails_before_first}
-use Rattle.std.proofs.lemmas.List.Splits.{slice_split_first, slice_split_none, length-slice_split}
-use Rattle.wcp_script.specs.Lines.{lines_among, lines_of}
+use Rattle.wcp_script.proofs.Words.{◌≡◌, ℕ, ◌+◌, ◌-◌, ◌≤◌, Bool, true, eqb, List, [], ◌∷◌, length, take, drop, Some, None, ap, ◌∙◌, arith, slice_split, position, take_rest, fails_before_first, slice_split_first, slice_split_none, length-slice_split, lines_among}
+use Rattle.wcp_script.specs.Lines.{lines_of}
 
 pub split_at_position : {X : Type 0} (p : X → Bool) (xs : List X) (i : ℕ) (d : X) → position p xs ≡ Some i → slice_split p xs ≡ take i xs ∷ slice_split p (take (length xs - (i + 1)) (drop (i + 1) xs))
 split_at_position p xs i d e = grind (arith, slice_split_first, take_rest)

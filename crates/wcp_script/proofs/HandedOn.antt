@@ -1,13 +1,6 @@
 -- A fault that a call answered and that is handed on.
-use Rattle.std.proofs.Common.{◌≡◌, ℕ, List, Result, Ok, Err, arith}
+use Rattle.wcp_script.proofs.Words.{◌≡◌, ℕ, List, Result, Ok, Err, arith, Plan, IsCheckedPlan, ReadFault, Script, NoMemory, HeadRead, head_of, IsPlanOf, TextKind, workloads, steps_by, HasTextFault, InStep, HasWorkloadFault, InText, IsFaultOf, Fails}
 use Rattle.std.specs.Result.{IsErr, IsErrAnd}
-use Rattle.wcp_model.specs.declared.plan.Plan.{Plan}
-use Rattle.wcp_model.specs.PlanFault.{IsCheckedPlan}
-use Rattle.wcp_script.specs.declared.fault.ReadFault.{ReadFault}
-use Rattle.wcp_script.specs.declared.fault.ReadFault.TheVariants.{Script, NoMemory}
-use Rattle.wcp_script.specs.Head.{HeadRead, head_of, IsPlanOf}
-use Rattle.wcp_script.specs.TextFault.{TextKind, workloads, steps_by, HasTextFault, InStep, HasWorkloadFault, InText}
-use Rattle.wcp_script.specs.ReadAnswers.{IsFaultOf, Fails}
 
 pub handed_on : {Y : Type 0} (P : Result Y ReadFault → Type 0) (r : Result Y ReadFault) (fault : ReadFault) → IsErr r × IsErrAnd r (λ given. given ≡ fault) → P (Err fault) → P r
 handed_on P r fault h p = grind arith

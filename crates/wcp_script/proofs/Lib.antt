@@ -1,3 +1,4 @@
+mod Words
 pub mod Cuts
 pub mod Numbers
 pub mod StepLines

@@ -1,17 +1,7 @@
 -- Lines of words that are written as a text are cut into these lines and words again.
-use Rattle.std.proofs.Common.{◌≡◌, ℕ, ◌^◌, ◌<◌, true, false, eqb, not, ◌&&◌, Bool, List, [], ◌∷◌, ◌++◌, All, Ok, refl, ◌∙◌, append_assoc, arith}
+use Rattle.wcp_script.proofs.Words.{◌≡◌, ℕ, ◌^◌, ◌<◌, true, false, eqb, not, ◌&&◌, Bool, List, [], ◌∷◌, ◌++◌, All, Ok, refl, ◌∙◌, append_assoc, arith, join_with_byte, list_all, AllByRecursion, decimal, and_parts, ne_eqb, not-true, digits_decimal, get_or_default, All-append, All-cons, All-nil, slice_split_at, slice_split_none, AllPass-from_list_all, not_in_digits, TextLine, Word, line_text, number_in}
 use Rattle.std.specs.Int.{IsInRange}
-use Rattle.std.specs.List.{join_with_byte, list_all, AllByRecursion}
-use Rattle.std.specs.Fmt.{decimal}
-use Rattle.std.proofs.lemmas.Bool.{and_parts, ne_eqb, not-true}
-use Rattle.std.proofs.lemmas.Fmt.{digits_decimal}
-use Rattle.std.proofs.lemmas.List.{get_or_default}
-use Rattle.std.proofs.lemmas.List.Elements.{All-append, All-cons, All-nil}
-use Rattle.std.proofs.lemmas.List.Splits.{slice_split_at, slice_split_none}
-use Rattle.std.proofs.lemmas.List.Sums.{AllPass-from_list_all}
-use Rattle.std.proofs.lemmas.Str.Parse.{not_in_digits}
-use Rattle.wcp_script.specs.Lines.{TextLine, Word, line_text, lines_of, words_of}
-use Rattle.wcp_script.specs.Judgement.{number_in}
+use Rattle.wcp_script.specs.Lines.{lines_of, words_of}
 use Rattle.wcp_script.proofs.Cuts.{lines_after}
 use Rattle.wcp_script.proofs.Numbers.{own, number_spelled-decimal}
 

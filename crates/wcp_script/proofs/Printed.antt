@@ -1,26 +1,10 @@
 -- The text of a workload that could be read spells it.
-use Rattle.std.proofs.lemmas.Grind.{common_steps}
-use Rattle.std.proofs.Common.{◌≡◌, ◌≢◌, ℕ, ◌<◌, ◌≤◌, Bool, true, false, cond, eqb, List, [], ◌∷◌, ◌++◌, length, Option, Some, None, Ok, refl, sym, ap, ◌∙◌, append_assoc, arith, le-leb, ne_eqb, inl, inr, ⊎_elim}
-use Rattle.std.specs.Prelude.{codes, replicate, slice_get}
-use Rattle.std.specs.List.{flat_map, list_all, AllByRecursion}
-use Rattle.std.specs.Fmt.{decimal}
-use Rattle.std.proofs.lemmas.Bool.{and_parts, cases_lt, cases_eq}
-use Rattle.std.proofs.lemmas.List.Elements.{recursion_from_All}
+use Rattle.wcp_script.proofs.Words.{common_steps, ◌≡◌, ◌≢◌, ℕ, ◌<◌, ◌≤◌, Bool, true, false, cond, eqb, List, [], ◌∷◌, ◌++◌, length, Option, Some, None, Ok, refl, sym, ap, ◌∙◌, append_assoc, arith, le-leb, ne_eqb, inl, inr, ⊎_elim, codes, replicate, slice_get, flat_map, list_all, AllByRecursion, decimal, and_parts, cases_lt, cases_eq, recursion_from_All, Parent, Root, Relay, Plan, Task, IsCheckedPlan, IsOutside, IsWithin, CouldBeRead, Word, line_text, text_of, lines_of, action_words, task_line, cap_lines, hold_lines, relay_lines, attach_lines, numbered, is_first, is_root_alone, has_one_relay, tree_lines, head_lines, is_task_word, Head, HeadRead, first_head, IsPlanOf, workloads, steps_by, Spells}
 use Rattle.std.proofs.lemmas.List.Folds.{flat_map-map}
 use Rattle.std.proofs.lemmas.Option.{slice_get_within, get_or_from_slice_get}
-use Rattle.wcp_model.specs.declared.plan.Parent.{Parent}
-use Rattle.wcp_model.specs.declared.plan.Parent.TheVariants.{Root, Relay}
-use Rattle.wcp_model.specs.declared.plan.Plan.{Plan}
 use Rattle.wcp_model.specs.declared.plan.PlanFault.TheVariants as fault
-use Rattle.wcp_model.specs.declared.workload.Task.{Task}
-use Rattle.wcp_model.specs.PlanFault.{IsCheckedPlan, IsOutside}
-use Rattle.wcp_model.specs.WorkloadComputation.{IsWithin, CouldBeRead}
-use Rattle.wcp_script.specs.Lines.{Word, line_text, text_of, lines_of}
-use Rattle.wcp_script.specs.WorkloadText.{action_words, task_line}
-use Rattle.wcp_script.specs.PlanText.{cap_lines, hold_lines, relay_lines, attach_lines, numbered, is_first, is_root_alone, has_one_relay, tree_lines, head_lines, text_of_workload}
-use Rattle.wcp_script.specs.WorkloadLines.{is_task_word}
-use Rattle.wcp_script.specs.Head.{Head, HeadRead, first_head, processes_in, processes_by, head_by, head_of, IsPlanOf}
-use Rattle.wcp_script.specs.TextFault.{workloads, steps_by, Spells}
+use Rattle.wcp_script.specs.PlanText.{text_of_workload}
+use Rattle.wcp_script.specs.Head.{processes_in, processes_by, head_by, head_of}
 use Rattle.wcp_script.proofs.LinesOfWords.{IsWord, IsWord-literal, IsWord-decimal, number_in-decimal, words_of-joined, worded, lines_of-line_text, lines_of_nothing}
 use Rattle.wcp_script.proofs.PrintedTasks.{task_is_words, lines_of-task_line, steps_by-task_lines}
 use Rattle.wcp_script.proofs.PrintedHead.{Makes, Makes-append, made_is_read, said_unless, unwrap_or-said_unless, cap_makes, hold_makes, relays_make, attaches_make}

@@ -1,22 +1,9 @@
 -- The lines of a plan's head are read as that head.
-use Rattle.std.proofs.Common.{◌≡◌, ℕ, suc, ◌+◌, ◌^◌, ◌<◌, ◌≤◌, Bool, true, false, cond, eqb, List, [], ◌∷◌, ◌++◌, length, Option, Some, None, Ok, refl, sym, ap, subst, ◌∙◌, append_assoc, length-append, arith, lt-ltb, le-leb}
-use Rattle.std.specs.Prelude.{codes, replicate, slice_get, slice_set}
-use Rattle.std.specs.List.{AllByRecursion}
-use Rattle.std.specs.Fmt.{decimal}
+use Rattle.wcp_script.proofs.Words.{◌≡◌, ℕ, suc, ◌+◌, ◌^◌, ◌<◌, ◌≤◌, Bool, true, false, cond, eqb, List, [], ◌∷◌, ◌++◌, length, Option, Some, None, Ok, refl, sym, ap, subst, ◌∙◌, append_assoc, length-append, arith, lt-ltb, le-leb, codes, replicate, slice_get, slice_set, AllByRecursion, decimal, set-append_seam, false_from_ne_true, true≢false, append-nil, bytes_eq-Decides, Parent, Relay, HeadLine, Word, line_text, text_of, lines_of, parent_word, relay_lines, attach_lines, numbered, is_task_word, Head, first_head, first_word, head_words, with_line, parent_in, is_above, is_after}
 use Rattle.std.specs.Option.{unwrap_or}
 use Rattle.std.specs.Str.{bytes_eq}
-use Rattle.std.proofs.Math.Seq.{set-append_seam}
-use Rattle.std.proofs.lemmas.Bool.{false_from_ne_true, true≢false}
-use Rattle.std.proofs.lemmas.List.{append-nil}
-use Rattle.std.proofs.lemmas.Slice.Eq.{bytes_eq-Decides}
-use Rattle.wcp_model.specs.declared.plan.Parent.{Parent}
-use Rattle.wcp_model.specs.declared.plan.Parent.TheVariants.{Relay}
-use Rattle.wcp_script.specs.declared.head_line.HeadLine.{HeadLine}
 use Rattle.wcp_script.specs.declared.head_line.HeadLine.TheVariants as said
-use Rattle.wcp_script.specs.Lines.{Word, line_text, text_of, lines_of}
-use Rattle.wcp_script.specs.PlanText.{parent_word, relay_lines, attach_lines, numbered}
-use Rattle.wcp_script.specs.WorkloadLines.{is_task_word}
-use Rattle.wcp_script.specs.Head.{Head, first_head, first_word, head_words, head_line, with_line, head_by, parent_in, is_above, is_after}
+use Rattle.wcp_script.specs.Head.{head_line, head_by}
 use Rattle.wcp_script.proofs.LinesOfWords.{IsWord, IsWord-literal, IsWord-decimal, lacks-decimal, number_in-decimal, words_of-joined, lines_of-line_text}
 
 -- Under this head these are the words of a head line that says this.

@@ -1,8 +1,5 @@
 -- Lines that are printed one after another.
-use Rattle.std.proofs.Common.{◌≡◌, ℕ, List, ◌++◌, Result, append_assoc, arith}
-use Rattle.std.specs.Prelude.{OnOk}
-use Rattle.std.proofs.lemmas.Grind.{flat_map-append}
-use Rattle.wcp_script.specs.Lines.{Word, text_of}
+use Rattle.wcp_script.proofs.Words.{◌≡◌, ℕ, List, ◌++◌, Result, append_assoc, arith, OnOk, flat_map-append, Word, text_of}
 
 -- the text with some lines, and then with others
 text_more : (old front new : List ℕ) (xs ys : List (List Word)) → front ≡ old ++ text_of xs → new ≡ front ++ text_of ys → new ≡ old ++ text_of (xs ++ ys)

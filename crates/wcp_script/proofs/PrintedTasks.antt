@@ -1,15 +1,8 @@
 -- The line of a task is read as that task.
-use Rattle.std.proofs.Common.{◌≡◌, ℕ, ◌+◌, ◌≤◌, true, List, [], ◌∷◌, ◌++◌, length, Ok, refl, sym, ap, ◌∙◌, append_assoc, arith, lt-ltb}
-use Rattle.std.specs.Prelude.{codes}
-use Rattle.std.specs.List.{flat_map, AllByRecursion}
-use Rattle.std.specs.Fmt.{decimal}
+use Rattle.wcp_script.proofs.Words.{◌≡◌, ℕ, ◌+◌, ◌≤◌, true, List, [], ◌∷◌, ◌++◌, length, Ok, refl, sym, ap, ◌∙◌, append_assoc, arith, lt-ltb, codes, flat_map, AllByRecursion, decimal, Task, IsWithin, TextLine, line_text, lines_of, action_words, task_words, task_line, is_within, workloads}
 use Rattle.wcp_model.specs.declared.workload.Action.{Action}
-use Rattle.wcp_model.specs.declared.workload.Task.{Task}
-use Rattle.wcp_model.specs.WorkloadComputation.{IsWithin}
-use Rattle.wcp_script.specs.Lines.{TextLine, line_text, lines_of}
-use Rattle.wcp_script.specs.WorkloadText.{action_words, task_words, task_line}
-use Rattle.wcp_script.specs.WorkloadLines.{form_of, is_within, task_in}
-use Rattle.wcp_script.specs.TextFault.{workloads, steps_by}
+use Rattle.wcp_script.specs.WorkloadLines.{form_of, task_in}
+use Rattle.wcp_script.specs.TextFault.{steps_by}
 use Rattle.wcp_script.proofs.LinesOfWords.{IsWord, IsWord-decimal, number_in-decimal, words_of-joined, worded, lines_of-line_text, lines_of_nothing}
 
 pub task_is_words : (n : ℕ) (task : Task) → n ≤ 16 → IsWithin n task → AllByRecursion IsWord (task_words task)

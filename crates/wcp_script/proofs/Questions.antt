@@ -1,7 +1,5 @@
 -- What it takes that no question found a fault.
-use Rattle.std.proofs.Common.{◌≡◌, ℕ, Bool, true, Result, Ok, arith}
-use Rattle.wcp_script.specs.declared.fault.FaultKind.{FaultKind}
-use Rattle.wcp_script.specs.Judgement.{◌>>=◌, ask, at_line}
+use Rattle.wcp_script.proofs.Words.{◌≡◌, ℕ, Bool, true, Result, Ok, arith, FaultKind, ◌>>=◌, ask, at_line}
 
 pub bind_ok : {A B E : Type 0} (r : Result A E) (f : A → Result B E) (y : B) → (r >>= f) ≡ Ok y → (x : A) × (r ≡ Ok x) × (f x ≡ Ok y)
 bind_ok r f y e = grind arith

@@ -1,16 +1,7 @@
 -- The tasks of a ring, as they stand, are a fit order of themselves.
-use Rattle.std.proofs.lemmas.Grind.{common_steps}
-use Rattle.std.proofs.Common.{◌≡◌, ℕ, zero, suc, ◌+◌, ◌*◌, ◌-◌, ◌<◌, ◌≤◌, Bool, true, false, cond, ◌&&◌, eqb, List, [], ◌∷◌, ◌++◌, length, take, refl, ap, ◌∙◌, length-append, mul-suc, arith}
-use Rattle.std.specs.List.{flat_map, range_with_len, All, count_by}
-use Rattle.std.proofs.lemmas.Bool.{cond_both}
-use Rattle.std.proofs.lemmas.List.{append-nil, take-append-le, take_all}
-use Rattle.std.proofs.lemmas.List.Elements.{All-from_recursion, All-append}
-use Rattle.std.proofs.lemmas.List.Sums.{sum_by-append}
-use Rattle.std.proofs.Math.Seq.{take-append-add}
+use Rattle.wcp_script.proofs.Words.{common_steps, ◌≡◌, ℕ, zero, suc, ◌+◌, ◌*◌, ◌-◌, ◌<◌, ◌≤◌, Bool, true, false, cond, ◌&&◌, eqb, List, [], ◌∷◌, ◌++◌, length, take, refl, ap, ◌∙◌, length-append, mul-suc, arith, flat_map, range_with_len, All, count_by, cond_both, append-nil, take-append-le, take_all, All-from_recursion, All-append, sum_by-append, take-append-add, Task, sends, receives, IsWithin, IsFitOrder, CouldBeRead, before, finds_both, received, sent, ring_turn, ring_round, ring_fault, ring_length}
 use Rattle.wcp_model.specs.declared.workload.Action.TheVariants.{Observe, Send, Recv}
-use Rattle.wcp_model.specs.declared.workload.Task.{Task}
-use Rattle.wcp_model.specs.WorkloadComputation.{sends, receives, IsWithin, IsFitOrder, CouldBeRead}
-use Rattle.wcp_script.specs.Ring.{before, finds_both, received, sent, ring_turn, ring_round, ring_fault, ring_tasks, ring_length}
+use Rattle.wcp_script.specs.Ring.{ring_tasks}
 use Rattle.wcp_script.proofs.Ranges.{flat_map-range_each, flat_map-range_shifted, length-flat_map-range}
 
 -- ---- fronts that receive no more than they send

@@ -1,11 +1,7 @@
 -- Plans with the same lists have the same faults.
-use Rattle.std.proofs.Common.{◌≡◌, arith}
-use Rattle.wcp_model.specs.declared.plan.Plan.{Plan}
+use Rattle.wcp_script.proofs.Words.{◌≡◌, arith, Plan, HasFault, IsSamePlan, HeadRead, IsPlanOf}
 use Rattle.wcp_model.specs.declared.plan.PlanFault.{PlanFault}
 use Rattle.wcp_model.specs.declared.plan.PlanFault.TheVariants as fault
-use Rattle.wcp_model.specs.PlanFault.{HasFault}
-use Rattle.wcp_model.specs.Tree.{IsSamePlan}
-use Rattle.wcp_script.specs.Head.{HeadRead, IsPlanOf}
 
 pub same_plan : (one other : HeadRead) (plan plan' : Plan) → one ≡ other → IsPlanOf one.head plan → IsPlanOf other.head plan' → IsSamePlan plan plan'
 same_plan one other plan plan' same h k = grind arith

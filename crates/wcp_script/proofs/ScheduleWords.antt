@@ -1,8 +1,5 @@
 -- The step of a line with its LF.
-use Rattle.std.proofs.Common.{◌≡◌, ℕ, true, List, Result}
-use Rattle.wcp_model.specs.declared.step.Step.{Step}
-use Rattle.wcp_script.specs.declared.fault.FaultKind.{FaultKind}
-use Rattle.wcp_script.specs.Lines.{TextLine, words_of}
+use Rattle.wcp_script.proofs.Words.{◌≡◌, ℕ, true, List, Result, Step, FaultKind, TextLine, words_of}
 use Rattle.wcp_script.specs.ScheduleLines.{step_by_words, step_in}
 
 pub step_in_is : (line : TextLine) (words : List (List ℕ)) (step : Result Step FaultKind) → line.ended ≡ true → words_of line.bytes ≡ words → step ≡ step_by_words words → step ≡ step_in line

@@ -1,17 +1,9 @@
 -- What follows for steps from being spelled.
-use Rattle.std.proofs.Common.{◌≡◌, ℕ, ◌+◌, ◌≤◌, List, [], ◌∷◌, length, All, Ok, subst, arith}
-use Rattle.std.specs.List.{AllByRecursion}
-use Rattle.std.proofs.lemmas.List.Elements.{All-from_recursion}
-use Rattle.wcp_model.specs.declared.plan.Plan.{Plan}
-use Rattle.wcp_model.specs.declared.workload.Task.{Task}
-use Rattle.wcp_model.specs.WorkloadComputation.{IsWithin, IsFitOrder, CouldBeRead}
-use Rattle.wcp_script.specs.Lines.{TextLine}
-use Rattle.wcp_script.specs.Judgement.{◌>>=◌, at_line}
+use Rattle.wcp_script.proofs.Words.{◌≡◌, ℕ, ◌+◌, ◌≤◌, List, [], ◌∷◌, length, All, Ok, subst, arith, AllByRecursion, All-from_recursion, Plan, Task, IsWithin, IsFitOrder, CouldBeRead, TextLine, ◌>>=◌, at_line, TextKind, workloads, step_after, Spells, some_process, few_processes}
 use Rattle.wcp_script.specs.WorkloadLines.{task_in}
-use Rattle.wcp_script.specs.TextFault.{TextKind, workloads, step_after, steps_by, Spells}
+use Rattle.wcp_script.specs.TextFault.{steps_by}
 use Rattle.wcp_script.proofs.Questions.{bind_ok, ok_is, at_line_ok}
 use Rattle.wcp_script.proofs.StepLines.{step_after_is}
-use Rattle.wcp_model.proofs.CheckedPlans.{some_process, few_processes}
 
 -- Each of the steps that lines say is one that a line of this kind can say.
 pub steps_by_are : {S : Type 0} (text_kind : TextKind S) (n : ℕ) (P : S → Type 0) → ((line : TextLine) (step : S) → text_kind.said n line ≡ Ok step → P step) → (last earlier : ℕ) (lines : List TextLine) (steps : List S) → steps_by text_kind n last earlier lines ≡ Ok steps

@@ -1,11 +1,6 @@
 -- Step lines, one after another.
-use Rattle.std.proofs.Common.{◌≡◌, ℕ, ◌+◌, ◌<◌, List, [], ◌∷◌, ◌++◌, Result, Ok, Err, refl, sym, ap, append_assoc, arith}
-use Rattle.std.proofs.lemmas.List.{append-nil}
-use Rattle.wcp_script.specs.declared.fault.FaultKind.{FaultKind}
-use Rattle.wcp_script.specs.declared.fault.ScriptFault.{ScriptFault}
-use Rattle.wcp_script.specs.Lines.{TextLine}
-use Rattle.wcp_script.specs.Judgement.{◌>>=◌}
-use Rattle.wcp_script.specs.TextFault.{TextKind, step_after, steps_by}
+use Rattle.wcp_script.proofs.Words.{◌≡◌, ℕ, ◌+◌, ◌<◌, List, [], ◌∷◌, ◌++◌, Result, Ok, Err, refl, sym, ap, append_assoc, arith, append-nil, FaultKind, ScriptFault, TextLine, ◌>>=◌, TextKind, step_after}
+use Rattle.wcp_script.specs.TextFault.{steps_by}
 
 abbrev pub with_front : {S : Type 0} → List S → Result (List S) ScriptFault → Result (List S) ScriptFault
 with_front front spelled = spelled >>= λ steps. Ok (front ++ steps)

@@ -1,5 +1,4 @@
-use Rattle.std.proofs.Common.{sym, ◌∙◌, arith}
-use Rattle.wcp_script.specs.Views.{seen_line, seen_head}
+use Rattle.wcp_script.proofs.Words.{sym, ◌∙◌, arith, seen_line, seen_head}
 use Rattle.wcp_script.proofs.HeadLines.{head_more}
 use Rattle.wcp_script.proofs.head.read_head_lines.Goals as goal
 

@@ -1,7 +1,4 @@
-use Rattle.std.proofs.Common.{◌≡◌, ◌≤◌, length}
-use Rattle.wcp_script.specs.Lines.{lines_of}
-use Rattle.wcp_script.specs.Head.{IsWithinLimits, head_by, line_count}
-use Rattle.wcp_script.specs.Views.{seen_head}
+use Rattle.wcp_script.proofs.Words.{◌≡◌, ◌≤◌, length, lines_of, IsWithinLimits, head_by, line_count, seen_head}
 use Rattle.wcp_script.proofs.head.read_head_lines.Given as goal
 
 abbrev pub invariant-loop-line : goal.invariant-loop-line

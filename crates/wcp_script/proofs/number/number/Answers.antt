@@ -1,5 +1,4 @@
-use Rattle.std.proofs.Common.{◌<◌, length, sym, arith}
-use Rattle.std.proofs.lemmas.Bool.{eqb-true, eqb-false, false≢true}
+use Rattle.wcp_script.proofs.Words.{◌<◌, length, sym, arith, eqb-true, eqb-false, false≢true}
 use Rattle.wcp_script.proofs.Numbers.{no_number_of_nothing, no_number_after_zero, number_by_value}
 use Rattle.wcp_script.proofs.number.number.Goals as goal
 use Rattle.wcp_script.proofs.number.number.Goals.{then-is_empty-via-then-is_empty, then-is_empty-via-else-is_empty+then-is_padded}

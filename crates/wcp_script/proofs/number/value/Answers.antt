@@ -1,6 +1,4 @@
-use Rattle.std.proofs.Common.{◌<◌, length, ap, arith}
-use Rattle.std.proofs.lemmas.Int.Digits.{digits_value_more, digits_more}
-use Rattle.std.specs.Char.{digit_value}
+use Rattle.wcp_script.proofs.Words.{◌<◌, length, ap, arith, digits_value_more, digits_more, digit_value}
 use Rattle.wcp_script.proofs.Numbers.{no_digit, too_large}
 use Rattle.wcp_script.proofs.number.value.Goals as goal
 

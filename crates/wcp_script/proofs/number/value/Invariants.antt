@@ -1,5 +1,4 @@
-use Rattle.std.proofs.Common.{◌≡◌, ◌^◌, ◌<◌, take}
-use Rattle.std.specs.Str.Parse.{digits_value, AllDigits}
+use Rattle.wcp_script.proofs.Words.{◌≡◌, ◌^◌, ◌<◌, take, digits_value, AllDigits}
 use Rattle.wcp_script.proofs.number.value.Given as goal
 
 abbrev pub invariant-loop-byte : goal.invariant-loop-byte

@@ -1,6 +1,4 @@
-use Rattle.std.proofs.Common.{◌≡◌, drop}
-use Rattle.std.specs.List.{list_all}
-use Rattle.wcp_script.specs.PlanText.{is_first}
+use Rattle.wcp_script.proofs.Words.{◌≡◌, drop, list_all, is_first}
 use Rattle.wcp_script.proofs.printing.are_served_by_first.Given as goal
 
 abbrev pub invariant-loop-entry : goal.invariant-loop-entry

@@ -1,6 +1,4 @@
-use Rattle.std.proofs.Common.{◌≡◌, ◌++◌, string_bytes, drop}
-use Rattle.wcp_script.specs.Lines.{text_of}
-use Rattle.wcp_script.specs.PlanText.{numbered, attach_lines}
+use Rattle.wcp_script.proofs.Words.{◌≡◌, ◌++◌, string_bytes, drop, text_of, numbered, attach_lines}
 use Rattle.wcp_script.proofs.printing.push_attachments.Given as goal
 
 abbrev pub invariant-loop-p : goal.invariant-loop-p

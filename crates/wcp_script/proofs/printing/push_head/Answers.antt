@@ -1,5 +1,4 @@
-use Rattle.std.proofs.Common.{string_bytes}
-use Rattle.wcp_script.specs.PlanText.{opening_lines, cap_lines, hold_lines, tree_lines}
+use Rattle.wcp_script.proofs.Words.{string_bytes, opening_lines, cap_lines, hold_lines, tree_lines}
 use Rattle.wcp_script.proofs.PrintedLines.{head_printed}
 use Rattle.wcp_script.proofs.printing.push_head.Goals as goal
 

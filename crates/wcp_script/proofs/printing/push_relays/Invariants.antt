@@ -1,6 +1,4 @@
-use Rattle.std.proofs.Common.{◌≡◌, ◌++◌, string_bytes, drop}
-use Rattle.wcp_script.specs.Lines.{text_of}
-use Rattle.wcp_script.specs.PlanText.{numbered, relay_lines}
+use Rattle.wcp_script.proofs.Words.{◌≡◌, ◌++◌, string_bytes, drop, text_of, numbered, relay_lines}
 use Rattle.wcp_script.proofs.printing.push_relays.Given as goal
 
 abbrev pub invariant-loop-relay : goal.invariant-loop-relay

@@ -1,6 +1,4 @@
-use Rattle.std.proofs.Common.{◌≡◌, ◌++◌, string_bytes, take}
-use Rattle.std.specs.List.{flat_map}
-use Rattle.wcp_script.specs.WorkloadText.{task_line}
+use Rattle.wcp_script.proofs.Words.{◌≡◌, ◌++◌, string_bytes, take, flat_map, task_line}
 use Rattle.wcp_script.proofs.printing.push_tasks.Given as goal
 
 abbrev pub invariant-loop-task : goal.invariant-loop-task

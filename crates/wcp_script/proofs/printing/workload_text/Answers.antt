@@ -1,9 +1,4 @@
-use Rattle.std.proofs.Common.{◌≡◌, ◌++◌, rules, subst, sym, ◌∙◌, append_assoc}
-use Rattle.std.specs.List.{flat_map}
-use Rattle.wcp_script.specs.Lines.{text_of}
-use Rattle.wcp_script.specs.PlanText.{head_lines}
-use Rattle.wcp_script.specs.TextFault.{workloads, Spells}
-use Rattle.wcp_script.specs.WorkloadText.{task_line}
+use Rattle.wcp_script.proofs.Words.{◌≡◌, ◌++◌, rules, subst, sym, ◌∙◌, append_assoc, flat_map, text_of, head_lines, workloads, Spells, task_line}
 use Rattle.wcp_script.proofs.Printed.{text_of-head_and_tasks, text_spells}
 use Rattle.wcp_script.proofs.printing.workload_text.Goals as goal
 

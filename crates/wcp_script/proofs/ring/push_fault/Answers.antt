@@ -1,7 +1,5 @@
-use Rattle.std.proofs.Common.{◌-◌, ◌++◌, ap, ◌∙◌, arith}
-use Rattle.std.specs.List.{flat_map, range_with_len}
+use Rattle.wcp_script.proofs.Words.{◌-◌, ◌++◌, ap, ◌∙◌, arith, flat_map, range_with_len, finds_both}
 use Rattle.wcp_script.proofs.Ranges.{pieces_more}
-use Rattle.wcp_script.specs.Ring.{finds_both}
 use Rattle.wcp_script.proofs.ring.push_fault.Goals as goal
 
 pub loop-p-preserved : goal.loop-p-preserved

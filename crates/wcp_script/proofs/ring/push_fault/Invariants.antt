@@ -1,6 +1,4 @@
-use Rattle.std.proofs.Common.{◌≡◌, ◌≤◌, ◌-◌, ◌++◌}
-use Rattle.std.specs.List.{flat_map, range_with_len}
-use Rattle.wcp_script.specs.Ring.{finds_both}
+use Rattle.wcp_script.proofs.Words.{◌≡◌, ◌≤◌, ◌-◌, ◌++◌, flat_map, range_with_len, finds_both}
 use Rattle.wcp_script.proofs.ring.push_fault.Given as goal
 
 abbrev pub invariant-loop-p : goal.invariant-loop-p

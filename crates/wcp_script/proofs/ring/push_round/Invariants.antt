@@ -1,6 +1,4 @@
-use Rattle.std.proofs.Common.{◌≡◌, ◌++◌}
-use Rattle.std.specs.List.{flat_map, range_with_len}
-use Rattle.wcp_script.specs.Ring.{ring_turn}
+use Rattle.wcp_script.proofs.Words.{◌≡◌, ◌++◌, flat_map, range_with_len, ring_turn}
 use Rattle.wcp_script.proofs.ring.push_round.Given as goal
 
 abbrev pub invariant-loop-p : goal.invariant-loop-p

@@ -1,6 +1,4 @@
-use Rattle.std.proofs.Common.{◌≡◌, ◌++◌}
-use Rattle.std.specs.List.{flat_map, range_with_len}
-use Rattle.wcp_script.specs.Ring.{ring_round}
+use Rattle.wcp_script.proofs.Words.{◌≡◌, ◌++◌, flat_map, range_with_len, ring_round}
 use Rattle.wcp_script.proofs.ring.push_rounds.Given as goal
 
 abbrev pub invariant-loop-round : goal.invariant-loop-round

@@ -1,7 +1,5 @@
-use Rattle.std.proofs.Common.{◌≡◌, length, ◌++◌, sym, ap, subst, ◌∙◌}
-use Rattle.std.specs.List.{flat_map, range_with_len}
-use Rattle.wcp_model.specs.WorkloadComputation.{CouldBeRead}
-use Rattle.wcp_script.specs.Ring.{ring_fault, ring_round, ring_tasks}
+use Rattle.wcp_script.proofs.Words.{◌≡◌, length, ◌++◌, sym, ap, subst, ◌∙◌, flat_map, range_with_len, CouldBeRead, ring_fault, ring_round}
+use Rattle.wcp_script.specs.Ring.{ring_tasks}
 use Rattle.wcp_script.proofs.RingTasks.{length-ring_tasks, ring_could_be_read}
 use Rattle.wcp_script.proofs.ring.ring_workload.Goals as goal
 

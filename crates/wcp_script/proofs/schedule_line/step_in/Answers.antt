@@ -1,6 +1,5 @@
-use Rattle.std.proofs.Common.{sym}
+use Rattle.wcp_script.proofs.Words.{sym, seen_line}
 use Rattle.wcp_script.specs.declared.fault.FaultKind.TheVariants as kind
-use Rattle.wcp_script.specs.Views.{seen_line}
 use Rattle.wcp_script.proofs.Questions.{ask_ok}
 use Rattle.wcp_script.proofs.ScheduleWords.{step_in_is}
 use Rattle.wcp_script.proofs.schedule_line.step_in.Goals as goal

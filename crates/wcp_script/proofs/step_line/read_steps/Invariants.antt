@@ -1,6 +1,4 @@
-use Rattle.std.proofs.Common.{◌≡◌, ◌≤◌, length, vec_len}
-use Rattle.wcp_script.specs.Lines.{lines_of}
-use Rattle.wcp_script.specs.TextFault.{steps_by}
+use Rattle.wcp_script.proofs.Words.{◌≡◌, ◌≤◌, length, vec_len, lines_of, steps_by}
 use Rattle.wcp_script.proofs.StepLines.{with_front}
 use Rattle.wcp_script.proofs.step_line.read_steps.Given as goal
 

@@ -1,9 +1,5 @@
-use Rattle.std.proofs.Common.{refl, arith}
-use Rattle.wcp_script.specs.TextFault.{OfPlan}
-use Rattle.wcp_script.specs.ReadAnswers.{ReadsText}
-use Rattle.wcp_script.specs.Views.{seen_read}
+use Rattle.wcp_script.proofs.Words.{refl, arith, OfPlan, ReadsText, seen_read, few_processes}
 use Rattle.wcp_script.proofs.HandedOn.{handed_on, fault_in_step}
-use Rattle.wcp_model.proofs.CheckedPlans.{few_processes}
 use Rattle.wcp_script.proofs.text.read_text.Goals as goal
 
 pub read_steps-requires-clause-few : goal.read_steps-requires-clause-few

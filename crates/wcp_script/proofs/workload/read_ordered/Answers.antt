@@ -1,12 +1,6 @@
-use Rattle.std.proofs.Common.{ℕ, ◌+◌, ◌<◌, List, sym, ap, subst, arith}
-use Rattle.wcp_model.specs.declared.workload.Task.{Task}
-use Rattle.wcp_model.specs.WorkloadComputation.{IsFitOrder}
-use Rattle.wcp_order.specs.Stuck.{IfOrder, IfStuck, IsFirstStuck, IsStuckAt}
+use Rattle.wcp_script.proofs.Words.{ℕ, ◌+◌, ◌<◌, List, sym, ap, subst, arith, Task, IsFitOrder, IfOrder, IfStuck, IsFirstStuck, IsStuckAt, ScriptFault, ReadsInOrder, AtEnd}
 use Rattle.wcp_script.specs.declared.fault.FaultKind.TheVariants as kind
-use Rattle.wcp_script.specs.declared.fault.ScriptFault.{ScriptFault}
-use Rattle.wcp_script.specs.ReadAnswers.{ReadsInOrder}
 use Rattle.wcp_script.proofs.HandedOn.{handed_on, fault_in_text}
-use Rattle.wcp_script.specs.TextFault.{AtEnd}
 use Rattle.wcp_script.proofs.Spelled.{could_be_read, spells_is}
 use Rattle.wcp_script.proofs.workload.read_ordered.Goals as goal
 use Rattle.wcp_script.proofs.workload.read_ordered.Goals.{In-Stuck, in-AsListed, in-Order}
