@@ -1,2 +1,3 @@
 mod rings;
 mod sleeping;
+mod waking;

@@ -1,12 +1,12 @@
 //! Lanes of snapshots, for the tests.
-ghost use Rattle.std.specs.Prelude.{◌≡◌, ◌+◌, false, IfOk, OnOk, IsTrue};
+ghost use Rattle.std.specs.Prelude.{◌≡◌, ◌+◌, true, false, IfOk, OnOk};
 ghost use Rattle.wcp_clock.specs.Notes.{place_of, is_close};
 ghost use Rattle.wcp_lane.specs.Snapshots.{HasPut};
 
 use std::alloc::Global;
 use std::sync::Wait;
 use wcp_clock::{Clock, Item, Note};
-use wcp_lane::{LaneFault, Origins, Putter, Taker, lane};
+use wcp_lane::{Cut, LaneFault, Origins, Putter, Taker, lane};
 
 /// Snapshot `number` of process `from`.
 pub fn snap(from: u32, number: u32) -> Item
@@ -41,15 +41,19 @@ pub fn put_snap<R: Wait>(
 }
 
 /// Puts the next snapshot of a process if there is room for it: whether there was.
-pub fn try_put_snap<R: Wait>(rt: &R, putter: &mut Putter<Item>, from: u32, number: u32) -> bool
+pub fn try_put_snap<R: Wait>(
+    rt: &R,
+    putter: &mut Putter<Item>,
+    from: u32,
+    number: u32,
+) -> Result<bool, Cut>
     requires { HasPut from number putter.old }
-    ensures put { IsTrue result → HasPut from (number + 1) putter.new }
-    ensures full { result ≡ false → HasPut from number putter.new }
+    ensures put { IfOk result (λ was_put. was_put ≡ true → HasPut from (number + 1) putter.new) }
+    ensures full { IfOk result (λ was_put. was_put ≡ false → HasPut from number putter.new) }
 {
     match putter.try_put(rt, snap(from, number)) {
-        Ok(None) => true,
-        Ok(Some(_)) => false,
-        Err(_) => false,
+        Ok(back) => Ok(back.is_none()),
+        Err((cut, _)) => Err(cut),
     }
 }
 

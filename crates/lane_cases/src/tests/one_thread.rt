@@ -43,11 +43,13 @@ fn a_put_after_the_end_of_the_taker_is_cut(rt: HostRuntime) -> Result<(), Fail> 
 #[test]
 fn a_full_lane_has_room_once_an_item_was_taken(rt: HostRuntime) -> Result<(), Fail> {
     let (mut putter, mut taker) = lane_of_one(rt.alloc(), 1)?;
-    assert!(rt; try_put_snap(&rt, &mut putter, 0, 0));
-    assert!(rt; !try_put_snap(&rt, &mut putter, 0, 1));
+    assert_eq!(rt; try_put_snap(&rt, &mut putter, 0, 0), Ok(true));
+    assert_eq!(rt; try_put_snap(&rt, &mut putter, 0, 1), Ok(false));
     assert_eq!(rt; taker.take(&rt), Ok(snap(0, 0)));
-    assert!(rt; try_put_snap(&rt, &mut putter, 0, 1));
+    assert_eq!(rt; try_put_snap(&rt, &mut putter, 0, 1), Ok(true));
     assert_eq!(rt; taker.take(&rt), Ok(snap(0, 1)));
+    drop(taker);
+    assert!(rt; try_put_snap(&rt, &mut putter, 0, 2).is_err());
     Ok(())
 }
 

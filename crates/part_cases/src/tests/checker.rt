@@ -81,6 +81,26 @@ fn a_head_that_precedes_another_is_dropped(rt: HostRuntime) -> Result<(), Fail> 
     Ok(())
 }
 
+/// How many snapshots of one process wait for the other, which has none.
+const WAITING: u32 = 32_768;
+
+/// All snapshots of one process wait: the first is its head, which costs a component test for each process, and the
+/// others are compared with nothing.
+#[test]
+fn a_process_waits_for_long(rt: HostRuntime) -> Result<(), Fail> {
+    let mut checker = checker_of_two(rt.alloc())?;
+    assert_eq!(rt; checker.processes(), 2);
+    assert!(rt; take_sends(&rt, &mut checker, WAITING - 1).is_some());
+    assert_eq!(rt; checker.processes(), 2);
+    assert_eq!(rt;
+        (checker.taken(0), checker.taken(1)),
+        (u64::from(WAITING), 0)
+    );
+    assert_eq!(rt; checker.report(), Report::Undecided);
+    assert_eq!(rt; checker.tests(), 2);
+    Ok(())
+}
+
 /// A process observes its condition. The checker takes the snapshot that it emits, if it emits one.
 fn observe(rt: &impl Abort, probe: &mut ProbeCore, checker: &mut Checker, from: u32, holds: bool) {
     let number = probe.emitted();

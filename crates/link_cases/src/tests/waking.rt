@@ -1,0 +1,114 @@
+//! Notes that come at every moment of a taker's falling asleep.
+use std::sync::Wait;
+use std::sync::atomic::Ordering::SeqCst;
+use std::sync::atomic::{AtomicBool, AtomicU32};
+use std::test::Fail;
+use std::thread;
+use std::time::{Clock, Duration, Instant};
+use wcp_clock::Note;
+use wcp_ring::{RingPutter, RingTaker, Sleeper, ring};
+
+/// The pause before a note has from none to so many steps.
+const PAUSES: u32 = 2_048;
+
+/// How often the putter looks whether its note was taken before it gives its turn away.
+const LOOKS: u32 = 2_000;
+
+/// After so many looks the taker counts as asleep for good.
+const PATIENCE: u32 = 20_000_000;
+
+/// For how many milliseconds notes are put.
+const WHILE: u64 = 1_000;
+
+/// What the two threads tell each other.
+#[derive(Drop)]
+struct Progress {
+    /// How many notes were taken.
+    taken: AtomicU32,
+    /// Whether the putter puts no more.
+    left: AtomicBool,
+}
+
+impl Progress {
+    /// Waits until so many notes were taken: whether they were in time.
+    fn reaches(&self, count: u32) -> bool {
+        for look in 0..PATIENCE {
+            if self.taken.load(SeqCst) == count {
+                return true;
+            }
+            if look >= LOOKS {
+                thread::yield_now();
+            }
+        }
+        false
+    }
+
+    /// Lets so many short steps pass.
+    fn pause(&self, steps: u32) {
+        for _ in 0..steps {
+            let _ = self.taken.load(SeqCst);
+        }
+    }
+}
+
+/// Puts a note each time that the one before was taken, after a pause of another length. The answer is how many were put
+/// and taken, or `None` where one was not taken in time.
+fn put_for_a_while<R: Clock>(rt: &R, putter: &mut RingPutter, progress: &Progress) -> Option<u32> {
+    let start = Instant::now(rt).ok()?;
+    for number in 0..u32::MAX {
+        if !progress.reaches(number) {
+            return None;
+        }
+        if number % 16 == 0 && start.elapsed(rt).ok()? > Duration::from_millis(WHILE) {
+            return Some(number);
+        }
+        progress.pause(number % PAUSES);
+        putter.try_put(Note::Close { count: number }).ok()?;
+    }
+    None
+}
+
+/// Takes notes, and sleeps where there is none, until the putter has left.
+fn take_until_left<R: Wait>(
+    rt: &R,
+    taker: &mut RingTaker,
+    sleeper: &mut Sleeper,
+    progress: &Progress,
+) {
+    for _ in rt.forever() {
+        let left = progress.left.load(SeqCst);
+        if taker.try_take().is_some() {
+            sleeper.stir();
+            progress.taken.fetch_add(1, SeqCst);
+        } else if left {
+            return;
+        } else {
+            sleeper.rest(rt);
+        }
+    }
+}
+
+/// Where the taker sleeps on although there is a note, the putter leaves, and its bell wakes the taker all the same.
+#[test]
+fn each_note_wakes_the_taker(rt: HostRuntime) -> Result<(), Fail> {
+    let (mut putter, mut taker) = ring(rt.alloc(), 1)?;
+    let mut sleeper = Sleeper::new(rt.alloc())?;
+    putter = putter.with_bell(sleeper.bell()?);
+    let progress = Progress {
+        taken: AtomicU32::new(0),
+        left: AtomicBool::new(false),
+    };
+    let (shared, handle) = (&progress, &rt);
+    let (put, ()) = thread::join(
+        handle,
+        move || {
+            let put = put_for_a_while(handle, &mut putter, shared);
+            shared.left.store(true, SeqCst);
+            drop(putter);
+            put
+        },
+        || take_until_left(handle, &mut taker, &mut sleeper, shared),
+    );
+    assert_eq!(rt; put, Some(progress.taken.load(SeqCst)));
+    Ok(())
+}
