@@ -1,0 +1,86 @@
+-- What is found where no process can go on.
+use Rattle.wcp_order.proofs.Words.{◌≡◌, ℕ, ◌+◌, ◌<◌, ◌≤◌, cond, List, [], ◌∷◌, ◌++◌, length, take, count_by, Some, refl, sym, ◌∙◌, ap, arith, inl, inr, slice_get, slice_index, filter, All, cases_lt, append-nil, length-append, All-head, All-tail, length-filter, sum_by-take-le, Task, is_task_of, IsWithin, IsFitOrder, element_within, count_by-take_more, same_count, IsFirstStuck, IsProgress, IsBlocked, IsFirstLeft}
+use Rattle.wcp_model.proofs.AcceptedOrder.{IsFitOrder-itself}
+use Rattle.wcp_order.proofs.Doable.{can_if_done, done_if_can}
+use Rattle.wcp_order.proofs.Lengths.{length_tasks-le}
+use Rattle.wcp_order.proofs.Tasks.{at_place, count_by-take-le, is_task_of_itself}
+
+-- of two lists of histories that are the same the progress is
+pub IsProgress_same : (n : ℕ) (history other : ℕ → List Task) (order : List Task) (done in_transit : List ℕ)
+    → ((p : ℕ) → p < n → history p ≡ other p) → IsProgress n history order done in_transit → IsProgress n other order done in_transit
+IsProgress_same n history other order done in_transit same progress = record {
+  is_done = progress.is_done;
+  processes = progress.processes;
+  counts = progress.counts;
+  left = λ p below. ((progress.left p below).0, sym (same p below) ∙ (progress.left p below).1);
+}
+
+-- where none are left to count down of the process of a task, it is the first that is left
+pub IsFirstLeft_at : (tasks : List Task) (done left : List ℕ) (place : ℕ) → place < length tasks → All (λ task. task.p < length done) tasks
+    → ((p : ℕ) → p < length done → slice_index left p + count_by (is_task_of p) (take place tasks) ≡ slice_index done p)
+    → ((task : Task) → slice_get tasks place ≡ Some task → slice_index left task.p ≡ 0) → IsFirstLeft tasks done place
+IsFirstLeft_at tasks done left place inside within counted none = record {
+  inside = inside;
+  left = λ task at.
+      omega (arith, none task at, counted task.p (at_place (λ task. task.p < length done) tasks place task within at));
+  before = λ i task at earlier.
+      let more = count_by-take_more (is_task_of task.p) tasks i task at (is_task_of_itself task) in
+      let behind = count_by-take-le (is_task_of task.p) tasks (i + 1) place (omega (arith, earlier)) in
+      omega (arith, more, behind, counted task.p (at_place (λ task. task.p < length done) tasks i task within at));
+}
+
+-- no task is of a process that isn't within the limits
+filter_outside : (n p : ℕ) (tasks : List Task) → All (IsWithin n) tasks → n ≤ p → filter (is_task_of p) tasks ≡ []
+filter_outside n p [] within outside = refl
+filter_outside n p (task ∷ tasks) within outside =
+    grind (arith, All-head, filter_outside n p tasks (All-tail (IsWithin n) task tasks within) outside)
+
+none_left : {X : Type 0} (all front left : List X) → all ≡ front ++ left → length all ≤ length front → front ≡ all
+none_left all front [] is few = sym (append-nil front) ∙ sym is
+none_left all front (x ∷ left) is few = absurd (omega (arith, few, ap length is, length-append front (x ∷ left)))
+
+module _ (n : ℕ) (tasks order : List Task) (done in_transit : List ℕ) (within : All (IsWithin n) tasks) (progress : IsProgress n (λ p. filter (is_task_of p) tasks) order done in_transit) where
+  -- no more tasks are done than there are
+  pub length_order-le : length order ≤ length tasks
+  length_order-le = length_tasks-le n order tasks progress.is_done.within within (λ p below.
+      let (left, is) = progress.left p below in
+      omega (arith, length-filter (is_task_of p) tasks, length-filter (is_task_of p) order, ap length is, length-append (filter (is_task_of p) order) left))
+
+  -- where all tasks are done, their order is fit
+  pub IsFitOrder_done : ((p : ℕ) → p < n → count_by (is_task_of p) tasks ≤ slice_index done p) → IsFitOrder tasks order
+  IsFitOrder_done all_done = record {
+    same_tasks = λ p. elim (cases_lt p n) [
+      | inl below ↦
+          none_left (filter (is_task_of p) tasks) (filter (is_task_of p) order) (progress.left p below).0 (progress.left p below).1
+          (omega (arith, all_done p below, progress.counts p below, length-filter (is_task_of p) tasks, length-filter (is_task_of p) order))
+      | inr outside ↦ filter_outside n p order progress.is_done.within outside ∙ sym (filter_outside n p tasks within outside)
+    ];
+    sent_first = progress.is_done.fit.sent_first;
+  }
+
+  -- where no process can go on, the first task that is left is the first stuck one
+  pub IsFirstStuck_left : ((p : ℕ) → p < n → IsBlocked n (filter (is_task_of p) tasks) done in_transit p) → (place : ℕ) → IsFirstLeft tasks done place → IsFirstStuck tasks place
+  IsFirstStuck_left blocked place first = record {
+    inside = first.inside;
+    stuck = λ can.
+        let (task, at) = element_within tasks place first.inside in
+        let below : task.p < n = (at_place (IsWithin n) tasks place task within at).0 in
+        omega (arith, done_if_can n tasks order done in_transit within progress blocked can task at, first.left task at, progress.counts task.p below);
+    before = λ j earlier.
+        let (task, at) = element_within tasks j (omega (arith, earlier, first.inside)) in
+        let below : task.p < n = (at_place (IsWithin n) tasks j task within at).0 in
+        can_if_done n tasks order within progress.is_done.fit progress.left j task at
+        (omega (arith, first.before j task at earlier, progress.counts task.p below));
+  }
+
+-- a task that can't be done leaves no fit order
+pub no_fit_order : (n : ℕ) (tasks : List Task) (place : ℕ) → All (IsWithin n) tasks → IsFirstStuck tasks place → (order : List Task) → IsFitOrder tasks order → ⊥
+no_fit_order n tasks place within first order fit =
+    let (task, at) = element_within tasks place first.inside in
+    let p : ℕ = task.p in
+    let more = count_by-take_more (is_task_of p) tasks place task at (is_task_of_itself task) in
+    let at_most = sum_by-take-le (λ t. cond (is_task_of p t) 1 0) tasks (place + 1) in
+    let all_done = same_count (is_task_of p) (is_task_of p) order tasks (λ _ h. h) (fit.same_tasks p) in
+    first.stuck (can_if_done n tasks order within (IsFitOrder-itself tasks order fit)
+    (λ q below. ([], sym (fit.same_tasks q) ∙ sym (append-nil (filter (is_task_of q) order)))) place task at
+    (omega (arith, more, at_most, all_done)))
