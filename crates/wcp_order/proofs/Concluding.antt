@@ -12,7 +12,7 @@ IsProgress_same n history other order done in_transit same progress = record {
   is_done = progress.is_done;
   processes = progress.processes;
   counts = progress.counts;
-  left = λ p below. ((progress.left p below).0, sym (same p below) ∙ (progress.left p below).1);
+  left = λ p below. rw (← same p below) (progress.left p below);
 }
 
 -- where none are left to count down of the process of a task, it is the first that is left
@@ -36,8 +36,8 @@ filter_outside n p (task ∷ tasks) within outside =
     grind (arith, All-head, filter_outside n p tasks (All-tail (IsWithin n) task tasks within) outside)
 
 none_left : {X : Type 0} (all front left : List X) → all ≡ front ++ left → length all ≤ length front → front ≡ all
-none_left all front [] is few = sym (append-nil front) ∙ sym is
-none_left all front (x ∷ left) is few = absurd (omega (arith, few, ap length is, length-append front (x ∷ left)))
+none_left all front [] is few = grind (arith, append-nil)
+none_left all front (x ∷ left) is few = grind (arith, length-append)
 
 module _ (n : ℕ) (tasks order : List Task) (done in_transit : List ℕ) (within : All (IsWithin n) tasks) (progress : IsProgress n (λ p. filter (is_task_of p) tasks) order done in_transit) where
   -- no more tasks are done than there are

@@ -14,18 +14,22 @@ module _ (n : ℕ) (tasks order : List Task) (within : All (IsWithin n) tasks) (
   CanBelow : ℕ → Type 0
   CanBelow bound = (i p : ℕ) (act : Action) → slice_get tasks i ≡ Some (record { p = p; action = act }) → rank tasks p i < rank order p bound → CanBeDone tasks i
 
-  earlier_can : (bound : ℕ) → CanBelow bound → (i p : ℕ) → rank tasks p i ≤ rank order p bound → (j : ℕ) → IsEarlier tasks p j i → CanBeDone tasks j
+  earlier_can : (bound : ℕ) → CanBelow bound → (i p : ℕ) → rank tasks p i < rank order p (suc bound)
+      → (j : ℕ) → IsEarlier tasks p j i → CanBeDone tasks j
   unfolding CanBelow
-  earlier_can bound can i p inside j earlier =
+  earlier_can bound can i p more j earlier =
       let passes = is_task_of_itself (record { p = p; action = earlier.act }) in
-      let more = count_by-take_more (is_task_of p) tasks j _ earlier.same_process passes in
-      can j p earlier.act earlier.same_process (omega (arith, more, count_by-take-le (is_task_of p) tasks (j + 1) i (omega (arith, earlier.before))))
+      let before = count_by-take_more (is_task_of p) tasks j _ earlier.same_process passes in
+      let behind = count_by-take-le (is_task_of p) tasks (j + 1) i (omega (arith, earlier.before)) in
+      can j p earlier.act earlier.same_process (omega (arith, more, before, behind, count_by-take_one (is_task_of p) order bound))
 
-  received_can : (bound : ℕ) → CanBelow bound → (i p from : ℕ) → slice_get tasks i ≡ Some (record { p = p; action = action.Recv from }) → rank tasks p i < rank order p (suc bound) → rank tasks p i ≤ rank order p bound → CanBeDone tasks i
+  received_can : (bound : ℕ) → CanBelow bound → (i p from : ℕ) → slice_get tasks i ≡ Some (record { p = p; action = action.Recv from })
+      → rank tasks p i < rank order p (suc bound) → CanBeDone tasks i
   unfolding CanBelow
-  received_can bound can i p from at more inside =
-      let here = at_place (IsWithin n) tasks i (record { p = p; action = action.Recv from }) within at in
-      let (there, before) = place_in_shorter (is_task_of p) tasks order (left p here.0).0 (left p here.0).1 (suc bound) i (record { p = p; action = action.Recv from }) at (is_task_of_itself (record { p = p; action = action.Recv from })) more in
+  received_can bound can i p from at more =
+      let receive : Task = record { p = p; action = action.Recv from } in
+      let here = at_place (IsWithin n) tasks i receive within at in
+      let (there, before) = place_in_shorter (is_task_of p) tasks order (left p here.0).0 (left p here.0).1 (suc bound) i receive at (is_task_of_itself receive) more in
       let sending : Task = record { p = from; action = action.Send p } in
       let (send, earlier, delivery) = send_of_receive fit from p there.other there.found in
       let sent = place_in_longer (is_task_of from) tasks order (left from here.1.0).0 (left from here.1.0).1 send sending delivery.send (is_task_of_itself sending) in
@@ -42,22 +46,14 @@ module _ (n : ℕ) (tasks order : List Task) (within : All (IsWithin n) tasks) (
       } in
       Receiving i sent.other message
       (can sent.other from (action.Send p) sent.found (omega (arith, same_rank, one_more, count_by-take-le (is_task_of from) order (send + 1) bound (omega (arith, earlier, before)))))
-      (earlier_can bound can i p inside)
-
-  -- where the task is done by the next place, all earlier ones of its process are done before
-  up_to : (bound i p : ℕ) (act : Action) → slice_get tasks i ≡ Some (record { p = p; action = act })
-      → rank tasks p i < rank order p (suc bound) → rank tasks p i ≤ rank order p bound
-  up_to bound i p act at more = omega (arith, more, count_by-take_one (is_task_of p) order bound)
+      (earlier_can bound can i p more)
 
   can_below : (bound : ℕ) → CanBelow bound
   unfolding CanBelow
   can_below zero i p act at more = absurd (omega (arith, more))
-  can_below (suc bound) i p (action.Observe holds) at more =
-      Observing i p holds at (earlier_can bound (can_below bound) i p (up_to bound i p _ at more))
-  can_below (suc bound) i p (action.Send to) at more =
-      Sending i p to at (earlier_can bound (can_below bound) i p (up_to bound i p _ at more))
-  can_below (suc bound) i p (action.Recv from) at more =
-      received_can bound (can_below bound) i p from at more (up_to bound i p _ at more)
+  can_below (suc bound) i p (action.Observe holds) at more = Observing i p holds at (earlier_can bound (can_below bound) i p more)
+  can_below (suc bound) i p (action.Send to) at more = Sending i p to at (earlier_can bound (can_below bound) i p more)
+  can_below (suc bound) i p (action.Recv from) at more = received_can bound (can_below bound) i p from at more
 
   -- a task can be done if fewer tasks of its process stand before it than are done
   pub can_if_done : (i : ℕ) (task : Task) → slice_get tasks i ≡ Some task
@@ -111,13 +107,13 @@ module _ (n : ℕ) (tasks order : List Task) (done in_transit : List ℕ) (withi
       let receive : Task = record { p = to; action = action.Recv from } in
       let from_below : from < n = (at_place (IsWithin n) tasks sent send within message.send).0 in
       let to_below : to < n = (at_place (IsWithin n) tasks i receive within message.receive).0 in
-      let left = progress.left in
-      let (there, _) = place_in_shorter (is_task_of from) tasks order (left from from_below).0 (left from from_below).1 (length order) sent send message.send (is_task_of_itself send)
-      (rw whole (sent_done send message.send)) in
+      let (from_left, from_is) = progress.left from from_below in
+      let (to_left, to_is) = progress.left to to_below in
+      let (there, _) = place_in_shorter (is_task_of from) tasks order from_left from_is (length order) sent send message.send (is_task_of_itself send) (rw whole (sent_done send message.send)) in
       let sends_before = same_count (is_task_of from) (sends from to) (take there.other order) (take sent tasks) (sends_by from to) there.front in
       let one_more = count_by-take_more (sends from to) order there.other send there.found (sends_yes from to) in
       let at_most = sum_by-take-le (λ task. cond (sends from to task) 1 0) order (there.other + 1) in
-      let fronts = same_fronts (is_task_of to) tasks order (left to to_below).0 (left to to_below).1 i (length order) (ap (count_by (is_task_of to)) whole ∙ sym here) in
+      let fronts = same_fronts (is_task_of to) tasks order to_left to_is i (length order) (ap (count_by (is_task_of to)) whole ∙ sym here) in
       let receives_before = same_count (is_task_of to) (receives from to) order (take i tasks) (receives_by from to) (ap (filter (is_task_of to)) (sym whole) ∙ fronts) in
       omega (arith, progress.is_done.counted from to from_below to_below, message.same_number, sends_before, one_more, at_most, receives_before)
 

@@ -1,5 +1,5 @@
 -- The tasks of each process apart.
-use Rattle.wcp_order.proofs.Words.{◌≡◌, ℕ, ◌+◌, ◌<◌, List, [], ◌∷◌, ◌++◌, length, map, take, get_or, set, get_or-set_same, get_or-set_other, sym, ◌∙◌, ap, arith, inl, inr, eqb-true, eq-eqb, filter, All, cases_eq, ne_eqb, append-nil, get_or-map, map-set, length-map, All-filter, filter_more, filter_passes, Task, is_task_of, IsWithin, IsHistory, history_at}
+use Rattle.wcp_order.proofs.Words.{common_steps, gets, ◌≡◌, ℕ, ◌+◌, ◌<◌, List, [], ◌∷◌, ◌++◌, length, map, take, get_or, set, get_or-set_same, get_or-set_other, sym, ◌∙◌, ap, arith, inl, inr, eqb-true, eq-eqb, filter, All, cases_eq, ne_eqb, append-nil, get_or-map, map-set, length-map, All-filter, filter_more, filter_passes, Task, is_task_of, IsWithin, IsHistory, history_at}
 use Rattle.std.specs.declared.vec.Vec.{Vec}
 
 -- the tasks of a process are its own
@@ -19,14 +19,4 @@ module _ {A : Type 0} (n : ℕ) (tasks : List Task) (place : ℕ) (d : Task) (in
   pub one_more_listed : (history written : Vec Task A) → task.p < n → history ≡ get_or histories task.p history → written.items ≡ history.items ++ task ∷ []
       → (p : ℕ) → p < n → history_at (set histories task.p written) p ≡ filter (is_task_of p) (take (place + 1) tasks)
   one_more_listed history written own read longer p below =
-      let written_at = map-set (λ history. history.items) histories task.p written in
-      let more = filter_more (is_task_of p) tasks place d inside in
-      let old = history_read histories task.p history (omega (arith, own, count)) read in
-      elim (cases_eq p task.p) [
-        | inl same ↦
-            let here = get_or-set_same (map (λ history. history.items) histories) task.p written.items [] (omega (arith, own, count, length-map histories (λ history. history.items))) in
-            grind (arith, written_at, more, old, here, are p below, longer, eq-eqb task.p p)
-        | inr other ↦
-            let here = get_or-set_other (map (λ history. history.items) histories) task.p p written.items [] other in
-            grind (arith, written_at, more, here, are p below, append-nil, ne_eqb task.p p)
-      ]
+      grind (arith, common_steps, gets, map-set, filter_more, tasks, history_read, cases_eq, get_or-set_same, length-map, eq-eqb, get_or-set_other, append-nil, ne_eqb)
