@@ -1,34 +1,32 @@
-use Rattle.std.proofs.Common.{◌≡◌, ℕ, ◌+◌, ◌*◌, ◌<◌, ◌≤◌, List, [], ◌∷◌, length, take, replicate, Option, unwrap_or, refl, sym, ◌∙◌, ap, arith}
-use Rattle.std.specs.Option.{IfSome, IfNone}
-use Rattle.std.specs.List.{slice_get, slice_index, filter, All, Contains}
-use Rattle.std.proofs.lemmas.List.{length-replicate, get_or-replicate, take_all, get_or_default}
-use Rattle.std.proofs.lemmas.List.Elements.{All-head, All-tail, All-nil, All-get_or}
-use Rattle.std.proofs.lemmas.Nat.{mul-add-lt}
-use Rattle.wcp_model.specs.declared.workload.Task.{Task}
-use Rattle.wcp_model.specs.WorkloadComputation.{is_task_of, IsWithin, IsFitOrder}
-use Rattle.wcp_model.proofs.SamePlace.{element_within}
-use Rattle.wcp_order.specs.Stuck.{IsFirstStuck}
-use Rattle.wcp_order.specs.Progress.{IsProgress, IsNextPlace, IsBlocked}
-use Rattle.wcp_order.proofs.Tasks.{at_place}
-use Rattle.wcp_order.proofs.Advancing.{none_skipped}
-use Rattle.wcp_order.proofs.Blocked.{done_if_can}
-use Rattle.wcp_order.proofs.Fit.{can_be_done_by_order}
+-- What is found where no process can go on.
+use Rattle.wcp_order.proofs.Words.{◌≡◌, ℕ, ◌+◌, ◌<◌, ◌≤◌, cond, List, [], ◌∷◌, ◌++◌, length, take, count_by, Some, refl, sym, ◌∙◌, ap, arith, inl, inr, slice_get, slice_index, filter, All, cases_lt, append-nil, length-append, All-head, All-tail, length-filter, sum_by-take-le, Task, is_task_of, IsWithin, IsFitOrder, element_within, count_by-take_more, same_count, IsFirstStuck, IsProgress, IsBlocked, IsFirstLeft}
+use Rattle.wcp_model.proofs.AcceptedOrder.{IsFitOrder-itself}
+use Rattle.wcp_order.proofs.Doable.{can_if_done, done_if_can}
+use Rattle.wcp_order.proofs.Lengths.{length_tasks-le}
+use Rattle.wcp_order.proofs.Tasks.{at_place, count_by-take-le, is_task_of_itself}
 
-take-nil : (place : ℕ) → take {A = Task} place [] ≡ []
-take-nil place = grind arith
+-- of two lists of histories that are the same the progress is
+pub IsProgress_same : (n : ℕ) (history other : ℕ → List Task) (order : List Task) (done in_transit : List ℕ)
+    → ((p : ℕ) → p < n → history p ≡ other p) → IsProgress n history order done in_transit → IsProgress n other order done in_transit
+IsProgress_same n history other order done in_transit same progress = record {
+  is_done = progress.is_done;
+  processes = progress.processes;
+  counts = progress.counts;
+  left = λ p below. rw (← same p below) (progress.left p below);
+}
 
--- before any task is done
-pub IsProgress_none : (n : ℕ) (tasks order : List Task) (first in_transit : List ℕ) → All (IsWithin n) tasks → length first ≡ n → ((p : ℕ) → p < n → IsNextPlace tasks p 0 (slice_index first p)) → order ≡ [] → in_transit ≡ replicate (n * n) 0 → IsProgress n tasks order first in_transit
-IsProgress_none n tasks order first in_transit within processes firsts none_done none_sent = record {
-  processes = processes;
-  channels = rw none_sent (length-replicate (n * n) 0);
-  within = rw none_done (All-nil (IsWithin n));
-  inside = λ p below. (firsts p below).inside;
-  own = λ p task below. (firsts p below).own task;
-  done = λ p below. rw none_done (sym (firsts p below).skipped);
-  counted = λ p q p_below q_below. rw (none_done, none_sent, get_or-replicate {A = ℕ} (n * n) (p * n + q) 0 0 (mul-add-lt p n q n p_below q_below)) refl;
-  sent_first = λ place p q. rw (none_done, take-nil place) (omega arith);
-  can_be_done = λ i task at before. absurd (none_skipped tasks task.p 0 (slice_index first task.p) i task (firsts task.p (at_place (IsWithin n) tasks i task within at).0) (omega arith) before at refl);
+-- where none are left to count down of the process of a task, it is the first that is left
+pub IsFirstLeft_at : (tasks : List Task) (done left : List ℕ) (place : ℕ) → place < length tasks → All (λ task. task.p < length done) tasks
+    → ((p : ℕ) → p < length done → slice_index left p + count_by (is_task_of p) (take place tasks) ≡ slice_index done p)
+    → ((task : Task) → slice_get tasks place ≡ Some task → slice_index left task.p ≡ 0) → IsFirstLeft tasks done place
+IsFirstLeft_at tasks done left place inside within counted none = record {
+  inside = inside;
+  left = λ task at.
+      omega (arith, none task at, counted task.p (at_place (λ task. task.p < length done) tasks place task within at));
+  before = λ i task at earlier.
+      let more = count_by-take_more (is_task_of task.p) tasks i task at (is_task_of_itself task) in
+      let behind = count_by-take-le (is_task_of task.p) tasks (i + 1) place (omega (arith, earlier)) in
+      omega (arith, more, behind, counted task.p (at_place (λ task. task.p < length done) tasks i task within at));
 }
 
 -- no task is of a process that isn't within the limits
@@ -37,41 +35,52 @@ filter_outside n p [] within outside = refl
 filter_outside n p (task ∷ tasks) within outside =
     grind (arith, All-head, filter_outside n p tasks (All-tail (IsWithin n) task tasks within) outside)
 
-module _ (n : ℕ) (tasks order : List Task) (fronts in_transit : List ℕ) (within : All (IsWithin n) tasks) (progress : IsProgress n tasks order fronts in_transit) where
+none_left : {X : Type 0} (all front left : List X) → all ≡ front ++ left → length all ≤ length front → front ≡ all
+none_left all front [] is few = grind (arith, append-nil)
+none_left all front (x ∷ left) is few = grind (arith, length-append)
+
+module _ (n : ℕ) (tasks order : List Task) (done in_transit : List ℕ) (within : All (IsWithin n) tasks) (progress : IsProgress n (λ p. filter (is_task_of p) tasks) order done in_transit) where
+  -- no more tasks are done than there are
+  pub length_order-le : length order ≤ length tasks
+  length_order-le = length_tasks-le n order tasks progress.is_done.within within (λ p below.
+      let (left, is) = progress.left p below in
+      omega (arith, length-filter (is_task_of p) tasks, length-filter (is_task_of p) order, ap length is, length-append (filter (is_task_of p) order) left))
+
   -- where all tasks are done, their order is fit
-  pub IsFitOrder_done : ((p : ℕ) → p < n → length tasks ≤ slice_index fronts p) → IsFitOrder tasks order
+  pub IsFitOrder_done : ((p : ℕ) → p < n → count_by (is_task_of p) tasks ≤ slice_index done p) → IsFitOrder tasks order
   IsFitOrder_done all_done = record {
-    same_tasks = λ p.
-        grind (arith, filter_outside, take_all);
-    sent_first = progress.sent_first;
+    same_tasks = λ p. elim (cases_lt p n) [
+      | inl below ↦
+          none_left (filter (is_task_of p) tasks) (filter (is_task_of p) order) (progress.left p below).0 (progress.left p below).1
+          (omega (arith, all_done p below, progress.counts p below, length-filter (is_task_of p) tasks, length-filter (is_task_of p) order))
+      | inr outside ↦ filter_outside n p order progress.is_done.within outside ∙ sym (filter_outside n p tasks within outside)
+    ];
+    sent_first = progress.is_done.fit.sent_first;
   }
 
-  -- where no process can go on, the least place of a front is that of the first stuck task
-  pub IsFirstStuck_least : ((p : ℕ) → p < n → IsBlocked n tasks fronts in_transit p) → (place : ℕ) → Contains fronts place → All (λ front. place ≤ front) fronts → place < length tasks → IsFirstStuck tasks place
-  IsFirstStuck_least blocked place found least inside = record {
-    inside = inside;
+  -- where no process can go on, the first task that is left is the first stuck one
+  pub IsFirstStuck_left : ((p : ℕ) → p < n → IsBlocked n (filter (is_task_of p) tasks) done in_transit p) → (place : ℕ) → IsFirstLeft tasks done place → IsFirstStuck tasks place
+  IsFirstStuck_left blocked place first = record {
+    inside = first.inside;
     stuck = λ can.
-        let p : ℕ = found.0 in
-        let front : slice_index fronts p ≡ place = get_or_default fronts p 0 place found.1 ∙ found.2 in
-        let task = element_within tasks place inside in
-        let own : task.0.p ≡ p = progress.own p task.0 (omega (arith, found.1, progress.processes)) (ap (slice_get tasks) front ∙ task.1) in
-        let done : place < slice_index fronts task.0.p = done_if_can n tasks order fronts in_transit within progress blocked can task.0 task.1 in
-        omega (arith, done, front, ap (slice_index fronts) own);
+        let (task, at) = element_within tasks place first.inside in
+        let below : task.p < n = (at_place (IsWithin n) tasks place task within at).0 in
+        omega (arith, done_if_can n tasks order done in_transit within progress blocked can task at, first.left task at, progress.counts task.p below);
     before = λ j earlier.
-        let task = element_within tasks j (omega arith) in
-        let p_within : task.0.p < n = (at_place (IsWithin n) tasks j task.0 within task.1).0 in
-        let behind : place ≤ slice_index fronts task.0.p = All-get_or (λ front. place ≤ front) fronts task.0.p 0 (omega (arith, progress.processes)) least in
-        progress.can_be_done j task.0 task.1 (omega arith);
+        let (task, at) = element_within tasks j (omega (arith, earlier, first.inside)) in
+        let below : task.p < n = (at_place (IsWithin n) tasks j task within at).0 in
+        can_if_done n tasks order within progress.is_done.fit progress.left j task at
+        (omega (arith, first.before j task at earlier, progress.counts task.p below));
   }
 
 -- a task that can't be done leaves no fit order
-pub no_fit_order : (tasks : List Task) (place : ℕ) → IsFirstStuck tasks place → (order : List Task) → IsFitOrder tasks order → ⊥
-no_fit_order tasks place first order fit = search (arith, element_within tasks place first.inside, can_be_done_by_order)
-
--- the least place, or another one where there is none
-pub record IsLeastOr (fronts : List ℕ) (most place : ℕ) : Type 0 where
-  pub least : All (λ front. place ≤ front) fronts
-  pub found : place < most → Contains fronts place
-
-pub IsLeastOr-unwrap_or : (fronts : List ℕ) (most place : ℕ) (least : Option ℕ) → IfSome least (Contains fronts) → IfSome least (λ here. All (λ front. here ≤ front) fronts) → IfNone least (length fronts ≡ 0) → place ≡ unwrap_or least most → IsLeastOr fronts most place
-IsLeastOr-unwrap_or fronts most place least found below none is = grind arith
+pub no_fit_order : (n : ℕ) (tasks : List Task) (place : ℕ) → All (IsWithin n) tasks → IsFirstStuck tasks place → (order : List Task) → IsFitOrder tasks order → ⊥
+no_fit_order n tasks place within first order fit =
+    let (task, at) = element_within tasks place first.inside in
+    let p : ℕ = task.p in
+    let more = count_by-take_more (is_task_of p) tasks place task at (is_task_of_itself task) in
+    let at_most = sum_by-take-le (λ t. cond (is_task_of p t) 1 0) tasks (place + 1) in
+    let all_done = same_count (is_task_of p) (is_task_of p) order tasks (λ _ h. h) (fit.same_tasks p) in
+    first.stuck (can_if_done n tasks order within (IsFitOrder-itself tasks order fit)
+    (λ q below. ([], sym (fit.same_tasks q) ∙ sym (append-nil (filter (is_task_of q) order)))) place task at
+    (omega (arith, more, at_most, all_done)))

@@ -1,11 +1,9 @@
+mod Words
 mod Advancing
-mod Blocked
 mod Concluding
 pub mod Counting
-mod Fit
+mod Doable
+mod Fronts
+mod Histories
 pub mod Lengths
-mod Linking
-mod Following
-pub mod Places
-mod Rounds
 pub mod Tasks

@@ -1,21 +1,23 @@
-use Rattle.std.proofs.Common.{◌≡◌, ℕ, Bool, true, false, List, Some, refl, eq-eqb, arith}
-use Rattle.std.specs.List.{slice_get, All}
-use Rattle.std.proofs.lemmas.Bool.{and_parts, and_right}
-use Rattle.std.proofs.lemmas.Option.{slice_get_within, get_or_from_slice_get}
-use Rattle.wcp_model.specs.declared.workload.Action.{Action}
+use Rattle.wcp_order.proofs.Words.{◌≡◌, ℕ, ◌≤◌, Bool, true, false, cond, zero, suc, List, [], ◌∷◌, ◌+◌, take, count_by, Some, refl, eq-eqb, arith, slice_get, All, cases_Bool, and_parts, and_right, common_steps, take-take, sum_by-take-le, slice_get_within, get_or_from_slice_get, Action, Task, count_by_yes, count_by_no, is_task_of, is_send_to, is_receive_from, sends, receives}
 use Rattle.wcp_model.specs.declared.workload.Action.TheVariants as action
-use Rattle.wcp_model.specs.declared.workload.Task.{Task}
-use Rattle.wcp_model.specs.WorkloadComputation.{is_task_of, is_send_to, is_receive_from, sends, receives}
 
 -- what holds of each element holds of the one at a place
 pub at_place : {X : Type 0} (P : X → Type 0) (xs : List X) (i : ℕ) (x : X) → All P xs → slice_get xs i ≡ Some x → P x
 at_place P xs i x all at = rw (get_or_from_slice_get xs i x x at) at (all i x (slice_get_within xs i x at))
 
-pub same_task : (task : Task) (p : ℕ) (act : Action) → task.p ≡ p → task.action ≡ act → task ≡ record { p = p; action = act }
-same_task task p act of_process acts = rw (← of_process, ← acts) refl
-
 pub is_task_of_itself : (task : Task) → is_task_of task.p task ≡ true
 is_task_of_itself task = eq-eqb task.p task.p refl
+
+-- a longer front has as many that pass
+pub count_by-take-le : {X : Type 0} (f : X → Bool) (xs : List X) (m n : ℕ) → m ≤ n → count_by f (take m xs) ≤ count_by f (take n xs)
+count_by-take-le f xs m n shorter = rw (← take-take m n xs shorter) (sum_by-take-le (λ x. cond (f x) 1 0) (take n xs) m)
+
+-- one more place counts one more at most
+pub count_by-take_one : {X : Type 0} (f : X → Bool) (xs : List X) (n : ℕ) → count_by f (take (suc n) xs) ≤ count_by f (take n xs) + 1
+count_by-take_one f [] n = grind (arith, common_steps)
+count_by-take_one f (x ∷ xs) zero = grind (arith, count_by_yes f x [], count_by_no f x [], cases_Bool (f x))
+count_by-take_one f (x ∷ xs) (suc n) =
+    grind (arith, count_by_yes f x (take (suc n) xs), count_by_no f x (take (suc n) xs), count_by_yes f x (take n xs), count_by_no f x (take n xs), cases_Bool (f x), count_by-take_one f xs n)
 
 -- the task that passes is that of the process
 pub receives_is : (p q : ℕ) (task : Task) → receives p q task ≡ true → task ≡ record { p = q; action = action.Recv p }

@@ -1,10 +1,10 @@
 ghost use Rattle.std.specs.Prelude.{◌≡◌, ℕ, ◌+◌, ◌*◌, ◌<◌, ◌≤◌, ◌↔◌, ◌⊎◌, List, [], ◌∷◌, ◌++◌, length, replicate, Some};
-ghost use Rattle.std.specs.Prelude.{All, Contains, IfOk, OnOk, IfNone, IfSome};
+ghost use Rattle.std.specs.Prelude.{All, IfOk, OnOk, IfNone, IfSome, count_by, filter, map};
 ghost use Rattle.std.specs.List.{slice_get, slice_set, slice_index};
 ghost use Rattle.wcp_clock.specs.Limits.{most_processes};
-ghost use Rattle.wcp_model.specs.WorkloadComputation.{IsFitOrder, IsWithin};
-ghost use Rattle.wcp_order.specs.Progress.{AreLinks, IsBlocked, IsNextPlace, IsReady, in_transit_after};
-ghost use Rattle.wcp_order.specs.Progress.{HasGrown, IsSoundProgress, IsStuck, IsUnchanged};
+ghost use Rattle.wcp_model.specs.WorkloadComputation.{IsFitOrder, IsWithin, is_task_of};
+ghost use Rattle.wcp_order.specs.Progress.{HasGrown, IsBlocked, IsFirstLeft, IsHistory, IsReady, IsSoundProgress};
+ghost use Rattle.wcp_order.specs.Progress.{IsStuck, history_at, in_transit_after};
 ghost use Rattle.wcp_order.specs.Stuck.{IfOrder, IfStuck, IsAsListed, IsFirstStuck};
 ghost use Rattle.std.specs.Bool.{MatchBool};
 ghost use Rattle.wcp_model.specs.declared.workload.Task.{Task};
@@ -25,34 +25,21 @@ pub enum FitOrder {
     Stuck(usize),
 }
 
-/// The tasks of each process, linked in their order. Where there is no such task, the place is the
-/// number of tasks.
-#[derive(Drop)]
-struct Histories {
-    /// The place of the first task of each process.
-    first: Vec<usize>,
-    /// For each task, the place of the next task of its process.
-    next: Vec<usize>,
-}
-
-impl Histories {
-    fn new(alloc: Global, n: u32, tasks: &[Task]) -> Result<Histories, AllocError>
-        requires { All (IsWithin n) tasks.now }
-        ensures processes { IfOk result (λ h. length h.first.items ≡ n) }
-        ensures first { IfOk result (λ h. (p : ℕ) → p < n
-            → IsNextPlace tasks.now p 0 (slice_index h.first.items p)) }
-        ensures places { IfOk result (λ h. length h.next.items ≡ length tasks.now) }
-        ensures next { IfOk result (λ h. AreLinks tasks.now h.next.items) }
-    {
-        let mut first = vec![in alloc; tasks.len(); n as usize]?;
-        let mut next = vec![in alloc; tasks.len(); tasks.len()]?;
-        for place in (0..tasks.len()).rev() {
-            let p = tasks[place].p as usize;
-            next[place] = first[p];
-            first[p] = place;
-        }
-        Ok(Histories { first, next })
+/// The tasks of each process, in their order.
+fn histories(alloc: Global, n: u32, tasks: &[Task]) -> Result<Vec<Vec<Task>>, AllocError>
+    requires { All (IsWithin n) tasks.now }
+    ensures processes { IfOk result (λ histories. length histories.items ≡ n) }
+    ensures tasks { IfOk result (λ histories. (p : ℕ) → p < n
+        → history_at histories.items p ≡ filter (is_task_of p) tasks.now) }
+{
+    let mut histories = Vec::with_capacity(alloc, n as usize)?;
+    for _ in 0..n {
+        histories.push(Vec::new(alloc))?;
     }
+    for task in tasks {
+        histories[task.p as usize].push(*task)?;
+    }
+    Ok(histories)
 }
 
 /// How far the tasks have been put in order.
@@ -60,43 +47,41 @@ impl Histories {
 struct Progress {
     /// The tasks that are done, in the order in which they were.
     order: Vec<Task>,
-    /// For each process, the place of its first task that is not done.
-    fronts: Vec<usize>,
+    /// For each process, how many of its tasks are done.
+    done: Vec<usize>,
     /// For each channel, how many messages were sent on it and not received.
     in_transit: Vec<usize>,
 }
 
 impl Progress {
-    /// No task is done, and the first ones of the processes are at these places.
-    fn new(alloc: Global, n: u32, tasks: usize, first: Vec<usize>) -> Result<Progress, AllocError>
+    /// No task is done.
+    fn new(alloc: Global, n: u32, tasks: usize) -> Result<Progress, AllocError>
         requires { n ≤ most_processes }
         ensures order { IfOk result (λ progress. progress.order.items ≡ []) }
-        ensures fronts { IfOk result (λ progress. progress.fronts.items ≡ first.items) }
+        ensures done { IfOk result (λ progress. progress.done.items ≡ replicate n 0) }
         ensures channels { IfOk result (λ progress. progress.in_transit.items ≡ replicate (n * n) 0) }
     {
         Ok(Progress {
             order: Vec::with_capacity(alloc, tasks)?,
-            fronts: first,
+            done: vec![in alloc; 0; n as usize]?,
             in_transit: vec![in alloc; 0; (n * n) as usize]?,
         })
     }
 
-    /// The next task of a process, if it can be done now.
-    fn next_ready(&self, n: u32, tasks: &[Task], p: u32) -> Option<Task>
+    /// The next task of a process, of which these are the tasks, if it can be done now.
+    fn next_ready(&self, n: u32, history: &[Task], p: u32) -> Option<Task>
         requires few { n ≤ most_processes }
-        requires processes { length self.now.fronts.items ≡ n }
+        requires processes { length self.now.done.items ≡ n }
         requires channels { length self.now.in_transit.items ≡ n * n }
-        requires within { All (IsWithin n) tasks.now }
         requires p { p < n }
-        requires own { (task : Task) → slice_get tasks.now (slice_index self.now.fronts.items p) ≡ Some task
-            → task.p ≡ p }
+        requires history { IsHistory n p history.now }
         ensures blocked { IfNone result
-            (IsBlocked n tasks.now self.now.fronts.items self.now.in_transit.items p) }
+            (IsBlocked n history.now self.now.done.items self.now.in_transit.items p) }
         ensures place { IfSome result
-            (λ task. slice_get tasks.now (slice_index self.now.fronts.items p) ≡ Some task) }
+            (λ task. slice_get history.now (slice_index self.now.done.items p) ≡ Some task) }
         ensures ready { IfSome result (λ task. IsReady n self.now.in_transit.items p task.action) }
     {
-        let task = *tasks.get(self.fronts[p as usize])?;
+        let task = *history.get(self.done[p as usize])?;
         if is_ready(&self.in_transit, n, p, task.action) {
             Some(task)
         } else {
@@ -104,59 +89,58 @@ impl Progress {
         }
     }
 
-    /// Does the next task of its process, after which comes the one at `next`.
-    fn perform(&mut self, n: u32, task: Task, next: usize) -> Result<(), AllocError>
+    /// Does the next task of its process.
+    fn perform(&mut self, n: u32, task: Task) -> Result<(), AllocError>
         requires few { n ≤ most_processes }
-        requires processes { length self.old.fronts.items ≡ n }
+        requires processes { length self.old.done.items ≡ n }
         requires channels { length self.old.in_transit.items ≡ n * n }
         requires within { IsWithin n task }
         requires ready { IsReady n self.old.in_transit.items task.p task.action }
+        requires counts { slice_index self.old.done.items task.p ≤ length self.old.order.items }
         requires counted { (q : ℕ) → q < n
             → slice_index self.old.in_transit.items (task.p * n + q) ≤ length self.old.order.items }
         ensures order { OnOk result (self.new.order.items ≡ self.old.order.items ++ task ∷ []) }
-        ensures fronts { OnOk result (self.new.fronts.items ≡ slice_set self.old.fronts.items task.p next) }
+        ensures done { OnOk result (self.new.done.items
+            ≡ slice_set self.old.done.items task.p (slice_index self.old.done.items task.p + 1)) }
         ensures in_transit { OnOk result (self.new.in_transit.items
             ≡ in_transit_after n self.old.in_transit.items task.p task.action) }
     {
         self.order.push(task)?;
-        self.fronts[task.p as usize] = next;
+        self.done[task.p as usize] += 1;
         count(&mut self.in_transit, n, task.p, task.action);
         Ok(())
     }
 
     /// Does the tasks of a process as far as they can be done.
-    fn run(&mut self, n: u32, tasks: &[Task], next: &[usize], p: u32) -> Result<(), AllocError>
+    fn run(&mut self, n: u32, histories: &[Vec<Task>], p: u32) -> Result<(), AllocError>
         requires few { n ≤ most_processes }
-        requires within { All (IsWithin n) tasks.now }
-        requires places { length next.now ≡ length tasks.now }
-        requires links { AreLinks tasks.now next.now }
+        requires processes { length histories.now ≡ n }
         requires p { p < n }
-        requires sound { IsSoundProgress n tasks.now self.old }
-        ensures sound { OnOk result (IsSoundProgress n tasks.now self.new) }
-        ensures stuck { OnOk result (IsStuck n tasks.now self.new p) }
-        ensures grown { OnOk result (HasGrown self.old self.new ⊎ IsUnchanged self.old self.new) }
+        requires history { IsHistory n p (history_at histories.now p) }
+        requires sound { IsSoundProgress n (history_at histories.now) self.old }
+        ensures sound { OnOk result (IsSoundProgress n (history_at histories.now) self.new) }
+        ensures stuck { OnOk result (IsStuck n (history_at histories.now p) self.new p) }
+        ensures grown { OnOk result (HasGrown self.old self.new ⊎ (self.new ≡ self.old)) }
     {
-        while let Some(task) = self.next_ready(n, tasks, p) {
-            let following = next[self.fronts[p as usize]];
-            self.perform(n, task, following)?;
+        while let Some(task) = self.next_ready(n, &histories[p as usize], p) {
+            self.perform(n, task)?;
         }
         Ok(())
     }
 
     /// Runs each process once, and says whether any task was done.
-    fn round(&mut self, n: u32, tasks: &[Task], next: &[usize]) -> Result<bool, AllocError>
+    fn round(&mut self, n: u32, histories: &[Vec<Task>]) -> Result<bool, AllocError>
         requires few { n ≤ most_processes }
-        requires within { All (IsWithin n) tasks.now }
-        requires places { length next.now ≡ length tasks.now }
-        requires links { AreLinks tasks.now next.now }
-        requires sound { IsSoundProgress n tasks.now self.old }
-        ensures sound { OnOk result (IsSoundProgress n tasks.now self.new) }
+        requires processes { length histories.now ≡ n }
+        requires histories { (p : ℕ) → p < n → IsHistory n p (history_at histories.now p) }
+        requires sound { IsSoundProgress n (history_at histories.now) self.old }
+        ensures sound { OnOk result (IsSoundProgress n (history_at histories.now) self.new) }
         ensures grown { IfOk result (λ grown. MatchBool grown (HasGrown self.old self.new)
-            ((p : ℕ) → p < n → IsStuck n tasks.now self.new p)) }
+            ((p : ℕ) → p < n → IsStuck n (history_at histories.now p) self.new p)) }
     {
         let before = self.order.len();
         for p in 0..n {
-            self.run(n, tasks, next, p)?;
+            self.run(n, histories, p)?;
         }
         Ok(self.order.len() > before)
     }
@@ -164,8 +148,8 @@ impl Progress {
     /// What is found where no process can go on.
     fn conclude(self, n: u32, tasks: &[Task]) -> FitOrder
         requires within { All (IsWithin n) tasks.now }
-        requires sound { IsSoundProgress n tasks.now self }
-        requires stuck { (p : ℕ) → p < n → IsStuck n tasks.now self p }
+        requires sound { IsSoundProgress n (λ p. filter (is_task_of p) tasks.now) self }
+        requires stuck { (p : ℕ) → p < n → IsStuck n (filter (is_task_of p) tasks.now) self p }
         ensures other { IsAsListed result → ⊥ }
         ensures order { IfOrder tasks.now result (IsFitOrder tasks.now) }
         ensures all_tasks { IfOrder tasks.now result (λ order. length order ≡ length tasks.now) }
@@ -173,22 +157,30 @@ impl Progress {
         ensures no_order { IfStuck result
             (λ _. (order : List Task) → IsFitOrder tasks.now order → ⊥) }
     {
-        let place = least(&self.fronts).unwrap_or(tasks.len());
-        if place < tasks.len() {
-            FitOrder::Stuck(place)
-        } else {
-            FitOrder::Order(self.order)
+        let mut done = self.done;
+        match first_left(tasks, &mut done) {
+            Some(place) => FitOrder::Stuck(place),
+            None => FitOrder::Order(self.order),
         }
     }
 }
 
-/// The least of the places.
-fn least(places: &[usize]) -> Option<usize>
-    ensures found { IfSome result (Contains places.now) }
-    ensures least { IfSome result (λ place. All (λ other. place ≤ other) places.now) }
-    ensures none { IfNone result (length places.now ≡ 0) }
+/// The place of the first task that is left, where so many tasks of each process are done. Counts
+/// down what is done before it.
+fn first_left(tasks: &[Task], done: &mut [usize]) -> Option<usize>
+    requires { All (λ task. task.p < length done.old) tasks.now }
+    ensures first { IfSome result (IsFirstLeft tasks.now done.old) }
+    ensures none { IfNone result ((p : ℕ) → p < length done.old
+        → count_by (is_task_of p) tasks.now ≤ slice_index done.old p) }
 {
-    places.iter().copied().min()
+    for (place, task) in tasks.iter().enumerate() {
+        let left = &mut done[task.p as usize];
+        if *left == 0 {
+            return Some(place);
+        }
+        *left -= 1;
+    }
+    None
 }
 
 /// A fit order of the tasks of n processes, or the first task that can never be done. Where they
@@ -224,8 +216,8 @@ fn search(alloc: Global, n: u32, tasks: &[Task]) -> Result<FitOrder, AllocError>
     ensures no_order { IfOk result (λ found. IfStuck found
         (λ _. (order : List Task) → IsFitOrder tasks.now order → ⊥)) }
 {
-    let histories = Histories::new(alloc, n, tasks)?;
-    let mut progress = Progress::new(alloc, n, tasks.len(), histories.first)?;
-    while progress.round(n, tasks, &histories.next)? {}
+    let histories = histories(alloc, n, tasks)?;
+    let mut progress = Progress::new(alloc, n, tasks.len())?;
+    while progress.round(n, &histories)? {}
     Ok(progress.conclude(n, tasks))
 }

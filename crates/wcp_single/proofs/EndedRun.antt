@@ -1,24 +1,9 @@
-use Rattle.std.proofs.lemmas.Grind.{common_steps}
-use Rattle.std.proofs.Common.{◌≡◌, ℕ, ◌+◌, ◌<◌, List, [], ◌∷◌, ◌++◌, All, length, get_or, set, slice_get, Some, sym, ◌∙◌, subst, subst₂, inl, inr, arith, get_or-set_same, get_or-set_other}
-use Rattle.std.proofs.lemmas.Bool.{cases_eq}
-use Rattle.std.proofs.lemmas.List.{length-set}
+use Rattle.wcp_single.proofs.Words.{common_steps, ◌≡◌, ℕ, ◌+◌, ◌<◌, List, [], ◌∷◌, ◌++◌, All, length, get_or, set, slice_get, Some, sym, ◌∙◌, subst, subst₂, inl, inr, arith, get_or-set_same, get_or-set_other, cases_eq, length-set, Item, Tally, Task, IsWorkloadOutcome, Closed, notes_taken, IsReportByClocks, ClocksRise, IsWithin, log_counts_notes, Seal, CheckerState, taken_of, StandsForItems, WatchedProcess, IsRunning, IsFed, IsFedMore, IsWatched, Feeds, HasDone, HasClosed, IsEnding}
 use Rattle.std.proofs.lemmas.Option.{slice_get_within}
-use Rattle.wcp_clock.specs.declared.note.Item.{Item}
 use Rattle.wcp_model.specs.declared.outcome.Outcome.{Outcome}
-use Rattle.wcp_model.specs.declared.outcome.Tally.{Tally}
-use Rattle.wcp_model.specs.declared.workload.Task.{Task}
-use Rattle.wcp_model.specs.Outcome.{IsWorkloadOutcome}
-use Rattle.wcp_model.specs.ProbeLog.{Closed}
-use Rattle.wcp_model.specs.Report.{notes_taken, IsReportByClocks, ClocksRise}
-use Rattle.wcp_model.specs.WorkloadComputation.{IsWithin}
-use Rattle.wcp_model.proofs.NotesInTurn.{log_counts_notes}
 use Rattle.wcp_model.proofs.SamePlace.{element_within}
 use Rattle.wcp_model.proofs.TakenOutcomes.{IsWorkloadOutcome-taken}
-use Rattle.wcp_probe.specs.Seal.{Seal}
-use Rattle.wcp_queue.specs.Checker.{CheckerState, processes as watched_by, taken_of, StandsForItems}
-use Rattle.wcp_single.specs.declared.watched_process.WatchedProcess.{WatchedProcess}
-use Rattle.wcp_single.specs.WatchedProcess.{IsRunning, IsFed, IsFedMore, IsWatched, Feeds}
-use Rattle.wcp_single.specs.WorkloadRun.{HasDone, HasClosed, IsEnding}
+use Rattle.wcp_queue.specs.Checker.{processes as watched_by}
 use Rattle.wcp_single.proofs.RunAfterTask.{logs_are}
 
 -- the run of tasks begins to end once all are done

@@ -1,3 +1,4 @@
+mod Words
 mod RunningProcesses
 mod NextTask
 mod RunAfterTask

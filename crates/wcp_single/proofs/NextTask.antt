@@ -1,24 +1,9 @@
-use Rattle.std.proofs.lemmas.Grind.{common_steps}
-use Rattle.std.proofs.Common.{◌≡◌, ◌≢◌, ◌==◌, ◌&&◌, ℕ, ◌+◌, ◌*◌, ◌<◌, Bool, true, false, cond, List, [], ◌∷◌, ◌++◌, length, map, take, drop, set, get_or, count_by, All, refl, sym, ap, ◌∙◌, subst, inl, inr, append-nil, append_assoc, arith, eq-eqb, get_or-set_same, get_or-set_other}
-use Rattle.std.proofs.lemmas.Bool.{cases_eq, ne_eqb}
-use Rattle.std.proofs.lemmas.List.{take_all, take_at, length-append, length-map}
+use Rattle.wcp_single.proofs.Words.{common_steps, ◌≡◌, ◌≢◌, ◌==◌, ◌&&◌, ℕ, ◌+◌, ◌*◌, ◌<◌, Bool, true, false, cond, List, [], ◌∷◌, ◌++◌, length, map, take, drop, set, get_or, count_by, All, refl, sym, ap, ◌∙◌, subst, inl, inr, append-nil, append_assoc, arith, eq-eqb, get_or-set_same, get_or-set_other, cases_eq, ne_eqb, take_all, take_at, length-append, length-map, mul-add-lt, same_from_place, Action, Task, Call, setup, state_of_log, actions_of, IsCallFor, FollowsActions, stamp_of, stamps_sent, stamps_got, sends, receives, is_send_to, is_receive_from, HasPartner, IsWithin, IsFitOrder, IsFitOrder-take, count_actions, actions_of-push, FollowsActions-push, length-stamps_sent, length-stamps_got, stamps_sent-push, stamps_sent-push_other, stamps_got-push, stamps_got-push_other, at_place, receive_is_no_send, Seal, IsChannel, IsNextTask, queue_at}
 use Rattle.std.proofs.lemmas.List.Elements.{All-push, All-drop, All-take}
-use Rattle.std.proofs.lemmas.Nat.{mul-add-lt, same_from_place}
-use Rattle.wcp_model.specs.declared.workload.Action.{Action}
 use Rattle.wcp_model.specs.declared.workload.Action.TheVariants as action
-use Rattle.wcp_model.specs.declared.workload.Task.{Task}
-use Rattle.wcp_model.specs.ProbeLog.{Call, setup, state_of_log}
-use Rattle.wcp_model.specs.TaskLog.{actions_of, IsCallFor, FollowsActions, stamp_of, stamps_sent, stamps_got}
-use Rattle.wcp_model.specs.WorkloadComputation.{sends, receives, is_send_to, is_receive_from, HasPartner, IsWithin, IsFitOrder}
-use Rattle.wcp_model.proofs.AcceptedOrder.{IsFitOrder-take}
 use Rattle.wcp_model.proofs.Growth.{get_behind}
-use Rattle.wcp_model.proofs.LogsOfTasks.{count_actions}
 use Rattle.wcp_model.proofs.MessagesOfOrder.{receives_yes}
-use Rattle.wcp_model.proofs.TaskLogs.{actions_of-push, FollowsActions-push, length-stamps_sent, length-stamps_got, stamps_sent-push, stamps_sent-push_other, stamps_got-push, stamps_got-push_other}
 use Rattle.wcp_order.proofs.Counting.{count_by_push_passing, count_by_push_failing}
-use Rattle.wcp_order.proofs.Tasks.{at_place, receive_is_no_send}
-use Rattle.wcp_probe.specs.Seal.{Seal}
-use Rattle.wcp_single.specs.WorkloadRun.{IsChannel, IsNextTask, queue_at}
 
 -- the logs with one more call of process a
 abbrev pub with_call : (ℕ → List Call) → ℕ → Call → ℕ → List Call

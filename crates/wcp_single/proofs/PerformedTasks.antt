@@ -1,14 +1,5 @@
-use Rattle.std.proofs.Common.{◌≡◌, ℕ, ◌+◌, ◌*◌, ◌<◌, List, [], ◌∷◌, ◌++◌, length, map, drop, set, get_or, sym, ap, ◌∙◌, subst, arith}
-use Rattle.std.proofs.lemmas.List.{length-map}
-use Rattle.std.proofs.lemmas.Nat.{mul-add-lt}
+use Rattle.wcp_single.proofs.Words.{◌≡◌, ℕ, ◌+◌, ◌*◌, ◌<◌, List, [], ◌∷◌, ◌++◌, length, map, drop, set, get_or, sym, ap, ◌∙◌, subst, arith, length-map, mul-add-lt, Task, Sent, Received, Seal, CheckerState, WatchedProcess, MakesCall, MayReceive, HasDone, IsNextTask, queue_at}
 use Rattle.wcp_model.specs.declared.workload.Action.TheVariants as action
-use Rattle.wcp_model.specs.declared.workload.Task.{Task}
-use Rattle.wcp_model.specs.ProbeLog.{Sent, Received}
-use Rattle.wcp_probe.specs.Seal.{Seal}
-use Rattle.wcp_queue.specs.Checker.{CheckerState}
-use Rattle.wcp_single.specs.declared.watched_process.WatchedProcess.{WatchedProcess}
-use Rattle.wcp_single.specs.WatchedProcess.{MakesCall, MayReceive}
-use Rattle.wcp_single.specs.WorkloadRun.{HasDone, IsNextTask, queue_at}
 use Rattle.wcp_single.proofs.NextTask.{next_within, sends_within, receives_within}
 use Rattle.wcp_single.proofs.RunAfterTask.{waits, may_receive, run_sent, run_received}
 use Rattle.wcp_single.proofs.SealQueues.{seals_pushed, seals_popped, first_seal, some_seals}

@@ -1,22 +1,5 @@
-use Rattle.std.proofs.Common.{◌≡◌, ◌≢◌, ℕ, ◌+◌, ◌*◌, ◌<◌, Bool, false, List, [], ◌∷◌, ◌++◌, length, map, drop, set, get_or, refl, sym, ap, ◌∙◌, subst, inl, inr, arith, eq-eqb, get_or-set_same, get_or-set_other}
-use Rattle.std.proofs.lemmas.Bool.{cases_eq, false_from_ne_true}
-use Rattle.std.proofs.lemmas.List.{length-set}
-use Rattle.wcp_clock.specs.declared.note.Item.{Item}
-use Rattle.wcp_model.specs.declared.workload.Action.{Action}
+use Rattle.wcp_single.proofs.Words.{◌≡◌, ◌≢◌, ℕ, ◌+◌, ◌*◌, ◌<◌, Bool, false, List, [], ◌∷◌, ◌++◌, length, map, drop, set, get_or, refl, sym, ap, ◌∙◌, subst, inl, inr, arith, eq-eqb, get_or-set_same, get_or-set_other, cases_eq, false_from_ne_true, length-set, Item, Action, Task, Call, Observed, Sent, Received, ProbeState, setup, state_of_log, notes_taken, actions_of, IsCallFor, FollowsActions, AreLogsOfTasks, sends, receives, is_send_to, is_receive_from, few_events, got_not_ahead, log_push, sends_ends, receives_ends, send_is_no_receive, receive_is_no_send, observe_is_no_send, observe_is_no_receive, Seal, CheckerState, WatchedProcess, IsRunning, MayCommunicate, MayReceive, MakesCall, Feeds, HasTaken, IsChannel, HasDone, IsNextTask, queue_at}
 use Rattle.wcp_model.specs.declared.workload.Action.TheVariants as action
-use Rattle.wcp_model.specs.declared.workload.Task.{Task}
-use Rattle.wcp_model.specs.ProbeLog.{Call, Observed, Sent, Received, ProbeState, setup, state_of_log}
-use Rattle.wcp_model.specs.Report.{notes_taken}
-use Rattle.wcp_model.specs.TaskLog.{actions_of, IsCallFor, FollowsActions, AreLogsOfTasks}
-use Rattle.wcp_model.specs.WorkloadComputation.{sends, receives, is_send_to, is_receive_from}
-use Rattle.wcp_model.proofs.LogsOfTasks.{few_events, got_not_ahead}
-use Rattle.wcp_model.proofs.TaskLogs.{log_push}
-use Rattle.wcp_order.proofs.Tasks.{sends_ends, receives_ends, send_is_no_receive, receive_is_no_send, observe_is_no_send, observe_is_no_receive}
-use Rattle.wcp_probe.specs.Seal.{Seal}
-use Rattle.wcp_queue.specs.Checker.{CheckerState}
-use Rattle.wcp_single.specs.declared.watched_process.WatchedProcess.{WatchedProcess}
-use Rattle.wcp_single.specs.WatchedProcess.{IsRunning, MayCommunicate, MayReceive, MakesCall, Feeds, HasTaken}
-use Rattle.wcp_single.specs.WorkloadRun.{IsChannel, HasDone, IsNextTask, queue_at}
 use Rattle.wcp_single.proofs.RunningProcesses.{running_clock}
 use Rattle.wcp_single.proofs.NextTask.{with_call, next_within, sends_within, receives_within, done_fits, message_waits, own_log, other_log, follows_next, channel_stays, channel_pushed, channel_popped, channels_set}
 

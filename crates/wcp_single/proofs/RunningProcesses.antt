@@ -1,18 +1,10 @@
-use Rattle.std.proofs.lemmas.Grind.{common_steps}
-use Rattle.std.proofs.Common.{◌≡◌, ℕ, ◌+◌, ◌↔◌, IsTrue, Bool, true, false, List, [], ◌∷◌, ◌++◌, Option, Some, None, MatchOption, refl, sym, ap, ap₂, ◌∙◌, subst, append-nil, arith}
+use Rattle.wcp_single.proofs.Words.{common_steps, ◌≡◌, ℕ, ◌+◌, ◌↔◌, IsTrue, Bool, true, false, List, [], ◌∷◌, ◌++◌, Option, Some, None, MatchOption, refl, sym, ap, ap₂, ◌∙◌, subst, append-nil, arith, Item, Call, Observed, Closed, ProbeState, setup, state_of_log, log_counts_notes, log_push, CheckerState, MayTake, TakesItem, processes, WatchedProcess, IsRunning, IsFed, IsFedMore, IsWatched, Feeds}
 use Rattle.std.specs.Prelude.{if◌then◌else◌}
-use Rattle.wcp_clock.specs.declared.note.Item.{Item}
 use Rattle.wcp_clock.specs.declared.note.Note.{Note}
 use Rattle.wcp_clock.specs.declared.note.Note.TheVariants as note
-use Rattle.wcp_model.specs.ProbeLog.{Call, Observed, Closed, ProbeState, setup, state_of_log}
 use Rattle.wcp_clock.specs.Notes.{place_of}
-use Rattle.wcp_model.proofs.NotesInTurn.{log_counts_notes}
-use Rattle.wcp_model.proofs.TaskLogs.{log_push}
 use Rattle.wcp_probe.specs.Core.{Core, setup_of}
-use Rattle.wcp_queue.specs.Checker.{CheckerState, MayTake, TakesItem, processes}
 use Rattle.wcp_queue.proofs.NotesTaken.{notes_taken-push_same, notes_taken-push_other}
-use Rattle.wcp_single.specs.declared.watched_process.WatchedProcess.{WatchedProcess}
-use Rattle.wcp_single.specs.WatchedProcess.{IsRunning, IsFed, IsFedMore, IsWatched, Feeds}
 
 -- the probe that has emitted a snapshot
 abbrev pub with_snapshot : Core → Core

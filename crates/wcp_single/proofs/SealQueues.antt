@@ -1,5 +1,4 @@
-use Rattle.std.proofs.Common.{◌≡◌, ℕ, ◌<◌, List, [], ◌∷◌, ◌++◌, length, map, drop, sym, ◌∙◌, ap, arith, get_or, set}
-use Rattle.std.proofs.lemmas.List.{get_or-map, map-set, map-append, length-map}
+use Rattle.wcp_single.proofs.Words.{◌≡◌, ℕ, ◌<◌, List, [], ◌∷◌, ◌++◌, length, map, drop, sym, ◌∙◌, ap, arith, get_or, set, get_or-map, map-set, map-append, length-map}
 
 module _ {Q M S : Type 0} (items : Q → List M) (seal : M → S) (queues : List Q) (i : ℕ) (queue : Q) (inside : i < length queues) (read : queue ≡ get_or queues i queue) where
   abbrev seals : Q → List S

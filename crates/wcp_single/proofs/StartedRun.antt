@@ -1,15 +1,5 @@
-use Rattle.std.proofs.lemmas.Grind.{common_steps}
-use Rattle.std.proofs.Common.{◌≡◌, ℕ, ◌+◌, ◌*◌, ◌<◌, List, [], ◌∷◌, ◌++◌, length, replicate, take, get_or, All, refl, ap, ◌∙◌, arith}
-use Rattle.std.proofs.lemmas.List.{length_push, length-replicate, get_or-replicate, get_or_append_left, get_or_push}
+use Rattle.wcp_single.proofs.Words.{common_steps, ◌≡◌, ℕ, ◌+◌, ◌*◌, ◌<◌, List, [], ◌∷◌, ◌++◌, length, replicate, take, get_or, All, refl, ap, ◌∙◌, arith, length_push, length-replicate, get_or-replicate, get_or_append_left, get_or_push, Task, IsWithin, IsFitOrder, IsFitOrder-take, Seal, CheckerState, WatchedProcess, IsRunning, HasTaken, HasDone, IsNextTask}
 use Rattle.wcp_clock.specs.Limits.{most_events}
-use Rattle.wcp_model.specs.declared.workload.Task.{Task}
-use Rattle.wcp_model.specs.WorkloadComputation.{IsWithin, IsFitOrder}
-use Rattle.wcp_model.proofs.AcceptedOrder.{IsFitOrder-take}
-use Rattle.wcp_probe.specs.Seal.{Seal}
-use Rattle.wcp_queue.specs.Checker.{CheckerState}
-use Rattle.wcp_single.specs.declared.watched_process.WatchedProcess.{WatchedProcess}
-use Rattle.wcp_single.specs.WatchedProcess.{IsRunning, HasTaken}
-use Rattle.wcp_single.specs.WorkloadRun.{HasDone, IsNextTask}
 
 -- the first processes run, with nothing in their logs
 abbrev pub AreNew : ℕ → ℕ → List WatchedProcess → Type 0

@@ -1,43 +1,14 @@
-use Rattle.wcp_model.specs.FirstReason.{first_reason}
-use Rattle.std.proofs.Common.{◌≡◌, Bool, true, false, is_some, List, [], ◌∷◌, map, Option, None, Some, if◌then◌else◌, refl, arith, ◌≢◌, ℕ, ◌+◌, ◌<◌, ◌≤◌, ◌↔◌, cond, nat_lt, nat_le, IsTrue, MatchOption, ◌++◌, length, slice_get, slice_index, count_by, set, eqb, sym, ap, ◌∙◌, subst₂, ⊎_elim, append-nil, eq-eqb}
-use Rattle.std.specs.Option.{option_map, option_to_list}
-use Rattle.wcp_model.specs.declared.step.Why.{Why}
+use Rattle.wcp_world.proofs.Words.{first_reason, ◌≡◌, Bool, true, false, is_some, List, [], ◌∷◌, map, Option, None, Some, if◌then◌else◌, refl, arith, ◌≢◌, ℕ, ◌+◌, ◌<◌, ◌≤◌, ◌↔◌, cond, nat_lt, nat_le, IsTrue, MatchOption, ◌++◌, length, slice_get, slice_index, count_by, set, eqb, sym, ap, ◌∙◌, subst₂, ⊎_elim, append-nil, eq-eqb, option_map, option_to_list, Why, why_of, delivery_reasons, IsPosted, IsDelivered, cases_eq, ne_eqb, nat_tests, length-set, set-get_or, take_at, sum_by_push, get_or_from_slice_get, slice_get_past, slice_get_within, MatchOption-at_some, MatchOption-at_none, most_events, Note, Step, Observe, Send, Recv, Close, Reply, Done, Refused, Computation, is_communication_of, is_send, communications, interval_at, is_closed, Call, Observed, Sent, Received, Closed, ProbeSetup, after_call, setup, is_step_of, IsStampOf, IsCallOf, IsAccepted, accepted_by, event_reasons, get_behind, stamp_grows, log_grows, length-receivers, local_state, Stamped, Core, Accepts, IsSameProbe, seal_of, Letter, IsAnswer, KeepsIfRefused, ProcessesState, AreProcessesOf, IsProbeOf, AreLettersOf, pending_at}
 use Rattle.wcp_model.specs.declared.step.Why.TheVariants as why
 use Rattle.wcp_probe.specs.declared.probe.Refusal.{Refusal}
 use Rattle.wcp_probe.specs.declared.probe.Refusal.TheVariants as refusal
-use Rattle.wcp_world.specs.Messages.{why_of, delivery_reasons, IsPosted, IsDelivered}
-use Rattle.std.proofs.lemmas.Bool.{cases_eq, ne_eqb}
-use Rattle.std.proofs.lemmas.Bool.Decides.{nat_tests}
-use Rattle.std.proofs.lemmas.List.{length-set, set-get_or, take_at}
-use Rattle.std.proofs.lemmas.List.Sums.{sum_by_push}
-use Rattle.std.proofs.lemmas.Option.{get_or_from_slice_get, slice_get_past, slice_get_within, MatchOption-at_some, MatchOption-at_none}
-use Rattle.wcp_clock.specs.Limits.{most_events}
-use Rattle.wcp_clock.specs.declared.note.Note.{Note}
 use Rattle.wcp_clock.specs.declared.note.Note.TheVariants as note
-use Rattle.wcp_model.specs.declared.step.Step.{Step}
-use Rattle.wcp_model.specs.declared.step.Step.TheVariants.{Observe, Send, Recv, Close}
-use Rattle.wcp_model.specs.declared.step.Reply.{Reply}
-use Rattle.wcp_model.specs.declared.step.Reply.TheVariants.{Done, Refused}
-use Rattle.wcp_model.specs.Computation.{Computation, is_communication_of, is_send, communications, interval_at}
-use Rattle.wcp_model.specs.Emission.{is_closed}
-use Rattle.wcp_model.specs.ProbeLog.{Call, Observed, Sent, Received, Closed, ProbeSetup, after_call, setup, is_step_of, IsStampOf, IsCallOf, IsAccepted}
-use Rattle.wcp_model.specs.Replies.{accepted_by, event_reasons}
 use Rattle.wcp_model.specs.StateClock.{IsStateClock}
-use Rattle.wcp_model.proofs.Growth.{get_behind}
-use Rattle.wcp_model.proofs.GrowingLogs.{stamp_grows, log_grows}
 use Rattle.wcp_model.proofs.FirstReasons.{none_holds}
-use Rattle.wcp_model.proofs.AcceptedReplies.{length-receivers}
 use Rattle.wcp_model.proofs.AcceptedSteps.{accepted_push}
-use Rattle.wcp_model.proofs.Predecessors.{local_state}
 use Rattle.wcp_model.proofs.RunningEmissions.{interval_at_seam}
 use Rattle.wcp_model.proofs.TaskLogs.{log_push}
-use Rattle.wcp_probe.specs.declared.stamp.Stamped.{Stamped}
-use Rattle.wcp_probe.specs.Core.{Core, Accepts, IsSameProbe}
 use Rattle.wcp_probe.specs.Refusals.{at_clock_end, observe_refusal, close_refusal, stamp_refusal}
-use Rattle.wcp_probe.specs.Seal.{seal_of}
-use Rattle.wcp_world.specs.declared.messages.Letter.{Letter}
-use Rattle.wcp_world.specs.Answer.{IsAnswer, KeepsIfRefused}
-use Rattle.wcp_world.specs.Processes.{ProcessesState, AreProcessesOf, IsProbeOf, AreLettersOf, pending_at}
 use Rattle.wcp_world.proofs.Probes.{get_set, addressed_is, not_ahead, letters_stay, letters_posted, letters_delivered, clock_is, law_of_probe, is_closed_as, state, observed, closed}
 
 one_reason : (b : Bool) (reason : Refusal) (rest : Option Refusal) (others : Option Why) → others ≡ option_map why_of rest →

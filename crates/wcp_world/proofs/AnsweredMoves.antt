@@ -1,29 +1,7 @@
-use Rattle.std.proofs.lemmas.Grind.{common_steps}
-use Rattle.std.proofs.Common.{◌≡◌, ◌≢◌, ℕ, ◌+◌, ◌<◌, Bool, true, false, not, cond, nat_le, nat_lt, length, set, get_or, eqb, Option, None, Some, MatchOption, List, [], ◌∷◌, ◌++◌, slice_get, drop, take, refl, sym, ap, ap₂, subst, ◌∙◌, append-nil, eqb-true, eq-eqb, add-zero, true≢false, arith}
+use Rattle.wcp_world.proofs.Words.{common_steps, ◌≡◌, ◌≢◌, ℕ, ◌+◌, ◌<◌, Bool, true, false, not, cond, nat_le, nat_lt, length, set, get_or, eqb, Option, None, Some, MatchOption, List, [], ◌∷◌, ◌++◌, slice_get, drop, take, refl, sym, ap, ap₂, subst, ◌∙◌, append-nil, eqb-true, eq-eqb, add-zero, true≢false, arith, option_and_then, option_flatten, option_map, nat_tests, get_or_default, length-set, get_or-set_same, get_or-set_other, slice_get_cases, slice_get_within, Item, Note, Parent, Root, Relay, Plan, Step, Done, Refused, IsSamePlan, is_number, is_attached, is_leaf, leaf_of, parent_of, Place, Pending, Link, HoldOf, InboxOf, is_same_place, source, target, takes_from, taken_from, notes_in, next_place, IsEntry, Emitted, reasons, move_reasons, names_nothing, notes_taken, attached_exists, get_behind, Held, IsAnswer, put_more, TransportState, IsPlaceOf, place_number, held_at, IsTransportOf, IsNextAtRoot, IsMoveBetween, MovesBetween, IsConveying, notes_along}
 use Rattle.std.specs.List.{list_any}
-use Rattle.std.specs.Option.{option_and_then, option_flatten, option_map}
-use Rattle.std.proofs.lemmas.Bool.Decides.{nat_tests}
-use Rattle.std.proofs.lemmas.List.{get_or_default, length-set, get_or-set_same, get_or-set_other}
-use Rattle.std.proofs.lemmas.Option.{slice_get_cases, slice_get_within}
-use Rattle.wcp_clock.specs.declared.note.Item.{Item}
-use Rattle.wcp_clock.specs.declared.note.Note.{Note}
-use Rattle.wcp_model.specs.declared.plan.Parent.{Parent}
-use Rattle.wcp_model.specs.declared.plan.Parent.TheVariants.{Root, Relay}
-use Rattle.wcp_model.specs.declared.plan.Plan.{Plan}
-use Rattle.wcp_model.specs.declared.step.Step.{Step}
 use Rattle.wcp_model.specs.declared.step.Step.TheVariants as step
-use Rattle.wcp_model.specs.declared.step.Reply.TheVariants.{Done, Refused}
 use Rattle.wcp_model.specs.declared.step.Why.TheVariants as why
-use Rattle.wcp_model.specs.Tree.{IsSamePlan, is_number, is_attached, is_leaf, leaf_of, parent_of}
-use Rattle.wcp_model.specs.Occupancy.{Place, Pending, Link, HoldOf, InboxOf, is_same_place, source, target, takes_from, taken_from, notes_in, next_place, IsEntry, Emitted}
-use Rattle.wcp_model.specs.Replies.{reasons, move_reasons, names_nothing}
-use Rattle.wcp_model.specs.Report.{notes_taken}
-use Rattle.wcp_model.proofs.CheckedPlans.{attached_exists}
-use Rattle.wcp_model.proofs.Growth.{get_behind}
-use Rattle.wcp_hold.specs.Held.{Held}
-use Rattle.wcp_world.specs.Answer.{IsAnswer}
-use Rattle.wcp_world.specs.PutNotes.{put_more}
-use Rattle.wcp_world.specs.Transport.{TransportState, IsPlaceOf, place_number, held_at, IsTransportOf, IsNextAtRoot, IsMoveBetween, MovesBetween, IsConveying, notes_along}
 use Rattle.wcp_world.proofs.Places.{same_place, number_apart, number_within, next_is_place, itself, next_apart}
 use Rattle.wcp_world.proofs.Entries.{item_if, IsStirred, entry_grows, entry_emitted, transport_after}
 

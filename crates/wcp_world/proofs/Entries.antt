@@ -1,23 +1,5 @@
-use Rattle.std.proofs.Common.{◌≡◌, ℕ, ◌+◌, ◌<◌, ◌⊎◌, Bool, true, false, cond, length, take, count_by, Some, List, [], ◌∷◌, ◌++◌, slice_get, filter, map, refl, sym, ap, subst, ◌∙◌, ⊎_elim, append-nil, arith, eqb, Option, ap₂, append_assoc}
-use Rattle.std.proofs.lemmas.Bool.{ne_eqb}
-use Rattle.std.proofs.lemmas.List.{length-append, map-append, take-append-le, take_at}
-use Rattle.std.proofs.lemmas.List.Elements.{filter-append}
-use Rattle.std.proofs.lemmas.List.Sums.{sum_by_push}
-use Rattle.std.proofs.lemmas.Option.{slice_get_within}
-use Rattle.wcp_clock.specs.declared.note.Item.{Item}
-use Rattle.wcp_clock.specs.declared.note.Note.{Note}
-use Rattle.wcp_model.specs.declared.plan.Plan.{Plan}
-use Rattle.wcp_model.specs.declared.step.Step.{Step}
-use Rattle.wcp_model.specs.Occupancy.{Place, source, takes_from, puts_into, taken_from, next_place, IsEntry, Emitted, Moved, Pending, Link, InboxOf, target, is_place}
-use Rattle.wcp_model.specs.Report.{notes_taken}
-use Rattle.wcp_model.proofs.Growth.{get_front, get_behind, at_grows}
-use Rattle.wcp_model.proofs.GrowingLogs.{get_push}
-use Rattle.wcp_hold.specs.Held.{Held}
-use Rattle.wcp_world.specs.Transport.{IsHeldAt, TransportState, IsPlaceOf, IsWay, place_number, held_at, notes_along, notes_at, IsTransportOf}
+use Rattle.wcp_world.proofs.Words.{◌≡◌, ℕ, ◌+◌, ◌<◌, ◌⊎◌, Bool, true, false, cond, length, take, count_by, Some, List, [], ◌∷◌, ◌++◌, slice_get, filter, map, refl, sym, ap, subst, ◌∙◌, ⊎_elim, append-nil, arith, eqb, Option, ap₂, append_assoc, ne_eqb, length-append, map-append, take-append-le, take_at, filter-append, sum_by_push, slice_get_within, Item, Note, Plan, Step, Place, source, takes_from, puts_into, taken_from, next_place, IsEntry, Emitted, Moved, Pending, Link, InboxOf, target, is_place, notes_taken, get_front, get_behind, at_grows, get_push, Held, IsHeldAt, TransportState, IsPlaceOf, IsWay, place_number, held_at, notes_along, notes_at, IsTransportOf, common_steps, option_and_then, Root}
 use Rattle.wcp_world.proofs.Places.{IsOnWay, Start, Onward, next_is_place, one_before}
-use Rattle.std.proofs.lemmas.Grind.{common_steps}
-use Rattle.std.specs.Option.{option_and_then}
-use Rattle.wcp_model.specs.declared.plan.Parent.TheVariants.{Root}
 
 abbrev pub bit : Bool → ℕ
 bit b = cond b 1 0

@@ -1,27 +1,12 @@
-use Rattle.std.proofs.Common.{◌≡◌, ℕ, ◌+◌, ◌<◌, ◌≤◌, Result, Ok, Err, IfOk, OnErr, List, [], ◌∷◌, ◌++◌, length, take, sym, ap, ◌∙◌, subst, ⊎_elim, append-nil, arith, le_refl}
-use Rattle.std.proofs.lemmas.Bool.{cases_lt}
-use Rattle.std.proofs.lemmas.Grind.{flat_map-append}
-use Rattle.std.proofs.lemmas.List.{length_push, take-append-le, take_at, take_all, map_push}
-use Rattle.std.proofs.lemmas.Option.{slice_get_within}
-use Rattle.wcp_model.specs.declared.plan.Plan.{Plan}
-use Rattle.wcp_model.specs.declared.step.Step.{Step}
-use Rattle.wcp_model.specs.declared.step.Reply.{Reply}
-use Rattle.wcp_model.specs.Replies.{Answered, accepted, items_taken, accepted_by, taken_by, computation, IsReply, AreReplies}
-use Rattle.wcp_model.specs.Report.{AreFrontsOfEmissions, AreInTurn, ClocksRise, IsReportByClocks}
-use Rattle.wcp_model.proofs.GrowingLogs.{get_push}
-use Rattle.wcp_world.specs.World.{WorldState, Stands, IsReached, MakesStep, IsWorldOf}
+use Rattle.wcp_world.proofs.Words.{◌≡◌, ℕ, ◌+◌, ◌<◌, ◌≤◌, Result, Ok, Err, IfOk, OnErr, List, [], ◌∷◌, ◌++◌, length, take, sym, ap, ◌∙◌, subst, ⊎_elim, append-nil, arith, le_refl, cases_lt, flat_map-append, length_push, take-append-le, take_at, take_all, map_push, slice_get_within, Plan, Step, Reply, Answered, accepted, items_taken, accepted_by, taken_by, computation, IsReply, AreReplies, AreFrontsOfEmissions, AreInTurn, ClocksRise, IsReportByClocks, get_push, WorldState, Stands, IsReached, MakesStep, IsWorldOf, IsTallyOf, AreTalliesOf, HasAnswered, nothing_follows, processes, StandsForItems, Item}
 use Rattle.wcp_world.proofs.WorldAfterStep.{taken_fronts}
 use Rattle.wcp_model.specs.declared.outcome.Tally.{Tally}
-use Rattle.wcp_world.specs.Plays.{IsTallyOf, AreTalliesOf, HasAnswered}
 use Rattle.wcp_model.specs.declared.outcome.Report.{Report}
 use Rattle.wcp_model.specs.Cut.{IsLeastCut}
 use Rattle.wcp_model.specs.Headline.{IsHeadline}
 use Rattle.wcp_model.proofs.GrowthLaws.{computation_append, early_find_holds}
-use Rattle.wcp_model.proofs.NotesInTurn.{nothing_follows}
 use Rattle.wcp_model.proofs.RisingClocks.{clocks_rise}
 use Rattle.wcp_model.proofs.TakenFronts.{report_of_taken, found_is_least, report_when_drained}
-use Rattle.wcp_queue.specs.Checker.{processes, StandsForItems}
-use Rattle.wcp_clock.specs.declared.note.Item.{Item}
 
 -- a history with one more step and its reply
 accepted_push : (history : List Answered) (a : Answered) → accepted (history ++ a ∷ []) ≡ accepted history ++ accepted_by a.step a.reply

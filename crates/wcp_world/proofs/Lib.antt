@@ -1,3 +1,4 @@
+mod Words
 pub mod AnsweredEvents
 pub mod Probes
 pub mod Entries

@@ -1,17 +1,5 @@
-use Rattle.std.proofs.Common.{◌≡◌, ◌≢◌, ◌+◌, ◌<◌, true, false, length, Some, arith, ℕ, zero, suc, ◌*◌, ◌≤◌, get_or, Option, List, [], ◌∷◌, refl, ap, ◌∙◌, ⊎_elim, ◌++◌, replicate, ap₂}
-use Rattle.wcp_model.specs.declared.plan.Plan.{Plan}
+use Rattle.wcp_world.proofs.Words.{◌≡◌, ◌≢◌, ◌+◌, ◌<◌, true, false, length, Some, arith, ℕ, zero, suc, ◌*◌, ◌≤◌, get_or, Option, List, [], ◌∷◌, refl, ap, ◌∙◌, ⊎_elim, ◌++◌, replicate, ap₂, Plan, Place, is_same_place, next_place, Pending, Link, HoldOf, InboxOf, room_of, few_processes, some_process, capacity, hold_room, parent_below, attached_exists, has_leaf, IsPlaceOf, place_number, IsWay, TransportState, IsTransportOf, held_at, notes_at, notes_along, option_and_then, false_from_ne_true, cases_lt, cases_order, slice_get-get_or, option_and_then_some, Parent, Root, Relay, leaf_of, parent_of, IsSamePlan, length-append, length-replicate, get_or-replicate, get_or_append_left, get_or-append_right, Held, empty_hold}
 use Rattle.wcp_model.specs.PlanFault.{IsCheckedPlan}
-use Rattle.wcp_model.specs.Occupancy.{Place, is_same_place, next_place, Pending, Link, HoldOf, InboxOf, room_of}
-use Rattle.wcp_model.proofs.CheckedPlans.{few_processes, some_process, capacity, hold_room, parent_below, attached_exists, has_leaf}
-use Rattle.wcp_world.specs.Transport.{IsPlaceOf, place_number, IsWay, TransportState, IsTransportOf, held_at, notes_at, notes_along}
-use Rattle.std.specs.Option.{option_and_then}
-use Rattle.std.proofs.lemmas.Bool.{false_from_ne_true, cases_lt, cases_order}
-use Rattle.std.proofs.lemmas.Option.{slice_get-get_or, option_and_then_some}
-use Rattle.wcp_model.specs.declared.plan.Parent.{Parent}
-use Rattle.wcp_model.specs.declared.plan.Parent.TheVariants.{Root, Relay}
-use Rattle.wcp_model.specs.Tree.{leaf_of, parent_of, IsSamePlan}
-use Rattle.std.proofs.lemmas.List.{length-append, length-replicate, get_or-replicate, get_or_append_left, get_or-append_right}
-use Rattle.wcp_hold.specs.Held.{Held, empty_hold}
 
 pub same_place : (x y : Place) → is_same_place x y ≡ true → x ≡ y
 same_place x y same = grind arith

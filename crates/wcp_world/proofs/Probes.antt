@@ -1,37 +1,11 @@
-use Rattle.std.proofs.lemmas.Grind.{common_steps}
-use Rattle.std.proofs.Common.{◌≡◌, ◌≢◌, ℕ, ◌+◌, ◌<◌, ◌≤◌, ◌⊎◌, true, false, List, [], ◌∷◌, ◌++◌, length, slice_get, slice_index, count_by, set, None, Some, refl, sym, ap, ◌∙◌, ⊎_elim, append-nil, eqb-true, eq-eqb, le_refl, arith, ◌↔◌, Bool, IsTrue, if◌then◌else◌, IsSome, subst, replicate}
+use Rattle.wcp_world.proofs.Words.{common_steps, ◌≡◌, ◌≢◌, ℕ, ◌+◌, ◌<◌, ◌≤◌, ◌⊎◌, true, false, List, [], ◌∷◌, ◌++◌, length, slice_get, slice_index, count_by, set, None, Some, refl, sym, ap, ◌∙◌, ⊎_elim, append-nil, eqb-true, eq-eqb, le_refl, arith, ◌↔◌, Bool, IsTrue, if◌then◌else◌, IsSome, subst, replicate, cases_lt, flat_map-append, length-map, map-append, length-set, length-replicate, sum_by-take-le, gets, slice_get-get_or, slice_get-map, get_or_from_slice_get, slice_get_cases, slice_get_within, Step, Send, Recv, Computation, IsState, is_send, interval_at, communications, IsStampOf, IsAccepted, Observed, Closed, ProbeState, after_call, setup, state_of_log, HasClockAndEmissions, receivers, is_receive_of, was_received, was_sent_to, span, local_state, length-receivers, stamp_grows, get_push, seal_of, Stamped, Letter, AreLettersOf, IsLetterOf, IsProbeOf, ProcessesState, AreProcessesOf, CountsEmissions, WasPut, pending_at, is_addressed, option_to_list, Note, is_closed, AreEmissions, Core, IsSameProbe, setup_of, log_counts_notes, put_more, most_events}
 use Rattle.std.proofs.Math.Bool.{or-false, or-true}
 use Rattle.std.proofs.Math.Seq.{map-set_same}
-use Rattle.std.proofs.lemmas.Bool.{cases_lt}
-use Rattle.std.proofs.lemmas.Grind.{flat_map-append}
-use Rattle.std.proofs.lemmas.List.{length-map, map-append, length-set, length-replicate}
 use Rattle.std.proofs.lemmas.List.Folds.{list_any-append, Any-from_list_any}
-use Rattle.std.proofs.lemmas.List.Sums.{sum_by-take-le}
-use Rattle.std.proofs.lemmas.Option.{gets, slice_get-get_or, slice_get-map, get_or_from_slice_get, slice_get_cases, slice_get_within}
-use Rattle.wcp_model.specs.declared.step.Step.{Step}
-use Rattle.wcp_model.specs.declared.step.Step.TheVariants.{Send, Recv}
-use Rattle.wcp_model.specs.Computation.{Computation, IsState, is_send, interval_at, communications}
-use Rattle.wcp_model.specs.ProbeLog.{IsStampOf, IsAccepted, Observed, Closed, ProbeState, after_call, setup, state_of_log, HasClockAndEmissions}
-use Rattle.wcp_model.specs.Replies.{receivers, is_receive_of, was_received, was_sent_to}
 use Rattle.wcp_model.proofs.EventPlaces.{event_of_send, event_below}
-use Rattle.wcp_model.proofs.Predecessors.{span, local_state}
 use Rattle.wcp_model.proofs.RunningClock.{clock_counts}
-use Rattle.wcp_model.proofs.AcceptedReplies.{length-receivers}
-use Rattle.wcp_model.proofs.GrowingLogs.{stamp_grows, get_push}
-use Rattle.wcp_probe.specs.Seal.{seal_of}
-use Rattle.wcp_probe.specs.declared.stamp.Stamped.{Stamped}
-use Rattle.wcp_world.specs.declared.messages.Letter.{Letter}
-use Rattle.wcp_world.specs.Processes.{AreLettersOf, IsLetterOf, IsProbeOf, ProcessesState, AreProcessesOf, CountsEmissions, WasPut, pending_at}
-use Rattle.wcp_world.specs.Messages.{is_addressed}
-use Rattle.std.specs.Option.{option_to_list}
-use Rattle.wcp_clock.specs.declared.note.Note.{Note}
 use Rattle.wcp_clock.specs.declared.note.Note.TheVariants as note
-use Rattle.wcp_model.specs.Emission.{is_closed, AreEmissions}
 use Rattle.wcp_model.proofs.RunningLog.{log_law_holds}
-use Rattle.wcp_probe.specs.Core.{Core, IsSameProbe, setup_of}
-use Rattle.wcp_model.proofs.NotesInTurn.{log_counts_notes}
-use Rattle.wcp_world.specs.PutNotes.{put_more}
-use Rattle.wcp_clock.specs.Limits.{most_events}
 
 -- an element of a list with one written anew is that one, or stands there still
 pub get_set : {X : Type 0} (xs : List X) (y z : X) (i k : ℕ) → slice_get (set xs i y) k ≡ Some z →

@@ -1,32 +1,8 @@
-use Rattle.wcp_model.specs.FirstReason.{first_reason}
-use Rattle.std.proofs.Common.{◌≡◌, ℕ, ◌+◌, ◌<◌, true, false, nat_lt, is_some, Option, None, Some, MatchOption, List, [], ◌∷◌, ◌++◌, length, eqb, eq-eqb, refl, sym, ap, ◌∙◌, subst, append-nil, append_assoc, add-zero, arith, ◌≤◌, Result, Ok, Err, IfOk}
-use Rattle.std.proofs.lemmas.Bool.{true≢false}
-use Rattle.std.specs.Option.{option_and_then, option_to_list}
-use Rattle.std.proofs.lemmas.Bool.Decides.{nat_tests}
-use Rattle.std.proofs.lemmas.List.{length-append}
-use Rattle.std.proofs.lemmas.List.Elements.{filter-append}
-use Rattle.wcp_clock.specs.declared.note.Item.{Item}
-use Rattle.wcp_clock.specs.declared.note.Note.{Note}
+use Rattle.wcp_world.proofs.Words.{first_reason, ◌≡◌, ℕ, ◌+◌, ◌<◌, true, false, nat_lt, is_some, Option, None, Some, MatchOption, List, [], ◌∷◌, ◌++◌, length, eqb, eq-eqb, refl, sym, ap, ◌∙◌, subst, append-nil, append_assoc, add-zero, arith, ◌≤◌, Result, Ok, Err, IfOk, true≢false, option_and_then, option_to_list, nat_tests, length-append, filter-append, Item, Note, Plan, Step, Reply, Done, Took, Refused, Why, AreEmissions, Place, Pending, InboxOf, source, is_place, takes_from, puts_into, taken_from, next_place, notes_in, IsEntry, is_event, computation, accepted_by, taken_by, event_reasons, reasons, IsAcceptance, IsReply, ProcessesState, Performs, WasPut, pending_at, TransportState, IsTransportOf, IsNextAtRoot, Conveys, Puts, TakesNext, next_of, ReadsNext, put_more, WorldState, Stands, MakesStep, CheckerState, MayTake, TakesItem, processes, notes_taken, AreFrontsOfEmissions, next_of_emissions, Root}
 use Rattle.wcp_clock.specs.declared.note.Note.TheVariants as note
-use Rattle.wcp_model.specs.declared.plan.Plan.{Plan}
-use Rattle.wcp_model.specs.declared.step.Step.{Step}
 use Rattle.wcp_model.specs.declared.step.Step.TheVariants as step
-use Rattle.wcp_model.specs.declared.step.Reply.{Reply}
-use Rattle.wcp_model.specs.declared.step.Reply.TheVariants.{Done, Took, Refused}
-use Rattle.wcp_model.specs.declared.step.Why.{Why}
 use Rattle.wcp_model.specs.declared.step.Why.TheVariants as why
-use Rattle.wcp_model.specs.Emission.{AreEmissions}
-use Rattle.wcp_model.specs.Occupancy.{Place, Pending, InboxOf, source, is_place, takes_from, puts_into, taken_from, next_place, notes_in, IsEntry}
-use Rattle.wcp_model.specs.Replies.{is_event, computation, accepted_by, taken_by, event_reasons, reasons, IsAcceptance, IsReply}
-use Rattle.wcp_world.specs.Processes.{ProcessesState, Performs, WasPut, pending_at}
-use Rattle.wcp_world.specs.Transport.{TransportState, IsTransportOf, IsNextAtRoot, Conveys, Puts, TakesNext, next_of, ReadsNext}
-use Rattle.wcp_world.specs.PutNotes.{put_more}
-use Rattle.wcp_world.specs.World.{WorldState, Stands, MakesStep}
-use Rattle.wcp_queue.specs.Checker.{CheckerState, MayTake, TakesItem, processes}
-use Rattle.wcp_model.specs.Report.{notes_taken, AreFrontsOfEmissions}
-use Rattle.wcp_model.proofs.NotesInTurn.{next_of_emissions}
 use Rattle.wcp_world.proofs.Entries.{held_after, stays as still, get_grows, bit, notes_append, count_push, entry_grows}
-use Rattle.wcp_model.specs.declared.plan.Parent.TheVariants.{Root}
 use Rattle.wcp_world.proofs.Probes.{put_and_pending}
 
 -- what is answered by reasons gives no item, and is a reply's first clause

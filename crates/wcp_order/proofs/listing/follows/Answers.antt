@@ -1,23 +1,23 @@
-use Rattle.std.proofs.Common.{◌≡◌, false, get_or, length, arith, refl, subst}
-use Rattle.std.proofs.lemmas.Bool.{both_ways, false≢true}
-use Rattle.std.proofs.lemmas.Option.{slice_get-get_or}
-use Rattle.wcp_model.specs.declared.workload.Action.TheVariants.{Observe}
-use Rattle.wcp_model.specs.declared.workload.Task.{Task}
-use Rattle.wcp_order.proofs.Following.{IsFollowed, followed_more, ready_if_fit, followed_all}
+use Rattle.wcp_order.proofs.Words.{false, get_or, arith, refl, subst, both_ways, false≢true, take_all, take_more, slice_get-get_or, Observe, Task, IsFitOrder}
+use Rattle.wcp_order.proofs.Counting.{none_done, done_more, ready_if_fit}
 use Rattle.wcp_order.proofs.listing.follows.Goals as goal
 
 none : Task
 none = record { p = 0; action = Observe false }
+
+pub loop-task-init : goal.loop-task-init
+loop-task-init c = none_done c.args.n c.args.in_transit.now c.requires.none
 
 pub returns-then-not-is_ready : goal.returns-then-not-is_ready
 unfolding none
 returns-then-not-is_ready c =
     let place = c.loop-task.task-index in
     let tasks = c.args.tasks.now in
-    let task : Task = get_or tasks place none in (
+    let task : Task = get_or tasks place none in
+    let at = slice_get-get_or tasks place none c.loop-task-test.true in (
       λ holds. absurd (false≢true holds),
       λ fit. absurd (both_ways c.is_ready.result c.if-not-is_ready.true (c.is_ready.ensures.1
-          (ready_if_fit c.args.n tasks place c.loop-task.in_transit c.requires.within c.loop-task.invariant fit task.p task.action (slice_get-get_or tasks place none c.loop-task-test.true)))),
+          (ready_if_fit c.args.n tasks place c.loop-task.in_transit c.requires.within c.loop-task.invariant fit task.p task.action at))),
     )
 
 pub loop-task-preserved : goal.loop-task-preserved
@@ -26,12 +26,11 @@ loop-task-preserved c =
     let place = c.loop-task.task-index in
     let tasks = c.args.tasks.now in
     let task : Task = get_or tasks place none in
-    rw c.count.ensures
-    (followed_more c.args.n tasks place c.loop-task.in_transit c.requires.within c.loop-task.invariant task.p task.action (slice_get-get_or tasks place none c.loop-task-test.true) (c.is_ready.ensures.0 c.if-not-is_ready.false))
+    rw (c.count.ensures, take_more tasks place none c.loop-task-test.true)
+    (done_more c.args.n _ c.loop-task.in_transit c.loop-task.invariant task.p task.action
+    (c.requires.within place none c.loop-task-test.true) (c.is_ready.ensures.0 c.if-not-is_ready.false))
 
 pub returns : goal.returns
 returns c =
-    let place = c.loop-task.task-index in
-    let tasks = c.args.tasks.now in
-    let end : place ≡ length tasks = omega arith in
-    (λ _. followed_all c.args.n tasks c.loop-task.in_transit (subst (λ place. IsFollowed c.args.n tasks place c.loop-task.in_transit) end c.loop-task.invariant), λ _. refl)
+    let all = take_all c.loop-task.task-index c.args.tasks.now (omega arith) in
+    (λ _. subst (λ order. IsFitOrder order order) all c.loop-task.invariant.fit, λ _. refl)

@@ -1,5 +1,5 @@
-use Rattle.wcp_order.proofs.Following.{IsFollowed}
+use Rattle.wcp_order.proofs.Words.{take, IsDone}
 use Rattle.wcp_order.proofs.listing.follows.Given as goal
 
 abbrev pub invariant-loop-task : goal.invariant-loop-task
-invariant-loop-task l = IsFollowed l.n l.tasks l.task-index l.in_transit
+invariant-loop-task l = IsDone l.n (take l.task-index l.tasks) l.in_transit

@@ -1,5 +1,4 @@
-use Rattle.std.proofs.Common.{ℕ, ◌*◌, mul-le-mul}
-use Rattle.std.proofs.lemmas.List.{take-replicate}
+use Rattle.wcp_order.proofs.Words.{ℕ, ◌*◌, mul-le-mul, take-replicate}
 use Rattle.wcp_order.proofs.listing.is_fit.Goals as goal
 
 pub follows-requires-clause-none : goal.follows-requires-clause-none

@@ -1,20 +1,28 @@
-use Rattle.std.proofs.Common.{arith}
-use Rattle.wcp_order.specs.Progress.{HasGrown}
-use Rattle.wcp_order.proofs.Concluding.{IsProgress_none}
-use Rattle.wcp_order.proofs.Lengths.{length_order-le}
+use Rattle.wcp_order.proofs.Words.{◌≡◌, ◌<◌, ℕ, List, filter, arith, is_task_of, HasGrown, IsSoundProgress, history_at}
+use Rattle.wcp_order.proofs.Advancing.{IsProgress_none}
+use Rattle.wcp_order.proofs.Concluding.{IsProgress_same, length_order-le}
+use Rattle.wcp_order.proofs.Histories.{IsHistory_filter}
 use Rattle.wcp_order.proofs.order.search.Goals as goal
+use Rattle.wcp_order.proofs.order.search.Goals.{In_ok-round}
+
+-- the progress after a round, by the tasks themselves
+sound : (c : In_ok-round) → IsSoundProgress c.args.n (λ p. filter (is_task_of p) c.args.tasks.now) c.round.new.self
+sound c = IsProgress_same c.args.n (history_at c.deref.result.now) (λ p. filter (is_task_of p) c.args.tasks.now) _ _ _
+    (λ p below. rw c.deref.ensures.value (c.in_ok-histories.ensures.tasks p below)) c.in_ok-round.ensures.sound
 
 pub loop-progress-init : goal.loop-progress-init
 loop-progress-init c =
-    let histories = c.in_ok-histories in
-    let progress = c.in_ok-progress in
-    rw progress.ensures.fronts (IsProgress_none c.args.n c.args.tasks.now _ _ _ c.requires.within histories.ensures.processes histories.ensures.first progress.ensures.order progress.ensures.channels)
+    let new = c.in_ok-progress.ensures in
+    IsProgress_none c.args.n (history_at c.in_ok-histories.histories.items) _ _ _ new.order new.done new.channels
 
-pub round-requires-clause-links : goal.round-requires-clause-links
-round-requires-clause-links c = λ i task at. rw c.deref.ensures.value (c.in_ok-histories.ensures.next i task at)
+pub round-requires-clause-histories : goal.round-requires-clause-histories
+round-requires-clause-histories c = λ p below.
+    rw (c.deref.ensures.value, c.in_ok-histories.ensures.tasks p below) (IsHistory_filter c.args.n p c.args.tasks.now c.requires.within)
 
 pub loop-progress-smaller : goal.loop-progress-smaller
 loop-progress-smaller c =
-    let after = c.round.new.self in
-    let grown : HasGrown c.loop-progress.progress after = rw c.if-branch.true at c.in_ok-round.ensures.grown in
-    omega (arith, grown, length_order-le c.args.n c.args.tasks.now after.order.items after.fronts.items after.in_transit.items c.requires.within c.in_ok-round.ensures.sound)
+    let grown : HasGrown c.loop-progress.progress c.round.new.self = rw c.if-branch.true at c.in_ok-round.ensures.grown in
+    omega (arith, grown, length_order-le c.args.n c.args.tasks.now _ _ _ c.requires.within (sound (goal.at.loop-progress-smaller c).In_ok-round))
+
+pub conclude-requires-clause-sound : goal.conclude-requires-clause-sound
+conclude-requires-clause-sound c = sound (goal.at.conclude-requires-clause-sound c).In_ok-round

@@ -1,6 +1,4 @@
-use Rattle.std.proofs.Common.{◌≡◌, take, sym, subst, arith}
-use Rattle.std.proofs.lemmas.List.{take_all, take_more}
-use Rattle.wcp_single.specs.WorkloadRun.{HasDone, IsEnding, queues_of}
+use Rattle.wcp_single.proofs.Words.{◌≡◌, take, sym, subst, arith, take_all, take_more, HasDone, IsEnding, queues_of}
 use Rattle.wcp_single.proofs.StartedRun.{next_at}
 use Rattle.wcp_single.proofs.EndedRun.{begins_to_end}
 use Rattle.wcp_single.proofs.workload_outcome.outcome.Goals as goal

@@ -1,5 +1,4 @@
-use Rattle.std.proofs.Common.{take}
-use Rattle.wcp_single.specs.WorkloadRun.{HasDone, IsEnding, queues_of}
+use Rattle.wcp_single.proofs.Words.{take, HasDone, IsEnding, queues_of}
 use Rattle.wcp_single.proofs.workload_outcome.outcome.Given as goal
 
 abbrev pub invariant-loop-task : goal.invariant-loop-task

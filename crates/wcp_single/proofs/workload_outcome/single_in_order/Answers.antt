@@ -1,9 +1,5 @@
-use Rattle.std.proofs.Common.{sym, ◌∙◌, arith}
-use Rattle.std.proofs.lemmas.Result.{IfOk-weaker}
-use Rattle.wcp_model.specs.Outcome.{IsWorkloadOutcome}
-use Rattle.wcp_model.specs.WorkloadComputation.{IsWithin}
+use Rattle.wcp_single.proofs.Words.{sym, ◌∙◌, arith, IfOk-weaker, IsWorkloadOutcome, IsWithin, IsFitOrder-itself, All-fit_order}
 use Rattle.wcp_order.proofs.Lengths.{same_length}
-use Rattle.wcp_model.proofs.AcceptedOrder.{IsFitOrder-itself, All-fit_order}
 use Rattle.wcp_single.proofs.workload_outcome.single_in_order.Goals as goal
 
 pub outcome-requires-clause-few_tasks : goal.outcome-requires-clause-few_tasks

@@ -1,8 +1,4 @@
-use Rattle.std.proofs.Common.{List, take, false, sym, ◌∙◌, subst, arith}
-use Rattle.std.proofs.lemmas.List.{take_more, take_all}
-use Rattle.wcp_model.specs.declared.step.Step.{Step}
-use Rattle.wcp_model.specs.declared.step.Step.TheVariants.{Observe}
-use Rattle.wcp_world.specs.Plays.{HasAnswered}
+use Rattle.wcp_world.proofs.Words.{List, take, false, sym, ◌∙◌, subst, arith, take_more, take_all, Step, Observe, HasAnswered}
 use Rattle.wcp_world.proofs.plays.play.Goals as goal
 
 pub loop-step-preserved : goal.loop-step-preserved

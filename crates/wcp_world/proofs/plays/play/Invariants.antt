@@ -1,5 +1,4 @@
-use Rattle.std.proofs.Common.{take}
-use Rattle.wcp_world.specs.Plays.{HasAnswered}
+use Rattle.wcp_world.proofs.Words.{take, HasAnswered}
 use Rattle.wcp_world.proofs.plays.play.Given as goal
 
 abbrev pub invariant-loop-step : goal.invariant-loop-step

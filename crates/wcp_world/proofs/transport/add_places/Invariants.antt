@@ -1,5 +1,4 @@
-use Rattle.std.proofs.Common.{◌≡◌, ◌++◌, replicate}
-use Rattle.wcp_hold.specs.Held.{empty_hold}
+use Rattle.wcp_world.proofs.Words.{◌≡◌, ◌++◌, replicate, empty_hold}
 use Rattle.wcp_world.proofs.transport.add_places.Given as goal
 
 abbrev pub invariant-loop : goal.invariant-loop

@@ -1,36 +1,27 @@
-use Rattle.std.proofs.Common.{◌<◌, ◌≤◌, length, arith}
-use Rattle.std.proofs.lemmas.List.Elements.{All-get_or}
-use Rattle.wcp_model.specs.WorkloadComputation.{IsFitOrder}
-use Rattle.wcp_order.specs.Stuck.{IsFirstStuck}
-use Rattle.wcp_order.proofs.Concluding.{IsFitOrder_done, IsFirstStuck_least, IsLeastOr, IsLeastOr-unwrap_or, no_fit_order}
+use Rattle.wcp_order.proofs.Words.{arith, subst, sym, IsFitOrder, IsFirstLeft, IsFirstStuck}
+use Rattle.wcp_order.proofs.Concluding.{IsFitOrder_done, IsFirstStuck_left, no_fit_order}
 use Rattle.wcp_order.proofs.Lengths.{same_length}
 use Rattle.wcp_order.proofs.order.Progress.conclude.Goals as goal
-use Rattle.wcp_order.proofs.order.Progress.conclude.Goals.{After-unwrap_or-place}
+use Rattle.wcp_order.proofs.order.Progress.conclude.Goals.{In-Some, In-None}
 
-least_or : (c : After-unwrap_or-place) → IsLeastOr c.args.self.fronts.items (length c.args.tasks.now) c.unwrap_or-place.result
-least_or c = rw (← c.deref.ensures.value) (IsLeastOr-unwrap_or c.deref.result.now _ _ c.least.result c.least.ensures.found c.least.ensures.least c.least.ensures.none c.unwrap_or-place.ensures)
+stuck : (c : In-Some) → IsFirstStuck c.args.tasks.now c.in-Some.place
+stuck c = IsFirstStuck_left c.args.n c.args.tasks.now _ _ _ c.requires.within c.requires.sound c.requires.stuck c.in-Some.place
+    (subst (λ done. IsFirstLeft c.args.tasks.now done c.in-Some.place) c.deref_mut.ensures.value c.in-Some.ensures.first)
 
-first_stuck : (c : After-unwrap_or-place) → c.unwrap_or-place.result < length c.args.tasks.now → IsFirstStuck c.args.tasks.now c.unwrap_or-place.result
-first_stuck c inside =
-    let self = c.args.self in
-    let least = least_or c in
-    IsFirstStuck_least c.args.n c.args.tasks.now self.order.items self.fronts.items self.in_transit.items c.requires.within c.requires.sound c.requires.stuck c.unwrap_or-place.result (least.found inside) least.least inside
+fit : (c : In-None) → IsFitOrder c.args.tasks.now c.args.self.order.items
+fit c = IsFitOrder_done c.args.n c.args.tasks.now _ _ _ c.requires.within c.requires.sound
+    (λ p below. rw (sym c.deref_mut.ensures.value) (c.in-None.ensures.none p (omega (arith, below, c.requires.sound.processes))))
 
-fit : (c : After-unwrap_or-place) → length c.args.tasks.now ≤ c.unwrap_or-place.result → IsFitOrder c.args.tasks.now c.args.self.order.items
-fit c past =
-    let self = c.args.self in
-    IsFitOrder_done c.args.n c.args.tasks.now self.order.items self.fronts.items self.in_transit.items c.requires.within c.requires.sound
-    (λ p below. omega (arith, All-get_or (λ front. c.unwrap_or-place.result ≤ front) self.fronts.items p 0 (omega (arith, c.requires.sound.processes)) (least_or c).least))
+pub returns-in-Some-clause-stuck : goal.returns-in-Some-clause-stuck
+returns-in-Some-clause-stuck c = stuck (goal.at.returns-in-Some-clause-stuck c).In-Some
 
-pub returns-then-place-tasks-clause-stuck : goal.returns-then-place-tasks-clause-stuck
-returns-then-place-tasks-clause-stuck c = first_stuck (goal.at.returns-then-place-tasks-clause-stuck c).After-unwrap_or-place c.if-place-tasks.true
+pub returns-in-Some-clause-no_order : goal.returns-in-Some-clause-no_order
+returns-in-Some-clause-no_order c =
+    no_fit_order c.args.n c.args.tasks.now c.in-Some.place c.requires.within (stuck (goal.at.returns-in-Some-clause-no_order c).In-Some)
 
-pub returns-then-place-tasks-clause-no_order : goal.returns-then-place-tasks-clause-no_order
-returns-then-place-tasks-clause-no_order c = no_fit_order c.args.tasks.now c.unwrap_or-place.result (first_stuck (goal.at.returns-then-place-tasks-clause-no_order c).After-unwrap_or-place c.if-place-tasks.true)
+pub returns-in-None-clause-order : goal.returns-in-None-clause-order
+returns-in-None-clause-order c = fit (goal.at.returns-in-None-clause-order c).In-None
 
-pub returns-else-place-tasks-clause-order : goal.returns-else-place-tasks-clause-order
-returns-else-place-tasks-clause-order c = fit (goal.at.returns-else-place-tasks-clause-order c).After-unwrap_or-place c.if-place-tasks.false
-
-pub returns-else-place-tasks-clause-all_tasks : goal.returns-else-place-tasks-clause-all_tasks
-returns-else-place-tasks-clause-all_tasks c =
-    same_length c.args.n c.args.tasks.now c.args.self.order.items c.requires.within c.requires.sound.within (fit (goal.at.returns-else-place-tasks-clause-all_tasks c).After-unwrap_or-place c.if-place-tasks.false).same_tasks
+pub returns-in-None-clause-all_tasks : goal.returns-in-None-clause-all_tasks
+returns-in-None-clause-all_tasks c =
+    same_length c.args.n c.args.tasks.now c.args.self.order.items c.requires.within c.requires.sound.is_done.within (fit (goal.at.returns-in-None-clause-all_tasks c).In-None).same_tasks

@@ -1,5 +1,4 @@
-use Rattle.std.proofs.Common.{ap}
-use Rattle.wcp_single.specs.declared.watched_process.WatchedProcess.{WatchedProcess}
+use Rattle.wcp_single.proofs.Words.{ap, WatchedProcess}
 use Rattle.wcp_single.proofs.EndedRun.{watched_last, ends_next}
 use Rattle.wcp_single.proofs.workload_run.WorkloadRun.close.Goals as goal
 

@@ -1,5 +1,4 @@
-use Rattle.std.proofs.Common.{◌≡◌, ◌+◌, ◌*◌, [], map, replicate, sym, ap, ◌∙◌, subst, arith}
-use Rattle.wcp_probe.specs.Seal.{seal_of}
+use Rattle.wcp_single.proofs.Words.{◌≡◌, ◌+◌, ◌*◌, [], map, replicate, sym, ap, ◌∙◌, subst, arith, seal_of}
 use Rattle.wcp_single.proofs.StartedRun.{AreNew, one_more_new, run_starts}
 use Rattle.wcp_single.proofs.workload_run.WorkloadRun.new.Goals as goal
 

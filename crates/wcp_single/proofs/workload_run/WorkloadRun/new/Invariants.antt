@@ -1,5 +1,4 @@
-use Rattle.std.proofs.Common.{◌≡◌, [], map, replicate}
-use Rattle.wcp_probe.specs.Seal.{seal_of}
+use Rattle.wcp_single.proofs.Words.{◌≡◌, [], map, replicate, seal_of}
 use Rattle.wcp_single.proofs.StartedRun.{AreNew}
 use Rattle.wcp_single.proofs.workload_run.WorkloadRun.new.Given as goal
 

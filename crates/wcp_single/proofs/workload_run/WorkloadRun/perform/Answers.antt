@@ -1,6 +1,4 @@
-use Rattle.std.proofs.Common.{arith}
-use Rattle.wcp_probe.specs.Seal.{seal_of}
-use Rattle.wcp_single.specs.WorkloadRun.{queues_of}
+use Rattle.wcp_single.proofs.Words.{arith, seal_of, queues_of}
 use Rattle.wcp_single.proofs.NextTask.{next_within, sends_within, receives_within}
 use Rattle.wcp_single.proofs.RunAfterTask.{may_communicate, performs_observe}
 use Rattle.wcp_single.proofs.PerformedTasks.{performer_within, sends_on, performs_send, receives_on, message_waits, may_receive_first, performs_receive}

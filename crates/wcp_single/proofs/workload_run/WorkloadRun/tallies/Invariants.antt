@@ -1,7 +1,4 @@
-use Rattle.std.proofs.Common.{◌≡◌, ℕ, ◌<◌, length, get_or}
-use Rattle.wcp_model.specs.declared.outcome.Tally.{Tally}
-use Rattle.wcp_queue.specs.Checker.{taken_of}
-use Rattle.wcp_single.specs.declared.watched_process.WatchedProcess.{WatchedProcess}
+use Rattle.wcp_single.proofs.Words.{◌≡◌, ℕ, ◌<◌, length, get_or, Tally, taken_of, WatchedProcess}
 use Rattle.wcp_single.proofs.workload_run.WorkloadRun.tallies.Given as goal
 
 abbrev pub invariant-loop-p : goal.invariant-loop-p

@@ -1,6 +1,4 @@
-use Rattle.std.proofs.Common.{sym, ◌∙◌, subst}
-use Rattle.wcp_world.specs.Transport.{ReadsNext}
-use Rattle.wcp_world.specs.WorldView.{state_of}
+use Rattle.wcp_world.proofs.Words.{sym, ◌∙◌, subst, ReadsNext, state_of}
 use Rattle.wcp_world.proofs.WorldAfterStep.{check_answered, may_take, check_of_nothing}
 use Rattle.wcp_world.proofs.detector.Detector.check.Goals as goal
 

@@ -1,6 +1,4 @@
-use Rattle.std.proofs.Common.{Bool, sym, ◌∙◌, subst, arith}
-use Rattle.wcp_world.specs.Transport.{Puts}
-use Rattle.wcp_world.specs.WorldView.{state_of}
+use Rattle.wcp_world.proofs.Words.{Bool, sym, ◌∙◌, subst, arith, Puts, state_of}
 use Rattle.wcp_world.proofs.WorldAfterStep.{put_answered, put_of_none, put_of_nothing, put_had_no_room}
 use Rattle.wcp_world.proofs.detector.Detector.put.Goals as goal
 

@@ -1,6 +1,5 @@
-use Rattle.std.proofs.Common.{refl}
+use Rattle.wcp_world.proofs.Words.{refl, state_of}
 use Rattle.wcp_model.specs.declared.step.Step.TheVariants as step
-use Rattle.wcp_world.specs.WorldView.{state_of}
 use Rattle.wcp_world.proofs.WorldAfterStep.{event_answered, move_answered, pending_is, sends}
 use Rattle.wcp_world.proofs.detector.Detector.step.Goals as goal
 

@@ -1,5 +1,4 @@
-use Rattle.std.proofs.Common.{◌≡◌, false, is_some, Some, slice_get, set, refl, sym, ◌∙◌, ap, eq-eqb}
-use Rattle.std.proofs.lemmas.Option.{slice_get_read}
+use Rattle.wcp_world.proofs.Words.{◌≡◌, false, is_some, Some, slice_get, set, refl, sym, ◌∙◌, ap, eq-eqb, slice_get_read}
 use Rattle.wcp_world.proofs.messages.Letters.deliver.Goals as goal
 use Rattle.wcp_world.proofs.messages.Letters.deliver.Goals.{in-Ok, in-Err}
 

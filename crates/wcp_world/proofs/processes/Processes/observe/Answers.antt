@@ -1,5 +1,4 @@
-use Rattle.std.proofs.Common.{refl}
-use Rattle.std.proofs.lemmas.Option.{slice_get_read}
+use Rattle.wcp_world.proofs.Words.{refl, slice_get_read}
 use Rattle.wcp_model.specs.declared.step.Step.TheVariants as step
 use Rattle.wcp_world.proofs.AnsweredEvents.{observe_reasons, refuses_as, observes}
 use Rattle.wcp_world.proofs.processes.Processes.observe.Goals as goal

@@ -1,5 +1,4 @@
-use Rattle.std.proofs.Common.{refl}
-use Rattle.std.proofs.lemmas.Option.{slice_get_read}
+use Rattle.wcp_world.proofs.Words.{refl, slice_get_read}
 use Rattle.wcp_world.proofs.AnsweredEvents.{receives}
 use Rattle.wcp_world.proofs.processes.Processes.receive.Goals as goal
 

@@ -1,5 +1,4 @@
-use Rattle.std.proofs.Common.{refl, sym, ◌∙◌}
-use Rattle.std.proofs.lemmas.Option.{slice_get_read}
+use Rattle.wcp_world.proofs.Words.{refl, sym, ◌∙◌, slice_get_read}
 use Rattle.wcp_model.specs.declared.step.Step.TheVariants as step
 use Rattle.wcp_world.proofs.AnsweredEvents.{send_reasons, refuses_as, sends}
 use Rattle.wcp_world.proofs.processes.Processes.send.Goals as goal

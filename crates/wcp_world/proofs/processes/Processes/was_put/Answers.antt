@@ -1,5 +1,4 @@
-use Rattle.std.proofs.Common.{refl}
-use Rattle.std.proofs.lemmas.Option.{slice_get_read}
+use Rattle.wcp_world.proofs.Words.{refl, slice_get_read}
 use Rattle.wcp_world.proofs.Probes.{pending_within, put_stands}
 use Rattle.wcp_world.proofs.processes.Processes.was_put.Goals as goal
 

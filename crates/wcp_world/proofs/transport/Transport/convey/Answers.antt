@@ -1,5 +1,4 @@
-use Rattle.std.proofs.Common.{refl, arith}
-use Rattle.std.proofs.lemmas.List.{length-set, get_or_read, get_or-set_other, set-get_or}
+use Rattle.wcp_world.proofs.Words.{refl, arith, length-set, get_or_read, get_or-set_other, set-get_or}
 use Rattle.wcp_world.proofs.AnsweredMoves.{two_places, places_apart, with_first, without_first, was_moved, was_empty, was_full}
 use Rattle.wcp_world.proofs.transport.Transport.convey.Goals as goal
 

@@ -1,5 +1,4 @@
-use Rattle.std.proofs.Common.{◌≡◌, ◌+◌, ◌++◌, length, replicate, ap, ap₂, ◌∙◌}
-use Rattle.wcp_hold.specs.Held.{empty_hold}
+use Rattle.wcp_world.proofs.Words.{◌≡◌, ◌+◌, ◌++◌, length, replicate, ap, ap₂, ◌∙◌, empty_hold}
 use Rattle.wcp_world.proofs.Places.{fresh_stands}
 use Rattle.wcp_world.proofs.transport.Transport.new.Goals as goal
 

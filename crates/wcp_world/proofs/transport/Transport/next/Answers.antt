@@ -1,7 +1,4 @@
-use Rattle.std.proofs.Common.{arith}
-use Rattle.std.proofs.lemmas.List.{get_or_read}
-use Rattle.wcp_model.specs.declared.plan.Parent.TheVariants.{Root}
-use Rattle.wcp_model.specs.Occupancy.{InboxOf}
+use Rattle.wcp_world.proofs.Words.{arith, get_or_read, Root, InboxOf}
 use Rattle.wcp_world.proofs.Places.{number_within}
 use Rattle.wcp_world.proofs.AnsweredMoves.{number_same, next_reads}
 use Rattle.wcp_world.proofs.transport.Transport.next.Goals as goal

@@ -1,7 +1,4 @@
-use Rattle.std.proofs.Common.{◌<◌, length, set, ap, arith}
-use Rattle.std.proofs.lemmas.List.{get_or_read}
-use Rattle.wcp_model.specs.Occupancy.{Link}
-use Rattle.wcp_world.specs.Transport.{TransportState}
+use Rattle.wcp_world.proofs.Words.{◌<◌, length, set, ap, arith, get_or_read, Link, TransportState}
 use Rattle.wcp_world.proofs.Places.{number_within}
 use Rattle.wcp_world.proofs.AnsweredMoves.{puts, put_refused}
 use Rattle.wcp_world.proofs.transport.Transport.put.Goals as goal

@@ -1,8 +1,4 @@
-use Rattle.std.proofs.Common.{drop, set, arith}
-use Rattle.std.proofs.lemmas.List.{get_or_read}
-use Rattle.wcp_model.specs.declared.plan.Parent.TheVariants.{Root}
-use Rattle.wcp_model.specs.Occupancy.{InboxOf}
-use Rattle.wcp_world.specs.Transport.{held_at, place_number}
+use Rattle.wcp_world.proofs.Words.{drop, set, arith, get_or_read, Root, InboxOf, held_at, place_number}
 use Rattle.wcp_world.proofs.Places.{number_within}
 use Rattle.wcp_world.proofs.AnsweredMoves.{number_same, with_first, taken_after}
 use Rattle.wcp_world.proofs.transport.Transport.take_next.Goals as goal

@@ -1,0 +1,49 @@
+-- The words of the proofs of this crate, from one place.
+pub use Rattle.std.proofs.Common.{◌≡◌, ℕ, ◌+◌, ◌<◌, true, false, nat_lt, is_some, Option, None, Some, MatchOption, List, [], ◌∷◌, ◌++◌, length, eqb, eq-eqb, refl, sym, ap, ◌∙◌, subst, append-nil, append_assoc, add-zero, arith, ◌≤◌, Result, Ok, Err, IfOk, Bool, map, if◌then◌else◌, ◌≢◌, ◌↔◌, cond, nat_le, IsTrue, slice_get, slice_index, count_by, set, subst₂, ⊎_elim, OnErr, take, le_refl, ◌⊎◌, filter, ap₂, zero, suc, ◌*◌, get_or, replicate, not, drop, eqb-true, true≢false, IsSome}
+pub use Rattle.std.proofs.lemmas.Bool.{cases_eq, ne_eqb, cases_lt, false_from_ne_true, cases_order}
+pub use Rattle.std.proofs.lemmas.Bool.Decides.{nat_tests}
+pub use Rattle.std.proofs.lemmas.Grind.{flat_map-append, common_steps}
+pub use Rattle.std.proofs.lemmas.List.{length-append, length-set, set-get_or, take_at, length_push, take-append-le, take_all, map_push, map-append, length-replicate, get_or-replicate, get_or_append_left, get_or-append_right, get_or_default, get_or-set_same, get_or-set_other, length-map, take_more, get_or_read}
+pub use Rattle.std.proofs.lemmas.List.Elements.{filter-append}
+pub use Rattle.std.proofs.lemmas.List.Sums.{sum_by_push, sum_by-take-le}
+pub use Rattle.std.proofs.lemmas.Option.{get_or_from_slice_get, slice_get_past, slice_get_within, MatchOption-at_some, MatchOption-at_none, slice_get-get_or, option_and_then_some, slice_get_cases, gets, slice_get-map, slice_get_read}
+pub use Rattle.std.specs.Option.{option_and_then, option_to_list, option_map, option_flatten}
+pub use Rattle.wcp_clock.specs.Limits.{most_events}
+pub use Rattle.wcp_clock.specs.declared.note.Item.{Item}
+pub use Rattle.wcp_clock.specs.declared.note.Note.{Note}
+pub use Rattle.wcp_hold.specs.Held.{Held, empty_hold}
+pub use Rattle.wcp_model.proofs.AcceptedReplies.{length-receivers}
+pub use Rattle.wcp_model.proofs.CheckedPlans.{few_processes, some_process, capacity, hold_room, parent_below, attached_exists, has_leaf}
+pub use Rattle.wcp_model.proofs.GrowingLogs.{stamp_grows, log_grows, get_push}
+pub use Rattle.wcp_model.proofs.Growth.{get_behind, get_front, at_grows}
+pub use Rattle.wcp_model.proofs.NotesInTurn.{next_of_emissions, nothing_follows, log_counts_notes}
+pub use Rattle.wcp_model.proofs.Predecessors.{local_state, span}
+pub use Rattle.wcp_model.specs.Computation.{Computation, is_communication_of, is_send, communications, interval_at, IsState}
+pub use Rattle.wcp_model.specs.Emission.{AreEmissions, is_closed}
+pub use Rattle.wcp_model.specs.FirstReason.{first_reason}
+pub use Rattle.wcp_model.specs.Occupancy.{Place, Pending, InboxOf, source, is_place, takes_from, puts_into, taken_from, next_place, notes_in, IsEntry, Emitted, Moved, Link, target, is_same_place, HoldOf, room_of}
+pub use Rattle.wcp_model.specs.ProbeLog.{Call, Observed, Sent, Received, Closed, ProbeSetup, after_call, setup, is_step_of, IsStampOf, IsCallOf, IsAccepted, ProbeState, state_of_log, HasClockAndEmissions}
+pub use Rattle.wcp_model.specs.Replies.{is_event, computation, accepted_by, taken_by, event_reasons, reasons, IsAcceptance, IsReply, Answered, accepted, items_taken, AreReplies, move_reasons, names_nothing, receivers, is_receive_of, was_received, was_sent_to}
+pub use Rattle.wcp_model.specs.Report.{notes_taken, AreFrontsOfEmissions, AreInTurn, ClocksRise, IsReportByClocks}
+pub use Rattle.wcp_model.specs.Tree.{leaf_of, parent_of, IsSamePlan, is_number, is_attached, is_leaf}
+pub use Rattle.wcp_model.specs.declared.plan.Parent.{Parent}
+pub use Rattle.wcp_model.specs.declared.plan.Parent.TheVariants.{Root, Relay}
+pub use Rattle.wcp_model.specs.declared.plan.Plan.{Plan}
+pub use Rattle.wcp_model.specs.declared.step.Reply.{Reply}
+pub use Rattle.wcp_model.specs.declared.step.Reply.TheVariants.{Done, Took, Refused}
+pub use Rattle.wcp_model.specs.declared.step.Step.{Step}
+pub use Rattle.wcp_model.specs.declared.step.Step.TheVariants.{Observe, Send, Recv, Close}
+pub use Rattle.wcp_model.specs.declared.step.Why.{Why}
+pub use Rattle.wcp_probe.specs.Core.{Core, Accepts, IsSameProbe, setup_of}
+pub use Rattle.wcp_probe.specs.Seal.{seal_of}
+pub use Rattle.wcp_probe.specs.declared.stamp.Stamped.{Stamped}
+pub use Rattle.wcp_queue.specs.Checker.{CheckerState, MayTake, TakesItem, processes, StandsForItems}
+pub use Rattle.wcp_world.specs.Answer.{IsAnswer, KeepsIfRefused}
+pub use Rattle.wcp_world.specs.Messages.{why_of, delivery_reasons, IsPosted, IsDelivered, is_addressed}
+pub use Rattle.wcp_world.specs.Plays.{IsTallyOf, AreTalliesOf, HasAnswered}
+pub use Rattle.wcp_world.specs.Processes.{ProcessesState, Performs, WasPut, pending_at, AreProcessesOf, IsProbeOf, AreLettersOf, IsLetterOf, CountsEmissions}
+pub use Rattle.wcp_world.specs.PutNotes.{put_more}
+pub use Rattle.wcp_world.specs.Transport.{TransportState, IsTransportOf, IsNextAtRoot, Conveys, Puts, TakesNext, next_of, ReadsNext, IsHeldAt, IsPlaceOf, IsWay, place_number, held_at, notes_along, notes_at, IsMoveBetween, MovesBetween, IsConveying}
+pub use Rattle.wcp_world.specs.World.{WorldState, Stands, MakesStep, IsReached, IsWorldOf}
+pub use Rattle.wcp_world.specs.WorldView.{state_of}
+pub use Rattle.wcp_world.specs.declared.messages.Letter.{Letter}
