@@ -21,7 +21,7 @@ pub struct Feed {
 
 impl Feed {
     /// The feed of a process from which nothing was taken yet.
-    pub(crate) fn new(process: u32, taker: RingTaker) -> Feed
+    pub fn new(process: u32, taker: RingTaker) -> Feed
         ensures process { result.process ≡ process }
         ensures taker { result.taker ≡ taker }
         ensures next { result.next ≡ 0 }

@@ -23,7 +23,7 @@ pub use bundle::{Bundle, MAX_BUNDLE};
 pub use checker_inbox::CheckerInbox;
 pub use feed::Feed;
 pub use live_probe::{LiveProbe, ProbeEnd};
-pub use opening::watch;
+pub use opening::{leaf_relay, watch};
 pub use parts::Watch;
 pub use relay::Relay;
 pub use relay_end::{Receipts, RelayEnd, RelayFault};

@@ -187,8 +187,8 @@ impl LiveProbe {
         }
     }
 
-    /// Puts what is pending, and gives up its turn while the ring is full. The relay makes room as long as it runs,
-    /// also where its own lane is cut. Once it is dropped, or has ended by another fault, a full ring stays full, and
+    /// Puts what is pending, and gives up its turn while the ring is full. A relay that runs makes room
+    /// as it gets on, also where its own lane is cut. Once it is dropped, or has ended by another fault, a full ring stays full, and
     /// this never returns: where that may be, call `flush` instead.
     pub fn flush_waiting<R: Wait>(&mut self, rt: &R)
         ensures core { self.new.core ≡ record self.old.core { pending = None } }

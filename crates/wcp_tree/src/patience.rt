@@ -1,5 +1,5 @@
-//! How a relay waits for a lane: it gives way to other threads some times, and then it sleeps. To fall
-//! asleep and be woken takes longer than many items, of which others make more meanwhile.
+//! How a relay waits for a lane: it gives way to other threads some times, and then it waits inside the
+//! lane. No clause says how long that takes, or that it ends.
 ghost use Rattle.std.specs.Prelude.{◌≡◌, ◌++◌, IfOk, IfErr, OnOk, OnErr, IfSome, IfNone};
 ghost use Rattle.wcp_tree.specs.RelayWork.{AreTakenNext, IsSameTaker, ItemsMayFollow};
 
@@ -8,7 +8,7 @@ use std::sync::Wait;
 use std::thread;
 use wcp_lane::{Cut, Putter, Taker};
 
-/// How often a relay gives way before it sleeps.
+/// How often a relay gives way before it waits inside the lane.
 const YIELDS: u32 = 2;
 
 /// A lane answered a take with this cut: only the takes of this module make one.

@@ -73,8 +73,8 @@ impl Relay {
 
     /// Moves items from its rings, or from its lane, to its parent's lane, until the close mark of each
     /// process below it was passed on, or until a fault comes. A gap, or a cut as it takes, ends it at
-    /// once. After a cut as it puts it goes on taking, so that nobody below is held up. It passes on what
-    /// it holds before it waits for more, and takes no memory.
+    /// once. After a cut as it puts it goes on taking, so that nobody below waits for room. It is to pass
+    /// on what it holds before it waits for more, which no clause says, and takes no memory.
     pub fn run<R: Wait>(self, rt: &R) -> RelayEnd
         ensures number { number_of result ≡ self.number }
         ensures watch { watch_of result ≡ self.watch }

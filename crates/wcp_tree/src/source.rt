@@ -14,7 +14,7 @@ use wcp_ring::Sleeper;
 /// What a relay takes from.
 #[derive(Drop)]
 pub(crate) enum Source {
-    /// A leaf serves processes. It sleeps while all its feeds are quiet.
+    /// A leaf serves processes. It may sleep while all its feeds are quiet.
     Leaf { feeds: Vec<Feed>, sleeper: Sleeper },
     /// Any other relay serves relays, by one lane.
     Inner { taker: Taker<Bundle> },
