@@ -9,8 +9,7 @@ use std::time::{Clock, Duration};
 use std::{io, thread};
 use wcp_lane::Taker;
 use wcp_model::{Parent, Plan, plain_plan};
-use wcp_tree::opening::watch;
-use wcp_tree::{Bundle, LiveProbe, Relay, Watch};
+use wcp_tree::{Bundle, LiveProbe, Relay, Watch, watch};
 
 /// How many items the hold of each relay has room for.
 const HOLD: u32 = 64;

@@ -5,8 +5,7 @@ use std::time::{Clock, Duration, Instant};
 use wcp_clock::{CLOCK_LIMIT, MAX_CAP, Note};
 use wcp_model::plain_plan;
 use wcp_probe::ProbeCore;
-use wcp_tree::LiveProbe;
-use wcp_tree::opening::watch;
+use wcp_tree::{LiveProbe, watch};
 
 // What a call that is not inlined is given can't be computed when the program is built.
 

@@ -12,24 +12,32 @@ ghost use Rattle.wcp_probe.specs.Refusals.{stamp_mismatch};
 
 use crate::stamp::Stamped;
 use std::marker::Model;
+use thiserror::Error;
 use wcp_clock::{Clock, Note};
 
 /// Why a probe refused a call. Where several reasons hold, the first in this order is given.
-#[derive(Clone, Copy, Debug, PartialEq, Eq)]
+#[derive(Clone, Copy, Debug, PartialEq, Eq, Error)]
 pub enum Refusal {
     /// The receiver is no process of the watch, or is the probe's own.
+    #[error("the receiver is no other process of the watch")]
     NoSuch,
     /// The probe is closed.
+    #[error("the probe is closed")]
     Closed,
     /// A note is pending.
+    #[error("a note is pending")]
     Backlog,
     /// The stamp is of another watch, or of another number of processes.
+    #[error("the stamp is of another watch")]
     Stranger,
     /// The stamp is addressed to another process.
+    #[error("the stamp is addressed to another process")]
     NotMine,
     /// The stamp knows of more events of this process than it has made.
+    #[error("the stamp knows of events that the process has not made")]
     Ahead,
     /// The process has made as many communication events as its clock can count.
+    #[error("the process has made as many events as its clock can count")]
     ClockEnd,
 }
 

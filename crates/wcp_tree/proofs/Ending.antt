@@ -1,6 +1,6 @@
 -- How a relay begins and ends.
 use Rattle.std.proofs.Common.{◌≡◌, ℕ, suc, ◌<◌, true, true≢false, List, [], ◌∷◌, ◌++◌, length, get_or, sym, refl, ap, ◌∙◌, subst, append_assoc, arith}
-use Rattle.std.specs.Prelude.{All, IfNone, Result, Ok, Err, OnOk, OnErr}
+use Rattle.std.specs.Prelude.{All, IfNone, IfErr, Result, Ok, Err, OnOk}
 use Rattle.std.proofs.lemmas.List.{append-nil, nil_from_length}
 use Rattle.std.proofs.lemmas.List.Elements.{All-nil}
 use mathlib.Core.List.{IsPrefix}
@@ -13,10 +13,12 @@ use Rattle.wcp_tree.specs.declared.source.Source.TheVariants.{Leaf, Inner}
 use Rattle.wcp_tree.specs.declared.relay_end.Receipts.{Receipts}
 use Rattle.wcp_tree.specs.declared.relay_end.Receipts.TheVariants.{Feeds, Lane}
 use Rattle.wcp_tree.specs.Feeding.{fed, items_by, items_of, source_taken, Serves, IsNewFeed, IsInOrder}
-use Rattle.wcp_tree.specs.RelayWork.{handed, AreItemsInSequence, IsSound, IsFaithful, IsLeafAtWork, IsAtWork, AreClosed}
+use Rattle.wcp_tree.specs.declared.take_fault.TakeFault.{TakeFault}
+use Rattle.wcp_tree.specs.declared.take_fault.TakeFault.TheVariants as fault
+use Rattle.wcp_tree.specs.RelayWork.{handed, AreItemsInSequence, IsSound, IsFaithful, IsLeafAtWork, IsAtWork, AreClosed, HasMetGap, HasEnded}
 use Rattle.wcp_tree.specs.RelayEnds.{IsEndOfSource, taken_in}
 use Rattle.wcp_tree.proofs.Lists.{AreInSequence-none, items_of-append}
-use Rattle.wcp_tree.proofs.Faithful.{only_none, prefix_same}
+use Rattle.wcp_tree.proofs.Faithful.{only_none, prefix_same, prefix_more}
 use Rattle.wcp_tree.proofs.Passing.{if_none}
 use Rattle.wcp_tree.proofs.Fed.{all_ended}
 
@@ -48,6 +50,11 @@ faithful_new : (taken : ℕ → List Item) (outlet : Outlet) → ((p : ℕ) → 
 faithful_new taken outlet none all =
     let same : (p : ℕ) → items_of p (handed outlet) ≡ taken p = λ p. ap (items_of p) all ∙ sym (none p) in
     record { whole = only_none _ outlet.cut (λ _. same); front = λ p. prefix_same (items_of p (handed outlet)) (taken p) (same p) }
+
+-- the source is a leaf with these feeds
+abbrev IsLeafOf : Source → List Feed → Type 0
+IsLeafOf (Leaf own sleeper) feeds = feeds ≡ own.items
+IsLeafOf (Inner taker) feeds = ⊥
 
 pub starts : (source : Source) (outlet : Outlet) → Serves source outlet.putter.members → 0 < outlet.hold.room → length outlet.hold.items ≡ 0 → length outlet.putter.put ≡ 0
     → IsAtWork source outlet
@@ -89,15 +96,21 @@ all_put taken outlet faithful empty =
 pub leaf_closed : (feeds : List Feed) (outlet : Outlet) → IsLeafAtWork feeds outlet → All (λ (f : Feed). f.closed ≡ true) feeds → AreClosed outlet.putter.members (fed feeds)
 leaf_closed feeds outlet work closed p own = all_ended feeds closed work.in_order p (sym (work.served p) ∙ own)
 
-pub leaf_front : {E : Type 0} (r : Result (Unit {0}) E) (feeds : List Feed) (outlet : Outlet) → OnOk r (IsLeafAtWork feeds outlet)
-    → OnErr r ((p : ℕ) → IsPrefix (items_of p (handed outlet)) (fed feeds p)) → (p : ℕ) → IsPrefix (items_of p (handed outlet)) (fed feeds p)
-leaf_front (Ok done) feeds outlet work front p = work.faithful.front p
-leaf_front (Err met) feeds outlet work front p = front p
+-- a leaf took the close marks of all its processes, or met a gap
+pub leaf_ended : (r : Result (Unit {0}) TakeFault) (source : Source) (feeds : List Feed) (outlet : Outlet) → IsLeafOf source feeds → OnOk r (IsLeafAtWork feeds outlet) → OnOk r (All (λ (f : Feed). f.closed ≡ true) feeds)
+    → IfErr r (λ met. (p : ℕ) × (met ≡ fault.Gap p) × HasMetGap p (fed feeds) outlet) → HasEnded source outlet r
+leaf_ended (Ok done) (Leaf own sleeper) feeds outlet is work closed gap = subst (λ fs. AreClosed outlet.putter.members (fed fs) × IsFaithful (fed fs) outlet) is (leaf_closed feeds outlet work closed, work.faithful)
+leaf_ended (Err met) (Leaf own sleeper) feeds outlet is work closed gap = subst (λ m. HasEnded (Leaf own sleeper) outlet (Err m)) (sym gap.1) (subst (λ fs. HasMetGap gap.0 (fed fs) outlet) is gap.2)
+leaf_ended r (Inner taker) feeds outlet is work closed gap = absurd is
 
-pub leaf_all_closed : {E : Type 0} (r : Result (Unit {0}) E) (feeds : List Feed) (outlet : Outlet) → OnOk r (IsLeafAtWork feeds outlet)
-    → OnOk r (All (λ (f : Feed). f.closed ≡ true) feeds) → OnOk r (AreClosed outlet.putter.members (fed feeds))
-leaf_all_closed (Ok done) feeds outlet work closed = leaf_closed feeds outlet work closed
-leaf_all_closed (Err met) feeds outlet work closed = tt
+-- however a relay ended, its outlet was handed a front of what it took
+pub ended_front : (source : Source) (outlet : Outlet) (r : Result (Unit {0}) TakeFault) → HasEnded source outlet r → (p : ℕ) → IsPrefix (items_of p (handed outlet)) (source_taken source p)
+ended_front source outlet (Ok all) ended p = ended.1.front p
+ended_front (Leaf feeds sleeper) outlet (Err (fault.Gap q)) ended p =
+    subst (IsPrefix (items_of p (handed outlet))) (sym (ended.is_last p)) (prefix_more (items_of p (handed outlet)) (ended.before p) (items_of p (ended.item ∷ [])) (ended.faithful.front p))
+ended_front (Inner taker) outlet (Err (fault.Cut cut)) ended p = ended.front p
+ended_front (Leaf feeds sleeper) outlet (Err (fault.Cut cut)) ended p = absurd ended
+ended_front (Inner taker) outlet (Err (fault.Gap q)) ended p = absurd ended
 
 -- what is left of a source took what it took
 pub end_taken : (source : Source) (left : Receipts) → IsEndOfSource source left → (p : ℕ) → taken_in left p ≡ source_taken source p

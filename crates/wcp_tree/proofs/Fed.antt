@@ -12,7 +12,8 @@ use Rattle.wcp_clock.specs.declared.note.Note.{Note}
 use Rattle.wcp_clock.specs.Notes.{is_close}
 use Rattle.wcp_tree.specs.declared.feed.Feed.{Feed}
 use Rattle.wcp_tree.specs.Feeding.{fed, items_by, items_of, processes_of, IsNextOfProcess, IsInOrder, EndsWithClose}
-use Rattle.wcp_tree.specs.RelayWork.{IsNextAfter, IsGapAt}
+use Rattle.wcp_tree.specs.declared.outlet.Outlet.{Outlet}
+use Rattle.wcp_tree.specs.RelayWork.{IsNextAfter, IsFaithful, HasMetGap}
 use Rattle.wcp_tree.proofs.Lists.{items_of-own}
 
 abbrev AreApart : List ℕ → Type 0
@@ -82,19 +83,20 @@ next_back p before item next =
     }
 
 -- a note came that isn't the next one
-pub fed-gap : (feeds : List Feed) (i : ℕ) (new d : Feed) (note : Note) → i < length feeds → AreApart (processes_of feeds)
+pub fed-gap : (feeds : List Feed) (i : ℕ) (new d : Feed) (note : Note) (outlet : Outlet) → i < length feeds → AreApart (processes_of feeds)
     → new.process ≡ (get_or feeds i d).process → new.taker.taken ≡ (get_or feeds i d).taker.taken ++ note ∷ []
-    → (IsNextOfProcess (get_or feeds i d).taker.taken note → ⊥) → IsGapAt (get_or feeds i d).process (fed (set feeds i new))
-fed-gap feeds i new d note below apart same taken not_next =
+    → (IsNextOfProcess (get_or feeds i d).taker.taken note → ⊥) → IsFaithful (fed feeds) outlet → HasMetGap (get_or feeds i d).process (fed (set feeds i new)) outlet
+fed-gap feeds i new d note outlet below apart same taken not_next faithful =
     let old = get_or feeds i d in
-    let item : Item = record { from = old.process; note = note } in (
-      items_by old.process old.taker.taken,
-      item,
-      fed-set feeds i new d item below apart same taken refl old.process
-          ∙ ap (λ xs. xs ++ items_of old.process (item ∷ [])) (fed-at feeds i d below apart)
-          ∙ ap (λ xs. items_by old.process old.taker.taken ++ xs) (items_of-own old.process item refl),
-      λ next. not_next (next_back old.process old.taker.taken item next),
-    )
+    let item : Item = record { from = old.process; note = note } in
+    record {
+      before = fed feeds;
+      item = item;
+      from = refl;
+      is_last = fed-set feeds i new d item below apart same taken refl;
+      out_of_place = λ next. not_next (next_back old.process old.taker.taken item (subst (λ xs. IsNextAfter xs item) (fed-at feeds i d below apart) next));
+      faithful = faithful;
+    }
 
 -- a feed took nothing
 pub fed-quiet : (feeds : List Feed) (i : ℕ) (new d : Feed) (p : ℕ) → new.process ≡ (get_or feeds i d).process → new.taker.taken ≡ (get_or feeds i d).taker.taken

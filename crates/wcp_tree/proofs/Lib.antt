@@ -6,6 +6,7 @@ pub mod LeafWork
 pub mod Linking
 pub mod Lists
 pub mod LiveProbes
+pub mod RisingLogs
 pub mod Ordering
 pub mod Climbs
 pub mod Entries

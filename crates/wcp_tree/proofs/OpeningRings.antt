@@ -20,10 +20,10 @@ module _ (plan : Plan) (watch : ℕ) where
   no_rings = record { probes_count = refl; takers_count = refl; each = λ p below. absurd (omega (arith, below)) }
 
   pub one_ring_more : (k : ℕ) (probes : List LiveSide) (takers : List (Option TakeSide)) (probe : LiveSide) (taker : TakeSide)
-      → AreRings plan watch k probes takers → probe.core ≡ fresh_core watch k plan.n → probe.link.put ≡ []
+      → AreRings plan watch k probes takers → probe.core ≡ fresh_core watch k plan.n → probe.link.put ≡ [] → probe.link.free ≡ plan.cap
       → taker.ring ≡ probe.link.ring → taker.taken ≡ []
       → AreRings plan watch (k + 1) (probes ++ probe ∷ []) (takers ++ Some taker ∷ [])
-  one_ring_more k probes takers probe taker rings fresh empty one_ring none = record {
+  one_ring_more k probes takers probe taker rings fresh empty room one_ring none = record {
     probes_count = length_push probes probe ∙ ap (λ n. n + 1) rings.probes_count;
     takers_count = length_push takers (Some taker) ∙ ap (λ n. n + 1) rings.takers_count;
     each = λ p below. ⊎_elim
@@ -33,6 +33,7 @@ module _ (plan : Plan) (watch : ℕ) where
           is_probe = ap (slice_get (probes ++ probe ∷ [])) (same ∙ sym rings.probes_count) ∙ last_entry probes probe;
           fresh = fresh ∙ ap (λ i. fresh_core watch i plan.n) (sym same);
           empty = empty;
+          room = room;
           is_taker = (
             ap (slice_get (takers ++ Some taker ∷ [])) (same ∙ sym rings.takers_count) ∙ last_entry takers (Some taker),
             none,
@@ -48,6 +49,7 @@ module _ (plan : Plan) (watch : ℕ) where
           is_probe = earlier_entry probes (probe ∷ []) p (omega (arith, lower, rings.probes_count)) ∙ old.is_probe;
           fresh = old.fresh;
           empty = old.empty;
+          room = old.room;
           is_taker = (
             earlier_entry takers (Some taker ∷ []) p (omega (arith, lower, rings.takers_count)) ∙ old.is_taker.0,
             old.is_taker.1,

@@ -4,6 +4,7 @@ use Rattle.std.specs.Prelude.{List, [], ◌∷◌, ◌++◌, count_by, replicate
 use Rattle.wcp_clock.specs.Limits.{most_events}
 use Rattle.wcp_clock.specs.declared.note.Note.{Note}
 use Rattle.wcp_model.specs.ProbeLog.{Call, Closed, state_of_log}
+use Rattle.wcp_model.specs.Report.{AreRising, snapshot_clocks}
 use Rattle.wcp_probe.specs.Core.{Core, StandsForLog, IsSameProbe, setup_of}
 use Rattle.wcp_ring.specs.Ends.{PutSide, EndedSide}
 use Rattle.wcp_clock.specs.Notes.{is_close}
@@ -53,6 +54,14 @@ emissions_of core log = (state_of_log (setup_of core) log).notes
 pub record LiveFor (probe : LiveSide) (log : List Call) : Type 0 where
   pub core : StandsForLog probe.core log
   pub emissions : emitted_by probe ≡ emissions_of probe.core log
+
+-- A live probe stands for the log of some calls.
+abbrev pub HasLog : LiveSide → Type 0
+HasLog probe = ∥ ((log : List Call) × LiveFor probe log) ∥₁
+
+-- The clocks of the snapshots among these notes of process p never fall in a component, and rise in its own.
+abbrev pub NotesRise : ℕ → List Note → Type 0
+NotesRise p notes = AreRising p (snapshot_clocks notes)
 
 -- A live probe after a call that was accepted: of whatever log it stood for, it now stands for that log with the call
 -- at its end.

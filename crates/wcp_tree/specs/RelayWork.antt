@@ -1,5 +1,6 @@
 -- A relay at work.
-use Rattle.std.specs.Prelude.{◌≡◌, ◌≢◌, ◌==◌, ℕ, ◌<◌, true, List, [], ◌∷◌, ◌++◌, map, All, AllPairs, IfNone, ⊤}
+use Rattle.std.specs.Prelude.{◌≡◌, ◌≢◌, ◌==◌, ℕ, ◌<◌, true, List, [], ◌∷◌, ◌++◌, map, All, AllPairs, IfNone}
+use Rattle.std.specs.Prelude.{Result, Ok, Err}
 use mathlib.Core.List.{IsPrefix}
 use Rattle.std.specs.List.{list_any}
 use Rattle.std.specs.FinSet as set
@@ -14,9 +15,9 @@ use Rattle.wcp_tree.specs.declared.outlet.Outlet.{Outlet}
 use Rattle.wcp_tree.specs.declared.feed.Feed.{Feed}
 use Rattle.wcp_tree.specs.declared.source.Source.{Source}
 use Rattle.wcp_tree.specs.declared.source.Source.TheVariants.{Leaf, Inner}
-use Rattle.wcp_tree.specs.declared.relay_end.RelayFault.{RelayFault}
-use Rattle.wcp_tree.specs.declared.relay_end.RelayFault.TheVariants.{Gap, Cut}
-use Rattle.wcp_tree.specs.Feeding.{items_of, processes_of, fed, IsInOrder, EndsWithClose}
+use Rattle.wcp_tree.specs.declared.take_fault.TakeFault.{TakeFault}
+use Rattle.wcp_tree.specs.declared.take_fault.TakeFault.TheVariants as take_fault
+use Rattle.wcp_tree.specs.Feeding.{items_of, processes_of, fed, source_taken, IsInOrder, EndsWithClose}
 
 -- What was handed to an outlet: what it put, and then what it holds.
 abbrev pub handed : Outlet → List Item
@@ -70,10 +71,15 @@ abbrev pub AreSameFeeds : List Feed → List Feed → Type 0
 AreSameFeeds old new =
     (processes_of new ≡ processes_of old) × (map (λ feed. feed.taker.ring) new ≡ map (λ feed. feed.taker.ring) old)
 
--- The last item that was taken of process p isn't the next one after those before it.
-abbrev pub IsGapAt : ℕ → (ℕ → List Item) → Type 0
-IsGapAt p taken =
-    (before : List Item) × (item : Item) × (taken p ≡ before ++ item ∷ []) × ¬ IsNextAfter before item
+-- A relay met a gap of process p: the last item that it took is of p, and isn't the next one after those of p before
+-- it. Its outlet was handed all before it, or a front of that once its lane is cut.
+pub record HasMetGap (p : ℕ) (taken : ℕ → List Item) (outlet : Outlet) : Type 0 where
+  pub before : ℕ → List Item
+  pub item : Item
+  pub from : item.from ≡ p
+  pub is_last : (q : ℕ) → taken q ≡ before q ++ items_of q (item ∷ [])
+  pub out_of_place : ¬ IsNextAfter (before p) item
+  pub faithful : IsFaithful before outlet
 
 -- A relay with a lane takes items of its putter's processes, and its outlet was handed what it took.
 pub record IsInnerAtWork (taker : TakeEnd Bundle Item) (outlet : Outlet) : Type 0 where
@@ -104,7 +110,12 @@ IsSameSource (Leaf old sleeper) (Leaf new same_sleeper) = AreSameFeeds old.items
 IsSameSource (Inner old) (Inner new) = IsSameTaker old new
 IsSameSource _ _ = ⊥
 
--- A gap is answered only where such a note came.
-abbrev pub IsFaultAfter : RelayFault → (ℕ → List Item) → Type 0
-IsFaultAfter (Gap p) taken = IsGapAt p taken
-IsFaultAfter (Cut cut) taken = ⊤
+-- How a relay ended its taking: the close mark of each of its processes was taken, whether or not its outlet was cut
+-- before; or a leaf met a gap; or the lane of any other relay was cut as it took. All else that was taken was handed to
+-- the outlet, or a front of it once that is cut.
+abbrev pub HasEnded : Source → Outlet → Result (Unit {0}) TakeFault → Type 0
+HasEnded source outlet (Ok all) =
+    AreClosed outlet.putter.members (source_taken source) × IsFaithful (source_taken source) outlet
+HasEnded (Leaf feeds sleeper) outlet (Err (take_fault.Gap p)) = HasMetGap p (fed feeds.items) outlet
+HasEnded (Inner taker) outlet (Err (take_fault.Cut cut)) = IsFaithful (λ p. items_of p taker.taken) outlet
+HasEnded _ _ _ = ⊥

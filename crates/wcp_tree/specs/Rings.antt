@@ -12,7 +12,8 @@ use Rattle.wcp_tree.specs.LiveProbe.{LiveSide, fresh_core}
 abbrev pub IsTakerAt : List (Option TakeSide) → ℕ → TakeSide → Type 0
 IsTakerAt takers p taker = (slice_get takers p ≡ Some (Some taker)) × (taker.taken ≡ [])
 
--- The ring of process p: its probe is fresh and has put nothing, and the end that takes is of the same ring.
+-- The ring of process p has the room of the plan: its probe is fresh, has put nothing and knows that all slots are
+-- free, and the end that takes is of the same ring.
 pub record IsNewRing (plan : Plan) (watch p : ℕ)
     (probes : List LiveSide) (takers : List (Option TakeSide)) : Type 0 where
   pub probe : LiveSide
@@ -20,6 +21,7 @@ pub record IsNewRing (plan : Plan) (watch p : ℕ)
   pub is_probe : slice_get probes p ≡ Some probe
   pub fresh : probe.core ≡ fresh_core watch p plan.n
   pub empty : probe.link.put ≡ []
+  pub room : probe.link.free ≡ plan.cap
   pub is_taker : IsTakerAt takers p taker
   pub one_ring : taker.ring ≡ probe.link.ring
 

@@ -10,7 +10,7 @@ use Rattle.wcp_ring.specs.Ends.{TakeSide}
 use Rattle.wcp_lane.specs.Ends.{LaneName, PutEnd}
 use Rattle.wcp_tree.specs.declared.bundle.Bundle.{Bundle}
 use Rattle.wcp_tree.specs.declared.relay.Relay.{Relay}
-use Rattle.wcp_tree.specs.declared.watch.Watch.{Watch}
+use Rattle.wcp_tree.specs.declared.parts.Watch.{Watch}
 use Rattle.wcp_tree.specs.Relays.{IsRelayOf, inbox_lane}
 use Rattle.wcp_tree.specs.Rings.{AreRings}
 use Rattle.wcp_tree.specs.Wiring.{IsSeatOf}

@@ -1,9 +1,9 @@
 ghost use Rattle.std.specs.Prelude.{◌≡◌, [], ◌∷◌, ◌++◌, false, IfOk, IfErr, IfSome, IfNone, List};
 ghost use Rattle.wcp_clock.specs.declared.note.Note.{Note};
 ghost use Rattle.wcp_tree.specs.Feeding.{IsInOrder, IsNextOfProcess};
-ghost use Rattle.wcp_tree.specs.declared.relay_end.RelayFault.TheVariants as fault;
+ghost use Rattle.wcp_tree.specs.declared.take_fault.TakeFault.TheVariants as fault;
 
-use crate::relay_end::RelayFault;
+use crate::take_fault::TakeFault;
 use wcp_clock::{Item, Note};
 use wcp_ring::RingTaker;
 
@@ -21,7 +21,7 @@ pub struct Feed {
 
 impl Feed {
     /// The feed of a process from which nothing was taken yet.
-    pub(crate) fn new(process: u32, taker: RingTaker) -> Feed
+    pub fn new(process: u32, taker: RingTaker) -> Feed
         ensures process { result.process ≡ process }
         ensures taker { result.taker ≡ taker }
         ensures next { result.next ≡ 0 }
@@ -36,7 +36,7 @@ impl Feed {
     }
 
     /// The next item of the process, if its ring has one. `Err` where its note is out of place.
-    pub(crate) fn take(&mut self) -> Result<Option<Item>, RelayFault>
+    pub(crate) fn take(&mut self) -> Result<Option<Item>, TakeFault>
         requires { IsInOrder self.old }
         ensures same { (self.new.process ≡ self.old.process) × (self.new.taker.ring ≡ self.old.taker.ring) }
         ensures some { IfOk result (λ found. IfSome found (λ item.
@@ -60,7 +60,7 @@ impl Feed {
             Note::Close { count } if !self.closed && u64::from(count) == self.next => {
                 self.closed = true;
             }
-            _ => return Err(RelayFault::Gap(self.process)),
+            _ => return Err(TakeFault::Gap(self.process)),
         }
         Ok(Some(Item {
             from: self.process,

@@ -6,17 +6,17 @@ ghost use Rattle.wcp_tree.specs.RelayWork.{IsInnerAtWork, IsSameOutlet, IsSameTa
 
 use crate::bundle::Bundle;
 use crate::outlet::Outlet;
-use crate::patience;
+use crate::patience::{self, CutTake};
 use std::sync::Wait;
 use wcp_clock::MAX_PROCS;
-use wcp_lane::{Cut, Origin, Origins, Taker};
+use wcp_lane::{Origin, Origins, Taker};
 
 /// Passes on what the lane gives, until the close mark of each process of the putter was taken.
 pub(crate) fn run_inner<R: Wait>(
     rt: &R,
     taker: &mut Taker<Bundle>,
     outlet: &mut Outlet,
-) -> Result<(), Cut>
+) -> Result<(), CutTake>
     requires { IsInnerAtWork taker.old outlet.old }
     ensures same_taker { IsSameTaker taker.old taker.new }
     ensures same_outlet { IsSameOutlet outlet.old outlet.new }
@@ -51,7 +51,7 @@ fn next_bundle<R: Wait>(
     rt: &R,
     taker: &mut Taker<Bundle>,
     waits: bool,
-) -> Result<Option<Bundle>, Cut>
+) -> Result<Option<Bundle>, CutTake>
     ensures same { IsSameTaker taker.old taker.new }
     ensures some { IfOk result (λ found. IfSome found (λ bundle.
         AreTakenNext taker.old bundle
@@ -62,7 +62,7 @@ fn next_bundle<R: Wait>(
     if waits {
         Ok(Some(patience::take(rt, taker)?))
     } else {
-        taker.try_take(rt)
+        patience::try_take(rt, taker)
     }
 }
 

@@ -1,13 +1,12 @@
 ghost use Rattle.std.specs.Prelude.{◌≡◌, ◌<◌, ℕ, true, [], length, All, IfErr, OnOk, OnErr, IfNone, IfSome};
-ghost use mathlib.Core.List.{IsPrefix};
-ghost use Rattle.wcp_tree.specs.Feeding.{fed, items_of};
-ghost use Rattle.wcp_tree.specs.RelayWork.{handed, IsLeafAtWork, AreSameFeeds, IsSameOutlet, IsGapAt};
-ghost use Rattle.wcp_tree.specs.declared.relay_end.RelayFault.TheVariants as fault;
+ghost use Rattle.wcp_tree.specs.Feeding.{fed};
+ghost use Rattle.wcp_tree.specs.RelayWork.{IsLeafAtWork, AreSameFeeds, IsSameOutlet, HasMetGap};
+ghost use Rattle.wcp_tree.specs.declared.take_fault.TakeFault.TheVariants as fault;
 
 use crate::bundle::MAX_BUNDLE;
 use crate::feed::Feed;
 use crate::outlet::Outlet;
-use crate::relay_end::RelayFault;
+use crate::take_fault::TakeFault;
 use std::sync::Wait;
 use wcp_ring::Sleeper;
 
@@ -17,15 +16,14 @@ pub(crate) fn run_leaf<R: Wait>(
     feeds: &mut [Feed],
     sleeper: &mut Sleeper,
     outlet: &mut Outlet,
-) -> Result<(), RelayFault>
+) -> Result<(), TakeFault>
     requires { IsLeafAtWork feeds.old outlet.old }
     ensures same_feeds { AreSameFeeds feeds.old feeds.new }
     ensures same_outlet { IsSameOutlet outlet.old outlet.new }
     ensures work { OnOk result (IsLeafAtWork feeds.new outlet.new) }
     ensures closed { OnOk result (All (λ feed. feed.closed ≡ true) feeds.new) }
     ensures empty { OnOk result (IfNone outlet.new.cut (outlet.new.hold.items ≡ [])) }
-    ensures front { OnErr result ((p : ℕ) → IsPrefix (items_of p (handed outlet.new)) (fed feeds.new p)) }
-    ensures gap { IfErr result (λ met. (p : ℕ) × (met ≡ fault.Gap p) × IsGapAt p (fed feeds.new)) }
+    ensures gap { IfErr result (λ met. (p : ℕ) × (met ≡ fault.Gap p) × HasMetGap p (fed feeds.new) outlet.new) }
 {
     for _ in rt.forever() {
         let any = take_round(rt, feeds, outlet)?;
@@ -47,13 +45,12 @@ pub(crate) fn run_leaf<R: Wait>(
 }
 
 /// Takes what the feeds have, from each at most so many notes as go into one bundle. `Ok` says whether any had one.
-fn take_round<R: Wait>(rt: &R, feeds: &mut [Feed], outlet: &mut Outlet) -> Result<bool, RelayFault>
+fn take_round<R: Wait>(rt: &R, feeds: &mut [Feed], outlet: &mut Outlet) -> Result<bool, TakeFault>
     requires { IsLeafAtWork feeds.old outlet.old }
     ensures same_feeds { AreSameFeeds feeds.old feeds.new }
     ensures same_outlet { IsSameOutlet outlet.old outlet.new }
     ensures work { OnOk result (IsLeafAtWork feeds.new outlet.new) }
-    ensures front { OnErr result ((p : ℕ) → IsPrefix (items_of p (handed outlet.new)) (fed feeds.new p)) }
-    ensures gap { IfErr result (λ met. (p : ℕ) × (met ≡ fault.Gap p) × IsGapAt p (fed feeds.new)) }
+    ensures gap { IfErr result (λ met. (p : ℕ) × (met ≡ fault.Gap p) × HasMetGap p (fed feeds.new) outlet.new) }
 {
     let mut any = false;
     for place in 0..feeds.len() {
@@ -70,14 +67,13 @@ fn take_burst<R: Wait>(
     feeds: &mut [Feed],
     place: usize,
     outlet: &mut Outlet,
-) -> Result<bool, RelayFault>
+) -> Result<bool, TakeFault>
     requires place { place < length feeds.old }
     requires work { IsLeafAtWork feeds.old outlet.old }
     ensures same_feeds { AreSameFeeds feeds.old feeds.new }
     ensures same_outlet { IsSameOutlet outlet.old outlet.new }
     ensures work { OnOk result (IsLeafAtWork feeds.new outlet.new) }
-    ensures front { OnErr result ((p : ℕ) → IsPrefix (items_of p (handed outlet.new)) (fed feeds.new p)) }
-    ensures gap { IfErr result (λ met. (p : ℕ) × (met ≡ fault.Gap p) × IsGapAt p (fed feeds.new)) }
+    ensures gap { IfErr result (λ met. (p : ℕ) × (met ≡ fault.Gap p) × HasMetGap p (fed feeds.new) outlet.new) }
 {
     let mut any = false;
     for _ in 0..MAX_BUNDLE {

@@ -9,7 +9,7 @@ ghost use Rattle.wcp_probe.specs.Core.{IsSameProbe};
 ghost use Rattle.wcp_probe.specs.Seal.{seal_of, value_of, IsSealed};
 ghost use Rattle.wcp_probe.specs.Refusals.{stamp_refusal, receive_refusal};
 ghost use Rattle.wcp_tree.specs.LiveProbe.{LiveFor, LiveAccepts, HasEmitted, IsEndOfProbe};
-ghost use Rattle.wcp_tree.specs.LiveProbe.{fresh_core, emitted_by, snapshots_in};
+ghost use Rattle.wcp_tree.specs.LiveProbe.{fresh_core, emitted_by, snapshots_in, NotesRise};
 
 use std::marker::Model;
 use std::sync::Wait;
@@ -21,7 +21,8 @@ use wcp_ring::{PutterEnd, RingPutter};
 /// The probe of a process that runs: its core, and the end of the ring by which its notes go to its
 /// relay. None of its calls takes memory, and none waits but `flush_waiting` and `close_waiting`.
 ///
-/// A contract sees it as its core and its end of the ring.
+/// A contract sees it as its core and its end of the ring. It always stands for some log, so that the clocks of its
+/// snapshots rise.
 #[derive(Drop)]
 pub struct LiveProbe {
     watch: u64,
@@ -31,8 +32,8 @@ pub struct LiveProbe {
 }
 
 impl Model for LiveProbe {
-    ghost use Rattle.std.specs.Prelude.{◌≡◌, false};
-    ghost use Rattle.wcp_tree.specs.LiveProbe.{LiveSide, emitted_by, snapshots_in};
+    ghost use Rattle.std.specs.Prelude.{◌≡◌, ◌<◌, false, length};
+    ghost use Rattle.wcp_tree.specs.LiveProbe.{LiveSide, HasLog, emitted_by, snapshots_in};
 
     ghost Value = { LiveSide };
 
@@ -43,6 +44,8 @@ impl Model for LiveProbe {
       process : p.core.id ≡ p.id;
       unclosed : p.core.closed ≡ false;
       counted : p.core.emitted ≡ snapshots_in (emitted_by (record { core = p.core; link = p.putter }));
+      within : p.core.id < length p.core.clock;
+      logged : HasLog (record { core = p.core; link = p.putter });
     } };
 }
 
@@ -184,8 +187,8 @@ impl LiveProbe {
         }
     }
 
-    /// Puts what is pending, and gives up its turn while the ring is full. The relay makes room as long as it runs,
-    /// also where its own lane is cut. Once it is dropped, or has ended by another fault, a full ring stays full, and
+    /// Puts what is pending, and gives up its turn while the ring is full. A relay that runs makes room
+    /// as it gets on, also where its own lane is cut. Once it is dropped, or has ended by another fault, a full ring stays full, and
     /// this never returns: where that may be, call `flush` instead.
     pub fn flush_waiting<R: Wait>(&mut self, rt: &R)
         ensures core { self.new.core ≡ record self.old.core { pending = None } }
@@ -221,7 +224,8 @@ impl LiveProbe {
     }
 }
 
-/// What is left of a live probe that is closed. It keeps what was put into its ring.
+/// What is left of a live probe that is closed. It keeps what was put into its ring: the clocks of these snapshots never
+/// fall in a component, and rise in the process's own.
 ///
 /// A contract sees it as its watch, its process and the end of its ring.
 #[derive(Drop)]
@@ -234,13 +238,16 @@ pub struct ProbeEnd {
 
 impl Model for ProbeEnd {
     ghost use Rattle.std.specs.Prelude.{◌≡◌};
-    ghost use Rattle.wcp_tree.specs.LiveProbe.{ClosedSide, snapshots_in};
+    ghost use Rattle.wcp_tree.specs.LiveProbe.{ClosedSide, NotesRise, snapshots_in};
 
     ghost Value = { ClosedSide };
 
     ghost view = { λ e. record { watch = e.watch; id = e.id; link = e.link } };
 
-    ghost invariant = { λ e. e.emitted ≡ snapshots_in e.link.put };
+    ghost invariant = { λ e. record {
+      counted : e.emitted ≡ snapshots_in e.link.put;
+      rising : NotesRise e.id e.link.put;
+    } };
 }
 
 impl ProbeEnd {
@@ -260,14 +267,16 @@ impl ProbeEnd {
 
     /// How many snapshots the process has emitted.
     pub fn emitted(&self) -> u32
-        ensures { result ≡ snapshots_in self.now.link.put }
+        ensures counted { result ≡ snapshots_in self.now.link.put }
+        ensures rising { NotesRise self.now.id self.now.link.put }
     {
         self.emitted
     }
 
     /// The end of its ring.
     pub fn into_link(self) -> PutterEnd
-        ensures { result ≡ self.link }
+        ensures link { result ≡ self.link }
+        ensures rising { NotesRise self.id self.link.put }
     {
         self.link
     }

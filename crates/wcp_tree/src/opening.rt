@@ -1,10 +1,13 @@
-ghost use Rattle.std.specs.Prelude.{◌≡◌, ◌≢◌, ◌<◌, ℕ, [], Some, length, slice_get, IfOk, OnOk};
+ghost use Rattle.std.specs.Prelude.{◌≡◌, ◌≢◌, ◌<◌, ◌≤◌, ℕ, [], Some, length, slice_get, IfOk, OnOk};
 ghost use Rattle.wcp_model.specs.declared.plan.Parent.TheVariants as parent;
 ghost use Rattle.wcp_model.specs.PlanFault.{IsCheckedPlan};
 ghost use Rattle.wcp_model.specs.Tree.{leaf_of, parent_of};
 ghost use Rattle.wcp_ring.specs.Ends.{TakeSide};
 ghost use Rattle.wcp_clock.specs.declared.note.Item.{Item};
 ghost use Rattle.wcp_lane.specs.Ends.{LaneName, PutEnd};
+ghost use Rattle.wcp_clock.specs.Limits.{most_hold};
+ghost use Rattle.wcp_tree.specs.declared.source.Source.TheVariants as source;
+ghost use Rattle.wcp_tree.specs.Feeding.{Serves};
 ghost use Rattle.wcp_tree.specs.Members.{AreBelow};
 ghost use Rattle.wcp_tree.specs.Relays.{AreSeated, IsRelayOf, IsSource};
 ghost use Rattle.wcp_tree.specs.Rings.{IsTakerAt};
@@ -12,11 +15,12 @@ ghost use Rattle.wcp_tree.specs.Watches.{AreLinked, AreSeatedUnder, IsWired};
 
 use crate::bundle::Bundle;
 use crate::checker_inbox::CheckerInbox;
+use crate::feed::Feed;
 use crate::lanes::open_lane;
+use crate::parts::Watch;
 use crate::relay::Relay;
 use crate::rings::{open_rings, take_feeds};
 use crate::source::Source;
-use crate::watch::Watch;
 use std::alloc::{AllocError, Global};
 use wcp_clock::Item;
 use wcp_hold::Hold;
@@ -41,6 +45,34 @@ pub fn watch(alloc: Global, plan: &Plan, watch_number: u64) -> Result<Watch, All
         relays,
         inbox,
     })
+}
+
+/// A leaf relay of this number in the plan of a watch, under this parent, with room for `hold` items. It takes from
+/// the rings of these feeds, one for each process of the putter, and sleeps by this sleeper, whose bells the other ends
+/// of the rings are to ring. `Err` where memory runs out.
+pub fn leaf_relay(
+    alloc: Global,
+    number: u32,
+    watch: u64,
+    parent: Parent,
+    hold: u32,
+    feeds: Vec<Feed>,
+    sleeper: Sleeper,
+    putter: Putter<Bundle>,
+) -> Result<Relay, AllocError>
+    requires some { 0 < hold }
+    requires within { hold ≤ most_hold }
+    requires serves { Serves (source.Leaf feeds sleeper) putter.members }
+    requires nothing_put { length putter.put ≡ 0 }
+    ensures number { IfOk result (λ relay. relay.number ≡ number) }
+    ensures watch { IfOk result (λ relay. relay.watch ≡ watch) }
+    ensures parent { IfOk result (λ relay. relay.parent ≡ parent) }
+    ensures source { IfOk result (λ relay. relay.source ≡ source.Leaf feeds sleeper) }
+    ensures putter { IfOk result (λ relay. relay.putter ≡ putter) }
+{
+    let hold = Hold::new(alloc, hold)?;
+    let source = Source::Leaf { feeds, sleeper };
+    Ok(Relay::new(number, watch, parent, source, putter, hold))
 }
 
 /// A sleeper for each relay. `Err` where memory runs out.

@@ -1,10 +1,10 @@
-ghost use Rattle.std.specs.Prelude.{◌≡◌, ◌<◌, ℕ, length, IfSome, IfNone};
+ghost use Rattle.std.specs.Prelude.{◌≡◌, ◌<◌, ℕ, length, IfNone};
 ghost use mathlib.Core.List.{IsPrefix};
 ghost use Rattle.wcp_tree.specs.Feeding.{Serves, Serves-prop};
 
 use crate::bundle::Bundle;
 use crate::outlet::Outlet;
-use crate::relay_end::{RelayEnd, RelayFault};
+use crate::relay_end::{Outcome, RelayEnd, first_fault};
 use crate::source::Source;
 use std::snapshot::Snapshot;
 use std::sync::Wait;
@@ -30,8 +30,9 @@ pub struct Relay {
 }
 
 impl Relay {
-    ghost use Rattle.wcp_tree.specs.RelayWork.{IsFaultAfter, AreClosed};
-    ghost use Rattle.wcp_tree.specs.RelayEnds.{AreReceiptsOf, relay_taken, relay_put, fault_of, number_of, watch_of};
+    ghost use Rattle.wcp_tree.specs.RelayWork.{AreClosed};
+    ghost use Rattle.wcp_tree.specs.RelayEnds.{AreReceiptsOf, IsFirstFault, relay_taken, relay_put};
+    ghost use Rattle.wcp_tree.specs.RelayEnds.{fault_of, number_of, watch_of};
 
     /// The relay of this number in the plan of a watch, and with this parent.
     pub(crate) fn new(
@@ -72,8 +73,8 @@ impl Relay {
 
     /// Moves items from its rings, or from its lane, to its parent's lane, until the close mark of each
     /// process below it was passed on, or until a fault comes. A gap, or a cut as it takes, ends it at
-    /// once. After a cut as it puts it goes on taking, so that nobody below is held up. It passes on what
-    /// it holds before it waits for more, and takes no memory.
+    /// once. After a cut as it puts it goes on taking, so that nobody below waits for room. It is to pass
+    /// on what it holds before it waits for more, which no clause says, and takes no memory.
     pub fn run<R: Wait>(self, rt: &R) -> RelayEnd
         ensures number { number_of result ≡ self.number }
         ensures watch { watch_of result ≡ self.watch }
@@ -81,7 +82,7 @@ impl Relay {
         ensures front { (p : ℕ) → IsPrefix (relay_put result p) (relay_taken result p) }
         ensures whole { IfNone (fault_of result) ((p : ℕ) → relay_put result p ≡ relay_taken result p) }
         ensures closed { IfNone (fault_of result) (AreClosed self.putter.members (relay_taken result)) }
-        ensures fault { IfSome (fault_of result) (λ met. IsFaultAfter met (relay_taken result)) }
+        ensures fault { IsFirstFault result }
     {
         let Relay {
             number,
@@ -97,32 +98,26 @@ impl Relay {
             cut: None,
         };
         let met = source.run(rt, &mut outlet);
-        match first_fault(&outlet, met) {
-            Ok(()) => RelayEnd::Whole {
+        let Some(fault) = first_fault(&outlet, met) else {
+            return RelayEnd {
                 number,
                 watch,
-                parent,
-                taken: source.end(),
-                put: outlet.putter.end(),
-            },
-            Err(fault) => RelayEnd::Faulted {
-                number,
-                watch,
+                outcome: Outcome::Whole {
+                    parent,
+                    taken: source.end(),
+                    put: outlet.putter.end(),
+                },
+            };
+        };
+        RelayEnd {
+            number,
+            watch,
+            outcome: Outcome::Faulted {
                 fault,
                 source: Snapshot::of(&source),
-                putter: Snapshot::of(&outlet.putter),
+                outlet: Snapshot::of(&outlet),
+                met: Snapshot::of(&met),
             },
         }
-    }
-}
-
-/// The fault that came first: a cut of the outlet comes before what ends the relay.
-fn first_fault(outlet: &Outlet, met: Result<(), RelayFault>) -> Result<(), RelayFault>
-    ensures uncut { IfNone outlet.now.cut (result ≡ met) }
-    ensures cut { IfSome outlet.now.cut (λ cut. result ≡ Err (RelayFault.Cut cut)) }
-{
-    match outlet.cut {
-        Some(cut) => Err(RelayFault::Cut(cut)),
-        None => met,
     }
 }

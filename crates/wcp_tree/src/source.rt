@@ -1,20 +1,20 @@
-ghost use Rattle.std.specs.Prelude.{◌≡◌, ℕ, [], IfErr, OnOk, IfNone};
-ghost use mathlib.Core.List.{IsPrefix};
+ghost use Rattle.std.specs.Prelude.{◌≡◌, ℕ, OnOk, IfNone};
 
 use crate::bundle::Bundle;
 use crate::feed::Feed;
 use crate::inner::run_inner;
 use crate::leaf::run_leaf;
 use crate::outlet::Outlet;
-use crate::relay_end::{Receipts, RelayFault};
+use crate::relay_end::Receipts;
+use crate::take_fault::TakeFault;
 use std::sync::Wait;
 use wcp_lane::Taker;
 use wcp_ring::Sleeper;
 
 /// What a relay takes from.
 #[derive(Drop)]
-pub enum Source {
-    /// A leaf serves processes. It sleeps while all its feeds are quiet.
+pub(crate) enum Source {
+    /// A leaf serves processes. It may sleep while all its feeds are quiet.
     Leaf { feeds: Vec<Feed>, sleeper: Sleeper },
     /// Any other relay serves relays, by one lane.
     Inner { taker: Taker<Bundle> },
@@ -22,26 +22,24 @@ pub enum Source {
 
 impl Source {
     ghost use Rattle.wcp_tree.specs.Feeding.{items_of, source_taken};
-    ghost use Rattle.wcp_tree.specs.RelayWork.{handed, IsAtWork, IsSameSource, IsSameOutlet, AreClosed, IsFaultAfter};
+    ghost use Rattle.wcp_tree.specs.RelayWork.{IsAtWork, IsSameSource, IsSameOutlet, HasEnded};
     ghost use Rattle.wcp_tree.specs.RelayEnds.{IsEndOfSource};
 
     /// Passes on what the relay takes, until the close mark of each of its processes was taken.
-    pub(crate) fn run<R: Wait>(&mut self, rt: &R, outlet: &mut Outlet) -> Result<(), RelayFault>
+    pub(crate) fn run<R: Wait>(&mut self, rt: &R, outlet: &mut Outlet) -> Result<(), TakeFault>
         requires { IsAtWork self.old outlet.old }
         ensures same_source { IsSameSource self.old self.new }
         ensures same_outlet { IsSameOutlet outlet.old outlet.new }
-        ensures front { (p : ℕ) → IsPrefix (items_of p (handed outlet.new)) (source_taken self.new p) }
         ensures whole { OnOk result (IfNone outlet.new.cut
             ((p : ℕ) → items_of p outlet.new.putter.put ≡ source_taken self.new p)) }
-        ensures closed { OnOk result (AreClosed outlet.new.putter.members (source_taken self.new)) }
-        ensures fault { IfErr result (λ met. IsFaultAfter met (source_taken self.new)) }
+        ensures ended { HasEnded self.new outlet.new result }
     {
         match self {
             Source::Leaf { feeds, sleeper } => run_leaf(rt, feeds, sleeper, outlet),
             Source::Inner { taker } => {
                 match run_inner(rt, taker, outlet) {
                     Ok(()) => Ok(()),
-                    Err(cut) => Err(RelayFault::Cut(cut)),
+                    Err(cut) => Err(TakeFault::Cut(cut)),
                 }
             }
         }

@@ -8,8 +8,7 @@ use wcp_clock::MAX_PROCS;
 use wcp_lane::Taker;
 use wcp_model::{Parent, plain_plan};
 use wcp_probe::Refusal;
-use wcp_tree::opening::watch;
-use wcp_tree::{Bundle, LiveProbe, Relay, RelayFault, Watch};
+use wcp_tree::{Bundle, LiveProbe, Relay, RelayFault, Watch, watch};
 
 /// The relay runs, the probe puts what is pending, sends and closes, and a third thread takes all of two processes.
 fn let_one_through<R: Threads + Wait + Sync>(

@@ -2,8 +2,7 @@ use std::alloc::{AllocError, Global};
 use std::test::Fail;
 use wcp_model::plain_plan;
 use wcp_probe::Refusal;
-use wcp_tree::LiveProbe;
-use wcp_tree::opening::watch;
+use wcp_tree::{LiveProbe, watch};
 
 /// The probes of two processes of a watch of this number, the second first.
 fn two_probes(alloc: Global, number: u64) -> Result<Vec<LiveProbe>, AllocError> {

@@ -2,8 +2,7 @@
 use std::alloc::{AllocError, Global};
 use std::process::Abort;
 use wcp_model::{Parent, Plan};
-use wcp_tree::Watch;
-use wcp_tree::opening::watch;
+use wcp_tree::{Watch, watch};
 
 /// Watch 7 of a plan of these numbers, parents and attachments.
 pub fn open(

@@ -1,14 +1,11 @@
-use Rattle.std.proofs.Common.{◌≡◌, ℕ, ◌∷◌, [], get_or, set, sym, ◌∙◌, refl, subst, arith}
+use Rattle.std.proofs.Common.{◌≡◌, get_or, set, sym, ◌∙◌, refl, subst, arith}
 use Rattle.std.proofs.lemmas.Result.{err_from_is_err_and}
 use Rattle.std.proofs.Math.Seq.{map-set_same}
-use mathlib.Core.List.{IsPrefix}
-use Rattle.wcp_clock.specs.declared.note.Item.{Item}
 use Rattle.wcp_tree.specs.declared.feed.Feed.{Feed}
 use Rattle.wcp_tree.specs.declared.outlet.Outlet.{Outlet}
-use Rattle.wcp_tree.specs.Feeding.{fed, items_of}
-use Rattle.wcp_tree.specs.RelayWork.{handed, IsLeafAtWork, IsSameOutlet}
-use Rattle.wcp_tree.proofs.Fed.{fed-set, fed-gap, processes-set}
-use Rattle.wcp_tree.proofs.Faithful.{only_none, prefix_more}
+use Rattle.wcp_tree.specs.RelayWork.{IsLeafAtWork, IsSameOutlet}
+use Rattle.wcp_tree.proofs.Fed.{fed-gap, processes-set}
+use Rattle.wcp_tree.proofs.Faithful.{only_none}
 use Rattle.wcp_tree.proofs.Passing.{if_none}
 use Rattle.wcp_tree.proofs.LeafWork.{if_some, leaf_owned, leaf_next, leaf_taken, leaf_quiet}
 use Rattle.wcp_tree.proofs.leaf.take_burst.Goals as goal
@@ -22,21 +19,6 @@ returns-in_err-item-clause-same_feeds g c =
           ∙ c.loop.invariant.feeds.1,
     )
 
-pub returns-in_err-item-clause-front : goal.returns-in_err-item-clause-front
-returns-in_err-item-clause-front g c =
-    let p = err_from_is_err_and c.from_residual.result c.from_residual.ensures.1 in
-    let gap = c.in_err-item.ensures.gap in
-    let work = c.loop.invariant.work in
-    let feeds = c.loop.feeds in
-    let i = c.args.place in
-    let d = c.index-feeds-place.result in
-    let item : Item = record { from = (get_or feeds i d).process; note = gap.1.0 } in
-    let front : (q : ℕ) → IsPrefix (items_of q (handed c.loop.outlet)) (fed (set feeds i c.take.new.self) q) =
-    λ q. subst (IsPrefix (items_of q (handed c.loop.outlet)))
-    (sym (fed-set feeds i c.take.new.self d item (omega arith) work.apart c.in_err-item.ensures.same.0 gap.1.1 refl q))
-    (prefix_more (items_of q (handed c.loop.outlet)) (fed feeds q) (items_of q (item ∷ [])) (work.faithful.front q)) in
-    rw p.1 front
-
 pub returns-in_err-item-clause-gap : goal.returns-in_err-item-clause-gap
 returns-in_err-item-clause-gap g c =
     let p = err_from_is_err_and c.from_residual.result c.from_residual.ensures.1 in
@@ -47,7 +29,7 @@ returns-in_err-item-clause-gap g c =
     rw p.1 (
       (get_or feeds i d).process,
       p.2 ∙ gap.0,
-      fed-gap feeds i c.take.new.self d gap.1.0 (omega arith) c.loop.invariant.work.apart c.in_err-item.ensures.same.0 gap.1.1 gap.1.2,
+      fed-gap feeds i c.take.new.self d gap.1.0 c.loop.outlet (omega arith) c.loop.invariant.work.apart c.in_err-item.ensures.same.0 gap.1.1 gap.1.2 c.loop.invariant.work.faithful,
     )
 
 pub accept-requires-clause-owned : goal.accept-requires-clause-owned

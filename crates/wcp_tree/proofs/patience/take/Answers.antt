@@ -1,5 +1,4 @@
 use Rattle.std.proofs.Common.{◌≡◌, ◌++◌, List, subst}
-use Rattle.std.specs.Prelude.{IfOk}
 use Rattle.wcp_clock.specs.declared.note.Item.{Item}
 use Rattle.wcp_lane.specs.Ends.{TakeEnd}
 use Rattle.wcp_tree.specs.declared.bundle.Bundle.{Bundle}
@@ -9,10 +8,10 @@ use Rattle.wcp_tree.proofs.patience.take.Goals as goal
 
 pub returns-in-Some-clause-ok : goal.returns-in-Some-clause-ok
 returns-in-Some-clause-ok g c =
-    subst (λ (e : TakeEnd Bundle Item). AreTakenNext e c.in-Some.bundle × (c.try_take.new.self ≡ record e { taken = e.taken ++ c.in-Some.bundle }))
+    subst (λ (e : TakeEnd Bundle Item). AreTakenNext e c.in-Some.bundle × (c.try_take.new.taker ≡ record e { taken = e.taken ++ c.in-Some.bundle }))
     c.loop.invariant (if_some _ _ _ c.in-Some.is c.in_ok-bundle.ensures.some)
 
-pub returns-clause-ok : goal.returns-clause-ok
-returns-clause-ok g c =
-    subst (λ (e : TakeEnd Bundle Item). IfOk c.take.result (λ (bundle : List Item). AreTakenNext e bundle × (c.take.new.self ≡ record e { taken = e.taken ++ bundle })))
-    c.loop.invariant c.take.ensures.ok
+pub returns-in-Ok-clause-ok : goal.returns-in-Ok-clause-ok
+returns-in-Ok-clause-ok g c =
+    subst (λ (e : TakeEnd Bundle Item). AreTakenNext e c.in-Ok.bundle × (c.take.new.self ≡ record e { taken = e.taken ++ c.in-Ok.bundle }))
+    c.loop.invariant c.in-Ok.ensures.ok

@@ -24,6 +24,7 @@ loop-p-preserved c =
     c.in_ok-putter.taker c.loop-p.invariant
     (ap (λ (s : LiveSide). s.core) c.new.ensures.fresh)
     (ap (λ (s : PutSide). s.put) link ∙ c.in_ok-putter.ensures.putter.0)
+    (ap (λ (s : PutSide). s.free) link ∙ c.in_ok-putter.ensures.putter.1)
     (sym c.in_ok-putter.ensures.one_ring ∙ sym (ap (λ (s : PutSide). s.ring) link))
     c.in_ok-putter.ensures.taker.0 in
     subst

@@ -1,0 +1,20 @@
+use Rattle.std.proofs.Common.{List, arith}
+use Rattle.std.proofs.lemmas.Grind.{common_steps}
+use Rattle.wcp_model.specs.ProbeLog.{Call}
+use Rattle.wcp_tree.specs.LiveProbe.{LiveFor, LiveSide}
+use Rattle.wcp_tree.proofs.LiveProbes.{HasLog-stays}
+use Rattle.wcp_tree.proofs.live_probe.LiveProbe.flush.Goals as goal
+
+pub invariant_of-self : goal.invariant_of-self
+invariant_of-self c =
+    let old : LiveSide = record { core = c.self.inside.core; link = c.self.inside.putter } in
+    let new : LiveSide = record { core = c.was_put.new.self; link = c.try_put.new.self } in
+    let stands : (log : List Call) → LiveFor old log → LiveFor new log = grind (arith, common_steps) in
+    grind (arith, common_steps, HasLog-stays old new c.self.invariant.logged stands)
+
+pub invariant_of-self-in-Err : goal.invariant_of-self-in-Err
+invariant_of-self-in-Err c =
+    let old : LiveSide = record { core = c.self.inside.core; link = c.self.inside.putter } in
+    let new : LiveSide = record { core = c.self.inside.core; link = c.try_put.new.self } in
+    let stands : (log : List Call) → LiveFor old log → LiveFor new log = grind (arith, common_steps) in
+    grind (arith, common_steps, HasLog-stays old new c.self.invariant.logged stands)
