@@ -1,5 +1,5 @@
 use Rattle.std.proofs.lemmas.Grind.{common_steps}
-use Rattle.std.proofs.Common.{◌≡◌, ℕ, ◌<◌, ◌≤◌, Bool, true, false, List, [], length, get_or, slice_index, sym, ◌∙◌, ap, arith, None, Some, MatchOption, ◌∷◌, ◌++◌, take, refl, subst}
+use Rattle.std.proofs.Common.{◌≡◌, ℕ, ◌<◌, ◌≤◌, Bool, true, false, List, [], length, get_or, slice_index, sym, ◌∙◌, ap, arith, Option, None, Some, MatchOption, ◌∷◌, ◌++◌, take, refl, subst}
 use Rattle.std.proofs.lemmas.List.{append-nil, get_or_default, get_or-take, length-take-le}
 use Rattle.std.proofs.lemmas.List.Elements.{Contains-get_or, All-from_get_or}
 use Rattle.wcp_clock.specs.declared.note.Item.{Item}
@@ -97,8 +97,11 @@ module _ (checker : CheckerState) (sound : IsSoundChecker checker) (items : List
       let front : length (take (processes checker) checker.closed) ≡ processes checker = length-take-le (processes checker) checker.closed (omega (arith, sound.few, sound.marks)) in
       get_or-take (processes checker) checker.closed p false (omega arith) ∙ stands.closed p (omega arith) ∙ (let (count, before, is) = drained p (omega arith) in close_mark_taken (notes_taken p items) before count is))))
 
+  abbrev Candidates : Option (List ℕ) → Type 0
+  Candidates found = MatchOption found (checker.starved ≡ false → AreLeft (processes checker) (λ p. clocks_taken p items) checker.queues checker.floor) (IsFoundAmong (processes checker) (λ p. clocks_taken p items))
+
   found : (cut : List ℕ) → checker.found ≡ Some cut → IsFoundAmong (processes checker) (λ p. clocks_taken p items) cut
-  found cut is = subst (λ f. MatchOption f (AreLeft (processes checker) (λ p. clocks_taken p items) checker.queues checker.floor) (IsFoundAmong (processes checker) (λ p. clocks_taken p items))) is stands.candidates
+  found cut is = subst Candidates is stands.candidates
 
   -- a cut that was found
   pub IsCutByClocks-report : (cut : List ℕ) → checker.found ≡ Some cut → IsCutByClocks (processes checker) items cut
@@ -107,9 +110,7 @@ module _ (checker : CheckerState) (sound : IsSoundChecker checker) (items : List
   pub IsLeastOf-report : (cut : List ℕ) → checker.found ≡ Some cut → ClocksRise (processes checker) items → IsLeastOf (processes checker) (IsCutByClocks (processes checker) items) cut
   IsLeastOf-report cut is order = IsLeastOf-found (processes checker) items cut order (found cut is)
 
-  -- where none was found, there is none
-  pub no_cut-report : checker.found ≡ None → ClocksRise (processes checker) items → (cut : List ℕ) → IsCutByClocks (processes checker) items cut → ⊥
-  no_cut-report none order cut is =
-      let left : AreLeft (processes checker) (λ p. clocks_taken p items) checker.queues checker.floor =
-      subst (λ f. MatchOption f (AreLeft (processes checker) (λ p. clocks_taken p items) checker.queues checker.floor) (IsFoundAmong (processes checker) (λ p. clocks_taken p items))) none stands.candidates in
-      no_cut_without_heads (processes checker) items checker.queues checker.floor cut refl order left sound.settled (sound.waiting none) is
+  -- where none was found, and the search was not ended, there is none
+  pub no_cut-report : checker.found ≡ None → checker.starved ≡ false → ClocksRise (processes checker) items → (cut : List ℕ) → IsCutByClocks (processes checker) items cut → ⊥
+  no_cut-report none fed order cut is =
+      no_cut_without_heads (processes checker) items checker.queues checker.floor cut refl order (subst Candidates none stands.candidates fed) sound.settled (sound.waiting none) is

@@ -19,7 +19,7 @@ tests_each-several n several = cond-true (ltb 1 n) n 0 (lt-ltb 1 n several)
 
 -- a checker that has taken nothing
 abbrev pub fresh_checker : ℕ → CheckerState
-fresh_checker n = record { queues = replicate n []; floor = first_floor; taken = replicate 16 0; closed = replicate 16 false; found = None }
+fresh_checker n = record { queues = replicate n []; floor = first_floor; taken = replicate 16 0; closed = replicate 16 false; found = None; starved = false }
 
 pub IsSoundChecker-fresh : (n : ℕ) → 0 < n → n ≤ 16 → IsSoundChecker (fresh_checker n)
 IsSoundChecker-fresh n some few = grind (arith, get_or-replicate, length-replicate, sum_by-replicate)

@@ -1,5 +1,5 @@
 use Rattle.std.proofs.Common.{◌≡◌, ℕ, ◌+◌, ◌<◌, ◌≤◌, Bool, true, false, Option, Some, None, MatchOption, is_some, List, [], ◌∷◌, ◌++◌, length, get_or, set, replicate, sum, cond, slice_index, refl, sym, ◌∙◌, ap, subst, arith}
-use Rattle.std.proofs.lemmas.Bool.{false≢true}
+use Rattle.std.proofs.lemmas.Bool.{true≢false}
 use Rattle.std.proofs.lemmas.List.{length-append, get_or-set_same, get_or-set_other, get_or-replicate, length-replicate}
 use Rattle.std.proofs.lemmas.List.Sums.{sum_by-set, sum_by_push}
 use Rattle.wcp_clock.specs.declared.note.Item.{Item}
@@ -8,7 +8,7 @@ use Rattle.wcp_model.specs.Report.{clocks_taken}
 use Rattle.wcp_model.proofs.NotesInTurn.{AreInTurn-none}
 use Rattle.wcp_queue.specs.Floor.{first_floor, HaveHeads, IsCutOfHeads}
 use Rattle.wcp_queue.specs.Elimination.{AreLeft, AddsCandidate, IsFoundAmong, GainCandidate}
-use Rattle.wcp_queue.specs.Checker.{CheckerState, processes, taken_of, closed_of, is_snapshot, MayTake, StandsForItems}
+use Rattle.wcp_queue.specs.Checker.{CheckerState, processes, taken_of, closed_of, is_snapshot, IsSearching, MayTake, StandsForItems}
 use Rattle.wcp_queue.proofs.FoundCuts.{IsFoundAmong-heads, IsFoundAmong-gain, IsFoundAmong-same}
 use Rattle.wcp_queue.proofs.LeftQueues.{AreLeft-start, AreLeft-rows}
 use Rattle.wcp_queue.proofs.NotesTaken.{in_turn-push, next_where_MayTake, GainCandidate-snapshot, clocks_taken-push_close, close_taken-push_snapshot, close_taken-push_close, close_taken-push_other}
@@ -20,11 +20,12 @@ taken_of-set_same taken p within = get_or-set_same taken p (slice_index taken p 
 pub sum-set : (taken : List ℕ) (p : ℕ) → p < length taken → sum (set taken p (slice_index taken p + 1)) ≡ sum taken + 1
 sum-set taken p within = omega (arith, sum_by-set (λ x. x) taken p (slice_index taken p + 1) 0 within)
 
-none_found : (found : Option (List ℕ)) → is_some found ≡ false → found ≡ None
-none_found found none = grind arith
+-- the candidates of a checker that has found this, if anything
+abbrev HasCandidates : CheckerState → (ℕ → List (List ℕ)) → Option (List ℕ) → Type 0
+HasCandidates checker rows found = MatchOption found (checker.starved ≡ false → AreLeft (processes checker) rows checker.queues checker.floor) (IsFoundAmong (processes checker) rows)
 
 module _ (old new : CheckerState) (items : List Item) (p : ℕ) (clock : List ℕ) (stands : StandsForItems old items) (p_within : p < processes old) (still_open : closed_of old p ≡ false)
-    (within : p < length old.taken) (taken : new.taken ≡ set old.taken p (taken_of old p + 1)) (closed : new.closed ≡ old.closed) (members : length new.queues ≡ length old.queues) where
+    (within : p < length old.taken) (taken : new.taken ≡ set old.taken p (taken_of old p + 1)) (closed : new.closed ≡ old.closed) (members : length new.queues ≡ length old.queues) (starved : new.starved ≡ old.starved) where
   abbrev longer : List Item
   longer = items ++ record { from = p; note = Snap (taken_of old p) clock } ∷ []
 
@@ -32,7 +33,7 @@ module _ (old new : CheckerState) (items : List Item) (p : ℕ) (clock : List �
   gain = GainCandidate-snapshot (length old.queues) items p (taken_of old p) clock
 
   -- what the checker holds after a snapshot, with what it then has of candidates
-  counted : MatchOption new.found (AreLeft (processes new) (λ q. clocks_taken q longer) new.queues new.floor) (IsFoundAmong (processes new) (λ q. clocks_taken q longer)) → StandsForItems new longer
+  counted : HasCandidates new (λ q. clocks_taken q longer) new.found → StandsForItems new longer
   counted candidates =
       let item : Item = record { from = p; note = Snap (taken_of old p) clock } in
       let next = next_where_MayTake old items item stands (record { from = p_within; place = refl; still_open = still_open }) in
@@ -44,56 +45,67 @@ module _ (old new : CheckerState) (items : List Item) (p : ℕ) (clock : List �
         candidates = candidates;
       }
 
-  -- a checker without a cut adds it to its candidates
-  pub StandsForItems-snapshot : is_some old.found ≡ false → AddsCandidate p clock old.queues old.floor new.queues new.floor →
+  -- a checker that searches adds it to its candidates
+  pub StandsForItems-snapshot : IsSearching old → AddsCandidate p clock old.queues old.floor new.queues new.floor →
       MatchOption new.found (HaveHeads (length old.queues) new.floor → ⊥) (IsCutOfHeads (length old.queues) new.floor) → StandsForItems new longer
-  StandsForItems-snapshot none left cut = counted (candidates new.found cut)
+  StandsForItems-snapshot searching left cut = counted (candidates new.found cut)
     where
       now_left : AreLeft (processes new) (λ q. clocks_taken q longer) new.queues new.floor
       now_left = subst (λ n. AreLeft n (λ q. clocks_taken q longer) new.queues new.floor) (sym members)
           (left (λ q. clocks_taken q items) (λ q. clocks_taken q longer) gain
-          (subst (λ found. MatchOption found (AreLeft (processes old) (λ q. clocks_taken q items) old.queues old.floor) (IsFoundAmong (processes old) (λ q. clocks_taken q items))) (none_found old.found none) stands.candidates))
+          (subst (HasCandidates old (λ q. clocks_taken q items)) searching.none_found stands.candidates searching.not_starved))
 
-      candidates : (found : Option (List ℕ)) → MatchOption found (HaveHeads (length old.queues) new.floor → ⊥) (IsCutOfHeads (length old.queues) new.floor) →
-          MatchOption found (AreLeft (processes new) (λ q. clocks_taken q longer) new.queues new.floor) (IsFoundAmong (processes new) (λ q. clocks_taken q longer))
+      candidates : (found : Option (List ℕ)) → MatchOption found (HaveHeads (length old.queues) new.floor → ⊥) (IsCutOfHeads (length old.queues) new.floor) → HasCandidates new (λ q. clocks_taken q longer) found
       candidates found is = grind (arith, now_left, IsFoundAmong-heads, members)
 
-  -- a checker with a cut keeps it
-  pub StandsForItems-found : is_some old.found ≡ true → new.found ≡ old.found → StandsForItems new longer
-  StandsForItems-found some still = counted (grind (arith, candidates))
+  -- any other keeps what it has found, and counts it
+  pub StandsForItems-counted : (IsSearching old → ⊥) → new.found ≡ old.found → StandsForItems new longer
+  StandsForItems-counted ended still = counted (subst (HasCandidates new (λ q. clocks_taken q longer)) (sym still) (candidates old.found refl stands.candidates))
     where
-      candidates : (found : Option (List ℕ)) → is_some found ≡ true → MatchOption found (AreLeft (processes old) (λ q. clocks_taken q items) old.queues old.floor) (IsFoundAmong (processes old) (λ q. clocks_taken q items)) →
-          MatchOption found (AreLeft (processes new) (λ q. clocks_taken q longer) new.queues new.floor) (IsFoundAmong (processes new) (λ q. clocks_taken q longer))
-      candidates None some left = absurd (false≢true some)
+      candidates : (found : Option (List ℕ)) → old.found ≡ found → HasCandidates old (λ q. clocks_taken q items) found → HasCandidates new (λ q. clocks_taken q longer) found
+      candidates None none left = λ fed. absurd (ended (record { none_found = none; not_starved = sym starved ∙ fed }))
       candidates (Some cut) some is = subst (λ n. IsFoundAmong n (λ q. clocks_taken q longer) cut) (sym members)
           (IsFoundAmong-gain (processes old) p (λ q. clocks_taken q items) (λ q. clocks_taken q longer) clock cut gain is)
+
+-- a starved checker stands for the same items
+pub StandsForItems-starved : (checker : CheckerState) (items : List Item) → StandsForItems checker items → StandsForItems (record checker { starved = true }) items
+StandsForItems-starved checker items stands = record {
+  taken = stands.taken;
+  snapshots = stands.snapshots;
+  closed = stands.closed;
+  in_turn = stands.in_turn;
+  candidates = candidates checker.found stands.candidates;
+}
+  where
+    candidates : (found : Option (List ℕ)) → HasCandidates checker (λ q. clocks_taken q items) found → HasCandidates (record checker { starved = true }) (λ q. clocks_taken q items) found
+    candidates None left = λ fed. absurd (true≢false fed)
+    candidates (Some cut) is = is
 
 -- a close mark is noted, and all else stays
 abbrev closing : List Item → ℕ → ℕ → List Item
 closing items p count = items ++ record { from = p; note = Close count } ∷ []
 
-pub StandsForItems-close : (old new : CheckerState) (items : List Item) (p count : ℕ) → StandsForItems old items → MayTake old (record { from = p; note = Close count }) → p < length old.closed → new.queues ≡ old.queues → new.floor ≡ old.floor → new.taken ≡ old.taken → new.found ≡ old.found → new.closed ≡ set old.closed p true →
+pub StandsForItems-close : (old new : CheckerState) (items : List Item) (p count : ℕ) → StandsForItems old items → MayTake old (record { from = p; note = Close count }) → p < length old.closed → new.queues ≡ old.queues → new.floor ≡ old.floor → new.taken ≡ old.taken → new.found ≡ old.found → new.closed ≡ set old.closed p true → new.starved ≡ old.starved →
     StandsForItems new (closing items p count)
-StandsForItems-close old new items p count stands may within queues floor taken found closed = record {
+StandsForItems-close old new items p count stands may within queues floor taken found closed starved = record {
   taken = λ q q_within. ap (λ (counts : List ℕ). slice_index counts q) taken ∙ stands.taken q (omega (arith, ap length queues)) ∙ ap length (sym (clocks_taken-push_close items p count q));
   snapshots = ap sum taken ∙ omega (arith, stands.snapshots, sum_by_push (λ item. cond (is_snapshot item) 1 0) items (record { from = p; note = Close count }));
   closed = grind (arith, close_taken-push_close, close_taken-push_other, get_or-set_other, get_or-set_same);
   in_turn = λ q q_within. in_turn-push items (record { from = p; note = Close count }) q (next_where_MayTake old items (record { from = p; note = Close count }) stands may) (stands.in_turn q (omega (arith, ap length queues)));
-  candidates = rw (queues, floor, found) (candidates old.found stands.candidates);
+  candidates = rw (queues, floor, found, starved) (candidates old.found stands.candidates);
 }
   where
-    candidates : (cut : Option (List ℕ)) → MatchOption cut (AreLeft (processes old) (λ q. clocks_taken q items) old.queues old.floor) (IsFoundAmong (processes old) (λ q. clocks_taken q items)) →
-        MatchOption cut (AreLeft (processes old) (λ q. clocks_taken q (closing items p count)) old.queues old.floor) (IsFoundAmong (processes old) (λ q. clocks_taken q (closing items p count)))
+    candidates : (cut : Option (List ℕ)) → HasCandidates old (λ q. clocks_taken q items) cut → HasCandidates old (λ q. clocks_taken q (closing items p count)) cut
     candidates cut is = grind (arith, AreLeft-rows, clocks_taken-push_close, IsFoundAmong-same)
 
 -- a checker that has taken nothing stands for the empty list
-pub StandsForItems-fresh : (n : ℕ) → n ≤ 16 → StandsForItems (record { queues = replicate n []; floor = first_floor; taken = replicate 16 0; closed = replicate 16 false; found = None }) []
+pub StandsForItems-fresh : (n : ℕ) → n ≤ 16 → StandsForItems (record { queues = replicate n []; floor = first_floor; taken = replicate 16 0; closed = replicate 16 false; found = None; starved = false }) []
 StandsForItems-fresh n few = record {
   taken = λ p p_within. get_or-replicate 16 p 0 0 (omega (arith, members));
   snapshots = refl;
   closed = λ p p_within. get_or-replicate 16 p false false (omega (arith, members));
   in_turn = λ p p_within. AreInTurn-none;
-  candidates = AreLeft-start (length (replicate n [])) (λ p. []) (replicate n []) (omega (arith, members)) (λ p p_within. refl) (λ p p_within. get_or-replicate n p [] [] (omega (arith, members)));
+  candidates = λ fed. AreLeft-start (length (replicate n [])) (λ p. []) (replicate n []) (omega (arith, members)) (λ p p_within. refl) (λ p p_within. get_or-replicate n p [] [] (omega (arith, members)));
 }
   where
     members : length (replicate {A = List (List ℕ)} n []) ≡ n

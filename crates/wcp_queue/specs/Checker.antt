@@ -8,19 +8,21 @@ use Rattle.wcp_clock.specs.declared.note.Note.TheVariants.{Snap, Close}
 use Rattle.wcp_model.specs.declared.outcome.Report.{Report}
 use Rattle.wcp_model.specs.declared.outcome.Report.TheVariants.{Found, Nothing, Undecided}
 use Rattle.wcp_clock.specs.Notes.{is_close, place_of}
-use Rattle.wcp_model.specs.Report.{notes_taken, clocks_taken, AreInTurn, IsDrained, IsCutByClocks}
+use Rattle.wcp_model.specs.Cut.{IsLeastOf}
+use Rattle.wcp_model.specs.Report.{notes_taken, clocks_taken, AreInTurn, ClocksRise, IsDrained, IsCutByClocks}
 use Rattle.wcp_queue.specs.declared.floor.Floor.{Floor}
 use Rattle.wcp_queue.specs.Floor.{HaveHeads}
 use Rattle.wcp_queue.specs.Elimination.{AreSettled, AreLeft, IsFoundAmong, waiting_in, tests_each}
 
 -- What a checker has come to: the queue of each process and the floor under the heads, how many snapshots of each
--- process it took and whether it took its close mark, and the cut that it found.
+-- process it took and whether it took its close mark, the cut that it found, and whether it was starved of memory.
 pub record CheckerState : Type 0 where
   pub queues : List (List (List ℕ))
   pub floor : Floor
   pub taken : List ℕ
   pub closed : List Bool
   pub found : Option (List ℕ)
+  pub starved : Bool
 
 -- How many processes it watches, and how many snapshots of one it took.
 abbrev pub processes : CheckerState → ℕ
@@ -33,14 +35,16 @@ taken_of checker p = slice_index checker.taken p
 abbrev pub closed_of : CheckerState → ℕ → Bool
 closed_of checker p = slice_index_or checker.closed p false
 
--- Its report: the cut found; else nothing, once every close mark was taken.
-abbrev pub report_from : Option (List ℕ) → Bool → Report
-report_from (Some cut) closed = Found cut
-report_from None true = Nothing
-report_from None false = Undecided
+-- Its report: the cut found; else nothing, once every close mark was taken, unless it was starved.
+abbrev pub report_from : Option (List ℕ) → Bool → Bool → Report
+report_from (Some cut) starved closed = Found cut
+report_from None true closed = Undecided
+report_from None false true = Nothing
+report_from None false false = Undecided
 
 abbrev pub report_of : CheckerState → Report
-report_of checker = report_from checker.found (list_all (λ closed. closed) (take (processes checker) checker.closed))
+report_of checker = report_from checker.found checker.starved
+    (list_all (λ closed. closed) (take (processes checker) checker.closed))
 
 abbrev pub is_snapshot : Item → Bool
 is_snapshot item = is_snap item.note
@@ -56,21 +60,34 @@ pub record MayTake (checker : CheckerState) (item : Item) : Type 0 where
   pub place : place_of item.note ≡ taken_of checker item.from
   pub still_open : closed_of checker item.from ≡ false
 
--- A checker stands for the list of items that it took, those of each process in turn: it has counted them, and its
--- queues and heads are what elimination leaves of their snapshots' clocks, until a cut was found among these (Garg and
--- Waldecker 1994).
+-- A checker stands for the list of items that it took, those of each process in turn: it has counted them; where it
+-- found a cut, that was among their snapshots; and else, unless it was starved, its queues and heads are what
+-- elimination leaves of the clocks of these (Garg and Waldecker 1994).
 pub record StandsForItems (checker : CheckerState) (items : List Item) : Type 0 where
   pub taken : (p : ℕ) → p < processes checker → taken_of checker p ≡ length (clocks_taken p items)
   pub snapshots : sum checker.taken ≡ count_by is_snapshot items
   pub closed : (p : ℕ) → p < processes checker → closed_of checker p ≡ list_any is_close (notes_taken p items)
   pub in_turn : (p : ℕ) → p < processes checker → AreInTurn (notes_taken p items)
   pub candidates : MatchOption checker.found
-      (AreLeft (processes checker) (λ p. clocks_taken p items) checker.queues checker.floor)
+      (checker.starved ≡ false → AreLeft (processes checker) (λ p. clocks_taken p items) checker.queues checker.floor)
       (IsFoundAmong (processes checker) (λ p. clocks_taken p items))
 
--- A checker took an item: where it stood for a list, it stands for that list with the item at its end.
-abbrev pub TakesItem : CheckerState → CheckerState → Item → Type 0
-TakesItem old new item = (items : List Item) → StandsForItems old items → StandsForItems new (items ++ item ∷ [])
+-- A checker took an item: where it stood for a list, it stands for that list with the item at its end; it is starved
+-- where it was before.
+pub record TakesItem (old new : CheckerState) (item : Item) : Type 0 where
+  pub stands : (items : List Item) → StandsForItems old items → StandsForItems new (items ++ item ∷ [])
+  pub starved : new.starved ≡ old.starved
+
+-- A checker searches until it has found a cut or is starved.
+pub record IsSearching (checker : CheckerState) : Type 0 where
+  pub none_found : checker.found ≡ None
+  pub not_starved : checker.starved ≡ false
+
+-- A checker grows nothing: what it has of candidates stays, and so does the cut that it found.
+pub record GrowsNothing (old new : CheckerState) : Type 0 where
+  pub queues : new.queues ≡ old.queues
+  pub floor : new.floor ≡ old.floor
+  pub found : new.found ≡ old.found
 
 -- A cut that is found stays the report.
 abbrev pub KeepsFound : CheckerState → CheckerState → Type 0
@@ -85,6 +102,14 @@ abbrev pub IsReportOfAnyClocks : ℕ → List Item → Report → Type 0
 IsReportOfAnyClocks n items (Found cut) = IsCutByClocks n items cut
 IsReportOfAnyClocks n items Nothing = IsDrained n items
 IsReportOfAnyClocks n items Undecided = IsDrained n items → ⊥
+
+-- What holds of the report of a checker that was starved: a found cut is one of taken snapshots of which none precedes
+-- another by its clock, and the least where the clocks rise; and it never says that there is none.
+abbrev pub IsReportOfStarved : ℕ → List Item → Report → Type 0
+IsReportOfStarved n items (Found cut) =
+    IsCutByClocks n items cut × (ClocksRise n items → IsLeastOf n (IsCutByClocks n items) cut)
+IsReportOfStarved n items Nothing = ⊥
+IsReportOfStarved n items Undecided = Unit {0}
 
 -- What is true of every checker: nothing waits of a process without a head, such a process is waited for until a cut is
 -- found, and a snapshot costs at most one component test for each process, and none where there is one process alone.

@@ -2,8 +2,14 @@ use Rattle.wcp_queue.specs.declared.checker.Checker.TheInside.{Inside}
 use Rattle.wcp_queue.specs.Checker.{CheckerState, IsSoundChecker}
 
 abbrev pub checker_state : Inside → CheckerState
-checker_state c =
-    record { queues = c.queues.items; floor = c.floor; taken = c.taken; closed = c.closed; found = c.found }
+checker_state c = record {
+  queues = c.queues.items;
+  floor = c.floor;
+  taken = c.taken;
+  closed = c.closed;
+  found = c.found;
+  starved = c.starved;
+}
 
 abbrev pub IsSoundInside : Inside → Type 0
 IsSoundInside c = IsSoundChecker (checker_state c)

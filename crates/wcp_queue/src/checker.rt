@@ -1,5 +1,5 @@
 ghost use Rattle.std.specs.Prelude.{◌≡◌, true, false, ◌*◌, ◌^◌, ◌<◌, ◌≤◌, [], List, length, count_by};
-ghost use Rattle.std.specs.Prelude.{IfOk, IfErr, IsOk, OnOk, OnErr};
+ghost use Rattle.std.specs.Prelude.{◌↔◌, IfOk, IfErr, IsOk, IsTrue, OnOk, OnErr};
 ghost use Rattle.std.specs.List.{list_all, list_any};
 ghost use Rattle.wcp_clock.specs.Limits.{most_processes};
 ghost use Rattle.wcp_clock.specs.declared.note.Item.{Item};
@@ -25,6 +25,7 @@ pub struct Checker {
     taken: [u64; MAX_PROCS],
     closed: [bool; MAX_PROCS],
     found: Option<GlobalCut>,
+    starved: bool,
 }
 
 impl Model for Checker {
@@ -41,8 +42,8 @@ impl Model for Checker {
 
 impl Checker {
     ghost use Rattle.wcp_queue.specs.Checker.{processes, taken_of, closed_of, report_of, is_snapshot};
-    ghost use Rattle.wcp_queue.specs.Checker.{MayTake, StandsForItems, TakesItem};
-    ghost use Rattle.wcp_queue.specs.Checker.{KeepsFound, HasFound, IsReportOfAnyClocks};
+    ghost use Rattle.wcp_queue.specs.Checker.{MayTake, StandsForItems, TakesItem, IsSearching, GrowsNothing};
+    ghost use Rattle.wcp_queue.specs.Checker.{KeepsFound, HasFound, IsReportOfAnyClocks, IsReportOfStarved};
 
     /// A checker of `n` processes that has taken nothing. `Err` where memory runs out.
     pub fn new(alloc: Global, n: u32) -> Result<Checker, AllocError>
@@ -50,6 +51,7 @@ impl Checker {
         requires few { n ≤ most_processes }
         ensures processes { IfOk result (λ checker. processes checker ≡ n) }
         ensures empty { IfOk result (λ checker. StandsForItems checker []) }
+        ensures not_starved { IfOk result (λ checker. checker.starved ≡ false) }
     {
         let mut queues = Vec::with_capacity(alloc, n as usize)?;
         for _ in 0..n {
@@ -61,6 +63,7 @@ impl Checker {
             taken: [0; MAX_PROCS],
             closed: [false; MAX_PROCS],
             found: None,
+            starved: false,
         })
     }
 
@@ -74,11 +77,12 @@ impl Checker {
     }
 
     /// Takes an item. `Err` where memory runs out: it hands the item back, and nothing has changed.
-    /// The checker wants memory only while no cut is found.
+    /// The checker wants memory only while it searches: until a cut is found or it is starved.
     pub fn take(&mut self, item: Item) -> Result<(), (AllocError, Item)>
         requires { MayTake self.old item }
         ensures taken { OnOk result (TakesItem self.old self.new item) }
         ensures found_stays { KeepsFound self.old self.new }
+        ensures grows_nothing { ¬ IsSearching self.old → GrowsNothing self.old self.new }
         ensures processes { processes self.new ≡ processes self.old }
 
         // Want of memory.
@@ -86,6 +90,7 @@ impl Checker {
         ensures unchanged { OnErr result (self.new ≡ self.old) }
         ensures close_needs_none { is_close item.note ≡ true → IsOk result }
         ensures found_needs_none { HasFound self.old → IsOk result }
+        ensures starved_needs_none { self.old.starved ≡ true → IsOk result }
     {
         let p = item.from as usize;
         let clock = match &item.note {
@@ -108,27 +113,57 @@ impl Checker {
         ensures taken { OnOk result
             (TakesItem self.old self.new (record { from = p; note = Snap (taken_of self.old p) clock.now })) }
         ensures found_stays { KeepsFound self.old self.new }
+        ensures grows_nothing { ¬ IsSearching self.old → GrowsNothing self.old self.new }
         ensures processes { processes self.new ≡ processes self.old }
         ensures unchanged { OnErr result (self.new ≡ self.old) }
-        ensures found_needs_none { HasFound self.old → IsOk result }
+        ensures needs_none { ¬ IsSearching self.old → IsOk result }
     {
-        if self.found.is_none() {
+        if self.is_searching() {
             add_candidate(&mut self.queues, p, clock, &mut self.floor, &mut self.found)?;
         }
         self.taken[p] += 1;
         Ok(())
     }
 
-    /// What the snapshots taken tell.
+    fn is_searching(&self) -> bool
+        ensures { IsTrue result ↔ IsSearching self.now }
+    {
+        self.found.is_none() && !self.starved
+    }
+
+    /// Ends the search where there is no memory for a snapshot: from now on the checker counts what it
+    /// takes, and wants no memory. A cut that was found stays its report; any other is `Undecided`.
+    pub fn starve(&mut self)
+        ensures starved { self.new ≡ record self.old { starved = true } }
+        ensures stands { (items : List Item) → StandsForItems self.old items → StandsForItems self.new items }
+        ensures found_stays { KeepsFound self.old self.new }
+    {
+        self.starved = true;
+    }
+
+    /// Whether it was starved.
+    pub fn is_starved(&self) -> bool
+        ensures { result ≡ self.now.starved }
+    {
+        self.starved
+    }
+
+    /// What the snapshots taken tell. A checker that was starved tells a cut that it had found before,
+    /// or `Undecided`.
     pub fn report(&self) -> Report
         ensures value { result ≡ report_of self.now }
-        ensures any_clocks { (items : List Item) → StandsForItems self.now items
+        ensures any_clocks { self.now.starved ≡ false → (items : List Item) → StandsForItems self.now items
             → IsReportOfAnyClocks (processes self.now) items result }
-        ensures exact { (items : List Item) → StandsForItems self.now items
+        ensures exact { self.now.starved ≡ false → (items : List Item) → StandsForItems self.now items
             → ClocksRise (processes self.now) items → IsReportByClocks (processes self.now) items result }
+        ensures starved { self.now.starved ≡ true → (items : List Item) → StandsForItems self.now items
+            → IsReportOfStarved (processes self.now) items result }
     {
         if let Some(cut) = self.found {
             return Report::Found(cut);
+        }
+        if self.starved {
+            return Report::Undecided;
         }
         let n = self.queues.len();
         if are_all_closed(&self.closed[..n]) {

@@ -1,10 +1,10 @@
 -- What a lane gives is what its checker may take.
-use Rattle.std.proofs.Common.{◌≡◌, ℕ, suc, ◌<◌, ◌≤◌, true, false, List, [], ◌∷◌, ◌++◌, ◌+◌, ◌↔◌, length, get_or, take, drop, map, sym, refl, ap, ◌∙◌, subst, append_assoc, arith}
+use Rattle.std.proofs.Common.{◌≡◌, ℕ, suc, ◌<◌, Bool, true, false, Option, Some, None, List, [], ◌∷◌, ◌++◌, ◌+◌, ◌↔◌, length, get_or, take, map, sym, refl, ap, ◌∙◌, subst, append_assoc, arith}
 use Rattle.std.specs.FinSet as set
-use Rattle.std.specs.Prelude.{All, Result, Ok, Err, OnOk, IfErr, IfNone}
+use Rattle.std.specs.Prelude.{All, Result, Ok, Err, OnOk, IfNone}
 use Rattle.std.specs.Result.{result_err}
 use Rattle.std.specs.List.{list_any}
-use Rattle.std.proofs.lemmas.List.{take_more, take-append-drop, length-drop}
+use Rattle.std.proofs.lemmas.List.{take_more}
 use Rattle.std.proofs.lemmas.Bool.{true≢false}
 use Rattle.std.proofs.lemmas.List.{length-map}
 use Rattle.std.proofs.lemmas.List.Elements.{All-map}
@@ -14,17 +14,14 @@ use Rattle.wcp_clock.specs.declared.note.Note.TheVariants.{Snap, Close}
 use Rattle.wcp_clock.specs.Notes.{is_close, place_of}
 use Rattle.wcp_model.specs.Report.{notes_taken, clocks_taken, snapshot_clocks, AreInTurn, IsNextNote, IsDrained}
 use Rattle.wcp_model.proofs.NotesInTurn.{nothing_follows}
-use Rattle.wcp_lane.specs.Ends.{TakeEnd}
+use Rattle.wcp_lane.specs.declared.fault.Cut.{Cut}
 use Rattle.wcp_model.specs.LaneRule.{items_from}
-use Rattle.wcp_queue.specs.Checker.{CheckerState, processes, closed_of, MayTake, StandsForItems, TakesItem}
+use Rattle.wcp_queue.specs.Checker.{CheckerState, processes, closed_of, MayTake, StandsForItems}
 use Rattle.wcp_queue.proofs.NotesTaken.{MayTake-next, close_mark_in, close_taken-push_close, clocks_taken-push_close}
-use Rattle.wcp_tree.specs.Bundles.{most_bundle}
-use Rattle.wcp_tree.specs.declared.bundle.Bundle.{Bundle}
 use Rattle.wcp_lane.specs.Passes.{Numbers}
 use Rattle.wcp_tree.proofs.Accepting.{ItemMayFollow}
 use Rattle.wcp_tree.proofs.Bundling.{same_last}
-use Rattle.wcp_run.specs.declared.checker_end.CheckFault.{CheckFault}
-use Rattle.wcp_run.specs.CheckerEnds.{KeepsUp, HasTakenClose, HasTakenLast, HasTakenUpTo, IsChecked, StopsShort, TakesItems}
+use Rattle.wcp_run.specs.CheckerEnds.{HasTakenClose, HasTakenLast, TakesItems, first_fault}
 
 -- where no close mark is among these notes, they are all snapshots
 open_notes : (notes : List Note) → All (λ note. is_close note ≡ false) notes → (length (snapshot_clocks notes) ≡ length notes) × (list_any is_close notes ≡ false)
@@ -62,13 +59,13 @@ drained checker items stands closed p within =
     (count, before, subst (λ rest. notes_taken p items ≡ before ++ Close count ∷ rest) last is)
 
 -- an item more was given
-pub more_taken : (old now new : CheckerState) (items : List Item) (i : ℕ) (d : Item) → i < length items → TakesItems old now (take i items) → TakesItem now new (get_or items i d) → TakesItems old new (take (i + 1) items)
+pub more_taken : (old now new : CheckerState) (items : List Item) (i : ℕ) (d : Item) → i < length items → TakesItems old now (take i items) → TakesItems now new (get_or items i d ∷ []) → TakesItems old new (take (i + 1) items)
 more_taken old now new items i d below before step all stands =
     subst (StandsForItems new) (append_assoc all (take i items) (get_or items i d ∷ []) ∙ ap (λ xs. all ++ xs) (sym (take_more items i d below))) (step (all ++ take i items) (before all stands))
 
 -- the last item that was given, if it is a close mark
 pub last_taken : (now new : CheckerState) (taken items : List Item) (i : ℕ) (d : Item) → i < length items → processes new ≡ processes now → StandsForItems now (taken ++ take i items)
-    → MayTake now (get_or items i d) → TakesItem now new (get_or items i d) → HasTakenLast new (take (i + 1) items)
+    → MayTake now (get_or items i d) → TakesItems now new (get_or items i d ∷ []) → HasTakenLast new (take (i + 1) items)
 last_taken now new taken items i d below same stands may step front end is close =
     let item : Item = get_or items i d in
     let one : item ≡ end = same_last (take i items) front item end (sym (take_more items i d below) ∙ is) in
@@ -76,24 +73,13 @@ last_taken now new taken items i d below same stands may step front end is close
     (close_taken new (taken ++ take i items) item.from item.note (step (taken ++ take i items) stands) (subst (λ n. item.from < n) (sym same) may.from)
     (may.place ∙ stands.taken item.from may.from) (ap (λ (x : Item). is_close x.note) one ∙ close))
 
--- without memory for an item, those before it were given
-pub stops_short : (items : List Item) (i : ℕ) (d : Item) → i < length items → length items ≤ most_bundle → is_close (get_or items i d).note ≡ false → StopsShort items (take i items)
-stops_short items i d below few still_open = record {
-  refused = get_or items i d;
-  behind = drop (i + 1) items;
-  is = sym (take-append-drop (i + 1) items) ∙ ap (λ front. front ++ drop (i + 1) items) (take_more items i d below)
-      ∙ append_assoc (take i items) (get_or items i d ∷ []) (drop (i + 1) items);
-  snapshot = still_open;
-  few = omega (arith, length-drop (i + 1) items, below, few);
-}
+-- a loop without a fault starved no checker, and met no cut
+pub without_fault : (starved : Bool) (cut : Option Cut) → first_fault starved cut ≡ None → (starved ≡ false) × (cut ≡ None)
+without_fault true cut is = cc
+without_fault false (Some cut) is = cc
+without_fault false None is = (refl, refl)
 
--- the checker has what the loop left it, whether it met a fault or not
-pub all_checked : (met : Result (Unit {0}) CheckFault) (taker : TakeEnd Bundle Item) (checker : CheckerState) → OnOk met (KeepsUp taker checker)
-    → IfErr met (λ fault. HasTakenUpTo fault taker.taken checker) → (items : List Item) × IsChecked (result_err met) taker.taken items × StandsForItems checker items
-all_checked (Ok done) taker checker keeps stands = (taker.taken, refl, keeps.stands)
-all_checked (Err fault) taker checker keeps stands = stands
-
--- without a fault all is drained
-pub all_drained : (met : Result (Unit {0}) CheckFault) (n : ℕ) (items : List Item) → OnOk met (IsDrained n items) → IfNone (result_err met) (IsDrained n items)
+-- without a cut all is drained
+pub all_drained : (met : Result (Unit {0}) Cut) (n : ℕ) (items : List Item) → OnOk met (IsDrained n items) → IfNone (result_err met) (IsDrained n items)
 all_drained (Ok done) n items is = is
-all_drained (Err fault) n items is = tt
+all_drained (Err cut) n items is = tt

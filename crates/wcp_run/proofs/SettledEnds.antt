@@ -1,5 +1,5 @@
 -- What the ends of a watch tell together.
-use Rattle.std.proofs.Common.{◌≡◌, ◌↔◌, ℕ, ◌<◌, ◌≤◌, List, get_or, length, Option, Some, None, Contains, refl, sym, ap, ◌∙◌, ⊎_elim, arith, suc, [], ◌∷◌}
+use Rattle.std.proofs.Common.{◌≡◌, ◌↔◌, ℕ, ◌<◌, ◌≤◌, false, List, get_or, length, Option, Some, None, Contains, refl, sym, ap, ◌∙◌, ⊎_elim, arith, suc, [], ◌∷◌}
 use Rattle.std.specs.Prelude.{slice_get, All}
 use Rattle.std.specs.List.{sum_by}
 use Rattle.std.specs.Option.{option_flatten}
@@ -25,6 +25,7 @@ use Rattle.wcp_run.specs.Seats.{AreAllThere, AreOfWatch, AreAllSeated, AreSeats,
 use Rattle.wcp_run.specs.Settling.{AreLinksMatched, ComeFromWatch, IsFreeOf, IsSettled, IsLaneMatched, share_of}
 use Rattle.wcp_run.specs.declared.settle_fault.SettleFault.TheVariants.{Missing, Faulted, Unfinished}
 use Rattle.wcp_run.specs.declared.checker_end.CheckerEnd.{CheckerEnd}
+use Rattle.wcp_run.proofs.CheckedItems.{without_fault}
 use Rattle.wcp_run.proofs.ClimbedLanes.{all_taken}
 use Rattle.wcp_run.proofs.Seating.{All-from_contains}
 use Rattle.wcp_run.proofs.WatchEnds.{all_processes}
@@ -219,9 +220,9 @@ module _ {probes : List ClosedSide} {relays : List RelayEnd} {checker : CheckerE
       all_settled seated whole posted each = record {
         all = ((none_missing book).0 seated).0;
         whole = All-from_contains _ probes whole_of;
-        any_clocks = rw all_checked at come.of_checker.any_clocks;
-        exact = rw all_checked at come.of_checker.exact;
-        drained = rw whole.1 at come.of_checker.drained;
+        any_clocks = come.of_checker.any_clocks clean.0;
+        exact = come.of_checker.exact clean.0;
+        drained = rw clean.1 at come.of_checker.drained;
         processes = are.count_is;
         tallies = λ k d below.
             let among = Contains-get_or probes k d below in
@@ -233,9 +234,8 @@ module _ {probes : List ClosedSide} {relays : List RelayEnd} {checker : CheckerE
         );
       }
         where
-          -- without a fault the checker has all that its loop took
-          all_checked : come.of_checker.items ≡ checker.receipt.taken
-          all_checked = rw whole.1 at come.of_checker.checked
+          clean : (come.of_checker.starved ≡ false) × (checker.cut ≡ None)
+          clean = without_fault come.of_checker.starved checker.cut (sym come.of_checker.fault ∙ whole.1)
 
           whole_of : (end : ClosedSide) → Contains probes end → notes_taken end.id checker.receipt.taken ≡ end.link.put
           whole_of end among =

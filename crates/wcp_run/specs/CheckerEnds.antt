@@ -1,16 +1,17 @@
 -- What the loop of a checker leaves.
-use Rattle.std.specs.Prelude.{◌≡◌, ℕ, ◌<◌, ◌↔◌, true, false, Option, Some, IfNone, List, [], ◌∷◌, ◌++◌, length}
-use Rattle.wcp_clock.specs.Notes.{place_of, is_close}
+use Rattle.std.specs.Prelude.{◌≡◌, ℕ, Bool, ◌<◌, ◌↔◌, true, false, Option, Some, None, IfNone, List, [], ◌∷◌, ◌++◌}
 use Rattle.std.specs.FinSet as set
+use Rattle.wcp_clock.specs.Notes.{place_of, is_close}
 use Rattle.wcp_clock.specs.declared.note.Item.{Item}
 use Rattle.wcp_model.specs.Report.{ClocksRise, IsReportByClocks, IsDrained}
 use Rattle.wcp_lane.specs.Ends.{TakeEnd}
-use Rattle.wcp_queue.specs.Checker.{CheckerState, processes, taken_of, closed_of, StandsForItems, IsReportOfAnyClocks}
-use Rattle.wcp_tree.specs.Bundles.{most_bundle}
+use Rattle.wcp_lane.specs.declared.fault.Cut.{Cut}
+use Rattle.wcp_queue.specs.Checker.{CheckerState, processes, taken_of, closed_of, StandsForItems}
+use Rattle.wcp_queue.specs.Checker.{IsReportOfAnyClocks, IsReportOfStarved}
 use Rattle.wcp_tree.specs.declared.bundle.Bundle.{Bundle}
 use Rattle.wcp_tree.specs.declared.checker_inbox.CheckerInbox.{CheckerInbox}
 use Rattle.wcp_run.specs.declared.checker_end.CheckFault.{CheckFault}
-use Rattle.wcp_run.specs.declared.checker_end.CheckFault.TheVariants.{Memory}
+use Rattle.wcp_run.specs.declared.checker_end.CheckFault.TheVariants as fault
 use Rattle.wcp_run.specs.declared.checker_end.CheckerEnd.{CheckerEnd}
 
 -- A checker keeps up with the taker of a lane of its processes: it has taken what the taker took.
@@ -18,11 +19,13 @@ pub record KeepsUp (taker : TakeEnd Bundle Item) (checker : CheckerState) : Type
   pub members : (p : ℕ) → (set.contains taker.members p ≡ true) ↔ (p < processes checker)
   pub stands : StandsForItems checker taker.taken
 
--- A checker is fresh for an inbox where it is of the inbox's processes, and neither has taken anything.
+-- A checker is fresh for an inbox where it is of the inbox's processes, neither has taken anything, and it wasn't
+-- starved.
 pub record IsFreshFor (inbox : CheckerInbox) (checker : CheckerState) : Type 0 where
   pub members : (p : ℕ) → (set.contains inbox.taker.members p ≡ true) ↔ (p < processes checker)
   pub none_taken : inbox.taker.taken ≡ []
   pub stands : StandsForItems checker []
+  pub not_starved : checker.starved ≡ false
 
 -- A checker has taken the close mark of process p, and so many snapshots of it.
 pub record HasTakenClose (checker : CheckerState) (p count : ℕ) : Type 0 where
@@ -39,26 +42,15 @@ abbrev pub HasTakenLast : CheckerState → List Item → Type 0
 HasTakenLast checker items = (front : List Item) (end : Item) → items ≡ front ++ end ∷ [] → is_close end.note ≡ true
     → HasTakenClose checker end.from (place_of end.note)
 
--- There was no memory for one of these items, which is a snapshot: a checker has those before it, and behind it is at
--- most the rest of its bundle.
-pub record StopsShort (taken items : List Item) : Type 0 where
-  pub refused : Item
-  pub behind : List Item
-  pub is : taken ≡ items ++ refused ∷ behind
-  pub snapshot : is_close refused.note ≡ false
-  pub few : length behind < most_bundle
+-- The fault of a loop whose checker was starved, or whose lane was cut: the first that applies.
+abbrev pub first_fault : Bool → Option Cut → Option CheckFault
+first_fault true cut = Some fault.Memory
+first_fault false (Some cut) = Some (fault.Cut cut)
+first_fault false None = None
 
--- What a checker has of the items that its loop took: all of them, but where memory ran out.
-abbrev pub IsChecked : Option CheckFault → List Item → List Item → Type 0
-IsChecked (Some Memory) taken items = StopsShort taken items
-IsChecked _ taken items = items ≡ taken
-
--- A checker has what its loop took before it met a fault.
-abbrev pub HasTakenUpTo : CheckFault → List Item → CheckerState → Type 0
-HasTakenUpTo met taken checker = (items : List Item) × IsChecked (Some met) taken items × StandsForItems checker items
-
--- What the loop of a checker leaves: its receipt is of the inbox's lane and was matched with no putter yet, its report
--- is that of the items that the checker took, and where it met no fault all is drained.
+-- What the loop of a checker leaves: its receipt is of the inbox's lane and was matched with no putter yet, and all is
+-- drained unless the lane was cut. The report is that of all that was taken; where the checker was starved it is a cut
+-- found among these snapshots, or undecided.
 pub record IsEndOfLoop (inbox : CheckerInbox) (end : CheckerEnd) : Type 0 where
   pub watch : end.watch ≡ inbox.watch
   pub relays : end.relays ≡ inbox.relays
@@ -66,8 +58,10 @@ pub record IsEndOfLoop (inbox : CheckerInbox) (end : CheckerEnd) : Type 0 where
   pub members : end.receipt.members ≡ inbox.taker.members
   pub processes : (p : ℕ) → (set.contains end.receipt.members p ≡ true) ↔ (p < end.processes)
   pub unmatched : end.receipt.matched ≡ set.empty
-  pub items : List Item
-  pub checked : IsChecked end.fault end.receipt.taken items
-  pub any_clocks : IsReportOfAnyClocks end.processes items end.report
-  pub exact : ClocksRise end.processes items → IsReportByClocks end.processes items end.report
-  pub drained : IfNone end.fault (IsDrained end.processes end.receipt.taken)
+  pub drained : IfNone end.cut (IsDrained end.processes end.receipt.taken)
+  pub starved : Bool
+  pub fault : end.fault ≡ first_fault starved end.cut
+  pub any_clocks : starved ≡ false → IsReportOfAnyClocks end.processes end.receipt.taken end.report
+  pub exact : starved ≡ false → ClocksRise end.processes end.receipt.taken
+      → IsReportByClocks end.processes end.receipt.taken end.report
+  pub of_starved : starved ≡ true → IsReportOfStarved end.processes end.receipt.taken end.report

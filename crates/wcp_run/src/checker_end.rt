@@ -1,16 +1,27 @@
 ghost use Rattle.std.specs.Prelude.{◌≡◌};
+ghost use Rattle.wcp_run.specs.CheckerEnds as of_loop;
 
 use wcp_lane::{Cut, TakeReceipt};
 use wcp_model::Report;
 use wcp_tree::Bundle;
 
-/// Why a checker didn't take every close mark.
+/// Why the report of a checker's loop isn't that of all snapshots: the first reason that applies.
 #[derive(Clone, Copy, Debug, PartialEq, Eq)]
 pub enum CheckFault {
-    /// Memory ran out as it took a snapshot.
+    /// Memory ran out as it took a snapshot: the checker was starved.
     Memory,
     /// The root's lane was cut.
     Cut(Cut),
+}
+
+/// The fault of a loop whose checker was starved, or whose lane was cut.
+pub fn first_fault(starved: bool, cut: Option<Cut>) -> Option<CheckFault>
+    ensures { result ≡ of_loop.first_fault starved cut }
+{
+    if starved {
+        return Some(CheckFault::Memory);
+    }
+    cut.map(CheckFault::Cut)
 }
 
 /// What is left of the checker's loop.
@@ -26,6 +37,8 @@ pub struct CheckerEnd {
     pub(crate) receipt: TakeReceipt<Bundle>,
     pub(crate) report: Report,
     pub(crate) fault: Option<CheckFault>,
+    /// What the root's lane answered, if it was cut.
+    pub(crate) cut: Option<Cut>,
 }
 
 impl CheckerEnd {
@@ -36,17 +49,26 @@ impl CheckerEnd {
         self.watch
     }
 
-    /// What the snapshots that the checker took tell.
+    /// What the snapshots that the checker took tell. Where it was starved, that is a cut that it had found before, or
+    /// `Undecided`.
     pub fn report(&self) -> Report
         ensures { result ≡ self.now.report }
     {
         self.report
     }
 
-    /// Why the loop ended before every close mark was taken, if it did.
+    /// Why the report isn't that of all snapshots, if it isn't. Where the checker was starved that is `Memory`, also
+    /// where its lane was cut.
     pub fn fault(&self) -> Option<CheckFault>
         ensures { result ≡ self.now.fault }
     {
         self.fault
+    }
+
+    /// What the root's lane answered, if it was cut before every close mark was taken.
+    pub fn cut(&self) -> Option<Cut>
+        ensures { result ≡ self.now.cut }
+    {
+        self.cut
     }
 }

@@ -1,25 +1,26 @@
 //! The loop of a checker: it takes what arrives at the root of the tree, and posts the share of each process.
-ghost use Rattle.std.specs.Prelude.{◌≡◌, ℕ, ◌↔◌, ◌<◌, true, false, List, IsTrue, IfOk, IfErr, OnOk, OnErr};
+ghost use Rattle.std.specs.Prelude.{◌≡◌, ℕ, ◌↔◌, ◌<◌, true, false, [], ◌∷◌, IsTrue, IfOk, OnOk};
 ghost use Rattle.wcp_clock.specs.Notes.{is_close, place_of};
 ghost use Rattle.wcp_model.specs.Report.{IsDrained};
-ghost use Rattle.wcp_queue.specs.Checker.{processes, closed_of, MayTake, TakesItem};
+ghost use Rattle.wcp_queue.specs.Checker.{processes, closed_of, MayTake};
 ghost use Rattle.wcp_lane.specs.Ends.{TakeEnd};
 ghost use Rattle.wcp_tree.specs.RelayWork.{AreTakenNext, IsSameTaker};
-ghost use Rattle.wcp_run.specs.declared.checker_end.CheckFault.TheVariants as fault;
-ghost use Rattle.wcp_run.specs.CheckerEnds.{IsEndOfLoop, IsFreshFor, KeepsUp, HasTakenClose, HasTakenLast};
-ghost use Rattle.wcp_run.specs.CheckerEnds.{HasTakenUpTo, StopsShort, TakesItems};
+ghost use Rattle.wcp_run.specs.CheckerEnds.{IsEndOfLoop, IsFreshFor, KeepsUp, HasTakenClose, HasTakenLast, TakesItems};
 
-use crate::checker_end::{CheckFault, CheckerEnd};
+use crate::checker_end::{CheckerEnd, first_fault};
 use std::sync::{Mutex, Wait};
 use wcp_book::Book;
 use wcp_clock::{Item, Note};
-use wcp_lane::Taker;
+use wcp_lane::{Cut, Taker};
 use wcp_queue::Checker;
 use wcp_tree::{Bundle, CheckerInbox};
 
-/// Gives the checker what arrives, until every close mark was taken. As it takes a close mark it posts the share of
-/// that process in the book: the count of the mark, and how many of its snapshots were taken. Where a post is refused
-/// the book is unchanged, and the loop goes on. It ends at once where memory runs out or the lane is cut.
+/// Gives the checker what arrives, until every close mark was taken or the lane is cut. As it takes a close mark it
+/// posts the share of that process in the book: the count of the mark, and how many of its snapshots were taken. Where
+/// a post is refused the book is unchanged, and the loop goes on. Where there is no memory for an item the checker is
+/// starved and takes it then, and the loop goes on, so that the relays still have a taker.
+///
+/// What is posted stands in no clause; the tests of `run_cases` compare the shares.
 pub fn check_loop<R: Wait>(
     rt: &R,
     inbox: CheckerInbox,
@@ -32,14 +33,15 @@ pub fn check_loop<R: Wait>(
     let watch = inbox.watch();
     let relays = inbox.relays();
     let mut taker = inbox.into_taker();
-    let fault = take_all(rt, &mut taker, &mut checker, book).err();
+    let cut = take_all(rt, &mut taker, &mut checker, book).err();
     CheckerEnd {
         watch,
         processes: checker.processes(),
         relays,
         receipt: taker.end(),
         report: checker.report(),
-        fault,
+        fault: first_fault(checker.is_starved(), cut),
+        cut,
     }
 }
 
@@ -49,12 +51,11 @@ fn take_all<R: Wait>(
     taker: &mut Taker<Bundle>,
     checker: &mut Checker,
     book: &Mutex<Book>,
-) -> Result<(), CheckFault>
+) -> Result<(), Cut>
     requires { KeepsUp taker.old checker.old }
     ensures same { IsSameTaker taker.old taker.new × (processes checker.new ≡ processes checker.old) }
-    ensures keeps_up { OnOk result (KeepsUp taker.new checker.new) }
+    ensures keeps_up { KeepsUp taker.new checker.new }
     ensures drained { OnOk result (IsDrained (processes checker.new) taker.new.taken) }
-    ensures fault { IfErr result (λ met. HasTakenUpTo met taker.new.taken checker.new) }
 {
     let mut finished = are_closed(checker);
     for _ in rt.forever() {
@@ -75,54 +76,44 @@ fn take_bundle<R: Wait>(
     rt: &R,
     taker: &mut Taker<Bundle>,
     checker: &mut Checker,
-) -> Result<Item, CheckFault>
+) -> Result<Item, Cut>
     requires { KeepsUp taker.old checker.old }
     ensures same { IsSameTaker taker.old taker.new × (processes checker.new ≡ processes checker.old) }
-    ensures keeps_up { OnOk result (KeepsUp taker.new checker.new) }
+    ensures keeps_up { KeepsUp taker.new checker.new }
     ensures close { IfOk result (λ end.
         is_close end.note ≡ true → HasTakenClose checker.new end.from (place_of end.note)) }
-    ensures fault { IfErr result (λ met. HasTakenUpTo met taker.new.taken checker.new) }
 {
-    let bundle = match taker.take(rt) {
-        Ok(bundle) => bundle,
-        Err(cut) => return Err(CheckFault::Cut(cut)),
-    };
-    match give_all(checker, &bundle) {
-        Ok(()) => Ok(bundle.last_item()),
-        Err(met) => Err(met),
-    }
+    let bundle = taker.take(rt)?;
+    give_all(checker, &bundle);
+    Ok(bundle.last_item())
 }
 
-/// Gives the checker the items of a bundle that was taken, in order, until memory runs out.
-fn give_all(checker: &mut Checker, bundle: &Bundle) -> Result<(), CheckFault>
+/// Gives the checker the items of a bundle that was taken, in order.
+fn give_all(checker: &mut Checker, bundle: &Bundle)
     requires { (taker : TakeEnd Bundle Item) × KeepsUp taker checker.old × AreTakenNext taker bundle.now }
     ensures processes { processes checker.new ≡ processes checker.old }
-    ensures taken { OnOk result (TakesItems checker.old checker.new bundle.now) }
-    ensures close { OnOk result (HasTakenLast checker.new bundle.now) }
-    ensures memory { IfErr result (λ met. (met ≡ fault.Memory)
-        × ((given : List Item) × StopsShort bundle.now given × TakesItems checker.old checker.new given)) }
+    ensures taken { TakesItems checker.old checker.new bundle.now }
+    ensures close { HasTakenLast checker.new bundle.now }
 {
     let items = bundle.items();
     for item in items {
-        if let Err(met) = give(checker, item) {
-            return Err(met);
-        }
+        give(checker, item);
     }
-    Ok(())
 }
 
-/// Gives the checker an item.
-fn give(checker: &mut Checker, item: &Item) -> Result<(), CheckFault>
+/// Gives the checker an item; where there is no memory for it the checker is starved first.
+fn give(checker: &mut Checker, item: &Item)
     requires { MayTake checker.old item.now }
     ensures processes { processes checker.new ≡ processes checker.old }
-    ensures taken { OnOk result (TakesItem checker.old checker.new item.now) }
-    ensures memory { IfErr result (λ met. met ≡ fault.Memory) }
-    ensures snapshot { OnErr result (is_close item.now.note ≡ false) }
-    ensures unchanged { OnErr result (checker.new ≡ checker.old) }
+    ensures taken { TakesItems checker.old checker.new (item.now ∷ []) }
 {
-    match checker.take(*item) {
-        Ok(()) => Ok(()),
-        Err(_) => Err(CheckFault::Memory),
+    let Err((_, item)) = checker.take(*item) else {
+        return;
+    };
+    checker.starve();
+    match checker.take(item) {
+        Ok(()) => {}
+        Err(_) => unreachable!(),
     }
 }
 

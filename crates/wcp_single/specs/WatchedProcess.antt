@@ -37,10 +37,11 @@ pub record MayReceive (process : WatchedProcess) (seal : Seal) : Type 0 where
   pub addressed : seal.to ≡ process.probe.id
   pub not_ahead : slice_index seal.clock process.probe.id ≤ slice_index process.probe.clock process.probe.id
 
--- A checker of n processes has taken these items.
+-- A checker of n processes has taken these items, and wasn't starved.
 pub record HasTaken (n : ℕ) (items : List Item) (checker : CheckerState) : Type 0 where
   pub watched : processes checker ≡ n
   pub stands : StandsForItems checker items
+  pub not_starved : checker.starved ≡ false
 
 -- A checker of n processes has taken these items, and with them all that process p emits by this log.
 pub record IsFed (n p : ℕ) (log : List Call) (items : List Item) (checker : CheckerState) : Type 0 where

@@ -108,6 +108,7 @@ module _ (plan : Plan) (steps : List Step) (taken : List Item) (w : WorldState) 
           transport = told.1 refl;
           processes_are = stands.processes_are;
           checker = stands.checker;
+          not_starved = stands.not_starved;
         },
       )
 
@@ -159,7 +160,8 @@ module _ (plan : Plan) (steps : List Step) (taken : List Item) (w : WorldState) 
           processes = rw (computation_stays steps step.Check (Took item) refl) stands.processes;
           transport = takes_next plan steps stands.put taken item stands.transport is_next;
           processes_are = same_processes ∙ stands.processes_are;
-          checker = takes_item taken stands.checker;
+          checker = takes_item.stands taken stands.checker;
+          not_starved = takes_item.starved ∙ stands.not_starved;
         },
       )
 

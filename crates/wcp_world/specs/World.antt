@@ -24,13 +24,15 @@ abbrev pub process_count : WorldState → ℕ
 process_count w = processes_of_checker w.checker
 
 -- The parts of a world stand for the same accepted steps and items taken: the processes for the computation of these
--- steps, the transport for the notes that were put on its links, and the checker for what it took.
+-- steps, the transport for the notes that were put on its links, and the checker, which wasn't starved, for what it
+-- took.
 pub record Stands (plan : Plan) (steps : List Step) (taken : List Item) (w : WorldState) : Type 0 where
   pub put : ℕ → List Note
   pub processes : AreProcessesOf plan.n (computation steps) put w.processes
   pub transport : IsTransportOf plan steps put taken w.transport
   pub processes_are : process_count w ≡ plan.n
   pub checker : StandsForItems w.checker taken
+  pub not_starved : w.checker.starved ≡ false
 
 -- A world that some steps lead to.
 abbrev pub IsReached : WorldState → Type 0

@@ -19,22 +19,28 @@ fn checker_of_two(alloc: Global) -> Result<Checker, AllocError> {
     }
 }
 
-/// Takes a snapshot. Where memory runs out it comes back, and asking again takes it.
-fn take(rt: &impl Abort, checker: &mut Checker, from: u32, number: u32, clock: Clock) {
-    let item = Item {
-        from,
-        note: Note::Snap { number, clock },
+/// Asks the checker once to take a note. Where memory runs out it comes back.
+fn takes(rt: &impl Abort, checker: &mut Checker, from: u32, note: Note) -> bool {
+    let place = match note {
+        Note::Snap { number, .. } => number,
+        Note::Close { count } => count,
     };
     assert!(rt; from < checker.processes());
     assert!(rt; !checker.closed(from));
-    assert_eq!(rt; u64::from(number), checker.taken(from));
-    match checker.take(item) {
-        Ok(()) => {}
+    assert_eq!(rt; u64::from(place), checker.taken(from));
+    match checker.take(Item { from, note }) {
+        Ok(()) => true,
         Err((_, handed_back)) => {
-            assert_eq!(rt; handed_back, item);
-            assert!(rt; checker.take(item).is_ok());
+            assert_eq!(rt; handed_back, Item { from, note });
+            false
         }
     }
+}
+
+/// Takes a snapshot. Where memory runs out, asking again takes it.
+fn take(rt: &impl Abort, checker: &mut Checker, from: u32, number: u32, clock: Clock) {
+    let note = Note::Snap { number, clock };
+    assert!(rt; takes(rt, checker, from, note) || takes(rt, checker, from, note));
 }
 
 /// Takes a snapshot of process 0 before and after each of its sends; its clock after the last.
@@ -150,5 +156,44 @@ fn a_ring_costs_few_tests(rt: HostRuntime) -> Result<(), Fail> {
     assert_eq!(rt; small, 1_600);
     let large = tests_of_ring(&rt, rt.alloc(), 16, 1_000)?;
     assert_eq!(rt; large, 256_000);
+    Ok(())
+}
+
+/// Asks for the first snapshot of a process of two, before any event.
+fn takes_first(rt: &impl Abort, checker: &mut Checker, from: u32) -> bool {
+    let clock = Clock::new(2);
+    takes(rt, checker, from, Note::Snap { number: 0, clock })
+}
+
+/// A starved checker takes each item at once, and finds nothing, also where all is closed.
+#[test]
+fn a_starved_checker_stays_undecided(rt: HostRuntime) -> Result<(), Fail> {
+    let mut checker = checker_of_two(rt.alloc())?;
+    assert!(rt; takes_first(&rt, &mut checker, 0));
+    assert!(rt; !checker.is_starved());
+    checker.starve();
+    assert!(rt; checker.is_starved());
+    assert!(rt; takes_first(&rt, &mut checker, 1));
+    assert_eq!(rt; checker.report(), Report::Undecided);
+    assert_eq!(rt; (checker.taken(0), checker.taken(1)), (1, 1));
+    for from in 0..2 {
+        assert!(rt; takes(&rt, &mut checker, from, Note::Close { count: 1 }));
+    }
+    assert!(rt; checker.closed(0) && checker.closed(1));
+    assert_eq!(rt; checker.report(), Report::Undecided);
+    Ok(())
+}
+
+#[test]
+fn a_starved_checker_keeps_the_cut_that_it_found(rt: HostRuntime) -> Result<(), Fail> {
+    let mut checker = checker_of_two(rt.alloc())?;
+    for from in 0..2 {
+        assert!(rt; takes_first(&rt, &mut checker, from));
+    }
+    checker.starve();
+    let found = Report::Found(GlobalCut::new(&[0, 0]));
+    assert_eq!(rt; checker.report(), found);
+    assert!(rt; takes(&rt, &mut checker, 0, Note::Close { count: 1 }));
+    assert_eq!(rt; checker.report(), found);
     Ok(())
 }

@@ -9,4 +9,4 @@ pub returns : goal.returns
 returns c =
     let counted : c.loop.counter ≡ c.args.n * c.args.n = omega arith in
     run_starts c.args.n c.loop-id.processes.items (map (λ queue. map seal_of queue.items) c.loop.in_transit.items) c.in_ok-new.field-0 c.loop.invariant.0 (c.loop.invariant.1 ∙ ap (λ count. replicate count []) counted)
-    (record { watched = c.in_ok-new.ensures.processes; stands = c.in_ok-new.ensures.empty })
+    (record { watched = c.in_ok-new.ensures.processes; stands = c.in_ok-new.ensures.empty; not_starved = c.in_ok-new.ensures.not_starved })
