@@ -1,15 +1,18 @@
 ghost use Rattle.std.specs.Prelude.{◌≡◌};
 
+use thiserror::Error;
 use wcp_lane::{Cut, TakeReceipt};
 use wcp_model::Report;
 use wcp_tree::Bundle;
 
 /// Why a checker didn't take every close mark.
-#[derive(Clone, Copy, Debug, PartialEq, Eq)]
+#[derive(Clone, Copy, Debug, PartialEq, Eq, Error)]
 pub enum CheckFault {
     /// Memory ran out as it took a snapshot.
+    #[error("memory")]
     Memory,
     /// The root's lane was cut.
+    #[error(transparent)]
     Cut(Cut),
 }
 
