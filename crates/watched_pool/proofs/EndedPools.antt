@@ -136,5 +136,5 @@ module _ (plan : Plan) (pace : Pace) (ends : Ends MemberEnd) (pool : AreEndsOfPo
         dispatcher = rw (sym of_replicas) dispatcher;
         replica = rw (sym of_replicas) replica;
         drained = subst (λ n. IsDrained n ends.checker.receipt.taken) (n_is ∙ of_replicas) is.drained;
-        exact = subst (λ n. ClocksRise n ends.checker.receipt.taken → IsReportByClocks n ends.checker.receipt.taken settled.report) (n_is ∙ of_replicas) is.exact;
+        exact = λ rising. subst (λ n. IsReportByClocks n ends.checker.receipt.taken settled.report) (n_is ∙ of_replicas) is.exact;
       }

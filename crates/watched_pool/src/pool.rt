@@ -19,8 +19,7 @@ use std::thread::{Threads, join, sleep};
 use std::time::{Clock, Duration};
 use wcp_book::Book;
 use wcp_model::{Outcome, Plan, Tally};
-use wcp_run::settle::settle;
-use wcp_run::{Ends, Parts, StartFault, run_parts};
+use wcp_run::{Ends, Parts, StartFault, run_parts, settle};
 use wcp_tree::ProbeEnd;
 
 /// How many milliseconds the reader of the totals sleeps between two looks.

@@ -10,3 +10,4 @@ pub mod SettledEnds
 pub mod JoinedParts
 pub mod PlayedWorkers
 pub mod SentEnds
+pub mod RunFaults

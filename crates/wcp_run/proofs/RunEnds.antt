@@ -113,7 +113,7 @@ module _ {plan : Plan} {tasks : List Task} {ends : Ends WorkerEnd} (run : AreEnd
 
       pub outcome_of_run : IsWorkloadOutcome plan.n tasks (record { report = settled.report; tallies = settled.tallies })
       outcome_of_run = IsWorkloadOutcome-run plan.n tasks ends.checker.receipt.taken played.mailboxes.items have_run _ run.within (record {
-        exact = rw n_is at is.exact;
+        exact = λ rising. rw n_is at is.exact;
         processes = is.processes ∙ n_is;
         emitted = λ p tally at. (tally_at p tally at).0;
         taken = λ p tally at. (tally_at p tally at).1;

@@ -9,17 +9,18 @@ use Rattle.std.proofs.lemmas.List.Sums.{sum_by-cons}
 use Rattle.std.proofs.lemmas.Option.{slice_get_past, slice_get_within}
 use Rattle.wcp_clock.specs.Limits.{most_processes, most_relays}
 use Rattle.wcp_clock.specs.declared.note.Item.{Item}
-use Rattle.wcp_model.specs.Report.{notes_taken}
+use Rattle.wcp_model.specs.Report.{ClocksRise, notes_taken}
 use Rattle.wcp_model.specs.declared.outcome.Tally.{Tally}
 use Rattle.wcp_model.specs.declared.plan.Parent.TheVariants as parent
 use Rattle.wcp_book.specs.Totals.{emitted_of_share, taken_of_share}
 use Rattle.wcp_lane.specs.Ends.{TakenEnd}
 use Rattle.wcp_tree.specs.declared.bundle.Bundle.{Bundle}
-use Rattle.wcp_tree.specs.LiveProbe.{ClosedSide}
+use Rattle.wcp_tree.specs.LiveProbe.{ClosedSide, NotesRise}
 use Rattle.wcp_tree.specs.RelayEnds.{fault_of, number_of, watch_of}
 use Rattle.wcp_tree.specs.declared.relay_end.RelayEnd.{RelayEnd}
 use Rattle.wcp_tree.specs.declared.relay_end.RelayEnd.TheVariants.{Whole, Faulted}
 use Rattle.wcp_model.proofs.CheckedPlans.{few_processes, few_relays, some_process}
+use Rattle.wcp_tree.proofs.LiveProbes.{taken_rise}
 use Rattle.wcp_run.specs.Matching.{AreEndsThere, AreFirstMatched}
 use Rattle.wcp_run.specs.Seats.{AreAllThere, AreOfWatch, AreAllSeated, AreSeats, IsEndAt, SitsAt}
 use Rattle.wcp_run.specs.Settling.{AreLinksMatched, ComeFromWatch, IsFreeOf, IsSettled, IsLaneMatched, share_of}
@@ -90,10 +91,11 @@ have_seats checker of_probes of_relays probes_sit relays_sit = record {
   relays_sit = relays_sit;
 }
 
--- these are the shares of the processes
+-- these are the shares of the processes, and the clocks of their snapshots rise
 pub record AreShares (count : ℕ) (probe_seats : List (Option ClosedSide)) (tallies : List Tally) : Type 0 where
   pub count_is : length tallies ≡ count
   pub each : (p : ℕ) (probe : ClosedSide) → p < count → SitsAt probe_seats p probe → slice_get tallies p ≡ Some (share_of probe)
+  pub rise : (p : ℕ) (probe : ClosedSide) → p < count → SitsAt probe_seats p probe → NotesRise probe.id probe.link.put
 
 module _ {probes : List ClosedSide} {relays : List RelayEnd} {checker : CheckerEnd} (come : ComeFromWatch probes relays checker) where
   pub processes_are : checker.processes ≡ come.plan.n
@@ -221,7 +223,7 @@ module _ {probes : List ClosedSide} {relays : List RelayEnd} {checker : CheckerE
         all = ((none_missing book).0 seated).0;
         whole = All-from_contains _ probes whole_of;
         any_clocks = come.of_checker.any_clocks clean.0;
-        exact = come.of_checker.exact clean.0;
+        exact = come.of_checker.exact clean.0 clocks_rise;
         drained = rw clean.1 at come.of_checker.drained;
         processes = are.count_is;
         tallies = λ k d below.
@@ -241,3 +243,9 @@ module _ {probes : List ClosedSide} {relays : List RelayEnd} {checker : CheckerE
           whole_of end among =
               all_taken (ends_there seated whole.0) each end.id end (seats.probes_sit.seated end.id end (among, refl))
               (omega (arith, within end among, processes_are))
+
+          clocks_rise : ClocksRise checker.processes checker.receipt.taken
+          clocks_rise p below =
+              let (end, sits) = seated.0 p below in
+              let (among, id) = seats.probes_sit.own p end sits in
+              rw (← id) (taken_rise end.id end.link.put checker.receipt.taken (are.rise p end below sits) (whole_of end among))

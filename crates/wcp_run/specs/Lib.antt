@@ -6,3 +6,4 @@ pub mod PlayedEnds
 pub mod Threads
 pub mod RunParts
 pub mod RunWorkload
+pub mod RunFaults

@@ -6,7 +6,7 @@ use Rattle.std.specs.Option.{option_flatten}
 use Rattle.wcp_clock.specs.declared.note.Item.{Item}
 use Rattle.wcp_model.specs.FirstReason.{IsFirstReason}
 use Rattle.wcp_model.specs.PlanFault.{IsCheckedPlan}
-use Rattle.wcp_model.specs.Report.{ClocksRise, IsDrained, IsReportByClocks, notes_taken}
+use Rattle.wcp_model.specs.Report.{IsDrained, IsReportByClocks, notes_taken}
 use Rattle.wcp_model.specs.declared.outcome.Tally.{Tally}
 use Rattle.wcp_model.specs.declared.plan.Parent.{Parent}
 use Rattle.wcp_model.specs.declared.plan.Parent.TheVariants as parent
@@ -122,15 +122,14 @@ IsFirstSettleFault probes relays checker book =
     IsFirstReason (λ fault. ¬ IsFreeOf probes relays checker book fault) settle_faults
 
 -- What a run's ends tell: the checker took of each process what its probe put, each note once and in order; its report
--- is that of what it took, and all is drained; the tallies count the snapshots of each process, just they are in the
+-- is the exact one by clocks of what it took, and all is drained; the tallies count the snapshots of each process, just they are in the
 -- book, and the book's totals are their sums.
 pub record IsSettled (probes : List ClosedSide) (checker : CheckerEnd) (book : List (Option Tally))
     (settled : Settled) : Type 0 where
   pub all : AreAllThere (λ end. end.id) checker.processes probes
   pub whole : All (λ end. notes_taken end.id checker.receipt.taken ≡ end.link.put) probes
   pub any_clocks : IsReportOfAnyClocks checker.processes checker.receipt.taken settled.report
-  pub exact : ClocksRise checker.processes checker.receipt.taken
-      → IsReportByClocks checker.processes checker.receipt.taken settled.report
+  pub exact : IsReportByClocks checker.processes checker.receipt.taken settled.report
   pub drained : IsDrained checker.processes checker.receipt.taken
   pub processes : length settled.tallies ≡ checker.processes
   pub tallies : All (λ end. slice_get settled.tallies end.id ≡ Some (record {

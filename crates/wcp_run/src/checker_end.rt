@@ -1,16 +1,19 @@
 ghost use Rattle.std.specs.Prelude.{◌≡◌};
 ghost use Rattle.wcp_run.specs.CheckerEnds as of_loop;
 
+use thiserror::Error;
 use wcp_lane::{Cut, TakeReceipt};
 use wcp_model::Report;
 use wcp_tree::Bundle;
 
 /// Why the report of a checker's loop isn't that of all snapshots: the first reason that applies.
-#[derive(Clone, Copy, Debug, PartialEq, Eq)]
+#[derive(Clone, Copy, Debug, PartialEq, Eq, Error)]
 pub enum CheckFault {
     /// Memory ran out as it took a snapshot: the checker was starved.
+    #[error("memory")]
     Memory,
     /// The root's lane was cut.
+    #[error(transparent)]
     Cut(Cut),
 }
 

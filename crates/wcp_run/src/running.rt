@@ -1,4 +1,4 @@
-//! The threads of a run, one for each part. Nothing is taken or put before all are started.
+//! The threads of a run, one for each part.
 ghost use Rattle.std.specs.Prelude.{◌≡◌, [], map, IfOk, IfSome};
 ghost use Rattle.wcp_run.specs.RunParts.{AreReady, HaveEnded, AreEmptyRooms, AreThreadsOf};
 ghost use Rattle.wcp_run.specs.Threads.{AreEndsOf, IsEndOfRelay};
@@ -58,8 +58,8 @@ pub struct Running<W: Part<E>, E: Send + Drop> {
     checking: Started<Checking, CheckerEnd>,
 }
 
-/// Runs each part in a thread of its own. All threads are started before any takes or puts anything; where one can't
-/// be made, each part is let go. Every thread has ended when this returns.
+/// Runs each part in a thread of its own. The threads wait until all are started; where one can't be made, each part is
+/// let go without being run. The clause speaks of the ends alone, not of what a thread did before it was let through.
 pub fn run_parts<
     G: Sync,
     E: Send + Drop + 'static,

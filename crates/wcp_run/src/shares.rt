@@ -1,7 +1,7 @@
 ghost use Rattle.std.specs.Prelude.{◌≡◌, ◌↔◌, ◌<◌, ◌≤◌, ℕ, Some, length, slice_get, IsTrue};
 ghost use Rattle.std.specs.Option.{option_flatten};
 ghost use Rattle.wcp_clock.specs.Limits.{most_processes};
-ghost use Rattle.wcp_tree.specs.LiveProbe.{ClosedSide};
+ghost use Rattle.wcp_tree.specs.LiveProbe.{ClosedSide, NotesRise};
 ghost use Rattle.wcp_run.specs.Seats.{SitsAt};
 ghost use Rattle.wcp_run.specs.Settling.{share_of};
 
@@ -10,7 +10,8 @@ use wcp_clock::MAX_PROCS;
 use wcp_model::{Tallies, Tally};
 use wcp_tree::ProbeEnd;
 
-/// The tallies of the first processes, where all that their probes emitted was taken.
+/// The tallies of the first processes, where all that their probes emitted was taken. Their ends tell that the clocks
+/// rise.
 pub(crate) fn tallies(probes: &[Option<ProbeEnd>], count: u32) -> Tallies
     requires some { 0 < count }
     requires few { count ≤ most_processes }
@@ -18,21 +19,45 @@ pub(crate) fn tallies(probes: &[Option<ProbeEnd>], count: u32) -> Tallies
     ensures count { length result ≡ count }
     ensures shares { (p : ℕ) (probe : ClosedSide) → p < count → SitsAt probes.now p probe
         → slice_get result p ≡ Some (share_of probe) }
+    ensures rise { (p : ℕ) (probe : ClosedSide) → p < count → SitsAt probes.now p probe
+        → NotesRise probe.id probe.link.put }
 {
     let mut tallies = [Tally {
         emitted: 0,
         taken: 0,
     }; MAX_PROCS];
     for p in 0..count as usize {
-        if let Some(probe) = &probes[p] {
-            let emitted = u64::from(probe.emitted());
-            tallies[p] = Tally {
-                emitted,
-                taken: emitted,
-            };
-        }
+        let tally = tally_at(probes, p);
+        tallies[p] = tally;
     }
     Tallies::new(&tallies[..count as usize])
+}
+
+/// The tally of process `p`, where all that its probe emitted was taken.
+fn tally_at(probes: &[Option<ProbeEnd>], p: usize) -> Tally
+    requires { p < length probes.now }
+    ensures share { (probe : ClosedSide) → SitsAt probes.now p probe → result ≡ share_of probe }
+    ensures rise { (probe : ClosedSide) → SitsAt probes.now p probe → NotesRise probe.id probe.link.put }
+{
+    match &probes[p] {
+        Some(probe) => whole_tally(probe),
+        None => Tally {
+            emitted: 0,
+            taken: 0,
+        },
+    }
+}
+
+/// The tally of the process of this end, where all that its probe emitted was taken.
+fn whole_tally(probe: &ProbeEnd) -> Tally
+    ensures share { result ≡ share_of probe.now }
+    ensures rise { NotesRise probe.now.id probe.now.link.put }
+{
+    let emitted = u64::from(probe.emitted());
+    Tally {
+        emitted,
+        taken: emitted,
+    }
 }
 
 /// Whether just these shares are in the book.

@@ -1,6 +1,7 @@
 use std::sync::{Condvar, Mutex, Wait};
 
-/// Where the threads of a run wait until all are started.
+/// Where the threads of a run are to wait until all are started. No clause says that they do: what is behind a lock is
+/// known by its type alone.
 #[derive(Drop)]
 pub(crate) struct StartGate {
     /// Whether it was opened, once that is known.
@@ -9,7 +10,7 @@ pub(crate) struct StartGate {
 }
 
 impl StartGate {
-    /// A gate at which all wait.
+    /// A gate that is neither opened nor given up.
     pub(crate) fn new() -> StartGate {
         StartGate {
             opened: Mutex::new(None),
@@ -17,7 +18,7 @@ impl StartGate {
         }
     }
 
-    /// Waits until the gate is opened or given up; whether it was opened.
+    /// Sleeps while the gate is neither opened nor given up. The answer is whether it was opened.
     pub(crate) fn pass<R: Wait>(&self, rt: &R) -> bool {
         let opened = self
             .told
@@ -25,7 +26,7 @@ impl StartGate {
         *opened == Some(true)
     }
 
-    /// Opens the gate, or gives it up: then each thread lets go what it was given.
+    /// Opens the gate, or gives it up, and wakes those that sleep at it.
     pub(crate) fn tell<R: Wait>(&self, rt: &R, opened: bool) {
         *self.opened.lock(rt) = Some(opened);
         self.told.notify_all();

@@ -1,25 +1,25 @@
 //! A workload that runs in threads, to its outcome.
-ghost use Rattle.std.specs.Prelude.{◌≤◌, List, length, IfOk};
-ghost use Rattle.wcp_clock.specs.Limits.{most_processes};
+ghost use Rattle.std.specs.Prelude.{◌≡◌, List, IfOk, Err};
 ghost use Rattle.wcp_model.specs.declared.plan.Plan.{Plan};
 ghost use Rattle.wcp_model.specs.declared.workload.Task.{Task};
 ghost use Rattle.wcp_model.specs.Outcome.{IsWorkloadOutcome};
 ghost use Rattle.wcp_model.specs.PlanFault.{IsCheckedPlan};
 ghost use Rattle.wcp_model.specs.WorkloadComputation.{CouldBeRead};
+ghost use Rattle.wcp_run.specs.declared.run_fault.RunFault.{RunFault};
+ghost use Rattle.wcp_run.specs.RunFaults.{IsFirstRunFault};
 ghost use Rattle.wcp_run.specs.RunWorkload.{AreEndsOfRun};
 
-use crate::checker_end::CheckFault;
+use crate::first_fault::fault_of_run;
 use crate::opening::open_parts;
-use crate::played_ends::{PlayedEnds, fault_of_workers, take_apart};
+use crate::played_ends::{PlayedEnds, take_apart};
 use crate::run_fault::RunFault;
 use crate::running::{Ends, StartFault, run_parts};
-use crate::settle::settle;
+use crate::settling::settle;
 use std::alloc::Global;
 use std::sync::{Mutex, Wait};
 use std::thread::Threads;
 use wcp_book::Book;
 use wcp_model::{Outcome, Workload};
-use wcp_tree::{RelayEnd, RelayFault};
 use wcp_worker::{Gate, WorkerEnd, match_lanes};
 
 /// Runs a workload: a thread plays each process, one runs each relay, and one runs the checker. The gate says when a
@@ -48,8 +48,9 @@ pub fn run<R: Threads + Wait + Sync, G: Gate + Sync>(
 /// The outcome of a run whose parts left these ends.
 fn conclude(alloc: Global, ends: Ends<WorkerEnd>, book: Book) -> Result<Outcome, RunFault>
     requires { (plan : Plan) × (tasks : List Task) × AreEndsOfRun plan tasks ends }
-    ensures { IfOk result (λ outcome. (plan : Plan) (tasks : List Task) → AreEndsOfRun plan tasks ends
+    ensures outcome { IfOk result (λ outcome. (plan : Plan) (tasks : List Task) → AreEndsOfRun plan tasks ends
         → IsWorkloadOutcome plan.n tasks outcome) }
+    ensures first { (first : RunFault) → IsFirstRunFault ends first → result ≡ Err first }
 {
     if let Some(fault) = fault_of_run(&ends) {
         return Err(fault);
@@ -70,25 +71,4 @@ fn conclude(alloc: Global, ends: Ends<WorkerEnd>, book: Book) -> Result<Outcome,
         }),
         Err(_) => Err(RunFault::Unfinished),
     }
-}
-
-/// Why a run fails whose parts left these ends, if one of them tells: the first reason that applies.
-fn fault_of_run(ends: &Ends<WorkerEnd>) -> Option<RunFault>
-    requires { length ends.now.workers.items ≤ most_processes }
-{
-    if ends.checker.fault == Some(CheckFault::Memory) {
-        return Some(RunFault::Memory);
-    }
-    if let Some(fault) = fault_of_workers(&ends.workers) {
-        return Some(fault);
-    }
-    if ends.relays.iter().any(met_cut) || matches!(ends.checker.fault, Some(CheckFault::Cut(_))) {
-        return Some(RunFault::Cut);
-    }
-    None
-}
-
-/// Whether a relay met a cut.
-fn met_cut(relay: &RelayEnd) -> bool {
-    matches!(relay.fault(), Some(RelayFault::Cut(_)))
 }

@@ -1,4 +1,5 @@
-ghost use Rattle.std.specs.Prelude.{IsTrue};
+ghost use Rattle.std.specs.Prelude.{◌≡◌, IsTrue};
+ghost use Rattle.wcp_clock.specs.Limits.{most_gate_turns};
 
 use std::thread::yield_now;
 use wcp_clock::GATE_TURNS;
@@ -21,14 +22,21 @@ impl Gate for Open {
     }
 }
 
-/// Asks a gate until it lets the worker of process `p` make this step. The answer is false where the gate's was
-/// false [`GATE_TURNS`] times in a row.
+/// Asks a gate whether the worker of process `p` may make this step, again and again while its answer is false, and at
+/// most [`GATE_TURNS`] times. What a gate answers no clause knows, so none speaks of this answer.
 pub(crate) fn may_step<G: Gate>(gate: &G, p: u32, step: u64) -> bool {
-    for _ in 0..GATE_TURNS {
+    for _ in 0..most_turns() {
         if gate.pass(p, step) {
             return true;
         }
         yield_now();
     }
     false
+}
+
+/// How many times in a row a gate may hold a worker back before it gives up.
+fn most_turns() -> u32
+    ensures { result ≡ most_gate_turns }
+{
+    GATE_TURNS
 }

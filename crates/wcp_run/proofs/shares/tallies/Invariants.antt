@@ -1,7 +1,7 @@
 use Rattle.std.proofs.Common.{◌≡◌, ◌<◌, ℕ, Some, length}
 use Rattle.std.specs.Prelude.{slice_get}
 use Rattle.wcp_clock.specs.Limits.{most_processes}
-use Rattle.wcp_tree.specs.LiveProbe.{ClosedSide}
+use Rattle.wcp_tree.specs.LiveProbe.{ClosedSide, NotesRise}
 use Rattle.wcp_run.specs.Seats.{SitsAt}
 use Rattle.wcp_run.specs.Settling.{share_of}
 use Rattle.wcp_run.proofs.shares.tallies.Given as goal
@@ -12,4 +12,5 @@ invariant-loop-p l =
       count : length l.tallies ≡ most_processes;
       shares : (p : ℕ) (probe : ClosedSide) → p < l.p → SitsAt l.probes p probe
           → slice_get l.tallies p ≡ Some (share_of probe);
+      rise : (p : ℕ) (probe : ClosedSide) → p < l.p → SitsAt l.probes p probe → NotesRise probe.id probe.link.put;
     }

@@ -1,3 +1,6 @@
+use Rattle.std.proofs.Common.{Err, length, ap}
+use Rattle.wcp_model.proofs.FirstReasons.{first_unique}
+use Rattle.wcp_run.specs.RunFaults.{IsReasonOf, run_reasons}
 use Rattle.wcp_run.proofs.RunEnds.{few_ends, few_mailboxes, lanes_are, come, outcome_of_run}
 use Rattle.wcp_run.proofs.workload_run.conclude.Goals as goal
 
@@ -13,6 +16,10 @@ match_lanes-requires-clause-lanes c = lanes_are c.requires.2 c.in_ok-probes.ensu
 pub settle-requires : goal.settle-requires
 settle-requires c = come c.requires.2 c.in_ok-probes.ensures
 
-pub returns-in-Ok : goal.returns-in-Ok
-returns-in-Ok c = λ plan tasks run.
+pub returns-in-Ok-clause-outcome : goal.returns-in-Ok-clause-outcome
+returns-in-Ok-clause-outcome c = λ plan tasks run.
     outcome_of_run run c.in_ok-probes.ensures c.in_default-match_lanes.ensures.matched c.in-Ok.ensures.settled
+
+pub returns-in-Some-clause-first : goal.returns-in-Some-clause-first
+returns-in-Some-clause-first c = λ first is.
+    ap Err (first_unique (IsReasonOf c.args.ends) (run_reasons (length c.args.ends.workers.items)) c.in-Some.fault first c.in-Some.ensures.first is)

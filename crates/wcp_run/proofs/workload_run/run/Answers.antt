@@ -35,4 +35,4 @@ conclude-requires g c = (_, _, ends_of_run c.requires.read c.requires.checked c.
 pub returns-in-Ok-run_parts : goal.returns-in-Ok-run_parts
 returns-in-Ok-run_parts g c = IfOk-weaker c.conclude.result _ _
     (λ outcome is. is _ _ (ends_of_run c.requires.read c.requires.checked c.in-Ok.ensures c.in-Ok-run_parts.ensures))
-    c.conclude.ensures
+    c.conclude.ensures.outcome

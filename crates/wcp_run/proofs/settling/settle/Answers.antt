@@ -5,8 +5,8 @@ use Rattle.wcp_run.specs.Settling.{IsFreeOf}
 use Rattle.wcp_run.specs.declared.settle_fault.SettleFault.TheVariants.{Stranger, Missing, Faulted, Unfinished}
 use Rattle.wcp_run.proofs.FirstFaults.{answered, handed, no_fault}
 use Rattle.wcp_run.proofs.SettledEnds.{AreShares, all_settled, book_finished, book_posted, ends_there, few, few_ends, have_seats, links_matched, none_missing, probe_within, relay_within, some}
-use Rattle.wcp_run.proofs.settle.settle.Goals as goal
-use Rattle.wcp_run.proofs.settle.settle.Goals.{then-not-are_seated-via-then-not-are_seated, then-not-are_seated-via-else-not-are_seated+then-not-are_seated-2}
+use Rattle.wcp_run.proofs.settling.settle.Goals as goal
+use Rattle.wcp_run.proofs.settling.settle.Goals.{then-not-are_seated-via-then-not-are_seated, then-not-are_seated-via-else-not-are_seated+then-not-are_seated-2}
 
 pub seat-requires-clause-within : goal.seat-requires-clause-within
 seat-requires-clause-within c = λ k d within same.
@@ -83,7 +83,7 @@ returns-then-not-are_posted-clause-first c =
     let seats = have_seats c.args.checker (c.in_ok-seat.ensures.exact.0 refl) (c.in_ok-seat-2.ensures.exact.0 refl) c.in_ok-seat.ensures.seats c.in_ok-seat-2.ensures.seats in
     let seated : AreAllSeated c.args.checker.processes c.seat.new.seats × AreAllSeated c.args.checker.relays c.seat-2.new.seats = (c.are_seated.ensures.0 c.if-not-are_seated.false, c.are_seated-else-not-are_seated.ensures.0 c.if-not-are_seated-2.false) in
     let whole = subst (λ ends. IsFreeOf c.args.probes.items ends c.args.checker c.args.book Faulted) c.deref.ensures.value (c.are_whole-whole.ensures.0 c.if-not-whole.false) in
-    let shares : AreShares c.args.checker.processes c.seat.new.seats c.tallies-tallies.result = record { count_is = c.tallies-tallies.ensures.count; each = c.tallies-tallies.ensures.shares } in
+    let shares : AreShares c.args.checker.processes c.seat.new.seats c.tallies-tallies.result = record { count_is = c.tallies-tallies.ensures.count; each = c.tallies-tallies.ensures.shares; rise = c.tallies-tallies.ensures.rise } in
     answered c.args.probes.items c.args.relays.items c.args.checker c.args.book (Stranger ∷ Missing ∷ Faulted ∷ []) Unfinished [] refl
     ((seats.of_probes, seats.of_relays), ((none_missing c.requires seats c.args.book).0 seated, (whole, tt)))
     (λ finished. true≢false (sym (c.are_posted.ensures.1 (book_posted c.requires seats shares c.args.book seated.0 finished)) ∙ c.if-not-are_posted.true))
@@ -113,7 +113,7 @@ returns-clause-settled c =
     let seats = have_seats c.args.checker (c.in_ok-seat.ensures.exact.0 refl) (c.in_ok-seat-2.ensures.exact.0 refl) c.in_ok-seat.ensures.seats c.in_ok-seat-2.ensures.seats in
     let seated : AreAllSeated c.args.checker.processes c.seat.new.seats × AreAllSeated c.args.checker.relays c.seat-2.new.seats = (c.are_seated.ensures.0 c.if-not-are_seated.false, c.are_seated-else-not-are_seated.ensures.0 c.if-not-are_seated-2.false) in
     let whole = subst (λ ends. IsFreeOf c.args.probes.items ends c.args.checker c.args.book Faulted) c.deref.ensures.value (c.are_whole-whole.ensures.0 c.if-not-whole.false) in
-    let shares : AreShares c.args.checker.processes c.seat.new.seats c.tallies-tallies.result = record { count_is = c.tallies-tallies.ensures.count; each = c.tallies-tallies.ensures.shares } in
+    let shares : AreShares c.args.checker.processes c.seat.new.seats c.tallies-tallies.result = record { count_is = c.tallies-tallies.ensures.count; each = c.tallies-tallies.ensures.shares; rise = c.tallies-tallies.ensures.rise } in
     all_settled c.requires seats shares c.args.book seated whole (c.are_posted.ensures.0 c.if-not-are_posted.false) (c.in_ok-match_links.ensures.exact.0 refl)
 
 pub returns-clause-first : goal.returns-clause-first
@@ -121,7 +121,7 @@ returns-clause-first c =
     let seats = have_seats c.args.checker (c.in_ok-seat.ensures.exact.0 refl) (c.in_ok-seat-2.ensures.exact.0 refl) c.in_ok-seat.ensures.seats c.in_ok-seat-2.ensures.seats in
     let seated : AreAllSeated c.args.checker.processes c.seat.new.seats × AreAllSeated c.args.checker.relays c.seat-2.new.seats = (c.are_seated.ensures.0 c.if-not-are_seated.false, c.are_seated-else-not-are_seated.ensures.0 c.if-not-are_seated-2.false) in
     let whole = subst (λ ends. IsFreeOf c.args.probes.items ends c.args.checker c.args.book Faulted) c.deref.ensures.value (c.are_whole-whole.ensures.0 c.if-not-whole.false) in
-    let shares : AreShares c.args.checker.processes c.seat.new.seats c.tallies-tallies.result = record { count_is = c.tallies-tallies.ensures.count; each = c.tallies-tallies.ensures.shares } in
+    let shares : AreShares c.args.checker.processes c.seat.new.seats c.tallies-tallies.result = record { count_is = c.tallies-tallies.ensures.count; each = c.tallies-tallies.ensures.shares; rise = c.tallies-tallies.ensures.rise } in
     let posted = c.are_posted.ensures.0 c.if-not-are_posted.false in
     let finished = book_finished c.requires seats shares c.args.book posted (c.in_ok-match_links.ensures.exact.0 refl) in
     λ first. (

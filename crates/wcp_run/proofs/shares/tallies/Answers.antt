@@ -1,0 +1,24 @@
+use Rattle.std.proofs.Common.{◌≡◌, ◌≢◌, Some, ⊎_elim, arith}
+use Rattle.std.specs.Prelude.{slice_get}
+use Rattle.std.proofs.lemmas.Bool.{cases_eq}
+use Rattle.std.proofs.lemmas.Grind.{common_steps}
+use Rattle.std.proofs.lemmas.Option.{gets}
+use Rattle.wcp_run.specs.Settling.{share_of}
+use Rattle.wcp_run.proofs.shares.tallies.Goals as goal
+
+pub loop-p-preserved : goal.loop-p-preserved
+loop-p-preserved c =
+    let old = c.loop-p.invariant in
+    record {
+      count = grind (arith, common_steps, old.count);
+      shares = λ q probe below sits. grind (arith, common_steps, gets, cases_eq q c.loop-p.p, old.count, old.shares q probe, c.tally_at-tally.ensures.share probe);
+      rise = λ q probe below sits. ⊎_elim
+          (λ (here : q ≡ c.loop-p.p). c.tally_at-tally.ensures.rise probe (rw here at sits))
+          (λ (other : q ≢ c.loop-p.p). old.rise q probe (omega (arith, other)) sits)
+          (cases_eq q c.loop-p.p);
+    }
+
+pub returns-clause-shares : goal.returns-clause-shares
+returns-clause-shares c = λ p probe below sits.
+    let share : slice_get c.loop-p.tallies p ≡ Some (share_of probe) = c.loop-p.invariant.shares p probe (omega (arith, c.loop-p-test.false)) sits in
+    grind (arith, common_steps, gets, share)
