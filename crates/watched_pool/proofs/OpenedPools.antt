@@ -6,7 +6,7 @@ use Rattle.wcp_model.specs.PlanFault.{IsCheckedPlan}
 use Rattle.wcp_model.specs.declared.plan.Plan.{Plan}
 use Rattle.wcp_tree.specs.LiveProbe.{LiveFor}
 use Rattle.wcp_tree.specs.Watches.{IsWired}
-use Rattle.wcp_tree.specs.declared.watch.Watch.{Watch}
+use Rattle.wcp_tree.specs.declared.parts.Watch.{Watch}
 use Rattle.wcp_model.proofs.CheckedPlans.{few_processes, some_process}
 use Rattle.wcp_tree.proofs.LiveProbes.{fresh_stands}
 use Rattle.wcp_worker.proofs.FreshProbes.{probes_fresh}

@@ -6,7 +6,7 @@ use Rattle.wcp_model.specs.ProbeLog.{Call, Closed, setup, state_of_log}
 use Rattle.wcp_model.specs.Report.{ClocksRise, IsDrained, IsReportByClocks, notes_taken}
 use Rattle.wcp_model.specs.declared.outcome.Report.{Report}
 use Rattle.wcp_model.specs.declared.plan.Plan.{Plan}
-use Rattle.wcp_tree.specs.declared.watch.Watch.{Watch}
+use Rattle.wcp_tree.specs.declared.parts.Watch.{Watch}
 use Rattle.wcp_tree.specs.Watches.{IsWired}
 use Rattle.wcp_run.specs.declared.running.Parts.{Parts}
 use Rattle.wcp_run.specs.declared.running.Ends.{Ends}

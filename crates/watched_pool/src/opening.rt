@@ -13,8 +13,7 @@ use std::alloc::{AllocError, Global};
 use wcp_model::{Parent, Plan};
 use wcp_queue::Checker;
 use wcp_run::{Checking, Parts};
-use wcp_tree::opening::watch;
-use wcp_tree::{LiveProbe, Watch};
+use wcp_tree::{LiveProbe, Watch, watch};
 
 /// The number of the watch: stamps of another one are refused.
 const WATCH: u64 = 1;

@@ -18,20 +18,21 @@ use Rattle.wcp_tree.specs.declared.bundle.Bundle.{Bundle}
 use Rattle.wcp_tree.specs.Feeding.{Serves, fed, items_by, items_of, processes_of}
 use Rattle.wcp_tree.specs.LiveProbe.{ClosedSide}
 use Rattle.wcp_tree.specs.Members.{IsBelow, Itself}
-use Rattle.wcp_tree.specs.RelayEnds.{AreReceiptsOf, IsReceiptOf, fault_of, relay_put, relay_taken, taken_in}
+use Rattle.wcp_tree.specs.RelayEnds.{IsLeftOf, IsReceiptOf, outcome_fault, outcome_put, outcome_taken, relay_put, relay_taken, taken_in}
 use Rattle.wcp_tree.specs.Relays.{IsSource}
 use Rattle.wcp_tree.specs.declared.feed.Feed.{Feed}
 use Rattle.wcp_tree.specs.declared.relay.Relay.{Relay}
 use Rattle.wcp_tree.specs.declared.relay_end.Receipts.{Receipts}
 use Rattle.wcp_tree.specs.declared.relay_end.Receipts.TheVariants.{Feeds, Lane}
 use Rattle.wcp_tree.specs.declared.relay_end.RelayEnd.{RelayEnd}
-use Rattle.wcp_tree.specs.declared.relay_end.RelayEnd.TheVariants.{Whole, Faulted}
+use Rattle.wcp_tree.specs.declared.relay_end.Outcome.{Outcome}
+use Rattle.wcp_tree.specs.declared.relay_end.Outcome.TheVariants.{Whole, Faulted}
 use Rattle.wcp_tree.specs.declared.source.Source.{Source}
 use Rattle.wcp_tree.specs.declared.source.Source.TheVariants.{Leaf, Inner}
 use Rattle.wcp_tree.proofs.Climbs.{members_pass_up}
 use Rattle.wcp_run.specs.Matching.{AreEndsThere, AreFirstMatched}
 use Rattle.wcp_run.specs.Seats.{SitsAt}
-use Rattle.wcp_run.specs.Settling.{AreTakenFrom, IsLaneMatched, IsRingMatched, feeds_in, feeds_of}
+use Rattle.wcp_run.specs.Settling.{AreTakenFrom, IsPutMatched, IsRingMatched, feeds_in, feeds_left_by}
 use Rattle.wcp_run.proofs.MatchedLinks.{linked, receipts_of}
 
 -- the items of a process, and their notes
@@ -53,12 +54,12 @@ fed_all p notes (feed ∷ feeds) served all = ⊎_elim
     (cases_eq feed.process p)
 
 -- what a lane was matched for
-lane_taken : (root : TakenEnd Bundle Item) (IsRelay : ℕ → RelayEnd → Type 0) (relay : Relay) (end : RelayEnd) (p : ℕ) → fault_of end ≡ None
-    → AreReceiptsOf relay end → set.contains relay.putter.members p ≡ true → IsLaneMatched root IsRelay end
-    → AreTakenFrom root IsRelay relay.parent p (relay_put end p)
-lane_taken root IsRelay relay (Whole number watch owner taken put) p none receipts has matched =
+lane_taken : (root : TakenEnd Bundle Item) (IsRelay : ℕ → RelayEnd → Type 0) (relay : Relay) (end : Outcome) (p : ℕ) → outcome_fault end ≡ None
+    → IsLeftOf relay end → set.contains relay.putter.members p ≡ true → IsPutMatched root IsRelay end
+    → AreTakenFrom root IsRelay relay.parent p (outcome_put end p)
+lane_taken root IsRelay relay (Whole owner taken put) p none receipts has matched =
     rw receipts.0 at (matched p (rw receipts.3 has))
-lane_taken root IsRelay relay (Faulted number watch fault source putter) p none receipts has matched = absurd (cc)
+lane_taken root IsRelay relay (Faulted fault source outlet met) p none receipts has matched = absurd (cc)
 
 module _ {count : ℕ} {probe_ends : List (Option ClosedSide)} {root : TakenEnd Bundle Item} {relay_ends : List (Option RelayEnd)}
     (there : AreEndsThere count probe_ends root relay_ends) (matched : AreFirstMatched count probe_ends root relay_ends)
@@ -79,12 +80,12 @@ module _ {count : ℕ} {probe_ends : List (Option ClosedSide)} {root : TakenEnd 
   feed_took leaf at (Leaf old parker) members (Lane receipt) is serves has left rings = absurd left
   feed_took leaf at (Inner taker) members taken is serves has left rings = absurd (cc (at, is.0))
 
-  leaf_took : (leaf : ℕ) → is_leaf there.plan leaf ≡ true → (relay : Relay) (end : RelayEnd) → fault_of end ≡ None
-      → AreReceiptsOf relay end → IsSource there.plan there.wired.takers leaf relay.source → set.contains relay.putter.members p ≡ true
-      → All (IsRingMatched (SitsAt probe_ends)) (feeds_of end) → relay_taken end p ≡ emitted
-  leaf_took leaf at relay (Whole number watch owner taken put) none receipts is has rings =
+  leaf_took : (leaf : ℕ) → is_leaf there.plan leaf ≡ true → (relay : Relay) (end : Outcome) → outcome_fault end ≡ None
+      → IsLeftOf relay end → IsSource there.plan there.wired.takers leaf relay.source → set.contains relay.putter.members p ≡ true
+      → All (IsRingMatched (SitsAt probe_ends)) (feeds_left_by end) → outcome_taken end p ≡ emitted
+  leaf_took leaf at relay (Whole owner taken put) none receipts is has rings =
       feed_took leaf at relay.source relay.putter.members taken is relay.serves has receipts.1 rings
-  leaf_took leaf at relay (Faulted number watch fault source putter) none receipts is has rings = absurd (cc)
+  leaf_took leaf at relay (Faulted fault source outlet met) none receipts is has rings = absurd (cc)
 
   -- from a relay that put it, it comes to the checker
   climbs : (bound from : ℕ) → from < bound → (below : from < count) → IsBelow there.plan from p
@@ -94,7 +95,7 @@ module _ {count : ℕ} {probe_ends : List (Option ClosedSide)} {root : TakenEnd 
       let has = there.relay from below in
       let link = linked there from below in
       by_owner (λ above lower. climbs bound above (omega (arith, lower, less))) link.relay.parent link.of_plan.parent
-      (lane_taken root (SitsAt relay_ends) link.relay has.end p has.whole (receipts_of there from below has.end has.sits)
+      (lane_taken root (SitsAt relay_ends) link.relay has.end.outcome p has.whole (receipts_of there from below has.end has.sits)
       ((link.of_plan.members p).1 is) (matched from has.end below has.sits).lane)
     where
       by_owner : ((above : ℕ) → above < from → (next : above < count) → IsBelow there.plan above p
@@ -119,7 +120,7 @@ module _ {count : ℕ} {probe_ends : List (Option ClosedSide)} {root : TakenEnd 
       let link = linked there leaf below in
       ap (map (λ (item : Item). item.note)) (climbs (suc leaf) leaf (omega arith) below (leaf, at, Itself)
       (put_is_taken leaf below
-      ∙ leaf_took leaf (is_its_leaf there.plan there.checked p leaf at) link.relay has.end has.whole
+      ∙ leaf_took leaf (is_its_leaf there.plan there.checked p leaf at) link.relay has.end.outcome has.whole
       (receipts_of there leaf below has.end has.sits) link.of_plan.source ((link.of_plan.members p).1 (leaf, at, Itself))
       (matched leaf has.end below has.sits).rings))
       ∙ notes_back p probe.link.put

@@ -17,7 +17,7 @@ use Rattle.wcp_lane.specs.Passes.{Numbers}
 use Rattle.wcp_tree.specs.declared.bundle.Bundle.{Bundle}
 use Rattle.wcp_tree.specs.Feeding.{Serves, items_of}
 use Rattle.wcp_tree.specs.LiveProbe.{ClosedSide}
-use Rattle.wcp_tree.specs.RelayEnds.{AreReceiptsOf, IsReceiptOf, fault_of, relay_taken}
+use Rattle.wcp_tree.specs.RelayEnds.{AreReceiptsOf, IsReceiptOf, fault_of, relay_taken, whole_end}
 use Rattle.wcp_tree.specs.RelayWork.{AreSameFeeds}
 use Rattle.wcp_tree.specs.Relays.{IsSource, inbox_lane}
 use Rattle.wcp_tree.specs.Rings.{IsFeed}
@@ -26,7 +26,6 @@ use Rattle.wcp_tree.specs.declared.feed.Feed.{Feed}
 use Rattle.wcp_tree.specs.declared.relay_end.Receipts.{Receipts}
 use Rattle.wcp_tree.specs.declared.relay_end.Receipts.TheVariants.{Feeds, Lane}
 use Rattle.wcp_tree.specs.declared.relay_end.RelayEnd.{RelayEnd}
-use Rattle.wcp_tree.specs.declared.relay_end.RelayEnd.TheVariants.{Whole}
 use Rattle.wcp_tree.specs.declared.source.Source.{Source}
 use Rattle.wcp_tree.specs.declared.source.Source.TheVariants.{Leaf, Inner}
 use Rattle.wcp_model.proofs.CheckedPlans.{few_relays}
@@ -160,9 +159,9 @@ module _ {count : ℕ} {probe_ends : List (Option ClosedSide)} {root : TakenEnd 
         let has = there.relay k below in (has.end, old.ahead k (omega arith) ∙ has.sits, has.whole)
 
     module _ {number watch : ℕ} {owner : Parent} {taken : Receipts} {put : PutEnd Bundle Item}
-        (sits : SitsAt relays k (Whole number watch owner taken put)) where
+        (sits : SitsAt relays k (whole_end number watch owner taken put)) where
       abbrev end : RelayEnd
-      end = Whole number watch owner taken put
+      end = whole_end number watch owner taken put
 
       sat : SitsAt relay_ends k end
       sat = sym (old.ahead k (omega arith)) ∙ sits
@@ -230,7 +229,7 @@ module _ {count : ℕ} {probe_ends : List (Option ClosedSide)} {root : TakenEnd 
       }
 
     module _ {number watch : ℕ} {owner : Parent} {put : PutEnd Bundle Item} {feeds : Vec Feed Global}
-        (sits : SitsAt relays k (Whole number watch owner (Feeds feeds) put)) where
+        (sits : SitsAt relays k (whole_end number watch owner (Feeds feeds) put)) where
       left : All (λ feed. IsServed k feed.process feed.taker.ring) feeds.items × AllPairs (λ one other. one.process ≢ other.process) feeds.items
       left =
           let link = linked k below in
@@ -255,7 +254,7 @@ module _ {count : ℕ} {probe_ends : List (Option ClosedSide)} {root : TakenEnd 
 
       pub leaf_matched : {more : List (Option (TakenEnd Bundle Item))} {fed : List (Option ClosedSide)}
           → ((place : ℕ) (receipt : TakenEnd Bundle Item) → SitsAt inboxes place receipt → IsKeptAt more place receipt)
-          → length more ≡ most_relays + 1 → IsLaneMatched root (SitsAt relay_ends) (Whole number watch owner (Feeds feeds) put)
+          → length more ≡ most_relays + 1 → IsLaneMatched root (SitsAt relay_ends) (whole_end number watch owner (Feeds feeds) put)
           → All (IsRingMatched (SitsAt probes)) feeds.items
           → ((p : ℕ) → All (λ feed. feed.process ≢ p) feeds.items → slice_get fed p ≡ slice_get probes p)
           → HaveMatched (k + 1) (slice_set relays k None) fed more
@@ -269,10 +268,10 @@ module _ {count : ℕ} {probe_ends : List (Option ClosedSide)} {root : TakenEnd 
           (record { rings = rings_exact.0 rings; lane = lane })
 
     module _ {number watch : ℕ} {owner : Parent} {put : PutEnd Bundle Item} {receipt : TakenEnd Bundle Item}
-        (sits : SitsAt relays k (Whole number watch owner (Lane receipt) put)) where
+        (sits : SitsAt relays k (whole_end number watch owner (Lane receipt) put)) where
       pub inner_matched : {more : List (Option (TakenEnd Bundle Item))}
           → ((place : ℕ) (receipt : TakenEnd Bundle Item) → SitsAt inboxes place receipt → IsKeptAt more place receipt)
-          → length more ≡ most_relays + 1 → IsLaneMatched root (SitsAt relay_ends) (Whole number watch owner (Lane receipt) put)
+          → length more ≡ most_relays + 1 → IsLaneMatched root (SitsAt relay_ends) (whole_end number watch owner (Lane receipt) put)
           → HaveMatched (k + 1) (slice_set relays k None) probes (slice_set more k (Some receipt))
       inner_matched {more} keep size lane = next sits
           (λ place other apart at.
@@ -288,8 +287,8 @@ module _ {count : ℕ} {probe_ends : List (Option ClosedSide)} {root : TakenEnd 
             is_lane = lane_left (linked k below).relay.source receipt lane (receipts sits).1 is;
             taken = λ p items. (
               λ same relay at.
-                  subst (λ r. relay_taken r p ≡ items) (sits_alone relay_ends k (Whole number watch owner (Lane receipt) put) relay (sat sits) at) same,
-              λ taken. taken (Whole number watch owner (Lane receipt) put) (sat sits),
+                  subst (λ r. relay_taken r p ≡ items) (sits_alone relay_ends k (whole_end number watch owner (Lane receipt) put) relay (sat sits) at) same,
+              λ taken. taken (whole_end number watch owner (Lane receipt) put) (sat sits),
             );
           })
           (simp length-set size)

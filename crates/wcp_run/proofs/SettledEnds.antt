@@ -18,12 +18,14 @@ use Rattle.wcp_tree.specs.declared.bundle.Bundle.{Bundle}
 use Rattle.wcp_tree.specs.LiveProbe.{ClosedSide, NotesRise}
 use Rattle.wcp_tree.specs.RelayEnds.{fault_of, number_of, watch_of}
 use Rattle.wcp_tree.specs.declared.relay_end.RelayEnd.{RelayEnd}
-use Rattle.wcp_tree.specs.declared.relay_end.RelayEnd.TheVariants.{Whole, Faulted}
+use Rattle.wcp_tree.specs.declared.relay_end.Outcome.{Outcome}
+use Rattle.wcp_tree.specs.declared.relay_end.Outcome.TheVariants.{Whole}
+use Rattle.wcp_tree.specs.declared.relay_end.Outcome.TheVariants as outcome
 use Rattle.wcp_model.proofs.CheckedPlans.{few_processes, few_relays, some_process}
 use Rattle.wcp_tree.proofs.LiveProbes.{taken_rise}
 use Rattle.wcp_run.specs.Matching.{AreEndsThere, AreFirstMatched}
 use Rattle.wcp_run.specs.Seats.{AreAllThere, AreOfWatch, AreAllSeated, AreSeats, IsEndAt, SitsAt}
-use Rattle.wcp_run.specs.Settling.{AreLinksMatched, ComeFromWatch, IsFreeOf, IsSettled, IsLaneMatched, share_of}
+use Rattle.wcp_run.specs.Settling.{AreLinksMatched, ComeFromWatch, IsFreeOf, IsSettled, IsPutMatched, share_of}
 use Rattle.wcp_run.specs.declared.settle_fault.SettleFault.TheVariants.{Missing, Faulted, Unfinished}
 use Rattle.wcp_run.specs.declared.checker_end.CheckerEnd.{CheckerEnd}
 use Rattle.wcp_run.proofs.CheckedItems.{without_fault}
@@ -61,15 +63,15 @@ all_there place_of ends seats count are = (
 module _ (root : TakenEnd Bundle Item) {IsProbe IsOneProbe : ℕ → ClosedSide → Type 0} {IsRelay IsOneRelay : ℕ → RelayEnd → Type 0}
     (probe_is : (p : ℕ) (end : ClosedSide) → IsOneProbe p end → IsProbe p end)
     (relay_is : (k : ℕ) (end : RelayEnd) → IsOneRelay k end → IsRelay k end) where
-  lane_for_fewer : (end : RelayEnd) → IsLaneMatched root IsRelay end → IsLaneMatched root IsOneRelay end
-  lane_for_fewer (Whole number watch parent.Root taken put) matched = matched
-  lane_for_fewer (Whole number watch (parent.Relay above) taken put) matched = λ p has relay is. matched p has relay (relay_is above relay is)
-  lane_for_fewer (Faulted number watch fault source putter) matched = tt
+  lane_for_fewer : (end : Outcome) → IsPutMatched root IsRelay end → IsPutMatched root IsOneRelay end
+  lane_for_fewer (Whole parent.Root taken put) matched = matched
+  lane_for_fewer (Whole (parent.Relay above) taken put) matched = λ p has relay is. matched p has relay (relay_is above relay is)
+  lane_for_fewer (outcome.Faulted fault source outlet met) matched = tt
 
   matched_for_fewer : (end : RelayEnd) → AreLinksMatched IsProbe root IsRelay end → AreLinksMatched IsOneProbe root IsOneRelay end
   matched_for_fewer end matched = record {
     rings = λ i d within probe is. matched.rings i d within probe (probe_is _ probe is);
-    lane = lane_for_fewer end matched.lane;
+    lane = lane_for_fewer end.outcome matched.lane;
   }
 
 -- all these ends are of the checker's watch, and sit each at the place of its number

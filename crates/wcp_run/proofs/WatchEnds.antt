@@ -11,7 +11,7 @@ use Rattle.wcp_probe.specs.Core.{Core, setup_of}
 use Rattle.wcp_tree.specs.LiveProbe.{ClosedSide, IsEndOfProbe, LiveSide}
 use Rattle.wcp_tree.specs.Watches.{IsWired}
 use Rattle.wcp_tree.specs.declared.relay_end.RelayEnd.{RelayEnd}
-use Rattle.wcp_tree.specs.declared.watch.Watch.{Watch}
+use Rattle.wcp_tree.specs.declared.parts.Watch.{Watch}
 use Rattle.wcp_worker.proofs.FreshProbes.{probes_fresh}
 use Rattle.wcp_run.specs.CheckerEnds.{IsEndOfLoop}
 use Rattle.wcp_run.specs.RunParts.{HaveEnded}

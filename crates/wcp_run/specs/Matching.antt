@@ -13,7 +13,7 @@ use Rattle.wcp_tree.specs.RelayEnds.{fault_of, number_of}
 use Rattle.wcp_tree.specs.Watches.{IsWired}
 use Rattle.wcp_tree.specs.declared.feed.Feed.{Feed}
 use Rattle.wcp_tree.specs.declared.relay_end.RelayEnd.{RelayEnd}
-use Rattle.wcp_tree.specs.declared.watch.Watch.{Watch}
+use Rattle.wcp_tree.specs.declared.parts.Watch.{Watch}
 use Rattle.wcp_run.specs.Seats.{SitsAt}
 use Rattle.wcp_run.specs.Settling.{AreLinksMatched, IsEndOfSomeProbe, IsEndOfSomeRelay}
 

@@ -24,8 +24,9 @@ use Rattle.wcp_tree.specs.declared.relay.Relay.{Relay}
 use Rattle.wcp_tree.specs.declared.relay_end.Receipts.{Receipts}
 use Rattle.wcp_tree.specs.declared.relay_end.Receipts.TheVariants.{Feeds, Lane}
 use Rattle.wcp_tree.specs.declared.relay_end.RelayEnd.{RelayEnd}
-use Rattle.wcp_tree.specs.declared.relay_end.RelayEnd.TheVariants.{Whole, Faulted}
-use Rattle.wcp_tree.specs.declared.watch.Watch.{Watch}
+use Rattle.wcp_tree.specs.declared.relay_end.Outcome.{Outcome}
+use Rattle.wcp_tree.specs.declared.relay_end.Outcome.TheVariants.{Whole, Faulted}
+use Rattle.wcp_tree.specs.declared.parts.Watch.{Watch}
 use Rattle.wcp_run.specs.CheckerEnds.{IsEndOfLoop}
 use Rattle.wcp_run.specs.Seats.{AreAllThere, AreOfWatch, IsEndAt}
 use Rattle.wcp_run.specs.declared.checker_end.CheckerEnd.{CheckerEnd}
@@ -69,19 +70,25 @@ AreTakenFrom root IsRelay (parent.Relay above) p items =
     (relay : RelayEnd) → IsRelay above relay → relay_taken relay p ≡ items
 
 -- The lane of a relay was matched: what it put of each of its processes was taken from the inbox of its parent.
-abbrev pub IsLaneMatched : TakenEnd Bundle Item → (ℕ → RelayEnd → Type 0) → RelayEnd → Type 0
-IsLaneMatched root IsRelay (Whole number watch parent taken put) =
+abbrev pub IsPutMatched : TakenEnd Bundle Item → (ℕ → RelayEnd → Type 0) → Outcome → Type 0
+IsPutMatched root IsRelay (Whole parent taken put) =
     (p : ℕ) → set.contains put.members p ≡ true → AreTakenFrom root IsRelay parent p (items_of p put.put)
-IsLaneMatched root IsRelay (Faulted number watch fault source putter) = Unit {0}
+IsPutMatched root IsRelay (Faulted fault source outlet met) = Unit {0}
+
+abbrev pub IsLaneMatched : TakenEnd Bundle Item → (ℕ → RelayEnd → Type 0) → RelayEnd → Type 0
+IsLaneMatched root IsRelay relay = IsPutMatched root IsRelay relay.outcome
 
 -- The feeds of a relay's end, if it is a leaf.
 abbrev pub feeds_in : Receipts → List Feed
 feeds_in (Feeds feeds) = feeds.items
 feeds_in (Lane receipt) = []
 
+abbrev pub feeds_left_by : Outcome → List Feed
+feeds_left_by (Whole parent taken put) = feeds_in taken
+feeds_left_by (Faulted fault source outlet met) = []
+
 abbrev pub feeds_of : RelayEnd → List Feed
-feeds_of (Whole number watch parent taken put) = feeds_in taken
-feeds_of (Faulted number watch fault source putter) = []
+feeds_of relay = feeds_left_by relay.outcome
 
 -- The links of a relay were matched: its rings, and its lane.
 pub record AreLinksMatched (IsProbe : ℕ → ClosedSide → Type 0) (root : TakenEnd Bundle Item)

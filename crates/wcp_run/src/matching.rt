@@ -1,7 +1,6 @@
 ghost use Rattle.std.specs.Prelude.{◌≡◌, ◌↔◌, ◌<◌, ℕ, None, Some, length, slice_set, IsOk, IfErr};
-ghost use Rattle.wcp_tree.specs.RelayEnds.{fault_of};
+ghost use Rattle.wcp_tree.specs.RelayEnds.{fault_of, whole_end};
 ghost use Rattle.wcp_tree.specs.declared.relay_end.RelayEnd.{RelayEnd};
-ghost use Rattle.wcp_tree.specs.declared.relay_end.RelayEnd.TheVariants as relay_end;
 ghost use Rattle.wcp_run.specs.Seats.{SitsAt};
 ghost use Rattle.wcp_run.specs.Matching.{AreEndsThere, AreFirstMatched};
 ghost use Rattle.wcp_run.specs.declared.settle_fault.SettleFault.TheVariants as settle_fault;
@@ -49,23 +48,17 @@ fn take_end(
     number: usize,
 ) -> (Parent, Receipts, PutReceipt<Bundle>)
     requires { (end : RelayEnd) × SitsAt relays.old number end × (fault_of end ≡ None) }
-    ensures sat { (own watch : ℕ) × SitsAt relays.old number (relay_end.Whole own watch result.0 result.1 result.2) }
+    ensures sat { (own watch : ℕ) × SitsAt relays.old number (whole_end own watch result.0 result.1 result.2) }
     ensures gone { relays.new ≡ slice_set relays.old number None }
 {
     prove!(number < relays.len());
     let Some(end) = relays[number].take() else {
         unreachable!();
     };
-    let RelayEnd::Whole {
-        parent,
-        taken,
-        put,
-        ..
-    } = end
-    else {
-        unreachable!();
-    };
-    (parent, taken, put)
+    match end.into_receipts() {
+        Ok(left) => left,
+        Err(_) => unreachable!(),
+    }
 }
 
 /// Keeps the receipt of a relay's inbox.

@@ -8,8 +8,7 @@ use crate::running::Parts;
 use std::alloc::{AllocError, Global};
 use wcp_model::Workload;
 use wcp_queue::Checker;
-use wcp_tree::Watch;
-use wcp_tree::opening::watch;
+use wcp_tree::{Watch, watch};
 use wcp_worker::{Worker, open_workers};
 
 /// Opens the tree of a workload's plan, a worker for each process, and the checker. `Err` where memory runs out.

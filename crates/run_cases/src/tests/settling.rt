@@ -14,8 +14,7 @@ use wcp_book::Book;
 use wcp_model::{GlobalCut, Plan, Report, Tallies, Tally};
 use wcp_run::settle::settle;
 use wcp_run::{CheckerEnd, SettleFault, check_loop};
-use wcp_tree::opening::watch;
-use wcp_tree::{LiveProbe, ProbeEnd, Relay, RelayEnd, Watch};
+use wcp_tree::{LiveProbe, ProbeEnd, Relay, RelayEnd, Watch, watch};
 
 /// What is left of a watch that ran.
 #[derive(Drop)]

@@ -10,8 +10,7 @@ use wcp_book::Book;
 use wcp_model::Plan;
 use wcp_queue::Checker;
 use wcp_run::{CheckerEnd, check_loop};
-use wcp_tree::opening::watch;
-use wcp_tree::{LiveProbe, ProbeEnd, Watch};
+use wcp_tree::{LiveProbe, ProbeEnd, Watch, watch};
 
 /// The watch of a plan, and a checker for its inbox. Where memory runs out, asking again makes them.
 pub fn open(alloc: Global, plan: &Plan) -> Result<(Watch, Checker), AllocError>
