@@ -1,3 +1,4 @@
+mod asked_again;
 mod books;
 mod checker;
 mod clocks;

@@ -149,7 +149,7 @@ fn lines_of_items_that_were_taken(rt: HostRuntime) -> Result<(), Fail> {
 
 /// The outcome of two processes of which the first emitted twice, and the cut at their second
 /// intervals was found.
-fn found() -> Outcome {
+pub fn found() -> Outcome {
     let twice = Tally {
         emitted: 2,
         taken: 2,
@@ -165,7 +165,7 @@ fn found() -> Outcome {
 }
 
 /// Its text.
-const FOUND: &str =
+pub const FOUND: &str =
     "found 1 1\nprocess 0 emitted 2 taken 2\nprocess 1 emitted 1 taken 0\ntotal emitted 3 taken 2\n";
 
 #[test]
