@@ -8,7 +8,6 @@ use Rattle.wcp_tree.specs.Watches.{IsWired}
 use Rattle.wcp_tree.specs.RelayEnds.{fault_of, number_of, watch_of}
 use Rattle.wcp_tree.specs.declared.relay.Relay.{Relay}
 use Rattle.wcp_tree.specs.declared.relay_end.RelayEnd.{RelayEnd}
-use Rattle.wcp_tree.specs.declared.relay_end.RelayEnd.TheVariants.{Whole, Faulted}
 use Rattle.wcp_tree.specs.declared.parts.Watch.{Watch}
 use Rattle.wcp_run.specs.Settling.{ComeFromWatch, IsEndOfSomeProbe, IsEndOfSomeRelay}
 use Rattle.wcp_run.specs.declared.checker_end.CheckerEnd.{CheckerEnd}
@@ -66,9 +65,14 @@ with_stranger probes relays stranger checker came other = record {
   of_checker = came.of_checker;
 }
 
+-- nothing is asked of what is there
+where_some : {T P : Type 0} (found : Option T) → found ≢ None → IfNone found P
+where_some None some = absurd (some refl)
+where_some (Some x) some = tt
+
 faulted_end : (relays : List Relay) (relay : Relay) (end : RelayEnd) → fault_of end ≢ None → slice_get relays (number_of end) ≡ Some relay → IsEndOfSomeRelay relays end
-faulted_end relays relay (Whole number watch parent taken put) fault at = absurd (fault refl)
-faulted_end relays relay (Faulted number watch fault source putter) met at = record { relay = relay; is_relay = at; receipts = tt; whole = tt }
+faulted_end relays relay end met at =
+    record { relay = relay; is_relay = at; receipts = where_some (fault_of end) met; whole = where_some (fault_of end) met }
 
 -- and with a faulted end behind them, of the same relay as the last of them
 pub with_second_end : (probes : List ClosedSide) (all relays : List RelayEnd) (last faulted : RelayEnd) (checker : CheckerEnd)

@@ -5,7 +5,7 @@ use Rattle.std.proofs.lemmas.Option.{slice_get-get_or, slice_get_within}
 use Rattle.wcp_model.specs.declared.outcome.Tally.{Tally}
 use Rattle.wcp_model.specs.declared.plan.Plan.{Plan}
 use Rattle.wcp_model.specs.ProbeLog.{Call, Closed, state_of_log}
-use Rattle.wcp_model.specs.Report.{ClocksRise, IsDrained, IsReportByClocks, notes_taken}
+use Rattle.wcp_model.specs.Report.{IsDrained, IsReportByClocks, notes_taken}
 use Rattle.wcp_model.proofs.CheckedPlans.{some_process}
 use Rattle.wcp_model.proofs.SamePlace.{element_within}
 use Rattle.wcp_tree.specs.LiveProbe.{ClosedSide, HasEmitted, IsEndOfProbe, LiveSide}

@@ -125,7 +125,7 @@ module _ {count : ℕ} {probe_ends : List (Option ClosedSide)} {root : TakenEnd 
       let link = linked k below in
       let relay : has.is_end.relay ≡ link.relay = cc in
       let same : has.end ≡ end = cc in
-      subst₂ AreReceiptsOf relay same has.is_end.receipts
+      subst₂ AreReceiptsOf relay same (rw has.whole at has.is_end.receipts)
 
   -- a process of relay k with its ring: the end of its probe sits there
   abbrev IsServed : ℕ → ℕ → Ring → Type 0

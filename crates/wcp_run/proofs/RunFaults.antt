@@ -1,7 +1,7 @@
 -- The first reason why a run gives no outcome.
-use Rattle.std.proofs.Common.{◌≡◌, ℕ, zero, suc, ◌<◌, ◌≤◌, ◌||◌, Bool, true, false, Option, Some, None, List, [], ◌∷◌, ◌++◌, length, map, get_or, All, IsTrue, refl, sym, ap, ◌∙◌, arith, zero-add}
+use Rattle.std.proofs.Common.{◌≡◌, ℕ, zero, suc, ◌<◌, Bool, true, Some, None, List, [], ◌∷◌, ◌++◌, length, map, refl, sym, ap, ◌∙◌, arith, zero-add}
 use Rattle.std.specs.Prelude.{slice_get}
-use Rattle.std.specs.List.{list_any, position, position_or_len, range_with_len}
+use Rattle.std.specs.List.{position, position_or_len, range_with_len}
 use Rattle.std.specs.Option.{option_map}
 use Rattle.std.proofs.lemmas.Grind.{common_steps}
 use Rattle.std.proofs.lemmas.List.{length-map}
@@ -13,7 +13,7 @@ use Rattle.wcp_model.specs.FirstReason.{IsFirstReason}
 use Rattle.wcp_model.proofs.SamePlace.{element_within}
 use Rattle.wcp_tree.proofs.Entries.{earlier_entry}
 use Rattle.wcp_worker.specs.declared.worker_end.WorkerEnd.{WorkerEnd}
-use Rattle.wcp_run.specs.RunFaults.{IsFirstRunFault, IsReasonOf, run_reasons, was_held, was_lost}
+use Rattle.wcp_run.specs.RunFaults.{IsFirstRunFault, IsReasonOf, was_held, was_lost}
 use Rattle.wcp_run.specs.declared.run_fault.RunFault.{RunFault}
 use Rattle.wcp_run.specs.declared.run_fault.RunFault.TheVariants.{Memory, Spawn, Held, Lost, Cut, Unfinished}
 use Rattle.wcp_run.specs.declared.running.Ends.{Ends}

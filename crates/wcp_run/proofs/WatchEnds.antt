@@ -1,6 +1,6 @@
 -- The ends of the parts of a watch come from it.
-use Rattle.std.proofs.Common.{◌≡◌, ◌↔◌, ℕ, ◌<◌, true, Some, List, get_or, All, sym, ap, subst, ◌∙◌, arith}
-use Rattle.std.specs.Prelude.{slice_get}
+use Rattle.std.proofs.Common.{◌≡◌, ◌↔◌, ℕ, ◌<◌, true, Option, None, Some, List, get_or, All, sym, ap, subst, ◌∙◌, arith}
+use Rattle.std.specs.Prelude.{IfNone, slice_get}
 use Rattle.std.specs.FinSet as set
 use Rattle.std.proofs.lemmas.List.{length-replicate}
 use Rattle.std.proofs.lemmas.Option.{slice_get-get_or}
@@ -9,6 +9,7 @@ use Rattle.wcp_model.specs.ProbeLog.{setup}
 use Rattle.wcp_model.specs.declared.plan.Plan.{Plan}
 use Rattle.wcp_probe.specs.Core.{Core, setup_of}
 use Rattle.wcp_tree.specs.LiveProbe.{ClosedSide, IsEndOfProbe, LiveSide}
+use Rattle.wcp_tree.specs.RelayEnds.{fault_of}
 use Rattle.wcp_tree.specs.Watches.{IsWired}
 use Rattle.wcp_tree.specs.declared.relay_end.RelayEnd.{RelayEnd}
 use Rattle.wcp_tree.specs.declared.parts.Watch.{Watch}
@@ -20,6 +21,11 @@ use Rattle.wcp_run.specs.Threads.{AreEndsOf, IsEndOfRelay}
 use Rattle.wcp_run.specs.declared.checker_end.CheckerEnd.{CheckerEnd}
 use Rattle.wcp_run.specs.declared.running.Ends.{Ends}
 use Rattle.wcp_run.specs.declared.running.Parts.{Parts}
+
+-- what holds is said where nothing is there, too
+pub where_none : {T P : Type 0} (found : Option T) → P → IfNone found P
+where_none None holds = holds
+where_none (Some x) holds = tt
 
 -- a probe was made for process p of n, and its end carries that number
 pub record IsEndOfProcess (watch : Watch) (n p : ℕ) (probe : LiveSide) (end : ClosedSide) : Type 0 where
@@ -53,7 +59,7 @@ module _ {plan : Plan} {number : ℕ} {watch : Watch} (wired : IsWired plan numb
       record {
         relay = link.relay;
         is_relay = ap (slice_get watch.relays.items) (is.number ∙ link.of_plan.number) ∙ link.is_relay;
-        receipts = is.receipts;
+        receipts = where_none (fault_of (get_or ends k d)) is.receipts;
         whole = is.whole;
       }
 

@@ -40,12 +40,12 @@ pub record IsEndOfSomeProbe (probes : List LiveSide) (end : ClosedSide) : Type 0
   pub is_probe : slice_get probes end.id ≡ Some probe
   pub one_ring : end.link.ring ≡ probe.link.ring
 
--- This is the end of one of these relays, by its number: it has that relay's receipts, and where it met no fault it put
--- what it took.
+-- This is the end of one of these relays, by its number: where it met no fault it has that relay's receipts, and put what
+-- it took.
 pub record IsEndOfSomeRelay (relays : List Relay) (end : RelayEnd) : Type 0 where
   pub relay : Relay
   pub is_relay : slice_get relays (number_of end) ≡ Some relay
-  pub receipts : AreReceiptsOf relay end
+  pub receipts : IfNone (fault_of end) (AreReceiptsOf relay end)
   pub whole : IfNone (fault_of end) ((p : ℕ) → relay_put end p ≡ relay_taken end p)
 
 -- The checker's end comes from a watch that was wired by a checked plan, and so does each end that carries the number

@@ -12,8 +12,7 @@ use std::sync::{Mutex, Wait};
 use std::test::Fail;
 use wcp_book::Book;
 use wcp_model::{GlobalCut, Plan, Report, Tallies, Tally};
-use wcp_run::settle::settle;
-use wcp_run::{CheckerEnd, SettleFault, check_loop};
+use wcp_run::{CheckerEnd, SettleFault, check_loop, settle};
 use wcp_tree::{LiveProbe, ProbeEnd, Relay, RelayEnd, Watch, watch};
 
 /// What is left of a watch that ran.

@@ -9,6 +9,7 @@ use std::test::Fail;
 use std::thread::{Threads, join};
 use wcp_model::Workload;
 use wcp_script::read_workload;
+use wcp_tree::watch;
 use wcp_worker::{Open, Worker, WorkerEnd, open_workers};
 
 /// Process 0 observes and sends, and process 1 receives and observes; then it sends what nobody receives.

@@ -1,6 +1,8 @@
 use Rattle.std.proofs.Common.{◌≡◌, All, Some, slice_get, sym, ap, subst, ◌∙◌}
 use Rattle.std.proofs.lemmas.List.Elements.{All-pop, All-push}
+use Rattle.wcp_tree.specs.RelayEnds.{fault_of}
 use Rattle.wcp_run.specs.Settling.{IsEndOfSomeRelay}
+use Rattle.wcp_run.proofs.WatchEnds.{where_none}
 use Rattle.run_cases.proofs.tests.settling.run_all.Goals as goal
 
 pub loop-relay-preserved : goal.loop-relay-preserved
@@ -11,7 +13,7 @@ loop-relay-preserved g c =
       subst (All (IsEndOfSomeRelay all)) (sym c.in_ok-push.ensures.items) (All-push (IsEndOfSomeRelay all) c.loop-relay.ends.items c.run.result c.loop-relay.invariant.1 (record {
         relay = c.in-Some.relay;
         is_relay = ap (slice_get all) c.run.ensures.number ∙ split.1;
-        receipts = c.run.ensures.receipts;
+        receipts = where_none (fault_of c.run.result) c.run.ensures.receipts;
         whole = c.run.ensures.whole;
       })),
     )
