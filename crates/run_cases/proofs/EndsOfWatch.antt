@@ -1,4 +1,5 @@
-use Rattle.std.proofs.Common.{◌≡◌, ◌≢◌, ℕ, ◌<◌, None, Some, refl, List, [], ◌∷◌, ◌++◌, length, take, drop, suc, slice_get, All, sym, ap, subst, ◌∙◌}
+use Rattle.std.proofs.Common.{◌≡◌, ◌≢◌, ℕ, ◌<◌, Option, None, Some, refl, List, [], ◌∷◌, ◌++◌, length, take, drop, suc, slice_get, All, sym, ap, subst, ◌∙◌}
+use Rattle.std.specs.Prelude.{IfNone}
 use Rattle.std.specs.List.{remove}
 use Rattle.std.proofs.lemmas.List.Elements.{All-nil, All-append, All-push, All-pop, All-take, All-drop, All-from_get_or}
 use Rattle.std.proofs.lemmas.Option.{get_or_from_slice_get}
