@@ -1,4 +1,4 @@
-use Rattle.std.proofs.Common.{◌≡◌, ◌≢◌, Bool, true, false, List, [], ◌∷◌, codes, ap, ◌∙◌, sym, refl, None, inl, inr}
+use Rattle.std.proofs.Common.{◌≡◌, ◌≢◌, Bool, true, false, List, [], ◌∷◌, codes, ap, ◌∙◌, sym, subst, refl, None, inl, inr}
 use Rattle.clap.proofs.OnLiterals.{clap_on_literals}
 use Rattle.clap.specs.Words.{IsAmong, Kinds, Text, fault_of, is_simple, is_simple_and_free, built}
 use Rattle.clap.specs.Faults.{built_fault}
@@ -13,7 +13,7 @@ use Rattle.clap.specs.declared.error.kind.ErrorKind.TheVariants as kind
 use Rattle.std.specs.Str.{bytes_eq}
 use Rattle.wcp_cli.proofs.NoRingWords.{alone, no_ring-fails}
 use Rattle.wcp_cli.proofs.StoppedWalk.{stays_stopped}
-use Rattle.wcp_cli.specs.Words.{AskForSingle, AskForHelp, AskForUnknown, IsAlone, IsReader, IsUnknown, UnknownWord, Further, NoRing, is_flag, program}
+use Rattle.wcp_cli.specs.Words.{AskForSingle, AskForHelp, AskForVersion, AskForUnknown, IsAlone, IsReader, IsUnknown, UnknownWord, Further, NoRing, is_flag, program}
 
 pub program_is_free : is_simple_and_free program ≡ true
 unfolding clap_on_literals
@@ -48,6 +48,23 @@ unfolding clap_on_literals
 help-fails words (inl e) passes = let bad = sym (ap (built_fault (built program) nothing_held) e) ∙ passes in cc
 help-fails words (inr (inl e)) passes = let bad = sym (ap (built_fault (built program) nothing_held) e) ∙ passes in cc
 help-fails words (inr (inr e)) passes = let bad = sym (ap (built_fault (built program) nothing_held) e) ∙ passes in cc
+
+-- and not as a wish for the version
+pub help-is_no_version : (words : List Text) → AskForHelp words → IsAmong kind.DisplayVersion (fault_of program words) → ⊥
+unfolding clap_on_literals
+help-is_no_version words (inl e) among =
+    elim (subst (IsAmong kind.DisplayVersion) (ap (built_fault (built program) nothing_held) e) among)
+    [ inl bad ↦ cc | inr rest ↦ elim rest [ inl bad ↦ cc | inr none ↦ none ] ]
+help-is_no_version words (inr (inl e)) among =
+    elim (subst (IsAmong kind.DisplayVersion) (ap (built_fault (built program) nothing_held) e) among) [ inl bad ↦ cc | inr none ↦ none ]
+help-is_no_version words (inr (inr e)) among =
+    elim (subst (IsAmong kind.DisplayVersion) (ap (built_fault (built program) nothing_held) e) among) [ inl bad ↦ cc | inr none ↦ none ]
+
+-- the words that ask for the version make a parse fail, and only as a wish for it
+pub version-fails : (words : List Text) → AskForVersion words → fault_of program words ≡ kind.DisplayVersion ∷ []
+unfolding clap_on_literals
+version-fails words (inl e) = ap (built_fault (built program) nothing_held) e
+version-fails words (inr e) = ap (built_fault (built program) nothing_held) e
 
 -- ---- words that the command doesn't know
 
@@ -91,31 +108,37 @@ further_word reader word rest is not_flag =
       | inr (inr replay) ↦ rw replay (simp (stops (codes "replay"), passes (codes "replay"), not_end, no_flag) refl)
     ]
 
--- A parse fails, and not for help.
+-- A parse fails, and neither for help nor for the version.
 pub record FailsPlainly (kinds : Kinds) : Type 0 where
   pub fails : kinds ≡ [] → ⊥
   pub no_help : IsAmong kind.DisplayHelp kinds → ⊥
+  pub no_version : IsAmong kind.DisplayVersion kinds → ⊥
 
 fails_by_word : FailsPlainly (kind.UnknownArgument ∷ kind.InvalidSubcommand ∷ [])
 fails_by_word = record {
   fails = λ bad. cc;
   no_help = λ among. elim among [ inl bad ↦ cc | inr rest ↦ elim rest [ inl bad ↦ cc | inr none ↦ none ] ];
+  no_version = λ among. elim among [ inl bad ↦ cc | inr rest ↦ elim rest [ inl bad ↦ cc | inr none ↦ none ] ];
 }
 
--- one reason other than help
-fails_by : (why : ErrorKind) → why ≢ kind.DisplayHelp → FailsPlainly (why ∷ [])
-fails_by why other = record { fails = λ bad. cc; no_help = λ among. elim among [ inl same ↦ other (sym same) | inr none ↦ none ] }
+-- one reason other than these
+fails_by : (why : ErrorKind) → why ≢ kind.DisplayHelp → why ≢ kind.DisplayVersion → FailsPlainly (why ∷ [])
+fails_by why not_help not_version = record {
+  fails = λ bad. cc;
+  no_help = λ among. elim among [ inl same ↦ not_help (sym same) | inr none ↦ none ];
+  no_version = λ among. elim among [ inl same ↦ not_version (sym same) | inr none ↦ none ];
+}
 
 fails_alone : (inside : Bool) → FailsPlainly (alone inside)
-fails_alone true = fails_by kind.MissingRequiredArgument (λ same. cc)
-fails_alone false = fails_by kind.ValueValidation (λ same. cc)
+fails_alone true = fails_by kind.MissingRequiredArgument (λ same. cc) (λ same. cc)
+fails_alone false = fails_by kind.ValueValidation (λ same. cc) (λ same. cc)
 
--- words that ask for what the program doesn't know are refused, and not as a wish for help
+-- words that ask for what the program doesn't know are refused, and not as a wish for help or the version
 pub unknown-fails : (words : List Text) → AskForUnknown words → FailsPlainly (fault_of program words)
 unknown-fails words (UnknownWord word rest is unknown) =
     rw (ap (built_fault (built program) nothing_held) is ∙ unknown_first word rest unknown) fails_by_word
 unknown-fails words (Further reader word rest is reads no_flag) =
-    rw (ap (built_fault (built program) nothing_held) is ∙ further_word reader word rest reads no_flag) (fails_by kind.UnknownArgument (λ same. cc))
+    rw (ap (built_fault (built program) nothing_held) is ∙ further_word reader word rest reads no_flag) (fails_by kind.UnknownArgument (λ same. cc) (λ same. cc))
 unknown-fails words (NoRing asked) =
     let fails = no_ring-fails words asked in
     rw fails.1 (fails_alone fails.0)

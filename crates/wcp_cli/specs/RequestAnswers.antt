@@ -1,4 +1,4 @@
-use Rattle.std.specs.Prelude.{◌≡◌, ℕ, ◌≤◌, Bool, List, ◌++◌, Option, length, string_bytes}
+use Rattle.std.specs.Prelude.{◌≡◌, ℕ, ◌≤◌, Bool, List, [], ◌∷◌, ◌++◌, Option, length, string_bytes, codes}
 use Rattle.std.specs.List.{flat_map}
 use Rattle.std.specs.Io.KnownBytes.{Keeps, Consumes, IsAtEnd}
 use Rattle.wcp_clock.specs.Limits.{most_bytes}
@@ -13,13 +13,14 @@ use Rattle.wcp_model.specs.Outcome.{IsWorkloadOutcome}
 use Rattle.wcp_model.specs.WorkloadComputation.{CouldBeRead}
 use Rattle.wcp_report.specs.ReplayText.{replay_text}
 use Rattle.wcp_report.specs.ReportText.{outcome_text}
+use Rattle.wcp_script.specs.Lines.{line_feed}
 use Rattle.wcp_script.specs.PlanText.{opening_text}
 use Rattle.wcp_script.specs.Ring.{ring_tasks}
 use Rattle.wcp_script.specs.TextFault.{schedules, workloads, Spells}
 use Rattle.wcp_script.specs.WorkloadText.{task_line}
 use Rattle.wcp_world.specs.Plays.{IsPlayed}
 use Rattle.wcp_cli.specs.declared.words.Request.{Request}
-use Rattle.wcp_cli.specs.declared.words.Request.TheVariants.{Single, Run, Replay, Ring, Help, Unknown}
+use Rattle.wcp_cli.specs.declared.words.Request.TheVariants.{Single, Run, Replay, Ring, Help, Version, Unknown}
 
 -- What is known of the bytes that a reader has left, or of those that a writer holds.
 abbrev pub Known : Type 0
@@ -58,6 +59,11 @@ pub record IsReplayAnswer (text printed : List ℕ) (status : ℕ) : Type 0 wher
 abbrev pub ring_text : ℕ → ℕ → Bool → List ℕ
 ring_text n rounds fault = opening_text n ++ flat_map task_line (ring_tasks n rounds fault)
 
+-- The answer to a request for the version: the program's name and version, and the toolchain that it is proved with,
+-- a line each.
+abbrev pub version_text : List ℕ
+version_text = codes "wcpwatch 0.1.0" ++ line_feed ∷ codes "rattle-kit-13b logic dac8208d650f15bf" ++ line_feed ∷ []
+
 -- The text is the whole input, and no longer than a text may be.
 pub record IsInput (input input_after : Known) (text : List ℕ) : Type 0 where
   pub consumed : Consumes input input_after text
@@ -65,8 +71,8 @@ pub record IsInput (input input_after : Known) (text : List ℕ) : Type 0 where
   pub within : length text ≤ most_bytes
 
 -- The answer to a request is printed, with its status. `single`, `run` and `replay` answer to their whole input, the
--- first two alike, and the others read nothing: a ring's answer is its text, and the answer to a request for help is
--- the text that it carries.
+-- first two alike, and the others read nothing: a ring's answer is its text, the answer to a request for help is the
+-- text that it carries, and the answer to one for the version is the same each time.
 abbrev pub IsAnswerTo : Request → Known → Known → List ℕ → ℕ → Type 0
 IsAnswerTo Single input input_after printed status =
     (text : List ℕ) × IsInput input input_after text × IsOutcomeAnswer text printed status
@@ -78,6 +84,8 @@ IsAnswerTo (Ring ring) input input_after printed status =
     Keeps input input_after × (printed ≡ ring_text ring.procs ring.rounds ring.fault) × (status ≡ 0)
 IsAnswerTo (Help text) input input_after printed status =
     Keeps input input_after × (printed ≡ string_bytes text) × (status ≡ 0)
+IsAnswerTo Version input input_after printed status =
+    Keeps input input_after × (printed ≡ version_text) × (status ≡ 0)
 IsAnswerTo Unknown input input_after printed status = ⊥
 
 -- What a request may read, answered or not: `single`, `run` and `replay` their input, the others nothing.

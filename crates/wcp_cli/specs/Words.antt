@@ -2,13 +2,13 @@ use Rattle.std.specs.Prelude.{◌≡◌, ◌≢◌, ◌⊎◌, ◌==◌, ◌≤�
 use Rattle.std.specs.Prelude.{if◌then◌else◌, pos, drop, codes}
 use Rattle.std.specs.Fmt.{decimal}
 use Rattle.clap.specs.Words.{App, Rule, Shape, Text, new_app, new_rule, with_subcommand}
-use Rattle.clap.specs.Simple.{new_shape}
+use Rattle.clap.specs.Simple.{new_shape, on_top}
 use Rattle.clap.specs.declared.builder.action.ArgAction.TheVariants.{SetTrue}
 use Rattle.clap.specs.declared.builder.value_parser.ValueParser.TheVariants.{Signed}
 use Rattle.wcp_clock.specs.Limits.{most_processes}
 use Rattle.wcp_script.specs.Ring.{most_rounds}
 use Rattle.wcp_cli.specs.declared.words.Request.{Request}
-use Rattle.wcp_cli.specs.declared.words.Request.TheVariants.{Single, Run, Replay, Ring, Help, Unknown}
+use Rattle.wcp_cli.specs.declared.words.Request.TheVariants.{Single, Run, Replay, Ring, Help, Version, Unknown}
 
 -- A ring has at least 2 processes.
 abbrev pub least_ring : ℕ
@@ -42,10 +42,15 @@ ring_shape = record (new_shape (codes "ring")) {
       ∷ flag_option (codes "fault") ∷ [];
 }
 
--- The command line of the program: the words `single`, `run`, `replay` and `ring`, and what clap adds for help.
+-- The program's name, and that it has a version.
+abbrev pub named : App
+named = on_top (λ s. record s { has_version = true }) (new_app (codes "wcpwatch"))
+
+-- The command line of the program: the words `single`, `run`, `replay` and `ring`, and what clap adds for help and for
+-- the version.
 abbrev pub program : App
 program =
-    let with_single = with_subcommand (new_app (codes "wcpwatch")) (new_shape (codes "single")) in
+    let with_single = with_subcommand named (new_shape (codes "single")) in
     let with_run = with_subcommand with_single (new_shape (codes "run")) in
     with_subcommand (with_subcommand with_run (new_shape (codes "replay"))) ring_shape
 
@@ -89,6 +94,10 @@ abbrev pub AskForHelp : List Text → Type 0
 AskForHelp words =
     (drop 1 words ≡ codes "help" ∷ []) ⊎ (drop 1 words ≡ codes "-h" ∷ []) ⊎ (drop 1 words ≡ codes "--help" ∷ [])
 
+-- The words ask for the version.
+abbrev pub AskForVersion : List Text → Type 0
+AskForVersion words = IsAlone (codes "-V") words ⊎ IsAlone (codes "--version") words
+
 -- A flag begins with a hyphen.
 abbrev pub is_flag : Text → Bool
 is_flag [] = false
@@ -120,6 +129,7 @@ AskFor Run words = IsAlone (codes "run") words
 AskFor Replay words = IsAlone (codes "replay") words
 AskFor (Ring ring) words = IsRing ring.procs ring.rounds × AskForRing ring.procs ring.rounds ring.fault words
 AskFor (Help text) words = AskForHelp words
+AskFor Version words = AskForVersion words
 AskFor Unknown words = AskForUnknown words
 
 -- A request for help, or what the program doesn't know: clap doesn't promise that the word `help` is heard.

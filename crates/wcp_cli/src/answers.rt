@@ -1,10 +1,11 @@
 //! The answer to each request: what is printed, and the exit status.
 ghost use Rattle.std.specs.Prelude.{◌≡◌, ◌≢◌, ◌≤◌, IfOk, IfErr};
 ghost use Rattle.wcp_cli.specs.RequestAnswers.{IsAnswerTo, IsOutcomeAnswer, IsReplayAnswer, Reads, ring_text};
-ghost use Rattle.wcp_cli.specs.RequestAnswers.{status_of};
+ghost use Rattle.wcp_cli.specs.RequestAnswers.{status_of, version_text};
 ghost use Rattle.wcp_cli.specs.Words.{HasRing, IsRing};
 
 use crate::fault::Fault;
+use crate::help;
 use crate::input::read_text;
 use crate::words::{Request, Ring};
 use std::alloc::Global;
@@ -65,6 +66,7 @@ pub fn answer_to<R: AllocGlobal + Threads + Wait + Sync, I: Read>(
             text: text.into_bytes(),
             status: FOUND,
         }),
+        Request::Version => version_answer(alloc),
         Request::Unknown => Err(Fault::Usage),
     }
 }
@@ -123,6 +125,20 @@ fn ring_answer(alloc: Global, ring: Ring) -> Result<Answer, Fault>
     let workload = ring_workload(alloc, ring.procs, ring.rounds, ring.fault)?;
     Ok(Answer {
         text: workload_text(alloc, &workload)?,
+        status: FOUND,
+    })
+}
+
+/// The program's name and version, and the toolchain that it is proved with.
+fn version_answer(alloc: Global) -> Result<Answer, Fault>
+    ensures text { IfOk result (λ answer. answer.text.items ≡ version_text) }
+    ensures status { IfOk result (λ answer. answer.status ≡ 0) }
+    ensures known { IfErr result (λ fault. fault ≢ Fault.Usage) }
+{
+    let mut text = Vec::new(alloc);
+    text.extend_from_slice(help::VERSION.as_bytes())?;
+    Ok(Answer {
+        text,
         status: FOUND,
     })
 }

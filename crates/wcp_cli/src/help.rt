@@ -4,6 +4,9 @@
 pub const ABOUT: &str =
     "Decides whether the conditions of all processes of a computation could have held at the same time.";
 
+/// The program's name and version, and the toolchain that it is proved with.
+pub const VERSION: &str = "wcpwatch 0.1.0\nrattle-kit-13b logic dac8208d650f15bf\n";
+
 /// What `single` does.
 pub const SINGLE: &str = "Reads a workload and prints its outcome; done where no word is given";
 
@@ -161,8 +164,13 @@ The head of a text
   there are at most 8 relays on the way to the checker. Each line ends in a line feed,
   and its words are separated by one space.
 
+  Mistakes that are easily made: a last line without its line feed, a tab in place of a
+  space, and a misspelled word are `line L: line`. A byte order mark before the text, or
+  lines that end in CR LF, are `line 1: header`. A text in a file is read by
+  `single < FILE`; the words `single FILE` are `usage`.
+
 Exit status:
-  0  found, a ring was printed, or this help
+  0  found, or a ring, the version or this help was printed
   1  none or undecided
   2  there is no answer, and one line on standard error says why:
        wcpwatch: usage         the words are none of those above

@@ -34,6 +34,8 @@ pub enum Request {
     Ring(Ring),
     /// This help text.
     Help(String),
+    /// The program's version.
+    Version,
     /// Something that the program doesn't know.
     Unknown,
 }
@@ -135,12 +137,16 @@ fn has_flag(options: &ArgMatches, name: &str) -> bool
 /// What the words ask for where clap gave no matches but this error.
 fn request_without_matches(alloc: Global, error: &Error) -> Result<Request, AllocError>
     ensures memory { kind_of error.now ≡ ErrorKind.OutOfMemory → IsErr result }
-    ensures help { IfOk result MayHelp }
-    ensures unknown { kind_of error.now ≢ ErrorKind.DisplayHelp → IfOk result (λ request. request ≡ Request.Unknown) }
+    ensures version { kind_of error.now ≡ ErrorKind.DisplayVersion
+        → IfOk result (λ request. request ≡ Request.Version) }
+    ensures help { kind_of error.now ≢ ErrorKind.DisplayVersion → IfOk result MayHelp }
+    ensures unknown { kind_of error.now ≢ ErrorKind.DisplayHelp → kind_of error.now ≢ ErrorKind.DisplayVersion
+        → IfOk result (λ request. request ≡ Request.Unknown) }
     ensures in_ranges { IfOk result HasRing }
 {
     match error.kind() {
         ErrorKind::DisplayHelp => Ok(Request::Help(error.to_string(alloc)?)),
+        ErrorKind::DisplayVersion => Ok(Request::Version),
         ErrorKind::OutOfMemory => Err(AllocError),
         _ => Ok(Request::Unknown),
     }
@@ -156,6 +162,7 @@ fn command<'a>(alloc: Global) -> Result<Command<'a>, AllocError>
     let ring = ring_command(alloc)?;
     Command::new(alloc, "wcpwatch")
         .about(help::ABOUT)
+        .version(help::VERSION)
         .after_help(help::MORE)
         .subcommand(single)?
         .subcommand(run)?

@@ -1,9 +1,11 @@
-//! Words that are not understood, and words for help.
+//! Words that are not understood, and words for help and for the version.
 
 use std::test::Fail;
 use wcp_cli::drive;
 
 const TEXT: &[u8] = b"wcp 1\nprocs 1\np 0 true\n";
+
+const VERSION: &[u8] = b"wcpwatch 0.1.0\nrattle-kit-13b logic dac8208d650f15bf\n";
 
 #[test]
 fn other_words_are_refused(rt: HostRuntime) {
@@ -60,6 +62,9 @@ fn help_tells_what_a_newcomer_needs(rt: HostRuntime) -> Result<(), Fail> {
             "wcpwatch: usage",
             "wcpwatch: run",
             "stuck",
+            "byte order mark",
+            "CR LF",
+            "single < FILE",
         ] {
             assert!(rt; text.contains(part), "{word} without {part}");
         }
@@ -68,4 +73,19 @@ fn help_tells_what_a_newcomer_needs(rt: HostRuntime) -> Result<(), Fail> {
         assert_eq!(rt; input, TEXT, "{word}");
     }
     Ok(())
+}
+
+#[test]
+fn version_is_told(rt: HostRuntime) {
+    for word in ["-V", "--version"] {
+        let mut input = TEXT;
+        let mut output = Vec::new(rt.alloc());
+        let mut errors = Vec::new(rt.alloc());
+        let words = ["wcpwatch", word];
+        let status = drive(&rt, words.as_slice(), &mut input, &mut output, &mut errors);
+        assert_eq!(rt; output.as_slice(), VERSION, "{word}");
+        assert!(rt; errors.is_empty(), "{word}");
+        assert_eq!(rt; status, 0, "{word}");
+        assert_eq!(rt; input, TEXT, "{word}");
+    }
 }

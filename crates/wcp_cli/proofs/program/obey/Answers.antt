@@ -1,7 +1,15 @@
 use Rattle.std.proofs.KnownBytes.{Keeps-refl}
+use Rattle.wcp_cli.specs.declared.words.Request.TheVariants.{Unknown}
 use Rattle.wcp_cli.specs.Edge.{Quiet}
 use Rattle.wcp_cli.proofs.Requests.{reads_nothing, same_request, status_after_err}
 use Rattle.wcp_cli.proofs.program.obey.Goals as goal
+
+pub returns-in_err-request-clause-any : goal.returns-in_err-request-clause-any
+returns-in_err-request-clause-any g c = record {
+  request = Unknown;
+  in_ranges = tt;
+  did = Quiet (Keeps-refl _) (Keeps-refl _) (status_after_err _ c.from_residual.ensures.0);
+}
 
 pub returns-in_err-request-clause-asked : goal.returns-in_err-request-clause-asked
 returns-in_err-request-clause-asked g c asked is = record {

@@ -1,7 +1,8 @@
 use Rattle.std.proofs.Common.{rules, ◌≡◌, ◌∙◌, ap₂, codes}
 use Rattle.std.proofs.lemmas.Result.{IfOk-weaker}
-use Rattle.clap.specs.Words.{app_of, new_app, shape_of, with_subcommand}
+use Rattle.clap.specs.Words.{app_of, shape_of, with_subcommand}
 use Rattle.clap.specs.Simple.{new_shape}
+use Rattle.wcp_cli.specs.Words.{named}
 use Rattle.wcp_cli.proofs.words.command.Goals as goal
 
 pub returns : goal.returns
@@ -9,7 +10,7 @@ returns c =
     let single_is : shape_of c.about-single.result ≡ new_shape (codes "single") = search rules in
     let run_is : shape_of c.about-run.result ≡ new_shape (codes "run") = search rules in
     let replay_is : shape_of c.about-replay.result ≡ new_shape (codes "replay") = search rules in
-    let start_is : app_of c.after_help.result ≡ new_app (codes "wcpwatch") = search rules in
+    let start_is : app_of c.after_help.result ≡ named = search rules in
     let first = c.in_ok-subcommand.ensures.shape (search rules) ∙ ap₂ with_subcommand start_is single_is in
     let second = c.in_ok-subcommand-2.ensures.shape (search rules) ∙ ap₂ with_subcommand first run_is in
     let third = c.in_ok-subcommand-3.ensures.shape (search rules) ∙ ap₂ with_subcommand second replay_is in

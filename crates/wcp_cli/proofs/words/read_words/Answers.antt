@@ -11,7 +11,7 @@ use Rattle.wcp_cli.specs.RingOptions.{AsksForRing}
 use Rattle.wcp_cli.specs.Words.{AskFor, IsRing, MayHelp, IsSameRequest, program}
 use Rattle.wcp_cli.proofs.FoundWords.{name_of, name-from_rows, single-found, reader-found}
 use Rattle.wcp_cli.proofs.RingWords.{ring-passes, ring-found}
-use Rattle.wcp_cli.proofs.WordLemmas.{program_is_simple, single-passes, reader-passes, help-fails, unknown-fails, program_is_free}
+use Rattle.wcp_cli.proofs.WordLemmas.{program_is_simple, single-passes, reader-passes, help-fails, help-is_no_version, version-fails, unknown-fails, program_is_free}
 use Rattle.wcp_cli.proofs.words.read_words.Goals as goal
 
 -- words that clap finds no fault with are read as what they ask for
@@ -27,6 +27,7 @@ found_as request.Replay found words asked passes single run replay ring = replay
 found_as (request.Ring r) found words asked passes single run replay ring = ring r asked.0 (ring-found r.procs r.rounds r.fault words asked.0 asked.1)
 found_as (request.Help text) found words asked passes single run replay ring =
     absurd (help-fails words asked passes)
+found_as request.Version found words asked passes single run replay ring = let bad = sym (version-fails words asked) ∙ passes in cc
 found_as request.Unknown found words asked passes single run replay ring = absurd ((unknown-fails words asked).fails passes)
 
 pub returns-in-Ok-clause-asked : goal.returns-in-Ok-clause-asked
@@ -44,17 +45,22 @@ returns-in-Ok-clause-asked g c asked is =
 
 -- words that clap finds a fault with, of this kind, are read as what they ask for
 failed_as : (asked : Request) (words : List Text) (k : ErrorKind) (r : Result Request AllocError) → AskFor asked words
-    → (k ≡ kind.OutOfMemory) ⊎ IsAmong k (fault_of program words) → (k ≡ kind.OutOfMemory → IsErr r) → IfOk r MayHelp
-    → (k ≢ kind.DisplayHelp → IfOk r (λ found. found ≡ request.Unknown)) → IfOk r (IsSameRequest asked)
-failed_as asked words k r is (inl lacks) memory help unknown = IfOk-from_err r _ (memory lacks)
-failed_as request.Single words k r is (inr among) memory help unknown = absurd (subst (IsAmong k) (single-passes words is) among)
-failed_as request.Run words k r is (inr among) memory help unknown = absurd (subst (IsAmong k) (reader-passes _ words (inr (inl refl)) is) among)
-failed_as request.Replay words k r is (inr among) memory help unknown = absurd (subst (IsAmong k) (reader-passes _ words (inr (inr refl)) is) among)
-failed_as (request.Ring ring) words k r is (inr among) memory help unknown =
+    → (k ≡ kind.OutOfMemory) ⊎ IsAmong k (fault_of program words) → (k ≡ kind.OutOfMemory → IsErr r)
+    → (k ≡ kind.DisplayVersion → IfOk r (λ found. found ≡ request.Version)) → (k ≢ kind.DisplayVersion → IfOk r MayHelp)
+    → (k ≢ kind.DisplayHelp → k ≢ kind.DisplayVersion → IfOk r (λ found. found ≡ request.Unknown)) → IfOk r (IsSameRequest asked)
+failed_as asked words k r is (inl lacks) memory version help unknown = IfOk-from_err r _ (memory lacks)
+failed_as request.Single words k r is (inr among) memory version help unknown = absurd (subst (IsAmong k) (single-passes words is) among)
+failed_as request.Run words k r is (inr among) memory version help unknown = absurd (subst (IsAmong k) (reader-passes _ words (inr (inl refl)) is) among)
+failed_as request.Replay words k r is (inr among) memory version help unknown = absurd (subst (IsAmong k) (reader-passes _ words (inr (inr refl)) is) among)
+failed_as (request.Ring ring) words k r is (inr among) memory version help unknown =
     absurd (subst (IsAmong k) (ring-passes ring.procs ring.rounds ring.fault words is.0 is.1) among)
-failed_as (request.Help text) words k r is (inr among) memory help unknown = help
-failed_as request.Unknown words k r is (inr among) memory help unknown =
+failed_as (request.Help text) words k r is (inr among) memory version help unknown =
+    help (λ same. help-is_no_version words is (subst (λ (l : ErrorKind). IsAmong l (fault_of program words)) same among))
+failed_as request.Version words k r is (inr among) memory version help unknown =
+    version (elim (subst (IsAmong k) (version-fails words is) among) [ inl same ↦ same | inr none ↦ absurd none ])
+failed_as request.Unknown words k r is (inr among) memory version help unknown =
     unknown (λ same. (unknown-fails words is).no_help (subst (λ (l : ErrorKind). IsAmong l (fault_of program words)) same among))
+    (λ same. (unknown-fails words is).no_version (subst (λ (l : ErrorKind). IsAmong l (fault_of program words)) same among))
 
 pub returns-in-Err-clause-asked : goal.returns-in-Err-clause-asked
 returns-in-Err-clause-asked g c asked is =
@@ -62,4 +68,5 @@ returns-in-Err-clause-asked g c asked is =
     let failed = c.in-Err.ensures.kinds (ap is_simple_and_free c.in_ok-command.ensures ∙ program_is_free) in
     failed_as asked words (kind_of c.in-Err.error) c.request_without_matches.result is
     (subst (λ (a : App). HasKind (fault_of a words) c.in-Err.error) c.in_ok-command.ensures failed)
-    c.request_without_matches.ensures.memory c.request_without_matches.ensures.help c.request_without_matches.ensures.unknown
+    c.request_without_matches.ensures.memory c.request_without_matches.ensures.version
+    c.request_without_matches.ensures.help c.request_without_matches.ensures.unknown
