@@ -2,6 +2,7 @@ mod answers;
 mod faults;
 mod help;
 mod reads;
+mod refused;
 mod rings;
 mod rows;
 mod streams;

@@ -3,9 +3,13 @@
 use super::rows::{ANSWERED, Row};
 use super::streams::{Sink, Trouble};
 use std::io::ErrorKind;
+use std::process::Abort;
 use std::sync::Wait;
 use std::thread::Threads;
 use wcp_cli::drive;
+
+/// What is said where the output isn't taken.
+const REFUSED: &[u8] = b"wcpwatch: write\n";
 
 /// A writer of so many bytes at a time.
 fn taking(alloc: std::alloc::Global, most: usize, trouble: Trouble) -> Sink {
@@ -19,41 +23,49 @@ fn taking(alloc: std::alloc::Global, most: usize, trouble: Trouble) -> Sink {
     }
 }
 
-/// The status of a run on the row's text.
-fn answer_row<R: AllocGlobal + Threads + Wait + Sync>(
+/// Runs the program on the row's text, with a trouble of its errors, and compares what it writes and says and its status.
+fn gives<R: AllocGlobal + Threads + Wait + Sync + Abort>(
     rt: &R,
     row: &Row,
     output: &mut Sink,
-    errors: &mut Sink,
-) -> u8 {
+    trouble: Trouble,
+    written: &[u8],
+    said: &[u8],
+    status: u8,
+) {
     let mut input = row.text.as_bytes();
+    let mut errors = taking(rt.alloc(), 1, trouble);
     let words = ["wcpwatch", row.word];
-    drive(rt, words.as_slice(), &mut input, output, errors)
+    let given = drive(rt, words.as_slice(), &mut input, output, &mut errors);
+    assert_eq!(rt; output.taken.as_slice(), written);
+    assert_eq!(rt; errors.taken.as_slice(), said);
+    assert_eq!(rt; given, status);
 }
 
+/// A write that is interrupted is made again.
 #[test]
 fn one_byte_at_a_time_is_the_same(rt: HostRuntime) {
     for row in ANSWERED.iter() {
+        let whole = row.output.as_bytes();
         let mut output = taking(rt.alloc(), 1, Trouble::No);
-        let mut errors = taking(rt.alloc(), 1, Trouble::No);
-        let status = answer_row(&rt, row, &mut output, &mut errors);
-        assert_eq!(rt; output.taken.as_slice(), row.output.as_bytes());
+        gives(&rt, row, &mut output, Trouble::No, whole, b"", row.status);
         assert_eq!(rt; output.flushes, 1);
-        assert!(rt; errors.taken.is_empty());
-        assert_eq!(rt; status, row.status);
+        for write in 0..whole.len() {
+            let trouble = Trouble::At(write, ErrorKind::Interrupted);
+            let mut output = taking(rt.alloc(), 1, trouble);
+            gives(&rt, row, &mut output, Trouble::No, whole, b"", row.status);
+        }
     }
 }
 
 #[test]
 fn each_write_may_fail(rt: HostRuntime) {
     for row in ANSWERED.iter() {
-        for write in 0..row.output.len() {
+        let whole = row.output.as_bytes();
+        for write in 0..whole.len() {
             let mut output = taking(rt.alloc(), 1, Trouble::At(write, ErrorKind::Other));
-            let mut errors = taking(rt.alloc(), 1, Trouble::No);
-            let status = answer_row(&rt, row, &mut output, &mut errors);
-            assert_eq!(rt; output.taken.as_slice(), &row.output.as_bytes()[..write]);
-            assert_eq!(rt; errors.taken.as_slice(), b"wcpwatch: write\n".as_slice());
-            assert_eq!(rt; status, 2);
+            let front = &whole[..write];
+            gives(&rt, row, &mut output, Trouble::No, front, REFUSED, 2);
         }
     }
 }
@@ -61,35 +73,21 @@ fn each_write_may_fail(rt: HostRuntime) {
 #[test]
 fn the_flush_may_fail(rt: HostRuntime) {
     for row in ANSWERED.iter() {
+        let whole = row.output.as_bytes();
         let mut output = taking(rt.alloc(), 1, Trouble::No);
         output.flush_trouble = Trouble::At(0, ErrorKind::Other);
-        let mut errors = taking(rt.alloc(), 1, Trouble::No);
-        let status = answer_row(&rt, row, &mut output, &mut errors);
-        assert_eq!(rt; output.taken.as_slice(), row.output.as_bytes());
-        assert_eq!(rt; errors.taken.as_slice(), b"wcpwatch: write\n".as_slice());
-        assert_eq!(rt; status, 2);
+        gives(&rt, row, &mut output, Trouble::No, whole, REFUSED, 2);
     }
 }
 
+/// The status stays where the errors aren't taken either.
 #[test]
 fn a_write_of_nothing_fails(rt: HostRuntime) {
     for row in ANSWERED.iter() {
         let mut output = taking(rt.alloc(), 0, Trouble::No);
-        let mut errors = taking(rt.alloc(), 1, Trouble::No);
-        let status = answer_row(&rt, row, &mut output, &mut errors);
-        assert!(rt; output.taken.is_empty());
-        assert_eq!(rt; errors.taken.as_slice(), b"wcpwatch: write\n".as_slice());
-        assert_eq!(rt; status, 2);
-    }
-}
-
-#[test]
-fn the_status_stays_where_errors_fail(rt: HostRuntime) {
-    for row in ANSWERED.iter() {
+        gives(&rt, row, &mut output, Trouble::No, b"", REFUSED, 2);
         let mut output = taking(rt.alloc(), 0, Trouble::No);
-        let mut errors = taking(rt.alloc(), 1, Trouble::Always(ErrorKind::Other));
-        let status = answer_row(&rt, row, &mut output, &mut errors);
-        assert!(rt; errors.taken.is_empty());
-        assert_eq!(rt; status, 2);
+        let trouble = Trouble::Always(ErrorKind::Other);
+        gives(&rt, row, &mut output, trouble, b"", b"", 2);
     }
 }

@@ -14,6 +14,10 @@ const TWO_CONCURRENT: &[u8] = b"wcp 1\nprocs 2\np 0 true\np 1 true\n";
 const TRUE_AGAIN_AFTER_SEND: &[u8] =
     b"wcp 1\nprocs 2\np 0 true\np 0 send 1\np 0 true\np 1 recv 0\np 1 true\n";
 
+/// Process 1 receives two messages of process 0.
+const TWO_MESSAGES: &[u8] =
+    b"wcp 1\nprocs 2\np 0 send 1\np 0 send 1\np 0 true\np 1 recv 0\np 1 recv 0\np 1 true\n";
+
 /// How often the sender is told to ask again.
 const REFUSALS: u32 = 100_000;
 
@@ -139,5 +143,37 @@ fn a_receiver_waits_for_a_sender_that_is_held_back(rt: HostRuntime) -> Result<()
     assert!(rt; comes_to(&rt, rt.alloc(), TRUE_AGAIN_AFTER_SEND, &gate, &outcome)?);
     assert_eq!(rt; gate.asked.load(SeqCst), REFUSALS + 1);
     assert!(rt; !gate.receiver_went_on.load(SeqCst));
+    Ok(())
+}
+
+/// Holds the receiver back before its first receive until the sender has made both sends. It notes where it did so in
+/// vain.
+#[derive(Drop)]
+struct SendsFirst {
+    has_sent: AtomicBool,
+    waited_in_vain: AtomicBool,
+}
+
+impl Gate for SendsFirst {
+    fn pass(&self, p: u32, step: u64) -> bool {
+        if p == 0 && step == 2 {
+            self.has_sent.store(true, SeqCst);
+        }
+        if p == 1 && step == 0 && !is_set_in_time(&self.has_sent) {
+            self.waited_in_vain.store(true, SeqCst);
+        }
+        true
+    }
+}
+
+#[test]
+fn a_sender_waits_for_no_receiver(rt: HostRuntime) -> Result<(), Fail> {
+    let gate = SendsFirst {
+        has_sent: AtomicBool::new(false),
+        waited_in_vain: AtomicBool::new(false),
+    };
+    let outcome = found([2, 2], [1, 1]);
+    assert!(rt; comes_to(&rt, rt.alloc(), TWO_MESSAGES, &gate, &outcome)?);
+    assert!(rt; !gate.waited_in_vain.load(SeqCst));
     Ok(())
 }
