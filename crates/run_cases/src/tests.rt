@@ -1,4 +1,5 @@
 mod checking;
 mod reading;
 mod settling;
+mod starting;
 mod watches;

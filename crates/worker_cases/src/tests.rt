@@ -1,3 +1,4 @@
+mod capacities;
 mod gates;
 mod outcomes;
 mod two_threads;
