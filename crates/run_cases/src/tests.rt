@@ -1,5 +1,6 @@
 mod checking;
 mod reading;
 mod settling;
+mod starting;
 mod starving;
 mod watches;

@@ -88,14 +88,22 @@ fn run_watch(rt: &(impl Abort + Wait), alloc: Global) -> Result<Ends, AllocError
     })
 }
 
-/// The ends but for that of a relay which came `at` this place.
-fn without_a_relay(mut ends: Ends, at: usize) -> Option<Ends>
+/// The ends but for that of the probe of process `p`, the first such one. `None` where there is none.
+fn without_probe(mut ends: Ends, p: u32) -> Option<Ends>
     requires { ComeFromWatch ends.probes.items ends.relays.items ends.checker }
     ensures { IfSome result (λ ends. ComeFromWatch ends.probes.items ends.relays.items ends.checker) }
 {
-    if at >= ends.relays.len() {
-        return None;
-    }
+    let at = ends.probes.iter().position(|end| end.id() == p)?;
+    drop(ends.probes.remove(at));
+    Some(ends)
+}
+
+/// The ends but for that of the relay of this number, the first such one. `None` where there is none.
+fn without_relay(mut ends: Ends, number: u32) -> Option<Ends>
+    requires { ComeFromWatch ends.probes.items ends.relays.items ends.checker }
+    ensures { IfSome result (λ ends. ComeFromWatch ends.probes.items ends.relays.items ends.checker) }
+{
+    let at = ends.relays.iter().position(|end| end.number() == number)?;
     drop(ends.relays.remove(at));
     Some(ends)
 }
@@ -192,23 +200,64 @@ fn two_hops_are_settled(rt: HostRuntime) -> Result<(), Fail> {
 }
 
 #[test]
-fn a_relay_without_an_end_is_missing(rt: HostRuntime) -> Result<(), Fail> {
-    let ends = run_watch(&rt, rt.alloc())?;
-    let ends = without_a_relay(ends, 0).expect(&rt, "a relay");
-    assert_eq!(rt; settle_fault(ends), Some(SettleFault::Missing));
+fn each_probe_without_an_end_is_missing(rt: HostRuntime) -> Result<(), Fail> {
+    for p in 0..2 {
+        let ends = run_watch(&rt, rt.alloc())?;
+        let ends = without_probe(ends, p).expect(&rt, "a probe");
+        assert_eq!(rt;
+            settle_fault(ends),
+            Some(SettleFault::Missing),
+            "of process {p}"
+        );
+    }
     Ok(())
 }
 
 #[test]
-fn a_probe_of_another_watch_is_a_stranger(rt: HostRuntime) -> Result<(), Fail> {
-    let ends = run_watch(&rt, rt.alloc())?;
+fn each_relay_without_an_end_is_missing(rt: HostRuntime) -> Result<(), Fail> {
+    for number in 0..2 {
+        let ends = run_watch(&rt, rt.alloc())?;
+        let ends = without_relay(ends, number).expect(&rt, "a relay");
+        assert_eq!(rt;
+            settle_fault(ends),
+            Some(SettleFault::Missing),
+            "of relay {number}"
+        );
+    }
+    Ok(())
+}
+
+/// A book in which the share of process `left_out` isn't, and that of the other is.
+fn book_without(rt: &impl Abort, left_out: u32) -> Book {
+    let mut book = Book::new(2);
+    assert!(rt; left_out < 2);
+    let posted = book.post(1 - left_out, 1, 1);
+    assert_eq!(rt; posted, Ok(()));
+    book
+}
+
+#[test]
+fn each_share_that_was_not_posted_is_unfinished(rt: HostRuntime) -> Result<(), Fail> {
+    for p in 0..2 {
+        let ends = run_watch(&rt, rt.alloc())?;
+        let book = book_without(&rt, p);
+        let fault = settle(ends.probes, ends.relays, ends.checker, book).err();
+        assert_eq!(rt; fault, Some(SettleFault::Unfinished), "of process {p}");
+    }
+    Ok(())
+}
+
+#[test]
+fn each_probe_of_another_watch_is_a_stranger(rt: HostRuntime) -> Result<(), Fail> {
     let plan = two_hops(&rt, rt.alloc())?;
-    let mut other = watch(rt.alloc(), &plan, 8)?;
-    let probe = other.probes.pop().expect(&rt, "a probe");
-    let stranger = emit_one(probe).expect(&rt, "room");
-    assert!(rt; stranger.watch() != ends.checker.watch());
-    let ends = with_a_stranger(ends, stranger)?;
-    assert_eq!(rt; settle_fault(ends), Some(SettleFault::Stranger));
+    let other = watch(rt.alloc(), &plan, 8)?;
+    for probe in other.probes {
+        let ends = run_watch(&rt, rt.alloc())?;
+        let stranger = emit_one(probe).expect(&rt, "room");
+        assert!(rt; stranger.watch() != ends.checker.watch());
+        let ends = with_a_stranger(ends, stranger)?;
+        assert_eq!(rt; settle_fault(ends), Some(SettleFault::Stranger));
+    }
     Ok(())
 }
 
@@ -217,7 +266,7 @@ fn a_relay_that_was_cut_is_faulted(rt: HostRuntime) -> Result<(), Fail> {
     let ends = run_watch(&rt, rt.alloc())?;
     let faulted = cut_relay(&rt, rt.alloc())?.expect(&rt, "a relay");
     let ends = with_a_second_end(ends, faulted)?.expect(&rt, "a fault of the first relay");
-    let ends = without_a_relay(ends, 1).expect(&rt, "the first relay's other end");
+    let ends = without_relay(ends, 0).expect(&rt, "the first relay's other end");
     assert_eq!(rt; ends.relays.len(), 2);
     assert_eq!(rt; settle_fault(ends), Some(SettleFault::Faulted));
     Ok(())
@@ -228,7 +277,7 @@ fn a_relay_that_was_cut_is_faulted(rt: HostRuntime) -> Result<(), Fail> {
 fn two_ends_of_a_relay_are_strangers(rt: HostRuntime) -> Result<(), Fail> {
     let ends = run_watch(&rt, rt.alloc())?;
     let second = cut_relay(&rt, rt.alloc())?.expect(&rt, "a relay");
-    let ends = without_a_relay(ends, 0).expect(&rt, "a relay");
+    let ends = without_relay(ends, 1).expect(&rt, "a relay");
     let ends = with_a_second_end(ends, second)?.expect(&rt, "a fault of the first relay");
     assert_eq!(rt; ends.relays.len(), 2);
     assert_eq!(rt; settle_fault(ends), Some(SettleFault::Stranger));

@@ -1,0 +1,105 @@
+//! A run whose threads can't all be made, since the address space has no room left for their stacks.
+ghost use Rattle.std.specs.Prelude.{IfOk};
+ghost use Rattle.wcp_run.specs.CheckerEnds.{IsFreshFor};
+
+use super::watches::{emit_all, open};
+use std::alloc::{AllocError, Global};
+use std::sync::atomic::AtomicU32;
+use std::sync::atomic::Ordering::SeqCst;
+use std::sync::{Mutex, Wait};
+use std::test::Fail;
+use wcp_book::Book;
+use wcp_model::plain_plan;
+use wcp_run::{Checking, Part, Parts, RunsWith, StartFault, run_parts};
+use wcp_tree::{LiveProbe, ProbeEnd, Watch};
+
+/// The largest and the smallest block that takes up address space, and how many there are at most.
+const LARGEST: usize = 1 << 46;
+
+const SMALLEST: usize = 1 << 20;
+
+const MOST_BLOCKS: usize = 200_000;
+
+/// What is given back of it: room for the stacks of a few threads.
+const GAP: usize = 1 << 24;
+
+/// What the calls may allocate beside the stacks.
+const SPARE: usize = 1 << 16;
+
+/// Takes up what is left of the address space. Nothing is written to the blocks, so they take no memory.
+fn take_up(alloc: Global) -> Result<Vec<Vec<u8>>, AllocError> {
+    let mut blocks = Vec::with_capacity(alloc, MOST_BLOCKS)?;
+    let mut size = LARGEST;
+    for _ in 0..MOST_BLOCKS {
+        match Vec::with_capacity(alloc, size) {
+            Ok(block) => blocks.push(block)?,
+            Err(_) => size /= 2,
+        }
+        if size < SMALLEST {
+            break;
+        }
+    }
+    Ok(blocks)
+}
+
+/// A process that is counted as it begins, emits one snapshot, and closes.
+#[derive(Drop)]
+struct Process {
+    probe: LiveProbe,
+}
+
+impl Part<ProbeEnd> for Process {
+    ghost use Rattle.std.specs.Prelude.{⊤};
+
+    ghost is_ready = { λ process. ⊤ };
+
+    ghost is_end = { λ process end. ⊤ };
+}
+
+impl RunsWith<AtomicU32, ProbeEnd> for Process {
+    fn run_with<R: Wait>(self, rt: &R, begun: &AtomicU32) -> ProbeEnd {
+        begun.fetch_add(1, SeqCst);
+        emit_all(rt, self.probe, 1)
+    }
+}
+
+/// The parts of a watch of sixteen processes.
+fn sixteen_processes(alloc: Global) -> Result<Parts<Process>, AllocError>
+    ensures { IfOk result (λ parts. IsFreshFor parts.checking.inbox parts.checking.checker) }
+{
+    let plan = plain_plan(alloc, 16, 8, 4)?;
+    let (watch, checker) = open(alloc, &plan)?;
+    let Watch {
+        probes,
+        relays,
+        inbox,
+    } = watch;
+    let mut workers = Vec::with_capacity(alloc, probes.len())?;
+    for probe in probes {
+        workers.push(Process { probe })?;
+    }
+    Ok(Parts {
+        workers,
+        relays,
+        checking: Checking { inbox, checker },
+    })
+}
+
+#[test]
+fn nothing_runs_where_a_thread_is_refused(rt: HostRuntime) -> Result<(), Fail> {
+    let alloc = rt.alloc();
+    let parts = sixteen_processes(alloc)?;
+    let begun = AtomicU32::new(0);
+    let book = Mutex::new(Book::new(16));
+    let spare = Vec::<u8>::with_capacity(alloc, SPARE)?;
+    let gap = Vec::<u8>::with_capacity(alloc, GAP)?;
+    let blocks = take_up(alloc)?;
+    drop(gap);
+    drop(spare);
+    let ended = run_parts(&rt, alloc, parts, &begun, &book);
+    drop(blocks);
+    assert_eq!(rt; ended.err(), Some(StartFault::Spawn));
+    assert_eq!(rt; begun.load(SeqCst), 0);
+    assert_eq!(rt; book.into_inner().totals().taken, 0);
+    Ok(())
+}
