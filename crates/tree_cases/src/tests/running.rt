@@ -120,3 +120,20 @@ fn probes_close_where_the_relay_above_is_gone(rt: HostRuntime) -> Result<(), Fai
     assert_eq!(rt; done.len(), 3);
     Ok(())
 }
+
+/// The middle one of three relays finds its parent gone: the leaf below it ends without a fault all the same.
+#[test]
+fn an_inner_relay_goes_on_taking_where_its_parent_is_gone(rt: HostRuntime) -> Result<(), Fail> {
+    let parents = [Parent::Root, Parent::Relay(0), Parent::Relay(1)];
+    let mut watch = open(&rt, rt.alloc(), (2, 1, 1), &parents, &[Some(2), Some(2)])?;
+    assert_eq!(rt; watch.relays.len(), 3);
+    drop(watch.relays.remove(0));
+    let (done, _) = run_and_take(&rt, rt.alloc(), watch, 2)?;
+    assert_eq!(rt; done.len(), 4);
+    for probe in 0..2 {
+        assert_eq!(rt; done[probe], Done::Probe(SNAPSHOTS), "probe {probe}");
+    }
+    assert!(rt; matches!(done[2], Done::Relay(Some(RelayFault::Cut(_)))));
+    assert_eq!(rt; done[3], Done::Relay(None));
+    Ok(())
+}

@@ -1,0 +1,48 @@
+//! A note that comes out of its place.
+ghost use Rattle.std.specs.Prelude.{◌≡◌, false, ◌∷◌, [], IfOk, length};
+ghost use Rattle.std.specs.FinSet as set;
+ghost use Rattle.wcp_tree.specs.declared.feed.Feed.{Feed};
+
+use std::alloc::{AllocError, Global};
+use std::test::Fail;
+use wcp_clock::{Clock, Note};
+use wcp_lane::{LaneFault, Origins, Putter, Taker, lane};
+use wcp_model::Parent;
+use wcp_ring::{RingPutter, Sleeper, ring};
+use wcp_tree::{Bundle, Feed, RelayFault, leaf_relay};
+
+/// A lane of bundles with one putter, of just process 0.
+fn lane_of_one(alloc: Global) -> Result<(Putter<Bundle>, Taker<Bundle>), LaneFault>
+    ensures members { IfOk result (λ ends. ends.0.members ≡ set.insert set.empty 0) }
+    ensures none_put { IfOk result (λ ends. ends.0.put ≡ []) }
+{
+    let (mut putters, taker) = lane(alloc, 8, &[Origins::none().with(0)])?;
+    let Some(putter) = putters.pop() else {
+        return Err(LaneFault::Owners);
+    };
+    Ok((putter, taker))
+}
+
+/// The end of a new ring that puts, and the feed of process 0 over it.
+fn feed_of_one(alloc: Global) -> Result<(RingPutter, Vec<Feed>), AllocError>
+    ensures { IfOk result (λ ends. (feed : Feed) × (ends.1.items ≡ feed ∷ []) × (feed.process ≡ 0)
+        × (feed.next ≡ 0) × (feed.closed ≡ false) × (length feed.taker.taken ≡ 0)) }
+{
+    let (putter, taker) = ring(alloc, 8)?;
+    let mut feeds = Vec::with_capacity(alloc, 1)?;
+    feeds.push(Feed::new(0, taker))?;
+    Ok((putter, feeds))
+}
+
+#[test]
+fn a_snapshot_out_of_its_place_is_a_gap(rt: HostRuntime) -> Result<(), Fail> {
+    let (putter, taker) = lane_of_one(rt.alloc())?;
+    let (mut ring, feeds) = feed_of_one(rt.alloc())?;
+    let sleeper = Sleeper::new(rt.alloc())?;
+    let leaf = leaf_relay(rt.alloc(), 0, 7, Parent::Root, 4, feeds, sleeper, putter)?;
+    let clock = Clock::new(1);
+    assert!(rt; ring.try_put(Note::Snap { number: 1, clock }).is_ok());
+    assert_eq!(rt; leaf.run(&rt).fault(), Some(RelayFault::Gap(0)));
+    drop(taker);
+    Ok(())
+}
