@@ -1,3 +1,7 @@
 mod MadeCalls
 mod OpenedPools
+mod PoolMembers
+mod Snapshots
+mod RisingLogs
+mod RisingClocks
 mod EndedPools

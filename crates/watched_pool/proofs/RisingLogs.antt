@@ -1,0 +1,88 @@
+-- The clocks of the snapshots that a log emits rise.
+use Rattle.std.proofs.Common.{◌≡◌, ◌≢◌, ℕ, zero, suc, ◌+◌, ◌<◌, ◌≤◌, false, true, true≢false, List, [], ◌∷◌, ◌++◌, length, fold, replicate, slice_index, slice_set, get_or, refl, ap, arith, append-nil}
+use Rattle.std.proofs.lemmas.Bool.{cases_eq, cases_Bool, cases_lt}
+use Rattle.std.proofs.lemmas.List.{length-set, length-replicate, get_or-set_same, get_or-set_other, get_or_append_left, get_or_push, length_push}
+use Rattle.wcp_clock.specs.Merge.{merged}
+use Rattle.wcp_clock.specs.declared.note.Note.TheVariants as note
+use Rattle.wcp_model.specs.ProbeLog.{Call, Observed, Sent, Received, Closed, ProbeState, after_call, setup, state_of_log}
+use Rattle.wcp_model.specs.Report.{snapshot_clocks, AreRising}
+use Rattle.wcp_model.proofs.NotesInTurn.{snapshot_clocks-append}
+
+-- a merge has no more components, and where it has as many it is less in none
+length-merged_first : (xs ys : List ℕ) → length (merged xs ys) ≤ length xs
+length-merged_first [] ys = omega arith
+length-merged_first (x ∷ xs) [] = omega arith
+length-merged_first (x ∷ xs) (y ∷ ys) = omega (arith, length-merged_first xs ys)
+
+merged_above : (xs ys : List ℕ) (q : ℕ) → length xs ≤ length (merged xs ys) → slice_index xs q ≤ slice_index (merged xs ys) q
+merged_above [] ys q long = omega arith
+merged_above (x ∷ xs) [] q long = absurd (omega arith)
+merged_above (x ∷ xs) (y ∷ ys) zero long = omega arith
+merged_above (x ∷ xs) (y ∷ ys) (suc q) long = merged_above xs ys q (omega arith)
+
+-- the clocks of these snapshots rise, the clock is less than none of them in a component, and where the flag is down
+-- it is above all of them in the process's own
+record HasRisen (p : ℕ) (clocks : List (List ℕ)) (s : ProbeState) : Type 0 where
+  rising : AreRising p clocks
+  none_above : (i q : ℕ) → i < length clocks → slice_index (get_or clocks i []) q ≤ slice_index s.clock q
+  own_below : s.flag ≡ false → (i : ℕ) → i < length clocks → slice_index (get_or clocks i []) p < slice_index s.clock p
+  within : p < length s.clock
+
+-- an event makes the clock greater
+risen_by_event : (p : ℕ) (clocks : List (List ℕ)) (s : ProbeState) (clock : List ℕ) → HasRisen p clocks s → length clock ≡ length s.clock → ((q : ℕ) → slice_index s.clock q ≤ slice_index clock q) →
+    HasRisen p clocks (record s { clock = slice_set clock p (slice_index s.clock p + 1); flag = false })
+risen_by_event p clocks s clock risen same up = record {
+  rising = risen.rising;
+  none_above = λ i q within. grind (arith, cases_eq q p, risen.none_above i q within, up q, risen.within, get_or-set_same clock p (slice_index s.clock p + 1) 0, get_or-set_other clock p q (slice_index s.clock p + 1) 0);
+  own_below = λ down i within. grind (arith, risen.none_above i p within, risen.within, get_or-set_same clock p (slice_index s.clock p + 1) 0);
+  within = omega (arith, length-set clock p (slice_index s.clock p + 1), risen.within);
+}
+
+-- one more snapshot, of the clock
+risen_by_snapshot : (p : ℕ) (clocks : List (List ℕ)) (s : ProbeState) → s.flag ≡ false → HasRisen p clocks s → AreRising p (clocks ++ s.clock ∷ [])
+risen_by_snapshot p clocks s down risen = record {
+  never_fall = λ i j q up within. grind (arith, cases_lt j (length clocks), cases_lt i (length clocks), length_push clocks s.clock, risen.rising.never_fall i j q, risen.none_above i q, get_or_append_left clocks (s.clock ∷ []) [], get_or_push clocks s.clock []);
+  rise = λ i j up within. grind (arith, cases_lt j (length clocks), length_push clocks s.clock, risen.rising.rise i j, risen.own_below down i, get_or_append_left clocks (s.clock ∷ []) [], get_or_push clocks s.clock []);
+}
+
+-- so does the first true observation of an interval, which puts the flag up
+risen_by_first : (p : ℕ) (s : ProbeState) → s.flag ≡ false → HasRisen p (snapshot_clocks s.notes) s →
+    HasRisen p (snapshot_clocks (s.notes ++ note.Snap s.snapshots s.clock ∷ [])) (record s { flag = true; snapshots = s.snapshots + 1; notes = s.notes ++ note.Snap s.snapshots s.clock ∷ [] })
+risen_by_first p s down risen = rw (snapshot_clocks-append s.notes (note.Snap s.snapshots s.clock ∷ [])) (record {
+  rising = risen_by_snapshot p (snapshot_clocks s.notes) s down risen;
+  none_above = λ i q within. grind (arith, cases_lt i (length (snapshot_clocks s.notes)), length_push (snapshot_clocks s.notes) s.clock, risen.none_above i q, get_or_append_left (snapshot_clocks s.notes) (s.clock ∷ []) [], get_or_push (snapshot_clocks s.notes) s.clock []);
+  own_below = λ up i within. absurd (true≢false up);
+  within = risen.within;
+})
+
+-- each call keeps that, where the clock keeps its components
+length-after : (p : ℕ) (s : ProbeState) (call : Call) → length (after_call p s call).clock ≤ length s.clock
+length-after p s call = grind (arith, cases_Bool s.flag, length-set {A = ℕ}, length-merged_first)
+
+length-after_all : (p : ℕ) (s : ProbeState) (log : List Call) → length (fold (after_call p) s log).clock ≤ length s.clock
+length-after_all p s [] = omega arith
+length-after_all p s (call ∷ log) = omega (arith, length-after p s call, length-after_all p (after_call p s call) log)
+
+risen_after : (p : ℕ) (s : ProbeState) (call : Call) → length s.clock ≤ length (after_call p s call).clock → HasRisen p (snapshot_clocks s.notes) s → HasRisen p (snapshot_clocks (after_call p s call).notes) (after_call p s call)
+risen_after p s (Observed false) long risen = risen
+risen_after p s (Observed true) long risen = grind (arith, cases_Bool s.flag, risen_by_first p s)
+risen_after p s Sent long risen = risen_by_event p (snapshot_clocks s.notes) s s.clock risen refl (λ q. omega arith)
+risen_after p s (Received stamp) long risen = risen_by_event p (snapshot_clocks s.notes) s (merged s.clock stamp) risen (omega (arith, length-merged_first s.clock stamp, length-set (merged s.clock stamp) p (slice_index s.clock p + 1))) (λ q. merged_above s.clock stamp q (omega (arith, length-set (merged s.clock stamp) p (slice_index s.clock p + 1))))
+risen_after p s Closed long risen = grind (arith, append-nil, snapshot_clocks-append)
+
+risen_from : (p : ℕ) (s : ProbeState) (log : List Call) → length s.clock ≤ length (fold (after_call p) s log).clock → HasRisen p (snapshot_clocks s.notes) s → HasRisen p (snapshot_clocks (fold (after_call p) s log).notes) (fold (after_call p) s log)
+risen_from p s [] long risen = risen
+risen_from p s (call ∷ log) long risen =
+    let here : length s.clock ≤ length (after_call p s call).clock = omega (arith, length-after_all p (after_call p s call) log) in
+    risen_from p (after_call p s call) log (omega (arith, length-after p s call)) (risen_after p s call here risen)
+
+-- so the clocks of the snapshots of a log rise, where the clock kept its components
+pub log_clocks_rise : (n p : ℕ) (log : List Call) → p < n → length (state_of_log (setup n p) log).clock ≡ n → AreRising p (snapshot_clocks (state_of_log (setup n p) log).notes)
+log_clocks_rise n p log within same =
+    let n_long = length-replicate n (zero) in
+    (risen_from p (state_of_log (setup n p) []) log (omega (arith, n_long, same)) (record {
+      rising = record { never_fall = λ i j q up below. absurd (omega arith); rise = λ i j up below. absurd (omega arith) };
+      none_above = λ i q below. absurd (omega arith);
+      own_below = λ down i below. absurd (omega arith);
+      within = omega (arith, n_long, within);
+    })).rising
