@@ -1,3 +1,5 @@
 mod MadeCalls
 mod OpenedPools
+mod PoolMembers
+mod Snapshots
 mod EndedPools

@@ -1,7 +1,14 @@
 -- Calls that follow one another.
-use Rattle.std.proofs.Common.{List, [], ◌∷◌, ◌++◌, subst, append_assoc}
+use Rattle.std.proofs.Common.{◌≡◌, None, List, [], ◌∷◌, ◌++◌, length, subst, append_assoc, arith}
 use Rattle.wcp_model.specs.ProbeLog.{Call}
+use Rattle.wcp_probe.specs.Core.{Core}
+use Rattle.wcp_probe.specs.Refusals.{receive_refusal}
+use Rattle.wcp_probe.specs.Seal.{Seal}
 use Rattle.wcp_tree.specs.LiveProbe.{LiveSide, LiveFor, LiveAccepts}
+
+-- a stamp that isn't refused has a component for each process
+pub whole_stamp : (core : Core) (seal : Seal) → receive_refusal core seal ≡ None → length seal.clock ≡ length core.clock
+whole_stamp core seal none = grind arith
 
 -- a call, then another, and then what makes none
 pub two_calls : (start one two last : LiveSide) (first second : Call) → LiveAccepts start first one → LiveAccepts one second two

@@ -1,11 +1,13 @@
 -- The parts of a pool that is watched, and their ends.
-use Rattle.std.specs.Prelude.{◌≡◌, ◌+◌, ◌<◌, ◌≤◌, ℕ, List, [], ◌∷◌, ◌++◌, map, All}
+use Rattle.std.specs.Prelude.{◌≡◌, ◌+◌, ◌*◌, ◌≤◌, ℕ, zero, suc, Some, IsSomeAnd, List, [], ◌∷◌, ◌++◌, length, map, All}
+use Rattle.std.specs.Prelude.{slice_get}
+use Rattle.std.specs.List.{sum_by}
 use Rattle.wcp_clock.specs.declared.note.Item.{Item}
 use Rattle.wcp_model.specs.PlanFault.{IsCheckedPlan}
 use Rattle.wcp_model.specs.ProbeLog.{Call, Closed, setup, state_of_log}
-use Rattle.wcp_model.specs.Report.{ClocksRise, IsDrained, IsReportByClocks, notes_taken}
-use Rattle.wcp_model.specs.declared.outcome.Report.{Report}
+use Rattle.wcp_model.specs.Report.{IsDrained, IsReportByClocks, notes_taken}
 use Rattle.wcp_model.specs.declared.plan.Plan.{Plan}
+use Rattle.wcp_tree.specs.LiveProbe.{snapshots_in}
 use Rattle.wcp_tree.specs.declared.parts.Watch.{Watch}
 use Rattle.wcp_tree.specs.Watches.{IsWired}
 use Rattle.wcp_run.specs.declared.running.Parts.{Parts}
@@ -15,40 +17,71 @@ use Rattle.wcp_run.specs.RunParts.{HaveEnded}
 use Rattle.watched_pool.specs.declared.dispatcher.Pace.{Pace}
 use Rattle.watched_pool.specs.declared.member.Member.{Member}
 use Rattle.watched_pool.specs.declared.member.MemberEnd.{MemberEnd}
+use Rattle.watched_pool.specs.declared.pool.PoolReport.{PoolReport}
 use Rattle.watched_pool.specs.Members.{IsNew, IsEndOfMember, IsPool, probe_of}
 use Rattle.watched_pool.specs.Logs.{IsReplicaLog, IsDispatcherLog, most_unanswered}
 
 -- The parts of a watch that was wired as a plan says: a new member for each process, which has its probe and is the
--- dispatcher, of this pace, or a replica, the relays, and a fresh checker.
-pub record ArePartsOfPool (plan : Plan) (pace : Pace) (parts : Parts Member) : Type 0 where
+-- dispatcher, of this pace, or a replica, all for so many rounds, the relays, and a fresh checker.
+pub record ArePartsOfPool (plan : Plan) (pace : Pace) (rounds : ℕ) (parts : Parts Member) : Type 0 where
   pub number : ℕ
   pub watch : Watch
   pub wired : IsWired plan number watch
   pub members : map probe_of parts.workers.items ≡ watch.probes.items
-  pub pool : IsPool pace parts.workers.items
+  pub pool : IsPool pace rounds parts.workers.items
   pub ready : All IsNew parts.workers.items
   pub relays : parts.relays.items ≡ watch.relays.items
   pub inbox : parts.checking.inbox ≡ watch.inbox
   pub fresh : IsFreshFor parts.checking.inbox parts.checking.checker
 
 -- These are the ends of such parts, under a checked plan.
-pub record AreEndsOfPool (plan : Plan) (pace : Pace) (ends : Ends MemberEnd) : Type 0 where
+pub record AreEndsOfPool (plan : Plan) (pace : Pace) (rounds : ℕ) (ends : Ends MemberEnd) : Type 0 where
   pub checked : IsCheckedPlan plan
   pub parts : Parts Member
-  pub are : ArePartsOfPool plan pace parts
+  pub are : ArePartsOfPool plan pace rounds parts
   pub ended : HaveEnded IsEndOfMember parts ends
 
 -- What was taken of process p of n is all that its probe emits where it makes these calls and then closes.
 abbrev pub IsLogTaken : ℕ → List Item → ℕ → List Call → Type 0
 IsLogTaken n items p log = notes_taken p items ≡ (state_of_log (setup n p) (log ++ Closed ∷ [])).notes
 
--- What a report of a pool of so many replicas is about: all that the probe of the dispatcher, of this pace, and those
--- of the replicas emitted, by their logs; it is the exact one of this, by clocks.
-pub record IsPoolReport (replicas : ℕ) (pace : Pace) (report : Report) : Type 0 where
+-- The jobs of process p, in a pool of so many replicas and rounds: the dispatcher gives them all out, and each replica
+-- does one in each round.
+abbrev pub jobs_at : ℕ → ℕ → ℕ → ℕ
+jobs_at replicas rounds zero = rounds * replicas
+jobs_at replicas rounds (suc p) = rounds
+
+-- The log of process p there: of the dispatcher, of this pace, once no job is unanswered, or of a replica.
+abbrev pub IsLogAt : ℕ → ℕ → Pace → ℕ → List Call → Type 0
+IsLogAt replicas rounds pace zero =
+    IsDispatcherLog (replicas + 1) (most_unanswered pace replicas) (rounds * replicas) 0
+IsLogAt replicas rounds pace (suc p) = IsReplicaLog (replicas + 1) rounds
+
+-- How many snapshots process p emitted, if these were taken of all: a replica one for each of its jobs.
+abbrev pub snapshots_at : ℕ → List Item → ℕ → ℕ
+snapshots_at rounds items zero = snapshots_in (notes_taken 0 items)
+snapshots_at rounds items (suc p) = rounds
+
+-- What is told of process p: what was taken of it is what the probe of such a log emits; it counted its jobs, and its
+-- snapshots were emitted and taken.
+pub record IsToldAt (replicas rounds : ℕ) (pace : Pace) (told : PoolReport) (items : List Item) (p : ℕ) : Type 0 where
+  pub log : List Call
+  pub is_log : IsLogAt replicas rounds pace p log
+  pub taken : IsLogTaken (replicas + 1) items p log
+  pub jobs : IsSomeAnd (slice_get told.shares.items p) (λ share. share.jobs ≡ jobs_at replicas rounds p)
+  pub tally : slice_get told.outcome.tallies p ≡ Some (record {
+    emitted = snapshots_at rounds items p;
+    taken = snapshots_at rounds items p;
+  })
+
+-- What a run of a pool of so many replicas and rounds tells is about what was taken, which is all that the probes of
+-- its processes emitted, by their logs: the report is the exact one of this, by clocks, and the book has its sums.
+pub record IsPoolReport (replicas rounds : ℕ) (pace : Pace) (told : PoolReport) : Type 0 where
   pub items : List Item
-  pub dispatcher : (log : List Call)
-      × IsDispatcherLog (most_unanswered pace replicas) 0 log × IsLogTaken (replicas + 1) items 0 log
-  pub replica : (p : ℕ) → 0 < p → p ≤ replicas
-      → (log : List Call) × IsReplicaLog log × IsLogTaken (replicas + 1) items p log
+  pub each : (p : ℕ) → p ≤ replicas → IsToldAt replicas rounds pace told items p
+  pub shares : length told.shares.items ≡ replicas + 1
+  pub tallies : length told.outcome.tallies ≡ replicas + 1
   pub drained : IsDrained (replicas + 1) items
-  pub exact : ClocksRise (replicas + 1) items → IsReportByClocks (replicas + 1) items report
+  pub exact : IsReportByClocks (replicas + 1) items told.outcome.report
+  pub emitted : told.totals.emitted ≡ sum_by (λ tally. tally.emitted) told.outcome.tallies
+  pub taken : told.totals.taken ≡ sum_by (λ tally. tally.taken) told.outcome.tallies

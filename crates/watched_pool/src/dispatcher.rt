@@ -1,4 +1,4 @@
-ghost use Rattle.std.specs.Prelude.{◌≡◌, ℕ, ◌+◌, ◌<◌, ◌≤◌, length, OnOk};
+ghost use Rattle.std.specs.Prelude.{◌≡◌, ℕ, ◌+◌, ◌*◌, ◌^◌, ◌<◌, ◌≤◌, length, OnOk};
 ghost use Rattle.wcp_clock.specs.Limits.{most_processes};
 ghost use Rattle.wcp_tree.specs.LiveProbe.{IsSameLive};
 
@@ -42,13 +42,13 @@ pub struct Dispatcher {
     pub(crate) desk: Desk,
     pub(crate) partners: Vec<Partner>,
     pub(crate) pace: Pace,
-    pub(crate) rounds: u32,
+    pub(crate) rounds: u16,
 }
 
 /// Which job a replica gets in a round, counted from 0.
-pub(crate) fn job_of(round: u32, replica: u32) -> Job {
+pub(crate) fn job_of(round: u16, replica: u32) -> Job {
     Job {
-        number: round.wrapping_mul(REPLICAS).wrapping_add(replica),
+        number: (u32::from(round) * REPLICAS).wrapping_add(replica),
     }
 }
 
@@ -64,6 +64,7 @@ impl Desk {
         ensures at_work { OnOk result ((most : ℕ) → self.old.unanswered < most
             → IsDispatching most self.old → IsDispatching most self.new) }
         ensures unanswered { OnOk result (self.new.unanswered ≡ self.old.unanswered + 1) }
+        ensures answered { self.new.answered ≡ self.old.answered }
         ensures same { IsSameLive self.old.probe self.new.probe }
     {
         let stamped = match self.probe.stamp(partner.replica, job) {
@@ -82,8 +83,10 @@ impl Desk {
     /// Waits for the answer of a replica.
     fn take_answer<R: Wait>(&mut self, rt: &R, partner: &Partner) -> Result<(), Stop>
         requires some { 0 < self.old.unanswered }
+        requires room { self.old.answered.jobs + 1 < 2 ^ 32 }
         ensures at_work { OnOk result ((most : ℕ) → IsDispatching most self.old → IsDispatching most self.new) }
         ensures unanswered { OnOk result (self.new.unanswered + 1 ≡ self.old.unanswered) }
+        ensures answered { OnOk result (self.new.answered.jobs ≡ self.old.answered.jobs + 1) }
         ensures same { IsSameLive self.old.probe self.new.probe }
     {
         let Ok(stamped) = partner.answers.recv(rt) else {
@@ -105,13 +108,14 @@ impl Desk {
         &mut self,
         rt: &R,
         partners: &[Partner],
-        round: u32,
+        round: u16,
     ) -> Result<(), Stop>
         requires at_work { IsDispatching (length partners.now) self.old }
         requires none { self.old.unanswered ≡ 0 }
         requires few { length partners.now ≤ most_processes }
         ensures at_work { OnOk result (IsDispatching (length partners.now) self.new) }
         ensures unanswered { OnOk result (self.new.unanswered ≡ length partners.now) }
+        ensures answered { OnOk result (self.new.answered ≡ self.old.answered) }
         ensures same { IsSameLive self.old.probe self.new.probe }
     {
         for partner in partners {
@@ -124,8 +128,10 @@ impl Desk {
     fn take_all<R: Wait>(&mut self, rt: &R, partners: &[Partner]) -> Result<(), Stop>
         requires at_work { IsDispatching (length partners.now) self.old }
         requires all { self.old.unanswered ≡ length partners.now }
+        requires room { self.old.answered.jobs + length partners.now < 2 ^ 32 }
         ensures at_work { OnOk result (IsDispatching (length partners.now) self.new) }
         ensures unanswered { OnOk result (self.new.unanswered ≡ 0) }
+        ensures answered { OnOk result (self.new.answered.jobs ≡ self.old.answered.jobs + length partners.now) }
         ensures same { IsSameLive self.old.probe self.new.probe }
     {
         for partner in partners {
@@ -135,11 +141,13 @@ impl Desk {
     }
 
     /// Gives out each job of a round and waits for its answer.
-    fn ask_in_turn<R: Wait>(&mut self, rt: &R, partners: &[Partner], round: u32) -> Result<(), Stop>
+    fn ask_in_turn<R: Wait>(&mut self, rt: &R, partners: &[Partner], round: u16) -> Result<(), Stop>
         requires at_work { IsDispatching 1 self.old }
         requires none { self.old.unanswered ≡ 0 }
+        requires room { self.old.answered.jobs + length partners.now < 2 ^ 32 }
         ensures at_work { OnOk result (IsDispatching 1 self.new) }
         ensures unanswered { OnOk result (self.new.unanswered ≡ 0) }
+        ensures answered { OnOk result (self.new.answered.jobs ≡ self.old.answered.jobs + length partners.now) }
         ensures same { IsSameLive self.old.probe self.new.probe }
     {
         for partner in partners {
@@ -155,13 +163,15 @@ impl Desk {
         rt: &R,
         partners: &[Partner],
         pace: Pace,
-        round: u32,
+        round: u16,
     ) -> Result<(), Stop>
         requires at_work { IsDispatching (most_unanswered pace (length partners.now)) self.old }
         requires none { self.old.unanswered ≡ 0 }
         requires few { length partners.now ≤ most_processes }
+        requires room { self.old.answered.jobs + length partners.now < 2 ^ 32 }
         ensures at_work { OnOk result (IsDispatching (most_unanswered pace (length partners.now)) self.new) }
         ensures unanswered { OnOk result (self.new.unanswered ≡ 0) }
+        ensures answered { OnOk result (self.new.answered.jobs ≡ self.old.answered.jobs + length partners.now) }
         ensures same { IsSameLive self.old.probe self.new.probe }
     {
         match pace {
@@ -179,13 +189,15 @@ impl Desk {
         rt: &R,
         partners: &[Partner],
         pace: Pace,
-        rounds: u32,
+        rounds: u16,
     ) -> Result<(), Stop>
         requires at_work { IsDispatching (most_unanswered pace (length partners.now)) self.old }
         requires none { self.old.unanswered ≡ 0 }
+        requires no_answer { self.old.answered.jobs ≡ 0 }
         requires few { length partners.now ≤ most_processes }
         ensures at_work { OnOk result (IsDispatching (most_unanswered pace (length partners.now)) self.new) }
         ensures unanswered { OnOk result (self.new.unanswered ≡ 0) }
+        ensures answered { OnOk result (self.new.answered.jobs ≡ rounds * length partners.now) }
         ensures same { IsSameLive self.old.probe self.new.probe }
     {
         for round in 0..rounds {
@@ -196,12 +208,13 @@ impl Desk {
 }
 
 impl Dispatcher {
-    ghost use Rattle.watched_pool.specs.Members.{IsNewDispatcher, IsEndOfDispatcher};
+    ghost use Rattle.watched_pool.specs.Members.{IsNewDispatcher, IsEndOfMember};
+    ghost use Rattle.watched_pool.specs.declared.member.Member.TheVariants as member;
 
-    /// Runs all rounds, lets the replicas know that no more jobs come, and closes its probe.
+    /// Runs all rounds, lets go its channels, and closes its probe.
     pub(crate) fn run<R: Wait>(self, rt: &R) -> MemberEnd
         requires { IsNewDispatcher self }
-        ensures { IsEndOfDispatcher self result }
+        ensures { IsEndOfMember (member.Dispatcher self) result }
     {
         let Dispatcher {
             mut desk,

@@ -1,3 +1,5 @@
+ghost use Rattle.std.specs.Prelude.{◌≡◌, ◌+◌, ◌<◌, ◌^◌, ◌%◌};
+
 use crate::dispatcher::Dispatcher;
 use crate::job::{JobSum, Numbers};
 use crate::replica::Replica;
@@ -34,14 +36,20 @@ pub struct Share {
 
 impl Share {
     /// The share before any answer.
-    pub(crate) fn nothing() -> Share {
+    pub(crate) fn nothing() -> Share
+        ensures { result ≡ record { jobs = 0; sum = 0 } }
+    {
         Share { jobs: 0, sum: 0 }
     }
 
     /// The share with one more answer.
-    pub(crate) fn with(self, answer: JobSum) -> Share {
+    pub(crate) fn with(self, answer: JobSum) -> Share
+        requires room { self.jobs + 1 < 2 ^ 32 }
+        ensures jobs { result.jobs ≡ self.jobs + 1 }
+        ensures sum { result.sum ≡ (self.sum + answer.sum) % 2 ^ 64 }
+    {
         Share {
-            jobs: self.jobs.saturating_add(1),
+            jobs: self.jobs + 1,
             sum: self.sum.wrapping_add(answer.sum),
         }
     }

@@ -18,9 +18,6 @@ use wcp_tree::{LiveProbe, Watch, watch};
 /// The number of the watch: stamps of another one are refused.
 const WATCH: u64 = 1;
 
-/// How many rounds there are.
-pub(crate) const ROUNDS: u32 = 2;
-
 /// Two leaf relays under another: the one serves the dispatcher and replica 1, the other replicas 2 and 3.
 pub(crate) fn pool_plan(alloc: Global) -> Result<Plan, AllocError>
     ensures { IfOk result (λ plan. plan.n ≡ 4) }
@@ -39,16 +36,17 @@ pub(crate) fn open_parts(
     alloc: Global,
     plan: &Plan,
     pace: Pace,
+    rounds: u16,
 ) -> Result<Parts<Member>, AllocError>
     requires { IsCheckedPlan plan.now }
-    ensures { IfOk result (ArePartsOfPool plan.now pace) }
+    ensures { IfOk result (ArePartsOfPool plan.now pace rounds) }
 {
     let Watch {
         probes,
         relays,
         inbox,
     } = watch(alloc, plan, WATCH)?;
-    let workers = open_members(alloc, probes, pace)?;
+    let workers = open_members(alloc, probes, pace, rounds)?;
     let checker = Checker::new(alloc, plan.n)?;
     Ok(Parts {
         workers,
@@ -62,16 +60,17 @@ fn open_members(
     alloc: Global,
     mut probes: Vec<LiveProbe>,
     pace: Pace,
+    rounds: u16,
 ) -> Result<Vec<Member>, AllocError>
     requires some { 0 < length probes.items }
     requires few { length probes.items ≤ most_processes }
     requires fresh { All (λ probe. LiveFor probe []) probes.items }
     ensures probes { IfOk result (λ members. map probe_of members.items ≡ probes.items) }
-    ensures pool { IfOk result (λ members. IsPool pace members.items) }
+    ensures pool { IfOk result (λ members. IsPool pace rounds members.items) }
     ensures fresh { IfOk result (λ members. All IsNew members.items) }
 {
     let probe = probes.remove(0);
-    let (partners, mut members) = open_replicas(alloc, probes)?;
+    let (partners, mut members) = open_replicas(alloc, probes, rounds)?;
     let desk = Desk {
         probe,
         unanswered: 0,
@@ -81,7 +80,7 @@ fn open_members(
         desk,
         partners,
         pace,
-        rounds: ROUNDS,
+        rounds,
     };
     members.insert(0, Member::Dispatcher(dispatcher))?;
     Ok(members)
@@ -91,17 +90,18 @@ fn open_members(
 fn open_replicas(
     alloc: Global,
     probes: Vec<LiveProbe>,
+    rounds: u16,
 ) -> Result<(Vec<Partner>, Vec<Member>), AllocError>
     requires fresh { All (λ probe. LiveFor probe []) probes.items }
     ensures partners { IfOk result (λ opened. length opened.0.items ≡ length probes.items) }
     ensures probes { IfOk result (λ opened. map probe_of opened.1.items ≡ probes.items) }
-    ensures replicas { IfOk result (λ opened. All IsReplica opened.1.items) }
+    ensures replicas { IfOk result (λ opened. All (IsReplica rounds) opened.1.items) }
     ensures fresh { IfOk result (λ opened. All IsNew opened.1.items) }
 {
     let mut partners = Vec::with_capacity(alloc, probes.len())?;
     let mut members = Vec::with_capacity(alloc, probes.len())?;
     for probe in probes {
-        let (partner, replica) = open_replica(alloc, probe)?;
+        let (partner, replica) = open_replica(alloc, probe, rounds)?;
         partners.push(partner)?;
         members.push(Member::Replica(replica))?;
     }
@@ -109,8 +109,13 @@ fn open_replicas(
 }
 
 /// A replica with this probe, and the dispatcher's ends of its channels: each has room for one message.
-fn open_replica(alloc: Global, probe: LiveProbe) -> Result<(Partner, Replica), AllocError>
-    ensures { IfOk result (λ opened. opened.1.probe ≡ probe) }
+fn open_replica(
+    alloc: Global,
+    probe: LiveProbe,
+    rounds: u16,
+) -> Result<(Partner, Replica), AllocError>
+    ensures probe { IfOk result (λ opened. opened.1.probe ≡ probe) }
+    ensures rounds { IfOk result (λ opened. opened.1.rounds ≡ rounds) }
 {
     let (to_replica, jobs) = bounded(alloc, 1)?;
     let (answers, from_replica) = bounded(alloc, 1)?;
@@ -125,6 +130,7 @@ fn open_replica(alloc: Global, probe: LiveProbe) -> Result<(Partner, Replica), A
             probe,
             jobs,
             answers,
+            rounds,
         },
     ))
 }

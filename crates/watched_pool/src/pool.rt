@@ -10,7 +10,7 @@ ghost use Rattle.watched_pool.specs.Pools.{AreEndsOfPool, IsPoolReport};
 use crate::dispatcher::{Pace, REPLICAS};
 use crate::job::Numbers;
 use crate::member::{Member, MemberEnd, Share, Stop};
-use crate::opening::{ROUNDS, open_parts, pool_plan};
+use crate::opening::{open_parts, pool_plan};
 use crate::pool_fault::PoolFault;
 use std::alloc::{AllocError, Global};
 use std::sync::atomic::{AtomicBool, Ordering};
@@ -31,23 +31,26 @@ pub struct PoolReport {
     /// The share of the work of each process.
     pub shares: Vec<Share>,
     pub outcome: Outcome,
-    /// The totals of the book, as they were read beside the run.
+    /// The totals of the book.
     pub totals: Tally,
+    /// The totals of the book, as they were last read beside the run.
+    pub seen: Tally,
 }
 
-/// Runs the pool and its watch, each part in a thread of its own, and settles what they left.
+/// Runs so many rounds of the pool and its watch, each part in a thread of its own, and settles what they left.
 pub fn run_pool<R: Threads + Wait + Clock + Sync>(
     rt: &R,
     alloc: Global,
     pace: Pace,
+    rounds: u16,
 ) -> Result<PoolReport, PoolFault>
-    ensures { IfOk result (λ told. IsPoolReport 3 pace told.outcome.report) }
+    ensures { IfOk result (IsPoolReport 3 rounds pace) }
 {
     let plan = pool_plan(alloc)?;
     if plan.check().is_err() {
         return Err(PoolFault::Plan);
     }
-    run_planned(rt, alloc, &plan, pace)
+    run_planned(rt, alloc, &plan, pace, rounds)
 }
 
 /// Runs the pool under this plan.
@@ -56,16 +59,17 @@ fn run_planned<R: Threads + Wait + Clock + Sync>(
     alloc: Global,
     plan: &Plan,
     pace: Pace,
+    rounds: u16,
 ) -> Result<PoolReport, PoolFault>
     requires { IsCheckedPlan plan.now }
     ensures { IfOk result (λ told. (replicas : ℕ) → plan.now.n ≡ replicas + 1
-        → IsPoolReport replicas pace told.outcome.report) }
+        → IsPoolReport replicas rounds pace told) }
 {
-    let parts = open_parts(alloc, plan, pace)?;
-    let numbers = Numbers::new(alloc, ROUNDS * REPLICAS)?;
+    let parts = open_parts(alloc, plan, pace, rounds)?;
+    let numbers = Numbers::new(alloc, u32::from(rounds) * REPLICAS)?;
     let book = Mutex::new(Book::new(plan.n));
-    let (ends, totals) = run_and_read(rt, alloc, parts, &numbers, &book)?;
-    conclude(alloc, ends, book.into_inner(), totals)
+    let (ends, seen) = run_and_read(rt, alloc, parts, &numbers, &book)?;
+    conclude(alloc, ends, book.into_inner(), seen)
 }
 
 /// Runs the parts, and beside them a reader of the totals.
@@ -80,7 +84,7 @@ fn run_and_read<R: Threads + Wait + Clock + Sync>(
     ensures { IfOk result (λ run. HaveEnded IsEndOfMember parts run.0) }
 {
     let ended = AtomicBool::new(false);
-    let (totals, left) = join(
+    let (seen, left) = join(
         rt,
         || last_totals(rt, book, &ended),
         || -> Result<Ends<MemberEnd>, StartFault>
@@ -93,7 +97,7 @@ fn run_and_read<R: Threads + Wait + Clock + Sync>(
         },
     );
     match left {
-        Ok(ends) => Ok((ends, totals)),
+        Ok(ends) => Ok((ends, seen)),
         Err(fault) => Err(fault),
     }
 }
@@ -116,11 +120,11 @@ fn conclude(
     alloc: Global,
     ends: Ends<MemberEnd>,
     book: Book,
-    totals: Tally,
+    seen: Tally,
 ) -> Result<PoolReport, PoolFault>
-    requires { (plan : Plan) × (pace : Pace) × AreEndsOfPool plan pace ends }
-    ensures { IfOk result (λ told. (plan : Plan) (pace : Pace) (replicas : ℕ) → AreEndsOfPool plan pace ends
-        → plan.n ≡ replicas + 1 → IsPoolReport replicas pace told.outcome.report) }
+    requires { (plan : Plan) × (pace : Pace) × (rounds : ℕ) × AreEndsOfPool plan pace rounds ends }
+    ensures { IfOk result (λ told. (plan : Plan) (pace : Pace) (rounds replicas : ℕ)
+        → AreEndsOfPool plan pace rounds ends → plan.n ≡ replicas + 1 → IsPoolReport replicas rounds pace told) }
 {
     let Ends {
         workers,
@@ -131,6 +135,7 @@ fn conclude(
         return Err(fault);
     }
     let (probes, shares) = take_apart(alloc, workers)?;
+    let totals = book.totals();
     let settled = settle(probes, relays, checker, book)?;
     Ok(PoolReport {
         shares,
@@ -139,6 +144,7 @@ fn conclude(
             tallies: settled.tallies,
         },
         totals,
+        seen,
     })
 }
 

@@ -11,6 +11,11 @@ pub(crate) fn pool_text(alloc: Global, run: &PoolReport) -> Result<String, Alloc
     push_shares(&mut text, run)?;
     let (emitted, taken) = (run.totals.emitted, run.totals.taken);
     writeln!(text, "the book has {emitted} emitted, {taken} taken")?;
+    let (emitted, taken) = (run.seen.emitted, run.seen.taken);
+    writeln!(
+        text,
+        "read beside the run: {emitted} emitted, {taken} taken"
+    )?;
     push_report(&mut text, &run.outcome)?;
     match &run.outcome.report {
         Report::Found(cut) => push_moment(&mut text, cut)?,

@@ -10,6 +10,9 @@ use std::thread::Threads;
 use std::time::Clock;
 use wcp_model::Report;
 
+/// How many rounds there are.
+const ROUNDS: u16 = 2;
+
 /// The program: it runs the pool, with the word `safe` in turn, and prints what came of it. A fault is one line on
 /// standard error. The answer is the exit status: 0 where the replicas could all have been at work in one moment, 1
 /// where they couldn't, and 2 after a fault.
@@ -29,7 +32,7 @@ fn run_and_print<R: Threads + Wait + Clock + Env + Print + AllocGlobal + Sync>(
     rt: &R,
 ) -> Result<u8, PoolFault> {
     let words = words(rt)?;
-    let run = run_pool(rt, rt.alloc(), pace_of(&words)?)?;
+    let run = run_pool(rt, rt.alloc(), pace_of(&words)?, ROUNDS)?;
     let text = pool_text(rt.alloc(), &run)?;
     if rt.print(text.as_str()).is_err() {
         return Err(PoolFault::Write);

@@ -1,8 +1,8 @@
-ghost use Rattle.std.specs.Prelude.{◌≡◌, ◌++◌, ◌∷◌, [], OnOk, IfOk, List};
-ghost use Rattle.wcp_model.specs.ProbeLog.{Call};
+ghost use Rattle.std.specs.Prelude.{◌≡◌, [], OnOk, IfOk};
 ghost use Rattle.wcp_tree.specs.LiveProbe.{IsSameLive, LiveFor};
 ghost use Rattle.watched_pool.specs.Logs.{AnswersJob, IsAnswering};
-ghost use Rattle.watched_pool.specs.Members.{IsEndOfReplica};
+ghost use Rattle.watched_pool.specs.Members.{IsEndOfMember};
+ghost use Rattle.watched_pool.specs.declared.member.Member.TheVariants as member;
 
 use crate::job::{Job, JobSum, Numbers};
 use crate::member::{MemberEnd, Share, Stop};
@@ -14,26 +14,28 @@ use wcp_tree::LiveProbe;
 /// The process that gives out the jobs.
 const DISPATCHER: u32 = 0;
 
-/// A replica: it takes its jobs, one after another, and answers each. Its condition is that it is at work.
+/// A replica: it takes a job in each round, and answers it. Its condition is that it is at work.
 #[derive(Drop)]
 pub struct Replica {
     pub(crate) probe: LiveProbe,
     pub(crate) jobs: Receiver<Stamped<Job>>,
     pub(crate) answers: Sender<Stamped<JobSum>>,
+    pub(crate) rounds: u16,
 }
 
 impl Replica {
-    /// Answers its jobs until there are no more, and closes its probe.
+    /// Answers its jobs, and closes its probe.
     pub(crate) fn run<R: Wait>(self, rt: &R, numbers: &Numbers) -> MemberEnd
         requires { LiveFor self.probe [] }
-        ensures { IsEndOfReplica self.probe result }
+        ensures { IsEndOfMember (member.Replica self) result }
     {
         let Replica {
             mut probe,
             jobs,
             answers,
+            rounds,
         } = self;
-        let done = answer_all(rt, &mut probe, &jobs, &answers, numbers);
+        let done = answer_all(rt, &mut probe, &jobs, &answers, numbers, rounds);
         drop(jobs);
         drop(answers);
         MemberEnd {
@@ -43,20 +45,25 @@ impl Replica {
     }
 }
 
-/// Answers jobs until the dispatcher has let go its end of their channel.
+/// Answers a job in each round.
 fn answer_all<R: Wait>(
     rt: &R,
     probe: &mut LiveProbe,
     jobs: &Receiver<Stamped<Job>>,
     answers: &Sender<Stamped<JobSum>>,
     numbers: &Numbers,
+    rounds: u16,
 ) -> Result<Share, Stop>
-    requires { IsAnswering probe.old }
-    ensures answering { OnOk result (IsAnswering probe.new) }
+    requires { IsAnswering 0 probe.old }
+    ensures answering { OnOk result (IsAnswering rounds probe.new) }
+    ensures jobs { IfOk result (λ share. share.jobs ≡ rounds) }
     ensures same { IsSameLive probe.old probe.new }
 {
     let mut share = Share::nothing();
-    for stamped in jobs.iter(rt) {
+    for _ in 0..rounds {
+        let Ok(stamped) = jobs.recv(rt) else {
+            return Err(Stop::Gone);
+        };
         let answer = answer_one(rt, probe, answers, numbers, stamped)?;
         share = share.with(answer);
     }

@@ -10,6 +10,7 @@ returns-clause-pool c =
       dispatcher = _;
       replicas = opened.members.items;
       has_pace = refl;
+      has_rounds = refl;
       partners = opened.ensures.partners ∙ sym (ap length opened.ensures.probes) ∙ length-map opened.members.items probe_of;
       all = c.in_ok-insert.ensures.items;
       rest = opened.ensures.replicas;

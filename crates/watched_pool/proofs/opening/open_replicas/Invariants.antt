@@ -10,7 +10,7 @@ invariant-loop-probe l =
     record {
       partners : length l.partners.items ≡ length l.yielded;
       members : map probe_of l.members.items ≡ l.yielded;
-      replicas : All IsReplica l.members.items;
+      replicas : All (IsReplica l.rounds) l.members.items;
       fresh : All IsNew l.members.items;
       rest : All (λ probe. LiveFor probe []) (into_iter_items l.probe-iterator);
     }

@@ -3,9 +3,10 @@ use Rattle.watched_pool.proofs.pool.conclude.Goals as goal
 
 pub settle-requires : goal.settle-requires
 settle-requires c =
-    let (plan, pace, pool) = c.requires in come plan pace c.args.ends pool c.in_ok-probes.probes.items c.in_ok-probes.ensures.probes
+    let (plan, pace, rounds, pool) = c.requires in
+    come plan pace rounds c.args.ends pool c.in_ok-probes.probes.items c.in_ok-probes.ensures.probes
 
 pub returns : goal.returns
-returns c = λ plan pace replicas pool of_replicas.
-    is_pool_report plan pace c.args.ends pool c.in_ok-probes.probes.items c.in_ok-probes.shares.items c.in_ok-probes.ensures.probes c.in_ok-probes.ensures.shares
-    c.args.book c.in_ok-settled.settled c.in_ok-settled.ensures.settled replicas of_replicas
+returns c = λ plan pace rounds replicas pool of_replicas.
+    is_pool_report plan pace rounds c.args.ends pool c.in_ok-probes.probes.items _ c.in_ok-probes.ensures.probes c.in_ok-probes.ensures.shares
+    c.args.book c.totals-totals.ensures c.in_ok-settled.ensures.settled replicas of_replicas

@@ -17,11 +17,12 @@ pub conclude-requires : goal.conclude-requires
 conclude-requires g c = (
   c.args.plan.now,
   c.args.pace,
+  c.args.rounds,
   record { checked = c.requires; parts = c.in_ok-parts.parts; are = c.in_ok-parts.ensures; ended = c.in_ok-ends.ensures },
 )
 
 pub returns : goal.returns
 returns g c =
     ok_follows c.conclude.result _ _
-    (λ told is replicas of_replicas. is c.args.plan.now c.args.pace replicas (record { checked = c.requires; parts = c.in_ok-parts.parts; are = c.in_ok-parts.ensures; ended = c.in_ok-ends.ensures }) of_replicas)
+    (λ told is replicas of_replicas. is c.args.plan.now c.args.pace c.args.rounds replicas (record { checked = c.requires; parts = c.in_ok-parts.parts; are = c.in_ok-parts.ensures; ended = c.in_ok-ends.ensures }) of_replicas)
     c.conclude.ensures

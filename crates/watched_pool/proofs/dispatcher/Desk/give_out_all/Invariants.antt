@@ -5,4 +5,9 @@ use Rattle.watched_pool.proofs.dispatcher.Desk.give_out_all.Given as goal
 
 abbrev pub invariant-loop-partner : goal.invariant-loop-partner
 invariant-loop-partner g l =
-    record { at_work : IsDispatching (length l.partners) l.self; unanswered : l.self.unanswered ≡ l.partner-index; same : IsSameLive l.initial.self.probe l.self.probe }
+    record {
+      at_work : IsDispatching (length l.partners) l.self;
+      unanswered : l.self.unanswered ≡ l.partner-index;
+      answered : l.self.answered ≡ l.initial.self.answered;
+      same : IsSameLive l.initial.self.probe l.self.probe;
+    }

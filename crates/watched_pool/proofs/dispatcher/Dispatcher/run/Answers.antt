@@ -1,12 +1,6 @@
-use Rattle.std.proofs.Common.{[], length, sym, subst}
-use Rattle.watched_pool.specs.Logs.{IsDispatcherLog, NothingYet, most_unanswered}
+use Rattle.std.proofs.Common.{[], length, subst, sym}
+use Rattle.watched_pool.specs.Logs.{IsDispatcherLog, NothingYet, most_unanswered, processes_of}
 use Rattle.watched_pool.proofs.dispatcher.Dispatcher.run.Goals as goal
 
 pub run_rounds-done-requires-clause-at_work : goal.run_rounds-done-requires-clause-at_work
-run_rounds-done-requires-clause-at_work g c =
-    let most = most_unanswered c.args.self.pace (length c.deref.result.now) in
-    record {
-      log = [];
-      is_log = subst (λ unanswered. IsDispatcherLog most unanswered []) (sym c.requires.none) NothingYet;
-      stands = c.requires.probe;
-    }
+run_rounds-done-requires-clause-at_work g c = record { log = []; is_log = rw (c.requires.no_answer, c.requires.none) NothingYet; stands = c.requires.probe }

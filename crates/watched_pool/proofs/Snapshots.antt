@@ -1,0 +1,22 @@
+-- The snapshots that a replica emits.
+use Rattle.std.proofs.Common.{◌≡◌, ℕ, ◌+◌, not, List, [], ◌∷◌, ◌++◌, if◌then◌else◌, refl, ap, ◌∙◌, arith}
+use Rattle.std.proofs.lemmas.List.Sums.{fold-append, sum_by-append}
+use Rattle.wcp_clock.specs.declared.note.Note.TheVariants.{Close}
+use Rattle.wcp_clock.specs.Notes.{is_close}
+use Rattle.wcp_model.specs.ProbeLog.{Call, Closed, ProbeSetup, after_call, state_of_log}
+use Rattle.wcp_tree.specs.LiveProbe.{snapshots_in}
+use Rattle.watched_pool.specs.Logs.{IsReplicaLog, NoJob, OneMore, calls_for}
+
+-- a replica's log has a snapshot for each of its jobs
+jobs_emitted : (made : ProbeSetup) (n jobs : ℕ) (log : List Call) → IsReplicaLog n jobs log → snapshots_in (state_of_log made log).notes ≡ jobs
+jobs_emitted made n _ _ NoJob = refl
+jobs_emitted made n _ _ (OneMore {jobs} {log} stamp whole is) =
+    let more = fold-append (after_call made.process) (state_of_log made []) log (calls_for stamp) in
+    ap (λ s. snapshots_in s.notes) more ∙ sum_by-append _ (state_of_log made log).notes _ ∙ ap (λ k. k + 1) (jobs_emitted made n jobs log is)
+
+-- and so it has as it closes
+pub replica_snapshots : (made : ProbeSetup) (n jobs : ℕ) (log : List Call) → IsReplicaLog n jobs log → snapshots_in (state_of_log made (log ++ Closed ∷ [])).notes ≡ jobs
+replica_snapshots made n jobs log is =
+    let last = fold-append (after_call made.process) (state_of_log made []) log (Closed ∷ []) in
+    let before = sum_by-append (λ note. if not (is_close note) then 1 else 0) (state_of_log made log).notes (Close (state_of_log made log).snapshots ∷ []) in
+    ap (λ s. snapshots_in s.notes) last ∙ before ∙ omega (arith, jobs_emitted made n jobs log is)
