@@ -99,6 +99,17 @@ impl Book {
         }
     }
 
+    /// The same shares, in a book of their own.
+    pub fn copied(&self) -> Book
+        ensures { result ≡ self.now }
+    {
+        Book {
+            processes: self.processes,
+            shares: self.shares,
+            totals: self.totals,
+        }
+    }
+
     /// The sums of all shares that were posted.
     pub fn totals(&self) -> Tally
         ensures { AreTotals self.now result }

@@ -1,0 +1,4 @@
+mod Ends
+pub mod LentProbes
+mod Ready
+mod Rising

@@ -1,0 +1,28 @@
+-- The seats of a watch may run: their probes are fresh.
+use Rattle.std.proofs.Common.{ℕ, Some, List, [], ◌≡◌, ◌∙◌, length, map, get_or, slice_get, All, sym, ap, arith}
+use Rattle.std.proofs.lemmas.List.{length-map}
+use Rattle.std.proofs.lemmas.Option.{slice_get-get_or}
+use Rattle.wcp_model.specs.declared.plan.Plan.{Plan}
+use Rattle.wcp_probe.specs.Core.{Core}
+use Rattle.wcp_tree.proofs.Entries.{mapped_at}
+use Rattle.wcp_tree.proofs.LiveProbes.{fresh_stands}
+use Rattle.wcp_tree.specs.LiveProbe.{LiveSide}
+use Rattle.wcp_run.specs.RunParts.{AreReady}
+use Rattle.wcp_run.specs.declared.running.Parts.{Parts}
+use Rattle.wcp_worker.proofs.FreshProbes.{probes_fresh}
+use Rattle.wullaphi.specs.Seats.{ArePartsOf, IsNewSeat}
+use Rattle.wullaphi.specs.declared.seat.Seat.{Seat}
+
+module _ {P : Type 0} {plan : Plan} {processes : List P} {parts : Parts (Seat P)} (are : ArePartsOf plan processes parts) where
+  seat_ready : (k : ℕ) (seat : Seat P) → slice_get parts.workers.items k ≡ Some seat → IsNewSeat seat
+  seat_ready k seat at =
+      let there : slice_get are.watch.probes.items k ≡ Some seat.probe =
+      ap (λ (probes : List LiveSide). slice_get probes k) (sym are.probes) ∙ mapped_at (λ (s : Seat P). s.probe) parts.workers.items k seat at in
+      let fresh = (probes_fresh plan are.number are.watch are.wired).each k seat.probe there in
+      record { fresh = fresh_stands _ k plan.n seat.probe fresh.0 fresh.1; put = ap (λ (core : Core). core.pending) fresh.0 }
+
+  pub all_ready : AreReady IsNewSeat parts
+  all_ready = record {
+    workers = λ k d within. seat_ready k (get_or parts.workers.items k d) (slice_get-get_or parts.workers.items k d within);
+    checking = are.fresh;
+  }

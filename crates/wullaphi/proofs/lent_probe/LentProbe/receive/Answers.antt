@@ -1,0 +1,8 @@
+use Rattle.wcp_model.specs.ProbeLog.{Received}
+use Rattle.wcp_probe.specs.Seal.{seal_of}
+use Rattle.wullaphi.proofs.LentProbes.{called}
+use Rattle.wullaphi.proofs.lent_probe.LentProbe.receive.Goals as goal
+
+pub invariant_of-self : goal.invariant_of-self
+invariant_of-self g c =
+    called c.self.invariant (Received (seal_of c.args.message).clock) _ c.receive.result c.receive.ensures.accepted c.receive.ensures.same c.receive.ensures.kept c.receive.ensures.refused

@@ -1,0 +1,6 @@
+use Rattle.wcp_model.specs.ProbeLog.{Sent}
+use Rattle.wullaphi.proofs.LentProbes.{called}
+use Rattle.wullaphi.proofs.lent_probe.LentProbe.stamp.Goals as goal
+
+pub invariant_of-self : goal.invariant_of-self
+invariant_of-self g c = called c.self.invariant Sent _ c.stamp.result c.stamp.ensures.accepted c.stamp.ensures.same c.stamp.ensures.kept c.stamp.ensures.refused

@@ -1,0 +1,34 @@
+use Rattle.std.proofs.Common.{refl, sym, ap, ◌∙◌, length}
+use Rattle.wcp_model.proofs.CheckedPlans.{few_processes, some_process}
+use Rattle.wullaphi.proofs.Ready.{all_ready}
+use Rattle.wullaphi.proofs.watching.open_parts.Goals as goal
+
+pub seat_all-requires : goal.seat_all-requires
+seat_all-requires g c = c.requires.count ∙ sym c.in_ok-probes.ensures.rings.probes_count
+
+pub new-requires-clause-some : goal.new-requires-clause-some
+new-requires-clause-some g c = some_process c.args.plan.now c.requires.checked
+
+pub new-requires-clause-few : goal.new-requires-clause-few
+new-requires-clause-few g c = few_processes c.args.plan.now c.requires.checked
+
+pub returns-clause-parts : goal.returns-clause-parts
+returns-clause-parts g c =
+    let wired = c.in_ok-probes.ensures in
+    record {
+      number = c.args.number;
+      watch = c.in_ok-probes.field-0;
+      wired = wired;
+      probes = c.in_ok-workers.ensures.probes;
+      processes_are = c.in_ok-workers.ensures.processes;
+      relays = refl;
+      inbox = refl;
+      fresh = record {
+        members = λ p. rw c.in_ok-checker.ensures.processes (wired.members p);
+        none_taken = wired.none_taken;
+        stands = c.in_ok-checker.ensures.empty;
+      };
+    }
+
+pub returns-clause-ready : goal.returns-clause-ready
+returns-clause-ready g c = all_ready (returns-clause-parts g c)

@@ -1,0 +1,4 @@
+pub mod Lent
+pub mod Refused
+pub mod Seats
+pub mod Watched

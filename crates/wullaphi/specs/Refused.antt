@@ -1,0 +1,18 @@
+-- Why a watch tells nothing.
+use Rattle.wcp_run.specs.declared.running.StartFault.{StartFault}
+use Rattle.wcp_run.specs.declared.running.StartFault.TheVariants as start
+use Rattle.wullaphi.specs.declared.watch_fault.WatchFault.{WatchFault}
+use Rattle.wullaphi.specs.declared.watch_fault.WatchFault.TheVariants as fault
+
+-- What a run whose parts didn't run is refused for.
+abbrev pub of_start : StartFault → WatchFault
+of_start start.Memory = fault.Memory
+of_start start.Spawn = fault.Spawn
+
+-- It isn't a fault of the plan, or of the number of processes.
+abbrev pub IsOfRun : WatchFault → Type 0
+IsOfRun (fault.Plan first) = ⊥
+IsOfRun fault.Count = ⊥
+IsOfRun fault.Memory = Unit {0}
+IsOfRun fault.Spawn = Unit {0}
+IsOfRun (fault.Settle refused) = Unit {0}

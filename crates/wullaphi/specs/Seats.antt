@@ -1,0 +1,34 @@
+-- Processes with their probes, before they run and as they have run.
+use Rattle.std.specs.Prelude.{◌≡◌, ℕ, None, List, [], map}
+use Rattle.wcp_model.specs.declared.plan.Plan.{Plan}
+use Rattle.wcp_probe.specs.Core.{setup_of}
+use Rattle.wcp_tree.specs.LiveProbe.{IsEndOfProbe, LiveFor, LiveSide}
+use Rattle.wcp_tree.specs.Watches.{IsWired}
+use Rattle.wcp_tree.specs.declared.watch.Watch.{Watch}
+use Rattle.wcp_run.specs.CheckerEnds.{IsFreshFor}
+use Rattle.wcp_run.specs.declared.running.Parts.{Parts}
+use Rattle.wullaphi.specs.Lent.{HasRun}
+use Rattle.wullaphi.specs.declared.seat.Seat.{Seat}
+use Rattle.wullaphi.specs.declared.seat.SeatEnd.{SeatEnd}
+
+-- The probe of a seat has made no call.
+pub record IsNewSeat {P : Type 0} (seat : Seat P) : Type 0 where
+  pub fresh : LiveFor seat.probe []
+  pub put : seat.probe.core.pending ≡ None
+
+-- What is left of a process that has run: the end of its probe, and its answer.
+pub record IsEndOfSeat {P A : Type 0} (Leaves : P → LiveSide → A → Type 0) (seat : Seat P) (end : SeatEnd A) : Type 0 where
+  pub closed : IsEndOfProbe seat.probe end.probe
+  pub ran : HasRun Leaves (setup_of seat.probe.core) seat.process end.answer end.probe.link.put
+
+-- The parts of a watch that was wired as a plan says: a seat for each process, which has its probe, the relays, and a
+-- fresh checker.
+pub record ArePartsOf {P : Type 0} (plan : Plan) (processes : List P) (parts : Parts (Seat P)) : Type 0 where
+  pub number : ℕ
+  pub watch : Watch
+  pub wired : IsWired plan number watch
+  pub probes : map (λ seat. seat.probe) parts.workers.items ≡ watch.probes.items
+  pub processes_are : map (λ seat. seat.process) parts.workers.items ≡ processes
+  pub relays : parts.relays.items ≡ watch.relays.items
+  pub inbox : parts.checking.inbox ≡ watch.inbox
+  pub fresh : IsFreshFor parts.checking.inbox parts.checking.checker

@@ -1,0 +1,30 @@
+-- What a watch of processes tells.
+use Rattle.std.specs.Prelude.{◌≡◌, ℕ, ◌<◌, Some, List, length, slice_get}
+use Rattle.wcp_clock.specs.declared.note.Item.{Item}
+use Rattle.wcp_clock.specs.declared.note.Note.{Note}
+use Rattle.wcp_model.specs.ProbeLog.{setup}
+use Rattle.wcp_model.specs.Report.{IsDrained, IsReportByClocks, notes_taken}
+use Rattle.wcp_model.specs.declared.outcome.Tally.{Tally}
+use Rattle.wcp_tree.specs.LiveProbe.{LiveSide, snapshots_in}
+use Rattle.wullaphi.specs.Lent.{HasRun}
+use Rattle.wullaphi.specs.declared.watched.Watched.{Watched}
+
+-- The tally of a process all of whose notes were taken: the number of its snapshots, twice.
+abbrev pub tally_of : List Note → Tally
+tally_of notes = record { emitted = snapshots_in notes; taken = snapshots_in notes }
+
+-- A watch of these n processes tells this: each has run with its probe and gave the answer at its place; what the
+-- checker took of it are all notes of its probe, each once and in order; and the report is the exact one of all that was
+-- taken.
+pub record IsWatched {P A : Type 0} (Leaves : P → LiveSide → A → Type 0) (n : ℕ) (processes : List P)
+    (watched : Watched A) : Type 0 where
+  pub taken : List Item
+  pub processes_are : length processes ≡ n
+  pub answers : length watched.answers.items ≡ n
+  pub ran : (p : ℕ) (process : P) (answer : A)
+      → slice_get processes p ≡ Some process → slice_get watched.answers.items p ≡ Some answer
+      → HasRun Leaves (setup n p) process answer (notes_taken p taken)
+  pub drained : IsDrained n taken
+  pub exact : IsReportByClocks n taken watched.outcome.report
+  pub all_tallies : length watched.outcome.tallies ≡ n
+  pub tallies : (p : ℕ) → p < n → slice_get watched.outcome.tallies p ≡ Some (tally_of (notes_taken p taken))

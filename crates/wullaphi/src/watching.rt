@@ -1,0 +1,129 @@
+//! A whole watch: opened, run, closed, joined and settled.
+ghost use Rattle.std.specs.Prelude.{◌≡◌, ◌≢◌, ◌<◌, ◌≤◌, ◌↔◌, length, Err, IfErr, IfOk};
+ghost use Rattle.wcp_clock.specs.Limits.{most_processes};
+ghost use Rattle.wcp_model.specs.PlanFault.{IsCheckedPlan, IsFirstFault};
+ghost use Rattle.wcp_model.specs.declared.plan.PlanFault.{PlanFault};
+ghost use Rattle.wullaphi.specs.Refused.{IsOfRun};
+ghost use Rattle.wcp_run.specs.RunParts.{AreReady};
+ghost use Rattle.wullaphi.specs.Seats.{ArePartsOf, IsNewSeat};
+ghost use Rattle.wullaphi.specs.Watched.{IsWatched};
+
+use crate::process::Process;
+use crate::seat::{Seat, seat_all, take_apart};
+use crate::watch_fault::WatchFault;
+use crate::watched::Watched;
+use std::alloc::{AllocError, Global};
+use std::sync::{Mutex, Wait};
+use std::thread::Threads;
+use wcp_book::Book;
+use wcp_model::{Outcome, Plan};
+use wcp_queue::Checker;
+use wcp_run::{Checking, Ends, Parts, run_parts};
+use wcp_tree::Watch;
+
+/// Watches these processes, of which there are as many as the plan says: each runs in a thread of its own with the probe
+/// of its number, beside a thread for each relay and one for the checker. All are started or none, and all have ended
+/// when this returns. The number of the watch tells it from others: a stamp of another one is refused.
+///
+/// The book is begun anew. While the watch runs any thread may read the totals in it.
+pub fn watch_processes<
+    S: Sync,
+    A: Send + Drop + 'static,
+    P: Process<Shared = S, Answer = A> + Send + Drop + 'static,
+    R: Threads + Wait + Sync,
+>(
+    rt: &R,
+    alloc: Global,
+    plan: &Plan,
+    number: u64,
+    processes: Vec<P>,
+    shared: &S,
+    book: &Mutex<Book>,
+) -> Result<Watched<A>, WatchFault>
+    ensures watched { IfOk result (IsWatched P.leaves plan.now.n processes.items) }
+    ensures plan { (first : PlanFault) → (result ≡ Err (WatchFault.Plan first)) ↔ IsFirstFault plan.now first }
+    ensures count { (result ≡ Err WatchFault.Count)
+        ↔ (IsCheckedPlan plan.now × (length processes.items ≢ plan.now.n)) }
+{
+    if let Err(fault) = plan.check() {
+        return Err(WatchFault::Plan(fault));
+    }
+    if processes.len() != plan.n as usize {
+        return Err(WatchFault::Count);
+    }
+    watch_planned(rt, alloc, plan, number, processes, shared, book)
+}
+
+/// Watches as many processes as this plan says.
+fn watch_planned<
+    S: Sync,
+    A: Send + Drop + 'static,
+    P: Process<Shared = S, Answer = A> + Send + Drop + 'static,
+    R: Threads + Wait + Sync,
+>(
+    rt: &R,
+    alloc: Global,
+    plan: &Plan,
+    number: u64,
+    processes: Vec<P>,
+    shared: &S,
+    book: &Mutex<Book>,
+) -> Result<Watched<A>, WatchFault>
+    requires checked { IsCheckedPlan plan.now }
+    requires count { length processes.items ≡ plan.now.n }
+    ensures watched { IfOk result (IsWatched P.leaves plan.now.n processes.items) }
+    ensures fault { IfErr result IsOfRun }
+{
+    let parts = open_parts(alloc, plan, number, processes)?;
+    begin_anew(rt, book, plan.n);
+    let Ends {
+        workers,
+        relays,
+        checker,
+    } = run_parts(rt, alloc, parts, shared, book)?;
+    let (probes, answers) = take_apart(alloc, workers)?;
+    let posted = book.lock(rt).copied();
+    let settled = settle(probes, relays, checker, posted)?;
+    Ok(Watched {
+        outcome: Outcome {
+            report: settled.report,
+            tallies: settled.tallies,
+        },
+        answers,
+    })
+}
+
+/// Opens the tree of the plan, a seat for each process, and the checker. `Err` where memory runs out.
+fn open_parts<P: Drop>(
+    alloc: Global,
+    plan: &Plan,
+    number: u64,
+    processes: Vec<P>,
+) -> Result<Parts<Seat<P>>, AllocError>
+    requires checked { IsCheckedPlan plan.now }
+    requires count { length processes.items ≡ plan.now.n }
+    ensures parts { IfOk result (ArePartsOf plan.now processes.items) }
+    ensures ready { IfOk result (AreReady IsNewSeat) }
+{
+    let Watch {
+        probes,
+        relays,
+        inbox,
+    } = watch(alloc, plan, number)?;
+    let workers = seat_all(alloc, probes, processes)?;
+    let checker = Checker::new(alloc, plan.n)?;
+    Ok(Parts {
+        workers,
+        relays,
+        checking: Checking { inbox, checker },
+    })
+}
+
+/// Begins this book anew, for so many processes.
+fn begin_anew<R: Wait>(rt: &R, book: &Mutex<Book>, n: u32)
+    requires some { 0 < n }
+    requires within { n ≤ most_processes }
+{
+    let mut begun = book.lock(rt);
+    *begun = Book::new(n);
+}
