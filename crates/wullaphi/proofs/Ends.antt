@@ -6,7 +6,7 @@ use Rattle.wcp_clock.specs.declared.note.Note.{Note}
 use Rattle.wcp_model.proofs.SamePlace.{element_within}
 use Rattle.wcp_model.specs.PlanFault.{IsCheckedPlan}
 use Rattle.wcp_model.specs.ProbeLog.{Call, Closed, ProbeSetup, setup, state_of_log}
-use Rattle.wcp_model.specs.Report.{ClocksRise, IsDrained, IsReportByClocks, notes_taken}
+use Rattle.wcp_model.specs.Report.{IsDrained, IsReportByClocks, notes_taken}
 use Rattle.wcp_model.specs.declared.outcome.Tally.{Tally}
 use Rattle.wcp_model.specs.declared.plan.Plan.{Plan}
 use Rattle.wcp_probe.specs.Core.{setup_of}
@@ -19,7 +19,6 @@ use Rattle.wcp_run.specs.declared.running.Ends.{Ends}
 use Rattle.wcp_run.specs.declared.running.Parts.{Parts}
 use Rattle.wcp_run.specs.declared.settled.Settled.{Settled}
 use Rattle.wullaphi.specs.Lent.{HasRun}
-use Rattle.wullaphi.proofs.Rising.{rising}
 use Rattle.wullaphi.specs.Seats.{ArePartsOf, IsEndOfSeat}
 use Rattle.wullaphi.specs.Watched.{IsWatched, tally_of}
 use Rattle.wullaphi.specs.declared.seat.Seat.{Seat}
@@ -111,13 +110,6 @@ module _ {P A : Type 0} (Leaves : P → LiveSide → A → Type 0) {plan : Plan}
       processes_count : length processes ≡ plan.n
       processes_count = sym (ap length are.processes_are) ∙ length-map parts.workers.items (λ (s : Seat P). s.process) ∙ sym ended.workers.count ∙ count
 
-      -- the clocks taken of each process rise
-      rise : ClocksRise plan.n ends.checker.receipt.taken
-      rise p below =
-          let (process, process_at) = element_within processes p (omega (arith, below, processes_count)) in
-          let (answer, answer_at) = element_within watched.answers.items p (omega (arith, below, answers_count)) in
-          rising below (ran p process answer process_at answer_at)
-
       tallies : (p : ℕ) → p < plan.n → slice_get watched.outcome.tallies p ≡ Some (tally_of (notes_taken p ends.checker.receipt.taken))
       tallies p below =
           let (end, at) = element_within ends.workers.items p (omega (arith, below, count)) in
@@ -140,7 +132,7 @@ module _ {P A : Type 0} (Leaves : P → LiveSide → A → Type 0) {plan : Plan}
         answers = answers_count;
         ran = ran;
         drained = subst (λ n. IsDrained n ends.checker.receipt.taken) n_is is.drained;
-        exact = rw report_is (subst (λ n. IsReportByClocks n ends.checker.receipt.taken settled.report) n_is (is.exact (subst (λ n. ClocksRise n ends.checker.receipt.taken) (sym n_is) rise)));
+        exact = rw report_is (subst (λ n. IsReportByClocks n ends.checker.receipt.taken settled.report) n_is is.exact);
         all_tallies = ap length tallies_are ∙ is.processes ∙ n_is;
         tallies = tallies;
       }

@@ -1,4 +1,3 @@
 mod Ends
 pub mod LentProbes
 mod Ready
-mod Rising

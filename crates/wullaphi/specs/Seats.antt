@@ -4,7 +4,7 @@ use Rattle.wcp_model.specs.declared.plan.Plan.{Plan}
 use Rattle.wcp_probe.specs.Core.{setup_of}
 use Rattle.wcp_tree.specs.LiveProbe.{IsEndOfProbe, LiveFor, LiveSide}
 use Rattle.wcp_tree.specs.Watches.{IsWired}
-use Rattle.wcp_tree.specs.declared.watch.Watch.{Watch}
+use Rattle.wcp_tree.specs.declared.parts.Watch.{Watch}
 use Rattle.wcp_run.specs.CheckerEnds.{IsFreshFor}
 use Rattle.wcp_run.specs.declared.running.Parts.{Parts}
 use Rattle.wullaphi.specs.Lent.{HasRun}

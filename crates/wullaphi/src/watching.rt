@@ -18,8 +18,8 @@ use std::thread::Threads;
 use wcp_book::Book;
 use wcp_model::{Outcome, Plan};
 use wcp_queue::Checker;
-use wcp_run::{Checking, Ends, Parts, run_parts};
-use wcp_tree::Watch;
+use wcp_run::{Checking, Ends, Parts, run_parts, settle};
+use wcp_tree::{Watch, watch};
 
 /// Watches these processes, of which there are as many as the plan says: each runs in a thread of its own with the probe
 /// of its number, beside a thread for each relay and one for the checker. All are started or none, and all have ended
