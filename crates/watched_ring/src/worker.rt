@@ -1,0 +1,64 @@
+use anyhow::{Result, anyhow, bail};
+use crossbeam_channel::{Receiver, Sender};
+use std::sync::Wait;
+use wullaphi::{LentProbe, Loan, Process, Stamped};
+
+/// What the workers pass: it goes on for so many hops.
+#[derive(Clone, Copy)]
+pub(crate) struct Token {
+    hops: u32,
+}
+
+/// A worker of the ring. Its condition is that it holds a token where we ask about it; else it is always true.
+#[derive(Drop)]
+pub(crate) struct Worker {
+    pub(crate) asked: bool,
+    /// How many tokens it lets in, and for how many hops.
+    pub(crate) lets_in: u32,
+    pub(crate) hops: u32,
+    /// How often it gets one from the worker before it.
+    pub(crate) turns: u32,
+    pub(crate) inbox: Receiver<Stamped<Token>>,
+    /// The worker behind it.
+    pub(crate) next: u32,
+    pub(crate) outbox: Sender<Stamped<Token>>,
+}
+
+impl Process for Worker {
+    type Shared = ();
+
+    type Answer = Result<()>;
+
+    fn run<L: Loan, R: Wait>(self, rt: &R, probe: &mut LentProbe<L>, _shared: &()) -> Result<()> {
+        for _ in 0..self.lets_in {
+            self.hold(rt, probe, self.hops)?;
+        }
+        for _ in 0..self.turns {
+            probe.observe(rt, !self.asked);
+            let message = self.inbox.recv(rt)?;
+            match probe.receive(message) {
+                Ok(token) => self.hold(rt, probe, token.hops)?,
+                Err((refusal, _)) => bail!("a token was refused: {refusal:?}"),
+            }
+        }
+        probe.observe(rt, !self.asked);
+        Ok(())
+    }
+}
+
+impl Worker {
+    /// Holds a token, and passes it on unless it has no hop left.
+    fn hold<L: Loan, R: Wait>(&self, rt: &R, probe: &mut LentProbe<L>, hops: u32) -> Result<()> {
+        probe.observe(rt, true);
+        if hops == 0 {
+            return Ok(());
+        }
+        match probe.stamp(self.next, Token { hops: hops - 1 }) {
+            Ok(message) => self
+                .outbox
+                .send(rt, message)
+                .map_err(|_| anyhow!("a worker is gone")),
+            Err((refusal, _)) => bail!("a token was refused: {refusal:?}"),
+        }
+    }
+}
