@@ -40,8 +40,8 @@ pub record IsEndOfSomeProbe (probes : List LiveSide) (end : ClosedSide) : Type 0
   pub is_probe : slice_get probes end.id ≡ Some probe
   pub one_ring : end.link.ring ≡ probe.link.ring
 
--- This is the end of one of these relays, by its number: where it met no fault it has that relay's receipts, and put what
--- it took.
+-- This is the end of one of these relays, by its number: where it met no fault it has that relay's receipts, and put
+-- what it took.
 pub record IsEndOfSomeRelay (relays : List Relay) (end : RelayEnd) : Type 0 where
   pub relay : Relay
   pub is_relay : slice_get relays (number_of end) ≡ Some relay
@@ -128,9 +128,9 @@ abbrev pub IsFirstSettleFault :
 IsFirstSettleFault probes relays checker book =
     IsFirstReason (λ fault. ¬ IsFreeOf probes relays checker book fault) settle_faults
 
--- What a run's ends tell: the checker took of each process what its probe put, each note once and in order; its report
--- is the exact one by clocks of what it took, and all is drained; the tallies count the snapshots of each process, just they are in the
--- book, and the book's totals are their sums.
+-- What a run's ends tell: the checker took of each process what its probe put, each note once and in order; its
+-- report is the exact one by clocks of what it took, and all is drained; the tallies count the snapshots of each
+-- process, just they are in the book, and the book's totals are their sums.
 pub record IsSettled (probes : List ClosedSide) (checker : CheckerEnd) (book : List (Option Tally))
     (settled : Settled) : Type 0 where
   pub all : AreAllThere (λ end. end.id) checker.processes probes

@@ -13,8 +13,8 @@ pub enum RunFault {
     /// [`GATE_TURNS`](wcp_clock::GATE_TURNS) times in a row.
     #[error("run held {0}")]
     Held(u32),
-    /// The worker of this process, the lowest such one, left no end of its probe. It doesn't come today: a worker closes its
-    /// probe also where it gives up. It would come of a worker that lets its probe go unclosed.
+    /// The worker of this process, the lowest such one, left no end of its probe. It doesn't come today: a worker
+    /// closes its probe also where it gives up. It would come of a worker that lets its probe go unclosed.
     #[error("run lost {0}")]
     Lost(u32),
     /// A worker, a relay or the checker met a cut.

@@ -1,7 +1,8 @@
 use thiserror::Error;
 
-/// Why the ends of a watch don't prove its report. Where several apply, the first of these is given: `Stranger`, `Missing`,
-/// `Faulted`, `Unfinished`. So a fault of an end counts before what it left behind, though it stands last here.
+/// Why the ends of a watch don't prove its report. Where several apply, the first of these is given: `Stranger`,
+/// `Missing`, `Faulted`, `Unfinished`. So a fault of an end counts before what it left behind, though it stands last
+/// here.
 #[derive(Clone, Copy, Debug, PartialEq, Eq, Error)]
 pub enum SettleFault {
     /// An end has another watch number than the checker's, or a probe or a relay has two ends.

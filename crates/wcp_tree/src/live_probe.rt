@@ -187,9 +187,9 @@ impl LiveProbe {
         }
     }
 
-    /// Puts what is pending, and gives up its turn while the ring is full. A relay that runs makes room
-    /// as it gets on, also where its own lane is cut. Once it is dropped, or has ended by another fault, a full ring stays full, and
-    /// this never returns: where that may be, call `flush` instead.
+    /// Puts what is pending, and gives up its turn while the ring is full. A relay that runs makes room as it gets
+    /// on, also where its own lane is cut. Once it is dropped, or has ended by another fault, a full ring stays full,
+    /// and this never returns: where that may be, call `flush` instead.
     pub fn flush_waiting<R: Wait>(&mut self, rt: &R)
         ensures core { self.new.core ≡ record self.old.core { pending = None } }
         ensures ring { self.new.link.ring ≡ self.old.link.ring }
@@ -224,8 +224,8 @@ impl LiveProbe {
     }
 }
 
-/// What is left of a live probe that is closed. It keeps what was put into its ring: the clocks of these snapshots never
-/// fall in a component, and rise in the process's own.
+/// What is left of a live probe that is closed. It keeps what was put into its ring: the clocks of these snapshots
+/// never fall in a component, and rise in the process's own.
 ///
 /// A contract sees it as its watch, its process and the end of its ring.
 #[derive(Drop)]

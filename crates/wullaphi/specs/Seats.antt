@@ -17,7 +17,8 @@ pub record IsNewSeat {P : Type 0} (seat : Seat P) : Type 0 where
   pub put : seat.probe.core.pending ≡ None
 
 -- What is left of a process that has run: the end of its probe, and its answer.
-pub record IsEndOfSeat {P A : Type 0} (Leaves : P → LiveSide → A → Type 0) (seat : Seat P) (end : SeatEnd A) : Type 0 where
+pub record IsEndOfSeat {P A : Type 0} (Leaves : P → LiveSide → A → Type 0)
+    (seat : Seat P) (end : SeatEnd A) : Type 0 where
   pub closed : IsEndOfProbe seat.probe end.probe
   pub ran : HasRun Leaves (setup_of seat.probe.core) seat.process end.answer end.probe.link.put
 

@@ -14,8 +14,8 @@ abbrev pub tally_of : List Note → Tally
 tally_of notes = record { emitted = snapshots_in notes; taken = snapshots_in notes }
 
 -- A watch of these n processes tells this: each has run with its probe and gave the answer at its place; what the
--- checker took of it are all notes of its probe, each once and in order; and the report is the exact one of all that was
--- taken.
+-- checker took of it are all notes of its probe, each once and in order; and the report is the exact one of all that
+-- was taken.
 pub record IsWatched {P A : Type 0} (Leaves : P → LiveSide → A → Type 0) (n : ℕ) (processes : List P)
     (watched : Watched A) : Type 0 where
   pub taken : List Item

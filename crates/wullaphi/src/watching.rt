@@ -21,9 +21,9 @@ use wcp_queue::Checker;
 use wcp_run::{Checking, Ends, Parts, run_parts, settle};
 use wcp_tree::{Watch, watch};
 
-/// Watches these processes, of which there are as many as the plan says: each runs in a thread of its own with the probe
-/// of its number, beside a thread for each relay and one for the checker. All are started or none, and all have ended
-/// when this returns. The number of the watch tells it from others: a stamp of another one is refused.
+/// Watches these processes, of which there are as many as the plan says: each runs in a thread of its own with the
+/// probe of its number, beside a thread for each relay and one for the checker. All are started or none, and all have
+/// ended when this returns. The number of the watch tells it from others: a stamp of another one is refused.
 ///
 /// The book is begun anew. While the watch runs any thread may read the totals in it.
 pub fn watch_processes<

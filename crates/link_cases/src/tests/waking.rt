@@ -51,8 +51,8 @@ impl Progress {
     }
 }
 
-/// Puts a note each time that the one before was taken, after a pause of another length. The answer is how many were put
-/// and taken, or `None` where one was not taken in time.
+/// Puts a note each time that the one before was taken, after a pause of another length. The answer is how many were
+/// put and taken, or `None` where one was not taken in time.
 fn put_for_a_while<R: Clock>(rt: &R, putter: &mut RingPutter, progress: &Progress) -> Option<u32> {
     let start = Instant::now(rt).ok()?;
     for number in 0..u32::MAX {

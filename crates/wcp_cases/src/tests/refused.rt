@@ -1,5 +1,5 @@
-//! Runs that the system gives no memory or no threads for. All address space of the process is taken but for a little, and
-//! each thread needs some for its stack.
+//! Runs that the system gives no memory or no threads for. All address space of the process is taken but for a
+//! little, and each thread needs some for its stack.
 
 use std::alloc::{AllocError, Global};
 use std::sync::atomic::AtomicBool;

@@ -23,7 +23,8 @@ fn taking(alloc: std::alloc::Global, most: usize, trouble: Trouble) -> Sink {
     }
 }
 
-/// Runs the program on the row's text, with a trouble of its errors, and compares what it writes and says and its status.
+/// Runs the program on the row's text, with a trouble of its errors, and compares what it writes and says and its
+/// status.
 fn gives<R: AllocGlobal + Threads + Wait + Sync + Abort>(
     rt: &R,
     row: &Row,

@@ -19,8 +19,8 @@ use wcp_worker::{Open, Worker, WorkerEnd, WorkerFault, open_workers};
 const ONE_MESSAGE: &[u8] =
     b"wcp 1\nprocs 2\np 0 true\np 0 send 1\np 1 recv 0\np 1 true\np 1 send 0\n";
 
-/// Process 1 fills its link, of which the last relay takes, and waits for a message of process 0. Process 2 waits for one
-/// of process 1.
+/// Process 1 fills its link, of which the last relay takes, and waits for a message of process 0. Process 2 waits for
+/// one of process 1.
 const ONE_AFTER_ANOTHER: &[u8] =
     b"wcp 1\nprocs 3\ncap 1\nrelay 0 root\nrelay 1 0\nrelay 2 0\nattach 0 1\nattach 1 2\nattach 2 1\n\
 p 1 true\np 0 send 1\np 1 recv 0\np 1 send 2\np 2 recv 1\n";
@@ -84,8 +84,8 @@ fn is_set_in_time<R: Clock>(rt: &R, flag: &AtomicBool) -> bool {
     false
 }
 
-/// Runs two workers, and once the second has ended their relay. Where the second doesn't end in time, the relay runs all
-/// the same, and there is no answer.
+/// Runs two workers, and once the second has ended their relay. Where the second doesn't end in time, the relay runs
+/// all the same, and there is no answer.
 fn run_before_relay<R: Threads + Wait + Clock + Sync>(
     rt: &R,
     first: Worker,
