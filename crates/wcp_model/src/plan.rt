@@ -9,6 +9,7 @@ ghost use Rattle.wcp_model.specs.PlanFault.{HasFault, HasWrongParent, IsFirstFau
 ghost use Rattle.wcp_model.specs.PlanFault.{IsPath, ServesRelay, tree_faults};
 
 use std::alloc::{AllocError, Global};
+use thiserror::Error;
 use wcp_clock::{MAX_CAP, MAX_HOLD, MAX_PATH, MAX_PROCS, MAX_RELAYS};
 
 /// What a relay passes its items to.
@@ -52,24 +53,32 @@ pub fn plain_plan(alloc: Global, n: u32, cap: u32, hold: u32) -> Result<Plan, Al
 }
 
 /// Why a plan is refused. Where several faults apply, the first in this order is given.
-#[derive(Clone, Copy, Debug, PartialEq, Eq)]
+#[derive(Clone, Copy, Debug, PartialEq, Eq, Error)]
 pub enum PlanFault {
     /// The number of processes is out of its limits.
+    #[error("the number of processes")]
     Procs,
     /// The capacity of links and inboxes is out of its limits.
+    #[error("the capacity of links and inboxes")]
     Cap,
     /// The capacity of holds is out of its limits.
+    #[error("the capacity of holds")]
     Hold,
     /// There is no relay, there are too many, or the parent of one is neither a lower relay nor the
     /// root.
+    #[error("no relay, too many, or a parent that is no lower relay")]
     Parent,
     /// A path to the root has more than 8 relays.
+    #[error("a path of too many relays")]
     Depth,
     /// A relay serves both a process and a relay.
+    #[error("a relay that serves a process and a relay")]
     Mixed,
     /// A relay serves nothing.
+    #[error("a relay that serves nothing")]
     Childless,
     /// `attach` has more or fewer entries than there are processes, or an entry that names no relay.
+    #[error("a process that no relay serves")]
     Unattached,
 }
 

@@ -5,6 +5,7 @@ use crate::putter::PutterEnd;
 use crate::taker::RingTaker;
 use std::marker::Model;
 use std::snapshot::Snapshot;
+use thiserror::Error;
 
 /// All that was put into a ring was taken out of it: contracts see it as the list of these notes.
 #[derive(Drop)]
@@ -22,7 +23,8 @@ impl Model for Matched {
 }
 
 /// Notes were left in the ring.
-#[derive(Clone, Copy, Debug, PartialEq, Eq)]
+#[derive(Clone, Copy, Debug, PartialEq, Eq, Error)]
+#[error("notes were left in the ring")]
 pub struct Unfinished;
 
 /// Compares the two ends of one ring: whether all that was put was taken. Both are gone afterwards.

@@ -1,4 +1,5 @@
 mod gates;
+mod held;
 mod outcomes;
 mod two_threads;
 mod whole_runs;

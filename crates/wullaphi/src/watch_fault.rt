@@ -7,7 +7,7 @@ use wcp_run::{SettleFault, StartFault};
 #[derive(Clone, Copy, Debug, PartialEq, Eq, Error)]
 pub enum WatchFault {
     /// The plan has this fault.
-    #[error("plan: {0:?}")]
+    #[error("plan: {0}")]
     Plan(PlanFault),
     /// There are more or fewer processes than the plan says.
     #[error("not as many processes as the plan says")]
