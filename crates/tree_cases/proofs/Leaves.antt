@@ -1,5 +1,5 @@
 -- What a leaf of one process serves.
-use Rattle.std.proofs.Common.{◌≡◌, ◌≢◌, ◌==◌, ℕ, ◌<◌, ◌||◌, true, false, List, [], ◌∷◌, length, sym, ap, ◌∙◌, subst, arith}
+use Rattle.std.proofs.Common.{◌≡◌, ◌≢◌, ◌==◌, ℕ, ◌<◌, ◌||◌, nat_cmp, true, false, List, [], ◌∷◌, length, sym, ap, ◌∙◌, subst, arith}
 use Rattle.std.specs.Prelude.{All, AllPairs, nat_eq}
 use Rattle.std.specs.List.{list_any}
 use Rattle.std.specs.FinSet as set
@@ -16,5 +16,5 @@ pub serves_one : (feed : Feed) (feeds : List Feed) (members : Numbers) → feeds
 serves_one feed feeds members is own new only = rw (is, only) (
   (λ k d below. grind (arith, common_steps)),
   (λ i j d before below. absurd (omega arith)),
-  (λ p. rw (contains_with set.empty 0 p) (grind (arith, nat_tests))),
+  (λ p. rw (contains_with set.empty 0 p) (grind (arith, nat_tests, own, set.contains-empty nat_cmp p))),
 )

@@ -27,6 +27,7 @@ returns-clause-parts g c =
         members = λ p. rw c.in_ok-checker.ensures.processes (wired.members p);
         none_taken = wired.none_taken;
         stands = c.in_ok-checker.ensures.empty;
+        not_starved = c.in_ok-checker.ensures.not_starved;
       };
     }
 
