@@ -1,5 +1,4 @@
 mod gates;
-mod held;
 mod outcomes;
 mod two_threads;
 mod whole_runs;

@@ -201,7 +201,9 @@ fn a_starved_checker_stays_undecided(rt: HostRuntime) -> Result<(), Fail> {
     for from in 0..2 {
         assert!(rt; takes_close(&rt, &mut checker, from));
     }
-    assert!(rt; checker.closed(0) && checker.closed(1));
+    assert_eq!(rt; checker.processes(), 2);
+    assert!(rt; checker.closed(0));
+    assert!(rt; checker.closed(1));
     assert_eq!(rt; checker.report(), Report::Undecided);
     Ok(())
 }

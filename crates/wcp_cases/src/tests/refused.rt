@@ -1,14 +1,9 @@
-//! Runs that the system gives no memory or no threads for. All address space of the process is taken but for a
-//! little, and each thread needs some for its stack.
+//! A run that the system gives no threads for. All address space of the process is taken but for a little, and each
+//! thread needs some for its stack.
 
 use std::alloc::{AllocError, Global};
-use std::sync::atomic::AtomicBool;
-use std::sync::atomic::Ordering::SeqCst;
 use std::test::Fail;
 use wcp_cli::drive;
-use wcp_run::{RunFault, run};
-use wcp_script::read_workload;
-use wcp_worker::Gate;
 
 /// The largest blocks that are asked for have so many bytes, which is half of an address space.
 const LARGEST: usize = 1 << 46;
@@ -22,15 +17,8 @@ const MOST_BLOCKS: usize = 50_000;
 /// Room for the lists of a small run, and for no stack.
 const FOR_LISTS: usize = 3 << 19;
 
-/// Room for a stack or some more, and not for those of eighteen threads.
-const FOR_SOME_STACKS: usize = 24 << 20;
-
 /// A run of eighteen threads.
 const SMALL: &[u8] = b"wcp 1\nprocs 16\np 0 true\n";
-
-/// A run of ten threads, whose links and inboxes have much room.
-const LARGE: &[u8] = b"wcp 1\nprocs 1\ncap 1024\nrelay 0 root\nrelay 1 0\nrelay 2 1\nrelay 3 2\n\
-relay 4 3\nrelay 5 4\nrelay 6 5\nrelay 7 6\nattach 0 7\np 0 true\n";
 
 /// Takes blocks of so many bytes until one is refused.
 fn take_blocks(alloc: Global, size: usize, blocks: &mut Vec<Vec<u8>>) {
@@ -71,35 +59,5 @@ fn a_run_without_threads_has_its_line(rt: HostRuntime) -> Result<(), Fail> {
     assert_eq!(rt; errors.as_slice(), b"wcpwatch: run spawn\n".as_slice());
     assert!(rt; output.is_empty());
     assert_eq!(rt; status, 2);
-    Ok(())
-}
-
-/// Notes that somebody asked.
-#[derive(Drop)]
-struct Asked(AtomicBool);
-
-impl Gate for Asked {
-    fn pass(&self, _p: u32, _step: u64) -> bool {
-        self.0.store(true, SeqCst);
-        true
-    }
-}
-
-/// Where memory is refused so is a thread, and memory is the answer. No worker comes to its gate before all threads are
-/// started, also where some are.
-#[test]
-fn a_run_that_is_refused_makes_no_step(rt: HostRuntime) -> Result<(), Fail> {
-    for (text, room, fault) in [
-        (SMALL, FOR_SOME_STACKS, RunFault::Spawn),
-        (LARGE, FOR_LISTS, RunFault::Memory),
-    ] {
-        let workload = read_workload(rt.alloc(), text)?;
-        let gate = Asked(AtomicBool::new(false));
-        let blocks = take_all_but(rt.alloc(), room)?;
-        let outcome = run(&rt, rt.alloc(), &workload, &gate);
-        drop(blocks);
-        assert_eq!(rt; outcome.err(), Some(fault), "with room for {room}");
-        assert!(rt; !gate.0.load(SeqCst), "with room for {room}");
-    }
     Ok(())
 }
