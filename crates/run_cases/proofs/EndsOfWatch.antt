@@ -6,7 +6,7 @@ use Rattle.std.proofs.lemmas.Option.{get_or_from_slice_get}
 use Rattle.wcp_model.specs.declared.plan.Plan.{Plan}
 use Rattle.wcp_tree.specs.LiveProbe.{ClosedSide}
 use Rattle.wcp_tree.specs.Watches.{IsWired}
-use Rattle.wcp_tree.specs.RelayEnds.{fault_of, number_of, watch_of}
+use Rattle.wcp_tree.specs.RelayEnds.{AreReceiptsOf, fault_of, number_of, relay_put, relay_taken, watch_of}
 use Rattle.wcp_tree.specs.declared.relay.Relay.{Relay}
 use Rattle.wcp_tree.specs.declared.relay_end.RelayEnd.{RelayEnd}
 use Rattle.wcp_tree.specs.declared.parts.Watch.{Watch}
@@ -82,13 +82,18 @@ with_stranger probes relays stranger checker came other = record {
 }
 
 -- nothing is asked of what is there
-where_some : {T P : Type 0} (found : Option T) → found ≢ None → IfNone found P
-where_some None some = absurd (some refl)
-where_some (Some x) some = tt
+where_some : {T : Type 0} (P : Type 0) (found : Option T) → found ≢ None → IfNone found P
+where_some P None some = absurd (some refl)
+where_some P (Some x) some = tt
 
 faulted_end : (relays : List Relay) (relay : Relay) (end : RelayEnd) → fault_of end ≢ None → slice_get relays (number_of end) ≡ Some relay → IsEndOfSomeRelay relays end
 faulted_end relays relay end met at =
-    record { relay = relay; is_relay = at; receipts = where_some (fault_of end) met; whole = where_some (fault_of end) met }
+    record {
+      relay = relay;
+      is_relay = at;
+      receipts = where_some (AreReceiptsOf relay end) (fault_of end) met;
+      whole = where_some ((p : ℕ) → relay_put end p ≡ relay_taken end p) (fault_of end) met;
+    }
 
 -- and with a faulted end behind them, of the same relay as the last of them
 pub with_second_end : (probes : List ClosedSide) (all relays : List RelayEnd) (last faulted : RelayEnd) (checker : CheckerEnd)
