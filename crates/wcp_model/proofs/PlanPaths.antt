@@ -1,8 +1,4 @@
-use Rattle.wcp_model.proofs.Words.{◌≡◌, ℕ, ◌<◌, ◌≤◌, List, [], ◌∷◌, length, get_or, slice_get, Some, ◌∙◌, ap, inr, ⊎_elim, arith, cases_lt, slice_get-get_or, slice_get_within, Parent, Root, Relay, HasWrongParent, IsPath}
-
--- where no parent is wrong, each is lower
-pub is_lower : (parents : List Parent) (relay above : ℕ) → ¬ HasWrongParent parents → slice_get parents relay ≡ Some (Relay above) → above < relay
-is_lower parents relay above right parent = ⊎_elim (λ lower. lower) (λ high. absurd (right (inr (relay, above, parent, high)))) (cases_lt above relay)
+use Rattle.wcp_model.proofs.Words.{◌≡◌, ℕ, ◌<◌, ◌≤◌, List, [], ◌∷◌, length, get_or, slice_get, Some, ◌∙◌, ap, arith, slice_get-get_or, slice_get_within, Parent, Root, Relay, IsPath}
 
 pub slice_get_here : (parents : List Parent) (relay : ℕ) (parent d : Parent) → relay < length parents → get_or parents relay d ≡ parent → slice_get parents relay ≡ Some parent
 slice_get_here parents relay parent d within here = slice_get-get_or parents relay d within ∙ ap Some here

@@ -1,6 +1,4 @@
-use Rattle.std.proofs.Common.{◌≡◌, ◌≢◌, ◌↔◌, ℕ, ◌+◌, ◌<◌, ◌≤◌, List, [], ◌++◌, length, get_or, ◌∙◌, ap, sym, arith}
-use Rattle.std.proofs.lemmas.List.{append-nil, append_assoc, length-append, get_or_append_left}
-use Rattle.wcp_queue.specs.Choices.{PrecedesAt, GrowTo, IsSatisfyingChoice, AreInOrder, IsEliminatedBelow}
+use Rattle.wcp_queue.proofs.Words.{◌≡◌, ◌≢◌, ◌↔◌, ℕ, ◌+◌, ◌<◌, ◌≤◌, List, [], ◌++◌, length, get_or, ◌∙◌, ap, sym, arith, append-nil, append_assoc, length-append, get_or_append_left, PrecedesAt, GrowTo, IsSatisfyingChoice, AreInOrder, IsEliminatedBelow}
 
 -- rows grow to themselves, and in two steps as in one
 pub GrowTo-same : (n : ℕ) (rows : ℕ → List (List ℕ)) → GrowTo n rows rows

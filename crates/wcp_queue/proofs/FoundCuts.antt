@@ -1,23 +1,7 @@
-use Rattle.std.proofs.lemmas.Grind.{common_steps}
-use Rattle.std.proofs.Common.{◌≡◌, ℕ, ◌<◌, ◌≤◌, Bool, true, false, List, [], length, get_or, slice_index, sym, ◌∙◌, ap, arith, Option, None, Some, MatchOption, ◌∷◌, ◌++◌, take, refl, subst}
-use Rattle.std.proofs.lemmas.List.{append-nil, get_or_default, get_or-take, length-take-le}
-use Rattle.std.proofs.lemmas.List.Elements.{Contains-get_or, All-from_get_or}
-use Rattle.wcp_clock.specs.declared.note.Item.{Item}
+use Rattle.wcp_queue.proofs.Words.{common_steps, ◌≡◌, ℕ, ◌<◌, ◌≤◌, Bool, true, false, List, [], length, get_or, slice_index, sym, ◌∙◌, ap, arith, Option, None, Some, MatchOption, ◌∷◌, ◌++◌, take, refl, subst, append-nil, get_or_default, get_or-take, length-take-le, Contains-get_or, All-from_get_or, Item, clocks_taken, IsCutByClocks, ClocksRise, notes_taken, IsDrained, AreInTurn, GrowTo, IsSatisfyingChoice, AreInOrder, choice_from_each, Floor, HaveHeads, IsCutOfHeads, AreSettled, AreLeft, IsFoundAmong, GainCandidate, list_all, both_ways, AllPass-from_list_all, list_all-from_AllPass, Close, nothing_follows, CheckerState, processes, StandsForItems, IsSoundChecker}
 use Rattle.wcp_model.specs.Cut.{IsLeastOf}
-use Rattle.wcp_model.specs.Report.{clocks_taken, IsCutByClocks, ClocksRise, notes_taken, IsDrained, AreInTurn}
-use Rattle.wcp_queue.specs.Choices.{GrowTo, IsSatisfyingChoice, AreInOrder}
 use Rattle.wcp_queue.proofs.Choices.{GrowTo-same, get_or-grown, IsSatisfyingChoice-grown, IsEliminatedBelow-grown}
-use Rattle.wcp_model.proofs.Choosing.{choice_from_each}
-use Rattle.wcp_queue.specs.declared.floor.Floor.{Floor}
-use Rattle.wcp_queue.specs.Floor.{HaveHeads, IsCutOfHeads}
-use Rattle.wcp_queue.specs.Elimination.{AreSettled, AreLeft, IsFoundAmong, GainCandidate}
 use Rattle.wcp_queue.proofs.LeftQueues.{GrowTo-gain}
-use Rattle.std.specs.List.{list_all}
-use Rattle.std.proofs.lemmas.Bool.{both_ways}
-use Rattle.std.proofs.lemmas.List.Sums.{AllPass-from_list_all, list_all-from_AllPass}
-use Rattle.wcp_clock.specs.declared.note.Note.TheVariants.{Close}
-use Rattle.wcp_model.proofs.NotesInTurn.{nothing_follows}
-use Rattle.wcp_queue.specs.Checker.{CheckerState, processes, StandsForItems, IsSoundChecker}
 use Rattle.wcp_queue.proofs.NotesTaken.{close_mark_in, close_mark_taken}
 
 -- where each process has a head, their cut is found

@@ -1,13 +1,5 @@
-use Rattle.std.proofs.Common.{◌≡◌, ◌≢◌, ℕ, ◌<◌, ◌≤◌, false, List, [], ◌∷◌, ◌++◌, length, get_or, set, drop, slice_index, refl, sym, ◌∙◌, ap, ⊎_elim, arith, ◌+◌, Bool, true, cond, eqb, Some, slice_get}
-use Rattle.std.proofs.lemmas.Bool.{cases_eq, true≢false, eq-eqb, ne_eqb, cond-false}
-use Rattle.std.proofs.lemmas.List.{append-nil, drop-append-le, get_or-replicate, get_or-set_same, get_or-set_other, get_or_default, length-drop, drop-drop}
-use Rattle.wcp_queue.specs.Choices.{GrowTo, AreInOrder, IsSatisfyingChoice}
+use Rattle.wcp_queue.proofs.Words.{◌≡◌, ◌≢◌, ℕ, ◌<◌, ◌≤◌, false, List, [], ◌∷◌, ◌++◌, length, get_or, set, drop, slice_index, refl, sym, ◌∙◌, ap, ⊎_elim, arith, ◌+◌, Bool, true, cond, eqb, Some, slice_get, cases_eq, true≢false, eq-eqb, ne_eqb, cond-false, append-nil, drop-append-le, get_or-replicate, get_or-set_same, get_or-set_other, get_or_default, length-drop, drop-drop, GrowTo, AreInOrder, IsSatisfyingChoice, Floor, has_head, first_floor, component, RaisesFloor, RisesTo, queue_of, AreLeft, GainCandidate, candidate, HasHead, WasRaised, LeavesQueue, common_steps, choice_from_each}
 use Rattle.wcp_queue.proofs.Choices.{length-grown, get_or-grown, IsEliminatedBelow-start, IsEliminatedBelow-grown, IsEliminatedBelow-step}
-use Rattle.wcp_queue.specs.declared.floor.Floor.{Floor}
-use Rattle.wcp_queue.specs.Floor.{has_head, first_floor, component, RaisesFloor, RisesTo}
-use Rattle.wcp_queue.specs.Elimination.{queue_of, AreLeft, GainCandidate, candidate, HasHead, WasRaised, LeavesQueue}
-use Rattle.std.proofs.lemmas.Grind.{common_steps}
-use Rattle.wcp_model.proofs.Choosing.{choice_from_each}
 
 -- at the start nothing was taken, nothing waits and there is no head
 pub no_head_at_first : (p : ℕ) → p < 16 → has_head first_floor p ≡ false

@@ -1,3 +1,4 @@
+mod Words
 pub mod Choices
 pub mod LeftQueues
 pub mod NotesTaken

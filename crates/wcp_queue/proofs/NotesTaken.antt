@@ -1,17 +1,5 @@
-use Rattle.std.proofs.Common.{◌≡◌, ◌≢◌, ℕ, true, List, [], ◌∷◌, ◌++◌, ◌<◌, refl, sym, ap, subst, ⊎_elim, arith}
-use Rattle.std.specs.List.{list_any}
-use Rattle.std.proofs.lemmas.Bool.{cases_eq, false≢true}
-use Rattle.std.proofs.lemmas.List.{map-append, append-nil}
-use Rattle.std.proofs.lemmas.List.Elements.{filter-append}
-use Rattle.std.proofs.lemmas.List.Folds.{list_any-append}
-use Rattle.wcp_clock.specs.declared.note.Item.{Item}
+use Rattle.wcp_queue.proofs.Words.{◌≡◌, ◌≢◌, ℕ, true, List, [], ◌∷◌, ◌++◌, ◌<◌, refl, sym, ap, subst, ⊎_elim, arith, list_any, cases_eq, false≢true, map-append, append-nil, filter-append, list_any-append, Item, Snap, Close, is_close, notes_taken, clocks_taken, IsNextNote, AreInTurn, snapshot_clocks-append, AreInTurn-push, CheckerState, processes, StandsForItems, MayTake, GainCandidate}
 use Rattle.wcp_clock.specs.declared.note.Note.{Note}
-use Rattle.wcp_clock.specs.declared.note.Note.TheVariants.{Snap, Close}
-use Rattle.wcp_clock.specs.Notes.{is_close}
-use Rattle.wcp_model.specs.Report.{notes_taken, clocks_taken, IsNextNote, AreInTurn}
-use Rattle.wcp_model.proofs.NotesInTurn.{snapshot_clocks-append, AreInTurn-push}
-use Rattle.wcp_queue.specs.Checker.{CheckerState, processes, StandsForItems, MayTake}
-use Rattle.wcp_queue.specs.Elimination.{GainCandidate}
 
 -- the notes taken of a process, after one more item of it or of another
 pub notes_taken-push_same : (items : List Item) (item : Item) (p : ℕ) → item.from ≡ p → notes_taken p (items ++ item ∷ []) ≡ notes_taken p items ++ item.note ∷ []

@@ -1,7 +1,4 @@
-use Rattle.std.proofs.Common.{◌≡◌, ◌≢◌, ℕ, ◌+◌, ◌<◌, ◌≤◌, Bool, false, List, length, slice_index, arith}
-use Rattle.wcp_queue.specs.declared.floor.Floor.{Floor}
-use Rattle.wcp_queue.specs.Floor.{component, has_head, IsSameBut, RisesTo}
-use Rattle.wcp_queue.specs.Elimination.{queue_of}
+use Rattle.wcp_queue.proofs.Words.{◌≡◌, ◌≢◌, ℕ, ◌+◌, ◌<◌, ◌≤◌, Bool, false, List, length, slice_index, arith, Floor, component, has_head, IsSameBut, RisesTo, queue_of}
 
 abbrev IsSameAt : ℕ → Floor → Floor → Type 0
 IsSameAt k one other = (component other k ≡ component one k) × (has_head other k ≡ has_head one k)

@@ -1,13 +1,5 @@
-use Rattle.std.proofs.Common.{◌≡◌, ℕ, ◌<◌, ◌≤◌, ltb, arith, ◌+◌, ◌*◌, ◌^◌, false, None, [], length, set, replicate, sum}
-use Rattle.std.proofs.lemmas.Bool.{cond-true, lt-ltb}
-use Rattle.wcp_queue.specs.Elimination.{tests_each, AreSettled, waiting_in}
-use Rattle.std.proofs.lemmas.Grind.{common_steps}
+use Rattle.wcp_queue.proofs.Words.{◌≡◌, ℕ, ◌<◌, ◌≤◌, ltb, arith, ◌+◌, ◌*◌, ◌^◌, false, None, [], length, set, replicate, sum, cond-true, lt-ltb, tests_each, AreSettled, waiting_in, common_steps, length-replicate, get_or-replicate, sum_by-le, sum_by-replicate, first_floor, HaveHeads, CheckerState, taken_of, IsSoundChecker}
 use Rattle.std.proofs.lemmas.Nat.{mul-le}
-use Rattle.std.proofs.lemmas.List.{length-replicate, get_or-replicate}
-use Rattle.std.proofs.lemmas.List.Sums.{sum_by-le}
-use Rattle.std.proofs.lemmas.List.Folds.{sum_by-replicate}
-use Rattle.wcp_queue.specs.Floor.{first_floor, HaveHeads}
-use Rattle.wcp_queue.specs.Checker.{CheckerState, taken_of, IsSoundChecker}
 
 -- a snapshot costs at most a test for each process
 pub tests_each-le : (n : ℕ) → tests_each n ≤ n

@@ -1,14 +1,4 @@
-use Rattle.std.proofs.Common.{◌≡◌, ℕ, ◌+◌, ◌<◌, ◌≤◌, Bool, true, false, Option, Some, None, MatchOption, is_some, List, [], ◌∷◌, ◌++◌, length, get_or, set, replicate, sum, cond, slice_index, refl, sym, ◌∙◌, ap, subst, arith}
-use Rattle.std.proofs.lemmas.Bool.{true≢false}
-use Rattle.std.proofs.lemmas.List.{length-append, get_or-set_same, get_or-set_other, get_or-replicate, length-replicate}
-use Rattle.std.proofs.lemmas.List.Sums.{sum_by-set, sum_by_push}
-use Rattle.wcp_clock.specs.declared.note.Item.{Item}
-use Rattle.wcp_clock.specs.declared.note.Note.TheVariants.{Snap, Close}
-use Rattle.wcp_model.specs.Report.{clocks_taken}
-use Rattle.wcp_model.proofs.NotesInTurn.{AreInTurn-none}
-use Rattle.wcp_queue.specs.Floor.{first_floor, HaveHeads, IsCutOfHeads}
-use Rattle.wcp_queue.specs.Elimination.{AreLeft, AddsCandidate, IsFoundAmong, GainCandidate}
-use Rattle.wcp_queue.specs.Checker.{CheckerState, processes, taken_of, closed_of, is_snapshot, IsSearching, MayTake, StandsForItems}
+use Rattle.wcp_queue.proofs.Words.{◌≡◌, ℕ, ◌+◌, ◌<◌, ◌≤◌, Bool, true, false, Option, Some, None, MatchOption, is_some, List, [], ◌∷◌, ◌++◌, length, get_or, set, replicate, sum, cond, slice_index, refl, sym, ◌∙◌, ap, subst, arith, true≢false, length-append, get_or-set_same, get_or-set_other, get_or-replicate, length-replicate, sum_by-set, sum_by_push, Item, Snap, Close, clocks_taken, AreInTurn-none, first_floor, HaveHeads, IsCutOfHeads, AreLeft, AddsCandidate, IsFoundAmong, GainCandidate, CheckerState, processes, taken_of, closed_of, is_snapshot, IsSearching, MayTake, StandsForItems}
 use Rattle.wcp_queue.proofs.FoundCuts.{IsFoundAmong-heads, IsFoundAmong-gain, IsFoundAmong-same}
 use Rattle.wcp_queue.proofs.LeftQueues.{AreLeft-start, AreLeft-rows}
 use Rattle.wcp_queue.proofs.NotesTaken.{in_turn-push, next_where_MayTake, GainCandidate-snapshot, clocks_taken-push_close, close_taken-push_snapshot, close_taken-push_close, close_taken-push_other}

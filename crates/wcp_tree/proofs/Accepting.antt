@@ -1,15 +1,7 @@
 -- Items that may follow others, one after another.
-use Rattle.std.proofs.Common.{◌≡◌, ℕ, zero, suc, ◌+◌, ◌<◌, true, List, [], ◌∷◌, ◌++◌, length, get_or, take, Option, None, Some, sym, refl, ap, ◌∙◌, subst, append_assoc, arith}
-use Rattle.std.specs.Prelude.{IfNone, IfSome}
+use Rattle.wcp_tree.proofs.Words.{◌≡◌, ℕ, zero, suc, ◌+◌, ◌<◌, true, List, [], ◌∷◌, ◌++◌, length, get_or, take, Option, None, Some, sym, refl, ap, ◌∙◌, subst, append_assoc, arith, IfNone, IfSome, append-nil, take_more, Item, place_of, is_close, Numbers, Outlet, items_of, handed, IsFaithful, IsNextAfter, IsSameOutlet, ItemsMayFollow}
 use Rattle.std.specs.FinSet as set
-use Rattle.std.proofs.lemmas.List.{append-nil, take_more}
-use Rattle.wcp_clock.specs.declared.note.Item.{Item}
-use Rattle.wcp_clock.specs.Notes.{place_of, is_close}
 use Rattle.wcp_lane.specs.Message.{MayFollow}
-use Rattle.wcp_lane.specs.Passes.{Numbers}
-use Rattle.wcp_tree.specs.declared.outlet.Outlet.{Outlet}
-use Rattle.wcp_tree.specs.Feeding.{items_of}
-use Rattle.wcp_tree.specs.RelayWork.{handed, IsFaithful, IsNextAfter, IsSameOutlet, ItemsMayFollow}
 use Rattle.wcp_tree.proofs.Lists.{items_of-append}
 use Rattle.wcp_tree.proofs.Faithful.{faithful_more, faithful_same, only_none}
 use Rattle.wcp_tree.proofs.Passing.{if_none}

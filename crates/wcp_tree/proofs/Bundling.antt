@@ -1,12 +1,5 @@
 -- Bundles, as one more item joins them.
-use Rattle.std.proofs.Common.{◌≡◌, ℕ, zero, suc, ◌+◌, ◌-◌, ◌<◌, ◌≤◌, Option, None, Some, List, [], ◌∷◌, ◌++◌, length, get_or, take, drop, replicate, add-one, sym, refl, ap, ◌∙◌, append_assoc, subst, arith}
-use Rattle.std.specs.Prelude.{All, slice_get}
-use Rattle.std.specs.List.{last_or}
-use Rattle.std.proofs.Math.Seq.{take-suc}
-use Rattle.std.proofs.lemmas.Grind.{common_steps}
-use Rattle.std.proofs.lemmas.List.{length-append, drop-replicate}
-use Rattle.wcp_clock.specs.declared.note.Item.{Item}
-use Rattle.wcp_tree.specs.Bundles.{most_bundle, Continues, IsRun, IsBundle, MayJoin, IsFirstBundle}
+use Rattle.wcp_tree.proofs.Words.{◌≡◌, ℕ, zero, suc, ◌+◌, ◌-◌, ◌<◌, ◌≤◌, Option, None, Some, List, [], ◌∷◌, ◌++◌, length, get_or, take, drop, replicate, add-one, sym, refl, ap, ◌∙◌, append_assoc, subst, arith, All, slice_get, last_or, take-suc, common_steps, length-append, drop-replicate, Item, most_bundle, Continues, IsRun, IsBundle, MayJoin, IsFirstBundle}
 
 -- the last of some items with one more
 pub last_or-push : {X : Type 0} (o : Option X) (xs : List X) (x : X) → last_or o (xs ++ x ∷ []) ≡ Some x

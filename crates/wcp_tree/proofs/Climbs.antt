@@ -1,14 +1,5 @@
 -- The climbs from relays to the root.
-use Rattle.std.proofs.Common.{◌≡◌, ◌≢◌, ℕ, zero, suc, length, get_or, ◌<◌, ◌≤◌, ◌⊎◌, ◌↔◌, IsTrue, nat_eq, eqb-true, eq-eqb, Some, refl, sym, ap, subst, ◌∙◌, inl, inr, ⊎_elim, arith}
-use Rattle.std.proofs.lemmas.Bool.{cases_eq}
-use Rattle.std.proofs.lemmas.Option.{slice_get-get_or}
-use Rattle.wcp_model.specs.declared.plan.Parent.{Parent}
-use Rattle.wcp_model.specs.declared.plan.Parent.TheVariants.{Root, Relay}
-use Rattle.wcp_model.specs.declared.plan.Plan.{Plan}
-use Rattle.wcp_model.specs.PlanFault.{IsCheckedPlan}
-use Rattle.wcp_model.specs.Tree.{parent_of}
-use Rattle.wcp_tree.specs.Members.{IsMetFrom, Itself, Above, IsBelow}
-use Rattle.wcp_model.proofs.CheckedPlans.{parent_below}
+use Rattle.wcp_tree.proofs.Words.{◌≡◌, ◌≢◌, ℕ, zero, suc, length, get_or, ◌<◌, ◌≤◌, ◌⊎◌, ◌↔◌, IsTrue, nat_eq, eqb-true, eq-eqb, Some, refl, sym, ap, subst, ◌∙◌, inl, inr, ⊎_elim, arith, cases_eq, slice_get-get_or, Parent, Root, Relay, Plan, IsCheckedPlan, parent_of, IsMetFrom, Itself, Above, IsBelow, parent_below}
 
 module _ (plan : Plan) (checked : IsCheckedPlan plan) where
   -- a climb goes down in number

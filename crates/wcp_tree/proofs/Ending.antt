@@ -1,22 +1,9 @@
 -- How a relay begins and ends.
-use Rattle.std.proofs.Common.{◌≡◌, ℕ, suc, ◌<◌, true, true≢false, List, [], ◌∷◌, ◌++◌, length, get_or, sym, refl, ap, ◌∙◌, subst, append_assoc, arith}
-use Rattle.std.specs.Prelude.{All, IfNone, IfErr, Result, Ok, Err, OnOk}
-use Rattle.std.proofs.lemmas.List.{append-nil, nil_from_length}
-use Rattle.std.proofs.lemmas.List.Elements.{All-nil}
-use mathlib.Core.List.{IsPrefix}
-use Rattle.wcp_clock.specs.declared.note.Item.{Item}
-use Rattle.wcp_clock.specs.Notes.{place_of, is_close}
-use Rattle.wcp_tree.specs.declared.feed.Feed.{Feed}
-use Rattle.wcp_tree.specs.declared.outlet.Outlet.{Outlet}
-use Rattle.wcp_tree.specs.declared.source.Source.{Source}
-use Rattle.wcp_tree.specs.declared.source.Source.TheVariants.{Leaf, Inner}
+use Rattle.wcp_tree.proofs.Words.{◌≡◌, ℕ, suc, ◌<◌, true, true≢false, List, [], ◌∷◌, ◌++◌, length, get_or, sym, refl, ap, ◌∙◌, subst, append_assoc, arith, All, IfNone, IfErr, Result, Ok, Err, OnOk, append-nil, nil_from_length, All-nil, IsPrefix, Item, place_of, is_close, Feed, Outlet, Source, Leaf, Inner, fed, items_by, items_of, source_taken, Serves, IsNewFeed, IsInOrder, handed, AreItemsInSequence, IsSound, IsFaithful, IsLeafAtWork, IsAtWork, AreClosed, HasMetGap, HasEnded, IsEndOfSource, taken_in}
 use Rattle.wcp_tree.specs.declared.relay_end.Receipts.{Receipts}
 use Rattle.wcp_tree.specs.declared.relay_end.Receipts.TheVariants.{Feeds, Lane}
-use Rattle.wcp_tree.specs.Feeding.{fed, items_by, items_of, source_taken, Serves, IsNewFeed, IsInOrder}
 use Rattle.wcp_tree.specs.declared.take_fault.TakeFault.{TakeFault}
 use Rattle.wcp_tree.specs.declared.take_fault.TakeFault.TheVariants as fault
-use Rattle.wcp_tree.specs.RelayWork.{handed, AreItemsInSequence, IsSound, IsFaithful, IsLeafAtWork, IsAtWork, AreClosed, HasMetGap, HasEnded}
-use Rattle.wcp_tree.specs.RelayEnds.{IsEndOfSource, taken_in}
 use Rattle.wcp_tree.proofs.Lists.{AreInSequence-none, items_of-append}
 use Rattle.wcp_tree.proofs.Faithful.{only_none, prefix_same, prefix_more}
 use Rattle.wcp_tree.proofs.Passing.{if_none}

@@ -1,13 +1,6 @@
 -- An outlet stays faithful to what is taken.
-use Rattle.std.proofs.Common.{◌≡◌, ◌⊎◌, ℕ, Option, None, Some, List, [], ◌∷◌, ◌++◌, sym, refl, ap, ◌∙◌, subst, inl, inr, ⊎_elim, append_assoc}
-use Rattle.std.specs.Prelude.{IfNone, IfSome}
-use Rattle.std.proofs.lemmas.List.{append-nil}
-use mathlib.Core.List.{IsPrefix}
-use Rattle.wcp_clock.specs.declared.note.Item.{Item}
+use Rattle.wcp_tree.proofs.Words.{◌≡◌, ◌⊎◌, ℕ, Option, None, Some, List, [], ◌∷◌, ◌++◌, sym, refl, ap, ◌∙◌, subst, inl, inr, ⊎_elim, append_assoc, IfNone, IfSome, append-nil, IsPrefix, Item, Outlet, items_of, handed, IsFaithful}
 use Rattle.wcp_lane.specs.declared.fault.Cut.{Cut}
-use Rattle.wcp_tree.specs.declared.outlet.Outlet.{Outlet}
-use Rattle.wcp_tree.specs.Feeding.{items_of}
-use Rattle.wcp_tree.specs.RelayWork.{handed, IsFaithful}
 use Rattle.wcp_tree.proofs.Lists.{items_of-append}
 use Rattle.wcp_tree.proofs.Passing.{if_none}
 

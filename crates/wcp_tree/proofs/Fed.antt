@@ -1,19 +1,5 @@
 -- What feeds took, as one of them takes a note.
-use Rattle.std.proofs.Common.{◌≡◌, ◌≢◌, ℕ, zero, suc, ◌<◌, Bool, true, false, ◌||◌, List, [], ◌∷◌, ◌++◌, length, get_or, set, map, sym, refl, ap, ◌∙◌, subst, eq-eqb, arith}
-use Rattle.std.specs.Prelude.{All, AllPairs, if◌then◌else◌, ◌==◌}
-use Rattle.std.specs.List.{list_any}
-use Rattle.std.proofs.lemmas.List.Folds.{list_any_at}
-use Rattle.std.proofs.lemmas.Bool.Decides.{nat_tests}
-use Rattle.std.proofs.lemmas.List.{append-nil, length-map, map-append, get_or-map}
-use Rattle.std.proofs.lemmas.List.Elements.{All-map}
-use Rattle.std.proofs.Math.Seq.{map-set_same}
-use Rattle.wcp_clock.specs.declared.note.Item.{Item}
-use Rattle.wcp_clock.specs.declared.note.Note.{Note}
-use Rattle.wcp_clock.specs.Notes.{is_close}
-use Rattle.wcp_tree.specs.declared.feed.Feed.{Feed}
-use Rattle.wcp_tree.specs.Feeding.{fed, items_by, items_of, processes_of, IsNextOfProcess, IsInOrder, EndsWithClose}
-use Rattle.wcp_tree.specs.declared.outlet.Outlet.{Outlet}
-use Rattle.wcp_tree.specs.RelayWork.{IsNextAfter, IsFaithful, HasMetGap}
+use Rattle.wcp_tree.proofs.Words.{◌≡◌, ◌≢◌, ℕ, zero, suc, ◌<◌, Bool, true, false, ◌||◌, List, [], ◌∷◌, ◌++◌, length, get_or, set, map, sym, refl, ap, ◌∙◌, subst, eq-eqb, arith, All, AllPairs, if◌then◌else◌, ◌==◌, list_any, list_any_at, nat_tests, append-nil, length-map, map-append, get_or-map, All-map, map-set_same, Item, Note, is_close, Feed, fed, items_by, items_of, processes_of, IsNextOfProcess, IsInOrder, EndsWithClose, Outlet, IsNextAfter, IsFaithful, HasMetGap}
 use Rattle.wcp_tree.proofs.Lists.{items_of-own}
 
 abbrev AreApart : List ℕ → Type 0

@@ -1,10 +1,6 @@
 -- A set to which one number after another is added where it passes.
-use Rattle.std.proofs.Common.{◌≡◌, ◌≢◌, ◌↔◌, ◌||◌, ℕ, ◌+◌, ◌<◌, true, false, true≢false, nat_eq, eq-eqb, subst, sym, ap, ◌∙◌, ⊎_elim, arith}
-use Rattle.std.specs.Ordering.{nat_cmp}
+use Rattle.wcp_tree.proofs.Words.{◌≡◌, ◌≢◌, ◌↔◌, ◌||◌, ℕ, ◌+◌, ◌<◌, true, false, true≢false, nat_eq, eq-eqb, subst, sym, ap, ◌∙◌, ⊎_elim, arith, nat_cmp, cases_eq, nat_tests, Numbers}
 use Rattle.std.specs.FinSet as set
-use Rattle.std.proofs.lemmas.Bool.{cases_eq}
-use Rattle.std.proofs.lemmas.Bool.Decides.{nat_tests}
-use Rattle.wcp_lane.specs.Passes.{Numbers}
 use Rattle.wcp_lane.proofs.Marks.{contains_with}
 
 other_number : (q k : ℕ) → q ≢ k → nat_eq q k ≡ false

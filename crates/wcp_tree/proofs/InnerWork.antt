@@ -1,20 +1,7 @@
 -- A relay with a lane stays at work.
-use Rattle.std.proofs.Common.{◌≡◌, ◌≢◌, ℕ, suc, true, false, true≢false, ◌||◌, None, List, [], ◌∷◌, ◌++◌, sym, ap, ◌∙◌, subst, refl, append_assoc, ⊎_elim, arith}
-use Rattle.std.specs.Prelude.{All, IfNone, nat_eq}
+use Rattle.wcp_tree.proofs.Words.{◌≡◌, ◌≢◌, ℕ, suc, true, false, true≢false, ◌||◌, None, List, [], ◌∷◌, ◌++◌, sym, ap, ◌∙◌, subst, refl, append_assoc, ⊎_elim, arith, All, IfNone, nat_eq, nat_cmp, cases_eq, nat_tests, append-nil, Item, is_close, TakeEnd, Numbers, Bundle, Outlet, items_of, EndsWithClose, handed, IsFaithful, IsSound, AreTakenNext, IsSameOutlet, IsInnerAtWork, ItemsMayFollow, AreClosed}
 use Rattle.std.specs.FinSet as set
-use Rattle.std.specs.Ordering.{nat_cmp}
 use Rattle.std.specs.Cmp.{unsigned_tied, nat_cmp_total}
-use Rattle.std.proofs.lemmas.Bool.{cases_eq}
-use Rattle.std.proofs.lemmas.Bool.Decides.{nat_tests}
-use Rattle.std.proofs.lemmas.List.{append-nil}
-use Rattle.wcp_clock.specs.declared.note.Item.{Item}
-use Rattle.wcp_clock.specs.Notes.{is_close}
-use Rattle.wcp_lane.specs.Ends.{TakeEnd}
-use Rattle.wcp_lane.specs.Passes.{Numbers}
-use Rattle.wcp_tree.specs.declared.bundle.Bundle.{Bundle}
-use Rattle.wcp_tree.specs.declared.outlet.Outlet.{Outlet}
-use Rattle.wcp_tree.specs.Feeding.{items_of, EndsWithClose}
-use Rattle.wcp_tree.specs.RelayWork.{handed, IsFaithful, IsSound, AreTakenNext, IsSameOutlet, IsInnerAtWork, ItemsMayFollow, AreClosed}
 use Rattle.wcp_tree.proofs.Accepting.{ItemMayFollow, follow_same}
 use Rattle.wcp_tree.proofs.Lists.{items_of-append, items_of-own, items_of-other}
 use Rattle.wcp_tree.proofs.Faithful.{faithful_same, only_none}

@@ -1,14 +1,6 @@
 -- A leaf stays at work.
-use Rattle.std.proofs.Common.{◌≡◌, ℕ, ◌<◌, true, Option, None, Some, List, [], ◌∷◌, ◌++◌, length, get_or, set, sym, refl, ap, ◌∙◌, subst}
-use Rattle.std.specs.Prelude.{AllPairs, IfNone, IfSome, ◌≢◌, ◌==◌}
-use Rattle.std.specs.List.{list_any}
+use Rattle.wcp_tree.proofs.Words.{◌≡◌, ℕ, ◌<◌, true, Option, None, Some, List, [], ◌∷◌, ◌++◌, length, get_or, set, sym, refl, ap, ◌∙◌, subst, AllPairs, IfNone, IfSome, ◌≢◌, ◌==◌, list_any, All-set, Item, Feed, Outlet, fed, items_of, IsInOrder, IsNextOfProcess, handed, IsSound, IsNextItem, IsNextAfter, IsSameOutlet, IsLeafAtWork}
 use Rattle.std.specs.FinSet as sets
-use Rattle.std.proofs.lemmas.List.Elements.{All-set}
-use Rattle.wcp_clock.specs.declared.note.Item.{Item}
-use Rattle.wcp_tree.specs.declared.feed.Feed.{Feed}
-use Rattle.wcp_tree.specs.declared.outlet.Outlet.{Outlet}
-use Rattle.wcp_tree.specs.Feeding.{fed, items_of, IsInOrder, IsNextOfProcess}
-use Rattle.wcp_tree.specs.RelayWork.{handed, IsSound, IsNextItem, IsNextAfter, IsSameOutlet, IsLeafAtWork}
 use Rattle.wcp_tree.proofs.Fed.{fed-at, fed-set, fed-quiet, next_by, processes-set, process_served}
 use Rattle.wcp_tree.proofs.Faithful.{faithful_more, faithful_same, only_none}
 use Rattle.wcp_tree.proofs.Passing.{if_none}

@@ -1,3 +1,4 @@
+mod Words
 pub mod Ending
 pub mod Faithful
 pub mod Fed

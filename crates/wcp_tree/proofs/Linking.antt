@@ -1,27 +1,7 @@
 -- One relay after another is opened, each after its parent.
-use Rattle.std.proofs.Common.{◌≡◌, ◌≢◌, ℕ, ◌<◌, ◌≤◌, List, [], ◌∷◌, ◌++◌, length, Option, Some, refl, sym, ap, subst, ◌∙◌, ⊎_elim, arith}
-use Rattle.std.specs.Prelude.{slice_get}
-use Rattle.std.proofs.lemmas.Bool.{cases_eq}
-use Rattle.std.proofs.lemmas.List.{length_push}
-use Rattle.std.proofs.lemmas.List.Elements.{All-weaker}
-use Rattle.std.proofs.lemmas.Option.{slice_get-get_or}
-use Rattle.wcp_clock.specs.declared.note.Item.{Item}
-use Rattle.wcp_model.specs.declared.plan.Parent.{Parent}
+use Rattle.wcp_tree.proofs.Words.{◌≡◌, ◌≢◌, ℕ, ◌<◌, ◌≤◌, List, [], ◌∷◌, ◌++◌, length, Option, Some, refl, sym, ap, subst, ◌∙◌, ⊎_elim, arith, slice_get, cases_eq, length_push, All-weaker, slice_get-get_or, Item, Parent, Plan, IsCheckedPlan, leaf_of, parent_of, TakeSide, LaneName, PutEnd, Bundle, Source, Leaf, Inner, AreSeated, IsRelayOf, IsSource, IsFeed, AreLinked, AreSeatedUnder, IsLinked, lane_below, lane_to, IsSeatOf, parent_below}
 use Rattle.wcp_model.specs.declared.plan.Parent.TheVariants as parent
-use Rattle.wcp_model.specs.declared.plan.Plan.{Plan}
-use Rattle.wcp_model.specs.PlanFault.{IsCheckedPlan}
-use Rattle.wcp_model.specs.Tree.{leaf_of, parent_of}
-use Rattle.wcp_ring.specs.Ends.{TakeSide}
-use Rattle.wcp_lane.specs.Ends.{LaneName, PutEnd}
-use Rattle.wcp_tree.specs.declared.bundle.Bundle.{Bundle}
 use Rattle.wcp_tree.specs.declared.relay.Relay.{Relay}
-use Rattle.wcp_tree.specs.declared.source.Source.{Source}
-use Rattle.wcp_tree.specs.declared.source.Source.TheVariants.{Leaf, Inner}
-use Rattle.wcp_tree.specs.Relays.{AreSeated, IsRelayOf, IsSource}
-use Rattle.wcp_tree.specs.Rings.{IsFeed}
-use Rattle.wcp_tree.specs.Watches.{AreLinked, AreSeatedUnder, IsLinked, lane_below, lane_to}
-use Rattle.wcp_tree.specs.Wiring.{IsSeatOf}
-use Rattle.wcp_model.proofs.CheckedPlans.{parent_below}
 use Rattle.wcp_tree.proofs.Entries.{last_entry, earlier_entry}
 
 -- the owner takes from a lane while k relays are open

@@ -1,12 +1,6 @@
 -- Runs, and the items of one process in a list.
-use Rattle.std.proofs.Common.{◌≡◌, ◌≢◌, ℕ, Bool, true, false, List, [], ◌∷◌, ◌++◌, cond, ap, arith}
-use Rattle.std.specs.Prelude.{◌==◌}
-use Rattle.std.proofs.lemmas.Bool.Decides.{nat_tests}
-use Rattle.std.proofs.lemmas.List.Elements.{filter-append}
-use Rattle.wcp_clock.specs.declared.note.Item.{Item}
-use Rattle.wcp_model.specs.LaneRule.{AreInSequence}
+use Rattle.wcp_tree.proofs.Words.{◌≡◌, ◌≢◌, ℕ, Bool, true, false, List, [], ◌∷◌, ◌++◌, cond, ap, arith, ◌==◌, nat_tests, filter-append, Item, AreInSequence, items_of}
 use Rattle.wcp_lane.proofs.Lists.{not_empty}
-use Rattle.wcp_tree.specs.Feeding.{items_of}
 
 module _ {I : Type 0} (place : I → ℕ) (is_last : I → Bool) where
   -- no item is a run

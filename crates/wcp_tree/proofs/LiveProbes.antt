@@ -1,16 +1,8 @@
 -- Live probes that are fresh, and that stay the same.
-use Rattle.std.proofs.Common.{◌≡◌, ℕ, ◌<◌, None, List, [], ◌∷◌, ◌++◌, length, replicate, refl, sym, ap, subst, ◌∙◌, append-nil, arith}
-use Rattle.std.specs.Prelude.{Result, Ok, Err, OnOk, OnErr}
+use Rattle.wcp_tree.proofs.Words.{◌≡◌, ℕ, ◌<◌, None, List, [], ◌∷◌, ◌++◌, length, replicate, refl, sym, ap, subst, ◌∙◌, append-nil, arith, Result, Ok, Err, OnOk, OnErr, length-replicate, Note, Item, Call, AreRising, clocks_taken, notes_taken, snapshot_clocks, snapshot_clocks-append, HasLog, IsSameLive, LiveAccepts, LiveFor, LiveSide, NotesRise, emitted_by, fresh_core}
 use Rattle.std.proofs.Math.Logic.{∥∥₁_map, ∥∥₁_elim}
 use Rattle.std.proofs.Props.{props}
-use Rattle.std.proofs.lemmas.List.{length-replicate}
-use Rattle.wcp_clock.specs.declared.note.Note.{Note}
 use Rattle.wcp_clock.specs.declared.note.Note.TheVariants as note
-use Rattle.wcp_clock.specs.declared.note.Item.{Item}
-use Rattle.wcp_model.specs.ProbeLog.{Call}
-use Rattle.wcp_model.specs.Report.{AreRising, clocks_taken, notes_taken, snapshot_clocks}
-use Rattle.wcp_model.proofs.NotesInTurn.{snapshot_clocks-append}
-use Rattle.wcp_tree.specs.LiveProbe.{HasLog, IsSameLive, LiveAccepts, LiveFor, LiveSide, NotesRise, emitted_by, fresh_core}
 use Rattle.wcp_tree.proofs.RisingLogs.{log_clocks_rise}
 
 -- before any call, a probe stands for no calls

@@ -1,18 +1,6 @@
 -- One ring after another is opened, and one feed after another is taken.
-use Rattle.std.proofs.Common.{◌≡◌, ◌≢◌, ◌==◌, ◌||◌, ◌⊎◌, ℕ, ◌+◌, ◌<◌, ◌≤◌, true, false, List, [], ◌∷◌, ◌++◌, length, get_or, All, Option, Some, None, eqb-true, eq-eqb, refl, sym, ap, subst, ◌∙◌, inl, inr, ⊎_elim, arith}
-use Rattle.std.specs.Prelude.{slice_get, slice_set}
-use Rattle.std.specs.List.{list_any}
-use Rattle.std.proofs.lemmas.Bool.{cases_eq}
-use Rattle.std.proofs.lemmas.List.{length-set, length_push}
-use Rattle.std.proofs.lemmas.List.Elements.{All-push, All-weaker}
-use Rattle.std.proofs.lemmas.List.Folds.{list_any-append}
+use Rattle.wcp_tree.proofs.Words.{◌≡◌, ◌≢◌, ◌==◌, ◌||◌, ◌⊎◌, ℕ, ◌+◌, ◌<◌, ◌≤◌, true, false, List, [], ◌∷◌, ◌++◌, length, get_or, All, Option, Some, None, eqb-true, eq-eqb, refl, sym, ap, subst, ◌∙◌, inl, inr, ⊎_elim, arith, slice_get, slice_set, list_any, cases_eq, length-set, length_push, All-push, All-weaker, list_any-append, Plan, leaf_of, TakeSide, Feed, LiveSide, fresh_core, IsTakerAt, AreRings, IsFeed, AreFeeds}
 use Rattle.std.proofs.lemmas.List.Quantifiers.{all_pairs_push}
-use Rattle.wcp_model.specs.declared.plan.Plan.{Plan}
-use Rattle.wcp_model.specs.Tree.{leaf_of}
-use Rattle.wcp_ring.specs.Ends.{TakeSide}
-use Rattle.wcp_tree.specs.declared.feed.Feed.{Feed}
-use Rattle.wcp_tree.specs.LiveProbe.{LiveSide, fresh_core}
-use Rattle.wcp_tree.specs.Rings.{IsTakerAt, AreRings, IsFeed, AreFeeds}
 use Rattle.wcp_tree.proofs.Entries.{set_elsewhere, last_entry, earlier_entry, taken_out}
 
 module _ (plan : Plan) (watch : ℕ) where

@@ -1,12 +1,5 @@
 -- A feed stays in order as it takes the next note of its process.
-use Rattle.std.proofs.Common.{◌≡◌, ◌+◌, true, false, true≢false, [], ◌∷◌, ◌++◌, length, length-append, sym, ap, ◌∙◌, subst, arith}
-use Rattle.std.proofs.lemmas.List.Elements.{All-push}
-use Rattle.wcp_clock.specs.declared.note.Note.{Note}
-use Rattle.wcp_model.specs.LaneRule.{AreInSequence}
-use Rattle.wcp_clock.specs.Notes.{place_of, is_close}
-use Rattle.wcp_lane.proofs.Steps.{AreInSequence-push}
-use Rattle.wcp_tree.specs.declared.feed.Feed.{Feed}
-use Rattle.wcp_tree.specs.Feeding.{IsInOrder, IsNextOfProcess}
+use Rattle.wcp_tree.proofs.Words.{◌≡◌, ◌+◌, true, false, true≢false, [], ◌∷◌, ◌++◌, length, length-append, sym, ap, ◌∙◌, subst, arith, All-push, Note, AreInSequence, place_of, is_close, AreInSequence-push, Feed, IsInOrder, IsNextOfProcess}
 
 -- a note at the place that is counted is the next one
 pub next_note : (feed : Feed) (note : Note) → IsInOrder feed → feed.closed ≡ false → place_of note ≡ feed.next → IsNextOfProcess feed.taker.taken note

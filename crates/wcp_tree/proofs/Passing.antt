@@ -1,22 +1,6 @@
 -- An outlet stays sound as it passes an item on, and as it takes one in.
-use Rattle.std.proofs.Common.{◌≡◌, ◌≢◌, ℕ, ◌<◌, true, false, Option, None, Some, List, [], ◌∷◌, ◌++◌, length, drop, length-append, sym, refl, ap, ◌∙◌, subst, ⊎_elim, append_assoc, rules, arith}
-use Rattle.std.specs.Prelude.{All, slice_get, Result, Ok, Err, IsErr, OnOk, IfNone}
-use Rattle.std.specs.Option.{is_some}
+use Rattle.wcp_tree.proofs.Words.{◌≡◌, ◌≢◌, ℕ, ◌<◌, true, false, Option, None, Some, List, [], ◌∷◌, ◌++◌, length, drop, length-append, sym, refl, ap, ◌∙◌, subst, ⊎_elim, append_assoc, rules, arith, All, slice_get, Result, Ok, Err, IsErr, OnOk, IfNone, is_some, cases_eq, append-nil, drop_at, All-drop, All-push, Item, IsNext, place_of, is_close, PutEnd, All-front, AreInSequence-push, may_follow, Held, Bundle, Outlet, items_of, IsFirstBundle, handed, IsNextItem, AreItemsInSequence, IsSound, ItemsMayFollow}
 use Rattle.std.specs.FinSet as set
-use Rattle.std.proofs.lemmas.Bool.{cases_eq}
-use Rattle.std.proofs.lemmas.List.{append-nil, drop_at}
-use Rattle.std.proofs.lemmas.List.Elements.{All-drop, All-push}
-use Rattle.wcp_clock.specs.declared.note.Item.{Item}
-use Rattle.wcp_model.specs.LaneRule.{IsNext}
-use Rattle.wcp_clock.specs.Notes.{place_of, is_close}
-use Rattle.wcp_lane.specs.Ends.{PutEnd}
-use Rattle.wcp_lane.proofs.Steps.{All-front, AreInSequence-push, may_follow}
-use Rattle.wcp_hold.specs.Held.{Held}
-use Rattle.wcp_tree.specs.declared.bundle.Bundle.{Bundle}
-use Rattle.wcp_tree.specs.declared.outlet.Outlet.{Outlet}
-use Rattle.wcp_tree.specs.Feeding.{items_of}
-use Rattle.wcp_tree.specs.Bundles.{IsFirstBundle}
-use Rattle.wcp_tree.specs.RelayWork.{handed, IsNextItem, AreItemsInSequence, IsSound, ItemsMayFollow}
 use Rattle.wcp_tree.proofs.Lists.{items_of-append, items_of-own, items_of-other}
 
 -- the first bundle may follow what was put

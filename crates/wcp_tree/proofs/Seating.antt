@@ -1,12 +1,5 @@
 -- The children of an owner take their seats, from the last relay to the first.
-use Rattle.std.proofs.Common.{◌≡◌, ◌≢◌, ℕ, ◌+◌, ◌<◌, ◌≤◌, List, [], ◌∷◌, ◌++◌, length, Option, Some, refl, sym, ap, ◌∙◌, ⊎_elim, arith}
-use Rattle.std.specs.Prelude.{slice_get, slice_set}
-use Rattle.std.proofs.lemmas.Bool.{cases_eq}
-use Rattle.std.proofs.lemmas.List.{length-set, length_push}
-use Rattle.std.proofs.lemmas.Option.{slice_get_within}
-use Rattle.wcp_model.specs.declared.plan.Parent.{Parent}
-use Rattle.wcp_model.specs.declared.plan.Plan.{Plan}
-use Rattle.wcp_model.specs.Tree.{parent_of}
+use Rattle.wcp_tree.proofs.Words.{◌≡◌, ◌≢◌, ℕ, ◌+◌, ◌<◌, ◌≤◌, List, [], ◌∷◌, ◌++◌, length, Option, Some, refl, sym, ap, ◌∙◌, ⊎_elim, arith, slice_get, slice_set, cases_eq, length-set, length_push, slice_get_within, Parent, Plan, parent_of}
 use Rattle.wcp_tree.proofs.Entries.{set_here, set_elsewhere, last_entry, earlier_entry}
 
 module _ {X : Type 0} (plan : Plan) (owner : Parent) (ends : List X) (before : List (Option X)) where

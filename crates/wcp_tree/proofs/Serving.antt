@@ -1,28 +1,6 @@
 -- Whom a leaf serves, and whom the other relays.
-use Rattle.std.proofs.Common.{◌≡◌, ◌≢◌, ◌==◌, ◌↔◌, ℕ, suc, Bool, true, false, true≢false, List, [], ◌∷◌, ◌<◌, ◌||◌, AllPairs, length, get_or, arith, Option, Some, refl, sym, ap, ◌∙◌, ⊎_elim}
+use Rattle.wcp_tree.proofs.Words.{◌≡◌, ◌≢◌, ◌==◌, ◌↔◌, ℕ, suc, Bool, true, false, true≢false, List, [], ◌∷◌, ◌<◌, ◌||◌, AllPairs, length, get_or, arith, Option, Some, refl, sym, ap, ◌∙◌, ⊎_elim, list_any, slice_get, option_flatten, cases_eq, length-map, get_or-map, All-weaker, Any-from_list_any, slice_get-get_or, Root, Relay, Plan, IsCheckedPlan, is_number, is_leaf, leaf_of, parent_of, Numbers, Itself, IsBelow, AreBelow, TakeSide, Feed, Source, Leaf, Inner, IsNewFeed, Serves, processes_of, IsSource, IsFeed, AreBelowChildren, all_served, attached_exists, has_leaf, is_its_leaf, is_its_number, not_mixed}
 use Rattle.std.specs.FinSet as set
-use Rattle.std.specs.List.{list_any, slice_get}
-use Rattle.std.specs.Option.{option_flatten}
-use Rattle.std.proofs.lemmas.Bool.{cases_eq}
-use Rattle.std.proofs.lemmas.List.{length-map, get_or-map}
-use Rattle.std.proofs.lemmas.List.Elements.{All-weaker}
-use Rattle.std.proofs.lemmas.List.Folds.{Any-from_list_any}
-use Rattle.std.proofs.lemmas.Option.{slice_get-get_or}
-use Rattle.wcp_model.specs.declared.plan.Parent.TheVariants.{Root, Relay}
-use Rattle.wcp_model.specs.declared.plan.Plan.{Plan}
-use Rattle.wcp_model.specs.PlanFault.{IsCheckedPlan}
-use Rattle.wcp_model.specs.Tree.{is_number, is_leaf, leaf_of, parent_of}
-use Rattle.wcp_lane.specs.Passes.{Numbers}
-use Rattle.wcp_tree.specs.Members.{Itself, IsBelow, AreBelow}
-use Rattle.wcp_ring.specs.Ends.{TakeSide}
-use Rattle.wcp_tree.specs.declared.feed.Feed.{Feed}
-use Rattle.wcp_tree.specs.declared.source.Source.{Source}
-use Rattle.wcp_tree.specs.declared.source.Source.TheVariants.{Leaf, Inner}
-use Rattle.wcp_tree.specs.Feeding.{IsNewFeed, Serves, processes_of}
-use Rattle.wcp_tree.specs.Relays.{IsSource}
-use Rattle.wcp_tree.specs.Rings.{IsFeed}
-use Rattle.wcp_tree.specs.Wiring.{AreBelowChildren}
-use Rattle.wcp_model.proofs.CheckedPlans.{all_served, attached_exists, has_leaf, is_its_leaf, is_its_number, not_mixed}
 use Rattle.wcp_tree.proofs.Climbs.{members_pass_up, child_is_met, root_is_reached}
 
 module _ (plan : Plan) (checked : IsCheckedPlan plan) (relay : ℕ) where

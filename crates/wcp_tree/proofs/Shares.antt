@@ -1,24 +1,6 @@
 -- The sets of a lane: they are apart, and together they are the processes below the owner's children.
-use Rattle.std.proofs.Common.{◌≡◌, ◌≢◌, ◌⊎◌, ℕ, ◌<◌, true, true≢false, List, [], ◌∷◌, ◌++◌, length, map, get_or, Some, refl, sym, ap, subst, ◌∙◌, inl, inr, ⊎_elim, arith}
-use Rattle.std.specs.Ordering.{nat_cmp}
+use Rattle.wcp_tree.proofs.Words.{◌≡◌, ◌≢◌, ◌⊎◌, ℕ, ◌<◌, true, true≢false, List, [], ◌∷◌, ◌++◌, length, map, get_or, Some, refl, sym, ap, subst, ◌∙◌, inl, inr, ⊎_elim, arith, nat_cmp, list_any, slice_get, cases_eq, get_or_push, get_or_append_left, length_push, Any-from_list_any, list_any_at, slice_get_within, slice_get-get_or, Parent, Root, Relay, Plan, IsCheckedPlan, parent_of, Item, LaneName, PutEnd, new_putter, AreApart, Numbers, Bundle, IsBelow, IsShareOf, AreShares, AreBelowChildren, IsSeatOf}
 use Rattle.std.specs.FinSet as set
-use Rattle.std.specs.List.{list_any, slice_get}
-use Rattle.std.proofs.lemmas.Bool.{cases_eq}
-use Rattle.std.proofs.lemmas.List.{get_or_push, get_or_append_left, length_push}
-use Rattle.std.proofs.lemmas.List.Folds.{Any-from_list_any, list_any_at}
-use Rattle.std.proofs.lemmas.Option.{slice_get_within, slice_get-get_or}
-use Rattle.wcp_model.specs.declared.plan.Parent.{Parent}
-use Rattle.wcp_model.specs.declared.plan.Parent.TheVariants.{Root, Relay}
-use Rattle.wcp_model.specs.declared.plan.Plan.{Plan}
-use Rattle.wcp_model.specs.PlanFault.{IsCheckedPlan}
-use Rattle.wcp_model.specs.Tree.{parent_of}
-use Rattle.wcp_clock.specs.declared.note.Item.{Item}
-use Rattle.wcp_lane.specs.Ends.{LaneName, PutEnd, new_putter}
-use Rattle.wcp_lane.specs.Owners.{AreApart}
-use Rattle.wcp_lane.specs.Passes.{Numbers}
-use Rattle.wcp_tree.specs.declared.bundle.Bundle.{Bundle}
-use Rattle.wcp_tree.specs.Members.{IsBelow}
-use Rattle.wcp_tree.specs.Wiring.{IsShareOf, AreShares, AreBelowChildren, IsSeatOf}
 use Rattle.wcp_tree.proofs.Entries.{mapped_at}
 use Rattle.wcp_tree.proofs.Climbs.{siblings_apart}
 

@@ -1,12 +1,8 @@
 -- The probes of a wired watch are fresh.
-use Rattle.std.proofs.Common.{◌≡◌, ℕ, Some, sym, ap, ◌∙◌, arith}
-use Rattle.std.proofs.lemmas.Option.{slice_get_within}
+use Rattle.wcp_worker.proofs.Words.{◌≡◌, ℕ, Some, sym, ap, ◌∙◌, arith, slice_get_within, Core, LiveSide, fresh_core, AreFreshProbes}
 use Rattle.wcp_model.specs.declared.plan.Plan.{Plan}
-use Rattle.wcp_probe.specs.Core.{Core}
 use Rattle.wcp_tree.specs.declared.parts.Watch.{Watch}
-use Rattle.wcp_tree.specs.LiveProbe.{LiveSide, fresh_core}
 use Rattle.wcp_tree.specs.Watches.{IsWired}
-use Rattle.wcp_worker.specs.Workers.{AreFreshProbes}
 
 pub probes_fresh : (plan : Plan) (number : ℕ) (watch : Watch) → IsWired plan number watch → AreFreshProbes plan.n watch.probes.items
 probes_fresh plan number watch wired =

@@ -1,3 +1,4 @@
+mod Words
 pub mod TakenMore
 pub mod OneMoreAction
 pub mod NewLanes

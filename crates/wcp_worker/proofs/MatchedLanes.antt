@@ -1,20 +1,8 @@
 -- The lanes among the mailboxes of all processes, as their ends are taken out.
-use Rattle.std.proofs.Common.{◌≡◌, ◌≢◌, ◌↔◌, ℕ, Option, Some, None, Result, Ok, Err, List, length, slice_get, slice_set, get_or, inl, inr, true, true≢false, refl, ap, sym, ◌∙◌, ◌<◌, subst₂, arith}
-use Rattle.std.proofs.lemmas.List.{length-map, length-set}
-use Rattle.std.specs.Prelude.{slice_index_or, IsOk, OnOk}
+use Rattle.wcp_worker.proofs.Words.{◌≡◌, ◌≢◌, ◌↔◌, ℕ, Option, Some, None, Result, Ok, Err, List, length, slice_get, slice_set, get_or, inl, inr, true, true≢false, refl, ap, sym, ◌∙◌, ◌<◌, subst₂, arith, length-map, length-set, slice_index_or, IsOk, OnOk, slice_get_within, slice_get-get_or, set_here, set_elsewhere, Inbox, Outbox, Mailbox, seal_of, Message, IfBoth, messages_from, messages_put, messages_taken, clocks_from, outbox_to, inbox_from, outbox_of, inbox_of, ends_between, AreAllTaken, AreMatched, AreOfLane, IsAllTaken, IsLaneOf}
 use Rattle.std.specs.FinSet as set
 use Rattle.std.proofs.lemmas.Bool.{cases_eq}
-use Rattle.std.proofs.lemmas.Option.{slice_get_within, slice_get-get_or}
-use Rattle.wcp_tree.proofs.Entries.{set_here, set_elsewhere}
-use Rattle.wcp_worker.specs.declared.lanes.Inbox.{Inbox}
-use Rattle.wcp_worker.specs.declared.lanes.Outbox.{Outbox}
-use Rattle.wcp_worker.specs.declared.mailbox.Mailbox.{Mailbox}
 use Rattle.wcp_lane.specs.declared.fault.Unfinished.{Unfinished}
-use Rattle.wcp_probe.specs.Seal.{seal_of}
-use Rattle.wcp_worker.specs.declared.message.Message.{Message}
-use Rattle.wcp_worker.specs.Lanes.{IfBoth, messages_from, messages_put, messages_taken, clocks_from}
-use Rattle.wcp_worker.specs.Mailboxes.{outbox_to, inbox_from}
-use Rattle.wcp_worker.specs.Runs.{outbox_of, inbox_of, ends_between, AreAllTaken, AreMatched, AreOfLane, IsAllTaken, IsLaneOf}
 
 -- what is the same of one that was changed is the same of each
 same_of_each : {X Y : Type 0} (f : Option X → Y) (xs : List X) (k : ℕ) (old new : X) (a : ℕ)

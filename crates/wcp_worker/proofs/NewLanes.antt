@@ -1,17 +1,10 @@
 -- A lane that was just made for the messages of one process.
-use Rattle.std.proofs.Common.{◌≡◌, ℕ, true, false, ◌||◌, [], ◌∷◌, length, refl, sym, ap, ◌∙◌, subst, arith}
-use Rattle.std.specs.Prelude.{nat_eq}
+use Rattle.wcp_worker.proofs.Words.{◌≡◌, ℕ, true, false, ◌||◌, [], ◌∷◌, length, refl, sym, ap, ◌∙◌, subst, arith, nat_eq, list_any, Numbers, PutEnd, TakeEnd, new_putter, alone, alone_has, contains_with, Message, IsNewLane, messages_from}
 use Rattle.std.specs.Ordering.{nat_cmp}
 use Rattle.std.specs.FinSet as set
-use Rattle.std.specs.List.{list_any}
 use Rattle.std.proofs.lemmas.Bool.Decides.{nat_tests}
-use Rattle.wcp_lane.specs.Passes.{Numbers}
-use Rattle.wcp_lane.specs.Ends.{PutEnd, TakeEnd, new_putter}
-use Rattle.wcp_lane.proofs.Marks.{alone, alone_has, contains_with}
 use Rattle.wcp_ring.specs.declared.sleeper.Bell.{Bell}
 use Rattle.wcp_ring.specs.declared.sleeper.Sleeper.{Sleeper}
-use Rattle.wcp_worker.specs.declared.message.Message.{Message}
-use Rattle.wcp_worker.specs.Lanes.{IsNewLane, messages_from}
 
 -- the set of one number has no other
 has_no_other : (p q : ℕ) → set.contains (alone p) q ≡ true → q ≡ p

@@ -1,20 +1,6 @@
 -- What a player has done, with one more action, and once it is closed.
-use Rattle.std.proofs.Common.{◌≡◌, ℕ, Bool, true, false, List, [], ◌∷◌, ◌++◌, cond, sym, refl, ap, ◌∙◌, subst}
-use Rattle.std.proofs.lemmas.List.{append-nil}
-use Rattle.wcp_model.specs.declared.workload.Action.{Action}
-use Rattle.wcp_model.specs.ProbeLog.{Call, Closed, ProbeSetup, state_of_log}
-use Rattle.wcp_model.specs.TaskLog.{FollowsActions, stamp_of, stamps_sent, stamps_got}
-use Rattle.wcp_model.specs.WorkloadComputation.{is_send_to, is_receive_from}
+use Rattle.wcp_worker.proofs.Words.{◌≡◌, ℕ, Bool, true, false, List, [], ◌∷◌, ◌++◌, cond, sym, refl, ap, ◌∙◌, subst, append-nil, Action, Call, Closed, ProbeSetup, state_of_log, FollowsActions, stamp_of, stamps_sent, stamps_got, is_send_to, is_receive_from, setup_of, ClosedSide, HasEmitted, IsEndOfProbe, IsSameLive, same_live, Mailbox, Player, Worker, IfBoth, HasTakenMore, IsSameOutbox, IsSameInbox, HasSameLanes, outbox_to, inbox_from, clocks_sent_to, clocks_taken_from, DoesAction, HasDoneActions, HasPlayed}
 use Rattle.wcp_model.proofs.TaskLogs.{FollowsActions-push, stamps_sent-push, stamps_sent-push_other, stamps_got-push, stamps_got-push_other}
-use Rattle.wcp_probe.specs.Core.{setup_of}
-use Rattle.wcp_tree.specs.LiveProbe.{ClosedSide, HasEmitted, IsEndOfProbe, IsSameLive}
-use Rattle.wcp_tree.proofs.LiveProbes.{same_live}
-use Rattle.wcp_worker.specs.declared.mailbox.Mailbox.{Mailbox}
-use Rattle.wcp_worker.specs.declared.player.Player.{Player}
-use Rattle.wcp_worker.specs.declared.worker.Worker.{Worker}
-use Rattle.wcp_worker.specs.Lanes.{IfBoth, HasTakenMore, IsSameOutbox, IsSameInbox}
-use Rattle.wcp_worker.specs.Mailboxes.{HasSameLanes, outbox_to, inbox_from, clocks_sent_to, clocks_taken_from}
-use Rattle.wcp_worker.specs.Played.{DoesAction, HasDoneActions, HasPlayed}
 use Rattle.wcp_worker.proofs.TakenMore.{both_then, entry_same, entry_front}
 
 same_lanes : (a b c : Mailbox) → HasSameLanes a b → HasSameLanes b c → HasSameLanes a c

@@ -1,15 +1,5 @@
 -- Rows of lanes, as they are opened one by one.
-use Rattle.std.proofs.Common.{◌≡◌, ◌≢◌, ◌⊎◌, ℕ, ◌+◌, ◌<◌, ◌≤◌, Option, None, List, [], ◌∷◌, ◌++◌, length, get_or, set, Vec, Global, sym, ap, ◌∙◌, subst, ⊎_elim, arith}
-use Rattle.std.specs.Prelude.{count_by}
-use Rattle.std.proofs.lemmas.List.{get_or-set_same, get_or-set_other, get_or_default, get_or_push, get_or_append_left, length-append, length-set}
-use Rattle.wcp_model.specs.declared.workload.Action.{Action}
-use Rattle.wcp_model.specs.WorkloadComputation.{is_send_to}
-use Rattle.wcp_worker.specs.declared.lanes.Outbox.{Outbox}
-use Rattle.wcp_worker.specs.declared.lanes.Inbox.{Inbox}
-use Rattle.wcp_worker.specs.declared.worker.Worker.{Worker}
-use Rattle.wcp_worker.specs.Lanes.{IsLaneFor}
-use Rattle.wcp_worker.specs.Mailboxes.{outbox_to, inbox_from}
-use Rattle.wcp_worker.specs.Opening.{IsSameButInboxes, HasRow, HaveLanes}
+use Rattle.wcp_worker.proofs.Words.{◌≡◌, ◌≢◌, ◌⊎◌, ℕ, ◌+◌, ◌<◌, ◌≤◌, Option, None, List, [], ◌∷◌, ◌++◌, length, get_or, set, Vec, Global, sym, ap, ◌∙◌, subst, ⊎_elim, arith, count_by, get_or-set_same, get_or-set_other, get_or_default, get_or_push, get_or_append_left, length-append, length-set, Action, is_send_to, Outbox, Inbox, Worker, IsLaneFor, outbox_to, inbox_from, IsSameButInboxes, HasRow, HaveLanes}
 
 -- what holds of an entry once one is written
 pub written : {X : Type 0} (P : X → Type 0) (xs : List X) (k j : ℕ) (x d : X) → k < length xs

@@ -1,25 +1,6 @@
 -- The workers of a workload, once all their lanes are opened.
-use Rattle.std.proofs.Common.{◌≡◌, ◌⊎◌, ℕ, ◌<◌, ◌≤◌, Option, Some, None, List, [], ◌++◌, length, map, filter, get_or, All, refl, sym, ap, ◌∙◌, subst, ⊎_elim, arith}
-use Rattle.std.specs.Prelude.{IfSome, slice_get, count_by}
-use Rattle.std.proofs.lemmas.List.{get_or_past, length-map}
+use Rattle.wcp_worker.proofs.Words.{◌≡◌, ◌⊎◌, ℕ, ◌<◌, ◌≤◌, Option, Some, None, List, [], ◌++◌, length, map, filter, get_or, All, refl, sym, ap, ◌∙◌, subst, ⊎_elim, arith, IfSome, slice_get, count_by, get_or_past, length-map, get_or_from_slice_get, slice_get-get_or, slice_get_within, Task, actions_of, is_task_of, is_send_to, Core, LiveSide, LiveFor, fresh_stands, mapped_at, Outbox, Inbox, Player, Worker, IsOutboxOf, IsInboxOf, IfBoth, IsSameOutbox, IsSameInbox, IsLaneFor, messages_put, messages_taken, clocks_from, outbox_to, inbox_from, clocks_sent_to, IsFreshPlayer, IsIdle, HasTasks, HaveLanes, AreFreshProbes, AreWorkersOf}
 use Rattle.std.proofs.lemmas.List.Sums.{length-filter, count_by-le-length}
-use Rattle.std.proofs.lemmas.Option.{get_or_from_slice_get, slice_get-get_or, slice_get_within}
-use Rattle.wcp_model.specs.declared.workload.Task.{Task}
-use Rattle.wcp_model.specs.TaskLog.{actions_of}
-use Rattle.wcp_model.specs.WorkloadComputation.{is_task_of, is_send_to}
-use Rattle.wcp_probe.specs.Core.{Core}
-use Rattle.wcp_tree.specs.LiveProbe.{LiveSide, LiveFor}
-use Rattle.wcp_tree.proofs.LiveProbes.{fresh_stands}
-use Rattle.wcp_tree.proofs.Entries.{mapped_at}
-use Rattle.wcp_worker.specs.declared.lanes.Outbox.{Outbox}
-use Rattle.wcp_worker.specs.declared.lanes.Inbox.{Inbox}
-use Rattle.wcp_worker.specs.declared.player.Player.{Player}
-use Rattle.wcp_worker.specs.declared.worker.Worker.{Worker}
-use Rattle.wcp_worker.specs.Lanes.{IsOutboxOf, IsInboxOf, IfBoth, IsSameOutbox, IsSameInbox, IsLaneFor, messages_put, messages_taken, clocks_from}
-use Rattle.wcp_worker.specs.Mailboxes.{outbox_to, inbox_from, clocks_sent_to}
-use Rattle.wcp_worker.specs.Played.{IsFreshPlayer}
-use Rattle.wcp_worker.specs.Opening.{IsIdle, HasTasks, HaveLanes}
-use Rattle.wcp_worker.specs.Workers.{AreFreshProbes, AreWorkersOf}
 use Rattle.wcp_worker.proofs.OpenedRows.{lane_along}
 
 -- an end that is new

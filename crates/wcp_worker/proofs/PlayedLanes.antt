@@ -1,10 +1,6 @@
 -- The lanes between workers that have played.
-use Rattle.std.proofs.Common.{ℕ, Option, Some, None, sym, ap, ◌∙◌}
+use Rattle.wcp_worker.proofs.Words.{ℕ, Option, Some, None, sym, ap, ◌∙◌, Inbox, Outbox, IfBoth, IsNewLane, IsSameOutbox, IsSameInbox, AreOfLane}
 use Rattle.std.specs.FinSet as set
-use Rattle.wcp_worker.specs.declared.lanes.Inbox.{Inbox}
-use Rattle.wcp_worker.specs.declared.lanes.Outbox.{Outbox}
-use Rattle.wcp_worker.specs.Lanes.{IfBoth, IsNewLane, IsSameOutbox, IsSameInbox}
-use Rattle.wcp_worker.specs.Runs.{AreOfLane}
 
 -- the ends of a new lane are of it as long as each end keeps its lane
 pub ends_of_lane : (p count : ℕ) (a b : Option Outbox) (c d : Option Inbox) → IfBoth (IsNewLane p count) a c → IfBoth IsSameOutbox a b → IfBoth IsSameInbox c d → AreOfLane p (b, d)

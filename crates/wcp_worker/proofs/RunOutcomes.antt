@@ -1,19 +1,12 @@
 -- The outcome of a run in threads, from what its workers and its checker left.
-use Rattle.std.proofs.Common.{◌≡◌, ℕ, ◌<◌, List, [], ◌∷◌, ◌++◌, All, Some, slice_get, sym, ap, subst, ◌∙◌, arith}
+use Rattle.wcp_worker.proofs.Words.{◌≡◌, ℕ, ◌<◌, List, [], ◌∷◌, ◌++◌, All, Some, slice_get, sym, ap, subst, ◌∙◌, arith, Task, Call, Closed, ProbeSetup, setup, state_of_log, actions_of, FollowsActions, stamps_sent, stamps_got, AreLogsOfTasks, IsWithin, Mailbox, clocks_sent_to, clocks_taken_from, HasRun, HaveRun}
 use Rattle.wcp_clock.specs.declared.note.Item.{Item}
 use Rattle.wcp_model.specs.declared.outcome.Outcome.{Outcome}
-use Rattle.wcp_model.specs.declared.workload.Task.{Task}
 use Rattle.wcp_model.specs.Outcome.{IsWorkloadOutcome}
-use Rattle.wcp_model.specs.ProbeLog.{Call, Closed, ProbeSetup, setup, state_of_log}
 use Rattle.wcp_model.specs.Report.{notes_taken}
-use Rattle.wcp_model.specs.TaskLog.{actions_of, FollowsActions, stamps_sent, stamps_got, AreLogsOfTasks}
-use Rattle.wcp_model.specs.WorkloadComputation.{IsWithin}
 use Rattle.wcp_model.proofs.Choosing.{choice_from_each}
 use Rattle.wcp_model.proofs.SamePlace.{element_within}
 use Rattle.wcp_model.proofs.TakenOutcomes.{IsOutcomeOfItems, IsWorkloadOutcome-taken}
-use Rattle.wcp_worker.specs.declared.mailbox.Mailbox.{Mailbox}
-use Rattle.wcp_worker.specs.Mailboxes.{clocks_sent_to, clocks_taken_from}
-use Rattle.wcp_worker.specs.Runs.{HasRun, HaveRun}
 
 -- what one process that ran tells of its log
 module _ (n : ℕ) (tasks : List Task) (items : List Item) (p : ℕ) (log : List Call) (mailbox : Mailbox) (run : HasRun n tasks items p log mailbox) where

@@ -1,12 +1,7 @@
 -- What came by an end, as more of it comes.
-use Rattle.std.proofs.Common.{◌≡◌, ℕ, zero, suc, true, Option, Some, None, List, [], ◌∷◌, ◌++◌, sym, refl, ap, ◌∙◌, subst, append_assoc}
-use Rattle.std.specs.Prelude.{slice_set, slice_index_or, IfSome}
+use Rattle.wcp_worker.proofs.Words.{◌≡◌, ℕ, zero, suc, true, Option, Some, None, List, [], ◌∷◌, ◌++◌, sym, refl, ap, ◌∙◌, subst, append_assoc, slice_set, slice_index_or, IfSome, append-nil, Numbers, Inbox, IsInboxOf, IsSameInbox, HasTakenMore, IfBoth, messages_taken, clocks_from}
 use Rattle.std.specs.FinSet as set
-use Rattle.std.proofs.lemmas.List.{append-nil}
 use mathlib.Core.List.{IsPrefix}
-use Rattle.wcp_lane.specs.Passes.{Numbers}
-use Rattle.wcp_worker.specs.declared.lanes.Inbox.{Inbox}
-use Rattle.wcp_worker.specs.Lanes.{IsInboxOf, IsSameInbox, HasTakenMore, IfBoth, messages_taken, clocks_from}
 
 -- what holds of each entry holds of each once one is written of which it holds
 pub each_entry : {X : Type 0} (P : ℕ → Option X → Type 0) (xs : List (Option X)) (k : ℕ) (x : Option X)

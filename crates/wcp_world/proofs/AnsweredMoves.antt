@@ -26,10 +26,6 @@ pub without_first : {X : Type 0} (xs : List X) → slice_get xs 0 ≡ None → x
 without_first [] none = refl
 without_first (x ∷ xs) none = cc
 
--- a place that was read
-pub place_read : (places : List Held) (i : ℕ) (read : Held) → i < length places → read ≡ get_or places i read → read ≡ held_at places i
-place_read places i read within is = is ∙ get_or_default places i read (record { items = []; room = 0 }) within
-
 -- two plans that are the same number their places alike
 pub number_same : (a b : Plan) → IsSamePlan a b → (x : Place) → place_number a x ≡ place_number b x
 number_same a b same x = grind arith

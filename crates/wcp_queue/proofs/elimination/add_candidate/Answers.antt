@@ -1,6 +1,4 @@
-use Rattle.std.proofs.Common.{◌++◌, ◌∷◌, [], sym, ◌∙◌, ap}
-use Rattle.std.proofs.lemmas.List.{get_or_default}
-use Rattle.wcp_queue.specs.Elimination.{queue_of}
+use Rattle.wcp_queue.proofs.Words.{◌++◌, ◌∷◌, [], sym, ◌∙◌, ap, get_or_default, queue_of}
 use Rattle.wcp_queue.proofs.LeftQueues.{AreLeft-gain, LeavesQueue-alone}
 use Rattle.wcp_queue.proofs.elimination.add_candidate.Goals as goal
 use Rattle.wcp_queue.proofs.elimination.add_candidate.Goals.{then-compare, else-compare}

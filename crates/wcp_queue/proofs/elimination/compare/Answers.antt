@@ -1,7 +1,4 @@
-use Rattle.std.proofs.Common.{true, length, ◌∙◌, arith}
-use Rattle.std.proofs.lemmas.Bool.{true≢false}
-use Rattle.std.proofs.lemmas.List.{get_or_default}
-use Rattle.wcp_queue.specs.Floor.{RaisesFloor}
+use Rattle.wcp_queue.proofs.Words.{true, length, ◌∙◌, arith, true≢false, get_or_default, RaisesFloor}
 use Rattle.wcp_queue.proofs.LeftQueues.{AreLeft-under, AreLeft-raised}
 use Rattle.wcp_queue.proofs.RaisedFloor.{RisesTo-before, IsRaising-itself, IsRaising-next}
 use Rattle.wcp_queue.proofs.SoundCheckers.{tests_each-several}

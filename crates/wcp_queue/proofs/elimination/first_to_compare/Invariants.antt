@@ -1,6 +1,4 @@
-use Rattle.std.proofs.Common.{◌≡◌, ℕ, ◌<◌, false, length}
-use Rattle.wcp_queue.specs.Floor.{has_head}
-use Rattle.wcp_queue.specs.Elimination.{queue_of}
+use Rattle.wcp_queue.proofs.Words.{◌≡◌, ℕ, ◌<◌, false, length, has_head, queue_of}
 use Rattle.wcp_queue.proofs.elimination.first_to_compare.Given as goal
 
 abbrev pub invariant-loop-p : goal.invariant-loop-p

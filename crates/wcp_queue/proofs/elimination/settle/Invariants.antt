@@ -1,5 +1,4 @@
-use Rattle.std.proofs.Common.{◌+◌, ◌*◌, ◌≤◌, length}
-use Rattle.wcp_queue.specs.Elimination.{waiting_in, tests_each, Eliminates}
+use Rattle.wcp_queue.proofs.Words.{◌+◌, ◌*◌, ◌≤◌, length, waiting_in, tests_each, Eliminates}
 use Rattle.wcp_queue.proofs.elimination.settle.Given as goal
 
 abbrev pub invariant-loop-p : goal.invariant-loop-p

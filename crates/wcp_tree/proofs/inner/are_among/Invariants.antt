@@ -1,6 +1,5 @@
-use Rattle.std.proofs.Common.{◌≡◌, ℕ, ◌<◌, true}
+use Rattle.wcp_tree.proofs.Words.{◌≡◌, ℕ, ◌<◌, true, AreProcessNumbers}
 use Rattle.std.specs.FinSet as set
-use Rattle.wcp_lane.specs.ProcessNumbers.{AreProcessNumbers}
 use Rattle.wcp_tree.proofs.inner.are_among.Given as goal
 
 abbrev pub invariant-loop-p : goal.invariant-loop-p

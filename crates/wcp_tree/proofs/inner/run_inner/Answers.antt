@@ -1,11 +1,5 @@
-use Rattle.std.proofs.Common.{◌≡◌, sym, refl, ap, ◌∙◌, subst}
+use Rattle.wcp_tree.proofs.Words.{◌≡◌, sym, refl, ap, ◌∙◌, subst, Item, TakeEnd, Numbers, Bundle, items_of, AreClosed}
 use Rattle.std.specs.FinSet as set
-use Rattle.wcp_clock.specs.declared.note.Item.{Item}
-use Rattle.wcp_lane.specs.Ends.{TakeEnd}
-use Rattle.wcp_lane.specs.Passes.{Numbers}
-use Rattle.wcp_tree.specs.declared.bundle.Bundle.{Bundle}
-use Rattle.wcp_tree.specs.Feeding.{items_of}
-use Rattle.wcp_tree.specs.RelayWork.{AreClosed}
 use Rattle.wcp_tree.proofs.Passing.{if_none}
 use Rattle.wcp_tree.proofs.LeafWork.{if_some}
 use Rattle.wcp_tree.proofs.InnerWork.{inner_follows, inner_taken, inner_passed, ended_kept, ended_more, none_ended}

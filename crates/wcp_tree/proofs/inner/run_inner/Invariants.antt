@@ -1,8 +1,5 @@
-use Rattle.std.proofs.Common.{◌≡◌, ℕ, true}
+use Rattle.wcp_tree.proofs.Words.{◌≡◌, ℕ, true, AreProcessNumbers, items_of, IsInnerAtWork, IsSameOutlet, IsSameTaker, AreClosed}
 use Rattle.std.specs.FinSet as set
-use Rattle.wcp_lane.specs.ProcessNumbers.{AreProcessNumbers}
-use Rattle.wcp_tree.specs.Feeding.{items_of}
-use Rattle.wcp_tree.specs.RelayWork.{IsInnerAtWork, IsSameOutlet, IsSameTaker, AreClosed}
 use Rattle.wcp_tree.proofs.inner.run_inner.Given as goal
 
 abbrev pub invariant-loop : goal.invariant-loop

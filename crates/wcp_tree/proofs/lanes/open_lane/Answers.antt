@@ -1,13 +1,7 @@
-use Rattle.std.proofs.Common.{◌≡◌, ◌≤◌, List, map, sym, ap, subst, ◌∙◌, lit≤, arith}
+use Rattle.wcp_tree.proofs.Words.{◌≡◌, ◌≤◌, List, map, sym, ap, subst, ◌∙◌, lit≤, arith, list_any, most_cap, most_lane, new_putter, AreOwners, IsFirstLaneFault, Numbers, some_relays, capacity}
 use Rattle.std.specs.FinSet as set
-use Rattle.std.specs.List.{list_any}
-use Rattle.wcp_clock.specs.Limits.{most_cap, most_lane}
 use Rattle.wcp_lane.specs.declared.fault.LaneFault.{LaneFault}
 use Rattle.wcp_lane.specs.declared.fault.LaneFault.TheVariants.{Cap, Owners}
-use Rattle.wcp_lane.specs.Ends.{new_putter}
-use Rattle.wcp_lane.specs.Owners.{AreOwners, IsFirstLaneFault}
-use Rattle.wcp_lane.specs.Passes.{Numbers}
-use Rattle.wcp_model.proofs.CheckedPlans.{some_relays, capacity}
 use Rattle.wcp_tree.proofs.Shares.{seats_of_shares, shares_apart, shares_together}
 use Rattle.wcp_tree.proofs.lanes.open_lane.Goals as goal
 

@@ -1,7 +1,4 @@
-use Rattle.std.proofs.Common.{◌+◌, length, sym, ap, subst, ◌∙◌, arith}
-use Rattle.std.proofs.lemmas.List.{length_push}
-use Rattle.wcp_tree.specs.Wiring.{AreShares}
-use Rattle.wcp_model.proofs.CheckedPlans.{few_relays}
+use Rattle.wcp_tree.proofs.Words.{◌+◌, length, sym, ap, subst, ◌∙◌, arith, length_push, AreShares, few_relays}
 use Rattle.wcp_tree.proofs.Shares.{one_share_more}
 use Rattle.wcp_tree.proofs.lanes.shares.Goals as goal
 

@@ -1,5 +1,4 @@
-use Rattle.std.proofs.Common.{◌≡◌, length}
-use Rattle.wcp_tree.specs.Wiring.{AreShares}
+use Rattle.wcp_tree.proofs.Words.{◌≡◌, length, AreShares}
 use Rattle.wcp_tree.proofs.lanes.shares.Given as goal
 
 abbrev pub invariant-loop-relay : goal.invariant-loop-relay

@@ -1,7 +1,4 @@
-use Rattle.std.proofs.Common.{List, sym, ◌∙◌, subst}
-use Rattle.wcp_tree.specs.declared.feed.Feed.{Feed}
-use Rattle.wcp_tree.specs.declared.outlet.Outlet.{Outlet}
-use Rattle.wcp_tree.specs.RelayWork.{IsLeafAtWork, IsSound}
+use Rattle.wcp_tree.proofs.Words.{List, sym, ◌∙◌, subst, Feed, Outlet, IsLeafAtWork, IsSound}
 use Rattle.wcp_tree.proofs.Passing.{if_none}
 use Rattle.wcp_tree.proofs.LeafWork.{leaf_passed}
 use Rattle.wcp_tree.proofs.leaf.run_leaf.Goals as goal

@@ -1,9 +1,5 @@
-use Rattle.std.proofs.Common.{◌≡◌, get_or, set, sym, ◌∙◌, refl, subst, arith}
+use Rattle.wcp_tree.proofs.Words.{◌≡◌, get_or, set, sym, ◌∙◌, refl, subst, arith, map-set_same, Feed, Outlet, IsLeafAtWork, IsSameOutlet}
 use Rattle.std.proofs.lemmas.Result.{err_from_is_err_and}
-use Rattle.std.proofs.Math.Seq.{map-set_same}
-use Rattle.wcp_tree.specs.declared.feed.Feed.{Feed}
-use Rattle.wcp_tree.specs.declared.outlet.Outlet.{Outlet}
-use Rattle.wcp_tree.specs.RelayWork.{IsLeafAtWork, IsSameOutlet}
 use Rattle.wcp_tree.proofs.Fed.{fed-gap, processes-set}
 use Rattle.wcp_tree.proofs.Faithful.{only_none}
 use Rattle.wcp_tree.proofs.Passing.{if_none}

@@ -1,7 +1,4 @@
-use Rattle.std.proofs.Common.{◌≡◌, Some, arith}
-use Rattle.wcp_model.specs.declared.plan.Parent.TheVariants.{Relay}
-use Rattle.wcp_model.specs.Tree.{parent_of}
-use Rattle.wcp_model.proofs.CheckedPlans.{parent_below}
+use Rattle.wcp_tree.proofs.Words.{◌≡◌, Some, arith, Relay, parent_of, parent_below}
 use Rattle.wcp_tree.proofs.Climbs.{met_below_itself, met_above}
 use Rattle.wcp_tree.proofs.members.+is_met.Goals as goal
 

@@ -1,7 +1,4 @@
-use Rattle.std.proofs.Common.{◌+◌, ◌<◌, true≢false, sym, subst, ◌∙◌, arith}
-use Rattle.wcp_lane.specs.Passes.{Numbers}
-use Rattle.wcp_tree.specs.Members.{IsBelow}
-use Rattle.wcp_model.proofs.CheckedPlans.{few_processes, attached_exists}
+use Rattle.wcp_tree.proofs.Words.{◌+◌, ◌<◌, true≢false, sym, subst, ◌∙◌, arith, Numbers, IsBelow, few_processes, attached_exists}
 use Rattle.wcp_tree.proofs.Gathering.{HasAllBelow, none_below, one_more, no_more}
 use Rattle.wcp_tree.proofs.members.processes_below.Goals.{then-is_below, else-is_below}
 use Rattle.wcp_tree.proofs.members.processes_below.Goals as goal

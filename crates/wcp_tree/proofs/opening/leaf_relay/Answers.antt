@@ -1,5 +1,4 @@
-use Rattle.std.proofs.Common.{◌≤◌, lit≤, arith}
-use Rattle.wcp_clock.specs.Limits.{most_cap, most_hold}
+use Rattle.wcp_tree.proofs.Words.{◌≤◌, lit≤, arith, most_cap, most_hold}
 use Rattle.wcp_tree.proofs.opening.leaf_relay.Goals as goal
 
 pub new-requires-clause-within : goal.new-requires-clause-within

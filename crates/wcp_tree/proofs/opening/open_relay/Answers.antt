@@ -1,14 +1,4 @@
-use Rattle.std.proofs.Common.{◌≡◌, ◌≤◌, Some, length, sym, ap, subst, ◌∙◌, lit≤, arith}
-use Rattle.std.proofs.lemmas.Option.{slice_get_within, slice_get-get_or}
-use Rattle.wcp_clock.specs.Limits.{most_cap, most_hold}
-use Rattle.wcp_clock.specs.declared.note.Item.{Item}
-use Rattle.wcp_hold.specs.Held.{Held}
-use Rattle.wcp_lane.specs.Ends.{PutEnd}
-use Rattle.wcp_tree.specs.declared.bundle.Bundle.{Bundle}
-use Rattle.wcp_tree.specs.declared.source.Source.{Source}
-use Rattle.wcp_tree.specs.Members.{AreBelow}
-use Rattle.wcp_tree.specs.Relays.{AreSeated, IsSource}
-use Rattle.wcp_model.proofs.CheckedPlans.{hold_room}
+use Rattle.wcp_tree.proofs.Words.{◌≡◌, ◌≤◌, Some, length, sym, ap, subst, ◌∙◌, lit≤, arith, slice_get_within, slice_get-get_or, most_cap, most_hold, Item, Held, PutEnd, Bundle, Source, AreBelow, AreSeated, IsSource, hold_room}
 use Rattle.wcp_tree.proofs.Entries.{set_elsewhere, taken_out}
 use Rattle.wcp_tree.proofs.Serving.{source_serves}
 use Rattle.wcp_tree.proofs.opening.open_relay.Goals as goal

@@ -1,7 +1,4 @@
-use Rattle.std.proofs.Common.{◌≡◌, ◌<◌, ◌≤◌, length, vec_len, eqb-true, sym, ap, ◌∙◌, lit≤, arith}
-use Rattle.std.proofs.lemmas.List.{length_push}
-use Rattle.wcp_clock.specs.Limits.{most_relays}
-use Rattle.wcp_model.proofs.CheckedPlans.{attached_exists, few_relays}
+use Rattle.wcp_tree.proofs.Words.{◌≡◌, ◌<◌, ◌≤◌, length, vec_len, eqb-true, sym, ap, ◌∙◌, lit≤, arith, length_push, most_relays, attached_exists, few_relays}
 use Rattle.wcp_tree.proofs.Linking.{all_opened, next_seat, none_open, one_opened}
 use Rattle.wcp_tree.proofs.opening.open_relays.Goals as goal
 

@@ -1,7 +1,4 @@
-use Rattle.std.proofs.Common.{◌≡◌, ◌+◌, length, vec_len}
-use Rattle.wcp_lane.specs.Ends.{LaneName}
-use Rattle.wcp_tree.specs.declared.bundle.Bundle.{Bundle}
-use Rattle.wcp_tree.specs.Watches.{AreSeatedUnder}
+use Rattle.wcp_tree.proofs.Words.{◌≡◌, ◌+◌, length, vec_len, LaneName, Bundle, AreSeatedUnder}
 use Rattle.wcp_tree.proofs.Linking.{AreOpened}
 use Rattle.wcp_tree.proofs.opening.open_relays.Given as goal
 

@@ -1,5 +1,4 @@
-use Rattle.std.proofs.Common.{◌≡◌, true, false, refl, sym, ◌∙◌}
-use Rattle.wcp_model.specs.Tree.{is_leaf}
+use Rattle.wcp_tree.proofs.Words.{◌≡◌, true, false, refl, sym, ◌∙◌, is_leaf}
 use Rattle.wcp_tree.proofs.Serving.{no_children, below_by_children}
 use Rattle.wcp_tree.proofs.opening.open_source.Goals as goal
 

@@ -1,11 +1,5 @@
-use Rattle.std.proofs.Common.{◌≡◌, ◌≤◌, ◌↔◌, ◌<◌, ℕ, true, sym, ap, subst, ◌∙◌, lit≤, arith}
+use Rattle.wcp_tree.proofs.Words.{◌≡◌, ◌≤◌, ◌↔◌, ◌<◌, ℕ, true, sym, ap, subst, ◌∙◌, lit≤, arith, most_relays, Item, TakeEnd, Bundle, AreLinked, few_relays}
 use Rattle.std.specs.FinSet as set
-use Rattle.wcp_clock.specs.Limits.{most_relays}
-use Rattle.wcp_clock.specs.declared.note.Item.{Item}
-use Rattle.wcp_lane.specs.Ends.{TakeEnd}
-use Rattle.wcp_tree.specs.declared.bundle.Bundle.{Bundle}
-use Rattle.wcp_tree.specs.Watches.{AreLinked}
-use Rattle.wcp_model.proofs.CheckedPlans.{few_relays}
 use Rattle.wcp_tree.proofs.Serving.{all_below_root}
 use Rattle.wcp_tree.proofs.opening.watch.Goals as goal
 

@@ -1,9 +1,4 @@
-use Rattle.std.proofs.Common.{◌≡◌, ◌++◌, ◌∷◌, [], ◌-◌, ◌<◌, List, length, None, Some, sym, ap, ◌∙◌, refl, subst, true≢false, arith}
-use Rattle.std.specs.Prelude.{slice_get}
-use Rattle.std.proofs.lemmas.List.{length-append}
-use Rattle.std.proofs.lemmas.Option.{slice_get_within}
-use Rattle.wcp_clock.specs.declared.note.Item.{Item}
-use Rattle.wcp_tree.specs.Bundles.{IsFirstBundle, MayJoin}
+use Rattle.wcp_tree.proofs.Words.{◌≡◌, ◌++◌, ◌∷◌, [], ◌-◌, ◌<◌, List, length, None, Some, sym, ap, ◌∙◌, refl, subst, true≢false, arith, slice_get, length-append, slice_get_within, Item, IsFirstBundle, MayJoin}
 use Rattle.wcp_tree.proofs.Bundling.{first_bundle_is, front_more}
 use Rattle.wcp_tree.proofs.Passing.{none_held}
 use Rattle.wcp_tree.proofs.outlet.first_bundle.Goals as goal

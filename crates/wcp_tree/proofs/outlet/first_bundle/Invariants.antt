@@ -1,5 +1,4 @@
-use Rattle.std.proofs.Common.{◌≡◌, ◌++◌, ◌-◌, List, length}
-use Rattle.wcp_clock.specs.declared.note.Item.{Item}
+use Rattle.wcp_tree.proofs.Words.{◌≡◌, ◌++◌, ◌-◌, List, length, Item}
 use Rattle.wcp_tree.proofs.outlet.first_bundle.Given as goal
 
 abbrev pub invariant-loop-item : goal.invariant-loop-item

@@ -1,5 +1,4 @@
-use Rattle.std.proofs.Common.{drop, sym, ap, ◌∙◌}
-use Rattle.wcp_hold.specs.Held.{Held}
+use Rattle.wcp_tree.proofs.Words.{drop, sym, ap, ◌∙◌, Held}
 use Rattle.wcp_tree.proofs.Bundling.{drop_one}
 use Rattle.wcp_tree.proofs.outlet.let_go.Goals as goal
 

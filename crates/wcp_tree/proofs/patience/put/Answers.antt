@@ -1,8 +1,4 @@
-use Rattle.std.proofs.Common.{List, sym, subst}
-use Rattle.wcp_clock.specs.declared.note.Item.{Item}
-use Rattle.wcp_lane.specs.Ends.{PutEnd}
-use Rattle.wcp_tree.specs.declared.bundle.Bundle.{Bundle}
-use Rattle.wcp_tree.specs.RelayWork.{ItemsMayFollow}
+use Rattle.wcp_tree.proofs.Words.{List, sym, subst, Item, PutEnd, Bundle, ItemsMayFollow}
 use Rattle.wcp_tree.proofs.patience.put.Goals as goal
 
 pub try_put-requires : goal.try_put-requires

@@ -1,8 +1,4 @@
-use Rattle.std.proofs.Common.{◌≡◌, ◌++◌, List, subst}
-use Rattle.wcp_clock.specs.declared.note.Item.{Item}
-use Rattle.wcp_lane.specs.Ends.{TakeEnd}
-use Rattle.wcp_tree.specs.declared.bundle.Bundle.{Bundle}
-use Rattle.wcp_tree.specs.RelayWork.{AreTakenNext}
+use Rattle.wcp_tree.proofs.Words.{◌≡◌, ◌++◌, List, subst, Item, TakeEnd, Bundle, AreTakenNext}
 use Rattle.wcp_tree.proofs.LeafWork.{if_some}
 use Rattle.wcp_tree.proofs.patience.take.Goals as goal
 

@@ -1,8 +1,4 @@
-use Rattle.std.proofs.Common.{◌≡◌, ◌+◌, ◌++◌, ◌∷◌, [], List, Option, Some, sym, ap, subst, ◌∙◌}
-use Rattle.wcp_ring.specs.Ends.{PutSide, TakeSide}
-use Rattle.wcp_tree.specs.LiveProbe.{LiveSide}
-use Rattle.wcp_tree.specs.Rings.{AreRings}
-use Rattle.wcp_model.proofs.CheckedPlans.{capacity, few_processes}
+use Rattle.wcp_tree.proofs.Words.{◌≡◌, ◌+◌, ◌++◌, ◌∷◌, [], List, Option, Some, sym, ap, subst, ◌∙◌, PutSide, TakeSide, LiveSide, AreRings, capacity, few_processes}
 use Rattle.wcp_tree.proofs.OpeningRings.{one_ring_more}
 use Rattle.wcp_tree.proofs.rings.open_rings.Goals as goal
 

@@ -1,10 +1,4 @@
-use Rattle.std.proofs.Common.{◌≡◌, ◌≢◌, ◌++◌, ◌∷◌, [], Option, Some, None, Vec, Global, sym, ap, subst, ◌∙◌}
-use Rattle.std.specs.Prelude.{slice_set}
-use Rattle.wcp_model.specs.Tree.{leaf_of}
-use Rattle.wcp_ring.specs.Ends.{TakeSide}
-use Rattle.wcp_tree.specs.declared.feed.Feed.{Feed}
-use Rattle.wcp_tree.specs.Rings.{IsTakerAt}
-use Rattle.wcp_model.proofs.CheckedPlans.{is_its_number, is_not_its_number}
+use Rattle.wcp_tree.proofs.Words.{◌≡◌, ◌≢◌, ◌++◌, ◌∷◌, [], Option, Some, None, Vec, Global, sym, ap, subst, ◌∙◌, slice_set, leaf_of, TakeSide, Feed, IsTakerAt, is_its_number, is_not_its_number}
 use Rattle.wcp_tree.proofs.OpeningRings.{its_taker, not_taken, one_taken}
 use Rattle.wcp_tree.proofs.rings.take_feeds.Goals.{then-is_attached+in-Some+in_ok-push-in-Some, else-is_attached}
 use Rattle.wcp_tree.proofs.rings.take_feeds.Goals as goal

@@ -1,7 +1,4 @@
-use Rattle.std.proofs.Common.{ℕ, Option, Some, sym, subst}
-use Rattle.std.specs.Prelude.{OnOk}
-use Rattle.wcp_worker.specs.declared.lanes.Inbox.{Inbox}
-use Rattle.wcp_worker.specs.Lanes.{IfBoth, HasTakenMore}
+use Rattle.wcp_worker.proofs.Words.{ℕ, Option, Some, sym, subst, OnOk, Inbox, IfBoth, HasTakenMore}
 use Rattle.wcp_worker.proofs.mailbox.take_all_by.Goals as goal
 
 pub returns-in-Some : goal.returns-in-Some

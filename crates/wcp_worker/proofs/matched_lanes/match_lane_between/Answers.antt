@@ -1,6 +1,4 @@
-use Rattle.std.proofs.Common.{◌↔◌, None, Some, refl, sym, subst, ◌∙◌}
-use Rattle.std.specs.Prelude.{IsOk}
-use Rattle.wcp_worker.specs.Runs.{IsAllTaken}
+use Rattle.wcp_worker.proofs.Words.{◌↔◌, None, Some, refl, sym, subst, ◌∙◌, IsOk, IsAllTaken}
 use Rattle.wcp_worker.proofs.MatchedLanes.{ends_are, exact_between, others_stay}
 use Rattle.wcp_worker.proofs.matched_lanes.match_lane_between.Goals as goal
 

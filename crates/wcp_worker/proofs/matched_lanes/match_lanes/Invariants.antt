@@ -1,5 +1,4 @@
-use Rattle.std.proofs.Common.{◌≡◌, ◌<◌, ◌≤◌, ℕ, length}
-use Rattle.wcp_worker.specs.Runs.{IsAllTaken, ends_between}
+use Rattle.wcp_worker.proofs.Words.{◌≡◌, ◌<◌, ◌≤◌, ℕ, length, IsAllTaken, ends_between}
 use Rattle.wcp_worker.proofs.matched_lanes.match_lanes.Given as goal
 
 abbrev pub invariant-loop-p : goal.invariant-loop-p

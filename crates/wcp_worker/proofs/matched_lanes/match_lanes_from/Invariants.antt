@@ -1,5 +1,4 @@
-use Rattle.std.proofs.Common.{◌≡◌, ◌<◌, ◌≤◌, ℕ, length}
-use Rattle.wcp_worker.specs.Runs.{IsAllTaken, ends_between}
+use Rattle.wcp_worker.proofs.Words.{◌≡◌, ◌<◌, ◌≤◌, ℕ, length, IsAllTaken, ends_between}
 use Rattle.wcp_worker.proofs.matched_lanes.match_lanes_from.Given as goal
 
 abbrev pub invariant-loop-q : goal.invariant-loop-q

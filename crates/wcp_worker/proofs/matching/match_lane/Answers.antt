@@ -1,9 +1,5 @@
-use Rattle.std.proofs.Common.{◌≡◌, true, false, length, map, refl, sym, ap, ◌∙◌, rules}
-use Rattle.wcp_probe.specs.Seal.{seal_of}
+use Rattle.wcp_worker.proofs.Words.{◌≡◌, true, false, length, map, refl, sym, ap, ◌∙◌, rules, seal_of, PutEnd, Message, messages_from}
 use Rattle.std.specs.FinSet as set
-use Rattle.wcp_lane.specs.Ends.{PutEnd}
-use Rattle.wcp_worker.specs.declared.message.Message.{Message}
-use Rattle.wcp_worker.specs.Lanes.{messages_from}
 use Rattle.wcp_worker.proofs.matching.match_lane.Goals as goal
 
 pub returns-in_err-_receipt-clause-exact : goal.returns-in_err-_receipt-clause-exact

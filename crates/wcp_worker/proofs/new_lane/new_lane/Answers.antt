@@ -1,10 +1,5 @@
-use Rattle.std.proofs.Common.{◌≡◌, [], ◌∷◌, ap, ◌∙◌, rules, arith}
+use Rattle.wcp_worker.proofs.Words.{◌≡◌, [], ◌∷◌, ap, ◌∙◌, rules, arith, list_any, common_steps, Numbers, new_putter, alone}
 use Rattle.std.specs.FinSet as set
-use Rattle.std.specs.List.{list_any}
-use Rattle.std.proofs.lemmas.Grind.{common_steps}
-use Rattle.wcp_lane.specs.Passes.{Numbers}
-use Rattle.wcp_lane.specs.Ends.{new_putter}
-use Rattle.wcp_lane.proofs.Marks.{alone}
 use Rattle.wcp_worker.proofs.NewLanes.{new_ends}
 use Rattle.wcp_worker.proofs.new_lane.new_lane.Goals as goal
 

@@ -1,6 +1,4 @@
-use Rattle.std.proofs.Common.{◌≡◌, ℕ, ◌<◌, length, take, slice_index_or}
-use Rattle.wcp_worker.specs.declared.worker.Worker.{Worker}
-use Rattle.wcp_worker.specs.Opening.{HasTasks}
+use Rattle.wcp_worker.proofs.Words.{◌≡◌, ℕ, ◌<◌, length, take, slice_index_or, Worker, HasTasks}
 use Rattle.wcp_worker.proofs.opening.give_tasks.Given as goal
 
 abbrev pub invariant-loop-task : goal.invariant-loop-task

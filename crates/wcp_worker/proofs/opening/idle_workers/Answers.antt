@@ -1,8 +1,5 @@
-use Rattle.std.proofs.Common.{All, map, [], ◌∷◌, ◌++◌, sym, ap, ◌∙◌, subst, zero, suc, arith}
-use Rattle.std.proofs.lemmas.List.{map_push}
+use Rattle.wcp_worker.proofs.Words.{All, map, [], ◌∷◌, ◌++◌, sym, ap, ◌∙◌, subst, zero, suc, arith, map_push, Worker, IsIdle}
 use Rattle.std.proofs.lemmas.List.Elements.{All-append}
-use Rattle.wcp_worker.specs.declared.worker.Worker.{Worker}
-use Rattle.wcp_worker.specs.Opening.{IsIdle}
 use Rattle.wcp_worker.proofs.opening.idle_workers.Goals as goal
 
 all_one : (worker : Worker) → IsIdle worker → All IsIdle (worker ∷ [])

@@ -1,5 +1,4 @@
-use Rattle.std.proofs.Common.{◌≡◌, map, All}
-use Rattle.wcp_worker.specs.Opening.{IsIdle}
+use Rattle.wcp_worker.proofs.Words.{◌≡◌, map, All, IsIdle}
 use Rattle.wcp_worker.proofs.opening.idle_workers.Given as goal
 
 abbrev pub invariant-loop-probe : goal.invariant-loop-probe

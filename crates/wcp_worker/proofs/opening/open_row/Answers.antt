@@ -1,9 +1,4 @@
-use Rattle.std.proofs.Common.{◌≡◌, ◌+◌, ◌<◌, List, length, count_by, get_or, set, sym, ap, ◌∙◌, subst, arith}
-use Rattle.std.proofs.lemmas.List.{length-append, length-set, get_or_default}
-use Rattle.wcp_model.specs.declared.workload.Action.{Action}
-use Rattle.wcp_model.specs.WorkloadComputation.{is_send_to}
-use Rattle.wcp_worker.specs.declared.worker.Worker.{Worker}
-use Rattle.wcp_worker.specs.Opening.{HasRow}
+use Rattle.wcp_worker.proofs.Words.{◌≡◌, ◌+◌, ◌<◌, List, length, count_by, get_or, set, sym, ap, ◌∙◌, subst, arith, length-append, length-set, get_or_default, Action, is_send_to, Worker, HasRow}
 use Rattle.wcp_worker.proofs.OpenedRows.{same_more, given_more, rest_more, lane_along}
 use Rattle.wcp_worker.proofs.opening.open_row.Goals as goal
 

@@ -1,6 +1,4 @@
-use Rattle.std.proofs.Common.{◌≡◌, ℕ, ◌<◌, ◌≤◌, length, slice_index_or}
-use Rattle.wcp_worker.specs.declared.worker.Worker.{Worker}
-use Rattle.wcp_worker.specs.Opening.{HasRow, IsSameButInboxes}
+use Rattle.wcp_worker.proofs.Words.{◌≡◌, ℕ, ◌<◌, ◌≤◌, length, slice_index_or, Worker, HasRow, IsSameButInboxes}
 use Rattle.wcp_worker.proofs.opening.open_row.Given as goal
 
 abbrev pub invariant-loop-q : goal.invariant-loop-q

@@ -1,6 +1,4 @@
-use Rattle.std.proofs.Common.{◌<◌, List, length, get_or, ap, subst, arith}
-use Rattle.wcp_model.specs.declared.workload.Task.{Task}
-use Rattle.wcp_worker.specs.Opening.{HasTasks}
+use Rattle.wcp_worker.proofs.Words.{◌<◌, List, length, get_or, ap, subst, arith, Task, HasTasks}
 use Rattle.wcp_worker.proofs.OpenedWorkers.{few_given, workers_opened}
 use Rattle.wcp_worker.proofs.opening.open_workers.Goals as goal
 

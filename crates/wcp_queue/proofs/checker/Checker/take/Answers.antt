@@ -1,7 +1,4 @@
-use Rattle.std.proofs.Common.{◌++◌, ◌∷◌, [], slice_set, true, sym, ap, ◌∙◌, refl, subst, arith}
-use Rattle.wcp_clock.specs.Notes.{place_of}
-use Rattle.wcp_queue.specs.Checker.{StandsForItems}
-use Rattle.wcp_queue.specs.CheckerView.{checker_state}
+use Rattle.wcp_queue.proofs.Words.{◌++◌, ◌∷◌, [], slice_set, true, sym, ap, ◌∙◌, refl, subst, arith, place_of, StandsForItems, checker_state}
 use Rattle.wcp_queue.proofs.StandingForItems.{StandsForItems-close}
 use Rattle.wcp_queue.proofs.checker.Checker.take.Goals as goal
 

@@ -1,8 +1,5 @@
-use Rattle.std.proofs.Common.{length, refl, ap, arith}
-use Rattle.std.proofs.lemmas.Bool.{false≢true}
-use Rattle.std.proofs.lemmas.List.{with_items_is}
+use Rattle.wcp_queue.proofs.Words.{length, refl, ap, arith, false≢true, with_items_is, checker_state}
 use Rattle.std.proofs.lemmas.Option.{MatchOption-at_none}
-use Rattle.wcp_queue.specs.CheckerView.{checker_state}
 use Rattle.wcp_queue.proofs.SoundCheckers.{room_for_tests, IsSoundChecker-snapshot}
 use Rattle.wcp_queue.proofs.StandingForItems.{StandsForItems-snapshot, StandsForItems-counted}
 use Rattle.wcp_queue.proofs.checker.Checker.take_snapshot.Goals as goal

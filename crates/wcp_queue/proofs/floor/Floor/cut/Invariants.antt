@@ -1,5 +1,4 @@
-use Rattle.std.proofs.Common.{◌≡◌, ℕ, ◌<◌, true}
-use Rattle.wcp_queue.specs.Floor.{has_head}
+use Rattle.wcp_queue.proofs.Words.{◌≡◌, ℕ, ◌<◌, true, has_head}
 use Rattle.wcp_queue.proofs.floor.Floor.cut.Given as goal
 
 abbrev pub invariant-loop-p : goal.invariant-loop-p

@@ -1,6 +1,4 @@
-use Rattle.std.proofs.Common.{◌+◌, ◌-◌, ◌<◌, take, get_or, sym, ◌∙◌, subst, arith}
-use Rattle.std.proofs.lemmas.List.{length-take-le, length-set, take_more_set, drop-set-lt}
-use Rattle.wcp_tree.specs.Bundles.{IsBundle, filler, most_bundle}
+use Rattle.wcp_tree.proofs.Words.{◌+◌, ◌-◌, ◌<◌, take, get_or, sym, ◌∙◌, subst, arith, length-take-le, length-set, take_more_set, drop-set-lt, IsBundle, filler, most_bundle}
 use Rattle.wcp_tree.proofs.Bundling.{front_and_last, may_join, joined, drop_more}
 use Rattle.wcp_tree.proofs.bundle.Bundle.add.Goals as goal
 

@@ -1,9 +1,4 @@
-use Rattle.std.proofs.Common.{◌≡◌, None, take, get_or, ◌-◌, ◌<◌, sym, ap, ◌∙◌, subst, arith, Option}
-use Rattle.std.specs.Prelude.{IfSome}
-use Rattle.std.specs.List.{last_or}
-use Rattle.std.proofs.lemmas.List.{length-take-le}
-use Rattle.wcp_clock.specs.Notes.{is_close}
-use Rattle.wcp_clock.specs.declared.note.Item.{Item}
+use Rattle.wcp_tree.proofs.Words.{◌≡◌, None, take, get_or, ◌-◌, ◌<◌, sym, ap, ◌∙◌, subst, arith, Option, IfSome, last_or, length-take-le, is_close, Item}
 use Rattle.wcp_tree.proofs.Bundling.{last_or-push, front_and_last}
 use Rattle.wcp_tree.proofs.bundle.BundleOrigin.last.Goals as goal
 

@@ -1,6 +1,4 @@
-use Rattle.std.proofs.Common.{ap, ◌∙◌, sym}
-use Rattle.wcp_clock.specs.Notes.{place_of, is_close}
-use Rattle.wcp_tree.specs.declared.feed.Feed.{Feed}
+use Rattle.wcp_tree.proofs.Words.{ap, ◌∙◌, sym, place_of, is_close, Feed}
 use Rattle.wcp_tree.proofs.Ordering.{in_order_snap, in_order_close}
 use Rattle.wcp_tree.proofs.feed.Feed.take.Goals as goal
 use Rattle.wcp_tree.proofs.feed.Feed.take.Goals.{in-Snap, in-Close}

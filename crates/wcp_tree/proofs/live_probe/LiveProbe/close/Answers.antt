@@ -1,7 +1,4 @@
-use Rattle.std.proofs.Common.{List, arith}
-use Rattle.std.proofs.lemmas.Grind.{common_steps}
-use Rattle.wcp_model.specs.ProbeLog.{Call}
-use Rattle.wcp_tree.specs.LiveProbe.{LiveFor, LiveSide}
+use Rattle.wcp_tree.proofs.Words.{List, arith, common_steps, Call, LiveFor, LiveSide}
 use Rattle.wcp_tree.proofs.LiveProbes.{HasLog-stays, closed_rises}
 use Rattle.wcp_tree.proofs.live_probe.LiveProbe.close.Goals as goal
 

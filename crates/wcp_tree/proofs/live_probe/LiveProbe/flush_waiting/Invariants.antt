@@ -1,6 +1,4 @@
-use Rattle.std.proofs.Common.{◌≡◌, None, List}
-use Rattle.wcp_model.specs.ProbeLog.{Call}
-use Rattle.wcp_tree.specs.LiveProbe.{LiveFor}
+use Rattle.wcp_tree.proofs.Words.{◌≡◌, None, List, Call, LiveFor}
 use Rattle.wcp_tree.proofs.live_probe.LiveProbe.flush_waiting.Given as goal
 
 abbrev pub invariant-loop : goal.invariant-loop

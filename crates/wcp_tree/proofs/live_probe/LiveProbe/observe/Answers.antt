@@ -1,7 +1,4 @@
-use Rattle.std.proofs.Common.{arith}
-use Rattle.std.proofs.lemmas.Grind.{common_steps}
-use Rattle.wcp_model.specs.ProbeLog.{Observed}
-use Rattle.wcp_tree.specs.LiveProbe.{LiveAccepts, LiveSide}
+use Rattle.wcp_tree.proofs.Words.{arith, common_steps, Observed, LiveAccepts, LiveSide}
 use Rattle.wcp_tree.proofs.LiveProbes.{HasLog-accepts}
 use Rattle.wcp_tree.proofs.live_probe.LiveProbe.observe.Goals as goal
 

@@ -1,8 +1,4 @@
-use Rattle.std.proofs.Common.{◌≡◌, arith, refl}
-use Rattle.std.proofs.lemmas.Grind.{common_steps}
-use Rattle.std.specs.Prelude.{OnOk, OnErr}
-use Rattle.wcp_model.specs.ProbeLog.{Sent}
-use Rattle.wcp_tree.specs.LiveProbe.{LiveAccepts, LiveSide}
+use Rattle.wcp_tree.proofs.Words.{◌≡◌, arith, refl, common_steps, OnOk, OnErr, Sent, LiveAccepts, LiveSide}
 use Rattle.wcp_tree.proofs.LiveProbes.{HasLog-answers}
 use Rattle.wcp_tree.proofs.live_probe.LiveProbe.stamp.Goals as goal
 

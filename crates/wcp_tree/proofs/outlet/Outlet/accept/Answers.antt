@@ -1,8 +1,5 @@
-use Rattle.std.proofs.Common.{◌≡◌, ◌++◌, true, None, [], sym, ap, ◌∙◌, refl, subst, arith, length}
+use Rattle.wcp_tree.proofs.Words.{◌≡◌, ◌++◌, true, None, [], sym, ap, ◌∙◌, refl, subst, arith, length, Item, Held, handed, IsNextItem}
 use Rattle.std.specs.FinSet as set
-use Rattle.wcp_clock.specs.declared.note.Item.{Item}
-use Rattle.wcp_hold.specs.Held.{Held}
-use Rattle.wcp_tree.specs.RelayWork.{handed, IsNextItem}
 use Rattle.wcp_tree.proofs.Passing.{sound_same, sound_taken, is_none, if_none, unless_err}
 use Rattle.wcp_tree.proofs.outlet.Outlet.accept.Goals as goal
 

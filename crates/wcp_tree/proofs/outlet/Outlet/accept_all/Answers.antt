@@ -1,9 +1,4 @@
-use Rattle.std.proofs.Common.{◌≡◌, ◌++◌, ◌∷◌, [], List, take, None, sym, refl, ◌∙◌, subst, arith}
-use Rattle.std.specs.Prelude.{IfNone}
-use Rattle.std.proofs.lemmas.List.{append-nil, take_all}
-use Rattle.wcp_clock.specs.declared.note.Item.{Item}
-use Rattle.wcp_tree.specs.Feeding.{items_of}
-use Rattle.wcp_tree.specs.RelayWork.{handed, IsFaithful, ItemsMayFollow}
+use Rattle.wcp_tree.proofs.Words.{◌≡◌, ◌++◌, ◌∷◌, [], List, take, None, sym, refl, ◌∙◌, subst, arith, IfNone, append-nil, take_all, Item, items_of, handed, IsFaithful, ItemsMayFollow}
 use Rattle.wcp_tree.proofs.Accepting.{next_may, each_none, handed_more, faithful_next, faithful_first}
 use Rattle.wcp_tree.proofs.Faithful.{only_none}
 use Rattle.wcp_tree.proofs.outlet.Outlet.accept_all.Goals as goal

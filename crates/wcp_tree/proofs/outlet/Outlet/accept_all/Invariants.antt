@@ -1,8 +1,4 @@
-use Rattle.std.proofs.Common.{◌≡◌, ◌++◌, ℕ, List, None, take}
-use Rattle.std.specs.Prelude.{IfNone}
-use Rattle.wcp_clock.specs.declared.note.Item.{Item}
-use Rattle.wcp_tree.specs.Feeding.{items_of}
-use Rattle.wcp_tree.specs.RelayWork.{handed, IsFaithful, IsSound, IsSameOutlet}
+use Rattle.wcp_tree.proofs.Words.{◌≡◌, ◌++◌, ℕ, List, None, take, IfNone, Item, items_of, handed, IsFaithful, IsSound, IsSameOutlet}
 use Rattle.wcp_tree.proofs.outlet.Outlet.accept_all.Given as goal
 
 abbrev pub invariant-loop-item : goal.invariant-loop-item

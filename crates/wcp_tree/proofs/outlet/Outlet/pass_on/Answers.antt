@@ -1,5 +1,4 @@
-use Rattle.std.proofs.Common.{sym, ap, ◌∙◌, refl, rules, drop}
-use Rattle.wcp_hold.specs.Held.{Held}
+use Rattle.wcp_tree.proofs.Words.{sym, ap, ◌∙◌, refl, rules, drop, Held}
 use Rattle.wcp_tree.proofs.LeafWork.{if_some}
 use Rattle.wcp_tree.proofs.Passing.{first_follow, handed_passed, sound_passed, sound_same, held_fewer, is_none, if_none}
 use Rattle.wcp_tree.proofs.outlet.Outlet.pass_on.Goals as goal

@@ -1,7 +1,5 @@
-use Rattle.std.proofs.Common.{◌≡◌, None}
-use Rattle.wcp_tree.specs.RelayWork.{handed, IsSound, IsSameOutlet}
+use Rattle.wcp_tree.proofs.Words.{◌≡◌, None, handed, IsSound, IsSameOutlet, length}
 use Rattle.wcp_tree.proofs.outlet.Outlet.pass_on.Given as goal
-use Rattle.std.proofs.Common.{length}
 
 abbrev pub invariant-loop-bundle : goal.invariant-loop-bundle
 invariant-loop-bundle g l =

@@ -1,12 +1,4 @@
-use Rattle.std.proofs.Common.{None, sym, subst}
-use mathlib.Core.List.{IsPrefix}
-use Rattle.wcp_clock.specs.declared.note.Item.{Item}
-use Rattle.wcp_lane.specs.Ends.{PutEnd}
-use Rattle.wcp_tree.specs.declared.bundle.Bundle.{Bundle}
-use Rattle.wcp_tree.specs.declared.outlet.Outlet.{Outlet}
-use Rattle.wcp_tree.specs.declared.source.Source.{Source}
-use Rattle.wcp_tree.specs.Feeding.{items_of, source_taken}
-use Rattle.wcp_tree.specs.RelayEnds.{taken_in}
+use Rattle.wcp_tree.proofs.Words.{None, sym, subst, IsPrefix, Item, PutEnd, Bundle, Outlet, Source, items_of, source_taken, taken_in}
 use Rattle.wcp_tree.proofs.Ending.{starts, put_front, ended_front, end_taken}
 use Rattle.wcp_tree.proofs.relay.Relay.run.Goals as goal
 

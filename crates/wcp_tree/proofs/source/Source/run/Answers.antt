@@ -1,8 +1,5 @@
-use Rattle.std.proofs.Common.{sym, ◌∙◌}
-use Rattle.std.proofs.lemmas.List.{with_items_is}
+use Rattle.wcp_tree.proofs.Words.{sym, ◌∙◌, with_items_is, Leaf, items_of}
 use Rattle.std.specs.Vec.{with_items}
-use Rattle.wcp_tree.specs.declared.source.Source.TheVariants.{Leaf}
-use Rattle.wcp_tree.specs.Feeding.{items_of}
 use Rattle.wcp_tree.proofs.Ending.{leaf_ended, all_put}
 use Rattle.wcp_tree.proofs.source.Source.run.Goals as goal
 

@@ -1,5 +1,4 @@
-use Rattle.std.proofs.Common.{◌∷◌, [], sym}
-use Rattle.wcp_probe.specs.Seal.{seal_of}
+use Rattle.wcp_worker.proofs.Words.{◌∷◌, [], sym, seal_of}
 use Rattle.wcp_worker.proofs.TakenMore.{more_none, more_more}
 use Rattle.wcp_worker.proofs.lanes.Inbox.take_rest.Goals as goal
 

@@ -1,5 +1,4 @@
-use Rattle.std.proofs.Common.{ℕ}
-use Rattle.wcp_worker.specs.Lanes.{HasTakenMore}
+use Rattle.wcp_worker.proofs.Words.{ℕ, HasTakenMore}
 use Rattle.wcp_worker.proofs.lanes.Inbox.take_rest.Given as goal
 
 abbrev pub invariant-loop : goal.invariant-loop

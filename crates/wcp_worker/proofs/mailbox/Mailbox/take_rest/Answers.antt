@@ -1,7 +1,4 @@
-use Rattle.std.proofs.Common.{◌≡◌, subst, rules, arith}
-use Rattle.std.proofs.lemmas.Grind.{common_steps}
-use Rattle.wcp_worker.specs.Lanes.{IfBoth, HasTakenMore}
-use Rattle.wcp_worker.specs.Mailboxes.{inbox_from}
+use Rattle.wcp_worker.proofs.Words.{◌≡◌, subst, rules, arith, common_steps, IfBoth, HasTakenMore, inbox_from}
 use Rattle.wcp_worker.proofs.TakenMore.{each_entry, both_then, more_more, entry_none}
 use Rattle.wcp_worker.proofs.mailbox.Mailbox.take_rest.Goals as goal
 

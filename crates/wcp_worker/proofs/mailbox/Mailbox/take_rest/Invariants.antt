@@ -1,6 +1,4 @@
-use Rattle.std.proofs.Common.{◌≡◌, ℕ, length}
-use Rattle.wcp_worker.specs.Lanes.{IfBoth, HasTakenMore}
-use Rattle.wcp_worker.specs.Mailboxes.{inbox_from}
+use Rattle.wcp_worker.proofs.Words.{◌≡◌, ℕ, length, IfBoth, HasTakenMore, inbox_from}
 use Rattle.wcp_worker.proofs.mailbox.Mailbox.take_rest.Given as goal
 
 abbrev pub invariant-loop-from : goal.invariant-loop-from

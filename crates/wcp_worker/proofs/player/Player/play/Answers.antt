@@ -1,8 +1,5 @@
-use Rattle.std.proofs.Common.{false, List, [], ◌∷◌, ◌++◌, sym, subst, arith}
-use Rattle.std.proofs.lemmas.List.{take_more}
-use Rattle.wcp_model.specs.declared.workload.Action.{Action}
+use Rattle.wcp_worker.proofs.Words.{false, List, [], ◌∷◌, ◌++◌, sym, subst, arith, take_more, Action, HasDoneActions}
 use Rattle.wcp_model.specs.declared.workload.Action.TheVariants as action
-use Rattle.wcp_worker.specs.Played.{HasDoneActions}
 use Rattle.wcp_worker.proofs.OneMoreAction.{done_more}
 use Rattle.wcp_worker.proofs.player.Player.play.Goals as goal
 

@@ -1,5 +1,4 @@
-use Rattle.std.proofs.Common.{rules}
-use Rattle.wcp_model.specs.ProbeLog.{Received}
+use Rattle.wcp_worker.proofs.Words.{rules, Received}
 use Rattle.wcp_worker.proofs.player.Player.receive.Goals as goal
 
 pub returns-in-Ok-clause-done : goal.returns-in-Ok-clause-done

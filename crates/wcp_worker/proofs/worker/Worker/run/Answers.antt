@@ -1,7 +1,4 @@
-use Rattle.std.proofs.Common.{List, subst}
-use Rattle.wcp_model.specs.declared.workload.Action.{Action}
-use Rattle.wcp_worker.specs.declared.player.Player.{Player}
-use Rattle.wcp_worker.specs.Played.{HasDoneActions}
+use Rattle.wcp_worker.proofs.Words.{List, subst, Action, Player, HasDoneActions}
 use Rattle.wcp_worker.proofs.OneMoreAction.{all_played}
 use Rattle.wcp_worker.proofs.worker.Worker.run.Goals as goal
 
