@@ -139,8 +139,8 @@ IsFirstSettleFault probes relays checker book =
 
 -- What a run's ends tell: the checker took of each process what its probe put, each note once and in order; its
 -- report is the exact one by clocks of what it took, and all is drained; the tallies count the snapshots of each
--- process, just they are in the book, and the book's totals are their sums; and the cut that the book tells is just that
--- of the report.
+-- process, just they are in the book, and the book's totals are their sums; and the cut that the book tells is just
+-- that of the report.
 pub record IsSettled (probes : List ClosedSide) (checker : CheckerEnd) (book : BookState)
     (settled : Settled) : Type 0 where
   pub all : AreAllThere (λ end. end.id) checker.processes probes

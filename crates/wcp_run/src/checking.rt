@@ -20,9 +20,9 @@ use wcp_tree::{Bundle, CheckerInbox};
 
 /// Gives the checker what arrives, until every close mark was taken or the lane is cut. As it takes a close mark it
 /// posts the share of that process in the book: the count of the mark, and how many of its snapshots were taken. Where
-/// a post is refused the book is unchanged, and the loop goes on. As the checker finds a cut, which stays its report, it
-/// tells the book of it, and the loop goes on. Where there is no memory for an item the checker is starved and takes it
-/// then, and the loop goes on, so that the relays still have a taker.
+/// a post is refused the book is unchanged, and the loop goes on. As the checker finds a cut, which stays its report,
+/// it tells the book of it, and the loop goes on. Where there is no memory for an item the checker is starved and takes
+/// it then, and the loop goes on, so that the relays still have a taker.
 ///
 /// What is posted and told stands in no clause, but that a cut is told only where the checker has found it; `settle`
 /// compares both, and so do the tests of `run_cases`.

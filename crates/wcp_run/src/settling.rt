@@ -14,8 +14,8 @@ use wcp_clock::{MAX_PROCS, MAX_RELAYS};
 use wcp_tree::{ProbeEnd, RelayEnd};
 
 /// Proves the report of a run from the ends of its watch: each ring and each lane is matched, on the way
-/// from each process to the checker, the book's shares are compared with what the probes emitted, and the cut in it with
-/// the checker's.
+/// from each process to the checker, the book's shares are compared with what the probes emitted, and the cut in it
+/// with the checker's.
 /// A refusal consumes all that was handed in. It takes no memory.
 pub fn settle(
     probes: Vec<ProbeEnd>,
