@@ -3,4 +3,5 @@ mod reading;
 mod settling;
 mod starting;
 mod starving;
+mod telling;
 mod watches;

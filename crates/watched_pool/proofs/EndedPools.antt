@@ -1,11 +1,11 @@
 -- The ends of a pool come from its watch, and what a settled report of them is about.
-use Rattle.std.proofs.Common.{◌≡◌, ℕ, zero, suc, ◌+◌, ◌<◌, ◌≤◌, Option, Some, Result, Ok, Err, List, [], ◌∷◌, ◌++◌, length, map, slice_get, get_or, All, refl, sym, ap, subst, ◌∙◌, arith}
+use Rattle.std.proofs.Common.{◌≡◌, ℕ, zero, suc, ◌+◌, ◌<◌, ◌≤◌, Some, Result, Ok, Err, List, [], ◌∷◌, ◌++◌, length, map, slice_get, get_or, All, refl, sym, ap, subst, ◌∙◌, arith}
 use Rattle.std.specs.Prelude.{IfOk, IsSomeAnd}
 use Rattle.std.proofs.lemmas.List.{length-map}
 use Rattle.std.proofs.lemmas.Option.{slice_get-get_or, slice_get_within}
+use Rattle.wcp_book.specs.State.{BookState}
 use Rattle.wcp_book.specs.Totals.{AreTotals}
 use Rattle.wcp_clock.specs.declared.note.Item.{Item}
-use Rattle.wcp_model.specs.declared.outcome.Tally.{Tally}
 use Rattle.wcp_model.specs.declared.plan.Plan.{Plan}
 use Rattle.wcp_model.specs.ProbeLog.{Call, Closed, ProbeSetup, setup, state_of_log}
 use Rattle.wcp_model.specs.Report.{IsDrained, IsReportByClocks, notes_taken}
@@ -71,7 +71,7 @@ module _ (plan : Plan) (pace : Pace) (rounds : ℕ) (ends : Ends MemberEnd) (poo
   come probes apart = come_from_parts pool.are.wired pool.checked (rw apart at probes_of) pool.ended pool.are.relays pool.are.inbox
 
   module _ (probes : List ClosedSide) (told : PoolReport) (apart : map (λ end. end.probe) ends.workers.items ≡ probes) (done : map (λ end. end.done) ends.workers.items ≡ map Ok told.shares.items)
-      (book : List (Option Tally)) (totals : AreTotals book told.totals) (is : IsSettled probes ends.checker book (record { report = told.outcome.report; tallies = told.outcome.tallies }))
+      (book : BookState) (totals : AreTotals book.shares told.totals) (is : IsSettled probes ends.checker book (record { report = told.outcome.report; tallies = told.outcome.tallies }))
       (replicas : ℕ) (of_replicas : plan.n ≡ replicas + 1) where
     abbrev items : List Item
     items = ends.checker.receipt.taken

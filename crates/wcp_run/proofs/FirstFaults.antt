@@ -1,5 +1,5 @@
 -- The first fault of the ends of a watch.
-use Rattle.std.proofs.Common.{◌≡◌, ◌↔◌, List, ◌∷◌, ◌++◌, length, get_or, Option, Some, Result, Ok, Err, sym, ap, subst, ◌∙◌, arith}
+use Rattle.std.proofs.Common.{◌≡◌, ◌↔◌, List, ◌∷◌, ◌++◌, length, get_or, Some, Result, Ok, Err, sym, ap, subst, ◌∙◌, arith}
 use Rattle.std.specs.Prelude.{IsErr}
 use Rattle.std.specs.List.{AllByRecursion}
 use Rattle.std.specs.Result.{IsErrAnd}
@@ -9,7 +9,7 @@ use Rattle.std.proofs.lemmas.List.Elements.{All-from_recursion}
 use Rattle.std.proofs.lemmas.Option.{get_or_from_slice_get, slice_get-get_or}
 use Rattle.wcp_model.specs.FirstReason.{IsFirstReason}
 use Rattle.wcp_model.proofs.FirstReasons.{first_unique}
-use Rattle.wcp_model.specs.declared.outcome.Tally.{Tally}
+use Rattle.wcp_book.specs.State.{BookState}
 use Rattle.wcp_tree.specs.LiveProbe.{ClosedSide}
 use Rattle.wcp_tree.specs.declared.relay_end.RelayEnd.{RelayEnd}
 use Rattle.wcp_run.specs.Settling.{IsFirstSettleFault, IsFreeOf, settle_faults}
@@ -24,7 +24,7 @@ pub handed : (result : Result Settled SettleFault) (fault : SettleFault)
 handed (Ok settled) fault is = absurd (cc)
 handed (Err given) fault is = ap Err is.1
 
-module _ (probes : List ClosedSide) (relays : List RelayEnd) (checker : CheckerEnd) (book : List (Option Tally)) where
+module _ (probes : List ClosedSide) (relays : List RelayEnd) (checker : CheckerEnd) (book : BookState) where
   -- to answer with a fault, where the ends are free of those before it, is to answer with each first fault
   pub answered : (front : List SettleFault) (one : SettleFault) (behind : List SettleFault) → settle_faults ≡ front ++ one ∷ behind
       → AllByRecursion (IsFreeOf probes relays checker book) front → ¬ IsFreeOf probes relays checker book one

@@ -1,5 +1,5 @@
 -- What the ends of a workload's run tell of it.
-use Rattle.std.proofs.Common.{◌≡◌, ℕ, ◌<◌, ◌≤◌, Option, Some, List, [], ◌∷◌, length, slice_get, not, sym, refl, ap, subst, ◌∙◌, arith}
+use Rattle.std.proofs.Common.{◌≡◌, ℕ, ◌<◌, ◌≤◌, Some, List, [], ◌∷◌, length, slice_get, not, sym, refl, ap, subst, ◌∙◌, arith}
 use Rattle.std.proofs.lemmas.List.Elements.{All-contains}
 use Rattle.std.proofs.lemmas.Option.{slice_get_within, get_or_from_slice_get}
 use Rattle.wcp_clock.specs.Limits.{most_processes}
@@ -7,6 +7,7 @@ use Rattle.wcp_clock.specs.Notes.{is_close}
 use Rattle.wcp_clock.specs.declared.note.Note.{Note}
 use Rattle.wcp_clock.specs.declared.note.Note.TheVariants.{Snap, Close}
 use Rattle.wcp_model.specs.declared.outcome.Tally.{Tally}
+use Rattle.wcp_book.specs.State.{BookState}
 use Rattle.wcp_model.specs.declared.plan.Plan.{Plan}
 use Rattle.wcp_model.specs.declared.workload.Task.{Task}
 use Rattle.wcp_model.specs.Outcome.{IsWorkloadOutcome}
@@ -65,7 +66,7 @@ module _ {plan : Plan} {tasks : List Task} {ends : Ends WorkerEnd} (run : AreEnd
         (sym (get_or_from_slice_get played.probes.items k (here k below).probe d (here k below).probe_at)) (of_process k below).is_end)
         run.ended run.are.relays run.are.inbox
 
-    module _ (matched : AreMatched played.mailboxes.items) {book : List (Option Tally)} {settled : Settled} (is : IsSettled played.probes.items ends.checker book settled) where
+    module _ (matched : AreMatched played.mailboxes.items) {book : BookState} {settled : Settled} (is : IsSettled played.probes.items ends.checker book settled) where
       have_run : HaveRun plan.n tasks ends.checker.receipt.taken played.mailboxes.items
       have_run = record {
         count = (as_many run.ended.workers left).1 ∙ workers_count;

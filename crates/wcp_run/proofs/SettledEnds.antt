@@ -12,6 +12,7 @@ use Rattle.wcp_clock.specs.declared.note.Item.{Item}
 use Rattle.wcp_model.specs.Report.{ClocksRise, notes_taken}
 use Rattle.wcp_model.specs.declared.outcome.Tally.{Tally}
 use Rattle.wcp_model.specs.declared.plan.Parent.TheVariants as parent
+use Rattle.wcp_book.specs.State.{BookState}
 use Rattle.wcp_book.specs.Totals.{emitted_of_share, taken_of_share}
 use Rattle.wcp_lane.specs.Ends.{TakenEnd}
 use Rattle.wcp_tree.specs.declared.bundle.Bundle.{Bundle}
@@ -25,7 +26,7 @@ use Rattle.wcp_model.proofs.CheckedPlans.{few_processes, few_relays, some_proces
 use Rattle.wcp_tree.proofs.LiveProbes.{taken_rise}
 use Rattle.wcp_run.specs.Matching.{AreEndsThere, AreFirstMatched}
 use Rattle.wcp_run.specs.Seats.{AreAllThere, AreOfWatch, AreAllSeated, AreSeats, IsEndAt, SitsAt}
-use Rattle.wcp_run.specs.Settling.{AreLinksMatched, ComeFromWatch, IsFreeOf, IsSettled, IsPutMatched, share_of}
+use Rattle.wcp_run.specs.Settling.{AreLinksMatched, ComeFromWatch, IsFreeOf, IsSettled, IsPutMatched, cut_of, share_of}
 use Rattle.wcp_run.specs.declared.settle_fault.SettleFault.TheVariants.{Missing, Faulted, Unfinished}
 use Rattle.wcp_run.specs.declared.checker_end.CheckerEnd.{CheckerEnd}
 use Rattle.wcp_run.proofs.CheckedItems.{without_fault}
@@ -129,7 +130,7 @@ module _ {probes : List ClosedSide} {relays : List RelayEnd} {checker : CheckerE
   module _ {probe_seats : List (Option ClosedSide)} {relay_seats : List (Option RelayEnd)}
       (seats : HaveSeats probes relays checker probe_seats relay_seats) where
     -- none is missing where somebody sits at each place
-    pub none_missing : (book : List (Option Tally))
+    pub none_missing : (book : BookState)
         → (AreAllSeated checker.processes probe_seats × AreAllSeated checker.relays relay_seats)
         ↔ IsFreeOf probes relays checker book Missing
     none_missing book =
@@ -185,7 +186,11 @@ module _ {probes : List ClosedSide} {relays : List RelayEnd} {checker : CheckerE
           matched_for_fewer checker.receipt seats.probes_sit.own seats.relays_sit.own relay (rw among.2 at (all among.0 relay among.1)),
     )
 
-    module _ {tallies : List Tally} (are : AreShares checker.processes probe_seats tallies) (book : List (Option Tally)) where
+    module _ {tallies : List Tally} (are : AreShares checker.processes probe_seats tallies) (book : BookState) where
+      -- just these tallies are in the book, and just the cut of the checker's report
+      abbrev pub IsPosted : Type 0
+      IsPosted = ((p : ℕ) → option_flatten (slice_get book.shares p) ≡ slice_get tallies p) × (book.found ≡ cut_of checker.report)
+
       within : (end : ClosedSide) → Contains probes end → end.id < checker.processes
       within end among = probe_within end among (rw among.2 at (seats.of_probes.same among.0 end among.1))
 
@@ -193,32 +198,33 @@ module _ {probes : List ClosedSide} {relays : List RelayEnd} {checker : CheckerE
       share_at end among = are.each end.id end (within end among) (seats.probes_sit.seated end.id end (among, refl))
 
       -- the book has just the tallies where it has just the shares of the processes
-      pub book_finished : ((p : ℕ) → option_flatten (slice_get book p) ≡ slice_get tallies p)
-          → AreFirstMatched checker.relays probe_seats checker.receipt relay_seats
+      pub book_finished : IsPosted → AreFirstMatched checker.relays probe_seats checker.receipt relay_seats
           → IsFreeOf probes relays checker book Unfinished
       book_finished posted each = record {
         links = links_matched.0 each;
-        shares = All-from_contains _ probes (λ end among. posted end.id ∙ share_at end among);
-        no_others = λ p past. posted p ∙ slice_get_past tallies p (omega (arith, are.count_is));
+        shares = All-from_contains _ probes (λ end among. posted.0 end.id ∙ share_at end among);
+        no_others = λ p past. posted.0 p ∙ slice_get_past tallies p (omega (arith, are.count_is));
+        found = posted.1;
       }
 
-      pub book_posted : AreAllSeated checker.processes probe_seats → IsFreeOf probes relays checker book Unfinished
-          → (p : ℕ) → option_flatten (slice_get book p) ≡ slice_get tallies p
-      book_posted there finished p = ⊎_elim
-          (λ (below : p < checker.processes).
-          let (end, sits) = there p below in
-          let (among, id) = seats.probes_sit.own p end sits in
-          let share = rw among.2 at (finished.shares among.0 end among.1) in
-          rw (← id) (share ∙ sym (share_at end among)))
-          (λ (past : checker.processes ≤ p).
-          finished.no_others p past ∙ sym (slice_get_past tallies p (omega (arith, are.count_is))))
-          (cases_lt p checker.processes)
+      pub book_posted : AreAllSeated checker.processes probe_seats → IsFreeOf probes relays checker book Unfinished → IsPosted
+      book_posted there finished = (
+        λ p. ⊎_elim
+            (λ (below : p < checker.processes).
+            let (end, sits) = there p below in
+            let (among, id) = seats.probes_sit.own p end sits in
+            let share = rw among.2 at (finished.shares among.0 end among.1) in
+            rw (← id) (share ∙ sym (share_at end among)))
+            (λ (past : checker.processes ≤ p).
+            finished.no_others p past ∙ sym (slice_get_past tallies p (omega (arith, are.count_is))))
+            (cases_lt p checker.processes),
+        finished.found,
+      )
 
       -- what a run's ends tell
       pub all_settled : AreAllSeated checker.processes probe_seats × AreAllSeated checker.relays relay_seats
           → IsFreeOf probes relays checker book Faulted
-          → ((p : ℕ) → option_flatten (slice_get book p) ≡ slice_get tallies p)
-          → AreFirstMatched checker.relays probe_seats checker.receipt relay_seats
+          → IsPosted → AreFirstMatched checker.relays probe_seats checker.receipt relay_seats
           → IsSettled probes checker book (record { report = checker.report; tallies = tallies })
       unfolding ends_there
       all_settled seated whole posted each = record {
@@ -231,10 +237,11 @@ module _ {probes : List ClosedSide} {relays : List RelayEnd} {checker : CheckerE
         tallies = λ k d below.
             let among = Contains-get_or probes k d below in
             rw (whole_of (get_or probes k d) among) (share_at (get_or probes k d) among);
-        shares = posted;
+        shares = posted.0;
+        found = posted.1;
         totals = λ totals sums. (
-          sums.emitted ∙ shares_sum (λ tally. tally.emitted) emitted_of_share refl (λ tally. refl) book tallies posted,
-          sums.taken ∙ shares_sum (λ tally. tally.taken) taken_of_share refl (λ tally. refl) book tallies posted,
+          sums.emitted ∙ shares_sum (λ tally. tally.emitted) emitted_of_share refl (λ tally. refl) book.shares tallies posted.0,
+          sums.taken ∙ shares_sum (λ tally. tally.taken) taken_of_share refl (λ tally. refl) book.shares tallies posted.0,
         );
       }
         where

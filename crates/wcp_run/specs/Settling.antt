@@ -7,10 +7,13 @@ use Rattle.wcp_clock.specs.declared.note.Item.{Item}
 use Rattle.wcp_model.specs.FirstReason.{IsFirstReason}
 use Rattle.wcp_model.specs.PlanFault.{IsCheckedPlan}
 use Rattle.wcp_model.specs.Report.{IsDrained, IsReportByClocks, notes_taken}
+use Rattle.wcp_model.specs.declared.outcome.Report.{Report}
+use Rattle.wcp_model.specs.declared.outcome.Report.TheVariants.{Found, Nothing, Undecided}
 use Rattle.wcp_model.specs.declared.outcome.Tally.{Tally}
 use Rattle.wcp_model.specs.declared.plan.Parent.{Parent}
 use Rattle.wcp_model.specs.declared.plan.Parent.TheVariants as parent
 use Rattle.wcp_model.specs.declared.plan.Plan.{Plan}
+use Rattle.wcp_book.specs.State.{BookState}
 use Rattle.wcp_book.specs.Totals.{AreTotals}
 use Rattle.wcp_lane.specs.Ends.{TakenEnd}
 use Rattle.wcp_queue.specs.Checker.{IsReportOfAnyClocks}
@@ -100,15 +103,23 @@ pub record AreLinksMatched (IsProbe : ℕ → ClosedSide → Type 0) (root : Tak
 abbrev pub share_of : ClosedSide → Tally
 share_of probe = record { emitted = snapshots_in probe.link.put; taken = snapshots_in probe.link.put }
 
--- All rings and lanes were matched, and the shares in the book are just those of the n processes.
-pub record AreFinished (n : ℕ) (probes : List ClosedSide) (root : TakenEnd Bundle Item) (relays : List RelayEnd)
-    (book : List (Option Tally)) : Type 0 where
-  pub links : All (AreLinksMatched (IsEndAt (λ end. end.id) probes) root (IsEndAt number_of relays)) relays
-  pub shares : All (λ probe. option_flatten (slice_get book probe.id) ≡ Some (share_of probe)) probes
-  pub no_others : (p : ℕ) → n ≤ p → option_flatten (slice_get book p) ≡ None
+-- The cut of a report, if it is one.
+abbrev pub cut_of : Report → Option (List ℕ)
+cut_of (Found cut) = Some cut
+cut_of Nothing = None
+cut_of Undecided = None
+
+-- All rings and lanes were matched, the shares in the book are just those of the n processes, and the cut in it is just
+-- that of the checker's report.
+pub record AreFinished (probes : List ClosedSide) (relays : List RelayEnd) (checker : CheckerEnd)
+    (book : BookState) : Type 0 where
+  pub links : All (AreLinksMatched (IsEndAt (λ end. end.id) probes) checker.receipt (IsEndAt number_of relays)) relays
+  pub shares : All (λ probe. option_flatten (slice_get book.shares probe.id) ≡ Some (share_of probe)) probes
+  pub no_others : (p : ℕ) → checker.processes ≤ p → option_flatten (slice_get book.shares p) ≡ None
+  pub found : book.found ≡ cut_of checker.report
 
 -- What each fault denies.
-abbrev pub IsFreeOf : List ClosedSide → List RelayEnd → CheckerEnd → List (Option Tally) → SettleFault → Type 0
+abbrev pub IsFreeOf : List ClosedSide → List RelayEnd → CheckerEnd → BookState → SettleFault → Type 0
 IsFreeOf probes relays checker book fault.Stranger =
     AreOfWatch (λ end. end.watch) (λ end. end.id) checker.watch probes
     × AreOfWatch watch_of number_of checker.watch relays
@@ -116,22 +127,21 @@ IsFreeOf probes relays checker book fault.Missing =
     AreAllThere (λ end. end.id) checker.processes probes × AreAllThere number_of checker.relays relays
 IsFreeOf probes relays checker book fault.Faulted =
     All (λ end. fault_of end ≡ None) relays × (checker.fault ≡ None)
-IsFreeOf probes relays checker book fault.Unfinished =
-    AreFinished checker.processes probes checker.receipt relays book
+IsFreeOf probes relays checker book fault.Unfinished = AreFinished probes relays checker book
 
 -- The faults in the order in which they count, and the first one of these ends.
 abbrev pub settle_faults : List SettleFault
 settle_faults = fault.Stranger ∷ fault.Missing ∷ fault.Faulted ∷ fault.Unfinished ∷ []
 
-abbrev pub IsFirstSettleFault :
-    List ClosedSide → List RelayEnd → CheckerEnd → List (Option Tally) → SettleFault → Type 0
+abbrev pub IsFirstSettleFault : List ClosedSide → List RelayEnd → CheckerEnd → BookState → SettleFault → Type 0
 IsFirstSettleFault probes relays checker book =
     IsFirstReason (λ fault. ¬ IsFreeOf probes relays checker book fault) settle_faults
 
 -- What a run's ends tell: the checker took of each process what its probe put, each note once and in order; its
 -- report is the exact one by clocks of what it took, and all is drained; the tallies count the snapshots of each
--- process, just they are in the book, and the book's totals are their sums.
-pub record IsSettled (probes : List ClosedSide) (checker : CheckerEnd) (book : List (Option Tally))
+-- process, just they are in the book, and the book's totals are their sums; and the cut that the book tells is just
+-- that of the report.
+pub record IsSettled (probes : List ClosedSide) (checker : CheckerEnd) (book : BookState)
     (settled : Settled) : Type 0 where
   pub all : AreAllThere (λ end. end.id) checker.processes probes
   pub whole : All (λ end. notes_taken end.id checker.receipt.taken ≡ end.link.put) probes
@@ -143,7 +153,8 @@ pub record IsSettled (probes : List ClosedSide) (checker : CheckerEnd) (book : L
     emitted = snapshots_in end.link.put;
     taken = snapshots_in (notes_taken end.id checker.receipt.taken);
   })) probes
-  pub shares : (p : ℕ) → option_flatten (slice_get book p) ≡ slice_get settled.tallies p
-  pub totals : (totals : Tally) → AreTotals book totals
+  pub shares : (p : ℕ) → option_flatten (slice_get book.shares p) ≡ slice_get settled.tallies p
+  pub found : book.found ≡ cut_of settled.report
+  pub totals : (totals : Tally) → AreTotals book.shares totals
       → (totals.emitted ≡ sum_by (λ tally. tally.emitted) settled.tallies)
       × (totals.taken ≡ sum_by (λ tally. tally.taken) settled.tallies)

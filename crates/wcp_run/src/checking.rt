@@ -1,8 +1,10 @@
-//! The loop of a checker: it takes what arrives at the root of the tree, and posts the share of each process.
+//! The loop of a checker: it takes what arrives at the root of the tree, posts the share of each process, and tells the
+//! cut as it finds it.
 ghost use Rattle.std.specs.Prelude.{◌≡◌, ℕ, ◌↔◌, ◌<◌, true, false, [], ◌∷◌, IsTrue, IfOk, OnOk};
 ghost use Rattle.wcp_clock.specs.Notes.{is_close, place_of};
 ghost use Rattle.wcp_model.specs.Report.{IsDrained};
-ghost use Rattle.wcp_queue.specs.Checker.{processes, closed_of, MayTake};
+ghost use Rattle.wcp_model.specs.declared.outcome.Report.TheVariants.{Found};
+ghost use Rattle.wcp_queue.specs.Checker.{processes, closed_of, report_of, HasFound, MayTake};
 ghost use Rattle.wcp_lane.specs.Ends.{TakeEnd};
 ghost use Rattle.wcp_tree.specs.RelayWork.{AreTakenNext, IsSameTaker};
 ghost use Rattle.wcp_run.specs.CheckerEnds.{IsEndOfLoop, IsFreshFor, KeepsUp, HasTakenClose, HasTakenLast, TakesItems};
@@ -12,15 +14,18 @@ use std::sync::{Mutex, Wait};
 use wcp_book::Book;
 use wcp_clock::{Item, Note};
 use wcp_lane::{Cut, Taker};
+use wcp_model::{GlobalCut, Report};
 use wcp_queue::Checker;
 use wcp_tree::{Bundle, CheckerInbox};
 
 /// Gives the checker what arrives, until every close mark was taken or the lane is cut. As it takes a close mark it
 /// posts the share of that process in the book: the count of the mark, and how many of its snapshots were taken. Where
-/// a post is refused the book is unchanged, and the loop goes on. Where there is no memory for an item the checker is
-/// starved and takes it then, and the loop goes on, so that the relays still have a taker.
+/// a post is refused the book is unchanged, and the loop goes on. As the checker finds a cut, which stays its report,
+/// it tells the book of it, and the loop goes on. Where there is no memory for an item the checker is starved and takes
+/// it then, and the loop goes on, so that the relays still have a taker.
 ///
-/// What is posted stands in no clause; the tests of `run_cases` compare the shares.
+/// What is posted and told stands in no clause, but that a cut is told only where the checker has found it; `settle`
+/// compares both, and so do the tests of `run_cases`.
 pub fn check_loop<R: Wait>(
     rt: &R,
     inbox: CheckerInbox,
@@ -58,11 +63,15 @@ fn take_all<R: Wait>(
     ensures drained { OnOk result (IsDrained (processes checker.new) taker.new.taken) }
 {
     let mut finished = are_closed(checker);
+    let mut told = false;
     for _ in rt.forever() {
         if finished {
             break;
         }
         let end = take_bundle(rt, taker, checker)?;
+        if !told {
+            told = tell_found(rt, book, checker);
+        }
         if let Note::Close { count } = end.note {
             post_share(rt, book, checker, end.from, count);
             finished = are_closed(checker);
@@ -123,6 +132,24 @@ fn post_share<R: Wait>(rt: &R, book: &Mutex<Book>, checker: &Checker, p: u32, co
 {
     let taken = checker.taken(p);
     let _ = book.lock(rt).post(p, u64::from(count), taken);
+}
+
+/// Tells the book of the cut that the checker has found. Whether it has found one.
+fn tell_found<R: Wait>(rt: &R, book: &Mutex<Book>, checker: &Checker) -> bool
+    ensures { IsTrue result ↔ HasFound checker.now }
+{
+    let Report::Found(cut) = checker.report() else {
+        return false;
+    };
+    tell(rt, book, checker, cut);
+    true
+}
+
+/// Tells the book of this cut of the checker.
+fn tell<R: Wait>(rt: &R, book: &Mutex<Book>, checker: &Checker, cut: GlobalCut)
+    requires { report_of checker.now ≡ Found cut }
+{
+    book.lock(rt).tell(cut);
 }
 
 /// Whether every close mark was taken.

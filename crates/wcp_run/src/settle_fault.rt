@@ -11,7 +11,8 @@ pub enum SettleFault {
     /// A probe or a relay has no end.
     #[error("an end is missing")]
     Missing,
-    /// Not all that was put was taken, or the book's shares aren't just those of the processes.
+    /// Not all that was put was taken, or the book's shares aren't just those of the processes, or its cut isn't just
+    /// the checker's.
     #[error("not all was taken")]
     Unfinished,
     /// An end has a fault: that of a relay, or the checker's.

@@ -8,13 +8,14 @@ use crate::matching::match_links;
 use crate::seats::{are_seated, empty, seat};
 use crate::settle_fault::SettleFault;
 use crate::settled::Settled;
-use crate::shares::{are_posted, tallies};
+use crate::shares::{is_book_of, tallies};
 use wcp_book::Book;
 use wcp_clock::{MAX_PROCS, MAX_RELAYS};
 use wcp_tree::{ProbeEnd, RelayEnd};
 
 /// Proves the report of a run from the ends of its watch: each ring and each lane is matched, on the way
-/// from each process to the checker, and the book's shares are compared with what the probes emitted.
+/// from each process to the checker, the book's shares are compared with what the probes emitted, and the cut in it
+/// with the checker's.
 /// A refusal consumes all that was handed in. It takes no memory.
 pub fn settle(
     probes: Vec<ProbeEnd>,
@@ -39,7 +40,7 @@ pub fn settle(
         return Err(SettleFault::Faulted);
     }
     let tallies = tallies(&probe_ends, checker.processes);
-    if !are_posted(&tallies, &book) {
+    if !is_book_of(&tallies, checker.report, &book) {
         return Err(SettleFault::Unfinished);
     }
     match_links(

@@ -3,11 +3,11 @@ ghost use Rattle.std.specs.Option.{option_flatten};
 ghost use Rattle.wcp_clock.specs.Limits.{most_processes};
 ghost use Rattle.wcp_tree.specs.LiveProbe.{ClosedSide, NotesRise};
 ghost use Rattle.wcp_run.specs.Seats.{SitsAt};
-ghost use Rattle.wcp_run.specs.Settling.{share_of};
+ghost use Rattle.wcp_run.specs.Settling.{cut_of, share_of};
 
 use wcp_book::Book;
 use wcp_clock::MAX_PROCS;
-use wcp_model::{Tallies, Tally};
+use wcp_model::{GlobalCut, Report, Tallies, Tally};
 use wcp_tree::ProbeEnd;
 
 /// The tallies of the first processes, where all that their probes emitted was taken. Their ends tell that the clocks
@@ -60,9 +60,27 @@ fn whole_tally(probe: &ProbeEnd) -> Tally
     }
 }
 
+/// Whether just these shares are in the book, and just the cut of this report.
+pub(crate) fn is_book_of(tallies: &Tallies, report: Report, book: &Book) -> bool
+    ensures { IsTrue result ↔ (((p : ℕ) → option_flatten (slice_get book.now.shares p) ≡ slice_get tallies.now p)
+        × (book.now.found ≡ cut_of report)) }
+{
+    are_posted(tallies, book) && book.found() == found_in(report)
+}
+
+/// The cut of this report, if it is one.
+fn found_in(report: Report) -> Option<GlobalCut>
+    ensures { result ≡ cut_of report }
+{
+    match report {
+        Report::Found(cut) => Some(cut),
+        Report::Nothing | Report::Undecided => None,
+    }
+}
+
 /// Whether just these shares are in the book.
-pub(crate) fn are_posted(tallies: &Tallies, book: &Book) -> bool
-    ensures { IsTrue result ↔ ((p : ℕ) → option_flatten (slice_get book.now p) ≡ slice_get tallies.now p) }
+fn are_posted(tallies: &Tallies, book: &Book) -> bool
+    ensures { IsTrue result ↔ ((p : ℕ) → option_flatten (slice_get book.now.shares p) ≡ slice_get tallies.now p) }
 {
     for p in 0..MAX_PROCS as u32 {
         if book.share(p) != tally_of(tallies, p) {

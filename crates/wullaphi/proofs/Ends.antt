@@ -1,5 +1,5 @@
 -- What the ends of a watch of processes tell.
-use Rattle.std.proofs.Common.{◌≡◌, ◌<◌, ℕ, Some, Option, List, [], ◌∷◌, ◌++◌, length, map, slice_get, get_or, All, refl, sym, ap, subst, ◌∙◌, arith}
+use Rattle.std.proofs.Common.{◌≡◌, ◌<◌, ℕ, Some, List, [], ◌∷◌, ◌++◌, length, map, slice_get, get_or, All, refl, sym, ap, subst, ◌∙◌, arith}
 use Rattle.std.proofs.lemmas.List.{length-map}
 use Rattle.std.proofs.lemmas.Option.{slice_get-get_or, slice_get_within}
 use Rattle.wcp_clock.specs.declared.note.Note.{Note}
@@ -8,6 +8,7 @@ use Rattle.wcp_model.specs.PlanFault.{IsCheckedPlan}
 use Rattle.wcp_model.specs.ProbeLog.{Call, Closed, ProbeSetup, setup, state_of_log}
 use Rattle.wcp_model.specs.Report.{IsDrained, IsReportByClocks, notes_taken}
 use Rattle.wcp_model.specs.declared.outcome.Tally.{Tally}
+use Rattle.wcp_book.specs.State.{BookState}
 use Rattle.wcp_model.specs.declared.plan.Plan.{Plan}
 use Rattle.wcp_probe.specs.Core.{setup_of}
 use Rattle.wcp_tree.specs.LiveProbe.{ClosedSide, LiveFor, LiveSide, snapshots_in}
@@ -71,7 +72,7 @@ module _ {P A : Type 0} (Leaves : P → LiveSide → A → Type 0) {plan : Plan}
     come = come_from_parts are.wired checked of_probes ended are.relays are.inbox
 
     module _ (answers : List A) (answered : map (λ (end : SeatEnd A). end.answer) ends.workers.items ≡ answers)
-        {book : List (Option Tally)} {settled : Settled} (is : IsSettled probes ends.checker book settled) (watched : Watched A)
+        {book : BookState} {settled : Settled} (is : IsSettled probes ends.checker book settled) (watched : Watched A)
         (answers_are : watched.answers.items ≡ answers) (report_is : watched.outcome.report ≡ settled.report) (tallies_are : watched.outcome.tallies ≡ settled.tallies) where
       n_is : ends.checker.processes ≡ plan.n
       n_is = all_processes are.wired (rw are.inbox at ended.checker)

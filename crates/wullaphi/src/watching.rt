@@ -25,7 +25,8 @@ use wcp_tree::{Watch, watch};
 /// probe of its number, beside a thread for each relay and one for the checker. All are started or none, and all have
 /// ended when this returns. The number of the watch tells it from others: a stamp of another one is refused.
 ///
-/// The book is begun anew. While the watch runs any thread may read the totals in it.
+/// The book is begun anew. While the watch runs any thread may read in it: the totals, and the cut, as soon as the
+/// checker finds it, which is then the report's. So a process may go on until it reads it, and end then.
 pub fn watch_processes<
     S: Sync,
     A: Send + Drop + 'static,

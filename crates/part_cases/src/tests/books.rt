@@ -1,5 +1,5 @@
 use wcp_book::{Book, BookFault};
-use wcp_model::Tally;
+use wcp_model::{GlobalCut, Tally};
 
 #[test]
 fn shares_are_posted_once(rt: HostRuntime) {
@@ -17,4 +17,17 @@ fn shares_are_posted_once(rt: HostRuntime) {
     };
     assert_eq!(rt; (book.share(0), book.share(1)), (Some(share), None));
     assert_eq!(rt; book.totals(), share);
+}
+
+#[test]
+fn the_first_cut_that_is_told_stays(rt: HostRuntime) {
+    let mut book = Book::new(2);
+    assert_eq!(rt; book.found(), None);
+    let first = GlobalCut::new(&[3, 1]);
+    book.tell(first);
+    book.tell(GlobalCut::new(&[3, 2]));
+    assert_eq!(rt;
+        (book.found(), book.copied().found()),
+        (Some(first), Some(first))
+    );
 }

@@ -37,7 +37,11 @@ fn two_hops_find_the_first_cut(rt: HostRuntime) -> Result<(), Fail> {
     let plan = two_hops(&rt, rt.alloc())?;
     let (end, book) = run_in_one_thread(&rt, rt.alloc(), &plan, 2, Book::new(2))?;
     assert_eq!(rt; (end.watch(), end.fault()), (7, None));
-    assert_eq!(rt; end.report(), Report::Found(GlobalCut::new(&[0, 0])));
+    let cut = GlobalCut::new(&[0, 0]);
+    assert_eq!(rt;
+        (end.report(), book.found()),
+        (Report::Found(cut), Some(cut))
+    );
     assert_eq!(rt; (book.share(0), book.share(1)), (Some(ONE), Some(ONE)));
     assert_eq!(rt;
         book.totals(),
@@ -71,7 +75,7 @@ fn a_lane_that_is_cut_ends_the_loop(rt: HostRuntime) -> Result<(), Fail> {
     assert!(rt; plan.check().is_ok());
     let (end, book) = run_in_one_thread(&rt, rt.alloc(), &plan, 1, Book::new(2))?;
     assert!(rt; matches!(end.fault(), Some(CheckFault::Cut(_))) && end.cut().is_some());
-    assert_eq!(rt; end.report(), Report::Undecided);
+    assert_eq!(rt; (end.report(), book.found()), (Report::Undecided, None));
     assert_eq!(rt; (book.share(0), book.share(1)), (Some(ONE), None));
     Ok(())
 }

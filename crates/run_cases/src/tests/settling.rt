@@ -227,13 +227,44 @@ fn each_relay_without_an_end_is_missing(rt: HostRuntime) -> Result<(), Fail> {
     Ok(())
 }
 
-/// A book in which the share of process `left_out` isn't, and that of the other is.
+/// A book in which the cut is, the share of process `left_out` isn't, and that of the other is.
 fn book_without(rt: &impl Abort, left_out: u32) -> Book {
     let mut book = Book::new(2);
     assert!(rt; left_out < 2);
     let posted = book.post(1 - left_out, 1, 1);
     assert_eq!(rt; posted, Ok(()));
+    book.tell(GlobalCut::new(&[0, 0]));
     book
+}
+
+/// A book in which the shares are, and this cut, if it is one.
+fn book_with(rt: &impl Abort, cut: Option<GlobalCut>) -> Book {
+    let mut book = Book::new(2);
+    for p in 0..2 {
+        let posted = book.post(p, 1, 1);
+        assert_eq!(rt; posted, Ok(()));
+    }
+    if let Some(cut) = cut {
+        book.tell(cut);
+    }
+    book
+}
+
+#[test]
+fn a_cut_that_is_another_or_was_not_told_is_unfinished(rt: HostRuntime) -> Result<(), Fail> {
+    let cut = GlobalCut::new(&[0, 0]);
+    let other = GlobalCut::new(&[0, 1]);
+    for (told, fault) in [
+        (Some(cut), None),
+        (Some(other), Some(SettleFault::Unfinished)),
+        (None, Some(SettleFault::Unfinished)),
+    ] {
+        let ends = run_watch(&rt, rt.alloc())?;
+        let book = book_with(&rt, told);
+        let met = settle(ends.probes, ends.relays, ends.checker, book).err();
+        assert_eq!(rt; met, fault, "with {told:?}");
+    }
+    Ok(())
 }
 
 #[test]

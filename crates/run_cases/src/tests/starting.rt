@@ -42,10 +42,10 @@ fn take_up(alloc: Global) -> Result<Vec<Vec<u8>>, AllocError> {
     Ok(blocks)
 }
 
-/// A process that is counted as it begins, emits one snapshot, and closes.
+/// A process that runs with what its test shares: here it is counted as it begins, emits one snapshot, and closes.
 #[derive(Drop)]
-struct Process {
-    probe: LiveProbe,
+pub struct Process {
+    pub probe: LiveProbe,
 }
 
 impl Part<ProbeEnd> for Process {
@@ -64,7 +64,7 @@ impl RunsWith<AtomicU32, ProbeEnd> for Process {
 }
 
 /// The parts of a watch of sixteen processes.
-fn sixteen_processes(alloc: Global) -> Result<Parts<Process>, AllocError>
+pub fn sixteen_processes(alloc: Global) -> Result<Parts<Process>, AllocError>
     ensures { IfOk result (λ parts. IsFreshFor parts.checking.inbox parts.checking.checker) }
 {
     let plan = plain_plan(alloc, 16, 8, 4)?;

@@ -78,15 +78,15 @@ tallies-tallies-requires-clause-few c = few c.requires
 pub tallies-tallies-requires-clause-there : goal.tallies-tallies-requires-clause-there
 tallies-tallies-requires-clause-there c = omega (arith, few c.requires, c.seat.auto.seats, c.empty-probe_ends.ensures.all)
 
-pub returns-then-not-are_posted-clause-first : goal.returns-then-not-are_posted-clause-first
-returns-then-not-are_posted-clause-first c =
+pub returns-then-not-is_book_of-clause-first : goal.returns-then-not-is_book_of-clause-first
+returns-then-not-is_book_of-clause-first c =
     let seats = have_seats c.args.checker (c.in_ok-seat.ensures.exact.0 refl) (c.in_ok-seat-2.ensures.exact.0 refl) c.in_ok-seat.ensures.seats c.in_ok-seat-2.ensures.seats in
     let seated : AreAllSeated c.args.checker.processes c.seat.new.seats × AreAllSeated c.args.checker.relays c.seat-2.new.seats = (c.are_seated.ensures.0 c.if-not-are_seated.false, c.are_seated-else-not-are_seated.ensures.0 c.if-not-are_seated-2.false) in
     let whole = subst (λ ends. IsFreeOf c.args.probes.items ends c.args.checker c.args.book Faulted) c.deref.ensures.value (c.are_whole-whole.ensures.0 c.if-not-whole.false) in
     let shares : AreShares c.args.checker.processes c.seat.new.seats c.tallies-tallies.result = record { count_is = c.tallies-tallies.ensures.count; each = c.tallies-tallies.ensures.shares; rise = c.tallies-tallies.ensures.rise } in
     answered c.args.probes.items c.args.relays.items c.args.checker c.args.book (Stranger ∷ Missing ∷ Faulted ∷ []) Unfinished [] refl
     ((seats.of_probes, seats.of_relays), ((none_missing c.requires seats c.args.book).0 seated, (whole, tt)))
-    (λ finished. true≢false (sym (c.are_posted.ensures.1 (book_posted c.requires seats shares c.args.book seated.0 finished)) ∙ c.if-not-are_posted.true))
+    (λ finished. true≢false (sym (c.is_book_of.ensures.1 (book_posted c.requires seats shares c.args.book seated.0 finished)) ∙ c.if-not-is_book_of.true))
     (Err Unfinished) refl
 
 pub match_links-requires : goal.match_links-requires
@@ -114,7 +114,7 @@ returns-clause-settled c =
     let seated : AreAllSeated c.args.checker.processes c.seat.new.seats × AreAllSeated c.args.checker.relays c.seat-2.new.seats = (c.are_seated.ensures.0 c.if-not-are_seated.false, c.are_seated-else-not-are_seated.ensures.0 c.if-not-are_seated-2.false) in
     let whole = subst (λ ends. IsFreeOf c.args.probes.items ends c.args.checker c.args.book Faulted) c.deref.ensures.value (c.are_whole-whole.ensures.0 c.if-not-whole.false) in
     let shares : AreShares c.args.checker.processes c.seat.new.seats c.tallies-tallies.result = record { count_is = c.tallies-tallies.ensures.count; each = c.tallies-tallies.ensures.shares; rise = c.tallies-tallies.ensures.rise } in
-    all_settled c.requires seats shares c.args.book seated whole (c.are_posted.ensures.0 c.if-not-are_posted.false) (c.in_ok-match_links.ensures.exact.0 refl)
+    all_settled c.requires seats shares c.args.book seated whole (c.is_book_of.ensures.0 c.if-not-is_book_of.false) (c.in_ok-match_links.ensures.exact.0 refl)
 
 pub returns-clause-first : goal.returns-clause-first
 returns-clause-first c =
@@ -122,7 +122,7 @@ returns-clause-first c =
     let seated : AreAllSeated c.args.checker.processes c.seat.new.seats × AreAllSeated c.args.checker.relays c.seat-2.new.seats = (c.are_seated.ensures.0 c.if-not-are_seated.false, c.are_seated-else-not-are_seated.ensures.0 c.if-not-are_seated-2.false) in
     let whole = subst (λ ends. IsFreeOf c.args.probes.items ends c.args.checker c.args.book Faulted) c.deref.ensures.value (c.are_whole-whole.ensures.0 c.if-not-whole.false) in
     let shares : AreShares c.args.checker.processes c.seat.new.seats c.tallies-tallies.result = record { count_is = c.tallies-tallies.ensures.count; each = c.tallies-tallies.ensures.shares; rise = c.tallies-tallies.ensures.rise } in
-    let posted = c.are_posted.ensures.0 c.if-not-are_posted.false in
+    let posted = c.is_book_of.ensures.0 c.if-not-is_book_of.false in
     let finished = book_finished c.requires seats shares c.args.book posted (c.in_ok-match_links.ensures.exact.0 refl) in
     λ first. (
       λ same. absurd (cc),

@@ -10,7 +10,7 @@ returns c =
       (λ _ p. ⊎_elim
           (λ (below : p < 16). c.loop-p.invariant.posted p (omega arith))
           (λ (past : 16 ≤ p).
-          ap option_flatten (slice_get_past c.args.book.now p (omega (arith, few.0)))
+          ap option_flatten (slice_get_past c.args.book.now.shares p (omega (arith, few.0)))
           ∙ sym (slice_get_past c.args.tallies.now p (omega (arith, few.1))))
           (cases_lt p 16)),
       (λ _. refl),

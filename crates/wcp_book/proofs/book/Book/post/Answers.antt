@@ -1,12 +1,16 @@
-use Rattle.std.proofs.Common.{arith, ◌≡◌, take, set, slice_get, slice_index_or, Some, None, sym, ◌∙◌, ap, refl, subst, All}
+use Rattle.std.proofs.Common.{arith, ◌≡◌, ℕ, List, Option, take, set, slice_get, slice_index_or, Some, None, sym, ◌∙◌, ap, refl, subst, All}
 use Rattle.std.proofs.lemmas.List.{length-take-le, length-set, get_or-take}
 use Rattle.std.proofs.lemmas.List.Elements.{All-set}
 use Rattle.std.proofs.lemmas.Option.{slice_get-get_or}
 use Rattle.std.proofs.Math.Seq.{take-set-lt}
 use Rattle.wcp_model.specs.declared.outcome.Tally.{Tally}
+use Rattle.wcp_book.specs.State.{BookState}
 use Rattle.wcp_book.specs.Totals.{HasFewSnapshots}
 use Rattle.wcp_book.proofs.Posted.{posted_totals, few_totals, no_share}
 use Rattle.wcp_book.proofs.book.Book.post.Goals as goal
+
+abbrev book_of : List (Option Tally) → Option (List ℕ) → BookState
+book_of shares found = record { shares = shares; found = found }
 
 module _ (c : goal.After-self-2-1) where
   abbrev share : Tally
@@ -46,12 +50,14 @@ invariant_of-self c = (
 pub returns-clause-ok : goal.returns-clause-ok
 returns-clause-ok c =
     let full = length-take-le c.self.inside.processes c.self.inside.shares (omega (arith, c.self.invariant.1, c.self.invariant.2)) in
-    let here : slice_get c.args.self.now c.args.p ≡ Some None =
-    ap (λ shares. slice_get shares c.args.p) (sym c.self.view_is)
+    let here : slice_get c.args.self.now.shares c.args.p ≡ Some None =
+    ap (λ (book : BookState). slice_get book.shares c.args.p) (sym c.self.view_is)
     ∙ slice_get-get_or (take c.self.inside.processes c.self.inside.shares) c.args.p None (omega (arith, full, c.if-p-self.false))
     ∙ ap Some (get_or-take c.self.inside.processes c.self.inside.shares c.args.p None c.if-p-self.false ∙ none c) in
     ((λ _. here), (λ _. refl))
 
 -- src/book.rt:68:5
 pub returns-clause-posted : goal.returns-clause-posted
-returns-clause-posted c = replaced c ∙ ap (λ shares. set shares c.args.p (Some (share c))) c.self.view_is
+returns-clause-posted c =
+    ap (λ shares. book_of shares c.self.inside.found) (replaced c)
+    ∙ ap (λ (book : BookState). book_of (set book.shares c.args.p (Some (share c))) book.found) c.self.view_is
