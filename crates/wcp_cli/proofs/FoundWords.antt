@@ -1,12 +1,10 @@
-use Rattle.std.proofs.Common.{◌≡◌, ◌∙◌, ◌⊎◌, List, [], ◌∷◌, codes, ap, Some, None, Option, refl, inl, inr, option_map}
+use Rattle.wcp_cli.proofs.Words.{◌≡◌, ◌∙◌, ◌⊎◌, List, [], ◌∷◌, codes, ap, Some, None, Option, refl, inl, inr, option_map, Text, Row, subcommand_of, subcommand_name_of, subcommand_rows, subcommand_rows_of, AskForSingle, IsAlone, IsReader, program}
 use Rattle.clap.proofs.OnLiterals.{clap_on_literals}
-use Rattle.clap.specs.Words.{Text, Row, subcommand_of, subcommand_name_of, subcommand_rows, subcommand_rows_of}
 use Rattle.clap.specs.declared.parser.matches.ArgMatches.{ArgMatches}
 use Rattle.clap.specs.declared.parser.matches.ArgMatches.TheViews.{out-ArgMatches, out-SubCommand}
 use Rattle.clap.specs.declared.parser.matches.SubCommand.{SubCommand}
 use Rattle.std.specs.Box.{box_value}
 use Rattle.std.specs.Prelude.{Box}
-use Rattle.wcp_cli.specs.Words.{AskForSingle, IsAlone, IsReader, program}
 use Rattle.wcp_cli.proofs.RingWords.{found_by}
 
 abbrev pub name_of : Option (Text × List Row) → Option Text

@@ -1,8 +1,5 @@
-use Rattle.std.proofs.Common.{◌≡◌, ℕ, ◌+◌, ◌-◌, ◌≤◌, List, length, take, drop, Option, arith, length-drop}
-use Rattle.std.proofs.KnownBytes.{Appends-trans}
+use Rattle.wcp_cli.proofs.Words.{◌≡◌, ℕ, ◌+◌, ◌-◌, ◌≤◌, List, length, take, drop, Option, arith, length-drop, Appends-trans, take_all, Appends}
 use Rattle.std.proofs.Math.Seq.{take-add}
-use Rattle.std.proofs.lemmas.List.{take_all}
-use Rattle.std.specs.Io.KnownBytes.{Appends}
 
 -- the rest of a text, cut to its length, is the rest
 rest-cut : (text : List ℕ) (i : ℕ) → take (length text - i) (drop i text) ≡ drop i text

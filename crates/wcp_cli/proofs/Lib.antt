@@ -1,3 +1,4 @@
+mod Words
 mod FoundWords
 mod Fronts
 mod NoRingWords

@@ -1,11 +1,7 @@
-use Rattle.std.proofs.Common.{◌≡◌, ◌∙◌, ◌<◌, ◌^◌, ℕ, Bool, true, false, List, [], ◌∷◌, codes, ap, None, refl, decimal, drop, inl, inr}
+use Rattle.wcp_cli.proofs.Words.{◌≡◌, ◌∙◌, ◌<◌, ◌^◌, ℕ, Bool, true, false, List, [], ◌∷◌, codes, ap, None, refl, decimal, drop, inl, inr, Text, built, fault_of, built_fault, Held, nothing_held, AskForNoRing, IsRing, NoNumber, OnlyProcs, OnlyRounds, OutOfRange, flag_words, program}
 use Rattle.clap.proofs.OnLiterals.{clap_on_literals}
-use Rattle.clap.specs.Words.{Text, built, fault_of}
-use Rattle.clap.specs.Faults.{built_fault}
 use Rattle.clap.specs.Kinds.{Kinds}
-use Rattle.clap.specs.Walk.{Held, nothing_held}
 use Rattle.clap.specs.declared.error.kind.ErrorKind.TheVariants as kind
-use Rattle.wcp_cli.specs.Words.{AskForNoRing, IsRing, NoNumber, OnlyProcs, OnlyRounds, OutOfRange, flag_words, program}
 use Rattle.wcp_cli.proofs.NumberWords.{IsNumberIn, decimal-cases, decimal_in, is_in}
 use Rattle.wcp_cli.proofs.RingWords.{both_numbers, flag_row, number_row, top_fault, wrong, wrong_at_end}
 

@@ -1,12 +1,6 @@
-use Rattle.std.proofs.Common.{◌≡◌, ◌==◌, ◌&&◌, ◌<◌, ◌≤◌, ◌⊎◌, ◌^◌, ℕ, Bool, true, false, List, [], ◌∷◌, length, pos, refl, subst, arith, nat_le, nat_lt, lt-ltb, le-leb, leb-true, inl, inr, ne_eqb, decimal, None}
-use Rattle.std.specs.List.{list_all}
-use Rattle.std.specs.Str.{bytes_eq}
+use Rattle.wcp_cli.proofs.Words.{◌≡◌, ◌==◌, ◌&&◌, ◌<◌, ◌≤◌, ◌⊎◌, ◌^◌, ℕ, Bool, true, false, List, [], ◌∷◌, length, pos, refl, subst, arith, nat_le, nat_lt, lt-ltb, le-leb, leb-true, inl, inr, ne_eqb, decimal, None, list_all, bytes_eq, AllDigits, IsNumeral, digits_value, and_parts, cases_Bool, decimal_is_IsNumeral, strip_byte}
 use Rattle.std.specs.Char.{digit_value}
-use Rattle.std.specs.Str.Parse.{AllDigits, IsNumeral, digits_value}
-use Rattle.std.proofs.lemmas.Bool.{and_parts, cases_Bool}
-use Rattle.std.proofs.lemmas.Fmt.{decimal_is_IsNumeral}
 use Rattle.std.proofs.lemmas.Str.Parse.{digit_from_value}
-use Rattle.clap.specs.Lexer.{strip_byte}
 use Rattle.clap.specs.ValueTests.{is_signed_in}
 use Rattle.clap.specs.Walk.{Text}
 

@@ -1,11 +1,5 @@
-use Rattle.std.proofs.Common.{◌≡◌, ℕ, refl, sym, true≢false, IsErr, Result, Ok, Err}
-use Rattle.std.specs.Io.KnownBytes.{Keeps}
+use Rattle.wcp_cli.proofs.Words.{◌≡◌, ℕ, refl, sym, true≢false, IsErr, Result, Ok, Err, Keeps, Request, Single, Run, Replay, Help, Known, Reads, status_after, IsSameRequest}
 use Rattle.wcp_cli.specs.declared.fault.Fault.{Fault}
-use Rattle.wcp_cli.specs.declared.words.Request.{Request}
-use Rattle.wcp_cli.specs.declared.words.Request.TheVariants.{Single, Run, Replay, Help}
-use Rattle.wcp_cli.specs.RequestAnswers.{Known, Reads}
-use Rattle.wcp_cli.specs.Edge.{status_after}
-use Rattle.wcp_cli.specs.Words.{IsSameRequest}
 
 -- where nothing is read, no request has read too much
 pub reads_nothing : (request : Request) (old new : Known) → Keeps old new → Reads request old new

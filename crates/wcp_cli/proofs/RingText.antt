@@ -1,6 +1,4 @@
-use Rattle.std.proofs.Common.{◌≡◌, ℕ, zero, suc, Bool, true, List, ◌++◌, replicate, Option, Some, refl, ap₂, ◌∙◌, append-nil, eq-eqb}
-use Rattle.std.specs.List.{flat_map, list_all}
-use Rattle.std.proofs.lemmas.List.{length-replicate}
+use Rattle.wcp_cli.proofs.Words.{◌≡◌, ℕ, zero, suc, Bool, true, List, ◌++◌, replicate, Option, Some, refl, ap₂, ◌∙◌, append-nil, eq-eqb, flat_map, list_all, length-replicate, ring_text}
 use Rattle.wcp_model.specs.declared.plan.Plan.{Plan}
 use Rattle.wcp_model.specs.declared.workload.Task.{Task}
 use Rattle.wcp_script.specs.Lines.{Word, text_of}
@@ -8,7 +6,6 @@ use Rattle.wcp_script.specs.PlanText.{has_one_relay, head_lines, is_first, openi
 use Rattle.wcp_script.specs.Ring.{IsRingPlan, ring_tasks}
 use Rattle.wcp_script.specs.WorkloadText.{task_line}
 use Rattle.wcp_script.proofs.Printed.{text_of-head_and_tasks}
-use Rattle.wcp_cli.specs.RequestAnswers.{ring_text}
 
 -- the first relay serves each process of such a list
 all_served : (n : ℕ) → list_all is_first (replicate n (Some 0)) ≡ true

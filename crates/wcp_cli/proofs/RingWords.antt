@@ -1,20 +1,11 @@
-use Rattle.std.proofs.Common.{◌≡◌, ◌∙◌, ℕ, Bool, true, false, List, [], ◌∷◌, codes, ap, ap₂, Some, None, Option, refl, decimal, arith, get_or, if◌then◌else◌}
+use Rattle.wcp_cli.proofs.Words.{◌≡◌, ◌∙◌, ℕ, Bool, true, false, List, [], ◌∷◌, codes, ap, ap₂, Some, None, Option, refl, decimal, arith, get_or, if◌then◌else◌, or_else, stopped_fault, Shape, Text, Row, built, fault_of, subcommand_of, built_fault, check_fault, defaults_fault, level_fault, settle_fault, walk_fault, entered, names_of, Held, finished, nothing_held, settled, stop_after, walk, walk_from, walked, bool_text, ErrorKind, AskForRing, IsRing, flag_words, program, ring_shape, AsksForRing, HasOptions}
 use Rattle.clap.proofs.OnLiterals.{clap_on_literals}
-use Rattle.clap.specs.Kinds.{Kinds, or_else}
-use Rattle.clap.proofs.FaultLemmas.{stopped_fault}
-use Rattle.clap.specs.Words.{Shape, Text, Row, built, fault_of, subcommand_of}
-use Rattle.clap.specs.Faults.{built_fault, check_fault, defaults_fault, level_fault, settle_fault, walk_fault}
-use Rattle.clap.specs.Simple.{entered, names_of}
-use Rattle.clap.specs.Walk.{Held, finished, nothing_held, settled, stop_after, walk, walk_from, walked}
-use Rattle.clap.specs.Values.{bool_text}
-use Rattle.clap.specs.declared.error.kind.ErrorKind.{ErrorKind}
+use Rattle.clap.specs.Kinds.{Kinds}
 use Rattle.clap.specs.declared.error.kind.ErrorKind.TheVariants as kind
 use Rattle.clap.specs.declared.builder.value_parser.Reading.TheVariants.{AsWritten, WithoutMinus}
 use Rattle.clap.specs.declared.parser.matches.ValueSource.{ValueSource}
 use Rattle.clap.specs.declared.parser.matches.ValueSource.TheVariants.{CommandLine, DefaultValue}
-use Rattle.wcp_cli.specs.Words.{AskForRing, IsRing, flag_words, program, ring_shape}
 use Rattle.wcp_cli.proofs.StoppedWalk.{stays_as_stopped}
-use Rattle.wcp_cli.specs.RingOptions.{AsksForRing, HasOptions}
 use Rattle.wcp_cli.proofs.NumberWords.{IsNumberIn, decimal-taken}
 
 -- the subcommand that clap finds by the words after the program's name

@@ -1,19 +1,9 @@
-use Rattle.std.proofs.Common.{◌≡◌, ◌≢◌, Bool, true, false, List, [], ◌∷◌, codes, ap, ◌∙◌, sym, subst, refl, None, inl, inr}
+use Rattle.wcp_cli.proofs.Words.{◌≡◌, ◌≢◌, Bool, true, false, List, [], ◌∷◌, codes, ap, ◌∙◌, sym, subst, refl, None, inl, inr, IsAmong, Kinds, Text, fault_of, is_simple, is_simple_and_free, built, built_fault, strip_byte, names_of, nothing_held, walk_from, stopped_fault, false_from_ne_true, ErrorKind, bytes_eq, AskForSingle, AskForHelp, AskForVersion, AskForUnknown, IsAlone, IsReader, IsUnknown, UnknownWord, Further, NoRing, is_flag, program}
 use Rattle.clap.proofs.OnLiterals.{clap_on_literals}
-use Rattle.clap.specs.Words.{IsAmong, Kinds, Text, fault_of, is_simple, is_simple_and_free, built}
-use Rattle.clap.specs.Faults.{built_fault}
-use Rattle.clap.specs.Lexer.{strip_byte}
-use Rattle.clap.specs.Simple.{names_of}
-use Rattle.clap.specs.Walk.{nothing_held, walk_from}
-use Rattle.clap.proofs.FaultLemmas.{stopped_fault}
-use Rattle.std.proofs.lemmas.Bool.{false_from_ne_true}
 use Rattle.std.proofs.lemmas.Slice.Eq.{bytes_eq-Decides}
-use Rattle.clap.specs.declared.error.kind.ErrorKind.{ErrorKind}
 use Rattle.clap.specs.declared.error.kind.ErrorKind.TheVariants as kind
-use Rattle.std.specs.Str.{bytes_eq}
 use Rattle.wcp_cli.proofs.NoRingWords.{alone, no_ring-fails}
 use Rattle.wcp_cli.proofs.StoppedWalk.{stays_stopped}
-use Rattle.wcp_cli.specs.Words.{AskForSingle, AskForHelp, AskForVersion, AskForUnknown, IsAlone, IsReader, IsUnknown, UnknownWord, Further, NoRing, is_flag, program}
 
 pub program_is_free : is_simple_and_free program ≡ true
 unfolding clap_on_literals

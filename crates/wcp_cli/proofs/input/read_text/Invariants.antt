@@ -1,6 +1,5 @@
-use Rattle.std.proofs.Common.{◌≡◌, ◌≤◌, length, vec_len}
+use Rattle.wcp_cli.proofs.Words.{◌≡◌, ◌≤◌, length, vec_len, Consumes}
 use Rattle.wcp_clock.specs.Limits.{most_bytes}
-use Rattle.std.specs.Io.KnownBytes.{Consumes}
 use Rattle.wcp_cli.proofs.input.read_text.Given as goal
 
 abbrev pub invariant-loop : goal.invariant-loop

@@ -1,5 +1,4 @@
-use Rattle.std.proofs.Common.{◌≤◌, length, take}
-use Rattle.std.specs.Io.KnownBytes.{Appends}
+use Rattle.wcp_cli.proofs.Words.{◌≤◌, length, take, Appends}
 use Rattle.wcp_cli.proofs.output.write_whole.Given as goal
 
 abbrev pub invariant-loop : goal.invariant-loop

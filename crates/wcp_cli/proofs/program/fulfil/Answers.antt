@@ -1,6 +1,4 @@
-use Rattle.std.proofs.Common.{subst}
-use Rattle.std.specs.Io.KnownBytes.{Appends}
-use Rattle.wcp_cli.specs.Edge.{AppendsFront, Front, Whole}
+use Rattle.wcp_cli.proofs.Words.{subst, Appends, AppendsFront, Front, Whole}
 use Rattle.wcp_cli.proofs.Requests.{status_after_err}
 use Rattle.wcp_cli.proofs.program.fulfil.Goals as goal
 

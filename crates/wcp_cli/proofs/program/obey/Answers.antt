@@ -1,6 +1,4 @@
-use Rattle.std.proofs.KnownBytes.{Keeps-refl}
-use Rattle.wcp_cli.specs.declared.words.Request.TheVariants.{Unknown}
-use Rattle.wcp_cli.specs.Edge.{Quiet}
+use Rattle.wcp_cli.proofs.Words.{Keeps-refl, Unknown, Quiet}
 use Rattle.wcp_cli.proofs.Requests.{reads_nothing, same_request, status_after_err}
 use Rattle.wcp_cli.proofs.program.obey.Goals as goal
 

@@ -1,8 +1,4 @@
-use Rattle.std.proofs.Common.{rules, ◌≡◌, ◌∙◌, ap₂, codes}
-use Rattle.std.proofs.lemmas.Result.{IfOk-weaker}
-use Rattle.clap.specs.Words.{app_of, shape_of, with_subcommand}
-use Rattle.clap.specs.Simple.{new_shape}
-use Rattle.wcp_cli.specs.Words.{named}
+use Rattle.wcp_cli.proofs.Words.{rules, ◌≡◌, ◌∙◌, ap₂, codes, IfOk-weaker, app_of, shape_of, with_subcommand, new_shape, named}
 use Rattle.wcp_cli.proofs.words.command.Goals as goal
 
 pub returns : goal.returns

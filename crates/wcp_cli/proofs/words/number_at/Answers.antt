@@ -1,8 +1,4 @@
-use Rattle.std.proofs.Common.{◌≡◌, ◌∙◌, ◌<◌, ◌^◌, ℕ, List, Option, Some, None, Result, Ok, Err, refl, arith, decimal}
-use Rattle.std.specs.Str.Parse.{ParsesUnsigned, ExplainsUnsignedError, HasUnsignedDigitsIfOk}
-use Rattle.std.proofs.lemmas.Fmt.{parse-decimal}
-use Rattle.clap.specs.Words.{ReadsOne, found_of}
-use Rattle.clap.proofs.WalkLemmas.{one_text-rows}
+use Rattle.wcp_cli.proofs.Words.{◌≡◌, ◌∙◌, ◌<◌, ◌^◌, ℕ, List, Option, Some, None, Result, Ok, Err, refl, arith, decimal, ParsesUnsigned, ExplainsUnsignedError, HasUnsignedDigitsIfOk, parse-decimal, ReadsOne, found_of, one_text-rows}
 use Rattle.wcp_cli.proofs.words.number_at.Goals as goal
 
 -- the number that `from_str` reads from its decimal text

@@ -1,14 +1,8 @@
-use Rattle.std.proofs.Common.{◌≡◌, ◌≢◌, ◌∙◌, ◌⊎◌, ap, map, inl, inr, sym, subst, ⊎_elim, codes, List, [], IfOk, IsErr, Result, None, Some, refl}
-use Rattle.std.proofs.lemmas.Result.{IfOk-from_err}
+use Rattle.wcp_cli.proofs.Words.{◌≡◌, ◌≢◌, ◌∙◌, ◌⊎◌, ap, map, inl, inr, sym, subst, ⊎_elim, codes, List, [], IfOk, IsErr, Result, None, Some, refl, IfOk-from_err, App, HasKind, IsAmong, Text, app_of, fault_of, is_simple, is_simple_and_free, kind_of, subcommand_of, ErrorKind, Request, AsksForRing, AskFor, IsRing, MayHelp, IsSameRequest, program}
 use Rattle.std.specs.declared.alloc.AllocError.{AllocError}
-use Rattle.clap.specs.Words.{App, HasKind, IsAmong, Text, app_of, fault_of, is_simple, is_simple_and_free, kind_of, subcommand_of}
-use Rattle.clap.specs.declared.error.kind.ErrorKind.{ErrorKind}
 use Rattle.clap.specs.declared.error.kind.ErrorKind.TheVariants as kind
-use Rattle.wcp_cli.specs.declared.words.Request.{Request}
 use Rattle.wcp_cli.specs.declared.words.Request.TheVariants as request
 use Rattle.wcp_cli.specs.declared.words.Ring.{Ring}
-use Rattle.wcp_cli.specs.RingOptions.{AsksForRing}
-use Rattle.wcp_cli.specs.Words.{AskFor, IsRing, MayHelp, IsSameRequest, program}
 use Rattle.wcp_cli.proofs.FoundWords.{name_of, name-from_rows, single-found, reader-found}
 use Rattle.wcp_cli.proofs.RingWords.{ring-passes, ring-found}
 use Rattle.wcp_cli.proofs.WordLemmas.{program_is_simple, single-passes, reader-passes, help-fails, help-is_no_version, version-fails, unknown-fails, program_is_free}
