@@ -2,11 +2,12 @@
 """Refuses each allocation of a built program in turn, and then each of its threads: each_allocation.py PROGRAM [WORD..]
 
 `wcpwatch` goes through worked cases of every word; another program runs with these words. Each answer must be that of an
-undisturbed run, or a fault line with status 2 and no output, which says `memory`, or `spawn` for a thread that couldn't be made;
-a run that doesn't end within a minute is another answer. It goes on until none is left to refuse, and then the answer must be
-the undisturbed one.
+undisturbed run, or a fault line that says memory, or spawn for a thread that couldn't be made: of `wcpwatch` with status 2 and no
+output, of another program with a status that is no answer's and at most the beginning of its output. A run that doesn't end within
+a minute is another answer. It goes on until none is left to refuse, and then the answer must be the undisturbed one.
 """
 import os
+import re
 import subprocess
 import sys
 
@@ -37,7 +38,7 @@ def printed(words):
 def cases():
     """Each case: its name, the words, and the text that it reads."""
     if name != "wcpwatch":
-        return [(" ".join(sys.argv[2:]), sys.argv[2:], b"")]
+        return [(" ".join(sys.argv[2:]) or "without a word", sys.argv[2:], b"")]
     rings = [("ring_text", ring("--procs", "2", "--rounds", "1")),
              ("ring_text_with_fault", ring("--procs", "2", "--rounds", "1", "--fault")),
              ("ring_three_by_two", ring("--procs", "3", "--rounds", "2"))]
@@ -45,17 +46,26 @@ def cases():
                  *((case, printed(words)) for case, words in rings)]
     schedules = [("newest_first_hold_loses_cut", NEWEST_FIRST_HOLD_LOSES_CUT),
                  ("checker_grows_step_by_step", CHECKER_GROWS_STEP_BY_STEP)]
-    return [*((case, [word], text) for word in ("single", "run") for case, text in workloads),
-            *((case, ["replay"], text) for case, text in schedules),
+    return [*((f"{word} {case}", [word], text) for word in ("single", "run") for case, text in workloads),
+            *((f"replay {case}", ["replay"], text) for case, text in schedules),
             *((case, words, b"") for case, words in rings)]
 
 
-def fault(it):
-    """`memory` or `spawn`, where that is what it answers."""
-    for of in ("memory", "spawn"):
-        if it in [(b"", f"{name}: {stage}{of}\n".encode(), 2) for stage in ("", "run ")]:
-            return of
-    return None
+def told(it):
+    """`memory` or `spawn`, where its fault line says so."""
+    if it == "no end":
+        return None
+    line = re.fullmatch(rb"\w+: (?:run )?(memory|spawn|out of memory|memory allocation failed)\n", it[1])
+    return line and ("spawn" if line[1] == b"spawn" else "memory")
+
+
+def fault(it, row):
+    """The same, where there is no other answer beside it."""
+    if not told(it):
+        return None
+    output, _, status = it
+    is_well = (output, status) == (b"", 2) if name == "wcpwatch" else row[0].startswith(output) and status not in (0, row[2])
+    return told(it) if is_well else None
 
 
 failed = 0
@@ -64,13 +74,13 @@ for case, words, text in cases():
     for kind in ("allocation", "thread"):
         given = answers(program, words, text, kind)
         last = given.pop()
-        others = [(number, it) for number, it in enumerate(given, 1) if it != row and not fault(it)]
-        if last != row or fault(row):
+        others = [(number, it) for number, it in enumerate(given, 1) if it != row and not fault(it, row)]
+        if last != row or told(row):
             others.append((len(given) + 1, last))
         failed += len(others)
-        memory, spawn = (sum(fault(it) == of for it in given) for of in ("memory", "spawn"))
-        print(f"{' '.join(words[:1])} {case}: {len(given)} times refused {'an' if kind[0] == 'a' else 'a'} {kind},"
-              f" {memory} answers of memory, {spawn} of spawn, {given.count(row)} undisturbed, {len(others)} others", flush=True)
+        memory, spawn = (sum(fault(it, row) == of for it in given) for of in ("memory", "spawn"))
+        print(f"{name} {case}, {kind}: {len(given)} refused, {memory} answers of memory, {spawn} of spawn,"
+              f" {given.count(row)} undisturbed, {len(others)} others", flush=True)
         for number, it in others[:5]:
             print(f"  {kind} {number}: {it}")
 sys.exit(1 if failed else 0)
