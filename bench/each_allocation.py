@@ -1,15 +1,17 @@
 #!/usr/bin/env python3
-"""Refuses each allocation of the built program in turn, for each of its words: each_allocation.py PROGRAM [WORD TEXT..]
+"""Refuses each allocation of a built program in turn, and then each of its threads: each_allocation.py PROGRAM [WORD..]
 
-With a word it goes through these texts, else through worked cases of every word. Each answer must be that of an undisturbed
-run, or a line of memory with status 2 and no output: `wcpwatch: memory`, and under `run` also `wcpwatch: run memory` and
-`wcpwatch: run spawn`. A run that doesn't end within a minute is another answer.
+`wcpwatch` goes through worked cases of every word; another program runs with these words. Each answer must be that of an
+undisturbed run, or a fault line that says memory, or spawn for a thread that couldn't be made: of `wcpwatch` with status 2 and no
+output, of another program with a status that is no answer's and at most the beginning of its output. A run that doesn't end within
+a minute is another answer. It goes on until none is left to refuse, and then the answer must be the undisturbed one.
 """
 import os
-import pathlib
+import re
 import subprocess
 import sys
-import tempfile
+
+from refusing import answer, answers
 
 TRUE_AGAIN_AFTER_SEND = b"wcp 1\nprocs 2\np 0 true\np 0 send 1\np 0 true\np 1 recv 0\np 1 true\n"
 NEWEST_FIRST_HOLD_LOSES_CUT = b"""wcp 1
@@ -21,56 +23,64 @@ admit 0 0\nadmit 0 1\nadmit 0 0\npass 0\npass 0\npass 0\ncheck\ncheck\ncheck
 CHECKER_GROWS = b"wcp 1\nprocs 2\ncap 64\n" + b"p 0 true\np 0 send 1\n" * 40 + b"p 1 recv 0\n" * 40 + b"p 1 true\n"
 CHECKER_GROWS_STEP_BY_STEP = b"wcp 1\nprocs 2\ncap 64\n" + b"observe 0 true\nput 0\nsend 0 1\nadmit 0 0\npass 0\ncheck\n" * 40
 
-here = pathlib.Path(__file__).resolve().parent
-program = os.path.abspath(sys.argv[1])
-room = tempfile.mkdtemp()
-library = f"{room}/refuse.so"
-subprocess.run(["cc", "-shared", "-fPIC", "-O1", "-o", library, f"{here}/refuse_allocation.c", "-ldl"], check=True)
+program = sys.argv[1]
+name = os.path.basename(program)
 
 
 def ring(*words):
     return ["ring", *words]
 
 
+def printed(words):
+    return subprocess.run([program, *words], capture_output=True, check=True).stdout
+
+
 def cases():
-    if len(sys.argv) > 2:
-        return [(path, sys.argv[2:3], pathlib.Path(path).read_bytes()) for path in sys.argv[3:]]
-    three_by_two = subprocess.run([program, *ring("--procs", "3", "--rounds", "2")], capture_output=True, check=True).stdout
-    workloads = [("true_again_after_send", TRUE_AGAIN_AFTER_SEND), ("ring_three_by_two", three_by_two), ("checker_grows", CHECKER_GROWS)]
-    schedules = [("newest_first_hold_loses_cut", NEWEST_FIRST_HOLD_LOSES_CUT), ("checker_grows_step_by_step", CHECKER_GROWS_STEP_BY_STEP)]
-    return [
-        *((name, [word], text) for name, text in workloads for word in ("single", "run")),
-        *((name, ["replay"], text) for name, text in schedules),
-        ("ring_text", ring("--procs", "2", "--rounds", "1"), b""),
-        ("ring_with_fault", ring("--procs", "2", "--rounds", "1", "--fault"), b""),
-        ("ring_three_by_two", ring("--procs", "3", "--rounds", "2"), b""),
-    ]
+    """Each case: its name, the words, and the text that it reads."""
+    if name != "wcpwatch":
+        return [(" ".join(sys.argv[2:]) or "without a word", sys.argv[2:], b"")]
+    rings = [("ring_text", ring("--procs", "2", "--rounds", "1")),
+             ("ring_text_with_fault", ring("--procs", "2", "--rounds", "1", "--fault")),
+             ("ring_three_by_two", ring("--procs", "3", "--rounds", "2"))]
+    workloads = [("true_again_after_send", TRUE_AGAIN_AFTER_SEND), ("checker_grows", CHECKER_GROWS),
+                 *((case, printed(words)) for case, words in rings)]
+    schedules = [("newest_first_hold_loses_cut", NEWEST_FIRST_HOLD_LOSES_CUT),
+                 ("checker_grows_step_by_step", CHECKER_GROWS_STEP_BY_STEP)]
+    return [*((f"{word} {case}", [word], text) for word in ("single", "run") for case, text in workloads),
+            *((f"replay {case}", ["replay"], text) for case, text in schedules),
+            *((case, words, b"") for case, words in rings)]
 
 
-def answer(words, text, number, tell=None):
-    script = 'exec env LD_PRELOAD="$0" REFUSE="$1" "$2" "${@:4}" 3>"$3"'
-    command = ["bash", "-c", script, library, str(number), program, tell or "/dev/null", *words]
-    try:
-        done = subprocess.run(command, input=text, capture_output=True, timeout=60)
-    except subprocess.TimeoutExpired:
-        return "no end"
-    return done.stdout, done.stderr, done.returncode
+def told(it):
+    """`memory` or `spawn`, where its fault line says so."""
+    if it == "no end":
+        return None
+    line = re.fullmatch(rb"\w+: (?:run )?(memory|spawn|out of memory|memory allocation failed)\n", it[1])
+    return line and ("spawn" if line[1] == b"spawn" else "memory")
 
 
-def is_of_memory(words, it):
-    lines = [b"wcpwatch: memory\n"] + [b"wcpwatch: run memory\n", b"wcpwatch: run spawn\n"] * (words == ["run"])
-    return it in [(b"", line, 2) for line in lines]
+def fault(it, row):
+    """The same, where there is no other answer beside it."""
+    if not told(it):
+        return None
+    output, _, status = it
+    is_well = (output, status) == (b"", 2) if name == "wcpwatch" else row[0].startswith(output) and status not in (0, row[2])
+    return told(it) if is_well else None
 
 
 failed = 0
-for name, words, text in cases():
-    row = answer(words, text, 0, f"{room}/count")
-    count = int(pathlib.Path(f"{room}/count").read_text().split()[-1])
-    answers = [answer(words, text, number) for number in range(1, count + 2)]
-    others = [(number + 1, it) for number, it in enumerate(answers) if it != row and not is_of_memory(words, it)]
-    of_memory = sum(is_of_memory(words, it) for it in answers)
-    failed += len(others)
-    print(f"{words[0]} {name}: {count} allocations, {of_memory} answers of memory, {len(others)} other answers", flush=True)
-    for number, it in others[:5]:
-        print(f"  allocation {number}: {it}")
+for case, words, text in cases():
+    row, _ = answer(program, words, text, "allocation", 0)
+    for kind in ("allocation", "thread"):
+        given = answers(program, words, text, kind)
+        last = given.pop()
+        others = [(number, it) for number, it in enumerate(given, 1) if it != row and not fault(it, row)]
+        if last != row or told(row):
+            others.append((len(given) + 1, last))
+        failed += len(others)
+        memory, spawn = (sum(fault(it, row) == of for it in given) for of in ("memory", "spawn"))
+        print(f"{name} {case}, {kind}: {len(given)} refused, {memory} answers of memory, {spawn} of spawn,"
+              f" {given.count(row)} undisturbed, {len(others)} others", flush=True)
+        for number, it in others[:5]:
+            print(f"  {kind} {number}: {it}")
 sys.exit(1 if failed else 0)

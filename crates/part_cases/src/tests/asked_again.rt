@@ -1,10 +1,14 @@
 //! Calls that take memory, each asked again where it is refused: a test passes whichever of its allocations fails.
-use super::texts_made::{FOUND, found};
+ghost use Rattle.std.specs.Prelude.{IfOk};
+ghost use Rattle.wcp_model.specs.WorkloadComputation.{CouldBeRead};
+
+use super::texts_made::{FOUND, RING, RING_WITH_FAULT, found};
+use std::alloc::Global;
 use std::test::Fail;
 use wcp_hold::Hold;
-use wcp_model::{Reply, Why, plain_plan};
+use wcp_model::{GlobalCut, Outcome, Reply, Report, Tallies, Tally, Why, Workload, plain_plan};
 use wcp_report::{reply_text, report_text};
-use wcp_script::{read_schedule, read_workload, ring_workload, workload_text};
+use wcp_script::{ReadFault, read_schedule, read_workload, ring_workload, single, workload_text};
 
 /// A schedule of two processes.
 const SCHEDULE: &[u8] =
@@ -27,6 +31,52 @@ fn a_schedule_is_read(rt: HostRuntime) -> Result<(), Fail> {
     let alloc = rt.alloc();
     let read = read_schedule(alloc, SCHEDULE).or_else(|_| read_schedule(alloc, SCHEDULE))?;
     assert_eq!(rt; (read.plan.n, read.plan.cap, read.steps.len()), (2, 1, 6));
+    Ok(())
+}
+
+/// Process 0 is true before and after its send, and process 1 once it has received.
+const TRUE_AGAIN_AFTER_SEND: &[u8] =
+    b"wcp 1\nprocs 2\np 0 true\np 0 send 1\np 0 true\np 1 recv 0\np 1 true\n";
+
+/// Reads a workload. Where memory runs out, asking again reads it.
+fn workload_of(alloc: Global, text: &[u8]) -> Result<Workload, ReadFault>
+    ensures { IfOk result (λ workload. CouldBeRead workload.plan.n workload.tasks.items) }
+{
+    match read_workload(alloc, text) {
+        Err(ReadFault::NoMemory) => read_workload(alloc, text),
+        read => read,
+    }
+}
+
+/// The outcome of a text. Where memory runs out, asking again gives it.
+fn outcome_of(alloc: Global, text: &[u8]) -> Result<Outcome, Fail> {
+    let workload = workload_of(alloc, text)?;
+    match single(alloc, &workload) {
+        Ok(outcome) => Ok(outcome),
+        Err(_) => Ok(single(alloc, &workload)?),
+    }
+}
+
+/// This report, of two processes that emitted so many snapshots, all of which were taken.
+fn all_taken(report: Report, emitted: [u64; 2]) -> Outcome {
+    Outcome {
+        report,
+        tallies: Tallies::new(&emitted.map(|emitted| Tally {
+            emitted,
+            taken: emitted,
+        })),
+    }
+}
+
+#[test]
+fn workloads_are_read_and_run(rt: HostRuntime) -> Result<(), Fail> {
+    let alloc = rt.alloc();
+    let second = all_taken(Report::Found(GlobalCut::new(&[1, 1])), [2, 1]);
+    assert_eq!(rt; outcome_of(alloc, TRUE_AGAIN_AFTER_SEND)?, second);
+    let none = all_taken(Report::Nothing, [1, 1]);
+    assert_eq!(rt; outcome_of(alloc, RING)?, none);
+    let first = all_taken(Report::Found(GlobalCut::new(&[0, 0])), [1, 2]);
+    assert_eq!(rt; outcome_of(alloc, RING_WITH_FAULT)?, first);
     Ok(())
 }
 

@@ -109,7 +109,7 @@ pub fn assert_played(
     report: Report,
 ) -> Result<(), AllocError> {
     assert!(rt; plan.check().is_ok());
-    let steps = steps_of(alloc, replay)?;
+    let steps = steps_of(alloc, replay).or_else(|_| steps_of(alloc, replay))?;
     let played = match play(alloc, plan, &steps) {
         Ok(played) => played,
         Err(_) => play(alloc, plan, &steps)?,

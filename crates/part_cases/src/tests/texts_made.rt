@@ -25,10 +25,12 @@ fn assert_ring_text(
     Ok(())
 }
 
-const RING: &[u8] =
+/// The text of a ring of two processes and one round.
+pub const RING: &[u8] =
     b"wcp 1\nprocs 2\np 0 true\np 0 false\np 0 send 1\np 1 recv 0\np 1 true\np 1 false\n";
 
-const RING_WITH_FAULT: &[u8] =
+/// The same with a bad moment.
+pub const RING_WITH_FAULT: &[u8] =
     b"wcp 1\nprocs 2\np 1 true\np 1 false\np 0 true\np 0 false\np 0 send 1\n\
 p 1 recv 0\np 1 true\np 1 false\n";
 

@@ -170,7 +170,8 @@ static EACH_MOVE_REFUSED: Replay<'static> = Replay {
 fn items_go_through_a_tree_of_relays(rt: HostRuntime) -> Result<(), Fail> {
     let alloc = rt.alloc();
     let least = Report::Found(GlobalCut::new(&[1, 1]));
-    let (wide, narrow) = (tree(alloc, 8, 4)?, tree(alloc, 1, 1)?);
+    let wide = tree(alloc, 8, 4).or_else(|_| tree(alloc, 8, 4))?;
+    let narrow = tree(alloc, 1, 1).or_else(|_| tree(alloc, 1, 1))?;
     assert_played(&rt, alloc, &wide, &LEAST_CUT, least)?;
     assert_played(&rt, alloc, &wide, &ORDERED_PAIR, Report::Nothing)?;
     assert_played(&rt, alloc, &narrow, &EACH_MOVE_REFUSED, Report::Undecided)?;
