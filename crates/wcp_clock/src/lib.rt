@@ -1,4 +1,7 @@
 //! Vector clocks, what a probe emits (snapshots and close marks), and the limits of the product.
+//!
+//! What is proved. `Clock` is the list of its components: `tick`, `merge` and `precedes` are exact; `tick` gives
+//! nothing exactly where the component is at least the limit.
 #![tactic(auto)]
 
 mod clock;

@@ -1,5 +1,14 @@
 //! Words that all crates share: steps, workloads, plans and outcomes, and the definitions and laws
 //! of computations, happened-before and cuts.
+//!
+//! What is proved. The record of the headline and all definitions that it rests on. The laws over them, each the
+//! contract of a function without a body: the minimum law and that a least cut exists (`minimum_law`,
+//! `least_cut_law`), the fit-order law (`fit_order_law`), the clock law and that each state has a clock (`clock_law`,
+//! `states_have_clocks`), the log law (`log_law`), the task log law (`task_log_law`), the growth law and the
+//! early-find law (`growth_law`, `early_find_law`), and the first-reason law, that the first of some reasons by their
+//! tests is the first that holds (`first_reason_law`). `Plan::check` gives the first fault that a plan has, and none
+//! exactly where it has none; `is_attached`, `is_leaf` and `parent_of` answer as the definitions of the tree do;
+//! `plain_plan` is the plan of one relay that serves every process, and passes the check within the limits.
 #![tactic(auto)]
 
 mod clock_laws;

@@ -1,4 +1,9 @@
 //! The part of the detector that lives in a worker's thread: its vector clock, and what it emits.
+//!
+//! What is proved. `ProbeCore`, per call against the probe log: a new probe stands for the empty log, an accepted call
+//! leaves a probe that stands for the log with that call at its end, and what is pending is its last emission; which
+//! refusal comes, the first in its order, and that none comes where none applies; a refusal changes nothing and hands
+//! the value back.
 #![tactic(auto)]
 
 mod probe;

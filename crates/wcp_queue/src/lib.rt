@@ -1,4 +1,13 @@
 //! The checker: takes snapshots, and finds the least cut of those taken by eliminating heads.
+//!
+//! What is proved. `Checker`, per call against the list of what it took: a new one stands for the empty list, a `take`
+//! of the next item of its process leaves one that stands for the list with the item at its end, and is refused for
+//! want of memory alone, where the item comes back and nothing has changed. `report` is exact wherever the clocks
+//! taken of each process never fall in a component and rise in their own: found with the least cut of taken snapshots
+//! of which none precedes another by its clock; else nothing where every close mark was taken; else undecided.
+//! Whatever the clocks, a found cut is such a cut, and stays. A checker that was starved takes each item without
+//! memory and counts it; its report is the cut found before, or undecided. `tests` is at most the number of processes
+//! for each snapshot taken, and 0 for one process.
 #![tactic(auto)]
 
 mod checker;

@@ -1,4 +1,6 @@
 //! The exact bytes of an answer: the lines of a reply, of an outcome and of a replay.
+//!
+//! What is proved. `report_text`, `reply_text` and `replay_text`: the exact bytes.
 #![tactic(auto)]
 
 mod replay_lines;

@@ -1,5 +1,12 @@
 //! What a text means: the workload or the schedule that it spells, or the fault that it has; and the
 //! text of a workload.
+//!
+//! What is proved. `read_workload` and `read_schedule`: an answer is what the text spells, its plan passed its check,
+//! and a workload could be read; each text that spells such a thing is read as it; a text is refused exactly where it
+//! has a fault, with that line and kind, where the fault is said by one definition (`HasTextFault` in
+//! `specs/TextFault.antt`). `read_ordered`: what `read_workload` answers, with a fit order of the tasks.
+//! `workload_text`: the exact bytes, and they spell the workload again, so that it is read back. `ring_workload`:
+//! exactly the tasks of the definition, and that they could be read.
 #![tactic(auto)]
 
 mod fault;

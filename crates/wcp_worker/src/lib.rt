@@ -1,4 +1,13 @@
 //! Workers: each plays a process of a workload in a thread, by its live probe and by the lanes to its partners.
+//!
+//! What is proved. Plays a process of a workload in a thread. `open_workers`: a worker for each process, with what it
+//! does in order, its live probe, and one lane for each two processes of which the one sends to the other, for as many
+//! messages as these sends, nothing sent or taken; that the lane has room for them all, a test shows. `Worker::run`:
+//! where it did all, there is a log that follows its actions one by one, its probe has put the emissions of that log
+//! and of its close, what it put on its lane to each other process are the stamps that it sent there, and the stamps
+//! that it received from there are the first that it took of those that came; where it gave up, it holds no end of a
+//! lane any more. `match_lanes`, on the mailboxes that all left: accepted exactly where what was put on the lane
+//! between each two was all taken.
 #![tactic(auto)]
 
 mod gate;

@@ -1,5 +1,14 @@
 //! A watch of threads of your own, in one call: each process is run with a probe that it is lent, and what all of
 //! them leave proves the report.
+//!
+//! What is proved. The one crate of a program that watches threads of its own. `watch_processes` opens the tree of a
+//! plan, runs each process in a thread with the probe that it is lent, each relay and the checker, closes, joins and
+//! settles. Where it answers: there is a log of each process's probe, what the checker took of it are all its notes,
+//! once and in order, the report is the exact one by clocks of all that, all drained, the tallies are the counts, and
+//! what each process gave back stands at its place. A plan with a fault, and another number of processes than the
+//! plan's, are answered exactly where they apply. `LentProbe`, per call: the call of a live probe, where nothing is
+//! ever pending. A lent probe can't be dropped or closed by who has it. Where an impl of `Process` says how its probe
+//! stands as it answers, the answer says it too. What its threads did beside their probes no clause says.
 #![tactic(auto)]
 
 mod lending;

@@ -1,0 +1,42 @@
+use crate::worker::{Token, Worker};
+use anyhow::Result;
+use crossbeam_channel::bounded;
+use std::alloc::Global;
+use std::sync::{Mutex, Wait};
+use std::thread::Threads;
+use wullaphi::{Book, Report, plain_plan, watch_processes};
+
+const ROUNDS: u32 = 2;
+
+/// Runs a ring of three with one token or two, and asks whether workers `a` and `b` could have held one at once.
+pub(crate) fn run_ring<R: Threads + Wait + Sync>(
+    rt: &R,
+    alloc: Global,
+    two: bool,
+    a: u32,
+    b: u32,
+) -> Result<Report> {
+    let (to_1, at_1) = bounded(alloc, 2)?;
+    let (to_2, at_2) = bounded(alloc, 2)?;
+    let (to_0, at_0) = bounded(alloc, 2)?;
+    let tokens = if two { 2 } else { 1 };
+    let mut workers = Vec::with_capacity(alloc, 3)?;
+    for (id, inbox, next, outbox) in [(0, at_0, 1, to_1), (1, at_1, 2, to_2), (2, at_2, 0, to_0)] {
+        workers.push(Worker {
+            asked: id == a || id == b,
+            lets_in: if id == 0 { tokens } else { 0 },
+            token: Token(3 * ROUNDS),
+            turns: tokens * ROUNDS,
+            inbox,
+            next,
+            outbox,
+        })?;
+    }
+    let plan = plain_plan(alloc, 3, 8, 4)?;
+    let book = Mutex::new(Book::new(3));
+    let watched = watch_processes(rt, alloc, &plan, 1, workers, &(), &book)?;
+    for answer in watched.answers {
+        answer?;
+    }
+    Ok(watched.outcome.report)
+}
