@@ -29,7 +29,7 @@ counted replicas rounds pace items zero log is taken = refl
 counted replicas rounds pace items (suc k) log is taken =
     ap snapshots_in taken ∙ replica_snapshots (setup (replicas + 1) (suc k)) (replicas + 1) rounds log is
 
-module _ {replicas rounds : ℕ} {pace : Pace} {members : List Member} {watched : Watched (Result Share Stop)}
+module _ (replicas : ℕ) {rounds : ℕ} {pace : Pace} {members : List Member} {watched : Watched (Result Share Stop)}
     (pool : IsPool pace rounds members) (is : IsWatched LeavesPart (replicas + 1) members watched)
     (told : PoolReport) (shares : watched.answers.items ≡ map Ok told.shares.items) (outcome : told.outcome ≡ watched.outcome) (totals : told.totals ≡ watched.totals) where
   shares_count : length told.shares.items ≡ replicas + 1
@@ -40,7 +40,7 @@ module _ {replicas rounds : ℕ} {pace : Pace} {members : List Member} {watched 
       let (one, one_at) = element_within members p (omega (arith, within, is.processes_are)) in
       let (share, share_at) = element_within told.shares.items p (omega (arith, within, shares_count)) in
       let answer_at : slice_get watched.answers.items p ≡ Some (Ok share) =
-      ap (λ (as : List (Result Share Stop)). slice_get as p) shares ∙ mapped_at Ok told.shares.items p share share_at in
+      ap (λ (answers : List (Result Share Stop)). slice_get answers p) shares ∙ mapped_at Ok told.shares.items p share share_at in
       let run = is.ran p one (Ok share) one_at answer_at in
       let member = member_at replicas rounds pace members pool is.processes_are p one one_at in
       let n_is : length run.probe.core.clock ≡ replicas + 1 = ap (λ (made : ProbeSetup). made.processes) run.of_process in

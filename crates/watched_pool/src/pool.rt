@@ -47,15 +47,10 @@ pub fn run_pool<R: Threads + Wait + Clock + Sync>(
     let members = open_members(alloc, pace, rounds)?;
     let numbers = Numbers::new(alloc, u32::from(rounds) * REPLICAS)?;
     let (watched, seen) = watch_and_read(rt, alloc, &plan, members, &numbers)?;
-    let Watched {
-        outcome,
-        totals,
-        answers,
-    } = watched;
     Ok(PoolReport {
-        shares: shares_of(alloc, answers)?,
-        outcome,
-        totals,
+        shares: shares_of(alloc, watched.answers)?,
+        outcome: watched.outcome,
+        totals: watched.totals,
         seen,
     })
 }

@@ -4,7 +4,7 @@ use Rattle.watched_pool.specs.Members.{IsReplica}
 use Rattle.watched_pool.proofs.opening.open_members.Given as goal
 
 abbrev pub invariant-loop-place : goal.invariant-loop-place
-invariant-loop-place g l =
+invariant-loop-place l =
     record {
       partners : length l.partners.items ≡ l.place;
       members : length l.members.items ≡ l.place;

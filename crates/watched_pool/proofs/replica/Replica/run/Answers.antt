@@ -1,9 +1,9 @@
-use Rattle.std.proofs.Common.{[], ◌++◌, arith}
-use Rattle.watched_pool.specs.Logs.{NoJob, OneMore, calls_for}
+use Rattle.std.proofs.Common.{◌≡◌, [], ◌++◌, subst, ◌∙◌, arith}
+use Rattle.watched_pool.specs.Logs.{IsAnswering, NoJob, OneMore, calls_for}
 use Rattle.watched_pool.proofs.replica.Replica.run.Goals as goal
 
-pub loop-initial : goal.loop-initial
-loop-initial g c = record { answering = record { log = []; is_log = NoJob; stands = c.requires }; jobs = cc }
+pub loop-init : goal.loop-init
+loop-init g c = record { answering = record { log = []; is_log = NoJob; stands = c.requires }; jobs = cc }
 
 pub loop-preserved : goal.loop-preserved
 loop-preserved g c =
@@ -20,5 +20,7 @@ loop-preserved g c =
 
 pub returns : goal.returns
 returns g c =
-    let done = c.after-loop.invariant in
-    record { jobs = done.jobs; log = done.answering.log; is_log = done.answering.is_log; stands = done.answering.stands }
+    let done = c.loop.invariant in
+    let all : c.loop.counter ≡ c.args.self.rounds = omega arith in
+    let answering = subst (λ jobs. IsAnswering jobs c.loop.probe) all done.answering in
+    record { jobs = done.jobs ∙ all; log = answering.log; is_log = answering.is_log; stands = answering.stands }
