@@ -6,6 +6,8 @@ use Rattle.std.proofs.lemmas.Option.{slice_get_within}
 use Rattle.wcp_clock.specs.declared.note.Item.{Item}
 use Rattle.wcp_model.specs.ProbeLog.{Call, ProbeSetup, setup}
 use Rattle.wcp_model.specs.Report.{notes_taken}
+use Rattle.wcp_model.specs.declared.outcome.Outcome.{Outcome}
+use Rattle.wcp_model.specs.declared.outcome.Tally.{Tally}
 use Rattle.wcp_model.proofs.SamePlace.{element_within}
 use Rattle.wcp_tree.specs.LiveProbe.{snapshots_in}
 use Rattle.wcp_tree.proofs.Entries.{mapped_at}
@@ -17,7 +19,7 @@ use Rattle.watched_pool.specs.declared.member.Member.{Member}
 use Rattle.watched_pool.specs.declared.member.Share.{Share}
 use Rattle.watched_pool.specs.declared.member.Stop.{Stop}
 use Rattle.watched_pool.specs.declared.pool.PoolReport.{PoolReport}
-use Rattle.watched_pool.specs.Members.{IsLogOfPart, IsPool, LeavesPart}
+use Rattle.watched_pool.specs.Members.{DidPart, IsLogOfPart, IsPool, LeavesPart}
 use Rattle.watched_pool.specs.Pools.{IsLogAt, IsLogTaken, IsPoolReport, IsToldAt, jobs_at, snapshots_at}
 use Rattle.watched_pool.proofs.PoolMembers.{member_at}
 use Rattle.watched_pool.proofs.Snapshots.{replica_snapshots}
@@ -42,17 +44,19 @@ module _ (replicas : ℕ) {rounds : ℕ} {pace : Pace} {members : List Member} {
       let answer_at : slice_get watched.answers.items p ≡ Some (Ok share) =
       ap (λ (answers : List (Result Share Stop)). slice_get answers p) shares ∙ mapped_at Ok told.shares.items p share share_at in
       let run = is.ran p one (Ok share) one_at answer_at in
+      let part : DidPart one run.probe share = run.leaves in
       let member = member_at replicas rounds pace members pool is.processes_are p one one_at in
       let n_is : length run.probe.core.clock ≡ replicas + 1 = ap (λ (made : ProbeSetup). made.processes) run.of_process in
-      let is_log = member.is_log run.leaves.log (subst (λ n. IsLogOfPart n one run.leaves.log) n_is run.leaves.is_log) in
-      let taken : IsLogTaken (replicas + 1) is.taken p run.leaves.log = run.emitted run.leaves.log run.leaves.stands in
-      let number = counted replicas rounds pace is.taken p run.leaves.log is_log taken in
+      let is_log = member.is_log part.log (subst (λ n. IsLogOfPart n one part.log) n_is part.is_log) in
+      let taken : IsLogTaken (replicas + 1) is.taken p part.log = run.emitted part.log part.stands in
+      let tally : ℕ → Tally = λ k. record { emitted = k; taken = k } in
+      let number = counted replicas rounds pace is.taken p part.log is_log taken in
       record {
-        log = run.leaves.log;
+        log = part.log;
         is_log = is_log;
         taken = taken;
-        jobs = subst (λ o. IsSomeAnd o (λ share. share.jobs ≡ jobs_at replicas rounds p)) (sym share_at) (run.leaves.jobs ∙ member.jobs);
-        tally = rw outcome (rw number at is.tallies p (omega (arith, within)));
+        jobs = subst (λ o. IsSomeAnd o (λ share. share.jobs ≡ jobs_at replicas rounds p)) (sym share_at) (part.jobs ∙ member.jobs);
+        tally = ap (λ (o : Outcome). slice_get o.tallies p) outcome ∙ is.tallies p (omega (arith, within)) ∙ ap (λ k. Some (tally k)) number;
       }
 
   pub is_pool_report : IsPoolReport replicas rounds pace told
@@ -60,7 +64,7 @@ module _ (replicas : ℕ) {rounds : ℕ} {pace : Pace} {members : List Member} {
     items = is.taken;
     each = told_at;
     shares = shares_count;
-    tallies = rw outcome is.all_tallies;
+    tallies = ap (λ (o : Outcome). length o.tallies) outcome ∙ is.all_tallies;
     drained = is.drained;
     exact = rw outcome is.exact;
     emitted = rw (outcome, totals) is.emitted_in_all;

@@ -273,7 +273,7 @@ impl Dispatcher {
         let partners = self.partners.into_list();
         let mut desk = Desk {
             unanswered: 0,
-            answered: Share::nothing(),
+            answered: Share { jobs: 0, sum: 0 },
         };
         desk.run_rounds(rt, probe, &partners, self.pace, self.rounds)?;
         Ok(desk.answered)

@@ -33,13 +33,6 @@ pub struct Share {
 }
 
 impl Share {
-    /// The share before any answer.
-    pub(crate) fn nothing() -> Share
-        ensures { result ≡ record { jobs = 0; sum = 0 } }
-    {
-        Share { jobs: 0, sum: 0 }
-    }
-
     /// The share with one more answer.
     pub(crate) fn with(self, answer: JobSum) -> Share
         requires room { self.jobs + 1 < 2 ^ 32 }

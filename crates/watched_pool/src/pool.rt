@@ -47,8 +47,9 @@ pub fn run_pool<R: Threads + Wait + Clock + Sync>(
     let members = open_members(alloc, pace, rounds)?;
     let numbers = Numbers::new(alloc, u32::from(rounds) * REPLICAS)?;
     let (watched, seen) = watch_and_read(rt, alloc, &plan, members, &numbers)?;
+    let shares = shares_of(alloc, watched.answers)?;
     Ok(PoolReport {
-        shares: shares_of(alloc, watched.answers)?,
+        shares,
         outcome: watched.outcome,
         totals: watched.totals,
         seen,

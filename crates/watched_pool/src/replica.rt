@@ -32,7 +32,7 @@ impl Replica {
         requires { LiveFor probe.old [] }
         ensures { LeavesPart (member.Replica self) probe.new result }
     {
-        let mut share = Share::nothing();
+        let mut share = Share { jobs: 0, sum: 0 };
         for _ in 0..self.rounds {
             let Ok(stamped) = self.jobs.recv(rt) else {
                 return Err(Stop::Gone);

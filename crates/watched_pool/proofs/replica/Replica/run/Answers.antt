@@ -1,9 +1,9 @@
-use Rattle.std.proofs.Common.{◌≡◌, [], ◌++◌, subst, ◌∙◌, arith}
+use Rattle.std.proofs.Common.{◌≡◌, [], ◌++◌, refl, subst, ◌∙◌, arith}
 use Rattle.watched_pool.specs.Logs.{IsAnswering, NoJob, OneMore, calls_for}
 use Rattle.watched_pool.proofs.replica.Replica.run.Goals as goal
 
 pub loop-init : goal.loop-init
-loop-init g c = record { answering = record { log = []; is_log = NoJob; stands = c.requires }; jobs = cc }
+loop-init g c = record { answering = record { log = []; is_log = NoJob; stands = c.requires }; jobs = refl }
 
 pub loop-preserved : goal.loop-preserved
 loop-preserved g c =
