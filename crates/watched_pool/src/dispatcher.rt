@@ -54,7 +54,7 @@ impl Partners {
 
     fn into_list(self) -> Vec<Partner>
         ensures list { result.items ≡ self }
-        ensures few { length self ≤ most_processes }
+        ensures few { length result.items ≤ most_processes }
     {
         self.list
     }
