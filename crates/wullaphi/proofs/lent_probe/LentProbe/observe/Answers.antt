@@ -13,4 +13,4 @@ invariant_of-self g c =
     (ap (λ (core : Core). core.pending) c.flush_waiting.ensures.core)
 
 pub returns-clause-same : goal.returns-clause-same
-returns-clause-same g c = (invariant_of-self g c).of_process ∙ sym c.self.invariant.of_process
+returns-clause-same g c = rw (← c.self.view_is) ((invariant_of-self g c).of_process ∙ sym c.self.invariant.of_process)
