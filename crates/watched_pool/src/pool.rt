@@ -72,7 +72,7 @@ fn watch_and_read<R: Threads + Wait + Clock + Sync>(
         rt,
         || last_totals(rt, &book, &ended),
         || -> Result<Watched<Result<Share, Stop>>, WatchFault>
-            ensures { IfOk result (IsWatched LeavesPart plan.now.n members.items) }
+            ensures { IfOk result (IsWatched LeavesPart plan.entry.now.n members.items) }
         {
             let watched = watch_processes(rt, alloc, plan, WATCH, members, numbers, &book);
             ended.store(true, Ordering::SeqCst);
@@ -118,10 +118,12 @@ fn shares_of(alloc: Global, answers: Vec<Result<Share, Stop>>) -> Result<Vec<Sha
 
 /// The lowest member that was refused a message, if there is one.
 fn first_refused(answers: &[Result<Share, Stop>]) -> Option<PoolFault> {
-    for (process, answer) in answers.iter().enumerate() {
+    let mut process = 0u32;
+    for answer in answers {
         if let Err(Stop::Refused(refusal)) = answer {
-            return Some(PoolFault::Stopped(process as u32, Stop::Refused(*refusal)));
+            return Some(PoolFault::Stopped(process, Stop::Refused(*refusal)));
         }
+        process = process.wrapping_add(1);
     }
     None
 }

@@ -1,4 +1,4 @@
-use Rattle.std.proofs.Common.{◌*◌, List, [], length, ap, ◌∙◌}
+use Rattle.std.proofs.Common.{◌≡◌, ◌*◌, List, [], length, ap, ◌∙◌, arith}
 use Rattle.watched_pool.specs.declared.dispatcher.Partner.{Partner}
 use Rattle.watched_pool.specs.Logs.{NothingYet}
 use Rattle.watched_pool.proofs.dispatcher.Dispatcher.run.Goals as goal
@@ -9,7 +9,7 @@ run_rounds-requires-clause-at_work g c = record { log = []; is_log = NothingYet;
 pub returns : goal.returns
 returns g c =
     let done = c.in_ok-run_rounds.ensures in
-    let list = c.into_list-partners.ensures.list in
+    let list : c.deref.result.now ≡ c.args.self.partners = grind (arith, c.into_list-partners.ensures.list) in
     record {
       jobs = done.answered ∙ ap (λ (partners : List Partner). c.args.self.rounds * length partners) list;
       log = done.at_work.log;
