@@ -107,11 +107,13 @@ fn shares_of(alloc: Global, answers: Vec<Result<Share, Stop>>) -> Result<Vec<Sha
         return Err(fault);
     }
     let mut shares = Vec::with_capacity(alloc, answers.len())?;
+    let mut process = 0u32;
     for answer in answers {
         match answer {
             Ok(share) => shares.push(share)?,
-            Err(stop) => return Err(PoolFault::Stopped(shares.len() as u32, stop)),
+            Err(stop) => return Err(PoolFault::Stopped(process, stop)),
         }
+        process = process.wrapping_add(1);
     }
     Ok(shares)
 }
