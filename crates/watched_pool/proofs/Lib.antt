@@ -1,5 +1,4 @@
 mod MadeCalls
-mod OpenedPools
 mod PoolMembers
 mod Snapshots
-mod EndedPools
+mod ToldPools

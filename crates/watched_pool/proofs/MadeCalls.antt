@@ -10,11 +10,11 @@ use Rattle.wcp_tree.specs.LiveProbe.{LiveSide, LiveFor, LiveAccepts}
 pub whole_stamp : (core : Core) (seal : Seal) → receive_refusal core seal ≡ None → length seal.clock ≡ length core.clock
 whole_stamp core seal none = grind arith
 
--- a call, then another, and then what makes none
-pub two_calls : (start one two last : LiveSide) (first second : Call) → LiveAccepts start first one → LiveAccepts one second two
-    → ((log : List Call) → LiveFor two log → LiveFor last log) → (log : List Call) → LiveFor start log → LiveFor last (log ++ first ∷ second ∷ [])
-two_calls start one two last first second is then keeps log stands =
-    subst (LiveFor last) (append_assoc log (first ∷ []) (second ∷ [])) (keeps _ (then _ (is log stands)))
+-- a call, and then another
+pub two_calls : (start one two : LiveSide) (first second : Call) → LiveAccepts start first one → LiveAccepts one second two
+    → (log : List Call) → LiveFor start log → LiveFor two (log ++ first ∷ second ∷ [])
+two_calls start one two first second is then log stands =
+    subst (LiveFor two) (append_assoc log (first ∷ []) (second ∷ [])) (then _ (is log stands))
 
 -- a call after two others
 pub third_call : (start two three : LiveSide) (first second third : Call) → ((log : List Call) → LiveFor start log → LiveFor two (log ++ first ∷ second ∷ []))

@@ -46,13 +46,14 @@ pub record IsAnswering (jobs : ℕ) (probe : LiveSide) : Type 0 where
   pub stands : LiveFor probe log
 
 -- And the dispatcher's stands for the log of its answers.
-pub record IsDispatching (most : ℕ) (desk : Desk) : Type 0 where
+pub record IsDispatching (most : ℕ) (probe : LiveSide) (desk : Desk) : Type 0 where
   pub log : List Call
-  pub is_log : IsDispatcherLog (processes_of desk.probe) most desk.answered.jobs desk.unanswered log
-  pub stands : LiveFor desk.probe log
+  pub is_log : IsDispatcherLog (processes_of probe) most desk.answered.jobs desk.unanswered log
+  pub stands : LiveFor probe log
 
 -- A replica answered one job more.
 pub record AnswersJob (old new : LiveSide) : Type 0 where
   pub stamp : List ℕ
   pub whole : length stamp ≡ processes_of old
+  pub same : processes_of new ≡ processes_of old
   pub stands : (log : List Call) → LiveFor old log → LiveFor new (log ++ calls_for stamp)

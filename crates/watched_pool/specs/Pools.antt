@@ -1,45 +1,14 @@
--- The parts of a pool that is watched, and their ends.
-use Rattle.std.specs.Prelude.{◌≡◌, ◌+◌, ◌*◌, ◌≤◌, ℕ, zero, suc, Some, IsSomeAnd, List, [], ◌∷◌, ◌++◌, length, map, All}
+-- What a run of a pool tells.
+use Rattle.std.specs.Prelude.{◌≡◌, ◌+◌, ◌*◌, ◌≤◌, ℕ, zero, suc, Some, IsSomeAnd, List, [], ◌∷◌, ◌++◌, length}
 use Rattle.std.specs.Prelude.{slice_get}
 use Rattle.std.specs.List.{sum_by}
 use Rattle.wcp_clock.specs.declared.note.Item.{Item}
-use Rattle.wcp_model.specs.PlanFault.{IsCheckedPlan}
 use Rattle.wcp_model.specs.ProbeLog.{Call, Closed, setup, state_of_log}
 use Rattle.wcp_model.specs.Report.{IsDrained, IsReportByClocks, notes_taken}
-use Rattle.wcp_model.specs.declared.plan.Plan.{Plan}
 use Rattle.wcp_tree.specs.LiveProbe.{snapshots_in}
-use Rattle.wcp_tree.specs.declared.parts.Watch.{Watch}
-use Rattle.wcp_tree.specs.Watches.{IsWired}
-use Rattle.wcp_run.specs.declared.running.Parts.{Parts}
-use Rattle.wcp_run.specs.declared.running.Ends.{Ends}
-use Rattle.wcp_run.specs.CheckerEnds.{IsFreshFor}
-use Rattle.wcp_run.specs.RunParts.{HaveEnded}
 use Rattle.watched_pool.specs.declared.dispatcher.Pace.{Pace}
-use Rattle.watched_pool.specs.declared.member.Member.{Member}
-use Rattle.watched_pool.specs.declared.member.MemberEnd.{MemberEnd}
 use Rattle.watched_pool.specs.declared.pool.PoolReport.{PoolReport}
-use Rattle.watched_pool.specs.Members.{IsNew, IsEndOfMember, IsPool, probe_of}
 use Rattle.watched_pool.specs.Logs.{IsReplicaLog, IsDispatcherLog, most_unanswered}
-
--- The parts of a watch that was wired as a plan says: a new member for each process, which has its probe and is the
--- dispatcher, of this pace, or a replica, all for so many rounds, the relays, and a fresh checker.
-pub record ArePartsOfPool (plan : Plan) (pace : Pace) (rounds : ℕ) (parts : Parts Member) : Type 0 where
-  pub number : ℕ
-  pub watch : Watch
-  pub wired : IsWired plan number watch
-  pub members : map probe_of parts.workers.items ≡ watch.probes.items
-  pub pool : IsPool pace rounds parts.workers.items
-  pub ready : All IsNew parts.workers.items
-  pub relays : parts.relays.items ≡ watch.relays.items
-  pub inbox : parts.checking.inbox ≡ watch.inbox
-  pub fresh : IsFreshFor parts.checking.inbox parts.checking.checker
-
--- These are the ends of such parts, under a checked plan.
-pub record AreEndsOfPool (plan : Plan) (pace : Pace) (rounds : ℕ) (ends : Ends MemberEnd) : Type 0 where
-  pub checked : IsCheckedPlan plan
-  pub parts : Parts Member
-  pub are : ArePartsOfPool plan pace rounds parts
-  pub ended : HaveEnded IsEndOfMember parts ends
 
 -- What was taken of process p of n is all that its probe emits where it makes these calls and then closes.
 abbrev pub IsLogTaken : ℕ → List Item → ℕ → List Call → Type 0

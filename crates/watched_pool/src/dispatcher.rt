@@ -1,13 +1,12 @@
 ghost use Rattle.std.specs.Prelude.{◌≡◌, ℕ, ◌+◌, ◌*◌, ◌^◌, ◌<◌, ◌≤◌, length, OnOk};
 ghost use Rattle.wcp_clock.specs.Limits.{most_processes};
-ghost use Rattle.wcp_tree.specs.LiveProbe.{IsSameLive};
 
 use crate::job::{Job, JobSum};
-use crate::member::{MemberEnd, Share, Stop};
+use crate::member::{Share, Stop};
 use crossbeam_channel::{Receiver, Sender};
+use std::marker::Model;
 use std::sync::Wait;
-use wcp_probe::Stamped;
-use wcp_tree::LiveProbe;
+use wullaphi::{LentProbe, Loan, Stamped};
 
 /// How the dispatcher gives out the jobs of a round, one for each replica.
 #[derive(Clone, Copy, Debug, PartialEq, Eq)]
@@ -27,10 +26,43 @@ pub struct Partner {
     pub(crate) answers: Receiver<Stamped<JobSum>>,
 }
 
-/// What the dispatcher works with. Its condition is that a job is unanswered.
+/// The partners of a dispatcher. A contract sees their list; they are few.
+#[derive(Drop)]
+pub struct Partners {
+    list: Vec<Partner>,
+}
+
+impl Model for Partners {
+    ghost use Rattle.std.specs.Prelude.{◌≤◌, List, length};
+    ghost use Rattle.wcp_clock.specs.Limits.{most_processes};
+    ghost use Rattle.watched_pool.specs.declared.dispatcher.Partner.{Partner};
+
+    ghost Value = { List Partner };
+
+    ghost view = { λ p. p.list.items };
+
+    ghost invariant = { λ p. length p.list.items ≤ most_processes };
+}
+
+impl Partners {
+    pub(crate) fn new(list: Vec<Partner>) -> Partners
+        requires { length list.items ≤ most_processes }
+        ensures { result ≡ list.items }
+    {
+        Partners { list }
+    }
+
+    fn into_list(self) -> Vec<Partner>
+        ensures list { result.items ≡ self }
+        ensures few { length result.items ≤ most_processes }
+    {
+        self.list
+    }
+}
+
+/// What the dispatcher counts. Its condition is that a job is unanswered.
 #[derive(Drop)]
 pub struct Desk {
-    pub(crate) probe: LiveProbe,
     /// How many jobs are unanswered.
     pub(crate) unanswered: u32,
     pub(crate) answered: Share,
@@ -39,8 +71,7 @@ pub struct Desk {
 /// The dispatcher: it gives out jobs in rounds, one for each replica.
 #[derive(Drop)]
 pub struct Dispatcher {
-    pub(crate) desk: Desk,
-    pub(crate) partners: Vec<Partner>,
+    pub(crate) partners: Partners,
     pub(crate) pace: Pace,
     pub(crate) rounds: u16,
 }
@@ -59,21 +90,25 @@ impl Desk {
     ghost use Rattle.watched_pool.specs.Logs.{IsDispatching, most_unanswered};
 
     /// Sends a job to a replica.
-    fn give_out<R: Wait>(&mut self, rt: &R, partner: &Partner, job: Job) -> Result<(), Stop>
+    fn give_out<L: Loan, R: Wait>(
+        &mut self,
+        rt: &R,
+        probe: &mut LentProbe<L>,
+        partner: &Partner,
+        job: Job,
+    ) -> Result<(), Stop>
         requires few { self.old.unanswered < most_processes }
         ensures at_work { OnOk result ((most : ℕ) → self.old.unanswered < most
-            → IsDispatching most self.old → IsDispatching most self.new) }
+            → IsDispatching most probe.old self.old → IsDispatching most probe.new self.new) }
         ensures unanswered { OnOk result (self.new.unanswered ≡ self.old.unanswered + 1) }
         ensures answered { self.new.answered ≡ self.old.answered }
-        ensures same { IsSameLive self.old.probe self.new.probe }
     {
-        let stamped = match self.probe.stamp(partner.replica, job) {
+        let stamped = match probe.stamp(partner.replica, job) {
             Ok(stamped) => stamped,
             Err((refusal, _)) => return Err(Stop::Refused(refusal)),
         };
         self.unanswered += 1;
-        self.probe.observe(true);
-        self.probe.flush_waiting(rt);
+        probe.observe(rt, true);
         match partner.jobs.send(rt, stamped) {
             Ok(()) => Ok(()),
             Err(_) => Err(Stop::Gone),
@@ -81,160 +116,166 @@ impl Desk {
     }
 
     /// Waits for the answer of a replica.
-    fn take_answer<R: Wait>(&mut self, rt: &R, partner: &Partner) -> Result<(), Stop>
+    fn take_answer<L: Loan, R: Wait>(
+        &mut self,
+        rt: &R,
+        probe: &mut LentProbe<L>,
+        partner: &Partner,
+    ) -> Result<(), Stop>
         requires some { 0 < self.old.unanswered }
         requires room { self.old.answered.jobs + 1 < 2 ^ 32 }
-        ensures at_work { OnOk result ((most : ℕ) → IsDispatching most self.old → IsDispatching most self.new) }
+        ensures at_work { OnOk result ((most : ℕ)
+            → IsDispatching most probe.old self.old → IsDispatching most probe.new self.new) }
         ensures unanswered { OnOk result (self.new.unanswered + 1 ≡ self.old.unanswered) }
         ensures answered { OnOk result (self.new.answered.jobs ≡ self.old.answered.jobs + 1) }
-        ensures same { IsSameLive self.old.probe self.new.probe }
     {
         let Ok(stamped) = partner.answers.recv(rt) else {
             return Err(Stop::Gone);
         };
-        let answer = match self.probe.receive(stamped) {
+        let answer = match probe.receive(stamped) {
             Ok(answer) => answer,
             Err((refusal, _)) => return Err(Stop::Refused(refusal)),
         };
         self.unanswered -= 1;
-        self.probe.observe(self.unanswered > 0);
-        self.probe.flush_waiting(rt);
+        probe.observe(rt, self.unanswered > 0);
         self.answered = self.answered.with(answer);
         Ok(())
     }
 
     /// Gives out the jobs of a round, all of them.
-    fn give_out_all<R: Wait>(
+    fn give_out_all<L: Loan, R: Wait>(
         &mut self,
         rt: &R,
+        probe: &mut LentProbe<L>,
         partners: &[Partner],
         round: u16,
     ) -> Result<(), Stop>
-        requires at_work { IsDispatching (length partners.now) self.old }
+        requires at_work { IsDispatching (length partners.now) probe.old self.old }
         requires none { self.old.unanswered ≡ 0 }
         requires few { length partners.now ≤ most_processes }
-        ensures at_work { OnOk result (IsDispatching (length partners.now) self.new) }
+        ensures at_work { OnOk result (IsDispatching (length partners.now) probe.new self.new) }
         ensures unanswered { OnOk result (self.new.unanswered ≡ length partners.now) }
         ensures answered { OnOk result (self.new.answered ≡ self.old.answered) }
-        ensures same { IsSameLive self.old.probe self.new.probe }
     {
         for partner in partners {
-            self.give_out(rt, partner, job_of(round, partner.replica))?;
+            self.give_out(rt, probe, partner, job_of(round, partner.replica))?;
         }
         Ok(())
     }
 
     /// Waits for the answers of a round, all of them.
-    fn take_all<R: Wait>(&mut self, rt: &R, partners: &[Partner]) -> Result<(), Stop>
-        requires at_work { IsDispatching (length partners.now) self.old }
+    fn take_all<L: Loan, R: Wait>(
+        &mut self,
+        rt: &R,
+        probe: &mut LentProbe<L>,
+        partners: &[Partner],
+    ) -> Result<(), Stop>
+        requires at_work { IsDispatching (length partners.now) probe.old self.old }
         requires all { self.old.unanswered ≡ length partners.now }
         requires room { self.old.answered.jobs + length partners.now < 2 ^ 32 }
-        ensures at_work { OnOk result (IsDispatching (length partners.now) self.new) }
+        ensures at_work { OnOk result (IsDispatching (length partners.now) probe.new self.new) }
         ensures unanswered { OnOk result (self.new.unanswered ≡ 0) }
         ensures answered { OnOk result (self.new.answered.jobs ≡ self.old.answered.jobs + length partners.now) }
-        ensures same { IsSameLive self.old.probe self.new.probe }
     {
         for partner in partners {
-            self.take_answer(rt, partner)?;
+            self.take_answer(rt, probe, partner)?;
         }
         Ok(())
     }
 
     /// Gives out each job of a round and waits for its answer.
-    fn ask_in_turn<R: Wait>(&mut self, rt: &R, partners: &[Partner], round: u16) -> Result<(), Stop>
-        requires at_work { IsDispatching 1 self.old }
+    fn ask_in_turn<L: Loan, R: Wait>(
+        &mut self,
+        rt: &R,
+        probe: &mut LentProbe<L>,
+        partners: &[Partner],
+        round: u16,
+    ) -> Result<(), Stop>
+        requires at_work { IsDispatching 1 probe.old self.old }
         requires none { self.old.unanswered ≡ 0 }
         requires room { self.old.answered.jobs + length partners.now < 2 ^ 32 }
-        ensures at_work { OnOk result (IsDispatching 1 self.new) }
+        ensures at_work { OnOk result (IsDispatching 1 probe.new self.new) }
         ensures unanswered { OnOk result (self.new.unanswered ≡ 0) }
         ensures answered { OnOk result (self.new.answered.jobs ≡ self.old.answered.jobs + length partners.now) }
-        ensures same { IsSameLive self.old.probe self.new.probe }
     {
         for partner in partners {
-            self.give_out(rt, partner, job_of(round, partner.replica))?;
-            self.take_answer(rt, partner)?;
+            self.give_out(rt, probe, partner, job_of(round, partner.replica))?;
+            self.take_answer(rt, probe, partner)?;
         }
         Ok(())
     }
 
     /// One round: each replica gets a job and answers it.
-    fn run_round<R: Wait>(
+    fn run_round<L: Loan, R: Wait>(
         &mut self,
         rt: &R,
+        probe: &mut LentProbe<L>,
         partners: &[Partner],
         pace: Pace,
         round: u16,
     ) -> Result<(), Stop>
-        requires at_work { IsDispatching (most_unanswered pace (length partners.now)) self.old }
+        requires at_work { IsDispatching (most_unanswered pace (length partners.now)) probe.old self.old }
         requires none { self.old.unanswered ≡ 0 }
         requires few { length partners.now ≤ most_processes }
         requires room { self.old.answered.jobs + length partners.now < 2 ^ 32 }
-        ensures at_work { OnOk result (IsDispatching (most_unanswered pace (length partners.now)) self.new) }
+        ensures at_work { OnOk result (IsDispatching (most_unanswered pace (length partners.now)) probe.new self.new) }
         ensures unanswered { OnOk result (self.new.unanswered ≡ 0) }
         ensures answered { OnOk result (self.new.answered.jobs ≡ self.old.answered.jobs + length partners.now) }
-        ensures same { IsSameLive self.old.probe self.new.probe }
     {
         match pace {
             Pace::Together => {
-                self.give_out_all(rt, partners, round)?;
-                self.take_all(rt, partners)
+                self.give_out_all(rt, probe, partners, round)?;
+                self.take_all(rt, probe, partners)
             }
-            Pace::InTurn => self.ask_in_turn(rt, partners, round),
+            Pace::InTurn => self.ask_in_turn(rt, probe, partners, round),
         }
     }
 
     /// All rounds.
-    fn run_rounds<R: Wait>(
+    fn run_rounds<L: Loan, R: Wait>(
         &mut self,
         rt: &R,
+        probe: &mut LentProbe<L>,
         partners: &[Partner],
         pace: Pace,
         rounds: u16,
     ) -> Result<(), Stop>
-        requires at_work { IsDispatching (most_unanswered pace (length partners.now)) self.old }
+        requires at_work { IsDispatching (most_unanswered pace (length partners.now)) probe.old self.old }
         requires none { self.old.unanswered ≡ 0 }
         requires no_answer { self.old.answered.jobs ≡ 0 }
         requires few { length partners.now ≤ most_processes }
-        ensures at_work { OnOk result (IsDispatching (most_unanswered pace (length partners.now)) self.new) }
+        ensures at_work { OnOk result (IsDispatching (most_unanswered pace (length partners.now)) probe.new self.new) }
         ensures unanswered { OnOk result (self.new.unanswered ≡ 0) }
         ensures answered { OnOk result (self.new.answered.jobs ≡ rounds * length partners.now) }
-        ensures same { IsSameLive self.old.probe self.new.probe }
     {
         for round in 0..rounds {
-            self.run_round(rt, partners, pace, round)?;
+            self.run_round(rt, probe, partners, pace, round)?;
         }
         Ok(())
     }
 }
 
 impl Dispatcher {
-    ghost use Rattle.watched_pool.specs.Members.{IsNewDispatcher, IsEndOfMember};
+    ghost use Rattle.std.specs.Prelude.{[]};
+    ghost use Rattle.wcp_tree.specs.LiveProbe.{LiveFor};
+    ghost use Rattle.watched_pool.specs.Members.{LeavesPart};
     ghost use Rattle.watched_pool.specs.declared.member.Member.TheVariants as member;
 
-    /// Runs all rounds, lets go its channels, and closes its probe.
-    pub(crate) fn run<R: Wait>(self, rt: &R) -> MemberEnd
-        requires { IsNewDispatcher self }
-        ensures { IsEndOfMember (member.Dispatcher self) result }
+    /// Runs all rounds.
+    pub(crate) fn run<L: Loan, R: Wait>(
+        self,
+        rt: &R,
+        probe: &mut LentProbe<L>,
+    ) -> Result<Share, Stop>
+        requires { LiveFor probe.old [] }
+        ensures { LeavesPart (member.Dispatcher self) probe.new result }
     {
-        let Dispatcher {
-            mut desk,
-            partners,
-            pace,
-            rounds,
-        } = self;
-        let done = desk.run_rounds(rt, &partners, pace, rounds);
-        drop(partners);
-        let Desk {
-            probe,
-            unanswered: _,
-            answered,
-        } = desk;
-        MemberEnd {
-            probe: probe.close_waiting(rt),
-            done: match done {
-                Ok(()) => Ok(answered),
-                Err(stop) => Err(stop),
-            },
-        }
+        let partners = self.partners.into_list();
+        let mut desk = Desk {
+            unanswered: 0,
+            answered: Share { jobs: 0, sum: 0 },
+        };
+        desk.run_rounds(rt, probe, &partners, self.pace, self.rounds)?;
+        Ok(desk.answered)
     }
 }

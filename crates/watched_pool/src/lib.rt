@@ -23,9 +23,9 @@ mod pool_text;
 mod program;
 mod replica;
 
-pub use dispatcher::{Desk, Dispatcher, Pace, Partner};
+pub use dispatcher::{Desk, Dispatcher, Pace, Partner, Partners};
 pub use job::{Job, JobSum, Numbers};
-pub use member::{Member, MemberEnd, Share, Stop};
+pub use member::{Member, Share, Stop};
 pub use pool::{PoolReport, run_pool};
 pub use pool_fault::PoolFault;
 pub use program::run_program;

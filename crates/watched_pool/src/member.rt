@@ -5,11 +5,9 @@ use crate::job::{JobSum, Numbers};
 use crate::replica::Replica;
 use std::sync::Wait;
 use thiserror::Error;
-use wcp_probe::Refusal;
-use wcp_run::{Part, RunsWith};
-use wcp_tree::ProbeEnd;
+use wullaphi::{LentProbe, Loan, Process, Refusal};
 
-/// A process of the pool, for a thread of its own.
+/// A process of the pool.
 #[derive(Drop)]
 pub enum Member {
     Dispatcher(Dispatcher),
@@ -35,13 +33,6 @@ pub struct Share {
 }
 
 impl Share {
-    /// The share before any answer.
-    pub(crate) fn nothing() -> Share
-        ensures { result ≡ record { jobs = 0; sum = 0 } }
-    {
-        Share { jobs: 0, sum: 0 }
-    }
-
     /// The share with one more answer.
     pub(crate) fn with(self, answer: JobSum) -> Share
         requires room { self.jobs + 1 < 2 ^ 32 }
@@ -55,26 +46,24 @@ impl Share {
     }
 }
 
-/// What is left of a member that ran: its closed probe, and its share of the work or why it stopped.
-#[derive(Drop)]
-pub struct MemberEnd {
-    pub(crate) probe: ProbeEnd,
-    pub(crate) done: Result<Share, Stop>,
-}
+impl Process for Member {
+    ghost use Rattle.watched_pool.specs.Members.{LeavesPart};
 
-impl Part<MemberEnd> for Member {
-    ghost use Rattle.watched_pool.specs.Members.{IsNew, IsEndOfMember};
+    type Shared = Numbers;
 
-    ghost is_ready = { IsNew };
+    type Answer = Result<Share, Stop>;
 
-    ghost is_end = { IsEndOfMember };
-}
+    ghost leaves = { LeavesPart };
 
-impl RunsWith<Numbers, MemberEnd> for Member {
-    fn run_with<R: Wait>(self, rt: &R, numbers: &Numbers) -> MemberEnd {
+    fn run<L: Loan, R: Wait>(
+        self,
+        rt: &R,
+        probe: &mut LentProbe<L>,
+        numbers: &Numbers,
+    ) -> Result<Share, Stop> {
         match self {
-            Member::Dispatcher(dispatcher) => dispatcher.run(rt),
-            Member::Replica(replica) => replica.run(rt, numbers),
+            Member::Dispatcher(dispatcher) => dispatcher.run(rt, probe),
+            Member::Replica(replica) => replica.run(rt, probe, numbers),
         }
     }
 }

@@ -1,7 +1,7 @@
 use crate::member::Stop;
 use std::alloc::{AllocError, AllocFailed};
 use thiserror::Error;
-use wcp_run::{SettleFault, StartFault};
+use wullaphi::{SettleFault, WatchFault};
 
 /// Why a run of the pool tells nothing. It displays as its line on standard error, without the program's name.
 #[derive(Clone, Copy, Debug, PartialEq, Eq, Error)]
@@ -12,7 +12,7 @@ pub enum PoolFault {
     /// Memory ran out before a thread was started, or as the answer was put together.
     #[error("memory")]
     Memory,
-    /// The plan of the watch has a fault.
+    /// The plan of the watch has a fault, or isn't for this pool.
     #[error("plan")]
     Plan,
     /// A thread couldn't be made; all parts were let go.
@@ -41,17 +41,13 @@ impl<T: Drop> From<AllocFailed<T>> for PoolFault {
     }
 }
 
-impl From<StartFault> for PoolFault {
-    fn from(fault: StartFault) -> PoolFault {
+impl From<WatchFault> for PoolFault {
+    fn from(fault: WatchFault) -> PoolFault {
         match fault {
-            StartFault::Memory => PoolFault::Memory,
-            StartFault::Spawn => PoolFault::Spawn,
+            WatchFault::Plan(_) | WatchFault::Count => PoolFault::Plan,
+            WatchFault::Memory => PoolFault::Memory,
+            WatchFault::Spawn => PoolFault::Spawn,
+            WatchFault::Settle(fault) => PoolFault::Settle(fault),
         }
-    }
-}
-
-impl From<SettleFault> for PoolFault {
-    fn from(fault: SettleFault) -> PoolFault {
-        PoolFault::Settle(fault)
     }
 }

@@ -2,8 +2,7 @@
 use crate::dispatcher::REPLICAS;
 use crate::pool::PoolReport;
 use std::alloc::{AllocError, Global};
-use wcp_model::{GlobalCut, Report};
-use wcp_report::push_report;
+use wullaphi::{GlobalCut, Report, push_report};
 
 /// Each replica's share of the work, the report, and the moment in words.
 pub(crate) fn pool_text(alloc: Global, run: &PoolReport) -> Result<String, AllocError> {

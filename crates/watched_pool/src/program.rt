@@ -8,7 +8,7 @@ use std::rt::Env;
 use std::sync::Wait;
 use std::thread::Threads;
 use std::time::Clock;
-use wcp_model::Report;
+use wullaphi::Report;
 
 /// How many rounds there are.
 const ROUNDS: u16 = 2;

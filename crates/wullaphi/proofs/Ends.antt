@@ -1,7 +1,9 @@
 -- What the ends of a watch of processes tell.
 use Rattle.std.proofs.Common.{◌≡◌, ◌<◌, ℕ, Some, List, [], ◌∷◌, ◌++◌, length, map, slice_get, get_or, All, refl, sym, ap, subst, ◌∙◌, arith}
+use Rattle.std.specs.List.{sum_by}
 use Rattle.std.proofs.lemmas.List.{length-map}
 use Rattle.std.proofs.lemmas.Option.{slice_get-get_or, slice_get_within}
+use Rattle.wcp_book.specs.Totals.{AreTotals}
 use Rattle.wcp_clock.specs.declared.note.Note.{Note}
 use Rattle.wcp_model.proofs.SamePlace.{element_within}
 use Rattle.wcp_model.specs.PlanFault.{IsCheckedPlan}
@@ -73,7 +75,7 @@ module _ {P A : Type 0} (Leaves : P → LiveSide → A → Type 0) {plan : Plan}
 
     module _ (answers : List A) (answered : map (λ (end : SeatEnd A). end.answer) ends.workers.items ≡ answers)
         {book : BookState} {settled : Settled} (is : IsSettled probes ends.checker book settled) (watched : Watched A)
-        (answers_are : watched.answers.items ≡ answers) (report_is : watched.outcome.report ≡ settled.report) (tallies_are : watched.outcome.tallies ≡ settled.tallies) where
+        (totals : AreTotals book.shares watched.totals) (answers_are : watched.answers.items ≡ answers) (report_is : watched.outcome.report ≡ settled.report) (tallies_are : watched.outcome.tallies ≡ settled.tallies) where
       n_is : ends.checker.processes ≡ plan.n
       n_is = all_processes are.wired (rw are.inbox at ended.checker)
 
@@ -136,4 +138,6 @@ module _ {P A : Type 0} (Leaves : P → LiveSide → A → Type 0) {plan : Plan}
         exact = rw report_is (subst (λ n. IsReportByClocks n ends.checker.receipt.taken settled.report) n_is is.exact);
         all_tallies = ap length tallies_are ∙ is.processes ∙ n_is;
         tallies = tallies;
+        emitted_in_all = (is.totals watched.totals totals).0 ∙ ap (sum_by (λ (tally : Tally). tally.emitted)) (sym tallies_are);
+        taken_in_all = (is.totals watched.totals totals).1 ∙ ap (sum_by (λ (tally : Tally). tally.taken)) (sym tallies_are);
       }

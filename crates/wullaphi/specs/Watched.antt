@@ -1,5 +1,6 @@
 -- What a watch of processes tells.
 use Rattle.std.specs.Prelude.{◌≡◌, ℕ, ◌<◌, Some, List, length, slice_get}
+use Rattle.std.specs.List.{sum_by}
 use Rattle.wcp_clock.specs.declared.note.Item.{Item}
 use Rattle.wcp_clock.specs.declared.note.Note.{Note}
 use Rattle.wcp_model.specs.ProbeLog.{setup}
@@ -14,8 +15,8 @@ abbrev pub tally_of : List Note → Tally
 tally_of notes = record { emitted = snapshots_in notes; taken = snapshots_in notes }
 
 -- A watch of these n processes tells this: each has run with its probe and gave the answer at its place; what the
--- checker took of it are all notes of its probe, each once and in order; and the report is the exact one of all that
--- was taken.
+-- checker took of it are all notes of its probe, each once and in order; the report is the exact one of all that was
+-- taken; and the totals are the sums of the tallies.
 pub record IsWatched {P A : Type 0} (Leaves : P → LiveSide → A → Type 0) (n : ℕ) (processes : List P)
     (watched : Watched A) : Type 0 where
   pub taken : List Item
@@ -28,3 +29,5 @@ pub record IsWatched {P A : Type 0} (Leaves : P → LiveSide → A → Type 0) (
   pub exact : IsReportByClocks n taken watched.outcome.report
   pub all_tallies : length watched.outcome.tallies ≡ n
   pub tallies : (p : ℕ) → p < n → slice_get watched.outcome.tallies p ≡ Some (tally_of (notes_taken p taken))
+  pub emitted_in_all : watched.totals.emitted ≡ sum_by (λ tally. tally.emitted) watched.outcome.tallies
+  pub taken_in_all : watched.totals.taken ≡ sum_by (λ tally. tally.taken) watched.outcome.tallies

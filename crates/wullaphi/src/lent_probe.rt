@@ -79,7 +79,8 @@ impl<L: Loan> LentProbe<L> {
     /// The process observes its condition: the first true observation of an interval emits a snapshot, which is put at
     /// once. While the link to the relay is full this waits, and gives up its turn.
     pub fn observe<R: Wait>(&mut self, rt: &R, holds: bool)
-        ensures { LiveAccepts self.old (Observed holds) self.new }
+        ensures accepted { LiveAccepts self.old (Observed holds) self.new }
+        ensures same { setup_of self.new.core ≡ setup_of self.old.core }
     {
         self.probe.observe(holds);
         self.probe.flush_waiting(rt);
@@ -95,6 +96,7 @@ impl<L: Loan> LentProbe<L> {
         ensures unclosed { IfErr result (λ back. back.0 ≢ refusal.Closed) }
         ensures put { IfErr result (λ back. back.0 ≢ refusal.Backlog) }
         ensures accepted { OnOk result (LiveAccepts self.old Sent self.new) }
+        ensures same { setup_of self.new.core ≡ setup_of self.old.core }
         ensures stamped { IfOk result (λ message. IsSealed message (record {
           watch = self.old.core.watch;
           from = self.old.core.id;
@@ -115,6 +117,7 @@ impl<L: Loan> LentProbe<L> {
         ensures unclosed { IfErr result (λ back. back.0 ≢ refusal.Closed) }
         ensures put { IfErr result (λ back. back.0 ≢ refusal.Backlog) }
         ensures accepted { OnOk result (LiveAccepts self.old (Received (seal_of message).clock) self.new) }
+        ensures same { setup_of self.new.core ≡ setup_of self.old.core }
         ensures value { IfOk result (λ value. value ≡ value_of message) }
         ensures refused { IfErr result (λ back. (back.1 ≡ message) × (self.new ≡ self.old)) }
     {

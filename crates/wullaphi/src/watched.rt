@@ -1,8 +1,10 @@
-use wcp_model::Outcome;
+use wcp_model::{Outcome, Tally};
 
-/// What a watch tells: the report with the tallies, and what each process answered, by its number.
+/// What a watch tells: the report with the tallies, the totals, and what each process answered, by its number.
 #[derive(Drop)]
 pub struct Watched<A: Drop> {
     pub outcome: Outcome,
+    /// The totals of the book.
+    pub totals: Tally,
     pub answers: Vec<A>,
 }

@@ -84,12 +84,14 @@ fn watch_planned<
     } = run_parts(rt, alloc, parts, shared, book)?;
     let (probes, answers) = take_apart(alloc, workers)?;
     let posted = book.lock(rt).copied();
+    let totals = posted.totals();
     let settled = settle(probes, relays, checker, posted)?;
     Ok(Watched {
         outcome: Outcome {
             report: settled.report,
             tallies: settled.tallies,
         },
+        totals,
         answers,
     })
 }

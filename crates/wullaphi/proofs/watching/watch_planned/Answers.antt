@@ -26,6 +26,7 @@ returns-clause-watched g c =
     c.in_ok-probes.ensures.answers
     c.in_ok-settled.ensures.settled
     _
+    c.totals-totals.ensures
     refl
     refl
     refl

@@ -1,13 +1,11 @@
 use Rattle.std.proofs.Common.{◌≡◌, ◌+◌}
-use Rattle.wcp_tree.specs.LiveProbe.{IsSameLive}
 use Rattle.watched_pool.specs.Logs.{IsDispatching}
 use Rattle.watched_pool.proofs.dispatcher.Desk.ask_in_turn.Given as goal
 
 abbrev pub invariant-loop-partner : goal.invariant-loop-partner
 invariant-loop-partner g l =
     record {
-      at_work : IsDispatching 1 l.self;
+      at_work : IsDispatching 1 l.probe l.self;
       unanswered : l.self.unanswered ≡ 0;
       answered : l.self.answered.jobs ≡ l.initial.self.answered.jobs + l.partner-index;
-      same : IsSameLive l.initial.self.probe l.self.probe;
     }

@@ -1,14 +1,14 @@
-use Rattle.std.proofs.Common.{◌≡◌, true, [], ◌∷◌, ◌++◌, arith}
-use Rattle.wcp_model.specs.ProbeLog.{Observed, Sent}
+use Rattle.std.proofs.Common.{◌≡◌, true, [], ◌∷◌, ◌++◌, ap, ◌∙◌}
+use Rattle.wcp_model.specs.ProbeLog.{Observed, ProbeSetup, Sent}
 use Rattle.watched_pool.specs.Logs.{GaveOut, processes_of}
 use Rattle.watched_pool.proofs.MadeCalls.{two_calls}
 use Rattle.watched_pool.proofs.dispatcher.Desk.give_out.Goals as goal
 
 pub returns-in-Ok-send-clause-at_work : goal.returns-in-Ok-send-clause-at_work
 returns-in-Ok-send-clause-at_work g c = λ most below was.
-    let same : processes_of c.flush_waiting.new.self ≡ processes_of c.args.self.now.probe = grind arith in
+    let same : processes_of c.observe.new.self ≡ processes_of c.args.probe.now = ap (λ (made : ProbeSetup). made.processes) (c.observe.ensures.same ∙ c.in-Ok.ensures.same) in
     record {
       log = was.log ++ Sent ∷ Observed true ∷ [];
       is_log = rw same (GaveOut below was.is_log);
-      stands = two_calls _ _ _ _ Sent (Observed true) c.in-Ok.ensures.accepted c.observe.ensures.accepted c.flush_waiting.ensures.stands was.log was.stands;
+      stands = two_calls _ _ _ Sent (Observed true) c.in-Ok.ensures.accepted c.observe.ensures.accepted was.log was.stands;
     }

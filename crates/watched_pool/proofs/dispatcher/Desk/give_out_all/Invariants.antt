@@ -1,13 +1,11 @@
 use Rattle.std.proofs.Common.{◌≡◌, length}
-use Rattle.wcp_tree.specs.LiveProbe.{IsSameLive}
 use Rattle.watched_pool.specs.Logs.{IsDispatching}
 use Rattle.watched_pool.proofs.dispatcher.Desk.give_out_all.Given as goal
 
 abbrev pub invariant-loop-partner : goal.invariant-loop-partner
 invariant-loop-partner g l =
     record {
-      at_work : IsDispatching (length l.partners) l.self;
+      at_work : IsDispatching (length l.partners) l.probe l.self;
       unanswered : l.self.unanswered ≡ l.partner-index;
       answered : l.self.answered ≡ l.initial.self.answered;
-      same : IsSameLive l.initial.self.probe l.self.probe;
     }

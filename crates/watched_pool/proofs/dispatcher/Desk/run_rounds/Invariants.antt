@@ -1,13 +1,11 @@
 use Rattle.std.proofs.Common.{◌≡◌, ◌*◌, length}
-use Rattle.wcp_tree.specs.LiveProbe.{IsSameLive}
 use Rattle.watched_pool.specs.Logs.{IsDispatching, most_unanswered}
 use Rattle.watched_pool.proofs.dispatcher.Desk.run_rounds.Given as goal
 
 abbrev pub invariant-loop-round : goal.invariant-loop-round
 invariant-loop-round g l =
     record {
-      at_work : IsDispatching (most_unanswered l.pace (length l.partners)) l.self;
+      at_work : IsDispatching (most_unanswered l.pace (length l.partners)) l.probe l.self;
       unanswered : l.self.unanswered ≡ 0;
       answered : l.self.answered.jobs ≡ l.round * length l.partners;
-      same : IsSameLive l.initial.self.probe l.self.probe;
     }

@@ -1,13 +1,11 @@
 use Rattle.std.proofs.Common.{◌≡◌, ◌+◌, length}
-use Rattle.wcp_tree.specs.LiveProbe.{IsSameLive}
 use Rattle.watched_pool.specs.Logs.{IsDispatching}
 use Rattle.watched_pool.proofs.dispatcher.Desk.take_all.Given as goal
 
 abbrev pub invariant-loop-partner : goal.invariant-loop-partner
 invariant-loop-partner g l =
     record {
-      at_work : IsDispatching (length l.partners) l.self;
+      at_work : IsDispatching (length l.partners) l.probe l.self;
       unanswered : l.self.unanswered + l.partner-index ≡ length l.partners;
       answered : l.self.answered.jobs ≡ l.initial.self.answered.jobs + l.partner-index;
-      same : IsSameLive l.initial.self.probe l.self.probe;
     }

@@ -1,6 +1,18 @@
-use Rattle.std.proofs.Common.{[], length, subst, sym}
-use Rattle.watched_pool.specs.Logs.{IsDispatcherLog, NothingYet, most_unanswered, processes_of}
+use Rattle.std.proofs.Common.{◌≡◌, ◌*◌, List, [], length, ap, ◌∙◌, arith}
+use Rattle.watched_pool.specs.declared.dispatcher.Partner.{Partner}
+use Rattle.watched_pool.specs.Logs.{NothingYet}
 use Rattle.watched_pool.proofs.dispatcher.Dispatcher.run.Goals as goal
 
-pub run_rounds-done-requires-clause-at_work : goal.run_rounds-done-requires-clause-at_work
-run_rounds-done-requires-clause-at_work g c = record { log = []; is_log = rw (c.requires.no_answer, c.requires.none) NothingYet; stands = c.requires.probe }
+pub run_rounds-requires-clause-at_work : goal.run_rounds-requires-clause-at_work
+run_rounds-requires-clause-at_work g c = record { log = []; is_log = NothingYet; stands = c.requires }
+
+pub returns : goal.returns
+returns g c =
+    let done = c.in_ok-run_rounds.ensures in
+    let list : c.deref.result.now ≡ c.args.self.partners = grind (arith, c.into_list-partners.ensures.list) in
+    record {
+      jobs = done.answered ∙ ap (λ (partners : List Partner). c.args.self.rounds * length partners) list;
+      log = done.at_work.log;
+      is_log = rw (done.answered, done.unanswered, list) at done.at_work.is_log;
+      stands = done.at_work.stands;
+    }

@@ -1,4 +1,4 @@
-use Rattle.std.proofs.Common.{ap, ◌∙◌}
+use Rattle.std.proofs.Common.{sym, ap, ◌∙◌}
 use Rattle.wcp_model.specs.ProbeLog.{Observed}
 use Rattle.wcp_probe.specs.Core.{Core}
 use Rattle.wullaphi.proofs.LentProbes.{observed, still_lent}
@@ -11,3 +11,6 @@ invariant_of-self g c =
     (rw (c.flush_waiting.ensures.core, c.observe.ensures.pending) (observed c.observe.result c.self.inside.probe.core))
     (c.flush_waiting.ensures.ring ∙ ap (λ link. link.ring) c.observe.ensures.link)
     (ap (λ (core : Core). core.pending) c.flush_waiting.ensures.core)
+
+pub returns-clause-same : goal.returns-clause-same
+returns-clause-same g c = rw (← c.self.view_is) ((invariant_of-self g c).of_process ∙ sym c.self.invariant.of_process)

@@ -1,12 +1,10 @@
 use Rattle.std.proofs.Common.{◌≡◌}
-use Rattle.wcp_tree.specs.LiveProbe.{IsSameLive}
 use Rattle.watched_pool.specs.Logs.{IsAnswering}
-use Rattle.watched_pool.proofs.replica.answer_all.Given as goal
+use Rattle.watched_pool.proofs.replica.Replica.run.Given as goal
 
 abbrev pub invariant-loop : goal.invariant-loop
 invariant-loop g l =
     record {
       answering : IsAnswering l.counter l.probe;
       jobs : l.share.jobs ≡ l.counter;
-      same : IsSameLive l.initial.probe l.probe;
     }
