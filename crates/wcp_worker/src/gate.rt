@@ -4,6 +4,10 @@ ghost use Rattle.wcp_clock.specs.Limits.{most_gate_turns};
 use std::thread::yield_now;
 use wcp_clock::GATE_TURNS;
 
+/// A worker that is held back gives its turn to other threads each time that it has asked so often. On a processor that
+/// has other work to do, each time costs milliseconds.
+const TURNS_A_YIELD: u32 = 16_384;
+
 /// What says when a worker may make its next step.
 pub trait Gate {
     /// Whether the worker of process `p` may make its own step number `step`, from 0. It is asked again for as long
@@ -25,11 +29,13 @@ impl Gate for Open {
 /// Asks a gate whether the worker of process `p` may make this step, again and again while its answer is false, and at
 /// most [`GATE_TURNS`] times. What a gate answers no clause knows, so none speaks of this answer.
 pub(crate) fn may_step<G: Gate>(gate: &G, p: u32, step: u64) -> bool {
-    for _ in 0..most_turns() {
+    for turn in 0..most_turns() {
         if gate.pass(p, step) {
             return true;
         }
-        yield_now();
+        if turn % TURNS_A_YIELD == 0 {
+            yield_now();
+        }
     }
     false
 }
