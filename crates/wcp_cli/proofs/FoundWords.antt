@@ -1,4 +1,4 @@
-use Rattle.wcp_cli.proofs.Words.{◌≡◌, ◌∙◌, ◌⊎◌, List, [], ◌∷◌, codes, ap, Some, None, Option, refl, inl, inr, option_map, Text, Row, subcommand_of, subcommand_name_of, subcommand_rows, subcommand_rows_of, AskForSingle, IsAlone, IsReader, program}
+use Rattle.wcp_cli.proofs.Imports.{◌≡◌, ◌∙◌, ◌⊎◌, List, [], ◌∷◌, codes, ap, Some, None, Option, refl, inl, inr, option_map, Text, Row, subcommand_of, subcommand_name_of, subcommand_rows, subcommand_rows_of, AskForSingle, IsAlone, IsReader, program}
 use Rattle.clap.proofs.OnLiterals.{clap_on_literals}
 use Rattle.clap.specs.declared.parser.matches.ArgMatches.{ArgMatches}
 use Rattle.clap.specs.declared.parser.matches.ArgMatches.TheViews.{out-ArgMatches, out-SubCommand}

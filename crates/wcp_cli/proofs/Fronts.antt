@@ -1,4 +1,4 @@
-use Rattle.wcp_cli.proofs.Words.{◌≡◌, ℕ, ◌+◌, ◌-◌, ◌≤◌, List, length, take, drop, Option, arith, length-drop, Appends-trans, take_all, Appends}
+use Rattle.wcp_cli.proofs.Imports.{◌≡◌, ℕ, ◌+◌, ◌-◌, ◌≤◌, List, length, take, drop, Option, arith, length-drop, Appends-trans, take_all, Appends}
 use Rattle.std.proofs.Math.Seq.{take-add}
 
 -- the rest of a text, cut to its length, is the rest

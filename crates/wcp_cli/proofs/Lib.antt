@@ -1,4 +1,4 @@
-mod Words
+mod Imports
 mod FoundWords
 mod Fronts
 mod NoRingWords

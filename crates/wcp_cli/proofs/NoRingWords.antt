@@ -1,4 +1,4 @@
-use Rattle.wcp_cli.proofs.Words.{◌≡◌, ◌∙◌, ◌<◌, ◌^◌, ℕ, Bool, true, false, List, [], ◌∷◌, codes, ap, None, refl, decimal, drop, inl, inr, Text, built, fault_of, built_fault, Held, nothing_held, AskForNoRing, IsRing, NoNumber, OnlyProcs, OnlyRounds, OutOfRange, flag_words, program}
+use Rattle.wcp_cli.proofs.Imports.{◌≡◌, ◌∙◌, ◌<◌, ◌^◌, ℕ, Bool, true, false, List, [], ◌∷◌, codes, ap, None, refl, decimal, drop, inl, inr, Text, built, fault_of, built_fault, Held, nothing_held, AskForNoRing, IsRing, NoNumber, OnlyProcs, OnlyRounds, OutOfRange, flag_words, program}
 use Rattle.clap.proofs.OnLiterals.{clap_on_literals}
 use Rattle.clap.specs.Kinds.{Kinds}
 use Rattle.clap.specs.declared.error.kind.ErrorKind.TheVariants as kind

@@ -1,4 +1,4 @@
-use Rattle.wcp_cli.proofs.Words.{◌≡◌, ◌==◌, ◌&&◌, ◌<◌, ◌≤◌, ◌⊎◌, ◌^◌, ℕ, Bool, true, false, List, [], ◌∷◌, length, pos, refl, subst, arith, nat_le, nat_lt, lt-ltb, le-leb, leb-true, inl, inr, ne_eqb, decimal, None, list_all, bytes_eq, AllDigits, IsNumeral, digits_value, and_parts, cases_Bool, decimal_is_IsNumeral, strip_byte}
+use Rattle.wcp_cli.proofs.Imports.{◌≡◌, ◌==◌, ◌&&◌, ◌<◌, ◌≤◌, ◌⊎◌, ◌^◌, ℕ, Bool, true, false, List, [], ◌∷◌, length, pos, refl, subst, arith, nat_le, nat_lt, lt-ltb, le-leb, leb-true, inl, inr, ne_eqb, decimal, None, list_all, bytes_eq, AllDigits, IsNumeral, digits_value, and_parts, cases_Bool, decimal_is_IsNumeral, strip_byte}
 use Rattle.std.specs.Char.{digit_value}
 use Rattle.std.proofs.lemmas.Str.Parse.{digit_from_value}
 use Rattle.clap.specs.ValueTests.{is_signed_in}

@@ -1,4 +1,4 @@
-use Rattle.wcp_cli.proofs.Words.{◌≡◌, ℕ, zero, suc, Bool, true, List, ◌++◌, replicate, Option, Some, refl, ap₂, ◌∙◌, append-nil, eq-eqb, flat_map, list_all, length-replicate, ring_text}
+use Rattle.wcp_cli.proofs.Imports.{◌≡◌, ℕ, zero, suc, Bool, true, List, ◌++◌, replicate, Option, Some, refl, ap₂, ◌∙◌, append-nil, eq-eqb, flat_map, list_all, length-replicate, ring_text}
 use Rattle.wcp_model.specs.declared.plan.Plan.{Plan}
 use Rattle.wcp_model.specs.declared.workload.Task.{Task}
 use Rattle.wcp_script.specs.Lines.{Word, text_of}

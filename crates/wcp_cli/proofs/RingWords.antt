@@ -1,4 +1,4 @@
-use Rattle.wcp_cli.proofs.Words.{◌≡◌, ◌∙◌, ℕ, Bool, true, false, List, [], ◌∷◌, codes, ap, ap₂, Some, None, Option, refl, decimal, arith, get_or, if◌then◌else◌, or_else, stopped_fault, Shape, Text, Row, built, fault_of, subcommand_of, built_fault, check_fault, defaults_fault, level_fault, settle_fault, walk_fault, entered, names_of, Held, finished, nothing_held, settled, stop_after, walk, walk_from, walked, bool_text, ErrorKind, AskForRing, IsRing, flag_words, program, ring_shape, AsksForRing, HasOptions}
+use Rattle.wcp_cli.proofs.Imports.{◌≡◌, ◌∙◌, ℕ, Bool, true, false, List, [], ◌∷◌, codes, ap, ap₂, Some, None, Option, refl, decimal, arith, get_or, if◌then◌else◌, or_else, stopped_fault, Shape, Text, Row, built, fault_of, subcommand_of, built_fault, check_fault, defaults_fault, level_fault, settle_fault, walk_fault, entered, names_of, Held, finished, nothing_held, settled, stop_after, walk, walk_from, walked, bool_text, ErrorKind, AskForRing, IsRing, flag_words, program, ring_shape, AsksForRing, HasOptions}
 use Rattle.clap.proofs.OnLiterals.{clap_on_literals}
 use Rattle.clap.specs.Kinds.{Kinds}
 use Rattle.clap.specs.declared.error.kind.ErrorKind.TheVariants as kind

@@ -1,4 +1,4 @@
-use Rattle.wcp_cli.proofs.Words.{◌≡◌, ◌≢◌, Bool, true, false, List, [], ◌∷◌, codes, ap, ◌∙◌, sym, subst, refl, None, inl, inr, IsAmong, Kinds, Text, fault_of, is_simple, is_simple_and_free, built, built_fault, strip_byte, names_of, nothing_held, walk_from, stopped_fault, false_from_ne_true, ErrorKind, bytes_eq, AskForSingle, AskForHelp, AskForVersion, AskForUnknown, IsAlone, IsReader, IsUnknown, UnknownWord, Further, NoRing, is_flag, program}
+use Rattle.wcp_cli.proofs.Imports.{◌≡◌, ◌≢◌, Bool, true, false, List, [], ◌∷◌, codes, ap, ◌∙◌, sym, subst, refl, None, inl, inr, IsAmong, Kinds, Text, fault_of, is_simple, is_simple_and_free, built, built_fault, strip_byte, names_of, nothing_held, walk_from, stopped_fault, false_from_ne_true, ErrorKind, bytes_eq, AskForSingle, AskForHelp, AskForVersion, AskForUnknown, IsAlone, IsReader, IsUnknown, UnknownWord, Further, NoRing, is_flag, program}
 use Rattle.clap.proofs.OnLiterals.{clap_on_literals}
 use Rattle.std.proofs.lemmas.Slice.Eq.{bytes_eq-Decides}
 use Rattle.clap.specs.declared.error.kind.ErrorKind.TheVariants as kind

@@ -1,4 +1,4 @@
-use Rattle.wcp_cli.proofs.Words.{◌≡◌, ◌≤◌, length, vec_len, Consumes}
+use Rattle.wcp_cli.proofs.Imports.{◌≡◌, ◌≤◌, length, vec_len, Consumes}
 use Rattle.wcp_clock.specs.Limits.{most_bytes}
 use Rattle.wcp_cli.proofs.input.read_text.Given as goal
 

@@ -1,4 +1,4 @@
-use Rattle.wcp_cli.proofs.Words.{◌≤◌, length, take, Appends}
+use Rattle.wcp_cli.proofs.Imports.{◌≤◌, length, take, Appends}
 use Rattle.wcp_cli.proofs.output.write_whole.Given as goal
 
 abbrev pub invariant-loop : goal.invariant-loop

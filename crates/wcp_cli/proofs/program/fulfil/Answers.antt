@@ -1,4 +1,4 @@
-use Rattle.wcp_cli.proofs.Words.{subst, Appends, AppendsFront, Front, Whole}
+use Rattle.wcp_cli.proofs.Imports.{subst, Appends, AppendsFront, Front, Whole}
 use Rattle.wcp_cli.proofs.Requests.{status_after_err}
 use Rattle.wcp_cli.proofs.program.fulfil.Goals as goal
 

@@ -1,4 +1,4 @@
-use Rattle.wcp_cli.proofs.Words.{Keeps-refl, Unknown, Quiet}
+use Rattle.wcp_cli.proofs.Imports.{Keeps-refl, Unknown, Quiet}
 use Rattle.wcp_cli.proofs.Requests.{reads_nothing, same_request, status_after_err}
 use Rattle.wcp_cli.proofs.program.obey.Goals as goal
 

@@ -1,4 +1,4 @@
-use Rattle.wcp_cli.proofs.Words.{rules, ◌≡◌, ◌∙◌, ap₂, codes, IfOk-weaker, app_of, shape_of, with_subcommand, new_shape, named}
+use Rattle.wcp_cli.proofs.Imports.{rules, ◌≡◌, ◌∙◌, ap₂, codes, IfOk-weaker, app_of, shape_of, with_subcommand, new_shape, named}
 use Rattle.wcp_cli.proofs.words.command.Goals as goal
 
 pub returns : goal.returns

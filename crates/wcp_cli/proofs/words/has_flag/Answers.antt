@@ -1,4 +1,4 @@
-use Rattle.wcp_cli.proofs.Words.{◌≡◌, ◌∙◌, Bool, true, false, Some, List, ℕ, Option, codes, found_of, bool_text, one_text-rows}
+use Rattle.wcp_cli.proofs.Imports.{◌≡◌, ◌∙◌, Bool, true, false, Some, List, ℕ, Option, codes, found_of, bool_text, one_text-rows}
 use Rattle.wcp_cli.proofs.words.has_flag.Goals as goal
 
 by_text : (text : Option (List ℕ)) (result given : Bool) → (text ≡ Some (codes "true") → result ≡ true) → (text ≡ Some (codes "false") → result ≡ false)

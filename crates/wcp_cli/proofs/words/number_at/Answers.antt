@@ -1,4 +1,4 @@
-use Rattle.wcp_cli.proofs.Words.{◌≡◌, ◌∙◌, ◌<◌, ◌^◌, ℕ, List, Option, Some, None, Result, Ok, Err, refl, arith, decimal, ParsesUnsigned, ExplainsUnsignedError, HasUnsignedDigitsIfOk, parse-decimal, ReadsOne, found_of, one_text-rows}
+use Rattle.wcp_cli.proofs.Imports.{◌≡◌, ◌∙◌, ◌<◌, ◌^◌, ℕ, List, Option, Some, None, Result, Ok, Err, refl, arith, decimal, ParsesUnsigned, ExplainsUnsignedError, HasUnsignedDigitsIfOk, parse-decimal, ReadsOne, found_of, one_text-rows}
 use Rattle.wcp_cli.proofs.words.number_at.Goals as goal
 
 -- the number that `from_str` reads from its decimal text

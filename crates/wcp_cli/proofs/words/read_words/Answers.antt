@@ -1,4 +1,4 @@
-use Rattle.wcp_cli.proofs.Words.{◌≡◌, ◌≢◌, ◌∙◌, ◌⊎◌, ap, map, inl, inr, sym, subst, ⊎_elim, codes, List, [], IfOk, IsErr, Result, None, Some, refl, IfOk-from_err, App, HasKind, IsAmong, Text, app_of, fault_of, is_simple, is_simple_and_free, kind_of, subcommand_of, ErrorKind, Request, AsksForRing, AskFor, IsRing, MayHelp, IsSameRequest, program}
+use Rattle.wcp_cli.proofs.Imports.{◌≡◌, ◌≢◌, ◌∙◌, ◌⊎◌, ap, map, inl, inr, sym, subst, ⊎_elim, codes, List, [], IfOk, IsErr, Result, None, Some, refl, IfOk-from_err, App, HasKind, IsAmong, Text, app_of, fault_of, is_simple, is_simple_and_free, kind_of, subcommand_of, ErrorKind, Request, AsksForRing, AskFor, IsRing, MayHelp, IsSameRequest, program}
 use Rattle.std.specs.declared.alloc.AllocError.{AllocError}
 use Rattle.clap.specs.declared.error.kind.ErrorKind.TheVariants as kind
 use Rattle.wcp_cli.specs.declared.words.Request.TheVariants as request
