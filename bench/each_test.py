@@ -1,6 +1,7 @@
 #!/usr/bin/env python3
-"""Refuses each allocation of some tests in turn: each_test.py TESTS PART.., of the program out/NAME_tests that `rt test` builds
-the tests with a PART in their name. Each asks again where it is refused, and so must pass whichever allocation is refused.
+"""Refuses each allocation of some tests in turn, and then each thread: each_test.py TESTS PART.., of the program out/NAME_tests
+that `rt test` builds the tests with a PART in their name. Each asks again where it is refused, and so must pass whichever
+allocation or thread is refused.
 """
 import subprocess
 import sys
@@ -22,10 +23,11 @@ def has_passed(it):
 
 failed = 0
 for test in tests():
-    given = answers(program, [test], b"", "allocation")
-    missed = [(number, it) for number, it in enumerate(given, 1) if not has_passed(it)]
-    failed += len(missed)
-    print(f"{test}: {len(given) - 1} allocations refused, {len(missed)} missed", flush=True)
-    for number, it in missed[:3]:
-        print(f"  allocation {number}: {it}")
+    for kind in ["allocation", "thread"]:
+        given = answers(program, [test], b"", kind)
+        missed = [(number, it) for number, it in enumerate(given, 1) if not has_passed(it)]
+        failed += len(missed)
+        print(f"{test}: {len(given) - 1} {kind}s refused, {len(missed)} missed", flush=True)
+        for number, it in missed[:3]:
+            print(f"  {kind} {number}: {it}")
 sys.exit(1 if failed else 0)

@@ -1,6 +1,7 @@
 //! Lanes of snapshots, for the tests.
-ghost use Rattle.std.specs.Prelude.{◌≡◌, ◌+◌, true, false, IfOk, OnOk};
+ghost use Rattle.std.specs.Prelude.{◌≡◌, ◌+◌, true, false, map, IfOk, OnOk};
 ghost use Rattle.wcp_clock.specs.Notes.{place_of, is_close};
+ghost use Rattle.wcp_lane.specs.Ends.{new_putter};
 ghost use Rattle.wcp_lane.specs.Snapshots.{HasPut};
 
 use std::alloc::Global;
@@ -57,12 +58,26 @@ pub fn try_put_snap<R: Wait>(
     }
 }
 
+/// A lane with a putter for each of these sets. Where memory runs out, asking again makes it.
+fn lane_of(
+    alloc: Global,
+    cap: u32,
+    owners: &[Origins],
+) -> Result<(Vec<Putter<Item>>, Taker<Item>), LaneFault>
+    ensures { IfOk result (λ ends. ends.0.items ≡ map (new_putter ends.1.lane) owners.now) }
+{
+    match lane(alloc, cap, owners) {
+        Err(LaneFault::NoMemory) => lane(alloc, cap, owners),
+        made => made,
+    }
+}
+
 /// A lane with a putter of process 0 alone.
 pub fn lane_of_one(alloc: Global, cap: u32) -> Result<(Putter<Item>, Taker<Item>), LaneFault>
     ensures lane { IfOk result (λ ends. ends.0.lane ≡ ends.1.lane) }
     ensures new { IfOk result (λ ends. HasPut 0 0 ends.0) }
 {
-    let (mut putters, taker) = lane(alloc, cap, &[Origins::none().with(0)])?;
+    let (mut putters, taker) = lane_of(alloc, cap, &[Origins::none().with(0)])?;
     let Some(putter) = putters.pop() else {
         return Err(LaneFault::Owners);
     };
@@ -78,7 +93,7 @@ pub fn lane_of_two(
     ensures new { IfOk result (λ ends. HasPut 0 0 ends.0 × HasPut 1 0 ends.1) }
 {
     let owners = [Origins::none().with(0), Origins::none().with(1)];
-    let (mut putters, taker) = lane(alloc, cap, &owners)?;
+    let (mut putters, taker) = lane_of(alloc, cap, &owners)?;
     let Some(second) = putters.pop() else {
         return Err(LaneFault::Owners);
     };
@@ -98,7 +113,7 @@ pub fn lane_of_three(
     ensures new { IfOk result (λ ends. HasPut 0 0 ends.0 × HasPut 1 0 ends.1 × HasPut 2 0 ends.2) }
 {
     let none = Origins::none();
-    let (mut putters, taker) = lane(alloc, cap, &[none.with(0), none.with(1), none.with(2)])?;
+    let (mut putters, taker) = lane_of(alloc, cap, &[none.with(0), none.with(1), none.with(2)])?;
     let Some(third) = putters.pop() else {
         return Err(LaneFault::Owners);
     };

@@ -1,4 +1,4 @@
-ghost use Rattle.std.specs.Prelude.{◌≡◌, ◌<◌, ◌≤◌};
+ghost use Rattle.std.specs.Prelude.{◌≡◌, ◌<◌, ◌≤◌, IfOk};
 
 use std::alloc::{AllocError, Global};
 use std::sync::Wait;
@@ -18,9 +18,21 @@ fn snapshot(number: u32) -> Note {
     }
 }
 
+/// A ring. Where memory runs out, asking again makes it.
+fn ring_of(alloc: Global, cap: u32) -> Result<(RingPutter, RingTaker), AllocError>
+    requires some { 0 < cap }
+    requires within { cap ≤ 1024 }
+    ensures { IfOk result (λ ends. ends.0.ring ≡ ends.1.ring) }
+{
+    match ring(alloc, cap) {
+        Ok(ends) => Ok(ends),
+        Err(_) => ring(alloc, cap),
+    }
+}
+
 #[test]
 fn one_note_through_a_ring_of_one(rt: HostRuntime) -> Result<(), Fail> {
-    let (mut putter, mut taker) = ring(rt.alloc(), 1)?;
+    let (mut putter, mut taker) = ring_of(rt.alloc(), 1)?;
     assert_eq!(rt; taker.try_take(), None);
     assert_eq!(rt; putter.try_put(snapshot(0)), Ok(()));
     assert_eq!(rt; putter.try_put(snapshot(1)), Err(snapshot(1)));
@@ -32,7 +44,7 @@ fn one_note_through_a_ring_of_one(rt: HostRuntime) -> Result<(), Fail> {
 
 #[test]
 fn a_note_left_in_a_ring(rt: HostRuntime) -> Result<(), Fail> {
-    let (mut putter, mut taker) = ring(rt.alloc(), 1024)?;
+    let (mut putter, mut taker) = ring_of(rt.alloc(), 1024)?;
     assert_eq!(rt; putter.try_put(snapshot(0)), Ok(()));
     assert_eq!(rt; putter.try_put(Note::Close { count: 1 }), Ok(()));
     assert_eq!(rt; taker.try_take(), Some(snapshot(0)));
@@ -99,7 +111,7 @@ fn across<R: Threads + Wait + Sync>(
     requires some { 0 < cap }
     requires within { cap ≤ 1024 }
 {
-    let (putter, taker) = ring(alloc, cap)?;
+    let (putter, taker) = ring_of(alloc, cap)?;
     let (end, (taker, in_place)) = thread::join(
         rt,
         move || -> PutterEnd
