@@ -1,4 +1,5 @@
 mod gates;
 mod outcomes;
+mod refused;
 mod two_threads;
 mod whole_runs;

@@ -3,7 +3,7 @@ use thiserror::Error;
 use wcp_model::PlanFault;
 use wcp_run::{SettleFault, StartFault};
 
-/// Why a watch tells nothing. With `Plan`, `Count`, `Memory` and `Spawn` no process has run.
+/// Why a watch tells nothing. With `Plan`, `Count` and `Spawn` no process has run.
 #[derive(Clone, Copy, Debug, PartialEq, Eq, Error)]
 pub enum WatchFault {
     /// The plan has this fault.
@@ -12,7 +12,7 @@ pub enum WatchFault {
     /// There are more or fewer processes than the plan says.
     #[error("not as many processes as the plan says")]
     Count,
-    /// Memory ran out, before a process ran or as the answers were put together.
+    /// Memory ran out, before a process ran, as the checker took a snapshot, or as the answers were put together.
     #[error("memory")]
     Memory,
     /// A thread couldn't be made.

@@ -18,7 +18,7 @@ use std::thread::Threads;
 use wcp_book::Book;
 use wcp_model::{Outcome, Plan};
 use wcp_queue::Checker;
-use wcp_run::{Checking, Ends, Parts, run_parts, settle};
+use wcp_run::{CheckFault, Checking, Ends, Parts, run_parts, settle};
 use wcp_tree::{Watch, watch};
 
 /// Watches these processes, of which there are as many as the plan says: each runs in a thread of its own with the
@@ -82,6 +82,9 @@ fn watch_planned<
         relays,
         checker,
     } = run_parts(rt, alloc, parts, shared, book)?;
+    if checker.fault() == Some(CheckFault::Memory) {
+        return Err(WatchFault::Memory);
+    }
     let (probes, answers) = take_apart(alloc, workers)?;
     let posted = book.lock(rt).copied();
     let totals = posted.totals();

@@ -4,7 +4,7 @@ use std::process::Abort;
 use wcp_model::{Parent, Plan};
 use wcp_tree::{Watch, watch};
 
-/// Watch 7 of a plan of these numbers, parents and attachments.
+/// Watch 7 of a plan of these numbers, parents and attachments. Where memory runs out, asking again makes it.
 pub fn open(
     rt: &impl Abort,
     alloc: Global,
@@ -16,9 +16,9 @@ pub fn open(
         n,
         cap,
         hold,
-        parents: Vec::from_slice(alloc, parents)?,
-        attach: Vec::from_slice(alloc, attach)?,
+        parents: Vec::from_slice(alloc, parents).or_else(|_| Vec::from_slice(alloc, parents))?,
+        attach: Vec::from_slice(alloc, attach).or_else(|_| Vec::from_slice(alloc, attach))?,
     };
     assert!(rt; plan.check().is_ok());
-    watch(alloc, &plan, 7)
+    watch(alloc, &plan, 7).or_else(|_| watch(alloc, &plan, 7))
 }

@@ -1,10 +1,13 @@
 //! Gates that tell whether each worker runs in a thread of its own.
-use super::outcomes::{comes_to, found};
+use super::outcomes::{comes_to, fault_of, found};
+use crossbeam_utils::CachePadded;
 use std::sync::atomic::Ordering::SeqCst;
 use std::sync::atomic::{AtomicBool, AtomicU32};
 use std::test::Fail;
 use std::thread::yield_now;
 use wcp_clock::GATE_TURNS;
+use wcp_run::RunFault;
+use wcp_script::read_workload;
 use wcp_worker::Gate;
 
 /// Each process is true once, and neither sends.
@@ -17,6 +20,9 @@ const TRUE_AGAIN_AFTER_SEND: &[u8] =
 /// Process 1 receives two messages of process 0.
 const TWO_MESSAGES: &[u8] =
     b"wcp 1\nprocs 2\np 0 send 1\np 0 send 1\np 0 true\np 1 recv 0\np 1 recv 0\np 1 true\n";
+
+/// Process 0 sends to process 1, and process 2 is true.
+const ONE_STEP_EACH: &[u8] = b"wcp 1\nprocs 3\np 0 send 1\np 1 recv 0\np 2 true\n";
 
 /// How often the sender is told to ask again.
 const REFUSALS: u32 = 100_000;
@@ -175,5 +181,47 @@ fn a_sender_waits_for_no_receiver(rt: HostRuntime) -> Result<(), Fail> {
     let outcome = found([2, 2], [1, 1]);
     assert!(rt; comes_to(&rt, rt.alloc(), TWO_MESSAGES, &gate, &outcome)?);
     assert!(rt; !gate.waited_in_vain.load(SeqCst));
+    Ok(())
+}
+
+/// Lets process 0 make its step at the last of a gate's turns, and the others never. It counts what each asks, apart
+/// from one another, so that no worker waits for the count of another.
+#[derive(Drop)]
+struct LastTurn {
+    asked: [CachePadded<AtomicU32>; 3],
+}
+
+impl LastTurn {
+    fn new() -> LastTurn {
+        LastTurn {
+            asked: [0, 0, 0].map(|none| CachePadded::new(AtomicU32::new(none))),
+        }
+    }
+
+    /// How often each worker has asked.
+    fn asked(&self) -> [u32; 3] {
+        self.asked.each_ref().map(|asked| asked.load(SeqCst))
+    }
+}
+
+impl Gate for LastTurn {
+    fn pass(&self, p: u32, _step: u64) -> bool {
+        let Some(asked) = self.asked.get(p as usize) else {
+            return false;
+        };
+        let turn = asked.fetch_add(1, SeqCst).wrapping_add(1);
+        p == 0 && turn == GATE_TURNS
+    }
+}
+
+/// The worker that passes at its last turn goes on, and of the two that are held back the lower one is told, also where
+/// the first meets a cut since the second is gone.
+#[test]
+fn a_worker_is_held_back_for_all_turns(rt: HostRuntime) -> Result<(), Fail> {
+    let gate = LastTurn::new();
+    let workload = read_workload(rt.alloc(), ONE_STEP_EACH)?;
+    let fault = fault_of(&rt, rt.alloc(), &workload, &gate);
+    assert_eq!(rt; fault, Some(RunFault::Held(1)));
+    assert_eq!(rt; gate.asked(), [GATE_TURNS; 3]);
     Ok(())
 }

@@ -1,9 +1,12 @@
+ghost use Rattle.wcp_model.specs.PlanFault.{IsCheckedPlan};
+ghost use Rattle.wcp_model.specs.WorkloadComputation.{CouldBeRead};
+
 use std::alloc::Global;
 use std::sync::Wait;
 use std::test::Fail;
 use std::thread::Threads;
-use wcp_model::{GlobalCut, Outcome, Report, Tallies, Tally};
-use wcp_run::run;
+use wcp_model::{GlobalCut, Outcome, Report, Tallies, Tally, Workload};
+use wcp_run::{RunFault, run};
 use wcp_script::read_workload;
 use wcp_worker::Gate;
 
@@ -33,4 +36,17 @@ pub fn comes_to<R: Threads + Wait + Sync, G: Gate + Sync>(
 ) -> Result<bool, Fail> {
     let workload = read_workload(alloc, text)?;
     Ok(run(rt, alloc, &workload, gate)? == *outcome)
+}
+
+/// Why a run of this workload gives no outcome, where it gives none.
+pub fn fault_of<R: Threads + Wait + Sync, G: Gate + Sync>(
+    rt: &R,
+    alloc: Global,
+    workload: &Workload,
+    gate: &G,
+) -> Option<RunFault>
+    requires read { CouldBeRead workload.now.plan.n workload.now.tasks.items }
+    requires checked { IsCheckedPlan workload.now.plan }
+{
+    run(rt, alloc, workload, gate).err()
 }
