@@ -1,5 +1,6 @@
 //! A run whose threads can't all be made, since the address space has no room left for their stacks.
 ghost use Rattle.std.specs.Prelude.{IfOk};
+ghost use Rattle.wcp_model.specs.PlanFault.{IsCheckedPlan};
 ghost use Rattle.wcp_run.specs.CheckerEnds.{IsFreshFor};
 
 use super::watches::{emit_all, open};
@@ -9,7 +10,7 @@ use std::sync::atomic::Ordering::SeqCst;
 use std::sync::{Mutex, Wait};
 use std::test::Fail;
 use wcp_book::Book;
-use wcp_model::plain_plan;
+use wcp_model::{Plan, plain_plan};
 use wcp_run::{Checking, Part, Parts, RunsWith, StartFault, run_parts};
 use wcp_tree::{LiveProbe, ProbeEnd, Watch};
 
@@ -20,8 +21,9 @@ const SMALLEST: usize = 1 << 20;
 
 const MOST_BLOCKS: usize = 200_000;
 
-/// What is given back of it: room for the stacks of a few threads.
-const GAP: usize = 1 << 24;
+/// What is given back of it: room for the stacks of three threads, and for no more than sixteen. The C library makes
+/// each of eight million bytes, or of two where the system sets no limit.
+const GAP: usize = 1 << 25;
 
 /// What the calls may allocate beside the stacks.
 const SPARE: usize = 1 << 16;
@@ -68,7 +70,22 @@ pub fn sixteen_processes(alloc: Global) -> Result<Parts<Process>, AllocError>
     ensures { IfOk result (λ parts. IsFreshFor parts.checking.inbox parts.checking.checker) }
 {
     let plan = plain_plan(alloc, 16, 8, 4)?;
-    let (watch, checker) = open(alloc, &plan)?;
+    processes_of(alloc, &plan)
+}
+
+/// The parts of a watch of one process.
+fn one_process(alloc: Global) -> Result<Parts<Process>, AllocError>
+    ensures { IfOk result (λ parts. IsFreshFor parts.checking.inbox parts.checking.checker) }
+{
+    let plan = plain_plan(alloc, 1, 8, 4)?;
+    processes_of(alloc, &plan)
+}
+
+fn processes_of(alloc: Global, plan: &Plan) -> Result<Parts<Process>, AllocError>
+    requires { IsCheckedPlan plan.now }
+    ensures { IfOk result (λ parts. IsFreshFor parts.checking.inbox parts.checking.checker) }
+{
+    let (watch, checker) = open(alloc, plan)?;
     let Watch {
         probes,
         relays,
@@ -85,19 +102,24 @@ pub fn sixteen_processes(alloc: Global) -> Result<Parts<Process>, AllocError>
     })
 }
 
+/// Threads can be made, since those of one process run; of those of sixteen one can't, and then none runs.
 #[test]
 fn nothing_runs_where_a_thread_is_refused(rt: HostRuntime) -> Result<(), Fail> {
     let alloc = rt.alloc();
-    let parts = sixteen_processes(alloc)?;
-    let begun = AtomicU32::new(0);
-    let book = Mutex::new(Book::new(16));
+    let few = one_process(alloc)?;
+    let many = sixteen_processes(alloc)?;
+    let (begun_of_few, begun) = (AtomicU32::new(0), AtomicU32::new(0));
+    let (book_of_few, book) = (Mutex::new(Book::new(1)), Mutex::new(Book::new(16)));
     let spare = Vec::<u8>::with_capacity(alloc, SPARE)?;
     let gap = Vec::<u8>::with_capacity(alloc, GAP)?;
     let blocks = take_up(alloc)?;
     drop(gap);
     drop(spare);
-    let ended = run_parts(&rt, alloc, parts, &begun, &book);
+    let few_ended = run_parts(&rt, alloc, few, &begun_of_few, &book_of_few);
+    let ended = run_parts(&rt, alloc, many, &begun, &book);
     drop(blocks);
+    assert_eq!(rt; few_ended.err(), None);
+    assert_eq!(rt; begun_of_few.load(SeqCst), 1);
     assert_eq!(rt; ended.err(), Some(StartFault::Spawn));
     assert_eq!(rt; begun.load(SeqCst), 0);
     assert_eq!(rt; book.into_inner().totals().taken, 0);

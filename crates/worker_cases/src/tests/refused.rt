@@ -23,8 +23,8 @@ const SMALL: usize = 1 << 20;
 /// A run of eighteen threads.
 const SIXTEEN_PROCESSES: &[u8] = b"wcp 1\nprocs 16\np 0 true\n";
 
-/// Takes up what is left of the address space by blocks of at least `smallest` bytes, and then lets go a gap of so many.
-/// Nothing is written to the blocks, so they take no memory.
+/// Takes up what is left of the address space by blocks of at least `smallest` bytes, and then lets go a gap of `gap`
+/// bytes. Nothing is written to the blocks, so they take no memory.
 fn take_up(alloc: Global, gap: usize, smallest: usize) -> Result<Vec<Vec<u8>>, AllocError> {
     let mut blocks = Vec::with_capacity(alloc, MOST_BLOCKS)?;
     let kept = Vec::<u8>::with_capacity(alloc, gap)?;
