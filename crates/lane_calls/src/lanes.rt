@@ -6,12 +6,12 @@ use std::alloc::{AllocError, Global};
 use std::sync::Wait;
 use std::thread::{Threads, join};
 use wcp_clock::Item;
-use wcp_lane::{Origins, Putter, Taker, lane};
+use wcp_lane::{Members, Putter, Taker, lane};
 
 fn ends(alloc: Global) -> Result<(Putter<Item>, Taker<Item>), AllocError>
     ensures { IfOk result (λ ends. HasPut 0 0 ends.0) }
 {
-    let Ok((mut putters, taker)) = lane(alloc, ROOM, &[Origins::none().with(0)]) else {
+    let Ok((mut putters, taker)) = lane(alloc, ROOM, &[Members::none().with(0)]) else {
         return Err(AllocError);
     };
     let Some(putter) = putters.pop() else {

@@ -6,6 +6,7 @@
 use std::alloc::{AllocError, Global};
 use std::{env, io};
 use wcp_clock::CLOCK_LIMIT;
+use wcp_model::ProbeSetup;
 use wcp_probe::ProbeCore;
 
 /// The processes of the watch.
@@ -14,7 +15,14 @@ const PROCS: u32 = 16;
 fn probes(alloc: Global) -> Result<Vec<ProbeCore>, AllocError> {
     let mut probes = Vec::with_capacity(alloc, PROCS as usize)?;
     for id in 0..PROCS {
-        probes.push(ProbeCore::new(0, id, PROCS, CLOCK_LIMIT))?;
+        probes.push(ProbeCore::new(
+            0,
+            ProbeSetup {
+                processes: PROCS,
+                process: id,
+            },
+            CLOCK_LIMIT,
+        ))?;
     }
     Ok(probes)
 }

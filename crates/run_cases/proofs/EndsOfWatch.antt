@@ -10,8 +10,8 @@ use Rattle.wcp_tree.specs.RelayEnds.{AreReceiptsOf, fault_of, number_of, relay_p
 use Rattle.wcp_tree.specs.declared.relay.Relay.{Relay}
 use Rattle.wcp_tree.specs.declared.relay_end.RelayEnd.{RelayEnd}
 use Rattle.wcp_tree.specs.declared.parts.Watch.{Watch}
-use Rattle.wcp_run.specs.Settling.{ComeFromWatch, IsEndOfSomeProbe, IsEndOfSomeRelay}
-use Rattle.wcp_run.specs.declared.checker_end.CheckerEnd.{CheckerEnd}
+use Rattle.wcp_watch.specs.Settling.{ComeFromWatch, IsEndOfSomeProbe, IsEndOfSomeRelay}
+use Rattle.wcp_watch.specs.declared.checker_end.CheckerEnd.{CheckerEnd}
 
 own_places : {X : Type 0} (number : X → ℕ) (xs : List X) → ((p : ℕ) → p < length xs → (x : X) × (slice_get xs p ≡ Some x) × (number x ≡ p)) → All (λ x. slice_get xs (number x) ≡ Some x) xs
 own_places number [] each = All-nil _

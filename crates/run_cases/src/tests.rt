@@ -1,4 +1,5 @@
 mod checking;
+mod news;
 mod reading;
 mod settling;
 mod starting;

@@ -5,6 +5,7 @@ use std::io;
 use std::sync::Wait;
 use std::thread::{Threads, join, map_vec};
 use wcp_clock::{CLOCK_LIMIT, Item};
+use wcp_model::ProbeSetup;
 use wcp_probe::ProbeCore;
 
 /// A process without a link of its own.
@@ -49,7 +50,14 @@ fn jobs(alloc: Global, sender: &Sender<Item>) -> Result<Vec<Job>, AllocError> {
     for id in 0..16 {
         jobs.push(Job {
             id,
-            core: ProbeCore::new(0, id, 16, CLOCK_LIMIT),
+            core: ProbeCore::new(
+                0,
+                ProbeSetup {
+                    processes: 16,
+                    process: id,
+                },
+                CLOCK_LIMIT,
+            ),
             sender: sender.clone()?,
         })?;
     }

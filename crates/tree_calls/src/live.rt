@@ -133,13 +133,7 @@ pub fn eight_leaves<R: Threads + Wait + Clock + Sync>(
         attach.push(Some(leaf))?;
         attach.push(Some(leaf))?;
     }
-    let plan = Plan {
-        n: 16,
-        cap: ROOM,
-        hold: HOLD,
-        parents,
-        attach,
-    };
+    let plan = Plan::new(16, ROOM, HOLD, parents, attach);
     if plan.check().is_err() {
         return Ok(Taken::nothing());
     }

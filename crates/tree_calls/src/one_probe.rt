@@ -3,7 +3,7 @@ use std::alloc::Global;
 use std::io;
 use std::time::{Clock, Duration, Instant};
 use wcp_clock::{CLOCK_LIMIT, MAX_CAP, Note};
-use wcp_model::plain_plan;
+use wcp_model::{ProbeSetup, plain_plan};
 use wcp_probe::ProbeCore;
 use wcp_tree::{LiveProbe, watch};
 
@@ -58,7 +58,14 @@ fn one_ring<R: Clock>(rt: &R, alloc: Global, word: &str, snapshots: u32) -> io::
         return start.elapsed(rt);
     }
     let (mut producer, _consumer) = RingBuffer::new(alloc, MAX_CAP as usize)?;
-    let mut core = ProbeCore::new(0, 15, 16, CLOCK_LIMIT);
+    let mut core = ProbeCore::new(
+        0,
+        ProbeSetup {
+            processes: 16,
+            process: 15,
+        },
+        CLOCK_LIMIT,
+    );
     let start = Instant::now(rt)?;
     if word == "bare" {
         bare(&mut core, &mut producer, snapshots);

@@ -1,1 +1,2 @@
 mod asked_again;
+mod waiting;

@@ -1,3 +1,4 @@
+mod Words
 mod MadeCalls
 mod PoolMembers
 mod Snapshots

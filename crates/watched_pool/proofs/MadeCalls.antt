@@ -1,10 +1,7 @@
 -- Calls that follow one another.
-use Rattle.std.proofs.Common.{◌≡◌, None, List, [], ◌∷◌, ◌++◌, length, subst, append_assoc, arith}
-use Rattle.wcp_model.specs.ProbeLog.{Call}
+use Rattle.watched_pool.proofs.Words.{◌≡◌, None, List, [], ◌∷◌, ◌++◌, length, subst, append_assoc, arith, Call, Seal, LiveSide, LiveFor, LiveAccepts}
 use Rattle.wcp_probe.specs.Core.{Core}
 use Rattle.wcp_probe.specs.Refusals.{receive_refusal}
-use Rattle.wcp_probe.specs.Seal.{Seal}
-use Rattle.wcp_tree.specs.LiveProbe.{LiveSide, LiveFor, LiveAccepts}
 
 -- a stamp that isn't refused has a component for each process
 pub whole_stamp : (core : Core) (seal : Seal) → receive_refusal core seal ≡ None → length seal.clock ≡ length core.clock

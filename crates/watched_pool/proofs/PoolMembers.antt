@@ -1,13 +1,7 @@
 -- The members of a pool, by the numbers of their processes.
-use Rattle.std.proofs.Common.{◌≡◌, ℕ, zero, suc, ◌+◌, Some, List, ◌∷◌, length, slice_get, refl, sym, ap, subst, ◌∙◌, arith}
-use Rattle.wcp_model.specs.ProbeLog.{Call}
-use Rattle.wcp_tree.proofs.Entries.{All-at}
+use Rattle.watched_pool.proofs.Words.{◌≡◌, ℕ, zero, suc, ◌+◌, Some, List, ◌∷◌, length, slice_get, refl, sym, ap, subst, ◌∙◌, arith, Call, All-at, Pace, Member, IsLogOfPart, IsPool, IsReplica, jobs_of, IsLogAt, jobs_at}
 use Rattle.watched_pool.specs.declared.dispatcher.Dispatcher.{Dispatcher}
-use Rattle.watched_pool.specs.declared.dispatcher.Pace.{Pace}
-use Rattle.watched_pool.specs.declared.member.Member.{Member}
 use Rattle.watched_pool.specs.declared.member.Member.TheVariants as member
-use Rattle.watched_pool.specs.Members.{IsLogOfPart, IsPool, IsReplica, jobs_of}
-use Rattle.watched_pool.specs.Pools.{IsLogAt, jobs_at}
 
 module _ (replicas rounds : ℕ) (pace : Pace) where
   -- the part of a member is that of its process

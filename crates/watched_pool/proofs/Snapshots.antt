@@ -1,11 +1,7 @@
 -- The snapshots that a replica emits.
-use Rattle.std.proofs.Common.{◌≡◌, ℕ, ◌+◌, not, List, [], ◌∷◌, ◌++◌, if◌then◌else◌, refl, ap, ◌∙◌, arith}
-use Rattle.std.proofs.lemmas.List.Sums.{fold-append, sum_by-append}
+use Rattle.watched_pool.proofs.Words.{◌≡◌, ℕ, ◌+◌, not, List, [], ◌∷◌, ◌++◌, if◌then◌else◌, refl, ap, ◌∙◌, arith, fold-append, sum_by-append, Call, Closed, ProbeSetup, after_call, state_of_log, snapshots_in, IsReplicaLog, NoJob, OneMore, calls_for}
 use Rattle.wcp_clock.specs.declared.note.Note.TheVariants.{Close}
 use Rattle.wcp_clock.specs.Notes.{is_close}
-use Rattle.wcp_model.specs.ProbeLog.{Call, Closed, ProbeSetup, after_call, state_of_log}
-use Rattle.wcp_tree.specs.LiveProbe.{snapshots_in}
-use Rattle.watched_pool.specs.Logs.{IsReplicaLog, NoJob, OneMore, calls_for}
 
 -- a replica's log has a snapshot for each of its jobs
 jobs_emitted : (made : ProbeSetup) (n jobs : ℕ) (log : List Call) → IsReplicaLog n jobs log → snapshots_in (state_of_log made log).notes ≡ jobs

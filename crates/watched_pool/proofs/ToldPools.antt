@@ -1,26 +1,17 @@
 -- What a watch of the members of a pool tells.
-use Rattle.std.proofs.Common.{◌≡◌, ℕ, zero, suc, ◌+◌, ◌<◌, ◌≤◌, Some, Result, Ok, Err, List, [], ◌∷◌, ◌++◌, length, map, slice_get, refl, sym, ap, subst, ◌∙◌, arith}
-use Rattle.std.specs.Prelude.{IsSomeAnd}
-use Rattle.std.proofs.lemmas.List.{length-map}
+use Rattle.watched_pool.proofs.Words.{◌≡◌, ℕ, zero, suc, ◌+◌, ◌<◌, ◌≤◌, Some, Result, Ok, Err, List, [], ◌∷◌, ◌++◌, length, map, slice_get, refl, sym, ap, subst, ◌∙◌, arith, IsSomeAnd, length-map, Call, ProbeSetup, setup, snapshots_in, mapped_at, Pace, Member, DidPart, IsLogOfPart, IsPool, LeavesPart, IsLogAt, IsLogTaken, IsPoolReport, IsToldAt, jobs_at, snapshots_at}
 use Rattle.std.proofs.lemmas.Option.{slice_get_within}
 use Rattle.wcp_clock.specs.declared.note.Item.{Item}
-use Rattle.wcp_model.specs.ProbeLog.{Call, ProbeSetup, setup}
 use Rattle.wcp_model.specs.Report.{notes_taken}
 use Rattle.wcp_model.specs.declared.outcome.Outcome.{Outcome}
 use Rattle.wcp_model.specs.declared.outcome.Tally.{Tally}
 use Rattle.wcp_model.proofs.SamePlace.{element_within}
-use Rattle.wcp_tree.specs.LiveProbe.{snapshots_in}
-use Rattle.wcp_tree.proofs.Entries.{mapped_at}
 use Rattle.wullaphi.specs.Lent.{HasRun}
 use Rattle.wullaphi.specs.Watched.{IsWatched, tally_of}
 use Rattle.wullaphi.specs.declared.watched.Watched.{Watched}
-use Rattle.watched_pool.specs.declared.dispatcher.Pace.{Pace}
-use Rattle.watched_pool.specs.declared.member.Member.{Member}
 use Rattle.watched_pool.specs.declared.member.Share.{Share}
 use Rattle.watched_pool.specs.declared.member.Stop.{Stop}
 use Rattle.watched_pool.specs.declared.pool.PoolReport.{PoolReport}
-use Rattle.watched_pool.specs.Members.{DidPart, IsLogOfPart, IsPool, LeavesPart}
-use Rattle.watched_pool.specs.Pools.{IsLogAt, IsLogTaken, IsPoolReport, IsToldAt, jobs_at, snapshots_at}
 use Rattle.watched_pool.proofs.PoolMembers.{member_at}
 use Rattle.watched_pool.proofs.Snapshots.{replica_snapshots}
 
@@ -32,7 +23,7 @@ counted replicas rounds pace items (suc k) log is taken =
     ap snapshots_in taken ∙ replica_snapshots (setup (replicas + 1) (suc k)) (replicas + 1) rounds log is
 
 module _ (replicas : ℕ) {rounds : ℕ} {pace : Pace} {members : List Member} {watched : Watched (Result Share Stop)}
-    (pool : IsPool pace rounds members) (is : IsWatched LeavesPart (replicas + 1) members watched)
+    {number : ℕ} (pool : IsPool pace rounds members) (is : IsWatched LeavesPart number (replicas + 1) members watched)
     (told : PoolReport) (shares : watched.answers.items ≡ map Ok told.shares.items) (outcome : told.outcome ≡ watched.outcome) (totals : told.totals ≡ watched.totals) where
   shares_count : length told.shares.items ≡ replicas + 1
   shares_count = sym (length-map told.shares.items Ok) ∙ ap length (sym shares) ∙ is.answers

@@ -12,13 +12,13 @@ use wullaphi::{Parent, Plan};
 pub(crate) fn pool_plan(alloc: Global) -> Result<Plan, AllocError>
     ensures { IfOk result (λ plan. plan.n ≡ 4) }
 {
-    Ok(Plan {
-        n: 4,
-        cap: 8,
-        hold: 4,
-        parents: vec![in alloc; Parent::Root, Parent::Relay(0), Parent::Relay(0)]?,
-        attach: vec![in alloc; Some(1), Some(1), Some(2), Some(2)]?,
-    })
+    Ok(Plan::new(
+        4,
+        8,
+        4,
+        vec![in alloc; Parent::Root, Parent::Relay(0), Parent::Relay(0)]?,
+        vec![in alloc; Some(1), Some(1), Some(2), Some(2)]?,
+    ))
 }
 
 /// The members of the pool, by the numbers of their processes, and the channels between them: to and from each replica,

@@ -46,7 +46,7 @@ pub fn run_pool<R: Threads + Wait + Clock + Sync>(
     let plan = pool_plan(alloc)?;
     let members = open_members(alloc, pace, rounds)?;
     let numbers = Numbers::new(alloc, u32::from(rounds) * REPLICAS)?;
-    let (watched, seen) = watch_and_read(rt, alloc, &plan, members, &numbers)?;
+    let (watched, seen) = watch_and_read(rt, alloc, &plan, WATCH, members, &numbers)?;
     let shares = shares_of(alloc, watched.answers)?;
     Ok(PoolReport {
         shares,
@@ -56,15 +56,16 @@ pub fn run_pool<R: Threads + Wait + Clock + Sync>(
     })
 }
 
-/// Watches the members, and beside them reads the totals.
+/// Watches the members under this number, and beside them reads the totals.
 fn watch_and_read<R: Threads + Wait + Clock + Sync>(
     rt: &R,
     alloc: Global,
     plan: &Plan,
+    watch: u64,
     members: Vec<Member>,
     numbers: &Numbers,
 ) -> Result<(Watched<Result<Share, Stop>>, Tally), WatchFault>
-    ensures { IfOk result (λ run. IsWatched LeavesPart plan.now.n members.items run.0) }
+    ensures { IfOk result (λ run. IsWatched LeavesPart watch plan.now.n members.items run.0) }
 {
     let book = Mutex::new(Book::new(REPLICAS + 1));
     let ended = AtomicBool::new(false);
@@ -72,9 +73,9 @@ fn watch_and_read<R: Threads + Wait + Clock + Sync>(
         rt,
         || last_totals(rt, &book, &ended),
         || -> Result<Watched<Result<Share, Stop>>, WatchFault>
-            ensures { IfOk result (IsWatched LeavesPart plan.entry.now.n members.items) }
+            ensures { IfOk result (IsWatched LeavesPart watch plan.entry.now.n members.items) }
         {
-            let watched = watch_processes(rt, alloc, plan, WATCH, members, numbers, &book);
+            let watched = watch_processes(rt, alloc, plan, watch, members, numbers, &book);
             ended.store(true, Ordering::SeqCst);
             watched
         },

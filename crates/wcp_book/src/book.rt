@@ -1,42 +1,50 @@
-ghost use Rattle.std.specs.Prelude.{◌≡◌, ◌≢◌, ◌+◌, ◌<◌, ◌≤◌, ◌↔◌, length, replicate, slice_get, slice_set, Some};
-ghost use Rattle.std.specs.Prelude.{None, IsOk, OnOk, OnErr, IsErrOf};
+ghost use Rattle.std.specs.Prelude.{◌≡◌, ◌≢◌, ◌+◌, ◌<◌, ◌≤◌, ◌↔◌, length, replicate, slice_get, slice_set, Some, None};
+ghost use Rattle.std.specs.Prelude.{true, false, Ok, IsOk, IfOk, OnOk, OnErr, IsErrOf};
 ghost use Rattle.std.specs.Option.{option_flatten};
 ghost use Rattle.wcp_clock.specs.Limits.{most_processes, most_snapshots};
 ghost use Rattle.wcp_book.specs.declared.book.BookFault.TheVariants.{NoSuch, Twice};
+ghost use Rattle.wcp_book.specs.declared.news.News.TheVariants.{Told};
+ghost use Rattle.wcp_book.specs.State.{has_news, IsAwaited};
 ghost use Rattle.wcp_book.specs.Totals.{AreTotals};
 
+use crate::news::{News, Teller};
+use std::alloc::{AllocError, Global};
 use std::marker::Model;
 use thiserror::Error;
 use wcp_clock::MAX_PROCS;
 use wcp_model::{GlobalCut, Tally};
 
-/// The shares that were posted so far, each process at most once, their totals, and the cut that was found, as soon as
-/// it was told.
+/// The shares that were posted so far, each process at most once, their totals, the cut that was found, as soon as it
+/// was told, and whether the book has ended.
 ///
-/// A contract sees it as the list of the shares, one place for each process, and that cut. It is kept under a lock
-/// while a watch runs: whenever the lock is free, the totals are the sums of the shares.
+/// A contract sees it as the list of the shares, one place for each process, that cut, and that end. It is kept under a
+/// lock while a watch runs: whenever the lock is free, the totals are the sums of the shares, and no one waits for news
+/// that is there.
 #[derive(Drop)]
 pub struct Book {
     processes: u32,
     shares: [Option<Tally>; MAX_PROCS],
     totals: Tally,
     found: Option<GlobalCut>,
+    ended: bool,
+    waited_for: Option<Teller>,
 }
 
 impl Model for Book {
-    ghost use Rattle.std.specs.Prelude.{◌≡◌, ◌<◌, ◌≤◌, length, take, All};
+    ghost use Rattle.std.specs.Prelude.{◌≡◌, ◌≢◌, ◌<◌, ◌≤◌, true, None, length, take, All};
     ghost use Rattle.wcp_clock.specs.Limits.{most_processes};
     ghost use Rattle.wcp_book.specs.State.{BookState};
     ghost use Rattle.wcp_book.specs.Totals.{AreTotals, HasFewSnapshots};
 
     ghost Value = { BookState };
 
-    ghost view = { λ b. record { shares = take b.processes b.shares; found = b.found } };
+    ghost view = { λ b. record { shares = take b.processes b.shares; found = b.found; ended = b.ended } };
 
     ghost invariant = { λ b.
         (0 < b.processes) × (b.processes ≤ most_processes) × (length b.shares ≡ most_processes)
         × All HasFewSnapshots (take b.processes b.shares)
-        × AreTotals (take b.processes b.shares) b.totals };
+        × AreTotals (take b.processes b.shares) b.totals
+        × (b.found ≢ None → b.waited_for ≡ None) × (b.ended ≡ true → b.waited_for ≡ None) };
 }
 
 /// Why a share isn't posted. Where both apply, the first is given.
@@ -55,7 +63,7 @@ impl Book {
     pub fn new(n: u32) -> Book
         requires some { 0 < n }
         requires within { n ≤ most_processes }
-        ensures { result ≡ record { shares = replicate n None; found = None } }
+        ensures { result ≡ record { shares = replicate n None; found = None; ended = false } }
     {
         Book {
             processes: n,
@@ -65,7 +73,20 @@ impl Book {
                 taken: 0,
             },
             found: None,
+            ended: false,
+            waited_for: None,
         }
+    }
+
+    /// Begins the book anew, for a watch of `n` processes. Those who wait for its news go on waiting.
+    pub fn begin(&mut self, n: u32)
+        requires some { 0 < n }
+        requires within { n ≤ most_processes }
+        ensures { self.new ≡ record { shares = replicate n None; found = None; ended = false } }
+    {
+        let waited_for = self.waited_for.take();
+        *self = Book::new(n);
+        self.waited_for = waited_for;
     }
 
     /// Posts the share of process `p`: how many snapshots it emitted, and how many of them the checker took.
@@ -103,14 +124,45 @@ impl Book {
         }
     }
 
-    /// Tells the cut that was found. Where one was told before, that one stays.
+    /// Tells the cut that was found, also to all who wait for it. Where one was told before, that one stays.
     pub fn tell(&mut self, cut: GlobalCut)
         ensures told { self.old.found ≡ None → self.new ≡ record self.old { found = Some cut } }
         ensures stays { self.old.found ≢ None → self.new ≡ self.old }
     {
-        if self.found.is_none() {
-            self.found = Some(cut);
+        if self.found.is_some() {
+            return;
         }
+        self.found = Some(cut);
+        if let Some(teller) = self.waited_for.take() {
+            teller.tell(cut);
+        }
+    }
+
+    /// Says that nothing more will be told, and lets all go who wait. Where no cut was told, they are told of none.
+    pub fn end(&mut self)
+        ensures { self.new ≡ record self.old { ended = true } }
+    {
+        self.ended = true;
+        drop(self.waited_for.take());
+    }
+
+    /// The next news, for one who waits: that a cut is told, or that the book ends. Where either was before, it is told
+    /// at once. `Err` where memory runs out.
+    pub fn news(&mut self, alloc: Global) -> Result<News, AllocError>
+        ensures told { has_news self.old ≡ true → result ≡ Ok (Told self.old.found) }
+        ensures awaited { has_news self.old ≡ false → IfOk result IsAwaited }
+        ensures unchanged { self.new ≡ self.old }
+    {
+        if self.found.is_some() || self.ended {
+            return Ok(News::Told(self.found));
+        }
+        let teller = match self.waited_for.take() {
+            Some(teller) => teller,
+            None => Teller::new(alloc)?,
+        };
+        let awaited = teller.awaited();
+        self.waited_for = Some(teller);
+        Ok(News::Awaited(awaited?))
     }
 
     /// The cut that was found, once it was told.
@@ -120,7 +172,14 @@ impl Book {
         self.found
     }
 
-    /// The same shares and the same cut, in a book of their own.
+    /// Whether nothing more will be told.
+    pub fn has_ended(&self) -> bool
+        ensures { result ≡ self.now.ended }
+    {
+        self.ended
+    }
+
+    /// The same shares, cut and end, in a book of their own. No one waits for its news.
     pub fn copied(&self) -> Book
         ensures { result ≡ self.now }
     {
@@ -129,6 +188,8 @@ impl Book {
             shares: self.shares,
             totals: self.totals,
             found: self.found,
+            ended: self.ended,
+            waited_for: None,
         }
     }
 

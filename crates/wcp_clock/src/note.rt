@@ -1,3 +1,6 @@
+ghost use Rattle.std.specs.Prelude.{◌≡◌};
+ghost use Rattle.wcp_clock.specs.Notes.{is_last, place_of};
+
 use crate::clock::Clock;
 
 /// What a process emits.
@@ -7,6 +10,25 @@ pub enum Note {
     Snap { number: u32, clock: Clock },
     /// The process is closed, and has emitted `count` snapshots.
     Close { count: u32 },
+}
+
+impl Note {
+    /// Its place among the notes of its process: a snapshot's number, or a close mark's count.
+    pub fn place(&self) -> u32
+        ensures { result ≡ place_of self.now }
+    {
+        match *self {
+            Note::Snap { number, .. } => number,
+            Note::Close { count } => count,
+        }
+    }
+
+    /// Whether no note of its process may follow it.
+    pub fn is_last(&self) -> bool
+        ensures { result ≡ is_last self.now }
+    {
+        matches!(self, Note::Close { .. })
+    }
 }
 
 /// A note, and the process that emitted it.

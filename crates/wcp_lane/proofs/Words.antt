@@ -14,7 +14,7 @@ pub use Rattle.wcp_clock.specs.Limits.{most_processes}
 pub use Rattle.wcp_lane.specs.Ends.{put_by, unowned_by, AreCounts, IsSpanOf, LaneName, PutEnd, new_putter, lane_of, hand_of}
 pub use Rattle.wcp_lane.specs.Message.{AllMayFollow}
 pub use Rattle.wcp_lane.specs.Numbers.{set_of, contains-marks}
-pub use Rattle.wcp_lane.specs.Owners.{AreApart, ShareNone, AreOwners, IsCapacity, HasLaneFault}
+pub use Rattle.wcp_lane.specs.MemberSets.{AreApart, ShareNone, AreMemberSets, IsCapacity, HasLaneFault}
 pub use Rattle.wcp_lane.specs.Passes.{Numbers, putter, taker, joined, with_put, with_taken, IsRest, IsBalanced, all_numbers, nobody, without, taken_of, put_of, IsPut, IsTaken, IsRuled}
 pub use Rattle.wcp_lane.specs.ProcessNumbers.{AreProcessNumbers}
 pub use Rattle.wcp_lane.specs.declared.passes.Hand.{Hand}

@@ -1,7 +1,7 @@
 pub mod Ends
 pub mod Message
 pub mod Numbers
-pub mod Owners
+pub mod MemberSets
 pub mod Passes
 pub mod ProcessNumbers
 pub mod Snapshots

@@ -5,8 +5,8 @@ ghost use Rattle.wcp_lane.specs.Message.{AllMayFollow};
 ghost use Rattle.wcp_lane.specs.Passes.{Numbers};
 ghost use Rattle.wcp_lane.specs.Ends.{AreCounts, IsSpanOf};
 
+use crate::members::Members;
 use crate::message::Origin;
-use crate::origins::Origins;
 use wcp_clock::MAX_PROCS;
 
 /// How many items of each number were put or taken. The place of an item is a u64, so a count may be more
@@ -43,14 +43,14 @@ pub fn count_up<M: Origin>(counts: &mut Counts, span: &Span)
     counts[span.origin as usize] = u128::from(span.place) + u128::from(span.items);
 }
 
-/// Whether the counts of all these numbers are the same.
-pub fn agree(numbers: &Origins, put: &Counts, taken: &Counts) -> bool
+/// Whether the counts of all these members are the same.
+pub fn agree(members: &Members, put: &Counts, taken: &Counts) -> bool
     ensures { IsTrue result
-        ↔ ((p : ℕ) → p < most_processes → set.contains numbers.now p ≡ true
+        ↔ ((p : ℕ) → p < most_processes → set.contains members.now p ≡ true
         → slice_index put.now p ≡ slice_index taken.now p) }
 {
     for p in 0..MAX_PROCS {
-        if numbers.has(p as u32) && put[p] != taken[p] {
+        if members.has(p as u32) && put[p] != taken[p] {
             return false;
         }
     }

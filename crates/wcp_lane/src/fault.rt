@@ -6,9 +6,9 @@ pub enum LaneFault {
     /// The capacity isn't within 1 to [`MAX_LANE`](wcp_clock::MAX_LANE).
     #[error("the capacity is out of range")]
     Cap,
-    /// There is no set of origins, or two of them share a number.
+    /// There is no set of members, or two sets share a number.
     #[error("two putters share a number, or there is none")]
-    Owners,
+    MemberSets,
     /// Memory ran out.
     #[error("memory")]
     NoMemory,

@@ -13,18 +13,18 @@
 
 mod counts;
 mod fault;
+mod members;
 mod message;
 mod opening;
-mod origins;
 mod passes;
 mod putter;
 mod receipts;
 mod taker;
 
 pub use fault::{Cut, LaneFault, Unfinished};
+pub use members::Members;
 pub use message::Origin;
 pub use opening::lane;
-pub use origins::Origins;
 pub use putter::{PutReceipt, Putter};
 pub use receipts::reconcile;
 pub use taker::{TakeReceipt, Taker};

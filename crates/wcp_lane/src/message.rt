@@ -1,7 +1,7 @@
 ghost use Rattle.std.specs.Prelude.{◌≡◌, ℕ, Bool, ◌<◌, None, List, length, slice_get, All, IfSome};
 ghost use Rattle.std.specs.List.{last_or};
 
-use wcp_clock::{Item, Note};
+use wcp_clock::Item;
 
 /// What a lane carries. A message has one item or more, all of one origin, which is the number of a
 /// process. An item has a place among the items of its origin.
@@ -37,7 +37,7 @@ pub trait Origin: Drop {
 
 impl Origin for Item {
     ghost use Rattle.std.specs.Prelude.{[], ◌∷◌};
-    ghost use Rattle.wcp_clock.specs.Notes.{place_of, is_close};
+    ghost use Rattle.wcp_clock.specs.Notes.{place_of, is_last};
 
     type Item = Item;
 
@@ -47,17 +47,14 @@ impl Origin for Item {
 
     ghost place = { λ item. place_of item.note };
 
-    ghost last = { λ item. is_close item.note };
+    ghost last = { λ item. is_last item.note };
 
     fn origin(&self) -> u32 {
         self.from
     }
 
     fn place(&self) -> u64 {
-        match self.note {
-            Note::Snap { number, .. } => u64::from(number),
-            Note::Close { count } => u64::from(count),
-        }
+        u64::from(self.note.place())
     }
 
     fn count(&self) -> u64 {
@@ -65,6 +62,6 @@ impl Origin for Item {
     }
 
     fn last(&self) -> bool {
-        matches!(self.note, Note::Close { .. })
+        self.note.is_last()
     }
 }

@@ -8,11 +8,11 @@ ghost use Rattle.wcp_clock.specs.Limits.{most_processes};
 ghost use Rattle.wcp_lane.specs.ProcessNumbers.{AreProcessNumbers};
 ghost use Rattle.wcp_lane.specs.Passes.{taker, putter, without};
 ghost use Rattle.wcp_lane.specs.Ends.{new_putter, unowned_by, lane_of};
-ghost use Rattle.wcp_lane.specs.Owners.{AreApart, AreOwners, IsCapacity, IsFirstLaneFault};
+ghost use Rattle.wcp_lane.specs.MemberSets.{AreApart, AreMemberSets, IsCapacity, IsFirstLaneFault};
 
 use crate::fault::LaneFault;
+use crate::members::Members;
 use crate::message::Origin;
-use crate::origins::Origins;
 use crate::passes::{Given, Hand, LanePass, LaneSender, Numbers, Ruled};
 use crate::putter::Putter;
 use crate::taker::Taker;
@@ -27,39 +27,39 @@ use wcp_clock::{MAX_LANE, MAX_PROCS};
 pub fn lane<M: Origin>(
     alloc: Global,
     cap: u32,
-    owners: &[Origins],
+    member_sets: &[Members],
 ) -> Result<(Vec<Putter<M>>, Taker<M>), LaneFault>
-    ensures fault { IfErr result (IsFirstLaneFault cap owners.now) }
-    ensures fit { OnOk result (IsCapacity cap × AreOwners owners.now) }
-    ensures putters { IfOk result (λ ends. ends.0.items ≡ map (new_putter ends.1.lane) owners.now) }
+    ensures fault { IfErr result (IsFirstLaneFault cap member_sets.now) }
+    ensures fit { OnOk result (IsCapacity cap × AreMemberSets member_sets.now) }
+    ensures putters { IfOk result (λ ends. ends.0.items ≡ map (new_putter ends.1.lane) member_sets.now) }
     ensures members { IfOk result (λ ends.
-        (p : ℕ) → set.contains ends.1.members p ≡ list_any (λ numbers. set.contains numbers p) owners.now) }
+        (p : ℕ) → set.contains ends.1.members p ≡ list_any (λ numbers. set.contains numbers p) member_sets.now) }
     ensures empty { IfOk result (λ ends. ends.1.taken ≡ []) }
 {
     if cap == 0 || cap > MAX_LANE {
         return Err(LaneFault::Cap);
     }
-    if owners.is_empty() {
-        return Err(LaneFault::Owners);
+    if member_sets.is_empty() {
+        return Err(LaneFault::MemberSets);
     }
-    let Some(origins) = union_apart(owners) else {
-        return Err(LaneFault::Owners);
+    let Some(members) = union_apart(member_sets) else {
+        return Err(LaneFault::MemberSets);
     };
-    match open(alloc, cap, owners, origins) {
+    match open(alloc, cap, member_sets, members) {
         Ok(ends) => Ok(ends),
         Err(AllocError) => Err(LaneFault::NoMemory),
     }
 }
 
 /// The numbers of all these sets, if no number is in two of them.
-fn union_apart(owners: &[Origins]) -> Option<Origins>
-    ensures apart { IsSome result ↔ AreApart owners.now }
+fn union_apart(member_sets: &[Members]) -> Option<Members>
+    ensures apart { IsSome result ↔ AreApart member_sets.now }
     ensures all { IfSome result (λ all.
-        (p : ℕ) → set.contains all p ≡ list_any (λ numbers. set.contains numbers p) owners.now) }
-    ensures within { OnSome result (All AreProcessNumbers owners.now) }
+        (p : ℕ) → set.contains all p ≡ list_any (λ numbers. set.contains numbers p) member_sets.now) }
+    ensures within { OnSome result (All AreProcessNumbers member_sets.now) }
 {
-    let mut all = Origins::none();
-    for numbers in owners {
+    let mut all = Members::none();
+    for numbers in member_sets {
         if all.meets(numbers) {
             return None;
         }
@@ -71,36 +71,36 @@ fn union_apart(owners: &[Origins]) -> Option<Origins>
 fn open<M: Origin>(
     alloc: Global,
     cap: u32,
-    owners: &[Origins],
-    origins: Origins,
+    member_sets: &[Members],
+    members: Members,
 ) -> Result<(Vec<Putter<M>>, Taker<M>), AllocError>
     requires some { 0 < cap }
-    requires apart { AreApart owners.now }
-    requires within { All AreProcessNumbers owners.now }
-    requires all { (p : ℕ) → set.contains origins p ≡ list_any (λ numbers. set.contains numbers p) owners.now }
-    ensures putters { IfOk result (λ ends. ends.0.items ≡ map (new_putter ends.1.lane) owners.now) }
+    requires apart { AreApart member_sets.now }
+    requires within { All AreProcessNumbers member_sets.now }
+    requires all { (p : ℕ) → set.contains members p ≡ list_any (λ numbers. set.contains numbers p) member_sets.now }
+    ensures putters { IfOk result (λ ends. ends.0.items ≡ map (new_putter ends.1.lane) member_sets.now) }
     ensures members { IfOk result (λ ends.
-        (p : ℕ) → set.contains ends.1.members p ≡ list_any (λ numbers. set.contains numbers p) owners.now) }
+        (p : ℕ) → set.contains ends.1.members p ≡ list_any (λ numbers. set.contains numbers p) member_sets.now) }
     ensures empty { IfOk result (λ ends. ends.1.taken ≡ []) }
 {
-    let mut putters = Vec::with_capacity(alloc, owners.len())?;
+    let mut putters = Vec::with_capacity(alloc, member_sets.len())?;
     let (sender, receiver, mut pass) = bounded_with::<M, Hand<M>, Ruled, Global>(
         alloc,
         cap as usize,
     )?;
-    for numbers in owners {
+    for numbers in member_sets {
         let own = give::<M, Brand>(&sender, &mut pass, numbers);
         putters.push(Putter {
             sender: sender.try_clone()?,
             pass: own,
-            origins: *numbers,
+            members: *numbers,
             counts: [0; MAX_PROCS],
         })?;
     }
     let taker = Taker {
         receiver,
         pass,
-        origins,
+        members,
         counts: [0; MAX_PROCS],
     };
     Ok((putters, taker))
@@ -110,7 +110,7 @@ fn open<M: Origin>(
 fn give<M: Origin, N: Numbers>(
     sender: &LaneSender<M>,
     pass: &mut LanePass<M>,
-    numbers: &Origins,
+    numbers: &Members,
 ) -> LanePass<M>
     requires lane { IsSeatAt (sends_on sender.now) pass.old }
     requires numbers { numbers.now ≡ N.numbers }

@@ -3,8 +3,8 @@ ghost use Rattle.std.specs.Prelude.{◌≡◌, List, [], ◌∷◌, ◌++◌};
 ghost use Rattle.std.specs.Ordering.{nat_cmp};
 ghost use Rattle.std.specs.FinSet as set;
 
+use crate::members::Members;
 use crate::message::Origin;
-use crate::origins::Origins;
 use crossbeam_channel::protocol::{Join, Lesson, Outcome, Protocol, Split};
 use crossbeam_channel::{Pass, RuledReceiver, RuledSender};
 use std::collections::LinkedList;
@@ -13,7 +13,7 @@ use std::marker::{Brand, PhantomData};
 /// The numbers that an end stands for, and the messages put of them.
 #[derive(Drop)]
 pub struct Home<M> {
-    pub numbers: Origins,
+    pub numbers: Members,
     pub put: LinkedList<M>,
 }
 

@@ -4,21 +4,21 @@ ghost use Rattle.wcp_lane.specs.Ends.{PutEnd};
 
 use crate::counts::{Counts, Span, count_up};
 use crate::fault::Cut;
+use crate::members::Members;
 use crate::message::Origin;
-use crate::origins::Origins;
 use crate::passes::{LanePass, LaneSender, Puts};
 use crossbeam_channel::TrySendError;
 use std::marker::Model;
 use std::sync::Wait;
 
-/// An end of a lane that puts messages of the origins of a set.
+/// An end of a lane that puts messages of the processes of a set, its members.
 ///
 /// A contract sees it as its lane, its set and the items that it has put.
 #[derive(Drop)]
 pub struct Putter<M: Origin> {
     pub(crate) sender: LaneSender<M>,
     pub(crate) pass: LanePass<M>,
-    pub(crate) origins: Origins,
+    pub(crate) members: Members,
     pub(crate) counts: Counts,
 }
 
@@ -39,23 +39,23 @@ impl<M: Origin> Model for Putter<M> {
 
     ghost view = { λ s. record {
       lane = lane_of s.pass;
-      members = s.origins;
+      members = s.members;
       put = flat_map M.items (put_by (hand_of s.pass));
     } };
 
     ghost invariant = { λ s.
         IsSeatAt (sends_on s.sender) s.pass
-        × (hand_of s.pass ≡ putter s.origins (put_by (hand_of s.pass)))
-        × AreProcessNumbers s.origins
+        × (hand_of s.pass ≡ putter s.members (put_by (hand_of s.pass)))
+        × AreProcessNumbers s.members
         × AreCounts M.origin s.counts (flat_map M.items (put_by (hand_of s.pass))) };
 }
 
 impl<M: Origin> Putter<M> {
-    /// The numbers of which it puts.
-    pub fn origins(&self) -> Origins
+    /// The processes of which it puts.
+    pub fn members(&self) -> Members
         ensures { result ≡ self.now.members }
     {
-        self.origins
+        self.members
     }
 
     /// Puts a message, and waits while the lane is full. `Err` hands the message back.
@@ -126,10 +126,10 @@ impl<M: Origin> Model for PutReceipt<M> {
 }
 
 impl<M: Origin> PutReceipt<M> {
-    /// The numbers of which the putter put.
-    pub fn origins(&self) -> Origins
+    /// The processes of which the putter put.
+    pub fn members(&self) -> Members
         ensures { result ≡ self.now.members }
     {
-        self.putter.origins()
+        self.putter.members()
     }
 }

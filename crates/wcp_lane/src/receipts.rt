@@ -27,24 +27,24 @@ pub fn reconcile<M: Origin>(
     let Putter {
         sender,
         pass: putters,
-        origins: numbers,
+        members: put_members,
         counts: put,
     } = putter;
     let TakeReceipt {
         mut pass,
-        origins,
+        members,
         counts,
         matched,
     } = taken;
-    if !agree(&numbers, &put, &counts) {
+    if !agree(&put_members, &put, &counts) {
         return Err(Unfinished);
     }
     sender.absorb::<Joined>(&mut pass, putters);
     sender.learn_as::<Compared>(&mut pass);
     Ok(TakeReceipt {
         pass,
-        origins,
+        members,
         counts,
-        matched: matched.joined(&numbers),
+        matched: matched.joined(&put_members),
     })
 }

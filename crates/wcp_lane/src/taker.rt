@@ -5,8 +5,8 @@ ghost use Rattle.wcp_lane.specs.Message.{AllMayFollow};
 
 use crate::counts::{Counts, Span, count_up};
 use crate::fault::Cut;
+use crate::members::Members;
 use crate::message::Origin;
-use crate::origins::Origins;
 use crate::passes::{LanePass, LaneReceiver, Takes};
 use crossbeam_channel::TryRecvError;
 use std::marker::Model;
@@ -19,7 +19,7 @@ use std::sync::Wait;
 pub struct Taker<M: Origin> {
     pub(crate) receiver: LaneReceiver<M>,
     pub(crate) pass: LanePass<M>,
-    pub(crate) origins: Origins,
+    pub(crate) members: Members,
     pub(crate) counts: Counts,
 }
 
@@ -39,23 +39,23 @@ impl<M: Origin> Model for Taker<M> {
 
     ghost view = { λ s. record {
       lane = lane_of s.pass;
-      members = s.origins;
+      members = s.members;
       taken = flat_map M.items (hand_of s.pass).taken;
     } };
 
     ghost invariant = { λ s.
         IsSeatAt (receives_on s.receiver) s.pass
         × (hand_of s.pass ≡ taker (unowned_by (hand_of s.pass)) (hand_of s.pass).taken)
-        × IsRest s.origins (unowned_by (hand_of s.pass))
+        × IsRest s.members (unowned_by (hand_of s.pass))
         × AreCounts M.origin s.counts (flat_map M.items (hand_of s.pass).taken) };
 }
 
 impl<M: Origin> Taker<M> {
-    /// The numbers of all putters of the lane.
-    pub fn origins(&self) -> Origins
+    /// The members of all putters of the lane.
+    pub fn members(&self) -> Members
         ensures { result ≡ self.now.members }
     {
-        self.origins
+        self.members
     }
 
     /// Takes the next message, and waits for one.
@@ -104,14 +104,14 @@ impl<M: Origin> Taker<M> {
         let Taker {
             receiver: _,
             pass,
-            origins,
+            members,
             counts,
         } = self;
         TakeReceipt {
             pass,
-            origins,
+            members,
             counts,
-            matched: Origins::none(),
+            matched: Members::none(),
         }
     }
 }
@@ -123,9 +123,9 @@ impl<M: Origin> Taker<M> {
 #[derive(Drop)]
 pub struct TakeReceipt<M: Origin> {
     pub(crate) pass: LanePass<M>,
-    pub(crate) origins: Origins,
+    pub(crate) members: Members,
     pub(crate) counts: Counts,
-    pub(crate) matched: Origins,
+    pub(crate) matched: Members,
 }
 
 impl<M: Origin> Model for TakeReceipt<M> {
@@ -141,7 +141,7 @@ impl<M: Origin> Model for TakeReceipt<M> {
 
     ghost view = { λ s. record {
       lane = lane_of s.pass;
-      members = s.origins;
+      members = s.members;
       matched = s.matched;
       taken = flat_map M.items (hand_of s.pass).taken;
     } };
@@ -153,11 +153,11 @@ impl<M: Origin> Model for TakeReceipt<M> {
 }
 
 impl<M: Origin> TakeReceipt<M> {
-    /// The numbers of all putters of the lane.
-    pub fn origins(&self) -> Origins
+    /// The members of all putters of the lane.
+    pub fn members(&self) -> Members
         ensures { result ≡ self.now.members }
     {
-        self.origins
+        self.members
     }
 
     /// Whether `p` is a number of a putter that it was reconciled with.

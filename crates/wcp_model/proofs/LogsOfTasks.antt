@@ -6,12 +6,12 @@ use Rattle.wcp_model.proofs.EventPlaces.{event_of_send, event_below}
 use Rattle.wcp_model.proofs.Reached.{interval_at-event}
 use Rattle.wcp_model.proofs.Growth.{get_front, get_behind}
 use Rattle.wcp_model.proofs.MessagesOfOrder.{sends_yes, message_number_is, send_of_receive}
-use Rattle.wcp_model.proofs.Places.{count_before-no}
+use Rattle.wcp_model.proofs.Places.{count_before-no, count_before-yes}
 use Rattle.wcp_model.proofs.Predecessors.{local_state, before_from_state}
 use Rattle.wcp_model.proofs.RunningClock.{clock_counts}
 use Rattle.wcp_model.proofs.RunningLog.{log_law_holds}
 use Rattle.wcp_model.proofs.GrowingLogs.{log_grows, stamp_grows, accepted_front}
-use Rattle.wcp_model.proofs.SamePlace.{count_by-take_more, slice_get-take, slice_get-filter, filter_front, element_within, same_count}
+use Rattle.wcp_model.proofs.SamePlace.{slice_get-take, slice_get-filter, filter_front, element_within, same_count}
 use Rattle.wcp_model.proofs.StepsOfOrder.{length-steps_from, step_at, message_at_is}
 use Rattle.wcp_model.proofs.TaskLogs.{same_length, call_for, stamp_sent_at, stamp_got_at}
 
@@ -91,7 +91,7 @@ module _ (n : ℕ) (order : List Task) (within : All (IsWithin n) order) (fit : 
     call_at = call_for (actions_of task.p order) (logs task.p) (done order task.p place) task.action (are.follows task.p below) (action_at order place task at)
 
     log_next : log_at task.p (place + 1) ≡ log_at task.p place ++ call_at.0 ∷ []
-    log_next = grind (arith, count_by-take_more, eq-eqb, take_next)
+    log_next = grind (arith, count_before-yes, eq-eqb, take_next)
 
   -- the stamp of a message carries the clock of its sender's probe after the send
   sent_stamp : (sent p q : ℕ) → p < n → slice_get order sent ≡ Some (record { p = p; action = action.Send q }) → AreLogsAt (sent + 1) →
@@ -120,7 +120,7 @@ module _ (n : ℕ) (order : List Task) (within : All (IsWithin n) order) (fit : 
       let (sent, earlier, delivery) = send_of_receive fit p q received at in
       let send : Task = record { p = p; action = action.Send q } in
       let receive : Task = record { p = q; action = action.Recv p } in
-      let some : 0 < count_by (sends p q) order = omega (arith, count_by-take_more (sends p q) order sent send delivery.send (sends_yes p q), sum_by-take-le (λ task. cond (sends p q task) 1 0) order (sent + 1)) in
+      let some : 0 < count_by (sends p q) order = omega (arith, count_before-yes (sends p q) order sent send delivery.send (sends_yes p q), sum_by-take-le (λ task. cond (sends p q task) 1 0) order (sent + 1)) in
       let (in_transit, together) = are.in_order p q p_below q_below some in
       let (call, made_call, is) = call_at sent send delivery.send p_below in
       let got = stamp_got_at p (actions_of q order) (logs q) (done order q received) (action.Recv p) (Received stamp) (action_at order received receive at) took (eq-eqb p p refl) in

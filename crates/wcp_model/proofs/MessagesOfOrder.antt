@@ -2,7 +2,7 @@ use Rattle.wcp_model.proofs.Words.{◌≡◌, ℕ, zero, suc, ◌+◌, ◌<◌, 
 use Rattle.wcp_model.specs.declared.step.Step.TheVariants as step
 use Rattle.wcp_model.specs.declared.workload.Action.TheVariants as action
 use Rattle.wcp_model.proofs.Places.{count_before-mono, count_before-place, count_before-yes}
-use Rattle.wcp_model.proofs.SamePlace.{count_by_yes, count_by_no, count_by-take_more, slice_get-take, element_after}
+use Rattle.wcp_model.proofs.SamePlace.{count_by_yes, count_by_no, slice_get-take, element_after}
 use Rattle.wcp_model.proofs.StepsOfOrder.{sends_any, step_at, send_task, receive_task, message_at_is}
 
 -- among the elements that pass a test, the place of one that passes a stricter test is the number of them before it
@@ -43,7 +43,7 @@ pub send_of_receive : {tasks order : List Task} → IsFitOrder tasks order → (
 send_of_receive {tasks} {order} fit p q received found =
     let rank = count_by (receives p q) (take received order) in
     let front = take (received + 1) order in
-    let more : rank < count_by (sends p q) front = omega (arith, fit.sent_first (received + 1) p q, count_by-take_more (receives p q) order received _ found (receives_yes p q)) in
+    let more : rank < count_by (sends p q) front = omega (arith, fit.sent_first (received + 1) p q, count_before-yes (receives p q) order received _ found (receives_yes p q)) in
     let sender = element_after (sends p q) front rank more in
     let sent : ℕ = sender.1.place in
     let within : sent < received + 1 = omega (arith, slice_get_within front sent sender.0 sender.1.found, length-take (received + 1) order) in

@@ -1,4 +1,4 @@
-use Rattle.wcp_model.proofs.Words.{◌≡◌, ℕ, zero, suc, ◌+◌, ◌<◌, Bool, true, false, List, [], ◌∷◌, length, take, filter, count_by, slice_get, cond, Some, refl, ap, ◌∙◌, inl, inr, arith, cases_Bool, length-filter, count_by_more_yes, sum_by-cons, slice_get_within, get_or_from_slice_get}
+use Rattle.wcp_model.proofs.Words.{◌≡◌, ℕ, zero, suc, ◌<◌, Bool, true, false, List, [], ◌∷◌, length, take, filter, count_by, slice_get, cond, Some, refl, inl, inr, arith, cases_Bool, length-filter, sum_by-cons}
 
 -- a filter keeps, and a count counts, the first element exactly where it passes
 pub filter_yes : {X : Type 0} (P : X → Bool) (x : X) (xs : List X) → P x ≡ true → filter P (x ∷ xs) ≡ x ∷ filter P xs
@@ -9,10 +9,6 @@ count_by_yes P x xs passes = grind (arith, sum_by-cons (λ e. cond (P e) 1 0) x 
 
 pub count_by_no : {X : Type 0} (P : X → Bool) (x : X) (xs : List X) → P x ≡ false → count_by P (x ∷ xs) ≡ count_by P xs
 count_by_no P x xs fails = grind (arith, sum_by-cons (λ e. cond (P e) 1 0) x xs)
-
--- one more counts behind an element that passes
-pub count_by-take_more : {X : Type 0} (P : X → Bool) (xs : List X) (place : ℕ) (x : X) → slice_get xs place ≡ Some x → P x ≡ true → count_by P (take (place + 1) xs) ≡ count_by P (take place xs) + 1
-count_by-take_more P xs place x found passes = count_by_more_yes P xs place x (slice_get_within xs place x found) (ap P (get_or_from_slice_get xs place x x found) ∙ passes)
 
 -- a list has an element at each place below its length
 pub element_within : {X : Type 0} (xs : List X) (place : ℕ) → place < length xs → (x : X) × (slice_get xs place ≡ Some x)

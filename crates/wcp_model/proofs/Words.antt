@@ -22,7 +22,8 @@ pub use Rattle.wcp_model.specs.FirstReason.{first_reason, IsFirstReason, FirstRe
 pub use Rattle.wcp_model.specs.Order.{IsMessage, DirectlyPrecedes, Next, Message, HappenedBefore, Direct, Chain}
 pub use Rattle.wcp_model.specs.Outcome.{IsReportOf, IsOutcomeOf, IsWorkloadOutcome}
 pub use Rattle.wcp_model.specs.PlanFault.{HasWrongParent, IsPath, IsCheckedPlan, HasFault, IsFirstFault, tree_faults, plan_faults, ServesRelay}
-pub use Rattle.wcp_model.specs.ProbeLog.{Call, Observed, Sent, Received, Closed, ProbeState, after_call, setup, state_of_log, is_step_of, IsStampOf, IsCallOf, AreCallsOf, IsAccepted, HasClockAndEmissions, LogLaw, IsLogOf, ProbeSetup}
+pub use Rattle.wcp_model.specs.declared.probe_setup.ProbeSetup.{ProbeSetup}
+pub use Rattle.wcp_model.specs.ProbeLog.{Call, Observed, Sent, Received, Closed, ProbeState, after_call, setup, state_of_log, is_step_of, IsStampOf, IsCallOf, AreCallsOf, IsAccepted, HasClockAndEmissions, LogLaw, IsLogOf}
 pub use Rattle.wcp_model.specs.Replies.{Answered, accepted_by, accepted, is_event, computation, receivers, event_reasons, IsReply, AreReplies}
 pub use Rattle.wcp_model.specs.Report.{notes_taken, snapshot_clocks, clocks_taken, AreRising, ClocksRise, AreFrontsOfEmissions, IsDrained, IsNamed, IsNamedCut, IsCutByClocks, IsReportOfTaken, IsReportByClocks, IsNextNote, AreInTurn}
 pub use Rattle.wcp_model.specs.StateClock.{IsStateClock, CountsBefore, StatesHaveClocks}

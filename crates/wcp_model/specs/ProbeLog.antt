@@ -3,6 +3,7 @@ use Rattle.std.specs.Prelude.{filter, replicate, slice_get, slice_index, slice_s
 use Rattle.wcp_clock.specs.Merge.{merged}
 use Rattle.wcp_clock.specs.declared.note.Note.{Note}
 use Rattle.wcp_clock.specs.declared.note.Note.TheVariants as note
+use Rattle.wcp_model.specs.declared.probe_setup.ProbeSetup.{ProbeSetup}
 use Rattle.wcp_model.specs.declared.step.Step.{Step}
 use Rattle.wcp_model.specs.declared.step.Step.TheVariants as step
 use Rattle.wcp_model.specs.Computation.{Computation, communications, interval_at, message_at, IsTrueState}
@@ -39,10 +40,6 @@ after_call p s (Received stamp) =
 after_call p s Closed = record s { closed = true; notes = s.notes ++ note.Close s.snapshots ∷ [] }
 
 -- What a probe is made with, as far as its log tells: how many processes there are, and which one is its own.
-pub record ProbeSetup : Type 0 where
-  pub processes : ℕ
-  pub process : ℕ
-
 abbrev pub setup : ℕ → ℕ → ProbeSetup
 setup n p = record { processes = n; process = p }
 

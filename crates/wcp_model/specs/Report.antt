@@ -4,7 +4,7 @@ use Rattle.std.specs.List.{list_any}
 use Rattle.wcp_clock.specs.declared.note.Item.{Item}
 use Rattle.wcp_clock.specs.declared.note.Note.{Note}
 use Rattle.wcp_clock.specs.declared.note.Note.TheVariants as note
-use Rattle.wcp_clock.specs.Notes.{is_close, place_of}
+use Rattle.wcp_clock.specs.Notes.{is_last, place_of}
 use Rattle.wcp_model.specs.declared.outcome.Report.{Report}
 use Rattle.wcp_model.specs.declared.state.State.{State}
 use Rattle.wcp_model.specs.Computation.{Computation}
@@ -27,12 +27,13 @@ snapshot_clocks (note.Close count ∷ notes) = snapshot_clocks notes
 abbrev pub clocks_taken : ℕ → List Item → List (List ℕ)
 clocks_taken p items = snapshot_clocks (notes_taken p items)
 
--- A note is next after these of its process if its place is the number of snapshots among them, and no close mark is.
+-- A note is next after these of its process if its place is the number of snapshots among them, and none of them is a
+-- last one.
 pub record IsNextNote (notes : List Note) (next : Note) : Type 0 where
   pub place : place_of next ≡ length (snapshot_clocks notes)
-  pub still_open : list_any is_close notes ≡ false
+  pub still_open : list_any is_last notes ≡ false
 
--- The notes of a process are in turn if each is next after those before it: so nothing follows a close mark.
+-- The notes of a process are in turn if each is next after those before it: so nothing follows a last note.
 abbrev pub AreInTurn : List Note → Type 0
 AreInTurn notes = (before after : List Note) (next : Note) → notes ≡ before ++ next ∷ after → IsNextNote before next
 

@@ -5,9 +5,11 @@ ghost use Rattle.wcp_model.specs.declared.plan.Parent.TheVariants.{Root};
 ghost use Rattle.wcp_model.specs.declared.plan.PlanFault.{PlanFault};
 ghost use Rattle.wcp_model.specs.declared.plan.PlanFault.TheVariants as plan_fault;
 ghost use Rattle.wcp_model.specs.Tree.{IsPlainPlan, IsSamePlan, is_attached, is_leaf, parent_of};
+ghost use Rattle.wcp_model.specs.ProbeLog.{setup};
 ghost use Rattle.wcp_model.specs.PlanFault.{HasFault, HasWrongParent, IsFirstFault, IsCheckedPlan};
 ghost use Rattle.wcp_model.specs.PlanFault.{IsPath, ServesRelay, tree_faults};
 
+use crate::probe_setup::ProbeSetup;
 use std::alloc::{AllocError, Global};
 use thiserror::Error;
 use wcp_clock::{MAX_CAP, MAX_HOLD, MAX_PATH, MAX_PROCS, MAX_RELAYS};
@@ -43,13 +45,9 @@ pub fn plain_plan(alloc: Global, n: u32, cap: u32, hold: u32) -> Result<Plan, Al
         1 ≤ n → n ≤ most_processes → 1 ≤ cap → cap ≤ most_cap → 1 ≤ hold → hold ≤ most_hold
         → IsCheckedPlan plan) }
 {
-    Ok(Plan {
-        n,
-        cap,
-        hold,
-        parents: vec![in alloc; Parent::Root]?,
-        attach: vec![in alloc; Some(0); n as usize]?,
-    })
+    let parents = vec![in alloc; Parent::Root]?;
+    let attach = vec![in alloc; Some(0); n as usize]?;
+    Ok(Plan::new(n, cap, hold, parents, attach))
 }
 
 /// Why a plan is refused. Where several faults apply, the first in this order is given.
@@ -95,6 +93,19 @@ const FAULTS: [PlanFault; 8] = [
 ];
 
 impl Plan {
+    /// The plan of this tree, with these capacities, checked by nobody.
+    pub fn new(n: u32, cap: u32, hold: u32, parents: Vec<Parent>, attach: Vec<Option<u32>>) -> Plan
+        ensures { result ≡ record { n = n; cap = cap; hold = hold; parents = parents; attach = attach } }
+    {
+        Plan {
+            n,
+            cap,
+            hold,
+            parents,
+            attach,
+        }
+    }
+
     /// Whether this plan is within the limits, and a tree whose leaves serve the processes; else its
     /// first fault.
     pub fn check(&self) -> Result<(), PlanFault>
@@ -217,6 +228,16 @@ impl Plan {
         self.attach.get(..self.n as usize).unwrap_or(&self.attach)
     }
 
+    /// What the probe of process `p` is made with.
+    pub fn probe_setup(&self, p: u32) -> ProbeSetup
+        ensures { result ≡ setup self.now.n p }
+    {
+        ProbeSetup {
+            processes: self.n,
+            process: p,
+        }
+    }
+
     /// What a relay passes its items to, if there is such a relay.
     pub fn parent_of(&self, relay: u32) -> Option<Parent>
         ensures { result ≡ parent_of self.now relay }
@@ -228,13 +249,13 @@ impl Plan {
     pub fn copy(&self, alloc: Global) -> Result<Plan, AllocError>
         ensures { IfOk result (λ copy. IsSamePlan copy self.now) }
     {
-        Ok(Plan {
-            n: self.n,
-            cap: self.cap,
-            hold: self.hold,
-            parents: Vec::from_slice(alloc, &self.parents)?,
-            attach: Vec::from_slice(alloc, &self.attach)?,
-        })
+        Ok(Plan::new(
+            self.n,
+            self.cap,
+            self.hold,
+            Vec::from_slice(alloc, &self.parents)?,
+            Vec::from_slice(alloc, &self.attach)?,
+        ))
     }
 
     fn serves_relay(&self, relay: u32) -> bool

@@ -1,5 +1,5 @@
 -- What is found where no process can go on.
-use Rattle.wcp_order.proofs.Words.{◌≡◌, ℕ, ◌+◌, ◌<◌, ◌≤◌, cond, List, [], ◌∷◌, ◌++◌, length, take, count_by, Some, refl, sym, ◌∙◌, ap, arith, inl, inr, slice_get, slice_index, filter, All, cases_lt, append-nil, length-append, All-head, All-tail, length-filter, sum_by-take-le, Task, is_task_of, IsWithin, IsFitOrder, element_within, count_by-take_more, same_count, IsFirstStuck, IsProgress, IsBlocked, IsFirstLeft}
+use Rattle.wcp_order.proofs.Words.{◌≡◌, ℕ, ◌+◌, ◌<◌, ◌≤◌, cond, List, [], ◌∷◌, ◌++◌, length, take, count_by, Some, refl, sym, ◌∙◌, ap, arith, inl, inr, slice_get, slice_index, filter, All, cases_lt, append-nil, length-append, All-head, All-tail, length-filter, sum_by-take-le, Task, is_task_of, IsWithin, IsFitOrder, element_within, count_before-yes, same_count, IsFirstStuck, IsProgress, IsBlocked, IsFirstLeft}
 use Rattle.wcp_model.proofs.AcceptedOrder.{IsFitOrder-itself}
 use Rattle.wcp_order.proofs.Doable.{can_if_done, done_if_can}
 use Rattle.wcp_order.proofs.Lengths.{length_tasks-le}
@@ -24,7 +24,7 @@ IsFirstLeft_at tasks done left place inside within counted none = record {
   left = λ task at.
       omega (arith, none task at, counted task.p (at_place (λ task. task.p < length done) tasks place task within at));
   before = λ i task at earlier.
-      let more = count_by-take_more (is_task_of task.p) tasks i task at (is_task_of_itself task) in
+      let more = count_before-yes (is_task_of task.p) tasks i task at (is_task_of_itself task) in
       let behind = count_by-take-le (is_task_of task.p) tasks (i + 1) place (omega (arith, earlier)) in
       omega (arith, more, behind, counted task.p (at_place (λ task. task.p < length done) tasks i task within at));
 }
@@ -78,7 +78,7 @@ pub no_fit_order : (n : ℕ) (tasks : List Task) (place : ℕ) → All (IsWithin
 no_fit_order n tasks place within first order fit =
     let (task, at) = element_within tasks place first.inside in
     let p : ℕ = task.p in
-    let more = count_by-take_more (is_task_of p) tasks place task at (is_task_of_itself task) in
+    let more = count_before-yes (is_task_of p) tasks place task at (is_task_of_itself task) in
     let at_most = sum_by-take-le (λ t. cond (is_task_of p t) 1 0) tasks (place + 1) in
     let all_done = same_count (is_task_of p) (is_task_of p) order tasks (λ _ h. h) (fit.same_tasks p) in
     first.stuck (can_if_done n tasks order within (IsFitOrder-itself tasks order fit)

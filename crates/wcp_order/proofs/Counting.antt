@@ -1,5 +1,5 @@
 -- The messages that are in transit after tasks in a fit order.
-use Rattle.wcp_order.proofs.Words.{◌≡◌, ℕ, ◌+◌, ◌*◌, ◌<◌, ◌≤◌, Bool, true, false, List, [], ◌∷◌, ◌++◌, length, take, count_by, replicate, Some, refl, ◌∙◌, ap, arith, ⊎_elim, inl, inr, set, get_or-set_same, get_or-set_other, All, slice_index, slice_get, cases_eq, cases_lt, common_steps, length-set, length-replicate, get_or-replicate, length_push, take-append-le, take_all, All-push, All-nil, sum_by_push, Action, Task, sends, receives, IsWithin, IsFitOrder, sends_yes, receives_yes, send_of_receive, count_by-take_more, element_after, IsDone, IsReady, in_transit_after}
+use Rattle.wcp_order.proofs.Words.{◌≡◌, ℕ, ◌+◌, ◌*◌, ◌<◌, ◌≤◌, Bool, true, false, List, [], ◌∷◌, ◌++◌, length, take, count_by, replicate, Some, refl, ◌∙◌, ap, arith, ⊎_elim, inl, inr, set, get_or-set_same, get_or-set_other, All, slice_index, slice_get, cases_eq, cases_lt, common_steps, length-set, length-replicate, get_or-replicate, length_push, take-append-le, take_all, All-push, All-nil, sum_by_push, Action, Task, sends, receives, IsWithin, IsFitOrder, sends_yes, receives_yes, send_of_receive, count_before-yes, element_after, IsDone, IsReady, in_transit_after}
 use Rattle.std.proofs.lemmas.Nat.{mul-add-lt, same_from_place}
 use Rattle.wcp_model.specs.declared.workload.Action.TheVariants as action
 use Rattle.wcp_order.proofs.Tasks.{at_place, count_by-take-le, receives_is, sends_ends, receives_ends}
@@ -86,6 +86,6 @@ ready_if_fit n tasks place in_transit within done fit p (action.Send to) at = tt
 ready_if_fit n tasks place in_transit within done fit p (action.Recv from) at =
     let here = at_place (IsWithin n) tasks place (record { p = p; action = action.Recv from }) within at in
     let (sent, earlier, delivery) = send_of_receive fit from p place at in
-    let more = count_by-take_more (sends from p) tasks sent _ delivery.send (sends_yes from p) in
+    let more = count_before-yes (sends from p) tasks sent _ delivery.send (sends_yes from p) in
     let behind = count_by-take-le (sends from p) tasks (sent + 1) place (omega (arith, earlier)) in
     omega (arith, delivery.same_rank, more, behind, done.counted from p here.1.0 here.0)

@@ -1,5 +1,5 @@
 -- Which tasks can be done, by the tasks that were done in a fit order.
-use Rattle.wcp_order.proofs.Words.{◌≡◌, ℕ, zero, suc, ◌+◌, ◌<◌, ◌≤◌, ◌*◌, cond, List, ◌++◌, length, take, filter, count_by, Some, sym, ◌∙◌, ap, arith, inl, inr, eqb-true, slice_get, slice_index, All, cases_lt, take_all, take-take, length-take, length-filter, sum_by-take-le, slice_get_within, same_Some, Action, Task, is_task_of, sends, receives, IsFitOrder, IsWithin, send_of_receive, sends_yes, count_by-take_more, element_after, same_count, slice_get-filter, slice_get-take, AreSendAndReceive, IsEarlier, CanBeDone, IsProgress, IsBlocked, IsReady}
+use Rattle.wcp_order.proofs.Words.{◌≡◌, ℕ, zero, suc, ◌+◌, ◌<◌, ◌≤◌, ◌*◌, cond, List, ◌++◌, length, take, filter, count_by, Some, sym, ◌∙◌, ap, arith, inl, inr, eqb-true, slice_get, slice_index, All, cases_lt, take_all, take-take, length-take, length-filter, sum_by-take-le, slice_get_within, same_Some, Action, Task, is_task_of, sends, receives, IsFitOrder, IsWithin, send_of_receive, sends_yes, count_before-yes, element_after, same_count, slice_get-filter, slice_get-take, AreSendAndReceive, IsEarlier, CanBeDone, IsProgress, IsBlocked, IsReady}
 use Rattle.wcp_model.specs.declared.workload.Action.TheVariants as action
 use Rattle.wcp_order.specs.Stuck.CanBeDone.{Observing, Sending, Receiving}
 use Rattle.wcp_order.proofs.Fronts.{place_in_longer, place_in_shorter, same_fronts}
@@ -19,7 +19,7 @@ module _ (n : ℕ) (tasks order : List Task) (within : All (IsWithin n) tasks) (
   unfolding CanBelow
   earlier_can bound can i p more j earlier =
       let passes = is_task_of_itself (record { p = p; action = earlier.act }) in
-      let before = count_by-take_more (is_task_of p) tasks j _ earlier.same_process passes in
+      let before = count_before-yes (is_task_of p) tasks j _ earlier.same_process passes in
       let behind = count_by-take-le (is_task_of p) tasks (j + 1) i (omega (arith, earlier.before)) in
       can j p earlier.act earlier.same_process (omega (arith, more, before, behind, count_by-take_one (is_task_of p) order bound))
 
@@ -36,7 +36,7 @@ module _ (n : ℕ) (tasks order : List Task) (within : All (IsWithin n) tasks) (
       let received = same_count (is_task_of p) (receives from p) (take there.other order) (take i tasks) (receives_by from p) there.front in
       let sends_before = same_count (is_task_of from) (sends from p) (take sent.other tasks) (take send order) (sends_by from p) sent.front in
       let same_rank = same_count (is_task_of from) (is_task_of from) (take sent.other tasks) (take send order) (λ _ h. h) sent.front in
-      let one_more = count_by-take_more (is_task_of from) order send sending delivery.send (is_task_of_itself sending) in
+      let one_more = count_before-yes (is_task_of from) order send sending delivery.send (is_task_of_itself sending) in
       let message : AreSendAndReceive tasks sent.other i = record {
         from = from;
         to = p;
@@ -111,7 +111,7 @@ module _ (n : ℕ) (tasks order : List Task) (done in_transit : List ℕ) (withi
       let (to_left, to_is) = progress.left to to_below in
       let (there, _) = place_in_shorter (is_task_of from) tasks order from_left from_is (length order) sent send message.send (is_task_of_itself send) (rw whole (sent_done send message.send)) in
       let sends_before = same_count (is_task_of from) (sends from to) (take there.other order) (take sent tasks) (sends_by from to) there.front in
-      let one_more = count_by-take_more (sends from to) order there.other send there.found (sends_yes from to) in
+      let one_more = count_before-yes (sends from to) order there.other send there.found (sends_yes from to) in
       let at_most = sum_by-take-le (λ task. cond (sends from to task) 1 0) order (there.other + 1) in
       let fronts = same_fronts (is_task_of to) tasks order to_left to_is i (length order) (ap (count_by (is_task_of to)) whole ∙ sym here) in
       let receives_before = same_count (is_task_of to) (receives from to) order (take i tasks) (receives_by from to) (ap (filter (is_task_of to)) (sym whole) ∙ fronts) in

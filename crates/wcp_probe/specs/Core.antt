@@ -1,6 +1,7 @@
 use Rattle.std.specs.Prelude.{◌≡◌, ℕ, Bool, Option, List, [], ◌∷◌, ◌++◌, length, MatchOption}
 use Rattle.wcp_clock.specs.declared.note.Note.{Note}
-use Rattle.wcp_model.specs.ProbeLog.{Call, ProbeSetup, setup, state_of_log}
+use Rattle.wcp_model.specs.declared.probe_setup.ProbeSetup.{ProbeSetup}
+use Rattle.wcp_model.specs.ProbeLog.{Call, setup, state_of_log}
 
 -- What a probe has: its watch, its process and the limit of its clock, its clock, whether it has emitted the snapshot
 -- of this interval (the flag) and is closed, how many snapshots it has emitted, and the note that is pending.

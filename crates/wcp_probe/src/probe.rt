@@ -14,6 +14,7 @@ use crate::stamp::Stamped;
 use std::marker::Model;
 use thiserror::Error;
 use wcp_clock::{Clock, Note};
+use wcp_model::ProbeSetup;
 
 /// Why a probe refused a call. Where several reasons hold, the first in this order is given.
 #[derive(Clone, Copy, Debug, PartialEq, Eq, Error)]
@@ -85,17 +86,17 @@ impl Model for ProbeCore {
 }
 
 impl ProbeCore {
-    /// The probe of process `id` of `n`, of a watch of this number; its process may make `limit`
+    /// The probe that is made with this, of a watch of this number; its process may make `limit`
     /// communication events.
-    pub fn new(watch: u64, id: u32, n: u32, limit: u32) -> ProbeCore
-        requires process { id < n }
-        requires processes { n ≤ most_processes }
+    pub fn new(watch: u64, made: ProbeSetup, limit: u32) -> ProbeCore
+        requires process { made.process < made.processes }
+        requires processes { made.processes ≤ most_processes }
         requires limit { limit ≤ most_events }
         ensures fresh { result ≡ record {
           watch = watch;
-          id = id;
+          id = made.process;
           limit = limit;
-          clock = replicate n 0;
+          clock = replicate made.processes 0;
           flag = false;
           closed = false;
           emitted = 0;
@@ -105,9 +106,9 @@ impl ProbeCore {
     {
         ProbeCore {
             watch,
-            id,
+            id: made.process,
             limit,
-            clock: Clock::new(n),
+            clock: Clock::new(made.processes),
             flag: false,
             closed: false,
             emitted: 0,

@@ -22,7 +22,7 @@ get_or-grown n rows longer grow p i p_within i_within =
     ap (λ row. get_or row i []) is ∙ get_or_append_left (rows p) more [] i i_within
 
 module _ (n : ℕ) where
-  -- precedence between two candidates is settled: it stays as the rows grow, and none is new
+  -- precedence between two candidates is fixed: it stays as the rows grow, and none is new
   PrecedesAt-grown : (rows longer : ℕ → List (List ℕ)) → GrowTo n rows longer → (p i q j : ℕ) → p < n → q < n → i < length (rows p) → j < length (rows q) → PrecedesAt rows p i q j ↔ PrecedesAt longer p i q j
   PrecedesAt-grown rows longer grow p i q j p_within q_within i_within j_within = grind (arith, get_or-grown)
 

@@ -1,4 +1,4 @@
-use Rattle.wcp_queue.proofs.Words.{common_steps, ◌≡◌, ℕ, ◌<◌, ◌≤◌, Bool, true, false, List, [], length, get_or, slice_index, sym, ◌∙◌, ap, arith, Option, None, Some, MatchOption, ◌∷◌, ◌++◌, take, refl, subst, append-nil, get_or_default, get_or-take, length-take-le, Contains-get_or, All-from_get_or, Item, clocks_taken, IsCutByClocks, ClocksRise, notes_taken, IsDrained, AreInTurn, GrowTo, IsSatisfyingChoice, AreInOrder, choice_from_each, Floor, HaveHeads, IsCutOfHeads, AreSettled, AreLeft, IsFoundAmong, GainCandidate, list_all, both_ways, AllPass-from_list_all, list_all-from_AllPass, Close, nothing_follows, CheckerState, processes, StandsForItems, IsSoundChecker}
+use Rattle.wcp_queue.proofs.Words.{common_steps, ◌≡◌, ℕ, ◌<◌, ◌≤◌, Bool, true, false, List, [], length, get_or, slice_index, sym, ◌∙◌, ap, arith, Option, None, Some, MatchOption, ◌∷◌, ◌++◌, take, refl, subst, append-nil, get_or_default, get_or-take, length-take-le, Contains-get_or, All-from_get_or, Item, clocks_taken, IsCutByClocks, ClocksRise, notes_taken, IsDrained, AreInTurn, GrowTo, IsSatisfyingChoice, AreInOrder, choice_from_each, Floor, HaveHeads, IsCutOfHeads, AreStable, AreLeft, IsFoundAmong, GainCandidate, list_all, both_ways, AllPass-from_list_all, list_all-from_AllPass, Close, nothing_follows, CheckerState, processes, StandsForItems, IsSoundChecker}
 use Rattle.wcp_model.specs.Cut.{IsLeastOf}
 use Rattle.wcp_queue.proofs.Choices.{GrowTo-same, get_or-grown, IsSatisfyingChoice-grown, IsEliminatedBelow-grown}
 use Rattle.wcp_queue.proofs.LeftQueues.{GrowTo-gain}
@@ -54,8 +54,8 @@ module _ (n : ℕ) (items : List Item) where
           omega (arith, found.own p p_within, (order p p_within).never_fall (found.choice p) (choice p) p up (places p p_within).0, ap (λ (clock : List ℕ). slice_index clock p) here, is.own p p_within)
 
   -- while a process has no head and nothing of it waits there is none
-  pub no_cut_without_heads : (queues : List (List (List ℕ))) (floor : Floor) (cut : List ℕ) → length queues ≡ n → ClocksRise n items → AreLeft n (λ p. clocks_taken p items) queues floor → AreSettled queues floor → (HaveHeads n floor → ⊥) → IsCutByClocks n items cut → ⊥
-  no_cut_without_heads queues floor cut members order left settled waiting is =
+  pub no_cut_without_heads : (queues : List (List (List ℕ))) (floor : Floor) (cut : List ℕ) → length queues ≡ n → ClocksRise n items → AreLeft n (λ p. clocks_taken p items) queues floor → AreStable queues floor → (HaveHeads n floor → ⊥) → IsCutByClocks n items cut → ⊥
+  no_cut_without_heads queues floor cut members order left stable waiting is =
       let (choice, places) = choice_of_cut cut is in
       let satisfying = is_satisfying cut is choice places in
       waiting (grind (arith, common_steps, rows_in_order))
@@ -97,4 +97,4 @@ module _ (checker : CheckerState) (sound : IsSoundChecker checker) (items : List
   -- where none was found, and the search was not ended, there is none
   pub no_cut-report : checker.found ≡ None → checker.starved ≡ false → ClocksRise (processes checker) items → (cut : List ℕ) → IsCutByClocks (processes checker) items cut → ⊥
   no_cut-report none fed order cut is =
-      no_cut_without_heads (processes checker) items checker.queues checker.floor cut refl order (subst Candidates none stands.candidates fed) sound.settled (sound.waiting none) is
+      no_cut_without_heads (processes checker) items checker.queues checker.floor cut refl order (subst Candidates none stands.candidates fed) sound.stable (sound.waiting none) is

@@ -1,4 +1,4 @@
-use Rattle.wcp_queue.proofs.Words.{◌≡◌, ℕ, ◌<◌, ◌≤◌, ltb, arith, ◌+◌, ◌*◌, ◌^◌, false, None, [], length, set, replicate, sum, cond-true, lt-ltb, tests_each, AreSettled, waiting_in, common_steps, length-replicate, get_or-replicate, sum_by-le, sum_by-replicate, first_floor, HaveHeads, CheckerState, taken_of, IsSoundChecker}
+use Rattle.wcp_queue.proofs.Words.{◌≡◌, ℕ, ◌<◌, ◌≤◌, ltb, arith, ◌+◌, ◌*◌, ◌^◌, false, None, [], length, set, replicate, sum, cond-true, lt-ltb, tests_each, AreStable, waiting_in, common_steps, length-replicate, get_or-replicate, sum_by-le, sum_by-replicate, first_floor, HaveHeads, CheckerState, taken_of, IsSoundChecker}
 use Rattle.std.proofs.lemmas.Nat.{mul-le}
 
 -- a snapshot costs at most a test for each process
@@ -26,6 +26,6 @@ module _ (old : CheckerState) (sound : IsSoundChecker old) where
 
   -- a snapshot more
   pub IsSoundChecker-snapshot : (new : CheckerState) (p : ℕ) → p < length old.taken → taken_of old p < 4294967296 → new.taken ≡ set old.taken p (taken_of old p + 1) → new.closed ≡ old.closed → length new.queues ≡ length old.queues →
-      AreSettled new.queues new.floor → (new.found ≡ None → HaveHeads (length old.queues) new.floor → ⊥) →
+      AreStable new.queues new.floor → (new.found ≡ None → HaveHeads (length old.queues) new.floor → ⊥) →
       new.floor.tests + tests_each (length old.queues) * waiting_in new.queues ≤ old.floor.tests + tests_each (length old.queues) * (waiting_in old.queues + 1) → IsSoundChecker new
-  IsSoundChecker-snapshot new p within few taken closed members settled waiting tests = grind (arith, common_steps)
+  IsSoundChecker-snapshot new p within few taken closed members stable waiting tests = grind (arith, common_steps)

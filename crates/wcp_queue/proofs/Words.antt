@@ -16,6 +16,6 @@ pub use Rattle.wcp_model.specs.Report.{clocks_taken, notes_taken, IsNextNote, Ar
 pub use Rattle.wcp_queue.specs.Checker.{CheckerState, processes, taken_of, closed_of, is_snapshot, IsSearching, MayTake, StandsForItems, IsSoundChecker}
 pub use Rattle.wcp_queue.specs.CheckerView.{checker_state}
 pub use Rattle.wcp_queue.specs.Choices.{GrowTo, IsSatisfyingChoice, AreInOrder, PrecedesAt, IsEliminatedBelow}
-pub use Rattle.wcp_queue.specs.Elimination.{AreLeft, AddsCandidate, IsFoundAmong, GainCandidate, AreSettled, tests_each, waiting_in, queue_of, candidate, HasHead, WasRaised, LeavesQueue, Eliminates}
+pub use Rattle.wcp_queue.specs.Elimination.{AreLeft, AddsCandidate, IsFoundAmong, GainCandidate, AreStable, tests_each, waiting_in, queue_of, candidate, HasHead, WasRaised, LeavesQueue, Eliminates}
 pub use Rattle.wcp_queue.specs.Floor.{first_floor, HaveHeads, IsCutOfHeads, component, has_head, IsSameBut, RisesTo, RaisesFloor}
 pub use Rattle.wcp_queue.specs.declared.floor.Floor.{Floor}

@@ -12,7 +12,7 @@ use Rattle.wcp_model.specs.Cut.{IsLeastOf}
 use Rattle.wcp_model.specs.Report.{notes_taken, clocks_taken, AreInTurn, ClocksRise, IsDrained, IsCutByClocks}
 use Rattle.wcp_queue.specs.declared.floor.Floor.{Floor}
 use Rattle.wcp_queue.specs.Floor.{HaveHeads}
-use Rattle.wcp_queue.specs.Elimination.{AreSettled, AreLeft, IsFoundAmong, waiting_in, tests_each}
+use Rattle.wcp_queue.specs.Elimination.{AreStable, AreLeft, IsFoundAmong, waiting_in, tests_each}
 
 -- What a checker has come to: the queue of each process and the floor under the heads, how many snapshots of each
 -- process it took and whether it took its close mark, the cut that it found, and whether it was starved of memory.
@@ -119,7 +119,7 @@ pub record IsSoundChecker (checker : CheckerState) : Type 0 where
   pub counts : length checker.taken ≡ most_processes
   pub marks : length checker.closed ≡ most_processes
   pub few_taken : All (λ count. count ≤ 2 ^ 32) checker.taken
-  pub settled : AreSettled checker.queues checker.floor
+  pub stable : AreStable checker.queues checker.floor
   pub waiting : checker.found ≡ None → HaveHeads (processes checker) checker.floor → ⊥
   pub bound : checker.floor.tests + tests_each (processes checker) * waiting_in checker.queues
       ≤ tests_each (processes checker) * sum checker.taken

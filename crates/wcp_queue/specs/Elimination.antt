@@ -13,13 +13,13 @@ queue_of queues p = slice_index_or queues p []
 abbrev pub waiting_in : List (List (List ℕ)) → ℕ
 waiting_in queues = sum_by length queues
 
--- Nothing waits of a process without a head.
-abbrev pub AreSettled : List (List (List ℕ)) → Floor → Type 0
-AreSettled queues floor = (p : ℕ) → p < length queues → has_head floor p ≡ false → length (queue_of queues p) ≡ 0
+-- Elimination is at an end: nothing waits of a process without a head.
+abbrev pub AreStable : List (List (List ℕ)) → Floor → Type 0
+AreStable queues floor = (p : ℕ) → p < length queues → has_head floor p ≡ false → length (queue_of queues p) ≡ 0
 
--- Nothing waits of another process than p without a head.
-abbrev pub AreSettledBut : ℕ → List (List (List ℕ)) → Floor → Type 0
-AreSettledBut p queues floor =
+-- It is but for p: nothing waits of another process without a head.
+abbrev pub AreStableBut : ℕ → List (List (List ℕ)) → Floor → Type 0
+AreStableBut p queues floor =
     (q : ℕ) → q < length queues → q ≢ p → has_head floor q ≡ false → length (queue_of queues q) ≡ 0
 
 -- The most component tests that a snapshot of n processes costs: one of its own component, and one of each other.

@@ -2,7 +2,7 @@ ghost use Rattle.std.specs.Prelude.{◌≡◌, ◌+◌, ◌*◌, ◌^◌, ◌<�
 ghost use Rattle.std.specs.Prelude.{None, IfNone, IfSome, OnOk, OnErr, MatchOption};
 ghost use Rattle.wcp_clock.specs.Limits.{most_processes};
 ghost use Rattle.wcp_queue.specs.Floor.{has_head, HaveHeads, IsCutOfHeads};
-ghost use Rattle.wcp_queue.specs.Elimination.{queue_of, waiting_in, tests_each, AreSettled, AreSettledBut};
+ghost use Rattle.wcp_queue.specs.Elimination.{queue_of, waiting_in, tests_each, AreStable, AreStableBut};
 ghost use Rattle.wcp_queue.specs.Elimination.{Compares, Eliminates, AddsCandidate};
 
 use crate::floor::Floor;
@@ -22,11 +22,11 @@ pub fn add_candidate(
 ) -> Result<(), AllocError>
     requires few { length queues.old ≤ most_processes }
     requires within { p < length queues.old }
-    requires settled { AreSettled queues.old floor.old }
+    requires stable { AreStable queues.old floor.old }
     requires waiting { HaveHeads (length queues.old) floor.old → ⊥ }
     requires none { found.old ≡ None }
     requires room { floor.old.tests + tests_each (length queues.old) * (waiting_in queues.old + 1) < 2 ^ 64 }
-    ensures settled { AreSettled queues.new floor.new }
+    ensures stable { AreStable queues.new floor.new }
     ensures left { OnOk result (AddsCandidate p clock.now queues.old floor.old queues.new floor.new) }
     ensures cut { MatchOption
         found.new
@@ -43,17 +43,17 @@ pub fn add_candidate(
         return Ok(());
     }
     if compare(queues, p, clock, floor) {
-        settle(queues, floor);
+        eliminate(queues, floor);
     }
     *found = floor.cut(queues.len());
     Ok(())
 }
 
 /// Goes on until each process has a head or none of its snapshots waits.
-fn settle(queues: &mut [Queue], floor: &mut Floor)
+fn eliminate(queues: &mut [Queue], floor: &mut Floor)
     requires few { length queues.old ≤ most_processes }
     requires room { floor.old.tests + tests_each (length queues.old) * waiting_in queues.old < 2 ^ 64 }
-    ensures settled { AreSettled queues.new floor.new }
+    ensures stable { AreStable queues.new floor.new }
     ensures left { Eliminates queues.old floor.old queues.new floor.new }
     ensures tests { floor.new.tests + tests_each (length queues.old) * waiting_in queues.new
         ≤ floor.old.tests + tests_each (length queues.old) * waiting_in queues.old }
@@ -66,7 +66,7 @@ fn settle(queues: &mut [Queue], floor: &mut Floor)
 /// The first process that has no head while a snapshot of it waits.
 fn first_to_compare(queues: &[Queue], floor: &Floor) -> Option<usize>
     requires { length queues.now ≤ most_processes }
-    ensures none { IfNone result (AreSettled queues.now floor.now) }
+    ensures none { IfNone result (AreStable queues.now floor.now) }
     ensures within { IfSome result (λ p. p < length queues.now) }
     ensures no_head { IfSome result (λ p. has_head floor.now p ≡ false) }
     ensures some { IfSome result (λ p. 0 < length (queue_of queues.now p)) }
@@ -106,7 +106,7 @@ fn compare(queues: &[Queue], p: usize, clock: &Clock, floor: &mut Floor) -> bool
     requires room { floor.old.tests + tests_each (length queues.now) < 2 ^ 64 }
     ensures left { Compares p clock.now queues.now floor.old floor.new }
     ensures tests { floor.new.tests ≤ floor.old.tests + tests_each (length queues.now) }
-    ensures covered { result ≡ false → AreSettledBut p queues.now floor.old → AreSettled queues.now floor.new }
+    ensures covered { result ≡ false → AreStableBut p queues.now floor.old → AreStable queues.now floor.new }
 {
     let own = clock.get(p as u32);
     if floor.is_above(queues.len(), p, own) {

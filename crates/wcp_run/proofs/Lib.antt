@@ -1,13 +1,4 @@
-pub mod CheckedItems
+mod Words
 pub mod RunEnds
-pub mod ClimbedLanes
-pub mod FirstFaults
-pub mod WatchEnds
-pub mod MatchedLinks
-pub mod MatchedRings
-pub mod Seating
-pub mod SettledEnds
-pub mod JoinedParts
 pub mod PlayedWorkers
-pub mod SentEnds
 pub mod RunFaults

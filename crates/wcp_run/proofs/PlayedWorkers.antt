@@ -1,23 +1,11 @@
 -- What each worker of a run left that played to its end.
-use Rattle.std.proofs.Common.{◌≡◌, ℕ, ◌<◌, Option, Some, None, List, length, map, slice_get, sym, ap, subst₂, ◌∙◌, arith}
-use Rattle.std.specs.Option.{option_map}
-use Rattle.std.proofs.lemmas.List.{length-map}
-use Rattle.std.proofs.lemmas.Option.{slice_get-map}
-use Rattle.wcp_model.specs.declared.workload.Task.{Task}
+use Rattle.wcp_run.proofs.Words.{◌≡◌, ℕ, ◌<◌, Option, Some, None, List, length, map, slice_get, sym, ap, subst₂, ◌∙◌, arith, option_map, length-map, slice_get-map, Task, element_within, LiveSide, ClosedSide, Worker, WorkerEnd, HasPlayed, IsEndOfWorker, AreOfLane, ends_between, outbox_of, inbox_of, PlayedEnds, probe_left, mailbox_left, AreOfWorkers}
 use Rattle.wcp_model.specs.ProbeLog.{Call}
-use Rattle.wcp_model.proofs.SamePlace.{element_within}
-use Rattle.wcp_tree.specs.LiveProbe.{LiveSide, ClosedSide}
+use Rattle.wcp_threads.specs.Threads.{AreEndsOf}
 use Rattle.wcp_worker.specs.declared.mailbox.Mailbox.{Mailbox}
-use Rattle.wcp_worker.specs.declared.worker.Worker.{Worker}
-use Rattle.wcp_worker.specs.declared.worker_end.WorkerEnd.{WorkerEnd}
 use Rattle.wcp_worker.specs.declared.worker_end.WorkerEnd.TheVariants.{Whole, GaveUp}
-use Rattle.wcp_worker.specs.Played.{HasPlayed, IsEndOfWorker}
-use Rattle.wcp_worker.specs.Runs.{AreOfLane, ends_between, outbox_of, inbox_of}
 use Rattle.wcp_worker.specs.Workers.{AreWorkersOf}
 use Rattle.wcp_worker.proofs.PlayedLanes.{ends_of_lane}
-use Rattle.wcp_run.specs.declared.played_ends.PlayedEnds.{PlayedEnds}
-use Rattle.wcp_run.specs.PlayedEnds.{probe_left, mailbox_left, AreOfWorkers}
-use Rattle.wcp_run.specs.Threads.{AreEndsOf}
 
 -- what an end left is at its place
 some_left : {X : Type 0} (left there : Option X) → Some left ≡ option_map Some there → (x : X) × (left ≡ Some x) × (there ≡ Some x)

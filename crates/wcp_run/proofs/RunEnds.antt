@@ -1,31 +1,20 @@
 -- What the ends of a workload's run tell of it.
-use Rattle.std.proofs.Common.{◌≡◌, ℕ, ◌<◌, ◌≤◌, Some, List, [], ◌∷◌, length, slice_get, not, sym, refl, ap, subst, ◌∙◌, arith}
+use Rattle.wcp_run.proofs.Words.{◌≡◌, ℕ, ◌<◌, ◌≤◌, Some, List, [], ◌∷◌, length, slice_get, not, sym, refl, ap, subst, ◌∙◌, arith, slice_get_within, get_or_from_slice_get, Plan, Task, count_by_no, count_by_yes, ClosedSide, snapshots_in, WorkerEnd, AreMatched, AreOfLane, HaveRun, ends_between, PlayedEnds, Ends, AreOfWorkers, AreEndsOfRun}
 use Rattle.std.proofs.lemmas.List.Elements.{All-contains}
-use Rattle.std.proofs.lemmas.Option.{slice_get_within, get_or_from_slice_get}
 use Rattle.wcp_clock.specs.Limits.{most_processes}
 use Rattle.wcp_clock.specs.Notes.{is_close}
 use Rattle.wcp_clock.specs.declared.note.Note.{Note}
 use Rattle.wcp_clock.specs.declared.note.Note.TheVariants.{Snap, Close}
 use Rattle.wcp_model.specs.declared.outcome.Tally.{Tally}
 use Rattle.wcp_book.specs.State.{BookState}
-use Rattle.wcp_model.specs.declared.plan.Plan.{Plan}
-use Rattle.wcp_model.specs.declared.workload.Task.{Task}
 use Rattle.wcp_model.specs.Outcome.{IsWorkloadOutcome}
 use Rattle.wcp_model.specs.Report.{notes_taken, snapshot_clocks, clocks_taken}
 use Rattle.wcp_model.proofs.CheckedPlans.{few_processes}
-use Rattle.wcp_model.proofs.SamePlace.{count_by_no, count_by_yes}
-use Rattle.wcp_tree.specs.LiveProbe.{ClosedSide, snapshots_in}
-use Rattle.wcp_worker.specs.declared.worker_end.WorkerEnd.{WorkerEnd}
-use Rattle.wcp_worker.specs.Runs.{AreMatched, AreOfLane, HaveRun, ends_between}
 use Rattle.wcp_worker.proofs.RunOutcomes.{IsWorkloadOutcome-run}
-use Rattle.wcp_run.specs.declared.played_ends.PlayedEnds.{PlayedEnds}
-use Rattle.wcp_run.specs.declared.running.Ends.{Ends}
-use Rattle.wcp_run.specs.declared.settled.Settled.{Settled}
-use Rattle.wcp_run.specs.PlayedEnds.{AreOfWorkers}
-use Rattle.wcp_run.specs.RunWorkload.{AreEndsOfRun}
-use Rattle.wcp_run.specs.Settling.{ComeFromWatch, IsEndOfSomeProbe, IsSettled}
+use Rattle.wcp_watch.specs.declared.settled.Settled.{Settled}
+use Rattle.wcp_watch.specs.Settling.{ComeFromWatch, IsEndOfSomeProbe, IsSettled}
 use Rattle.wcp_run.proofs.PlayedWorkers.{HasPlayedAt, played_at, as_many, lanes_left}
-use Rattle.wcp_run.proofs.WatchEnds.{IsEndOfProcess, all_processes, come_from_parts, end_of_process}
+use Rattle.wcp_watch.proofs.WatchEnds.{IsEndOfProcess, all_processes, come_from_parts, end_of_process}
 
 -- the snapshots among notes are as many as their clocks
 snapshots_counted : (notes : List Note) → snapshots_in notes ≡ length (snapshot_clocks notes)

@@ -1,22 +1,15 @@
 -- The first reason why a run gives no outcome.
-use Rattle.std.proofs.Common.{◌≡◌, ℕ, zero, suc, ◌<◌, Bool, true, Some, None, List, [], ◌∷◌, ◌++◌, length, map, refl, sym, ap, ◌∙◌, arith, zero-add}
+use Rattle.wcp_run.proofs.Words.{◌≡◌, ℕ, zero, suc, ◌<◌, Bool, true, Some, None, List, [], ◌∷◌, ◌++◌, length, map, refl, sym, ap, ◌∙◌, arith, zero-add, option_map, length-map, slice_get-map, slice_get-get_or, slice_get_within, element_within, WorkerEnd, IsFirstRunFault, IsReasonOf, was_held, was_lost, Ends}
 use Rattle.std.specs.Prelude.{slice_get}
 use Rattle.std.specs.List.{position, position_or_len, range_with_len}
-use Rattle.std.specs.Option.{option_map}
 use Rattle.std.proofs.lemmas.Grind.{common_steps}
-use Rattle.std.proofs.lemmas.List.{length-map}
 use Rattle.std.proofs.lemmas.List.FromFn.{get_or-range_with_len, length-range_with_len}
 use Rattle.std.proofs.lemmas.List.Quantifiers.{position-Some}
 use Rattle.std.proofs.lemmas.List.Sums.{fails_before_first}
-use Rattle.std.proofs.lemmas.Option.{slice_get-map, slice_get-get_or, slice_get_within}
 use Rattle.wcp_model.specs.FirstReason.{IsFirstReason}
-use Rattle.wcp_model.proofs.SamePlace.{element_within}
 use Rattle.wcp_tree.proofs.Entries.{earlier_entry}
-use Rattle.wcp_worker.specs.declared.worker_end.WorkerEnd.{WorkerEnd}
-use Rattle.wcp_run.specs.RunFaults.{IsFirstRunFault, IsReasonOf, was_held, was_lost}
 use Rattle.wcp_run.specs.declared.run_fault.RunFault.{RunFault}
 use Rattle.wcp_run.specs.declared.run_fault.RunFault.TheVariants.{Memory, Spawn, Held, Lost, Cut, Unfinished}
-use Rattle.wcp_run.specs.declared.running.Ends.{Ends}
 
 module _ {R : Type 0} (Holds : R → Type 0) where
   -- a reason that holds is the first of those that begin with it

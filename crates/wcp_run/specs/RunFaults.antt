@@ -9,11 +9,11 @@ use Rattle.wcp_model.specs.FirstReason.{IsFirstReason}
 use Rattle.wcp_worker.specs.declared.worker_end.WorkerEnd.{WorkerEnd}
 use Rattle.wcp_worker.specs.declared.worker_end.WorkerEnd.TheVariants.{GaveUp}
 use Rattle.wcp_worker.specs.declared.worker_end.WorkerFault.TheVariants as worker_fault
-use Rattle.wcp_run.specs.declared.checker_end.CheckFault.{CheckFault}
-use Rattle.wcp_run.specs.declared.checker_end.CheckFault.TheVariants as check_fault
+use Rattle.wcp_watch.specs.declared.checker_end.CheckFault.{CheckFault}
+use Rattle.wcp_watch.specs.declared.checker_end.CheckFault.TheVariants as check_fault
 use Rattle.wcp_run.specs.declared.run_fault.RunFault.{RunFault}
 use Rattle.wcp_run.specs.declared.run_fault.RunFault.TheVariants.{Memory, Spawn, Held, Lost, Cut, Unfinished}
-use Rattle.wcp_run.specs.declared.running.Ends.{Ends}
+use Rattle.wcp_watch.specs.declared.running.Ends.{Ends}
 
 -- Its gate held a worker back; it left no end of its probe.
 abbrev pub was_held : WorkerEnd → Bool

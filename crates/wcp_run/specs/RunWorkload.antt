@@ -10,10 +10,10 @@ use Rattle.wcp_worker.specs.declared.worker.Worker.{Worker}
 use Rattle.wcp_worker.specs.declared.worker_end.WorkerEnd.{WorkerEnd}
 use Rattle.wcp_worker.specs.Played.{IsEndOfWorker}
 use Rattle.wcp_worker.specs.Workers.{AreWorkersOf}
-use Rattle.wcp_run.specs.declared.running.Parts.{Parts}
-use Rattle.wcp_run.specs.declared.running.Ends.{Ends}
-use Rattle.wcp_run.specs.CheckerEnds.{IsFreshFor}
-use Rattle.wcp_run.specs.RunParts.{HaveEnded}
+use Rattle.wcp_watch.specs.declared.running.Parts.{Parts}
+use Rattle.wcp_watch.specs.declared.running.Ends.{Ends}
+use Rattle.wcp_watch.specs.CheckerEnds.{IsFreshFor}
+use Rattle.wcp_watch.specs.RunParts.{HaveEnded}
 
 -- The parts of a watch that was wired as a plan says: a worker for each process, which has its probe and does what the
 -- tasks say, the relays, and a fresh checker.

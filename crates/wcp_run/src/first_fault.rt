@@ -2,16 +2,15 @@
 ghost use Rattle.std.specs.Prelude.{◌≡◌, ◌<◌, ◌≤◌, ◌↔◌, Some, length, position, IsTrue, IfSome, IfNone};
 ghost use Rattle.std.specs.List.{list_any};
 ghost use Rattle.wcp_clock.specs.Limits.{most_processes};
-ghost use Rattle.wcp_run.specs.declared.checker_end.CheckFault.TheVariants as check_fault;
+ghost use Rattle.wcp_watch.specs.declared.checker_end.CheckFault.TheVariants as check_fault;
 ghost use Rattle.wcp_run.specs.declared.run_fault.RunFault.{RunFault};
 ghost use Rattle.wcp_run.specs.declared.run_fault.RunFault.TheVariants as run_fault;
 ghost use Rattle.wcp_run.specs.RunFaults.{IsFirstRunFault, IsReasonOf, was_held, was_lost};
 ghost use Rattle.wcp_run.specs.RunFaults.{is_cut_of_checker, relay_was_cut, worker_was_cut};
 
-use crate::checker_end::{CheckFault, CheckerEnd};
 use crate::run_fault::RunFault;
-use crate::running::Ends;
 use wcp_tree::{RelayEnd, RelayFault};
+use wcp_watch::{CheckFault, CheckerEnd, Ends};
 use wcp_worker::{WorkerEnd, WorkerFault};
 
 /// Why a run fails whose parts left these ends, if one of them tells: the first reason that applies.
@@ -39,7 +38,7 @@ pub(crate) fn fault_of_run(ends: &Ends<WorkerEnd>) -> Option<RunFault>
 fn ran_out(checker: &CheckerEnd) -> bool
     ensures { IsTrue result ↔ (checker.now.fault ≡ Some check_fault.Memory) }
 {
-    matches!(checker.fault, Some(CheckFault::Memory))
+    matches!(checker.fault(), Some(CheckFault::Memory))
 }
 
 /// The lowest process whose worker its gate held back.
@@ -116,5 +115,5 @@ fn relay_met_cut(relay: &RelayEnd) -> bool
 fn checker_met_cut(checker: &CheckerEnd) -> bool
     ensures { result ≡ is_cut_of_checker checker.now.fault }
 {
-    matches!(checker.fault, Some(CheckFault::Cut(_)))
+    matches!(checker.fault(), Some(CheckFault::Cut(_)))
 }

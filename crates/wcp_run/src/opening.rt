@@ -3,12 +3,11 @@ ghost use Rattle.wcp_model.specs.PlanFault.{IsCheckedPlan};
 ghost use Rattle.wcp_model.specs.WorkloadComputation.{CouldBeRead};
 ghost use Rattle.wcp_run.specs.RunWorkload.{ArePartsOf};
 
-use crate::part::Checking;
-use crate::running::Parts;
 use std::alloc::{AllocError, Global};
 use wcp_model::Workload;
 use wcp_queue::Checker;
 use wcp_tree::{Watch, watch};
+use wcp_watch::{Checking, Parts};
 use wcp_worker::{Worker, open_workers};
 
 /// Opens the tree of a workload's plan, a worker for each process, and the checker. `Err` where memory runs out.

@@ -13,13 +13,12 @@ use crate::first_fault::fault_of_run;
 use crate::opening::open_parts;
 use crate::played_ends::{PlayedEnds, take_apart};
 use crate::run_fault::RunFault;
-use crate::running::{Ends, StartFault, run_parts};
-use crate::settling::settle;
 use std::alloc::Global;
 use std::sync::{Mutex, Wait};
 use std::thread::Threads;
 use wcp_book::Book;
 use wcp_model::{Outcome, Workload};
+use wcp_watch::{Ends, StartFault, run_parts, settle};
 use wcp_worker::{Gate, WorkerEnd, match_lanes};
 
 /// Runs a workload: a thread plays each process, one runs each relay, and one runs the checker. The gate says when a

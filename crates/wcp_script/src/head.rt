@@ -138,12 +138,6 @@ impl Head {
         if self.parents.is_empty() {
             return plain_plan(alloc, self.n, cap, hold);
         }
-        Ok(Plan {
-            n: self.n,
-            cap,
-            hold,
-            parents: self.parents,
-            attach: self.attach,
-        })
+        Ok(Plan::new(self.n, cap, hold, self.parents, self.attach))
     }
 }

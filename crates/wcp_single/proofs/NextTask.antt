@@ -1,4 +1,4 @@
-use Rattle.wcp_single.proofs.Words.{common_steps, ◌≡◌, ◌≢◌, ◌==◌, ◌&&◌, ℕ, ◌+◌, ◌*◌, ◌<◌, Bool, true, false, cond, List, [], ◌∷◌, ◌++◌, length, map, take, drop, set, get_or, count_by, All, refl, sym, ap, ◌∙◌, subst, inl, inr, append-nil, append_assoc, arith, eq-eqb, get_or-set_same, get_or-set_other, cases_eq, ne_eqb, take_all, take_at, length-append, length-map, mul-add-lt, same_from_place, Action, Task, Call, setup, state_of_log, actions_of, IsCallFor, FollowsActions, stamp_of, stamps_sent, stamps_got, sends, receives, is_send_to, is_receive_from, HasPartner, IsWithin, IsFitOrder, IsFitOrder-take, count_actions, actions_of-push, FollowsActions-push, length-stamps_sent, length-stamps_got, stamps_sent-push, stamps_sent-push_other, stamps_got-push, stamps_got-push_other, at_place, receive_is_no_send, Seal, IsChannel, IsNextTask, queue_at}
+use Rattle.wcp_single.proofs.Words.{common_steps, ◌≡◌, ◌≢◌, ◌==◌, ◌&&◌, ℕ, ◌+◌, ◌*◌, ◌<◌, Bool, true, false, cond, List, [], ◌∷◌, ◌++◌, length, map, take, set, count_by, All, refl, sym, ap, ◌∙◌, subst, inl, inr, append-nil, append_assoc, arith, eq-eqb, get_or-set_same, get_or-set_other, cases_eq, ne_eqb, take_all, take_at, length-append, length-map, mul-add-lt, same_from_place, Action, Task, Call, setup, state_of_log, actions_of, IsCallFor, FollowsActions, stamp_of, stamps_sent, stamps_got, sends, receives, is_send_to, is_receive_from, HasPartner, IsWithin, IsFitOrder, IsFitOrder-take, count_actions, actions_of-push, FollowsActions-push, length-stamps_sent, length-stamps_got, stamps_sent-push, stamps_sent-push_other, stamps_got-push, stamps_got-push_other, at_place, receive_is_no_send, Seal, IsChannel, IsNextTask, queue_at}
 use Rattle.std.proofs.lemmas.List.Elements.{All-push, All-drop, All-take}
 use Rattle.wcp_model.specs.declared.workload.Action.TheVariants as action
 use Rattle.wcp_model.proofs.Growth.{get_behind}
@@ -18,6 +18,9 @@ sends_within n done task to next acts = (subst (HasPartner n task.p) acts (next_
 
 pub receives_within : (n : ℕ) (done : List Task) (task : Task) (from : ℕ) → IsNextTask n done task → task.action ≡ action.Recv from → from < n
 receives_within n done task from next acts = (subst (HasPartner n task.p) acts (next_within n done task next).1).0
+
+-- the processes that a task names
+pub ruleset ends_within = (next_within, sends_within, receives_within)
 
 -- and what was done before it is a fit order
 pub done_fits : (n : ℕ) (done : List Task) (task : Task) → IsNextTask n done task → All (IsWithin n) done × IsFitOrder done done
@@ -97,20 +100,19 @@ module _ (n : ℕ) (done : List Task) (a : ℕ) (act : Action) (within : a < n) 
   channel_pushed q seals seal below send no_receive addressed carries channel = grind (arith, All-push, common_steps, got_stays, stamps_sent-push)
 
   -- the channel from which it receives
-  pub channel_popped : (p : ℕ) (seals : List Seal) (first : Seal) → p < n → sends p a task ≡ false → is_receive_from p act ≡ true → 0 < length seals → first ≡ get_or seals 0 first → stamp_of call ≡ first.clock → IsChannel n done logs p a seals → IsChannel n longer after p a (drop 1 seals)
-  channel_popped p [] first below no_send receive some oldest carries channel = absurd (omega (arith, some))
-  channel_popped p (seal ∷ seals) first below no_send receive some oldest carries channel = record {
-    addressed = All-drop (λ (s : Seal). (s.watch ≡ 0) × (s.to ≡ a)) 1 (seal ∷ seals) channel.addressed;
+  pub channel_popped : (p : ℕ) (seal : Seal) (rest : List Seal) → p < n → sends p a task ≡ false → is_receive_from p act ≡ true → stamp_of call ≡ seal.clock → IsChannel n done logs p a (seal ∷ rest) → IsChannel n longer after p a rest
+  channel_popped p seal rest below no_send receive carries channel = record {
+    addressed = All-drop (λ (s : Seal). (s.watch ≡ 0) × (s.to ≡ a)) 1 (seal ∷ rest) channel.addressed;
     in_order = grind (arith, append_assoc, own_actions, sent_stays, stamps_got-push);
   }
 
   -- where the task counts on one channel alone, that channel is written and each other one stays
-  pub channels_set : (queues : List (List Seal)) (from to : ℕ) (seals : List Seal) → length queues ≡ n * n → from < n → to < n → ((p q : ℕ) → (p ≡ from → q ≡ to → ⊥) → (sends p q task ≡ false) × (receives p q task ≡ false)) →
+  pub channels_set : (queues : List (List Seal)) (from to channel : ℕ) (seals : List Seal) → length queues ≡ n * n → from < n → to < n → channel ≡ from * n + to → ((p q : ℕ) → (p ≡ from → q ≡ to → ⊥) → (sends p q task ≡ false) × (receives p q task ≡ false)) →
       ((p q : ℕ) → p < n → q < n → IsChannel n done logs p q (queue_at queues (p * n + q))) → IsChannel n longer after from to seals →
-      (p q : ℕ) → p < n → q < n → IsChannel n longer after p q (queue_at (set queues (from * n + to) seals) (p * n + q))
-  channels_set queues from to seals all from_within to_within elsewhere before here p q p_within q_within = elim (cases_eq (p * n + q) (from * n + to)) [
+      (p q : ℕ) → p < n → q < n → IsChannel n longer after p q (queue_at (set queues channel seals) (p * n + q))
+  channels_set queues from to channel seals all from_within to_within number elsewhere before here p q p_within q_within = elim (cases_eq (p * n + q) channel) [
     | inl same ↦
-        grind (arith, get_or-set_same queues (from * n + to) seals [] (omega (arith, mul-add-lt from n to n from_within to_within)), same_from_place p q from to n q_within to_within same)
+        grind (arith, get_or-set_same queues channel seals [] (omega (arith, mul-add-lt from n to n from_within to_within)), same_from_place p q from to n q_within to_within (same ∙ number))
     | inr other ↦
         grind (arith, channel_stays, get_or-set_other)
   ]

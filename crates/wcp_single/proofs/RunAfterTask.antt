@@ -1,4 +1,4 @@
-use Rattle.wcp_single.proofs.Words.{◌≡◌, ◌≢◌, ℕ, ◌+◌, ◌*◌, ◌<◌, Bool, false, List, [], ◌∷◌, ◌++◌, length, map, drop, set, get_or, refl, sym, ap, ◌∙◌, subst, inl, inr, arith, eq-eqb, get_or-set_same, get_or-set_other, cases_eq, false_from_ne_true, length-set, Item, Action, Task, Call, Observed, Sent, Received, ProbeState, setup, state_of_log, notes_taken, actions_of, IsCallFor, FollowsActions, AreLogsOfTasks, sends, receives, is_send_to, is_receive_from, few_events, got_not_ahead, log_push, sends_ends, receives_ends, send_is_no_receive, receive_is_no_send, observe_is_no_send, observe_is_no_receive, Seal, CheckerState, WatchedProcess, IsRunning, MayCommunicate, MayReceive, MakesCall, Feeds, HasTaken, IsChannel, HasDone, IsNextTask, queue_at}
+use Rattle.wcp_single.proofs.Words.{◌≡◌, ◌≢◌, ℕ, ◌+◌, ◌*◌, ◌<◌, Bool, false, List, [], ◌∷◌, ◌++◌, length, map, set, get_or, refl, sym, ap, ◌∙◌, subst, inl, inr, arith, eq-eqb, get_or-set_same, get_or-set_other, get_or_read_under, cases_eq, false_from_ne_true, length-set, mul-add-lt, Item, Action, Task, Call, Observed, Sent, Received, ProbeState, setup, state_of_log, notes_taken, actions_of, IsCallFor, FollowsActions, AreLogsOfTasks, sends, receives, is_send_to, is_receive_from, few_events, got_not_ahead, log_push, sends_ends, receives_ends, send_is_no_receive, receive_is_no_send, observe_is_no_send, observe_is_no_receive, Seal, CheckerState, WatchedProcess, IsRunning, MayCommunicate, MayReceive, MakesCall, Feeds, HasTaken, IsChannel, HasDone, IsNextTask, queue_at}
 use Rattle.wcp_model.specs.declared.workload.Action.TheVariants as action
 use Rattle.wcp_single.proofs.RunningProcesses.{running_clock}
 use Rattle.wcp_single.proofs.NextTask.{with_call, next_within, sends_within, receives_within, done_fits, message_waits, own_log, other_log, follows_next, channel_stays, channel_pushed, channel_popped, channels_set}
@@ -13,129 +13,130 @@ channels_fit n tasks logs queues follows channels = record {
 pub logs_are : (n : ℕ) (done : List Task) (processes : List WatchedProcess) (queues : List (List Seal)) (checker : CheckerState) (run : HasDone n done processes queues checker) → AreLogsOfTasks n done run.logs
 logs_are n done processes queues checker run = channels_fit n done run.logs queues run.follows run.channels
 
--- the message of a receive that is next is in transit
-pub waits : (n : ℕ) (done : List Task) (processes : List WatchedProcess) (queues : List (List Seal)) (checker : CheckerState) → HasDone n done processes queues checker → (a : ℕ) (act : Action) → IsNextTask n done (record { p = a; action = act }) → (b : ℕ) → act ≡ action.Recv b → 0 < length (queue_at queues (b * n + a))
-waits n done processes queues checker run a act next b acts =
-    let task : Task = record { p = a; action = act } in
-    let below : a < n = (next_within n done task next).0 in
-    let from_below : b < n = receives_within n done task b next acts in
-    message_waits n done a b act run.logs _ acts next (run.follows a below) (run.follows b from_below) (run.channels b a from_below below)
-
 -- the next task of a run, and the process that does it
-module _ (n : ℕ) (done : List Task) (processes : List WatchedProcess) (queues : List (List Seal)) (checker : CheckerState) (run : HasDone n done processes queues checker) (a : ℕ) (act : Action) (next : IsNextTask n done (record { p = a; action = act })) (old : WatchedProcess) (read : old ≡ get_or processes a old) where
+module _ (n : ℕ) (done : List Task) (processes : List WatchedProcess) (queues : List (List Seal)) (checker : CheckerState) (run : HasDone n done processes queues checker) (a : ℕ) (act : Action) (next : IsNextTask n done (record { p = a; action = act })) where
   abbrev task : Task
   task = record { p = a; action = act }
 
   below : a < n
   below = (next_within n done task next).0
 
-  runs_by : IsRunning n a (run.logs a) old
-  runs_by = subst (IsRunning n a (run.logs a)) (sym read) (run.running a old below)
+  -- the number of a channel is within, and the queue that is read there is that of the channel
+  pub channel_within : (from to channel : ℕ) → from < n → to < n → channel ≡ from * n + to → channel < length queues
+  channel_within from to channel from_below to_below number = omega (arith, mul-add-lt from n to n from_below to_below, run.channels_are)
 
-  -- it may make a communication event
-  pub may_communicate : MayCommunicate old
-  may_communicate = search (arith, done_fits n done task next, logs_are n done processes queues checker run, below, few_events)
+  channel_read : (from to channel : ℕ) (queue : List Seal) → from < n → to < n → channel ≡ from * n + to → queue ≡ get_or queues channel queue → IsChannel n done run.logs from to queue
+  channel_read from to channel queue from_below to_below number is =
+      subst (IsChannel n done run.logs from to) (ap (queue_at queues) (sym number) ∙ sym (get_or_read_under queues channel (length queues) queue [] is (channel_within from to channel from_below to_below number) refl)) (run.channels from to from_below to_below)
 
-  -- with a call for the task
-  module _ (call : Call) (is : IsCallFor act call) where
-    abbrev logs_after : ℕ → List Call
-    logs_after = with_call run.logs a call
+  -- the messages of a receive's channel: one waits
+  module _ (b : ℕ) (acts : act ≡ action.Recv b) (channel : ℕ) (number : channel ≡ b * n + a) (queue : List Seal) (there : queue ≡ get_or queues channel queue) where
+    waiting : IsChannel n done run.logs b a queue
+    waiting = channel_read b a channel queue (receives_within n done task b next acts) below number there
 
-    -- where the task counts on no channel, each stays
-    stays : (p q : ℕ) → p < n → q < n → sends p q task ≡ false → receives p q task ≡ false → IsChannel n (done ++ task ∷ []) logs_after p q (queue_at queues (p * n + q))
-    stays p q p_below q_below no_send no_receive = channel_stays n done a act below run.logs run.follows call is p q _ p_below q_below no_send no_receive (run.channels p q p_below q_below)
+    pub some_wait : 0 < length queue
+    some_wait = message_waits n done a b act run.logs queue acts next (run.follows a below) (run.follows b (receives_within n done task b next acts)) waiting
 
-    -- the run after it, by what became of the process, of what was taken, and of the channels
-    done_next : (new : WatchedProcess) → MakesCall old call new → (more : List Item) (written : List (List Seal)) (later : CheckerState) → HasTaken n more later → notes_taken a more ≡ (state_of_log (setup n a) (run.logs a ++ call ∷ [])).notes → ((q : ℕ) → q ≢ a → notes_taken q more ≡ notes_taken q run.items) →
-        length written ≡ n * n → ((p q : ℕ) → p < n → q < n → IsChannel n (done ++ task ∷ []) logs_after p q (queue_at written (p * n + q))) → HasDone n (done ++ task ∷ []) (set processes a new) written later
-    done_next new runs more written later has_taken own others all channels = record {
-      processes_are = length-set processes a new ∙ run.processes_are;
-      channels_are = all;
-      logs = logs_after;
-      follows = follows_next n done a act below run.logs run.follows call is;
-      running = λ p d p_below. elim (cases_eq p a) [
-        | inl same ↦ rw (same, own_log n done a act below run.logs run.follows call is, get_or-set_same processes a new d (omega (arith, below, run.processes_are))) (runs n a (run.logs a) runs_by)
-        | inr other ↦ rw (other_log n done a act below run.logs run.follows call is p other, get_or-set_other processes a p new d other) (run.running p d p_below)
-      ];
-      items = more;
-      has_taken = has_taken;
-      all_taken = grind arith;
-      channels = channels;
-    }
+  -- the process as it is read
+  module _ (old : WatchedProcess) (read : old ≡ get_or processes a old) where
+    runs_by : IsRunning n a (run.logs a) old
+    runs_by = subst (IsRunning n a (run.logs a)) (sym read) (run.running a old below)
 
-  -- an observation
-  pub performs_observe : (holds : Bool) → act ≡ action.Observe holds → (new : WatchedProcess) → MakesCall old (Observed holds) new → (after : CheckerState) → Feeds old (Observed holds) checker after → HasDone n (done ++ task ∷ []) (set processes a new) queues after
-  performs_observe holds acts new runs after feeds =
-      let fed = feeds n a (run.logs a) run.items runs_by (record { within = below; has_taken = run.has_taken; all = run.all_taken a below }) in
-      let is : IsCallFor act (Observed holds) = subst (λ x. IsCallFor x (Observed holds)) (sym acts) refl in
-      done_next (Observed holds) is new runs fed.more queues after fed.fed.has_taken fed.fed.all fed.others run.channels_are
-      (λ p q p_below q_below. stays (Observed holds) is p q p_below q_below (ap (λ x. sends p q (record { p = a; action = x })) acts ∙ observe_is_no_send p q a holds) (ap (λ x. receives p q (record { p = a; action = x })) acts ∙ observe_is_no_receive p q a holds))
+    -- it may make a communication event
+    pub may_communicate : MayCommunicate old
+    may_communicate = search (arith, done_fits n done task next, logs_are n done processes queues checker run, below, few_events)
 
-  -- a send to b
-  module _ (b : ℕ) (acts : act ≡ action.Send b) where
-    to_below : b < n
-    to_below = sends_within n done task b next acts
+    -- with a call for the task
+    module _ (call : Call) (is : IsCallFor act call) where
+      abbrev logs_after : ℕ → List Call
+      logs_after = with_call run.logs a call
 
-    module _ (new : WatchedProcess) (runs : MakesCall old Sent new) (seal : Seal) (sealed : seal ≡ record { watch = old.probe.watch; from = old.probe.id; to = b; clock = new.probe.clock }) where
-      abbrev longer : List Seal
-      longer = queue_at queues (a * n + b) ++ seal ∷ []
+      -- where the task counts on no channel, each stays
+      stays : (p q : ℕ) → p < n → q < n → sends p q task ≡ false → receives p q task ≡ false → IsChannel n (done ++ task ∷ []) logs_after p q (queue_at queues (p * n + q))
+      stays p q p_below q_below no_send no_receive = channel_stays n done a act below run.logs run.follows call is p q _ p_below q_below no_send no_receive (run.channels p q p_below q_below)
 
-      is_sent : IsCallFor act Sent
-      is_sent = subst (λ x. IsCallFor x Sent) (sym acts) tt
+      -- the run after it, by what became of the process, of what was taken, and of the channels
+      done_next : (new : WatchedProcess) → MakesCall old call new → (more : List Item) (written : List (List Seal)) (later : CheckerState) → HasTaken n more later → notes_taken a more ≡ (state_of_log (setup n a) (run.logs a ++ call ∷ [])).notes → ((q : ℕ) → q ≢ a → notes_taken q more ≡ notes_taken q run.items) →
+          length written ≡ n * n → ((p q : ℕ) → p < n → q < n → IsChannel n (done ++ task ∷ []) logs_after p q (queue_at written (p * n + q))) → HasDone n (done ++ task ∷ []) (set processes a new) written later
+      done_next new runs more written later has_taken own others all channels = record {
+        processes_are = length-set processes a new ∙ run.processes_are;
+        channels_are = all;
+        logs = logs_after;
+        follows = follows_next n done a act below run.logs run.follows call is;
+        running = λ p d p_below. elim (cases_eq p a) [
+          | inl same ↦ rw (same, own_log n done a act below run.logs run.follows call is, get_or-set_same processes a new d (omega (arith, below, run.processes_are))) (runs n a (run.logs a) runs_by)
+          | inr other ↦ rw (other_log n done a act below run.logs run.follows call is p other, get_or-set_other processes a p new d other) (run.running p d p_below)
+        ];
+        items = more;
+        has_taken = has_taken;
+        all_taken = grind arith;
+        channels = channels;
+      }
+
+    -- an observation
+    pub performs_observe : (holds : Bool) → act ≡ action.Observe holds → (new : WatchedProcess) → MakesCall old (Observed holds) new → (after : CheckerState) → Feeds old (Observed holds) checker after → HasDone n (done ++ task ∷ []) (set processes a new) queues after
+    performs_observe holds acts new runs after feeds =
+        let fed = feeds n a (run.logs a) run.items runs_by (record { within = below; has_taken = run.has_taken; all = run.all_taken a below }) in
+        let is : IsCallFor act (Observed holds) = subst (λ x. IsCallFor x (Observed holds)) (sym acts) refl in
+        done_next (Observed holds) is new runs fed.more queues after fed.fed.has_taken fed.fed.all fed.others run.channels_are
+        (λ p q p_below q_below. stays (Observed holds) is p q p_below q_below (ap (λ x. sends p q (record { p = a; action = x })) acts ∙ observe_is_no_send p q a holds) (ap (λ x. receives p q (record { p = a; action = x })) acts ∙ observe_is_no_receive p q a holds))
+
+    -- a send to b
+    module _ (b : ℕ) (acts : act ≡ action.Send b) (channel : ℕ) (number : channel ≡ a * n + b) (queue : List Seal) (there : queue ≡ get_or queues channel queue) where
+      to_below : b < n
+      to_below = sends_within n done task b next acts
 
       no_receive : (p q : ℕ) → receives p q task ≡ false
       no_receive p q = ap (λ x. receives p q (record { p = a; action = x })) acts ∙ send_is_no_receive p q a b
 
-      pub run_sent : HasDone n (done ++ task ∷ []) (set processes a new) (set queues (a * n + b) longer) checker
-      run_sent = done_next Sent is_sent new runs run.items (set queues (a * n + b) longer) checker run.has_taken
+      is_sent : IsCallFor act Sent
+      is_sent = subst (λ x. IsCallFor x Sent) (sym acts) tt
+
+      pub performs_send : (new : WatchedProcess) → MakesCall old Sent new → (seal : Seal) → seal ≡ record { watch = old.probe.watch; from = old.probe.id; to = b; clock = new.probe.clock } →
+          (longer : List Seal) → longer ≡ queue ++ seal ∷ [] → HasDone n (done ++ task ∷ []) (set processes a new) (set queues channel longer) checker
+      performs_send new runs seal sealed longer is = done_next Sent is_sent new runs run.items (set queues channel longer) checker run.has_taken
           (run.all_taken a below ∙ ap (λ (s : ProbeState). s.notes) (sym (log_push (setup n a) (run.logs a) Sent))) (λ q other. refl)
-          (length-set queues (a * n + b) longer ∙ run.channels_are)
-          (channels_set n done a act below run.logs run.follows Sent is_sent queues a b longer run.channels_are below to_below
+          (length-set queues channel longer ∙ run.channels_are)
+          (channels_set n done a act below run.logs run.follows Sent is_sent queues a b channel longer run.channels_are below to_below number
           (λ p q apart. (false_from_ne_true _ (λ sent. let ends = sends_ends p q a b (ap (λ x. sends p q (record { p = a; action = x })) (sym acts) ∙ sent) in apart (sym ends.0) (sym ends.1)), no_receive p q)) run.channels
-          (channel_pushed n done a act below run.logs run.follows Sent is_sent b _ seal to_below (ap (is_send_to b) acts ∙ eq-eqb b b refl) (no_receive a b)
+          (subst (IsChannel n (done ++ task ∷ []) (with_call run.logs a Sent) a b) (sym is) (channel_pushed n done a act below run.logs run.follows Sent is_sent b queue seal to_below (ap (is_send_to b) acts ∙ eq-eqb b b refl) (no_receive a b)
           (ap (λ (s : Seal). s.watch) sealed ∙ runs_by.watch, ap (λ (s : Seal). s.to) sealed)
           (ap (λ (s : Seal). s.clock) sealed ∙ running_clock n a (run.logs a ++ Sent ∷ []) new (runs n a (run.logs a) runs_by))
-          (run.channels a b below to_below)))
+          (channel_read a b channel queue below to_below number there))))
 
-  -- a receive from b
-  module _ (b : ℕ) (acts : act ≡ action.Recv b) where
-    from_below : b < n
-    from_below = receives_within n done task b next acts
+    -- a receive from b
+    module _ (b : ℕ) (acts : act ≡ action.Recv b) (channel : ℕ) (number : channel ≡ b * n + a) (queue : List Seal) (there : queue ≡ get_or queues channel queue) where
+      from_below : b < n
+      from_below = receives_within n done task b next acts
 
-    abbrev shorter : List Seal
-    shorter = drop 1 (queue_at queues (b * n + a))
+      module _ (seal : Seal) (rest : List Seal) (first : queue ≡ seal ∷ rest) where
+        is_got : IsCallFor act (Received seal.clock)
+        is_got = subst (λ x. IsCallFor x (Received seal.clock)) (sym acts) tt
 
-    some : 0 < length (queue_at queues (b * n + a))
-    some = waits n done processes queues checker run a act next b acts
+        no_send : (p q : ℕ) → sends p q task ≡ false
+        no_send p q = ap (λ x. sends p q (record { p = a; action = x })) acts ∙ receive_is_no_send p q a b
 
-    module _ (seal : Seal) (first : seal ≡ get_or (queue_at queues (b * n + a)) 0 seal) where
-      is_got : IsCallFor act (Received seal.clock)
-      is_got = subst (λ x. IsCallFor x (Received seal.clock)) (sym acts) tt
+        channels_behind : (p q : ℕ) → p < n → q < n → IsChannel n (done ++ task ∷ []) (with_call run.logs a (Received seal.clock)) p q (queue_at (set queues channel rest) (p * n + q))
+        channels_behind = channels_set n done a act below run.logs run.follows (Received seal.clock) is_got queues b a channel rest run.channels_are from_below below number
+            (λ p q apart. (no_send p q, false_from_ne_true _ (λ received. let ends = receives_ends p q a b (ap (λ x. receives p q (record { p = a; action = x })) (sym acts) ∙ received) in apart (sym ends.1) (sym ends.0)))) run.channels
+            (channel_popped n done a act below run.logs run.follows (Received seal.clock) is_got b seal rest from_below (no_send b a) (ap (is_receive_from b) acts ∙ eq-eqb b b refl) refl (subst (IsChannel n done run.logs b a) first (waiting b acts channel number queue there)))
 
-      no_send : (p q : ℕ) → sends p q task ≡ false
-      no_send p q = ap (λ x. sends p q (record { p = a; action = x })) acts ∙ receive_is_no_send p q a b
+        pub may_receive : MayReceive old seal
+        may_receive =
+            let addressed = (subst (IsChannel n done run.logs b a) first (waiting b acts channel number queue there)).addressed 0 seal (omega arith) in
+            let logs : ℕ → List Call = with_call run.logs a (Received seal.clock) in
+            let stamp = got_not_ahead n done b a act acts (run.logs a) seal.clock logs from_below below next.within next.fit
+            (channels_fit n (done ++ task ∷ []) logs (set queues channel rest) (follows_next n done a act below run.logs run.follows (Received seal.clock) is_got) channels_behind)
+            (run.follows a below) (own_log n done a act below run.logs run.follows (Received seal.clock) is_got) in
+            record {
+              communicate = may_communicate;
+              watch = addressed.0 ∙ sym runs_by.watch;
+              components = stamp.0 ∙ sym runs_by.components;
+              addressed = addressed.1 ∙ sym runs_by.id;
+              not_ahead = grind (arith, runs_by);
+            }
 
-      channels_behind : (p q : ℕ) → p < n → q < n → IsChannel n (done ++ task ∷ []) (with_call run.logs a (Received seal.clock)) p q (queue_at (set queues (b * n + a) shorter) (p * n + q))
-      channels_behind = channels_set n done a act below run.logs run.follows (Received seal.clock) is_got queues b a shorter run.channels_are from_below below
-          (λ p q apart. (no_send p q, false_from_ne_true _ (λ received. let ends = receives_ends p q a b (ap (λ x. receives p q (record { p = a; action = x })) (sym acts) ∙ received) in apart (sym ends.1) (sym ends.0)))) run.channels
-          (channel_popped n done a act below run.logs run.follows (Received seal.clock) is_got b _ seal from_below (no_send b a) (ap (is_receive_from b) acts ∙ eq-eqb b b refl) some first refl (run.channels b a from_below below))
-
-      pub may_receive : MayReceive old seal
-      may_receive =
-          let addressed = (run.channels b a from_below below).addressed 0 seal some in
-          let logs : ℕ → List Call = with_call run.logs a (Received seal.clock) in
-          let stamp = got_not_ahead n done b a act acts (run.logs a) seal.clock logs from_below below next.within next.fit
-          (channels_fit n (done ++ task ∷ []) logs (set queues (b * n + a) shorter) (follows_next n done a act below run.logs run.follows (Received seal.clock) is_got) channels_behind)
-          (run.follows a below) (own_log n done a act below run.logs run.follows (Received seal.clock) is_got) in
-          record {
-            communicate = may_communicate;
-            watch = ap (λ (s : Seal). s.watch) first ∙ addressed.0 ∙ sym runs_by.watch;
-            components = stamp.0 ∙ sym runs_by.components;
-            addressed = ap (λ (s : Seal). s.to) first ∙ addressed.1 ∙ sym runs_by.id;
-            not_ahead = grind (arith, runs_by);
-          }
-
-      pub run_received : (new : WatchedProcess) → MakesCall old (Received seal.clock) new → HasDone n (done ++ task ∷ []) (set processes a new) (set queues (b * n + a) shorter) checker
-      run_received new runs = done_next (Received seal.clock) is_got new runs run.items (set queues (b * n + a) shorter) checker run.has_taken
-          (run.all_taken a below ∙ ap (λ (s : ProbeState). s.notes) (sym (log_push (setup n a) (run.logs a) (Received seal.clock)))) (λ q other. refl)
-          (length-set queues (b * n + a) shorter ∙ run.channels_are) channels_behind
+        pub performs_receive : (new : WatchedProcess) → MakesCall old (Received seal.clock) new → HasDone n (done ++ task ∷ []) (set processes a new) (set queues channel rest) checker
+        performs_receive new runs = done_next (Received seal.clock) is_got new runs run.items (set queues channel rest) checker run.has_taken
+            (run.all_taken a below ∙ ap (λ (s : ProbeState). s.notes) (sym (log_push (setup n a) (run.logs a) (Received seal.clock)))) (λ q other. refl)
+            (length-set queues channel rest ∙ run.channels_are) channels_behind

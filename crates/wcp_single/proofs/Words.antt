@@ -2,7 +2,7 @@
 pub use Rattle.std.proofs.Common.{◌≡◌, ◌≢◌, ◌==◌, ◌&&◌, ℕ, ◌+◌, ◌*◌, ◌<◌, Bool, true, false, cond, List, [], ◌∷◌, ◌++◌, length, map, take, drop, set, get_or, count_by, All, refl, sym, ap, ◌∙◌, subst, inl, inr, append-nil, append_assoc, arith, eq-eqb, get_or-set_same, get_or-set_other, ◌↔◌, IsTrue, Option, Some, None, MatchOption, ap₂, replicate, slice_get, subst₂}
 pub use Rattle.std.proofs.lemmas.Bool.{cases_eq, ne_eqb, false_from_ne_true}
 pub use Rattle.std.proofs.lemmas.Grind.{common_steps}
-pub use Rattle.std.proofs.lemmas.List.{take_all, take_at, length-append, length-map, length-set, length_push, length-replicate, get_or-replicate, get_or_append_left, get_or_push, get_or-map, map-set, map-append, take_more}
+pub use Rattle.std.proofs.lemmas.List.{take_all, take_at, length-append, length-map, length-set, length_push, length-replicate, get_or-replicate, get_or_append_left, get_or_push, get_or_read_under, take_more}
 pub use Rattle.std.proofs.lemmas.Nat.{mul-add-lt, same_from_place}
 pub use Rattle.std.proofs.lemmas.Result.{IfOk-weaker, on_ok_weaker}
 pub use Rattle.wcp_clock.specs.declared.note.Item.{Item}
@@ -22,5 +22,5 @@ pub use Rattle.wcp_order.proofs.Tasks.{at_place, receive_is_no_send, sends_ends,
 pub use Rattle.wcp_probe.specs.Seal.{Seal, seal_of}
 pub use Rattle.wcp_queue.specs.Checker.{CheckerState, MayTake, TakesItem, processes, taken_of, StandsForItems}
 pub use Rattle.wcp_single.specs.WatchedProcess.{IsRunning, MayCommunicate, MayReceive, MakesCall, Feeds, HasTaken, IsFed, IsFedMore, IsWatched}
-pub use Rattle.wcp_single.specs.WorkloadRun.{IsChannel, IsNextTask, queue_at, HasDone, HasClosed, IsEnding, queues_of}
+pub use Rattle.wcp_single.specs.WorkloadRun.{IsChannel, IsNextTask, queue_at, HasDone, HasClosed, IsEnding}
 pub use Rattle.wcp_single.specs.declared.watched_process.WatchedProcess.{WatchedProcess}

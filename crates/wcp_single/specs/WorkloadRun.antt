@@ -8,15 +8,10 @@ use Rattle.wcp_model.specs.ProbeLog.{Call, Closed, setup, state_of_log}
 use Rattle.wcp_model.specs.Report.{notes_taken, snapshot_clocks}
 use Rattle.wcp_model.specs.TaskLog.{actions_of, FollowsActions, stamps_sent, stamps_got, AreLogsOfTasks}
 use Rattle.wcp_model.specs.WorkloadComputation.{IsWithin, IsFitOrder}
-use Rattle.wcp_probe.specs.Seal.{Seal, seal_of}
+use Rattle.wcp_probe.specs.Seal.{Seal}
 use Rattle.wcp_queue.specs.Checker.{CheckerState}
-use Rattle.wcp_single.specs.declared.workload_run.WorkloadRun.{WorkloadRun}
 use Rattle.wcp_single.specs.declared.watched_process.WatchedProcess.{WatchedProcess}
 use Rattle.wcp_single.specs.WatchedProcess.{IsRunning, HasTaken}
-
--- The seals of the messages in transit on each channel.
-abbrev pub queues_of : WorkloadRun → List (List Seal)
-queues_of run = map (λ queue. map seal_of queue.items) run.in_transit.items
 
 -- The seals of the messages in transit on the channel of this number.
 abbrev pub queue_at : List (List Seal) → ℕ → List Seal

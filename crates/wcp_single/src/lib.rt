@@ -6,6 +6,7 @@
 //! `ProbeCore` for each process, and its cut from a `Checker` that takes what they emit.
 #![tactic(auto)]
 
+mod stamp_queue;
 mod watched_process;
 mod workload_outcome;
 mod workload_run;

@@ -8,6 +8,7 @@ ghost use Rattle.wcp_single.specs.WatchedProcess.{Feeds, IsRunning, IsWatched, M
 
 use std::alloc::AllocError;
 use wcp_clock::{CLOCK_LIMIT, Item};
+use wcp_model::ProbeSetup;
 use wcp_probe::{ProbeCore, Stamped};
 use wcp_queue::Checker;
 
@@ -22,15 +23,15 @@ pub struct WatchedProcess {
 }
 
 impl WatchedProcess {
-    /// Process `id` of `n`, before its first step.
-    pub fn new(id: u32, n: u32) -> WatchedProcess
-        requires process { id < n }
-        requires few { n ≤ most_processes }
-        ensures { IsRunning n id [] result }
+    /// The process whose probe is made with this, before its first step.
+    pub fn new(made: ProbeSetup) -> WatchedProcess
+        requires process { made.process < made.processes }
+        requires few { made.processes ≤ most_processes }
+        ensures { IsRunning made.processes made.process [] result }
     {
         WatchedProcess {
-            id,
-            probe: ProbeCore::new(WATCH, id, n, CLOCK_LIMIT),
+            id: made.process,
+            probe: ProbeCore::new(WATCH, made, CLOCK_LIMIT),
         }
     }
 

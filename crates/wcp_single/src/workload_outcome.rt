@@ -6,23 +6,23 @@ ghost use Rattle.wcp_model.specs.WorkloadComputation.{CouldBeRead, IsFitOrder, I
 
 use crate::workload_run::WorkloadRun;
 use std::alloc::{AllocError, Global};
-use wcp_model::{Outcome, Task, Workload};
+use wcp_model::{Outcome, Plan, Task, Workload};
 use wcp_order::{FitOrder, fit_order};
 
-/// The outcome of these tasks of n processes, which are a fit order.
-fn outcome(alloc: Global, n: u32, order: &[Task]) -> Result<Outcome, AllocError>
-    requires some { 1 ≤ n }
-    requires few { n ≤ most_processes }
+/// The outcome of these tasks of the plan's processes, which are a fit order.
+fn outcome(alloc: Global, plan: &Plan, order: &[Task]) -> Result<Outcome, AllocError>
+    requires some { 1 ≤ plan.now.n }
+    requires few { plan.now.n ≤ most_processes }
     requires few_tasks { length order.now < most_events }
-    requires within { All (IsWithin n) order.now }
+    requires within { All (IsWithin plan.now.n) order.now }
     requires fit { IsFitOrder order.now order.now }
-    ensures { IfOk result (IsWorkloadOutcome n order.now) }
+    ensures { IfOk result (IsWorkloadOutcome plan.now.n order.now) }
 {
-    let mut run = WorkloadRun::new(alloc, n)?;
+    let mut run = WorkloadRun::new(alloc, plan)?;
     for task in order {
-        run.perform(n, *task)?;
+        run.perform(plan.n, *task)?;
     }
-    for p in 0..n {
+    for p in 0..plan.n {
         run.close(p)?;
     }
     Ok(run.outcome())
@@ -52,5 +52,5 @@ pub fn single_in_order(
     requires fit { IsFitOrder workload.now.tasks.items order.now }
     ensures { IfOk result (IsWorkloadOutcome workload.now.plan.n workload.now.tasks.items) }
 {
-    outcome(alloc, workload.plan.n, order)
+    outcome(alloc, &workload.plan, order)
 }

@@ -1,6 +1,6 @@
 //! The run of a workload: one probe for each process, a queue for each channel between two, and a
 //! checker of what the probes emit.
-ghost use Rattle.std.specs.Prelude.{◌≡◌, ℕ, ◌+◌, ◌<◌, ◌≤◌, List, [], ◌∷◌, ◌++◌, length, drop, All, Some, IfOk, OnOk};
+ghost use Rattle.std.specs.Prelude.{◌≡◌, ℕ, ◌+◌, ◌<◌, ◌≤◌, List, [], ◌∷◌, ◌++◌, length, All, Some, IfOk, OnOk};
 ghost use Rattle.std.specs.List.{slice_get, slice_index_or};
 ghost use Rattle.wcp_clock.specs.Limits.{most_processes};
 ghost use Rattle.wcp_model.specs.declared.outcome.Tally.{Tally};
@@ -9,40 +9,40 @@ ghost use Rattle.wcp_model.specs.Outcome.{IsWorkloadOutcome};
 ghost use Rattle.wcp_model.specs.WorkloadComputation.{IsWithin};
 ghost use Rattle.wcp_queue.specs.Checker.{processes, taken_of};
 ghost use Rattle.wcp_single.specs.declared.watched_process.WatchedProcess.{WatchedProcess};
-ghost use Rattle.wcp_single.specs.WorkloadRun.{IsEnding, IsNextTask, HasDone, queues_of};
+ghost use Rattle.wcp_single.specs.WorkloadRun.{IsEnding, IsNextTask, HasDone};
 
+use crate::stamp_queue::StampQueue;
 use crate::watched_process::WatchedProcess;
 use std::alloc::{AllocError, Global};
-use std::collections::VecDeque;
 use wcp_clock::MAX_PROCS;
-use wcp_model::{Action, Outcome, Tallies, Tally, Task};
+use wcp_model::{Action, Outcome, Plan, Tallies, Tally, Task};
 use wcp_order::channel;
-use wcp_probe::Stamped;
 use wcp_queue::Checker;
 
 /// How far the run of a workload has come.
 #[derive(Drop)]
 pub struct WorkloadRun {
     processes: Vec<WatchedProcess>,
-    /// For each channel, the messages that were sent on it and not received.
-    in_transit: Vec<VecDeque<Stamped<()>>>,
+    /// The messages in transit on each channel.
+    in_transit: Vec<StampQueue>,
     checker: Checker,
 }
 
 impl WorkloadRun {
     /// The run before the first task. `Err` where memory runs out.
-    pub fn new(alloc: Global, n: u32) -> Result<WorkloadRun, AllocError>
-        requires some { 0 < n }
-        requires few { n ≤ most_processes }
-        ensures { IfOk result (λ run. HasDone n [] run.processes.items (queues_of run) run.checker) }
+    pub fn new(alloc: Global, plan: &Plan) -> Result<WorkloadRun, AllocError>
+        requires some { 0 < plan.now.n }
+        requires few { plan.now.n ≤ most_processes }
+        ensures { IfOk result (λ run. HasDone plan.now.n [] run.processes.items run.in_transit.items run.checker) }
     {
+        let n = plan.n;
         let mut processes = Vec::with_capacity(alloc, n as usize)?;
         for id in 0..n {
-            processes.push(WatchedProcess::new(id, n))?;
+            processes.push(WatchedProcess::new(plan.probe_setup(id)))?;
         }
         let mut in_transit = Vec::with_capacity(alloc, (n * n) as usize)?;
         for _ in 0..n * n {
-            in_transit.push(VecDeque::new(alloc))?;
+            in_transit.push(StampQueue::new(alloc))?;
         }
         Ok(WorkloadRun {
             processes,
@@ -52,23 +52,24 @@ impl WorkloadRun {
     }
 
     /// Does the next task. `Err` where memory runs out.
+    #[tactic(auto, using(crate::proofs::NextTask::ends_within))]
     pub fn perform(&mut self, n: u32, task: Task) -> Result<(), AllocError>
         requires few { n ≤ most_processes }
         requires next { (done : List Task) × IsNextTask n done task
-            × HasDone n done self.old.processes.items (queues_of self.old) self.old.checker }
+            × HasDone n done self.old.processes.items self.old.in_transit.items self.old.checker }
         ensures { OnOk result ((done : List Task) → IsNextTask n done task
-            → HasDone n done self.old.processes.items (queues_of self.old) self.old.checker
-            → HasDone n (done ++ task ∷ []) self.new.processes.items (queues_of self.new) self.new.checker) }
+            → HasDone n done self.old.processes.items self.old.in_transit.items self.old.checker
+            → HasDone n (done ++ task ∷ []) self.new.processes.items self.new.in_transit.items self.new.checker) }
     {
         let p = task.p as usize;
         match task.action {
             Action::Observe(holds) => self.processes[p].observe(holds, &mut self.checker)?,
             Action::Send(to) => {
                 let message = self.processes[p].send(to);
-                self.in_transit[channel(n, task.p, to)].push_back(message)?;
+                self.in_transit[channel(n, task.p, to)].push(message)?;
             }
             Action::Recv(from) => {
-                let message = oldest(&mut self.in_transit[channel(n, from, task.p)]);
+                let message = self.in_transit[channel(n, from, task.p)].pop();
                 self.processes[p].receive(message);
             }
         }
@@ -124,13 +125,4 @@ impl WorkloadRun {
         }
         Tallies::new(&tallies[..self.processes.len()])
     }
-}
-
-/// Takes the message that was sent first from those that are in transit.
-fn oldest(messages: &mut VecDeque<Stamped<()>>) -> Stamped<()>
-    requires { 0 < length messages.old.items }
-    ensures first { result ≡ slice_index_or messages.old.items 0 result }
-    ensures rest { messages.new.items ≡ drop 1 messages.old.items }
-{
-    messages.pop_front().unwrap()
 }

@@ -66,10 +66,7 @@ module _ (plan : Plan) (checked : IsCheckedPlan plan) where
       → parent_of plan other ≡ Some owner → one ≢ other → IsBelow plan one p → IsBelow plan other p → ⊥
   siblings_apart one other p owner at at' apart (leaf, is, met) (leaf', is', met') =
       let same : leaf' ≡ leaf = cc in
-      ⊎_elim
-      (λ above. apart_from one other owner at at' apart above)
-      (λ above. apart_from other one owner at' at (λ e. apart (sym e)) above)
-      (one_is_met one other leaf met (subst (IsMetFrom plan other) same met'))
+      grind (arith, one_is_met one other leaf met (subst (IsMetFrom plan other) same met'), apart, apart_from one other owner at at', apart_from other one owner at' at)
 
   -- a relay that is met from another is the parent of one on the way
   pub child_is_met : (relay from : ℕ) → relay ≢ from → IsMetFrom plan relay from

@@ -1,30 +1,21 @@
 -- The entries of a list.
-use Rattle.wcp_tree.proofs.Words.{◌≡◌, ◌≢◌, ℕ, zero, suc, ◌<◌, List, [], ◌∷◌, ◌++◌, length, map, get_or, All, Option, Some, refl, ap, ◌∙◌, subst, arith, slice_get, slice_set, option_map, get_or_from_slice_get, slice_get-map, slice_get_within}
+use Rattle.wcp_tree.proofs.Words.{◌≡◌, ◌≢◌, ℕ, ◌<◌, List, [], ◌∷◌, ◌++◌, length, map, get_or, All, Option, Some, ap, ◌∙◌, subst, arith, common_steps, gets, slice_get, slice_set, option_map, get_or_from_slice_get, slice_get-map, slice_get_within}
 
 module _ {X : Type 0} where
   -- what was written is there
   pub set_here : (xs : List X) (k : ℕ) (x : X) → k < length xs → slice_get (slice_set xs k x) k ≡ Some x
-  set_here [] k x within = absurd (omega arith)
-  set_here (y ∷ xs) zero x within = refl
-  set_here (y ∷ xs) (suc k) x within = set_here xs k x (omega arith)
+  set_here xs k x within = grind (arith, common_steps, gets)
 
   -- and the other entries stay
   pub set_elsewhere : (xs : List X) (k i : ℕ) (x : X) → i ≢ k → slice_get (slice_set xs k x) i ≡ slice_get xs i
-  set_elsewhere [] k i x apart = refl
-  set_elsewhere (y ∷ xs) zero zero x apart = absurd (apart refl)
-  set_elsewhere (y ∷ xs) zero (suc i) x apart = refl
-  set_elsewhere (y ∷ xs) (suc k) zero x apart = refl
-  set_elsewhere (y ∷ xs) (suc k) (suc i) x apart = set_elsewhere xs k i x (λ e. apart (ap (λ n. suc n) e))
+  set_elsewhere xs k i x apart = grind (arith, common_steps, gets)
 
   -- the last entry, and those before it
   pub last_entry : (xs : List X) (x : X) → slice_get (xs ++ x ∷ []) (length xs) ≡ Some x
-  last_entry [] x = refl
-  last_entry (y ∷ xs) x = last_entry xs x
+  last_entry xs x = grind (arith, common_steps, gets)
 
   pub earlier_entry : (xs ys : List X) (i : ℕ) → i < length xs → slice_get (xs ++ ys) i ≡ slice_get xs i
-  earlier_entry [] ys i within = absurd (omega arith)
-  earlier_entry (x ∷ xs) ys zero within = refl
-  earlier_entry (x ∷ xs) ys (suc i) within = earlier_entry xs ys i (omega arith)
+  earlier_entry xs ys i within = grind (arith, common_steps, gets)
 
 -- an entry of a mapped list
 pub mapped_at : {X Y : Type 0} (f : X → Y) (xs : List X) (k : ℕ) (x : X) → slice_get xs k ≡ Some x → slice_get (map f xs) k ≡ Some (f x)

@@ -1,6 +1,5 @@
 -- What feeds took, as one of them takes a note.
 use Rattle.wcp_tree.proofs.Words.{◌≡◌, ◌≢◌, ℕ, zero, suc, ◌<◌, Bool, true, false, ◌||◌, List, [], ◌∷◌, ◌++◌, length, get_or, set, map, sym, refl, ap, ◌∙◌, subst, eq-eqb, arith, All, AllPairs, if◌then◌else◌, ◌==◌, list_any, list_any_at, nat_tests, append-nil, length-map, map-append, get_or-map, All-map, map-set_same, Item, Note, is_close, Feed, fed, items_by, items_of, processes_of, IsNextOfProcess, IsInOrder, EndsWithClose, Outlet, IsNextAfter, IsFaithful, HasMetGap}
-use Rattle.wcp_tree.proofs.Lists.{items_of-own}
 
 abbrev AreApart : List ℕ → Type 0
 AreApart numbers = AllPairs (λ p q. p ≢ q) numbers

@@ -1,7 +1,7 @@
 -- A relay with a lane stays at work.
-use Rattle.wcp_tree.proofs.Words.{◌≡◌, ◌≢◌, ℕ, suc, true, false, true≢false, ◌||◌, None, List, [], ◌∷◌, ◌++◌, sym, ap, ◌∙◌, subst, refl, append_assoc, ⊎_elim, arith, All, IfNone, nat_eq, nat_cmp, cases_eq, nat_tests, append-nil, Item, is_close, TakeEnd, Numbers, Bundle, Outlet, items_of, EndsWithClose, handed, IsFaithful, IsSound, AreTakenNext, IsSameOutlet, IsInnerAtWork, ItemsMayFollow, AreClosed}
+use Rattle.wcp_tree.proofs.Words.{◌≡◌, ◌≢◌, ℕ, suc, true, false, true≢false, None, List, [], ◌∷◌, ◌++◌, sym, ap, ◌∙◌, subst, refl, append_assoc, ⊎_elim, arith, All, IfNone, nat_cmp, cases_eq, nat_tests, append-nil, Item, is_close, TakeEnd, Numbers, Bundle, Outlet, items_of, EndsWithClose, handed, IsFaithful, IsSound, AreTakenNext, IsSameOutlet, IsInnerAtWork, ItemsMayFollow, AreClosed}
 use Rattle.std.specs.FinSet as set
-use Rattle.std.specs.Cmp.{unsigned_tied, nat_cmp_total}
+use Rattle.wcp_lane.proofs.Marks.{contains_with}
 use Rattle.wcp_tree.proofs.Accepting.{ItemMayFollow, follow_same}
 use Rattle.wcp_tree.proofs.Lists.{items_of-append, items_of-own, items_of-other}
 use Rattle.wcp_tree.proofs.Faithful.{faithful_same, only_none}
@@ -69,9 +69,7 @@ ended_kept closed old new items ended next is =
     subst (λ (e : TakeEnd Bundle Item). AreClosed closed (λ p. items_of p e.taken)) (sym is) (ended_all closed old.members old.taken items ended next)
 
 inserted : (closed : Numbers) (p q : ℕ) → p ≢ q → set.contains (set.insert closed q) p ≡ set.contains closed p
-inserted closed p q apart =
-    let not_it : nat_eq p q ≡ false = grind (arith, nat_tests) in
-    set.contains-insert nat_cmp_total closed q p ∙ ap (λ b. b || set.contains closed p) (unsigned_tied p q ∙ not_it)
+inserted closed p q apart = grind (arith, nat_tests, contains_with closed q p)
 
 -- a bundle that ends with a close mark was taken
 pub ended_more : (closed : Numbers) (old new : TakeEnd Bundle Item) (items front : List Item) (end : Item) → AreClosed closed (λ p. items_of p old.taken) → AreTakenNext old items

@@ -16,6 +16,7 @@ pub mod OpeningRings
 pub mod Passing
 pub mod Seating
 pub mod Serving
-pub mod Shares
+pub mod MemberSets
 pub mod Accepting
 pub mod Bundling
+pub mod FreshProbes

@@ -1,5 +1,5 @@
 -- One relay after another is opened, each after its parent.
-use Rattle.wcp_tree.proofs.Words.{◌≡◌, ◌≢◌, ℕ, ◌<◌, ◌≤◌, List, [], ◌∷◌, ◌++◌, length, Option, Some, refl, sym, ap, subst, ◌∙◌, ⊎_elim, arith, slice_get, cases_eq, length_push, All-weaker, slice_get-get_or, Item, Parent, Plan, IsCheckedPlan, leaf_of, parent_of, TakeSide, LaneName, PutEnd, Bundle, Source, Leaf, Inner, AreSeated, IsRelayOf, IsSource, IsFeed, AreLinked, AreSeatedUnder, IsLinked, lane_below, lane_to, IsSeatOf, parent_below}
+use Rattle.wcp_tree.proofs.Words.{◌≡◌, ◌≢◌, ℕ, ◌<◌, ◌≤◌, List, [], ◌∷◌, ◌++◌, length, Option, Some, refl, sym, ap, subst, ◌∙◌, ⊎_elim, arith, common_steps, slice_get, cases_eq, length_push, All-weaker, slice_get-get_or, Item, Parent, Plan, IsCheckedPlan, leaf_of, parent_of, TakeSide, LaneName, PutEnd, Bundle, Source, Leaf, Inner, AreChildrenSeated, IsRelayOf, IsSource, IsFeed, AreLinked, AreSeatedUnder, IsLinked, lane_below, lane_to, IsSeatOf, parent_below}
 use Rattle.wcp_model.specs.declared.plan.Parent.TheVariants as parent
 use Rattle.wcp_tree.specs.declared.relay.Relay.{Relay}
 use Rattle.wcp_tree.proofs.Entries.{last_entry, earlier_entry}
@@ -17,13 +17,7 @@ same_source plan before now relay (Leaf feeds sleeper) here is = (
   is.0,
   record {
     each = All-weaker (IsFeed plan relay now plan.n) (IsFeed plan relay before plan.n)
-        (λ feed old. record {
-          first = old.first;
-          unclosed = old.unclosed;
-          taker = (sym (here feed.process old.served) ∙ old.taker.0, old.taker.1);
-          within = old.within;
-          served = old.served;
-        })
+        (λ feed old. grind (arith, common_steps, old, here feed.process))
         feeds.items is.1.each;
     processes = is.1.processes;
     apart = is.1.apart;
@@ -86,7 +80,7 @@ module _ (plan : Plan) (watch : ℕ) (root : LaneName Bundle) (before : List (Op
         (relay : Relay) (opened : AreOpened relays seats now) (within : length relays < length plan.parents.items)
         (is : IsRelayOf plan watch now (length relays) relay)
         (seat : slice_get seats (length relays) ≡ Some (Some relay.putter))
-        (children : AreSeated plan (length relays) relay.source new_seats)
+        (children : AreChildrenSeated plan (length relays) relay.source new_seats)
         (other_seats : (other : ℕ) → other ≢ length relays → parent_of plan other ≢ Some (parent.Relay (length relays))
         → slice_get new_seats other ≡ slice_get seats other)
         (other_takers : (p : ℕ) → leaf_of plan p ≢ Some (length relays) → slice_get new p ≡ slice_get now p) where
@@ -133,16 +127,9 @@ module _ (plan : Plan) (watch : ℕ) (root : LaneName Bundle) (before : List (Op
       seated_after : (other : ℕ) (owner : Parent) → length more ≤ other → parent_of plan other ≡ Some owner
           → IsOpen (length more) owner → IsSeated more new_seats other owner
       seated_after other parent.Root past at open' =
-          let old = opened.seated other parent.Root (omega (arith, past, length_push relays relay)) at tt in (
-            old.0,
-            old.1,
-            old.2,
-            other_seats other (λ e. omega (arith, e, past, length_push relays relay)) (λ e. no_root (sym at ∙ e)) ∙ old.3,
-            old.4,
-          )
-        where
-          no_root : Some parent.Root ≡ Some (parent.Relay (length relays)) → ⊥
-          no_root e = cc
+          let later : length relays < other = omega (arith, past, length_push relays relay) in
+          let old = opened.seated other parent.Root (omega (arith, later)) at tt in
+          (old.0, old.1, old.2, other_seats other (λ e. omega (arith, e, later)) (λ e. let both = sym at ∙ e in cc) ∙ old.3, old.4)
       seated_after other (parent.Relay above) past at open' = ⊎_elim
           (λ (same : above ≡ length relays).
           let child = children other (at ∙ ap (λ n. Some (parent.Relay n)) same) in
@@ -163,17 +150,12 @@ module _ (plan : Plan) (watch : ℕ) (root : LaneName Bundle) (before : List (Op
       pub one_opened : AreOpened (relays ++ relay ∷ []) new_seats new
       one_opened = record {
         each = λ place below. ⊎_elim
-            (λ (same : place ≡ length relays).
-            subst (IsLinked plan watch root before more) (sym same) linked_here)
-            (λ (apart : place ≢ length relays).
-            linked_before place (omega (arith, below, apart, length_push relays relay)))
+            (λ (same : place ≡ length relays). subst (IsLinked plan watch root before more) (sym same) linked_here)
+            (λ (apart : place ≢ length relays). linked_before place (omega (arith, below, apart, length_push relays relay)))
             (cases_eq place (length relays));
         seated = seated_after;
         here = λ p leaf at past.
-            other_takers p (λ e.
-            let same : leaf ≡ length relays = let both = sym at ∙ e in cc in
-            omega (arith, same, past, length_push relays relay))
-            ∙ opened.here p leaf at (omega (arith, past, length_push relays relay));
+            grind (arith, common_steps, at, past, other_takers p, opened.here p leaf at, length_push relays relay);
       }
 
   pub all_opened : (relays : List Relay) (seats : List (Option (PutEnd Bundle Item))) (now : List (Option TakeSide))

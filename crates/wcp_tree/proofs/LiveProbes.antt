@@ -1,5 +1,5 @@
 -- Live probes that are fresh, and that stay the same.
-use Rattle.wcp_tree.proofs.Words.{◌≡◌, ℕ, ◌<◌, None, List, [], ◌∷◌, ◌++◌, length, replicate, refl, sym, ap, subst, ◌∙◌, append-nil, arith, Result, Ok, Err, OnOk, OnErr, length-replicate, Note, Item, Call, AreRising, clocks_taken, notes_taken, snapshot_clocks, snapshot_clocks-append, HasLog, IsSameLive, LiveAccepts, LiveFor, LiveSide, NotesRise, emitted_by, fresh_core}
+use Rattle.wcp_tree.proofs.Words.{◌≡◌, ℕ, ◌<◌, None, List, [], ◌∷◌, ◌++◌, length, replicate, refl, sym, ap, subst, ◌∙◌, append-nil, arith, Result, Ok, Err, OnOk, OnErr, length-replicate, Note, Item, Call, AreRising, clocks_taken, notes_taken, snapshot_clocks-append, HasLog, IsSameLive, LiveAccepts, LiveFor, LiveSide, NotesRise, emitted_by, fresh_core}
 use Rattle.std.proofs.Math.Logic.{∥∥₁_map, ∥∥₁_elim}
 use Rattle.std.proofs.Props.{props}
 use Rattle.wcp_clock.specs.declared.note.Note.TheVariants as note

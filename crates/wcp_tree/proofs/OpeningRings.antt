@@ -1,12 +1,9 @@
 -- One ring after another is opened, and one feed after another is taken.
-use Rattle.wcp_tree.proofs.Words.{◌≡◌, ◌≢◌, ◌==◌, ◌||◌, ◌⊎◌, ℕ, ◌+◌, ◌<◌, ◌≤◌, true, false, List, [], ◌∷◌, ◌++◌, length, get_or, All, Option, Some, None, eqb-true, eq-eqb, refl, sym, ap, subst, ◌∙◌, inl, inr, ⊎_elim, arith, slice_get, slice_set, list_any, cases_eq, length-set, length_push, All-push, All-weaker, list_any-append, Plan, leaf_of, TakeSide, Feed, LiveSide, fresh_core, IsTakerAt, AreRings, IsFeed, AreFeeds}
+use Rattle.wcp_tree.proofs.Words.{◌≡◌, ◌≢◌, ◌⊎◌, ℕ, ◌+◌, ◌≤◌, false, List, [], ◌∷◌, ◌++◌, length, get_or, All, Option, Some, None, eqb-true, eq-eqb, refl, sym, ap, subst, ◌∙◌, inl, arith, common_steps, gets, slice_get, slice_set, cases_eq, length-set, length_push, All-push, All-weaker, Plan, leaf_of, TakeSide, Feed, LiveSide, fresh_core, IsTakerAt, AreRings, IsFeed, AreFeeds}
 use Rattle.std.proofs.lemmas.List.Quantifiers.{all_pairs_push}
-use Rattle.wcp_tree.proofs.Entries.{set_elsewhere, last_entry, earlier_entry, taken_out}
+use Rattle.wcp_tree.proofs.Entries.{taken_out}
 
 module _ (plan : Plan) (watch : ℕ) where
-  pub no_rings : AreRings plan watch 0 [] []
-  no_rings = record { probes_count = refl; takers_count = refl; each = λ p below. absurd (omega (arith, below)) }
-
   pub one_ring_more : (k : ℕ) (probes : List LiveSide) (takers : List (Option TakeSide)) (probe : LiveSide) (taker : TakeSide)
       → AreRings plan watch k probes takers → probe.core ≡ fresh_core watch k plan.n → probe.link.put ≡ [] → probe.link.free ≡ plan.cap
       → taker.ring ≡ probe.link.ring → taker.taken ≡ []
@@ -14,37 +11,8 @@ module _ (plan : Plan) (watch : ℕ) where
   one_ring_more k probes takers probe taker rings fresh empty room one_ring none = record {
     probes_count = length_push probes probe ∙ ap (λ n. n + 1) rings.probes_count;
     takers_count = length_push takers (Some taker) ∙ ap (λ n. n + 1) rings.takers_count;
-    each = λ p below. ⊎_elim
-        (λ (same : p ≡ k). record {
-          probe = probe;
-          taker = taker;
-          is_probe = ap (slice_get (probes ++ probe ∷ [])) (same ∙ sym rings.probes_count) ∙ last_entry probes probe;
-          fresh = fresh ∙ ap (λ i. fresh_core watch i plan.n) (sym same);
-          empty = empty;
-          room = room;
-          is_taker = (
-            ap (slice_get (takers ++ Some taker ∷ [])) (same ∙ sym rings.takers_count) ∙ last_entry takers (Some taker),
-            none,
-          );
-          one_ring = one_ring;
-        })
-        (λ (apart : p ≢ k).
-        let lower : p < k = omega (arith, below, apart) in
-        let old = rings.each p lower in
-        record {
-          probe = old.probe;
-          taker = old.taker;
-          is_probe = earlier_entry probes (probe ∷ []) p (omega (arith, lower, rings.probes_count)) ∙ old.is_probe;
-          fresh = old.fresh;
-          empty = old.empty;
-          room = old.room;
-          is_taker = (
-            earlier_entry takers (Some taker ∷ []) p (omega (arith, lower, rings.takers_count)) ∙ old.is_taker.0,
-            old.is_taker.1,
-          );
-          one_ring = old.one_ring;
-        })
-        (cases_eq p k);
+    each = λ p below.
+        grind (arith, common_steps, gets, rings.each p, rings.probes_count, rings.takers_count, fresh, empty, room, one_ring, none, cases_eq p k);
   }
 
 module _ (plan : Plan) (leaf : ℕ) (before : List (Option TakeSide)) where
@@ -92,16 +60,13 @@ module _ (plan : Plan) (leaf : ℕ) (before : List (Option TakeSide)) where
     feeds_of = record {
       each = more_within k feeds taken.feeds_of.each;
       processes = λ p. (
-        (λ is. let old = (taken.feeds_of.processes p).0 is in (omega (arith, old.0), old.1)),
-        (λ h. (taken.feeds_of.processes p).1 (⊎_elim
-            (λ (same : p ≡ k). absurd (other (ap (leaf_of plan) (sym same) ∙ h.1)))
-            (λ (apart : p ≢ k). let below : p < k = omega (arith, h.0, apart) in (below, h.1))
-            (cases_eq p k))),
+        (λ is. grind (arith, (taken.feeds_of.processes p).0 is)),
+        (λ h. (taken.feeds_of.processes p).1 (grind (arith, h, other, cases_eq p k))),
       );
       apart = taken.feeds_of.apart;
     };
     all = taken.all;
-    here = λ p left. taken.here p (⊎_elim (λ past. inl (omega (arith, past))) (λ apart. inr apart) left);
+    here = λ p left. grind (arith, left, taken.here p);
   }
 
   -- a process of the leaf
@@ -118,39 +83,13 @@ module _ (plan : Plan) (leaf : ℕ) (before : List (Option TakeSide)) where
         served = ap (leaf_of plan) is_k ∙ own;
       });
       processes = λ p. (
-        (λ is. ⊎_elim
-            (λ old. let in_old = (taken.feeds_of.processes p).0 old in (omega (arith, in_old.0), in_old.1))
-            (λ new.
-            let same : k ≡ p = sym is_k ∙ eqb-true feed.process p new in
-            (omega (arith, same), ap (leaf_of plan) (sym same) ∙ own))
-            (either p (sym (list_any-append (λ (f : Feed). f.process == p) feeds (feed ∷ [])) ∙ is))),
-        (λ h. list_any-append (λ (f : Feed). f.process == p) feeds (feed ∷ []) ∙ ⊎_elim
-            (λ (same : p ≡ k). last_is p (eq-eqb feed.process p (is_k ∙ sym same)))
-            (λ (apart : p ≢ k).
-            let below : p < k = omega (arith, h.0, apart) in
-            ap (λ b. b || list_any (λ (f : Feed). f.process == p) (feed ∷ []))
-            ((taken.feeds_of.processes p).1 (below, h.1)))
-            (cases_eq p k)),
+        (λ is. grind (arith, common_steps, is, (taken.feeds_of.processes p).0, own, is_k, eqb-true feed.process p)),
+        (λ h. grind (arith, common_steps, h, (taken.feeds_of.processes p).1, own, is_k, eq-eqb feed.process p, cases_eq p k)),
       );
       apart = all_pairs_push (λ (a b : Feed). a.process ≢ b.process) feeds feed taken.feeds_of.apart
           (λ i d below same.
           let low = (taken.feeds_of.each i d below).within in omega (arith, low, same, is_k));
     };
     all = length-set now k None ∙ taken.all;
-    here = λ p left. ⊎_elim
-        (λ past.
-        set_elsewhere now k p None (λ same. omega (arith, past, same))
-        ∙ taken.here p (inl (omega (arith, past))))
-        (λ other.
-        set_elsewhere now k p None (λ same. other (ap (leaf_of plan) same ∙ own)) ∙ taken.here p (inr other))
-        left;
+    here = λ p left. grind (arith, common_steps, gets, left, own, taken.here p, cases_eq p k);
   }
-    where
-      either : (p : ℕ)
-          → (list_any (λ (f : Feed). f.process == p) feeds || list_any (λ (f : Feed). f.process == p) (feed ∷ [])) ≡ true
-          → (list_any (λ (f : Feed). f.process == p) feeds ≡ true) ⊎ ((feed.process == p) ≡ true)
-      either p is = grind arith
-
-      last_is : (p : ℕ) → (feed.process == p) ≡ true
-          → (list_any (λ (f : Feed). f.process == p) feeds || list_any (λ (f : Feed). f.process == p) (feed ∷ [])) ≡ true
-      last_is p is = grind arith

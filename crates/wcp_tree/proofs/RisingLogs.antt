@@ -1,5 +1,5 @@
 -- The clocks of the snapshots that a log emits rise.
-use Rattle.wcp_tree.proofs.Words.{◌≡◌, ◌≢◌, ℕ, zero, suc, ◌+◌, ◌<◌, ◌≤◌, false, true, true≢false, List, [], ◌∷◌, ◌++◌, length, fold, replicate, slice_index, slice_set, get_or, refl, ap, arith, append-nil, cases_eq, cases_Bool, cases_lt, length-set, length-replicate, get_or-set_same, get_or-set_other, get_or_append_left, get_or_push, length_push, Call, Observed, Sent, Received, Closed, ProbeState, after_call, setup, state_of_log, snapshot_clocks, AreRising, snapshot_clocks-append}
+use Rattle.wcp_tree.proofs.Words.{◌≡◌, ℕ, zero, suc, ◌+◌, ◌<◌, ◌≤◌, false, true, true≢false, List, [], ◌∷◌, ◌++◌, length, fold, slice_index, slice_set, get_or, refl, arith, append-nil, cases_eq, cases_Bool, cases_lt, length-set, length-replicate, get_or-set_same, get_or-set_other, get_or_append_left, get_or_push, length_push, Call, Observed, Sent, Received, Closed, ProbeState, after_call, setup, state_of_log, snapshot_clocks, AreRising, snapshot_clocks-append}
 use Rattle.wcp_clock.specs.Merge.{merged}
 use Rattle.wcp_clock.specs.declared.note.Note.TheVariants as note
 

@@ -1,5 +1,5 @@
 -- Whom a leaf serves, and whom the other relays.
-use Rattle.wcp_tree.proofs.Words.{◌≡◌, ◌≢◌, ◌==◌, ◌↔◌, ℕ, suc, Bool, true, false, true≢false, List, [], ◌∷◌, ◌<◌, ◌||◌, AllPairs, length, get_or, arith, Option, Some, refl, sym, ap, ◌∙◌, ⊎_elim, list_any, slice_get, option_flatten, cases_eq, length-map, get_or-map, All-weaker, Any-from_list_any, slice_get-get_or, Root, Relay, Plan, IsCheckedPlan, is_number, is_leaf, leaf_of, parent_of, Numbers, Itself, IsBelow, AreBelow, TakeSide, Feed, Source, Leaf, Inner, IsNewFeed, Serves, processes_of, IsSource, IsFeed, AreBelowChildren, all_served, attached_exists, has_leaf, is_its_leaf, is_its_number, not_mixed}
+use Rattle.wcp_tree.proofs.Words.{◌≡◌, ◌≢◌, ◌==◌, ◌↔◌, ℕ, suc, Bool, true, false, true≢false, List, [], ◌∷◌, ◌<◌, ◌||◌, AllPairs, length, get_or, arith, common_steps, Option, Some, refl, sym, ap, ◌∙◌, list_any, slice_get, option_flatten, cases_eq, length-map, get_or-map, All-weaker, Any-from_list_any, slice_get-get_or, Root, Relay, Plan, IsCheckedPlan, is_number, is_leaf, leaf_of, parent_of, Numbers, Itself, IsBelow, AreBelow, TakeSide, Feed, Source, Leaf, Inner, IsNewFeed, Serves, processes_of, IsSource, IsFeed, AreBelowChildren, all_served, attached_exists, has_leaf, is_its_leaf, is_its_number, not_mixed}
 use Rattle.std.specs.FinSet as set
 use Rattle.wcp_tree.proofs.Climbs.{members_pass_up, child_is_met, root_is_reached}
 
@@ -22,12 +22,8 @@ module _ (plan : Plan) (checked : IsCheckedPlan plan) (relay : ℕ) where
 
   -- a leaf serves its own alone
   pub own_alone : is_leaf plan relay ≡ true → (p : ℕ) → IsBelow plan relay p → leaf_of plan p ≡ Some relay
-  own_alone leaf p below = ⊎_elim
-      (λ (same : relay ≡ below.0). below.1 ∙ ap (λ n. Some n) (sym same))
-      (λ (apart : relay ≢ below.0).
-      let child = child_is_met plan checked relay below.0 apart below.2 in
-      absurd (no_children leaf child.0 child.1))
-      (cases_eq relay below.0)
+  own_alone leaf p below =
+      grind (arith, common_steps, below.1, (λ (apart : relay ≢ below.0). child_is_met plan checked relay below.0 apart below.2), no_children leaf, cases_eq relay below.0)
 
   -- below a relay that is no leaf are the processes below its children
   pub below_by_children : is_leaf plan relay ≡ false → (members : Numbers)

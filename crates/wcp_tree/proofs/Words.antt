@@ -7,7 +7,7 @@ pub use Rattle.std.proofs.lemmas.Grind.{common_steps}
 pub use Rattle.std.proofs.lemmas.List.{length-set, length_push, length-replicate, length-map, map-append, get_or-map, drop-replicate, get_or-set_same, get_or-set_other, get_or_append_left, get_or_push, nil_from_length, take_more, drop_at, length-take-le, take_more_set, drop-set-lt, with_items_is, take_all}
 pub use Rattle.std.proofs.lemmas.List.Elements.{All-map, All-set, All-push, filter-append, All-weaker, All-nil, All-drop}
 pub use Rattle.std.proofs.lemmas.List.Folds.{list_any_at, list_any-append, Any-from_list_any}
-pub use Rattle.std.proofs.lemmas.Option.{slice_get_within, slice_get-get_or, get_or_from_slice_get, slice_get-map}
+pub use Rattle.std.proofs.lemmas.Option.{gets, slice_get_within, slice_get-get_or, get_or_from_slice_get, slice_get-map}
 pub use Rattle.std.specs.List.{list_any, last_or}
 pub use Rattle.std.specs.Option.{option_map, option_flatten, is_some}
 pub use Rattle.std.specs.Ordering.{nat_cmp}
@@ -19,7 +19,7 @@ pub use Rattle.wcp_clock.specs.declared.note.Note.{Note}
 pub use Rattle.wcp_hold.specs.Held.{Held}
 pub use Rattle.wcp_lane.proofs.Steps.{AreInSequence-push, All-front, may_follow}
 pub use Rattle.wcp_lane.specs.Ends.{LaneName, PutEnd, TakeEnd, new_putter}
-pub use Rattle.wcp_lane.specs.Owners.{AreApart, AreOwners, IsFirstLaneFault}
+pub use Rattle.wcp_lane.specs.MemberSets.{AreApart, AreMemberSets, IsFirstLaneFault}
 pub use Rattle.wcp_lane.specs.Passes.{Numbers}
 pub use Rattle.wcp_lane.specs.ProcessNumbers.{AreProcessNumbers}
 pub use Rattle.wcp_model.proofs.CheckedPlans.{parent_below, all_served, attached_exists, has_leaf, is_its_leaf, is_its_number, not_mixed, few_relays, hold_room, some_relays, capacity, is_not_its_number, few_processes}
@@ -39,10 +39,10 @@ pub use Rattle.wcp_tree.specs.LiveProbe.{HasLog, IsSameLive, LiveAccepts, LiveFo
 pub use Rattle.wcp_tree.specs.Members.{IsMetFrom, Itself, Above, IsBelow, AreBelow}
 pub use Rattle.wcp_tree.specs.RelayEnds.{IsEndOfSource, taken_in}
 pub use Rattle.wcp_tree.specs.RelayWork.{handed, IsFaithful, IsNextAfter, HasMetGap, IsSound, IsNextItem, IsSameOutlet, IsLeafAtWork, AreTakenNext, IsInnerAtWork, ItemsMayFollow, AreClosed, AreItemsInSequence, IsAtWork, HasEnded, AreSameFeeds, IsSameTaker}
-pub use Rattle.wcp_tree.specs.Relays.{AreSeated, IsRelayOf, IsSource}
+pub use Rattle.wcp_tree.specs.Relays.{AreChildrenSeated, IsRelayOf, IsSource}
 pub use Rattle.wcp_tree.specs.Rings.{IsTakerAt, AreRings, IsFeed, AreFeeds}
 pub use Rattle.wcp_tree.specs.Watches.{AreLinked, AreSeatedUnder, IsLinked, lane_below, lane_to}
-pub use Rattle.wcp_tree.specs.Wiring.{IsSeatOf, IsShareOf, AreShares, AreBelowChildren}
+pub use Rattle.wcp_tree.specs.Wiring.{IsSeatOf, IsMemberSetOf, AreMemberSetsOf, AreBelowChildren}
 pub use Rattle.wcp_tree.specs.declared.bundle.Bundle.{Bundle}
 pub use Rattle.wcp_tree.specs.declared.feed.Feed.{Feed}
 pub use Rattle.wcp_tree.specs.declared.outlet.Outlet.{Outlet}

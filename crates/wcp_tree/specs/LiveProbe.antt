@@ -1,6 +1,6 @@
 -- What a live probe has, and the log of calls that it stands for.
 use Rattle.std.specs.Prelude.{◌≡◌, ℕ, false, not, Option, Some, None}
-use Rattle.std.specs.Prelude.{List, [], ◌∷◌, ◌++◌, count_by, replicate}
+use Rattle.std.specs.Prelude.{List, [], ◌∷◌, ◌++◌, count_by, length, replicate, slice_get}
 use Rattle.wcp_clock.specs.Limits.{most_events}
 use Rattle.wcp_clock.specs.declared.note.Note.{Note}
 use Rattle.wcp_model.specs.ProbeLog.{Call, Closed, state_of_log}
@@ -32,6 +32,12 @@ fresh_core watch id n = record {
   emitted = 0;
   pending = None;
 }
+
+-- The probes of n processes before any call, by the numbers of the processes.
+pub record AreFreshProbes (n : ℕ) (probes : List LiveSide) : Type 0 where
+  pub count : length probes ≡ n
+  pub each : (p : ℕ) (probe : LiveSide) → slice_get probes p ≡ Some probe
+      → (probe.core ≡ fresh_core probe.core.watch p n) × (probe.link.put ≡ [])
 
 -- The note that is pending, if there is one.
 abbrev pub pending_notes : Option Note → List Note

@@ -1,5 +1,5 @@
 -- What is left of a relay.
-use Rattle.std.specs.Prelude.{◌≡◌, ℕ, Option, Some, None, List, Result, Ok, Err}
+use Rattle.std.specs.Prelude.{◌≡◌, ℕ, Option, Some, None, IfNone, List, Result, Ok, Err}
 use Rattle.std.specs.FinSet as set
 use Rattle.wcp_clock.specs.declared.note.Item.{Item}
 use Rattle.wcp_lane.specs.Ends.{PutEnd}
@@ -103,3 +103,10 @@ HasMetFirst (Faulted fault source outlet met) =
 
 abbrev pub IsFirstFault : RelayEnd → Type 0
 IsFirstFault end = HasMetFirst end.outcome
+
+-- What a relay leaves as it has run: it has its number and its receipts, and where it met no fault it put what it took.
+pub record IsEndOfRelay (relay : Relay) (end : RelayEnd) : Type 0 where
+  pub number : number_of end ≡ relay.number
+  pub watch : watch_of end ≡ relay.watch
+  pub receipts : AreReceiptsOf relay end
+  pub whole : IfNone (fault_of end) ((p : ℕ) → relay_put end p ≡ relay_taken end p)

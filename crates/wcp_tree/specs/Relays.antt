@@ -28,8 +28,8 @@ inbox_lane (Leaf feeds sleeper) = None
 inbox_lane (Inner taker) = Some taker.lane
 
 -- The relays whose parent this one is are seated on its lane.
-abbrev pub AreSeated : Plan → ℕ → Source → List (Option (PutEnd Bundle Item)) → Type 0
-AreSeated plan relay source seats =
+abbrev pub AreChildrenSeated : Plan → ℕ → Source → List (Option (PutEnd Bundle Item)) → Type 0
+AreChildrenSeated plan relay source seats =
     (child : ℕ) → parent_of plan child ≡ Some (parent.Relay relay)
     → (lane : LaneName Bundle) × (inbox_lane source ≡ Some lane)
     × (putter : PutEnd Bundle Item) × (slice_get seats child ≡ Some (Some putter)) × IsSeatOf plan child lane putter

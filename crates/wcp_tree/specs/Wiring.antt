@@ -11,14 +11,14 @@ use Rattle.wcp_tree.specs.declared.bundle.Bundle.{Bundle}
 use Rattle.wcp_tree.specs.Members.{AreBelow, IsBelow}
 
 -- A relay's set in the lane of an owner: the processes below it where the owner is its parent, and else none.
-pub record IsShareOf (plan : Plan) (owner : Parent) (relay : ℕ) (members : Numbers) : Type 0 where
+pub record IsMemberSetOf (plan : Plan) (owner : Parent) (relay : ℕ) (members : Numbers) : Type 0 where
   pub child : parent_of plan relay ≡ Some owner → AreBelow plan relay members
   pub other : parent_of plan relay ≢ Some owner → members ≡ set.empty
 
 -- The sets of a lane: one for each relay, by number.
-abbrev pub AreShares : Plan → Parent → List Numbers → Type 0
-AreShares plan owner sets =
-    (relay : ℕ) (d : Numbers) → relay < length sets → IsShareOf plan owner relay (slice_index_or sets relay d)
+abbrev pub AreMemberSetsOf : Plan → Parent → List Numbers → Type 0
+AreMemberSetsOf plan owner sets =
+    (relay : ℕ) (d : Numbers) → relay < length sets → IsMemberSetOf plan owner relay (slice_index_or sets relay d)
 
 -- The numbers of a lane's sets are those of the processes below the owner's children.
 abbrev pub AreBelowChildren : Plan → Parent → Numbers → Type 0

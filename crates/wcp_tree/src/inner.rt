@@ -9,7 +9,7 @@ use crate::outlet::Outlet;
 use crate::patience::{self, CutTake};
 use std::sync::Wait;
 use wcp_clock::MAX_PROCS;
-use wcp_lane::{Origin, Origins, Taker};
+use wcp_lane::{Members, Origin, Taker};
 
 /// Passes on what the lane gives, until the close mark of each process of the putter was taken.
 pub(crate) fn run_inner<R: Wait>(
@@ -24,8 +24,8 @@ pub(crate) fn run_inner<R: Wait>(
     ensures closed { OnOk result (AreClosed outlet.new.putter.members (λ p. items_of p taker.new.taken)) }
     ensures empty { OnOk result (IfNone outlet.new.cut (outlet.new.hold.items ≡ [])) }
 {
-    let below = outlet.putter.origins();
-    let mut closed = Origins::none();
+    let below = outlet.putter.members();
+    let mut closed = Members::none();
     let mut finished = are_among(&below, &closed);
     for _ in rt.forever() {
         if finished {
@@ -67,13 +67,13 @@ fn next_bundle<R: Wait>(
 }
 
 /// Whether each number of one set is in the other.
-fn are_among(numbers: &Origins, all: &Origins) -> bool
+fn are_among(members: &Members, all: &Members) -> bool
     ensures among { IsTrue result
-        ↔ ((p : ℕ) → set.contains numbers.now p ≡ true → set.contains all.now p ≡ true) }
-    ensures within { AreProcessNumbers numbers.now }
+        ↔ ((p : ℕ) → set.contains members.now p ≡ true → set.contains all.now p ≡ true) }
+    ensures within { AreProcessNumbers members.now }
 {
     for p in 0..MAX_PROCS as u32 {
-        if numbers.has(p) && !all.has(p) {
+        if members.has(p) && !all.has(p) {
             return false;
         }
     }

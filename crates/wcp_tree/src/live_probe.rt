@@ -15,6 +15,7 @@ use std::marker::Model;
 use std::sync::Wait;
 use std::thread::yield_now;
 use wcp_clock::{CLOCK_LIMIT, Note};
+use wcp_model::ProbeSetup;
 use wcp_probe::{ProbeCore, Refusal, Stamped};
 use wcp_ring::{PutterEnd, RingPutter};
 
@@ -50,19 +51,19 @@ impl Model for LiveProbe {
 }
 
 impl LiveProbe {
-    /// The probe of process `id` of `n`, of a watch of this number, before any call. Its notes go into
+    /// The probe that is made with this, of a watch of this number, before any call. Its notes go into
     /// this ring.
-    pub(crate) fn new(watch: u64, id: u32, n: u32, putter: RingPutter) -> LiveProbe
-        requires process { id < n }
-        requires processes { n ≤ most_processes }
+    pub(crate) fn new(watch: u64, made: ProbeSetup, putter: RingPutter) -> LiveProbe
+        requires process { made.process < made.processes }
+        requires processes { made.processes ≤ most_processes }
         requires empty { putter.put ≡ [] }
-        ensures fresh { result ≡ record { core = fresh_core watch id n; link = putter } }
+        ensures fresh { result ≡ record { core = fresh_core watch made.process made.processes; link = putter } }
         ensures stands { LiveFor result [] }
     {
         LiveProbe {
             watch,
-            id,
-            core: ProbeCore::new(watch, id, n, CLOCK_LIMIT),
+            id: made.process,
+            core: ProbeCore::new(watch, made, CLOCK_LIMIT),
             putter,
         }
     }

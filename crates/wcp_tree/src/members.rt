@@ -2,15 +2,15 @@ ghost use Rattle.std.specs.Prelude.{◌≡◌, ◌↔◌, ℕ, IsTrue, true};
 ghost use Rattle.wcp_model.specs.PlanFault.{IsCheckedPlan};
 ghost use Rattle.wcp_tree.specs.Members.{AreBelow, IsBelow, IsMetFrom};
 
-use wcp_lane::Origins;
+use wcp_lane::Members;
 use wcp_model::{Parent, Plan};
 
 /// The processes below a relay.
-pub(crate) fn processes_below(plan: &Plan, relay: u32) -> Origins
+pub(crate) fn processes_below(plan: &Plan, relay: u32) -> Members
     requires { IsCheckedPlan plan.now }
     ensures { AreBelow plan.now relay result }
 {
-    let mut members = Origins::none();
+    let mut members = Members::none();
     for p in 0..plan.n {
         if is_below(plan, relay, p) {
             members = members.with(p);

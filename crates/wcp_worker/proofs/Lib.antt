@@ -4,7 +4,6 @@ pub mod OneMoreAction
 pub mod NewLanes
 pub mod OpenedRows
 pub mod OpenedWorkers
-pub mod FreshProbes
 pub mod MatchedLanes
 pub mod PlayedLanes
 pub mod RunOutcomes

@@ -1,20 +1,13 @@
 -- The lanes among the mailboxes of all processes, as their ends are taken out.
-use Rattle.wcp_worker.proofs.Words.{◌≡◌, ◌≢◌, ◌↔◌, ℕ, Option, Some, None, Result, Ok, Err, List, length, slice_get, slice_set, get_or, inl, inr, true, true≢false, refl, ap, sym, ◌∙◌, ◌<◌, subst₂, arith, length-map, length-set, slice_index_or, IsOk, OnOk, slice_get_within, slice_get-get_or, set_here, set_elsewhere, Inbox, Outbox, Mailbox, seal_of, Message, IfBoth, messages_from, messages_put, messages_taken, clocks_from, outbox_to, inbox_from, outbox_of, inbox_of, ends_between, AreAllTaken, AreMatched, AreOfLane, IsAllTaken, IsLaneOf}
+use Rattle.wcp_worker.proofs.Words.{◌≡◌, ◌≢◌, ◌↔◌, ℕ, Option, Some, None, Result, Ok, Err, List, length, slice_get, slice_set, get_or, inl, inr, true, true≢false, refl, ap, sym, ◌∙◌, ◌<◌, subst₂, arith, cases_eq, common_steps, gets, length-map, length-set, slice_index_or, IsOk, OnOk, slice_get_within, slice_get-get_or, Inbox, Outbox, Mailbox, seal_of, Message, IfBoth, messages_from, messages_put, messages_taken, clocks_from, outbox_to, inbox_from, outbox_of, inbox_of, ends_between, AreAllTaken, AreMatched, AreOfLane, IsAllTaken, IsLaneOf}
 use Rattle.std.specs.FinSet as set
-use Rattle.std.proofs.lemmas.Bool.{cases_eq}
 use Rattle.wcp_lane.specs.declared.fault.Unfinished.{Unfinished}
 
 -- what is the same of one that was changed is the same of each
 same_of_each : {X Y : Type 0} (f : Option X → Y) (xs : List X) (k : ℕ) (old new : X) (a : ℕ)
     → slice_get xs k ≡ Some old → (a ≡ k → f (Some new) ≡ f (Some old))
     → f (slice_get (slice_set xs k new) a) ≡ f (slice_get xs a)
-same_of_each f xs k old new a at same = elim (cases_eq a k) [
-  | inl here ↦
-      ap (λ i. f (slice_get (slice_set xs k new) i)) here
-      ∙ ap f (set_here xs k new (slice_get_within xs k old at)) ∙ same here ∙ ap f (sym at)
-      ∙ ap (λ i. f (slice_get xs i)) (sym here)
-  | inr other ↦ ap f (set_elsewhere xs k a new other)
-]
+same_of_each f xs k old new a at same = grind (arith, common_steps, gets, at, same, cases_eq a k)
 
 -- as the end by which p sends to q leaves its mailbox, and then the other end of this lane
 module _

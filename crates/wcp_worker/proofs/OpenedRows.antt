@@ -1,5 +1,5 @@
 -- Rows of lanes, as they are opened one by one.
-use Rattle.wcp_worker.proofs.Words.{◌≡◌, ◌≢◌, ◌⊎◌, ℕ, ◌+◌, ◌<◌, ◌≤◌, Option, None, List, [], ◌∷◌, ◌++◌, length, get_or, set, Vec, Global, sym, ap, ◌∙◌, subst, ⊎_elim, arith, count_by, get_or-set_same, get_or-set_other, get_or_default, get_or_push, get_or_append_left, length-append, length-set, Action, is_send_to, Outbox, Inbox, Worker, IsLaneFor, outbox_to, inbox_from, IsSameButInboxes, HasRow, HaveLanes}
+use Rattle.wcp_worker.proofs.Words.{◌≡◌, ◌≢◌, ◌⊎◌, ℕ, ◌+◌, ◌<◌, ◌≤◌, Option, None, List, [], ◌∷◌, ◌++◌, length, get_or, set, Vec, Global, sym, ap, ◌∙◌, subst, ⊎_elim, arith, cases_eq, common_steps, count_by, get_or-set_same, get_or-set_other, get_or_default, get_or_push, get_or_append_left, length-append, length-set, Action, is_send_to, Outbox, Inbox, Worker, IsLaneFor, outbox_to, inbox_from, IsSameButInboxes, HasRow, HaveLanes}
 
 -- what holds of an entry once one is written
 pub written : {X : Type 0} (P : X → Type 0) (xs : List X) (k j : ℕ) (x d : X) → k < length xs
@@ -120,9 +120,7 @@ module _
         probe = λ q d below. kept (λ w. w.probe) (λ i. was.probe) q d ∙ (each q d (omega (arith, have.count))).same.probe ∙ have.probe q d below;
         actions = λ q d below. actions_more q d (omega (arith, have.count)) ∙ have.actions q d below;
         rows = λ q d before.
-            written (λ (w : Worker). length w.mailbox.outboxes.items ≡ length olds) mid k q seated d within
-            (λ is. full ∙ have.count)
-            (λ apart. ap (λ o. length o.items) (each q d (omega arith)).same.outboxes ∙ have.rows q d (omega arith));
+            grind (arith, common_steps, before, within, full, have.count, (λ (apart : q < k). (each q d (omega (arith, apart, within, count))).same.outboxes), have.rows q d, get_or-set_same mid k seated d within, get_or-set_other mid k q seated d, cases_eq q k);
         columns = λ q d below.
             ap length (inboxes_more q d (omega (arith, have.count))) ∙ length-append _ _ ∙ ap (λ n. n + 1) (have.columns q d below);
         lanes = λ p q d before below.

@@ -1,5 +1,5 @@
 -- The workers of a workload, once all their lanes are opened.
-use Rattle.wcp_worker.proofs.Words.{◌≡◌, ◌⊎◌, ℕ, ◌<◌, ◌≤◌, Option, Some, None, List, [], ◌++◌, length, map, filter, get_or, All, refl, sym, ap, ◌∙◌, subst, ⊎_elim, arith, IfSome, slice_get, count_by, get_or_past, length-map, get_or_from_slice_get, slice_get-get_or, slice_get_within, Task, actions_of, is_task_of, is_send_to, Core, LiveSide, LiveFor, fresh_stands, mapped_at, Outbox, Inbox, Player, Worker, IsOutboxOf, IsInboxOf, IfBoth, IsSameOutbox, IsSameInbox, IsLaneFor, messages_put, messages_taken, clocks_from, outbox_to, inbox_from, clocks_sent_to, IsFreshPlayer, IsIdle, HasTasks, HaveLanes, AreFreshProbes, AreWorkersOf}
+use Rattle.wcp_worker.proofs.Words.{◌≡◌, ◌⊎◌, ℕ, ◌<◌, ◌≤◌, Option, Some, None, List, [], ◌++◌, length, map, filter, get_or, All, refl, sym, ap, ◌∙◌, subst, arith, common_steps, IfSome, slice_get, count_by, get_or_past, length-map, get_or_from_slice_get, slice_get-get_or, slice_get_within, Task, actions_of, is_task_of, is_send_to, Core, LiveSide, LiveFor, fresh_stands, mapped_at, Outbox, Inbox, Player, Worker, IsOutboxOf, IsInboxOf, IfBoth, IsSameOutbox, IsSameInbox, IsLaneFor, messages_put, messages_taken, clocks_from, outbox_to, inbox_from, clocks_sent_to, IsFreshPlayer, IsIdle, HasTasks, HaveLanes, AreFreshProbes, AreWorkersOf}
 use Rattle.std.proofs.lemmas.List.Sums.{length-filter, count_by-le-length}
 use Rattle.wcp_worker.proofs.OpenedRows.{lane_along}
 
@@ -76,23 +76,11 @@ module _
   -- the end by which worker p sends to q, and that by which the messages of q come to p
   outbox_at : (p q : ℕ) (d : Worker) → p < length given → IfSome (outbox_to (get_or opened p d).mailbox q) (IsNewOutbox p)
   outbox_at p q d below =
-      let either : (q < length given) ⊎ (length given ≤ q) = grind arith in
-      ⊎_elim
-      (λ (within : q < length given). new_outbox p _ _ _ (have.lanes p q d below within))
-      (λ (past : length given ≤ q).
-      let absent : outbox_to (get_or opened p d).mailbox q ≡ None = get_or_past _ q None (omega (arith, have.rows p d below)) in
-      subst (λ (o : Option Outbox). IfSome o (IsNewOutbox p)) (sym absent) tt)
-      either
+      grind (arith, common_steps, (λ (within : q < length given). new_outbox p _ _ _ (have.lanes p q d below within)), have.rows p d below, get_or_past (get_or opened p d).mailbox.outboxes.items q None)
 
   inbox_at : (p q : ℕ) (d : Worker) → p < length given → IfSome (inbox_from (get_or opened p d).mailbox q) (IsNewInbox q)
   inbox_at p q d below =
-      let either : (q < length given) ⊎ (length given ≤ q) = grind arith in
-      ⊎_elim
-      (λ (within : q < length given). new_inbox q _ _ _ (have.lanes q p d within below))
-      (λ (past : length given ≤ q).
-      let absent : inbox_from (get_or opened p d).mailbox q ≡ None = get_or_past _ q None (omega (arith, have.columns p d below)) in
-      subst (λ (i : Option Inbox). IfSome i (IsNewInbox q)) (sym absent) tt)
-      either
+      grind (arith, common_steps, (λ (within : q < length given). new_inbox q _ _ _ (have.lanes q p d within below)), have.columns p d below, get_or_past (get_or opened p d).mailbox.inboxes.items q None)
 
   pub workers_opened : AreWorkersOf tasks probes opened
   workers_opened =

@@ -5,8 +5,8 @@ use mathlib.Core.List.{IsPrefix}
 use Rattle.wcp_probe.specs.Seal.{seal_of}
 use Rattle.wcp_model.specs.LaneRule.{items_from}
 use Rattle.wcp_worker.specs.declared.message.Message.{Message}
-use Rattle.wcp_worker.specs.declared.lanes.Outbox.{Outbox}
-use Rattle.wcp_worker.specs.declared.lanes.Inbox.{Inbox}
+use Rattle.wcp_worker.specs.declared.lane_ends.Outbox.{Outbox}
+use Rattle.wcp_worker.specs.declared.lane_ends.Inbox.{Inbox}
 
 -- The messages of process p among these, in order.
 abbrev pub messages_from : ℕ → List Message → List Message

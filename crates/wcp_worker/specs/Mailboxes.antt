@@ -1,7 +1,7 @@
 -- The lanes of one process: by which it sends to each other, and by which the messages of each other come.
 use Rattle.std.specs.Prelude.{ℕ, Option, None, List, slice_index_or, IfSome}
-use Rattle.wcp_worker.specs.declared.lanes.Outbox.{Outbox}
-use Rattle.wcp_worker.specs.declared.lanes.Inbox.{Inbox}
+use Rattle.wcp_worker.specs.declared.lane_ends.Outbox.{Outbox}
+use Rattle.wcp_worker.specs.declared.lane_ends.Inbox.{Inbox}
 use Rattle.wcp_worker.specs.declared.mailbox.Mailbox.{Mailbox}
 use Rattle.wcp_worker.specs.Lanes.{IsOutboxOf, IsInboxOf, IsSameOutbox, IsSameInbox}
 use Rattle.wcp_worker.specs.Lanes.{IfBoth, messages_put, messages_taken, clocks_from}

@@ -4,8 +4,8 @@ use Rattle.wcp_model.specs.declared.workload.Action.{Action}
 use Rattle.wcp_model.specs.declared.workload.Task.{Task}
 use Rattle.wcp_model.specs.TaskLog.{actions_of}
 use Rattle.wcp_model.specs.WorkloadComputation.{is_send_to}
-use Rattle.wcp_worker.specs.declared.lanes.Outbox.{Outbox}
-use Rattle.wcp_worker.specs.declared.lanes.Inbox.{Inbox}
+use Rattle.wcp_worker.specs.declared.lane_ends.Outbox.{Outbox}
+use Rattle.wcp_worker.specs.declared.lane_ends.Inbox.{Inbox}
 use Rattle.wcp_worker.specs.declared.worker.Worker.{Worker}
 use Rattle.wcp_worker.specs.Lanes.{IsLaneFor}
 use Rattle.wcp_worker.specs.Mailboxes.{outbox_to, inbox_from}

@@ -1,19 +1,13 @@
 -- The workers of a workload before any of them runs.
-use Rattle.std.specs.Prelude.{◌≡◌, ℕ, Some, List, [], length, count_by, slice_get}
+use Rattle.std.specs.Prelude.{◌≡◌, ℕ, Some, List, length, count_by, slice_get}
 use Rattle.wcp_model.specs.declared.workload.Task.{Task}
 use Rattle.wcp_model.specs.TaskLog.{actions_of}
 use Rattle.wcp_model.specs.WorkloadComputation.{is_send_to}
-use Rattle.wcp_tree.specs.LiveProbe.{LiveSide, fresh_core}
+use Rattle.wcp_tree.specs.LiveProbe.{LiveSide}
 use Rattle.wcp_worker.specs.declared.worker.Worker.{Worker}
 use Rattle.wcp_worker.specs.Lanes.{IsLaneFor}
 use Rattle.wcp_worker.specs.Mailboxes.{outbox_to, inbox_from}
 use Rattle.wcp_worker.specs.Played.{IsFreshPlayer}
-
--- The probes of n processes before any call, by the numbers of the processes.
-pub record AreFreshProbes (n : ℕ) (probes : List LiveSide) : Type 0 where
-  pub count : length probes ≡ n
-  pub each : (p : ℕ) (probe : LiveSide) → slice_get probes p ≡ Some probe
-      → (probe.core ≡ fresh_core probe.core.watch p n) × (probe.link.put ≡ [])
 
 -- The worker of process p has its probe, and what the tasks say that it does; it has done nothing.
 pub record IsWorkerOf (tasks : List Task) (probes : List LiveSide) (p : ℕ) (worker : Worker) : Type 0 where

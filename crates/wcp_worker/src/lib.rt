@@ -11,22 +11,23 @@
 #![tactic(auto)]
 
 mod gate;
-mod lanes;
+mod lane_ends;
+mod lane_matching;
 mod mailbox;
 mod matched_lanes;
-mod matching;
 mod message;
 mod new_lane;
-mod opening;
 mod player;
 mod worker;
 mod worker_end;
+mod worker_opening;
+mod worker_part;
 
 pub use gate::{Gate, Open};
-pub use lanes::{Inbox, Outbox};
+pub use lane_ends::{Inbox, Outbox};
 pub use mailbox::Mailbox;
 pub use matched_lanes::match_lanes;
 pub use message::Message;
-pub use opening::open_workers;
 pub use worker::Worker;
 pub use worker_end::{WorkerEnd, WorkerFault};
+pub use worker_opening::open_workers;

@@ -3,7 +3,7 @@ ghost use Rattle.wcp_probe.specs.Seal.{seal_of};
 ghost use Rattle.wcp_worker.specs.Lanes.{IsOutboxOf, IsInboxOf, IsSameOutbox, IsSameInbox};
 ghost use Rattle.wcp_worker.specs.Lanes.{IfBoth, HasTakenMore, messages_put, messages_taken, clocks_from};
 
-use crate::lanes::{Inbox, Outbox};
+use crate::lane_ends::{Inbox, Outbox};
 use crate::worker_end::WorkerFault;
 use std::sync::Wait;
 use wcp_probe::Stamped;

@@ -2,8 +2,8 @@ ghost use Rattle.std.specs.Prelude.{◌≡◌, ◌≢◌, ◌↔◌, ◌<◌, �
 ghost use Rattle.wcp_clock.specs.Limits.{most_processes};
 ghost use Rattle.wcp_worker.specs.Runs.{AreAllTaken, AreMatched, AreOfLane, IsAllTaken, ends_between};
 
+use crate::lane_matching::match_lane;
 use crate::mailbox::Mailbox;
-use crate::matching::match_lane;
 use wcp_lane::Unfinished;
 
 /// Compares what each process put on its lanes with what the others took from them. The mailboxes are by the numbers

@@ -3,9 +3,9 @@ ghost use Rattle.wcp_clock.specs.Limits.{most_processes, most_lane};
 ghost use Rattle.wcp_model.specs.WorkloadComputation.{is_send_to};
 ghost use Rattle.wcp_worker.specs.Lanes.{IsLaneFor};
 
-use crate::lanes::{Inbox, Outbox};
+use crate::lane_ends::{Inbox, Outbox};
 use std::alloc::{AllocError, Global};
-use wcp_lane::{LaneFault, Origins, lane};
+use wcp_lane::{LaneFault, Members, lane};
 use wcp_model::Action;
 use wcp_ring::Sleeper;
 
@@ -24,7 +24,7 @@ pub(crate) fn new_lane(
     }
     let sleeper = Sleeper::new(alloc)?;
     let bell = sleeper.bell()?;
-    match lane(alloc, count, &[Origins::none().with(p)]) {
+    match lane(alloc, count, &[Members::none().with(p)]) {
         Ok((mut putters, taker)) => match putters.pop() {
             Some(putter) => {
                 let outbox = Outbox {
@@ -43,7 +43,7 @@ pub(crate) fn new_lane(
             None => unreachable!(),
         },
         Err(LaneFault::NoMemory) => Err(AllocError),
-        Err(LaneFault::Cap | LaneFault::Owners) => unreachable!(),
+        Err(LaneFault::Cap | LaneFault::MemberSets) => unreachable!(),
     }
 }
 

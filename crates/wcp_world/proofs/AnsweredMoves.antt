@@ -1,17 +1,9 @@
-use Rattle.wcp_world.proofs.Words.{common_steps, ◌≡◌, ◌≢◌, ℕ, ◌+◌, ◌<◌, Bool, true, false, not, cond, nat_le, nat_lt, length, set, get_or, eqb, Option, None, Some, MatchOption, List, [], ◌∷◌, ◌++◌, slice_get, drop, take, refl, sym, ap, ap₂, subst, ◌∙◌, append-nil, eqb-true, eq-eqb, add-zero, true≢false, arith, option_and_then, option_flatten, option_map, nat_tests, get_or_default, length-set, get_or-set_same, get_or-set_other, slice_get_cases, slice_get_within, Item, Note, Parent, Root, Relay, Plan, Step, Done, Refused, IsSamePlan, is_number, is_attached, is_leaf, leaf_of, parent_of, Place, Pending, Link, HoldOf, InboxOf, is_same_place, source, target, takes_from, taken_from, notes_in, next_place, IsEntry, Emitted, reasons, move_reasons, names_nothing, notes_taken, attached_exists, get_behind, Held, IsAnswer, put_more, TransportState, IsPlaceOf, place_number, held_at, IsTransportOf, IsNextAtRoot, IsMoveBetween, MovesBetween, IsConveying, notes_along}
+use Rattle.wcp_world.proofs.Words.{common_steps, ◌≡◌, ◌≢◌, ℕ, ◌+◌, ◌<◌, Bool, true, false, not, cond, nat_le, nat_lt, length, set, get_or, eqb, Option, None, Some, MatchOption, List, [], ◌∷◌, ◌++◌, slice_get, drop, take, refl, sym, ap, ap₂, subst, ◌∙◌, append-nil, eqb-true, eq-eqb, add-zero, true≢false, arith, option_and_then, option_flatten, option_map, nat_tests, get_or_default, length-set, get_or-set_same, get_or-set_other, slice_get_cases, slice_get_within, Item, Note, Parent, Root, Relay, Plan, Step, Done, Refused, IsSamePlan, is_number, is_attached, is_leaf, leaf_of, parent_of, Place, Pending, Link, HoldOf, InboxOf, is_same_place, source, target, takes_from, taken_from, notes_in, next_place, IsEntry, Emitted, reasons, move_reasons, names_nothing, notes_taken, attached_exists, get_behind, Held, IsAnswer, put_more, TransportState, IsPlaceOf, place_number, held_at, IsTransportOf, IsNextAtRoot, IsMoveBetween, IsWayOf, is_relayed, notes_along, IsShift, shift_reasons, KeepsIfRefused, Reply, Why, accepted_by, first_reason}
 use Rattle.std.specs.List.{list_any}
 use Rattle.wcp_model.specs.declared.step.Step.TheVariants as step
 use Rattle.wcp_model.specs.declared.step.Why.TheVariants as why
 use Rattle.wcp_world.proofs.Places.{same_place, number_apart, number_within, next_is_place, itself, next_apart}
 use Rattle.wcp_world.proofs.Entries.{item_if, IsStirred, entry_grows, entry_emitted, transport_after}
-
--- the first item of one place has moved behind those of another
-pub record IsShift (old : List Held) (from to : ℕ) (new : List Held) : Type 0 where
-  pub item : Item
-  pub left : List Item
-  pub first : (held_at old from).items ≡ item ∷ left
-  pub fits : length (held_at old to).items ≢ (held_at old to).room
-  pub moved : new ≡ set (set old to (record (held_at old to) { items = (held_at old to).items ++ item ∷ [] })) from (record (held_at old from) { items = left })
 
 -- what a place holds once one was changed
 held_set : (plan : Plan) (places : List Held) (x y : Place) (new : Held) → length places ≡ plan.n + length plan.parents.items + 1 + length plan.parents.items → IsPlaceOf plan x → IsPlaceOf plan y →
@@ -73,6 +65,10 @@ module _ (plan : Plan) (steps : List Step) (put : ℕ → List Note) (taken : Li
           IsStirred plan s is.item x (here x) (cond a (record (here from) { items = is.left }) (cond b (record (here to) { items = (here to).items ++ is.item ∷ [] }) (here x)))
       by_case a b at_from at_to = let le = (stands.held to is_to).within in grind (arith, same_place, itself, append-nil)
 
+  -- a relay's step is no event
+  no_events : (s : Step) → is_relayed s ≡ true → (emissions : ℕ → List Note) → reasons plan emissions steps s ≡ move_reasons plan (notes_in plan emissions steps) s
+  no_events s relayed emissions = grind arith
+
   -- an item moved from the place of one number to the next
   module _ (s : Step) (i j : ℕ) (move : IsMoveBetween plan s i j) where
     is_to : IsPlaceOf plan move.to
@@ -106,25 +102,23 @@ module _ (plan : Plan) (steps : List Step) (put : ℕ → List Note) (taken : Li
         (entry_grows plan put put steps (s ∷ []) (λ p i note at. at) entry) (stirred_by_shift s move.from move.to move.takes target_is move.is_from is_to apart new is)
         (λ p. rw (no_put p) (sym (append-nil (put p)))) (ap length is.moved ∙ length-set _ (place_number plan move.from) _ ∙ length-set t.places (place_number plan move.to) _))
 
-    tests_are : (emissions : ℕ → List Note) →
-        reasons plan emissions steps s ≡ (false, why.NoSuch) ∷ (eqb (length (held_at t.places i).items) 0, why.Empty) ∷ (nat_le (held_at t.places j).room (length (held_at t.places j).items), why.Full) ∷ []
-    tests_are emissions = no_event emissions ∙ rw (move.named, move.takes, move.is_next, notes_are emissions move.from move.is_from, notes_are emissions move.to is_to, move.number_from, move.number_to, (stands.held move.to is_to).room) refl
+    full_is : nat_le (held_at t.places j).room (length (held_at t.places j).items) ≡ eqb (length (held_at t.places j).items) (held_at t.places j).room
+    full_is = let le = rw (← move.number_to) at (stands.held move.to is_to).within in grind (arith, nat_tests)
 
-    pub was_moved : (new : List Held) → IsShift t.places i j new → ((emissions : ℕ → List Note) → IsAnswer (reasons plan emissions steps s) Done) × IsTransportOf plan (steps ++ s ∷ []) put taken (record t { places = new })
-    was_moved new is =
-        let le = rw (← move.number_to) at (stands.held move.to is_to).within in
-        (λ emissions. grind (arith, nat_tests, tests_are, le), shift_after new (rw (move.number_from, move.number_to) at is))
+    tests_are : (emissions : ℕ → List Note) → reasons plan emissions steps s ≡ (false, why.NoSuch) ∷ shift_reasons t.places i j
+    tests_are emissions = no_event emissions ∙ rw (move.named, move.takes, move.is_next, notes_are emissions move.from move.is_from, notes_are emissions move.to is_to, ← full_is, move.number_from, move.number_to, (stands.held move.to is_to).room) refl
 
-    pub was_empty : (new : List Held) → (held_at t.places i).items ≡ [] → new ≡ t.places → ((emissions : ℕ → List Note) → IsAnswer (reasons plan emissions steps s) (Refused why.Empty)) × IsTransportOf plan (steps ++ []) put taken (record t { places = new })
-    was_empty new none same = grind (arith, same_after, tests_are)
-
-    pub was_full : (new : List Held) → 0 < length (held_at t.places i).items → length (held_at t.places j).items ≡ (held_at t.places j).room → new ≡ t.places → ((emissions : ℕ → List Note) → IsAnswer (reasons plan emissions steps s) (Refused why.Full)) × IsTransportOf plan (steps ++ []) put taken (record t { places = new })
-    was_full new some full same = grind (arith, same_after, tests_are)
+    pub was_advanced : (answer : Reply) (new : List Held) → IsAnswer (shift_reasons t.places i j) answer → (answer ≡ Done → IsShift t.places i j new) → KeepsIfRefused t.places answer new →
+        ((emissions : ℕ → List Note) → IsAnswer (reasons plan emissions steps s) answer) × IsTransportOf plan (steps ++ accepted_by s answer) put taken (record t { places = new })
+    was_advanced answer new answered moved kept = (λ emissions. rw (tests_are emissions) answered, go (first_reason (shift_reasons t.places i j)) answered)
+      where
+        go : (o : Option Why) → MatchOption o (answer ≡ Done) (λ why. answer ≡ Refused why) → IsTransportOf plan (steps ++ accepted_by s answer) put taken (record t { places = new })
+        go None done = rw done (shift_after new (rw (move.number_from, move.number_to) at (moved done)))
+        go (Some why) refused = rw refused (same_after new (kept why refused))
 
   -- a move that names nothing
-  pub refused_named : (s : Step) → ((emissions : ℕ → List Note) → reasons plan emissions steps s ≡ move_reasons plan (notes_in plan emissions steps) s) → names_nothing plan s ≡ true →
-      ((emissions : ℕ → List Note) → IsAnswer (reasons plan emissions steps s) (Refused why.NoSuch)) × IsTransportOf plan (steps ++ []) put taken t
-  refused_named s no_event named = (λ emissions. rw (no_event emissions, named) refl, same_after t.places refl)
+  pub refused_named : (s : Step) → is_relayed s ≡ true → names_nothing plan s ≡ true → ((emissions : ℕ → List Note) → IsAnswer (reasons plan emissions steps s) (Refused why.NoSuch)) × IsTransportOf plan (steps ++ []) put taken t
+  refused_named s relayed named = (λ emissions. rw (no_events s relayed emissions, named) refl, same_after t.places refl)
 
   -- a note was put on the link of its process
   put_after : (p : ℕ) (note : Note) (places : List Held) → p < plan.n → length (here (Link p)).items < (here (Link p)).room →
@@ -191,12 +185,8 @@ module _ (plan : Plan) (steps : List Step) (put : ℕ → List Note) (taken : Li
         front = (after.in_order item.from (process_of entry)).notes;
       }
 
--- the places of two numbers that some step moves an item between
-pub places_apart : (t : TransportState) (i j : ℕ) → IsConveying t → (s : Step) × MovesBetween t s i j → (i < length t.places) × (j < length t.places) × (i ≢ j)
-places_apart t i j (plan, steps, put, taken, stands) (s, moves) = two_places plan steps put taken t stands s i j (moves plan steps put taken stands)
-
 -- between which places a relay's step moves an item
-pub admit_moves : (t : TransportState) (relay p j : ℕ) → is_attached t.plan relay p ≡ true → j ≡ t.plan.n + relay → MovesBetween t (step.Admit relay p) p j
+pub admit_moves : (t : TransportState) (relay p j : ℕ) → is_attached t.plan relay p ≡ true → j ≡ t.plan.n + relay → IsWayOf t (step.Admit relay p) (Some (p, j))
 admit_moves t relay p j attached hold plan steps put taken stands =
     let same = sym (attached_same t.plan plan stands.same_plan relay p) ∙ attached in
     let leaf = attached_is plan relay p same in
@@ -211,7 +201,7 @@ admit_moves t relay p j attached hold plan steps put taken stands =
       number_to = omega (arith, hold, stands.same_plan.n);
     }
 
-pub pull_moves : (t : TransportState) (relay i j : ℕ) → relay < length t.plan.parents.items → is_leaf t.plan relay ≡ false → i ≡ place_number t.plan (InboxOf (Relay relay)) → j ≡ t.plan.n + relay → MovesBetween t (step.Pull relay) i j
+pub pull_moves : (t : TransportState) (relay i j : ℕ) → relay < length t.plan.parents.items → is_leaf t.plan relay ≡ false → i ≡ place_number t.plan (InboxOf (Relay relay)) → j ≡ t.plan.n + relay → IsWayOf t (step.Pull relay) (Some (i, j))
 pull_moves t relay i j within inner inbox hold plan steps put taken stands = record {
   from = InboxOf (Relay relay);
   to = HoldOf relay;
@@ -223,7 +213,7 @@ pull_moves t relay i j within inner inbox hold plan steps put taken stands = rec
   number_to = omega (arith, hold, stands.same_plan.n);
 }
 
-pub pass_moves : (t : TransportState) (relay i j : ℕ) (owner : Parent) → parent_of t.plan relay ≡ Some owner → i ≡ t.plan.n + relay → j ≡ place_number t.plan (InboxOf owner) → MovesBetween t (step.Pass relay) i j
+pub pass_moves : (t : TransportState) (relay i j : ℕ) (owner : Parent) → parent_of t.plan relay ≡ Some owner → i ≡ t.plan.n + relay → j ≡ place_number t.plan (InboxOf owner) → IsWayOf t (step.Pass relay) (Some (i, j))
 pass_moves t relay i j owner parent hold inbox plan steps put taken stands =
     let same : parent_of plan relay ≡ Some owner = ap (λ l. slice_get l relay) (sym stands.same_plan.parents) ∙ parent in
     let within = slice_get_within plan.parents.items relay owner same in

@@ -73,12 +73,7 @@ tallies_push w p tallies tally are is = (
 -- one more step was answered
 pub answered_push : (plan : Plan) (steps : List Step) (replies : List Reply) (old new : WorldState) (s : Step) (reply : Reply) → HasAnswered plan steps replies old →
     ((plan : Plan) (history : List Answered) → IsWorldOf plan history old → IsWorldOf plan (history ++ record { step = s; reply = reply } ∷ []) new) → HasAnswered plan (steps ++ s ∷ []) (replies ++ reply ∷ []) new
-answered_push plan steps replies old new s reply has more = record {
-  history = has.history ++ record { step = s; reply = reply } ∷ [];
-  steps_are = map_push (λ (a : Answered). a.step) has.history (record { step = s; reply = reply }) ∙ ap (λ l. l ++ s ∷ []) has.steps_are;
-  replies_are = map_push (λ (a : Answered). a.reply) has.history (record { step = s; reply = reply }) ∙ ap (λ l. l ++ reply ∷ []) has.replies_are;
-  is = more plan has.history has.is;
-}
+answered_push plan steps replies old new s reply has more = grind (arith, map_push, more plan has.history has.is)
 
 fronts_now : (plan : Plan) (history : List Answered) (w : WorldState) → IsWorldOf plan history w → AreFrontsOfEmissions plan.n (computation (accepted history)) (items_taken history)
 fronts_now plan history w is = subst (λ h. AreFrontsOfEmissions plan.n (computation (accepted h)) (items_taken h)) (take_all (length history) history (le_refl (length history))) (is.fronts (length history))

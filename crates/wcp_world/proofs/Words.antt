@@ -22,7 +22,8 @@ pub use Rattle.wcp_model.specs.Computation.{Computation, is_communication_of, is
 pub use Rattle.wcp_model.specs.Emission.{AreEmissions, is_closed}
 pub use Rattle.wcp_model.specs.FirstReason.{first_reason}
 pub use Rattle.wcp_model.specs.Occupancy.{Place, Pending, InboxOf, source, is_place, takes_from, puts_into, taken_from, next_place, notes_in, IsEntry, Emitted, Moved, Link, target, is_same_place, HoldOf, room_of}
-pub use Rattle.wcp_model.specs.ProbeLog.{Call, Observed, Sent, Received, Closed, ProbeSetup, after_call, setup, is_step_of, IsStampOf, IsCallOf, IsAccepted, ProbeState, state_of_log, HasClockAndEmissions}
+pub use Rattle.wcp_model.specs.declared.probe_setup.ProbeSetup.{ProbeSetup}
+pub use Rattle.wcp_model.specs.ProbeLog.{Call, Observed, Sent, Received, Closed, after_call, setup, is_step_of, IsStampOf, IsCallOf, IsAccepted, ProbeState, state_of_log, HasClockAndEmissions}
 pub use Rattle.wcp_model.specs.Replies.{is_event, computation, accepted_by, taken_by, event_reasons, reasons, IsAcceptance, IsReply, Answered, accepted, items_taken, AreReplies, move_reasons, names_nothing, receivers, is_receive_of, was_received, was_sent_to}
 pub use Rattle.wcp_model.specs.Report.{notes_taken, AreFrontsOfEmissions, AreInTurn, ClocksRise, IsReportByClocks}
 pub use Rattle.wcp_model.specs.Tree.{leaf_of, parent_of, IsSamePlan, is_number, is_attached, is_leaf}
@@ -43,7 +44,7 @@ pub use Rattle.wcp_world.specs.Messages.{why_of, delivery_reasons, IsPosted, IsD
 pub use Rattle.wcp_world.specs.Plays.{IsTallyOf, AreTalliesOf, HasAnswered}
 pub use Rattle.wcp_world.specs.Processes.{ProcessesState, Performs, WasPut, pending_at, AreProcessesOf, IsProbeOf, AreLettersOf, IsLetterOf, CountsEmissions}
 pub use Rattle.wcp_world.specs.PutNotes.{put_more}
-pub use Rattle.wcp_world.specs.Transport.{TransportState, IsTransportOf, IsNextAtRoot, Conveys, Puts, TakesNext, next_of, ReadsNext, IsHeldAt, IsPlaceOf, IsWay, place_number, held_at, notes_along, notes_at, IsMoveBetween, MovesBetween, IsConveying}
+pub use Rattle.wcp_world.specs.Transport.{TransportState, IsTransportOf, IsNextAtRoot, Conveys, Puts, TakesNext, next_of, ReadsNext, IsHeldAt, IsPlaceOf, IsWay, place_number, held_at, notes_along, notes_at, IsMoveBetween, IsWayOf, is_relayed, IsConveying, IsShift, shift_reasons}
 pub use Rattle.wcp_world.specs.World.{WorldState, Stands, MakesStep, IsReached, IsWorldOf}
 pub use Rattle.wcp_world.specs.WorldView.{state_of}
 pub use Rattle.wcp_world.specs.declared.messages.Letter.{Letter}

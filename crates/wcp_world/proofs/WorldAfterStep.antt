@@ -1,4 +1,4 @@
-use Rattle.wcp_world.proofs.Words.{first_reason, ◌≡◌, ℕ, ◌+◌, ◌<◌, true, false, nat_lt, is_some, Option, None, Some, MatchOption, List, [], ◌∷◌, ◌++◌, length, eqb, eq-eqb, refl, sym, ap, ◌∙◌, subst, append-nil, append_assoc, add-zero, arith, ◌≤◌, Result, Ok, Err, IfOk, true≢false, option_and_then, option_to_list, nat_tests, length-append, filter-append, Item, Note, Plan, Step, Reply, Done, Took, Refused, Why, AreEmissions, Place, Pending, InboxOf, source, is_place, takes_from, puts_into, taken_from, next_place, notes_in, IsEntry, is_event, computation, accepted_by, taken_by, event_reasons, reasons, IsAcceptance, IsReply, ProcessesState, Performs, WasPut, pending_at, TransportState, IsTransportOf, IsNextAtRoot, Conveys, Puts, TakesNext, next_of, ReadsNext, put_more, WorldState, Stands, MakesStep, CheckerState, MayTake, TakesItem, processes, notes_taken, AreFrontsOfEmissions, next_of_emissions, Root}
+use Rattle.wcp_world.proofs.Words.{first_reason, ◌≡◌, ℕ, ◌+◌, ◌<◌, true, false, nat_lt, is_some, Option, None, Some, MatchOption, List, [], ◌∷◌, ◌++◌, length, eqb, eq-eqb, refl, sym, ap, ◌∙◌, subst, append-nil, append_assoc, add-zero, arith, ◌≤◌, Result, Ok, Err, IfOk, true≢false, option_and_then, option_to_list, nat_tests, length-append, filter-append, Item, Note, Plan, Step, Reply, Done, Took, Refused, Why, AreEmissions, Place, Pending, InboxOf, source, is_place, takes_from, puts_into, taken_from, next_place, notes_in, IsEntry, is_event, computation, accepted_by, taken_by, event_reasons, reasons, IsAcceptance, IsReply, ProcessesState, Performs, WasPut, pending_at, TransportState, IsTransportOf, IsNextAtRoot, Conveys, Puts, TakesNext, next_of, ReadsNext, is_relayed, put_more, WorldState, Stands, MakesStep, CheckerState, MayTake, TakesItem, processes, notes_taken, AreFrontsOfEmissions, next_of_emissions, Root}
 use Rattle.wcp_clock.specs.declared.note.Note.TheVariants as note
 use Rattle.wcp_model.specs.declared.step.Step.TheVariants as step
 use Rattle.wcp_model.specs.declared.step.Why.TheVariants as why
@@ -74,13 +74,18 @@ module _ (plan : Plan) (steps : List Step) (taken : List Item) (w : WorldState) 
         grind (arith, append-nil taken, append-nil steps, computation_push steps s answer event, idle plan steps stands.put taken w.transport s still stands.transport),
       )
 
-  -- a move that the transport answered
-  pub move_answered : (s : Step) (answer : Reply) (new : TransportState) → is_event s ≡ false → (answer ≡ Done → IsAcceptance plan emissions steps s answer) → Conveys w.transport s answer new →
+  -- a relay's step is accepted where it is done
+  relayed_accepts : (s : Step) (answer : Reply) → is_relayed s ≡ true → answer ≡ Done → IsAcceptance plan emissions steps s answer
+  relayed_accepts s answer relayed done = grind arith
+
+  -- a relay's step that the transport answered
+  pub move_answered : (s : Step) (answer : Reply) (new : TransportState) → is_relayed s ≡ true → Conveys w.transport s answer new →
       IsReply plan steps s answer × Stands plan (steps ++ accepted_by s answer) (taken ++ taken_by answer) (record w { transport = new })
-  move_answered s answer new quiet accepts conveys =
+  move_answered s answer new relayed conveys =
+      let quiet : is_event s ≡ false = grind arith in
       let told = conveys plan steps stands.put taken stands.transport in
       let first = told.0 emissions in (
-        reply_is s answer (accepting (first_reason (reasons plan emissions steps s)) answer _ accepts first),
+        reply_is s answer (accepting (first_reason (reasons plan emissions steps s)) answer _ (relayed_accepts s answer relayed) first),
         grind (arith, append-nil, computation_stays, no_item),
       )
 

@@ -1,5 +1,5 @@
-use Rattle.std.specs.Prelude.{◌≡◌, ℕ, ◌+◌, ◌<◌, ◌≤◌, Bool, true, false, if◌then◌else◌, Option, Some, MatchOption}
-use Rattle.std.specs.Prelude.{List, [], ◌∷◌, ◌++◌, length, count_by, slice_get, slice_index_or}
+use Rattle.std.specs.Prelude.{◌≡◌, ◌≢◌, ◌==◌, ℕ, ◌+◌, ◌<◌, ◌≤◌, Bool, true, false, if◌then◌else◌, Option, Some, MatchOption}
+use Rattle.std.specs.Prelude.{List, [], ◌∷◌, ◌++◌, length, count_by, slice_get, slice_set, slice_index_or}
 use Rattle.wcp_clock.specs.declared.note.Item.{Item}
 use Rattle.wcp_clock.specs.declared.note.Note.{Note}
 use Rattle.wcp_model.specs.declared.plan.Parent.TheVariants.{Root, Relay}
@@ -8,7 +8,8 @@ use Rattle.wcp_model.specs.declared.step.Step.{Step}
 use Rattle.wcp_model.specs.declared.step.Step.TheVariants as step
 use Rattle.wcp_model.specs.declared.step.Reply.{Reply}
 use Rattle.wcp_model.specs.declared.step.Reply.TheVariants.{Done, Refused}
-use Rattle.wcp_model.specs.declared.step.Why.TheVariants.{Full}
+use Rattle.wcp_model.specs.declared.step.Why.{Why}
+use Rattle.wcp_model.specs.declared.step.Why.TheVariants.{Empty, Full}
 use Rattle.wcp_model.specs.PlanFault.{IsCheckedPlan}
 use Rattle.wcp_model.specs.Tree.{IsSamePlan}
 use Rattle.wcp_model.specs.Occupancy.{Place, Pending, Link, HoldOf, InboxOf}
@@ -146,6 +147,31 @@ pub record IsMoveBetween (plan : Plan) (s : Step) (i j : ℕ) : Type 0 where
   pub number_from : i ≡ place_number plan from
   pub number_to : j ≡ place_number plan to
 
-abbrev pub MovesBetween : TransportState → Step → ℕ → ℕ → Type 0
-MovesBetween t s i j = (plan : Plan) (steps : List Step) (put : ℕ → List Note) (taken : List Item) →
-    IsTransportOf plan steps put taken t → IsMoveBetween plan s i j
+-- The steps by which relays move items.
+abbrev pub is_relayed : Step → Bool
+is_relayed (step.Admit relay p) = true
+is_relayed (step.Pull relay) = true
+is_relayed (step.Pass relay) = true
+is_relayed s = false
+
+-- From which place to which a step moves an item, by number, unless it names nothing.
+abbrev pub IsWayOf : TransportState → Step → Option (ℕ × ℕ) → Type 0
+IsWayOf t s way = (plan : Plan) (steps : List Step) (put : ℕ → List Note) (taken : List Item) →
+    IsTransportOf plan steps put taken t →
+    MatchOption way (names_nothing plan s ≡ true) (λ ends. IsMoveBetween plan s ends.0 ends.1)
+
+-- Why the first item of one place may not move to another.
+abbrev pub shift_reasons : List Held → ℕ → ℕ → List (Bool × Why)
+shift_reasons places from to =
+    (length (held_at places from).items == 0, Empty)
+    ∷ (length (held_at places to).items == (held_at places to).room, Full) ∷ []
+
+-- The first item of one place has moved behind those of another.
+pub record IsShift (old : List Held) (from to : ℕ) (new : List Held) : Type 0 where
+  pub item : Item
+  pub left : List Item
+  pub first : (held_at old from).items ≡ item ∷ left
+  pub fits : length (held_at old to).items ≢ (held_at old to).room
+  pub moved : new ≡ slice_set (slice_set old to (record (held_at old to) {
+    items = (held_at old to).items ++ item ∷ [];
+  })) from (record (held_at old from) { items = left })

@@ -29,7 +29,7 @@ impl Detector {
         ensures { IfOk result (λ detector. Stands plan.now [] [] (state_of detector)) }
     {
         Ok(Detector {
-            processes: Processes::new(alloc, plan.n)?,
+            processes: Processes::new(alloc, plan)?,
             transport: Transport::new(alloc, plan)?,
             checker: Checker::new(alloc, plan.n)?,
         })
@@ -49,9 +49,7 @@ impl Detector {
             Step::Recv(p, message) => Ok(self.processes.receive(p, message)),
             Step::Close(p) => Ok(self.processes.close(p)),
             Step::Put(p) => Ok(self.put(p)),
-            Step::Admit(relay, p) => Ok(self.transport.admit(relay, p)),
-            Step::Pull(relay) => Ok(self.transport.pull(relay)),
-            Step::Pass(relay) => Ok(self.transport.pass(relay)),
+            Step::Admit(..) | Step::Pull(_) | Step::Pass(_) => Ok(self.transport.convey(step)),
             Step::Check => self.check(),
         }
     }

@@ -11,7 +11,7 @@ use crate::messages::Letters;
 use std::alloc::{AllocError, Global};
 use std::marker::Model;
 use wcp_clock::{CLOCK_LIMIT, Note};
-use wcp_model::{Reply, Why};
+use wcp_model::{Plan, Reply, Why};
 use wcp_probe::{ProbeCore, Refusal};
 
 /// The processes that are watched: the probe of each, and the messages between them.
@@ -30,14 +30,14 @@ impl Model for Processes {
 }
 
 impl Processes {
-    /// `n` processes, before any event. `Err` where memory runs out.
-    pub fn new(alloc: Global, n: u32) -> Result<Processes, AllocError>
-        requires { n ≤ most_processes }
-        ensures { IfOk result (λ app. AreProcessesOf n [] (λ p. []) app) }
+    /// The processes of a plan, before any event. `Err` where memory runs out.
+    pub fn new(alloc: Global, plan: &Plan) -> Result<Processes, AllocError>
+        requires { plan.now.n ≤ most_processes }
+        ensures { IfOk result (λ app. AreProcessesOf plan.now.n [] (λ p. []) app) }
     {
-        let mut probes = Vec::with_capacity(alloc, n as usize)?;
-        for id in 0..n {
-            probes.push(ProbeCore::new(0, id, n, CLOCK_LIMIT))?;
+        let mut probes = Vec::with_capacity(alloc, plan.n as usize)?;
+        for id in 0..plan.n {
+            probes.push(ProbeCore::new(0, plan.probe_setup(id), CLOCK_LIMIT))?;
         }
         Ok(Processes {
             probes,

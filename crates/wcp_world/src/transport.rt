@@ -1,20 +1,19 @@
-ghost use Rattle.std.specs.Prelude.{◌≡◌, ℕ, ◌+◌, ◌<◌, ◌≤◌, false, [], ◌++◌, length, replicate};
+ghost use Rattle.std.specs.Prelude.{◌≡◌, ◌≢◌, ℕ, ◌+◌, ◌<◌, ◌≤◌, true, false, [], ◌++◌, length, replicate};
 ghost use Rattle.std.specs.Prelude.{IsSome, IfOk, OnOk};
 ghost use Rattle.wcp_clock.specs.Limits.{most_cap};
 ghost use Rattle.wcp_model.specs.declared.plan.Plan.{Plan};
-ghost use Rattle.wcp_model.specs.declared.step.Step.{Step};
-ghost use Rattle.wcp_model.specs.declared.step.Step.TheVariants as step;
+ghost use Rattle.wcp_model.specs.declared.step.Reply.TheVariants.{Done};
 ghost use Rattle.wcp_model.specs.Occupancy.{InboxOf};
 ghost use Rattle.wcp_model.specs.PlanFault.{IsCheckedPlan};
 ghost use Rattle.wcp_hold.specs.Held.{empty_hold};
-ghost use Rattle.wcp_world.specs.Answer.{KeepsIfRefused};
-ghost use Rattle.wcp_world.specs.Transport.{place_number};
+ghost use Rattle.wcp_world.specs.Answer.{IsAnswer, KeepsIfRefused};
+ghost use Rattle.wcp_world.specs.Transport.{IsShift, is_relayed, place_number, shift_reasons};
 
 use std::alloc::{AllocError, Global};
 use std::marker::Model;
 use wcp_clock::{Item, Note};
 use wcp_hold::Hold;
-use wcp_model::{Parent, Plan, Reply, Why};
+use wcp_model::{Parent, Plan, Reply, Step, Why};
 
 /// The tree of relays of a plan: the links, the holds and the inboxes. A contract sees its plan and
 /// what each place holds.
@@ -35,7 +34,7 @@ impl Model for Transport {
 
 impl Transport {
     ghost use Rattle.wcp_world.specs.Transport.{IsTransportOf, IsConveying, Conveys, ReadsNext, TakesNext, Puts};
-    ghost use Rattle.wcp_world.specs.Transport.{MovesBetween, next_of};
+    ghost use Rattle.wcp_world.specs.Transport.{IsWayOf, next_of};
 
     /// The transport of a plan, before any step. `Err` where memory runs out.
     #[tactic(auto, using(crate::proofs::Places::plan_limits))]
@@ -67,45 +66,18 @@ impl Transport {
         }
     }
 
-    /// A relay takes a note from the link of process `p` into its hold.
-    pub fn admit(&mut self, relay: u32, p: u32) -> Reply
-        requires { IsConveying self.old }
-        ensures answered { Conveys self.old (step.Admit relay p) result self.new }
+    /// A relay takes a note from a link or an item from its inbox into its hold, or passes an item
+    /// from its hold to its parent's inbox.
+    pub fn convey(&mut self, step: Step) -> Reply
+        requires conveying { IsConveying self.old }
+        requires relays { is_relayed step ≡ true }
+        ensures answered { Conveys self.old step result self.new }
         ensures refused { KeepsIfRefused self.old result self.new }
     {
-        if !self.plan.is_attached(relay, p) {
-            return Reply::Refused(Why::NoSuch);
+        match self.way(step) {
+            Some((from, to)) => advance(&mut self.places, from, to),
+            None => Reply::Refused(Why::NoSuch),
         }
-        let to = self.hold(relay);
-        self.convey(p as usize, to)
-    }
-
-    /// A relay takes an item from its inbox into its hold.
-    pub fn pull(&mut self, relay: u32) -> Reply
-        requires { IsConveying self.old }
-        ensures answered { Conveys self.old (step.Pull relay) result self.new }
-        ensures refused { KeepsIfRefused self.old result self.new }
-    {
-        if relay as usize >= self.plan.parents.len() || self.plan.is_leaf(relay) {
-            return Reply::Refused(Why::NoSuch);
-        }
-        let from = self.inbox(Parent::Relay(relay));
-        let to = self.hold(relay);
-        self.convey(from, to)
-    }
-
-    /// A relay passes an item from its hold to its parent's inbox.
-    pub fn pass(&mut self, relay: u32) -> Reply
-        requires { IsConveying self.old }
-        ensures answered { Conveys self.old (step.Pass relay) result self.new }
-        ensures refused { KeepsIfRefused self.old result self.new }
-    {
-        let Some(parent) = self.plan.parent_of(relay) else {
-            return Reply::Refused(Why::NoSuch);
-        };
-        let from = self.hold(relay);
-        let to = self.inbox(parent);
-        self.convey(from, to)
     }
 
     /// The item that the checker may take next.
@@ -127,22 +99,30 @@ impl Transport {
         let _ = self.places[root].pop();
     }
 
-    /// The first item of one place moves to the next, where there is one and room for it.
-    fn convey(&mut self, from: usize, to: usize) -> Reply
-        requires conveying { IsConveying self.old }
-        requires next { (s : Step) × MovesBetween self.old s from to }
-        ensures answered { (s : Step) → MovesBetween self.old s from to → Conveys self.old s result self.new }
-        ensures refused { KeepsIfRefused self.old result self.new }
+    /// From which place to which a relay's step moves an item, if it names a relay and a place that
+    /// there are.
+    fn way(&self, step: Step) -> Option<(usize, usize)>
+        requires { is_relayed step ≡ true }
+        ensures { IsWayOf self.now step result }
     {
-        let Some(item) = self.places[from].front() else {
-            return Reply::Refused(Why::Empty);
-        };
-        match self.places[to].push(item) {
-            Ok(()) => {
-                let _ = self.places[from].pop();
-                Reply::Done
+        match step {
+            Step::Admit(relay, p) => {
+                if !self.plan.is_attached(relay, p) {
+                    return None;
+                }
+                Some((p as usize, self.hold(relay)))
             }
-            Err(_) => Reply::Refused(Why::Full),
+            Step::Pull(relay) => {
+                if relay as usize >= self.plan.parents.len() || self.plan.is_leaf(relay) {
+                    return None;
+                }
+                Some((self.inbox(Parent::Relay(relay)), self.hold(relay)))
+            }
+            Step::Pass(relay) => {
+                let parent = self.plan.parent_of(relay)?;
+                Some((self.hold(relay), self.inbox(parent)))
+            }
+            _ => unreachable!(),
         }
     }
 
@@ -162,6 +142,27 @@ impl Transport {
             Parent::Root => root,
             Parent::Relay(relay) => root + 1 + relay as usize,
         }
+    }
+}
+
+/// Moves the first item of one place behind those of another, if there is one and room for it.
+fn advance(places: &mut [Hold], from: usize, to: usize) -> Reply
+    requires from { from < length places.old }
+    requires to { to < length places.old }
+    requires apart { from ≢ to }
+    ensures answered { IsAnswer (shift_reasons places.old from to) result }
+    ensures moved { result ≡ Done → IsShift places.old from to places.new }
+    ensures refused { KeepsIfRefused places.old result places.new }
+{
+    let Some(item) = places[from].front() else {
+        return Reply::Refused(Why::Empty);
+    };
+    match places[to].push(item) {
+        Ok(()) => {
+            let _ = places[from].pop();
+            Reply::Done
+        }
+        Err(_) => Reply::Refused(Why::Full),
     }
 }
 

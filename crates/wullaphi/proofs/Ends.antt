@@ -7,20 +7,21 @@ use Rattle.wcp_book.specs.Totals.{AreTotals}
 use Rattle.wcp_clock.specs.declared.note.Note.{Note}
 use Rattle.wcp_model.proofs.SamePlace.{element_within}
 use Rattle.wcp_model.specs.PlanFault.{IsCheckedPlan}
-use Rattle.wcp_model.specs.ProbeLog.{Call, Closed, ProbeSetup, setup, state_of_log}
+use Rattle.wcp_model.specs.declared.probe_setup.ProbeSetup.{ProbeSetup}
+use Rattle.wcp_model.specs.ProbeLog.{Call, Closed, setup, state_of_log}
 use Rattle.wcp_model.specs.Report.{IsDrained, IsReportByClocks, notes_taken}
 use Rattle.wcp_model.specs.declared.outcome.Tally.{Tally}
 use Rattle.wcp_book.specs.State.{BookState}
 use Rattle.wcp_model.specs.declared.plan.Plan.{Plan}
-use Rattle.wcp_probe.specs.Core.{setup_of}
+use Rattle.wcp_probe.specs.Core.{Core, setup_of}
 use Rattle.wcp_tree.specs.LiveProbe.{ClosedSide, LiveFor, LiveSide, snapshots_in}
 use Rattle.wcp_tree.proofs.Entries.{All-at, mapped_at}
-use Rattle.wcp_run.proofs.WatchEnds.{IsEndOfProcess, all_processes, come_from_parts, end_of_process}
-use Rattle.wcp_run.specs.RunParts.{HaveEnded}
-use Rattle.wcp_run.specs.Settling.{ComeFromWatch, IsEndOfSomeProbe, IsSettled}
-use Rattle.wcp_run.specs.declared.running.Ends.{Ends}
-use Rattle.wcp_run.specs.declared.running.Parts.{Parts}
-use Rattle.wcp_run.specs.declared.settled.Settled.{Settled}
+use Rattle.wcp_watch.proofs.WatchEnds.{IsEndOfProcess, all_processes, come_from_parts, end_of_process}
+use Rattle.wcp_watch.specs.RunParts.{HaveEnded}
+use Rattle.wcp_watch.specs.Settling.{ComeFromWatch, IsEndOfSomeProbe, IsSettled}
+use Rattle.wcp_watch.specs.declared.running.Ends.{Ends}
+use Rattle.wcp_watch.specs.declared.running.Parts.{Parts}
+use Rattle.wcp_watch.specs.declared.settled.Settled.{Settled}
 use Rattle.wullaphi.specs.Lent.{HasRun}
 use Rattle.wullaphi.specs.Seats.{ArePartsOf, IsEndOfSeat}
 use Rattle.wullaphi.specs.Watched.{IsWatched, tally_of}
@@ -28,14 +29,23 @@ use Rattle.wullaphi.specs.declared.seat.Seat.{Seat}
 use Rattle.wullaphi.specs.declared.seat.SeatEnd.{SeatEnd}
 use Rattle.wullaphi.specs.declared.watched.Watched.{Watched}
 
-module _ {P A : Type 0} (Leaves : P → LiveSide → A → Type 0) {plan : Plan} {processes : List P} {parts : Parts (Seat P)} {ends : Ends (SeatEnd A)}
-    (checked : IsCheckedPlan plan) (are : ArePartsOf plan processes parts) (ended : HaveEnded (IsEndOfSeat Leaves) parts ends) where
+module _ {P A : Type 0} (Leaves : P → LiveSide → A → Type 0) {plan : Plan} {number : ℕ} {processes : List P} {parts : Parts (Seat P)} {ends : Ends (SeatEnd A)}
+    (checked : IsCheckedPlan plan) (are : ArePartsOf plan number processes parts) (ended : HaveEnded (IsEndOfSeat Leaves) parts ends) where
+  -- a probe that was made for a process is of this watch
+  number_is : (k : ℕ) (probe : LiveSide) → slice_get are.watch.probes.items k ≡ Some probe → probe.core.watch ≡ number
+  number_is k probe at =
+      let ring = are.wired.rings.each k (omega (arith, slice_get_within are.watch.probes.items k probe at, are.wired.rings.probes_count)) in
+      let two : Some ring.probe ≡ Some probe = sym ring.is_probe ∙ at in
+      let is : ring.probe ≡ probe = cc in
+      ap (λ (s : LiveSide). s.core.watch) (sym is) ∙ ap (λ (c : Core). c.watch) ring.fresh
+
   -- the end at a place is that of the seat there, whose probe is that of its process
   record HasEnd (k : ℕ) (end : SeatEnd A) : Type 0 where
     pub seat : Seat P
     pub seat_at : slice_get parts.workers.items k ≡ Some seat
     pub is_end : IsEndOfSeat Leaves seat end
     pub of_process : IsEndOfProcess are.watch plan.n k seat.probe end.probe
+    pub of_watch : seat.probe.core.watch ≡ number
 
   end_at : (k : ℕ) (end : SeatEnd A) → slice_get ends.workers.items k ≡ Some end → HasEnd k end
   end_at k end at =
@@ -43,7 +53,7 @@ module _ {P A : Type 0} (Leaves : P → LiveSide → A → Type 0) {plan : Plan}
       let is_end = ended.workers.each k seat end seat_at at in
       let there : slice_get are.watch.probes.items k ≡ Some seat.probe =
       ap (λ (probes : List LiveSide). slice_get probes k) (sym are.probes) ∙ mapped_at (λ (s : Seat P). s.probe) parts.workers.items k seat seat_at in
-      record { seat = seat; seat_at = seat_at; is_end = is_end; of_process = end_of_process are.wired k seat.probe end.probe there is_end.closed }
+      record { seat = seat; seat_at = seat_at; is_end = is_end; of_process = end_of_process are.wired k seat.probe end.probe there is_end.closed; of_watch = number_is k seat.probe there }
 
   count : length ends.workers.items ≡ plan.n
   count = omega (arith, ended.workers.count, sym (length-map parts.workers.items (λ (s : Seat P). s.probe)) ∙ ap length are.probes, are.wired.rings.probes_count)
@@ -91,7 +101,7 @@ module _ {P A : Type 0} (Leaves : P → LiveSide → A → Type 0) {plan : Plan}
       answers_count = ap length answers_are ∙ sym (ap length answered) ∙ length-map ends.workers.items (λ (e : SeatEnd A). e.answer) ∙ count
 
       ran : (p : ℕ) (process : P) (answer : A) → slice_get processes p ≡ Some process → slice_get watched.answers.items p ≡ Some answer
-          → HasRun Leaves (setup plan.n p) process answer (notes_taken p ends.checker.receipt.taken)
+          → HasRun Leaves number (setup plan.n p) process answer (notes_taken p ends.checker.receipt.taken)
       ran p process answer process_at answer_at =
           let (end, at) = element_within ends.workers.items p (omega (arith, slice_get_within watched.answers.items p answer answer_at, answers_count, count)) in
           let of = end_at p end at in
@@ -104,6 +114,7 @@ module _ {P A : Type 0} (Leaves : P → LiveSide → A → Type 0) {plan : Plan}
           let process_is : of.seat.process ≡ process = cc in
           record {
             probe = has_run.probe;
+            of_watch = has_run.of_watch ∙ of.of_watch;
             of_process = has_run.of_process ∙ of.of_process.made;
             leaves = subst (λ (x : P). Leaves x has_run.probe answer) process_is (subst (λ (a : A). Leaves of.seat.process has_run.probe a) answer_is has_run.leaves);
             some_log = has_run.some_log;
@@ -128,7 +139,7 @@ module _ {P A : Type 0} (Leaves : P → LiveSide → A → Type 0) {plan : Plan}
           ∙ ap (λ notes. Some (tally (snapshots_in notes) (snapshots_in (notes_taken end.probe.id ends.checker.receipt.taken)))) (sym (taken_at p end at))
           ∙ ap (λ q. Some (tally (snapshots_in (notes_taken p ends.checker.receipt.taken)) (snapshots_in (notes_taken q ends.checker.receipt.taken)))) of.of_process.id
 
-      pub is_watched : IsWatched Leaves plan.n processes watched
+      pub is_watched : IsWatched Leaves number plan.n processes watched
       is_watched = record {
         taken = ends.checker.receipt.taken;
         processes_are = processes_count;

@@ -2,7 +2,8 @@
 use Rattle.std.proofs.Common.{◌≡◌, ◌+◌, ℕ, Bool, true, false, Option, Some, None, Result, Ok, Err, OnOk, IfErr, refl, sym, ap, subst, ◌∙◌}
 use Rattle.std.specs.Prelude.{if◌then◌else◌}
 use Rattle.wcp_clock.specs.declared.note.Note.TheVariants as note
-use Rattle.wcp_model.specs.ProbeLog.{Call, ProbeSetup}
+use Rattle.wcp_model.specs.declared.probe_setup.ProbeSetup.{ProbeSetup}
+use Rattle.wcp_model.specs.ProbeLog.{Call}
 use Rattle.wcp_probe.specs.Core.{Core, IsSameProbe}
 use Rattle.wcp_ring.specs.Ends.{Ring}
 use Rattle.wcp_tree.specs.LiveProbe.{LiveAccepts, LiveSide}

@@ -7,18 +7,18 @@ use Rattle.wcp_probe.specs.Core.{Core}
 use Rattle.wcp_tree.proofs.Entries.{mapped_at}
 use Rattle.wcp_tree.proofs.LiveProbes.{fresh_stands}
 use Rattle.wcp_tree.specs.LiveProbe.{LiveSide}
-use Rattle.wcp_run.specs.RunParts.{AreReady}
-use Rattle.wcp_run.specs.declared.running.Parts.{Parts}
-use Rattle.wcp_worker.proofs.FreshProbes.{probes_fresh}
+use Rattle.wcp_watch.specs.RunParts.{AreReady}
+use Rattle.wcp_watch.specs.declared.running.Parts.{Parts}
+use Rattle.wcp_tree.proofs.FreshProbes.{probes_fresh}
 use Rattle.wullaphi.specs.Seats.{ArePartsOf, IsNewSeat}
 use Rattle.wullaphi.specs.declared.seat.Seat.{Seat}
 
-module _ {P : Type 0} {plan : Plan} {processes : List P} {parts : Parts (Seat P)} (are : ArePartsOf plan processes parts) where
+module _ {P : Type 0} {plan : Plan} {number : ℕ} {processes : List P} {parts : Parts (Seat P)} (are : ArePartsOf plan number processes parts) where
   seat_ready : (k : ℕ) (seat : Seat P) → slice_get parts.workers.items k ≡ Some seat → IsNewSeat seat
   seat_ready k seat at =
       let there : slice_get are.watch.probes.items k ≡ Some seat.probe =
       ap (λ (probes : List LiveSide). slice_get probes k) (sym are.probes) ∙ mapped_at (λ (s : Seat P). s.probe) parts.workers.items k seat at in
-      let fresh = (probes_fresh plan are.number are.watch are.wired).each k seat.probe there in
+      let fresh = (probes_fresh plan number are.watch are.wired).each k seat.probe there in
       record { fresh = fresh_stands _ k plan.n seat.probe fresh.0 fresh.1; put = ap (λ (core : Core). core.pending) fresh.0 }
 
   pub all_ready : AreReady IsNewSeat parts

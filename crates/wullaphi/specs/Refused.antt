@@ -1,6 +1,6 @@
 -- Why a watch tells nothing.
-use Rattle.wcp_run.specs.declared.running.StartFault.{StartFault}
-use Rattle.wcp_run.specs.declared.running.StartFault.TheVariants as start
+use Rattle.wcp_watch.specs.declared.running.StartFault.{StartFault}
+use Rattle.wcp_watch.specs.declared.running.StartFault.TheVariants as start
 use Rattle.wullaphi.specs.declared.watch_fault.WatchFault.{WatchFault}
 use Rattle.wullaphi.specs.declared.watch_fault.WatchFault.TheVariants as fault
 

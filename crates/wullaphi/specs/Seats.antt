@@ -5,8 +5,8 @@ use Rattle.wcp_probe.specs.Core.{setup_of}
 use Rattle.wcp_tree.specs.LiveProbe.{IsEndOfProbe, LiveFor, LiveSide}
 use Rattle.wcp_tree.specs.Watches.{IsWired}
 use Rattle.wcp_tree.specs.declared.parts.Watch.{Watch}
-use Rattle.wcp_run.specs.CheckerEnds.{IsFreshFor}
-use Rattle.wcp_run.specs.declared.running.Parts.{Parts}
+use Rattle.wcp_watch.specs.CheckerEnds.{IsFreshFor}
+use Rattle.wcp_watch.specs.declared.running.Parts.{Parts}
 use Rattle.wullaphi.specs.Lent.{HasRun}
 use Rattle.wullaphi.specs.declared.seat.Seat.{Seat}
 use Rattle.wullaphi.specs.declared.seat.SeatEnd.{SeatEnd}
@@ -20,12 +20,12 @@ pub record IsNewSeat {P : Type 0} (seat : Seat P) : Type 0 where
 pub record IsEndOfSeat {P A : Type 0} (Leaves : P → LiveSide → A → Type 0)
     (seat : Seat P) (end : SeatEnd A) : Type 0 where
   pub closed : IsEndOfProbe seat.probe end.probe
-  pub ran : HasRun Leaves (setup_of seat.probe.core) seat.process end.answer end.probe.link.put
+  pub ran : HasRun Leaves seat.probe.core.watch (setup_of seat.probe.core) seat.process end.answer end.probe.link.put
 
--- The parts of a watch that was wired as a plan says: a seat for each process, which has its probe, the relays, and a
--- fresh checker.
-pub record ArePartsOf {P : Type 0} (plan : Plan) (processes : List P) (parts : Parts (Seat P)) : Type 0 where
-  pub number : ℕ
+-- The parts of a watch of this number that was wired as a plan says: a seat for each process, which has its probe, the
+-- relays, and a fresh checker.
+pub record ArePartsOf {P : Type 0} (plan : Plan) (number : ℕ) (processes : List P)
+    (parts : Parts (Seat P)) : Type 0 where
   pub watch : Watch
   pub wired : IsWired plan number watch
   pub probes : map (λ seat. seat.probe) parts.workers.items ≡ watch.probes.items

@@ -14,17 +14,17 @@ use Rattle.wullaphi.specs.declared.watched.Watched.{Watched}
 abbrev pub tally_of : List Note → Tally
 tally_of notes = record { emitted = snapshots_in notes; taken = snapshots_in notes }
 
--- A watch of these n processes tells this: each has run with its probe and gave the answer at its place; what the
--- checker took of it are all notes of its probe, each once and in order; the report is the exact one of all that was
--- taken; and the totals are the sums of the tallies.
-pub record IsWatched {P A : Type 0} (Leaves : P → LiveSide → A → Type 0) (n : ℕ) (processes : List P)
+-- A watch of this number, of these n processes, tells this: each has run with its probe, of this watch, and gave the
+-- answer at its place; what the checker took of it are all notes of its probe, each once and in order; the report is
+-- the exact one of all that was taken; and the totals are the sums of the tallies.
+pub record IsWatched {P A : Type 0} (Leaves : P → LiveSide → A → Type 0) (number n : ℕ) (processes : List P)
     (watched : Watched A) : Type 0 where
   pub taken : List Item
   pub processes_are : length processes ≡ n
   pub answers : length watched.answers.items ≡ n
   pub ran : (p : ℕ) (process : P) (answer : A)
       → slice_get processes p ≡ Some process → slice_get watched.answers.items p ≡ Some answer
-      → HasRun Leaves (setup n p) process answer (notes_taken p taken)
+      → HasRun Leaves number (setup n p) process answer (notes_taken p taken)
   pub drained : IsDrained n taken
   pub exact : IsReportByClocks n taken watched.outcome.report
   pub all_tallies : length watched.outcome.tallies ≡ n

@@ -19,7 +19,7 @@ pub(crate) fn lend_and_close<S, A, P: Process<Shared = S, Answer = A>, R: Wait>(
     requires fresh { LiveFor probe [] }
     requires put { probe.core.pending ≡ None }
     ensures closed { IsEndOfProbe probe result.1 }
-    ensures ran { HasRun P.leaves (setup_of probe.core) process result.0 result.1.link.put }
+    ensures ran { HasRun P.leaves probe.core.watch (setup_of probe.core) process result.0 result.1.link.put }
 {
     lend::<Brand, S, A, P, R>(rt, process, probe, shared)
 }
@@ -36,7 +36,7 @@ fn lend<L: Loan, S, A, P: Process<Shared = S, Answer = A>, R: Wait>(
     ensures watch { result.1.watch ≡ L.watch }
     ensures id { result.1.id ≡ L.made.process }
     ensures ring { Some result.1.link.ring ≡ L.ring }
-    ensures ran { HasRun P.leaves L.made process result.0 result.1.link.put }
+    ensures ran { HasRun P.leaves L.watch L.made process result.0 result.1.link.put }
 {
     let mut lent: LentProbe<L> = LentProbe::new(probe);
     let answer = process.run(rt, &mut lent, shared);

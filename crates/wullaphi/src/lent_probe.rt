@@ -14,7 +14,7 @@ use wcp_tree::{LiveProbe, ProbeEnd};
 /// Which probe is lent: a name for proofs, which a program hands on and never chooses.
 pub trait Loan {
     ghost use Rattle.std.specs.Prelude.{ℕ, Option};
-    ghost use Rattle.wcp_model.specs.ProbeLog.{ProbeSetup};
+    ghost use Rattle.wcp_model.specs.declared.probe_setup.ProbeSetup.{ProbeSetup};
     ghost use Rattle.wcp_ring.specs.Ends.{Ring};
 
     ghost watch: { ℕ };
@@ -129,6 +129,7 @@ impl<L: Loan> LentProbe<L> {
         ensures watch { result.watch ≡ L.watch }
         ensures id { result.id ≡ L.made.process }
         ensures ring { Some result.link.ring ≡ L.ring }
+        ensures of_watch { self.core.watch ≡ L.watch }
         ensures process { setup_of self.core ≡ L.made }
         ensures some_log { HasLog self }
         ensures emitted { (log : List Call) → LiveFor self log

@@ -3,24 +3,27 @@
 //!
 //! What is proved. The one crate of a program that watches threads of its own. `watch_processes` opens the tree of a
 //! plan, runs each process in a thread with the probe that it is lent, each relay and the checker, closes, joins and
-//! settles. Where it answers: there is a log of each process's probe, what the checker took of it are all its notes,
-//! once and in order, the report is the exact one by clocks of all that, all drained, the tallies are the counts, and
-//! what each process gave back stands at its place. A plan with a fault, and another number of processes than the
-//! plan's, are answered exactly where they apply. `LentProbe`, per call: the call of a live probe, where nothing is
-//! ever pending. A lent probe can't be dropped or closed by who has it. Where an impl of `Process` says how its probe
-//! stands as it answers, the answer says it too. What its threads did beside their probes no clause says.
+//! settles. Where it answers: there is a log of each process's probe, which is of the watch of the number that was
+//! given, what the checker took of it are all its notes, once and in order, the report is the exact one by clocks of
+//! all that, all drained, the tallies are the counts, and what each process gave back stands at its place. A plan with
+//! a fault, and another number of processes than the plan's, are answered exactly where they apply. `LentProbe`, per
+//! call: the call of a live probe, where nothing is ever pending. A lent probe can't be dropped or closed by who has
+//! it. Where an impl of `Process` says how its probe stands as it answers, the answer says it too. What its threads did
+//! beside their probes no clause says, nor what `wait_for_cut` is told: tests show that, and that the book has ended.
 #![tactic(auto)]
 
 mod lending;
 mod lent_probe;
 mod process;
 mod seat;
+mod waiting;
 mod watch_fault;
 mod watched;
 mod watching;
 
 pub use lent_probe::{LentProbe, Loan};
 pub use process::Process;
+pub use waiting::wait_for_cut;
 pub use watch_fault::WatchFault;
 pub use watched::Watched;
 pub use watching::watch_processes;
@@ -30,5 +33,5 @@ pub use wcp_model::{
 };
 pub use wcp_probe::{Refusal, Stamped};
 pub use wcp_report::{push_report, report_text};
-pub use wcp_run::SettleFault;
 pub use wcp_tree::LiveProbe;
+pub use wcp_watch::SettleFault;

@@ -4,7 +4,7 @@ use crate::lending::lend_and_close;
 use crate::process::Process;
 use std::alloc::{AllocError, Global};
 use std::sync::Wait;
-use wcp_run::{Part, RunsWith};
+use wcp_threads::{Part, RunsWith};
 use wcp_tree::{LiveProbe, ProbeEnd};
 
 /// A process with its probe, for a thread of its own.

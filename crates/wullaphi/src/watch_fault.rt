@@ -1,7 +1,7 @@
 use std::alloc::{AllocError, AllocFailed};
 use thiserror::Error;
 use wcp_model::PlanFault;
-use wcp_run::{SettleFault, StartFault};
+use wcp_watch::{SettleFault, StartFault};
 
 /// Why a watch tells nothing. With `Plan`, `Count` and `Spawn` no process has run.
 #[derive(Clone, Copy, Debug, PartialEq, Eq, Error)]

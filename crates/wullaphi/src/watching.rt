@@ -4,7 +4,7 @@ ghost use Rattle.wcp_clock.specs.Limits.{most_processes};
 ghost use Rattle.wcp_model.specs.PlanFault.{IsCheckedPlan, IsFirstFault};
 ghost use Rattle.wcp_model.specs.declared.plan.PlanFault.{PlanFault};
 ghost use Rattle.wullaphi.specs.Refused.{IsOfRun};
-ghost use Rattle.wcp_run.specs.RunParts.{AreReady};
+ghost use Rattle.wcp_watch.specs.RunParts.{AreReady};
 ghost use Rattle.wullaphi.specs.Seats.{ArePartsOf, IsNewSeat};
 ghost use Rattle.wullaphi.specs.Watched.{IsWatched};
 
@@ -18,15 +18,17 @@ use std::thread::Threads;
 use wcp_book::Book;
 use wcp_model::{Outcome, Plan};
 use wcp_queue::Checker;
-use wcp_run::{CheckFault, Checking, Ends, Parts, run_parts, settle};
 use wcp_tree::{Watch, watch};
+use wcp_watch::{CheckFault, Checking, Ends, Parts, run_parts, settle};
 
 /// Watches these processes, of which there are as many as the plan says: each runs in a thread of its own with the
 /// probe of its number, beside a thread for each relay and one for the checker. All are started or none, and all have
 /// ended when this returns. The number of the watch tells it from others: a stamp of another one is refused.
 ///
 /// The book is begun anew. While the watch runs any thread may read in it: the totals, and the cut, as soon as the
-/// checker finds it, which is then the report's. So a process may go on until it reads it, and end then.
+/// checker finds it, which is then the report's. So a process may go on until it reads it, and end then. Whoever waits
+/// for the cut (`wait_for_cut`) is told it then. The book ends once the checker has taken all, and in any case,
+/// whatever the answer, before this returns.
 pub fn watch_processes<
     S: Sync,
     A: Send + Drop + 'static,
@@ -41,7 +43,32 @@ pub fn watch_processes<
     shared: &S,
     book: &Mutex<Book>,
 ) -> Result<Watched<A>, WatchFault>
-    ensures watched { IfOk result (IsWatched P.leaves plan.now.n processes.items) }
+    ensures watched { IfOk result (IsWatched P.leaves number plan.now.n processes.items) }
+    ensures plan { (first : PlanFault) → (result ≡ Err (WatchFault.Plan first)) ↔ IsFirstFault plan.now first }
+    ensures count { (result ≡ Err WatchFault.Count)
+        ↔ (IsCheckedPlan plan.now × (length processes.items ≢ plan.now.n)) }
+{
+    let watched = watch_checked(rt, alloc, plan, number, processes, shared, book);
+    book.lock(rt).end();
+    watched
+}
+
+/// Watches these processes, if the plan has no fault and there are as many as it says.
+fn watch_checked<
+    S: Sync,
+    A: Send + Drop + 'static,
+    P: Process<Shared = S, Answer = A> + Send + Drop + 'static,
+    R: Threads + Wait + Sync,
+>(
+    rt: &R,
+    alloc: Global,
+    plan: &Plan,
+    number: u64,
+    processes: Vec<P>,
+    shared: &S,
+    book: &Mutex<Book>,
+) -> Result<Watched<A>, WatchFault>
+    ensures watched { IfOk result (IsWatched P.leaves number plan.now.n processes.items) }
     ensures plan { (first : PlanFault) → (result ≡ Err (WatchFault.Plan first)) ↔ IsFirstFault plan.now first }
     ensures count { (result ≡ Err WatchFault.Count)
         ↔ (IsCheckedPlan plan.now × (length processes.items ≢ plan.now.n)) }
@@ -72,7 +99,7 @@ fn watch_planned<
 ) -> Result<Watched<A>, WatchFault>
     requires checked { IsCheckedPlan plan.now }
     requires count { length processes.items ≡ plan.now.n }
-    ensures watched { IfOk result (IsWatched P.leaves plan.now.n processes.items) }
+    ensures watched { IfOk result (IsWatched P.leaves number plan.now.n processes.items) }
     ensures fault { IfErr result IsOfRun }
 {
     let parts = open_parts(alloc, plan, number, processes)?;
@@ -108,7 +135,7 @@ fn open_parts<P: Drop>(
 ) -> Result<Parts<Seat<P>>, AllocError>
     requires checked { IsCheckedPlan plan.now }
     requires count { length processes.items ≡ plan.now.n }
-    ensures parts { IfOk result (ArePartsOf plan.now processes.items) }
+    ensures parts { IfOk result (ArePartsOf plan.now number processes.items) }
     ensures ready { IfOk result (AreReady IsNewSeat) }
 {
     let Watch {
@@ -125,11 +152,10 @@ fn open_parts<P: Drop>(
     })
 }
 
-/// Begins this book anew, for so many processes.
+/// Begins this book anew, for so many processes. Those who wait for its news go on waiting.
 fn begin_anew<R: Wait>(rt: &R, book: &Mutex<Book>, n: u32)
     requires some { 0 < n }
     requires within { n ≤ most_processes }
 {
-    let mut begun = book.lock(rt);
-    *begun = Book::new(n);
+    book.lock(rt).begin(n);
 }

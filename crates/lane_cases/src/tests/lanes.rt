@@ -7,7 +7,7 @@ ghost use Rattle.wcp_lane.specs.Snapshots.{HasPut};
 use std::alloc::Global;
 use std::sync::Wait;
 use wcp_clock::{Clock, Item, Note};
-use wcp_lane::{Cut, LaneFault, Origins, Putter, Taker, lane};
+use wcp_lane::{Cut, LaneFault, Members, Putter, Taker, lane};
 
 /// Snapshot `number` of process `from`.
 pub fn snap(from: u32, number: u32) -> Item
@@ -62,12 +62,12 @@ pub fn try_put_snap<R: Wait>(
 fn lane_of(
     alloc: Global,
     cap: u32,
-    owners: &[Origins],
+    member_sets: &[Members],
 ) -> Result<(Vec<Putter<Item>>, Taker<Item>), LaneFault>
-    ensures { IfOk result (λ ends. ends.0.items ≡ map (new_putter ends.1.lane) owners.now) }
+    ensures { IfOk result (λ ends. ends.0.items ≡ map (new_putter ends.1.lane) member_sets.now) }
 {
-    match lane(alloc, cap, owners) {
-        Err(LaneFault::NoMemory) => lane(alloc, cap, owners),
+    match lane(alloc, cap, member_sets) {
+        Err(LaneFault::NoMemory) => lane(alloc, cap, member_sets),
         made => made,
     }
 }
@@ -77,9 +77,9 @@ pub fn lane_of_one(alloc: Global, cap: u32) -> Result<(Putter<Item>, Taker<Item>
     ensures lane { IfOk result (λ ends. ends.0.lane ≡ ends.1.lane) }
     ensures new { IfOk result (λ ends. HasPut 0 0 ends.0) }
 {
-    let (mut putters, taker) = lane_of(alloc, cap, &[Origins::none().with(0)])?;
+    let (mut putters, taker) = lane_of(alloc, cap, &[Members::none().with(0)])?;
     let Some(putter) = putters.pop() else {
-        return Err(LaneFault::Owners);
+        return Err(LaneFault::MemberSets);
     };
     Ok((putter, taker))
 }
@@ -92,13 +92,13 @@ pub fn lane_of_two(
     ensures lane { IfOk result (λ ends. (ends.0.lane ≡ ends.2.lane) × (ends.1.lane ≡ ends.2.lane)) }
     ensures new { IfOk result (λ ends. HasPut 0 0 ends.0 × HasPut 1 0 ends.1) }
 {
-    let owners = [Origins::none().with(0), Origins::none().with(1)];
-    let (mut putters, taker) = lane_of(alloc, cap, &owners)?;
+    let member_sets = [Members::none().with(0), Members::none().with(1)];
+    let (mut putters, taker) = lane_of(alloc, cap, &member_sets)?;
     let Some(second) = putters.pop() else {
-        return Err(LaneFault::Owners);
+        return Err(LaneFault::MemberSets);
     };
     let Some(first) = putters.pop() else {
-        return Err(LaneFault::Owners);
+        return Err(LaneFault::MemberSets);
     };
     Ok((first, second, taker))
 }
@@ -112,16 +112,16 @@ pub fn lane_of_three(
         × (ends.2.lane ≡ ends.3.lane)) }
     ensures new { IfOk result (λ ends. HasPut 0 0 ends.0 × HasPut 1 0 ends.1 × HasPut 2 0 ends.2) }
 {
-    let none = Origins::none();
+    let none = Members::none();
     let (mut putters, taker) = lane_of(alloc, cap, &[none.with(0), none.with(1), none.with(2)])?;
     let Some(third) = putters.pop() else {
-        return Err(LaneFault::Owners);
+        return Err(LaneFault::MemberSets);
     };
     let Some(second) = putters.pop() else {
-        return Err(LaneFault::Owners);
+        return Err(LaneFault::MemberSets);
     };
     let Some(first) = putters.pop() else {
-        return Err(LaneFault::Owners);
+        return Err(LaneFault::MemberSets);
     };
     Ok((first, second, third, taker))
 }

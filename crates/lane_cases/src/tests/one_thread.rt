@@ -1,7 +1,7 @@
 use super::lanes::{lane_of_one, lane_of_two, put_snap, snap, try_put_snap};
 use std::test::Fail;
 use wcp_clock::Item;
-use wcp_lane::{LaneFault, Origins, Unfinished, lane, reconcile};
+use wcp_lane::{LaneFault, Members, Unfinished, lane, reconcile};
 
 #[test]
 fn two_items_come_in_their_order(rt: HostRuntime) -> Result<(), Fail> {
@@ -66,25 +66,25 @@ fn a_take_without_a_putter_is_cut(rt: HostRuntime) -> Result<(), Fail> {
 
 #[test]
 fn the_first_fault_is_answered(rt: HostRuntime) {
-    let none = Origins::none();
+    let none = Members::none();
     let both = none.with(0).with(1);
     let faults = [
         (0, [both, both], Some(LaneFault::Cap)),
         (65_537, [none.with(0), none.with(1)], Some(LaneFault::Cap)),
-        (2, [none.with(0), both], Some(LaneFault::Owners)),
+        (2, [none.with(0), both], Some(LaneFault::MemberSets)),
         (1, [both, none.with(2)], None),
         (65_536, [none, none], None),
     ];
-    for (cap, owners, fault) in faults {
+    for (cap, member_sets, fault) in faults {
         assert_eq!(rt;
-            lane::<Item>(rt.alloc(), cap, &owners).err(),
+            lane::<Item>(rt.alloc(), cap, &member_sets).err(),
             fault,
             "at {cap}"
         );
     }
     assert_eq!(rt;
         lane::<Item>(rt.alloc(), 1, &[]).err(),
-        Some(LaneFault::Owners)
+        Some(LaneFault::MemberSets)
     );
 }
 
@@ -92,11 +92,11 @@ fn the_first_fault_is_answered(rt: HostRuntime) {
 fn each_end_knows_its_numbers(rt: HostRuntime) -> Result<(), Fail> {
     let (first, second, taker) = lane_of_two(rt.alloc(), 1)?;
     for p in 0..3 {
-        assert_eq!(rt; first.origins().has(p), p == 0);
-        assert_eq!(rt; second.origins().has(p), p == 1);
-        assert_eq!(rt; taker.origins().has(p), p < 2);
+        assert_eq!(rt; first.members().has(p), p == 0);
+        assert_eq!(rt; second.members().has(p), p == 1);
+        assert_eq!(rt; taker.members().has(p), p < 2);
     }
-    assert!(rt; first.end().origins().has(0));
-    assert!(rt; taker.end().origins().has(1));
+    assert!(rt; first.end().members().has(0));
+    assert!(rt; taker.end().members().has(1));
     Ok(())
 }

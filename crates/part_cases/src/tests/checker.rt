@@ -6,7 +6,7 @@ use std::alloc::{AllocError, Global};
 use std::process::Abort;
 use std::test::Fail;
 use wcp_clock::{CLOCK_LIMIT, Clock, Item, Note};
-use wcp_model::{Action, GlobalCut, Report};
+use wcp_model::{Action, GlobalCut, ProbeSetup, Report};
 use wcp_probe::ProbeCore;
 use wcp_queue::Checker;
 use wcp_script::ring_workload;
@@ -135,7 +135,14 @@ fn tests_of_ring(rt: &impl Abort, alloc: Global, n: u32, rounds: u32) -> Result<
     let mut checker = Checker::new(alloc, n)?;
     let mut probes = Vec::new(alloc);
     for id in 0..n {
-        probes.push(ProbeCore::new(0, id, n, CLOCK_LIMIT))?;
+        probes.push(ProbeCore::new(
+            0,
+            ProbeSetup {
+                processes: n,
+                process: id,
+            },
+            CLOCK_LIMIT,
+        ))?;
     }
     let mut message = None;
     for task in &ring.tasks {

@@ -45,13 +45,13 @@ const ROWS: &[Row<'static>] = &[
 fn assert_first_faults(rt: &impl Abort, alloc: Global, rows: &[Row]) -> Result<(), AllocError> {
     for (numbers, parents, attach, expected) in rows {
         let (n, cap, hold) = *numbers;
-        let plan = Plan {
+        let plan = Plan::new(
             n,
             cap,
             hold,
-            parents: Vec::from_slice(alloc, parents)?,
-            attach: Vec::from_slice(alloc, attach)?,
-        };
+            Vec::from_slice(alloc, parents)?,
+            Vec::from_slice(alloc, attach)?,
+        );
         assert_eq!(rt; plan.check(), *expected);
     }
     Ok(())

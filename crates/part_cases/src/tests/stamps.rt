@@ -3,12 +3,20 @@ ghost use Rattle.std.specs.Prelude.{◌<◌};
 use std::process::Abort;
 use std::test::Fail;
 use wcp_clock::{CLOCK_LIMIT, Clock, Note};
+use wcp_model::ProbeSetup;
 use wcp_probe::{ProbeCore, Refusal, Stamped};
 
 fn core(watch: u64, id: u32) -> ProbeCore
     requires { id < 2 }
 {
-    ProbeCore::new(watch, id, 2, CLOCK_LIMIT)
+    ProbeCore::new(
+        watch,
+        ProbeSetup {
+            processes: 2,
+            process: id,
+        },
+        CLOCK_LIMIT,
+    )
 }
 
 fn components(clock: &Clock) -> [u32; 3] {
@@ -72,7 +80,14 @@ fn unstamped<T: Drop>(
 
 #[test]
 fn a_clock_ends_at_its_limit(rt: HostRuntime) -> Result<(), Fail> {
-    let mut probe = ProbeCore::new(7, 0, 2, 2);
+    let mut probe = ProbeCore::new(
+        7,
+        ProbeSetup {
+            processes: 2,
+            process: 0,
+        },
+        2,
+    );
     for _ in 0..2 {
         let message = stamped(&rt, &mut probe, 1, true);
         assert_eq!(rt; (message.from(), message.to()), (0, 1));

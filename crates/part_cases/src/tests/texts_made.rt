@@ -52,13 +52,13 @@ fn the_longest_ring(rt: HostRuntime) -> Result<(), Fail> {
 /// A leaf for each of three processes, and a relay above the leaves.
 fn three_leaves(alloc: Global) -> Result<Plan, AllocError> {
     let leaf = Parent::Relay(0);
-    Ok(Plan {
-        n: 3,
-        cap: 1024,
-        hold: 1,
-        parents: Vec::from_slice(alloc, &[Parent::Root, leaf, leaf, leaf])?,
-        attach: Vec::from_slice(alloc, &[Some(1), Some(2), Some(3)])?,
-    })
+    Ok(Plan::new(
+        3,
+        1024,
+        1,
+        Vec::from_slice(alloc, &[Parent::Root, leaf, leaf, leaf])?,
+        Vec::from_slice(alloc, &[Some(1), Some(2), Some(3)])?,
+    ))
 }
 
 const TASKS: &[Task] = &[

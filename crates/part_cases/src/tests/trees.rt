@@ -8,13 +8,13 @@ use wcp_model::{GlobalCut, Parent, Plan, Report, Why};
 /// Two processes, each with a leaf relay of its own, and an inner relay above both leaves.
 fn tree(alloc: Global, cap: u32, hold: u32) -> Result<Plan, AllocError> {
     let parents = [Parent::Root, Parent::Relay(0), Parent::Relay(0)];
-    Ok(Plan {
-        n: 2,
+    Ok(Plan::new(
+        2,
         cap,
         hold,
-        parents: Vec::from_slice(alloc, &parents)?,
-        attach: Vec::from_slice(alloc, &[Some(1), Some(2)])?,
-    })
+        Vec::from_slice(alloc, &parents)?,
+        Vec::from_slice(alloc, &[Some(1), Some(2)])?,
+    ))
 }
 
 /// The true states are 0, 1 and 2 of process 0 and 1 and 2 of process 1. State 0 of process 0

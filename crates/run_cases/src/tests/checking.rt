@@ -7,7 +7,7 @@ use std::process::Abort;
 use std::test::Fail;
 use wcp_book::Book;
 use wcp_model::{GlobalCut, Parent, Plan, Report, Tally, plain_plan};
-use wcp_run::CheckFault;
+use wcp_watch::CheckFault;
 
 /// One snapshot, emitted and taken.
 pub const ONE: Tally = Tally {
@@ -21,13 +21,13 @@ pub fn two_hops(rt: &impl Abort, alloc: Global) -> Result<Plan, AllocError>
 {
     let parents = [Parent::Root, Parent::Relay(0)];
     let attach = [Some(1), Some(1)];
-    let plan = Plan {
-        n: 2,
-        cap: 8,
-        hold: 4,
-        parents: parents.to_vec(alloc).or_else(|_| parents.to_vec(alloc))?,
-        attach: attach.to_vec(alloc).or_else(|_| attach.to_vec(alloc))?,
-    };
+    let plan = Plan::new(
+        2,
+        8,
+        4,
+        parents.to_vec(alloc).or_else(|_| parents.to_vec(alloc))?,
+        attach.to_vec(alloc).or_else(|_| attach.to_vec(alloc))?,
+    );
     assert!(rt; plan.check().is_ok());
     Ok(plan)
 }
@@ -43,6 +43,7 @@ fn two_hops_find_the_first_cut(rt: HostRuntime) -> Result<(), Fail> {
         (Report::Found(cut), Some(cut))
     );
     assert_eq!(rt; (book.share(0), book.share(1)), (Some(ONE), Some(ONE)));
+    assert!(rt; book.has_ended());
     assert_eq!(rt;
         book.totals(),
         Tally {
@@ -65,17 +66,18 @@ fn a_post_that_is_refused_holds_nothing_up(rt: HostRuntime) -> Result<(), Fail> 
 
 #[test]
 fn a_lane_that_is_cut_ends_the_loop(rt: HostRuntime) -> Result<(), Fail> {
-    let plan = Plan {
-        n: 2,
-        cap: 8,
-        hold: 4,
-        parents: vec![in rt.alloc(); Parent::Root, Parent::Root]?,
-        attach: vec![in rt.alloc(); Some(0), Some(1)]?,
-    };
+    let plan = Plan::new(
+        2,
+        8,
+        4,
+        vec![in rt.alloc(); Parent::Root, Parent::Root]?,
+        vec![in rt.alloc(); Some(0), Some(1)]?,
+    );
     assert!(rt; plan.check().is_ok());
     let (end, book) = run_in_one_thread(&rt, rt.alloc(), &plan, 1, Book::new(2))?;
     assert!(rt; matches!(end.fault(), Some(CheckFault::Cut(_))) && end.cut().is_some());
     assert_eq!(rt; (end.report(), book.found()), (Report::Undecided, None));
     assert_eq!(rt; (book.share(0), book.share(1)), (Some(ONE), None));
+    assert!(rt; book.has_ended());
     Ok(())
 }

@@ -1,4 +1,4 @@
-ghost use Rattle.wcp_run.specs.CheckerEnds.{IsFreshFor};
+ghost use Rattle.wcp_watch.specs.CheckerEnds.{IsFreshFor};
 
 use super::watches::{emit_all, open};
 use std::alloc::{AllocError, Global};
@@ -10,8 +10,8 @@ use std::thread::{Threads, join, map_vec};
 use wcp_book::Book;
 use wcp_model::{Tally, plain_plan};
 use wcp_queue::Checker;
-use wcp_run::{CheckerEnd, check_loop};
 use wcp_tree::{CheckerInbox, LiveProbe, Relay, Watch};
+use wcp_watch::{CheckerEnd, check_loop};
 
 /// The snapshots of each process.
 const SNAPSHOTS: u32 = 100;

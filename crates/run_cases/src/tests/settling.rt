@@ -2,7 +2,7 @@
 ghost use Rattle.std.specs.Prelude.{◌≡◌, ◌≢◌, [], ◌∷◌, ◌++◌, All, IsTrue, IfOk, IfSome, None, Some, slice_get};
 ghost use Rattle.wcp_model.specs.PlanFault.{IsCheckedPlan};
 ghost use Rattle.wcp_tree.specs.RelayEnds.{fault_of, number_of, watch_of};
-ghost use Rattle.wcp_run.specs.Settling.{ComeFromWatch, IsEndOfSomeProbe, IsEndOfSomeRelay};
+ghost use Rattle.wcp_watch.specs.Settling.{ComeFromWatch, IsEndOfSomeProbe, IsEndOfSomeRelay};
 
 use super::checking::{ONE, two_hops};
 use super::watches::open;
@@ -12,8 +12,8 @@ use std::sync::{Mutex, Wait};
 use std::test::Fail;
 use wcp_book::Book;
 use wcp_model::{GlobalCut, Plan, Report, Tallies, Tally};
-use wcp_run::{CheckerEnd, SettleFault, check_loop, settle};
 use wcp_tree::{LiveProbe, ProbeEnd, Relay, RelayEnd, Watch, watch};
+use wcp_watch::{CheckerEnd, SettleFault, check_loop, settle};
 
 /// What is left of a watch that ran.
 #[derive(Drop)]

@@ -1,7 +1,7 @@
 //! A run whose threads can't all be made, since the address space has no room left for their stacks.
 ghost use Rattle.std.specs.Prelude.{IfOk};
 ghost use Rattle.wcp_model.specs.PlanFault.{IsCheckedPlan};
-ghost use Rattle.wcp_run.specs.CheckerEnds.{IsFreshFor};
+ghost use Rattle.wcp_watch.specs.CheckerEnds.{IsFreshFor};
 
 use super::watches::{emit_all, open};
 use std::alloc::{AllocError, Global};
@@ -11,8 +11,9 @@ use std::sync::{Mutex, Wait};
 use std::test::Fail;
 use wcp_book::Book;
 use wcp_model::{Plan, plain_plan};
-use wcp_run::{Checking, Part, Parts, RunsWith, StartFault, run_parts};
+use wcp_threads::{Part, RunsWith};
 use wcp_tree::{LiveProbe, ProbeEnd, Watch};
+use wcp_watch::{Checking, Parts, StartFault, run_parts};
 
 /// The largest and the smallest block that takes up address space, and how many there are at most.
 const LARGEST: usize = 1 << 46;

@@ -9,8 +9,8 @@ use std::sync::{Mutex, Wait};
 use std::test::Fail;
 use wcp_book::Book;
 use wcp_model::{Plan, Report, Tally, plain_plan};
-use wcp_run::{CheckFault, CheckerEnd, check_loop};
 use wcp_tree::Watch;
+use wcp_watch::{CheckFault, CheckerEnd, check_loop};
 
 /// How many snapshots process 0 emits: more than the checker has room for at first.
 const SNAPSHOTS: u32 = 20;

@@ -7,8 +7,9 @@ use std::thread;
 use std::thread::Threads;
 use wcp_book::Book;
 use wcp_model::{GlobalCut, Report};
-use wcp_run::{CheckerEnd, RunsWith, StartFault, run_parts};
+use wcp_threads::RunsWith;
 use wcp_tree::ProbeEnd;
+use wcp_watch::{CheckerEnd, StartFault, run_parts};
 
 impl RunsWith<Mutex<Book>, ProbeEnd> for Process {
     fn run_with<R: Wait>(self, rt: &R, book: &Mutex<Book>) -> ProbeEnd {

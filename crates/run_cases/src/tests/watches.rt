@@ -1,7 +1,7 @@
 //! Watches whose processes emit, for the tests.
 ghost use Rattle.std.specs.Prelude.{IfOk};
 ghost use Rattle.wcp_model.specs.PlanFault.{IsCheckedPlan};
-ghost use Rattle.wcp_run.specs.CheckerEnds.{IsFreshFor};
+ghost use Rattle.wcp_watch.specs.CheckerEnds.{IsFreshFor};
 ghost use Rattle.wcp_tree.specs.Watches.{IsWired};
 
 use std::alloc::{AllocError, Global};
@@ -9,8 +9,8 @@ use std::sync::{Mutex, Wait};
 use wcp_book::Book;
 use wcp_model::Plan;
 use wcp_queue::Checker;
-use wcp_run::{CheckerEnd, check_loop};
 use wcp_tree::{LiveProbe, ProbeEnd, Watch, watch};
+use wcp_watch::{CheckerEnd, check_loop};
 
 /// The watch of a plan, and a checker for its inbox. Where memory runs out, asking again makes them.
 pub fn open(alloc: Global, plan: &Plan) -> Result<(Watch, Checker), AllocError>

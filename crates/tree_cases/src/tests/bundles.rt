@@ -7,7 +7,7 @@ use std::alloc::Global;
 use std::sync::Wait;
 use std::test::Fail;
 use wcp_clock::{Clock, Item, Note};
-use wcp_lane::{LaneFault, Origins, Putter, Taker, lane, reconcile};
+use wcp_lane::{LaneFault, Members, Putter, Taker, lane, reconcile};
 use wcp_tree::Bundle;
 
 /// The close mark of process 0, which emitted so many snapshots.
@@ -64,9 +64,9 @@ fn lane_of_bundles(alloc: Global) -> Result<(Putter<Bundle>, Taker<Bundle>), Lan
     ensures lane { IfOk result (λ ends. ends.0.lane ≡ ends.1.lane) }
     ensures new { IfOk result (λ ends. HasPut 0 ends.0) }
 {
-    let (mut putters, taker) = lane(alloc, 1, &[Origins::none().with(0)])?;
+    let (mut putters, taker) = lane(alloc, 1, &[Members::none().with(0)])?;
     let Some(putter) = putters.pop() else {
-        return Err(LaneFault::Owners);
+        return Err(LaneFault::MemberSets);
     };
     Ok((putter, taker))
 }

@@ -6,7 +6,7 @@ ghost use Rattle.wcp_tree.specs.declared.feed.Feed.{Feed};
 use std::alloc::{AllocError, Global};
 use std::test::Fail;
 use wcp_clock::{Clock, Note};
-use wcp_lane::{LaneFault, Origins, Putter, Taker, lane};
+use wcp_lane::{LaneFault, Members, Putter, Taker, lane};
 use wcp_model::Parent;
 use wcp_ring::{RingPutter, Sleeper, ring};
 use wcp_tree::{Bundle, Feed, RelayFault, leaf_relay};
@@ -16,9 +16,9 @@ fn lane_of_one(alloc: Global) -> Result<(Putter<Bundle>, Taker<Bundle>), LaneFau
     ensures members { IfOk result (λ ends. ends.0.members ≡ set.insert set.empty 0) }
     ensures none_put { IfOk result (λ ends. ends.0.put ≡ []) }
 {
-    let (mut putters, taker) = lane(alloc, 8, &[Origins::none().with(0)])?;
+    let (mut putters, taker) = lane(alloc, 8, &[Members::none().with(0)])?;
     let Some(putter) = putters.pop() else {
-        return Err(LaneFault::Owners);
+        return Err(LaneFault::MemberSets);
     };
     Ok((putter, taker))
 }

@@ -12,13 +12,13 @@ pub fn open(
     parents: &[Parent],
     attach: &[Option<u32>],
 ) -> Result<Watch, AllocError> {
-    let plan = Plan {
+    let plan = Plan::new(
         n,
         cap,
         hold,
-        parents: Vec::from_slice(alloc, parents).or_else(|_| Vec::from_slice(alloc, parents))?,
-        attach: Vec::from_slice(alloc, attach).or_else(|_| Vec::from_slice(alloc, attach))?,
-    };
+        Vec::from_slice(alloc, parents).or_else(|_| Vec::from_slice(alloc, parents))?,
+        Vec::from_slice(alloc, attach).or_else(|_| Vec::from_slice(alloc, attach))?,
+    );
     assert!(rt; plan.check().is_ok());
     watch(alloc, &plan, 7).or_else(|_| watch(alloc, &plan, 7))
 }

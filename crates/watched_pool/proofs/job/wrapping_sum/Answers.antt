@@ -1,7 +1,5 @@
-use Rattle.std.proofs.Common.{◌≡◌, ℕ, ◌+◌, ◌%◌, ◌^◌, List, take, get_or, sym, ap, ◌∙◌, arith}
-use Rattle.std.specs.Prelude.{sum}
+use Rattle.watched_pool.proofs.Words.{◌≡◌, ℕ, ◌+◌, ◌%◌, ◌^◌, List, take, get_or, sym, ap, ◌∙◌, arith, sum, sum_by_more}
 use Rattle.std.proofs.Math.Nat.{mod-add-mod}
-use Rattle.std.proofs.lemmas.List.Sums.{sum_by_more}
 use Rattle.watched_pool.proofs.job.wrapping_sum.Goals as goal
 
 -- one number more

@@ -1,5 +1,4 @@
-use Rattle.std.proofs.Common.{◌≡◌, ◌%◌, ◌^◌, take}
-use Rattle.std.specs.Prelude.{sum}
+use Rattle.watched_pool.proofs.Words.{◌≡◌, ◌%◌, ◌^◌, take, sum}
 use Rattle.watched_pool.proofs.job.wrapping_sum.Given as goal
 
 abbrev pub invariant-loop-number : goal.invariant-loop-number

@@ -1,8 +1,5 @@
-use Rattle.std.proofs.Common.{ℕ, zero, suc, ◌+◌, ◌∷◌, [], All, length, refl, sym, ap, ◌∙◌, subst, arith}
-use Rattle.std.proofs.lemmas.List.{length-append}
+use Rattle.watched_pool.proofs.Words.{ℕ, zero, suc, ◌+◌, ◌∷◌, [], All, length, refl, sym, ap, ◌∙◌, subst, arith, length-append, Member, IsReplica}
 use Rattle.std.proofs.lemmas.List.Elements.{All-append}
-use Rattle.watched_pool.specs.declared.member.Member.{Member}
-use Rattle.watched_pool.specs.Members.{IsReplica}
 use Rattle.watched_pool.proofs.opening.open_members.Goals as goal
 
 all_one : (P : Member → Type 0) (member : Member) → P member → All P (member ∷ [])

@@ -1,6 +1,4 @@
-use Rattle.std.proofs.Common.{◌≡◌, length}
-use Rattle.std.specs.Prelude.{All}
-use Rattle.watched_pool.specs.Members.{IsReplica}
+use Rattle.watched_pool.proofs.Words.{◌≡◌, length, All, IsReplica}
 use Rattle.watched_pool.proofs.opening.open_members.Given as goal
 
 abbrev pub invariant-loop-place : goal.invariant-loop-place

@@ -1,6 +1,4 @@
-use Rattle.std.proofs.Common.{true, ap, ◌∙◌}
-use Rattle.wcp_model.specs.ProbeLog.{Observed, ProbeSetup, Received, Sent}
-use Rattle.wcp_probe.specs.Seal.{seal_of}
+use Rattle.watched_pool.proofs.Words.{true, ap, ◌∙◌, Observed, ProbeSetup, Received, Sent, seal_of}
 use Rattle.watched_pool.proofs.MadeCalls.{two_calls, third_call, whole_stamp}
 use Rattle.watched_pool.proofs.replica.answer_one.Goals as goal
 

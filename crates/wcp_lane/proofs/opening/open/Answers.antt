@@ -36,11 +36,11 @@ loop-numbers-preserved g c =
     let old = c.loop-numbers.invariant in
     let numbers = c.numbers-item.result in
     let k = c.loop-numbers.numbers-index in
-    let owners = c.args.owners.now in
+    let member_sets = c.args.member_sets.now in
     let (seat, own) = c.give-own.ensures.lane in
     let left = c.give-own.ensures.taker in
     let given = c.give-own.ensures.putter in
-    let more : take (k + 1) owners ≡ take k owners ++ numbers ∷ [] = grind (arith, common_steps) in
+    let more : take (k + 1) member_sets ≡ take k member_sets ++ numbers ∷ [] = grind (arith, common_steps) in
     let new : List Numbers → List (PutEnd g.row.M.Denot g.row.M-Item.Denot) = map (new_putter (lane_of c.give-own.new.pass)) in
     record {
       seat = seat;
@@ -49,12 +49,12 @@ loop-numbers-preserved g c =
           ap (λ v. set.contains (unowned_by v) p) left
           ∙ set.contains-difference nat_cmp_total _ numbers p
           ∙ rest_of _ _ (set.contains numbers p) (old.rest p below)
-          ∙ ap not (sym (list_any_more (λ (s : Numbers). set.contains s p) owners k numbers c.loop-numbers-test.true ∙ (λ i. any_has p (take k owners) || set.contains (sym c.numbers-item.is i) p)));
+          ∙ ap not (sym (list_any_more (λ (s : Numbers). set.contains s p) member_sets k numbers c.loop-numbers-test.true ∙ (λ i. any_has p (take k member_sets) || set.contains (sym c.numbers-item.is i) p)));
       made =
           c.in_ok-push.ensures.items
-          ∙ (λ i. (old.made ∙ (λ j. map (new_putter ((old.seat.0 ∙ sym seat.0) j, (old.seat.1 ∙ sym seat.1) j)) (take k owners))) i
+          ∙ (λ i. (old.made ∙ (λ j. map (new_putter ((old.seat.0 ∙ sym seat.0) j, (old.seat.1 ∙ sym seat.1) j)) (take k member_sets))) i
           ++ record { lane = ((own.0 ∙ sym seat.0) i, (own.1 ∙ sym seat.1) i); members = numbers; put = flat_map g.M.Origin.items (put_by (given i)) } ∷ [])
-          ∙ sym (ap new more ∙ map-append _ (take k owners) (numbers ∷ []));
+          ∙ sym (ap new more ∙ map-append _ (take k member_sets) (numbers ∷ []));
     }
 
 pub invariant_of-taker : goal.invariant_of-taker

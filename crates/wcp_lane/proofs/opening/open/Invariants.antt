@@ -12,6 +12,6 @@ invariant-loop-numbers g l = record {
   seat : IsSeatAt (sends_on l.sender) l.pass;
   knows : hand_of l.pass ≡ taker (unowned_by (hand_of l.pass)) [];
   rest : (p : ℕ) → p < most_processes
-      → set.contains (unowned_by (hand_of l.pass)) p ≡ not (list_any (λ (s : Numbers). set.contains s p) (take l.numbers-index l.owners));
-  made : l.putters.items ≡ map (new_putter (lane_of l.pass)) (take l.numbers-index l.owners);
+      → set.contains (unowned_by (hand_of l.pass)) p ≡ not (list_any (λ (s : Numbers). set.contains s p) (take l.numbers-index l.member_sets));
+  made : l.putters.items ≡ map (new_putter (lane_of l.pass)) (take l.numbers-index l.member_sets);
 }

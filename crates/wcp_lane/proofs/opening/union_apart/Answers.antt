@@ -22,7 +22,7 @@ returns-then-meets-clause-apart c = (
 pub loop-numbers-preserved : goal.loop-numbers-preserved
 loop-numbers-preserved c =
     let numbers = c.numbers-item.result in
-    let more : take (c.loop-numbers.numbers-index + 1) c.args.owners.now ≡ take c.loop-numbers.numbers-index c.args.owners.now ++ numbers ∷ [] = grind (arith, common_steps) in
+    let more : take (c.loop-numbers.numbers-index + 1) c.args.member_sets.now ≡ take c.loop-numbers.numbers-index c.args.member_sets.now ++ numbers ∷ [] = grind (arith, common_steps) in
     record {
       among = λ p. grind (arith, common_steps, set.contains-union nat_cmp_total, c.loop-numbers.invariant.among p);
       apart = rw more (all_pairs_push ShareNone _ numbers c.loop-numbers.invariant.apart (λ i d below p first second.

@@ -7,21 +7,21 @@ pub returns-then-has_head-clause-left : goal.returns-then-has_head-clause-left
 returns-then-has_head-clause-left c = λ rows longer.
     AreLeft-gain _ rows longer c.args.queues.now c.args.floor.now c.args.p c.args.clock.now c.index-queues-p.result c.push.new.self c.requires.within c.in_ok-push.ensures.ok
 
-pub returns-clause-settled : goal.returns-clause-settled
-returns-clause-settled c =
+pub returns-clause-stable : goal.returns-clause-stable
+returns-clause-stable c =
     elim c.if-compare.branch [
-      | then-compare w ↦ rw (w.queues-is, w.floor-is) w.settle.ensures.settled
-      | else-compare w ↦ rw (w.queues-is, w.floor-is) (c.compare.ensures.covered w.if-compare.false (λ q q_within other none. c.requires.settled q q_within none))
+      | then-compare w ↦ rw (w.queues-is, w.floor-is) w.eliminate.ensures.stable
+      | else-compare w ↦ rw (w.queues-is, w.floor-is) (c.compare.ensures.covered w.if-compare.false (λ q q_within other none. c.requires.stable q q_within none))
     ]
 
 pub returns-clause-left : goal.returns-clause-left
 returns-clause-left c = λ rows longer gain left.
     let queue = queue_of c.args.queues.now c.args.p in
     let before = AreLeft-gain _ rows longer c.args.queues.now c.args.floor.now c.args.p c.args.clock.now queue (queue ++ c.args.clock.now ∷ []) c.requires.within (ap (λ q. q ++ c.args.clock.now ∷ []) (sym (get_or_default c.args.queues.now c.args.p queue [] c.requires.within))) gain left in
-    let none = c.requires.settled c.args.p c.requires.within (sym c.has_head.ensures ∙ c.if-has_head.false) in
+    let none = c.requires.stable c.args.p c.requires.within (sym c.has_head.ensures ∙ c.if-has_head.false) in
     let added = c.compare.ensures.left longer _ (LeavesQueue-alone _ c.args.p c.args.clock.now c.args.queues.now c.requires.within none) before in
     elim c.if-compare.branch [
-      | then-compare w ↦ rw (w.queues-is, w.floor-is) (w.settle.ensures.left longer added)
+      | then-compare w ↦ rw (w.queues-is, w.floor-is) (w.eliminate.ensures.left longer added)
       | else-compare w ↦ rw (w.queues-is, w.floor-is) added
     ]
 

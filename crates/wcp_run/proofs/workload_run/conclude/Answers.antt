@@ -1,6 +1,5 @@
-use Rattle.std.proofs.Common.{Err, length, ap}
+use Rattle.wcp_run.proofs.Words.{Err, length, ap, IsReasonOf, run_reasons}
 use Rattle.wcp_model.proofs.FirstReasons.{first_unique}
-use Rattle.wcp_run.specs.RunFaults.{IsReasonOf, run_reasons}
 use Rattle.wcp_run.proofs.RunEnds.{few_ends, few_mailboxes, lanes_are, come, outcome_of_run}
 use Rattle.wcp_run.proofs.workload_run.conclude.Goals as goal
 

@@ -1,17 +1,9 @@
-use Rattle.std.proofs.Common.{List, get_or}
-use Rattle.std.proofs.lemmas.Option.{slice_get-get_or}
+use Rattle.wcp_run.proofs.Words.{List, get_or, slice_get-get_or, Plan, Task, Worker, WorkerEnd, IsEndOfWorker, Ends, AreEndsOfRun, ArePartsOf}
 use Rattle.std.proofs.lemmas.Result.{IfOk-weaker}
-use Rattle.wcp_model.specs.declared.plan.Plan.{Plan}
-use Rattle.wcp_model.specs.declared.workload.Task.{Task}
 use Rattle.wcp_model.specs.PlanFault.{IsCheckedPlan}
 use Rattle.wcp_model.specs.WorkloadComputation.{CouldBeRead}
-use Rattle.wcp_worker.specs.declared.worker.Worker.{Worker}
-use Rattle.wcp_worker.specs.declared.worker_end.WorkerEnd.{WorkerEnd}
-use Rattle.wcp_worker.specs.Played.{IsEndOfWorker}
-use Rattle.wcp_run.specs.declared.running.Ends.{Ends}
-use Rattle.wcp_run.specs.declared.running.Parts.{Parts}
-use Rattle.wcp_run.specs.RunParts.{HaveEnded}
-use Rattle.wcp_run.specs.RunWorkload.{AreEndsOfRun, ArePartsOf}
+use Rattle.wcp_watch.specs.declared.running.Parts.{Parts}
+use Rattle.wcp_watch.specs.RunParts.{HaveEnded}
 use Rattle.wcp_run.proofs.workload_run.run.Goals as goal
 
 -- the ends of opened parts are those of the run

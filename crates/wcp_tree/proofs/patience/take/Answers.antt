@@ -1,4 +1,4 @@
-use Rattle.wcp_tree.proofs.Words.{◌≡◌, ◌++◌, List, subst, Item, TakeEnd, Bundle, AreTakenNext}
+use Rattle.wcp_tree.proofs.Words.{◌≡◌, ◌++◌, subst, Item, TakeEnd, Bundle, AreTakenNext}
 use Rattle.wcp_tree.proofs.LeafWork.{if_some}
 use Rattle.wcp_tree.proofs.patience.take.Goals as goal
 

@@ -16,7 +16,6 @@ pub returns-clause-parts : goal.returns-clause-parts
 returns-clause-parts g c =
     let wired = c.in_ok-probes.ensures in
     record {
-      number = c.args.number;
       watch = c.in_ok-probes.field-0;
       wired = wired;
       probes = c.in_ok-workers.ensures.probes;

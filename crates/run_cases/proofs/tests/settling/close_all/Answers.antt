@@ -1,6 +1,6 @@
 use Rattle.std.proofs.Common.{◌≡◌, All, Some, slice_get, sym, ap, subst, ◌∙◌}
 use Rattle.std.proofs.lemmas.List.Elements.{All-pop, All-push}
-use Rattle.wcp_run.specs.Settling.{IsEndOfSomeProbe}
+use Rattle.wcp_watch.specs.Settling.{IsEndOfSomeProbe}
 use Rattle.run_cases.proofs.tests.settling.close_all.Goals as goal
 
 pub loop-probe-preserved-in-Continue-branch-2 : goal.loop-probe-preserved-in-Continue-branch-2

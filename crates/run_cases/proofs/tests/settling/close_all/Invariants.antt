@@ -1,5 +1,5 @@
 use Rattle.std.proofs.Common.{◌≡◌, All, Some, slice_get, vec_len}
-use Rattle.wcp_run.specs.Settling.{IsEndOfSomeProbe}
+use Rattle.wcp_watch.specs.Settling.{IsEndOfSomeProbe}
 use Rattle.run_cases.proofs.tests.settling.close_all.Given as goal
 
 abbrev pub decreases-loop-probe : goal.decreases-loop-probe

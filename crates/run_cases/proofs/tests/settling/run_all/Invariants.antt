@@ -1,5 +1,5 @@
 use Rattle.std.proofs.Common.{◌≡◌, All, Some, slice_get, vec_len}
-use Rattle.wcp_run.specs.Settling.{IsEndOfSomeRelay}
+use Rattle.wcp_watch.specs.Settling.{IsEndOfSomeRelay}
 use Rattle.run_cases.proofs.tests.settling.run_all.Given as goal
 
 abbrev pub decreases-loop-relay : goal.decreases-loop-relay

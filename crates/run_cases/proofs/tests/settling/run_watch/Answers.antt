@@ -1,4 +1,4 @@
-use Rattle.wcp_run.proofs.WatchEnds.{come_from_watch}
+use Rattle.wcp_watch.proofs.WatchEnds.{come_from_watch}
 use Rattle.run_cases.proofs.tests.settling.run_watch.Goals as goal
 
 pub returns : goal.returns

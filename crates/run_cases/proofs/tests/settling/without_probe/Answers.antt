@@ -1,5 +1,5 @@
 use Rattle.std.proofs.Common.{sym, subst}
-use Rattle.wcp_run.specs.Settling.{ComeFromWatch}
+use Rattle.wcp_watch.specs.Settling.{ComeFromWatch}
 use Rattle.run_cases.proofs.EndsOfWatch.{without_one_probe}
 use Rattle.run_cases.proofs.tests.settling.without_probe.Goals as goal
 

@@ -1,5 +1,4 @@
-use Rattle.std.proofs.Common.{◌≡◌, ◌+◌}
-use Rattle.watched_pool.specs.Logs.{IsDispatching}
+use Rattle.watched_pool.proofs.Words.{◌≡◌, ◌+◌, IsDispatching}
 use Rattle.watched_pool.proofs.dispatcher.Desk.ask_in_turn.Given as goal
 
 abbrev pub invariant-loop-partner : goal.invariant-loop-partner

@@ -1,6 +1,4 @@
-use Rattle.std.proofs.Common.{◌≡◌, true, [], ◌∷◌, ◌++◌, ap, ◌∙◌}
-use Rattle.wcp_model.specs.ProbeLog.{Observed, ProbeSetup, Sent}
-use Rattle.watched_pool.specs.Logs.{GaveOut, processes_of}
+use Rattle.watched_pool.proofs.Words.{◌≡◌, true, [], ◌∷◌, ◌++◌, ap, ◌∙◌, Observed, ProbeSetup, Sent, GaveOut, processes_of}
 use Rattle.watched_pool.proofs.MadeCalls.{two_calls}
 use Rattle.watched_pool.proofs.dispatcher.Desk.give_out.Goals as goal
 

@@ -1,5 +1,4 @@
-use Rattle.std.proofs.Common.{◌≡◌, length}
-use Rattle.watched_pool.specs.Logs.{IsDispatching}
+use Rattle.watched_pool.proofs.Words.{◌≡◌, length, IsDispatching}
 use Rattle.watched_pool.proofs.dispatcher.Desk.give_out_all.Given as goal
 
 abbrev pub invariant-loop-partner : goal.invariant-loop-partner

@@ -1,5 +1,4 @@
-use Rattle.std.proofs.Common.{◌≡◌, ◌*◌, length}
-use Rattle.watched_pool.specs.Logs.{IsDispatching, most_unanswered}
+use Rattle.watched_pool.proofs.Words.{◌≡◌, ◌*◌, length, IsDispatching, most_unanswered}
 use Rattle.watched_pool.proofs.dispatcher.Desk.run_rounds.Given as goal
 
 abbrev pub invariant-loop-round : goal.invariant-loop-round

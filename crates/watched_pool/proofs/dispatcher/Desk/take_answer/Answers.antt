@@ -1,7 +1,4 @@
-use Rattle.std.proofs.Common.{◌≡◌, ◌+◌, ◌-◌, nat_lt, [], ◌∷◌, ◌++◌, ap, ◌∙◌, subst, arith}
-use Rattle.wcp_model.specs.ProbeLog.{Observed, ProbeSetup, Received}
-use Rattle.wcp_probe.specs.Seal.{seal_of}
-use Rattle.watched_pool.specs.Logs.{IsDispatcherLog, WasAnswered, processes_of}
+use Rattle.watched_pool.proofs.Words.{◌≡◌, ◌+◌, ◌-◌, nat_lt, [], ◌∷◌, ◌++◌, ap, ◌∙◌, subst, arith, Observed, ProbeSetup, Received, seal_of, IsDispatcherLog, WasAnswered, processes_of}
 use Rattle.watched_pool.proofs.MadeCalls.{two_calls, whole_stamp}
 use Rattle.watched_pool.proofs.dispatcher.Desk.take_answer.Goals as goal
 

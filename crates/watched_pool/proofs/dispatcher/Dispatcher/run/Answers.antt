@@ -1,6 +1,5 @@
-use Rattle.std.proofs.Common.{◌≡◌, ◌*◌, List, [], length, ap, ◌∙◌, arith}
+use Rattle.watched_pool.proofs.Words.{◌≡◌, ◌*◌, List, [], length, ap, ◌∙◌, arith, NothingYet}
 use Rattle.watched_pool.specs.declared.dispatcher.Partner.{Partner}
-use Rattle.watched_pool.specs.Logs.{NothingYet}
 use Rattle.watched_pool.proofs.dispatcher.Dispatcher.run.Goals as goal
 
 pub run_rounds-requires-clause-at_work : goal.run_rounds-requires-clause-at_work

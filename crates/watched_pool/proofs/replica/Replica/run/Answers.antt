@@ -1,5 +1,4 @@
-use Rattle.std.proofs.Common.{◌≡◌, [], ◌++◌, refl, subst, ◌∙◌, arith}
-use Rattle.watched_pool.specs.Logs.{IsAnswering, NoJob, OneMore, calls_for}
+use Rattle.watched_pool.proofs.Words.{◌≡◌, [], ◌++◌, refl, subst, ◌∙◌, arith, IsAnswering, NoJob, OneMore, calls_for}
 use Rattle.watched_pool.proofs.replica.Replica.run.Goals as goal
 
 pub loop-init : goal.loop-init

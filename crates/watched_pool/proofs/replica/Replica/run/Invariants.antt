@@ -1,5 +1,4 @@
-use Rattle.std.proofs.Common.{◌≡◌}
-use Rattle.watched_pool.specs.Logs.{IsAnswering}
+use Rattle.watched_pool.proofs.Words.{◌≡◌, IsAnswering}
 use Rattle.watched_pool.proofs.replica.Replica.run.Given as goal
 
 abbrev pub invariant-loop : goal.invariant-loop

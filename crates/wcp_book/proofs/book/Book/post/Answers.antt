@@ -1,4 +1,4 @@
-use Rattle.std.proofs.Common.{arith, ◌≡◌, ℕ, List, Option, take, set, slice_get, slice_index_or, Some, None, sym, ◌∙◌, ap, refl, subst, All}
+use Rattle.std.proofs.Common.{arith, Bool, ◌≡◌, ℕ, List, Option, take, set, slice_get, slice_index_or, Some, None, sym, ◌∙◌, ap, refl, subst, All}
 use Rattle.std.proofs.lemmas.List.{length-take-le, length-set, get_or-take}
 use Rattle.std.proofs.lemmas.List.Elements.{All-set}
 use Rattle.std.proofs.lemmas.Option.{slice_get-get_or}
@@ -9,8 +9,8 @@ use Rattle.wcp_book.specs.Totals.{HasFewSnapshots}
 use Rattle.wcp_book.proofs.Posted.{posted_totals, few_totals, no_share}
 use Rattle.wcp_book.proofs.book.Book.post.Goals as goal
 
-abbrev book_of : List (Option Tally) → Option (List ℕ) → BookState
-book_of shares found = record { shares = shares; found = found }
+abbrev book_of : List (Option Tally) → Option (List ℕ) → Bool → BookState
+book_of shares found ended = record { shares = shares; found = found; ended = ended }
 
 module _ (c : goal.After-self-2-1) where
   abbrev share : Tally
@@ -44,6 +44,8 @@ invariant_of-self c = (
       (All-set HasFewSnapshots (take c.self.inside.processes c.self.inside.shares) c.args.p (Some (share c)) (c.requires.few_emitted, c.requires.few_taken) c.self.invariant.3),
   posted_totals c.self.inside.processes c.args.p c.self.inside.shares c.self.inside.totals (share c) c.if-p-self.false
       (omega (arith, c.self.invariant.1, c.self.invariant.2)) (none c) c.self.invariant.4,
+  c.self.invariant.5,
+  c.self.invariant.6,
 )
 
 -- src/book.rt:68:5
@@ -59,5 +61,5 @@ returns-clause-ok c =
 -- src/book.rt:68:5
 pub returns-clause-posted : goal.returns-clause-posted
 returns-clause-posted c =
-    ap (λ shares. book_of shares c.self.inside.found) (replaced c)
-    ∙ ap (λ (book : BookState). book_of (set book.shares c.args.p (Some (share c))) book.found) c.self.view_is
+    ap (λ shares. book_of shares c.self.inside.found c.self.inside.ended) (replaced c)
+    ∙ ap (λ (book : BookState). book_of (set book.shares c.args.p (Some (share c))) book.found book.ended) c.self.view_is

@@ -19,11 +19,11 @@ invariant_of-self-2 c =
           let added = w.in_ok-add_candidate.ensures in
           rw (w.self-inside-is, items)
           (IsSoundChecker-snapshot (checker_state c.self.inside) c.self.invariant _ c.args.p (omega (arith, within, c.self.invariant.few, c.self.invariant.counts)) few refl refl (omega (arith, ap length shown))
-          added.settled (λ none. rw shown at (MatchOption-at_none _ _ none added.cut)) (rw shown at added.tests))
+          added.stable (λ none. rw shown at (MatchOption-at_none _ _ none added.cut)) (rw shown at added.tests))
       | else-is_searching w ↦
           rw w.self-inside-is
           (IsSoundChecker-snapshot (checker_state c.self.inside) c.self.invariant _ c.args.p (omega (arith, within, c.self.invariant.few, c.self.invariant.counts)) few refl refl refl
-          c.self.invariant.settled c.self.invariant.waiting (omega arith))
+          c.self.invariant.stable c.self.invariant.waiting (omega arith))
     ]
 
 pub returns-clause-taken : goal.returns-clause-taken

@@ -1,4 +1,4 @@
-use Rattle.wcp_world.proofs.Words.{refl, state_of}
+use Rattle.wcp_world.proofs.Words.{refl, arith, state_of}
 use Rattle.wcp_model.specs.declared.step.Step.TheVariants as step
 use Rattle.wcp_world.proofs.WorldAfterStep.{event_answered, move_answered, pending_is, sends}
 use Rattle.wcp_world.proofs.detector.Detector.step.Goals as goal
@@ -16,13 +16,8 @@ pub returns-in-Close-clause-answered : goal.returns-in-Close-clause-answered
 returns-in-Close-clause-answered c = rw c.in-Close.is (λ plan steps taken stands. event_answered plan steps taken (state_of c.args.self.now) stands (step.Close c.in-Close.p) c.close.result c.close.new.self refl refl (rw (pending_is plan steps taken (state_of c.args.self.now) stands c.in-Close.p) refl) (λ e. e) c.close.ensures.answered)
 
 pub returns-in-Admit-clause-answered : goal.returns-in-Admit-clause-answered
-returns-in-Admit-clause-answered c = rw c.in-Admit.is (λ plan steps taken stands. move_answered plan steps taken (state_of c.args.self.now) stands (step.Admit c.in-Admit.relay c.in-Admit.p) c.admit.result c.admit.new.self refl (λ e. e) c.admit.ensures.answered)
-
-pub returns-in-Pull-clause-answered : goal.returns-in-Pull-clause-answered
-returns-in-Pull-clause-answered c = rw c.in-Pull.is (λ plan steps taken stands. move_answered plan steps taken (state_of c.args.self.now) stands (step.Pull c.in-Pull.relay) c.pull.result c.pull.new.self refl (λ e. e) c.pull.ensures.answered)
-
-pub returns-in-Pass-clause-answered : goal.returns-in-Pass-clause-answered
-returns-in-Pass-clause-answered c = rw c.in-Pass.is (λ plan steps taken stands. move_answered plan steps taken (state_of c.args.self.now) stands (step.Pass c.in-Pass.relay) c.pass.result c.pass.new.self refl (λ e. e) c.pass.ensures.answered)
+returns-in-Admit-clause-answered c plan steps taken stands =
+    move_answered plan steps taken (state_of c.args.self.now) stands c.args.step c.convey.result c.convey.new.self (grind arith) c.convey.ensures.answered
 
 pub returns-in-Put-clause-answered : goal.returns-in-Put-clause-answered
 returns-in-Put-clause-answered c = rw c.in-Put.is c.put.ensures.answered

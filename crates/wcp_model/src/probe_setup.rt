@@ -1,0 +1,8 @@
+/// What a probe is made with, as far as its log tells.
+#[derive(Clone, Copy, Debug, PartialEq, Eq)]
+pub struct ProbeSetup {
+    /// How many processes there are.
+    pub processes: u32,
+    /// The number of its own.
+    pub process: u32,
+}

@@ -1,6 +1,0 @@
-use Rattle.std.proofs.Common.{◌≡◌, ℕ, ◌<◌, true}
-use Rattle.wcp_queue.specs.Checker.{closed_of}
-use Rattle.wcp_run.proofs.checking.are_closed.Given as goal
-
-abbrev pub invariant-loop-p : goal.invariant-loop-p
-invariant-loop-p l = (q : ℕ) → q < l.p → closed_of l.checker q ≡ true

@@ -1,8 +1,0 @@
-use Rattle.wcp_run.specs.Matching.{AreEndsThere}
-use Rattle.wcp_run.proofs.MatchedLinks.{HaveMatched}
-use Rattle.wcp_run.proofs.matching.match_links.Given as goal
-
-abbrev pub invariant-loop-number : goal.invariant-loop-number
-invariant-loop-number l =
-    (there : AreEndsThere l.count l.fn.probes l.fn.root l.fn.relays)
-    → HaveMatched there l.number l.relays l.probes l.inboxes

@@ -1,5 +1,0 @@
-use Rattle.wcp_run.specs.Seats.{AreAllSeated}
-use Rattle.wcp_run.proofs.seats.are_seated.Given as goal
-
-abbrev pub invariant-loop-place : goal.invariant-loop-place
-invariant-loop-place g l = AreAllSeated l.place l.seats

@@ -1,0 +1,5 @@
+pub mod CheckerEnds
+pub mod Matching
+pub mod Seats
+pub mod Settling
+pub mod RunParts

@@ -1,0 +1,171 @@
+//! The loop of a checker: it takes what arrives at the root of the tree, posts the share of each process, and tells the
+//! cut as it finds it.
+ghost use Rattle.std.specs.Prelude.{◌≡◌, ℕ, ◌↔◌, ◌<◌, true, false, [], ◌∷◌, IsTrue, IfOk, OnOk};
+ghost use Rattle.wcp_clock.specs.Notes.{is_close, place_of};
+ghost use Rattle.wcp_model.specs.Report.{IsDrained};
+ghost use Rattle.wcp_model.specs.declared.outcome.Report.TheVariants.{Found};
+ghost use Rattle.wcp_queue.specs.Checker.{processes, closed_of, report_of, HasFound, MayTake};
+ghost use Rattle.wcp_lane.specs.Ends.{TakeEnd};
+ghost use Rattle.wcp_tree.specs.RelayWork.{AreTakenNext, IsSameTaker};
+ghost use Rattle.wcp_watch.specs.CheckerEnds.{IsEndOfLoop, IsFreshFor, KeepsUp, HasTakenClose, HasTakenLast, TakesItems};
+
+use crate::checker_end::{CheckerEnd, first_fault};
+use std::sync::{Mutex, Wait};
+use wcp_book::Book;
+use wcp_clock::{Item, Note};
+use wcp_lane::{Cut, Taker};
+use wcp_model::{GlobalCut, Report};
+use wcp_queue::Checker;
+use wcp_tree::{Bundle, CheckerInbox};
+
+/// Gives the checker what arrives, until every close mark was taken or the lane is cut. As it takes a close mark it
+/// posts the share of that process in the book: the count of the mark, and how many of its snapshots were taken. Where
+/// a post is refused the book is unchanged, and the loop goes on. As the checker finds a cut, which stays its report,
+/// it tells the book of it, and the loop goes on. Where there is no memory for an item the checker is starved and takes
+/// it then, and the loop goes on, so that the relays still have a taker. Once the loop is over it ends the book.
+///
+/// What is posted and told stands in no clause, but that a cut is told only where the checker has found it; `settle`
+/// compares both, and so do the tests of `run_cases`, which also show the end.
+pub fn check_loop<R: Wait>(
+    rt: &R,
+    inbox: CheckerInbox,
+    mut checker: Checker,
+    book: &Mutex<Book>,
+) -> CheckerEnd
+    requires { IsFreshFor inbox checker }
+    ensures { IsEndOfLoop inbox result }
+{
+    let watch = inbox.watch();
+    let relays = inbox.relays();
+    let mut taker = inbox.into_taker();
+    let cut = take_all(rt, &mut taker, &mut checker, book).err();
+    end_book(rt, book);
+    CheckerEnd {
+        watch,
+        processes: checker.processes(),
+        relays,
+        receipt: taker.end(),
+        report: checker.report(),
+        fault: first_fault(checker.is_starved(), cut),
+        cut,
+    }
+}
+
+/// Takes until every close mark was taken.
+fn take_all<R: Wait>(
+    rt: &R,
+    taker: &mut Taker<Bundle>,
+    checker: &mut Checker,
+    book: &Mutex<Book>,
+) -> Result<(), Cut>
+    requires { KeepsUp taker.old checker.old }
+    ensures same { IsSameTaker taker.old taker.new × (processes checker.new ≡ processes checker.old) }
+    ensures keeps_up { KeepsUp taker.new checker.new }
+    ensures drained { OnOk result (IsDrained (processes checker.new) taker.new.taken) }
+{
+    let mut finished = are_closed(checker);
+    let mut told = false;
+    for _ in rt.forever() {
+        if finished {
+            break;
+        }
+        let end = take_bundle(rt, taker, checker)?;
+        if !told {
+            told = tell_found(rt, book, checker);
+        }
+        if let Note::Close { count } = end.note {
+            post_share(rt, book, checker, end.from, count);
+            finished = are_closed(checker);
+        }
+    }
+    Ok(())
+}
+
+/// Takes the lane's next bundle, and gives its items to the checker: the last of them.
+fn take_bundle<R: Wait>(
+    rt: &R,
+    taker: &mut Taker<Bundle>,
+    checker: &mut Checker,
+) -> Result<Item, Cut>
+    requires { KeepsUp taker.old checker.old }
+    ensures same { IsSameTaker taker.old taker.new × (processes checker.new ≡ processes checker.old) }
+    ensures keeps_up { KeepsUp taker.new checker.new }
+    ensures close { IfOk result (λ end.
+        is_close end.note ≡ true → HasTakenClose checker.new end.from (place_of end.note)) }
+{
+    let bundle = taker.take(rt)?;
+    give_all(checker, &bundle);
+    Ok(bundle.last_item())
+}
+
+/// Gives the checker the items of a bundle that was taken, in order.
+fn give_all(checker: &mut Checker, bundle: &Bundle)
+    requires { (taker : TakeEnd Bundle Item) × KeepsUp taker checker.old × AreTakenNext taker bundle.now }
+    ensures processes { processes checker.new ≡ processes checker.old }
+    ensures taken { TakesItems checker.old checker.new bundle.now }
+    ensures close { HasTakenLast checker.new bundle.now }
+{
+    let items = bundle.items();
+    for item in items {
+        give(checker, item);
+    }
+}
+
+/// Gives the checker an item; where there is no memory for it the checker is starved first.
+fn give(checker: &mut Checker, item: &Item)
+    requires { MayTake checker.old item.now }
+    ensures processes { processes checker.new ≡ processes checker.old }
+    ensures taken { TakesItems checker.old checker.new (item.now ∷ []) }
+{
+    let Err((_, item)) = checker.take(*item) else {
+        return;
+    };
+    checker.starve();
+    match checker.take(item) {
+        Ok(()) => {}
+        Err(_) => unreachable!(),
+    }
+}
+
+/// Posts the share of a process whose close mark was taken.
+fn post_share<R: Wait>(rt: &R, book: &Mutex<Book>, checker: &Checker, p: u32, count: u32)
+    requires { HasTakenClose checker.now p count }
+{
+    let taken = checker.taken(p);
+    let _ = book.lock(rt).post(p, u64::from(count), taken);
+}
+
+/// Tells the book of the cut that the checker has found. Whether it has found one.
+fn tell_found<R: Wait>(rt: &R, book: &Mutex<Book>, checker: &Checker) -> bool
+    ensures { IsTrue result ↔ HasFound checker.now }
+{
+    let Report::Found(cut) = checker.report() else {
+        return false;
+    };
+    tell(rt, book, checker, cut);
+    true
+}
+
+/// Tells the book of this cut of the checker.
+fn tell<R: Wait>(rt: &R, book: &Mutex<Book>, checker: &Checker, cut: GlobalCut)
+    requires { report_of checker.now ≡ Found cut }
+{
+    book.lock(rt).tell(cut);
+}
+
+/// Ends the book, and lets those go who wait for its news.
+fn end_book<R: Wait>(rt: &R, book: &Mutex<Book>) {
+    book.lock(rt).end();
+}
+
+/// Whether every close mark was taken.
+fn are_closed(checker: &Checker) -> bool
+    ensures { IsTrue result ↔ ((p : ℕ) → p < processes checker.now → closed_of checker.now p ≡ true) }
+{
+    for p in 0..checker.processes() {
+        if !checker.closed(p) {
+            return false;
+        }
+    }
+    true
+}

@@ -1,0 +1,36 @@
+//! A watch that runs: the checker's loop, the threads of its parts, and `settle`, which proves the run's
+//! report from the ends of the watch.
+//!
+//! What is proved. A watch that runs. `check_loop`: its end is of the inbox's lane, its report is the checker's over
+//! all that it took, exact wherever clocks rise, or, where it met want of memory, a cut found among this or undecided;
+//! and every close mark was taken unless the lane was cut. `settle`: an answer says that the checker took of each
+//! process what its probe put, each note once and in order, through every ring and lane of its path, that the report
+//! is the exact one by clocks of this, all drained, that the tallies are the counts, and that the book's shares are
+//! just these, so that its totals are their sums; each refusal is the first that applies of: an end of another watch
+//! or one twice, an end that is missing, an end with a fault, a link that wasn't matched or a share that is another,
+//! and there is none where none applies. Its premise is that the ends which carry the watch's number come from its
+//! watch. `run_parts`: workers, relays and the checker, each in a thread of its own; an answer has the end of each at
+//! the place of its part, and each end is one that its part leaves.
+#![tactic(auto)]
+
+mod checker_end;
+mod checking;
+mod checking_part;
+mod ends;
+mod lanes;
+mod matching;
+mod rings;
+mod running;
+mod seats;
+mod settle_fault;
+mod settled;
+mod settling;
+mod shares;
+
+pub use checker_end::{CheckFault, CheckerEnd};
+pub use checking::check_loop;
+pub use checking_part::Checking;
+pub use running::{Ends, Parts, StartFault, run_parts};
+pub use settle_fault::SettleFault;
+pub use settled::Settled;
+pub use settling::settle;

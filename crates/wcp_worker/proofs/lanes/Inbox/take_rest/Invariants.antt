@@ -1,5 +1,0 @@
-use Rattle.wcp_worker.proofs.Words.{ℕ, HasTakenMore}
-use Rattle.wcp_worker.proofs.lanes.Inbox.take_rest.Given as goal
-
-abbrev pub invariant-loop : goal.invariant-loop
-invariant-loop g l = (q : ℕ) → HasTakenMore q l.initial.self l.self

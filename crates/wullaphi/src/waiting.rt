@@ -1,0 +1,20 @@
+use std::alloc::{AllocError, Global};
+use std::sync::{Mutex, Wait};
+use wcp_book::Book;
+use wcp_model::GlobalCut;
+
+/// The cut of a watch that is given this book, as soon as it is found, or none once the watch has ended without one.
+/// The thread sleeps until then. `Err` where memory runs out.
+///
+/// Where the watch hasn't begun the book, this waits for it. A book that was used before still tells of the watch that
+/// has ended: who waits for the next one, and may be earlier than it, begins the book before (`Book::begin`).
+///
+/// A process may wait too, where a cut is sure to come: a watch doesn't end before its processes.
+pub fn wait_for_cut<R: Wait>(
+    rt: &R,
+    alloc: Global,
+    book: &Mutex<Book>,
+) -> Result<Option<GlobalCut>, AllocError> {
+    let news = book.lock(rt).news(alloc)?;
+    Ok(news.wait(rt))
+}
