@@ -1,5 +1,5 @@
 ghost use Rattle.std.specs.Prelude.{◌≡◌, ◌+◌, false, true, [], ◌∷◌, IfOk, IsTrue};
-ghost use Rattle.wcp_clock.specs.Notes.{place_of, is_close};
+ghost use Rattle.wcp_clock.specs.Notes.{place_of, is_last};
 ghost use Rattle.wcp_tree.specs.Bundles.{Continues};
 ghost use Rattle.tree_cases.specs.BundleLanes.{HasPut};
 
@@ -25,7 +25,7 @@ fn close_mark(count: u32) -> Item
 fn snap(from: u32, number: u32) -> Item
     ensures from { result.from ≡ from }
     ensures place { place_of result.note ≡ number }
-    ensures unended { is_close result.note ≡ false }
+    ensures unended { is_last result.note ≡ false }
 {
     let clock = Clock::new(2);
     Item {
@@ -89,7 +89,7 @@ fn put_pair<R: Wait>(rt: &R, putter: &mut Putter<Bundle>, number: u32, second: I
     requires from { second.from ≡ 0 }
     requires place { place_of second.note ≡ number + 1 }
     ensures lane { putter.new.lane ≡ putter.old.lane }
-    ensures put { IsTrue result → is_close second.note ≡ false → HasPut (number + 2) putter.new }
+    ensures put { IsTrue result → is_last second.note ≡ false → HasPut (number + 2) putter.new }
 {
     match putter.put(rt, pair(snap(0, number), second)) {
         Ok(()) => true,
