@@ -1,4 +1,4 @@
-use Rattle.wcp_order.proofs.Words.{◌≡◌, ℕ, ◌≤◌, Bool, true, false, cond, zero, suc, List, [], ◌∷◌, ◌+◌, take, count_by, Some, refl, eq-eqb, arith, slice_get, All, cases_Bool, and_parts, and_right, common_steps, take-take, sum_by-take-le, slice_get_within, get_or_from_slice_get, Action, Task, count_by_yes, count_by_no, is_task_of, is_send_to, is_receive_from, sends, receives}
+use Rattle.wcp_order.proofs.Words.{◌≡◌, ℕ, ◌≤◌, Bool, true, false, cond, zero, suc, List, [], ◌∷◌, ◌+◌, take, count_by, Some, refl, eq-eqb, arith, slice_get, All, cases_Bool, and_parts, and_right, common_steps, take-take, sum_by-take-le, slice_get_within, get_or_from_slice_get, Task, count_by_yes, count_by_no, is_task_of, is_send_to, is_receive_from, sends, receives}
 use Rattle.wcp_model.specs.declared.workload.Action.TheVariants as action
 
 -- what holds of each element holds of the one at a place
@@ -22,6 +22,9 @@ count_by-take_one f (x ∷ xs) (suc n) =
 -- the task that passes is that of the process
 pub receives_is : (p q : ℕ) (task : Task) → receives p q task ≡ true → task ≡ record { p = q; action = action.Recv p }
 receives_is p q task passes = grind arith
+
+pub sends_is : (p q : ℕ) (task : Task) → sends p q task ≡ true → task ≡ record { p = p; action = action.Send q }
+sends_is p q task passes = grind arith
 
 pub sends_by : (p q : ℕ) (task : Task) → sends p q task ≡ true → is_task_of p task ≡ true
 sends_by p q task passes = (and_parts (is_task_of p task) (is_send_to q task.action) passes).0
