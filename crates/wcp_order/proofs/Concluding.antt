@@ -1,10 +1,10 @@
 -- What is found where no process can go on.
-use Rattle.wcp_order.proofs.Words.{take_all, ◌≡◌, ℕ, ◌+◌, ◌<◌, ◌≤◌, cond, List, [], ◌∷◌, length, take, count_by, Some, refl, sym, ◌∙◌, ap, arith, inl, inr, slice_get, slice_index, filter, All, cases_lt, All-head, All-tail, length-filter, sum_by-take-le, Task, is_task_of, IsWithin, IsFitOrder, element_within, count_before-yes, same_count, IsFirstStuck, IsProgress, IsBlocked, IsFirstLeft}
+use Rattle.wcp_order.proofs.Words.{count_before-mono, take_all, ◌≡◌, ℕ, ◌+◌, ◌<◌, ◌≤◌, cond, List, [], ◌∷◌, length, take, count_by, Some, refl, sym, ◌∙◌, ap, arith, inl, inr, slice_get, slice_index, filter, All, cases_lt, All-head, All-tail, length-filter, sum_by-take-le, Task, is_task_of, IsWithin, IsFitOrder, element_within, count_before-yes, same_count, IsFirstStuck, IsProgress, IsBlocked, IsFirstLeft}
 use Rattle.wcp_model.proofs.AcceptedOrder.{IsFitOrder-itself}
 use Rattle.wcp_order.proofs.Doable.{can_if_done, done_if_can}
 use Rattle.wcp_order.proofs.Fronts.{begins_itself, no_more_than_all}
 use Rattle.wcp_order.proofs.Lengths.{length_tasks-le}
-use Rattle.wcp_order.proofs.Tasks.{at_place, count_by-take-le, is_task_of_itself}
+use Rattle.wcp_order.proofs.Tasks.{at_place, is_task_of_itself}
 
 -- of two lists of histories that are the same the progress is
 pub IsProgress_same : (n : ℕ) (history other : ℕ → List Task) (order : List Task) (done in_transit : List ℕ)
@@ -26,7 +26,7 @@ IsFirstLeft_at tasks done left place inside within counted none = record {
       omega (arith, none task at, counted task.p (at_place (λ task. task.p < length done) tasks place task within at));
   before = λ i task at earlier.
       let more = count_before-yes (is_task_of task.p) tasks i task at (is_task_of_itself task) in
-      let behind = count_by-take-le (is_task_of task.p) tasks (i + 1) place (omega (arith, earlier)) in
+      let behind = count_before-mono (is_task_of task.p) tasks (i + 1) place (omega (arith, earlier)) in
       omega (arith, more, behind, counted task.p (at_place (λ task. task.p < length done) tasks i task within at));
 }
 
@@ -60,13 +60,11 @@ module _ (n : ℕ) (tasks order : List Task) (done in_transit : List ℕ) (withi
     inside = first.inside;
     stuck = λ can.
         let (task, at) = element_within tasks place first.inside in
-        let below : task.p < n = (at_place (IsWithin n) tasks place task within at).0 in
-        omega (arith, done_if_can n tasks order done in_transit within progress blocked can task at, first.left task at, progress.counts task.p below);
+        omega (arith, done_if_can n tasks order done in_transit within progress blocked can task at, first.left task at, progress.counts task.p (at_place (IsWithin n) tasks place task within at).0);
     before = λ j earlier.
         let (task, at) = element_within tasks j (omega (arith, earlier, first.inside)) in
-        let below : task.p < n = (at_place (IsWithin n) tasks j task within at).0 in
         can_if_done n tasks order within progress.is_done.fit progress.first j task at
-        (omega (arith, first.before j task at earlier, progress.counts task.p below));
+        (omega (arith, first.before j task at earlier, progress.counts task.p (at_place (IsWithin n) tasks j task within at).0));
   }
 
 -- a task that can't be done leaves no fit order

@@ -1,10 +1,10 @@
 -- Which tasks can be done, by the tasks that were done in a fit order.
-use Rattle.wcp_order.proofs.Words.{◌≡◌, ℕ, zero, suc, ◌+◌, ◌<◌, ◌*◌, cond, List, length, take, filter, count_by, Some, sym, ◌∙◌, ap, arith, inl, inr, eqb-true, slice_get, slice_index, All, cases_lt, take_all, length-filter, sum_by-take-le, Action, Task, is_task_of, sends, receives, IsFitOrder, IsWithin, sends_yes, receives_yes, count_before-yes, element_after, slice_get-filter, AreSendAndReceive, IsEarlier, CanBeDone, IsProgress, IsBlocked, IsReady}
+use Rattle.wcp_order.proofs.Words.{count_before-mono, ◌≡◌, ℕ, zero, suc, ◌+◌, ◌<◌, ◌*◌, cond, List, length, take, filter, count_by, Some, sym, ◌∙◌, ap, arith, inl, inr, eqb-true, slice_get, slice_index, All, cases_lt, take_all, length-filter, sum_by-take-le, Action, Task, is_task_of, sends, receives, IsFitOrder, IsWithin, sends_yes, receives_yes, count_before-yes, element_after, slice_get-filter, AreSendAndReceive, IsEarlier, CanBeDone, IsProgress, IsBlocked, IsReady}
 use Rattle.wcp_model.specs.declared.workload.Action.TheVariants as action
 use Rattle.wcp_order.specs.Stuck.CanBeDone.{Observing, Sending, Receiving}
 use Rattle.wcp_order.proofs.Counting.{sent_before}
 use Rattle.wcp_order.proofs.Fronts.{Begins, begins_take, no_more_than_all, among_by_stricter, among_by_test, as_many_pass}
-use Rattle.wcp_order.proofs.Tasks.{at_place, count_by-take-le, count_by-take_one, is_task_of_itself, sends_by, receives_by, sends_is}
+use Rattle.wcp_order.proofs.Tasks.{at_place, count_by-take_one, is_task_of_itself, sends_by, receives_by, sends_is}
 
 -- how many tasks of the process stand before a place
 abbrev pub rank : List Task → ℕ → ℕ → ℕ
@@ -12,7 +12,7 @@ rank tasks p place = count_by (is_task_of p) (take place tasks)
 
 -- a place before which fewer tasks of a process stand is an earlier one
 earlier_place : (tasks : List Task) (p i j : ℕ) → rank tasks p j < rank tasks p i → j < i
-earlier_place tasks p i j fewer = grind (arith, count_by-take-le (is_task_of p) tasks i j)
+earlier_place tasks p i j fewer = grind (arith, count_before-mono (is_task_of p) tasks i j)
 
 module _ (n : ℕ) (tasks order : List Task) (within : All (IsWithin n) tasks) (fit : IsFitOrder order order) (begins : (p : ℕ) → p < n → Begins (is_task_of p) order tasks) where
   -- the task was done among the first `bound` ones of the order
@@ -24,7 +24,7 @@ module _ (n : ℕ) (tasks order : List Task) (within : All (IsWithin n) tasks) (
   earlier_can bound can i p more j earlier =
       let passes = is_task_of_itself (record { p = p; action = earlier.act }) in
       let before = count_before-yes (is_task_of p) tasks j _ earlier.same_process passes in
-      let behind = count_by-take-le (is_task_of p) tasks (j + 1) i (omega (arith, earlier.before)) in
+      let behind = count_before-mono (is_task_of p) tasks (j + 1) i (omega (arith, earlier.before)) in
       can j p earlier.act earlier.same_process (omega (arith, more, before, behind, count_by-take_one (is_task_of p) order bound))
 
   received_can : (bound : ℕ) → CanBelow bound → (i p from : ℕ) → slice_get tasks i ≡ Some (record { p = p; action = action.Recv from })

@@ -1,6 +1,5 @@
 -- Lists whose elements that pass a test are the first ones of another list that do.
-use Rattle.wcp_order.proofs.Words.{◌≡◌, ℕ, ◌+◌, ◌<◌, ◌≤◌, Bool, true, cond, List, [], ◌∷◌, take, filter, count_by, Some, refl, sym, ap, arith, slice_get, cases_Bool, length-filter, take-take, take_all, sum_by-take-le, filter_front, count_by_yes, count_by_no, count_before-yes}
-use Rattle.wcp_order.proofs.Tasks.{count_by-take-le}
+use Rattle.wcp_order.proofs.Words.{count_before-mono, ◌≡◌, ℕ, ◌+◌, ◌<◌, ◌≤◌, Bool, true, cond, List, [], ◌∷◌, take, filter, count_by, Some, refl, sym, ap, arith, slice_get, cases_Bool, length-filter, take-take, take_all, sum_by-take-le, filter_front, count_by_yes, count_by_no, count_before-yes}
 
 -- what passes of the one list is the first of what passes of the other
 abbrev pub Begins : {X : Type 0} → (X → Bool) → List X → List X → Type 0
@@ -27,7 +26,7 @@ module _ {X : Type 0} (P Q : X → Bool) (implies : (x : X) → Q x ≡ true →
     no_more_pass : (ys zs : List X) → Begins P ys xs → Begins P zs xs
         → count_by P ys ≤ count_by P zs → count_by Q ys ≤ count_by Q zs
     no_more_pass ys zs ys_begin zs_begin fewer =
-        omega (arith, count_by-filter ys, count_by-filter zs, ap (count_by Q) ys_begin, ap (count_by Q) zs_begin, count_by-take-le Q (filter P xs) (count_by P ys) (count_by P zs) fewer)
+        omega (arith, count_by-filter ys, count_by-filter zs, ap (count_by Q) ys_begin, ap (count_by Q) zs_begin, count_before-mono Q (filter P xs) (count_by P ys) (count_by P zs) fewer)
 
     module _ (ys : List X) (begins : Begins P ys xs) where
       pub no_more_than_all : count_by Q ys ≤ count_by Q xs

@@ -8,7 +8,7 @@ pub use Rattle.std.proofs.lemmas.List.Sums.{sum_by-take-le, sum_by-cons, sum_by_
 pub use Rattle.std.proofs.lemmas.Option.{slice_get_within, get_or_from_slice_get, same_Some, gets, slice_get-get_or}
 pub use Rattle.std.specs.List.{All}
 pub use Rattle.wcp_model.proofs.MessagesOfOrder.{sends_yes, receives_yes, send_of_receive}
-pub use Rattle.wcp_model.proofs.Places.{count_before-yes, count_before-no, count_before-past}
+pub use Rattle.wcp_model.proofs.Places.{count_before-yes, count_before-no, count_before-past, count_before-mono}
 pub use Rattle.wcp_model.proofs.SamePlace.{count_by_yes, count_by_no, same_count, element_after, slice_get-filter, slice_get-take, element_within, filter_yes, SamePlace, filter_front}
 pub use Rattle.wcp_model.specs.WorkloadComputation.{is_task_of, is_send_to, is_receive_from, sends, receives, IsWithin, IsFitOrder}
 pub use Rattle.wcp_model.specs.declared.workload.Action.{Action}
