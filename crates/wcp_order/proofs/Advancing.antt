@@ -18,13 +18,21 @@ pub IsProgress_next : (n p : ℕ) (history : ℕ → List Task) (order : List Ta
     → IsProgress n history (order ++ task ∷ []) (set done task.p (slice_index done task.p + 1)) (in_transit_after n in_transit task.p task.action)
 IsProgress_next n p history order done in_transit task progress are at ready =
     let own = at_place (λ (task : Task). (task.p ≡ p) × IsWithin n task) (history p) (slice_index done p) task are at in
-    let one_more = take_more (history p) (slice_index done p) task (slice_get_within (history p) (slice_index done p) task at) in
+    let one_more = take_more (history p) (slice_index done p) task (slice_get_within (history p) _ task at) in
     let here = get_or_from_slice_get (history p) (slice_index done p) task task at in
+    let now = subst (λ q. IsReady n in_transit q task.action) (sym own.0) ready in
+    let size = progress.processes in
+    let passes = λ (q : ℕ). count_by_push_passing (is_task_of q) order task in
+    let fails = λ (q : ℕ). count_by_push_failing (is_task_of q) order task in
+    let kept = λ (q : ℕ). filter-append (is_task_of q) order (task ∷ []) in
+    let mine = is_task_of_itself task in
     record {
-      is_done = done_more n order in_transit progress.is_done task.p task.action own.1 (subst (λ q. IsReady n in_transit q task.action) (sym own.0) ready);
+      is_done = done_more n order in_transit progress.is_done task.p task.action own.1 now;
       processes = length-set done task.p (slice_index done task.p + 1) ∙ progress.processes;
       counts = λ q below.
-          grind (arith, get_or-set_same, get_or-set_other, progress.counts q, progress.processes, own.1.0, count_by_push_passing (is_task_of q) order task, count_by_push_failing (is_task_of q) order task, cases_eq q task.p);
+          let count = progress.counts q below in
+          grind (arith, get_or-set_same, get_or-set_other, count, size, own, passes q, fails q, cases_eq q p);
       first = λ q below.
-          grind (arith, progress.first q, progress.counts q, own, count_by_push_passing (is_task_of q) order task, count_by_push_failing (is_task_of q) order task, filter-append (is_task_of q) order (task ∷ []), is_task_of_itself task, ne_eqb, append-nil, one_more, here, cases_eq q p);
+          let first = progress.first q below in
+          grind (arith, first, own, passes q, fails q, kept q, mine, ne_eqb, append-nil, one_more, here, cases_eq q p);
     }

@@ -60,11 +60,14 @@ module _ (n : ℕ) (tasks order : List Task) (done in_transit : List ℕ) (withi
     inside = first.inside;
     stuck = λ can.
         let (task, at) = element_within tasks place first.inside in
-        omega (arith, done_if_can n tasks order done in_transit within progress blocked can task at, first.left task at, progress.counts task.p (at_place (IsWithin n) tasks place task within at).0);
+        let among = done_if_can n tasks order done in_transit within progress blocked can task at in
+        let below = (at_place (IsWithin n) tasks place task within at).0 in
+        omega (arith, among, first.left task at, progress.counts task.p below);
     before = λ j earlier.
         let (task, at) = element_within tasks j (omega (arith, earlier, first.inside)) in
+        let below = (at_place (IsWithin n) tasks j task within at).0 in
         can_if_done n tasks order within progress.is_done.fit progress.first j task at
-        (omega (arith, first.before j task at earlier, progress.counts task.p (at_place (IsWithin n) tasks j task within at).0));
+        (omega (arith, first.before j task at earlier, progress.counts task.p below));
   }
 
 -- a task that can't be done leaves no fit order
@@ -76,5 +79,6 @@ no_fit_order n tasks place within first order fit =
     let at_most = sum_by-take-le (λ t. cond (is_task_of p t) 1 0) tasks (place + 1) in
     let all_done = same_count (is_task_of p) (is_task_of p) order tasks (λ _ h. h) (fit.same_tasks p) in
     first.stuck (can_if_done n tasks order within (IsFitOrder-itself tasks order fit)
-    (λ q below. begins_itself (is_task_of q) order ∙ ap (take (count_by (is_task_of q) order)) (fit.same_tasks q)) place task at
+    (λ q below. begins_itself (is_task_of q) order ∙ ap (take (count_by (is_task_of q) order)) (fit.same_tasks q))
+    place task at
     (omega (arith, more, at_most, all_done)))

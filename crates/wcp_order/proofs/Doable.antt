@@ -14,7 +14,8 @@ rank tasks p place = count_by (is_task_of p) (take place tasks)
 earlier_place : (tasks : List Task) (p i j : ℕ) → rank tasks p j < rank tasks p i → j < i
 earlier_place tasks p i j fewer = grind (arith, count_before-mono (is_task_of p) tasks i j)
 
-module _ (n : ℕ) (tasks order : List Task) (within : All (IsWithin n) tasks) (fit : IsFitOrder order order) (begins : (p : ℕ) → p < n → Begins (is_task_of p) order tasks) where
+module _ (n : ℕ) (tasks order : List Task) (within : All (IsWithin n) tasks) (fit : IsFitOrder order order)
+    (begins : (p : ℕ) → p < n → Begins (is_task_of p) order tasks) where
   -- the task was done among the first `bound` ones of the order
   abbrev CanBelow : ℕ → Type 0
   CanBelow bound = (i p : ℕ) (act : Action) → slice_get tasks i ≡ Some (record { p = p; action = act }) → rank tasks p i < rank order p bound → CanBeDone tasks i
@@ -32,17 +33,20 @@ module _ (n : ℕ) (tasks order : List Task) (within : All (IsWithin n) tasks) (
   received_can bound can i p from at more =
       let here = at_place (IsWithin n) tasks i _ within at in
       let front = begins_take (is_task_of from) tasks order bound (begins from here.1.0) in
+      let early : List Task = take bound order in
+      let late : List Task = take (suc bound) order in
       let number : ℕ = count_by (receives from p) (take i tasks) in
-      let received = among_by_stricter (is_task_of p) (receives from p) (receives_by from p) tasks (take (suc bound) order)
+      let received = among_by_stricter (is_task_of p) (receives from p) (receives_by from p) tasks late
       (begins_take (is_task_of p) tasks order (suc bound) (begins p here.0)) i _ at (receives_yes from p) more in
-      let number_sent : number < count_by (sends from p) (take bound order) = omega (arith, received, sent_before order fit bound from p) in
-      let at_most = no_more_than_all (is_task_of from) (sends from p) (sends_by from p) tasks (take bound order) front in
+      let is_sent = sent_before order fit bound from p in
+      let number_sent : number < count_by (sends from p) early = omega (arith, received, is_sent) in
+      let at_most = no_more_than_all (is_task_of from) (sends from p) (sends_by from p) tasks early front in
       let (task, sent) = element_after (sends from p) tasks number (omega (arith, number_sent, at_most)) in
+      let among = among_by_test (is_task_of from) (sends from p) (sends_by from p) tasks early front sent.place
+      (omega (arith, number_sent, sent.behind)) in
       let send = sent.found ∙ ap Some (sends_is from p task sent.passes) in
       Receiving i sent.place (record { from = from; to = p; send = send; receive = at; same_number = sym sent.behind })
-      (can sent.place from (action.Send p) send
-      (among_by_test (is_task_of from) (sends from p) (sends_by from p) tasks (take bound order) front sent.place (omega (arith, number_sent, sent.behind))))
-      (earlier_can bound can i p more)
+      (can sent.place from (action.Send p) send among) (earlier_can bound can i p more)
 
   can_below : (bound : ℕ) → CanBelow bound
   can_below zero i p act at more = absurd (omega (arith, more))
@@ -78,12 +82,14 @@ module _ (n : ℕ) (tasks order : List Task) (done in_transit : List ℕ) (withi
     | inr most ↦ omega (arith, most, elsewhere)
     | inl more ↦
         let at_most = sum_by-take-le (λ task. cond (is_task_of p task) 1 0) tasks i in
-        let (other, before) = element_after (is_task_of p) tasks (count_by (is_task_of p) order) (omega (arith, more, at_most)) in
+        let some : count_by (is_task_of p) order < count_by (is_task_of p) tasks = omega (arith, more, at_most) in
+        let (other, before) = element_after (is_task_of p) tasks (count_by (is_task_of p) order) some in
         let j : ℕ = before.place in
         let found : slice_get tasks j ≡ Some (record { p = p; action = other.action }) =
         grind (arith, before.found, eqb-true other.p p before.passes) in
         let j_below : j < i = earlier_place tasks p i j (omega (arith, more, before.behind)) in
-        absurd (omega (arith, earlier j (record { before = j_below; act = other.action; same_process = found }) _ found, before.behind))
+        let is_done = earlier j (record { before = j_below; act = other.action; same_process = found }) _ found in
+        absurd (omega (arith, is_done, before.behind))
   ]
 
   -- the first receive that isn't done is ready if its send is done
@@ -93,9 +99,12 @@ module _ (n : ℕ) (tasks order : List Task) (done in_transit : List ℕ) (withi
       let from : ℕ = message.from in
       let to : ℕ = message.to in
       let limits = at_place (IsWithin n) tasks i _ within message.receive in
-      let sends_before = among_by_stricter (is_task_of from) (sends from to) (sends_by from to) tasks order (progress.first from limits.1.0) sent _ message.send (sends_yes from to) (sent_done _ message.send) in
-      let receives_before = as_many_pass (is_task_of to) (receives from to) (receives_by from to) tasks order (progress.first to limits.0) i here in
-      omega (arith, progress.is_done.counted from to limits.1.0 limits.0, message.same_number, sends_before, receives_before)
+      let sends_before = among_by_stricter (is_task_of from) (sends from to) (sends_by from to) tasks order
+      (progress.first from limits.1.0) sent _ message.send (sends_yes from to) (sent_done _ message.send) in
+      let receives_before = as_many_pass (is_task_of to) (receives from to) (receives_by from to) tasks order
+      (progress.first to limits.0) i here in
+      let counted = progress.is_done.counted from to limits.1.0 limits.0 in
+      omega (arith, counted, message.same_number, sends_before, receives_before)
 
   pub done_if_can : {i : ℕ} → CanBeDone tasks i → IsAmongDone i
   done_if_can (Observing i p holds at earlier) task there =

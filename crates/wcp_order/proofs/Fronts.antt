@@ -13,25 +13,28 @@ module _ {X : Type 0} (P : X → Bool) where
   pub begins_take : (xs ys : List X) (k : ℕ) → Begins P ys xs → Begins P (take k ys) xs
   begins_take xs ys k begins =
       let fewer = sum_by-take-le (λ y. cond (P y) 1 0) ys k in
-      cc (filter_front P k ys, length-filter P (take k ys), begins, take-take (count_by P (take k ys)) (count_by P ys) (filter P xs) fewer)
+      let same = take-take (count_by P (take k ys)) (count_by P ys) (filter P xs) fewer in
+      cc (filter_front P k ys, length-filter P (take k ys), begins, same)
 
 module _ {X : Type 0} (P Q : X → Bool) (implies : (x : X) → Q x ≡ true → P x ≡ true) where
   pub count_by-filter : (xs : List X) → count_by Q (filter P xs) ≡ count_by Q xs
   count_by-filter [] = refl
   count_by-filter (x ∷ xs) =
-      grind (arith, implies x, count_by-filter xs, count_by_yes Q x xs, count_by_no Q x xs, count_by_yes Q x (filter P xs), count_by_no Q x (filter P xs), cases_Bool (P x), cases_Bool (Q x))
+      grind (arith, implies x, count_by-filter xs, count_by_yes, count_by_no, cases_Bool (P x), cases_Bool (Q x))
 
   module _ (xs : List X) where
     -- where fewer pass the test, no more pass a stricter one
     no_more_pass : (ys zs : List X) → Begins P ys xs → Begins P zs xs
         → count_by P ys ≤ count_by P zs → count_by Q ys ≤ count_by Q zs
     no_more_pass ys zs ys_begin zs_begin fewer =
-        omega (arith, count_by-filter ys, count_by-filter zs, ap (count_by Q) ys_begin, ap (count_by Q) zs_begin, count_before-mono Q (filter P xs) (count_by P ys) (count_by P zs) fewer)
+        let mono = count_before-mono Q (filter P xs) (count_by P ys) (count_by P zs) fewer in
+        omega (arith, mono, count_by-filter ys, count_by-filter zs, ap (count_by Q) ys_begin, ap (count_by Q) zs_begin)
 
     module _ (ys : List X) (begins : Begins P ys xs) where
       pub no_more_than_all : count_by Q ys ≤ count_by Q xs
       no_more_than_all =
-          omega (arith, count_by-filter ys, count_by-filter xs, ap (count_by Q) begins, sum_by-take-le (λ x. cond (Q x) 1 0) (filter P xs) (count_by P ys))
+          let at_most = sum_by-take-le (λ x. cond (Q x) 1 0) (filter P xs) (count_by P ys) in
+          omega (arith, at_most, count_by-filter ys, count_by-filter xs, ap (count_by Q) begins)
 
       front : (i : ℕ) → Begins P (take i xs) xs
       front i = begins_take P xs xs i (begins_itself P xs)
@@ -40,7 +43,9 @@ module _ {X : Type 0} (P Q : X → Bool) (implies : (x : X) → Q x ≡ true →
       pub among_by_stricter : (i : ℕ) (x : X) → slice_get xs i ≡ Some x → Q x ≡ true
           → count_by P (take i xs) < count_by P ys → count_by Q (take i xs) < count_by Q ys
       among_by_stricter i x at passes more =
-          omega (arith, count_before-yes P xs i x at (implies x passes), count_before-yes Q xs i x at passes, no_more_pass (take (i + 1) xs) ys (front (i + 1)) begins)
+          let by_test = count_before-yes P xs i x at (implies x passes) in
+          let by_stricter = count_before-yes Q xs i x at passes in
+          omega (arith, by_test, by_stricter, no_more_pass (take (i + 1) xs) ys (front (i + 1)) begins)
 
       pub among_by_test : (i : ℕ) → count_by Q (take i xs) < count_by Q ys → count_by P (take i xs) < count_by P ys
       among_by_test i more = grind (arith, no_more_pass ys (take i xs) begins (front i))

@@ -20,10 +20,15 @@ length_tasks-le zero [] ys within fewer = omega arith
 length_tasks-le zero (task ∷ xs) ys within fewer = absurd (omega (arith, within 0 task (omega arith)))
 length_tasks-le (suc n) xs ys within fewer =
     let others : Task → Bool = is_of_other n in
-    let rest = length_tasks-le n (filter others xs) (filter others ys)
-    (λ k d below. process_below n (get_or (filter others xs) k d) (filter_passes others xs k d below) (All-filter others (λ task. task.p < suc n) xs within k d below))
-    (λ p below. omega (arith, fewer p (omega (arith, below)), count_by-filter others (is_task_of p) (below_is_other n p below) xs, count_by-filter others (is_task_of p) (below_is_other n p below) ys)) in
-    omega (arith, rest, fewer n (omega arith), length-filter_both (is_task_of n) others (λ _. refl) xs, length-filter_both (is_task_of n) others (λ _. refl) ys, length-filter (is_task_of n) xs, length-filter (is_task_of n) ys)
+    let low : All (λ task. task.p < n) (filter others xs) = λ k d inside.
+    process_below n (get_or (filter others xs) k d) (filter_passes others xs k d inside)
+    (All-filter others (λ task. task.p < suc n) xs within k d inside) in
+    let counts = λ (p : ℕ) (below : p < n). count_by-filter others (is_task_of p) (below_is_other n p below) in
+    let rest = length_tasks-le n (filter others xs) (filter others ys) low
+    (λ p below. omega (arith, fewer p (omega (arith, below)), counts p below xs, counts p below ys)) in
+    let split = length-filter_both (is_task_of n) others (λ _. refl) in
+    let counted = length-filter (is_task_of n) in
+    omega (arith, rest, fewer n (omega arith), split xs, split ys, counted xs, counted ys)
 
 -- an order with the same tasks of each process is as long
 pub same_length : (n : ℕ) (tasks order : List Task) → All (IsWithin n) tasks → All (IsWithin n) order
