@@ -48,7 +48,9 @@ impl Sum {
                         .wrapping_add(u64::from(clock.len())),
                 )
             }
-            Note::Close { count } => Sum(self.0.wrapping_add(u64::from(count))),
+            Note::Close { count } | Note::Lost { count } => Sum(
+                self.0.wrapping_add(u64::from(count)),
+            ),
         }
     }
 }

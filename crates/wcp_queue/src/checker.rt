@@ -5,7 +5,7 @@ ghost use Rattle.wcp_clock.specs.Limits.{most_processes};
 ghost use Rattle.wcp_clock.specs.declared.note.Item.{Item};
 ghost use Rattle.wcp_clock.specs.declared.note.Note.TheVariants.{Snap};
 ghost use Rattle.wcp_model.specs.declared.outcome.Report.TheVariants.{Found, Nothing};
-ghost use Rattle.wcp_clock.specs.Notes.{is_close, is_last};
+ghost use Rattle.wcp_clock.specs.Notes.{is_close, is_last, is_lost};
 ghost use Rattle.wcp_model.specs.Report.{ClocksRise, IsReportByClocks, clocks_taken, notes_taken};
 
 use crate::elimination::add_candidate;
@@ -210,6 +210,16 @@ impl Checker {
             → result ≡ list_any is_close (notes_taken p items) }
     {
         self.closed[p as usize]
+    }
+
+    /// Whether the mark that process `p` was lost was taken: its probe was dropped before it closed.
+    pub fn lost(&self, p: u32) -> bool
+        requires { p < processes self.now }
+        ensures value { result ≡ lost_of self.now p }
+        ensures mark { (items : List Item) → StandsForItems self.now items
+            → result ≡ list_any is_lost (notes_taken p items) }
+    {
+        self.lost[p as usize]
     }
 }
 

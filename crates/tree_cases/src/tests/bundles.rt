@@ -48,6 +48,25 @@ fn who_may_join_a_bundle(rt: HostRuntime) -> Result<(), Fail> {
     Ok(())
 }
 
+/// The mark that process 0 was lost after so many snapshots.
+fn lost_mark(count: u32) -> Item {
+    Item {
+        from: 0,
+        note: Note::Lost { count },
+    }
+}
+
+#[test]
+fn nothing_joins_a_bundle_behind_the_mark_of_a_lost_process(rt: HostRuntime) -> Result<(), Fail> {
+    let mut bundle = Bundle::one(snap(0, 3));
+    assert_eq!(rt; bundle.add(lost_mark(3)).err(), Some(lost_mark(3)));
+    assert!(rt; bundle.add(lost_mark(4)).is_ok());
+    assert_eq!(rt; bundle.add(close_mark(5)).err(), Some(close_mark(5)));
+    assert_eq!(rt; bundle.add(snap(0, 5)).err(), Some(snap(0, 5)));
+    assert_eq!(rt; bundle.len(), 2);
+    Ok(())
+}
+
 #[test]
 fn a_bundle_has_room_for_eight(rt: HostRuntime) -> Result<(), Fail> {
     let mut bundle = Bundle::one(snap(1, 0));
