@@ -1,3 +1,4 @@
 mod Ends
 pub mod LentProbes
+mod OwnWatches
 mod Ready

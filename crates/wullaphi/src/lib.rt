@@ -14,6 +14,9 @@
 
 mod lending;
 mod lent_probe;
+mod opening;
+mod own_ends;
+mod own_parts;
 mod process;
 mod seat;
 mod waiting;
@@ -22,6 +25,9 @@ mod watched;
 mod watching;
 
 pub use lent_probe::{LentProbe, Loan};
+pub use opening::{Opening, Watch, WatchParts};
+pub use own_ends::{WatchCheckerEnd, WatchEnds, WatchProbeEnd, WatchRelayEnd};
+pub use own_parts::{WatchChecker, WatchProbe, WatchRelay};
 pub use process::Process;
 pub use waiting::wait_for_cut;
 pub use watch_fault::WatchFault;
