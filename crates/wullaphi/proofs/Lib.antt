@@ -2,3 +2,4 @@ mod Ends
 pub mod LentProbes
 mod OwnWatches
 mod Ready
+pub mod SentEnds

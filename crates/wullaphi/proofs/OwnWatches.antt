@@ -29,32 +29,49 @@ pub all_more : {X : Type 0} (P : X → Type 0) (xs : List X) (x : X) → All P x
 all_more P xs x all one = All-append P xs (x ∷ []) all (All-cons P x [] one (All-nil P))
 
 -- where what stands for one more was pushed
-pub pushed_more : {X : Type 0} {new old seen : List X} {made given : X} → new ≡ old ++ made ∷ [] → made ≡ given → old ≡ seen → new ≡ seen ++ given ∷ []
-pushed_more {old = old} {given = given} pushed is same = pushed ∙ ap (λ x. old ++ x ∷ []) is ∙ ap (λ xs. xs ++ given ∷ []) same
+pub pushed_more : {X : Type 0} {new old seen : List X} {made given : X} → new ≡ old ++ made ∷ []
+    → made ≡ given → old ≡ seen → new ≡ seen ++ given ∷ []
+pushed_more {old = old} {given = given} pushed is same =
+    pushed ∙ ap (λ x. old ++ x ∷ []) is ∙ ap (λ xs. xs ++ given ∷ []) same
 
 -- a watch that was opened with a new checker
-pub fresh_watch : {plan : Plan} {number : ℕ} {tree : Watch} {checker : CheckerState} → IsCheckedPlan plan → IsWired plan number tree
-    → processes checker ≡ plan.n → StandsForItems checker [] → checker.starved ≡ false → IsFreshWatch (record { plan = plan; tree = tree }) plan.n checker
+pub fresh_watch : {plan : Plan} {number : ℕ} {tree : Watch} {checker : CheckerState} → IsCheckedPlan plan
+    → IsWired plan number tree → processes checker ≡ plan.n → StandsForItems checker [] → checker.starved ≡ false
+    → IsFreshWatch (record { plan = plan; tree = tree }) plan.n checker
 fresh_watch {plan} {tree = tree} checked wired count empty not_starved = record {
   is_open = record { checked = checked; wired = subst (λ number. IsWired plan number tree) (sym wired.number) wired };
   count = refl;
-  fresh = record { members = λ p. rw count (wired.members p); none_taken = wired.none_taken; stands = empty; not_starved = not_starved };
+  fresh = record {
+    members = λ p. rw count (wired.members p);
+    none_taken = wired.none_taken;
+    stands = empty;
+    not_starved = not_starved;
+  };
 }
 
 module _ {opening : Option OpenedWatch} where
   -- what holds of the opened watch, twice
-  pub both : {One Other : OpenedWatch → Type 0} → HasOpened One opening → HasOpened Other opening → HasOpened (λ opened. One opened × Other opened) opening
+  pub both : {One Other : OpenedWatch → Type 0} → HasOpened One opening → HasOpened Other opening
+      → HasOpened (λ opened. One opened × Other opened) opening
   both {Other = Other} one other =
       let two : Some one.opened ≡ Some other.opened = sym one.is ∙ other.is in
       let same : one.opened ≡ other.opened = cc in
-      record { opened = one.opened; is = one.is; is_open = one.is_open; holds = (one.holds, subst Other (sym same) other.holds) }
+      record {
+        opened = one.opened;
+        is = one.is;
+        is_open = one.is_open;
+        holds = (one.holds, subst Other (sym same) other.holds);
+      }
 
   -- what follows for the opened watch
-  pub follows : {One Other : OpenedWatch → Type 0} → ((opened : OpenedWatch) → One opened → Other opened) → HasOpened One opening → HasOpened Other opening
-  follows then one = record { opened = one.opened; is = one.is; is_open = one.is_open; holds = then one.opened one.holds }
+  pub follows : {One Other : OpenedWatch → Type 0} → ((opened : OpenedWatch) → One opened → Other opened)
+      → HasOpened One opening → HasOpened Other opening
+  follows then one =
+      record { opened = one.opened; is = one.is; is_open = one.is_open; holds = then one.opened one.holds }
 
   -- what is left of its parts
-  pub probe_end : {probe : LiveSide} {end : ClosedSide} → IsEndOfProbe probe end → HasOpened (IsProbeOf probe) opening → HasOpened (IsProbeEndOf end) opening
+  pub probe_end : {probe : LiveSide} {end : ClosedSide} → IsEndOfProbe probe end
+      → HasOpened (IsProbeOf probe) opening → HasOpened (IsProbeEndOf end) opening
   probe_end {probe} closed = follows (λ opened is. record {
     probe = probe;
     is_probe = ap (slice_get opened.tree.probes.items) closed.id ∙ is.is_probe;
@@ -62,7 +79,8 @@ module _ {opening : Option OpenedWatch} where
   })
 
   pub relay_end : {relay : Relay} {end : RelayEnd} → number_of end ≡ relay.number → AreReceiptsOf relay end
-      → IfNone (fault_of end) ((p : _) → relay_put end p ≡ relay_taken end p) → HasOpened (IsRelayOf relay) opening → HasOpened (IsRelayEndOf end) opening
+      → IfNone (fault_of end) ((p : _) → relay_put end p ≡ relay_taken end p)
+      → HasOpened (IsRelayOf relay) opening → HasOpened (IsRelayEndOf end) opening
   relay_end {relay} {end} number receipts whole = follows (λ opened is. record {
     relay = relay;
     is_relay = ap (slice_get opened.tree.relays.items) number ∙ is;
@@ -70,12 +88,15 @@ module _ {opening : Option OpenedWatch} where
     whole = whole;
   })
 
-  pub checker_end : {inbox : CheckerInbox} {checker : CheckerState} {end : CheckerEnd} → IsEndOfLoop inbox end → HasOpened (IsCheckerOf inbox checker) opening → HasOpened (IsCheckerEndOf end) opening
-  checker_end {end = end} ended = follows (λ opened is. subst (λ inbox. IsEndOfLoop inbox end) is.is_inbox ended)
+  pub checker_end : {inbox : CheckerInbox} {checker : CheckerState} {end : CheckerEnd} → IsEndOfLoop inbox end
+      → HasOpened (IsCheckerOf inbox checker) opening → HasOpened (IsCheckerEndOf end) opening
+  checker_end {end = end} ended =
+      follows (λ opened is. subst (λ inbox. IsEndOfLoop inbox end) is.is_inbox ended)
 
   -- an end more
   module _ {ends : EndsOfWatch} (has : HasOpened (AreEndsOf ends) opening) where
-    pub more_probes : {probes : List ClosedSide} {end : ClosedSide} → HasOpened (IsProbeEndOf end) opening → probes ≡ ends.probes ++ end ∷ []
+    pub more_probes : {probes : List ClosedSide} {end : ClosedSide} → HasOpened (IsProbeEndOf end) opening
+        → probes ≡ ends.probes ++ end ∷ []
         → HasOpened (AreEndsOf (record ends { probes = probes })) opening
     more_probes {end = end} one pushed = rw pushed (follows (λ opened is. record {
       probes = all_more (λ e. IsProbeEndOf e opened) ends.probes end is.0.probes is.1;
@@ -83,7 +104,8 @@ module _ {opening : Option OpenedWatch} where
       checker = is.0.checker;
     }) (both has one))
 
-    pub more_relays : {relays : List RelayEnd} {end : RelayEnd} → HasOpened (IsRelayEndOf end) opening → relays ≡ ends.relays ++ end ∷ []
+    pub more_relays : {relays : List RelayEnd} {end : RelayEnd} → HasOpened (IsRelayEndOf end) opening
+        → relays ≡ ends.relays ++ end ∷ []
         → HasOpened (AreEndsOf (record ends { relays = relays })) opening
     more_relays {end = end} one pushed = rw pushed (follows (λ opened is. record {
       probes = is.0.probes;
@@ -91,8 +113,13 @@ module _ {opening : Option OpenedWatch} where
       checker = is.0.checker;
     }) (both has one))
 
-    pub with_checker : {end : CheckerEnd} → HasOpened (IsCheckerEndOf end) opening → HasOpened (AreEndsOf (record ends { checker = Some end })) opening
-    with_checker one = follows (λ opened is. record { probes = is.0.probes; relays = is.0.relays; checker = is.1 }) (both has one)
+    pub with_checker : {end : CheckerEnd} → HasOpened (IsCheckerEndOf end) opening
+        → HasOpened (AreEndsOf (record ends { checker = Some end })) opening
+    with_checker one = follows (λ opened is. record {
+      probes = is.0.probes;
+      relays = is.0.relays;
+      checker = is.1;
+    }) (both has one)
 
     -- where the checker's is among them, the ends come from the watch, and what they tell together is of its plan
     module _ {checker : CheckerEnd} (is_checker : ends.checker ≡ Some checker) where
@@ -140,4 +167,5 @@ module _ {opening : Option OpenedWatch} where
         let link = is_open.wired.linked.each k within in
         let two : Some link.relay ≡ Some relay = sym link.is_relay ∙ at in
         let same : link.relay ≡ relay = cc in
-        its (ap (slice_get opened.tree.relays.items) (ap (λ (r : Relay). r.number) (sym same) ∙ link.of_plan.number) ∙ at)
+        let number : relay.number ≡ k = ap (λ (r : Relay). r.number) (sym same) ∙ link.of_plan.number in
+        its (ap (slice_get opened.tree.relays.items) number ∙ at)

@@ -10,6 +10,12 @@
 //! call: the call of a live probe, where nothing is ever pending. A lent probe can't be dropped or closed by who has
 //! it. Where an impl of `Process` says how its probe stands as it answers, the answer says it too. What its threads did
 //! beside their probes no clause says, nor what `wait_for_cut` is told: tests show that, and that the book has ended.
+//!
+//! `Watch::open` is for who runs the threads: a plan's fault is answered exactly where it applies, and `parts` hands
+//! out just the probes and relays of the tree that was opened. The types of the parts, and of what each leaves as it
+//! has run, keep that they are of that watch. So `WatchEnds::settle` has no premise: an answer is the exact report of
+//! what the probes emitted whose ends were added, and a refusal is the first reason that applies, where an end of the
+//! checker that wasn't added counts as missing. That the parts run, and in which threads, is left to the caller.
 #![tactic(auto)]
 
 mod lending;

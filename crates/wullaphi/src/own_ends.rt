@@ -141,7 +141,8 @@ impl<W: Opening> Model for WatchEnds<W> {
     ghost view = { λ e. record { probes = e.probes.items; relays = e.relays.items; checker = e.checker } };
 
     ghost invariant = { λ e.
-        HasOpened (AreEndsOf (record { probes = e.probes.items; relays = e.relays.items; checker = e.checker })) W.opened };
+        let ends : EndsOfWatch = record { probes = e.probes.items; relays = e.relays.items; checker = e.checker } in
+        HasOpened (AreEndsOf ends) W.opened };
 }
 
 impl<W: Opening> WatchEnds<W> {

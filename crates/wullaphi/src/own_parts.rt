@@ -12,6 +12,7 @@ use crate::own_ends::{WatchCheckerEnd, WatchProbeEnd, WatchRelayEnd};
 use crate::process::Process;
 use std::marker::{Model, PhantomData};
 use std::sync::{Mutex, Wait};
+use std::thread::{Threads, join};
 use wcp_book::Book;
 use wcp_queue::Checker;
 use wcp_tree::{CheckerInbox, LiveProbe, Relay};
@@ -112,6 +113,22 @@ impl<W: Opening> WatchRelay<W> {
     {
         let WatchRelay { relay, of: _ } = self;
         WatchRelayEnd::new(relay.run(rt))
+    }
+}
+
+impl<W: Opening + Send + Sync> WatchRelay<W> {
+    /// Runs it in a thread of its own, and the others in this one. Where no thread can be made it is run here after the
+    /// others, which then wait for ever if they emit more than the links have room for.
+    pub fn run_beside<T, F: FnOnce() -> T, R: Threads + Wait + Sync>(
+        self,
+        rt: &R,
+        others: F,
+    ) -> (WatchRelayEnd<W>, T)
+        requires { F.pre others }
+        ensures number { number_of result.0 ≡ self }
+        ensures others { F.post others result.1 }
+    {
+        join(rt, move || self.run(rt), others)
     }
 }
 

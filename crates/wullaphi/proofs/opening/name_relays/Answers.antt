@@ -9,16 +9,21 @@ use Rattle.wullaphi.proofs.opening.name_relays.Goals as goal
 
 pub new-requires : goal.new-requires
 new-requires g c =
-    All-head (λ relay. HasOpened (IsRelayOf relay) g.W.Opening.opened) c.in-Some.relay _
-    (subst (All (λ relay. HasOpened (IsRelayOf relay) g.W.Opening.opened)) c.in-Some.ensures.steps.0 c.loop-relay.invariant.rest)
+    let its : Relay → Type 0 = λ relay. HasOpened (IsRelayOf relay) g.W.Opening.opened in
+    All-head its c.in-Some.relay _
+    (subst (All its) c.in-Some.ensures.steps.0 c.loop-relay.invariant.rest)
 
 pub loop-relay-preserved : goal.loop-relay-preserved
 loop-relay-preserved g c =
+    let its : Relay → Type 0 = λ relay. HasOpened (IsRelayOf relay) g.W.Opening.opened in
     let old = c.loop-relay.invariant in
-    let next : into_iter_items c.loop-relay.relay-iterator ≡ c.in-Some.relay ∷ into_iter_items c.next.new.self = c.in-Some.ensures.steps.0 in
+    let rest = into_iter_items c.next.new.self in
+    let next : into_iter_items c.loop-relay.relay-iterator ≡ c.in-Some.relay ∷ rest = c.in-Some.ensures.steps.0 in
     record {
-      whole = append_assoc c.loop-relay.yielded (c.in-Some.relay ∷ []) (into_iter_items c.next.new.self) ∙ ap (λ xs. c.loop-relay.yielded ++ xs) (sym next) ∙ old.whole;
-      rest = All-tail (λ relay. HasOpened (IsRelayOf relay) g.W.Opening.opened) c.in-Some.relay _ (subst (All (λ relay. HasOpened (IsRelayOf relay) g.W.Opening.opened)) next old.rest);
+      whole = append_assoc c.loop-relay.yielded (c.in-Some.relay ∷ []) rest
+          ∙ ap (λ xs. c.loop-relay.yielded ++ xs) (sym next)
+          ∙ old.whole;
+      rest = All-tail its c.in-Some.relay _ (subst (All its) next old.rest);
       named = pushed_more c.in_ok-push.ensures.items c.new.ensures old.named
           ∙ sym (map_push (λ (relay : Relay). relay.number) c.loop-relay.yielded c.in-Some.relay);
     }

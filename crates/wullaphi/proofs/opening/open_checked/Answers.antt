@@ -13,5 +13,7 @@ new-requires-clause-few c = few_processes c.args.plan.now c.requires
 pub invariant_of-result : goal.invariant_of-result
 invariant_of-result c =
     let made = c.in_ok-checker.ensures in
-    subst (λ plan. IsFreshWatch (record { plan = plan; tree = c.in_ok-tree.tree }) c.args.plan.now.n c.in_ok-checker.checker) (sym c.of.ensures)
+    let tree = c.in_ok-tree.tree in
+    subst (λ plan. IsFreshWatch (record { plan = plan; tree = tree }) c.args.plan.now.n c.in_ok-checker.checker)
+    (sym c.of.ensures)
     (fresh_watch c.requires c.in_ok-tree.ensures made.processes made.empty made.not_starved)
