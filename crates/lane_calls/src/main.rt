@@ -4,7 +4,7 @@
 #![tactic(auto)]
 
 ghost use Rattle.std.specs.Prelude.{◌≡◌, false};
-ghost use Rattle.wcp_clock.specs.Notes.{place_of, is_close};
+ghost use Rattle.wcp_clock.specs.Notes.{place_of, is_last};
 
 mod bounded;
 mod lanes;
@@ -23,7 +23,7 @@ const ROOM: u32 = 64;
 fn snap(from: u32, number: u32) -> Item
     ensures from { result.from ≡ from }
     ensures place { place_of result.note ≡ number }
-    ensures unended { is_close result.note ≡ false }
+    ensures unended { is_last result.note ≡ false }
 {
     Item {
         from,
@@ -48,7 +48,9 @@ impl Sum {
                         .wrapping_add(u64::from(clock.len())),
                 )
             }
-            Note::Close { count } => Sum(self.0.wrapping_add(u64::from(count))),
+            Note::Close { count } | Note::Lost { count } => Sum(
+                self.0.wrapping_add(u64::from(count)),
+            ),
         }
     }
 }

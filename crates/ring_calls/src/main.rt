@@ -34,10 +34,7 @@ impl Taken {
     }
 
     fn add(&mut self, note: Note) {
-        let number = match note {
-            Note::Snap { number, .. } => number,
-            Note::Close { count } => count,
-        };
+        let number = note.place();
         self.notes = self.notes.wrapping_add(1);
         self.sum = self.sum.wrapping_add(number);
     }

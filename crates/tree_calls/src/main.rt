@@ -34,10 +34,7 @@ impl Taken {
     }
 
     fn with(self, item: &Item) -> Taken {
-        let number = match item.note {
-            Note::Snap { number, .. } => number,
-            Note::Close { count } => count,
-        };
+        let number = item.note.place();
         Taken {
             notes: self.notes.wrapping_add(1),
             sum: self.sum.wrapping_add(u64::from(number)),

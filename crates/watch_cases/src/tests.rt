@@ -1,2 +1,3 @@
 mod asked_again;
+mod opened;
 mod waiting;

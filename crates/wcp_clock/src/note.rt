@@ -10,16 +10,18 @@ pub enum Note {
     Snap { number: u32, clock: Clock },
     /// The process is closed, and has emitted `count` snapshots.
     Close { count: u32 },
+    /// The process's probe was dropped before it closed; `count` of its snapshots came so far.
+    Lost { count: u32 },
 }
 
 impl Note {
-    /// Its place among the notes of its process: a snapshot's number, or a close mark's count.
+    /// Its place among the notes of its process: a snapshot's number, or the count of a mark that ends them.
     pub fn place(&self) -> u32
         ensures { result ≡ place_of self.now }
     {
         match *self {
             Note::Snap { number, .. } => number,
-            Note::Close { count } => count,
+            Note::Close { count } | Note::Lost { count } => count,
         }
     }
 
@@ -27,7 +29,7 @@ impl Note {
     pub fn is_last(&self) -> bool
         ensures { result ≡ is_last self.now }
     {
-        matches!(self, Note::Close { .. })
+        matches!(self, Note::Close { .. } | Note::Lost { .. })
     }
 }
 

@@ -1,16 +1,17 @@
 use Rattle.wcp_model.proofs.Words.{◌≡◌, ℕ, ◌+◌, ◌⊎◌, Bool, true, false, List, [], ◌∷◌, ◌++◌, length, fold, refl, sym, ap, ◌∙◌, inl, append-nil, append_assoc, arith, list_any, length-append, list_any-append, Note, Computation, snapshots_from, is_closed, AreEmissions, Call, ProbeState, after_call, setup, state_of_log, snapshot_clocks, IsNextNote, AreInTurn}
 use Rattle.std.specs.Prelude.{if◌then◌else◌}
 use Rattle.wcp_clock.specs.declared.note.Note.TheVariants as note
-use Rattle.wcp_clock.specs.Notes.{is_close, place_of}
+use Rattle.wcp_clock.specs.Notes.{is_close, is_last, place_of}
 
 pub snapshot_clocks-append : (notes more : List Note) → snapshot_clocks (notes ++ more) ≡ snapshot_clocks notes ++ snapshot_clocks more
 snapshot_clocks-append [] more = refl
 snapshot_clocks-append (note.Snap number clock ∷ notes) more = ap (λ clocks. clock ∷ clocks) (snapshot_clocks-append notes more)
 snapshot_clocks-append (note.Close count ∷ notes) more = snapshot_clocks-append notes more
+snapshot_clocks-append (note.Lost count ∷ notes) more = snapshot_clocks-append notes more
 
 -- snapshots that are numbered from a number on, and a mark that counts them or none, are in turn
 in_turn_from : (number count : ℕ) (closed : Bool) (clocks : List (List ℕ)) (before after : List Note) (next : Note) → count ≡ number + length clocks → snapshots_from number clocks ++ (if closed then note.Close count ∷ [] else []) ≡ before ++ next ∷ after →
-    (place_of next ≡ number + length (snapshot_clocks before)) × (list_any is_close before ≡ false)
+    (place_of next ≡ number + length (snapshot_clocks before)) × (list_any is_last before ≡ false)
 in_turn_from number count false [] before after next counted is = absurd (omega (arith, ap length is, length-append before (next ∷ after)))
 in_turn_from number count true [] [] after next counted is =
     grind arith
@@ -48,12 +49,13 @@ AreInTurn-push notes next turn is before after other at = grind (arith, split_pu
 -- nothing follows a close mark
 pub nothing_follows : (before after : List Note) (count : ℕ) → AreInTurn (before ++ note.Close count ∷ after) → after ≡ []
 nothing_follows before [] count turn = refl
-nothing_follows before (x ∷ after) count turn = grind (arith, append_assoc before (note.Close count ∷ []) (x ∷ after), list_any-append is_close before (note.Close count ∷ []))
+nothing_follows before (x ∷ after) count turn = grind (arith, append_assoc before (note.Close count ∷ []) (x ∷ after), list_any-append is_last before (note.Close count ∷ []))
 
--- what a log leads to counts the snapshots among its notes, and is closed where a close mark is among them
+-- what a log leads to counts the snapshots among its notes, and is closed where a close mark is among them, which is the only last note
 pub record CountsNotes (s : ProbeState) : Type 0 where
   pub snapshots : s.snapshots ≡ length (snapshot_clocks s.notes)
   pub closed : s.closed ≡ list_any is_close s.notes
+  pub ended : s.closed ≡ list_any is_last s.notes
 
 pub counts_after : (p : ℕ) (s : ProbeState) (call : Call) → CountsNotes s → CountsNotes (after_call p s call)
 counts_after p s call is = grind (arith, append-nil, length-append, list_any-append, snapshot_clocks-append)
@@ -63,4 +65,4 @@ counts_from p s [] is = is
 counts_from p s (call ∷ log) is = counts_from p (after_call p s call) log (counts_after p s call is)
 
 pub log_counts_notes : (n p : ℕ) (log : List Call) → CountsNotes (state_of_log (setup n p) log)
-log_counts_notes n p log = counts_from p (state_of_log (setup n p) []) log (record { snapshots = refl; closed = refl })
+log_counts_notes n p log = counts_from p (state_of_log (setup n p) []) log (record { snapshots = refl; closed = refl; ended = refl })

@@ -22,6 +22,7 @@ abbrev pub snapshot_clocks : List Note → List (List ℕ)
 snapshot_clocks [] = []
 snapshot_clocks (note.Snap number clock ∷ notes) = clock ∷ snapshot_clocks notes
 snapshot_clocks (note.Close count ∷ notes) = snapshot_clocks notes
+snapshot_clocks (note.Lost count ∷ notes) = snapshot_clocks notes
 
 -- The clocks of the snapshots taken of one process, in order.
 abbrev pub clocks_taken : ℕ → List Item → List (List ℕ)

@@ -1,9 +1,10 @@
 -- What is found where no process can go on.
-use Rattle.wcp_order.proofs.Words.{◌≡◌, ℕ, ◌+◌, ◌<◌, ◌≤◌, cond, List, [], ◌∷◌, ◌++◌, length, take, count_by, Some, refl, sym, ◌∙◌, ap, arith, inl, inr, slice_get, slice_index, filter, All, cases_lt, append-nil, length-append, All-head, All-tail, length-filter, sum_by-take-le, Task, is_task_of, IsWithin, IsFitOrder, element_within, count_before-yes, same_count, IsFirstStuck, IsProgress, IsBlocked, IsFirstLeft}
+use Rattle.wcp_order.proofs.Words.{count_before-mono, take_all, ◌≡◌, ℕ, ◌+◌, ◌<◌, ◌≤◌, cond, List, [], ◌∷◌, length, take, count_by, Some, refl, sym, ◌∙◌, ap, arith, inl, inr, slice_get, slice_index, filter, All, cases_lt, All-head, All-tail, length-filter, sum_by-take-le, Task, is_task_of, IsWithin, IsFitOrder, element_within, count_before-yes, same_count, IsFirstStuck, IsProgress, IsBlocked, IsFirstLeft}
 use Rattle.wcp_model.proofs.AcceptedOrder.{IsFitOrder-itself}
 use Rattle.wcp_order.proofs.Doable.{can_if_done, done_if_can}
+use Rattle.wcp_order.proofs.Fronts.{begins_itself, no_more_than_all}
 use Rattle.wcp_order.proofs.Lengths.{length_tasks-le}
-use Rattle.wcp_order.proofs.Tasks.{at_place, count_by-take-le, is_task_of_itself}
+use Rattle.wcp_order.proofs.Tasks.{at_place, is_task_of_itself}
 
 -- of two lists of histories that are the same the progress is
 pub IsProgress_same : (n : ℕ) (history other : ℕ → List Task) (order : List Task) (done in_transit : List ℕ)
@@ -12,7 +13,7 @@ IsProgress_same n history other order done in_transit same progress = record {
   is_done = progress.is_done;
   processes = progress.processes;
   counts = progress.counts;
-  left = λ p below. rw (← same p below) (progress.left p below);
+  first = λ p below. rw (← same p below) (progress.first p below);
 }
 
 -- where none are left to count down of the process of a task, it is the first that is left
@@ -25,7 +26,7 @@ IsFirstLeft_at tasks done left place inside within counted none = record {
       omega (arith, none task at, counted task.p (at_place (λ task. task.p < length done) tasks place task within at));
   before = λ i task at earlier.
       let more = count_before-yes (is_task_of task.p) tasks i task at (is_task_of_itself task) in
-      let behind = count_by-take-le (is_task_of task.p) tasks (i + 1) place (omega (arith, earlier)) in
+      let behind = count_before-mono (is_task_of task.p) tasks (i + 1) place (omega (arith, earlier)) in
       omega (arith, more, behind, counted task.p (at_place (λ task. task.p < length done) tasks i task within at));
 }
 
@@ -35,24 +36,19 @@ filter_outside n p [] within outside = refl
 filter_outside n p (task ∷ tasks) within outside =
     grind (arith, All-head, filter_outside n p tasks (All-tail (IsWithin n) task tasks within) outside)
 
-none_left : {X : Type 0} (all front left : List X) → all ≡ front ++ left → length all ≤ length front → front ≡ all
-none_left all front [] is few = grind (arith, append-nil)
-none_left all front (x ∷ left) is few = grind (arith, length-append)
-
 module _ (n : ℕ) (tasks order : List Task) (done in_transit : List ℕ) (within : All (IsWithin n) tasks) (progress : IsProgress n (λ p. filter (is_task_of p) tasks) order done in_transit) where
   -- no more tasks are done than there are
   pub length_order-le : length order ≤ length tasks
-  length_order-le = length_tasks-le n order tasks progress.is_done.within within (λ p below.
-      let (left, is) = progress.left p below in
-      omega (arith, length-filter (is_task_of p) tasks, length-filter (is_task_of p) order, ap length is, length-append (filter (is_task_of p) order) left))
+  length_order-le = length_tasks-le n order tasks (λ k d below. (progress.is_done.within k d below).0)
+      (λ p below. no_more_than_all (is_task_of p) (is_task_of p) (λ _ h. h) tasks order (progress.first p below))
 
   -- where all tasks are done, their order is fit
   pub IsFitOrder_done : ((p : ℕ) → p < n → count_by (is_task_of p) tasks ≤ slice_index done p) → IsFitOrder tasks order
   IsFitOrder_done all_done = record {
     same_tasks = λ p. elim (cases_lt p n) [
       | inl below ↦
-          none_left (filter (is_task_of p) tasks) (filter (is_task_of p) order) (progress.left p below).0 (progress.left p below).1
-          (omega (arith, all_done p below, progress.counts p below, length-filter (is_task_of p) tasks, length-filter (is_task_of p) order))
+          progress.first p below ∙ take_all (count_by (is_task_of p) order) (filter (is_task_of p) tasks)
+          (omega (arith, all_done p below, progress.counts p below, length-filter (is_task_of p) tasks))
       | inr outside ↦ filter_outside n p order progress.is_done.within outside ∙ sym (filter_outside n p tasks within outside)
     ];
     sent_first = progress.is_done.fit.sent_first;
@@ -64,12 +60,13 @@ module _ (n : ℕ) (tasks order : List Task) (done in_transit : List ℕ) (withi
     inside = first.inside;
     stuck = λ can.
         let (task, at) = element_within tasks place first.inside in
-        let below : task.p < n = (at_place (IsWithin n) tasks place task within at).0 in
-        omega (arith, done_if_can n tasks order done in_transit within progress blocked can task at, first.left task at, progress.counts task.p below);
+        let among = done_if_can n tasks order done in_transit within progress blocked can task at in
+        let below = (at_place (IsWithin n) tasks place task within at).0 in
+        omega (arith, among, first.left task at, progress.counts task.p below);
     before = λ j earlier.
         let (task, at) = element_within tasks j (omega (arith, earlier, first.inside)) in
-        let below : task.p < n = (at_place (IsWithin n) tasks j task within at).0 in
-        can_if_done n tasks order within progress.is_done.fit progress.left j task at
+        let below = (at_place (IsWithin n) tasks j task within at).0 in
+        can_if_done n tasks order within progress.is_done.fit progress.first j task at
         (omega (arith, first.before j task at earlier, progress.counts task.p below));
   }
 
@@ -82,5 +79,6 @@ no_fit_order n tasks place within first order fit =
     let at_most = sum_by-take-le (λ t. cond (is_task_of p t) 1 0) tasks (place + 1) in
     let all_done = same_count (is_task_of p) (is_task_of p) order tasks (λ _ h. h) (fit.same_tasks p) in
     first.stuck (can_if_done n tasks order within (IsFitOrder-itself tasks order fit)
-    (λ q below. ([], sym (fit.same_tasks q) ∙ sym (append-nil (filter (is_task_of q) order)))) place task at
+    (λ q below. begins_itself (is_task_of q) order ∙ ap (take (count_by (is_task_of q) order)) (fit.same_tasks q))
+    place task at
     (omega (arith, more, at_most, all_done)))

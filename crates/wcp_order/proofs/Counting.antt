@@ -1,8 +1,8 @@
 -- The messages that are in transit after tasks in a fit order.
-use Rattle.wcp_order.proofs.Words.{◌≡◌, ℕ, ◌+◌, ◌*◌, ◌<◌, ◌≤◌, Bool, true, false, List, [], ◌∷◌, ◌++◌, length, take, count_by, replicate, Some, refl, ◌∙◌, ap, arith, ⊎_elim, inl, inr, set, get_or-set_same, get_or-set_other, All, slice_index, slice_get, cases_eq, cases_lt, common_steps, length-set, length-replicate, get_or-replicate, length_push, take-append-le, take_all, All-push, All-nil, sum_by_push, Action, Task, sends, receives, IsWithin, IsFitOrder, sends_yes, receives_yes, send_of_receive, count_before-yes, element_after, IsDone, IsReady, in_transit_after}
+use Rattle.wcp_order.proofs.Words.{add-one, suc, count_before-no, count_before-past, element_within, cases_Bool, ◌≡◌, ℕ, ◌+◌, ◌*◌, ◌<◌, ◌≤◌, Bool, true, false, List, [], ◌∷◌, ◌++◌, length, take, count_by, replicate, Some, refl, ◌∙◌, ap, arith, inl, inr, set, get_or-set_same, get_or-set_other, All, slice_index, slice_get, cases_eq, cases_lt, common_steps, length-set, length-replicate, get_or-replicate, length_push, take-append-le, take_all, All-push, All-nil, sum_by_push, Action, Task, sends, receives, IsWithin, IsFitOrder, sends_yes, receives_yes, count_before-yes, element_after, IsDone, IsReady, in_transit_after}
 use Rattle.std.proofs.lemmas.Nat.{mul-add-lt, same_from_place}
 use Rattle.wcp_model.specs.declared.workload.Action.TheVariants as action
-use Rattle.wcp_order.proofs.Tasks.{at_place, count_by-take-le, receives_is, sends_ends, receives_ends}
+use Rattle.wcp_order.proofs.Tasks.{at_place, receives_is, receive_is_no_send, sends_ends, receives_ends}
 
 pub count_by_push_passing : {X : Type 0} (f : X → Bool) (xs : List X) (x : X) → f x ≡ true → count_by f (xs ++ x ∷ []) ≡ count_by f xs + 1
 count_by_push_passing f xs x passes = grind (arith, sum_by_push)
@@ -18,14 +18,14 @@ IsCounted n order in_transit =
 -- an order of tasks within the limits has no more receives on a channel than sends
 sent_at_end : (n : ℕ) (order : List Task) (in_transit : List ℕ) → All (IsWithin n) order → IsCounted n order in_transit
     → (p q : ℕ) → count_by (receives p q) order ≤ count_by (sends p q) order
-sent_at_end n order in_transit within counted p q = ⊎_elim
-    (λ (some : 0 < count_by (receives p q) order).
-    let (task, received) = element_after (receives p q) order 0 some in
-    let found = received.found ∙ ap Some (receives_is p q task received.passes) in
-    let task_within : IsWithin n (record { p = q; action = action.Recv p }) = at_place (IsWithin n) order received.place _ within found in
-    omega (arith, counted p q task_within.1.0 task_within.0))
-    (λ (none : count_by (receives p q) order ≤ 0). omega arith)
-    (cases_lt 0 (count_by (receives p q) order))
+sent_at_end n order in_transit within counted p q = elim (cases_lt 0 (count_by (receives p q) order)) [
+  | inl some ↦
+      let (task, received) = element_after (receives p q) order 0 some in
+      let found = received.found ∙ ap Some (receives_is p q task received.passes) in
+      let limits = at_place (IsWithin n) order received.place _ within found in
+      omega (arith, counted p q limits.1.0 limits.0)
+  | inr none ↦ omega (arith, none)
+]
 
 -- nothing is in transit where nothing is done
 pub none_done : (n : ℕ) (in_transit : List ℕ) → in_transit ≡ replicate (n * n) 0 → IsDone n [] in_transit
@@ -77,6 +77,21 @@ module _ (n : ℕ) (order : List Task) (in_transit : List ℕ) (done : IsDone n 
         counted = counted;
       }
 
+-- what is received by one place on was sent before
+pub sent_before : (order : List Task) → IsFitOrder order order → (k p q : ℕ)
+    → count_by (receives p q) (take (suc k) order) ≤ count_by (sends p q) (take k order)
+sent_before order fit k p q = rw (← add-one k) elim (cases_lt k (length order)) [
+  | inl inside ↦
+      let (task, at) = element_within order k inside in
+      let now = fit.sent_first k p q in
+      let next = fit.sent_first (k + 1) p q in
+      let sent = count_before-no (sends p q) order k task at in
+      let received = count_before-no (receives p q) order k task at in
+      let is = receives_is p q task in
+      grind (arith, now, next, sent, received, is, receive_is_no_send p q q p, cases_Bool (receives p q task))
+  | inr past ↦ omega (arith, fit.sent_first k p q, count_before-past (receives p q) order k past)
+]
+
 -- in a listing that is fit what is next is ready
 pub ready_if_fit : (n : ℕ) (tasks : List Task) (place : ℕ) (in_transit : List ℕ) → All (IsWithin n) tasks
     → IsDone n (take place tasks) in_transit → IsFitOrder tasks tasks → (p : ℕ) (act : Action)
@@ -85,7 +100,6 @@ ready_if_fit n tasks place in_transit within done fit p (action.Observe holds) a
 ready_if_fit n tasks place in_transit within done fit p (action.Send to) at = tt
 ready_if_fit n tasks place in_transit within done fit p (action.Recv from) at =
     let here = at_place (IsWithin n) tasks place (record { p = p; action = action.Recv from }) within at in
-    let (sent, earlier, delivery) = send_of_receive fit from p place at in
-    let more = count_before-yes (sends from p) tasks sent _ delivery.send (sends_yes from p) in
-    let behind = count_by-take-le (sends from p) tasks (sent + 1) place (omega (arith, earlier)) in
-    omega (arith, delivery.same_rank, more, behind, done.counted from p here.1.0 here.0)
+    let more = count_before-yes (receives from p) tasks place _ at (receives_yes from p) in
+    let before = rw (← add-one place) at (sent_before tasks fit place from p) in
+    omega (arith, more, before, done.counted from p here.1.0 here.0)

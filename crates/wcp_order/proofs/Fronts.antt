@@ -1,44 +1,55 @@
--- Places of the elements that pass a test, in a list and in another that keeps the first of them.
-use Rattle.wcp_order.proofs.Words.{◌≡◌, ℕ, ◌+◌, ◌<◌, ◌≤◌, Bool, true, cond, List, ◌++◌, length, take, filter, count_by, Some, sym, ◌∙◌, ap, arith, slice_get, common_steps, length-take, take-take, take-append-le, length-filter, sum_by-take-le, gets, slice_get_within, SamePlace, slice_get-filter, slice_get-take, element_after, filter_front}
+-- Lists whose elements that pass a test are the first ones of another list that do.
+use Rattle.wcp_order.proofs.Words.{count_before-mono, ◌≡◌, ℕ, ◌+◌, ◌<◌, ◌≤◌, Bool, true, cond, List, [], ◌∷◌, take, filter, count_by, Some, refl, sym, ap, arith, slice_get, cases_Bool, length-filter, take-take, take_all, sum_by-take-le, filter_front, count_by_yes, count_by_no, count_before-yes}
 
-slice_get-front : {X : Type 0} (xs ys : List X) (k : ℕ) → k < length xs → slice_get (xs ++ ys) k ≡ slice_get xs k
-slice_get-front xs ys k below = grind (arith, common_steps, gets)
+-- what passes of the one list is the first of what passes of the other
+abbrev pub Begins : {X : Type 0} → (X → Bool) → List X → List X → Type 0
+Begins P ys xs = filter P ys ≡ take (count_by P ys) (filter P xs)
 
-module _ {X : Type 0} (P : X → Bool) (xs ys left : List X) (longer : filter P xs ≡ filter P ys ++ left) where
-  -- where as many pass before two places, the same do
-  pub same_fronts : (i k : ℕ) → count_by P (take k ys) ≡ count_by P (take i xs) → filter P (take k ys) ≡ filter P (take i xs)
-  same_fronts i k alike =
-      let some : List X = filter P (take k ys) in
-      let count : length some ≡ length (filter P (take i xs)) = length-filter P (take k ys) ∙ alike ∙ sym (length-filter P (take i xs)) in
-      let few : length some ≤ length (filter P ys) =
-      omega (arith, length-filter P (take k ys), length-filter P ys, sum_by-take-le (λ x. cond (P x) 1 0) ys k) in
-      cc (filter_front P k ys, filter_front P i xs, take-append-le (length some) (filter P ys) left few, longer, count)
+module _ {X : Type 0} (P : X → Bool) where
+  pub begins_itself : (xs : List X) → Begins P xs xs
+  begins_itself xs = sym (take_all (count_by P xs) (filter P xs) (omega (arith, length-filter P xs)))
 
-  -- an element that passes in the shorter list has a place in the longer one
-  pub place_in_longer : (k : ℕ) (x : X) → slice_get ys k ≡ Some x → P x ≡ true → SamePlace P ys xs k x
-  place_in_longer k x at passes =
-      let rank : ℕ = length (filter P (take k ys)) in
-      let kept : slice_get (filter P ys) rank ≡ Some x = slice_get-filter P ys k x at passes in
-      let within : rank < length (filter P ys) = slice_get_within (filter P ys) rank x kept in
-      let there_kept : slice_get (filter P xs) rank ≡ Some x =
-      ap (λ zs. slice_get zs rank) longer ∙ slice_get-front (filter P ys) left rank within ∙ kept in
-      let more : rank < count_by P xs = omega (arith, slice_get_within (filter P xs) rank x there_kept, length-filter P xs) in
-      let (y, there) = element_after P xs rank more in
-      let front = same_fronts there.place k (sym (length-filter P (take k ys)) ∙ sym there.behind) in
-      let same : y ≡ x = cc (slice_get-filter P xs there.place y there.found there.passes, there_kept, front) in
-      record { other = there.place; found = there.found ∙ ap Some same; front = sym front }
+  -- so is what passes of its front
+  pub begins_take : (xs ys : List X) (k : ℕ) → Begins P ys xs → Begins P (take k ys) xs
+  begins_take xs ys k begins =
+      let fewer = sum_by-take-le (λ y. cond (P y) 1 0) ys k in
+      let same = take-take (count_by P (take k ys)) (count_by P ys) (filter P xs) fewer in
+      cc (filter_front P k ys, length-filter P (take k ys), begins, same)
 
-  -- an element that passes in the longer list is in the shorter one if fewer pass before it than there are in that
-  pub place_in_shorter : (bound i : ℕ) (x : X) → slice_get xs i ≡ Some x → P x ≡ true
-      → count_by P (take i xs) < count_by P (take bound ys) → (there : SamePlace P xs ys i x) × (there.other < bound)
-  place_in_shorter bound i x at passes more =
-      let (y, there) = element_after P (take bound ys) (count_by P (take i xs)) more in
-      let k : ℕ = there.place in
-      let below : k < bound = omega (arith, slice_get_within (take bound ys) k y there.found, length-take bound ys) in
-      let found : slice_get ys k ≡ Some y = sym (slice_get-take bound ys k below) ∙ there.found in
-      let before : take k (take bound ys) ≡ take k ys = take-take k bound ys (omega (arith, below)) in
-      let front = same_fronts i k (ap (count_by P) (sym before) ∙ there.behind) in
-      let back = place_in_longer k y found there.passes in
-      let same : y ≡ x =
-      cc (slice_get-filter P xs i x at passes, slice_get-filter P xs back.other y back.found there.passes, back.front, front) in
-      (record { other = k; found = found ∙ ap Some same; front = front }, below)
+module _ {X : Type 0} (P Q : X → Bool) (implies : (x : X) → Q x ≡ true → P x ≡ true) where
+  pub count_by-filter : (xs : List X) → count_by Q (filter P xs) ≡ count_by Q xs
+  count_by-filter [] = refl
+  count_by-filter (x ∷ xs) =
+      grind (arith, implies x, count_by-filter xs, count_by_yes, count_by_no, cases_Bool (P x), cases_Bool (Q x))
+
+  module _ (xs : List X) where
+    -- where fewer pass the test, no more pass a stricter one
+    no_more_pass : (ys zs : List X) → Begins P ys xs → Begins P zs xs
+        → count_by P ys ≤ count_by P zs → count_by Q ys ≤ count_by Q zs
+    no_more_pass ys zs ys_begin zs_begin fewer =
+        let mono = count_before-mono Q (filter P xs) (count_by P ys) (count_by P zs) fewer in
+        omega (arith, mono, count_by-filter ys, count_by-filter zs, ap (count_by Q) ys_begin, ap (count_by Q) zs_begin)
+
+    module _ (ys : List X) (begins : Begins P ys xs) where
+      pub no_more_than_all : count_by Q ys ≤ count_by Q xs
+      no_more_than_all =
+          let at_most = sum_by-take-le (λ x. cond (Q x) 1 0) (filter P xs) (count_by P ys) in
+          omega (arith, at_most, count_by-filter ys, count_by-filter xs, ap (count_by Q) begins)
+
+      front : (i : ℕ) → Begins P (take i xs) xs
+      front i = begins_take P xs xs i (begins_itself P xs)
+
+      -- an element that passes both tests and is among the first by the one is so by the stricter one
+      pub among_by_stricter : (i : ℕ) (x : X) → slice_get xs i ≡ Some x → Q x ≡ true
+          → count_by P (take i xs) < count_by P ys → count_by Q (take i xs) < count_by Q ys
+      among_by_stricter i x at passes more =
+          let by_test = count_before-yes P xs i x at (implies x passes) in
+          let by_stricter = count_before-yes Q xs i x at passes in
+          omega (arith, by_test, by_stricter, no_more_pass (take (i + 1) xs) ys (front (i + 1)) begins)
+
+      pub among_by_test : (i : ℕ) → count_by Q (take i xs) < count_by Q ys → count_by P (take i xs) < count_by P ys
+      among_by_test i more = grind (arith, no_more_pass ys (take i xs) begins (front i))
+
+      pub as_many_pass : (i : ℕ) → count_by P (take i xs) ≡ count_by P ys → count_by Q (take i xs) ≡ count_by Q ys
+      as_many_pass i same =
+          omega (arith, no_more_pass ys (take i xs) begins (front i), no_more_pass (take i xs) ys (front i) begins)

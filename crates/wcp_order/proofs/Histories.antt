@@ -1,5 +1,5 @@
 -- The tasks of each process apart.
-use Rattle.wcp_order.proofs.Words.{common_steps, gets, ◌≡◌, ℕ, ◌+◌, ◌<◌, List, [], ◌∷◌, ◌++◌, length, map, take, get_or, set, get_or-set_same, get_or-set_other, sym, ◌∙◌, ap, arith, inl, inr, eqb-true, eq-eqb, filter, All, cases_eq, ne_eqb, append-nil, get_or-map, map-set, length-map, All-filter, filter_more, filter_passes, Task, is_task_of, IsWithin, IsHistory, history_at}
+use Rattle.wcp_order.proofs.Words.{common_steps, gets, ◌≡◌, ℕ, ◌+◌, ◌<◌, List, [], ◌∷◌, ◌++◌, length, take, get_or, set, get_or-set_same, get_or-set_other, sym, ◌∙◌, ap, arith, eqb-true, eq-eqb, filter, All, cases_eq, ne_eqb, append-nil, get_or-map, map-set, length-map, All-filter, filter_more, filter_passes, Task, is_task_of, IsWithin, IsHistory, history_at}
 use Rattle.std.specs.declared.vec.Vec.{Vec}
 
 -- the tasks of a process are its own

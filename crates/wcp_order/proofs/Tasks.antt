@@ -1,4 +1,4 @@
-use Rattle.wcp_order.proofs.Words.{◌≡◌, ℕ, ◌≤◌, Bool, true, false, cond, zero, suc, List, [], ◌∷◌, ◌+◌, take, count_by, Some, refl, eq-eqb, arith, slice_get, All, cases_Bool, and_parts, and_right, common_steps, take-take, sum_by-take-le, slice_get_within, get_or_from_slice_get, Action, Task, count_by_yes, count_by_no, is_task_of, is_send_to, is_receive_from, sends, receives}
+use Rattle.wcp_order.proofs.Words.{◌≡◌, ℕ, ◌≤◌, Bool, true, false, zero, suc, List, [], ◌∷◌, ◌+◌, take, count_by, Some, refl, eq-eqb, arith, slice_get, All, cases_Bool, and_parts, and_right, common_steps, slice_get_within, get_or_from_slice_get, Task, count_by_yes, count_by_no, is_task_of, is_send_to, is_receive_from, sends, receives}
 use Rattle.wcp_model.specs.declared.workload.Action.TheVariants as action
 
 -- what holds of each element holds of the one at a place
@@ -7,10 +7,6 @@ at_place P xs i x all at = rw (get_or_from_slice_get xs i x x at) at (all i x (s
 
 pub is_task_of_itself : (task : Task) → is_task_of task.p task ≡ true
 is_task_of_itself task = eq-eqb task.p task.p refl
-
--- a longer front has as many that pass
-pub count_by-take-le : {X : Type 0} (f : X → Bool) (xs : List X) (m n : ℕ) → m ≤ n → count_by f (take m xs) ≤ count_by f (take n xs)
-count_by-take-le f xs m n shorter = rw (← take-take m n xs shorter) (sum_by-take-le (λ x. cond (f x) 1 0) (take n xs) m)
 
 -- one more place counts one more at most
 pub count_by-take_one : {X : Type 0} (f : X → Bool) (xs : List X) (n : ℕ) → count_by f (take (suc n) xs) ≤ count_by f (take n xs) + 1
@@ -22,6 +18,9 @@ count_by-take_one f (x ∷ xs) (suc n) =
 -- the task that passes is that of the process
 pub receives_is : (p q : ℕ) (task : Task) → receives p q task ≡ true → task ≡ record { p = q; action = action.Recv p }
 receives_is p q task passes = grind arith
+
+pub sends_is : (p q : ℕ) (task : Task) → sends p q task ≡ true → task ≡ record { p = p; action = action.Send q }
+sends_is p q task passes = grind arith
 
 pub sends_by : (p q : ℕ) (task : Task) → sends p q task ≡ true → is_task_of p task ≡ true
 sends_by p q task passes = (and_parts (is_task_of p task) (is_send_to q task.action) passes).0

@@ -1,15 +1,15 @@
 -- The words of the proofs of this crate, from one place.
-pub use Rattle.std.proofs.Common.{◌≡◌, ℕ, ◌≤◌, Bool, true, false, cond, zero, suc, List, [], ◌∷◌, ◌+◌, take, count_by, Some, refl, eq-eqb, arith, ◌<◌, length, ltb, sym, ◌*◌, ◌++◌, replicate, ◌∙◌, ap, ⊎_elim, inl, inr, set, get_or-set_same, get_or-set_other, filter, eqb-true, map, get_or, ◌≢◌, subst, mul-le-mul, slice_index, ◌-◌, ◌⊎◌, slice_get, rules}
+pub use Rattle.std.proofs.Common.{not, ◌≡◌, ℕ, ◌≤◌, Bool, true, false, cond, zero, suc, List, [], ◌∷◌, ◌+◌, take, count_by, Some, refl, eq-eqb, arith, ◌<◌, length, sym, ◌*◌, ◌++◌, replicate, ◌∙◌, ap, inl, inr, set, get_or-set_same, get_or-set_other, filter, eqb-true, map, get_or, subst, mul-le-mul, slice_index, ◌-◌, ◌⊎◌, slice_get, add-one}
 pub use Rattle.std.proofs.lemmas.Bool.{cases_Bool, and_parts, and_right, cases_eq, cases_lt, ne_eqb, both_ways, false≢true}
 pub use Rattle.std.proofs.lemmas.Grind.{common_steps}
-pub use Rattle.std.proofs.lemmas.List.{take-take, length-set, length-replicate, get_or-replicate, length_push, take-append-le, take_all, length-take, append-nil, length-append, get_or-map, map-set, length-map, append_assoc, take_more, take-replicate}
+pub use Rattle.std.proofs.lemmas.List.{take-take, length-set, length-replicate, get_or-replicate, length_push, take-append-le, take_all, append-nil, get_or-map, map-set, length-map, take_more, take-replicate}
 pub use Rattle.std.proofs.lemmas.List.Elements.{All-head, All-tail, All-push, All-nil, All-filter, filter_more, filter_passes, filter-append}
-pub use Rattle.std.proofs.lemmas.List.Sums.{sum_by-take-le, sum_by-cons, sum_by_push, length-filter}
-pub use Rattle.std.proofs.lemmas.Option.{slice_get_within, get_or_from_slice_get, same_Some, gets, slice_get-get_or}
+pub use Rattle.std.proofs.lemmas.List.Sums.{sum_by-take-le, sum_by_push, length-filter}
+pub use Rattle.std.proofs.lemmas.Option.{slice_get_within, get_or_from_slice_get, gets, slice_get-get_or}
 pub use Rattle.std.specs.List.{All}
-pub use Rattle.wcp_model.proofs.MessagesOfOrder.{sends_yes, receives_yes, send_of_receive}
-pub use Rattle.wcp_model.proofs.Places.{count_before-yes}
-pub use Rattle.wcp_model.proofs.SamePlace.{count_by_yes, count_by_no, same_count, element_after, slice_get-filter, slice_get-take, element_within, filter_yes, SamePlace, filter_front}
+pub use Rattle.wcp_model.proofs.MessagesOfOrder.{sends_yes, receives_yes}
+pub use Rattle.wcp_model.proofs.Places.{count_before-yes, count_before-no, count_before-past, count_before-mono}
+pub use Rattle.wcp_model.proofs.SamePlace.{count_by_yes, count_by_no, same_count, element_after, slice_get-filter, element_within, filter_front}
 pub use Rattle.wcp_model.specs.WorkloadComputation.{is_task_of, is_send_to, is_receive_from, sends, receives, IsWithin, IsFitOrder}
 pub use Rattle.wcp_model.specs.declared.workload.Action.{Action}
 pub use Rattle.wcp_model.specs.declared.workload.Action.TheVariants.{Observe}

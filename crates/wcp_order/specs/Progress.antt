@@ -1,4 +1,4 @@
-use Rattle.std.specs.Prelude.{◌≡◌, ℕ, ◌+◌, ◌-◌, ◌*◌, ◌<◌, ◌⊎◌, List, [], ◌++◌, length, map, take, count_by, filter, All}
+use Rattle.std.specs.Prelude.{◌≡◌, ℕ, ◌+◌, ◌-◌, ◌*◌, ◌<◌, List, [], length, map, take, count_by, filter, All}
 use Rattle.std.specs.Prelude.{Some}
 use Rattle.std.specs.List.{slice_get, slice_set, slice_index, slice_index_or}
 use Rattle.std.specs.declared.vec.Vec.{Vec}
@@ -38,12 +38,12 @@ pub record IsDone (n : ℕ) (order : List Task) (in_transit : List ℕ) : Type 0
   pub counted : (p q : ℕ) → p < n → q < n →
       count_by (receives p q) order + slice_index in_transit (p * n + q) ≡ count_by (sends p q) order
 
--- The tasks of each process are those that are done, in this order, and then those that are left.
+-- So many of the first tasks of each process are done, in this order.
 pub record IsProgress (n : ℕ) (history : ℕ → List Task) (order : List Task) (done in_transit : List ℕ) : Type 0 where
   pub is_done : IsDone n order in_transit
   pub processes : length done ≡ n
   pub counts : (p : ℕ) → p < n → slice_index done p ≡ count_by (is_task_of p) order
-  pub left : (p : ℕ) → p < n → (left : List Task) × (history p ≡ filter (is_task_of p) order ++ left)
+  pub first : (p : ℕ) → p < n → filter (is_task_of p) order ≡ take (count_by (is_task_of p) order) (history p)
 
 -- Process p can't go on: its first task that is left is a receive of a message that isn't in transit.
 abbrev pub IsBlocked : ℕ → List Task → List ℕ → List ℕ → ℕ → Type 0

@@ -11,7 +11,7 @@ tests_each-several n several = cond-true (ltb 1 n) n 0 (lt-ltb 1 n several)
 
 -- a checker that has taken nothing
 abbrev pub fresh_checker : ℕ → CheckerState
-fresh_checker n = record { queues = replicate n []; floor = first_floor; taken = replicate 16 0; closed = replicate 16 false; found = None; starved = false }
+fresh_checker n = record { queues = replicate n []; floor = first_floor; taken = replicate 16 0; closed = replicate 16 false; lost = replicate 16 false; found = None; starved = false }
 
 pub IsSoundChecker-fresh : (n : ℕ) → 0 < n → n ≤ 16 → IsSoundChecker (fresh_checker n)
 IsSoundChecker-fresh n some few = grind (arith, get_or-replicate, length-replicate, sum_by-replicate)
@@ -25,7 +25,7 @@ module _ (old : CheckerState) (sound : IsSoundChecker old) where
   room_for_tests = grind (arith, few_in_all, tests_each-le)
 
   -- a snapshot more
-  pub IsSoundChecker-snapshot : (new : CheckerState) (p : ℕ) → p < length old.taken → taken_of old p < 4294967296 → new.taken ≡ set old.taken p (taken_of old p + 1) → new.closed ≡ old.closed → length new.queues ≡ length old.queues →
+  pub IsSoundChecker-snapshot : (new : CheckerState) (p : ℕ) → p < length old.taken → taken_of old p < 4294967296 → new.taken ≡ set old.taken p (taken_of old p + 1) → new.closed ≡ old.closed → new.lost ≡ old.lost → length new.queues ≡ length old.queues →
       AreStable new.queues new.floor → (new.found ≡ None → HaveHeads (length old.queues) new.floor → ⊥) →
       new.floor.tests + tests_each (length old.queues) * waiting_in new.queues ≤ old.floor.tests + tests_each (length old.queues) * (waiting_in old.queues + 1) → IsSoundChecker new
-  IsSoundChecker-snapshot new p within few taken closed members stable waiting tests = grind (arith, common_steps)
+  IsSoundChecker-snapshot new p within few taken closed lost members stable waiting tests = grind (arith, common_steps)

@@ -3,11 +3,10 @@ use Rattle.std.specs.Prelude.{List, [], ◌∷◌, ◌++◌, length, take, sum, 
 use Rattle.std.specs.List.{list_any, list_all}
 use Rattle.wcp_clock.specs.Limits.{most_processes}
 use Rattle.wcp_clock.specs.declared.note.Item.{Item}
-use Rattle.wcp_clock.specs.declared.note.Note.{Note}
-use Rattle.wcp_clock.specs.declared.note.Note.TheVariants.{Snap, Close}
 use Rattle.wcp_model.specs.declared.outcome.Report.{Report}
 use Rattle.wcp_model.specs.declared.outcome.Report.TheVariants.{Found, Nothing, Undecided}
-use Rattle.wcp_clock.specs.Notes.{is_close, place_of}
+use Rattle.wcp_clock.specs.Notes as notes
+use Rattle.wcp_clock.specs.Notes.{is_close, is_lost, place_of}
 use Rattle.wcp_model.specs.Cut.{IsLeastOf}
 use Rattle.wcp_model.specs.Report.{notes_taken, clocks_taken, AreInTurn, ClocksRise, IsDrained, IsCutByClocks}
 use Rattle.wcp_queue.specs.declared.floor.Floor.{Floor}
@@ -15,12 +14,14 @@ use Rattle.wcp_queue.specs.Floor.{HaveHeads}
 use Rattle.wcp_queue.specs.Elimination.{AreStable, AreLeft, IsFoundAmong, waiting_in, tests_each}
 
 -- What a checker has come to: the queue of each process and the floor under the heads, how many snapshots of each
--- process it took and whether it took its close mark, the cut that it found, and whether it was starved of memory.
+-- process it took and whether it took its close mark or the mark that it was lost, the cut that it found, and whether it
+-- was starved of memory.
 pub record CheckerState : Type 0 where
   pub queues : List (List (List ℕ))
   pub floor : Floor
   pub taken : List ℕ
   pub closed : List Bool
+  pub lost : List Bool
   pub found : Option (List ℕ)
   pub starved : Bool
 
@@ -35,6 +36,10 @@ taken_of checker p = slice_index checker.taken p
 abbrev pub closed_of : CheckerState → ℕ → Bool
 closed_of checker p = slice_index_or checker.closed p false
 
+-- Whether it took the mark that one was lost.
+abbrev pub lost_of : CheckerState → ℕ → Bool
+lost_of checker p = slice_index_or checker.lost p false
+
 -- Its report: the cut found; else nothing, once every close mark was taken, unless it was starved.
 abbrev pub report_from : Option (List ℕ) → Bool → Bool → Report
 report_from (Some cut) starved closed = Found cut
@@ -47,18 +52,15 @@ report_of checker = report_from checker.found checker.starved
     (list_all (λ closed. closed) (take (processes checker) checker.closed))
 
 abbrev pub is_snapshot : Item → Bool
-is_snapshot item = is_snap item.note
-  where
-    is_snap : Note → Bool
-    is_snap (Snap number clock) = true
-    is_snap (Close count) = false
+is_snapshot item = notes.is_snapshot item.note
 
 -- A checker may take an item that is the next of its process: its place is the number of snapshots taken of that
--- process, whose close mark wasn't taken.
+-- process, of which no last note was taken.
 pub record MayTake (checker : CheckerState) (item : Item) : Type 0 where
   pub from : item.from < processes checker
   pub place : place_of item.note ≡ taken_of checker item.from
   pub still_open : closed_of checker item.from ≡ false
+  pub not_lost : lost_of checker item.from ≡ false
 
 -- A checker stands for the list of items that it took, those of each process in turn: it has counted them; where it
 -- found a cut, that was among their snapshots; and else, unless it was starved, its queues and heads are what
@@ -67,6 +69,7 @@ pub record StandsForItems (checker : CheckerState) (items : List Item) : Type 0 
   pub taken : (p : ℕ) → p < processes checker → taken_of checker p ≡ length (clocks_taken p items)
   pub snapshots : sum checker.taken ≡ count_by is_snapshot items
   pub closed : (p : ℕ) → p < processes checker → closed_of checker p ≡ list_any is_close (notes_taken p items)
+  pub lost : (p : ℕ) → p < processes checker → lost_of checker p ≡ list_any is_lost (notes_taken p items)
   pub in_turn : (p : ℕ) → p < processes checker → AreInTurn (notes_taken p items)
   pub candidates : MatchOption checker.found
       (checker.starved ≡ false → AreLeft (processes checker) (λ p. clocks_taken p items) checker.queues checker.floor)
@@ -118,6 +121,8 @@ pub record IsSoundChecker (checker : CheckerState) : Type 0 where
   pub few : processes checker ≤ most_processes
   pub counts : length checker.taken ≡ most_processes
   pub marks : length checker.closed ≡ most_processes
+  pub losses : length checker.lost ≡ most_processes
+  pub apart : (p : ℕ) → lost_of checker p ≡ true → closed_of checker p ≡ false
   pub few_taken : All (λ count. count ≤ 2 ^ 32) checker.taken
   pub stable : AreStable checker.queues checker.floor
   pub waiting : checker.found ≡ None → HaveHeads (processes checker) checker.floor → ⊥

@@ -7,6 +7,7 @@ checker_state c = record {
   floor = c.floor;
   taken = c.taken;
   closed = c.closed;
+  lost = c.lost;
   found = c.found;
   starved = c.starved;
 }

@@ -1,11 +1,11 @@
-ghost use Rattle.std.specs.Prelude.{◌≡◌, true, false, ◌*◌, ◌^◌, ◌<◌, ◌≤◌, [], List, length, count_by};
+ghost use Rattle.std.specs.Prelude.{◌≡◌, ◌≢◌, ℕ, true, false, ◌*◌, ◌^◌, ◌<◌, ◌≤◌, [], List, length, count_by};
 ghost use Rattle.std.specs.Prelude.{◌↔◌, IfOk, IfErr, IsOk, IsTrue, OnOk, OnErr};
 ghost use Rattle.std.specs.List.{list_all, list_any};
 ghost use Rattle.wcp_clock.specs.Limits.{most_processes};
 ghost use Rattle.wcp_clock.specs.declared.note.Item.{Item};
 ghost use Rattle.wcp_clock.specs.declared.note.Note.TheVariants.{Snap};
-ghost use Rattle.wcp_model.specs.declared.outcome.Report.TheVariants.{Found};
-ghost use Rattle.wcp_clock.specs.Notes.{is_close};
+ghost use Rattle.wcp_model.specs.declared.outcome.Report.TheVariants.{Found, Nothing};
+ghost use Rattle.wcp_clock.specs.Notes.{is_close, is_last, is_lost};
 ghost use Rattle.wcp_model.specs.Report.{ClocksRise, IsReportByClocks, clocks_taken, notes_taken};
 
 use crate::elimination::add_candidate;
@@ -24,6 +24,7 @@ pub struct Checker {
     floor: Floor,
     taken: [u64; MAX_PROCS],
     closed: [bool; MAX_PROCS],
+    lost: [bool; MAX_PROCS],
     found: Option<GlobalCut>,
     starved: bool,
 }
@@ -41,7 +42,7 @@ impl Model for Checker {
 }
 
 impl Checker {
-    ghost use Rattle.wcp_queue.specs.Checker.{processes, taken_of, closed_of, report_of, is_snapshot};
+    ghost use Rattle.wcp_queue.specs.Checker.{processes, taken_of, closed_of, lost_of, report_of, is_snapshot};
     ghost use Rattle.wcp_queue.specs.Checker.{MayTake, StandsForItems, TakesItem, IsSearching, GrowsNothing};
     ghost use Rattle.wcp_queue.specs.Checker.{KeepsFound, HasFound, IsReportOfAnyClocks, IsReportOfStarved};
 
@@ -62,6 +63,7 @@ impl Checker {
             floor: Floor::new(),
             taken: [0; MAX_PROCS],
             closed: [false; MAX_PROCS],
+            lost: [false; MAX_PROCS],
             found: None,
             starved: false,
         })
@@ -88,7 +90,7 @@ impl Checker {
         // Want of memory.
         ensures handed_back { IfErr result (λ refused. refused.1 ≡ item) }
         ensures unchanged { OnErr result (self.new ≡ self.old) }
-        ensures close_needs_none { is_close item.note ≡ true → IsOk result }
+        ensures last_needs_none { is_last item.note ≡ true → IsOk result }
         ensures found_needs_none { HasFound self.old → IsOk result }
         ensures starved_needs_none { self.old.starved ≡ true → IsOk result }
     {
@@ -97,6 +99,10 @@ impl Checker {
             Note::Snap { clock, .. } => clock,
             Note::Close { .. } => {
                 self.closed[p] = true;
+                return Ok(());
+            }
+            Note::Lost { .. } => {
+                self.lost[p] = true;
                 return Ok(());
             }
         };
@@ -110,6 +116,7 @@ impl Checker {
         requires within { p < processes self.old }
         requires few { taken_of self.old p < 2 ^ 32 }
         requires still_open { closed_of self.old p ≡ false }
+        requires not_lost { lost_of self.old p ≡ false }
         ensures taken { OnOk result
             (TakesItem self.old self.new (record { from = p; note = Snap (taken_of self.old p) clock.now })) }
         ensures found_stays { KeepsFound self.old self.new }
@@ -149,7 +156,7 @@ impl Checker {
     }
 
     /// What the snapshots taken tell. A checker that was starved tells a cut that it had found before,
-    /// or `Undecided`.
+    /// or `Undecided`; so does one that took the mark of a lost process, but it goes on searching.
     pub fn report(&self) -> Report
         ensures value { result ≡ report_of self.now }
         ensures any_clocks { self.now.starved ≡ false → (items : List Item) → StandsForItems self.now items
@@ -158,6 +165,7 @@ impl Checker {
             → ClocksRise (processes self.now) items → IsReportByClocks (processes self.now) items result }
         ensures starved { self.now.starved ≡ true → (items : List Item) → StandsForItems self.now items
             → IsReportOfStarved (processes self.now) items result }
+        ensures lost { (p : ℕ) → p < processes self.now → lost_of self.now p ≡ true → result ≢ Nothing }
     {
         if let Some(cut) = self.found {
             return Report::Found(cut);
@@ -202,6 +210,16 @@ impl Checker {
             → result ≡ list_any is_close (notes_taken p items) }
     {
         self.closed[p as usize]
+    }
+
+    /// Whether the mark that process `p` was lost was taken: its probe was dropped before it closed.
+    pub fn lost(&self, p: u32) -> bool
+        requires { p < processes self.now }
+        ensures value { result ≡ lost_of self.now p }
+        ensures mark { (items : List Item) → StandsForItems self.now items
+            → result ≡ list_any is_lost (notes_taken p items) }
+    {
+        self.lost[p as usize]
     }
 }
 

@@ -4,8 +4,9 @@
 //! of the next item of its process leaves one that stands for the list with the item at its end, and is refused for
 //! want of memory alone, where the item comes back and nothing has changed. `report` is exact wherever the clocks
 //! taken of each process never fall in a component and rise in their own: found with the least cut of taken snapshots
-//! of which none precedes another by its clock; else nothing where every close mark was taken; else undecided.
-//! Whatever the clocks, a found cut is such a cut, and stays. A checker that was starved takes each item without
+//! of which none precedes another by its clock; else nothing where every close mark was taken; else undecided. One that
+//! took the mark of a lost process never says that there is none. Whatever the clocks, a found cut is such a cut, and
+//! stays. A checker that was starved takes each item without
 //! memory and counts it; its report is the cut found before, or undecided. `tests` is at most the number of processes
 //! for each snapshot taken, and 0 for one process.
 #![tactic(auto)]

@@ -18,12 +18,13 @@ why_word why.ClockEnd = codes "clockend"
 why_word why.Empty = codes "empty"
 why_word why.Full = codes "full"
 
--- The words of a note: the number of a snapshot and each component of its clock, or how many snapshots a close mark
--- counts.
+-- The words of a note: the number of a snapshot and each component of its clock, or how many snapshots a mark
+-- that ends them counts.
 abbrev pub note_words : Note → List ℕ
 note_words (note.Snap number clock) =
     codes " snap " ++ (decimal number ++ flat_map (λ component. 32 ∷ decimal component) clock)
 note_words (note.Close count) = codes " close " ++ decimal count
+note_words (note.Lost count) = codes " lost " ++ decimal count
 
 -- The line of a reply, with its LF.
 abbrev pub reply_line : Reply → List ℕ

@@ -45,6 +45,7 @@ fn push_note(text: &mut String, note: &Note) -> Result<(), AllocError>
             push_components(text, clock)
         }
         Note::Close { count } => write!(text, " close {count}"),
+        Note::Lost { count } => write!(text, " lost {count}"),
     }
 }
 

@@ -1,10 +1,10 @@
 -- What the ends of a workload's run tell of it.
-use Rattle.wcp_run.proofs.Words.{◌≡◌, ℕ, ◌<◌, ◌≤◌, Some, List, [], ◌∷◌, length, slice_get, not, sym, refl, ap, subst, ◌∙◌, arith, slice_get_within, get_or_from_slice_get, Plan, Task, count_by_no, count_by_yes, ClosedSide, snapshots_in, WorkerEnd, AreMatched, AreOfLane, HaveRun, ends_between, PlayedEnds, Ends, AreOfWorkers, AreEndsOfRun}
+use Rattle.wcp_run.proofs.Words.{◌≡◌, ℕ, ◌<◌, ◌≤◌, Some, List, [], ◌∷◌, length, slice_get, sym, refl, ap, subst, ◌∙◌, arith, slice_get_within, get_or_from_slice_get, Plan, Task, count_by_no, count_by_yes, ClosedSide, snapshots_in, WorkerEnd, AreMatched, AreOfLane, HaveRun, ends_between, PlayedEnds, Ends, AreOfWorkers, AreEndsOfRun}
 use Rattle.std.proofs.lemmas.List.Elements.{All-contains}
 use Rattle.wcp_clock.specs.Limits.{most_processes}
-use Rattle.wcp_clock.specs.Notes.{is_close}
+use Rattle.wcp_clock.specs.Notes.{is_snapshot}
 use Rattle.wcp_clock.specs.declared.note.Note.{Note}
-use Rattle.wcp_clock.specs.declared.note.Note.TheVariants.{Snap, Close}
+use Rattle.wcp_clock.specs.declared.note.Note.TheVariants.{Snap, Close, Lost}
 use Rattle.wcp_model.specs.declared.outcome.Tally.{Tally}
 use Rattle.wcp_book.specs.State.{BookState}
 use Rattle.wcp_model.specs.Outcome.{IsWorkloadOutcome}
@@ -20,9 +20,11 @@ use Rattle.wcp_watch.proofs.WatchEnds.{IsEndOfProcess, all_processes, come_from_
 snapshots_counted : (notes : List Note) → snapshots_in notes ≡ length (snapshot_clocks notes)
 snapshots_counted [] = refl
 snapshots_counted (Snap number clock ∷ notes) =
-    count_by_yes (λ note. not (is_close note)) (Snap number clock) notes refl ∙ omega (arith, snapshots_counted notes)
+    count_by_yes is_snapshot (Snap number clock) notes refl ∙ omega (arith, snapshots_counted notes)
 snapshots_counted (Close count ∷ notes) =
-    count_by_no (λ note. not (is_close note)) (Close count) notes refl ∙ snapshots_counted notes
+    count_by_no is_snapshot (Close count) notes refl ∙ snapshots_counted notes
+snapshots_counted (Lost count ∷ notes) =
+    count_by_no is_snapshot (Lost count) notes refl ∙ snapshots_counted notes
 
 module _ {plan : Plan} {tasks : List Task} {ends : Ends WorkerEnd} (run : AreEndsOfRun plan tasks ends) where
   workers_count : length run.parts.workers.items ≡ plan.n

@@ -1,10 +1,11 @@
 use Rattle.wcp_single.proofs.Words.{common_steps, ◌≡◌, ℕ, ◌+◌, ◌↔◌, IsTrue, Bool, true, false, List, [], ◌∷◌, ◌++◌, Option, Some, None, MatchOption, refl, sym, ap, ap₂, ◌∙◌, subst, append-nil, arith, Item, Call, Observed, Closed, ProbeState, setup, state_of_log, log_counts_notes, log_push, CheckerState, MayTake, TakesItem, processes, WatchedProcess, IsRunning, IsFed, IsFedMore, IsWatched, Feeds}
 use Rattle.std.specs.Prelude.{if◌then◌else◌}
+use Rattle.wcp_model.specs.Report.{IsNextNote, notes_taken}
 use Rattle.wcp_clock.specs.declared.note.Note.{Note}
 use Rattle.wcp_clock.specs.declared.note.Note.TheVariants as note
 use Rattle.wcp_clock.specs.Notes.{place_of}
 use Rattle.wcp_probe.specs.Core.{Core, setup_of}
-use Rattle.wcp_queue.proofs.NotesTaken.{notes_taken-push_same, notes_taken-push_other}
+use Rattle.wcp_queue.proofs.NotesTaken.{MayTake-next, notes_taken-push_same, notes_taken-push_other}
 
 -- the probe that has emitted a snapshot
 abbrev pub with_snapshot : Core → Core
@@ -31,7 +32,9 @@ module _ (n p : ℕ) (log : List Call) (process : WatchedProcess) (running : IsR
 
   -- the checker may take a note that is placed behind all that the process has emitted
   pub may_take : (items : List Item) (checker : CheckerState) (next : Note) → IsFed n p log items checker → place_of next ≡ process.probe.emitted → MayTake checker (record { from = p; note = next })
-  may_take items checker next fed place = grind (arith, log_counts_notes n p log)
+  may_take items checker next fed place =
+      let next_note : IsNextNote (notes_taken p items) next = grind (arith, log_counts_notes n p log) in
+      MayTake-next checker items (record { from = p; note = next }) fed.has_taken.stands (omega (arith, fed.within, fed.has_taken.watched)) next_note
 
   -- an observation emits what is then pending
   observed_notes : (holds emitted : Bool) (probe : Core) → IsTrue emitted ↔ (IsTrue holds × (process.probe.flag ≡ false)) → probe ≡ (if emitted then with_snapshot process.probe else process.probe) →

@@ -1,5 +1,5 @@
 -- Items that may follow others, one after another.
-use Rattle.wcp_tree.proofs.Words.{◌≡◌, ℕ, zero, suc, ◌+◌, ◌<◌, true, List, [], ◌∷◌, ◌++◌, length, get_or, take, Option, None, Some, sym, refl, ap, ◌∙◌, subst, append_assoc, arith, IfNone, IfSome, append-nil, take_more, Item, place_of, is_close, Numbers, Outlet, items_of, handed, IsFaithful, IsNextAfter, IsSameOutlet, ItemsMayFollow}
+use Rattle.wcp_tree.proofs.Words.{◌≡◌, ℕ, zero, suc, ◌+◌, ◌<◌, true, List, [], ◌∷◌, ◌++◌, length, get_or, take, Option, None, Some, sym, refl, ap, ◌∙◌, subst, append_assoc, arith, IfNone, IfSome, append-nil, take_more, Item, place_of, is_last, Numbers, Outlet, items_of, handed, IsFaithful, IsNextAfter, IsSameOutlet, ItemsMayFollow}
 use Rattle.std.specs.FinSet as set
 use Rattle.wcp_lane.specs.Message.{MayFollow}
 use Rattle.wcp_tree.proofs.Lists.{items_of-append}
@@ -8,7 +8,7 @@ use Rattle.wcp_tree.proofs.Passing.{if_none}
 
 abbrev pub ItemMayFollow : Numbers → List Item → Item → Type 0
 ItemMayFollow members before item =
-    MayFollow (λ (i : Item). i.from) (λ (i : Item). place_of i.note) (λ (i : Item). is_close i.note) members before item
+    MayFollow (λ (i : Item). i.from) (λ (i : Item). place_of i.note) (λ (i : Item). is_last i.note) members before item
 
 -- each of them may follow those before it
 pub one_may_follow : (members : Numbers) (before items : List Item) (i : ℕ) (d : Item) → i < length items → ItemsMayFollow members before items

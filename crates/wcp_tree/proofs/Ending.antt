@@ -1,5 +1,5 @@
 -- How a relay begins and ends.
-use Rattle.wcp_tree.proofs.Words.{◌≡◌, ℕ, suc, ◌<◌, true, true≢false, List, [], ◌∷◌, ◌++◌, length, get_or, sym, refl, ap, ◌∙◌, subst, append_assoc, arith, All, IfNone, IfErr, Result, Ok, Err, OnOk, append-nil, nil_from_length, All-nil, IsPrefix, Item, place_of, is_close, Feed, Outlet, Source, Leaf, Inner, fed, items_by, items_of, source_taken, Serves, IsNewFeed, IsInOrder, handed, AreItemsInSequence, IsSound, IsFaithful, IsLeafAtWork, IsAtWork, AreClosed, HasMetGap, HasEnded, IsEndOfSource, taken_in}
+use Rattle.wcp_tree.proofs.Words.{◌≡◌, ℕ, suc, ◌<◌, true, true≢false, List, [], ◌∷◌, ◌++◌, length, get_or, sym, refl, ap, ◌∙◌, subst, append_assoc, arith, All, IfNone, IfErr, Result, Ok, Err, OnOk, append-nil, nil_from_length, All-nil, IsPrefix, Item, place_of, is_last, Feed, Outlet, Source, Leaf, Inner, fed, items_by, items_of, source_taken, Serves, IsNewFeed, IsInOrder, handed, AreItemsInSequence, IsSound, IsFaithful, IsLeafAtWork, IsAtWork, AreEnded, HasMetGap, HasEnded, IsEndOfSource, taken_in}
 use Rattle.wcp_tree.specs.declared.relay_end.Receipts.{Receipts}
 use Rattle.wcp_tree.specs.declared.relay_end.Receipts.TheVariants.{Feeds, Lane}
 use Rattle.wcp_tree.specs.declared.take_fault.TakeFault.{TakeFault}
@@ -21,7 +21,7 @@ feed_new : (feed : Feed) → IsNewFeed feed → IsInOrder feed
 feed_new feed new =
     let none = nil_from_length feed.taker.taken new.2 in
     record {
-      run = rw none (AreInSequence-none place_of is_close);
+      run = rw none (AreInSequence-none place_of is_last);
       counted = λ _. (new.0 ∙ sym new.2, rw none (All-nil _));
       ended = λ closed. absurd (true≢false (sym closed ∙ new.1));
     }
@@ -80,13 +80,13 @@ all_put taken outlet faithful empty =
     ap (items_of p) (sym (ap (λ xs. outlet.putter.put ++ xs) (if_none _ outlet.cut none empty) ∙ append-nil outlet.putter.put))
     ∙ if_none _ outlet.cut none faithful.whole p)
 
-pub leaf_closed : (feeds : List Feed) (outlet : Outlet) → IsLeafAtWork feeds outlet → All (λ (f : Feed). f.closed ≡ true) feeds → AreClosed outlet.putter.members (fed feeds)
-leaf_closed feeds outlet work closed p own = all_ended feeds closed work.in_order p (sym (work.served p) ∙ own)
+pub leaf_all_ended : (feeds : List Feed) (outlet : Outlet) → IsLeafAtWork feeds outlet → All (λ (f : Feed). f.ended ≡ true) feeds → AreEnded outlet.putter.members (fed feeds)
+leaf_all_ended feeds outlet work closed p own = all_ended feeds closed work.in_order p (sym (work.served p) ∙ own)
 
 -- a leaf took the close marks of all its processes, or met a gap
-pub leaf_ended : (r : Result (Unit {0}) TakeFault) (source : Source) (feeds : List Feed) (outlet : Outlet) → IsLeafOf source feeds → OnOk r (IsLeafAtWork feeds outlet) → OnOk r (All (λ (f : Feed). f.closed ≡ true) feeds)
+pub leaf_ended : (r : Result (Unit {0}) TakeFault) (source : Source) (feeds : List Feed) (outlet : Outlet) → IsLeafOf source feeds → OnOk r (IsLeafAtWork feeds outlet) → OnOk r (All (λ (f : Feed). f.ended ≡ true) feeds)
     → IfErr r (λ met. (p : ℕ) × (met ≡ fault.Gap p) × HasMetGap p (fed feeds) outlet) → HasEnded source outlet r
-leaf_ended (Ok done) (Leaf own sleeper) feeds outlet is work closed gap = subst (λ fs. AreClosed outlet.putter.members (fed fs) × IsFaithful (fed fs) outlet) is (leaf_closed feeds outlet work closed, work.faithful)
+leaf_ended (Ok done) (Leaf own sleeper) feeds outlet is work closed gap = subst (λ fs. AreEnded outlet.putter.members (fed fs) × IsFaithful (fed fs) outlet) is (leaf_all_ended feeds outlet work closed, work.faithful)
 leaf_ended (Err met) (Leaf own sleeper) feeds outlet is work closed gap = subst (λ m. HasEnded (Leaf own sleeper) outlet (Err m)) (sym gap.1) (subst (λ fs. HasMetGap gap.0 (fed fs) outlet) is gap.2)
 leaf_ended r (Inner taker) feeds outlet is work closed gap = absurd is
 
@@ -94,7 +94,7 @@ leaf_ended r (Inner taker) feeds outlet is work closed gap = absurd is
 pub ended_front : (source : Source) (outlet : Outlet) (r : Result (Unit {0}) TakeFault) → HasEnded source outlet r → (p : ℕ) → IsPrefix (items_of p (handed outlet)) (source_taken source p)
 ended_front source outlet (Ok all) ended p = ended.1.front p
 ended_front (Leaf feeds sleeper) outlet (Err (fault.Gap q)) ended p =
-    subst (IsPrefix (items_of p (handed outlet))) (sym (ended.is_last p)) (prefix_more (items_of p (handed outlet)) (ended.before p) (items_of p (ended.item ∷ [])) (ended.faithful.front p))
+    subst (IsPrefix (items_of p (handed outlet))) (sym (ended.latest p)) (prefix_more (items_of p (handed outlet)) (ended.before p) (items_of p (ended.item ∷ [])) (ended.faithful.front p))
 ended_front (Inner taker) outlet (Err (fault.Cut cut)) ended p = ended.front p
 ended_front (Leaf feeds sleeper) outlet (Err (fault.Cut cut)) ended p = absurd ended
 ended_front (Inner taker) outlet (Err (fault.Gap q)) ended p = absurd ended

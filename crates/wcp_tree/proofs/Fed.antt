@@ -1,5 +1,5 @@
 -- What feeds took, as one of them takes a note.
-use Rattle.wcp_tree.proofs.Words.{◌≡◌, ◌≢◌, ℕ, zero, suc, ◌<◌, Bool, true, false, ◌||◌, List, [], ◌∷◌, ◌++◌, length, get_or, set, map, sym, refl, ap, ◌∙◌, subst, eq-eqb, arith, All, AllPairs, if◌then◌else◌, ◌==◌, list_any, list_any_at, nat_tests, append-nil, length-map, map-append, get_or-map, All-map, map-set_same, Item, Note, is_close, Feed, fed, items_by, items_of, processes_of, IsNextOfProcess, IsInOrder, EndsWithClose, Outlet, IsNextAfter, IsFaithful, HasMetGap}
+use Rattle.wcp_tree.proofs.Words.{◌≡◌, ◌≢◌, ℕ, zero, suc, ◌<◌, Bool, true, false, ◌||◌, List, [], ◌∷◌, ◌++◌, length, get_or, set, map, sym, refl, ap, ◌∙◌, subst, eq-eqb, arith, All, AllPairs, if◌then◌else◌, ◌==◌, list_any, list_any_at, nat_tests, append-nil, length-map, map-append, get_or-map, All-map, map-set_same, Item, Note, is_last, Feed, fed, items_by, items_of, processes_of, IsNextOfProcess, IsInOrder, EndsWithLast, Outlet, IsNextAfter, IsFaithful, HasMetGap}
 
 abbrev AreApart : List ℕ → Type 0
 AreApart numbers = AllPairs (λ p q. p ≢ q) numbers
@@ -54,7 +54,7 @@ pub next_by : (p : ℕ) (before : List Note) (item : Item) → IsNextOfProcess b
 next_by p before item next =
     record {
       numbered = next.numbered ∙ sym (length-map before (λ (n : Note). record { from = p; note = n }));
-      unended = All-map (λ (i : Item). is_close i.note ≡ false) (λ (n : Note). record { from = p; note = n }) before next.unended;
+      unended = All-map (λ (i : Item). is_last i.note ≡ false) (λ (n : Note). record { from = p; note = n }) before next.unended;
     }
 
 pub next_back : (p : ℕ) (before : List Note) (item : Item) → IsNextAfter (items_by p before) item → IsNextOfProcess before item.note
@@ -64,7 +64,7 @@ next_back p before item next =
     record {
       numbered = next.numbered ∙ long;
       unended = λ k d below.
-          subst (λ (i : Item). is_close i.note ≡ false) (get_or-map f before k d (f d) below) (next.unended k (f d) (omega arith));
+          subst (λ (i : Item). is_last i.note ≡ false) (get_or-map f before k d (f d) below) (next.unended k (f d) (omega arith));
     }
 
 -- a note came that isn't the next one
@@ -78,7 +78,7 @@ fed-gap feeds i new d note outlet below apart same taken not_next faithful =
       before = fed feeds;
       item = item;
       from = refl;
-      is_last = fed-set feeds i new d item below apart same taken refl;
+      latest = fed-set feeds i new d item below apart same taken refl;
       out_of_place = λ next. not_next (next_back old.process old.taker.taken item (subst (λ xs. IsNextAfter xs item) (fed-at feeds i d below apart) next));
       faithful = faithful;
     }
@@ -96,18 +96,18 @@ process_served feeds i d below =
     let long = length-map feeds (λ (f : Feed). f.process) in
     list_any_at (λ q. q == (get_or feeds i d).process) (processes_of feeds) i d.process (omega arith) (eq-eqb _ _ (process_at feeds i d below))
 
--- where each feed is closed, what was taken of each process that is served ends with its close mark
-pub all_ended : (feeds : List Feed) → All (λ (f : Feed). f.closed ≡ true) feeds → All IsInOrder feeds → (p : ℕ) → list_any (λ q. q == p) (processes_of feeds) ≡ true
-    → EndsWithClose (fed feeds p)
+-- where each feed is closed, what was taken of each process that is served ends with a last note
+pub all_ended : (feeds : List Feed) → All (λ (f : Feed). f.ended ≡ true) feeds → All IsInOrder feeds → (p : ℕ) → list_any (λ q. q == p) (processes_of feeds) ≡ true
+    → EndsWithLast (fed feeds p)
 all_ended [] closed order p served = cc
 all_ended (f ∷ fs) closed order p served =
     let last = (order 0 f (omega arith)).ended (closed 0 f (omega arith)) in
     let whole = ap (items_by p) last.2 ∙ map-append (λ (n : Note). record { from = p; note = n }) last.0 (last.1 ∷ []) in
-    let own : EndsWithClose (items_by p f.taker.taken) = (items_by p last.0, record { from = p; note = last.1 }, whole, last.3) in
+    let own : EndsWithLast (items_by p f.taker.taken) = (items_by p last.0, record { from = p; note = last.1 }, whole, last.3) in
     let rest = all_ended fs (λ k d below. closed (suc k) d (omega arith)) (λ k d below. order (suc k) d (omega arith)) p in
     either (f.process == p) own rest served
   where
-    either : (b : Bool) → EndsWithClose (items_by p f.taker.taken) → (list_any (λ q. q == p) (processes_of fs) ≡ true → EndsWithClose (fed fs p))
-        → (b || list_any (λ q. q == p) (processes_of fs)) ≡ true → EndsWithClose (if b then items_by p f.taker.taken else fed fs p)
+    either : (b : Bool) → EndsWithLast (items_by p f.taker.taken) → (list_any (λ q. q == p) (processes_of fs) ≡ true → EndsWithLast (fed fs p))
+        → (b || list_any (λ q. q == p) (processes_of fs)) ≡ true → EndsWithLast (if b then items_by p f.taker.taken else fed fs p)
     either true own rest served = own
     either false own rest served = rest served

@@ -38,7 +38,7 @@ module _ (plan : Plan) (leaf : ℕ) (before : List (Option TakeSide)) where
       All-weaker (IsFeed plan leaf before k) (IsFeed plan leaf before (k + 1))
       (λ feed is. record {
         first = is.first;
-        unclosed = is.unclosed;
+        unended = is.unended;
         taker = is.taker;
         within = omega (arith, is.within);
         served = is.served;
@@ -71,13 +71,13 @@ module _ (plan : Plan) (leaf : ℕ) (before : List (Option TakeSide)) where
 
   -- a process of the leaf
   pub one_taken : (now : List (Option TakeSide)) (k : ℕ) (feeds : List Feed) (feed : Feed) → AreTaken now k feeds
-      → leaf_of plan k ≡ Some leaf → feed.process ≡ k → feed.next ≡ 0 → feed.closed ≡ false
+      → leaf_of plan k ≡ Some leaf → feed.process ≡ k → feed.next ≡ 0 → feed.ended ≡ false
       → IsTakerAt before k feed.taker → AreTaken (slice_set now k None) (k + 1) (feeds ++ feed ∷ [])
-  one_taken now k feeds feed taken own is_k first unclosed taker = record {
+  one_taken now k feeds feed taken own is_k first unended taker = record {
     feeds_of = record {
       each = All-push (IsFeed plan leaf before (k + 1)) feeds feed (more_within k feeds taken.feeds_of.each) (record {
         first = first;
-        unclosed = unclosed;
+        unended = unended;
         taker = subst (λ p. IsTakerAt before p feed.taker) (sym is_k) taker;
         within = omega (arith, is_k);
         served = ap (leaf_of plan) is_k ∙ own;

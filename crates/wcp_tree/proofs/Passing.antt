@@ -1,5 +1,5 @@
 -- An outlet stays sound as it passes an item on, and as it takes one in.
-use Rattle.wcp_tree.proofs.Words.{◌≡◌, ◌≢◌, ℕ, ◌<◌, true, false, Option, None, Some, List, [], ◌∷◌, ◌++◌, length, drop, length-append, sym, refl, ap, ◌∙◌, subst, ⊎_elim, append_assoc, rules, arith, All, slice_get, Result, Ok, Err, IsErr, OnOk, IfNone, is_some, cases_eq, append-nil, drop_at, All-drop, All-push, Item, IsNext, place_of, is_close, PutEnd, All-front, AreInSequence-push, may_follow, Held, Bundle, Outlet, items_of, IsFirstBundle, handed, IsNextItem, AreItemsInSequence, IsSound, ItemsMayFollow}
+use Rattle.wcp_tree.proofs.Words.{◌≡◌, ◌≢◌, ℕ, ◌<◌, true, false, Option, None, Some, List, [], ◌∷◌, ◌++◌, length, drop, length-append, sym, refl, ap, ◌∙◌, subst, ⊎_elim, append_assoc, rules, arith, All, slice_get, Result, Ok, Err, IsErr, OnOk, IfNone, is_some, cases_eq, append-nil, drop_at, All-drop, All-push, Item, IsNext, place_of, is_last, PutEnd, All-front, AreInSequence-push, may_follow, Held, Bundle, Outlet, items_of, IsFirstBundle, handed, IsNextItem, AreItemsInSequence, IsSound, ItemsMayFollow}
 use Rattle.std.specs.FinSet as set
 use Rattle.wcp_tree.proofs.Lists.{items_of-append, items_of-own, items_of-other}
 
@@ -7,7 +7,7 @@ use Rattle.wcp_tree.proofs.Lists.{items_of-append, items_of-own, items_of-other}
 pub first_follow : (o : Outlet) (bundle : List Item) → IsSound o → IsFirstBundle o.hold.items bundle → ItemsMayFollow o.putter.members o.putter.put bundle
 first_follow o bundle sound first =
     let members = o.putter.members in
-    may_follow (λ (i : Item). i.from) (λ (i : Item). place_of i.note) (λ (i : Item). is_close i.note) (λ p. set.contains members p ≡ true) members (handed o)
+    may_follow (λ (i : Item). i.from) (λ (i : Item). place_of i.note) (λ (i : Item). is_last i.note) (λ p. set.contains members p ≡ true) members (handed o)
     (λ p own. sound.runs p) (λ p own some. own) o.putter.put bundle first.rest (ap (λ xs. o.putter.put ++ xs) first.is)
     (All-front (λ (i : Item). set.contains members i.from ≡ true) bundle first.rest (subst (All (λ (i : Item). set.contains members i.from ≡ true)) first.is sound.owned))
 
@@ -77,7 +77,7 @@ sound_taken o new item sound own next putter hold =
       runs = λ p. ⊎_elim
           (λ (here : p ≡ item.from).
           subst AreItemsInSequence (sym (split p ∙ ap (λ xs. items_of p (handed o) ++ xs) (items_of-own p item (sym here))))
-          (AreInSequence-push (λ (i : Item). place_of i.note) (λ (i : Item). is_close i.note) (items_of p (handed o)) item (sound.runs p) (subst (λ q. IsNext (λ (i : Item). place_of i.note) (λ (i : Item). is_close i.note) (items_of q (handed o)) item) (sym here) next)))
+          (AreInSequence-push (λ (i : Item). place_of i.note) (λ (i : Item). is_last i.note) (items_of p (handed o)) item (sound.runs p) (subst (λ q. IsNext (λ (i : Item). place_of i.note) (λ (i : Item). is_last i.note) (items_of q (handed o)) item) (sym here) next)))
           (λ (apart : p ≢ item.from).
           subst AreItemsInSequence (sym (split p ∙ ap (λ xs. items_of p (handed o) ++ xs) (items_of-other p item (λ e. apart (sym e))) ∙ append-nil (items_of p (handed o)))) (sound.runs p))
           (cases_eq p item.from);

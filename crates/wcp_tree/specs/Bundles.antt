@@ -1,6 +1,6 @@
 -- Items of one process that go over a lane together.
 use Rattle.std.specs.Prelude.{◌≡◌, ℕ, ◌+◌, ◌<◌, ◌≤◌, false, List, [], ◌∷◌, ◌++◌, length, slice_get, IfSome}
-use Rattle.wcp_clock.specs.Notes.{place_of, is_close}
+use Rattle.wcp_clock.specs.Notes.{place_of, is_last}
 use Rattle.wcp_clock.specs.declared.note.Item.{Item}
 use Rattle.wcp_clock.specs.declared.note.Note.TheVariants.{Close}
 
@@ -12,11 +12,11 @@ most_bundle = 8
 abbrev pub filler : Item
 filler = record { from = 0; note = Close 0 }
 
--- An item continues another if it is of the same process, at the next place, and the other isn't a close mark.
+-- An item continues another if it is of the same process, at the next place, and the other isn't a last one.
 pub record Continues (before item : Item) : Type 0 where
   pub from : item.from ≡ before.from
   pub place : place_of item.note ≡ place_of before.note + 1
-  pub unended : is_close before.note ≡ false
+  pub unended : is_last before.note ≡ false
 
 -- Each of these items continues the one before it.
 abbrev pub IsRun : List Item → Type 0

@@ -8,29 +8,29 @@ use Rattle.wcp_clock.specs.declared.note.Item.{Item}
 use Rattle.wcp_clock.specs.declared.note.Note.{Note}
 use Rattle.wcp_model.specs.LaneRule.{IsNext, AreInSequence, items_from}
 use Rattle.wcp_lane.specs.Passes.{Numbers}
-use Rattle.wcp_clock.specs.Notes.{place_of, is_close}
+use Rattle.wcp_clock.specs.Notes.{place_of, is_last}
 use Rattle.wcp_tree.specs.declared.feed.Feed.{Feed}
 use Rattle.wcp_tree.specs.declared.source.Source.{Source}
 use Rattle.wcp_tree.specs.declared.source.Source.TheVariants.{Leaf, Inner}
 
 -- A note is the next one after the notes of its process that were taken before.
 abbrev pub IsNextOfProcess : List Note → Note → Type 0
-IsNextOfProcess before note = IsNext place_of is_close before note
+IsNextOfProcess before note = IsNext place_of is_last before note
 
 -- The last of these items is a last one.
 abbrev pub IsEnded : {I : Type 0} → (I → Bool) → List I → Type 0
 IsEnded {I} is_last items = (before : List I) × (item : I) × (items ≡ before ++ item ∷ []) × (is_last item ≡ true)
 
--- The last of these items is a close mark.
-abbrev pub EndsWithClose : List Item → Type 0
-EndsWithClose items = IsEnded (λ (item : Item). is_close item.note) items
+-- The last of these items has a last note.
+abbrev pub EndsWithLast : List Item → Type 0
+EndsWithLast items = IsEnded (λ (item : Item). is_last item.note) items
 
--- The notes that a feed took are a run, it counts the snapshots among them, and it knows whether the close mark came.
+-- The notes that a feed took are a run, it counts the snapshots among them, and it knows whether a last one came.
 pub record IsInOrder (feed : Feed) : Type 0 where
-  pub run : AreInSequence place_of is_close feed.taker.taken
-  pub counted : feed.closed ≡ false
-      → (feed.next ≡ length feed.taker.taken) × All (λ note. is_close note ≡ false) feed.taker.taken
-  pub ended : feed.closed ≡ true → IsEnded is_close feed.taker.taken
+  pub run : AreInSequence place_of is_last feed.taker.taken
+  pub counted : feed.ended ≡ false
+      → (feed.next ≡ length feed.taker.taken) × All (λ note. is_last note ≡ false) feed.taker.taken
+  pub ended : feed.ended ≡ true → IsEnded is_last feed.taker.taken
 
 -- The processes of these feeds.
 abbrev pub processes_of : List Feed → List ℕ
@@ -38,7 +38,7 @@ processes_of feeds = map (λ feed. feed.process) feeds
 
 -- Nothing was taken by this feed.
 abbrev pub IsNewFeed : Feed → Type 0
-IsNewFeed feed = (feed.next ≡ 0) × (feed.closed ≡ false) × (length feed.taker.taken ≡ 0)
+IsNewFeed feed = (feed.next ≡ 0) × (feed.ended ≡ false) × (length feed.taker.taken ≡ 0)
 
 -- A relay serves the processes of a set: a leaf by one new feed for each of them, and any other relay by a lane of
 -- processes of the set, from which nothing was taken.

@@ -7,7 +7,7 @@ use Rattle.wcp_model.specs.ProbeLog.{Call, Closed, state_of_log}
 use Rattle.wcp_model.specs.Report.{AreRising, snapshot_clocks}
 use Rattle.wcp_probe.specs.Core.{Core, StandsForLog, IsSameProbe, setup_of}
 use Rattle.wcp_ring.specs.Ends.{PutSide, EndedSide}
-use Rattle.wcp_clock.specs.Notes.{is_close}
+use Rattle.wcp_clock.specs.Notes.{is_snapshot}
 
 -- A live probe has a core, and the end of its ring that puts.
 pub record LiveSide : Type 0 where
@@ -50,7 +50,7 @@ emitted_by probe = probe.link.put ++ pending_notes probe.core.pending
 
 -- How many of these notes are snapshots.
 abbrev pub snapshots_in : List Note → ℕ
-snapshots_in notes = count_by (λ note. not (is_close note)) notes
+snapshots_in notes = count_by is_snapshot notes
 
 -- The emissions of a log, for the process and the number of processes of a core.
 abbrev pub emissions_of : Core → List Call → List Note

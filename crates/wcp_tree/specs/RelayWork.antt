@@ -9,7 +9,7 @@ use Rattle.wcp_model.specs.LaneRule.{IsNext, AreInSequence}
 use Rattle.wcp_lane.specs.Passes.{Numbers}
 use Rattle.wcp_lane.specs.Ends.{TakeEnd}
 use Rattle.wcp_lane.specs.Message.{AllMayFollow}
-use Rattle.wcp_clock.specs.Notes.{place_of, is_close}
+use Rattle.wcp_clock.specs.Notes.{place_of, is_last}
 use Rattle.wcp_tree.specs.declared.bundle.Bundle.{Bundle}
 use Rattle.wcp_tree.specs.declared.outlet.Outlet.{Outlet}
 use Rattle.wcp_tree.specs.declared.feed.Feed.{Feed}
@@ -17,7 +17,7 @@ use Rattle.wcp_tree.specs.declared.source.Source.{Source}
 use Rattle.wcp_tree.specs.declared.source.Source.TheVariants.{Leaf, Inner}
 use Rattle.wcp_tree.specs.declared.take_fault.TakeFault.{TakeFault}
 use Rattle.wcp_tree.specs.declared.take_fault.TakeFault.TheVariants as take_fault
-use Rattle.wcp_tree.specs.Feeding.{items_of, processes_of, fed, source_taken, IsInOrder, EndsWithClose}
+use Rattle.wcp_tree.specs.Feeding.{items_of, processes_of, fed, source_taken, IsInOrder, EndsWithLast}
 
 -- What was handed to an outlet: what it put, and then what it holds.
 abbrev pub handed : Outlet → List Item
@@ -25,7 +25,7 @@ handed outlet = outlet.putter.put ++ outlet.hold.items
 
 -- An item is the next one after these, which are of its process.
 abbrev pub IsNextAfter : List Item → Item → Type 0
-IsNextAfter before item = IsNext (λ (i : Item). place_of i.note) (λ (i : Item). is_close i.note) before item
+IsNextAfter before item = IsNext (λ (i : Item). place_of i.note) (λ (i : Item). is_last i.note) before item
 
 -- An item is the next one after those of its process among these.
 abbrev pub IsNextItem : List Item → Item → Type 0
@@ -35,12 +35,12 @@ IsNextItem items item = IsNextAfter (items_of item.from items) item
 -- it.
 abbrev pub ItemsMayFollow : Numbers → List Item → List Item → Type 0
 ItemsMayFollow members before items =
-    AllMayFollow (λ (i : Item). i.from) (λ (i : Item). place_of i.note) (λ (i : Item). is_close i.note)
+    AllMayFollow (λ (i : Item). i.from) (λ (i : Item). place_of i.note) (λ (i : Item). is_last i.note)
     members before items
 
 -- These items are a run.
 abbrev pub AreItemsInSequence : List Item → Type 0
-AreItemsInSequence items = AreInSequence (λ (i : Item). place_of i.note) (λ (i : Item). is_close i.note) items
+AreItemsInSequence items = AreInSequence (λ (i : Item). place_of i.note) (λ (i : Item). is_last i.note) items
 
 -- An outlet's hold has room, it holds items of the processes of its putter alone, and those handed to it are a run of
 -- each process.
@@ -77,7 +77,7 @@ pub record HasMetGap (p : ℕ) (taken : ℕ → List Item) (outlet : Outlet) : T
   pub before : ℕ → List Item
   pub item : Item
   pub from : item.from ≡ p
-  pub is_last : (q : ℕ) → taken q ≡ before q ++ items_of q (item ∷ [])
+  pub latest : (q : ℕ) → taken q ≡ before q ++ items_of q (item ∷ [])
   pub out_of_place : ¬ IsNextAfter (before p) item
   pub faithful : IsFaithful before outlet
 
@@ -95,9 +95,9 @@ AreTakenNext taker items = ItemsMayFollow taker.members taker.taken items
 abbrev pub IsSameTaker : TakeEnd Bundle Item → TakeEnd Bundle Item → Type 0
 IsSameTaker old new = (new.lane ≡ old.lane) × (new.members ≡ old.members)
 
--- The items of each process of the set end with its close mark.
-abbrev pub AreClosed : Numbers → (ℕ → List Item) → Type 0
-AreClosed members taken = (p : ℕ) → set.contains members p ≡ true → EndsWithClose (taken p)
+-- The items of each process of the set end with a last one.
+abbrev pub AreEnded : Numbers → (ℕ → List Item) → Type 0
+AreEnded members taken = (p : ℕ) → set.contains members p ≡ true → EndsWithLast (taken p)
 
 -- A relay is at work.
 abbrev pub IsAtWork : Source → Outlet → Type 0
@@ -110,12 +110,12 @@ IsSameSource (Leaf old sleeper) (Leaf new same_sleeper) = AreSameFeeds old.items
 IsSameSource (Inner old) (Inner new) = IsSameTaker old new
 IsSameSource _ _ = ⊥
 
--- How a relay ended its taking: the close mark of each of its processes was taken, whether or not its outlet was cut
+-- How a relay ended its taking: a last note of each of its processes was taken, whether or not its outlet was cut
 -- before; or a leaf met a gap; or the lane of any other relay was cut as it took. All else that was taken was handed to
 -- the outlet, or a front of it once that is cut.
 abbrev pub HasEnded : Source → Outlet → Result (Unit {0}) TakeFault → Type 0
 HasEnded source outlet (Ok all) =
-    AreClosed outlet.putter.members (source_taken source) × IsFaithful (source_taken source) outlet
+    AreEnded outlet.putter.members (source_taken source) × IsFaithful (source_taken source) outlet
 HasEnded (Leaf feeds sleeper) outlet (Err (take_fault.Gap p)) = HasMetGap p (fed feeds.items) outlet
 HasEnded (Inner taker) outlet (Err (take_fault.Cut cut)) = IsFaithful (λ p. items_of p taker.taken) outlet
 HasEnded _ _ _ = ⊥

@@ -35,7 +35,7 @@ pub record AreRings (plan : Plan) (watch k : ℕ)
 -- A feed that has taken nothing has the end of its process's ring that was here to be given.
 pub record IsFeed (plan : Plan) (leaf : ℕ) (takers : List (Option TakeSide)) (k : ℕ) (feed : Feed) : Type 0 where
   pub first : feed.next ≡ 0
-  pub unclosed : feed.closed ≡ false
+  pub unended : feed.ended ≡ false
   pub taker : IsTakerAt takers feed.process feed.taker
   pub within : feed.process < k
   pub served : leaf_of plan feed.process ≡ Some leaf

@@ -70,7 +70,7 @@ impl Bundle {
     }
 
     /// Adds an item, or hands it back where it may not join: where there are 8 items, where it is of
-    /// another process or not in the next place, and behind a close mark.
+    /// another process or not in the next place, and behind a last note.
     pub fn add(&mut self, item: Item) -> Result<(), Item>
         ensures joins { IsOk result ↔ MayJoin self.old item }
         ensures ok { OnOk result (self.new ≡ self.old ++ item ∷ []) }
@@ -134,7 +134,7 @@ fn continues(before: &Item, item: &Item) -> bool
 }
 
 impl Origin for Bundle {
-    ghost use Rattle.wcp_clock.specs.Notes.{place_of, is_close};
+    ghost use Rattle.wcp_clock.specs.Notes.{place_of, is_last};
 
     type Item = Item;
 
@@ -144,7 +144,7 @@ impl Origin for Bundle {
 
     ghost place = { λ item. place_of item.note };
 
-    ghost last = { λ item. is_close item.note };
+    ghost last = { λ item. is_last item.note };
 
     fn origin(&self) -> u32 {
         let first = self.items[0];

@@ -4,7 +4,7 @@ ghost use Rattle.wcp_tree.specs.Feeding.{IsInOrder, IsNextOfProcess};
 ghost use Rattle.wcp_tree.specs.declared.take_fault.TakeFault.TheVariants as fault;
 
 use crate::take_fault::TakeFault;
-use wcp_clock::{Item, Note};
+use wcp_clock::Item;
 use wcp_ring::RingTaker;
 
 /// What a leaf relay takes from one process: the end of its ring, and how far it came.
@@ -14,8 +14,8 @@ pub struct Feed {
     pub process: u32,
     /// How many of its snapshots were taken, which is the place of its next note.
     pub next: u64,
-    /// Whether its close mark was taken.
-    pub closed: bool,
+    /// Whether a last note of it was taken.
+    pub ended: bool,
     pub taker: RingTaker,
 }
 
@@ -25,12 +25,12 @@ impl Feed {
         ensures process { result.process ≡ process }
         ensures taker { result.taker ≡ taker }
         ensures next { result.next ≡ 0 }
-        ensures closed { result.closed ≡ false }
+        ensures ended { result.ended ≡ false }
     {
         Feed {
             process,
             next: 0,
-            closed: false,
+            ended: false,
             taker,
         }
     }
@@ -53,14 +53,13 @@ impl Feed {
         let Some(note) = self.taker.try_take() else {
             return Ok(None);
         };
-        match note {
-            Note::Snap { number, .. } if !self.closed && u64::from(number) == self.next => {
-                self.next += 1;
-            }
-            Note::Close { count } if !self.closed && u64::from(count) == self.next => {
-                self.closed = true;
-            }
-            _ => return Err(TakeFault::Gap(self.process)),
+        if self.ended || u64::from(note.place()) != self.next {
+            return Err(TakeFault::Gap(self.process));
+        }
+        if note.is_last() {
+            self.ended = true;
+        } else {
+            self.next += 1;
         }
         Ok(Some(Item {
             from: self.process,

@@ -2,7 +2,7 @@ ghost use Rattle.std.specs.Prelude.{◌≡◌, ℕ, true, [], ◌++◌, ◌↔�
 ghost use Rattle.std.specs.FinSet as set;
 ghost use Rattle.wcp_lane.specs.ProcessNumbers.{AreProcessNumbers};
 ghost use Rattle.wcp_tree.specs.Feeding.{items_of};
-ghost use Rattle.wcp_tree.specs.RelayWork.{IsInnerAtWork, IsSameOutlet, IsSameTaker, AreTakenNext, AreClosed};
+ghost use Rattle.wcp_tree.specs.RelayWork.{IsInnerAtWork, IsSameOutlet, IsSameTaker, AreTakenNext, AreEnded};
 
 use crate::bundle::Bundle;
 use crate::outlet::Outlet;
@@ -11,7 +11,7 @@ use std::sync::Wait;
 use wcp_clock::MAX_PROCS;
 use wcp_lane::{Members, Origin, Taker};
 
-/// Passes on what the lane gives, until the close mark of each process of the putter was taken.
+/// Passes on what the lane gives, until a last note of each process of the putter was taken.
 pub(crate) fn run_inner<R: Wait>(
     rt: &R,
     taker: &mut Taker<Bundle>,
@@ -21,12 +21,12 @@ pub(crate) fn run_inner<R: Wait>(
     ensures same_taker { IsSameTaker taker.old taker.new }
     ensures same_outlet { IsSameOutlet outlet.old outlet.new }
     ensures work { IsInnerAtWork taker.new outlet.new }
-    ensures closed { OnOk result (AreClosed outlet.new.putter.members (λ p. items_of p taker.new.taken)) }
+    ensures ended { OnOk result (AreEnded outlet.new.putter.members (λ p. items_of p taker.new.taken)) }
     ensures empty { OnOk result (IfNone outlet.new.cut (outlet.new.hold.items ≡ [])) }
 {
     let below = outlet.putter.members();
-    let mut closed = Members::none();
-    let mut finished = are_among(&below, &closed);
+    let mut ended = Members::none();
+    let mut finished = are_among(&below, &ended);
     for _ in rt.forever() {
         if finished {
             break;
@@ -38,8 +38,8 @@ pub(crate) fn run_inner<R: Wait>(
         outlet.accept_all(rt, &bundle);
         let end = bundle.last_item();
         if end.last() {
-            closed = closed.with(end.from);
-            finished = are_among(&below, &closed);
+            ended = ended.with(end.from);
+            finished = are_among(&below, &ended);
         }
     }
     outlet.pass_on(rt);

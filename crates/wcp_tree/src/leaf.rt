@@ -10,7 +10,7 @@ use crate::take_fault::TakeFault;
 use std::sync::Wait;
 use wcp_ring::Sleeper;
 
-/// Passes on what the feeds take, until each has taken its close mark.
+/// Passes on what the feeds take, until each has taken a last note.
 pub(crate) fn run_leaf<R: Wait>(
     rt: &R,
     feeds: &mut [Feed],
@@ -21,13 +21,13 @@ pub(crate) fn run_leaf<R: Wait>(
     ensures same_feeds { AreSameFeeds feeds.old feeds.new }
     ensures same_outlet { IsSameOutlet outlet.old outlet.new }
     ensures work { OnOk result (IsLeafAtWork feeds.new outlet.new) }
-    ensures closed { OnOk result (All (λ feed. feed.closed ≡ true) feeds.new) }
+    ensures ended { OnOk result (All (λ feed. feed.ended ≡ true) feeds.new) }
     ensures empty { OnOk result (IfNone outlet.new.cut (outlet.new.hold.items ≡ [])) }
     ensures gap { IfErr result (λ met. (p : ℕ) × (met ≡ fault.Gap p) × HasMetGap p (fed feeds.new) outlet.new) }
 {
     for _ in rt.forever() {
         let any = take_round(rt, feeds, outlet)?;
-        if feeds.iter().all(|feed| feed.closed) {
+        if feeds.iter().all(|feed| feed.ended) {
             break;
         }
         if any {

@@ -7,11 +7,11 @@
 //! open; a probe always stands for some log, so the clocks of the snapshots that a closed one has put never fall in a
 //! component and rise in its own; `flush_waiting` and `close_waiting` try until the ring has room. `Relay::run`: for
 //! each process what it put is a front of what it took; where it met no fault the two are the same list, which ends
-//! with the close mark. The end of one that met a fault is of the same rings or lane, and holds none of them; its
+//! with a last note. The end of one that met a fault is of the same rings or lane, and holds none of them; its
 //! fault is the first that came: a cut as it put, before what ended its taking, a note that isn't the next one of its
-//! process or a cut as it took; where nothing ended its taking early, the close mark of each process below it was
+//! process or a cut as it took; where nothing ended its taking early, a last note of each process below it was
 //! taken, also behind a cut. `Bundle` is a list of 1 to 8 items of one process: `add` is refused exactly where there
-//! are 8, the process is another, the place isn't the next, or the last item is a close mark; each put of a relay is
+//! are 8, the process is another, the place isn't the next, or the last item is a last note; each put of a relay is
 //! the longest run at the front of what it holds. `watch` wires every checked plan: the ring of a process is the one
 //! of its leaf's feed for it, each relay puts on the lane that its parent takes from, for just the processes below it,
 //! the checker's inbox takes from the root's lane, each ring has the room of the plan, and everything is empty.

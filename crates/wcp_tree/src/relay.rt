@@ -30,7 +30,7 @@ pub struct Relay {
 }
 
 impl Relay {
-    ghost use Rattle.wcp_tree.specs.RelayWork.{AreClosed};
+    ghost use Rattle.wcp_tree.specs.RelayWork.{AreEnded};
     ghost use Rattle.wcp_tree.specs.RelayEnds.{AreReceiptsOf, IsFirstFault, relay_taken, relay_put};
     ghost use Rattle.wcp_tree.specs.RelayEnds.{fault_of, number_of, watch_of};
 
@@ -71,7 +71,7 @@ impl Relay {
         self.number
     }
 
-    /// Moves items from its rings, or from its lane, to its parent's lane, until the close mark of each
+    /// Moves items from its rings, or from its lane, to its parent's lane, until a last note of each
     /// process below it was passed on, or until a fault comes. A gap, or a cut as it takes, ends it at
     /// once. After a cut as it puts it goes on taking, so that nobody below waits for room. It is to pass
     /// on what it holds before it waits for more, which no clause says, and takes no memory.
@@ -81,7 +81,7 @@ impl Relay {
         ensures receipts { AreReceiptsOf self result }
         ensures front { (p : ℕ) → IsPrefix (relay_put result p) (relay_taken result p) }
         ensures whole { IfNone (fault_of result) ((p : ℕ) → relay_put result p ≡ relay_taken result p) }
-        ensures closed { IfNone (fault_of result) (AreClosed self.putter.members (relay_taken result)) }
+        ensures ended { IfNone (fault_of result) (AreEnded self.putter.members (relay_taken result)) }
         ensures fault { IsFirstFault result }
     {
         let Relay {

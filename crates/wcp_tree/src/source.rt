@@ -25,7 +25,7 @@ impl Source {
     ghost use Rattle.wcp_tree.specs.RelayWork.{IsAtWork, IsSameSource, IsSameOutlet, HasEnded};
     ghost use Rattle.wcp_tree.specs.RelayEnds.{IsEndOfSource};
 
-    /// Passes on what the relay takes, until the close mark of each of its processes was taken.
+    /// Passes on what the relay takes, until a last note of each of its processes was taken.
     pub(crate) fn run<R: Wait>(&mut self, rt: &R, outlet: &mut Outlet) -> Result<(), TakeFault>
         requires { IsAtWork self.old outlet.old }
         ensures same_source { IsSameSource self.old self.new }

@@ -1,6 +1,6 @@
 use crate::patience::CutTake;
 
-/// What ended a relay before the close mark of each of its processes was taken.
+/// What ended a relay before a last note of each of its processes was taken.
 #[derive(Clone, Copy, Debug, PartialEq, Eq)]
 pub(crate) enum TakeFault {
     /// A leaf took a note of this process that wasn't its next one.

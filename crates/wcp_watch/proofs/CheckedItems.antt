@@ -1,27 +1,28 @@
 -- What a lane gives is what its checker may take.
 use Rattle.wcp_watch.proofs.Words.{◌≡◌, ℕ, suc, ◌<◌, Bool, true, false, Option, Some, None, List, [], ◌∷◌, ◌++◌, ◌+◌, ◌↔◌, length, get_or, take, map, sym, refl, ap, ◌∙◌, subst, append_assoc, arith, All, Result, Ok, Err, OnOk, IfNone, result_err, list_any, take_more, true≢false, length-map, All-map, Item, Note, notes_taken, clocks_taken, snapshot_clocks, AreInTurn, IsNextNote, IsDrained, CheckerState, processes, closed_of, MayTake, StandsForItems, Numbers, ItemMayFollow, HasTakenClose, HasTakenLast, TakesItems, first_fault}
 use Rattle.std.specs.FinSet as set
-use Rattle.wcp_clock.specs.declared.note.Note.TheVariants.{Snap, Close}
-use Rattle.wcp_clock.specs.Notes.{is_close, place_of}
+use Rattle.wcp_clock.specs.declared.note.Note.TheVariants.{Snap, Close, Lost}
+use Rattle.wcp_clock.specs.Notes.{is_close, is_last, place_of}
 use Rattle.wcp_model.proofs.NotesInTurn.{nothing_follows}
 use Rattle.wcp_lane.specs.declared.fault.Cut.{Cut}
 use Rattle.wcp_model.specs.LaneRule.{items_from}
-use Rattle.wcp_queue.proofs.NotesTaken.{MayTake-next, close_mark_in, close_taken-push_close, clocks_taken-push_close}
+use Rattle.wcp_queue.proofs.NotesTaken.{MayTake-next, close_mark_in, clocks_taken-push_last, taken_kind-own}
 use Rattle.wcp_tree.proofs.Bundling.{same_last}
 
 -- where no close mark is among these notes, they are all snapshots
-open_notes : (notes : List Note) → All (λ note. is_close note ≡ false) notes → (length (snapshot_clocks notes) ≡ length notes) × (list_any is_close notes ≡ false)
+open_notes : (notes : List Note) → All (λ note. is_last note ≡ false) notes → (length (snapshot_clocks notes) ≡ length notes) × (list_any is_last notes ≡ false)
 open_notes [] all = (refl, refl)
 open_notes (Snap number clock ∷ notes) all =
     let rest = open_notes notes (λ k d below. all (suc k) d (omega arith)) in
     (omega (arith, rest.0), rest.1)
 open_notes (Close count ∷ notes) all = absurd (true≢false (all 0 (Close count) (omega arith)))
+open_notes (Lost count ∷ notes) all = absurd (true≢false (all 0 (Lost count) (omega arith)))
 
 -- what the lane gives next is what the checker may take
 pub may_take : (taken : List Item) (numbers : Numbers) (checker : CheckerState) (item : Item) → ((p : ℕ) → (set.contains numbers p ≡ true) ↔ (p < processes checker)) → StandsForItems checker taken → ItemMayFollow numbers taken item → MayTake checker item
 may_take taken numbers checker item members stands next =
     let before = items_from (λ (i : Item). i.from) item.from taken in
-    let all_open = open_notes (map (λ (i : Item). i.note) before) (All-map (λ note. is_close note ≡ false) (λ (i : Item). i.note) before next.next.unended) in
+    let all_open = open_notes (map (λ (i : Item). i.note) before) (All-map (λ note. is_last note ≡ false) (λ (i : Item). i.note) before next.next.unended) in
     let is : IsNextNote (map (λ (i : Item). i.note) before) item.note =
     record { place = next.next.numbered ∙ sym (length-map before (λ (i : Item). i.note)) ∙ sym all_open.0; still_open = all_open.1 } in
     MayTake-next checker taken item stands ((members item.from).0 next.owned) is
@@ -30,11 +31,12 @@ may_take taken numbers checker item members stands next =
 pub close_taken : (checker : CheckerState) (items : List Item) (p : ℕ) (note : Note) → StandsForItems checker (items ++ record { from = p; note = note } ∷ []) → p < processes checker
     → place_of note ≡ length (clocks_taken p items) → is_close note ≡ true → HasTakenClose checker p (place_of note)
 close_taken checker items p (Snap number clock) stands within place closed = absurd (true≢false (sym closed))
+close_taken checker items p (Lost count) stands within place closed = absurd (true≢false (sym closed))
 close_taken checker items p (Close count) stands within place closed =
     record {
       within = within;
-      closed = stands.closed p within ∙ close_taken-push_close items p count;
-      counted = stands.taken p within ∙ ap length (clocks_taken-push_close items p count p) ∙ sym place;
+      closed = stands.closed p within ∙ taken_kind-own is_close items p (Close count) refl;
+      counted = stands.taken p within ∙ ap length (clocks_taken-push_last items p p (Close count) refl) ∙ sym place;
     }
 
 -- where each close mark was taken, all is drained

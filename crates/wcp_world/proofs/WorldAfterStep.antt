@@ -2,6 +2,7 @@ use Rattle.wcp_world.proofs.Words.{first_reason, ◌≡◌, ℕ, ◌+◌, ◌<�
 use Rattle.wcp_clock.specs.declared.note.Note.TheVariants as note
 use Rattle.wcp_model.specs.declared.step.Step.TheVariants as step
 use Rattle.wcp_model.specs.declared.step.Why.TheVariants as why
+use Rattle.wcp_queue.proofs.NotesTaken.{MayTake-next}
 use Rattle.wcp_world.proofs.Entries.{held_after, stays as still, get_grows, bit, notes_append, count_push, entry_grows}
 use Rattle.wcp_world.proofs.Probes.{put_and_pending}
 
@@ -151,7 +152,7 @@ module _ (plan : Plan) (steps : List Step) (taken : List Item) (w : WorldState) 
       let within : item.from < processes w.checker = omega (arith, next.process, stands.processes_are) in
       let turn = next_of_emissions plan.n (computation steps) item.from (notes_taken item.from taken) (next.rest ++ option_to_list (pending_at w.processes item.from)) item.note
       (subst (AreEmissions plan.n (computation steps) item.from) (next_emissions item next) (are_emissions item.from next.process)) in
-      record { from = within; place = turn.place ∙ sym (stands.checker.taken item.from within); still_open = stands.checker.closed item.from within ∙ turn.still_open }
+      MayTake-next w.checker taken item stands.checker within turn
 
   pub check_answered : (item : Item) (transport : TransportState) (checker : CheckerState) → IsNextAtRoot plan steps stands.put taken item → next_of w.transport ≡ Some item →
       TakesNext w.transport transport → TakesItem w.checker checker item → processes checker ≡ processes w.checker →

@@ -1,20 +1,18 @@
 -- What the ends of a watch of processes tell.
-use Rattle.std.proofs.Common.{◌≡◌, ◌<◌, ℕ, Some, List, [], ◌∷◌, ◌++◌, length, map, slice_get, get_or, All, refl, sym, ap, subst, ◌∙◌, arith}
+use Rattle.std.proofs.Common.{◌≡◌, ◌<◌, ℕ, Some, List, [], ◌∷◌, ◌++◌, length, map, slice_get, get_or, All, sym, ap, subst, ◌∙◌, arith}
 use Rattle.std.specs.List.{sum_by}
 use Rattle.std.proofs.lemmas.List.{length-map}
 use Rattle.std.proofs.lemmas.Option.{slice_get-get_or, slice_get_within}
 use Rattle.wcp_book.specs.Totals.{AreTotals}
-use Rattle.wcp_clock.specs.declared.note.Note.{Note}
 use Rattle.wcp_model.proofs.SamePlace.{element_within}
 use Rattle.wcp_model.specs.PlanFault.{IsCheckedPlan}
-use Rattle.wcp_model.specs.declared.probe_setup.ProbeSetup.{ProbeSetup}
-use Rattle.wcp_model.specs.ProbeLog.{Call, Closed, setup, state_of_log}
+use Rattle.wcp_model.specs.ProbeLog.{Closed, setup, state_of_log}
 use Rattle.wcp_model.specs.Report.{IsDrained, IsReportByClocks, notes_taken}
 use Rattle.wcp_model.specs.declared.outcome.Tally.{Tally}
 use Rattle.wcp_book.specs.State.{BookState}
 use Rattle.wcp_model.specs.declared.plan.Plan.{Plan}
-use Rattle.wcp_probe.specs.Core.{Core, setup_of}
-use Rattle.wcp_tree.specs.LiveProbe.{ClosedSide, LiveFor, LiveSide, snapshots_in}
+use Rattle.wcp_probe.specs.Core.{Core}
+use Rattle.wcp_tree.specs.LiveProbe.{ClosedSide, LiveSide, snapshots_in}
 use Rattle.wcp_tree.proofs.Entries.{All-at, mapped_at}
 use Rattle.wcp_watch.proofs.WatchEnds.{IsEndOfProcess, all_processes, come_from_parts, end_of_process}
 use Rattle.wcp_watch.specs.RunParts.{HaveEnded}

@@ -1,3 +1,5 @@
 mod Ends
 pub mod LentProbes
+mod OwnWatches
 mod Ready
+pub mod SentEnds

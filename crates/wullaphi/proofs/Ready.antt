@@ -1,6 +1,5 @@
 -- The seats of a watch may run: their probes are fresh.
-use Rattle.std.proofs.Common.{ℕ, Some, List, [], ◌≡◌, ◌∙◌, length, map, get_or, slice_get, All, sym, ap, arith}
-use Rattle.std.proofs.lemmas.List.{length-map}
+use Rattle.std.proofs.Common.{ℕ, Some, List, ◌≡◌, ◌∙◌, get_or, slice_get, sym, ap}
 use Rattle.std.proofs.lemmas.Option.{slice_get-get_or}
 use Rattle.wcp_model.specs.declared.plan.Plan.{Plan}
 use Rattle.wcp_probe.specs.Core.{Core}

@@ -1,4 +1,6 @@
 pub mod Lent
+pub mod Opened
+pub mod OwnEnds
 pub mod Refused
 pub mod Seats
 pub mod Watched

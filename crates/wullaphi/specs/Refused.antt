@@ -16,3 +16,11 @@ IsOfRun fault.Count = ⊥
 IsOfRun fault.Memory = Unit {0}
 IsOfRun fault.Spawn = Unit {0}
 IsOfRun (fault.Settle refused) = Unit {0}
+
+-- A watch isn't opened for a fault of its plan, or for want of memory.
+abbrev pub IsOfOpening : WatchFault → Type 0
+IsOfOpening (fault.Plan first) = Unit {0}
+IsOfOpening fault.Count = ⊥
+IsOfOpening fault.Memory = Unit {0}
+IsOfOpening fault.Spawn = ⊥
+IsOfOpening (fault.Settle refused) = ⊥

@@ -10,10 +10,19 @@
 //! call: the call of a live probe, where nothing is ever pending. A lent probe can't be dropped or closed by who has
 //! it. Where an impl of `Process` says how its probe stands as it answers, the answer says it too. What its threads did
 //! beside their probes no clause says, nor what `wait_for_cut` is told: tests show that, and that the book has ended.
+//!
+//! `Watch::open` is for who runs the threads: a plan's fault is answered exactly where it applies, and `parts` hands
+//! out just the probes and relays of the tree that was opened. The types of the parts, and of what each leaves as it
+//! has run, keep that they are of that watch. So `WatchEnds::settle` has no premise: an answer is the exact report of
+//! what the probes emitted whose ends were added, and a refusal is the first reason that applies, where an end of the
+//! checker that wasn't added counts as missing. That the parts run, and in which threads, is left to the caller.
 #![tactic(auto)]
 
 mod lending;
 mod lent_probe;
+mod opening;
+mod own_ends;
+mod own_parts;
 mod process;
 mod seat;
 mod waiting;
@@ -22,6 +31,9 @@ mod watched;
 mod watching;
 
 pub use lent_probe::{LentProbe, Loan};
+pub use opening::{Opening, Watch, WatchParts};
+pub use own_ends::{WatchCheckerEnd, WatchEnds, WatchProbeEnd, WatchRelayEnd};
+pub use own_parts::{WatchChecker, WatchProbe, WatchRelay};
 pub use process::Process;
 pub use waiting::wait_for_cut;
 pub use watch_fault::WatchFault;

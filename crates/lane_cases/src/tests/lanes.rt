@@ -1,6 +1,6 @@
 //! Lanes of snapshots, for the tests.
 ghost use Rattle.std.specs.Prelude.{◌≡◌, ◌+◌, true, false, map, IfOk, OnOk};
-ghost use Rattle.wcp_clock.specs.Notes.{place_of, is_close};
+ghost use Rattle.wcp_clock.specs.Notes.{place_of, is_last};
 ghost use Rattle.wcp_lane.specs.Ends.{new_putter};
 ghost use Rattle.wcp_lane.specs.Snapshots.{HasPut};
 
@@ -13,7 +13,7 @@ use wcp_lane::{Cut, LaneFault, Members, Putter, Taker, lane};
 pub fn snap(from: u32, number: u32) -> Item
     ensures from { result.from ≡ from }
     ensures place { place_of result.note ≡ number }
-    ensures unended { is_close result.note ≡ false }
+    ensures unended { is_last result.note ≡ false }
 {
     Item {
         from,

@@ -24,10 +24,8 @@ fn takes(rt: &impl Abort, checker: &mut Checker, item: &Item) -> bool {
     let item = *item;
     assert!(rt; item.from < checker.processes());
     assert!(rt; !checker.closed(item.from));
-    let place = match item.note {
-        Note::Snap { number, .. } => number,
-        Note::Close { count } => count,
-    };
+    assert!(rt; !checker.lost(item.from));
+    let place = item.note.place();
     assert_eq!(rt; u64::from(place), checker.taken(item.from));
     match checker.take(item) {
         Ok(()) => true,
@@ -181,6 +179,15 @@ fn takes_close(rt: &impl Abort, checker: &mut Checker, from: u32) -> bool {
     takes(rt, checker, &item)
 }
 
+/// Asks the checker once to take the mark that a process was lost after one snapshot.
+fn takes_lost(rt: &impl Abort, checker: &mut Checker, from: u32) -> bool {
+    let item = Item {
+        from,
+        note: Note::Lost { count: 1 },
+    };
+    takes(rt, checker, &item)
+}
+
 /// Asks for the first snapshot of a process of two, before any event.
 fn takes_first(rt: &impl Abort, checker: &mut Checker, from: u32) -> bool {
     let item = Item {
@@ -226,5 +233,36 @@ fn a_starved_checker_keeps_the_cut_that_it_found(rt: HostRuntime) -> Result<(), 
     assert_eq!(rt; checker.report(), found);
     assert!(rt; takes_close(&rt, &mut checker, 0));
     assert_eq!(rt; checker.report(), found);
+    Ok(())
+}
+
+/// A checker without a cut that took the mark of a lost process is undecided, also where all others are closed.
+#[test]
+fn a_checker_of_a_lost_process_stays_undecided(rt: HostRuntime) -> Result<(), Fail> {
+    let mut checker = checker_of_two(rt.alloc())?;
+    assert!(rt; takes_first(&rt, &mut checker, 0) || takes_first(&rt, &mut checker, 0));
+    assert!(rt; takes_lost(&rt, &mut checker, 0));
+    assert_eq!(rt; checker.processes(), 2);
+    assert!(rt; checker.lost(0));
+    assert!(rt; !checker.closed(0));
+    let close = Item {
+        from: 1,
+        note: Note::Close { count: 0 },
+    };
+    assert!(rt; takes(&rt, &mut checker, &close));
+    assert_eq!(rt; checker.report(), Report::Undecided);
+    assert_eq!(rt; checker.processes(), 2);
+    assert_eq!(rt; (checker.taken(0), checker.taken(1)), (1, 0));
+    Ok(())
+}
+
+/// It goes on searching: a snapshot of another process completes the cut.
+#[test]
+fn a_checker_of_a_lost_process_finds_a_cut(rt: HostRuntime) -> Result<(), Fail> {
+    let mut checker = checker_of_two(rt.alloc())?;
+    assert!(rt; takes_first(&rt, &mut checker, 0) || takes_first(&rt, &mut checker, 0));
+    assert!(rt; takes_lost(&rt, &mut checker, 0));
+    assert!(rt; takes_first(&rt, &mut checker, 1) || takes_first(&rt, &mut checker, 1));
+    assert_eq!(rt; checker.report(), Report::Found(GlobalCut::new(&[0, 0])));
     Ok(())
 }

@@ -146,6 +146,11 @@ fn lines_of_items_that_were_taken(rt: HostRuntime) -> Result<(), Fail> {
         note: Note::Close { count: 2 },
     });
     assert_line(&rt, rt.alloc(), &close, b"took 0 close 2\n")?;
+    let lost = Reply::Took(Item {
+        from: 0,
+        note: Note::Lost { count: 1 },
+    });
+    assert_line(&rt, rt.alloc(), &lost, b"took 0 lost 1\n")?;
     Ok(())
 }
 

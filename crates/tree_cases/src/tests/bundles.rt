@@ -1,5 +1,5 @@
 ghost use Rattle.std.specs.Prelude.{◌≡◌, ◌+◌, false, true, [], ◌∷◌, IfOk, IsTrue};
-ghost use Rattle.wcp_clock.specs.Notes.{place_of, is_close};
+ghost use Rattle.wcp_clock.specs.Notes.{place_of, is_last};
 ghost use Rattle.wcp_tree.specs.Bundles.{Continues};
 ghost use Rattle.tree_cases.specs.BundleLanes.{HasPut};
 
@@ -25,7 +25,7 @@ fn close_mark(count: u32) -> Item
 fn snap(from: u32, number: u32) -> Item
     ensures from { result.from ≡ from }
     ensures place { place_of result.note ≡ number }
-    ensures unended { is_close result.note ≡ false }
+    ensures unended { is_last result.note ≡ false }
 {
     let clock = Clock::new(2);
     Item {
@@ -45,6 +45,25 @@ fn who_may_join_a_bundle(rt: HostRuntime) -> Result<(), Fail> {
     assert_eq!(rt; bundle.len(), 3);
     assert_eq!(rt; bundle.get(2), Some(close_mark(5)));
     assert_eq!(rt; bundle.get(3), None);
+    Ok(())
+}
+
+/// The mark that process 0 was lost after so many snapshots.
+fn lost_mark(count: u32) -> Item {
+    Item {
+        from: 0,
+        note: Note::Lost { count },
+    }
+}
+
+#[test]
+fn nothing_joins_a_bundle_behind_the_mark_of_a_lost_process(rt: HostRuntime) -> Result<(), Fail> {
+    let mut bundle = Bundle::one(snap(0, 3));
+    assert_eq!(rt; bundle.add(lost_mark(3)).err(), Some(lost_mark(3)));
+    assert!(rt; bundle.add(lost_mark(4)).is_ok());
+    assert_eq!(rt; bundle.add(close_mark(5)).err(), Some(close_mark(5)));
+    assert_eq!(rt; bundle.add(snap(0, 5)).err(), Some(snap(0, 5)));
+    assert_eq!(rt; bundle.len(), 2);
     Ok(())
 }
 
@@ -89,7 +108,7 @@ fn put_pair<R: Wait>(rt: &R, putter: &mut Putter<Bundle>, number: u32, second: I
     requires from { second.from ≡ 0 }
     requires place { place_of second.note ≡ number + 1 }
     ensures lane { putter.new.lane ≡ putter.old.lane }
-    ensures put { IsTrue result → is_close second.note ≡ false → HasPut (number + 2) putter.new }
+    ensures put { IsTrue result → is_last second.note ≡ false → HasPut (number + 2) putter.new }
 {
     match putter.put(rt, pair(snap(0, number), second)) {
         Ok(()) => true,

@@ -1,4 +1,4 @@
-use Rattle.wcp_order.proofs.Words.{length, false, arith, ◌∙◌, length-set, Observe, Task}
+use Rattle.wcp_order.proofs.Words.{false, ◌∙◌, length-set, Observe, Task}
 use Rattle.wcp_order.proofs.Histories.{one_more_listed}
 use Rattle.wcp_order.proofs.order.histories.Goals as goal
 

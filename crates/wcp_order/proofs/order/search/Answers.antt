@@ -1,4 +1,4 @@
-use Rattle.wcp_order.proofs.Words.{◌≡◌, ◌<◌, ℕ, List, filter, arith, is_task_of, HasGrown, IsSoundProgress, history_at}
+use Rattle.wcp_order.proofs.Words.{filter, arith, is_task_of, HasGrown, IsSoundProgress, history_at}
 use Rattle.wcp_order.proofs.Advancing.{IsProgress_none}
 use Rattle.wcp_order.proofs.Concluding.{IsProgress_same, length_order-le}
 use Rattle.wcp_order.proofs.Histories.{IsHistory_filter}

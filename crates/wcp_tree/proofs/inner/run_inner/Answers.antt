@@ -1,4 +1,4 @@
-use Rattle.wcp_tree.proofs.Words.{◌≡◌, sym, refl, ap, ◌∙◌, subst, Item, TakeEnd, Numbers, Bundle, items_of, AreClosed}
+use Rattle.wcp_tree.proofs.Words.{◌≡◌, sym, refl, ap, ◌∙◌, subst, Item, TakeEnd, Numbers, Bundle, items_of, AreEnded}
 use Rattle.std.specs.FinSet as set
 use Rattle.wcp_tree.proofs.Passing.{if_none}
 use Rattle.wcp_tree.proofs.LeafWork.{if_some}
@@ -16,7 +16,7 @@ loop-init g c =
       outlet = (refl, refl);
       below = c.members-below.ensures;
       within = c.are_among-finished.ensures.within;
-      ended = none_ended (λ p. items_of p c.args.taker.now.taken) c.none-closed.result c.none-closed.ensures;
+      ended = none_ended (λ p. items_of p c.args.taker.now.taken) c.none-ended.result c.none-ended.ensures;
       finished = c.are_among-finished.ensures.among.0;
     }
 
@@ -35,7 +35,7 @@ loop-preserved-in_default g c =
       outlet = (same.0 ∙ old.outlet.0, same.1 ∙ old.outlet.1);
       below = old.below ∙ sym same.1;
       within = old.within;
-      ended = subst (λ (e : TakeEnd Bundle Item). AreClosed c.loop.closed (λ p. items_of p e.taken)) (sym is) old.ended;
+      ended = subst (λ (e : TakeEnd Bundle Item). AreEnded c.loop.ended (λ p. items_of p e.taken)) (sym is) old.ended;
       finished = old.finished;
     }
 
@@ -51,7 +51,7 @@ loop-preserved-then-last g c =
     let kept = c.in_ok-bundle.ensures.same in
     let items = c.in-Some-2.bundle in
     let got = if_some _ _ _ c.in-Some-2.is c.in_ok-bundle.ensures.some in
-    let more = ended_more c.loop.closed c.loop.taker c.next_bundle.new.taker items c.last_item-end.ensures.0 c.last_item-end.result old.ended got.0 got.1 c.last_item-end.ensures.1 (sym c.last.ensures ∙ c.if-last.true) in
+    let more = ended_more c.loop.ended c.loop.taker c.next_bundle.new.taker items c.last_item-end.ensures.0 c.last_item-end.result old.ended got.0 got.1 c.last_item-end.ensures.1 (sym c.last.ensures ∙ c.if-last.true) in
     record {
       goes_on = tt;
       ends = tt;
@@ -61,7 +61,7 @@ loop-preserved-then-last g c =
       outlet = (same.0 ∙ old.outlet.0, same.1 ∙ old.outlet.1);
       below = old.below ∙ sym same.1;
       within = old.within;
-      ended = subst (λ (s : Numbers). AreClosed s (λ p. items_of p c.next_bundle.new.taker.taken)) (sym c.with-closed.ensures) more;
+      ended = subst (λ (s : Numbers). AreEnded s (λ p. items_of p c.next_bundle.new.taker.taken)) (sym c.with-ended.ensures) more;
       finished = c.are_among-finished-then-last.ensures.among.0;
     }
 
@@ -81,7 +81,7 @@ loop-preserved g c =
       outlet = (same.0 ∙ old.outlet.0, same.1 ∙ old.outlet.1);
       below = old.below ∙ sym same.1;
       within = old.within;
-      ended = ended_kept c.loop.closed c.loop.taker c.next_bundle.new.taker items old.ended got.0 got.1;
+      ended = ended_kept c.loop.ended c.loop.taker c.next_bundle.new.taker items old.ended got.0 got.1;
       finished = old.finished;
     }
 
@@ -91,8 +91,8 @@ returns-clause-work g c =
     c.pass_on-2.ensures.same c.pass_on-2.ensures.sound c.pass_on-2.ensures.handed
     (λ none. (if_none _ _ none c.pass_on-2.ensures.empty).0)
 
-pub with-closed-requires : goal.with-closed-requires
-with-closed-requires g c =
+pub with-ended-requires : goal.with-ended-requires
+with-ended-requires g c =
     let old = c.loop.invariant in
     let end = c.last_item-end in
     let got = if_some _ _ _ c.in-Some-2.is c.in_ok-bundle.ensures.some in

@@ -1,4 +1,4 @@
-use Rattle.wcp_tree.proofs.Words.{◌≡◌, ℕ, true, AreProcessNumbers, items_of, IsInnerAtWork, IsSameOutlet, IsSameTaker, AreClosed}
+use Rattle.wcp_tree.proofs.Words.{◌≡◌, ℕ, true, AreProcessNumbers, items_of, IsInnerAtWork, IsSameOutlet, IsSameTaker, AreEnded}
 use Rattle.std.specs.FinSet as set
 use Rattle.wcp_tree.proofs.inner.run_inner.Given as goal
 
@@ -12,6 +12,6 @@ invariant-loop g l =
       outlet : IsSameOutlet l.initial.outlet l.outlet;
       below : l.below ≡ l.outlet.putter.members;
       within : AreProcessNumbers l.below;
-      ended : AreClosed l.closed (λ p. items_of p l.taker.taken);
-      finished : l.finished ≡ true → (p : ℕ) → set.contains l.below p ≡ true → set.contains l.closed p ≡ true;
+      ended : AreEnded l.ended (λ p. items_of p l.taker.taken);
+      finished : l.finished ≡ true → (p : ℕ) → set.contains l.below p ≡ true → set.contains l.ended p ≡ true;
     }

@@ -1,4 +1,4 @@
-use Rattle.std.proofs.Common.{refl, sym, ap, ◌∙◌, length}
+use Rattle.std.proofs.Common.{refl, sym, ◌∙◌}
 use Rattle.wcp_model.proofs.CheckedPlans.{few_processes, some_process}
 use Rattle.wullaphi.proofs.Ready.{all_ready}
 use Rattle.wullaphi.proofs.watching.open_parts.Goals as goal

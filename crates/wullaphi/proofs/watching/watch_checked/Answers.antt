@@ -1,5 +1,4 @@
-use Rattle.std.proofs.Common.{◌≡◌, Err, Result, ap}
-use Rattle.wcp_model.specs.declared.plan.PlanFault.{PlanFault}
+use Rattle.std.proofs.Common.{◌≡◌, Err, ap}
 use Rattle.wullaphi.specs.declared.watch_fault.WatchFault.TheVariants as fault
 use Rattle.wullaphi.proofs.watching.watch_checked.Goals as goal
 

@@ -1,4 +1,4 @@
-use Rattle.wcp_order.proofs.Words.{◌≡◌, ◌+◌, length, slice_index, Some, slice_get, inl, arith, ap, ◌∙◌, sym, rules, length_push, IsSoundProgress, history_at}
+use Rattle.wcp_order.proofs.Words.{◌≡◌, ◌+◌, length, slice_index, Some, slice_get, arith, ap, ◌∙◌, sym, length_push, history_at}
 use Rattle.wcp_order.proofs.Advancing.{IsProgress_next}
 use Rattle.wcp_order.proofs.Histories.{history_read}
 use Rattle.wcp_order.proofs.order.Progress.run.Goals as goal

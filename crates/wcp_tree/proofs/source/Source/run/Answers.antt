@@ -7,7 +7,7 @@ pub returns-in-Leaf-clause-ended : goal.returns-in-Leaf-clause-ended
 returns-in-Leaf-clause-ended g c =
     let items = with_items_is c.in-Leaf.feeds c.run_leaf.new.feeds (c.run_leaf.auto.feeds ∙ c.deref_mut.ensures.len) in
     leaf_ended c.run_leaf.result (Leaf (with_items c.in-Leaf.feeds c.run_leaf.new.feeds) c.run_leaf.new.sleeper) c.run_leaf.new.feeds c.run_leaf.new.outlet (sym items)
-    c.run_leaf.ensures.work c.run_leaf.ensures.closed c.run_leaf.ensures.gap
+    c.run_leaf.ensures.work c.run_leaf.ensures.ended c.run_leaf.ensures.gap
 
 pub returns-in-Ok-clause-whole : goal.returns-in-Ok-clause-whole
 returns-in-Ok-clause-whole g c =

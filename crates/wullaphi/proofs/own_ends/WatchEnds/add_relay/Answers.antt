@@ -1,0 +1,5 @@
+use Rattle.wullaphi.proofs.OwnWatches.{more_relays}
+use Rattle.wullaphi.proofs.own_ends.WatchEnds.add_relay.Goals as goal
+
+pub invariant_of-self-2 : goal.invariant_of-self-2
+invariant_of-self-2 g c = more_relays c.self.invariant c.end.invariant c.in_ok-push.ensures.items

@@ -1,0 +1,5 @@
+use Rattle.wullaphi.proofs.OwnWatches.{probe_end}
+use Rattle.wullaphi.proofs.own_parts.WatchProbe.run.Goals as goal
+
+pub new-requires : goal.new-requires
+new-requires g c = probe_end c.lend_and_close-answer.ensures.closed c.self.invariant

@@ -1,0 +1,166 @@
+//! A watch whose threads are yours to run: it is opened, and its parts are handed out.
+ghost use Rattle.std.specs.Prelude.{◌≡◌, ◌↔◌, false, map, replicate, All, Err, IfErr, IfOk, None, Some};
+ghost use Rattle.wcp_model.specs.PlanFault.{IsCheckedPlan, IsFirstFault};
+ghost use Rattle.wcp_model.specs.declared.plan.PlanFault.{PlanFault};
+ghost use Rattle.wullaphi.specs.Opened.{HasOpened, IsProbeOf, IsRelayOf, no_ends};
+ghost use Rattle.wullaphi.specs.Refused.{IsOfOpening};
+
+use crate::own_ends::WatchEnds;
+use crate::own_parts::{WatchChecker, WatchProbe, WatchRelay};
+use crate::watch_fault::WatchFault;
+use std::alloc::{AllocError, Global};
+use std::marker::{Brand, Model};
+use std::snapshot::Snapshot;
+use wcp_book::Book;
+use wcp_model::Plan;
+use wcp_queue::Checker;
+use wcp_tree::{LiveProbe, Relay, Watch as Tree, watch};
+
+/// Which watch is opened: a name for proofs, which a program hands on and never chooses.
+pub trait Opening {
+    ghost use Rattle.std.specs.Prelude.{Option};
+    ghost use Rattle.wullaphi.specs.Opened.{OpenedWatch};
+
+    ghost opened: { Option OpenedWatch };
+}
+
+impl Opening for Brand {
+    ghost use Rattle.std.specs.Prelude.{None};
+
+    ghost opened = { None };
+}
+
+/// A watch that is opened and has not run, for who runs its threads in another way than `watch_processes`.
+///
+/// A contract sees it as its plan and the tree of links that was opened for it.
+#[derive(Drop)]
+pub struct Watch {
+    plan: Snapshot<Plan>,
+    processes: u32,
+    tree: Tree,
+    checker: Checker,
+}
+
+impl Model for Watch {
+    ghost use Rattle.std.specs.Coded.{codes};
+    ghost use Rattle.wcp_tree.specs.contracts.parts.Watch as of_tree;
+    ghost use Rattle.wullaphi.specs.Opened.{IsFreshWatch, OpenedWatch};
+
+    ghost Value = { OpenedWatch };
+
+    ghost coded = { Prim.hlevel (codes, of_tree.the_row.coded) };
+
+    ghost view = { λ w. record { plan = w.plan.value; tree = w.tree } };
+
+    ghost invariant = { λ w. IsFreshWatch (record { plan = w.plan.value; tree = w.tree }) w.processes w.checker };
+}
+
+/// The parts of a watch, each for a thread of its own, and where their ends are gathered.
+#[derive(Drop)]
+pub struct WatchParts<W: Opening> {
+    /// The probes, by the numbers of their processes.
+    pub probes: Vec<WatchProbe<W>>,
+    pub relays: Vec<WatchRelay<W>>,
+    pub checker: WatchChecker<W>,
+    /// No ends yet.
+    pub ends: WatchEnds<W>,
+}
+
+impl Watch {
+    /// Opens a watch of this plan. The number of the watch tells it from others: a stamp of another one is refused. All
+    /// memory of its links is taken here. `Err` tells the first fault of the plan, or that memory ran out.
+    pub fn open(alloc: Global, plan: &Plan, number: u64) -> Result<Watch, WatchFault>
+        ensures plan { IfOk result (λ watch. watch.plan ≡ plan.now) }
+        ensures number { IfOk result (λ watch. watch.tree.inbox.watch ≡ number) }
+        ensures first { (first : PlanFault) → (result ≡ Err (WatchFault.Plan first)) ↔ IsFirstFault plan.now first }
+        ensures fault { IfErr result IsOfOpening }
+    {
+        if let Err(fault) = plan.check() {
+            return Err(WatchFault::Plan(fault));
+        }
+        open_checked(alloc, plan, number)
+    }
+
+    /// A book for this watch, in which nothing is posted or told.
+    pub fn book(&self) -> Book
+        ensures { result ≡ record { shares = replicate self.now.plan.n None; found = None; ended = false } }
+    {
+        Book::new(self.processes)
+    }
+
+    /// Takes it apart. `Err` where memory runs out.
+    pub fn parts<W: Opening>(self, alloc: Global) -> Result<WatchParts<W>, AllocError>
+        requires { W.opened ≡ Some self }
+        ensures probes { IfOk result (λ parts. parts.probes.items ≡ self.tree.probes.items) }
+        ensures relays { IfOk result (λ parts.
+            parts.relays.items ≡ map (λ relay. relay.number) self.tree.relays.items) }
+        ensures checker { IfOk result (λ parts. parts.checker ≡ self.tree.inbox.watch) }
+        ensures ends { IfOk result (λ parts. parts.ends ≡ no_ends) }
+    {
+        let Watch {
+            plan: _,
+            processes: _,
+            tree,
+            checker,
+        } = self;
+        let Tree {
+            probes,
+            relays,
+            inbox,
+        } = tree;
+        let ends = WatchEnds::new(alloc, probes.len(), relays.len())?;
+        Ok(WatchParts {
+            probes: name_probes(alloc, probes)?,
+            relays: name_relays(alloc, relays)?,
+            checker: WatchChecker::new(inbox, checker),
+            ends,
+        })
+    }
+}
+
+/// Opens a watch of a plan that has no fault. `Err` where memory runs out.
+fn open_checked(alloc: Global, plan: &Plan, number: u64) -> Result<Watch, WatchFault>
+    requires { IsCheckedPlan plan.now }
+    ensures plan { IfOk result (λ watch. watch.plan ≡ plan.now) }
+    ensures number { IfOk result (λ watch. watch.tree.inbox.watch ≡ number) }
+    ensures fault { IfErr result (λ fault. fault ≡ WatchFault.Memory) }
+{
+    let tree = watch(alloc, plan, number)?;
+    let checker = Checker::new(alloc, plan.n)?;
+    Ok(Watch {
+        plan: Snapshot::of(plan),
+        processes: plan.n,
+        tree,
+        checker,
+    })
+}
+
+/// The probes of an opened watch, which say so. `Err` where memory runs out.
+fn name_probes<W: Opening>(
+    alloc: Global,
+    probes: Vec<LiveProbe>,
+) -> Result<Vec<WatchProbe<W>>, AllocError>
+    requires { All (λ probe. HasOpened (IsProbeOf probe) W.opened) probes.items }
+    ensures { IfOk result (λ named. named.items ≡ probes.items) }
+{
+    let mut named = Vec::with_capacity(alloc, probes.len())?;
+    for probe in probes {
+        named.push(WatchProbe::new(probe))?;
+    }
+    Ok(named)
+}
+
+/// The relays of an opened watch, which say so. `Err` where memory runs out.
+fn name_relays<W: Opening>(
+    alloc: Global,
+    relays: Vec<Relay>,
+) -> Result<Vec<WatchRelay<W>>, AllocError>
+    requires { All (λ relay. HasOpened (IsRelayOf relay) W.opened) relays.items }
+    ensures { IfOk result (λ named. named.items ≡ map (λ relay. relay.number) relays.items) }
+{
+    let mut named = Vec::with_capacity(alloc, relays.len())?;
+    for relay in relays {
+        named.push(WatchRelay::new(relay))?;
+    }
+    Ok(named)
+}

@@ -1,0 +1,181 @@
+//! The parts of an opened watch, which know that they are its own.
+ghost use Rattle.std.specs.Prelude.{◌≡◌};
+ghost use Rattle.wcp_probe.specs.Core.{setup_of};
+ghost use Rattle.wcp_tree.specs.LiveProbe.{IsEndOfProbe};
+ghost use Rattle.wcp_tree.specs.RelayEnds.{number_of};
+ghost use Rattle.wullaphi.specs.Lent.{HasRun};
+ghost use Rattle.wullaphi.specs.Opened.{HasOpened, IsCheckerOf, IsProbeOf, IsRelayOf};
+
+use crate::lending::lend_and_close;
+use crate::opening::Opening;
+use crate::own_ends::{WatchCheckerEnd, WatchProbeEnd, WatchRelayEnd};
+use crate::process::Process;
+use std::marker::{Model, PhantomData};
+use std::sync::{Mutex, Wait};
+use std::thread::{Threads, join};
+use wcp_book::Book;
+use wcp_queue::Checker;
+use wcp_tree::{CheckerInbox, LiveProbe, Relay};
+use wcp_watch::check_loop;
+
+/// A probe of an opened watch, for the thread of its process. It has made no call yet. A relay waits until each of its
+/// probes has run: one that is dropped in place of that leaves the relay waiting for ever.
+///
+/// A contract sees it as the live probe that it is.
+#[derive(Drop)]
+pub struct WatchProbe<W: Opening> {
+    probe: LiveProbe,
+    of: PhantomData<W>,
+}
+
+impl<W: Opening> Model for WatchProbe<W> {
+    ghost use Rattle.wcp_tree.specs.LiveProbe.{LiveSide};
+    ghost use Rattle.wullaphi.specs.Opened.{HasOpened, IsProbeOf};
+
+    ghost Value = { LiveSide };
+
+    ghost view = { λ p. p.probe };
+
+    ghost invariant = { λ p. HasOpened (IsProbeOf p.probe) W.opened };
+}
+
+impl<W: Opening> WatchProbe<W> {
+    /// This probe of the watch.
+    pub(crate) fn new(probe: LiveProbe) -> WatchProbe<W>
+        requires { HasOpened (IsProbeOf probe) W.opened }
+        ensures { result ≡ probe }
+    {
+        WatchProbe {
+            probe,
+            of: PhantomData,
+        }
+    }
+
+    /// The number of its process.
+    pub fn id(&self) -> u32
+        ensures { result ≡ self.now.core.id }
+    {
+        self.probe.id()
+    }
+
+    /// Runs a process with this probe, in this thread, and closes the probe.
+    pub fn run<S, A, P: Process<Shared = S, Answer = A>, R: Wait>(
+        self,
+        rt: &R,
+        process: P,
+        shared: &S,
+    ) -> (A, WatchProbeEnd<W>)
+        ensures closed { IsEndOfProbe self result.1 }
+        ensures ran { HasRun P.leaves self.core.watch (setup_of self.core) process result.0 result.1.link.put }
+    {
+        let WatchProbe { probe, of: _ } = self;
+        let (answer, end) = lend_and_close(rt, process, probe, shared);
+        (answer, WatchProbeEnd::new(end))
+    }
+}
+
+/// A relay of an opened watch, for a thread of its own.
+///
+/// A contract sees it as its number in the plan.
+#[derive(Drop)]
+pub struct WatchRelay<W: Opening> {
+    relay: Relay,
+    of: PhantomData<W>,
+}
+
+impl<W: Opening> Model for WatchRelay<W> {
+    ghost use Rattle.std.specs.Prelude.{ℕ};
+    ghost use Rattle.wullaphi.specs.Opened.{HasOpened, IsRelayOf};
+
+    ghost Value = { ℕ };
+
+    ghost view = { λ r. r.relay.number };
+
+    ghost invariant = { λ r. HasOpened (IsRelayOf r.relay) W.opened };
+}
+
+impl<W: Opening> WatchRelay<W> {
+    /// This relay of the watch.
+    pub(crate) fn new(relay: Relay) -> WatchRelay<W>
+        requires { HasOpened (IsRelayOf relay) W.opened }
+        ensures { result ≡ relay.number }
+    {
+        WatchRelay {
+            relay,
+            of: PhantomData,
+        }
+    }
+
+    /// Passes on what comes, in this thread, until each process below it has run and all of it was passed on, or until
+    /// a fault comes, which its end tells.
+    pub fn run<R: Wait>(self, rt: &R) -> WatchRelayEnd<W>
+        ensures { number_of result ≡ self }
+    {
+        let WatchRelay { relay, of: _ } = self;
+        WatchRelayEnd::new(relay.run(rt))
+    }
+}
+
+impl<W: Opening + Send + Sync> WatchRelay<W> {
+    /// Runs it in a thread of its own, and the others in this one. Where no thread can be made it is run here after the
+    /// others, which then wait for ever if they emit more than the links have room for.
+    pub fn run_beside<T, F: FnOnce() -> T, R: Threads + Wait + Sync>(
+        self,
+        rt: &R,
+        others: F,
+    ) -> (WatchRelayEnd<W>, T)
+        requires { F.pre others }
+        ensures number { number_of result.0 ≡ self }
+        ensures others { F.post others result.1 }
+    {
+        join(rt, move || self.run(rt), others)
+    }
+}
+
+/// The checker of an opened watch, for a thread of its own.
+///
+/// A contract sees it as the number of its watch.
+#[derive(Drop)]
+pub struct WatchChecker<W: Opening> {
+    inbox: CheckerInbox,
+    checker: Checker,
+    of: PhantomData<W>,
+}
+
+impl<W: Opening> Model for WatchChecker<W> {
+    ghost use Rattle.std.specs.Prelude.{ℕ};
+    ghost use Rattle.wullaphi.specs.Opened.{HasOpened, IsCheckerOf};
+
+    ghost Value = { ℕ };
+
+    ghost view = { λ c. c.inbox.watch };
+
+    ghost invariant = { λ c. HasOpened (IsCheckerOf c.inbox c.checker) W.opened };
+}
+
+impl<W: Opening> WatchChecker<W> {
+    /// The checker of the watch, at its inbox.
+    pub(crate) fn new(inbox: CheckerInbox, checker: Checker) -> WatchChecker<W>
+        requires { HasOpened (IsCheckerOf inbox checker) W.opened }
+        ensures { result ≡ inbox.watch }
+    {
+        WatchChecker {
+            inbox,
+            checker,
+            of: PhantomData,
+        }
+    }
+
+    /// Takes all that the processes emit, in this thread, until each has run, and writes it into the book: the share of
+    /// each process, and the cut as soon as it is found. Then it ends the book.
+    pub fn run<R: Wait>(self, rt: &R, book: &Mutex<Book>) -> WatchCheckerEnd<W>
+        ensures { result.watch ≡ self }
+    {
+        let WatchChecker {
+            inbox,
+            checker,
+            of: _,
+        } = self;
+        WatchCheckerEnd::new(check_loop(rt, inbox, checker, book))
+    }
+}
