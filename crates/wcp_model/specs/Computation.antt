@@ -5,8 +5,8 @@ use Rattle.wcp_model.specs.declared.state.State.{State}
 use Rattle.wcp_model.specs.declared.step.Step.{Step}
 use Rattle.wcp_model.specs.declared.step.Step.TheVariants.{Observe, Send, Recv}
 
--- A computation is the list of the observe, send, receive and close steps that were accepted, in order (Lamport 1978:
--- events).
+-- A computation is the list of the observe, send, receive, close and drop steps that were accepted, in order (Lamport
+-- 1978: events).
 abbrev pub Computation : Type 0
 Computation = List Step
 

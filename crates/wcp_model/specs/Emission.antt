@@ -1,4 +1,4 @@
-use Rattle.std.specs.Prelude.{◌≡◌, ◌==◌, ℕ, ◌+◌, ◌<◌, Bool, false, List, [], ◌∷◌, ◌++◌, length, slice_index}
+use Rattle.std.specs.Prelude.{◌≡◌, ◌==◌, ℕ, ◌+◌, ◌<◌, Bool, false, List, [], ◌∷◌, ◌++◌, length, slice_index, ◌||◌}
 use Rattle.std.specs.Prelude.{slice_index_or, if◌then◌else◌}
 use Rattle.std.specs.List.{list_any}
 use Rattle.wcp_clock.specs.declared.note.Note.{Note}
@@ -15,6 +15,18 @@ is_close_of p _ = false
 -- A process is closed once it has a close step.
 abbrev pub is_closed : Computation → ℕ → Bool
 is_closed c p = list_any (is_close_of p) c
+
+abbrev pub is_drop_of : ℕ → Step → Bool
+is_drop_of p (step.Dropped q) = q == p
+is_drop_of p _ = false
+
+-- A process is dropped once it has a drop step: it is lost, as one that stops without a word (Cristian 1991: a crash).
+abbrev pub is_dropped : Computation → ℕ → Bool
+is_dropped c p = list_any (is_drop_of p) c
+
+-- A process has ended once it is closed or dropped.
+abbrev pub has_ended : Computation → ℕ → Bool
+has_ended c p = is_closed c p || is_dropped c p
 
 -- Snapshots with these clocks, numbered from a first number on.
 abbrev pub snapshots_from : ℕ → List (List ℕ) → List Note

@@ -1,8 +1,10 @@
 use Rattle.std.specs.Prelude.{◌≡◌, ◌==◌, ◌||◌, ℕ, ◌<◌, Bool, true, false, not, nat_lt, nat_le, Option, Some, None}
 use Rattle.std.specs.Prelude.{MatchOption, List, [], ◌∷◌, ◌++◌, filter, flat_map, take, slice_get}
+use Rattle.std.specs.Prelude.{if◌then◌else◌}
 use Rattle.std.specs.List.{list_any}
 use Rattle.std.specs.Option.{option_map_or}
 use Rattle.wcp_clock.specs.Limits.{most_events}
+use Rattle.wcp_clock.specs.Notes.{is_lost}
 use Rattle.wcp_clock.specs.declared.note.Item.{Item}
 use Rattle.wcp_clock.specs.declared.note.Note.{Note}
 use Rattle.wcp_model.specs.declared.plan.Parent.TheVariants as parent
@@ -14,7 +16,7 @@ use Rattle.wcp_model.specs.declared.step.Reply.TheVariants as reply
 use Rattle.wcp_model.specs.declared.step.Why.{Why}
 use Rattle.wcp_model.specs.declared.step.Why.TheVariants as why
 use Rattle.wcp_model.specs.Computation.{Computation, communications}
-use Rattle.wcp_model.specs.Emission.{AreEmissions, is_closed}
+use Rattle.wcp_model.specs.Emission.{AreEmissions, has_ended}
 use Rattle.wcp_model.specs.FirstReason.{first_reason}
 use Rattle.wcp_model.specs.Tree.{is_relay, is_leaf, is_attached}
 use Rattle.wcp_model.specs.Occupancy.{Place, Pending, InboxOf, source, target, taken_from, notes_in, room_of, IsEntry}
@@ -24,7 +26,8 @@ pub record Answered : Type 0 where
   pub step : Step
   pub reply : Reply
 
--- The steps that a reply accepts, and the items that it gives to the checker.
+-- The steps that a reply accepts, and the items of a process that it gives to the checker: the mark of a lost process
+-- is not among what was taken.
 abbrev pub accepted_by : Step → Reply → List Step
 accepted_by s reply.Done = s ∷ []
 accepted_by s (reply.Took item) = s ∷ []
@@ -32,7 +35,7 @@ accepted_by s (reply.Refused why) = []
 
 abbrev pub taken_by : Reply → List Item
 taken_by reply.Done = []
-taken_by (reply.Took item) = item ∷ []
+taken_by (reply.Took item) = if is_lost item.note then [] else item ∷ []
 taken_by (reply.Refused why) = []
 
 -- The accepted steps of a history, in order, and the items that the checker took.
@@ -47,9 +50,10 @@ is_event (step.Observe p holds) = true
 is_event (step.Send p to) = true
 is_event (step.Recv p message) = true
 is_event (step.Close p) = true
+is_event (step.Dropped p) = true
 is_event _ = false
 
--- The computation of accepted steps: the observe, send, receive and close steps among them.
+-- The computation of accepted steps: the observe, send, receive, close and drop steps among them.
 abbrev pub computation : List Step → Computation
 computation steps = filter is_event steps
 
@@ -78,16 +82,17 @@ was_received c message = list_any (is_receive_of message) c
 -- Why an event may be refused, after a computation of n processes of which some have a pending note: each reason with
 -- its test, in the order in which they count.
 abbrev pub event_reasons : ℕ → Computation → (ℕ → Bool) → Step → List (Bool × Why)
-event_reasons n c pending (step.Observe p holds) = (not (nat_lt p n), why.NoSuch) ∷ (is_closed c p, why.Closed) ∷ []
+event_reasons n c pending (step.Observe p holds) = (not (nat_lt p n), why.NoSuch) ∷ (has_ended c p, why.Closed) ∷ []
 event_reasons n c pending (step.Send p to) =
-    (not (nat_lt p n) || not (nat_lt to n) || p == to, why.NoSuch) ∷ (is_closed c p, why.Closed)
+    (not (nat_lt p n) || not (nat_lt to n) || p == to, why.NoSuch) ∷ (has_ended c p, why.Closed)
     ∷ (pending p, why.Backlog) ∷ (nat_le most_events (communications c p), why.ClockEnd) ∷ []
 event_reasons n c pending (step.Recv p message) =
-    (not (nat_lt p n) || not (was_sent_to c message p), why.NoSuch) ∷ (is_closed c p, why.Closed)
+    (not (nat_lt p n) || not (was_sent_to c message p), why.NoSuch) ∷ (has_ended c p, why.Closed)
     ∷ (pending p, why.Backlog) ∷ (was_received c message, why.Gone)
     ∷ (nat_le most_events (communications c p), why.ClockEnd) ∷ []
 event_reasons n c pending (step.Close p) =
-    (not (nat_lt p n), why.NoSuch) ∷ (is_closed c p, why.Closed) ∷ (pending p, why.Backlog) ∷ []
+    (not (nat_lt p n), why.NoSuch) ∷ (has_ended c p, why.Closed) ∷ (pending p, why.Backlog) ∷ []
+event_reasons n c pending (step.Dropped p) = (not (nat_lt p n), why.NoSuch) ∷ (has_ended c p, why.Closed) ∷ []
 event_reasons n c pending s = []
 
 -- A move that names a process, relay or attachment that there isn't. In a checked plan, what is attached exists.

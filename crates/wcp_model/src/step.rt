@@ -11,6 +11,8 @@ pub enum Step {
     Recv(u32, u64),
     /// Process `.0` ends its part of the computation.
     Close(u32),
+    /// Process `.0` is lost: it vanishes without a close.
+    Dropped(u32),
     /// The link of process `.0` takes its pending note.
     Put(u32),
     /// Relay `.0` takes a note from the link of process `.1` into its hold.
@@ -28,7 +30,7 @@ pub enum Step {
 pub enum Why {
     /// There is no such process, relay, message or attachment.
     NoSuch,
-    /// The process is closed.
+    /// The process is closed or lost.
     Closed,
     /// A note of the process is pending.
     Backlog,
