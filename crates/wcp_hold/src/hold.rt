@@ -1,6 +1,5 @@
 ghost use Rattle.std.specs.Prelude.{◌≡◌, ℕ, ◌<◌, ◌≤◌, ◌↔◌, [], ◌∷◌, ◌++◌, length, drop, slice_get, IsErr, IfOk, OnOk};
 ghost use Rattle.std.specs.Prelude.{IfErr};
-ghost use Rattle.wcp_clock.specs.Limits.{most_cap};
 
 use circular_buffer::HeapCircularBuffer;
 use std::alloc::{AllocError, Global};
@@ -26,7 +25,6 @@ impl Hold {
     /// An empty hold with room for `cap` items. `Err` where memory runs out.
     pub fn new(alloc: Global, cap: u32) -> Result<Hold, AllocError>
         requires some { 0 < cap }
-        requires within { cap ≤ most_cap }
         ensures items { IfOk result (λ hold. hold.items ≡ []) }
         ensures room { IfOk result (λ hold. hold.room ≡ cap) }
     {

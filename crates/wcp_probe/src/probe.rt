@@ -254,6 +254,14 @@ impl ProbeCore {
         Ok(())
     }
 
+    /// The process is lost: what was pending is gone, and nothing more is accepted.
+    pub fn lose(&mut self)
+        ensures { self.new ≡ record self.old { closed = true; pending = None } }
+    {
+        self.closed = true;
+        self.pending = None;
+    }
+
     /// The process's vector clock.
     pub fn clock(&self) -> Clock
         ensures { result ≡ self.now.clock }
@@ -261,7 +269,7 @@ impl ProbeCore {
         self.clock
     }
 
-    /// Whether the probe is closed.
+    /// Whether the probe is closed, or its process lost.
     pub fn closed(&self) -> bool
         ensures { result ≡ self.now.closed }
     {

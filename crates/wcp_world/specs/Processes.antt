@@ -1,12 +1,16 @@
-use Rattle.std.specs.Prelude.{◌≡◌, ℕ, false, IsTrue, is_some, Option, Some, MatchOption}
+use Rattle.std.specs.Prelude.{◌≡◌, ℕ, ◌<◌, true, false, IsTrue, is_some, Option, Some, None, MatchOption}
+use Rattle.std.specs.Prelude.{Result, MatchResult, [], ◌∷◌}
 use Rattle.std.specs.Prelude.{List, ◌++◌, length, map, slice_get}
 use Rattle.std.specs.Option.{option_and_then, option_to_list}
 use Rattle.wcp_clock.specs.Limits.{most_events}
 use Rattle.wcp_clock.specs.declared.note.Note.{Note}
 use Rattle.wcp_model.specs.declared.step.Step.{Step}
+use Rattle.wcp_model.specs.declared.step.Step.TheVariants as step
+use Rattle.wcp_model.specs.declared.step.Why.{Why}
 use Rattle.wcp_model.specs.declared.step.Reply.{Reply}
 use Rattle.wcp_model.specs.Computation.{Computation}
-use Rattle.wcp_model.specs.Emission.{AreEmissions}
+use Rattle.wcp_model.specs.Emission.{AreEmissions, is_closed, is_dropped}
+use Rattle.wcp_model.specs.FirstReason.{first_reason}
 use Rattle.wcp_model.specs.ProbeLog.{Call, setup, state_of_log, IsLogOf, IsStampOf, IsAccepted}
 use Rattle.wcp_model.specs.Replies.{accepted_by, event_reasons, receivers, was_received}
 use Rattle.wcp_model.specs.Report.{snapshot_clocks}
@@ -37,6 +41,19 @@ pub record IsProbeOf (n : ℕ) (c : Computation) (p : ℕ) (put : List Note) (co
   pub made : setup_of core ≡ setup n p
   pub notes : (state_of_log (setup n p) log).notes ≡ put ++ option_to_list core.pending
 
+-- The probe of a lost process accepts nothing more, and has nothing pending: of the emissions of its log those were put,
+-- and the rest is gone.
+pub record IsLostProbeOf (n : ℕ) (c : Computation) (p : ℕ) (put : List Note) (core : Core) : Type 0 where
+  pub log : List Call
+  pub is_log : IsLogOf n c p log
+  pub emitted : core.emitted ≡ (state_of_log (setup n p) log).snapshots
+  pub made : setup_of core ≡ setup n p
+  pub closed : core.closed ≡ true
+  pub nothing : core.pending ≡ None
+  pub without_close : is_closed c p ≡ false
+  pub rest : List Note
+  pub notes : (state_of_log (setup n p) log).notes ≡ put ++ rest
+
 -- A message that was sent: it is still there, with the clock of its sender behind the send, or it was received.
 abbrev pub IsLetterOf : ℕ → Computation → ℕ → Letter → Type 0
 IsLetterOf n c message letter = MatchOption letter.message (IsTrue (was_received c message)) (IsSent n c message letter)
@@ -56,7 +73,11 @@ pub record AreLettersOf (n : ℕ) (c : Computation) (letters : List Letter) : Ty
 pub record AreProcessesOf (n : ℕ) (c : Computation) (put : ℕ → List Note) (app : ProcessesState) : Type 0 where
   pub order : IsAccepted c
   pub members : length app.probes ≡ n
-  pub probes : (p : ℕ) (core : Core) → slice_get app.probes p ≡ Some core → IsProbeOf n c p (put p) core
+  pub probes : (p : ℕ) (core : Core) → slice_get app.probes p ≡ Some core → is_dropped c p ≡ false →
+      IsProbeOf n c p (put p) core
+  pub lost : (p : ℕ) (core : Core) → slice_get app.probes p ≡ Some core → is_dropped c p ≡ true →
+      IsLostProbeOf n c p (put p) core
+  pub lost_known : (p : ℕ) → is_dropped c p ≡ true → p < n
   pub letters : AreLettersOf n c app.letters
 
 -- An event was answered: whatever computation the processes stood for, the answer is that of the definitions, and the
@@ -70,6 +91,14 @@ Performs old s answer new = (n : ℕ) (c : Computation) (put : ℕ → List Note
 abbrev pub WasPut : ProcessesState → ℕ → ProcessesState → Type 0
 WasPut old p new = (n : ℕ) (c : Computation) (put : ℕ → List Note) (note : Note) →
     AreProcessesOf n c put old → pending_at old p ≡ Some note → AreProcessesOf n c (put_more put p note) new
+
+-- A process was lost, where nothing refuses it, and so many of its notes were put.
+abbrev pub Loses : ProcessesState → ℕ → Result ℕ Why → ProcessesState → Type 0
+Loses old p result new = (n : ℕ) (c : Computation) (put : ℕ → List Note) → AreProcessesOf n c put old →
+    MatchResult result
+    (λ count. (first_reason (event_reasons n c (λ q. is_some (pending_at old q)) (step.Dropped p)) ≡ None)
+    × (count ≡ length (put p)) × AreProcessesOf n (c ++ step.Dropped p ∷ []) put new)
+    (λ why. first_reason (event_reasons n c (λ q. is_some (pending_at old q)) (step.Dropped p)) ≡ Some why)
 
 -- A process has emitted so many snapshots.
 abbrev pub CountsEmissions : ProcessesState → ℕ → ℕ → Type 0

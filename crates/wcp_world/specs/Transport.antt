@@ -2,6 +2,7 @@ use Rattle.std.specs.Prelude.{◌≡◌, ◌≢◌, ◌==◌, ℕ, ◌+◌, ◌<
 use Rattle.std.specs.Prelude.{List, [], ◌∷◌, ◌++◌, length, count_by, slice_get, slice_set, slice_index_or}
 use Rattle.wcp_clock.specs.declared.note.Item.{Item}
 use Rattle.wcp_clock.specs.declared.note.Note.{Note}
+use Rattle.wcp_clock.specs.declared.note.Note.TheVariants as note
 use Rattle.wcp_model.specs.declared.plan.Parent.TheVariants.{Root, Relay}
 use Rattle.wcp_model.specs.declared.plan.Plan.{Plan}
 use Rattle.wcp_model.specs.declared.step.Step.{Step}
@@ -10,6 +11,7 @@ use Rattle.wcp_model.specs.declared.step.Reply.{Reply}
 use Rattle.wcp_model.specs.declared.step.Reply.TheVariants.{Done, Refused}
 use Rattle.wcp_model.specs.declared.step.Why.{Why}
 use Rattle.wcp_model.specs.declared.step.Why.TheVariants.{Empty, Full}
+use Rattle.wcp_model.specs.Emission.{is_dropped}
 use Rattle.wcp_model.specs.PlanFault.{IsCheckedPlan}
 use Rattle.wcp_model.specs.Tree.{IsSamePlan}
 use Rattle.wcp_model.specs.Occupancy.{Place, Pending, Link, HoldOf, InboxOf}
@@ -46,11 +48,25 @@ IsPlaceOf plan (InboxOf (Relay relay)) = relay < length plan.parents.items
 abbrev pub held_at : List Held → ℕ → Held
 held_at places i = slice_index_or places i (record { items = []; room = 0 })
 
+-- How many items a place can hold: its room, and on a link one more, the mark of a lost process.
+abbrev pub size_of : Plan → Place → ℕ
+size_of plan (Link p) = plan.cap + 1
+size_of plan place = room_of plan place
+
+-- How many marks of a lost process a place was given.
+abbrev pub marks_in : List Step → Place → ℕ
+marks_in steps (Link p) = if is_dropped steps p then 1 else 0
+marks_in steps place = 0
+
+-- What the link of a process was given: the notes put on it, and behind them the mark of a lost process.
+abbrev pub given : List Step → ℕ → List Note → List Note
+given steps p put = put ++ (if is_dropped steps p then note.Lost (length put) ∷ [] else [])
+
 -- What a place holds: the entries that were not taken from it yet, in their order, within its room.
 pub record IsHeldAt (plan : Plan) (steps : List Step) (put : ℕ → List Note) (place : Place) (held : Held)
     : Type 0 where
-  pub room : held.room ≡ room_of plan place
-  pub within : length held.items ≤ held.room
+  pub room : held.room ≡ size_of plan place
+  pub within : length held.items ≤ room_of plan place + marks_in steps place
   pub count : length held.items + taken_from steps place ≡ count_by (puts_into plan place) steps
   pub entries : (i : ℕ) (item : Item) → slice_get held.items i ≡ Some item →
       IsEntry plan put steps place (taken_from steps place + i) item
@@ -70,12 +86,12 @@ abbrev pub notes_at : Plan → List Held → ℕ → Place → List Note
 notes_at plan places p place = notes_taken p (held_at places (place_number plan place)).items
 
 -- What was taken of a process, and then its notes on the way from its link, from the checker outward, are the notes
--- put of it.
-pub record AreConveyedInOrder (plan : Plan) (places : List Held) (taken : List Item) (p : ℕ) (put : List Note)
+-- that its link was given.
+pub record AreConveyedInOrder (plan : Plan) (places : List Held) (taken : List Item) (p : ℕ) (notes_given : List Note)
     : Type 0 where
   pub way : List Place
   pub is_way : IsWay plan (Link p) way
-  pub notes : notes_taken p taken ++ notes_along (notes_at plan places p) (Link p ∷ way) ≡ put
+  pub notes : notes_taken p taken ++ notes_along (notes_at plan places p) (Link p ∷ way) ≡ notes_given
 
 -- A transport stands for these accepted steps under a checked plan, for the notes put of each process, and for the
 -- items taken.
@@ -88,7 +104,8 @@ pub record IsTransportOf (plan : Plan) (steps : List Step) (put : ℕ → List N
       IsHeldAt plan steps put place (held_at t.places (place_number plan place))
   pub as_many : (p : ℕ) → length (put p) ≡ taken_from steps (Pending p)
   pub known : (p : ℕ) → plan.n ≤ p → put p ≡ []
-  pub in_order : (p : ℕ) → p < plan.n → AreConveyedInOrder plan t.places taken p (put p)
+  pub lost_known : (p : ℕ) → is_dropped steps p ≡ true → p < plan.n
+  pub in_order : (p : ℕ) → p < plan.n → AreConveyedInOrder plan t.places taken p (given steps p (put p))
 
 -- A transport that stands for some steps.
 abbrev pub IsConveying : TransportState → Type 0
@@ -107,10 +124,21 @@ Conveys old s answer new = (plan : Plan) (steps : List Step) (put : ℕ → List
 -- definitions.
 abbrev pub Puts : TransportState → ℕ → Note → Bool → TransportState → Type 0
 Puts old p note room new = (plan : Plan) (steps : List Step) (put : ℕ → List Note) (taken : List Item) →
-    IsTransportOf plan steps put taken old →
-    ((emissions : ℕ → List Note) → 0 < notes_in plan emissions steps (Pending p) →
-    IsAnswer (reasons plan emissions steps (step.Put p)) (if room then Done else Refused Full))
+    (emissions : ℕ → List Note) → IsTransportOf plan steps put taken old →
+    0 < notes_in plan emissions steps (Pending p) →
+    IsAnswer (reasons plan emissions steps (step.Put p)) (if room then Done else Refused Full)
     × (room ≡ true → IsTransportOf plan (steps ++ step.Put p ∷ []) (put_more put p note) taken new)
+
+-- Process p was lost, of which so many notes were put: its link was given the mark that counts them.
+abbrev pub IsGivenMark : TransportState → ℕ → ℕ → TransportState → Type 0
+IsGivenMark old p count new = (plan : Plan) (steps : List Step) (put : ℕ → List Note) (taken : List Item) →
+    IsTransportOf plan steps put taken old → p < plan.n → is_dropped steps p ≡ false → count ≡ length (put p) →
+    IsTransportOf plan (steps ++ step.Dropped p ∷ []) put taken new
+
+-- A transport that stands for some steps after which this process is not lost.
+abbrev pub MayLose : TransportState → ℕ → Type 0
+MayLose t p = (plan : Plan) × (steps : List Step) × (put : ℕ → List Note) × (taken : List Item)
+    × IsTransportOf plan steps put taken t × (p < plan.n) × (is_dropped steps p ≡ false)
 
 -- The item whose turn it is in the root inbox.
 abbrev pub next_of : TransportState → Option Item
@@ -123,7 +151,7 @@ pub record IsNextAtRoot (plan : Plan) (steps : List Step) (put : ℕ → List No
   pub entry : IsEntry plan put steps (InboxOf Root) (taken_from steps (InboxOf Root)) item
   pub process : item.from < plan.n
   pub rest : List Note
-  pub front : notes_taken item.from (taken ++ item ∷ []) ++ rest ≡ put item.from
+  pub front : notes_taken item.from (taken ++ item ∷ []) ++ rest ≡ given steps item.from (put item.from)
 
 abbrev pub ReadsNext : TransportState → Option Item → Type 0
 ReadsNext t next = (plan : Plan) (steps : List Step) (put : ℕ → List Note) (taken : List Item) →

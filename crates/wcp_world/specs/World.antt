@@ -1,6 +1,7 @@
-use Rattle.std.specs.Prelude.{◌≡◌, ℕ, Bool, true, false, List, ◌++◌, take}
+use Rattle.std.specs.Prelude.{◌≡◌, ℕ, Bool, true, false, not, List, ◌++◌, take, filter}
 use Rattle.wcp_clock.specs.declared.note.Item.{Item}
 use Rattle.wcp_clock.specs.declared.note.Note.{Note}
+use Rattle.wcp_clock.specs.Notes.{is_lost}
 use Rattle.wcp_model.specs.declared.plan.Plan.{Plan}
 use Rattle.wcp_model.specs.declared.step.Step.{Step}
 use Rattle.wcp_model.specs.declared.step.Step.TheVariants as step
@@ -23,15 +24,21 @@ pub record WorldState : Type 0 where
 abbrev pub process_count : WorldState → ℕ
 process_count w = processes_of_checker w.checker
 
+-- These items without the marks of lost processes.
+abbrev pub without_lost : List Item → List Item
+without_lost items = filter (λ item. not (is_lost item.note)) items
+
 -- The parts of a world stand for the same accepted steps and items taken: the processes for the computation of these
 -- steps, the transport for the notes that were put on its links, and the checker, which wasn't starved, for what it
--- took.
+-- was handed: the items taken, and the marks of lost processes.
 pub record Stands (plan : Plan) (steps : List Step) (taken : List Item) (w : WorldState) : Type 0 where
   pub put : ℕ → List Note
+  pub handed : List Item
+  pub taken_are : taken ≡ without_lost handed
   pub processes : AreProcessesOf plan.n (computation steps) put w.processes
-  pub transport : IsTransportOf plan steps put taken w.transport
+  pub transport : IsTransportOf plan steps put handed w.transport
   pub processes_are : process_count w ≡ plan.n
-  pub checker : StandsForItems w.checker taken
+  pub checker : StandsForItems w.checker handed
   pub not_starved : w.checker.starved ≡ false
 
 -- A world that some steps lead to.
@@ -52,12 +59,13 @@ pub record IsWorldOf (plan : Plan) (history : List Answered) (w : WorldState) : 
       AreFrontsOfEmissions plan.n (computation (accepted (take place history))) (items_taken (take place history))
   pub stands : Stands plan (accepted history) (items_taken history) w
 
--- Of the nine steps only a send and a check may want memory.
+-- Of the ten steps only a send and a check may want memory.
 abbrev pub may_grow : Step → Bool
 may_grow (step.Observe p holds) = false
 may_grow (step.Send p to) = true
 may_grow (step.Recv p message) = false
 may_grow (step.Close p) = false
+may_grow (step.Dropped p) = false
 may_grow (step.Put p) = false
 may_grow (step.Admit relay p) = false
 may_grow (step.Pull relay) = false

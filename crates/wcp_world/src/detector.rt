@@ -48,9 +48,25 @@ impl Detector {
             Step::Send(p, to) => self.processes.send(p, to),
             Step::Recv(p, message) => Ok(self.processes.receive(p, message)),
             Step::Close(p) => Ok(self.processes.close(p)),
+            Step::Dropped(p) => Ok(self.lose(p)),
             Step::Put(p) => Ok(self.put(p)),
             Step::Admit(..) | Step::Pull(_) | Step::Pass(_) => Ok(self.transport.convey(step)),
             Step::Check => self.check(),
+        }
+    }
+
+    /// Process `p` is lost: the mark that says so goes on its link.
+    fn lose(&mut self, p: u32) -> Reply
+        requires { IsReached (state_of self.old) }
+        ensures answered { MakesStep (state_of self.old) (step.Dropped p) result (state_of self.new) }
+        ensures refused { KeepsIfRefused (state_of self.old) result (state_of self.new) }
+    {
+        match self.processes.lose(p) {
+            Ok(put) => {
+                self.transport.lose(p, put);
+                Reply::Done
+            }
+            Err(why) => Reply::Refused(why),
         }
     }
 

@@ -4,7 +4,7 @@ ghost use Rattle.wcp_clock.specs.declared.note.Note.{Note};
 ghost use Rattle.wcp_model.specs.declared.step.Step.TheVariants as step;
 ghost use Rattle.wcp_model.specs.Computation.{Computation};
 ghost use Rattle.wcp_world.specs.Answer.{KeepsIfRefused};
-ghost use Rattle.wcp_world.specs.Processes.{AreProcessesOf, CountsEmissions, Performs, WasPut, pending_at};
+ghost use Rattle.wcp_world.specs.Processes.{AreProcessesOf, CountsEmissions, Loses, Performs, WasPut, pending_at};
 ghost use Rattle.wcp_world.specs.Messages.{why_of};
 
 use crate::messages::Letters;
@@ -99,6 +99,22 @@ impl Processes {
             Ok(()) => Reply::Done,
             Err(refusal) => Reply::Refused(why_of(refusal)),
         }
+    }
+
+    /// Process `p` is lost. Ok says how many of its notes were put on its link.
+    pub fn lose(&mut self, p: u32) -> Result<u32, Why>
+        ensures answered { Loses self.old p result self.new }
+        ensures refused { OnErr result (self.new ≡ self.old) }
+    {
+        let Some(probe) = self.probes.get_mut(p as usize) else {
+            return Err(Why::NoSuch);
+        };
+        if probe.closed() {
+            return Err(Why::Closed);
+        }
+        let put = probe.emitted() - u32::from(probe.pending().is_some());
+        probe.lose();
+        Ok(put)
     }
 
     /// The note of process `p` that its link has not taken yet, if there is one.

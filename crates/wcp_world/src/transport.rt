@@ -1,6 +1,5 @@
 ghost use Rattle.std.specs.Prelude.{◌≡◌, ◌≢◌, ℕ, ◌+◌, ◌<◌, ◌≤◌, true, false, [], ◌++◌, length, replicate};
 ghost use Rattle.std.specs.Prelude.{IsSome, IfOk, OnOk};
-ghost use Rattle.wcp_clock.specs.Limits.{most_cap};
 ghost use Rattle.wcp_model.specs.declared.plan.Plan.{Plan};
 ghost use Rattle.wcp_model.specs.declared.step.Reply.TheVariants.{Done};
 ghost use Rattle.wcp_model.specs.Occupancy.{InboxOf};
@@ -20,7 +19,8 @@ use wcp_model::{Parent, Plan, Reply, Step, Why};
 #[derive(Drop)]
 pub struct Transport {
     plan: Plan,
-    /// The links, the holds, the root inbox and the relays' inboxes.
+    /// The links, the holds, the root inbox and the relays' inboxes. A link has one place more than
+    /// its room, for the mark of a lost process.
     places: Vec<Hold>,
 }
 
@@ -33,8 +33,8 @@ impl Model for Transport {
 }
 
 impl Transport {
-    ghost use Rattle.wcp_world.specs.Transport.{IsTransportOf, IsConveying, Conveys, ReadsNext, TakesNext, Puts};
-    ghost use Rattle.wcp_world.specs.Transport.{IsWayOf, next_of};
+    ghost use Rattle.wcp_world.specs.Transport.{IsTransportOf, IsConveying, Conveys, IsGivenMark, MayLose, Puts};
+    ghost use Rattle.wcp_world.specs.Transport.{IsWayOf, ReadsNext, TakesNext, next_of};
 
     /// The transport of a plan, before any step. `Err` where memory runs out.
     #[tactic(auto, using(crate::proofs::Places::plan_limits))]
@@ -44,7 +44,7 @@ impl Transport {
     {
         let relays = plan.parents.len();
         let mut places = Vec::new(alloc);
-        add_places(alloc, &mut places, plan.n as usize, plan.cap)?;
+        add_places(alloc, &mut places, plan.n as usize, plan.cap + 1)?;
         add_places(alloc, &mut places, relays, plan.hold)?;
         add_places(alloc, &mut places, relays + 1, plan.cap)?;
         Ok(Transport {
@@ -60,10 +60,22 @@ impl Transport {
         ensures answered { Puts self.old p note result self.new }
         ensures full { result ≡ false → self.new ≡ self.old }
     {
-        match self.places[p as usize].push(Item { from: p, note }) {
-            Ok(()) => true,
-            Err(_) => false,
+        let link = &mut self.places[p as usize];
+        if link.len() >= self.plan.cap as usize {
+            return false;
         }
+        let _ = link.push(Item { from: p, note });
+        true
+    }
+
+    /// Process `p` is lost, of which `count` notes were put: its link gets the mark that says so,
+    /// also where it is full.
+    pub fn lose(&mut self, p: u32, count: u32)
+        requires { MayLose self.old p }
+        ensures { IsGivenMark self.old p count self.new }
+    {
+        let note = Note::Lost { count };
+        let _ = self.places[p as usize].push(Item { from: p, note });
     }
 
     /// A relay takes a note from a link or an item from its inbox into its hold, or passes an item
@@ -173,8 +185,7 @@ fn add_places(
     count: usize,
     room: u32,
 ) -> Result<(), AllocError>
-    requires some { 0 < room }
-    requires within { room ≤ most_cap }
+    requires { 0 < room }
     ensures { OnOk result (places.new.items ≡ places.old.items ++ replicate count (empty_hold room)) }
 {
     for _ in 0..count {
