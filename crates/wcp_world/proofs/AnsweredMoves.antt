@@ -1,9 +1,11 @@
-use Rattle.wcp_world.proofs.Words.{common_steps, ◌≡◌, ◌≢◌, ℕ, ◌+◌, ◌<◌, Bool, true, false, not, cond, nat_le, nat_lt, length, set, get_or, eqb, Option, None, Some, MatchOption, List, [], ◌∷◌, ◌++◌, slice_get, drop, take, refl, sym, ap, ap₂, subst, ◌∙◌, append-nil, eqb-true, eq-eqb, add-zero, true≢false, arith, option_and_then, option_flatten, option_map, nat_tests, get_or_default, length-set, get_or-set_same, get_or-set_other, slice_get_cases, slice_get_within, Item, Note, Parent, Root, Relay, Plan, Step, Done, Refused, IsSamePlan, is_number, is_attached, is_leaf, leaf_of, parent_of, Place, Pending, Link, HoldOf, InboxOf, is_same_place, source, target, takes_from, taken_from, notes_in, next_place, IsEntry, Emitted, reasons, move_reasons, names_nothing, notes_taken, attached_exists, get_behind, Held, IsAnswer, put_more, TransportState, IsPlaceOf, place_number, held_at, IsTransportOf, IsNextAtRoot, IsMoveBetween, IsWayOf, is_relayed, notes_along, IsShift, shift_reasons, KeepsIfRefused, Reply, Why, accepted_by, first_reason}
+use Rattle.wcp_world.proofs.Words.{common_steps, ◌≡◌, ◌≢◌, ℕ, ◌+◌, ◌<◌, Bool, true, false, not, cond, nat_le, nat_lt, length, set, get_or, eqb, Option, None, Some, MatchOption, List, [], ◌∷◌, ◌++◌, slice_get, drop, take, refl, sym, ap, ap₂, subst, ◌∙◌, append-nil, eqb-true, eq-eqb, add-zero, true≢false, arith, option_and_then, option_flatten, option_map, nat_tests, get_or_default, length-set, get_or-set_same, get_or-set_other, slice_get_cases, slice_get_within, Item, Note, Parent, Root, Relay, Plan, Step, Done, Refused, IsSamePlan, is_number, is_attached, is_leaf, leaf_of, parent_of, Place, Pending, Link, HoldOf, InboxOf, is_same_place, source, target, takes_from, taken_from, notes_in, next_place, IsEntry, Emitted, reasons, move_reasons, names_nothing, notes_taken, attached_exists, get_behind, Held, IsAnswer, put_more, TransportState, IsPlaceOf, place_number, held_at, IsTransportOf, IsNextAtRoot, IsMoveBetween, IsWayOf, is_relayed, notes_along, IsShift, shift_reasons, KeepsIfRefused, Reply, Why, accepted_by, first_reason, Vanished, entered, Dropped, is_dropped, is_drop_of, marks_in, given, size_of, room_of, count_by, cases_Bool, cases_lt, or-false, list_any-append, ◌||◌, ⊎_elim, inl, inr, ◌⊎◌, ◌≤◌, take_at, cases_eq, ne_eqb, puts_into}
 use Rattle.std.specs.List.{list_any}
+use Rattle.std.proofs.lemmas.List.Sums.{sum_by-cons}
+use Rattle.wcp_clock.specs.declared.note.Note.TheVariants as note
 use Rattle.wcp_model.specs.declared.step.Step.TheVariants as step
 use Rattle.wcp_model.specs.declared.step.Why.TheVariants as why
 use Rattle.wcp_world.proofs.Places.{same_place, number_apart, number_within, next_is_place, itself, next_apart}
-use Rattle.wcp_world.proofs.Entries.{item_if, IsStirred, entry_grows, entry_emitted, transport_after}
+use Rattle.wcp_world.proofs.Entries.{item_if, IsStirred, entry_grows, entry_process, transport_after, stirred_after, no_drop, dropped_push, gone_from, come_to}
 
 -- what a place holds once one was changed
 held_set : (plan : Plan) (places : List Held) (x y : Place) (new : Held) → length places ≡ plan.n + length plan.parents.items + 1 + length plan.parents.items → IsPlaceOf plan x → IsPlaceOf plan y →
@@ -36,6 +38,22 @@ attached_is plan relay p = grind (arith, eqb-true)
 pub no_relay : (plan : Plan) (relay : ℕ) → parent_of plan relay ≡ None → nat_lt relay (length plan.parents.items) ≡ false
 no_relay plan relay none = grind (arith, slice_get_cases)
 
+-- the place after a place has its room alone, and gets no mark
+no_link : (plan : Plan) (steps : List Step) (from to : Place) → IsPlaceOf plan from → next_place plan from ≡ Some to → (size_of plan to ≡ room_of plan to) × (marks_in steps to ≡ 0)
+no_link plan steps (Pending p) to is next = absurd is
+no_link plan steps (Link p) to is next = grind arith
+no_link plan steps (HoldOf relay) to is next = grind arith
+no_link plan steps (InboxOf owner) to is next = grind arith
+
+-- until a process is dropped, its link gets what it puts
+puts_alone : (plan : Plan) (p : ℕ) (s : Step) → is_drop_of p s ≡ false → puts_into plan (Link p) s ≡ takes_from (Pending p) s
+puts_alone plan p s other = grind arith
+
+link_counts : (plan : Plan) (p : ℕ) (steps : List Step) → is_dropped steps p ≡ false → count_by (puts_into plan (Link p)) steps ≡ taken_from steps (Pending p)
+link_counts plan p [] none = refl
+link_counts plan p (s ∷ steps) none =
+    grind (arith, puts_alone plan p s, link_counts plan p steps, sum_by-cons (λ x. cond (puts_into plan (Link p) x) 1 0) s steps, sum_by-cons (λ x. cond (takes_from (Pending p) x) 1 0) s steps)
+
 module _ (plan : Plan) (steps : List Step) (put : ℕ → List Note) (taken : List Item) (t : TransportState) (stands : IsTransportOf plan steps put taken t) where
   abbrev here : Place → Held
   here x = held_at t.places (place_number plan x)
@@ -53,7 +71,10 @@ module _ (plan : Plan) (steps : List Step) (put : ℕ → List Note) (taken : Li
   first_entry x is item left first = grind (arith, add-zero (taken_from steps x))
 
   process_of : {x : Place} {i : ℕ} {item : Item} → IsEntry plan put steps x i item → item.from < plan.n
-  process_of {item = item} entry = grind (arith, entry_emitted)
+  process_of entry = entry_process plan put steps (λ p i note at. elim (cases_lt p plan.n) [
+    | inl within ↦ within
+    | inr beyond ↦ let none = stands.known p beyond in cc
+  ]) stands.lost_known entry
 
   -- what a step that moves an item from one place to another does to each
   stirred_by_shift : (s : Step) (from to : Place) → source s ≡ Some from → target plan s ≡ Some to → IsPlaceOf plan from → IsPlaceOf plan to → is_same_place from to ≡ false →
@@ -63,7 +84,7 @@ module _ (plan : Plan) (steps : List Step) (put : ℕ → List Note) (taken : Li
     where
       by_case : (a b : Bool) → is_same_place x from ≡ a → is_same_place x to ≡ b →
           IsStirred plan s is.item x (here x) (cond a (record (here from) { items = is.left }) (cond b (record (here to) { items = (here to).items ++ is.item ∷ [] }) (here x)))
-      by_case a b at_from at_to = let le = (stands.held to is_to).within in grind (arith, same_place, itself, append-nil)
+      by_case a b at_from at_to = let le = (stands.held to is_to).within in let alone = no_link plan steps from to is_from (sym (ap (option_and_then (next_place plan)) takes) ∙ puts) in let size = (stands.held to is_to).room in grind (arith, same_place, itself, append-nil)
 
   -- a relay's step is no event
   no_events : (s : Step) → is_relayed s ≡ true → (emissions : ℕ → List Note) → reasons plan emissions steps s ≡ move_reasons plan (notes_in plan emissions steps) s
@@ -83,6 +104,10 @@ module _ (plan : Plan) (steps : List Step) (put : ℕ → List Note) (taken : Li
     target_is : target plan s ≡ Some move.to
     target_is = ap (option_and_then (next_place plan)) move.takes ∙ move.is_next
 
+    -- the place that it puts into is no link, and so has its room alone
+    size_is : (held_at t.places j).room ≡ room_of plan move.to
+    size_is = rw (move.number_to) ((stands.held move.to is_to).room ∙ (no_link plan steps move.from move.to move.is_from move.is_next).0)
+
     -- such a step is no put, no check and no event
     no_put : (p : ℕ) → takes_from (Pending p) s ≡ false
     no_put p = grind (arith, same_place)
@@ -98,15 +123,17 @@ module _ (plan : Plan) (steps : List Step) (put : ℕ → List Note) (taken : Li
         let entry = first_entry move.from move.is_from is.item is.left is.first in
         subst (λ items. IsTransportOf plan (steps ++ s ∷ []) put items (record t { places = new })) (ap (λ b. taken ++ item_if b is.item) no_check ∙ append-nil taken)
         (transport_after plan steps put taken t stands s move.from is.item put new move.takes (process_of entry)
-        (λ p yes. absurd (true≢false (sym yes ∙ no_put p)))
+        (λ p yes. absurd (true≢false (sym yes ∙ no_put p))) (λ p yes. absurd (true≢false (sym yes ∙ no_put p)))
         (entry_grows plan put put steps (s ∷ []) (λ p i note at. at) entry) (stirred_by_shift s move.from move.to move.takes target_is move.is_from is_to apart new is)
         (λ p. rw (no_put p) (sym (append-nil (put p)))) (ap length is.moved ∙ length-set _ (place_number plan move.from) _ ∙ length-set t.places (place_number plan move.to) _))
 
     full_is : nat_le (held_at t.places j).room (length (held_at t.places j).items) ≡ eqb (length (held_at t.places j).items) (held_at t.places j).room
-    full_is = let le = rw (← move.number_to) at (stands.held move.to is_to).within in grind (arith, nat_tests)
+    full_is =
+        let le : length (held_at t.places j).items ≤ (held_at t.places j).room = omega (arith, size_is, rw (← move.number_to) at (stands.held move.to is_to).within, (no_link plan steps move.from move.to move.is_from move.is_next).1) in
+        grind (arith, nat_tests, le)
 
     tests_are : (emissions : ℕ → List Note) → reasons plan emissions steps s ≡ (false, why.NoSuch) ∷ shift_reasons t.places i j
-    tests_are emissions = no_event emissions ∙ rw (move.named, move.takes, move.is_next, notes_are emissions move.from move.is_from, notes_are emissions move.to is_to, ← full_is, move.number_from, move.number_to, (stands.held move.to is_to).room) refl
+    tests_are emissions = no_event emissions ∙ rw (move.named, move.takes, move.is_next, notes_are emissions move.from move.is_from, notes_are emissions move.to is_to, ← full_is, move.number_from, move.number_to, (stands.held move.to is_to).room ∙ (no_link plan steps move.from move.to move.is_from move.is_next).0) refl
 
     pub was_advanced : (answer : Reply) (new : List Held) → IsAnswer (shift_reasons t.places i j) answer → (answer ≡ Done → IsShift t.places i j new) → KeepsIfRefused t.places answer new →
         ((emissions : ℕ → List Note) → IsAnswer (reasons plan emissions steps s) answer) × IsTransportOf plan (steps ++ accepted_by s answer) put taken (record t { places = new })
@@ -121,14 +148,14 @@ module _ (plan : Plan) (steps : List Step) (put : ℕ → List Note) (taken : Li
   refused_named s relayed named = (λ emissions. rw (no_events s relayed emissions, named) refl, same_after t.places refl)
 
   -- a note was put on the link of its process
-  put_after : (p : ℕ) (note : Note) (places : List Held) → p < plan.n → length (here (Link p)).items < (here (Link p)).room →
+  put_after : (p : ℕ) (note : Note) (places : List Held) → p < plan.n → is_dropped steps p ≡ false → length (here (Link p)).items < plan.cap →
       places ≡ set t.places p (record (here (Link p)) { items = (here (Link p)).items ++ record { from = p; note = note } ∷ [] }) →
       IsTransportOf plan (steps ++ step.Put p ∷ []) (put_more put p note) taken (record t { places = places })
-  put_after p note places in_range fits places_are =
+  put_after p note places in_range live fits places_are =
       let item : Item = record { from = p; note = note } in
       subst (λ items. IsTransportOf plan (steps ++ step.Put p ∷ []) (put_more put p note) items (record t { places = places })) (append-nil taken)
       (transport_after plan steps put taken t stands (step.Put p) (Pending p) item (put_more put p note) places refl in_range
-      (λ q yes. sym (eqb-true q p yes)) (Emitted pending)
+      (λ q yes. sym (eqb-true q p yes)) (λ q yes. subst (λ r. is_dropped steps r ≡ false) (sym (eqb-true q p yes)) live) (Emitted pending)
       (grind (arith, common_steps))
       more_is (ap length places_are ∙ length-set t.places p _))
     where
@@ -140,24 +167,65 @@ module _ (plan : Plan) (steps : List Step) (put : ℕ → List Note) (taken : Li
 
   -- whether a link is full is what a put is answered, where a note is pending
   put_tests : (p : ℕ) → p < plan.n → (emissions : ℕ → List Note) → 0 < notes_in plan emissions steps (Pending p) →
-      reasons plan emissions steps (step.Put p) ≡ (false, why.NoSuch) ∷ (false, why.Empty) ∷ (nat_le (here (Link p)).room (length (here (Link p)).items), why.Full) ∷ []
+      reasons plan emissions steps (step.Put p) ≡ (false, why.NoSuch) ∷ (false, why.Empty) ∷ (nat_le plan.cap (length (here (Link p)).items), why.Full) ∷ []
   put_tests p in_range emissions some =
       let within : nat_lt p plan.n ≡ true = grind (arith, nat_tests) in
       let pending : eqb (notes_in plan emissions steps (Pending p)) 0 ≡ false = grind (arith, nat_tests) in
-      rw (within, pending, notes_are emissions (Link p) in_range, (stands.held (Link p) in_range).room) refl
+      rw (within, pending, notes_are emissions (Link p) in_range) refl
 
-  pub puts : (p : ℕ) (note : Note) (places : List Held) → p < plan.n → length (here (Link p)).items ≢ (here (Link p)).room →
+  -- nothing is pending at a dropped process
+  still_live : (p : ℕ) (emissions : ℕ → List Note) → 0 < notes_in plan emissions steps (Pending p) → is_dropped steps p ≡ false
+  still_live p emissions some = grind arith
+
+  pub puts : (p : ℕ) (note : Note) (places : List Held) → p < plan.n → length (here (Link p)).items < plan.cap →
       places ≡ set t.places p (record (here (Link p)) { items = (here (Link p)).items ++ record { from = p; note = note } ∷ [] }) →
-      ((emissions : ℕ → List Note) → 0 < notes_in plan emissions steps (Pending p) → IsAnswer (reasons plan emissions steps (step.Put p)) Done)
-      × IsTransportOf plan (steps ++ step.Put p ∷ []) (put_more put p note) taken (record t { places = places })
-  puts p note places in_range other places_are =
-      let le = (stands.held (Link p) in_range).within in
-      let room : nat_le (here (Link p)).room (length (here (Link p)).items) ≡ false = grind (arith, nat_tests, other, le) in
-      (λ emissions some. subst (λ rs. IsAnswer rs Done) (sym (put_tests p in_range emissions some)) (rw room refl), put_after p note places in_range (omega (arith, other, le)) places_are)
+      (emissions : ℕ → List Note) → 0 < notes_in plan emissions steps (Pending p) →
+      IsAnswer (reasons plan emissions steps (step.Put p)) Done × IsTransportOf plan (steps ++ step.Put p ∷ []) (put_more put p note) taken (record t { places = places })
+  puts p note places in_range fits places_are emissions some =
+      let room : nat_le plan.cap (length (here (Link p)).items) ≡ false = grind (arith, nat_tests, fits) in
+      (subst (λ rs. IsAnswer rs Done) (sym (put_tests p in_range emissions some)) (rw room refl), put_after p note places in_range (still_live p emissions some) fits places_are)
 
-  pub put_refused : (p : ℕ) → p < plan.n → length (here (Link p)).items ≡ (here (Link p)).room → (emissions : ℕ → List Note) → 0 < notes_in plan emissions steps (Pending p) →
+  pub put_refused : (p : ℕ) → p < plan.n → plan.cap ≤ length (here (Link p)).items → (emissions : ℕ → List Note) → 0 < notes_in plan emissions steps (Pending p) →
       IsAnswer (reasons plan emissions steps (step.Put p)) (Refused why.Full)
-  put_refused p in_range full emissions some = grind (arith, put_tests)
+  put_refused p in_range full emissions some =
+      let room : nat_le plan.cap (length (here (Link p)).items) ≡ true = grind (arith, nat_tests, full) in
+      subst (λ rs. IsAnswer rs (Refused why.Full)) (sym (put_tests p in_range emissions some)) (rw room refl)
+
+  -- the link of a lost process has room for the mark
+  pub mark_fits : (p : ℕ) → p < plan.n → is_dropped steps p ≡ false → length (here (Link p)).items < (here (Link p)).room
+  mark_fits p in_range live = omega (arith, (stands.held (Link p) in_range).room, rw live at (stands.held (Link p) in_range).within)
+
+  -- and gets it behind the notes that were put on it
+  pub mark_given : (p : ℕ) (places : List Held) → p < plan.n → is_dropped steps p ≡ false →
+      places ≡ set t.places p (record (here (Link p)) { items = (here (Link p)).items ++ record { from = p; note = note.Lost (length (put p)) } ∷ [] }) →
+      IsTransportOf plan (steps ++ step.Dropped p ∷ []) put taken (record t { places = places })
+  mark_given p places in_range live places_are =
+      subst (λ items. IsTransportOf plan (steps ++ s ∷ []) put items (record t { places = places })) (append-nil taken)
+      (stirred_after plan steps put taken t stands s item put places in_range (λ q yes. absurd (true≢false (sym yes))) enters
+      (let fits = rw live at (stands.held (Link p) in_range).within in grind (arith, common_steps))
+      (λ q x y is on next. grind (arith, no_link plan steps x y is next)) (λ q. sym (append-nil (put q))) given_is
+      (λ q dropped. grind (arith, dropped_push, stands.lost_known q, eqb-true)) (ap length places_are ∙ length-set t.places p _))
+    where
+      s : Step
+      s = step.Dropped p
+
+      item : Item
+      item = record { from = p; note = note.Lost (length (put p)) }
+
+      counted : count_by (puts_into plan (Link p)) steps ≡ length (put p)
+      counted = link_counts plan p steps live ∙ sym (stands.as_many p)
+
+      mark_enters : IsEntry plan put (steps ++ s ∷ []) (Link p) (length (put p)) item
+      mark_enters = Vanished (record { at = length steps; there = get_behind steps s []; put_before = ap (count_by (puts_into plan (Link p))) (take_at steps (s ∷ []) (length steps) refl) ∙ counted })
+
+      enters : (x : Place) → puts_into plan x s ≡ true → IsEntry plan put (steps ++ s ∷ []) x (count_by (puts_into plan x) steps) item
+      enters x there = rw (same_place x (Link p) there) (rw counted mark_enters)
+
+      given_is : (q : ℕ) → given (steps ++ s ∷ []) q (put q) ≡ given steps q (put q) ++ come_to plan s item q (Link q)
+      given_is q = elim (cases_eq q p) [
+        | inl same ↦ rw (same, dropped_push steps s p, live, eq-eqb p p refl) (sym (ap (λ l. l ++ note.Lost (length (put p)) ∷ []) (append-nil (put p))))
+        | inr other ↦ rw (dropped_push steps s q, ne_eqb p q (λ e. other (sym e)), ne_eqb q p other, or-false (is_dropped steps q)) (sym (append-nil (given steps q (put q))))
+      ]
 
   -- the checker took the first item of the root inbox
   pub taken_after : (item : Item) (left : List Item) (places : List Held) → (here (InboxOf Root)).items ≡ item ∷ left → places ≡ set t.places (place_number plan (InboxOf Root)) (record (here (InboxOf Root)) { items = left }) →
@@ -165,7 +233,7 @@ module _ (plan : Plan) (steps : List Step) (put : ℕ → List Note) (taken : Li
   taken_after item left places first places_are =
       let entry = first_entry (InboxOf Root) tt item left first in
       transport_after plan steps put taken t stands step.Check (InboxOf Root) item put places refl (process_of entry)
-      (λ p yes. absurd (true≢false (sym yes))) (entry_grows plan put put steps (step.Check ∷ []) (λ p i note at. at) entry)
+      (λ p yes. absurd (true≢false (sym yes))) (λ p yes. absurd (true≢false (sym yes))) (entry_grows plan put put steps (step.Check ∷ []) (λ p i note at. at) entry)
       (grind (arith, common_steps))
       (λ p. sym (append-nil (put p))) (ap length places_are ∙ length-set t.places _ _)
 
@@ -182,7 +250,7 @@ module _ (plan : Plan) (steps : List Step) (put : ℕ → List Note) (taken : Li
         entry = entry;
         process = process_of entry;
         rest = notes_along _ (Link item.from ∷ (after.in_order item.from (process_of entry)).way);
-        front = (after.in_order item.from (process_of entry)).notes;
+        front = rw (no_drop steps step.Check (InboxOf Root) item.from refl) at ((after.in_order item.from (process_of entry)).notes);
       }
 
 -- between which places a relay's step moves an item

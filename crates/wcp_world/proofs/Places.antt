@@ -1,4 +1,4 @@
-use Rattle.wcp_world.proofs.Words.{◌≡◌, ◌≢◌, ◌+◌, ◌<◌, true, false, length, Some, arith, ℕ, zero, suc, ◌*◌, ◌≤◌, get_or, Option, List, [], ◌∷◌, refl, ap, ◌∙◌, ⊎_elim, ◌++◌, replicate, ap₂, Plan, Place, is_same_place, next_place, Pending, Link, HoldOf, InboxOf, room_of, few_processes, some_process, capacity, hold_room, parent_below, attached_exists, has_leaf, IsPlaceOf, place_number, IsWay, TransportState, IsTransportOf, held_at, notes_at, notes_along, option_and_then, false_from_ne_true, cases_lt, cases_order, slice_get-get_or, option_and_then_some, Parent, Root, Relay, leaf_of, parent_of, IsSamePlan, length-append, length-replicate, get_or-replicate, get_or_append_left, get_or-append_right, Held, empty_hold}
+use Rattle.wcp_world.proofs.Words.{◌≡◌, ◌≢◌, ◌+◌, ◌<◌, true, false, length, Some, arith, ℕ, zero, suc, ◌*◌, ◌≤◌, get_or, Option, List, [], ◌∷◌, refl, ap, ◌∙◌, ⊎_elim, ◌++◌, replicate, ap₂, Plan, Place, is_same_place, next_place, Pending, Link, HoldOf, InboxOf, size_of, few_processes, some_process, capacity, hold_room, parent_below, attached_exists, has_leaf, IsPlaceOf, place_number, IsWay, TransportState, IsTransportOf, held_at, notes_at, notes_along, option_and_then, false_from_ne_true, cases_lt, cases_order, slice_get-get_or, option_and_then_some, Parent, Root, Relay, leaf_of, parent_of, IsSamePlan, length-append, length-replicate, get_or-replicate, get_or_append_left, get_or-append_right, Held, empty_hold}
 use Rattle.wcp_model.specs.PlanFault.{IsCheckedPlan}
 
 pub same_place : (x y : Place) → is_same_place x y ≡ true → x ≡ y
@@ -90,7 +90,7 @@ module _ (plan : Plan) (checked : IsCheckedPlan plan) where
 
 module _ (plan : Plan) where
   abbrev links : List Held
-  links = replicate plan.n (empty_hold plan.cap)
+  links = replicate plan.n (empty_hold (plan.cap + 1))
 
   abbrev holds : List Held
   holds = replicate (length plan.parents.items) (empty_hold plan.hold)
@@ -102,13 +102,13 @@ module _ (plan : Plan) where
   first_places = (links ++ holds) ++ inboxes
 
   length_front : length (links ++ holds) ≡ plan.n + length plan.parents.items
-  length_front = omega (arith, length-append links holds, length-replicate plan.n (empty_hold plan.cap), length-replicate (length plan.parents.items) (empty_hold plan.hold))
+  length_front = omega (arith, length-append links holds, length-replicate plan.n (empty_hold (plan.cap + 1)), length-replicate (length plan.parents.items) (empty_hold plan.hold))
 
   length_all : length first_places ≡ plan.n + length plan.parents.items + 1 + length plan.parents.items
   length_all = omega (arith, length_front, length-append (links ++ holds) inboxes, length-replicate (length plan.parents.items + 1) (empty_hold plan.cap))
 
-  -- each place is empty, with its room
-  place_is_empty : (x : Place) (default : Held) → IsPlaceOf plan x → get_or first_places (place_number plan x) default ≡ empty_hold (room_of plan x)
+  -- each place is empty, with its size
+  place_is_empty : (x : Place) (default : Held) → IsPlaceOf plan x → get_or first_places (place_number plan x) default ≡ empty_hold (size_of plan x)
   place_is_empty x default is = grind (arith, get_or-append_right, get_or-replicate, get_or_append_left, length-replicate, length_front)
 
   none_along : IsCheckedPlan plan → (p : ℕ) (x : Place) (way : List Place) → IsWay plan x way → IsPlaceOf plan x → notes_along (notes_at plan first_places p) (x ∷ way) ≡ []
@@ -124,6 +124,7 @@ module _ (plan : Plan) where
     held = λ x is. rw (ap (λ l. held_at l (place_number plan x)) places_are ∙ place_is_empty x _ is) (record { room = refl; within = omega arith; count = refl; entries = λ i item at. cc at });
     as_many = λ p. refl;
     known = λ p beyond. refl;
+    lost_known = λ p dropped. cc dropped;
     in_order = λ p in_range.
         let leaf = has_leaf plan checked p in_range in
         let way = way_of plan checked p leaf.0 leaf.1 in

@@ -48,3 +48,12 @@ pub use Rattle.wcp_world.specs.Transport.{TransportState, IsTransportOf, IsNextA
 pub use Rattle.wcp_world.specs.World.{WorldState, Stands, MakesStep, IsReached, IsWorldOf}
 pub use Rattle.wcp_world.specs.WorldView.{state_of}
 pub use Rattle.wcp_world.specs.declared.messages.Letter.{Letter}
+pub use Rattle.std.proofs.Math.Bool.{or-false}
+pub use Rattle.std.proofs.lemmas.Bool.{cases_Bool}
+pub use Rattle.std.proofs.lemmas.List.Folds.{list_any-append, list_any_at}
+pub use Rattle.std.specs.Prelude.{◌||◌}
+pub use Rattle.std.proofs.Common.{inl, inr}
+pub use Rattle.wcp_model.specs.Emission.{is_drop_of, is_dropped}
+pub use Rattle.wcp_model.specs.Occupancy.{Vanished, entered}
+pub use Rattle.wcp_model.specs.declared.step.Step.TheVariants.{Dropped}
+pub use Rattle.wcp_world.specs.Transport.{marks_in, given, size_of, IsGivenMark}
