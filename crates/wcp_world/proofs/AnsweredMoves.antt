@@ -221,9 +221,12 @@ module _ (plan : Plan) (steps : List Step) (put : ℕ → List Note) (taken : Li
       enters : (x : Place) → puts_into plan x s ≡ true → IsEntry plan put (steps ++ s ∷ []) x (count_by (puts_into plan x) steps) item
       enters x there = rw (same_place x (Link p) there) (rw counted mark_enters)
 
+      own : given (steps ++ s ∷ []) p (put p) ≡ given steps p (put p) ++ come_to plan s item p (Link p)
+      own = grind (arith, dropped_push, append-nil, eq-eqb)
+
       given_is : (q : ℕ) → given (steps ++ s ∷ []) q (put q) ≡ given steps q (put q) ++ come_to plan s item q (Link q)
       given_is q = elim (cases_eq q p) [
-        | inl same ↦ rw (same, dropped_push steps s p, live, eq-eqb p p refl) (sym (ap (λ l. l ++ note.Lost (length (put p)) ∷ []) (append-nil (put p))))
+        | inl same ↦ subst (λ r. given (steps ++ s ∷ []) r (put r) ≡ given steps r (put r) ++ come_to plan s item r (Link r)) (sym same) own
         | inr other ↦ rw (dropped_push steps s q, ne_eqb p q (λ e. other (sym e)), ne_eqb q p other, or-false (is_dropped steps q)) (sym (append-nil (given steps q (put q))))
       ]
 
