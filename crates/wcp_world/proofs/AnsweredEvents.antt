@@ -1,4 +1,4 @@
-use Rattle.wcp_world.proofs.Words.{first_reason, ◌≡◌, Bool, true, false, is_some, List, [], ◌∷◌, map, Option, None, Some, if◌then◌else◌, refl, arith, ◌≢◌, ℕ, ◌+◌, ◌<◌, ◌≤◌, ◌↔◌, cond, nat_lt, nat_le, IsTrue, MatchOption, ◌++◌, length, slice_get, slice_index, count_by, set, eqb, sym, ap, ◌∙◌, subst, subst₂, ⊎_elim, append-nil, eq-eqb, option_map, option_to_list, Why, why_of, delivery_reasons, IsPosted, IsDelivered, cases_eq, ne_eqb, nat_tests, length-set, set-get_or, take_at, sum_by_push, get_or_from_slice_get, slice_get_past, slice_get_within, MatchOption-at_some, MatchOption-at_none, most_events, Note, Step, Observe, Send, Recv, Close, Reply, Done, Refused, Computation, is_communication_of, is_send, communications, interval_at, is_closed, Call, Observed, Sent, Received, Closed, ProbeSetup, after_call, setup, is_step_of, IsStampOf, IsCallOf, IsAccepted, accepted_by, event_reasons, get_behind, stamp_grows, log_grows, length-receivers, local_state, Stamped, Core, Accepts, IsSameProbe, seal_of, Letter, IsAnswer, KeepsIfRefused, ProcessesState, AreProcessesOf, IsProbeOf, AreLettersOf, pending_at}
+use Rattle.wcp_world.proofs.Words.{first_reason, ◌≡◌, Bool, true, false, is_some, List, [], ◌∷◌, map, Option, None, Some, if◌then◌else◌, refl, arith, ◌≢◌, ℕ, ◌+◌, ◌<◌, ◌≤◌, ◌↔◌, cond, nat_lt, nat_le, IsTrue, MatchOption, ◌++◌, length, slice_get, slice_index, count_by, set, eqb, sym, ap, ◌∙◌, subst₂, ⊎_elim, append-nil, eq-eqb, option_map, option_to_list, Why, why_of, delivery_reasons, IsPosted, IsDelivered, cases_eq, ne_eqb, nat_tests, set-get_or, take_at, sum_by_push, get_or_from_slice_get, slice_get_past, slice_get_within, MatchOption-at_some, MatchOption-at_none, most_events, Note, Step, Observe, Send, Recv, Close, Reply, Done, Refused, Computation, is_communication_of, is_send, communications, interval_at, is_closed, Call, Observed, Sent, Received, Closed, ProbeSetup, after_call, setup, is_step_of, IsStampOf, IsCallOf, IsAccepted, accepted_by, event_reasons, get_behind, stamp_grows, log_grows, length-receivers, local_state, Stamped, Core, Accepts, IsSameProbe, seal_of, Letter, IsAnswer, KeepsIfRefused, ProcessesState, AreProcessesOf, IsProbeOf, AreLettersOf, pending_at}
 use Rattle.wcp_model.specs.declared.step.Why.TheVariants as why
 use Rattle.wcp_probe.specs.declared.probe.Refusal.{Refusal}
 use Rattle.wcp_probe.specs.declared.probe.Refusal.TheVariants as refusal
@@ -12,9 +12,9 @@ use Rattle.wcp_probe.specs.Refusals.{at_clock_end, observe_refusal, close_refusa
 use Rattle.std.proofs.Common.{inl, inr, ◌-◌}
 use Rattle.std.proofs.lemmas.Bool.{cases_Bool}
 use Rattle.wcp_model.specs.declared.step.Step.TheVariants.{Dropped}
-use Rattle.wcp_model.specs.Emission.{is_dropped, has_ended}
+use Rattle.wcp_model.specs.Emission.{is_drop_of, is_dropped, has_ended}
 use Rattle.wcp_world.specs.Processes.{IsLostProbeOf}
-use Rattle.wcp_world.proofs.Probes.{get_set, addressed_is, not_ahead, letters_stay, letters_posted, letters_delivered, clock_is, law_of_probe, state, observed, closed, neither, drops_none, dropped_stays, dropped_now, closed_stays, probe_stays, lost_stays, lost_probe, put_counted, KeepsLog, keeps_log}
+use Rattle.wcp_world.proofs.Probes.{addressed_is, not_ahead, letters_stay, letters_posted, letters_delivered, clock_is, law_of_probe, state, observed, closed, neither, drops_none, dropped_stays, dropped_now, closed_stays, probe_stays, other_stands, one_set, lost_probe, put_counted, KeepsLog, keeps_log}
 
 one_reason : (b : Bool) (reason : Refusal) (rest : Option Refusal) (others : Option Why) → others ≡ option_map why_of rest →
     (if b then Some (why_of reason) else others) ≡ option_map why_of (if b then Some reason else rest)
@@ -160,12 +160,12 @@ module _ (n : ℕ) (c : Computation) (put : ℕ → List Note) (app : ProcessesS
       own_probe is_call accepted same notes =
           grind (arith, log_grows n c (s ∷ []) p is.log (call ∷ []) is.is_log (rw (owner p, eq-eqb p p refl) (is_call, tt)), log_push (setup n p) is.log call)
 
-      -- the event is none of another process, and drops none
-      other : (q : ℕ) → q ≢ p → is_step_of q s ≡ false
-      other q apart = owner q ∙ ne_eqb p q (λ e. apart (sym e))
+      -- the event drops no process
+      drops : (q : ℕ) → is_drop_of q s ≡ false
+      drops q = drops_none s p q (owner p ∙ eq-eqb p p refl)
 
       stays : (q : ℕ) → is_dropped grown q ≡ is_dropped c q
-      stays q = dropped_stays c s q (drops_none s p q (owner p ∙ eq-eqb p p refl))
+      stays q = dropped_stays c s q (drops q)
 
       -- an event that is accepted
       accepts : (letters : List Letter) → first_reason (reasons s) ≡ None → IsCallOf n grown s call → Accepts core call new → IsSameProbe core new →
@@ -175,20 +175,10 @@ module _ (n : ℕ) (c : Computation) (put : ℕ → List Note) (app : ProcessesS
           let order : IsAccepted grown = accepted_push c s stands.order (λ q own. (neither (is_closed c q) (is_dropped c q) (none_holds (reasons s) 1 (has_ended c q, why.Closed) (ended_is_second n c (λ x. is_some (pending_at app x)) s q own) first)).0) (grind (arith, length-receivers, slice_get_past)) in
           let now : IsProbeOf n grown p (put p) new = own_probe is_call accepted same notes in (
             rw first refl,
-            record {
-              order = order;
-              members = length-set app.probes p new ∙ stands.members;
-              probes = λ q x at_q live_q. ⊎_elim
-                  (λ (here : (q ≡ p) × (new ≡ x)). rw (here.0, sym here.1) now)
-                  (λ (there : (q ≢ p) × (slice_get app.probes q ≡ Some x)). probe_stays n c s q (other q there.0) (put q) x (stands.probes q x there.1 (sym (stays q) ∙ live_q)))
-                  (get_set app.probes new x p q at_q);
-              lost = λ q x at_q gone. ⊎_elim
-                  (λ (here : (q ≡ p) × (new ≡ x)). cc (subst (λ k. is_dropped grown k ≡ true) here.0 gone, stays p, (open_is willing).1))
-                  (λ (there : (q ≢ p) × (slice_get app.probes q ≡ Some x)). lost_stays n c s q (other q there.0) (put q) x (stands.lost q x there.1 (sym (stays q) ∙ gone)))
-                  (get_set app.probes new x p q at_q);
-              lost_known = λ q gone. stands.lost_known q (sym (stays q) ∙ gone);
-              letters = letters_are order now;
-            },
+            one_set n c grown put put app p new letters stands order (letters_are order now)
+            (λ _. now, λ gone. cc (gone, stays p, (open_is willing).1))
+            (λ q x apart. other_stands n c s put q x (owner q ∙ ne_eqb p q (λ e. apart (sym e))) (drops q))
+            (λ q gone. stands.lost_known q (sym (stays q) ∙ gone)),
           )
 
     -- the process observes its condition
@@ -244,26 +234,17 @@ module _ (n : ℕ) (c : Computation) (put : ℕ → List Note) (app : ProcessesS
         × AreProcessesOf n (c ++ Dropped p ∷ []) put (record app { probes = set app.probes p new })
     loses willing new_is =
         let grown = c ++ Dropped p ∷ [] in
-        let stays : (q : ℕ) → q ≢ p → is_dropped grown q ≡ is_dropped c q = λ q apart. dropped_stays c (Dropped p) q (ne_eqb p q (λ e. apart (sym e))) in
+        let kept : (q : ℕ) → q ≢ p → is_drop_of q (Dropped p) ≡ false = λ q apart. ne_eqb p q (λ e. apart (sym e)) in
         let now : IsLostProbeOf n grown p (put p) new = rw new_is
             (lost_probe n grown p (put p) core (probe_stays n c (Dropped p) p refl (put p) core (live willing)) (closed_stays c (Dropped p) p refl ∙ (open_is willing).0)) in (
           lose_reasons ∙ rw willing refl,
           put_counted n c p (put p) core (live willing) stands.order in_range (open_is willing).0,
-          record {
-            order = accepted_push c (Dropped p) stands.order (λ q own. cc own) (λ q message sent. cc sent);
-            members = length-set app.probes p new ∙ stands.members;
-            probes = λ q x at_q live_q. ⊎_elim
-                (λ (here : (q ≡ p) × (new ≡ x)). cc (subst (λ k. is_dropped grown k ≡ false) here.0 live_q, dropped_now c p))
-                (λ (there : (q ≢ p) × (slice_get app.probes q ≡ Some x)). probe_stays n c (Dropped p) q refl (put q) x (stands.probes q x there.1 (sym (stays q there.0) ∙ live_q)))
-                (get_set app.probes new x p q at_q);
-            lost = λ q x at_q gone. ⊎_elim
-                (λ (here : (q ≡ p) × (new ≡ x)). rw (here.0, sym here.1) now)
-                (λ (there : (q ≢ p) × (slice_get app.probes q ≡ Some x)). lost_stays n c (Dropped p) q refl (put q) x (stands.lost q x there.1 (sym (stays q there.0) ∙ gone)))
-                (get_set app.probes new x p q at_q);
-            lost_known = λ q gone. ⊎_elim
-                (λ (here : q ≡ p). rw here in_range)
-                (λ (there : q ≢ p). stands.lost_known q (sym (stays q there) ∙ gone))
-                (cases_eq q p);
-            letters = letters_stay n c app.letters stands.letters (Dropped p) refl (λ message. refl);
-          },
+          one_set n c grown put put app p new app.letters stands (accepted_push c (Dropped p) stands.order (λ q own. cc own) (λ q message sent. cc sent))
+          (letters_stay n c app.letters stands.letters (Dropped p) refl (λ message. refl))
+          (λ live. cc (live, dropped_now c p), λ _. now)
+          (λ q x apart. other_stands n c (Dropped p) put q x refl (kept q apart))
+          (λ q gone. ⊎_elim
+              (λ (same : q ≡ p). rw same in_range)
+              (λ (apart : q ≢ p). stands.lost_known q (sym (dropped_stays c (Dropped p) q (kept q apart)) ∙ gone))
+              (cases_eq q p)),
         )

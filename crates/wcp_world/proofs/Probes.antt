@@ -1,4 +1,4 @@
-use Rattle.wcp_world.proofs.Words.{common_steps, ◌≡◌, ◌≢◌, ℕ, suc, ◌+◌, ◌<◌, ◌≤◌, ◌⊎◌, true, false, List, [], ◌∷◌, ◌++◌, length, slice_get, slice_index, count_by, set, None, Some, Option, length-append, refl, sym, ap, ◌∙◌, ⊎_elim, append-nil, eqb-true, eq-eqb, le_refl, arith, ◌↔◌, Bool, IsTrue, if◌then◌else◌, IsSome, subst, replicate, cases_lt, flat_map-append, length-map, map-append, length-set, length-replicate, sum_by-take-le, gets, slice_get-get_or, slice_get-map, get_or_from_slice_get, slice_get_cases, slice_get_within, Step, Send, Recv, Computation, IsState, is_send, interval_at, communications, IsStampOf, IsAccepted, Observed, Closed, ProbeState, after_call, setup, state_of_log, HasClockAndEmissions, receivers, is_receive_of, was_received, was_sent_to, span, local_state, length-receivers, stamp_grows, get_push, seal_of, Stamped, Letter, AreLettersOf, IsLetterOf, IsProbeOf, ProcessesState, AreProcessesOf, CountsEmissions, WasPut, pending_at, is_addressed, option_to_list, Note, is_closed, AreEmissions, Core, IsSameProbe, setup_of, log_counts_notes, put_more, most_events}
+use Rattle.wcp_world.proofs.Words.{common_steps, ◌≡◌, ◌≢◌, ℕ, suc, ◌+◌, ◌<◌, ◌≤◌, ◌⊎◌, true, false, List, [], ◌∷◌, ◌++◌, length, slice_get, slice_index, count_by, set, None, Some, length-append, refl, sym, ap, ◌∙◌, ⊎_elim, append-nil, eqb-true, eq-eqb, le_refl, arith, ◌↔◌, Bool, IsTrue, if◌then◌else◌, IsSome, subst, replicate, cases_lt, flat_map-append, length-map, map-append, length-set, length-replicate, sum_by-take-le, gets, slice_get-get_or, slice_get-map, get_or_from_slice_get, slice_get_cases, slice_get_within, Step, Send, Recv, Computation, IsState, is_send, interval_at, communications, IsStampOf, IsAccepted, Observed, Closed, ProbeState, after_call, setup, state_of_log, HasClockAndEmissions, receivers, is_receive_of, was_received, was_sent_to, span, local_state, length-receivers, stamp_grows, get_push, seal_of, Stamped, Letter, AreLettersOf, IsLetterOf, IsProbeOf, ProcessesState, AreProcessesOf, CountsEmissions, WasPut, pending_at, is_addressed, option_to_list, Note, is_closed, AreEmissions, Core, IsSameProbe, setup_of, log_counts_notes, put_more, most_events}
 use Rattle.std.specs.Prelude.{◌||◌, ◌-◌}
 use Rattle.std.proofs.Common.{inl, inr}
 use Rattle.std.proofs.lemmas.Bool.{cases_Bool, ne_eqb, false_from_ne_true}
@@ -149,7 +149,7 @@ module _ (n : ℕ) (c : Computation) (s : Step) (q : ℕ) (other : is_step_of q 
   probe_stays put core is = record { log = is.log; is_log = log_stays is.log is.is_log; stands = is.stands; watch = is.watch; limit = is.limit; made = is.made; notes = is.notes }
 
   -- where it is lost too
-  pub lost_stays : (put : List Note) (core : Core) → IsLostProbeOf n c q put core → IsLostProbeOf n (c ++ s ∷ []) q put core
+  lost_stays : (put : List Note) (core : Core) → IsLostProbeOf n c q put core → IsLostProbeOf n (c ++ s ∷ []) q put core
   lost_stays put core is = record {
     log = is.log;
     is_log = log_stays is.log is.is_log;
@@ -161,6 +161,27 @@ module _ (n : ℕ) (c : Computation) (s : Step) (q : ℕ) (other : is_step_of q 
     rest = is.rest;
     notes = is.notes;
   }
+
+-- a probe stands for its process, which is lost or isn't
+abbrev pub StandsForProcess : ℕ → Computation → (ℕ → List Note) → ℕ → Core → Type 0
+StandsForProcess n c put q core = (is_dropped c q ≡ false → IsProbeOf n c q (put q) core) × (is_dropped c q ≡ true → IsLostProbeOf n c q (put q) core)
+
+-- and does so after a step that is none of the process, and doesn't drop it
+pub other_stands : (n : ℕ) (c : Computation) (s : Step) (put : ℕ → List Note) (q : ℕ) (core : Core) → is_step_of q s ≡ false → is_drop_of q s ≡ false → StandsForProcess n c put q core → StandsForProcess n (c ++ s ∷ []) put q core
+other_stands n c s put q core other kept was =
+    let same = sym (dropped_stays c s q kept) in
+    (λ live. probe_stays n c s q other (put q) core (was.0 (same ∙ live)), λ gone. lost_stays n c s q other (put q) core (was.1 (same ∙ gone)))
+
+-- processes of which one probe was set
+pub one_set : (n : ℕ) (c d : Computation) (put more : ℕ → List Note) (app : ProcessesState) (p : ℕ) (new : Core) (letters : List Letter) → AreProcessesOf n c put app → IsAccepted d → AreLettersOf n d letters →
+    StandsForProcess n d more p new → ((q : ℕ) (core : Core) → q ≢ p → StandsForProcess n c put q core → StandsForProcess n d more q core) → ((q : ℕ) → is_dropped d q ≡ true → q < n) →
+    AreProcessesOf n d more (record { probes = set app.probes p new; letters = letters })
+one_set n c d put more app p new letters stands order are here there known =
+    let each : (q : ℕ) (x : Core) → slice_get (set app.probes p new) q ≡ Some x → StandsForProcess n d more q x = λ q x at. ⊎_elim
+        (λ (same : (q ≡ p) × (new ≡ x)). subst (λ k. StandsForProcess n d more k x) (sym same.0) (subst (StandsForProcess n d more p) same.1 here))
+        (λ (apart : (q ≢ p) × (slice_get app.probes q ≡ Some x)). there q x apart.0 (stands.probes q x apart.1, stands.lost q x apart.1))
+        (get_set app.probes new x p q at) in
+    record { order = order; members = length-set app.probes p new ∙ stands.members; probes = λ q x at. (each q x at).0; lost = λ q x at. (each q x at).1; lost_known = known; letters = are }
 
 length-snapshots : (number : ℕ) (clocks : List (List ℕ)) → length (snapshots_from number clocks) ≡ length clocks
 length-snapshots number [] = refl
@@ -261,20 +282,10 @@ module _ (app : ProcessesState) (p : ℕ) (core : Core) (at : slice_get app.prob
   put_stands new new_is n c put note stands pending =
       let not_gone : is_dropped c p ≡ true → ⊥ = λ gone. cc (pending_of_lost n c put app stands p gone, pending) in
       let live = false_from_ne_true (is_dropped c p) not_gone in
-      let apart_put : (q : ℕ) → q ≢ p → put_more put p note q ≡ put q = λ q apart. rw (ne_eqb q p apart) refl in record {
-        order = stands.order;
-        members = length-set app.probes p new ∙ stands.members;
-        probes = λ q x at_q live_q. ⊎_elim
-            (λ (here : (q ≡ p) × (new ≡ x)). rw (here.0, sym here.1, new_is) (probe_put n c put note (stands.probes p core at live) pending))
-            (λ (there : (q ≢ p) × (slice_get app.probes q ≡ Some x)). rw (apart_put q there.0) (stands.probes q x there.1 live_q))
-            (get_set app.probes new x p q at_q);
-        lost = λ q x at_q gone. ⊎_elim
-            (λ (here : (q ≡ p) × (new ≡ x)). absurd (not_gone (subst (λ k. is_dropped c k ≡ true) here.0 gone)))
-            (λ (there : (q ≢ p) × (slice_get app.probes q ≡ Some x)). rw (apart_put q there.0) (stands.lost q x there.1 gone))
-            (get_set app.probes new x p q at_q);
-        lost_known = stands.lost_known;
-        letters = stands.letters;
-      }
+      one_set n c c put (put_more put p note) app p new app.letters stands stands.order stands.letters
+      (λ _. rw new_is (probe_put n c put note (stands.probes p core at live) pending), λ gone. absurd (not_gone gone))
+      (λ q x apart was. subst (λ notes. (is_dropped c q ≡ false → IsProbeOf n c q notes x) × (is_dropped c q ≡ true → IsLostProbeOf n c q notes x)) (sym (rw (ne_eqb q p apart) refl)) was)
+      stands.lost_known
 
 -- a process whose note is pending has a probe
 pub pending_within : (app : ProcessesState) (p : ℕ) → IsSome (pending_at app p) → p < length app.probes

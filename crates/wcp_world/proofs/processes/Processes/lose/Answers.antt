@@ -1,4 +1,4 @@
-use Rattle.std.proofs.Common.{◌≡◌, arith}
+use Rattle.std.proofs.Common.{◌≡◌}
 use Rattle.wcp_world.proofs.Words.{None, Some, Option, length, is_some, option_to_list, Note, refl, sym, ◌∙◌, slice_get_read}
 use mir.Val.{bool_byte}
 use Rattle.wcp_world.proofs.AnsweredEvents.{lose_reasons, loses}
