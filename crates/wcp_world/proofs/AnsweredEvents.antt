@@ -176,9 +176,9 @@ module _ (n : ℕ) (c : Computation) (put : ℕ → List Note) (app : ProcessesS
           let now : IsProbeOf n grown p (put p) new = own_probe is_call accepted same notes in (
             rw first refl,
             one_set n c grown put put app p new letters stands order (letters_are order now)
-            (λ _. now, λ gone. cc (gone, stays p, (open_is willing).1))
-            (λ q x apart. other_stands n c s put q x (owner q ∙ ne_eqb p q (λ e. apart (sym e))) (drops q))
-            (λ q gone. stands.lost_known q (sym (stays q) ∙ gone)),
+                (λ _. now, λ gone. cc (gone, stays p, (open_is willing).1))
+                (λ q x apart. other_stands n c s put q x (owner q ∙ ne_eqb p q (λ e. apart (sym e))) (drops q))
+                (λ q gone. stands.lost_known q (sym (stays q) ∙ gone)),
           )
 
     -- the process observes its condition
@@ -236,14 +236,14 @@ module _ (n : ℕ) (c : Computation) (put : ℕ → List Note) (app : ProcessesS
         let grown = c ++ Dropped p ∷ [] in
         let kept : (q : ℕ) → q ≢ p → is_drop_of q (Dropped p) ≡ false = λ q apart. ne_eqb p q (λ e. apart (sym e)) in
         let now : IsLostProbeOf n grown p (put p) new = rw new_is
-            (lost_probe n grown p (put p) core (probe_stays n c (Dropped p) p refl (put p) core (live willing)) (closed_stays c (Dropped p) p refl ∙ (open_is willing).0)) in (
+        (lost_probe n grown p (put p) core (probe_stays n c (Dropped p) p refl (put p) core (live willing)) (closed_stays c (Dropped p) p refl ∙ (open_is willing).0)) in (
           lose_reasons ∙ rw willing refl,
           put_counted n c p (put p) core (live willing) stands.order in_range (open_is willing).0,
           one_set n c grown put put app p new app.letters stands (accepted_push c (Dropped p) stands.order (λ q own. cc own) (λ q message sent. cc sent))
-          (letters_stay n c app.letters stands.letters (Dropped p) refl (λ message. refl))
-          (λ live. cc (live, dropped_now c p), λ _. now)
-          (λ q x apart. other_stands n c (Dropped p) put q x refl (kept q apart))
-          (λ q gone. ⊎_elim
+              (letters_stay n c app.letters stands.letters (Dropped p) refl (λ message. refl))
+              (λ live. cc (live, dropped_now c p), λ _. now)
+              (λ q x apart. other_stands n c (Dropped p) put q x refl (kept q apart))
+              (λ q gone. ⊎_elim
               (λ (same : q ≡ p). rw same in_range)
               (λ (apart : q ≢ p). stands.lost_known q (sym (dropped_stays c (Dropped p) q (kept q apart)) ∙ gone))
               (cases_eq q p)),

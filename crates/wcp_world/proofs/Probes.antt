@@ -178,9 +178,9 @@ pub one_set : (n : ℕ) (c d : Computation) (put more : ℕ → List Note) (app 
     AreProcessesOf n d more (record { probes = set app.probes p new; letters = letters })
 one_set n c d put more app p new letters stands order are here there known =
     let each : (q : ℕ) (x : Core) → slice_get (set app.probes p new) q ≡ Some x → StandsForProcess n d more q x = λ q x at. ⊎_elim
-        (λ (same : (q ≡ p) × (new ≡ x)). subst (λ k. StandsForProcess n d more k x) (sym same.0) (subst (StandsForProcess n d more p) same.1 here))
-        (λ (apart : (q ≢ p) × (slice_get app.probes q ≡ Some x)). there q x apart.0 (stands.probes q x apart.1, stands.lost q x apart.1))
-        (get_set app.probes new x p q at) in
+    (λ (same : (q ≡ p) × (new ≡ x)). subst (λ k. StandsForProcess n d more k x) (sym same.0) (subst (StandsForProcess n d more p) same.1 here))
+    (λ (apart : (q ≢ p) × (slice_get app.probes q ≡ Some x)). there q x apart.0 (stands.probes q x apart.1, stands.lost q x apart.1))
+    (get_set app.probes new x p q at) in
     record { order = order; members = length-set app.probes p new ∙ stands.members; probes = λ q x at. (each q x at).0; lost = λ q x at. (each q x at).1; lost_known = known; letters = are }
 
 length-snapshots : (number : ℕ) (clocks : List (List ℕ)) → length (snapshots_from number clocks) ≡ length clocks
