@@ -1,4 +1,7 @@
-use Rattle.wcp_world.proofs.Words.{common_steps, ◌≡◌, ◌≢◌, ℕ, ◌+◌, ◌<◌, ◌≤◌, ◌⊎◌, true, false, List, [], ◌∷◌, ◌++◌, length, slice_get, slice_index, count_by, set, None, Some, refl, sym, ap, ◌∙◌, ⊎_elim, append-nil, eqb-true, eq-eqb, le_refl, arith, ◌↔◌, Bool, IsTrue, if◌then◌else◌, IsSome, subst, replicate, cases_lt, flat_map-append, length-map, map-append, length-set, length-replicate, sum_by-take-le, gets, slice_get-get_or, slice_get-map, get_or_from_slice_get, slice_get_cases, slice_get_within, Step, Send, Recv, Computation, IsState, is_send, interval_at, communications, IsStampOf, IsAccepted, Observed, Closed, ProbeState, after_call, setup, state_of_log, HasClockAndEmissions, receivers, is_receive_of, was_received, was_sent_to, span, local_state, length-receivers, stamp_grows, get_push, seal_of, Stamped, Letter, AreLettersOf, IsLetterOf, IsProbeOf, ProcessesState, AreProcessesOf, CountsEmissions, WasPut, pending_at, is_addressed, option_to_list, Note, is_closed, AreEmissions, Core, IsSameProbe, setup_of, log_counts_notes, put_more, most_events}
+use Rattle.wcp_world.proofs.Words.{common_steps, ◌≡◌, ◌≢◌, ℕ, suc, ◌+◌, ◌<◌, ◌≤◌, ◌⊎◌, true, false, List, [], ◌∷◌, ◌++◌, length, slice_get, slice_index, count_by, set, None, Some, length-append, refl, sym, ap, ◌∙◌, ⊎_elim, append-nil, eqb-true, eq-eqb, le_refl, arith, ◌↔◌, Bool, IsTrue, if◌then◌else◌, IsSome, subst, replicate, cases_lt, flat_map-append, length-map, map-append, length-set, length-replicate, sum_by-take-le, gets, slice_get-get_or, slice_get-map, get_or_from_slice_get, slice_get_cases, slice_get_within, Step, Send, Recv, Computation, IsState, is_send, interval_at, communications, IsStampOf, IsAccepted, Observed, Closed, ProbeState, after_call, setup, state_of_log, HasClockAndEmissions, receivers, is_receive_of, was_received, was_sent_to, span, local_state, length-receivers, stamp_grows, get_push, seal_of, Stamped, Letter, AreLettersOf, IsLetterOf, IsProbeOf, ProcessesState, AreProcessesOf, CountsEmissions, WasPut, pending_at, is_addressed, option_to_list, Note, is_closed, AreEmissions, Core, IsSameProbe, setup_of, log_counts_notes, put_more, most_events}
+use Rattle.std.specs.Prelude.{◌||◌, ◌-◌}
+use Rattle.std.proofs.Common.{inl, inr}
+use Rattle.std.proofs.lemmas.Bool.{cases_Bool, ne_eqb, false_from_ne_true}
 use Rattle.std.proofs.Math.Bool.{or-false, or-true}
 use Rattle.std.proofs.Math.Seq.{map-set_same}
 use Rattle.std.proofs.lemmas.List.Folds.{list_any-append, Any-from_list_any}
@@ -6,6 +9,13 @@ use Rattle.wcp_model.proofs.EventPlaces.{event_of_send, event_below}
 use Rattle.wcp_model.proofs.RunningClock.{clock_counts}
 use Rattle.wcp_clock.specs.declared.note.Note.TheVariants as note
 use Rattle.wcp_model.proofs.RunningLog.{log_law_holds}
+use Rattle.wcp_model.proofs.GrowingLogs.{log_grows}
+use Rattle.wcp_model.proofs.RisingClocks.{emitted_clocks}
+use Rattle.wcp_model.specs.declared.step.Step.TheVariants.{Dropped}
+use Rattle.wcp_model.specs.Emission.{is_close_of, is_drop_of, is_dropped, has_ended, snapshots_from}
+use Rattle.wcp_model.specs.ProbeLog.{Call, is_step_of, IsLogOf}
+use Rattle.wcp_model.specs.Report.{snapshot_clocks}
+use Rattle.wcp_world.specs.Processes.{IsLostProbeOf}
 
 -- an element of a list with one written anew is that one, or stands there still
 pub get_set : {X : Type 0} (xs : List X) (y z : X) (i k : ℕ) → slice_get (set xs i y) k ≡ Some z →
@@ -106,25 +116,161 @@ module _ (n : ℕ) (c : Computation) (p : ℕ) (put : List Note) (core : Core) (
       IsSameProbe core new × ((after_call p state Closed).notes ≡ put ++ option_to_list new.pending)
   closed new nothing new_is = rw (new_is, all_put nothing, emitted_is) (record { watch = refl; limit = refl; made = refl }, refl)
 
-module _ (n : ℕ) (c : Computation) (put : ℕ → List Note) (app : ProcessesState) (stands : AreProcessesOf n c put app) (p : ℕ) (within : p < n) where
-  -- the notes that were put of a process, followed by what is pending, are its emissions
-  pub put_and_pending : AreEmissions n c p (put p ++ option_to_list (pending_at app p))
-  put_and_pending = ⊎_elim
-      (λ (here : (core : Core) × (p < length app.probes) × (slice_get app.probes p ≡ Some core) × _).
-      let is = stands.probes p here.0 here.2 in
-      rw here.2 (subst (AreEmissions n c p) is.notes (law_of_probe n c p (put p) here.0 is stands.order within).emissions))
+-- of two tests of which neither holds, each doesn't
+pub neither : (a b : Bool) → (a || b) ≡ false → (a ≡ false) × (b ≡ false)
+neither false b none = (refl, none)
+neither true b none = cc
+
+-- a step that is none of a process doesn't close it
+closes_no_other : (s : Step) (q : ℕ) → is_step_of q s ≡ false → is_close_of q s ≡ false
+closes_no_other s q other = grind arith
+
+-- a step of some process is no drop
+pub drops_none : (s : Step) (p q : ℕ) → is_step_of p s ≡ true → is_drop_of q s ≡ false
+drops_none s p q own = grind arith
+
+pub closed_stays : (c : Computation) (s : Step) (q : ℕ) → is_close_of q s ≡ false → is_closed (c ++ s ∷ []) q ≡ is_closed c q
+closed_stays c s q other = list_any-append (is_close_of q) c (s ∷ []) ∙ rw other (or-false (is_closed c q))
+
+-- a step that doesn't drop a process leaves it dropped or not, as it was
+pub dropped_stays : (c : Computation) (s : Step) (q : ℕ) → is_drop_of q s ≡ false → is_dropped (c ++ s ∷ []) q ≡ is_dropped c q
+dropped_stays c s q other = list_any-append (is_drop_of q) c (s ∷ []) ∙ rw other (or-false (is_dropped c q))
+
+pub dropped_now : (c : Computation) (p : ℕ) → is_dropped (c ++ Dropped p ∷ []) p ≡ true
+dropped_now c p = list_any-append (is_drop_of p) c (Dropped p ∷ []) ∙ rw (eq-eqb p p refl) (or-true (is_dropped c p))
+
+module _ (n : ℕ) (c : Computation) (s : Step) (q : ℕ) (other : is_step_of q s ≡ false) where
+  -- a step that is none of a process leaves its log
+  log_stays : (log : List Call) → IsLogOf n c q log → IsLogOf n (c ++ s ∷ []) q log
+  log_stays log is = subst (IsLogOf n (c ++ s ∷ []) q) (append-nil log) (log_grows n c (s ∷ []) q log [] is (rw other tt))
+
+  -- and what its probe stands for
+  pub probe_stays : (put : List Note) (core : Core) → IsProbeOf n c q put core → IsProbeOf n (c ++ s ∷ []) q put core
+  probe_stays put core is = record { log = is.log; is_log = log_stays is.log is.is_log; stands = is.stands; watch = is.watch; limit = is.limit; made = is.made; notes = is.notes }
+
+  -- where it is lost too
+  lost_stays : (put : List Note) (core : Core) → IsLostProbeOf n c q put core → IsLostProbeOf n (c ++ s ∷ []) q put core
+  lost_stays put core is = record {
+    log = is.log;
+    is_log = log_stays is.log is.is_log;
+    emitted = is.emitted;
+    made = is.made;
+    closed = is.closed;
+    nothing = is.nothing;
+    without_close = closed_stays c s q (closes_no_other s q other) ∙ is.without_close;
+    rest = is.rest;
+    notes = is.notes;
+  }
+
+-- a probe stands for its process, which is lost or isn't
+abbrev pub StandsForProcess : ℕ → Computation → (ℕ → List Note) → ℕ → Core → Type 0
+StandsForProcess n c put q core = (is_dropped c q ≡ false → IsProbeOf n c q (put q) core) × (is_dropped c q ≡ true → IsLostProbeOf n c q (put q) core)
+
+-- and does so after a step that is none of the process, and doesn't drop it
+pub other_stands : (n : ℕ) (c : Computation) (s : Step) (put : ℕ → List Note) (q : ℕ) (core : Core) → is_step_of q s ≡ false → is_drop_of q s ≡ false → StandsForProcess n c put q core → StandsForProcess n (c ++ s ∷ []) put q core
+other_stands n c s put q core other kept was =
+    let same = sym (dropped_stays c s q kept) in
+    (λ live. probe_stays n c s q other (put q) core (was.0 (same ∙ live)), λ gone. lost_stays n c s q other (put q) core (was.1 (same ∙ gone)))
+
+-- processes of which one probe was set
+pub one_set : (n : ℕ) (c d : Computation) (put more : ℕ → List Note) (app : ProcessesState) (p : ℕ) (new : Core) (letters : List Letter) → AreProcessesOf n c put app → IsAccepted d → AreLettersOf n d letters →
+    StandsForProcess n d more p new → ((q : ℕ) (core : Core) → q ≢ p → StandsForProcess n c put q core → StandsForProcess n d more q core) → ((q : ℕ) → is_dropped d q ≡ true → q < n) →
+    AreProcessesOf n d more (record { probes = set app.probes p new; letters = letters })
+one_set n c d put more app p new letters stands order are here there known =
+    let each : (q : ℕ) (x : Core) → slice_get (set app.probes p new) q ≡ Some x → StandsForProcess n d more q x = λ q x at. ⊎_elim
+    (λ (same : (q ≡ p) × (new ≡ x)). subst (λ k. StandsForProcess n d more k x) (sym same.0) (subst (StandsForProcess n d more p) same.1 here))
+    (λ (apart : (q ≢ p) × (slice_get app.probes q ≡ Some x)). there q x apart.0 (stands.probes q x apart.1, stands.lost q x apart.1))
+    (get_set app.probes new x p q at) in
+    record { order = order; members = length-set app.probes p new ∙ stands.members; probes = λ q x at. (each q x at).0; lost = λ q x at. (each q x at).1; lost_known = known; letters = are }
+
+length-snapshots : (number : ℕ) (clocks : List (List ℕ)) → length (snapshots_from number clocks) ≡ length clocks
+length-snapshots number [] = refl
+length-snapshots number (clock ∷ clocks) = ap suc (length-snapshots (number + 1) clocks)
+
+-- the probe of a process that is lost with its last note pending, which then is gone
+pub lost_probe : (n : ℕ) (c : Computation) (p : ℕ) (put : List Note) (core : Core) → IsProbeOf n c p put core → is_closed c p ≡ false → IsLostProbeOf n c p put (record core { closed = true; pending = None })
+lost_probe n c p put core is not_closed = record {
+  log = is.log;
+  is_log = is.is_log;
+  emitted = emitted_is n c p put core is;
+  made = is.made;
+  closed = refl;
+  nothing = refl;
+  without_close = not_closed;
+  rest = option_to_list core.pending;
+  notes = is.notes;
+}
+
+-- the emissions of a process that isn't closed are snapshots
+all_snapshots : (n : ℕ) (c : Computation) (p : ℕ) (notes : List Note) → AreEmissions n c p notes → is_closed c p ≡ false → length notes ≡ length (snapshot_clocks notes)
+all_snapshots n c p notes emitted is_open =
+    let only : notes ≡ snapshots_from 0 emitted.clocks = rw (is_open, append-nil (snapshots_from 0 emitted.clocks)) at emitted.notes_are in
+    ap length only ∙ length-snapshots 0 emitted.clocks ∙ sym (ap length (emitted_clocks n c p notes emitted))
+
+-- the probe of a process that isn't closed counts the notes that were put, and the one that is pending
+pub put_counted : (n : ℕ) (c : Computation) (p : ℕ) (put : List Note) (core : Core) → IsProbeOf n c p put core → IsAccepted c → p < n → is_closed c p ≡ false →
+    core.emitted - length (option_to_list core.pending) ≡ length put
+put_counted n c p put core is order in_range is_open =
+    let s = state n c p put core is in
+    let as_many = all_snapshots n c p s.notes (law_of_probe n c p put core is order in_range).emissions is_open in
+    omega (arith, emitted_is n c p put core is, (log_counts_notes n p is.log).snapshots, as_many, ap length is.notes, length-append put (option_to_list core.pending))
+
+-- what a probe keeps of the log of its process, whether that is lost or not
+pub record KeepsLog (n : ℕ) (c : Computation) (p : ℕ) (core : Core) : Type 0 where
+  pub log : List Call
+  pub is_log : IsLogOf n c p log
+  pub emitted : core.emitted ≡ (state_of_log (setup n p) log).snapshots
+  pub made : setup_of core ≡ setup n p
+  pub ended : has_ended c p ≡ core.closed
+
+module _ (n : ℕ) (c : Computation) (put : ℕ → List Note) (app : ProcessesState) (stands : AreProcessesOf n c put app) (p : ℕ) where
+  -- a process has a probe
+  probe_within : p < n → (core : Core) × (slice_get app.probes p ≡ Some core)
+  probe_within within = ⊎_elim
+      (λ (here : (core : Core) × (p < length app.probes) × (slice_get app.probes p ≡ Some core) × _). (here.0, here.2))
       (λ (past : (length app.probes ≤ p) × _). absurd (omega (arith, past.0, stands.members)))
       (slice_get_cases app.probes p).1
+
+  pub keeps_log : (core : Core) → slice_get app.probes p ≡ Some core → p < n → KeepsLog n c p core
+  keeps_log core at within = elim (cases_Bool (is_dropped c p)) [
+    | inl gone ↦
+        let is = stands.lost p core at gone in
+        record { log = is.log; is_log = is.is_log; emitted = is.emitted; made = is.made; ended = rw (gone, is.closed) (or-true (is_closed c p)) }
+    | inr live ↦
+        let is = stands.probes p core at live in
+        record { log = is.log; is_log = is.is_log; emitted = emitted_is n c p (put p) core is; made = is.made; ended = rw live (or-false (is_closed c p) ∙ is_closed_as n c p (put p) core is stands.order within) }
+  ]
+
+  -- the notes that were put of a process, followed by what is pending, are its emissions
+  pub put_and_pending : p < n → is_dropped c p ≡ false → AreEmissions n c p (put p ++ option_to_list (pending_at app p))
+  put_and_pending within live =
+      let (core, at) = probe_within within in
+      let is = stands.probes p core at live in
+      rw at (subst (AreEmissions n c p) is.notes (law_of_probe n c p (put p) core is stands.order within).emissions)
+
+  -- those of a lost process are its emissions with more behind them, and no mark is among these
+  pub put_and_gone : is_dropped c p ≡ true → (rest : List Note) × AreEmissions n c p (put p ++ rest) × (is_closed c p ≡ false)
+  put_and_gone gone =
+      let within = stands.lost_known p gone in
+      let (core, at) = probe_within within in
+      let is = stands.lost p core at gone in
+      (is.rest, subst (AreEmissions n c p) is.notes (log_law_holds n c p is.log stands.order within is.is_log).emissions, is.without_close)
+
+  -- nothing is pending at a lost process
+  pub pending_of_lost : is_dropped c p ≡ true → pending_at app p ≡ None
+  pending_of_lost gone =
+      let (core, at) = probe_within (stands.lost_known p gone) in
+      rw at (stands.lost p core at gone).nothing
 
 module _ (app : ProcessesState) (p : ℕ) (core : Core) (at : slice_get app.probes p ≡ Some core) where
   -- a probe counts the snapshots among the emissions of its process
   pub emitted_counts : CountsEmissions app p core.emitted
   emitted_counts n c put stands =
-      let is = stands.probes p core at in
-      let within : p < n = omega (arith, slice_get_within app.probes p core at, stands.members) in (
-        (state n c p (put p) core is).notes,
-        (law_of_probe n c p (put p) core is stands.order within).emissions,
-        emitted_is n c p (put p) core is ∙ (log_counts_notes n p is.log).snapshots,
+      let within : p < n = omega (arith, slice_get_within app.probes p core at, stands.members) in
+      let is = keeps_log n c put app stands p core at within in (
+        (state_of_log (setup n p) is.log).notes,
+        (log_law_holds n c p is.log stands.order within is.is_log).emissions,
+        is.emitted ∙ (log_counts_notes n p is.log).snapshots,
       )
 
   -- the probe whose pending note was put
@@ -133,7 +279,13 @@ module _ (app : ProcessesState) (p : ℕ) (core : Core) (at : slice_get app.prob
   probe_put n c put note is pending = grind (arith, append-nil)
 
   pub put_stands : (new : Core) → new ≡ record core { pending = None } → WasPut app p (record app { probes = set app.probes p new })
-  put_stands new new_is n c put note stands pending = grind (arith, get_set, length-set, probe_put)
+  put_stands new new_is n c put note stands pending =
+      let not_gone : is_dropped c p ≡ true → ⊥ = λ gone. cc (pending_of_lost n c put app stands p gone, pending) in
+      let live = false_from_ne_true (is_dropped c p) not_gone in
+      one_set n c c put (put_more put p note) app p new app.letters stands stands.order stands.letters
+      (λ _. rw new_is (probe_put n c put note (stands.probes p core at live) pending), λ gone. absurd (not_gone gone))
+      (λ q x apart was. subst (λ notes. (is_dropped c q ≡ false → IsProbeOf n c q notes x) × (is_dropped c q ≡ true → IsLostProbeOf n c q notes x)) (sym (rw (ne_eqb q p apart) refl)) was)
+      stands.lost_known
 
 -- a process whose note is pending has a probe
 pub pending_within : (app : ProcessesState) (p : ℕ) → IsSome (pending_at app p) → p < length app.probes

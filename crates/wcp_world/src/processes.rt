@@ -112,7 +112,8 @@ impl Processes {
         if probe.closed() {
             return Err(Why::Closed);
         }
-        let put = probe.emitted() - u32::from(probe.pending().is_some());
+        let unput = u32::from(probe.pending().is_some());
+        let put = probe.emitted().saturating_sub(unput);
         probe.lose();
         Ok(put)
     }
