@@ -107,16 +107,19 @@ replay
 
   `took 1 snap 0 0 0` names the process, the number of its snapshot, and the clock of
   the snapshot; `took 1 close 1` is the close mark of a process, with the number of its
-  snapshots. `found` names the earliest moment of all that happened, and it stays so
-  whatever steps follow. Where no moment is found, the first line of the outcome is
-  `none` once the close mark of every process was taken, and then there was none; until
-  then it is `undecided`. A step that can't be done changes nothing, and its reply is
-  `refused` with the reason. The steps are
+  snapshots; `took 1 lost 1` is the mark of a process that was lost, with the number of
+  snapshots that it had put. `found` names the earliest moment of all that happened, and
+  it stays so whatever steps follow. Where no moment is found, the first line of the
+  outcome is `none` once the close mark of every process was taken, and then there was
+  none; until then it is `undecided`. A process that is lost has no close mark, so after
+  a `drop` it is never `none`. A step that can't be done changes nothing, and its reply
+  is `refused` with the reason. The steps are
 
       observe P true    process P finds its condition true (or `false`)
       send P Q          P sends a message to Q; the messages sent are numbered 0, 1, 2, ..
       recv P M          P receives message number M
       close P           P ends; this makes a close mark, which goes the way of a snapshot
+      drop P            P vanishes without a close; a mark of its loss enters its link
       put P             P puts the snapshot that waits there into its link
       admit R P         relay R takes the first snapshot in the link of P
       pull R            relay R takes the first snapshot in its inbox

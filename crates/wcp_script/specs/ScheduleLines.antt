@@ -9,11 +9,11 @@ use Rattle.wcp_script.specs.declared.fault.FaultKind.TheVariants as kind
 use Rattle.wcp_script.specs.Lines.{TextLine, words_of}
 use Rattle.wcp_script.specs.Judgement.{◌>>=◌, number_in}
 
--- The step lines of a schedule begin with one of nine words.
+-- The step lines of a schedule begin with one of ten words.
 abbrev pub is_schedule_word : List ℕ → Bool
 is_schedule_word word =
     list_any (bytes_eq word)
-    (codes "observe" ∷ codes "send" ∷ codes "recv" ∷ codes "close"
+    (codes "observe" ∷ codes "send" ∷ codes "recv" ∷ codes "close" ∷ codes "drop"
     ∷ codes "put" ∷ codes "admit" ∷ codes "pull" ∷ codes "pass" ∷ codes "check" ∷ [])
 
 -- What `observe P true` and `observe P false` say, by the words after the first.
@@ -23,14 +23,15 @@ observation process keyword =
     else (if bytes_eq keyword (codes "false") then number_in process >>= (λ p. Ok (step.Observe p false))
     else Err kind.Line)
 
--- What a line of two words says: `close P`, `put P`, `pull R`, `pass R`.
+-- What a line of two words says: `close P`, `drop P`, `put P`, `pull R`, `pass R`.
 abbrev pub step_of_one : List ℕ → List ℕ → Result Step FaultKind
 step_of_one first number =
     if bytes_eq first (codes "close") then number_in number >>= (λ p. Ok (step.Close p))
+    else (if bytes_eq first (codes "drop") then number_in number >>= (λ p. Ok (step.Dropped p))
     else (if bytes_eq first (codes "put") then number_in number >>= (λ p. Ok (step.Put p))
     else (if bytes_eq first (codes "pull") then number_in number >>= (λ relay. Ok (step.Pull relay))
     else (if bytes_eq first (codes "pass") then number_in number >>= (λ relay. Ok (step.Pass relay))
-    else Err kind.Line)))
+    else Err kind.Line))))
 
 -- What a line with two numbers says, by how it makes a step of them.
 abbrev pub with_numbers : (ℕ → ℕ → Step) → List ℕ → List ℕ → Result Step FaultKind

@@ -32,6 +32,7 @@ fn is_schedule_word(word: &[u8]) -> bool
         || word == b"send".as_slice()
         || word == b"recv".as_slice()
         || word == b"close".as_slice()
+        || word == b"drop".as_slice()
         || word == b"put".as_slice()
         || word == b"admit".as_slice()
         || word == b"pull".as_slice()
@@ -68,6 +69,8 @@ fn step_of_one(first: &[u8], number: &[u8]) -> Result<Step, FaultKind>
 {
     if first == b"close".as_slice() {
         Ok(Step::Close(number_in(number)?))
+    } else if first == b"drop".as_slice() {
+        Ok(Step::Dropped(number_in(number)?))
     } else if first == b"put".as_slice() {
         Ok(Step::Put(number_in(number)?))
     } else if first == b"pull".as_slice() {

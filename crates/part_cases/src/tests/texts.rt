@@ -130,6 +130,8 @@ const STEPS: &[Row] = &[
     (b"close\n", 3, Line),
     (b"close 0 0\n", 3, Line),
     (b"close x\n", 3, Number),
+    (b"drop 0 0\n", 3, Line),
+    (b"drop x\n", 3, Number),
     (b"put \n", 3, Number),
     (b"put  0\n", 3, Line),
     (b"admit 0\n", 3, Line),
@@ -148,9 +150,9 @@ fn faults_of_the_step_lines_of_a_schedule(rt: HostRuntime) -> Result<(), Fail> {
     Ok(())
 }
 
-/// A text whose step lines are the nine of a schedule, with numbers that no plan has.
+/// A text whose step lines are the ten of a schedule, with numbers that no plan has.
 const EACH_STEP: &[u8] = b"wcp 1\nprocs 1\nobserve 0 true\nobserve 7 false\nsend 0 0\n\
-recv 4294967295 4294967295\nclose 4294967295\nput 1\nadmit 15 16\npull 15\npass 0\ncheck\n";
+recv 4294967295 4294967295\nclose 4294967295\ndrop 0\nput 1\nadmit 15 16\npull 15\npass 0\ncheck\n";
 
 /// Its steps.
 const STEPS_READ: &[Step] = &[
@@ -159,6 +161,7 @@ const STEPS_READ: &[Step] = &[
     Step::Send(0, 0),
     Step::Recv(4_294_967_295, 4_294_967_295),
     Step::Close(4_294_967_295),
+    Step::Dropped(0),
     Step::Put(1),
     Step::Admit(15, 16),
     Step::Pull(15),

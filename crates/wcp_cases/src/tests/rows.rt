@@ -12,7 +12,7 @@ pub struct Row {
 }
 
 /// Texts that are answered.
-pub static ANSWERED: [Row; 23] = [
+pub static ANSWERED: [Row; 27] = [
     Row {
         name: "true again after a send",
         word: "single",
@@ -224,6 +224,52 @@ pub static ANSWERED: [Row; 23] = [
         output: "done\ndone\ndone\ndone\ndone\ndone\ndone\ndone\ndone\ndone\ndone\ndone\ndone\ndone\n\
             took 0 snap 0 0 0\nundecided\nprocess 0 emitted 2 taken 1\nprocess 1 emitted 1 taken 0\n\
             total emitted 3 taken 1\n",
+        errors: "",
+        status: 1,
+    },
+    Row {
+        name: "a process is lost",
+        word: "replay",
+        text: "wcp 1\nprocs 2\nobserve 0 true\nput 0\nsend 0 1\nobserve 0 true\ndrop 0\nobserve 0 true\nput 0\n\
+            admit 0 0\nadmit 0 0\nadmit 0 0\npass 0\npass 0\ncheck\ncheck\ncheck\n",
+        output: "done\ndone\ndone\ndone\ndone\nrefused closed\nrefused empty\ndone\ndone\nrefused empty\ndone\n\
+            done\ntook 0 snap 0 0 0\ntook 0 lost 1\nrefused empty\nundecided\nprocess 0 emitted 2 taken 1\n\
+            process 1 emitted 0 taken 0\ntotal emitted 2 taken 1\n",
+        errors: "",
+        status: 1,
+    },
+    Row {
+        name: "a full link gets the mark of a lost process, and a cut is found all the same",
+        word: "replay",
+        text: "wcp 1\nprocs 2\ncap 1\nobserve 0 true\nput 0\nsend 0 1\nobserve 0 true\nput 0\ndrop 0\nadmit 0 0\n\
+            admit 0 0\nadmit 0 0\npass 0\ncheck\npass 0\ncheck\nobserve 1 true\nput 1\nadmit 0 1\npass 0\ncheck\n",
+        output: "done\ndone\ndone\ndone\nrefused full\ndone\ndone\ndone\nrefused empty\ndone\n\
+            took 0 snap 0 0 0\ndone\ntook 0 lost 1\ndone\ndone\ndone\ndone\ntook 1 snap 0 0 0\nfound 0 0\n\
+            process 0 emitted 2 taken 1\nprocess 1 emitted 1 taken 1\ntotal emitted 3 taken 2\n",
+        errors: "",
+        status: 0,
+    },
+    Row {
+        name: "drops and closes of processes that emitted nothing",
+        word: "replay",
+        text: "wcp 1\nprocs 2\ndrop 2\ndrop 0\ndrop 0\nclose 0\nclose 1\ndrop 1\nput 1\nadmit 0 1\nadmit 0 0\n\
+            pass 0\npass 0\ncheck\ncheck\n",
+        output: "refused nosuch\ndone\nrefused closed\nrefused closed\ndone\nrefused closed\ndone\ndone\ndone\n\
+            done\ndone\ntook 1 close 0\ntook 0 lost 0\nundecided\nprocess 0 emitted 0 taken 0\n\
+            process 1 emitted 0 taken 0\ntotal emitted 0 taken 0\n",
+        errors: "",
+        status: 1,
+    },
+    Row {
+        name: "undecided, since a snapshot went with its process",
+        word: "replay",
+        text: "wcp 1\nprocs 2\nobserve 0 true\nput 0\nsend 0 1\nobserve 0 true\ndrop 0\nrecv 1 0\nobserve 1 true\n\
+            put 1\nclose 1\nput 1\nadmit 0 0\nadmit 0 0\nadmit 0 1\nadmit 0 1\npass 0\npass 0\npass 0\npass 0\n\
+            check\ncheck\ncheck\ncheck\ncheck\n",
+        output: "done\ndone\ndone\ndone\ndone\ndone\ndone\ndone\ndone\ndone\ndone\ndone\ndone\ndone\ndone\n\
+            done\ndone\ndone\ntook 0 snap 0 0 0\ntook 0 lost 1\ntook 1 snap 0 1 1\ntook 1 close 1\n\
+            refused empty\nundecided\nprocess 0 emitted 2 taken 1\nprocess 1 emitted 1 taken 1\n\
+            total emitted 3 taken 2\n",
         errors: "",
         status: 1,
     },
