@@ -1,5 +1,7 @@
 use Rattle.wcp_world.proofs.Words.{common_steps, ◌≡◌, ◌≢◌, ℕ, ◌+◌, ◌<◌, Bool, true, false, not, cond, nat_le, nat_lt, length, set, get_or, eqb, Option, None, Some, MatchOption, List, [], ◌∷◌, ◌++◌, slice_get, drop, take, refl, sym, ap, ap₂, subst, ◌∙◌, append-nil, eqb-true, eq-eqb, add-zero, true≢false, arith, option_and_then, option_flatten, option_map, nat_tests, get_or_default, length-set, get_or-set_same, get_or-set_other, slice_get_cases, slice_get_within, Item, Note, Parent, Root, Relay, Plan, Step, Done, Refused, IsSamePlan, is_number, is_attached, is_leaf, leaf_of, parent_of, Place, Pending, Link, HoldOf, InboxOf, is_same_place, source, target, takes_from, taken_from, notes_in, next_place, IsEntry, Emitted, reasons, move_reasons, names_nothing, notes_taken, attached_exists, get_behind, Held, IsAnswer, put_more, TransportState, IsPlaceOf, place_number, held_at, IsTransportOf, IsNextAtRoot, IsMoveBetween, IsWayOf, is_relayed, notes_along, IsShift, shift_reasons, KeepsIfRefused, Reply, Why, accepted_by, first_reason, Vanished, entered, Dropped, is_dropped, is_drop_of, marks_in, given, size_of, room_of, count_by, cases_Bool, cases_lt, or-false, list_any-append, ◌||◌, ⊎_elim, inl, inr, ◌⊎◌, ◌≤◌, take_at, cases_eq, ne_eqb, puts_into}
 use Rattle.std.specs.List.{list_any}
+use Rattle.std.specs.Prelude.{IsErr, OnOk}
+use Rattle.wcp_world.proofs.Words.{Result, Ok, Err, ◌↔◌}
 use Rattle.std.proofs.lemmas.List.Sums.{sum_by-cons}
 use Rattle.wcp_clock.specs.declared.note.Note.TheVariants as note
 use Rattle.wcp_model.specs.declared.step.Step.TheVariants as step
@@ -37,6 +39,11 @@ attached_is plan relay p = grind (arith, eqb-true)
 -- a relay that has no parent isn't there
 pub no_relay : (plan : Plan) (relay : ℕ) → parent_of plan relay ≡ None → nat_lt relay (length plan.parents.items) ≡ false
 no_relay plan relay none = grind (arith, slice_get_cases)
+
+-- what is pushed where there is room is there
+pub pushed : {A E : Type 0} (result : Result A E) (full there : Type 0) → (IsErr result ↔ full) → (full → ⊥) → OnOk result there → there
+pushed (Ok x) full there refused none ok = ok
+pushed (Err e) full there refused none ok = grind arith
 
 -- the place after a place has its room alone, and gets no mark
 no_link : (plan : Plan) (steps : List Step) (from to : Place) → IsPlaceOf plan from → next_place plan from ≡ Some to → (size_of plan to ≡ room_of plan to) × (marks_in steps to ≡ 0)
@@ -204,7 +211,10 @@ module _ (plan : Plan) (steps : List Step) (put : ℕ → List Note) (taken : Li
       (stirred_after plan steps put taken t stands s item put places in_range (λ q yes. absurd (true≢false (sym yes))) enters
       (let fits = rw live at (stands.held (Link p) in_range).within in grind (arith, common_steps))
       (λ q x y is on next. grind (arith, no_link plan steps x y is next)) (λ q. sym (append-nil (put q))) given_is
-      (λ q dropped. grind (arith, dropped_push, stands.lost_known q, eqb-true)) (ap length places_are ∙ length-set t.places p _))
+      (λ q dropped. elim (cases_eq q p) [
+        | inl same ↦ omega (arith, in_range, same)
+        | inr other ↦ stands.lost_known q (sym (others_stay q other) ∙ dropped)
+      ]) (ap length places_are ∙ length-set t.places p _))
     where
       s : Step
       s = step.Dropped p
@@ -221,13 +231,18 @@ module _ (plan : Plan) (steps : List Step) (put : ℕ → List Note) (taken : Li
       enters : (x : Place) → puts_into plan x s ≡ true → IsEntry plan put (steps ++ s ∷ []) x (count_by (puts_into plan x) steps) item
       enters x there = rw (same_place x (Link p) there) (rw counted mark_enters)
 
+      others_stay : (q : ℕ) → q ≢ p → is_dropped (steps ++ s ∷ []) q ≡ is_dropped steps q
+      others_stay q other = dropped_push steps s q ∙ rw (ne_eqb p q (λ e. other (sym e))) (or-false (is_dropped steps q))
+
       own : given (steps ++ s ∷ []) p (put p) ≡ given steps p (put p) ++ come_to plan s item p (Link p)
-      own = grind (arith, dropped_push, append-nil, eq-eqb)
+      own =
+          let brought : come_to plan s item p (Link p) ≡ note.Lost (length (put p)) ∷ [] = grind (arith, eq-eqb) in
+          rw (dropped_push steps s p, live, brought, eq-eqb p p refl) (sym (ap (λ l. l ++ note.Lost (length (put p)) ∷ []) (append-nil (put p))))
 
       given_is : (q : ℕ) → given (steps ++ s ∷ []) q (put q) ≡ given steps q (put q) ++ come_to plan s item q (Link q)
       given_is q = elim (cases_eq q p) [
         | inl same ↦ subst (λ r. given (steps ++ s ∷ []) r (put r) ≡ given steps r (put r) ++ come_to plan s item r (Link r)) (sym same) own
-        | inr other ↦ rw (dropped_push steps s q, ne_eqb p q (λ e. other (sym e)), ne_eqb q p other, or-false (is_dropped steps q)) (sym (append-nil (given steps q (put q))))
+        | inr other ↦ rw (others_stay q other, ne_eqb q p other) (sym (append-nil (given steps q (put q))))
       ]
 
   -- the checker took the first item of the root inbox

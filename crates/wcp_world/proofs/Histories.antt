@@ -1,5 +1,7 @@
-use Rattle.wcp_world.proofs.Words.{◌≡◌, ℕ, ◌+◌, ◌<◌, ◌≤◌, Result, Ok, Err, IfOk, OnErr, List, [], ◌∷◌, ◌++◌, length, take, sym, ap, ◌∙◌, subst, ⊎_elim, append-nil, arith, le_refl, cases_lt, flat_map-append, length_push, take-append-le, take_at, take_all, map_push, slice_get_within, Plan, Step, Reply, Answered, accepted, items_taken, accepted_by, taken_by, computation, IsReply, AreReplies, AreFrontsOfEmissions, AreInTurn, ClocksRise, IsReportByClocks, get_push, WorldState, Stands, IsReached, MakesStep, IsWorldOf, IsTallyOf, AreTalliesOf, HasAnswered, nothing_follows, processes, StandsForItems, Item}
-use Rattle.wcp_world.proofs.WorldAfterStep.{taken_fronts}
+use Rattle.wcp_world.proofs.Words.{◌≡◌, ℕ, ◌+◌, ◌<◌, ◌≤◌, Result, Ok, Err, IfOk, OnErr, List, [], ◌∷◌, ◌++◌, length, take, sym, ap, ◌∙◌, subst, ⊎_elim, append-nil, arith, le_refl, cases_lt, flat_map-append, length_push, take-append-le, take_at, take_all, map_push, slice_get_within, Plan, Step, Reply, Answered, accepted, items_taken, accepted_by, taken_by, computation, IsReply, AreReplies, AreFrontsOfEmissions, AreInTurn, ClocksRise, IsReportByClocks, get_push, WorldState, Stands, IsReached, MakesStep, IsWorldOf, IsTallyOf, AreTalliesOf, HasAnswered, nothing_follows, processes, StandsForItems, Item, notes_taken}
+use Rattle.wcp_world.proofs.WorldAfterStep.{taken_fronts, handed_in_turn}
+use Rattle.wcp_world.proofs.LostMarks.{front_in_turn, report_without, rises_with}
+use Rattle.wcp_model.proofs.NotesInTurn.{emissions_in_turn}
 use Rattle.wcp_model.specs.declared.outcome.Tally.{Tally}
 use Rattle.wcp_model.specs.declared.outcome.Report.{Report}
 use Rattle.wcp_model.specs.Cut.{IsLeastCut}
@@ -87,7 +89,7 @@ headline_holds plan history w report is by_clocks =
     record {
       replies = is.replies;
       taken_is_prefix = is.fronts;
-      none_after_close = λ p count before after within taken. nothing_follows before after count (subst AreInTurn taken (is.stands.checker.in_turn p (omega (arith, within, is.stands.processes_are))));
+      none_after_close = λ p count before after within taken. nothing_follows before after count (let (rest, are) = fronts p within in subst AreInTurn taken (front_in_turn (notes_taken p items) rest (emissions_in_turn plan.n c p _ are)));
       of_what_was_taken = report_of_taken plan.n c items fronts report by_clocks;
       when_drained = λ drained. report_when_drained plan.n c items fronts drained report by_clocks;
       found_early = λ cut more found. subst (λ d. IsLeastCut plan.n d cut) (sym (computation_append history more)) (early_find_holds plan.n c (computation (accepted more)) cut (found_is_least plan.n c items fronts cut (subst (IsReportByClocks plan.n items) found by_clocks)));
@@ -97,6 +99,8 @@ headline_holds plan history w report is by_clocks =
 pub report_holds : (plan : Plan) (history : List Answered) (w : WorldState) (report : Report) → IsWorldOf plan history w →
     ((items : List Item) → StandsForItems w.checker items → ClocksRise (processes w.checker) items → IsReportByClocks (processes w.checker) items report) → IsHeadline plan history report
 report_holds plan history w report is exact =
-    let items = items_taken history in
-    headline_holds plan history w report is (subst (λ n. IsReportByClocks n items report) is.stands.processes_are
-    (exact items is.stands.checker (subst (λ n. ClocksRise n items) (sym is.stands.processes_are) (clocks_rise plan.n (computation (accepted history)) items (fronts_now plan history w is)))))
+    let handed = is.stands.handed in
+    let turn = handed_in_turn plan (accepted history) (items_taken history) w is.stands in
+    let rise : ClocksRise plan.n handed = rises_with plan.n handed turn (subst (ClocksRise plan.n) is.stands.taken_are (clocks_rise plan.n (computation (accepted history)) (items_taken history) (fronts_now plan history w is))) in
+    headline_holds plan history w report is (subst (λ items. IsReportByClocks plan.n items report) (sym is.stands.taken_are)
+    (report_without plan.n handed turn report (subst (λ n. IsReportByClocks n handed report) is.stands.processes_are (exact handed is.stands.checker (subst (λ n. ClocksRise n handed) (sym is.stands.processes_are) rise)))))

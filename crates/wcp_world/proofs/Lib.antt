@@ -6,3 +6,4 @@ pub mod AnsweredMoves
 pub mod Places
 pub mod WorldAfterStep
 pub mod Histories
+pub mod LostMarks

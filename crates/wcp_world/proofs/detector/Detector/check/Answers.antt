@@ -9,9 +9,9 @@ returns-in_default-clause-answered c plan steps taken stands =
 pub hand_over-requires : goal.hand_over-requires
 hand_over-requires c =
     let (plan, steps, taken, stands) = c.requires in
-    may_take plan steps taken (state_of c.args.self.now) stands c.in-Some.item (c.in-Some.ensures.reads plan steps stands.put taken stands.transport)
+    may_take plan steps taken (state_of c.args.self.now) stands c.in-Some.item (c.in-Some.ensures.reads plan steps stands.put stands.handed stands.transport)
 
 pub returns-clause-answered : goal.returns-clause-answered
 returns-clause-answered c plan steps taken stands =
     check_answered plan steps taken (state_of c.args.self.now) stands c.in-Some.item c.take_next.new.self c.hand_over.new.checker
-    (c.in-Some.ensures.reads plan steps stands.put taken stands.transport) (sym c.next.ensures.next ∙ c.in-Some.is) c.take_next.ensures c.in_ok-hand_over.ensures.taken c.hand_over.ensures.processes
+    (c.in-Some.ensures.reads plan steps stands.put stands.handed stands.transport) (sym c.next.ensures.next ∙ c.in-Some.is) c.take_next.ensures c.in_ok-hand_over.ensures.taken c.hand_over.ensures.processes
