@@ -258,8 +258,8 @@ impl ProbeCore {
     pub fn lose(&mut self)
         ensures { self.new ≡ record self.old { closed = true; pending = None } }
     {
-        self.closed = true;
-        self.pending = None;
+        self.closed = true; // so each later call is refused
+        let _gone = self.pending.take();
     }
 
     /// The process's vector clock.
