@@ -41,8 +41,8 @@ pub record IsProbeOf (n : ℕ) (c : Computation) (p : ℕ) (put : List Note) (co
   pub made : setup_of core ≡ setup n p
   pub notes : (state_of_log (setup n p) log).notes ≡ put ++ option_to_list core.pending
 
--- The probe of a lost process accepts nothing more, and has nothing pending: of the emissions of its log those were put,
--- and the rest is gone.
+-- The probe of a lost process accepts nothing more, and has nothing pending: of the emissions of its log those were
+-- put, and the rest is gone.
 pub record IsLostProbeOf (n : ℕ) (c : Computation) (p : ℕ) (put : List Note) (core : Core) : Type 0 where
   pub log : List Call
   pub is_log : IsLogOf n c p log
