@@ -1,15 +1,10 @@
-use Rattle.wcp_tree.proofs.Words.{◌≡◌, ◌≤◌, Some, length, sym, ap, subst, ◌∙◌, lit≤, arith, common_steps, gets, slice_get_within, slice_get-get_or, most_cap, most_hold, Item, Held, PutEnd, Bundle, Source, AreBelow, AreChildrenSeated, IsSource, hold_room}
+use Rattle.wcp_tree.proofs.Words.{◌≡◌, Some, length, sym, ap, subst, ◌∙◌, arith, common_steps, gets, slice_get_within, slice_get-get_or, Item, Held, PutEnd, Bundle, Source, AreBelow, AreChildrenSeated, IsSource, hold_room}
 use Rattle.wcp_tree.proofs.Entries.{taken_out}
 use Rattle.wcp_tree.proofs.Serving.{source_serves}
 use Rattle.wcp_tree.proofs.watch_opening.open_relay.Goals as goal
 
-pub new-requires-clause-some : goal.new-requires-clause-some
-new-requires-clause-some c = (hold_room c.args.plan.now c.requires.checked).0
-
-pub new-requires-clause-within : goal.new-requires-clause-within
-new-requires-clause-within c =
-    let most : most_hold ≤ most_cap = lit≤ tt in
-    omega (arith, (hold_room c.args.plan.now c.requires.checked).1, most)
+pub new-requires : goal.new-requires
+new-requires c = record { some = (hold_room c.args.plan.now c.requires.checked).0 }
 
 pub new-requires-2-clause-room : goal.new-requires-2-clause-room
 new-requires-2-clause-room c =
