@@ -1,3 +1,4 @@
+mod gone;
 mod rings;
 mod sleeping;
 mod waking;

@@ -30,4 +30,14 @@ impl RingTaker {
     {
         self.consumer.pop().ok()
     }
+
+    /// Whether the other end was dropped, or what was left of it. What it put before is still there: who asks this
+    /// first, and then finds the ring empty, has taken all. No clause says when it is true; tests show that.
+    pub fn gone(&mut self) -> bool
+        ensures ring { self.new.ring ≡ self.old.ring }
+        ensures taken { self.new.taken ≡ self.old.taken }
+        ensures seen { IsPrefix self.old.seen self.new.seen }
+    {
+        self.consumer.is_abandoned()
+    }
 }

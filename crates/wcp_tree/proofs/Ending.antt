@@ -8,6 +8,7 @@ use Rattle.wcp_tree.proofs.Lists.{AreInSequence-none, items_of-append}
 use Rattle.wcp_tree.proofs.Faithful.{only_none, prefix_same, prefix_more}
 use Rattle.wcp_tree.proofs.Passing.{if_none}
 use Rattle.wcp_tree.proofs.Fed.{all_ended}
+use Rattle.wcp_tree.proofs.Ordering.{given_is_taken}
 
 sound_new : (outlet : Outlet) → 0 < outlet.hold.room → outlet.hold.items ≡ [] → handed outlet ≡ [] → IsSound outlet
 sound_new outlet room held all =
@@ -19,17 +20,18 @@ sound_new outlet room held all =
 
 feed_new : (feed : Feed) → IsNewFeed feed → IsInOrder feed
 feed_new feed new =
-    let none = nil_from_length feed.taker.taken new.2 in
+    let none = nil_from_length feed.taker.taken new.3 in
     record {
-      run = rw none (AreInSequence-none place_of is_last);
-      counted = λ _. (new.0 ∙ sym new.2, rw none (All-nil _));
+      run = rw (given_is_taken feed new.2, none) (AreInSequence-none place_of is_last);
+      counted = λ _. (new.2, new.0 ∙ sym new.3, rw none (All-nil _));
       ended = λ closed. absurd (true≢false (sym closed ∙ new.1));
     }
 
 fed_new : (feeds : List Feed) → All IsNewFeed feeds → (p : ℕ) → fed feeds p ≡ []
 fed_new [] new p = refl
 fed_new (f ∷ fs) new p =
-    let none = ap (items_by p) (nil_from_length f.taker.taken (new 0 f (omega arith)).2) in
+    let fresh = new 0 f (omega arith) in
+    let none = ap (items_by p) (given_is_taken f fresh.2 ∙ nil_from_length f.taker.taken fresh.3) in
     let rest = fed_new fs (λ k d below. new (suc k) d (omega arith)) p in
     grind arith
 

@@ -1,5 +1,5 @@
 -- A leaf stays at work.
-use Rattle.wcp_tree.proofs.Words.{◌≡◌, ℕ, ◌<◌, true, Option, None, Some, List, [], ◌∷◌, ◌++◌, length, get_or, set, sym, refl, ap, ◌∙◌, subst, AllPairs, IfNone, IfSome, ◌≢◌, ◌==◌, list_any, All-set, Item, Feed, Outlet, fed, items_of, IsInOrder, IsNextOfProcess, handed, IsSound, IsNextItem, IsNextAfter, IsSameOutlet, IsLeafAtWork}
+use Rattle.wcp_tree.proofs.Words.{◌≡◌, ℕ, ◌<◌, true, Option, None, Some, List, [], ◌∷◌, ◌++◌, length, get_or, set, sym, refl, ap, ◌∙◌, subst, AllPairs, IfNone, IfSome, ◌≢◌, ◌==◌, list_any, All-set, Item, Feed, Outlet, fed, items_of, IsInOrder, IsNextAfterNotes, given_by, handed, IsSound, IsNextItem, IsNextAfter, IsSameOutlet, IsLeafAtWork}
 use Rattle.std.specs.FinSet as sets
 use Rattle.wcp_tree.proofs.Fed.{fed-at, fed-set, fed-quiet, next_by, processes-set, process_served}
 use Rattle.wcp_tree.proofs.Faithful.{faithful_more, faithful_same, only_none}
@@ -13,16 +13,16 @@ pub leaf_owned : (feeds : List Feed) (i : ℕ) (d : Feed) (outlet : Outlet) (p :
 leaf_owned feeds i d outlet p work below is = ap (sets.contains outlet.putter.members) is ∙ work.served (get_or feeds i d).process ∙ process_served feeds i d below
 
 pub leaf_next : (feeds : List Feed) (i : ℕ) (d : Feed) (outlet : Outlet) (item : Item) → IsLeafAtWork feeds outlet → i < length feeds
-    → item.from ≡ (get_or feeds i d).process → IsNextOfProcess (get_or feeds i d).taker.taken item.note → IfNone outlet.cut (IsNextItem (handed outlet) item)
+    → item.from ≡ (get_or feeds i d).process → IsNextAfterNotes (given_by (get_or feeds i d)) item.note → IfNone outlet.cut (IsNextItem (handed outlet) item)
 leaf_next feeds i d outlet item work below from next =
     only_none _ outlet.cut (λ none.
     let q = (get_or feeds i d).process in
     let all = ap (λ p. items_of p (handed outlet)) from ∙ if_none _ outlet.cut none work.faithful.whole q ∙ fed-at feeds i d below work.apart in
-    subst (λ xs. IsNextAfter xs item) (sym all) (next_by q (get_or feeds i d).taker.taken item next))
+    subst (λ xs. IsNextAfter xs item) (sym all) (next_by q (given_by (get_or feeds i d)) item next))
 
 -- a feed took a note, and the outlet was handed it
 pub leaf_taken : (feeds : List Feed) (i : ℕ) (new d : Feed) (old next : Outlet) (item : Item) → IsLeafAtWork feeds old → i < length feeds
-    → new.process ≡ (get_or feeds i d).process → new.taker.taken ≡ (get_or feeds i d).taker.taken ++ item.note ∷ [] → item.from ≡ (get_or feeds i d).process → IsInOrder new
+    → new.process ≡ (get_or feeds i d).process → given_by new ≡ given_by (get_or feeds i d) ++ item.note ∷ [] → item.from ≡ (get_or feeds i d).process → IsInOrder new
     → IsSameOutlet old next → IsSound next
     → IfNone next.cut ((old.cut ≡ None) × (handed next ≡ handed old ++ item ∷ [])) → IfSome next.cut (λ cut. handed next ≡ handed old)
     → IsLeafAtWork (set feeds i new) next
@@ -38,7 +38,7 @@ leaf_taken feeds i new d old next item work below same taken from order outlet s
 
 -- a feed had no note
 pub leaf_quiet : (feeds : List Feed) (i : ℕ) (new d : Feed) (outlet : Outlet) → IsLeafAtWork feeds outlet
-    → new.process ≡ (get_or feeds i d).process → new.taker.taken ≡ (get_or feeds i d).taker.taken → IsInOrder new → IsLeafAtWork (set feeds i new) outlet
+    → new.process ≡ (get_or feeds i d).process → given_by new ≡ given_by (get_or feeds i d) → IsInOrder new → IsLeafAtWork (set feeds i new) outlet
 leaf_quiet feeds i new d outlet work same taken order =
     let processes = processes-set feeds i new d same in
     record {

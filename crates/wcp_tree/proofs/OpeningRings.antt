@@ -39,6 +39,7 @@ module _ (plan : Plan) (leaf : ℕ) (before : List (Option TakeSide)) where
       (λ feed is. record {
         first = is.first;
         unended = is.unended;
+        not_lost = is.not_lost;
         taker = is.taker;
         within = omega (arith, is.within);
         served = is.served;
@@ -71,13 +72,14 @@ module _ (plan : Plan) (leaf : ℕ) (before : List (Option TakeSide)) where
 
   -- a process of the leaf
   pub one_taken : (now : List (Option TakeSide)) (k : ℕ) (feeds : List Feed) (feed : Feed) → AreTaken now k feeds
-      → leaf_of plan k ≡ Some leaf → feed.process ≡ k → feed.next ≡ 0 → feed.ended ≡ false
+      → leaf_of plan k ≡ Some leaf → feed.process ≡ k → feed.next ≡ 0 → feed.ended ≡ false → feed.lost ≡ false
       → IsTakerAt before k feed.taker → AreTaken (slice_set now k None) (k + 1) (feeds ++ feed ∷ [])
-  one_taken now k feeds feed taken own is_k first unended taker = record {
+  one_taken now k feeds feed taken own is_k first unended not_lost taker = record {
     feeds_of = record {
       each = All-push (IsFeed plan leaf before (k + 1)) feeds feed (more_within k feeds taken.feeds_of.each) (record {
         first = first;
         unended = unended;
+        not_lost = not_lost;
         taker = subst (λ p. IsTakerAt before p feed.taker) (sym is_k) taker;
         within = omega (arith, is_k);
         served = ap (leaf_of plan) is_k ∙ own;

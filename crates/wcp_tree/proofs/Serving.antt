@@ -66,7 +66,7 @@ pub source_serves : (plan : Plan) → IsCheckedPlan plan → (relay : ℕ) (take
     (members : Numbers) → IsSource plan takers relay source → AreBelow plan relay members → Serves source members
 source_serves plan checked relay takers (Leaf feeds sleeper) members is below = (
   All-weaker (IsFeed plan relay takers plan.n) IsNewFeed
-      (λ feed new. (new.first, new.unended, ap length new.taker.1))
+      (λ feed new. (new.first, new.unended, new.not_lost, ap length new.taker.1))
       feeds.items is.1.each,
   processes_apart feeds.items is.1.apart,
   λ p. same_test (set.contains members p) (list_any (λ (feed : Feed). feed.process == p) feeds.items) (

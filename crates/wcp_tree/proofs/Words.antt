@@ -13,9 +13,10 @@ pub use Rattle.std.specs.Option.{option_map, option_flatten, is_some}
 pub use Rattle.std.specs.Ordering.{nat_cmp}
 pub use Rattle.std.specs.Prelude.{slice_get, Result, Ok, Err, OnOk, OnErr, IfNone, IfSome, if◌then◌else◌, IfErr, IsErr}
 pub use Rattle.wcp_clock.specs.Limits.{most_relays, most_cap, most_hold, most_lane}
-pub use Rattle.wcp_clock.specs.Notes.{is_last, place_of}
+pub use Rattle.wcp_clock.specs.Notes.{is_last, is_lost, place_of}
 pub use Rattle.wcp_clock.specs.declared.note.Item.{Item}
 pub use Rattle.wcp_clock.specs.declared.note.Note.{Note}
+pub use Rattle.wcp_clock.specs.declared.note.Note.TheVariants.{Snap, Close, Lost}
 pub use Rattle.wcp_hold.specs.Held.{Held}
 pub use Rattle.wcp_lane.proofs.Steps.{AreInSequence-push, All-front, may_follow}
 pub use Rattle.wcp_lane.specs.Ends.{LaneName, PutEnd, TakeEnd, new_putter}
@@ -34,7 +35,7 @@ pub use Rattle.wcp_model.specs.declared.plan.Parent.TheVariants.{Root, Relay}
 pub use Rattle.wcp_model.specs.declared.plan.Plan.{Plan}
 pub use Rattle.wcp_ring.specs.Ends.{TakeSide, PutSide}
 pub use Rattle.wcp_tree.specs.Bundles.{most_bundle, Continues, IsRun, IsBundle, MayJoin, IsFirstBundle, filler}
-pub use Rattle.wcp_tree.specs.Feeding.{items_of, fed, items_by, processes_of, IsNextOfProcess, IsInOrder, EndsWithLast, source_taken, Serves, IsNewFeed}
+pub use Rattle.wcp_tree.specs.Feeding.{items_of, fed, given_by, items_by, mark_of_lost, processes_of, IsNextAfterNotes, IsNextOfProcess, IsInOrder, EndsWithLast, MayComeFromRing, source_taken, Serves, IsNewFeed}
 pub use Rattle.wcp_tree.specs.LiveProbe.{HasLog, IsSameLive, LiveAccepts, LiveFor, LiveSide, NotesRise, emitted_by, fresh_core}
 pub use Rattle.wcp_tree.specs.Members.{IsMetFrom, Itself, Above, IsBelow, AreBelow}
 pub use Rattle.wcp_tree.specs.RelayEnds.{IsEndOfSource, taken_in}

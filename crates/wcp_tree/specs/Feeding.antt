@@ -1,5 +1,5 @@
 -- What a relay takes from.
-use Rattle.std.specs.Prelude.{◌≡◌, ◌≢◌, ◌==◌, ℕ, Bool, true, false, List, [], ◌∷◌, ◌++◌, if◌then◌else◌}
+use Rattle.std.specs.Prelude.{◌≡◌, ◌≢◌, ◌==◌, ◌≤◌, ℕ, Bool, true, false, List, [], ◌∷◌, ◌++◌, if◌then◌else◌}
 use Rattle.std.specs.Prelude.{length, map, All, AllPairs}
 use Rattle.std.specs.List.{list_any}
 use Rattle.std.specs.FinSet as set
@@ -8,14 +8,37 @@ use Rattle.wcp_clock.specs.declared.note.Item.{Item}
 use Rattle.wcp_clock.specs.declared.note.Note.{Note}
 use Rattle.wcp_model.specs.LaneRule.{IsNext, AreInSequence, items_from}
 use Rattle.wcp_lane.specs.Passes.{Numbers}
-use Rattle.wcp_clock.specs.Notes.{place_of, is_last}
+use Rattle.wcp_clock.specs.Limits.{most_events}
+use Rattle.wcp_clock.specs.Notes.{place_of, is_last, is_lost, is_snapshot}
+use Rattle.wcp_clock.specs.declared.note.Note.TheVariants.{Lost}
 use Rattle.wcp_tree.specs.declared.feed.Feed.{Feed}
 use Rattle.wcp_tree.specs.declared.source.Source.{Source}
 use Rattle.wcp_tree.specs.declared.source.Source.TheVariants.{Leaf, Inner}
 
--- A note is the next one after the notes of its process that were taken before.
-abbrev pub IsNextOfProcess : List Note → Note → Type 0
-IsNextOfProcess before note = IsNext place_of is_last before note
+-- A note is the next one after these of its process.
+abbrev pub IsNextAfterNotes : List Note → Note → Type 0
+IsNextAfterNotes before note = IsNext place_of is_last before note
+
+-- A note may come out of a ring: it is no mark that its process was lost, which a leaf alone makes, and a snapshot's
+-- number is that of an interval.
+pub record MayComeFromRing (note : Note) : Type 0 where
+  pub not_lost : is_lost note ≡ false
+  pub numbered : is_snapshot note ≡ true → place_of note ≤ most_events
+
+-- A note of a ring is the next one after the notes of its process that were taken before.
+pub record IsNextOfProcess (before : List Note) (note : Note) : Type 0 where
+  pub next : IsNextAfterNotes before note
+  pub may_come : MayComeFromRing note
+
+-- The mark that a process was lost, of which so many snapshots were taken.
+abbrev pub mark_of_lost : Bool → ℕ → List Note
+mark_of_lost true count = Lost count ∷ []
+mark_of_lost false count = []
+
+-- The notes that a feed gave: those that it took of the ring and, where the process was lost, the one mark of that,
+-- which counts them.
+abbrev pub given_by : Feed → List Note
+given_by feed = feed.taker.taken ++ mark_of_lost feed.lost (length feed.taker.taken)
 
 -- The last of these items is a last one.
 abbrev pub IsEnded : {I : Type 0} → (I → Bool) → List I → Type 0
@@ -25,12 +48,12 @@ IsEnded {I} is_last items = (before : List I) × (item : I) × (items ≡ before
 abbrev pub EndsWithLast : List Item → Type 0
 EndsWithLast items = IsEnded (λ (item : Item). is_last item.note) items
 
--- The notes that a feed took are a run, it counts the snapshots among them, and it knows whether a last one came.
+-- The notes that a feed gave are a run, it counts the snapshots among them, and it knows whether a last one came.
 pub record IsInOrder (feed : Feed) : Type 0 where
-  pub run : AreInSequence place_of is_last feed.taker.taken
-  pub counted : feed.ended ≡ false
-      → (feed.next ≡ length feed.taker.taken) × All (λ note. is_last note ≡ false) feed.taker.taken
-  pub ended : feed.ended ≡ true → IsEnded is_last feed.taker.taken
+  pub run : AreInSequence place_of is_last (given_by feed)
+  pub counted : feed.ended ≡ false → (feed.lost ≡ false)
+      × (feed.next ≡ length feed.taker.taken) × All (λ note. is_last note ≡ false) feed.taker.taken
+  pub ended : feed.ended ≡ true → IsEnded is_last (given_by feed)
 
 -- The processes of these feeds.
 abbrev pub processes_of : List Feed → List ℕ
@@ -38,7 +61,7 @@ processes_of feeds = map (λ feed. feed.process) feeds
 
 -- Nothing was taken by this feed.
 abbrev pub IsNewFeed : Feed → Type 0
-IsNewFeed feed = (feed.next ≡ 0) × (feed.ended ≡ false) × (length feed.taker.taken ≡ 0)
+IsNewFeed feed = (feed.next ≡ 0) × (feed.ended ≡ false) × (feed.lost ≡ false) × (length feed.taker.taken ≡ 0)
 
 -- A relay serves the processes of a set: a leaf by one new feed for each of them, and any other relay by a lane of
 -- processes of the set, from which nothing was taken.
@@ -62,12 +85,12 @@ items_by p notes = map (λ note. record { from = p; note = note }) notes
 abbrev pub items_of : ℕ → List Item → List Item
 items_of p items = items_from (λ item. item.from) p items
 
--- The items of process p that its feed took.
+-- The items of process p that its feed gave.
 abbrev pub fed : List Feed → ℕ → List Item
 fed [] p = []
-fed (feed ∷ feeds) p = if feed.process == p then items_by p feed.taker.taken else fed feeds p
+fed (feed ∷ feeds) p = if feed.process == p then items_by p (given_by feed) else fed feeds p
 
--- The items of process p that a relay took.
+-- The items of process p that a relay took; of a leaf also the mark that it made where p was lost.
 abbrev pub source_taken : Source → ℕ → List Item
 source_taken (Leaf feeds sleeper) p = fed feeds.items p
 source_taken (Inner taker) p = items_of p taker.taken

@@ -17,7 +17,7 @@ use Rattle.wcp_tree.specs.declared.source.Source.{Source}
 use Rattle.wcp_tree.specs.declared.source.Source.TheVariants.{Leaf, Inner}
 use Rattle.wcp_tree.specs.declared.take_fault.TakeFault.{TakeFault}
 use Rattle.wcp_tree.specs.declared.take_fault.TakeFault.TheVariants as take_fault
-use Rattle.wcp_tree.specs.Feeding.{items_of, processes_of, fed, source_taken, IsInOrder, EndsWithLast}
+use Rattle.wcp_tree.specs.Feeding.{items_of, processes_of, fed, source_taken, IsInOrder, EndsWithLast, MayComeFromRing}
 
 -- What was handed to an outlet: what it put, and then what it holds.
 abbrev pub handed : Outlet → List Item
@@ -72,13 +72,13 @@ AreSameFeeds old new =
     (processes_of new ≡ processes_of old) × (map (λ feed. feed.taker.ring) new ≡ map (λ feed. feed.taker.ring) old)
 
 -- A relay met a gap of process p: the last item that it took is of p, and isn't the next one after those of p before
--- it. Its outlet was handed all before it, or a front of that once its lane is cut.
+-- it, or may not come out of a ring. Its outlet was handed all before it, or a front of that once its lane is cut.
 pub record HasMetGap (p : ℕ) (taken : ℕ → List Item) (outlet : Outlet) : Type 0 where
   pub before : ℕ → List Item
   pub item : Item
   pub from : item.from ≡ p
   pub latest : (q : ℕ) → taken q ≡ before q ++ items_of q (item ∷ [])
-  pub out_of_place : ¬ IsNextAfter (before p) item
+  pub out_of_place : IsNextAfter (before p) item → ¬ MayComeFromRing item.note
   pub faithful : IsFaithful before outlet
 
 -- A relay with a lane takes items of its putter's processes, and its outlet was handed what it took.

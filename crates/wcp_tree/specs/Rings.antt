@@ -36,6 +36,7 @@ pub record AreRings (plan : Plan) (watch k : ℕ)
 pub record IsFeed (plan : Plan) (leaf : ℕ) (takers : List (Option TakeSide)) (k : ℕ) (feed : Feed) : Type 0 where
   pub first : feed.next ≡ 0
   pub unended : feed.ended ≡ false
+  pub not_lost : feed.lost ≡ false
   pub taker : IsTakerAt takers feed.process feed.taker
   pub within : feed.process < k
   pub served : leaf_of plan feed.process ≡ Some leaf

@@ -21,7 +21,7 @@ loop-p-preserved c =
           w.index_mut.ensures.value w.in-Some.taker (sym w.take.ensures.value ∙ w.in-Some.is) in
           let one =
           one_taken plan leaf before now k feeds w.new.result c.loop-p.invariant own w.new.ensures.process
-          w.new.ensures.next w.new.ensures.ended
+          w.new.ensures.next w.new.ensures.ended w.new.ensures.lost
           (subst (λ (t : TakeSide). IsTakerAt before k t) (sym w.new.ensures.taker) found) in
           let ends : c.if-is_attached.takers.items ≡ slice_set now k None =
           ap (λ (v : Vec (Option TakeSide) Global). v.items) w.takers-is

@@ -1,0 +1,77 @@
+use std::sync::Wait;
+use std::test::Fail;
+use std::thread;
+use std::thread::Threads;
+use wcp_clock::{Clock, Note};
+use wcp_ring::{RingPutter, RingTaker, ring};
+
+/// How many rings are filled, each by a thread that drops its end while another takes.
+const ROUNDS: u32 = 2_000;
+
+/// How many notes are put into each.
+const NOTES: u32 = 3;
+
+fn snapshot(number: u32) -> Note {
+    Note::Snap {
+        number,
+        clock: Clock::new(2),
+    }
+}
+
+#[test]
+fn an_end_is_gone_once_it_was_dropped(rt: HostRuntime) -> Result<(), Fail> {
+    let (mut putter, mut taker) = ring(rt.alloc(), 2)?;
+    assert!(rt; !taker.gone());
+    assert_eq!(rt; putter.try_put(snapshot(0)), Ok(()));
+    assert!(rt; !taker.gone());
+    drop(putter);
+    assert!(rt; taker.gone());
+    assert_eq!(rt; taker.try_take(), Some(snapshot(0)));
+    assert_eq!(rt; taker.try_take(), None);
+    assert!(rt; taker.gone());
+    Ok(())
+}
+
+#[test]
+fn an_end_that_puts_no_more_is_not_gone(rt: HostRuntime) -> Result<(), Fail> {
+    let (putter, mut taker) = ring(rt.alloc(), 2)?;
+    let end = putter.end();
+    assert!(rt; !taker.gone());
+    drop(end);
+    assert!(rt; taker.gone());
+    Ok(())
+}
+
+fn put_and_drop(mut putter: RingPutter) {
+    for number in 0..NOTES {
+        let _ = putter.try_put(snapshot(number));
+    }
+}
+
+/// Takes until the ring is gone and then empty: how many notes came.
+fn take_until_gone(rt: &impl Wait, mut taker: RingTaker) -> u32 {
+    let mut came = 0u32;
+    for _ in rt.forever() {
+        let gone = taker.gone();
+        match taker.try_take() {
+            Some(_) => came = came.wrapping_add(1),
+            None if gone => return came,
+            None => thread::yield_now(),
+        }
+    }
+    unreachable!()
+}
+
+#[test]
+fn nothing_is_left_in_a_ring_that_is_gone_and_then_empty(rt: HostRuntime) -> Result<(), Fail> {
+    for _ in 0..ROUNDS {
+        let (putter, taker) = ring(rt.alloc(), NOTES)?;
+        let ((), came) = thread::join(
+            &rt,
+            move || put_and_drop(putter),
+            move || take_until_gone(&rt, taker),
+        );
+        assert_eq!(rt; came, NOTES);
+    }
+    Ok(())
+}
