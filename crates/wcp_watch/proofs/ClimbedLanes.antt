@@ -1,5 +1,5 @@
 -- The climb of what a probe put, from lane to lane up to the checker.
-use Rattle.wcp_watch.proofs.Words.{◌≡◌, ◌≢◌, ◌==◌, ℕ, zero, suc, ◌<◌, true, false, List, [], ◌∷◌, map, Option, Some, None, refl, sym, ap, ◌∙◌, ⊎_elim, arith, slice_get, All, list_any, cases_eq, Item, Note, notes_taken, is_leaf, parent_of, Parent, attached_exists, has_leaf, is_its_leaf, parent_below, TakenEnd, Numbers, Bundle, Serves, fed, items_by, items_of, processes_of, ClosedSide, IsLeftOf, IsReceiptOf, outcome_fault, outcome_put, outcome_taken, relay_put, relay_taken, taken_in, IsSource, Feed, Receipts, Feeds, Lane, RelayEnd, Outcome, Whole, Source, Leaf, Inner, AreEndsThere, AreFirstMatched, SitsAt, AreTakenFrom, IsPutMatched, IsRingMatched, feeds_in, feeds_left_by}
+use Rattle.wcp_watch.proofs.Words.{◌≡◌, ◌≢◌, ◌==◌, ℕ, zero, suc, ◌<◌, true, false, List, [], ◌∷◌, map, Option, Some, None, refl, sym, ap, ◌∙◌, ⊎_elim, arith, slice_get, get_or, All, list_any, cases_eq, Item, Note, notes_taken, is_leaf, parent_of, Parent, attached_exists, has_leaf, is_its_leaf, parent_below, TakenEnd, Numbers, Bundle, Serves, fed, given_by, items_by, items_of, processes_of, ClosedSide, IsLeftOf, IsReceiptOf, outcome_fault, outcome_put, outcome_taken, relay_put, relay_taken, taken_in, IsSource, Feed, Receipts, Feeds, Lane, RelayEnd, Outcome, Whole, Source, Leaf, Inner, AreEndsThere, AreFirstMatched, SitsAt, AreTakenFrom, IsPutMatched, IsRingMatched, feeds_in, feeds_left_by}
 use Rattle.std.specs.FinSet as set
 use Rattle.std.proofs.lemmas.Bool.Decides.{nat_tests}
 use Rattle.wcp_model.specs.declared.plan.Parent.TheVariants as parent
@@ -7,6 +7,7 @@ use Rattle.wcp_tree.specs.Members.{IsBelow, Itself}
 use Rattle.wcp_tree.specs.declared.relay.Relay.{Relay}
 use Rattle.wcp_tree.specs.declared.relay_end.Outcome.TheVariants.{Faulted}
 use Rattle.wcp_tree.proofs.Climbs.{members_pass_up}
+use Rattle.wcp_tree.proofs.Ordering.{given_is_taken}
 use Rattle.wcp_watch.proofs.MatchedLinks.{linked, receipts_of}
 
 -- the items of a process, and their notes
@@ -14,9 +15,9 @@ notes_back : (p : ℕ) (notes : List Note) → map (λ (item : Item). item.note)
 notes_back p [] = refl
 notes_back p (note ∷ notes) = λ i. note ∷ notes_back p notes i
 
--- where a process is served and each feed of it took these notes, they were taken of it
+-- where a process is served and each feed of it gave these notes, they were taken of it
 fed_all : (p : ℕ) (notes : List Note) (feeds : List Feed) → list_any (λ q. q == p) (processes_of feeds) ≡ true
-    → All (λ feed. feed.process ≡ p → feed.taker.taken ≡ notes) feeds → fed feeds p ≡ items_by p notes
+    → All (λ feed. feed.process ≡ p → given_by feed ≡ notes) feeds → fed feeds p ≡ items_by p notes
 fed_all p notes [] served all = absurd (cc)
 fed_all p notes (feed ∷ feeds) served all = ⊎_elim
     (λ (same : feed.process ≡ p).
@@ -50,7 +51,9 @@ module _ {count : ℕ} {probe_ends : List (Option ClosedSide)} {root : TakenEnd 
       → IsReceiptOf source taken → All (IsRingMatched (SitsAt probe_ends)) (feeds_in taken) → taken_in taken p ≡ emitted
   feed_took leaf at (Leaf old parker) members (Feeds feeds) is serves has left rings =
       fed_all p probe.link.put feeds.items (ap (list_any (λ q. q == p)) left.0 ∙ sym (serves.2 p) ∙ has)
-      (λ i d within same. rings i d within probe (ap (slice_get probe_ends) same ∙ sits))
+      (λ i d within same.
+      let own = rings i d within in
+      given_is_taken (get_or feeds.items i d) own.0 ∙ own.1 probe (ap (slice_get probe_ends) same ∙ sits))
   feed_took leaf at (Leaf old parker) members (Lane receipt) is serves has left rings = absurd left
   feed_took leaf at (Inner taker) members taken is serves has left rings = absurd (cc (at, is.0))
 

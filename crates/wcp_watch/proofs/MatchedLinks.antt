@@ -210,8 +210,10 @@ module _ {count : ℕ} {probe_ends : List (Option ClosedSide)} {root : TakenEnd 
 
       pub rings_exact : All (IsRingMatched (SitsAt probes)) feeds.items ↔ All (IsRingMatched (SitsAt probe_ends)) feeds.items
       rings_exact = (
-        λ matched i d within probe at. matched i d within probe (as_before i d within ∙ at),
-        λ matched i d within probe at. matched i d within probe (sym (as_before i d within) ∙ at),
+        λ matched i d within.
+            let own = matched i d within in (own.0, λ probe at. own.1 probe (as_before i d within ∙ at)),
+        λ matched i d within.
+            let own = matched i d within in (own.0, λ probe at. own.1 probe (sym (as_before i d within) ∙ at)),
       )
 
       pub leaf_matched : {more : List (Option (TakenEnd Bundle Item))} {fed : List (Option ClosedSide)}

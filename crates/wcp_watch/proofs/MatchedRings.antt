@@ -1,5 +1,5 @@
 -- One ring after another is matched.
-use Rattle.wcp_watch.proofs.Words.{◌≡◌, ◌≢◌, ℕ, List, [], ◌∷◌, ◌++◌, Option, None, Contains, refl, sym, ◌∙◌, slice_get, slice_set, All, AllPairs, append-nil, All-contains, All-cons, All-nil, All-head, All-tail, ClosedSide, Feed, set_elsewhere, HasProbe, SitsAt, IsRingMatched}
+use Rattle.wcp_watch.proofs.Words.{◌≡◌, ◌≢◌, ℕ, true, true≢false, false, List, [], ◌∷◌, ◌++◌, Option, None, Contains, refl, sym, ◌∙◌, slice_get, slice_set, All, AllPairs, append-nil, All-contains, All-cons, All-nil, All-head, All-tail, ClosedSide, Feed, set_elsewhere, HasProbe, SitsAt, IsRingMatched}
 use Rattle.wcp_watch.proofs.Seating.{All-from_contains, among, pair_after, popped}
 
 -- one end alone sits at a place
@@ -30,6 +30,11 @@ module _ {seats : List (Option ClosedSide)} {all : List Feed} (seated : All (Has
   pub its : HasProbe seats feed
   its = All-contains (HasProbe seats) all feed seated is_among
 
+  -- the ring of a lost process isn't matched
+  pub lost_unmatched : feed.lost ≡ true → All (IsRingMatched (SitsAt seats)) all → ⊥
+  lost_unmatched lost matched =
+      true≢false (sym lost ∙ (All-contains (IsRingMatched (SitsAt seats)) all feed matched is_among).0)
+
   -- its probe sits there still
   pub sits_still : SitsAt probes feed.process its.probe
   sits_still =
@@ -45,12 +50,13 @@ module _ {seats : List (Option ClosedSide)} {all : List Feed} (seated : All (Has
     pub one_ring : probe.link.ring ≡ feed.taker.ring
     one_ring = cc (is_its, its.one_ring)
 
-    pub one_matched : feed.taker.taken ≡ probe.link.put → AreMatching seats all left (slice_set probes feed.process None)
-    one_matched same = record {
+    pub one_matched : feed.lost ≡ false → feed.taker.taken ≡ probe.link.put
+        → AreMatching seats all left (slice_set probes feed.process None)
+    one_matched not_lost same = record {
       done = feed ∷ old.done;
       is = before;
       matched = All-cons (IsRingMatched (SitsAt seats)) feed old.done
-          (λ other at.
+          (not_lost, λ other at.
           let alone = sits_alone seats feed.process its.probe other its.sits at in cc (is_its))
           old.matched;
       others = λ p apart.
@@ -61,4 +67,4 @@ module _ {seats : List (Option ClosedSide)} {all : List Feed} (seated : All (Has
 
     pub unmatched : feed.taker.taken ≢ probe.link.put → All (IsRingMatched (SitsAt seats)) all → ⊥
     unmatched other matched =
-        other (cc (All-contains (IsRingMatched (SitsAt seats)) all feed matched is_among its.probe its.sits, is_its))
+        other (cc ((All-contains (IsRingMatched (SitsAt seats)) all feed matched is_among).1 its.probe its.sits, is_its))

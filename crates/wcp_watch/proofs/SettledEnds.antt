@@ -48,7 +48,8 @@ module _ (root : TakenEnd Bundle Item) {IsProbe IsOneProbe : ℕ → ClosedSide 
 
   matched_for_fewer : (end : RelayEnd) → AreLinksMatched IsProbe root IsRelay end → AreLinksMatched IsOneProbe root IsOneRelay end
   matched_for_fewer end matched = record {
-    rings = λ i d within probe is. matched.rings i d within probe (probe_is _ probe is);
+    rings = λ i d within.
+        let own = matched.rings i d within in (own.0, λ probe is. own.1 probe (probe_is _ probe is));
     lane = lane_for_fewer end.outcome matched.lane;
   }
 

@@ -23,7 +23,7 @@ pub use Rattle.wcp_queue.specs.Checker.{CheckerState, processes, closed_of, MayT
 pub use Rattle.wcp_ring.specs.Ends.{Ring, EndedSide}
 pub use Rattle.wcp_tree.proofs.Accepting.{ItemMayFollow, one_may_follow}
 pub use Rattle.wcp_tree.proofs.Entries.{set_elsewhere, set_here}
-pub use Rattle.wcp_tree.specs.Feeding.{Serves, fed, items_by, items_of, processes_of}
+pub use Rattle.wcp_tree.specs.Feeding.{Serves, fed, given_by, items_by, items_of, processes_of}
 pub use Rattle.wcp_tree.specs.LiveProbe.{ClosedSide, NotesRise, IsEndOfProbe, LiveSide}
 pub use Rattle.wcp_tree.specs.RelayEnds.{IsLeftOf, IsReceiptOf, outcome_fault, outcome_put, outcome_taken, relay_put, relay_taken, taken_in, fault_of, number_of, watch_of, AreReceiptsOf, whole_end, IsEndOfRelay}
 pub use Rattle.wcp_tree.specs.RelayWork.{AreSameFeeds, IsSameTaker, ItemsMayFollow}

@@ -1,5 +1,5 @@
 -- The settling of a watch: what its ends have in common, and what they tell together.
-use Rattle.std.specs.Prelude.{◌≡◌, ◌≤◌, ℕ, true, Option, Some, None, IfNone, List, [], ◌∷◌, length, slice_get, All}
+use Rattle.std.specs.Prelude.{◌≡◌, ◌≤◌, ℕ, true, false, Option, Some, None, IfNone, List, [], ◌∷◌, length, slice_get, All}
 use Rattle.std.specs.FinSet as set
 use Rattle.std.specs.List.{sum_by}
 use Rattle.std.specs.Option.{option_flatten}
@@ -62,9 +62,11 @@ pub record ComeFromWatch (probes : List ClosedSide) (relays : List RelayEnd) (ch
   pub of_relays : All (λ end. watch_of end ≡ checker.watch → IsEndOfSomeRelay watch.relays.items end) relays
   pub of_checker : IsEndOfLoop watch.inbox checker
 
--- A ring was matched: the feed took what the probe of its process put.
+-- A ring was matched: the process was not lost, and its feed took what its probe put.
 abbrev pub IsRingMatched : (ℕ → ClosedSide → Type 0) → Feed → Type 0
-IsRingMatched IsProbe feed = (probe : ClosedSide) → IsProbe feed.process probe → feed.taker.taken ≡ probe.link.put
+IsRingMatched IsProbe feed =
+    (feed.lost ≡ false)
+    × ((probe : ClosedSide) → IsProbe feed.process probe → feed.taker.taken ≡ probe.link.put)
 
 -- These are the items of process p that were taken from an inbox: the root's, or that of a relay.
 abbrev pub AreTakenFrom : TakenEnd Bundle Item → (ℕ → RelayEnd → Type 0) → Parent → ℕ → List Item → Type 0

@@ -8,8 +8,8 @@ use crate::settle_fault::SettleFault;
 use wcp_ring::match_ends;
 use wcp_tree::{Feed, ProbeEnd};
 
-/// Matches each feed with the end of the probe of its process, which leaves its seat. `Err` where not all
-/// that one put was taken.
+/// Matches each feed with the end of the probe of its process, which leaves its seat. `Err` where a process was lost,
+/// or not all that its probe put was taken.
 pub(crate) fn match_rings(
     mut feeds: Vec<Feed>,
     probes: &mut [Option<ProbeEnd>],
@@ -22,6 +22,9 @@ pub(crate) fn match_rings(
     ensures fault { IfErr result (λ fault. fault ≡ settle_fault.Unfinished) }
 {
     while let Some(feed) = feeds.pop() {
+        if feed.lost {
+            return Err(SettleFault::Unfinished);
+        }
         let process = feed.process as usize;
         prove!(process < probes.len());
         let Some(probe) = probes[process].take() else {

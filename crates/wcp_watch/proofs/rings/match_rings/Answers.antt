@@ -30,4 +30,4 @@ loop-feed-preserved-in_default-match_ends c =
     let same = c.in_default-match_ends.ensures.matched in
     rw c.take.ensures.after
     (one_matched c.requires.seated c.requires.apart c.pop.new.self.items c.in-Some.feed c.loop-feed.invariant c.in-Some.ensures.items sits
-    (sym same.1 ∙ same.0 ∙ ap (λ (e : EndedSide). e.put) c.into_link.ensures.link))
+    c.if-feed.false (sym same.1 ∙ same.0 ∙ ap (λ (e : EndedSide). e.put) c.into_link.ensures.link))
