@@ -1,5 +1,6 @@
 -- What the loop of a checker leaves.
-use Rattle.std.specs.Prelude.{◌≡◌, ℕ, Bool, ◌<◌, ◌≢◌, ◌↔◌, true, false, Option, Some, None, IfNone, IfSome, List, [], ◌∷◌, ◌++◌}
+use Rattle.std.specs.Prelude.{◌≡◌, ◌≢◌, ℕ, ◌<◌, ◌↔◌, Bool, true, false, Option, Some, None, IfNone, IfSome}
+use Rattle.std.specs.Prelude.{List, [], ◌∷◌, ◌++◌}
 use Rattle.std.specs.FinSet as set
 use Rattle.std.specs.List.{list_any}
 use Rattle.wcp_clock.specs.Notes.{place_of, is_close, is_last, is_lost}

@@ -66,7 +66,8 @@ impl CheckerEnd {
     }
 
     /// Why the report isn't that of all snapshots, if it isn't. Where the checker was starved that is `Memory`, also
-    /// where its lane was cut or a process was lost; where its lane was cut that is `Cut`, also where a process was lost.
+    /// where its lane was cut or a process was lost. Where its lane was cut that is else `Cut`, also where a process
+    /// was lost.
     pub fn fault(&self) -> Option<CheckFault>
         ensures { result ≡ self.now.fault }
     {
