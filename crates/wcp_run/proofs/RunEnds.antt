@@ -1,5 +1,5 @@
 -- What the ends of a workload's run tell of it.
-use Rattle.wcp_run.proofs.Words.{◌≡◌, ℕ, ◌<◌, ◌≤◌, Some, List, [], ◌∷◌, length, slice_get, sym, refl, ap, subst, ◌∙◌, arith, slice_get_within, get_or_from_slice_get, Plan, Task, count_by_no, count_by_yes, ClosedSide, snapshots_in, WorkerEnd, AreMatched, AreOfLane, HaveRun, ends_between, PlayedEnds, Ends, AreOfWorkers, AreEndsOfRun}
+use Rattle.wcp_run.proofs.Words.{◌≡◌, ℕ, ◌<◌, ◌≤◌, Bool, true, false, Option, None, Some, List, [], ◌∷◌, length, slice_get, sym, refl, ap, subst, ◌∙◌, arith, slice_get_within, get_or_from_slice_get, Plan, Task, count_by_no, count_by_yes, ClosedSide, snapshots_in, WorkerEnd, AreMatched, AreOfLane, HaveRun, ends_between, PlayedEnds, Ends, AreOfWorkers, AreEndsOfRun, IsToldWithin}
 use Rattle.std.proofs.lemmas.List.Elements.{All-contains}
 use Rattle.wcp_clock.specs.Limits.{most_processes}
 use Rattle.wcp_clock.specs.Notes.{is_snapshot}
@@ -11,6 +11,9 @@ use Rattle.wcp_model.specs.Outcome.{IsWorkloadOutcome}
 use Rattle.wcp_model.specs.Report.{notes_taken, snapshot_clocks, clocks_taken}
 use Rattle.wcp_model.proofs.CheckedPlans.{few_processes}
 use Rattle.wcp_worker.proofs.RunOutcomes.{IsWorkloadOutcome-run}
+use Rattle.wcp_lane.specs.declared.fault.Cut.{Cut}
+use Rattle.wcp_watch.specs.CheckerEnds.{first_fault}
+use Rattle.wcp_watch.specs.declared.checker_end.CheckFault.TheVariants as check_fault
 use Rattle.wcp_watch.specs.declared.settled.Settled.{Settled}
 use Rattle.wcp_watch.specs.Settling.{ComeFromWatch, IsEndOfSomeProbe, IsSettled}
 use Rattle.wcp_run.proofs.PlayedWorkers.{HasPlayedAt, played_at, as_many, lanes_left}
@@ -26,12 +29,30 @@ snapshots_counted (Close count ∷ notes) =
 snapshots_counted (Lost count ∷ notes) =
     count_by_no is_snapshot (Lost count) notes refl ∙ snapshots_counted notes
 
+-- a loop whose fault tells a lost process tells the one that was lost
+told_lost : (starved : Bool) (cut : Option Cut) (lost : Option ℕ) (p : ℕ) → first_fault starved cut lost ≡ Some (check_fault.Lost p) → lost ≡ Some p
+told_lost true cut lost p is = cc
+told_lost false (Some cut) lost p is = cc
+told_lost false None (Some q) p is = cc
+told_lost false None None p is = cc
+
 module _ {plan : Plan} {tasks : List Task} {ends : Ends WorkerEnd} (run : AreEndsOfRun plan tasks ends) where
   workers_count : length run.parts.workers.items ≡ plan.n
   workers_count = run.are.workers.count ∙ run.are.wired.rings.probes_count
 
   pub few_ends : length ends.workers.items ≤ most_processes
   few_ends = omega (arith, few_processes plan run.checked, run.ended.workers.count, workers_count)
+
+  n_is : ends.checker.processes ≡ plan.n
+  n_is = all_processes run.are.wired (rw run.are.inbox at run.ended.checker)
+
+  -- the process that the checker tells to be lost is one of the workers'
+  pub told_within : IsToldWithin ends
+  told_within p told =
+      let is = run.ended.checker in
+      let lost : ends.checker.lost ≡ Some p = told_lost is.starved ends.checker.cut ends.checker.lost p (sym is.fault ∙ told) in
+      let lowest = rw lost at is.lost in
+      omega (arith, lowest.0, n_is, run.ended.workers.count, workers_count)
 
   module _ {played : PlayedEnds} (left : AreOfWorkers ends.workers.items played) where
     pub few_mailboxes : length played.mailboxes.items ≤ most_processes
@@ -80,9 +101,6 @@ module _ {plan : Plan} {tasks : List Task} {ends : Ends WorkerEnd} (run : AreEnd
             );
         matched = matched;
       }
-
-      n_is : ends.checker.processes ≡ plan.n
-      n_is = all_processes run.are.wired (rw run.are.inbox at run.ended.checker)
 
       abbrev counted : ℕ → ℕ
       counted p = length (clocks_taken p ends.checker.receipt.taken)
