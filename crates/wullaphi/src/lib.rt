@@ -34,7 +34,7 @@ pub use lent_probe::{LentProbe, Loan};
 pub use opening::{Opening, Watch, WatchParts};
 pub use own_ends::{WatchCheckerEnd, WatchEnds, WatchProbeEnd, WatchRelayEnd};
 pub use own_parts::{WatchChecker, WatchProbe, WatchRelay};
-pub use process::Process;
+pub use process::{LosableProcess, Process};
 pub use waiting::wait_for_cut;
 pub use watch_fault::WatchFault;
 pub use watched::Watched;
