@@ -19,7 +19,7 @@ use wcp_tree::{CheckerInbox, LiveProbe, Relay};
 use wcp_watch::check_loop;
 
 /// A probe of an opened watch, for the thread of its process. It has made no call yet. A relay waits until each of its
-/// probes has run or is dropped: the process of one that is dropped in place of that is lost, as the checker's end tells.
+/// probes has run, or is dropped: the process of one that is dropped in place of run is lost.
 ///
 /// A contract sees it as the live probe that it is.
 #[derive(Drop)]

@@ -1,5 +1,5 @@
-ghost use Rattle.std.specs.Prelude.{◌≡◌, ◌≤◌, length, map, take, slice_get, All, IfNone, IfOk, IfSome, IsSome, IsSomeAnd};
-ghost use Rattle.std.specs.Prelude.{None, Some};
+ghost use Rattle.std.specs.Prelude.{◌≡◌, ◌≤◌, length, map, take, slice_get, All, IfNone, IfOk, IfSome};
+ghost use Rattle.std.specs.Prelude.{IsSome, IsSomeAnd, None, Some};
 ghost use Rattle.wcp_clock.specs.Limits.{most_processes};
 
 use crate::lending::lend_and_close;
