@@ -1,5 +1,5 @@
 //! The program `live_pool`: a pool of replicas that is watched while it works. With the word `safe` the dispatcher
-//! waits for each answer before it gives out the next job.
+//! waits for each answer before it gives out the next job, and with the word `lost` the last replica vanishes.
 #![tactic(auto)]
 
 use std::process::ExitCode;

@@ -1,3 +1,4 @@
 mod asked_again;
+mod lost;
 mod opened;
 mod waiting;

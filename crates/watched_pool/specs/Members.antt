@@ -1,5 +1,5 @@
 -- The members of a pool, and what they leave.
-use Rattle.std.specs.Prelude.{◌≡◌, ℕ, ◌*◌, Result, List, ◌∷◌, length, All, IfOk}
+use Rattle.std.specs.Prelude.{◌≡◌, ℕ, ◌*◌, Bool, true, false, Result, Ok, Err, List, ◌∷◌, length, All, IfOk}
 use Rattle.wcp_model.specs.ProbeLog.{Call}
 use Rattle.wcp_tree.specs.LiveProbe.{LiveFor, LiveSide}
 use Rattle.watched_pool.specs.Logs.{IsReplicaLog, IsDispatcherLog, most_unanswered, processes_of}
@@ -9,6 +9,7 @@ use Rattle.watched_pool.specs.declared.member.Member.{Member}
 use Rattle.watched_pool.specs.declared.member.Member.TheVariants as member
 use Rattle.watched_pool.specs.declared.member.Share.{Share}
 use Rattle.watched_pool.specs.declared.member.Stop.{Stop}
+use Rattle.watched_pool.specs.declared.member.Stop.TheVariants as stop
 
 -- The part of a member: in each round a replica does a job, and the dispatcher has the answer of each replica.
 abbrev pub jobs_of : Member → ℕ
@@ -32,6 +33,13 @@ pub record DidPart (one : Member) (probe : LiveSide) (share : Share) : Type 0 wh
 -- What a member leaves: it did its part, unless it stopped.
 abbrev pub LeavesPart : Member → LiveSide → Result Share Stop → Type 0
 LeavesPart one probe done = IfOk done (DidPart one probe)
+
+-- A member did its part, or stopped and was watched to its end, unless it vanished.
+abbrev pub is_done : Result Share Stop → Bool
+is_done (Ok share) = true
+is_done (Err (stop.Refused refusal)) = true
+is_done (Err stop.Gone) = true
+is_done (Err stop.Vanished) = false
 
 -- It is a replica, for so many rounds.
 abbrev pub IsReplica : ℕ → Member → Type 0

@@ -10,7 +10,7 @@
 //! schedule; the shares count the jobs of these logs, the tallies their snapshots, emitted and taken, of which a
 //! replica has one for each job, and the totals are the sums. A job's answer is the sum of its numbers, modulo 2^64.
 //! That threads were started, which stamps and jobs came, that the stamps went with the real messages, what was read
-//! beside the run, and which fault comes, no clause says.
+//! beside the run, which fault comes, and what is told where a replica vanished, no clause says.
 #![tactic(auto)]
 
 mod dispatcher;

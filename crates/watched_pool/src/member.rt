@@ -5,7 +5,7 @@ use crate::job::{JobSum, Numbers};
 use crate::replica::Replica;
 use std::sync::Wait;
 use thiserror::Error;
-use wullaphi::{LentProbe, Loan, Process, Refusal};
+use wullaphi::{LentProbe, Loan, LosableProcess, Refusal};
 
 /// A process of the pool.
 #[derive(Drop)]
@@ -23,6 +23,9 @@ pub enum Stop {
     /// A partner is gone.
     #[error("a partner is gone")]
     Gone,
+    /// It vanished in the middle of its work.
+    #[error("it vanished")]
+    Vanished,
 }
 
 /// How many jobs were answered by a replica, or to the dispatcher, and the sum of the answers, which wraps at 2^64.
@@ -46,14 +49,17 @@ impl Share {
     }
 }
 
-impl Process for Member {
-    ghost use Rattle.watched_pool.specs.Members.{LeavesPart};
+/// A member that vanished is lost. One that stopped for another reason is watched to its end.
+impl LosableProcess for Member {
+    ghost use Rattle.watched_pool.specs.Members.{LeavesPart, is_done};
 
     type Shared = Numbers;
 
     type Answer = Result<Share, Stop>;
 
     ghost leaves = { LeavesPart };
+
+    ghost done = { is_done };
 
     fn run<L: Loan, R: Wait>(
         self,
@@ -64,6 +70,14 @@ impl Process for Member {
         match self {
             Member::Dispatcher(dispatcher) => dispatcher.run(rt, probe),
             Member::Replica(replica) => replica.run(rt, probe, numbers),
+        }
+    }
+
+    fn is_done(answer: &Result<Share, Stop>) -> bool {
+        match answer {
+            Ok(_) => true,
+            Err(Stop::Refused(_) | Stop::Gone) => true,
+            Err(Stop::Vanished) => false,
         }
     }
 }

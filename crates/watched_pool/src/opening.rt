@@ -22,11 +22,12 @@ pub(crate) fn pool_plan(alloc: Global) -> Result<Plan, AllocError>
 }
 
 /// The members of the pool, by the numbers of their processes, and the channels between them: to and from each replica,
-/// with room for one message.
+/// with room for one message. This replica vanishes at its first job, if one is named.
 pub(crate) fn open_members(
     alloc: Global,
     pace: Pace,
     rounds: u16,
+    vanishing: Option<u32>,
 ) -> Result<Vec<Member>, AllocError>
     ensures { IfOk result (λ members. IsPool pace rounds members.items) }
 {
@@ -44,6 +45,7 @@ pub(crate) fn open_members(
             jobs,
             answers,
             rounds,
+            vanishes: vanishing == Some(place + 1),
         }))?;
     }
     let dispatcher = Dispatcher {

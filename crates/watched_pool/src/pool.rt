@@ -34,17 +34,19 @@ pub struct PoolReport {
     pub seen: Tally,
 }
 
-/// Runs so many rounds of the pool and its watch, each part in a thread of its own.
+/// Runs so many rounds of the pool and its watch, each part in a thread of its own. This replica vanishes at its first
+/// job, if one is named.
 pub fn run_pool<R: Threads + Wait + Clock + Sync>(
     rt: &R,
     alloc: Global,
     pace: Pace,
     rounds: u16,
+    vanishing: Option<u32>,
 ) -> Result<PoolReport, PoolFault>
     ensures { IfOk result (IsPoolReport 3 rounds pace) }
 {
     let plan = pool_plan(alloc)?;
-    let members = open_members(alloc, pace, rounds)?;
+    let members = open_members(alloc, pace, rounds, vanishing)?;
     let numbers = Numbers::new(alloc, u32::from(rounds) * REPLICAS)?;
     let (watched, seen) = watch_and_read(rt, alloc, &plan, WATCH, members, &numbers)?;
     let shares = shares_of(alloc, watched.answers)?;

@@ -1,13 +1,13 @@
 use crate::member::Stop;
 use std::alloc::{AllocError, AllocFailed};
 use thiserror::Error;
-use wullaphi::{SettleFault, WatchFault};
+use wullaphi::{Report, SettleFault, WatchFault};
 
 /// Why a run of the pool tells nothing. It displays as its line on standard error, without the program's name.
 #[derive(Clone, Copy, Debug, PartialEq, Eq, Error)]
 pub enum PoolFault {
     /// The words after the program's name ask for nothing that it knows.
-    #[error("usage: [safe]")]
+    #[error("usage: [safe | lost]")]
     Usage,
     /// Memory ran out before a thread was started, or as the answer was put together.
     #[error("memory")]
@@ -21,6 +21,13 @@ pub enum PoolFault {
     /// The member of this process, the lowest such one, stopped before its part was done.
     #[error("process {0}: {1}")]
     Stopped(u32, Stop),
+    /// The member of this process, the lowest such one, vanished in the middle of its work.
+    #[error("process {process} was lost")]
+    Lost {
+        process: u32,
+        /// What is known of the moment.
+        report: Report,
+    },
     /// The ends of the watch don't prove its report.
     #[error(transparent)]
     Settle(SettleFault),
@@ -47,6 +54,7 @@ impl From<WatchFault> for PoolFault {
             WatchFault::Plan(_) | WatchFault::Count => PoolFault::Plan,
             WatchFault::Memory => PoolFault::Memory,
             WatchFault::Spawn => PoolFault::Spawn,
+            WatchFault::Lost { process, report } => PoolFault::Lost { process, report },
             WatchFault::Settle(fault) => PoolFault::Settle(fault),
         }
     }

@@ -16,14 +16,31 @@ pub(crate) fn pool_text(alloc: Global, run: &PoolReport) -> Result<String, Alloc
         "read beside the run: {emitted} emitted, {taken} taken"
     )?;
     push_report(&mut text, &run.outcome)?;
-    match &run.outcome.report {
-        Report::Found(cut) => push_moment(&mut text, cut)?,
-        Report::Nothing => text.push_str("the replicas were never all at work at once\n")?,
-        Report::Undecided => text.push_str(
-            "it isn't known whether they were all at work at once\n",
-        )?,
-    }
+    push_known(&mut text, &run.outcome.report)?;
     Ok(text)
+}
+
+/// The process that was lost, and what is known of the moment.
+pub(crate) fn lost_text(
+    alloc: Global,
+    process: u32,
+    report: &Report,
+) -> Result<String, AllocError> {
+    let mut text = String::new(alloc);
+    writeln!(text, "process {process} was lost")?;
+    push_known(&mut text, report)?;
+    Ok(text)
+}
+
+/// What is known of the moment at which all replicas were at work.
+fn push_known(text: &mut String, report: &Report) -> Result<(), AllocError> {
+    match report {
+        Report::Found(cut) => push_moment(text, cut),
+        Report::Nothing => text.push_str("the replicas were never all at work at once\n"),
+        Report::Undecided => {
+            text.push_str("it isn't known whether they were all at work at once\n")
+        }
+    }
 }
 
 fn push_shares(text: &mut String, run: &PoolReport) -> Result<(), AllocError> {

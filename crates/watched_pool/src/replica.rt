@@ -19,6 +19,8 @@ pub struct Replica {
     pub(crate) jobs: Receiver<Stamped<Job>>,
     pub(crate) answers: Sender<Stamped<JobSum>>,
     pub(crate) rounds: u16,
+    /// It vanishes in the middle of its first job.
+    pub(crate) vanishes: bool,
 }
 
 impl Replica {
@@ -37,20 +39,21 @@ impl Replica {
             let Ok(stamped) = self.jobs.recv(rt) else {
                 return Err(Stop::Gone);
             };
-            let answer = answer_one(rt, probe, &self.answers, numbers, stamped)?;
+            let answer = answer_one(rt, probe, &self.answers, numbers, stamped, self.vanishes)?;
             share = share.with(answer);
         }
         Ok(share)
     }
 }
 
-/// Receives a job, is at work on it, and sends the answer.
+/// Receives a job, is at work on it, and sends the answer, unless it vanishes at its work.
 fn answer_one<L: Loan, R: Wait>(
     rt: &R,
     probe: &mut LentProbe<L>,
     answers: &Sender<Stamped<JobSum>>,
     numbers: &Numbers,
     stamped: Stamped<Job>,
+    vanishes: bool,
 ) -> Result<JobSum, Stop>
     ensures { OnOk result (AnswersJob probe.old probe.new) }
 {
@@ -59,6 +62,9 @@ fn answer_one<L: Loan, R: Wait>(
         Err((refusal, _)) => return Err(Stop::Refused(refusal)),
     };
     probe.observe(rt, true);
+    if vanishes {
+        return Err(Stop::Vanished);
+    }
     let answer = numbers.answer(job);
     match probe.stamp(DISPATCHER, answer) {
         Ok(stamped) => match answers.send(rt, stamped) {

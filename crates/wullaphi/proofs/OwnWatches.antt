@@ -1,5 +1,5 @@
 -- The parts of an opened watch and their ends are its own.
-use Rattle.std.proofs.Common.{◌≡◌, ℕ, false, Option, Some, IfNone, List, [], ◌∷◌, ◌++◌, get_or, slice_get, All, refl, sym, ap, subst, ◌∙◌}
+use Rattle.std.proofs.Common.{◌≡◌, ℕ, false, Option, Some, IfNone, IfSome, List, [], ◌∷◌, ◌++◌, get_or, slice_get, All, refl, sym, ap, subst, ◌∙◌}
 use Rattle.std.proofs.lemmas.List.Elements.{All-append, All-cons, All-nil}
 use Rattle.std.proofs.lemmas.Option.{slice_get-get_or}
 use Rattle.wcp_book.specs.State.{BookState}
@@ -77,6 +77,10 @@ module _ {opening : Option OpenedWatch} where
     is_probe = ap (slice_get opened.tree.probes.items) closed.id ∙ is.is_probe;
     one_ring = closed.ring;
   })
+
+  pub probe_end_of : {probe : LiveSide} {closed : Option ClosedSide} {end : ClosedSide} → closed ≡ Some end
+      → IfSome closed (λ end. IsEndOfProbe probe end) → HasOpened (IsProbeOf probe) opening → HasOpened (IsProbeEndOf end) opening
+  probe_end_of same closed = probe_end (rw same at closed)
 
   pub relay_end : {relay : Relay} {end : RelayEnd} → number_of end ≡ relay.number → AreReceiptsOf relay end
       → IfNone (fault_of end) ((p : _) → relay_put end p ≡ relay_taken end p)

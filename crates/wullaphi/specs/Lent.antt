@@ -25,3 +25,12 @@ pub record HasRun {P A : Type 0} (Leaves : P → LiveSide → A → Type 0) (wat
   pub leaves : Leaves process probe answer
   pub some_log : HasLog probe
   pub emitted : (log : List Call) → LiveFor probe log → notes ≡ (state_of_log made (log ++ Closed ∷ [])).notes
+
+-- A process has run in this watch, whatever became of its probe, which stood for a log as the process answered.
+pub record HasLeft {P A : Type 0} (Leaves : P → LiveSide → A → Type 0) (watch : ℕ) (made : ProbeSetup)
+    (process : P) (answer : A) : Type 0 where
+  pub probe : LiveSide
+  pub of_watch : probe.core.watch ≡ watch
+  pub of_process : setup_of probe.core ≡ made
+  pub leaves : Leaves process probe answer
+  pub some_log : HasLog probe

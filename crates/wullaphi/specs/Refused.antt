@@ -1,4 +1,6 @@
 -- Why a watch tells nothing.
+use Rattle.std.specs.Prelude.{ℕ}
+use Rattle.wcp_model.specs.declared.outcome.Report.{Report}
 use Rattle.wcp_watch.specs.declared.running.StartFault.{StartFault}
 use Rattle.wcp_watch.specs.declared.running.StartFault.TheVariants as start
 use Rattle.wullaphi.specs.declared.watch_fault.WatchFault.{WatchFault}
@@ -15,6 +17,7 @@ IsOfRun (fault.Plan first) = ⊥
 IsOfRun fault.Count = ⊥
 IsOfRun fault.Memory = Unit {0}
 IsOfRun fault.Spawn = Unit {0}
+IsOfRun (fault.Lost process report) = Unit {0}
 IsOfRun (fault.Settle refused) = Unit {0}
 
 -- A watch isn't opened for a fault of its plan, or for want of memory.
@@ -23,4 +26,14 @@ IsOfOpening (fault.Plan first) = Unit {0}
 IsOfOpening fault.Count = ⊥
 IsOfOpening fault.Memory = Unit {0}
 IsOfOpening fault.Spawn = ⊥
+IsOfOpening (fault.Lost process report) = ⊥
 IsOfOpening (fault.Settle refused) = ⊥
+
+-- Where it says that a process was lost, this holds of it and of the report.
+abbrev pub IfLost : WatchFault → (ℕ → Report → Type 0) → Type 0
+IfLost (fault.Plan first) Holds = Unit {0}
+IfLost fault.Count Holds = Unit {0}
+IfLost fault.Memory Holds = Unit {0}
+IfLost fault.Spawn Holds = Unit {0}
+IfLost (fault.Lost process report) Holds = Holds process report
+IfLost (fault.Settle refused) Holds = Unit {0}

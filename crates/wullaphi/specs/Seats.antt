@@ -1,5 +1,5 @@
 -- Processes with their probes, before they run and as they have run.
-use Rattle.std.specs.Prelude.{◌≡◌, ℕ, None, List, [], map}
+use Rattle.std.specs.Prelude.{◌≡◌, ℕ, Bool, None, IfNone, IfSome, List, [], is_some, map}
 use Rattle.wcp_model.specs.declared.plan.Plan.{Plan}
 use Rattle.wcp_probe.specs.Core.{setup_of}
 use Rattle.wcp_tree.specs.LiveProbe.{IsEndOfProbe, LiveFor, LiveSide}
@@ -7,7 +7,7 @@ use Rattle.wcp_tree.specs.Watches.{IsWired}
 use Rattle.wcp_tree.specs.declared.parts.Watch.{Watch}
 use Rattle.wcp_watch.specs.CheckerEnds.{IsFreshFor}
 use Rattle.wcp_watch.specs.declared.running.Parts.{Parts}
-use Rattle.wullaphi.specs.Lent.{HasRun}
+use Rattle.wullaphi.specs.Lent.{HasLeft, HasRun}
 use Rattle.wullaphi.specs.declared.seat.Seat.{Seat}
 use Rattle.wullaphi.specs.declared.seat.SeatEnd.{SeatEnd}
 
@@ -16,11 +16,16 @@ pub record IsNewSeat {P : Type 0} (seat : Seat P) : Type 0 where
   pub fresh : LiveFor seat.probe []
   pub put : seat.probe.core.pending ≡ None
 
--- What is left of a process that has run: the end of its probe, and its answer.
-pub record IsEndOfSeat {P A : Type 0} (Leaves : P → LiveSide → A → Type 0)
+-- What is left of a process that has run: its answer, and the end of its probe, which was closed just where the part of
+-- the process is done.
+pub record IsEndOfSeat {P A : Type 0} (Leaves : P → LiveSide → A → Type 0) (done : A → Bool)
     (seat : Seat P) (end : SeatEnd A) : Type 0 where
-  pub closed : IsEndOfProbe seat.probe end.probe
-  pub ran : HasRun Leaves seat.probe.core.watch (setup_of seat.probe.core) seat.process end.answer end.probe.link.put
+  pub done_is : is_some end.probe ≡ done end.answer
+  pub closed : IfSome end.probe (λ probe. IsEndOfProbe seat.probe probe)
+  pub ran : IfSome end.probe (λ probe.
+      HasRun Leaves seat.probe.core.watch (setup_of seat.probe.core) seat.process end.answer probe.link.put)
+  pub lost : IfNone end.probe
+      (HasLeft Leaves seat.probe.core.watch (setup_of seat.probe.core) seat.process end.answer)
 
 -- The parts of a watch of this number that was wired as a plan says: a seat for each process, which has its probe, the
 -- relays, and a fresh checker.

@@ -1,13 +1,16 @@
 -- What a watch of processes tells.
-use Rattle.std.specs.Prelude.{◌≡◌, ℕ, ◌<◌, Some, List, length, slice_get}
+use Rattle.std.specs.Prelude.{◌≡◌, ◌≢◌, ℕ, ◌<◌, Bool, false, true, Some, List, length, slice_get}
 use Rattle.std.specs.List.{sum_by}
 use Rattle.wcp_clock.specs.declared.note.Item.{Item}
 use Rattle.wcp_clock.specs.declared.note.Note.{Note}
 use Rattle.wcp_model.specs.ProbeLog.{setup}
 use Rattle.wcp_model.specs.Report.{IsDrained, IsReportByClocks, notes_taken}
+use Rattle.wcp_model.specs.declared.outcome.Report.{Report}
+use Rattle.wcp_model.specs.declared.outcome.Report.TheVariants.{Nothing}
 use Rattle.wcp_model.specs.declared.outcome.Tally.{Tally}
+use Rattle.wcp_model.specs.declared.probe_setup.ProbeSetup.{ProbeSetup}
 use Rattle.wcp_tree.specs.LiveProbe.{LiveSide, snapshots_in}
-use Rattle.wullaphi.specs.Lent.{HasRun}
+use Rattle.wullaphi.specs.Lent.{HasLeft, HasRun}
 use Rattle.wullaphi.specs.declared.watched.Watched.{Watched}
 
 -- The tally of a process all of whose notes were taken: the number of its snapshots, twice.
@@ -31,3 +34,21 @@ pub record IsWatched {P A : Type 0} (Leaves : P → LiveSide → A → Type 0) (
   pub tallies : (p : ℕ) → p < n → slice_get watched.outcome.tallies p ≡ Some (tally_of (notes_taken p taken))
   pub emitted_in_all : watched.totals.emitted ≡ sum_by (λ tally. tally.emitted) watched.outcome.tallies
   pub taken_in_all : watched.totals.taken ≡ sum_by (λ tally. tally.taken) watched.outcome.tallies
+
+-- A process has run in this watch, and answered something by which its part is done, or isn't.
+pub record HasAnswered {P A : Type 0} (Leaves : P → LiveSide → A → Type 0) (done : A → Bool) (watch : ℕ)
+    (made : ProbeSetup) (process : P) (is_done : Bool) : Type 0 where
+  pub answer : A
+  pub left : HasLeft Leaves watch made process answer
+  pub done_is : done answer ≡ is_done
+
+-- Process p is the lowest of these n processes that was lost in the watch of this number: by its answer its part isn't
+-- done, and that of each process before it is. The report isn't that there is no cut.
+pub record IsLost {P A : Type 0} (Leaves : P → LiveSide → A → Type 0) (done : A → Bool) (number n : ℕ)
+    (processes : List P) (p : ℕ) (report : Report) : Type 0 where
+  pub process : P
+  pub is_process : slice_get processes p ≡ Some process
+  pub lost : HasAnswered Leaves done number (setup n p) process false
+  pub before : (q : ℕ) (other : P) → q < p → slice_get processes q ≡ Some other
+      → HasAnswered Leaves done number (setup n q) other true
+  pub some_report : report ≢ Nothing

@@ -1,44 +1,55 @@
-ghost use Rattle.std.specs.Prelude.{◌≡◌, [], None, Some};
+ghost use Rattle.std.specs.Prelude.{◌≡◌, [], is_some, IfNone, IfSome, None, Some};
 ghost use Rattle.wcp_probe.specs.Core.{setup_of};
 ghost use Rattle.wcp_tree.specs.LiveProbe.{IsEndOfProbe, LiveFor};
-ghost use Rattle.wullaphi.specs.Lent.{HasRun, IsLent};
+ghost use Rattle.wullaphi.specs.Lent.{HasLeft, HasRun, IsLent};
 
 use crate::lent_probe::{LentProbe, Loan};
-use crate::process::Process;
+use crate::process::LosableProcess;
 use std::marker::Brand;
 use std::sync::Wait;
 use wcp_tree::{LiveProbe, ProbeEnd};
 
-/// Runs a process with its probe, and closes the probe.
-pub(crate) fn lend_and_close<S, A, P: Process<Shared = S, Answer = A>, R: Wait>(
+/// Runs a process with its probe, and closes the probe. Where the part of the process isn't done its probe is dropped
+/// in place of that.
+pub(crate) fn lend_and_close<S, A, P: LosableProcess<Shared = S, Answer = A>, R: Wait>(
     rt: &R,
     process: P,
     probe: LiveProbe,
     shared: &S,
-) -> (A, ProbeEnd)
+) -> (A, Option<ProbeEnd>)
     requires fresh { LiveFor probe [] }
     requires put { probe.core.pending ≡ None }
-    ensures closed { IsEndOfProbe probe result.1 }
-    ensures ran { HasRun P.leaves probe.core.watch (setup_of probe.core) process result.0 result.1.link.put }
+    ensures done { is_some result.1 ≡ P.done result.0 }
+    ensures closed { IfSome result.1 (λ end. IsEndOfProbe probe end) }
+    ensures ran { IfSome result.1 (λ end.
+        HasRun P.leaves probe.core.watch (setup_of probe.core) process result.0 end.link.put) }
+    ensures lost { IfNone result.1 (HasLeft P.leaves probe.core.watch (setup_of probe.core) process result.0) }
 {
     lend::<Brand, S, A, P, R>(rt, process, probe, shared)
 }
 
-/// Lends a process this probe, and closes it.
-fn lend<L: Loan, S, A, P: Process<Shared = S, Answer = A>, R: Wait>(
+/// Lends a process this probe, and closes it, or drops it.
+fn lend<L: Loan, S, A, P: LosableProcess<Shared = S, Answer = A>, R: Wait>(
     rt: &R,
     process: P,
     probe: LiveProbe,
     shared: &S,
-) -> (A, ProbeEnd)
+) -> (A, Option<ProbeEnd>)
     requires lent { IsLent L.watch L.made L.ring probe }
     requires fresh { LiveFor probe [] }
-    ensures watch { result.1.watch ≡ L.watch }
-    ensures id { result.1.id ≡ L.made.process }
-    ensures ring { Some result.1.link.ring ≡ L.ring }
-    ensures ran { HasRun P.leaves L.watch L.made process result.0 result.1.link.put }
+    ensures done { is_some result.1 ≡ P.done result.0 }
+    ensures watch { IfSome result.1 (λ end. end.watch ≡ L.watch) }
+    ensures id { IfSome result.1 (λ end. end.id ≡ L.made.process) }
+    ensures ring { IfSome result.1 (λ end. Some end.link.ring ≡ L.ring) }
+    ensures ran { IfSome result.1 (λ end. HasRun P.leaves L.watch L.made process result.0 end.link.put) }
+    ensures lost { IfNone result.1 (HasLeft P.leaves L.watch L.made process result.0) }
 {
     let mut lent: LentProbe<L> = LentProbe::new(probe);
     let answer = process.run(rt, &mut lent, shared);
-    (answer, lent.close(rt))
+    if P::is_done(&answer) {
+        (answer, Some(lent.close(rt)))
+    } else {
+        lent.lose();
+        (answer, None)
+    }
 }

@@ -138,4 +138,14 @@ impl<L: Loan> LentProbe<L> {
         let LentProbe { probe, of: _ } = self;
         probe.close_waiting(rt)
     }
+
+    /// Drops the probe in place of closing it: its process is lost.
+    pub(crate) fn lose(self)
+        ensures of_watch { self.core.watch ≡ L.watch }
+        ensures process { setup_of self.core ≡ L.made }
+        ensures some_log { HasLog self }
+    {
+        let LentProbe { probe, of: _ } = self;
+        drop(probe);
+    }
 }

@@ -1,5 +1,5 @@
-//! A watch of threads of your own, in one call: each process is run with a probe that it is lent, and what all of
-//! them leave proves the report.
+//! A watch of threads of your own, in one call: each process is run with a probe that it is lent, and what all of them
+//! leave proves the report.
 //!
 //! What is proved. The one crate of a program that watches threads of its own. `watch_processes` opens the tree of a
 //! plan, runs each process in a thread with the probe that it is lent, each relay and the checker, closes, joins and
@@ -8,14 +8,19 @@
 //! all that, all drained, the tallies are the counts, and what each process gave back stands at its place. A plan with
 //! a fault, and another number of processes than the plan's, are answered exactly where they apply. `LentProbe`, per
 //! call: the call of a live probe, where nothing is ever pending. A lent probe can't be dropped or closed by who has
-//! it. Where an impl of `Process` says how its probe stands as it answers, the answer says it too. What its threads did
-//! beside their probes no clause says, nor what `wait_for_cut` is told: tests show that, and that the book has ended.
+//! it. Where an impl of `Process` says how its probe stands as it answers, the answer says it too. A `LosableProcess`
+//! says which answers mean that its part is done: then its probe is closed, and else it is dropped. Where the watch
+//! answers, all are done; where it answers that a process was lost, that is the lowest whose answer says that it isn't
+//! done, and the report isn't that there is no cut. That the report is what the checker took no clause says. What its
+//! threads did beside their probes no clause says, nor what `wait_for_cut` is told: tests show that, and that the book
+//! has ended.
 //!
 //! `Watch::open` is for who runs the threads: a plan's fault is answered exactly where it applies, and `parts` hands
 //! out just the probes and relays of the tree that was opened. The types of the parts, and of what each leaves as it
 //! has run, keep that they are of that watch. So `WatchEnds::settle` has no premise: an answer is the exact report of
 //! what the probes emitted whose ends were added, and a refusal is the first reason that applies, where an end of the
-//! checker that wasn't added counts as missing. That the parts run, and in which threads, is left to the caller.
+//! checker that wasn't added counts as missing, and so does that of a probe that was dropped. That the parts run, and
+//! in which threads, is left to the caller.
 #![tactic(auto)]
 
 mod lending;
@@ -34,7 +39,7 @@ pub use lent_probe::{LentProbe, Loan};
 pub use opening::{Opening, Watch, WatchParts};
 pub use own_ends::{WatchCheckerEnd, WatchEnds, WatchProbeEnd, WatchRelayEnd};
 pub use own_parts::{WatchChecker, WatchProbe, WatchRelay};
-pub use process::Process;
+pub use process::{LosableProcess, Process};
 pub use waiting::wait_for_cut;
 pub use watch_fault::WatchFault;
 pub use watched::Watched;

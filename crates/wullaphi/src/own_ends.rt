@@ -8,7 +8,7 @@ use crate::opening::Opening;
 use std::alloc::{AllocError, Global};
 use std::marker::{Model, PhantomData};
 use wcp_book::Book;
-use wcp_model::Outcome;
+use wcp_model::{Outcome, Report};
 use wcp_tree::{ProbeEnd, RelayEnd};
 use wcp_watch::{CheckerEnd, SettleFault, settle};
 
@@ -114,6 +114,14 @@ impl<W: Opening> WatchCheckerEnd<W> {
             end,
             of: PhantomData,
         }
+    }
+
+    /// What the snapshots that the checker took tell. Where it was starved, that is a cut that it had found before, or
+    /// `Undecided`.
+    pub fn report(&self) -> Report
+        ensures { result ≡ self.now.report }
+    {
+        self.end.report()
     }
 }
 

@@ -1,15 +1,15 @@
 //! The parts of an opened watch, which know that they are its own.
-ghost use Rattle.std.specs.Prelude.{◌≡◌};
+ghost use Rattle.std.specs.Prelude.{◌≡◌, is_some, IfNone, IfSome};
 ghost use Rattle.wcp_probe.specs.Core.{setup_of};
 ghost use Rattle.wcp_tree.specs.LiveProbe.{IsEndOfProbe};
 ghost use Rattle.wcp_tree.specs.RelayEnds.{number_of};
-ghost use Rattle.wullaphi.specs.Lent.{HasRun};
+ghost use Rattle.wullaphi.specs.Lent.{HasLeft, HasRun};
 ghost use Rattle.wullaphi.specs.Opened.{HasOpened, IsCheckerOf, IsProbeOf, IsRelayOf};
 
 use crate::lending::lend_and_close;
 use crate::opening::Opening;
 use crate::own_ends::{WatchCheckerEnd, WatchProbeEnd, WatchRelayEnd};
-use crate::process::Process;
+use crate::process::{LosableProcess, Process};
 use std::marker::{Model, PhantomData};
 use std::sync::{Mutex, Wait};
 use std::thread::{Threads, join};
@@ -19,7 +19,7 @@ use wcp_tree::{CheckerInbox, LiveProbe, Relay};
 use wcp_watch::check_loop;
 
 /// A probe of an opened watch, for the thread of its process. It has made no call yet. A relay waits until each of its
-/// probes has run: one that is dropped in place of that leaves the relay waiting for ever.
+/// probes has run, or is dropped: the process of one that is dropped in place of run is lost.
 ///
 /// A contract sees it as the live probe that it is.
 #[derive(Drop)]
@@ -70,7 +70,32 @@ impl<W: Opening> WatchProbe<W> {
     {
         let WatchProbe { probe, of: _ } = self;
         let (answer, end) = lend_and_close(rt, process, probe, shared);
-        (answer, WatchProbeEnd::new(end))
+        match end {
+            Some(end) => (answer, WatchProbeEnd::new(end)),
+            None => unreachable!(),
+        }
+    }
+
+    /// Runs a process with this probe, in this thread, and closes the probe if the part of the process is done. Else
+    /// the process is lost: its probe is dropped, and has no end.
+    pub fn run_or_lose<S, A, P: LosableProcess<Shared = S, Answer = A>, R: Wait>(
+        self,
+        rt: &R,
+        process: P,
+        shared: &S,
+    ) -> (A, Option<WatchProbeEnd<W>>)
+        ensures done { is_some result.1 ≡ P.done result.0 }
+        ensures closed { IfSome result.1 (λ end. IsEndOfProbe self end) }
+        ensures ran { IfSome result.1 (λ end.
+            HasRun P.leaves self.core.watch (setup_of self.core) process result.0 end.link.put) }
+        ensures lost { IfNone result.1 (HasLeft P.leaves self.core.watch (setup_of self.core) process result.0) }
+    {
+        let WatchProbe { probe, of: _ } = self;
+        let (answer, end) = lend_and_close(rt, process, probe, shared);
+        match end {
+            Some(end) => (answer, Some(WatchProbeEnd::new(end))),
+            None => (answer, None),
+        }
     }
 }
 
@@ -106,8 +131,8 @@ impl<W: Opening> WatchRelay<W> {
         }
     }
 
-    /// Passes on what comes, in this thread, until each process below it has run and all of it was passed on, or until
-    /// a fault comes, which its end tells.
+    /// Passes on what comes, in this thread, until each process below it has run or is lost and all of it was passed
+    /// on, or until a fault comes, which its end tells.
     pub fn run<R: Wait>(self, rt: &R) -> WatchRelayEnd<W>
         ensures { number_of result ≡ self }
     {
@@ -166,8 +191,8 @@ impl<W: Opening> WatchChecker<W> {
         }
     }
 
-    /// Takes all that the processes emit, in this thread, until each has run, and writes it into the book: the share of
-    /// each process, and the cut as soon as it is found. Then it ends the book.
+    /// Takes all that the processes emit, in this thread, until each has run or is lost, and writes it into the book:
+    /// the share of each process that has run, and the cut as soon as it is found. Then it ends the book.
     pub fn run<R: Wait>(self, rt: &R, book: &Mutex<Book>) -> WatchCheckerEnd<W>
         ensures { result.watch ≡ self }
     {

@@ -1,6 +1,6 @@
 use std::alloc::{AllocError, AllocFailed};
 use thiserror::Error;
-use wcp_model::PlanFault;
+use wcp_model::{PlanFault, Report};
 use wcp_watch::{SettleFault, StartFault};
 
 /// Why a watch tells nothing. With `Plan`, `Count` and `Spawn` no process has run.
@@ -18,6 +18,14 @@ pub enum WatchFault {
     /// A thread couldn't be made.
     #[error("spawn")]
     Spawn,
+    /// A process was lost: its part wasn't done.
+    #[error("process {process} was lost")]
+    Lost {
+        /// The lowest process that was lost.
+        process: u32,
+        /// What the snapshots that the checker took tell: a cut, or that it isn't known whether there is one.
+        report: Report,
+    },
     /// What the watch left doesn't prove its report.
     #[error("{0}")]
     Settle(SettleFault),

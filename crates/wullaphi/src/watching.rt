@@ -1,29 +1,33 @@
 //! A whole watch: opened, run, closed, joined and settled.
-ghost use Rattle.std.specs.Prelude.{◌≡◌, ◌≢◌, ◌<◌, ◌≤◌, ◌↔◌, length, Err, IfErr, IfOk};
+ghost use Rattle.std.specs.Prelude.{◌≡◌, ◌≢◌, ◌<◌, ◌≤◌, ◌↔◌, length, true, All, Err, IfErr, IfOk};
 ghost use Rattle.wcp_clock.specs.Limits.{most_processes};
 ghost use Rattle.wcp_model.specs.PlanFault.{IsCheckedPlan, IsFirstFault};
 ghost use Rattle.wcp_model.specs.declared.plan.PlanFault.{PlanFault};
-ghost use Rattle.wullaphi.specs.Refused.{IsOfRun};
+ghost use Rattle.wcp_model.specs.declared.outcome.Report.TheVariants.{Nothing};
+ghost use Rattle.wullaphi.specs.Refused.{IfLost, IsOfRun};
 ghost use Rattle.wcp_watch.specs.RunParts.{AreReady};
 ghost use Rattle.wullaphi.specs.Seats.{ArePartsOf, IsNewSeat};
-ghost use Rattle.wullaphi.specs.Watched.{IsWatched};
+ghost use Rattle.wullaphi.specs.Watched.{IsLost, IsWatched};
 
-use crate::process::Process;
-use crate::seat::{Seat, seat_all, take_apart};
+use crate::process::LosableProcess;
+use crate::seat::{Seat, first_lost, seat_all, take_apart};
 use crate::watch_fault::WatchFault;
 use crate::watched::Watched;
 use std::alloc::{AllocError, Global};
 use std::sync::{Mutex, Wait};
 use std::thread::Threads;
 use wcp_book::Book;
-use wcp_model::{Outcome, Plan};
+use wcp_model::{Outcome, Plan, Report};
 use wcp_queue::Checker;
 use wcp_tree::{Watch, watch};
-use wcp_watch::{CheckFault, Checking, Ends, Parts, run_parts, settle};
+use wcp_watch::{CheckFault, Checking, Ends, Parts, SettleFault, run_parts, settle};
 
 /// Watches these processes, of which there are as many as the plan says: each runs in a thread of its own with the
 /// probe of its number, beside a thread for each relay and one for the checker. All are started or none, and all have
 /// ended when this returns. The number of the watch tells it from others: a stamp of another one is refused.
+///
+/// A process may be lost, if it is a `LosableProcess`: the others are watched to their end, and the answer tells the
+/// lowest process that was lost, and what the checker came to by all that it took.
 ///
 /// The book is begun anew. While the watch runs any thread may read in it: the totals, and the cut, as soon as the
 /// checker finds it, which is then the report's. So a process may go on until it reads it, and end then. Whoever waits
@@ -32,7 +36,7 @@ use wcp_watch::{CheckFault, Checking, Ends, Parts, run_parts, settle};
 pub fn watch_processes<
     S: Sync,
     A: Send + Drop + 'static,
-    P: Process<Shared = S, Answer = A> + Send + Drop + 'static,
+    P: LosableProcess<Shared = S, Answer = A> + Send + Drop + 'static,
     R: Threads + Wait + Sync,
 >(
     rt: &R,
@@ -47,6 +51,8 @@ pub fn watch_processes<
     ensures plan { (first : PlanFault) → (result ≡ Err (WatchFault.Plan first)) ↔ IsFirstFault plan.now first }
     ensures count { (result ≡ Err WatchFault.Count)
         ↔ (IsCheckedPlan plan.now × (length processes.items ≢ plan.now.n)) }
+    ensures done { IfOk result (λ watched. All (λ answer. P.done answer ≡ true) watched.answers.items) }
+    ensures lost { IfErr result (λ fault. IfLost fault (IsLost P.leaves P.done number plan.now.n processes.items)) }
 {
     let watched = watch_checked(rt, alloc, plan, number, processes, shared, book);
     book.lock(rt).end();
@@ -57,7 +63,7 @@ pub fn watch_processes<
 fn watch_checked<
     S: Sync,
     A: Send + Drop + 'static,
-    P: Process<Shared = S, Answer = A> + Send + Drop + 'static,
+    P: LosableProcess<Shared = S, Answer = A> + Send + Drop + 'static,
     R: Threads + Wait + Sync,
 >(
     rt: &R,
@@ -72,6 +78,8 @@ fn watch_checked<
     ensures plan { (first : PlanFault) → (result ≡ Err (WatchFault.Plan first)) ↔ IsFirstFault plan.now first }
     ensures count { (result ≡ Err WatchFault.Count)
         ↔ (IsCheckedPlan plan.now × (length processes.items ≢ plan.now.n)) }
+    ensures done { IfOk result (λ watched. All (λ answer. P.done answer ≡ true) watched.answers.items) }
+    ensures lost { IfErr result (λ fault. IfLost fault (IsLost P.leaves P.done number plan.now.n processes.items)) }
 {
     if let Err(fault) = plan.check() {
         return Err(WatchFault::Plan(fault));
@@ -86,7 +94,7 @@ fn watch_checked<
 fn watch_planned<
     S: Sync,
     A: Send + Drop + 'static,
-    P: Process<Shared = S, Answer = A> + Send + Drop + 'static,
+    P: LosableProcess<Shared = S, Answer = A> + Send + Drop + 'static,
     R: Threads + Wait + Sync,
 >(
     rt: &R,
@@ -101,6 +109,8 @@ fn watch_planned<
     requires count { length processes.items ≡ plan.now.n }
     ensures watched { IfOk result (IsWatched P.leaves number plan.now.n processes.items) }
     ensures fault { IfErr result IsOfRun }
+    ensures done { IfOk result (λ watched. All (λ answer. P.done answer ≡ true) watched.answers.items) }
+    ensures lost { IfErr result (λ fault. IfLost fault (IsLost P.leaves P.done number plan.now.n processes.items)) }
 {
     let parts = open_parts(alloc, plan, number, processes)?;
     begin_anew(rt, book, plan.n);
@@ -111,6 +121,9 @@ fn watch_planned<
     } = run_parts(rt, alloc, parts, shared, book)?;
     if checker.fault() == Some(CheckFault::Memory) {
         return Err(WatchFault::Memory);
+    }
+    if let Some(process) = first_lost(&workers) {
+        return Err(fault_of_lost(process, checker.report()));
     }
     let (probes, answers) = take_apart(alloc, workers)?;
     let posted = book.lock(rt).copied();
@@ -124,6 +137,19 @@ fn watch_planned<
         totals,
         answers,
     })
+}
+
+/// Why a watch tells nothing where this process was lost, and the checker came to this report. That there is no cut is
+/// never the report of one that took the mark of a lost process: it is that of a checker with a fault.
+fn fault_of_lost(process: u32, report: Report) -> WatchFault
+    ensures fault { IsOfRun result }
+    ensures some { report ≢ Nothing → result ≡ WatchFault.Lost process report }
+    ensures lost { IfLost result (λ told tells. (told ≡ process) × (tells ≢ Nothing)) }
+{
+    match report {
+        Report::Nothing => WatchFault::Settle(SettleFault::Faulted),
+        report => WatchFault::Lost { process, report },
+    }
 }
 
 /// Opens the tree of the plan, a seat for each process, and the checker. `Err` where memory runs out.

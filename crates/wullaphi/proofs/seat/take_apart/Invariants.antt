@@ -1,9 +1,12 @@
-use Rattle.std.proofs.Common.{◌≡◌, map}
+use Rattle.std.proofs.Common.{◌≡◌, All, Some, map}
+use Rattle.std.specs.Prelude.{IsSome}
+use Rattle.std.specs.Vec.Iter.{into_iter_items}
 use Rattle.wullaphi.proofs.seat.take_apart.Given as goal
 
 abbrev pub invariant-loop-end : goal.invariant-loop-end
 invariant-loop-end g l =
     record {
-      probes : map (λ end. end.probe) l.yielded ≡ l.probes.items;
+      rest : All (λ end. IsSome end.probe) (into_iter_items l.end-iterator);
+      probes : map (λ end. end.probe) l.yielded ≡ map Some l.probes.items;
       answers : map (λ end. end.answer) l.yielded ≡ l.answers.items;
     }

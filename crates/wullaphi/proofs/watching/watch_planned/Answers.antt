@@ -1,6 +1,7 @@
-use Rattle.std.proofs.Common.{refl}
+use Rattle.std.proofs.Common.{refl, sym, subst}
 use Rattle.wcp_model.proofs.CheckedPlans.{few_processes, some_process}
-use Rattle.wullaphi.proofs.Ends.{come, is_watched}
+use Rattle.wullaphi.proofs.Ends.{all_done, come, few_ends, is_lost, is_watched, lost_as}
+use Rattle.wullaphi.specs.Watched.{IsLost}
 use Rattle.wullaphi.proofs.watching.watch_planned.Goals as goal
 
 pub begin_anew-requires-clause-some : goal.begin_anew-requires-clause-some
@@ -9,14 +10,48 @@ begin_anew-requires-clause-some g c = some_process c.args.plan.now c.requires.ch
 pub begin_anew-requires-clause-within : goal.begin_anew-requires-clause-within
 begin_anew-requires-clause-within g c = few_processes c.args.plan.now c.requires.checked
 
+pub first_lost-requires : goal.first_lost-requires
+first_lost-requires g c = record {
+  few = rw c.deref.ensures.value
+      (few_ends g.P.LosableProcess.leaves g.P.LosableProcess.done c.requires.checked c.in_ok-parts.ensures.parts c.in_ok-workers.ensures);
+}
+
+pub returns-in-Some-clause-lost : goal.returns-in-Some-clause-lost
+returns-in-Some-clause-lost g c =
+    lost_as c.fault_of_lost.result (λ p report is.
+    let lost = is_lost
+    g.P.LosableProcess.leaves
+    g.P.LosableProcess.done
+    c.requires.checked
+    c.in_ok-parts.ensures.parts
+    c.in_ok-workers.ensures
+    c.in-Some.process
+    report
+    (rw c.deref.ensures.value at c.in-Some.ensures.lost)
+    (rw c.deref.ensures.value at c.in-Some.ensures.before)
+    is.1 in
+    subst (λ q. IsLost g.P.LosableProcess.leaves g.P.LosableProcess.done c.args.number c.args.plan.now.n c.args.processes.items q report) (sym is.0) lost)
+    c.fault_of_lost.ensures.lost
+
+pub take_apart-requires : goal.take_apart-requires
+take_apart-requires g c = rw c.deref.ensures.value at c.in_default.ensures.none
+
 pub settle-requires : goal.settle-requires
 settle-requires g c =
-    come g.P.Process.leaves c.requires.checked c.in_ok-parts.ensures.parts c.in_ok-workers.ensures c.in_ok-probes.probes.items c.in_ok-probes.ensures.probes
+    come
+    g.P.LosableProcess.leaves
+    g.P.LosableProcess.done
+    c.requires.checked
+    c.in_ok-parts.ensures.parts
+    c.in_ok-workers.ensures
+    c.in_ok-probes.probes.items
+    c.in_ok-probes.ensures.probes
 
 pub returns-clause-watched : goal.returns-clause-watched
 returns-clause-watched g c =
     is_watched
-    g.P.Process.leaves
+    g.P.LosableProcess.leaves
+    g.P.LosableProcess.done
     c.requires.checked
     c.in_ok-parts.ensures.parts
     c.in_ok-workers.ensures
@@ -30,3 +65,16 @@ returns-clause-watched g c =
     refl
     refl
     refl
+
+pub returns-clause-done : goal.returns-clause-done
+returns-clause-done g c =
+    all_done
+    g.P.LosableProcess.leaves
+    g.P.LosableProcess.done
+    c.requires.checked
+    c.in_ok-parts.ensures.parts
+    c.in_ok-workers.ensures
+    c.in_ok-probes.probes.items
+    c.in_ok-probes.ensures.probes
+    c.in_ok-probes.answers.items
+    c.in_ok-probes.ensures.answers
