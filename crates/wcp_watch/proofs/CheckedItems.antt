@@ -1,13 +1,15 @@
 -- What a lane gives is what its checker may take.
-use Rattle.wcp_watch.proofs.Words.{◌≡◌, ℕ, suc, ◌<◌, Bool, true, false, Option, Some, None, List, [], ◌∷◌, ◌++◌, ◌+◌, ◌↔◌, length, get_or, take, map, sym, refl, ap, ◌∙◌, subst, append_assoc, arith, All, Result, Ok, Err, OnOk, IfNone, result_err, list_any, take_more, true≢false, length-map, All-map, Item, Note, notes_taken, clocks_taken, snapshot_clocks, AreInTurn, IsNextNote, IsDrained, CheckerState, processes, closed_of, MayTake, StandsForItems, Numbers, ItemMayFollow, HasTakenClose, HasTakenLast, TakesItems, first_fault}
+use Rattle.wcp_watch.proofs.Words.{◌≡◌, ◌≢◌, ℕ, suc, ◌<◌, Bool, true, false, ◌||◌, Option, Some, None, List, [], ◌∷◌, ◌++◌, ◌+◌, ◌↔◌, length, get_or, take, map, sym, refl, ap, ◌∙◌, subst, append_assoc, arith, All, Result, Ok, Err, OnOk, IfNone, IfSome, result_err, list_any, list_any-append, take_more, true≢false, length-map, All-map, Item, Note, notes_taken, clocks_taken, snapshot_clocks, AreInTurn, IsNextNote, IsDrained, CheckerState, processes, closed_of, lost_of, MayTake, StandsForItems, Numbers, ItemMayFollow, AreAllEnded, IsLowestLost, HasTakenClose, HasTakenLast, TakesItems, first_fault}
 use Rattle.std.specs.FinSet as set
 use Rattle.wcp_clock.specs.declared.note.Note.TheVariants.{Snap, Close, Lost}
-use Rattle.wcp_clock.specs.Notes.{is_close, is_last, place_of}
-use Rattle.wcp_model.proofs.NotesInTurn.{nothing_follows}
+use Rattle.wcp_clock.specs.Notes.{is_close, is_last, is_lost, place_of}
+use Rattle.wcp_model.specs.declared.outcome.Report.{Report}
+use Rattle.wcp_model.specs.declared.outcome.Report.TheVariants.{Nothing}
 use Rattle.wcp_lane.specs.declared.fault.Cut.{Cut}
 use Rattle.wcp_model.specs.LaneRule.{items_from}
-use Rattle.wcp_queue.proofs.NotesTaken.{MayTake-next, close_mark_in, clocks_taken-push_last, taken_kind-own}
+use Rattle.wcp_queue.proofs.NotesTaken.{MayTake-next, clocks_taken-push_last, taken_kind-own}
 use Rattle.wcp_tree.proofs.Bundling.{same_last}
+use Rattle.wcp_watch.specs.declared.checker_end.CheckFault.TheVariants as fault
 
 -- where no close mark is among these notes, they are all snapshots
 open_notes : (notes : List Note) → All (λ note. is_last note ≡ false) notes → (length (snapshot_clocks notes) ≡ length notes) × (list_any is_last notes ≡ false)
@@ -39,12 +41,29 @@ close_taken checker items p (Close count) stands within place closed =
       counted = stands.taken p within ∙ ap length (clocks_taken-push_last items p p (Close count) refl) ∙ sym place;
     }
 
--- where each close mark was taken, all is drained
-pub drained : (checker : CheckerState) (items : List Item) → StandsForItems checker items → ((p : ℕ) → p < processes checker → closed_of checker p ≡ true) → IsDrained (processes checker) items
-drained checker items stands closed p within =
-    let (count, before, after, is) = close_mark_in (notes_taken p items) (sym (stands.closed p within) ∙ closed p within) in
-    let last : after ≡ [] = nothing_follows before after count (subst AreInTurn is (stands.in_turn p within)) in
-    (count, before, subst (λ rest. notes_taken p items ≡ before ++ Close count ∷ rest) last is)
+-- where a last note was taken, it stands at a place among the notes
+last_mark_in : (notes : List Note) → (list_any is_close notes || list_any is_lost notes) ≡ true
+    → (before : List Note) × (last : Note) × (after : List Note) × (notes ≡ before ++ last ∷ after) × (is_last last ≡ true)
+last_mark_in [] none = absurd (true≢false (sym none))
+last_mark_in (Snap number clock ∷ notes) some =
+    let (before, last, after, is, ends) = last_mark_in notes some in
+    (Snap number clock ∷ before, last, after, ap (λ rest. Snap number clock ∷ rest) is, ends)
+last_mark_in (Close count ∷ notes) some = ([], Close count, notes, refl, refl)
+last_mark_in (Lost count ∷ notes) some = ([], Lost count, notes, refl, refl)
+
+-- nothing follows a last note
+nothing_behind : (before after : List Note) (last : Note) → is_last last ≡ true → AreInTurn (before ++ last ∷ after) → after ≡ []
+nothing_behind before [] last ends turn = refl
+nothing_behind before (x ∷ after) last ends turn =
+    grind (arith, append_assoc before (last ∷ []) (x ∷ after), list_any-append is_last before (last ∷ []))
+
+-- where a last note of each process was taken, each has ended
+pub all_ended : (checker : CheckerState) (items : List Item) → StandsForItems checker items
+    → ((p : ℕ) → p < processes checker → (closed_of checker p || lost_of checker p) ≡ true) → AreAllEnded (processes checker) items
+all_ended checker items stands marked p within =
+    let (before, last, after, is, ends) = last_mark_in (notes_taken p items) (rw (stands.closed p within, stands.lost p within) at (marked p within)) in
+    let none : after ≡ [] = nothing_behind before after last ends (subst AreInTurn is (stands.in_turn p within)) in
+    (before, last, subst (λ rest. notes_taken p items ≡ before ++ last ∷ rest) none is, ends)
 
 -- an item more was given
 pub more_taken : (old now new : CheckerState) (items : List Item) (i : ℕ) (d : Item) → i < length items → TakesItems old now (take i items) → TakesItems now new (get_or items i d ∷ []) → TakesItems old new (take (i + 1) items)
@@ -61,13 +80,43 @@ last_taken now new taken items i d below same stands may step front end is close
     (close_taken new (taken ++ take i items) item.from item.note (step (taken ++ take i items) stands) (subst (λ n. item.from < n) (sym same) may.from)
     (may.place ∙ stands.taken item.from may.from) (ap (λ (x : Item). is_close x.note) one ∙ close))
 
--- a loop without a fault starved no checker, and met no cut
-pub without_fault : (starved : Bool) (cut : Option Cut) → first_fault starved cut ≡ None → (starved ≡ false) × (cut ≡ None)
-without_fault true cut is = cc
-without_fault false (Some cut) is = cc
-without_fault false None is = (refl, refl)
+-- a loop without a fault starved no checker, met no cut, and lost no process
+pub without_fault : (starved : Bool) (cut : Option Cut) (lost : Option ℕ) → first_fault starved cut lost ≡ None → (starved ≡ false) × (cut ≡ None) × (lost ≡ None)
+without_fault true cut lost is = cc
+without_fault false (Some cut) lost is = cc
+without_fault false None (Some p) is = cc
+without_fault false None None is = (refl, refl, refl)
 
--- without a cut all is drained
-pub all_drained : (met : Result (Unit {0}) Cut) (n : ℕ) (items : List Item) → OnOk met (IsDrained n items) → IfNone (result_err met) (IsDrained n items)
-all_drained (Ok done) n items is = is
-all_drained (Err cut) n items is = tt
+-- a fault that tells a lost process tells the one that was lost
+pub lost_told : (starved : Bool) (cut : Option Cut) (lost : Option ℕ) (p : ℕ) → first_fault starved cut lost ≡ Some (fault.Lost p) → lost ≡ Some p
+lost_told true cut lost p is = cc
+lost_told false (Some cut) lost p is = cc
+lost_told false None (Some q) p is = cc
+lost_told false None None p is = cc
+
+-- what holds on success holds without a cut
+pub without_cut : (P : Type 0) (met : Result (Unit {0}) Cut) → OnOk met P → IfNone (result_err met) P
+without_cut P (Ok done) is = is
+without_cut P (Err cut) is = tt
+
+-- a last note is a close mark where none of them is a mark that the process was lost
+closes : (before : List Note) (last : Note) → is_last last ≡ true → list_any is_lost (before ++ last ∷ []) ≡ false → (count : ℕ) × (last ≡ Close count)
+closes before (Snap number clock) ends none = absurd (true≢false (sym ends))
+closes before (Close count) ends none = (count, refl)
+closes before (Lost count) ends none = absurd (grind (arith, list_any-append is_lost before (Lost count ∷ [])))
+
+-- without a cut and a lost process all is drained
+pub all_drained : (cut : Option Cut) (lost : Option ℕ) (n : ℕ) (items : List Item) → IfNone cut (AreAllEnded n items) → IsLowestLost n items lost
+    → IfNone cut (IfNone lost (IsDrained n items))
+all_drained (Some cut) lost n items ended lowest = tt
+all_drained None (Some p) n items ended lowest = tt
+all_drained None None n items ended none = λ p within.
+    let (before, last, is, ends) = ended p within in
+    let (count, close) = closes before last ends (rw is at (none p within)) in
+    (count, before, rw close at is)
+
+-- where a process was lost the report never is that there is nothing
+pub never_none : (checker : CheckerState) (items : List Item) (lost : Option ℕ) (report : Report) → StandsForItems checker items → IsLowestLost (processes checker) items lost
+    → ((p : ℕ) → p < processes checker → lost_of checker p ≡ true → report ≢ Nothing) → IfSome lost (λ p. report ≢ Nothing)
+never_none checker items None report stands lowest never = tt
+never_none checker items (Some p) report stands lowest never = never p lowest.0 (stands.lost p lowest.0 ∙ lowest.1)

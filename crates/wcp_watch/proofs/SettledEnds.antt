@@ -209,7 +209,7 @@ module _ {probes : List ClosedSide} {relays : List RelayEnd} {checker : CheckerE
         whole = All-from_contains _ probes whole_of;
         any_clocks = come.of_checker.any_clocks clean.0;
         exact = come.of_checker.exact clean.0 clocks_rise;
-        drained = rw clean.1 at come.of_checker.drained;
+        drained = rw (clean.1, clean.2) at come.of_checker.drained;
         processes = are.count_is;
         tallies = λ k d below.
             let among = Contains-get_or probes k d below in
@@ -222,8 +222,8 @@ module _ {probes : List ClosedSide} {relays : List RelayEnd} {checker : CheckerE
         );
       }
         where
-          clean : (come.of_checker.starved ≡ false) × (checker.cut ≡ None)
-          clean = without_fault come.of_checker.starved checker.cut (sym come.of_checker.fault ∙ whole.1)
+          clean : (come.of_checker.starved ≡ false) × (checker.cut ≡ None) × (checker.lost ≡ None)
+          clean = without_fault come.of_checker.starved checker.cut checker.lost (sym come.of_checker.fault ∙ whole.1)
 
           whole_of : (end : ClosedSide) → Contains probes end → notes_taken end.id checker.receipt.taken ≡ end.link.put
           whole_of end among =

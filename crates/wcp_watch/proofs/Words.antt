@@ -1,13 +1,14 @@
 -- The words of the proofs of this crate, from one place.
-pub use Rattle.std.proofs.Common.{◌≡◌, ◌≢◌, ℕ, zero, suc, ◌<◌, List, [], ◌∷◌, ◌++◌, length, length-set, Option, Some, Contains, get_or, true, false, ◌+◌, refl, sym, ap, subst, ◌∙◌, inl, inr, ◌⊎◌, arith, ◌==◌, map, None, ⊎_elim, ◌↔◌, Result, Ok, Err, ◌≤◌, Vec, Global, subst₂, All, Bool, take, append_assoc, vec_len, true≢false, slice_get, rules}
+pub use Rattle.std.proofs.Common.{◌≡◌, ◌≢◌, ℕ, zero, suc, ◌<◌, List, [], ◌∷◌, ◌++◌, length, length-set, Option, Some, Contains, get_or, true, false, ◌+◌, refl, sym, ap, subst, ◌∙◌, inl, inr, ◌⊎◌, arith, ◌==◌, map, None, ⊎_elim, ◌↔◌, Result, Ok, Err, ◌≤◌, Vec, Global, subst₂, All, Bool, take, append_assoc, vec_len, true≢false, slice_get, rules, ◌||◌}
 pub use Rattle.std.proofs.lemmas.Bool.{cases_eq, cases_lt}
 pub use Rattle.std.proofs.lemmas.Grind.{common_steps}
 pub use Rattle.std.proofs.lemmas.List.{append-nil, get_or_append_left, length-append, length-map, get_or-map, length-replicate, take_more}
 pub use Rattle.std.proofs.lemmas.List.Elements.{All-contains, All-cons, All-nil, Contains-get_or, Contains-append_right, All-head, All-tail, All-from_recursion, All-weaker, recursion_from_All, All-map}
+pub use Rattle.std.proofs.lemmas.List.Folds.{list_any-append}
 pub use Rattle.std.proofs.lemmas.Option.{gets, get_or_from_slice_get, slice_get-get_or, slice_get_past, slice_get_within}
 pub use Rattle.std.specs.List.{list_any, AllByRecursion, sum_by}
 pub use Rattle.std.specs.Option.{option_flatten}
-pub use Rattle.std.specs.Prelude.{slice_set, slice_index_or, is_some, AllPairs, IsErr, IsOk, IfNone, OnOk}
+pub use Rattle.std.specs.Prelude.{slice_set, slice_index_or, is_some, AllPairs, IsErr, IsOk, IfNone, IfSome, OnOk}
 pub use Rattle.std.specs.Result.{IsErrAnd, result_err}
 pub use Rattle.wcp_book.specs.State.{BookState}
 pub use Rattle.wcp_clock.specs.Limits.{most_processes, most_relays}
@@ -19,7 +20,7 @@ pub use Rattle.wcp_model.proofs.CheckedPlans.{attached_exists, has_leaf, is_its_
 pub use Rattle.wcp_model.specs.Report.{notes_taken, ClocksRise, clocks_taken, snapshot_clocks, AreInTurn, IsNextNote, IsDrained}
 pub use Rattle.wcp_model.specs.Tree.{is_leaf, parent_of, leaf_of}
 pub use Rattle.wcp_model.specs.declared.plan.Parent.{Parent}
-pub use Rattle.wcp_queue.specs.Checker.{CheckerState, processes, closed_of, MayTake, StandsForItems}
+pub use Rattle.wcp_queue.specs.Checker.{CheckerState, processes, closed_of, lost_of, MayTake, StandsForItems}
 pub use Rattle.wcp_ring.specs.Ends.{Ring, EndedSide}
 pub use Rattle.wcp_tree.proofs.Accepting.{ItemMayFollow, one_may_follow}
 pub use Rattle.wcp_tree.proofs.Entries.{set_elsewhere, set_here}
@@ -38,7 +39,7 @@ pub use Rattle.wcp_tree.specs.declared.relay_end.Receipts.TheVariants.{Feeds, La
 pub use Rattle.wcp_tree.specs.declared.relay_end.RelayEnd.{RelayEnd}
 pub use Rattle.wcp_tree.specs.declared.source.Source.{Source}
 pub use Rattle.wcp_tree.specs.declared.source.Source.TheVariants.{Leaf, Inner}
-pub use Rattle.wcp_watch.specs.CheckerEnds.{IsEndOfLoop, HasTakenClose, HasTakenLast, TakesItems, first_fault, KeepsUp}
+pub use Rattle.wcp_watch.specs.CheckerEnds.{AreAllEnded, IsEndOfLoop, IsLowestLost, HasTakenClose, HasTakenLast, TakesItems, first_fault, KeepsUp}
 pub use Rattle.wcp_watch.specs.Matching.{AreEndsThere, AreFirstMatched, HasProbe, IsKeptAt, inbox_place, KeepInboxes}
 pub use Rattle.wcp_watch.specs.Seats.{AreOfWatch, AreSeats, AreAllSeated, SitsAt, AreAllThere, IsEndAt}
 pub use Rattle.wcp_watch.specs.Settling.{AreTakenFrom, IsPutMatched, IsRingMatched, feeds_in, feeds_left_by, IsFirstSettleFault, IsFreeOf, settle_faults, AreLinksMatched, ComeFromWatch, IsSettled, cut_of, share_of, IsLaneMatched, IsEndOfSomeProbe, IsEndOfSomeRelay}

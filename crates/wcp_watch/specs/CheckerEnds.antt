@@ -1,13 +1,17 @@
 -- What the loop of a checker leaves.
-use Rattle.std.specs.Prelude.{◌≡◌, ℕ, Bool, ◌<◌, ◌↔◌, true, false, Option, Some, None, IfNone, List, [], ◌∷◌, ◌++◌}
+use Rattle.std.specs.Prelude.{◌≡◌, ◌≢◌, ℕ, ◌<◌, ◌↔◌, Bool, true, false, Option, Some, None, IfNone, IfSome}
+use Rattle.std.specs.Prelude.{List, [], ◌∷◌, ◌++◌}
 use Rattle.std.specs.FinSet as set
-use Rattle.wcp_clock.specs.Notes.{place_of, is_close}
+use Rattle.std.specs.List.{list_any}
+use Rattle.wcp_clock.specs.Notes.{place_of, is_close, is_last, is_lost}
 use Rattle.wcp_clock.specs.declared.note.Item.{Item}
-use Rattle.wcp_model.specs.Report.{ClocksRise, IsReportByClocks, IsDrained}
+use Rattle.wcp_model.specs.Report.{ClocksRise, IsReportByClocks, IsDrained, notes_taken}
+use Rattle.wcp_model.specs.declared.outcome.Report.TheVariants.{Nothing}
 use Rattle.wcp_lane.specs.Ends.{TakeEnd}
 use Rattle.wcp_lane.specs.declared.fault.Cut.{Cut}
 use Rattle.wcp_queue.specs.Checker.{CheckerState, processes, taken_of, closed_of, StandsForItems}
 use Rattle.wcp_queue.specs.Checker.{IsReportOfAnyClocks, IsReportOfStarved}
+use Rattle.wcp_tree.specs.Feeding.{IsEnded}
 use Rattle.wcp_tree.specs.declared.bundle.Bundle.{Bundle}
 use Rattle.wcp_tree.specs.declared.checker_inbox.CheckerInbox.{CheckerInbox}
 use Rattle.wcp_watch.specs.declared.checker_end.CheckFault.{CheckFault}
@@ -42,15 +46,31 @@ abbrev pub HasTakenLast : CheckerState → List Item → Type 0
 HasTakenLast checker items = (front : List Item) (end : Item) → items ≡ front ++ end ∷ [] → is_close end.note ≡ true
     → HasTakenClose checker end.from (place_of end.note)
 
--- The fault of a loop whose checker was starved, or whose lane was cut: the first that applies.
-abbrev pub first_fault : Bool → Option Cut → Option CheckFault
-first_fault true cut = Some fault.Memory
-first_fault false (Some cut) = Some (fault.Cut cut)
-first_fault false None = None
+-- The mark that process p was lost is among these items.
+abbrev pub was_lost : ℕ → List Item → Bool
+was_lost p items = list_any is_lost (notes_taken p items)
 
--- What the loop of a checker leaves: its receipt is of the inbox's lane and was matched with no putter yet, and all is
--- drained unless the lane was cut. The report is that of all that was taken; where the checker was starved it is a cut
--- found among these snapshots, or undecided.
+-- The lowest of n processes that was lost by these items, if one was.
+abbrev pub IsLowestLost : ℕ → List Item → Option ℕ → Type 0
+IsLowestLost n items (Some p) = (p < n) × (was_lost p items ≡ true) × ((q : ℕ) → q < p → was_lost q items ≡ false)
+IsLowestLost n items None = (p : ℕ) → p < n → was_lost p items ≡ false
+
+-- The notes taken of each of n processes end with its close mark or the mark that it was lost.
+abbrev pub AreAllEnded : ℕ → List Item → Type 0
+AreAllEnded n items = (p : ℕ) → p < n → IsEnded is_last (notes_taken p items)
+
+-- The fault of a loop whose checker was starved, whose lane was cut, or of which a process was lost: the first that
+-- applies.
+abbrev pub first_fault : Bool → Option Cut → Option ℕ → Option CheckFault
+first_fault true cut lost = Some fault.Memory
+first_fault false (Some cut) lost = Some (fault.Cut cut)
+first_fault false None (Some p) = Some (fault.Lost p)
+first_fault false None None = None
+
+-- What the loop of a checker leaves: its receipt is of the inbox's lane and was matched with no putter yet; unless the
+-- lane was cut each process has ended, and all is drained unless one was lost. The report is that of all that was
+-- taken, and never nothing where a process was lost; where the checker was starved it is a cut found among these
+-- snapshots, or undecided.
 pub record IsEndOfLoop (inbox : CheckerInbox) (end : CheckerEnd) : Type 0 where
   pub watch : end.watch ≡ inbox.watch
   pub relays : end.relays ≡ inbox.relays
@@ -58,9 +78,12 @@ pub record IsEndOfLoop (inbox : CheckerInbox) (end : CheckerEnd) : Type 0 where
   pub members : end.receipt.members ≡ inbox.taker.members
   pub processes : (p : ℕ) → (set.contains end.receipt.members p ≡ true) ↔ (p < end.processes)
   pub unmatched : end.receipt.matched ≡ set.empty
-  pub drained : IfNone end.cut (IsDrained end.processes end.receipt.taken)
+  pub ended : IfNone end.cut (AreAllEnded end.processes end.receipt.taken)
+  pub lost : IsLowestLost end.processes end.receipt.taken end.lost
+  pub drained : IfNone end.cut (IfNone end.lost (IsDrained end.processes end.receipt.taken))
   pub starved : Bool
-  pub fault : end.fault ≡ first_fault starved end.cut
+  pub fault : end.fault ≡ first_fault starved end.cut end.lost
+  pub never_none : IfSome end.lost (λ p. end.report ≢ Nothing)
   pub any_clocks : starved ≡ false → IsReportOfAnyClocks end.processes end.receipt.taken end.report
   pub exact : starved ≡ false → ClocksRise end.processes end.receipt.taken
       → IsReportByClocks end.processes end.receipt.taken end.report

@@ -15,16 +15,19 @@ pub enum CheckFault {
     /// The root's lane was cut.
     #[error(transparent)]
     Cut(Cut),
+    /// This process was lost, the lowest such one: its probe was dropped before it closed.
+    #[error("process {0} was lost")]
+    Lost(u32),
 }
 
-/// The fault of a loop whose checker was starved, or whose lane was cut.
-pub fn first_fault(starved: bool, cut: Option<Cut>) -> Option<CheckFault>
-    ensures { result ≡ of_loop.first_fault starved cut }
+/// The fault of a loop whose checker was starved, whose lane was cut, or of which a process was lost.
+pub fn first_fault(starved: bool, cut: Option<Cut>, lost: Option<u32>) -> Option<CheckFault>
+    ensures { result ≡ of_loop.first_fault starved cut lost }
 {
     if starved {
         return Some(CheckFault::Memory);
     }
-    cut.map(CheckFault::Cut)
+    cut.map(CheckFault::Cut).or(lost.map(CheckFault::Lost))
 }
 
 /// What is left of the checker's loop.
@@ -42,6 +45,8 @@ pub struct CheckerEnd {
     pub(crate) fault: Option<CheckFault>,
     /// What the root's lane answered, if it was cut.
     pub(crate) cut: Option<Cut>,
+    /// The lowest process that was lost, if one was.
+    pub(crate) lost: Option<u32>,
 }
 
 impl CheckerEnd {
@@ -53,7 +58,7 @@ impl CheckerEnd {
     }
 
     /// What the snapshots that the checker took tell. Where it was starved, that is a cut that it had found before, or
-    /// `Undecided`.
+    /// `Undecided`. Where a process was lost, that is a cut, or `Undecided`.
     pub fn report(&self) -> Report
         ensures { result ≡ self.now.report }
     {
@@ -61,17 +66,26 @@ impl CheckerEnd {
     }
 
     /// Why the report isn't that of all snapshots, if it isn't. Where the checker was starved that is `Memory`, also
-    /// where its lane was cut.
+    /// where its lane was cut or a process was lost. Where its lane was cut that is else `Cut`, also where a process
+    /// was lost.
     pub fn fault(&self) -> Option<CheckFault>
         ensures { result ≡ self.now.fault }
     {
         self.fault
     }
 
-    /// What the root's lane answered, if it was cut before every close mark was taken.
+    /// What the root's lane answered, if it was cut before every process had its close mark or the mark that it was
+    /// lost.
     pub fn cut(&self) -> Option<Cut>
         ensures { result ≡ self.now.cut }
     {
         self.cut
+    }
+
+    /// The lowest process that was lost, if one was: the mark that it was lost was taken.
+    pub fn lost(&self) -> Option<u32>
+        ensures { result ≡ self.now.lost }
+    {
+        self.lost
     }
 }

@@ -1,13 +1,15 @@
 //! The loop of a checker: it takes what arrives at the root of the tree, posts the share of each process, and tells the
 //! cut as it finds it.
-ghost use Rattle.std.specs.Prelude.{◌≡◌, ℕ, ◌↔◌, ◌<◌, true, false, [], ◌∷◌, IsTrue, IfOk, OnOk};
+ghost use Rattle.std.specs.Prelude.{◌≡◌, ℕ, ◌↔◌, ◌<◌, true, false, [], ◌∷◌, ◌||◌, List, IsTrue, IfOk, OnOk};
 ghost use Rattle.wcp_clock.specs.Notes.{is_close, place_of};
-ghost use Rattle.wcp_model.specs.Report.{IsDrained};
+ghost use Rattle.wcp_clock.specs.declared.note.Item.{Item};
 ghost use Rattle.wcp_model.specs.declared.outcome.Report.TheVariants.{Found};
-ghost use Rattle.wcp_queue.specs.Checker.{processes, closed_of, report_of, HasFound, MayTake};
+ghost use Rattle.wcp_queue.specs.Checker.{processes, closed_of, lost_of, report_of};
+ghost use Rattle.wcp_queue.specs.Checker.{HasFound, MayTake, StandsForItems};
 ghost use Rattle.wcp_lane.specs.Ends.{TakeEnd};
 ghost use Rattle.wcp_tree.specs.RelayWork.{AreTakenNext, IsSameTaker};
-ghost use Rattle.wcp_watch.specs.CheckerEnds.{IsEndOfLoop, IsFreshFor, KeepsUp, HasTakenClose, HasTakenLast, TakesItems};
+ghost use Rattle.wcp_watch.specs.CheckerEnds.{AreAllEnded, IsEndOfLoop, IsFreshFor, IsLowestLost, KeepsUp};
+ghost use Rattle.wcp_watch.specs.CheckerEnds.{HasTakenClose, HasTakenLast, TakesItems};
 
 use crate::checker_end::{CheckerEnd, first_fault};
 use std::sync::{Mutex, Wait};
@@ -18,11 +20,13 @@ use wcp_model::{GlobalCut, Report};
 use wcp_queue::Checker;
 use wcp_tree::{Bundle, CheckerInbox};
 
-/// Gives the checker what arrives, until every close mark was taken or the lane is cut. As it takes a close mark it
-/// posts the share of that process in the book: the count of the mark, and how many of its snapshots were taken. Where
-/// a post is refused the book is unchanged, and the loop goes on. As the checker finds a cut, which stays its report,
-/// it tells the book of it, and the loop goes on. Where there is no memory for an item the checker is starved and takes
-/// it then, and the loop goes on, so that the relays still have a taker. Once the loop is over it ends the book.
+/// Gives the checker what arrives, until of every process the close mark or the mark that it was lost was taken, or the
+/// lane is cut. As it takes a close mark it posts the share of that process in the book: the count of the mark, and how
+/// many of its snapshots were taken. Where a post is refused the book is unchanged, and the loop goes on. Of a process
+/// that was lost it posts none, since what that emitted isn't known, and the loop goes on. As the checker finds a cut,
+/// which stays its report, it tells the book of it, and the loop goes on. Where there is no memory for an item the
+/// checker is starved and takes it then, and the loop goes on, so that the relays still have a taker. Once the loop is
+/// over it ends the book.
 ///
 /// What is posted and told stands in no clause, but that a cut is told only where the checker has found it; `settle`
 /// compares both, and so do the tests of `run_cases`, which also show the end.
@@ -39,6 +43,7 @@ pub fn check_loop<R: Wait>(
     let relays = inbox.relays();
     let mut taker = inbox.into_taker();
     let cut = take_all(rt, &mut taker, &mut checker, book).err();
+    let lost = lowest_lost(&checker);
     end_book(rt, book);
     CheckerEnd {
         watch,
@@ -46,12 +51,13 @@ pub fn check_loop<R: Wait>(
         relays,
         receipt: taker.end(),
         report: checker.report(),
-        fault: first_fault(checker.is_starved(), cut),
+        fault: first_fault(checker.is_starved(), cut, lost),
         cut,
+        lost,
     }
 }
 
-/// Takes until every close mark was taken.
+/// Takes until of every process the close mark or the mark that it was lost was taken.
 fn take_all<R: Wait>(
     rt: &R,
     taker: &mut Taker<Bundle>,
@@ -61,9 +67,9 @@ fn take_all<R: Wait>(
     requires { KeepsUp taker.old checker.old }
     ensures same { IsSameTaker taker.old taker.new × (processes checker.new ≡ processes checker.old) }
     ensures keeps_up { KeepsUp taker.new checker.new }
-    ensures drained { OnOk result (IsDrained (processes checker.new) taker.new.taken) }
+    ensures ended { OnOk result (AreAllEnded (processes checker.new) taker.new.taken) }
 {
-    let mut finished = are_closed(checker);
+    let mut finished = have_ended(checker);
     let mut told = false;
     for _ in rt.forever() {
         if finished {
@@ -75,7 +81,9 @@ fn take_all<R: Wait>(
         }
         if let Note::Close { count } = end.note {
             post_share(rt, book, checker, end.from, count);
-            finished = are_closed(checker);
+        }
+        if end.note.is_last() {
+            finished = have_ended(checker);
         }
     }
     Ok(())
@@ -158,14 +166,28 @@ fn end_book<R: Wait>(rt: &R, book: &Mutex<Book>) {
     book.lock(rt).end();
 }
 
-/// Whether every close mark was taken.
-fn are_closed(checker: &Checker) -> bool
-    ensures { IsTrue result ↔ ((p : ℕ) → p < processes checker.now → closed_of checker.now p ≡ true) }
+/// Whether of every process the close mark or the mark that it was lost was taken.
+fn have_ended(checker: &Checker) -> bool
+    ensures { IsTrue result
+        ↔ ((p : ℕ) → p < processes checker.now → (closed_of checker.now p || lost_of checker.now p) ≡ true) }
 {
     for p in 0..checker.processes() {
-        if !checker.closed(p) {
+        if !checker.closed(p) && !checker.lost(p) {
             return false;
         }
     }
     true
+}
+
+/// The lowest process whose mark that it was lost was taken.
+fn lowest_lost(checker: &Checker) -> Option<u32>
+    ensures { (items : List Item) → StandsForItems checker.now items
+        → IsLowestLost (processes checker.now) items result }
+{
+    for p in 0..checker.processes() {
+        if checker.lost(p) {
+            return Some(p);
+        }
+    }
+    None
 }

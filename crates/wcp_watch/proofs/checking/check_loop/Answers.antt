@@ -1,5 +1,5 @@
-use Rattle.wcp_watch.proofs.Words.{Bool, ap, ◌∙◌, Item, TakeEnd, processes, first_fault, Bundle}
-use Rattle.wcp_watch.proofs.CheckedItems.{all_drained}
+use Rattle.wcp_watch.proofs.Words.{Bool, ap, ◌∙◌, Item, IfNone, TakeEnd, processes, first_fault, AreAllEnded, Bundle}
+use Rattle.wcp_watch.proofs.CheckedItems.{all_drained, never_none, without_cut}
 use Rattle.wcp_watch.proofs.checking.check_loop.Goals as goal
 
 pub returns : goal.returns
@@ -12,6 +12,9 @@ returns g c =
     let taken = c.end.ensures.taken in
     let met = c.err-cut.ensures.value in
     let members = c.end.ensures.members ∙ same.0.1 ∙ ap (λ (t : TakeEnd Bundle Item). t.members) c.into_taker-taker.ensures in
+    let lost = c.lowest_lost-lost.result in
+    let lowest = c.lowest_lost-lost.ensures taker.taken stands in
+    let ended : IfNone c.err-cut.result (AreAllEnded (processes checker) taker.taken) = rw met (without_cut _ c.take_all.result c.take_all.ensures.ended) in
     record {
       watch = c.watch-watch.ensures;
       relays = c.relays-relays.ensures;
@@ -19,9 +22,12 @@ returns g c =
       members = members;
       processes = λ p. rw (members, count, same.1) (c.requires.members p);
       unmatched = c.end.ensures.matched;
-      drained = rw (met, count, taken) (all_drained c.take_all.result (processes checker) taker.taken c.take_all.ensures.drained);
+      ended = rw (count, taken) ended;
+      lost = rw (count, taken) lowest;
+      drained = rw (count, taken) (all_drained c.err-cut.result lost (processes checker) taker.taken ended lowest);
       starved = checker.starved;
-      fault = c.first_fault.ensures ∙ ap (λ (starved : Bool). first_fault starved c.err-cut.result) c.is_starved.ensures;
+      fault = c.first_fault.ensures ∙ ap (λ (starved : Bool). first_fault starved c.err-cut.result lost) c.is_starved.ensures;
+      never_none = never_none checker taker.taken lost c.report.result stands lowest c.report.ensures.lost;
       any_clocks = λ fed. rw (count, taken) (c.report.ensures.any_clocks fed taker.taken stands);
       exact = λ fed. rw (count, taken) (c.report.ensures.exact fed taker.taken stands);
       of_starved = λ starved. rw (count, taken) (c.report.ensures.starved starved taker.taken stands);
