@@ -1,5 +1,5 @@
 -- What the ends of a workload's run tell of it.
-use Rattle.wcp_run.proofs.Words.{◌≡◌, ℕ, ◌<◌, ◌≤◌, Some, List, [], ◌∷◌, length, slice_get, sym, refl, ap, subst, ◌∙◌, arith, slice_get_within, get_or_from_slice_get, Plan, Task, count_by_no, count_by_yes, ClosedSide, snapshots_in, WorkerEnd, AreMatched, AreOfLane, HaveRun, ends_between, PlayedEnds, Ends, AreOfWorkers, AreEndsOfRun}
+use Rattle.wcp_run.proofs.Words.{◌≡◌, ℕ, ◌<◌, ◌≤◌, Some, List, [], ◌∷◌, length, slice_get, sym, refl, ap, subst, ◌∙◌, arith, slice_get_within, get_or_from_slice_get, Plan, Task, count_by_no, count_by_yes, ClosedSide, snapshots_in, WorkerEnd, AreMatched, AreOfLane, HaveRun, ends_between, PlayedEnds, Ends, AreOfWorkers, AreEndsOfRun, IsToldWithin}
 use Rattle.std.proofs.lemmas.List.Elements.{All-contains}
 use Rattle.wcp_clock.specs.Limits.{most_processes}
 use Rattle.wcp_clock.specs.Notes.{is_snapshot}
@@ -14,6 +14,7 @@ use Rattle.wcp_worker.proofs.RunOutcomes.{IsWorkloadOutcome-run}
 use Rattle.wcp_watch.specs.declared.settled.Settled.{Settled}
 use Rattle.wcp_watch.specs.Settling.{ComeFromWatch, IsEndOfSomeProbe, IsSettled}
 use Rattle.wcp_run.proofs.PlayedWorkers.{HasPlayedAt, played_at, as_many, lanes_left}
+use Rattle.wcp_watch.proofs.CheckedItems.{lost_told}
 use Rattle.wcp_watch.proofs.WatchEnds.{IsEndOfProcess, all_processes, come_from_parts, end_of_process}
 
 -- the snapshots among notes are as many as their clocks
@@ -32,6 +33,17 @@ module _ {plan : Plan} {tasks : List Task} {ends : Ends WorkerEnd} (run : AreEnd
 
   pub few_ends : length ends.workers.items ≤ most_processes
   few_ends = omega (arith, few_processes plan run.checked, run.ended.workers.count, workers_count)
+
+  n_is : ends.checker.processes ≡ plan.n
+  n_is = all_processes run.are.wired (rw run.are.inbox at run.ended.checker)
+
+  -- the process that the checker tells to be lost is one of the workers'
+  pub told_within : IsToldWithin ends
+  told_within p told =
+      let is = run.ended.checker in
+      let lost : ends.checker.lost ≡ Some p = lost_told is.starved ends.checker.cut ends.checker.lost p (sym is.fault ∙ told) in
+      let lowest = rw lost at is.lost in
+      omega (arith, lowest.0, n_is, run.ended.workers.count, workers_count)
 
   module _ {played : PlayedEnds} (left : AreOfWorkers ends.workers.items played) where
     pub few_mailboxes : length played.mailboxes.items ≤ most_processes
@@ -80,9 +92,6 @@ module _ {plan : Plan} {tasks : List Task} {ends : Ends WorkerEnd} (run : AreEnd
             );
         matched = matched;
       }
-
-      n_is : ends.checker.processes ≡ plan.n
-      n_is = all_processes run.are.wired (rw run.are.inbox at run.ended.checker)
 
       abbrev counted : ℕ → ℕ
       counted p = length (clocks_taken p ends.checker.receipt.taken)

@@ -1,5 +1,5 @@
 -- The first reason why a run gives no outcome.
-use Rattle.wcp_run.proofs.Words.{◌≡◌, ℕ, zero, suc, ◌<◌, Bool, true, Some, None, List, [], ◌∷◌, ◌++◌, length, map, refl, sym, ap, ◌∙◌, arith, zero-add, option_map, length-map, slice_get-map, slice_get-get_or, slice_get_within, element_within, WorkerEnd, IsFirstRunFault, IsReasonOf, was_held, was_lost, Ends}
+use Rattle.wcp_run.proofs.Words.{◌≡◌, ℕ, zero, suc, ◌<◌, Bool, true, inl, inr, Some, None, List, [], ◌∷◌, ◌++◌, length, map, refl, sym, ap, ◌∙◌, arith, zero-add, option_map, length-map, slice_get-map, slice_get-get_or, slice_get_within, element_within, WorkerEnd, IsFirstRunFault, IsReasonOf, IsToldWithin, was_held, was_lost, Ends}
 use Rattle.std.specs.Prelude.{slice_get}
 use Rattle.std.specs.List.{position, position_or_len, range_with_len}
 use Rattle.std.proofs.lemmas.Grind.{common_steps}
@@ -101,6 +101,14 @@ module _ (ends : Ends WorkerEnd) where
   abbrev all_lost : List RunFault
   all_lost = map Lost (range_with_len 0 n)
 
+  -- none was lost where none of the workers' processes was
+  pub none_lost_past : IsToldWithin ends → ((p : ℕ) → p < n → Denied (Lost p)) → (p : ℕ) → Denied (Lost p)
+  none_lost_past told none p lost = none p (within lost) lost
+    where
+      within : IsReasonOf ends (Lost p) → p < n
+      within (inl at) = omega (arith, slice_get_within (map was_lost ends.workers.items) p true at, length-map ends.workers.items was_lost)
+      within (inr is) = told p is
+
   pub memory_first : IsReasonOf ends Memory → IsFirstRunFault ends Memory
   memory_first holds = first_here (IsReasonOf ends) Memory _ holds
 
@@ -120,22 +128,21 @@ module _ (ends : Ends WorkerEnd) where
       behind_held behind first is = behind_two (all_held ++ behind) first
           (first_past (IsReasonOf ends) all_held behind first (none_numbered (IsReasonOf ends) Held n (found_none was_held ends.workers.items none_held)) is)
 
-      pub lost_first : (p : ℕ) → position was_lost ends.workers.items ≡ Some p → IsFirstRunFault ends (Lost p)
-      lost_first p found =
-          let (within, here, before) = found_first was_lost ends.workers.items p found in
+      pub lost_first : (p : ℕ) → p < n → IsReasonOf ends (Lost p) → ((q : ℕ) → q < p → Denied (Lost q)) → IsFirstRunFault ends (Lost p)
+      lost_first p within here before =
           behind_held (all_lost ++ Cut ∷ []) (Lost p)
           (first_within (IsReasonOf ends) all_lost (Cut ∷ []) (Lost p) (first_numbered (IsReasonOf ends) Lost n p within here before))
 
-      module _ (none_lost : position was_lost ends.workers.items ≡ None) where
+      module _ (none_lost : (p : ℕ) → Denied (Lost p)) where
         pub cut_first : IsReasonOf ends Cut → IsFirstRunFault ends Cut
         cut_first holds = behind_held (all_lost ++ Cut ∷ []) Cut
-            (first_past (IsReasonOf ends) all_lost (Cut ∷ []) Cut (none_numbered (IsReasonOf ends) Lost n (found_none was_lost ends.workers.items none_lost))
+            (first_past (IsReasonOf ends) all_lost (Cut ∷ []) Cut (none_numbered (IsReasonOf ends) Lost n none_lost)
             (first_here (IsReasonOf ends) Cut [] holds))
 
         pub none_applies : Denied Cut → (fault : RunFault) → Denied fault
         none_applies uncut Memory = enough
         none_applies uncut Spawn = λ holds. holds
         none_applies uncut (Held p) = found_none was_held ends.workers.items none_held p
-        none_applies uncut (Lost p) = found_none was_lost ends.workers.items none_lost p
+        none_applies uncut (Lost p) = none_lost p
         none_applies uncut Cut = uncut
         none_applies uncut Unfinished = λ holds. holds

@@ -1,5 +1,6 @@
 -- Why a run gives no outcome, as the ends of its parts tell.
-use Rattle.std.specs.Prelude.{◌≡◌, ℕ, Bool, true, false, ◌||◌, Option, Some, None, List, [], ◌∷◌, ◌++◌, length, map, slice_get, IsTrue}
+use Rattle.std.specs.Prelude.{◌≡◌, ℕ, Bool, true, false, ◌||◌, ◌⊎◌, ◌<◌, Option, Some, None}
+use Rattle.std.specs.Prelude.{List, [], ◌∷◌, ◌++◌, length, map, slice_get, IsTrue}
 use Rattle.std.specs.List.{list_any, range_with_len}
 use Rattle.wcp_tree.specs.RelayEnds.{fault_of}
 use Rattle.wcp_tree.specs.declared.relay_end.RelayEnd.{RelayEnd}
@@ -45,7 +46,8 @@ abbrev pub IsReasonOf : Ends WorkerEnd → RunFault → Type 0
 IsReasonOf ends Memory = ends.checker.fault ≡ Some check_fault.Memory
 IsReasonOf ends Spawn = ⊥
 IsReasonOf ends (Held p) = slice_get (map was_held ends.workers.items) p ≡ Some true
-IsReasonOf ends (Lost p) = slice_get (map was_lost ends.workers.items) p ≡ Some true
+IsReasonOf ends (Lost p) = (slice_get (map was_lost ends.workers.items) p ≡ Some true)
+    ⊎ (ends.checker.fault ≡ Some (check_fault.Lost p))
 IsReasonOf ends Cut = IsTrue (list_any worker_was_cut ends.workers.items
     || list_any relay_was_cut ends.relays.items || is_cut_of_checker ends.checker.fault)
 IsReasonOf ends Unfinished = ⊥
@@ -57,3 +59,7 @@ run_reasons n = Memory ∷ Spawn ∷ (map Held (range_with_len 0 n) ++ (map Lost
 -- The first of them that applies.
 abbrev pub IsFirstRunFault : Ends WorkerEnd → RunFault → Type 0
 IsFirstRunFault ends = IsFirstReason (IsReasonOf ends) (run_reasons (length ends.workers.items))
+
+-- A process of which the checker tells that it was lost is one of the workers'.
+abbrev pub IsToldWithin : Ends WorkerEnd → Type 0
+IsToldWithin ends = (p : ℕ) → ends.checker.fault ≡ Some (check_fault.Lost p) → p < length ends.workers.items

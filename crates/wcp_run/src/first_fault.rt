@@ -1,11 +1,11 @@
 //! Why a run gives no outcome, as the ends of its parts tell.
-ghost use Rattle.std.specs.Prelude.{◌≡◌, ◌<◌, ◌≤◌, ◌↔◌, Some, length, position, IsTrue, IfSome, IfNone};
+ghost use Rattle.std.specs.Prelude.{◌≡◌, ℕ, ◌<◌, ◌≤◌, ◌↔◌, Some, length, position, IsTrue, IfSome, IfNone};
 ghost use Rattle.std.specs.List.{list_any};
 ghost use Rattle.wcp_clock.specs.Limits.{most_processes};
 ghost use Rattle.wcp_watch.specs.declared.checker_end.CheckFault.TheVariants as check_fault;
 ghost use Rattle.wcp_run.specs.declared.run_fault.RunFault.{RunFault};
 ghost use Rattle.wcp_run.specs.declared.run_fault.RunFault.TheVariants as run_fault;
-ghost use Rattle.wcp_run.specs.RunFaults.{IsFirstRunFault, IsReasonOf, was_held, was_lost};
+ghost use Rattle.wcp_run.specs.RunFaults.{IsFirstRunFault, IsReasonOf, IsToldWithin, was_held, was_lost};
 ghost use Rattle.wcp_run.specs.RunFaults.{is_cut_of_checker, relay_was_cut, worker_was_cut};
 
 use crate::run_fault::RunFault;
@@ -15,7 +15,8 @@ use wcp_worker::{WorkerEnd, WorkerFault};
 
 /// Why a run fails whose parts left these ends, if one of them tells: the first reason that applies.
 pub(crate) fn fault_of_run(ends: &Ends<WorkerEnd>) -> Option<RunFault>
-    requires { length ends.now.workers.items ≤ most_processes }
+    requires few { length ends.now.workers.items ≤ most_processes }
+    requires told { IsToldWithin ends.now }
     ensures first { IfSome result (IsFirstRunFault ends.now) }
     ensures none { IfNone result ((fault : RunFault) → ¬ IsReasonOf ends.now fault) }
 {
@@ -49,12 +50,36 @@ fn lowest_held(ends: &Ends<WorkerEnd>) -> Option<usize>
     ends.workers.iter().position(held_back)
 }
 
-/// The lowest process whose worker left no end of its probe.
+/// The lowest process that was lost.
 fn lowest_lost(ends: &Ends<WorkerEnd>) -> Option<usize>
-    ensures found { result ≡ position was_lost ends.now.workers.items }
+    requires few { length ends.now.workers.items ≤ most_processes }
+    requires told { IsToldWithin ends.now }
     ensures within { IfSome result (λ p. p < length ends.now.workers.items) }
+    ensures lost { IfSome result (λ p. IsReasonOf ends.now (run_fault.Lost p)) }
+    ensures lowest { IfSome result (λ p. (q : ℕ) → q < p → ¬ IsReasonOf ends.now (run_fault.Lost q)) }
+    ensures none { IfNone result ((p : ℕ) → ¬ IsReasonOf ends.now (run_fault.Lost p)) }
 {
-    ends.workers.iter().position(left_no_probe)
+    for p in 0..ends.workers.len() {
+        if is_lost(ends, p) {
+            return Some(p);
+        }
+    }
+    None
+}
+
+/// Whether this process was lost: its worker left no end of its probe, or the checker's fault tells so.
+fn is_lost(ends: &Ends<WorkerEnd>, p: usize) -> bool
+    requires within { p < length ends.now.workers.items }
+    ensures { IsTrue result ↔ IsReasonOf ends.now (run_fault.Lost p) }
+{
+    left_no_probe(&ends.workers[p]) || checker_tells_lost(&ends.checker, p)
+}
+
+/// Whether the checker's fault tells that this process was lost.
+fn checker_tells_lost(checker: &CheckerEnd, p: usize) -> bool
+    ensures { IsTrue result ↔ (checker.now.fault ≡ Some (check_fault.Lost p)) }
+{
+    matches!(checker.fault(), Some(CheckFault::Lost(lost)) if lost as usize == p)
 }
 
 /// Whether a worker, a relay or the checker met a cut.

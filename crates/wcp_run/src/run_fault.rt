@@ -13,8 +13,9 @@ pub enum RunFault {
     /// [`GATE_TURNS`](wcp_clock::GATE_TURNS) times in a row.
     #[error("run held {0}")]
     Held(u32),
-    /// The worker of this process, the lowest such one, left no end of its probe. It doesn't come today: a worker
-    /// closes its probe also where it gives up. It would come of a worker that lets its probe go unclosed.
+    /// This process, the lowest such one, was lost: its worker left no end of its probe, or the checker's fault tells
+    /// that its probe was dropped before it closed. No worker lets its probe go so: it closes it also where it gives
+    /// up.
     #[error("run lost {0}")]
     Lost(u32),
     /// A worker, a relay or the checker met a cut.

@@ -9,15 +9,16 @@ returns-in-Some-clause-first c =
 pub returns-in-Some-lowest_lost-clause-first : goal.returns-in-Some-lowest_lost-clause-first
 returns-in-Some-lowest_lost-clause-first c =
     lost_first c.args.ends.now (λ is. true≢false (sym (c.ran_out.ensures.1 is) ∙ c.if-ran_out.false))
-    (sym c.lowest_held.ensures.found ∙ c.in_default.is) c.in-Some-lowest_lost.p (sym c.in-Some-lowest_lost.ensures.found)
+    (sym c.lowest_held.ensures.found ∙ c.in_default.is) c.in-Some-lowest_lost.p c.in-Some-lowest_lost.ensures.within
+    c.in-Some-lowest_lost.ensures.lost c.in-Some-lowest_lost.ensures.lowest
 
 pub returns-then-met_cut-clause-first : goal.returns-then-met_cut-clause-first
 returns-then-met_cut-clause-first c =
     cut_first c.args.ends.now (λ is. true≢false (sym (c.ran_out.ensures.1 is) ∙ c.if-ran_out.false))
-    (sym c.lowest_held.ensures.found ∙ c.in_default.is) (sym c.lowest_lost.ensures.found ∙ c.in_default-lowest_lost.is) (c.met_cut.ensures.0 c.if-met_cut.true)
+    (sym c.lowest_held.ensures.found ∙ c.in_default.is) c.in_default-lowest_lost.ensures.none (c.met_cut.ensures.0 c.if-met_cut.true)
 
 pub returns-clause-none : goal.returns-clause-none
 returns-clause-none c =
     none_applies c.args.ends.now (λ is. true≢false (sym (c.ran_out.ensures.1 is) ∙ c.if-ran_out.false))
-    (sym c.lowest_held.ensures.found ∙ c.in_default.is) (sym c.lowest_lost.ensures.found ∙ c.in_default-lowest_lost.is)
+    (sym c.lowest_held.ensures.found ∙ c.in_default.is) c.in_default-lowest_lost.ensures.none
     (λ is. true≢false (sym (c.met_cut.ensures.1 is) ∙ c.if-met_cut.false))

@@ -1,10 +1,13 @@
 use Rattle.wcp_run.proofs.Words.{Err, length, ap, IsReasonOf, run_reasons}
 use Rattle.wcp_model.proofs.FirstReasons.{first_unique}
-use Rattle.wcp_run.proofs.RunEnds.{few_ends, few_mailboxes, lanes_are, come, outcome_of_run}
+use Rattle.wcp_run.proofs.RunEnds.{few_ends, told_within, few_mailboxes, lanes_are, come, outcome_of_run}
 use Rattle.wcp_run.proofs.workload_run.conclude.Goals as goal
 
-pub fault_of_run-requires : goal.fault_of_run-requires
-fault_of_run-requires c = few_ends c.requires.2
+pub fault_of_run-requires-clause-few : goal.fault_of_run-requires-clause-few
+fault_of_run-requires-clause-few c = few_ends c.requires.2
+
+pub fault_of_run-requires-clause-told : goal.fault_of_run-requires-clause-told
+fault_of_run-requires-clause-told c = told_within c.requires.2
 
 pub match_lanes-requires-clause-few : goal.match_lanes-requires-clause-few
 match_lanes-requires-clause-few c = few_mailboxes c.requires.2 c.in_ok-probes.ensures
