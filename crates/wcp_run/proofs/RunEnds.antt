@@ -1,5 +1,5 @@
 -- What the ends of a workload's run tell of it.
-use Rattle.wcp_run.proofs.Words.{◌≡◌, ℕ, ◌<◌, ◌≤◌, Bool, true, false, Option, None, Some, List, [], ◌∷◌, length, slice_get, sym, refl, ap, subst, ◌∙◌, arith, slice_get_within, get_or_from_slice_get, Plan, Task, count_by_no, count_by_yes, ClosedSide, snapshots_in, WorkerEnd, AreMatched, AreOfLane, HaveRun, ends_between, PlayedEnds, Ends, AreOfWorkers, AreEndsOfRun, IsToldWithin}
+use Rattle.wcp_run.proofs.Words.{◌≡◌, ℕ, ◌<◌, ◌≤◌, Some, List, [], ◌∷◌, length, slice_get, sym, refl, ap, subst, ◌∙◌, arith, slice_get_within, get_or_from_slice_get, Plan, Task, count_by_no, count_by_yes, ClosedSide, snapshots_in, WorkerEnd, AreMatched, AreOfLane, HaveRun, ends_between, PlayedEnds, Ends, AreOfWorkers, AreEndsOfRun, IsToldWithin}
 use Rattle.std.proofs.lemmas.List.Elements.{All-contains}
 use Rattle.wcp_clock.specs.Limits.{most_processes}
 use Rattle.wcp_clock.specs.Notes.{is_snapshot}
@@ -17,6 +17,7 @@ use Rattle.wcp_watch.specs.declared.checker_end.CheckFault.TheVariants as check_
 use Rattle.wcp_watch.specs.declared.settled.Settled.{Settled}
 use Rattle.wcp_watch.specs.Settling.{ComeFromWatch, IsEndOfSomeProbe, IsSettled}
 use Rattle.wcp_run.proofs.PlayedWorkers.{HasPlayedAt, played_at, as_many, lanes_left}
+use Rattle.wcp_watch.proofs.CheckedItems.{lost_told}
 use Rattle.wcp_watch.proofs.WatchEnds.{IsEndOfProcess, all_processes, come_from_parts, end_of_process}
 
 -- the snapshots among notes are as many as their clocks
@@ -50,7 +51,7 @@ module _ {plan : Plan} {tasks : List Task} {ends : Ends WorkerEnd} (run : AreEnd
   pub told_within : IsToldWithin ends
   told_within p told =
       let is = run.ended.checker in
-      let lost : ends.checker.lost ≡ Some p = told_lost is.starved ends.checker.cut ends.checker.lost p (sym is.fault ∙ told) in
+      let lost : ends.checker.lost ≡ Some p = lost_told is.starved ends.checker.cut ends.checker.lost p (sym is.fault ∙ told) in
       let lowest = rw lost at is.lost in
       omega (arith, lowest.0, n_is, run.ended.workers.count, workers_count)
 

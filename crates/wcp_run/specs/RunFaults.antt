@@ -63,3 +63,7 @@ IsToldWithin ends = (p : ℕ) → ends.checker.fault ≡ Some (check_fault.Lost 
 -- The first of them that applies.
 abbrev pub IsFirstRunFault : Ends WorkerEnd → RunFault → Type 0
 IsFirstRunFault ends = IsFirstReason (IsReasonOf ends) (run_reasons (length ends.workers.items))
+
+-- A process of which the checker tells that it was lost is one of the workers'.
+abbrev pub IsToldWithin : Ends WorkerEnd → Type 0
+IsToldWithin ends = (p : ℕ) → ends.checker.fault ≡ Some (check_fault.Lost p) → p < length ends.workers.items

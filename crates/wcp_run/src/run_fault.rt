@@ -14,7 +14,8 @@ pub enum RunFault {
     #[error("run held {0}")]
     Held(u32),
     /// This process, the lowest such one, was lost: its worker left no end of its probe, or the checker's fault tells
-    /// that its probe was dropped before it closed. No worker lets its probe go so: it closes it also where it gives up.
+    /// that its probe was dropped before it closed. No worker lets its probe go so: it closes it also where it gives
+    /// up.
     #[error("run lost {0}")]
     Lost(u32),
     /// A worker, a relay or the checker met a cut.

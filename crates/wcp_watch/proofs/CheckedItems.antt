@@ -9,6 +9,7 @@ use Rattle.wcp_lane.specs.declared.fault.Cut.{Cut}
 use Rattle.wcp_model.specs.LaneRule.{items_from}
 use Rattle.wcp_queue.proofs.NotesTaken.{MayTake-next, clocks_taken-push_last, taken_kind-own}
 use Rattle.wcp_tree.proofs.Bundling.{same_last}
+use Rattle.wcp_watch.specs.declared.checker_end.CheckFault.TheVariants as fault
 
 -- where no close mark is among these notes, they are all snapshots
 open_notes : (notes : List Note) → All (λ note. is_last note ≡ false) notes → (length (snapshot_clocks notes) ≡ length notes) × (list_any is_last notes ≡ false)
@@ -85,6 +86,13 @@ without_fault true cut lost is = cc
 without_fault false (Some cut) lost is = cc
 without_fault false None (Some p) is = cc
 without_fault false None None is = (refl, refl, refl)
+
+-- a fault that tells a lost process tells the one that was lost
+pub lost_told : (starved : Bool) (cut : Option Cut) (lost : Option ℕ) (p : ℕ) → first_fault starved cut lost ≡ Some (fault.Lost p) → lost ≡ Some p
+lost_told true cut lost p is = cc
+lost_told false (Some cut) lost p is = cc
+lost_told false None (Some q) p is = cc
+lost_told false None None p is = cc
 
 -- what holds on success holds without a cut
 pub without_cut : (P : Type 0) (met : Result (Unit {0}) Cut) → OnOk met P → IfNone (result_err met) P
