@@ -11,9 +11,6 @@ use Rattle.wcp_model.specs.Outcome.{IsWorkloadOutcome}
 use Rattle.wcp_model.specs.Report.{notes_taken, snapshot_clocks, clocks_taken}
 use Rattle.wcp_model.proofs.CheckedPlans.{few_processes}
 use Rattle.wcp_worker.proofs.RunOutcomes.{IsWorkloadOutcome-run}
-use Rattle.wcp_lane.specs.declared.fault.Cut.{Cut}
-use Rattle.wcp_watch.specs.CheckerEnds.{first_fault}
-use Rattle.wcp_watch.specs.declared.checker_end.CheckFault.TheVariants as check_fault
 use Rattle.wcp_watch.specs.declared.settled.Settled.{Settled}
 use Rattle.wcp_watch.specs.Settling.{ComeFromWatch, IsEndOfSomeProbe, IsSettled}
 use Rattle.wcp_run.proofs.PlayedWorkers.{HasPlayedAt, played_at, as_many, lanes_left}
@@ -29,13 +26,6 @@ snapshots_counted (Close count ∷ notes) =
     count_by_no is_snapshot (Close count) notes refl ∙ snapshots_counted notes
 snapshots_counted (Lost count ∷ notes) =
     count_by_no is_snapshot (Lost count) notes refl ∙ snapshots_counted notes
-
--- a loop whose fault tells a lost process tells the one that was lost
-told_lost : (starved : Bool) (cut : Option Cut) (lost : Option ℕ) (p : ℕ) → first_fault starved cut lost ≡ Some (check_fault.Lost p) → lost ≡ Some p
-told_lost true cut lost p is = cc
-told_lost false (Some cut) lost p is = cc
-told_lost false None (Some q) p is = cc
-told_lost false None None p is = cc
 
 module _ {plan : Plan} {tasks : List Task} {ends : Ends WorkerEnd} (run : AreEndsOfRun plan tasks ends) where
   workers_count : length run.parts.workers.items ≡ plan.n

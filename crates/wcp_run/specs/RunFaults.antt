@@ -56,10 +56,6 @@ IsReasonOf ends Unfinished = ⊥
 abbrev pub run_reasons : ℕ → List RunFault
 run_reasons n = Memory ∷ Spawn ∷ (map Held (range_with_len 0 n) ++ (map Lost (range_with_len 0 n) ++ Cut ∷ []))
 
--- A process of which the checker tells that it was lost is one of the workers'.
-abbrev pub IsToldWithin : Ends WorkerEnd → Type 0
-IsToldWithin ends = (p : ℕ) → ends.checker.fault ≡ Some (check_fault.Lost p) → p < length ends.workers.items
-
 -- The first of them that applies.
 abbrev pub IsFirstRunFault : Ends WorkerEnd → RunFault → Type 0
 IsFirstRunFault ends = IsFirstReason (IsReasonOf ends) (run_reasons (length ends.workers.items))
