@@ -26,7 +26,7 @@ fn lane_of_one(alloc: Global) -> Result<(Putter<Bundle>, Taker<Bundle>), LaneFau
 /// The end of a new ring that puts, and the feed of process 0 over it.
 fn feed_of_one(alloc: Global) -> Result<(RingPutter, Vec<Feed>), AllocError>
     ensures { IfOk result (λ ends. (feed : Feed) × (ends.1.items ≡ feed ∷ []) × (feed.process ≡ 0)
-        × (feed.next ≡ 0) × (feed.ended ≡ false) × (length feed.taker.taken ≡ 0)) }
+        × (feed.next ≡ 0) × (feed.ended ≡ false) × (feed.lost ≡ false) × (length feed.taker.taken ≡ 0)) }
 {
     let (putter, taker) = ring(alloc, 8)?;
     let mut feeds = Vec::with_capacity(alloc, 1)?;
