@@ -5,8 +5,8 @@
 //! where a slot is known to be free. `try_take` appends what it gives to what was taken; it gives the first of the
 //! notes that it has seen in the ring, and nothing only where it knows of none. `end` keeps what was put.
 //! `match_ends`, on the ends of one ring: what was taken is a front of what was put, and it answers `Matched` exactly
-//! where the two are the same list. What one end knows of the other's calls may be out of date until the ends meet. `gone`
-//! changes nothing but what is seen. No clause says when it is true, or speaks of waking a thread that sleeps.
+//! where the two are the same list. What one end knows of the other's calls may be out of date until the ends meet.
+//! `gone` changes nothing but what is seen. No clause says when it is true, or speaks of waking a thread that sleeps.
 #![tactic(auto)]
 
 mod matching;
