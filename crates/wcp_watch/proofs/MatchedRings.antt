@@ -55,9 +55,11 @@ module _ {seats : List (Option ClosedSide)} {all : List Feed} (seated : All (Has
     one_matched not_lost same = record {
       done = feed ∷ old.done;
       is = before;
-      matched = All-cons (IsRingMatched (SitsAt seats)) feed old.done
-          (not_lost, λ other at.
-          let alone = sits_alone seats feed.process its.probe other its.sits at in cc (is_its))
+      matched = All-cons (IsRingMatched (SitsAt seats)) feed old.done (
+        not_lost,
+        λ other at.
+            let alone = sits_alone seats feed.process its.probe other its.sits at in cc (is_its),
+      )
           old.matched;
       others = λ p apart.
           let head = All-head (λ (other : Feed). other.process ≢ p) feed old.done apart in

@@ -123,6 +123,13 @@ impl<W: Opening> WatchCheckerEnd<W> {
     {
         self.end.report()
     }
+
+    /// The lowest process that was lost, if one was: the checker took the mark that its probe was dropped.
+    pub fn lost(&self) -> Option<u32>
+        ensures { result ≡ self.now.lost }
+    {
+        self.end.lost()
+    }
 }
 
 /// The ends of an opened watch, as they are gathered.
