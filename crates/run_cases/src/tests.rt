@@ -6,4 +6,5 @@ mod settling;
 mod starting;
 mod starving;
 mod telling;
+mod vanishing;
 mod watches;

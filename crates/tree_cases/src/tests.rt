@@ -1,6 +1,8 @@
 mod bundles;
 mod gaps;
+mod losing;
 mod one_thread;
+mod racing;
 mod running;
 mod stamps;
 mod threads;

@@ -1,9 +1,13 @@
 mod answers;
+mod cuts;
 mod faults;
+mod fronts;
 mod help;
 mod reads;
+mod refusals;
 mod refused;
 mod rings;
 mod rows;
+mod runs;
 mod streams;
 mod writes;

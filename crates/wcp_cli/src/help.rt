@@ -192,7 +192,7 @@ Exit status:
            memory      memory ran out
            spawn       a thread could not be made
            held P      process P was held back
-           lost P      the snapshots of process P were lost, which can't happen today
+           lost P      process P ended without a close, which no process of a text does
            cut         a thread ended that another had still to send to or take from
            unfinished  not all that was put was taken
        wcpwatch: write         the output could not be written

@@ -1,5 +1,8 @@
 -- How a relay begins and ends.
-use Rattle.wcp_tree.proofs.Words.{◌≡◌, ℕ, suc, ◌<◌, true, true≢false, List, [], ◌∷◌, ◌++◌, length, get_or, sym, refl, ap, ◌∙◌, subst, append_assoc, arith, All, IfNone, IfErr, Result, Ok, Err, OnOk, append-nil, nil_from_length, All-nil, IsPrefix, Item, place_of, is_last, Feed, Outlet, Source, Leaf, Inner, fed, items_by, items_of, source_taken, Serves, IsNewFeed, IsInOrder, handed, AreItemsInSequence, IsSound, IsFaithful, IsLeafAtWork, IsAtWork, AreEnded, HasMetGap, HasEnded, IsEndOfSource, taken_in}
+use Rattle.wcp_tree.proofs.Words.{◌≡◌, ℕ, suc, ◌<◌, true, true≢false, List, [], ◌∷◌, ◌++◌, length, get_or, sym, refl, ap, ◌∙◌, subst, append_assoc, arith, All, IfNone, IfErr, Result, Ok, Err, OnOk, append-nil, nil_from_length, All-nil, IsPrefix, Item, place_of, is_last, Feed, Outlet, Source, Leaf, Inner, fed, items_by, items_of, source_taken, Serves, IsNewFeed, IsInOrder, handed, AreItemsInSequence, IsSound, IsFaithful, IsLeafAtWork, IsAtWork, AreEnded, HasMetGap, HasEnded, IsEndOfSource, taken_in, Option, None, Some, Parent, PutEnd, Bundle, AreFromRings, IsFromRings, gap_met}
+use Rattle.wcp_lane.specs.declared.fault.Cut.{Cut}
+use Rattle.wcp_tree.specs.RelayEnds.{IsOutcomeFromRings, first_met}
+use Rattle.wcp_tree.specs.declared.relay_end.Outcome.TheVariants.{Whole}
 use Rattle.wcp_tree.specs.declared.relay_end.Receipts.{Receipts}
 use Rattle.wcp_tree.specs.declared.relay_end.Receipts.TheVariants.{Feeds, Lane}
 use Rattle.wcp_tree.specs.declared.take_fault.TakeFault.{TakeFault}
@@ -7,7 +10,7 @@ use Rattle.wcp_tree.specs.declared.take_fault.TakeFault.TheVariants as fault
 use Rattle.wcp_tree.proofs.Lists.{AreInSequence-none, items_of-append}
 use Rattle.wcp_tree.proofs.Faithful.{only_none, prefix_same, prefix_more}
 use Rattle.wcp_tree.proofs.Passing.{if_none}
-use Rattle.wcp_tree.proofs.Fed.{all_ended}
+use Rattle.wcp_tree.proofs.Fed.{all_ended, rings_in_order}
 use Rattle.wcp_tree.proofs.Ordering.{given_is_taken}
 
 sound_new : (outlet : Outlet) → 0 < outlet.hold.room → outlet.hold.items ≡ [] → handed outlet ≡ [] → IsSound outlet
@@ -23,6 +26,7 @@ feed_new feed new =
     let none = nil_from_length feed.taker.taken new.3 in
     record {
       run = rw (given_is_taken feed new.2, none) (AreInSequence-none place_of is_last);
+      from_ring = rw none (All-nil _);
       counted = λ _. (new.2, new.0 ∙ sym new.3, rw none (All-nil _));
       ended = λ closed. absurd (true≢false (sym closed ∙ new.1));
     }
@@ -107,3 +111,27 @@ end_taken (Leaf feeds sleeper) (Feeds left) is p = λ j. fed (is j).items p
 end_taken (Inner taker) (Lane receipt) is p = ap (items_of p) is.3
 end_taken (Leaf feeds sleeper) (Lane receipt) is p = absurd is
 end_taken (Inner taker) (Feeds left) is p = absurd is
+
+-- a leaf took what came out of its rings, however its taking ended
+pub leaf_from_rings : (r : Result (Unit {0}) TakeFault) (feeds : List Feed) (outlet : Outlet)
+    → OnOk r (IsLeafAtWork feeds outlet) → IfErr r (λ met. AreFromRings (gap_met (Err met)) feeds)
+    → AreFromRings (gap_met r) feeds
+leaf_from_rings (Ok all) feeds outlet work rings = rings_in_order feeds work.in_order
+leaf_from_rings (Err met) feeds outlet work rings = rings
+
+-- where no fault came first, no gap was met
+pub no_gap : (cut : Option Cut) (met : Result (Unit {0}) TakeFault) → first_met cut met ≡ None → gap_met met ≡ None
+no_gap cut (Ok all) none = refl
+no_gap cut (Err (fault.Cut answer)) none = refl
+no_gap (Some cut) (Err (fault.Gap p)) none = cc
+no_gap None (Err (fault.Gap p)) none = cc
+
+-- what is left of a source that met no gap came out of its rings
+pub end_from_rings : (source : Source) (left : Receipts) (parent : Parent) (put : PutEnd Bundle Item)
+    (met : Result (Unit {0}) TakeFault) → IsEndOfSource source left → gap_met met ≡ None → IsFromRings source met
+    → IsOutcomeFromRings (Whole parent left put)
+end_from_rings (Leaf feeds sleeper) (Feeds left) parent put met is none rings =
+    subst (λ (gap : Option ℕ). AreFromRings gap left.items) none (rw is rings)
+end_from_rings (Inner taker) (Lane receipt) parent put met is none rings = rings
+end_from_rings (Leaf feeds sleeper) (Lane receipt) parent put met is none rings = absurd is
+end_from_rings (Inner taker) (Feeds left) parent put met is none rings = absurd is

@@ -1,5 +1,5 @@
 -- What feeds took, as one of them takes a note.
-use Rattle.wcp_tree.proofs.Words.{◌≡◌, ◌≢◌, ℕ, zero, suc, ◌<◌, Bool, true, false, ◌||◌, List, [], ◌∷◌, ◌++◌, length, get_or, set, map, sym, refl, ap, ◌∙◌, subst, eq-eqb, arith, All, AllPairs, if◌then◌else◌, ◌==◌, list_any, list_any_at, nat_tests, append-nil, length-map, map-append, get_or-map, All-map, map-set_same, Item, Note, is_last, Feed, fed, items_by, items_of, processes_of, IsNextAfterNotes, IsNextOfProcess, IsInOrder, given_by, EndsWithLast, Outlet, IsNextAfter, IsFaithful, HasMetGap}
+use Rattle.wcp_tree.proofs.Words.{◌≡◌, ◌≢◌, ℕ, zero, suc, ◌<◌, Bool, true, false, ◌||◌, List, [], ◌∷◌, ◌++◌, length, get_or, set, map, sym, refl, ap, ◌∙◌, subst, eq-eqb, arith, All, AllPairs, if◌then◌else◌, ◌==◌, list_any, list_any_at, nat_tests, append-nil, length-map, map-append, get_or-map, All-map, map-set_same, Item, Note, is_last, Feed, fed, items_by, items_of, processes_of, IsNextAfterNotes, IsNextOfProcess, IsInOrder, given_by, EndsWithLast, Outlet, IsNextAfter, IsFaithful, HasMetGap, CameFromRing, AreFromRings, is_gap_of, All-weaker, None, Some, ne_eqb}
 
 abbrev AreApart : List ℕ → Type 0
 AreApart numbers = AllPairs (λ p q. p ≢ q) numbers
@@ -86,6 +86,30 @@ fed-gap feeds i new d note outlet below apart same taken not_next faithful =
       });
       faithful = faithful;
     }
+
+-- what feeds in order took came out of their rings
+pub rings_in_order : (feeds : List Feed) → All IsInOrder feeds → AreFromRings None feeds
+rings_in_order feeds order = All-weaker IsInOrder (λ (f : Feed). CameFromRing false f.taker.taken) (λ f is. is.from_ring) feeds order
+
+-- what the feed of another process took came out of its ring
+from_other : (gap : ℕ) (feed : Feed) → gap ≢ feed.process → IsInOrder feed
+    → CameFromRing (is_gap_of (Some gap) feed.process) feed.taker.taken
+from_other gap feed other order =
+    subst (λ b. CameFromRing b feed.taker.taken) (sym (ne_eqb gap feed.process other)) order.from_ring
+
+-- what feeds took came out of their rings, where one of them met a gap
+pub rings_at_gap : (feeds : List Feed) (i : ℕ) (new d : Feed) → i < length feeds → AreApart (processes_of feeds)
+    → All IsInOrder feeds → new.process ≡ (get_or feeds i d).process → CameFromRing true new.taker.taken
+    → AreFromRings (Some (get_or feeds i d).process) (set feeds i new)
+rings_at_gap [] i new d below apart order same came k e within = absurd (omega arith)
+rings_at_gap (f ∷ fs) zero new d below apart order same came zero e within =
+    subst (λ b. CameFromRing b new.taker.taken) (sym (eq-eqb f.process new.process (sym same))) came
+rings_at_gap (f ∷ fs) zero new d below apart order same came (suc k) e within =
+    from_other f.process (get_or fs k e) (first_apart f fs apart k e (omega arith)) (order (suc k) e (omega arith))
+rings_at_gap (f ∷ fs) (suc i) new d below apart order same came zero e within =
+    from_other (get_or fs i d).process f (λ is. first_apart f fs apart i d (omega arith) (sym is)) (order 0 f (omega arith))
+rings_at_gap (f ∷ fs) (suc i) new d below apart order same came (suc k) e within =
+    rings_at_gap fs i new d (omega arith) (rest_apart f fs apart) (λ j g below. order (suc j) g (omega arith)) same came k e (omega arith)
 
 -- a feed took nothing
 pub fed-quiet : (feeds : List Feed) (i : ℕ) (new d : Feed) (p : ℕ) → new.process ≡ (get_or feeds i d).process → given_by new ≡ given_by (get_or feeds i d)

@@ -1,5 +1,5 @@
 -- A feed stays in order as it gives the next note of its process.
-use Rattle.wcp_tree.proofs.Words.{◌≡◌, ◌+◌, true, false, true≢false, Bool, [], ◌∷◌, ◌++◌, length, length-append, append-nil, sym, refl, ap, ◌∙◌, subst, arith, All, All-push, get_or_push, length_push, TakeSide, Note, Lost, AreInSequence, place_of, is_last, AreInSequence-push, Feed, given_by, mark_of_lost, IsInOrder, IsNextAfterNotes}
+use Rattle.wcp_tree.proofs.Words.{◌≡◌, ◌+◌, true, false, true≢false, Bool, [], ◌∷◌, ◌++◌, length, length-append, append-nil, sym, refl, ap, ◌∙◌, subst, arith, All, All-push, get_or_push, length_push, TakeSide, Note, Lost, AreInSequence, place_of, is_last, AreInSequence-push, Feed, given_by, mark_of_lost, IsInOrder, IsNextAfterNotes, MayComeFromRing, CameFromRing}
 
 -- a feed of a process that was not lost gave what it took
 pub given_is_taken : (feed : Feed) → feed.lost ≡ false → given_by feed ≡ feed.taker.taken
@@ -34,13 +34,15 @@ next_note feed note order not_ended place =
 
 -- a snapshot that is the next note is taken
 pub in_order_snap : (feed more : Feed) (note : Note) → IsInOrder feed → feed.ended ≡ false → place_of note ≡ feed.next
+    → MayComeFromRing note
     → is_last note ≡ false → more.taker.taken ≡ feed.taker.taken ++ note ∷ [] → more.next ≡ feed.next + 1
     → more.lost ≡ false → more.ended ≡ false → IsInOrder more
-in_order_snap feed more note order not_ended place snap taken next not_lost still =
+in_order_snap feed more note order not_ended place may_come snap taken next not_lost still =
     let counted = order.counted not_ended in
     record {
       run = subst (AreInSequence place_of is_last) (sym (given_more feed more note counted.0 not_lost taken))
           (AreInSequence-push place_of is_last (given_by feed) note order.run (next_note feed note order not_ended place));
+      from_ring = rw taken (All-push MayComeFromRing feed.taker.taken note order.from_ring may_come);
       counted = λ _. (
         not_lost,
         omega (arith, ap length taken, length-append feed.taker.taken (note ∷ [])),
@@ -51,11 +53,13 @@ in_order_snap feed more note order not_ended place snap taken next not_lost stil
 
 -- a last note that is the next one is given
 pub in_order_last : (feed more : Feed) (note : Note) → IsInOrder feed → feed.ended ≡ false → place_of note ≡ feed.next
-    → is_last note ≡ true → given_by more ≡ given_by feed ++ note ∷ [] → more.ended ≡ true → IsInOrder more
-in_order_last feed more note order not_ended place last given ended =
+    → is_last note ≡ true → given_by more ≡ given_by feed ++ note ∷ [] → CameFromRing false more.taker.taken
+    → more.ended ≡ true → IsInOrder more
+in_order_last feed more note order not_ended place last given from_ring ended =
     record {
       run = subst (AreInSequence place_of is_last) (sym given)
           (AreInSequence-push place_of is_last (given_by feed) note order.run (next_note feed note order not_ended place));
+      from_ring = from_ring;
       counted = λ still. absurd (true≢false (sym ended ∙ still));
       ended = λ _. (given_by feed, note, given, last);
     }
@@ -64,7 +68,12 @@ in_order_last feed more note order not_ended place last given ended =
 pub in_order_same : (feed : Feed) (taker : TakeSide) → IsInOrder feed → taker.taken ≡ feed.taker.taken
     → IsInOrder (record feed { taker = taker })
 in_order_same feed taker order same =
-    record { run = rw same order.run; counted = rw same order.counted; ended = rw same order.ended }
+    record {
+      run = rw same order.run;
+      from_ring = rw same order.from_ring;
+      counted = rw same order.counted;
+      ended = rw same order.ended;
+    }
 
 -- the mark of a lost process is given
 pub in_order_lost : (feed : Feed) (taker : TakeSide) → IsInOrder feed → feed.ended ≡ false → taker.taken ≡ feed.taker.taken
@@ -73,7 +82,7 @@ in_order_lost feed taker order not_ended same =
     let more : Feed = record feed { ended = true; lost = true; taker = taker } in
     let counted = order.counted not_ended in
     in_order_last feed more (Lost (length feed.taker.taken)) order not_ended (sym counted.1) refl
-    (given_mark feed more counted.0 refl same) refl
+    (given_mark feed more counted.0 refl same) (rw same order.from_ring) refl
 
 -- nothing is the next note of a process that has ended
 pub out_of_turn : (feed : Feed) (note : Note) → IsInOrder feed → feed.ended ≡ true

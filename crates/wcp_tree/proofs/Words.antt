@@ -1,7 +1,7 @@
 -- The words of the proofs of this crate, from one place.
 pub use Rattle.std.proofs.Common.{◌≡◌, ◌≢◌, ℕ, ◌+◌, ◌<◌, ◌≤◌, List, [], ◌∷◌, ◌++◌, length, Option, Some, refl, sym, ap, ◌∙◌, ⊎_elim, arith, None, replicate, subst, append-nil, ◌↔◌, ◌||◌, true, false, true≢false, nat_eq, eq-eqb, ◌⊎◌, inl, inr, append_assoc, zero, suc, Bool, get_or, set, map, length-append, cond, ◌==◌, All, eqb-true, ◌-◌, take, drop, add-one, IsTrue, fold, slice_index, slice_set, AllPairs, rules, lit≤, vec_len, Vec, Global}
 pub use Rattle.std.proofs.Math.Seq.{map-set_same, take-suc}
-pub use Rattle.std.proofs.lemmas.Bool.{cases_eq, cases_Bool, cases_lt}
+pub use Rattle.std.proofs.lemmas.Bool.{cases_eq, cases_Bool, cases_lt, ne_eqb}
 pub use Rattle.std.proofs.lemmas.Bool.Decides.{nat_tests}
 pub use Rattle.std.proofs.lemmas.Grind.{common_steps}
 pub use Rattle.std.proofs.lemmas.List.{length-set, length_push, length-replicate, length-map, map-append, get_or-map, drop-replicate, get_or-set_same, get_or-set_other, get_or_append_left, get_or_push, nil_from_length, take_more, drop_at, length-take-le, take_more_set, drop-set-lt, with_items_is, take_all}
@@ -35,11 +35,11 @@ pub use Rattle.wcp_model.specs.declared.plan.Parent.TheVariants.{Root, Relay}
 pub use Rattle.wcp_model.specs.declared.plan.Plan.{Plan}
 pub use Rattle.wcp_ring.specs.Ends.{TakeSide, PutSide}
 pub use Rattle.wcp_tree.specs.Bundles.{most_bundle, Continues, IsRun, IsBundle, MayJoin, IsFirstBundle, filler}
-pub use Rattle.wcp_tree.specs.Feeding.{items_of, fed, given_by, items_by, mark_of_lost, processes_of, IsNextAfterNotes, IsNextOfProcess, IsInOrder, EndsWithLast, MayComeFromRing, source_taken, Serves, IsNewFeed}
+pub use Rattle.wcp_tree.specs.Feeding.{items_of, fed, given_by, items_by, mark_of_lost, processes_of, IsNextAfterNotes, IsNextOfProcess, IsInOrder, EndsWithLast, MayComeFromRing, CameFromRing, AreFromRings, is_gap_of, source_taken, Serves, IsNewFeed}
 pub use Rattle.wcp_tree.specs.LiveProbe.{HasLog, IsSameLive, LiveAccepts, LiveFor, LiveSide, NotesRise, emitted_by, fresh_core}
 pub use Rattle.wcp_tree.specs.Members.{IsMetFrom, Itself, Above, IsBelow, AreBelow}
 pub use Rattle.wcp_tree.specs.RelayEnds.{IsEndOfSource, taken_in}
-pub use Rattle.wcp_tree.specs.RelayWork.{handed, IsFaithful, IsNextAfter, HasMetGap, IsSound, IsNextItem, IsSameOutlet, IsLeafAtWork, AreTakenNext, IsInnerAtWork, ItemsMayFollow, AreEnded, AreItemsInSequence, IsAtWork, HasEnded, AreSameFeeds, IsSameTaker}
+pub use Rattle.wcp_tree.specs.RelayWork.{handed, IsFaithful, IsNextAfter, HasMetGap, IsSound, IsNextItem, IsSameOutlet, IsLeafAtWork, AreTakenNext, IsInnerAtWork, ItemsMayFollow, AreEnded, AreItemsInSequence, IsAtWork, HasEnded, AreSameFeeds, IsSameTaker, IsFromRings, gap_met}
 pub use Rattle.wcp_tree.specs.Relays.{AreChildrenSeated, IsRelayOf, IsSource}
 pub use Rattle.wcp_tree.specs.Rings.{IsTakerAt, AreRings, IsFeed, AreFeeds}
 pub use Rattle.wcp_tree.specs.Watches.{AreLinked, AreSeatedUnder, IsLinked, lane_below, lane_to}

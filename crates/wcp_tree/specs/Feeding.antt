@@ -1,5 +1,6 @@
 -- What a relay takes from.
 use Rattle.std.specs.Prelude.{◌≡◌, ◌≢◌, ◌==◌, ◌≤◌, ℕ, Bool, true, false, List, [], ◌∷◌, ◌++◌, if◌then◌else◌}
+use Rattle.std.specs.Prelude.{Option, None, Some}
 use Rattle.std.specs.Prelude.{length, map, All, AllPairs}
 use Rattle.std.specs.List.{list_any}
 use Rattle.std.specs.FinSet as set
@@ -25,6 +26,21 @@ pub record MayComeFromRing (note : Note) : Type 0 where
   pub not_lost : is_lost note ≡ false
   pub numbered : is_snapshot note ≡ true → place_of note ≤ most_events
 
+-- These notes came out of a ring: each may come out of one, but for the last where a gap was met there.
+abbrev pub CameFromRing : Bool → List Note → Type 0
+CameFromRing false notes = All MayComeFromRing notes
+CameFromRing true notes =
+    (before : List Note) × (note : Note) × (notes ≡ before ++ note ∷ []) × All MayComeFromRing before
+
+-- A gap was met of this process.
+abbrev pub is_gap_of : Option ℕ → ℕ → Bool
+is_gap_of None p = false
+is_gap_of (Some gap) p = gap == p
+
+-- What feeds took came out of their rings, where a gap was met of this process, or of none.
+abbrev pub AreFromRings : Option ℕ → List Feed → Type 0
+AreFromRings gap feeds = All (λ feed. CameFromRing (is_gap_of gap feed.process) feed.taker.taken) feeds
+
 -- A note of a ring is the next one after the notes of its process that were taken before.
 pub record IsNextOfProcess (before : List Note) (note : Note) : Type 0 where
   pub next : IsNextAfterNotes before note
@@ -48,9 +64,11 @@ IsEnded {I} is_last items = (before : List I) × (item : I) × (items ≡ before
 abbrev pub EndsWithLast : List Item → Type 0
 EndsWithLast items = IsEnded (λ (item : Item). is_last item.note) items
 
--- The notes that a feed gave are a run, it counts the snapshots among them, and it knows whether a last one came.
+-- The notes that a feed gave are a run, those that it took may come out of a ring, it counts the snapshots among them,
+-- and it knows whether a last one came.
 pub record IsInOrder (feed : Feed) : Type 0 where
   pub run : AreInSequence place_of is_last (given_by feed)
+  pub from_ring : CameFromRing false feed.taker.taken
   pub counted : feed.ended ≡ false → (feed.lost ≡ false)
       × (feed.next ≡ length feed.taker.taken) × All (λ note. is_last note ≡ false) feed.taker.taken
   pub ended : feed.ended ≡ true → IsEnded is_last (given_by feed)

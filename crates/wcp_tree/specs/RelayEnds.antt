@@ -18,8 +18,8 @@ use Rattle.wcp_tree.specs.declared.relay_end.Outcome.{Outcome}
 use Rattle.wcp_tree.specs.declared.relay_end.Outcome.TheVariants.{Whole, Faulted}
 use Rattle.wcp_tree.specs.declared.take_fault.TakeFault.{TakeFault}
 use Rattle.wcp_tree.specs.declared.take_fault.TakeFault.TheVariants as take_fault
-use Rattle.wcp_tree.specs.Feeding.{fed, items_of, source_taken}
-use Rattle.wcp_tree.specs.RelayWork.{AreSameFeeds, IsSameSource, HasEnded}
+use Rattle.wcp_tree.specs.Feeding.{fed, items_of, source_taken, AreFromRings}
+use Rattle.wcp_tree.specs.RelayWork.{AreSameFeeds, IsSameSource, HasEnded, IsFromRings}
 
 -- What is left of a source: the feeds of a leaf, or the receipt of a lane, which was matched with no putter yet.
 abbrev pub IsEndOfSource : Source → Receipts → Type 0
@@ -103,6 +103,15 @@ HasMetFirst (Faulted fault source outlet met) =
 
 abbrev pub IsFirstFault : RelayEnd → Type 0
 IsFirstFault end = HasMetFirst end.outcome
+
+-- What a leaf took came out of its rings, so that it made each mark of a lost process that it put.
+abbrev pub IsOutcomeFromRings : Outcome → Type 0
+IsOutcomeFromRings (Whole parent (Feeds feeds) put) = AreFromRings None feeds.items
+IsOutcomeFromRings (Whole parent (Lane receipt) put) = Unit {0}
+IsOutcomeFromRings (Faulted fault source outlet met) = IsFromRings source.value met.value
+
+abbrev pub IsEndFromRings : RelayEnd → Type 0
+IsEndFromRings end = IsOutcomeFromRings end.outcome
 
 -- What a relay leaves as it has run: it has its number and its receipts, and where it met no fault it put what it took.
 pub record IsEndOfRelay (relay : Relay) (end : RelayEnd) : Type 0 where

@@ -1,6 +1,6 @@
 -- A relay at work.
 use Rattle.std.specs.Prelude.{◌≡◌, ◌≢◌, ◌==◌, ℕ, ◌<◌, true, List, [], ◌∷◌, ◌++◌, map, All, AllPairs, IfNone}
-use Rattle.std.specs.Prelude.{Result, Ok, Err}
+use Rattle.std.specs.Prelude.{Result, Ok, Err, Option, Some, None}
 use mathlib.Core.List.{IsPrefix}
 use Rattle.std.specs.List.{list_any}
 use Rattle.std.specs.FinSet as set
@@ -17,7 +17,8 @@ use Rattle.wcp_tree.specs.declared.source.Source.{Source}
 use Rattle.wcp_tree.specs.declared.source.Source.TheVariants.{Leaf, Inner}
 use Rattle.wcp_tree.specs.declared.take_fault.TakeFault.{TakeFault}
 use Rattle.wcp_tree.specs.declared.take_fault.TakeFault.TheVariants as take_fault
-use Rattle.wcp_tree.specs.Feeding.{items_of, processes_of, fed, source_taken, IsInOrder, EndsWithLast, MayComeFromRing}
+use Rattle.wcp_tree.specs.Feeding.{items_of, processes_of, fed, source_taken, IsInOrder, EndsWithLast}
+use Rattle.wcp_tree.specs.Feeding.{MayComeFromRing, AreFromRings}
 
 -- What was handed to an outlet: what it put, and then what it holds.
 abbrev pub handed : Outlet → List Item
@@ -86,6 +87,16 @@ pub record IsInnerAtWork (taker : TakeEnd Bundle Item) (outlet : Outlet) : Type 
   pub among : (p : ℕ) → set.contains taker.members p ≡ true → set.contains outlet.putter.members p ≡ true
   pub sound : IsSound outlet
   pub faithful : IsFaithful (λ p. items_of p taker.taken) outlet
+
+-- The process of which a leaf met a gap, if its taking ended so.
+abbrev pub gap_met : Result (Unit {0}) TakeFault → Option ℕ
+gap_met (Err (take_fault.Gap p)) = Some p
+gap_met _ = None
+
+-- What a leaf took came out of its rings.
+abbrev pub IsFromRings : Source → Result (Unit {0}) TakeFault → Type 0
+IsFromRings (Leaf feeds sleeper) met = AreFromRings (gap_met met) feeds.items
+IsFromRings (Inner taker) met = Unit {0}
 
 -- The items of a bundle that a taker takes may follow those that were taken before.
 abbrev pub AreTakenNext : TakeEnd Bundle Item → List Item → Type 0

@@ -4,7 +4,8 @@ ghost use Rattle.wcp_clock.specs.Notes.{place_of};
 ghost use Rattle.wcp_clock.specs.declared.note.Item.{Item};
 ghost use Rattle.wcp_clock.specs.declared.note.Note.{Note};
 ghost use Rattle.wcp_clock.specs.declared.note.Note.TheVariants.{Lost};
-ghost use Rattle.wcp_tree.specs.Feeding.{given_by, IsInOrder, IsNextAfterNotes, IsNextOfProcess, MayComeFromRing};
+ghost use Rattle.wcp_tree.specs.Feeding.{given_by, IsInOrder, IsNextAfterNotes, IsNextOfProcess};
+ghost use Rattle.wcp_tree.specs.Feeding.{CameFromRing, MayComeFromRing};
 ghost use Rattle.wcp_tree.specs.declared.take_fault.TakeFault.TheVariants as fault;
 
 use crate::take_fault::TakeFault;
@@ -58,6 +59,7 @@ impl Feed {
             × ((note : Note)
             × (given_by self.new ≡ given_by self.old ++ note ∷ [])
             × ¬ IsNextOfProcess (given_by self.old) note)) }
+        ensures ring { IfErr result (λ met. CameFromRing true self.new.taker.taken) }
     {
         if self.lost {
             return Ok(None);

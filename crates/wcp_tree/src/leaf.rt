@@ -1,6 +1,6 @@
-ghost use Rattle.std.specs.Prelude.{◌≡◌, ◌<◌, ℕ, true, [], length, All, IfErr, OnOk, OnErr, IfNone, IfSome};
-ghost use Rattle.wcp_tree.specs.Feeding.{fed};
-ghost use Rattle.wcp_tree.specs.RelayWork.{IsLeafAtWork, AreSameFeeds, IsSameOutlet, HasMetGap};
+ghost use Rattle.std.specs.Prelude.{◌≡◌, ◌<◌, ℕ, true, [], length, All, IfErr, OnOk, OnErr, IfNone, IfSome, Err};
+ghost use Rattle.wcp_tree.specs.Feeding.{fed, AreFromRings};
+ghost use Rattle.wcp_tree.specs.RelayWork.{IsLeafAtWork, AreSameFeeds, IsSameOutlet, HasMetGap, gap_met};
 ghost use Rattle.wcp_tree.specs.declared.take_fault.TakeFault.TheVariants as fault;
 
 use crate::bundle::MAX_BUNDLE;
@@ -24,6 +24,7 @@ pub(crate) fn run_leaf<R: Wait>(
     ensures ended { OnOk result (All (λ feed. feed.ended ≡ true) feeds.new) }
     ensures empty { OnOk result (IfNone outlet.new.cut (outlet.new.hold.items ≡ [])) }
     ensures gap { IfErr result (λ met. (p : ℕ) × (met ≡ fault.Gap p) × HasMetGap p (fed feeds.new) outlet.new) }
+    ensures rings { IfErr result (λ met. AreFromRings (gap_met (Err met)) feeds.new) }
 {
     for _ in rt.forever() {
         let any = take_round(rt, feeds, outlet)?;
@@ -51,6 +52,7 @@ fn take_round<R: Wait>(rt: &R, feeds: &mut [Feed], outlet: &mut Outlet) -> Resul
     ensures same_outlet { IsSameOutlet outlet.old outlet.new }
     ensures work { OnOk result (IsLeafAtWork feeds.new outlet.new) }
     ensures gap { IfErr result (λ met. (p : ℕ) × (met ≡ fault.Gap p) × HasMetGap p (fed feeds.new) outlet.new) }
+    ensures rings { IfErr result (λ met. AreFromRings (gap_met (Err met)) feeds.new) }
 {
     let mut any = false;
     for place in 0..feeds.len() {
@@ -74,6 +76,7 @@ fn take_burst<R: Wait>(
     ensures same_outlet { IsSameOutlet outlet.old outlet.new }
     ensures work { OnOk result (IsLeafAtWork feeds.new outlet.new) }
     ensures gap { IfErr result (λ met. (p : ℕ) × (met ≡ fault.Gap p) × HasMetGap p (fed feeds.new) outlet.new) }
+    ensures rings { IfErr result (λ met. AreFromRings (gap_met (Err met)) feeds.new) }
 {
     let mut any = false;
     for _ in 0..MAX_BUNDLE {

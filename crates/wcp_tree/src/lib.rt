@@ -7,8 +7,9 @@
 //! open; a probe always stands for some log, so the clocks of the snapshots that a closed one has put never fall in a
 //! component and rise in its own; `flush_waiting` and `close_waiting` try until the ring has room. `Relay::run`: for
 //! each process what it put is a front of what it took, and of a leaf of that or of that and the one mark that the
-//! process was lost, which the leaf made; where it met no fault the two are the same list, which ends with a last
-//! note. When a leaf makes such a mark no clause says, but that it does so before any last note. The end of one that
+//! process was lost, which the leaf made, since no such mark comes out of a ring; where it met no fault the two are the
+//! same list, which ends with a last note. When a leaf makes such a mark no clause says, but that it does so before any
+//! last note. The end of one that
 //! met a fault is of the same rings or lane, and holds none of them; its fault is the first that came: a cut as it
 //! put, before what ended its taking, a note that isn't the next one of its process or a cut as it took; where nothing
 //! ended its taking early, a last note of each process below it was taken, also behind a cut. `Bundle` is a list of 1

@@ -31,7 +31,7 @@ pub struct Relay {
 
 impl Relay {
     ghost use Rattle.wcp_tree.specs.RelayWork.{AreEnded};
-    ghost use Rattle.wcp_tree.specs.RelayEnds.{AreReceiptsOf, IsFirstFault, relay_taken, relay_put};
+    ghost use Rattle.wcp_tree.specs.RelayEnds.{AreReceiptsOf, IsEndFromRings, IsFirstFault, relay_taken, relay_put};
     ghost use Rattle.wcp_tree.specs.RelayEnds.{fault_of, number_of, watch_of};
 
     /// The relay of this number in the plan of a watch, and with this parent.
@@ -83,6 +83,7 @@ impl Relay {
         ensures whole { IfNone (fault_of result) ((p : ℕ) → relay_put result p ≡ relay_taken result p) }
         ensures ended { IfNone (fault_of result) (AreEnded self.putter.members (relay_taken result)) }
         ensures fault { IsFirstFault result }
+        ensures rings { IsEndFromRings result }
     {
         let Relay {
             number,

@@ -22,7 +22,7 @@ pub(crate) enum Source {
 
 impl Source {
     ghost use Rattle.wcp_tree.specs.Feeding.{items_of, source_taken};
-    ghost use Rattle.wcp_tree.specs.RelayWork.{IsAtWork, IsSameSource, IsSameOutlet, HasEnded};
+    ghost use Rattle.wcp_tree.specs.RelayWork.{IsAtWork, IsSameSource, IsSameOutlet, HasEnded, IsFromRings};
     ghost use Rattle.wcp_tree.specs.RelayEnds.{IsEndOfSource};
 
     /// Passes on what the relay takes, until a last note of each of its processes was taken.
@@ -33,6 +33,7 @@ impl Source {
         ensures whole { OnOk result (IfNone outlet.new.cut
             ((p : ℕ) → items_of p outlet.new.putter.put ≡ source_taken self.new p)) }
         ensures ended { HasEnded self.new outlet.new result }
+        ensures rings { IsFromRings self.new result }
     {
         match self {
             Source::Leaf { feeds, sleeper } => run_leaf(rt, feeds, sleeper, outlet),

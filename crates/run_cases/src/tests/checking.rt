@@ -35,7 +35,7 @@ pub fn two_hops(rt: &impl Abort, alloc: Global) -> Result<Plan, AllocError>
 #[test]
 fn two_hops_find_the_first_cut(rt: HostRuntime) -> Result<(), Fail> {
     let plan = two_hops(&rt, rt.alloc())?;
-    let (end, book) = run_in_one_thread(&rt, rt.alloc(), &plan, 2, Book::new(2))?;
+    let (end, book) = run_in_one_thread(&rt, rt.alloc(), &plan, None, 2, Book::new(2))?;
     assert_eq!(rt; (end.watch(), end.fault()), (7, None));
     let cut = GlobalCut::new(&[0, 0]);
     assert_eq!(rt;
@@ -57,7 +57,7 @@ fn two_hops_find_the_first_cut(rt: HostRuntime) -> Result<(), Fail> {
 #[test]
 fn a_post_that_is_refused_holds_nothing_up(rt: HostRuntime) -> Result<(), Fail> {
     let plan = plain_plan(rt.alloc(), 2, 8, 4)?;
-    let (end, book) = run_in_one_thread(&rt, rt.alloc(), &plan, 1, Book::new(1))?;
+    let (end, book) = run_in_one_thread(&rt, rt.alloc(), &plan, None, 1, Book::new(1))?;
     assert_eq!(rt; end.fault(), None);
     assert_eq!(rt; end.report(), Report::Found(GlobalCut::new(&[0, 0])));
     assert_eq!(rt; (book.share(0), book.totals()), (Some(ONE), ONE));
@@ -74,7 +74,7 @@ fn a_lane_that_is_cut_ends_the_loop(rt: HostRuntime) -> Result<(), Fail> {
         vec![in rt.alloc(); Some(0), Some(1)]?,
     );
     assert!(rt; plan.check().is_ok());
-    let (end, book) = run_in_one_thread(&rt, rt.alloc(), &plan, 1, Book::new(2))?;
+    let (end, book) = run_in_one_thread(&rt, rt.alloc(), &plan, None, 1, Book::new(2))?;
     assert!(rt; matches!(end.fault(), Some(CheckFault::Cut(_))) && end.cut().is_some());
     assert_eq!(rt; (end.report(), book.found()), (Report::Undecided, None));
     assert_eq!(rt; (book.share(0), book.share(1)), (Some(ONE), None));

@@ -13,7 +13,7 @@ use std::test::Fail;
 use wcp_book::Book;
 use wcp_model::{GlobalCut, Plan, Report, Tallies, Tally};
 use wcp_tree::{LiveProbe, ProbeEnd, Relay, RelayEnd, Watch, watch};
-use wcp_watch::{CheckerEnd, SettleFault, check_loop, settle};
+use wcp_watch::{CheckFault, CheckerEnd, SettleFault, check_loop, settle};
 
 /// What is left of a watch that ran.
 #[derive(Drop)]
@@ -33,14 +33,28 @@ fn emit_one(mut probe: LiveProbe) -> Option<ProbeEnd>
     probe.close().ok()
 }
 
-/// Each process emits one snapshot, and closes.
-fn close_all(alloc: Global, mut probes: Vec<LiveProbe>) -> Result<Vec<ProbeEnd>, AllocError>
+/// The process emits one snapshot and closes, unless it is the one that is lost.
+fn emit_or_lose(probe: LiveProbe, lost: Option<u32>) -> Option<ProbeEnd>
+    ensures { IfSome result (λ end. (end.id ≡ probe.core.id) × (end.link.ring ≡ probe.link.ring)) }
+{
+    if lost == Some(probe.id()) {
+        return None;
+    }
+    emit_one(probe)
+}
+
+/// Each process emits one snapshot and closes, but for the one that is lost.
+fn close_all(
+    alloc: Global,
+    mut probes: Vec<LiveProbe>,
+    lost: Option<u32>,
+) -> Result<Vec<ProbeEnd>, AllocError>
     requires { All (λ probe. slice_get probes.items probe.core.id ≡ Some probe) probes.items }
     ensures { IfOk result (λ ends. All (IsEndOfSomeProbe probes.items) ends.items) }
 {
     let mut ends = Vec::with_capacity(alloc, probes.len())?;
     while let Some(probe) = probes.pop() {
-        if let Some(end) = emit_one(probe) {
+        if let Some(end) = emit_or_lose(probe, lost) {
             ends.push(end)?;
         }
     }
@@ -63,9 +77,10 @@ fn run_all(
     Ok(ends)
 }
 
-/// A watch of two hops that runs in one thread: the processes, then the relays, and then the checker's loop.
+/// A watch of two hops that runs in one thread: the processes, of which one may be lost, then the relays, and then the
+/// checker's loop.
 #[tactic(auto, using(crate::proofs::EndsOfWatch::own_probes, crate::proofs::EndsOfWatch::own_relays))]
-fn run_watch(rt: &(impl Abort + Wait), alloc: Global) -> Result<Ends, AllocError>
+fn run_watch(rt: &(impl Abort + Wait), alloc: Global, lost: Option<u32>) -> Result<Ends, AllocError>
     ensures { IfOk result (λ ends. ComeFromWatch ends.probes.items ends.relays.items ends.checker) }
 {
     let plan = two_hops(rt, alloc)?;
@@ -76,7 +91,7 @@ fn run_watch(rt: &(impl Abort + Wait), alloc: Global) -> Result<Ends, AllocError
         inbox,
     } = watch;
     let book = Mutex::new(Book::new(2));
-    let probes = close_all(alloc, probes)?;
+    let probes = close_all(alloc, probes, lost)?;
     let relays = run_all(rt, alloc, relays)?;
     let checker = check_loop(rt, inbox, checker, &book);
     let book = book.into_inner();
@@ -182,7 +197,7 @@ fn settle_fault(ends: Ends) -> Option<SettleFault>
 
 #[test]
 fn two_hops_are_settled(rt: HostRuntime) -> Result<(), Fail> {
-    let ends = run_watch(&rt, rt.alloc())?;
+    let ends = run_watch(&rt, rt.alloc(), None)?;
     assert_eq!(rt;
         ends.book.totals(),
         Tally {
@@ -202,7 +217,7 @@ fn two_hops_are_settled(rt: HostRuntime) -> Result<(), Fail> {
 #[test]
 fn each_probe_without_an_end_is_missing(rt: HostRuntime) -> Result<(), Fail> {
     for p in 0..2 {
-        let ends = run_watch(&rt, rt.alloc())?;
+        let ends = run_watch(&rt, rt.alloc(), None)?;
         let ends = without_probe(ends, p).expect(&rt, "a probe");
         assert_eq!(rt;
             settle_fault(ends),
@@ -213,10 +228,25 @@ fn each_probe_without_an_end_is_missing(rt: HostRuntime) -> Result<(), Fail> {
     Ok(())
 }
 
+/// All loops end where a process is lost before it has put anything, and its probe has no end.
+#[test]
+fn a_process_that_is_lost_is_missing(rt: HostRuntime) -> Result<(), Fail> {
+    for p in 0..2 {
+        let ends = run_watch(&rt, rt.alloc(), Some(p))?;
+        assert_eq!(rt;
+            (ends.checker.fault(), ends.checker.report()),
+            (Some(CheckFault::Lost(p)), Report::Undecided)
+        );
+        assert_eq!(rt; (ends.probes.len(), ends.relays.len()), (1, 2));
+        assert_eq!(rt; settle_fault(ends), Some(SettleFault::Missing));
+    }
+    Ok(())
+}
+
 #[test]
 fn each_relay_without_an_end_is_missing(rt: HostRuntime) -> Result<(), Fail> {
     for number in 0..2 {
-        let ends = run_watch(&rt, rt.alloc())?;
+        let ends = run_watch(&rt, rt.alloc(), None)?;
         let ends = without_relay(ends, number).expect(&rt, "a relay");
         assert_eq!(rt;
             settle_fault(ends),
@@ -259,7 +289,7 @@ fn a_cut_that_is_another_or_was_not_told_is_unfinished(rt: HostRuntime) -> Resul
         (Some(other), Some(SettleFault::Unfinished)),
         (None, Some(SettleFault::Unfinished)),
     ] {
-        let ends = run_watch(&rt, rt.alloc())?;
+        let ends = run_watch(&rt, rt.alloc(), None)?;
         let book = book_with(&rt, told);
         let met = settle(ends.probes, ends.relays, ends.checker, book).err();
         assert_eq!(rt; met, fault, "with {told:?}");
@@ -270,7 +300,7 @@ fn a_cut_that_is_another_or_was_not_told_is_unfinished(rt: HostRuntime) -> Resul
 #[test]
 fn each_share_that_was_not_posted_is_unfinished(rt: HostRuntime) -> Result<(), Fail> {
     for p in 0..2 {
-        let ends = run_watch(&rt, rt.alloc())?;
+        let ends = run_watch(&rt, rt.alloc(), None)?;
         let book = book_without(&rt, p);
         let fault = settle(ends.probes, ends.relays, ends.checker, book).err();
         assert_eq!(rt; fault, Some(SettleFault::Unfinished), "of process {p}");
@@ -283,7 +313,7 @@ fn each_probe_of_another_watch_is_a_stranger(rt: HostRuntime) -> Result<(), Fail
     let plan = two_hops(&rt, rt.alloc())?;
     let other = watch(rt.alloc(), &plan, 8)?;
     for probe in other.probes {
-        let ends = run_watch(&rt, rt.alloc())?;
+        let ends = run_watch(&rt, rt.alloc(), None)?;
         let stranger = emit_one(probe).expect(&rt, "room");
         assert!(rt; stranger.watch() != ends.checker.watch());
         let ends = with_a_stranger(ends, stranger)?;
@@ -294,7 +324,7 @@ fn each_probe_of_another_watch_is_a_stranger(rt: HostRuntime) -> Result<(), Fail
 
 #[test]
 fn a_relay_that_was_cut_is_faulted(rt: HostRuntime) -> Result<(), Fail> {
-    let ends = run_watch(&rt, rt.alloc())?;
+    let ends = run_watch(&rt, rt.alloc(), None)?;
     let faulted = cut_relay(&rt, rt.alloc())?.expect(&rt, "a relay");
     let ends = with_a_second_end(ends, faulted)?.expect(&rt, "a fault of the first relay");
     let ends = without_relay(ends, 0).expect(&rt, "the first relay's other end");
@@ -306,7 +336,7 @@ fn a_relay_that_was_cut_is_faulted(rt: HostRuntime) -> Result<(), Fail> {
 /// One relay has two ends, of which one has a fault, and the other relay has none: the strangers count first.
 #[test]
 fn two_ends_of_a_relay_are_strangers(rt: HostRuntime) -> Result<(), Fail> {
-    let ends = run_watch(&rt, rt.alloc())?;
+    let ends = run_watch(&rt, rt.alloc(), None)?;
     let second = cut_relay(&rt, rt.alloc())?.expect(&rt, "a relay");
     let ends = without_relay(ends, 1).expect(&rt, "a relay");
     let ends = with_a_second_end(ends, second)?.expect(&rt, "a fault of the first relay");

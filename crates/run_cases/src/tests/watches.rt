@@ -34,12 +34,14 @@ fn open_once(alloc: Global, plan: &Plan) -> Result<(Watch, Checker), AllocError>
     Ok((watch, checker))
 }
 
-/// A watch that runs in one thread: each process emits one snapshot, then the first `count` relays run, the highest
-/// number first, and then the checker's loop, which posts in this book. The other relays are gone.
+/// A watch that runs in one thread: each process emits one snapshot and closes, but for process 0 where `lost` says after
+/// how many it is lost. Then the first `count` relays run, the highest number first, and then the checker's loop, which
+/// posts in this book. The other relays are gone.
 pub fn run_in_one_thread(
     rt: &impl Wait,
     alloc: Global,
     plan: &Plan,
+    lost: Option<u32>,
     count: usize,
     book: Book,
 ) -> Result<(CheckerEnd, Book), AllocError>
@@ -53,7 +55,7 @@ pub fn run_in_one_thread(
     } = watch;
     relays.truncate(count);
     for probe in probes {
-        let _ = emit_all(rt, probe, 1);
+        emit_one(rt, probe, lost);
     }
     for relay in relays.into_iter().rev() {
         let _ = relay.run(rt);
@@ -63,13 +65,26 @@ pub fn run_in_one_thread(
     Ok((end, book.into_inner()))
 }
 
+/// Emits one snapshot and closes, or is lost as process 0 after so many.
+fn emit_one(rt: &impl Wait, mut probe: LiveProbe, lost: Option<u32>) {
+    match lost {
+        Some(snapshots) if probe.id() == 0 => emit(rt, &mut probe, snapshots),
+        _ => drop(emit_all(rt, probe, 1)),
+    }
+}
+
 /// Emits so many snapshots, with a send behind each, and closes.
 pub fn emit_all(rt: &impl Wait, mut probe: LiveProbe, snapshots: u32) -> ProbeEnd {
+    emit(rt, &mut probe, snapshots);
+    probe.close_waiting(rt)
+}
+
+/// Emits so many snapshots, with a send behind each.
+fn emit(rt: &impl Wait, probe: &mut LiveProbe, snapshots: u32) {
     let to = if probe.id() == 0 { 1 } else { 0 };
     for _ in 0..snapshots {
         probe.observe(true);
         probe.flush_waiting(rt);
         let _ = probe.stamp(to, ());
     }
-    probe.close_waiting(rt)
 }

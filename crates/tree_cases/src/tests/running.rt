@@ -1,6 +1,7 @@
-use super::threads::{Arrival, Done, jobs_of, run_all, take_all};
+use super::threads::{Arrival, Done, Leaving, jobs_of, run_all, take_all};
 use super::watches::open;
 use std::alloc::{AllocError, Global};
+use std::process::Abort;
 use std::sync::Wait;
 use std::test::Fail;
 use std::thread::{Threads, join};
@@ -66,58 +67,74 @@ fn run_and_take<R: Threads + Wait + Sync>(
     alloc: Global,
     watch: Watch,
     processes: u32,
+    leaving: Leaving,
 ) -> Result<(Vec<Done>, [Arrival; MAX_PROCS]), AllocError> {
     let jobs = jobs_of(alloc, watch.probes, watch.relays)?;
     let taker = watch.inbox.into_taker();
     let (done, arrivals) = join(
         rt,
-        || run_all(rt, jobs, SNAPSHOTS),
+        || run_all(rt, jobs, SNAPSHOTS, leaving),
         || take_all(rt, taker, processes),
     );
     Ok((done?, arrivals))
 }
 
-#[test]
-fn sixteen_probes_under_three_levels_of_relays(rt: HostRuntime) -> Result<(), Fail> {
-    let mut attach = Vec::new(rt.alloc());
+/// What becomes of a probe that leaves so, and what arrives of it.
+fn expected(leaving: Leaving) -> (Done, Arrival) {
+    match leaving {
+        Leaving::Closed => (Done::Probe(SNAPSHOTS), Arrival::Closed(SNAPSHOTS)),
+        Leaving::Lost => (Done::Lost, Arrival::Lost(SNAPSHOTS)),
+    }
+}
+
+/// Sixteen processes under three levels of relays.
+fn open_three_levels(rt: &impl Abort, alloc: Global) -> Result<Watch, AllocError> {
+    let mut attach = Vec::new(alloc);
     for p in 0..16 {
         attach.push(Some(3 + p / 4))?;
     }
     let [left, right] = [Parent::Relay(1), Parent::Relay(2)];
     let root = Parent::Relay(0);
     let parents = [Parent::Root, root, root, left, left, right, right];
-    let watch = open(&rt, rt.alloc(), (16, 2, 3), &parents, &attach)?;
-    let (done, arrivals) = run_and_take(&rt, rt.alloc(), watch, 16)?;
-    for (job, done) in done.iter().enumerate() {
-        let whole = if job < 16 {
-            Done::Probe(SNAPSHOTS)
-        } else {
-            Done::Relay(None)
-        };
-        assert_eq!(rt; *done, whole);
+    open(rt, alloc, (16, 2, 3), &parents, &attach)
+}
+
+#[test]
+fn sixteen_probes_under_three_levels_of_relays(rt: HostRuntime) -> Result<(), Fail> {
+    for leaving in [Leaving::Closed, Leaving::Lost] {
+        let watch = open_three_levels(&rt, rt.alloc())?;
+        let (done, arrivals) = run_and_take(&rt, rt.alloc(), watch, 16, leaving)?;
+        let (probe, arrival) = expected(leaving);
+        for (job, done) in done.iter().enumerate() {
+            let whole = if job < 16 { probe } else { Done::Relay(None) };
+            assert_eq!(rt; *done, whole);
+        }
+        assert_eq!(rt; done.len(), 23);
+        assert_eq!(rt; arrivals, [arrival; MAX_PROCS]);
     }
-    assert_eq!(rt; done.len(), 23);
-    assert_eq!(rt; arrivals, [Arrival::Closed(SNAPSHOTS); MAX_PROCS]);
     Ok(())
 }
 
 #[test]
-fn probes_close_where_the_relay_above_is_gone(rt: HostRuntime) -> Result<(), Fail> {
+fn probes_leave_where_the_relay_above_is_gone(rt: HostRuntime) -> Result<(), Fail> {
     let parents = [Parent::Root, Parent::Relay(0)];
-    let mut watch = open(&rt, rt.alloc(), (2, 1, 1), &parents, &[Some(1), Some(1)])?;
-    assert_eq!(rt; watch.relays.len(), 2);
-    drop(watch.relays.remove(0));
-    let (done, arrivals) = run_and_take(&rt, rt.alloc(), watch, 2)?;
-    assert_eq!(rt; arrivals, [Arrival::Open(0); MAX_PROCS]);
-    for (job, done) in done.iter().enumerate() {
-        let expected = if job < 2 {
-            *done == Done::Probe(SNAPSHOTS)
-        } else {
-            matches!(done, Done::Relay(Some(RelayFault::Cut(_))))
-        };
-        assert!(rt; expected, "job {job}");
+    for leaving in [Leaving::Closed, Leaving::Lost] {
+        let mut watch = open(&rt, rt.alloc(), (2, 1, 1), &parents, &[Some(1), Some(1)])?;
+        assert_eq!(rt; watch.relays.len(), 2);
+        drop(watch.relays.remove(0));
+        let (done, arrivals) = run_and_take(&rt, rt.alloc(), watch, 2, leaving)?;
+        assert_eq!(rt; arrivals, [Arrival::Open(0); MAX_PROCS]);
+        let (probe, _) = expected(leaving);
+        for (job, done) in done.iter().enumerate() {
+            let expected = if job < 2 {
+                *done == probe
+            } else {
+                matches!(done, Done::Relay(Some(RelayFault::Cut(_))))
+            };
+            assert!(rt; expected, "job {job}");
+        }
+        assert_eq!(rt; done.len(), 3);
     }
-    assert_eq!(rt; done.len(), 3);
     Ok(())
 }
 
@@ -125,15 +142,18 @@ fn probes_close_where_the_relay_above_is_gone(rt: HostRuntime) -> Result<(), Fai
 #[test]
 fn an_inner_relay_goes_on_taking_where_its_parent_is_gone(rt: HostRuntime) -> Result<(), Fail> {
     let parents = [Parent::Root, Parent::Relay(0), Parent::Relay(1)];
-    let mut watch = open(&rt, rt.alloc(), (2, 1, 1), &parents, &[Some(2), Some(2)])?;
-    assert_eq!(rt; watch.relays.len(), 3);
-    drop(watch.relays.remove(0));
-    let (done, _) = run_and_take(&rt, rt.alloc(), watch, 2)?;
-    assert_eq!(rt; done.len(), 4);
-    for probe in 0..2 {
-        assert_eq!(rt; done[probe], Done::Probe(SNAPSHOTS), "probe {probe}");
+    for leaving in [Leaving::Closed, Leaving::Lost] {
+        let mut watch = open(&rt, rt.alloc(), (2, 1, 1), &parents, &[Some(2), Some(2)])?;
+        assert_eq!(rt; watch.relays.len(), 3);
+        drop(watch.relays.remove(0));
+        let (done, _) = run_and_take(&rt, rt.alloc(), watch, 2, leaving)?;
+        assert_eq!(rt; done.len(), 4);
+        let (expected, _) = expected(leaving);
+        for probe in 0..2 {
+            assert_eq!(rt; done[probe], expected, "probe {probe}");
+        }
+        assert!(rt; matches!(done[2], Done::Relay(Some(RelayFault::Cut(_)))));
+        assert_eq!(rt; done[3], Done::Relay(None));
     }
-    assert!(rt; matches!(done[2], Done::Relay(Some(RelayFault::Cut(_)))));
-    assert_eq!(rt; done[3], Done::Relay(None));
     Ok(())
 }

@@ -17,16 +17,27 @@ pub enum Job {
 /// How it ended.
 #[derive(Clone, Copy, Debug, PartialEq, Eq)]
 pub enum Done {
-    /// A probe that emitted so many snapshots.
+    /// A probe that emitted so many snapshots, and is closed.
     Probe(u32),
+    /// A probe that was dropped.
+    Lost,
     /// A relay, with its fault.
     Relay(Option<RelayFault>),
     /// A probe whose send was refused.
     Refused(Refusal),
 }
 
-/// Emits so many snapshots, with a send behind each, and closes.
-fn emit_all(rt: &impl Wait, probe: LiveProbe, snapshots: u32) -> Done {
+/// How a process leaves.
+#[derive(Clone, Copy, Debug, PartialEq, Eq)]
+pub enum Leaving {
+    /// Its probe is closed.
+    Closed,
+    /// Its probe is dropped.
+    Lost,
+}
+
+/// Emits so many snapshots, with a send behind each, and leaves.
+pub fn emit_all(rt: &impl Wait, probe: LiveProbe, snapshots: u32, leaving: Leaving) -> Done {
     let mut probe = probe;
     let to = if probe.id() == 0 { 1 } else { 0 };
     for _ in 0..snapshots {
@@ -36,7 +47,10 @@ fn emit_all(rt: &impl Wait, probe: LiveProbe, snapshots: u32) -> Done {
             return Done::Refused(refusal);
         }
     }
-    Done::Probe(probe.close_waiting(rt).emitted())
+    match leaving {
+        Leaving::Closed => Done::Probe(probe.close_waiting(rt).emitted()),
+        Leaving::Lost => Done::Lost,
+    }
 }
 
 /// Runs each in a thread of its own; each probe emits so many snapshots.
@@ -44,12 +58,13 @@ pub fn run_all<R: Threads + Wait + Sync>(
     rt: &R,
     jobs: Vec<Job>,
     snapshots: u32,
+    leaving: Leaving,
 ) -> Result<Vec<Done>, AllocError> {
     map_vec(
         rt,
         jobs,
         &|job: Job| match job {
-            Job::Probe(probe) => emit_all(rt, probe, snapshots),
+            Job::Probe(probe) => emit_all(rt, probe, snapshots, leaving),
             Job::Relay(relay) => Done::Relay(relay.run(rt).fault()),
         },
     )
@@ -78,6 +93,8 @@ pub enum Arrival {
     Open(u32),
     /// So many snapshots, in their order, and then the close mark.
     Closed(u32),
+    /// So many snapshots, in their order, and then the mark that the process was lost.
+    Lost(u32),
     /// Something at a wrong place.
     Disorder,
 }
@@ -91,15 +108,18 @@ impl Arrival {
             (Arrival::Open(count), Note::Close { count: all }) if *all == count => {
                 Arrival::Closed(count)
             }
+            (Arrival::Open(count), Note::Lost { count: all }) if *all == count => {
+                Arrival::Lost(count)
+            }
             _ => Arrival::Disorder,
         }
     }
 }
 
-/// Takes until a close mark came of each of so many processes, or the lane is cut: what arrived of each.
+/// Takes until a last note came of each of so many processes, or the lane is cut: what arrived of each.
 pub fn take_all<R: Wait>(rt: &R, mut taker: Taker<Bundle>, processes: u32) -> [Arrival; MAX_PROCS] {
     let mut arrivals = [Arrival::Open(0); MAX_PROCS];
-    let mut closed = 0u32;
+    let mut ended = 0u32;
     for _ in rt.forever() {
         let Ok(bundle) = taker.take(rt) else {
             break;
@@ -109,10 +129,10 @@ pub fn take_all<R: Wait>(rt: &R, mut taker: Taker<Bundle>, processes: u32) -> [A
                 *arrival = arrival.then(&item.note);
             }
         }
-        if let Note::Close { .. } = bundle.last_item().note {
-            closed = closed.saturating_add(1);
+        if bundle.last_item().note.is_last() {
+            ended = ended.saturating_add(1);
         }
-        if closed >= processes {
+        if ended >= processes {
             break;
         }
     }

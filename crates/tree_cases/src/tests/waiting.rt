@@ -105,7 +105,7 @@ fn an_inbox_has_the_room_of_the_plan(rt: HostRuntime) -> Result<(), Fail> {
 }
 
 /// Takes the next bundle of the lane, and looks for it so many times.
-fn next_in_time(rt: &impl Wait, taker: &mut Taker<Bundle>) -> Option<Bundle> {
+pub fn next_in_time(rt: &impl Wait, taker: &mut Taker<Bundle>) -> Option<Bundle> {
     for _ in 0..LOOKS {
         match taker.try_take(rt) {
             Ok(Some(bundle)) => return Some(bundle),

@@ -9,8 +9,8 @@ use wullaphi::{
 };
 
 /// A process that may be lost. It answers whether its part is done.
-#[derive(Drop)]
-enum Member {
+#[derive(Clone, Copy, Debug)]
+pub enum Member {
     /// It is true, and does its part.
     Whole,
     /// It is true, and then it is lost.
@@ -49,8 +49,9 @@ impl LosableProcess for Member {
 fn watch<R: Threads + Wait + Sync>(
     rt: &R,
     alloc: Global,
-    members: Vec<Member>,
+    members: [Member; 3],
 ) -> Result<Watched<bool>, WatchFault> {
+    let members = members.to_vec(alloc)?;
     let plan = plain_plan(alloc, 3, 8, 4)?;
     let book = Mutex::new(Book::new(3));
     watch_processes(rt, alloc, &plan, 1, members, &(), &book)
@@ -63,48 +64,37 @@ fn found() -> Report {
 
 #[test]
 fn processes_that_are_done_are_told_as_ever(rt: HostRuntime) -> Result<(), Fail> {
-    let alloc = rt.alloc();
-    let members = vec![in alloc; Member::Whole, Member::Whole, Member::Whole]?;
-    let watched = watch(&rt, alloc, members)?;
+    let watched = watch(&rt, rt.alloc(), [Member::Whole; 3])?;
     assert_eq!(rt; watched.outcome.report, found());
     Ok(())
 }
 
+/// What a lost process put counts. Whether there is a cut with what it went on to isn't known.
 #[test]
-fn a_lost_process_is_told_with_the_cut_that_it_was_in(rt: HostRuntime) -> Result<(), Fail> {
-    let alloc = rt.alloc();
-    let members = vec![in alloc; Member::Whole, Member::Lost, Member::Whole]?;
-    let lost = WatchFault::Lost {
-        process: 1,
-        report: found(),
-    };
-    assert_eq!(rt; watch(&rt, alloc, members).err(), Some(lost));
+fn the_lowest_lost_process_is_told_with_what_is_known(rt: HostRuntime) -> Result<(), Fail> {
+    let [whole, lost, absent] = [Member::Whole, Member::Lost, Member::Absent];
+    for (members, process, report) in [
+        ([whole, lost, whole], 1, found()),
+        ([whole, whole, absent], 2, Report::Undecided),
+        ([whole, lost, absent], 1, Report::Undecided),
+    ] {
+        let fault = watch(&rt, rt.alloc(), members).err();
+        assert_eq!(rt;
+            fault,
+            Some(WatchFault::Lost { process, report }),
+            "{members:?}"
+        );
+    }
     Ok(())
 }
 
 #[test]
-fn it_is_not_known_whether_there_is_a_cut_with_what_a_lost_process_went_on_to(
-    rt: HostRuntime,
-) -> Result<(), Fail> {
-    let alloc = rt.alloc();
-    let members = vec![in alloc; Member::Whole, Member::Whole, Member::Absent]?;
+fn a_lost_process_has_a_line(rt: HostRuntime) -> Result<(), Fail> {
     let lost = WatchFault::Lost {
         process: 2,
         report: Report::Undecided,
     };
-    assert_eq!(rt; watch(&rt, alloc, members).err(), Some(lost));
-    assert_eq!(rt; format!(in alloc; "{lost}")?.as_str(), "process 2 was lost");
-    Ok(())
-}
-
-#[test]
-fn of_two_lost_processes_the_lowest_is_told(rt: HostRuntime) -> Result<(), Fail> {
-    let alloc = rt.alloc();
-    let members = vec![in alloc; Member::Whole, Member::Lost, Member::Absent]?;
-    let lost = WatchFault::Lost {
-        process: 1,
-        report: Report::Undecided,
-    };
-    assert_eq!(rt; watch(&rt, alloc, members).err(), Some(lost));
+    let line = format!(in rt.alloc(); "{lost}")?;
+    assert_eq!(rt; line.as_str(), "process 2 was lost");
     Ok(())
 }

@@ -1,62 +1,57 @@
 //! Input that comes in pieces, that fails, or that is too large.
 
+use super::refusals::REFUSED;
 use super::rows::{ANSWERED, Row};
+use super::runs::{Answer, answer_of, gives, refused};
 use super::streams::{Source, Trouble};
 use std::io::{self, ErrorKind, Read};
 use std::process::Abort;
 use std::sync::Wait;
 use std::thread::Threads;
-use wcp_cli::drive;
 
-/// Runs the program on a reader, and compares what it gives.
-fn gives<R: AllocGlobal + Threads + Wait + Sync + Abort, I: Read>(
+/// What is said where a read fails.
+const UNREAD: &str = "wcpwatch: read\n";
+
+/// Gives a row's text to the program byte by byte, with this trouble.
+fn by_bytes<R: AllocGlobal + Threads + Wait + Sync + Abort>(
     rt: &R,
-    word: &str,
-    input: &mut I,
-    output: &str,
-    errors: &str,
+    row: &Row,
+    trouble: Trouble,
+    answer: Answer,
+    place: usize,
 ) {
-    let mut written = Vec::new(rt.alloc());
-    let mut said = Vec::new(rt.alloc());
-    let words = ["wcpwatch", word];
-    let status = drive(rt, words.as_slice(), input, &mut written, &mut said);
-    assert_eq!(rt; said.as_slice(), errors.as_bytes());
-    assert_eq!(rt; written.as_slice(), output.as_bytes());
-    assert_eq!(rt; status == 2, output.is_empty());
-}
-
-/// A reader of one byte at a time.
-fn by_bytes(row: &Row, trouble: Trouble) -> Source<'static> {
-    Source {
+    let mut input = Source {
         rest: row.text.as_bytes(),
         most: 1,
         trouble,
         reads: 0,
+    };
+    let words = ["wcpwatch", row.word];
+    gives(rt, words.as_slice(), &mut input, answer, row.name, place);
+}
+
+/// A read that is interrupted is made again.
+#[test]
+fn one_byte_at_a_time_is_the_same(rt: HostRuntime) {
+    let interrupted = Trouble::EveryOther(ErrorKind::Interrupted);
+    for row in ANSWERED.iter().chain(REFUSED.iter()) {
+        by_bytes(&rt, row, Trouble::No, answer_of(row), 0);
+        by_bytes(&rt, row, interrupted, answer_of(row), 1);
     }
 }
 
-#[test]
-fn one_byte_at_a_time_is_the_same(rt: HostRuntime) {
-    for row in ANSWERED.iter() {
-        gives(
-            &rt,
-            row.word,
-            &mut by_bytes(row, Trouble::No),
-            row.output,
-            "",
-        );
+/// Lets each read of a row's text fail in turn, that at its end too.
+fn each_read_of<R: AllocGlobal + Threads + Wait + Sync + Abort>(rt: &R, row: &Row) {
+    for read in 0..row.text.len().saturating_add(1) {
+        let failing = Trouble::At(read, ErrorKind::Other);
+        by_bytes(rt, row, failing, refused(UNREAD), read);
     }
 }
 
 #[test]
 fn each_read_may_fail(rt: HostRuntime) {
-    for row in ANSWERED.iter() {
-        for read in 0..row.text.len().saturating_add(1) {
-            let mut failing = by_bytes(row, Trouble::At(read, ErrorKind::Other));
-            gives(&rt, row.word, &mut failing, "", "wcpwatch: read\n");
-            let mut interrupted = by_bytes(row, Trouble::At(read, ErrorKind::Interrupted));
-            gives(&rt, row.word, &mut interrupted, row.output, "");
-        }
+    for row in ANSWERED.iter().chain(REFUSED.iter()) {
+        each_read_of(&rt, row);
     }
 }
 
@@ -71,24 +66,34 @@ fn reads_are_tried_so_often(rt: HostRuntime) {
         trouble: Trouble::Always(ErrorKind::Interrupted),
         reads: 0,
     };
-    gives(&rt, "single", &mut input, "", "wcpwatch: read\n");
+    let words = ["wcpwatch", "single"];
+    let answer = refused(UNREAD);
+    gives(&rt, words.as_slice(), &mut input, answer, "interrupted", 0);
     assert_eq!(rt; input.reads, 4_194_304);
+}
+
+/// A text that is a byte too large is refused before another read, which would fail, and so is a text without an end.
+/// The largest text is read.
+fn large_texts<R: AllocGlobal + Threads + Wait + Sync + Abort>(rt: &R, words: &[&str]) {
+    let mut broken = Source {
+        rest: b"",
+        most: 1,
+        trouble: Trouble::Always(ErrorKind::Other),
+        reads: 0,
+    };
+    let mut large = io::repeat(b'x').take(2_097_153).chain(&mut broken);
+    let too_large = refused("wcpwatch: toolarge\n");
+    gives(rt, words, &mut large, too_large, "a byte too much", 0);
+    let mut endless = io::repeat(b'x');
+    gives(rt, words, &mut endless, too_large, "without an end", 0);
+    let mut full = io::repeat(b'x').take(2_097_152);
+    let header = refused("wcpwatch: line 1: header\n");
+    gives(rt, words, &mut full, header, "the largest text", 0);
 }
 
 #[test]
 fn one_byte_too_much_is_refused_at_once(rt: HostRuntime) {
     for word in READING {
-        let mut broken = Source {
-            rest: b"",
-            most: 1,
-            trouble: Trouble::Always(ErrorKind::Other),
-            reads: 0,
-        };
-        let mut large = io::repeat(b'x').take(2_097_153).chain(&mut broken);
-        gives(&rt, word, &mut large, "", "wcpwatch: toolarge\n");
-        let mut endless = io::repeat(b'x');
-        gives(&rt, word, &mut endless, "", "wcpwatch: toolarge\n");
-        let mut full = io::repeat(b'x').take(2_097_152);
-        gives(&rt, word, &mut full, "", "wcpwatch: line 1: header\n");
+        large_texts(&rt, ["wcpwatch", word].as_slice());
     }
 }

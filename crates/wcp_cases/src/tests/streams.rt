@@ -7,21 +7,18 @@ use std::io::{Error, ErrorKind, Read, Result, Write};
 pub enum Trouble {
     No,
     At(usize, ErrorKind),
+    /// The first call, the third, and so on.
+    EveryOther(ErrorKind),
     Always(ErrorKind),
 }
 
 impl Trouble {
     fn at(self, call: usize) -> Result<()> {
         match self {
-            Trouble::No => Ok(()),
-            Trouble::At(failing, kind) => {
-                if call == failing {
-                    Err(Error::from(kind))
-                } else {
-                    Ok(())
-                }
-            }
+            Trouble::At(failing, kind) if call == failing => Err(Error::from(kind)),
+            Trouble::EveryOther(kind) if call % 2 == 0 => Err(Error::from(kind)),
             Trouble::Always(kind) => Err(Error::from(kind)),
+            _ => Ok(()),
         }
     }
 }

@@ -1,5 +1,6 @@
 //! Output that is taken in pieces, or not taken.
 
+use super::refusals::REFUSED;
 use super::rows::{ANSWERED, Row};
 use super::streams::{Sink, Trouble};
 use std::io::ErrorKind;
@@ -9,7 +10,7 @@ use std::thread::Threads;
 use wcp_cli::drive;
 
 /// What is said where the output isn't taken.
-const REFUSED: &[u8] = b"wcpwatch: write\n";
+const UNWRITTEN: &[u8] = b"wcpwatch: write\n";
 
 /// A writer of so many bytes at a time.
 fn taking(alloc: std::alloc::Global, most: usize, trouble: Trouble) -> Sink {
@@ -46,16 +47,15 @@ fn gives<R: AllocGlobal + Threads + Wait + Sync + Abort>(
 /// A write that is interrupted is made again.
 #[test]
 fn one_byte_at_a_time_is_the_same(rt: HostRuntime) {
+    let interrupted = Trouble::EveryOther(ErrorKind::Interrupted);
     for row in ANSWERED.iter() {
         let whole = row.output.as_bytes();
         let mut output = taking(rt.alloc(), 1, Trouble::No);
         gives(&rt, row, &mut output, Trouble::No, whole, b"", row.status);
         assert_eq!(rt; output.flushes, 1);
-        for write in 0..whole.len() {
-            let trouble = Trouble::At(write, ErrorKind::Interrupted);
-            let mut output = taking(rt.alloc(), 1, trouble);
-            gives(&rt, row, &mut output, Trouble::No, whole, b"", row.status);
-        }
+        let mut output = taking(rt.alloc(), 1, interrupted);
+        gives(&rt, row, &mut output, Trouble::No, whole, b"", row.status);
+        assert_eq!(rt; output.flushes, 1);
     }
 }
 
@@ -66,7 +66,7 @@ fn each_write_may_fail(rt: HostRuntime) {
         for write in 0..whole.len() {
             let mut output = taking(rt.alloc(), 1, Trouble::At(write, ErrorKind::Other));
             let front = &whole[..write];
-            gives(&rt, row, &mut output, Trouble::No, front, REFUSED, 2);
+            gives(&rt, row, &mut output, Trouble::No, front, UNWRITTEN, 2);
         }
     }
 }
@@ -77,7 +77,7 @@ fn the_flush_may_fail(rt: HostRuntime) {
         let whole = row.output.as_bytes();
         let mut output = taking(rt.alloc(), 1, Trouble::No);
         output.flush_trouble = Trouble::At(0, ErrorKind::Other);
-        gives(&rt, row, &mut output, Trouble::No, whole, REFUSED, 2);
+        gives(&rt, row, &mut output, Trouble::No, whole, UNWRITTEN, 2);
     }
 }
 
@@ -86,9 +86,27 @@ fn the_flush_may_fail(rt: HostRuntime) {
 fn a_write_of_nothing_fails(rt: HostRuntime) {
     for row in ANSWERED.iter() {
         let mut output = taking(rt.alloc(), 0, Trouble::No);
-        gives(&rt, row, &mut output, Trouble::No, b"", REFUSED, 2);
+        gives(&rt, row, &mut output, Trouble::No, b"", UNWRITTEN, 2);
         let mut output = taking(rt.alloc(), 0, Trouble::No);
         let trouble = Trouble::Always(ErrorKind::Other);
         gives(&rt, row, &mut output, trouble, b"", b"", 2);
+    }
+}
+
+/// Lets each write of the line that says why a text is refused fail in turn.
+fn each_write_of_errors<R: AllocGlobal + Threads + Wait + Sync + Abort>(rt: &R, row: &Row) {
+    let whole = row.errors.as_bytes();
+    for write in 0..whole.len() {
+        let mut output = taking(rt.alloc(), 1, Trouble::No);
+        let trouble = Trouble::At(write, ErrorKind::Other);
+        gives(rt, row, &mut output, trouble, b"", &whole[..write], 2);
+    }
+}
+
+/// The status stays, and a front of the line was taken.
+#[test]
+fn each_write_of_errors_may_fail(rt: HostRuntime) {
+    for row in REFUSED.iter() {
+        each_write_of_errors(&rt, row);
     }
 }

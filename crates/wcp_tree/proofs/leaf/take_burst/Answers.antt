@@ -1,6 +1,6 @@
 use Rattle.wcp_tree.proofs.Words.{◌≡◌, get_or, set, sym, ◌∙◌, refl, subst, arith, map-set_same, Feed, Outlet, IsLeafAtWork, IsSameOutlet}
 use Rattle.std.proofs.lemmas.Result.{err_from_is_err_and}
-use Rattle.wcp_tree.proofs.Fed.{fed-gap, processes-set}
+use Rattle.wcp_tree.proofs.Fed.{fed-gap, processes-set, rings_at_gap}
 use Rattle.wcp_tree.proofs.Faithful.{only_none}
 use Rattle.wcp_tree.proofs.Passing.{if_none}
 use Rattle.wcp_tree.proofs.LeafWork.{if_some, leaf_owned, leaf_next, leaf_taken, leaf_quiet}
@@ -74,3 +74,10 @@ loop-preserved g c =
       );
       outlet = both.1;
     }
+
+pub returns-in_err-item-clause-rings : goal.returns-in_err-item-clause-rings
+returns-in_err-item-clause-rings g c =
+    let p = err_from_is_err_and c.from_residual.result c.from_residual.ensures.1 in
+    let came = rings_at_gap c.loop.feeds c.args.place c.take.new.self c.index-feeds-place.result (omega arith)
+    c.loop.invariant.work.apart c.loop.invariant.work.in_order c.in_err-item.ensures.same.0 c.in_err-item.ensures.ring in
+    rw p.1 (rw (p.2 ∙ c.in_err-item.ensures.gap.0) came)

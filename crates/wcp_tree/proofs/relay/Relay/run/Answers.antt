@@ -1,5 +1,5 @@
-use Rattle.wcp_tree.proofs.Words.{None, sym, subst, IsPrefix, Item, PutEnd, Bundle, Outlet, Source, items_of, source_taken, taken_in}
-use Rattle.wcp_tree.proofs.Ending.{starts, put_front, ended_front, end_taken}
+use Rattle.wcp_tree.proofs.Words.{None, sym, ◌∙◌, subst, IsPrefix, Item, PutEnd, Bundle, Outlet, Source, items_of, source_taken, taken_in}
+use Rattle.wcp_tree.proofs.Ending.{starts, put_front, ended_front, end_taken, end_from_rings, no_gap}
 use Rattle.wcp_tree.proofs.relay.Relay.run.Goals as goal
 
 pub run-met-requires : goal.run-met-requires
@@ -20,3 +20,11 @@ returns-clause-front g c p =
     let front = put_front outlet (source_taken c.run-met.new.self p) p (ended_front c.run-met.new.self outlet c.run-met.result c.run-met.ensures.ended p) in
     subst (λ (o : Outlet). IsPrefix (items_of p o.putter.put) (source_taken c.of.result.value p)) (sym c.of-2.ensures)
     (subst (λ (s : Source). IsPrefix (items_of p outlet.putter.put) (source_taken s p)) (sym c.of.ensures) front)
+
+pub returns-in_default-clause-rings : goal.returns-in_default-clause-rings
+returns-in_default-clause-rings g c =
+    end_from_rings c.run-met.new.self c.end.result c.args.self.parent c.end-in_default.result c.run-met.result
+    c.end.ensures (no_gap c.run-met.new.outlet.cut c.run-met.result (sym c.first_fault.ensures ∙ c.in_default.is)) c.run-met.ensures.rings
+
+pub returns-clause-rings : goal.returns-clause-rings
+returns-clause-rings g c = rw (c.of.ensures, c.of-3.ensures) c.run-met.ensures.rings

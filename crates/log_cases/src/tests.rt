@@ -1,0 +1,5 @@
+mod cuts;
+mod faults;
+mod forms;
+mod numbers;
+mod reading;

@@ -1,0 +1,152 @@
+use crate::tests::reading::read_log;
+use FaultKind::{Clock, Falls, Order, Own, Text};
+use std::test::Fail;
+use wcp_log::{FaultKind, Form, LogFault};
+
+type Row = (&'static [u8], u64, FaultKind);
+
+/// Logs of one JSON object a line, and the fault of each.
+const LINES: &[Row] = &[
+    (b"asks", 1, Text),
+    (b"[]", 1, Text),
+    (b"{}", 1, Text),
+    (
+        b"{\"host\":\"a\",\"clock\":{\"a\":1},\"event\":\"x\"",
+        1,
+        Text,
+    ),
+    (
+        b"{\"host\":\"a\",\"clock\":{\"a\":1},\"event\":\"\xff\"}",
+        1,
+        Text,
+    ),
+    (b"{\"host\":\"a\",\"clock\":{\"a\":1},\"event\":2}", 1, Text),
+    (
+        b"{\"host\":null,\"clock\":{\"a\":1},\"event\":\"x\"}",
+        1,
+        Text,
+    ),
+    (
+        b"{\"host\":\"a\",\"clock\":{\"a\":01},\"event\":\"x\"}",
+        1,
+        Text,
+    ),
+    // what isn't an event comes before its clock
+    (b"{\"host\":\"a\",\"clock\":{\"a\":1,\"a\":1}}", 1, Text),
+    (b"{\"host\":\"a\",\"event\":\"x\"}", 1, Clock),
+    (b"{\"host\":\"a\",\"clock\":[1],\"event\":\"x\"}", 1, Clock),
+    (
+        b"{\"host\":\"a\",\"clock\":{\"a\":\"1\"},\"event\":\"x\"}",
+        1,
+        Clock,
+    ),
+    (
+        b"{\"host\":\"a\",\"clock\":{\"a\":1,\"a\":2},\"event\":\"x\"}",
+        1,
+        Clock,
+    ),
+    (
+        b"{\"host\":\"a\",\"host\":\"a\",\"clock\":{\"a\":1},\"event\":\"x\"}",
+        1,
+        Clock,
+    ),
+    (
+        b"{\"host\":\"a\",\"clock\":{\"a\":1,\"\\u0061\":1},\"event\":\"x\"}",
+        1,
+        Clock,
+    ),
+    // a clock that is none comes before the host's own number
+    (
+        b"{\"host\":\"a\",\"clock\":{\"b\":-1},\"event\":\"x\"}",
+        1,
+        Clock,
+    ),
+    (b"{\"host\":\"a\",\"clock\":{},\"event\":\"x\"}", 1, Own),
+    (
+        b"{\"host\":\"a\",\"clock\":{\"a\":0,\"b\":1},\"event\":\"x\"}",
+        1,
+        Own,
+    ),
+    (
+        b"{\"host\":\"a\",\"clock\":{\"a\":2},\"event\":\"x\"}\n{\"host\":\"a\",\"clock\":{\"a\":2},\"event\":\"x\"}",
+        2,
+        Order,
+    ),
+    // of a restart the own number is said first
+    (
+        b"{\"host\":\"a\",\"clock\":{\"a\":2,\"b\":2},\"event\":\"x\"}\n{\"host\":\"a\",\"clock\":{\"a\":1},\"event\":\"x\"}",
+        2,
+        Order,
+    ),
+    (
+        b"{\"host\":\"a\",\"clock\":{\"a\":1,\"b\":2},\"event\":\"x\"}\n{\"host\":\"a\",\"clock\":{\"a\":2},\"event\":\"x\"}",
+        2,
+        Falls,
+    ),
+    (
+        b"{\"host\":\"a\",\"clock\":{\"a\":1,\"b\":2},\"event\":\"x\"}\n{\"host\":\"a\",\"clock\":{\"b\":1,\"a\":2},\"event\":\"x\"}",
+        2,
+        Falls,
+    ),
+];
+
+/// Logs with two lines for each event, and the fault of each.
+const PAIRS: &[Row] = &[
+    (b"a\nx", 1, Text),
+    (b"a {\"a\":1}", 1, Text),
+    (b"a {\"a\":1}\nx\nb {\"b\":1}", 3, Text),
+    (b"a {\"a\":1}\n\xff", 2, Text),
+    (b"a {\"a\":1} x\nx", 1, Clock),
+    (b"a  b {\"a\":1}\nx", 1, Clock),
+    (b"a {\"a\":1,\"a\":1}\nx", 1, Clock),
+    (b" {\"a\":1}\nx", 1, Own),
+    (b"a {\"b\":1}\nx", 1, Own),
+    (b"a {\"a\":1}\nx\na {\"a\":1}\nx", 3, Order),
+    (b"a {\"a\":1,\"b\":2}\nx\na {\"a\":2,\"b\":1}\nx", 3, Falls),
+];
+
+#[test]
+fn each_fault_with_its_line(rt: HostRuntime) -> Result<(), Fail> {
+    for (form, rows) in [(Form::Lines, LINES), (Form::Shiviz, PAIRS)] {
+        for (bytes, line, kind) in rows {
+            let found = read_log(rt.alloc(), form, bytes)?;
+            let fault = LogFault {
+                line: *line,
+                kind: *kind,
+            };
+            assert!(rt; found.fault == Some(fault), "{line} {kind}");
+        }
+    }
+    Ok(())
+}
+
+#[test]
+fn faults_of_the_reverse(rt: HostRuntime) -> Result<(), Fail> {
+    for (bytes, line, kind) in [
+        (b"x\n\xff".as_slice(), 2, Text),
+        (b"x".as_slice(), 1, Text),
+        (b"\xff\na {\"a\":1}".as_slice(), 1, Text),
+        (b"x\na {\"a\":1}\nx\na {\"a\":1}".as_slice(), 4, Order),
+    ] {
+        let found = read_log(rt.alloc(), Form::ShivizReversed, bytes)?;
+        assert!(rt;
+            found.fault == Some(LogFault { line, kind }),
+            "{line} {kind}"
+        );
+    }
+    Ok(())
+}
+
+#[test]
+fn what_is_no_fault(rt: HostRuntime) -> Result<(), Fail> {
+    for bytes in [
+        // a number of 0 may go missing, and numbers may be left out
+        b"a {\"a\":1,\"b\":0}\nx\na {\"a\":7}\ny".as_slice(),
+        // hosts in any order, names in any order
+        b"a {\"a\":1,\"b\":2}\nx\nb {\"b\":1}\nx\na {\"b\":2,\"a\":2}\nx\nb {\"c\":5,\"b\":9}\nx".as_slice(),
+    ] {
+        let found = read_log(rt.alloc(), Form::Shiviz, bytes)?;
+        assert!(rt; found.fault.is_none());
+    }
+    Ok(())
+}

@@ -1,0 +1,257 @@
+//! Runs in each of which some process is lost somewhere. The report is that of a checker that took the notes that were
+//! put, which is a cut or undecided.
+ghost use Rattle.std.specs.Prelude.{◌<◌, IfOk};
+ghost use Rattle.wcp_model.specs.PlanFault.{IsCheckedPlan};
+ghost use Rattle.wcp_watch.specs.CheckerEnds.{IsFreshFor};
+
+use super::watches::open;
+use std::alloc::{AllocError, Global};
+use std::process::Abort;
+use std::sync::{Mutex, Wait};
+use std::test::Fail;
+use std::thread::{Threads, join, map_vec};
+use wcp_book::Book;
+use wcp_clock::{CLOCK_LIMIT, Item, Note};
+use wcp_model::{Parent, Plan, ProbeSetup, Report};
+use wcp_probe::ProbeCore;
+use wcp_queue::Checker;
+use wcp_tree::{LiveProbe, Relay, RelayFault, Watch};
+use wcp_watch::{CheckFault, CheckerEnd, check_loop};
+
+/// How many runs there are.
+const RUNS: u64 = 1_000;
+
+const PROCESSES: u32 = 3;
+
+/// The processes make fewer calls than this before one of them is lost, and again afterwards: there is room in each
+/// link for all that they emit.
+const CALLS: u32 = 12;
+
+/// Numbers drawn by a linear congruential generator, with the factor and the increment of Knuth's MMIX.
+#[derive(Drop)]
+struct Draws {
+    state: u64,
+}
+
+impl Draws {
+    /// The next number, which is below this one.
+    fn below(&mut self, bound: u32) -> u32
+        requires { 0 < bound }
+        ensures { result < bound }
+    {
+        let product = self.state.wrapping_mul(6_364_136_223_846_793_005);
+        self.state = product.wrapping_add(1_442_695_040_888_963_407);
+        ((self.state >> 33) % u64::from(bound)) as u32
+    }
+}
+
+/// The probe of a process, and beside it a core that makes the same calls, which shows the notes.
+#[derive(Drop)]
+struct Twin {
+    probe: LiveProbe,
+    core: ProbeCore,
+}
+
+/// What the processes of a run do: any of them may make the next call.
+#[derive(Drop)]
+struct Play {
+    draws: Draws,
+    /// The processes that weren't lost yet.
+    twins: Vec<Twin>,
+    /// It takes each note as it is put.
+    checker: Checker,
+}
+
+/// Gives the checker the next note of a process.
+fn give(rt: &impl Abort, checker: &mut Checker, from: u32, note: Note) -> Result<(), AllocError> {
+    assert!(rt; from < checker.processes());
+    assert!(rt; !checker.closed(from) && !checker.lost(from));
+    let place = note.place();
+    assert_eq!(rt; u64::from(place), checker.taken(from));
+    match checker.take(Item { from, note }) {
+        Ok(()) => Ok(()),
+        Err((error, _)) => Err(error),
+    }
+}
+
+impl Play {
+    /// The run of this number, with these probes.
+    fn new(
+        rt: &impl Abort,
+        alloc: Global,
+        number: u64,
+        probes: Vec<LiveProbe>,
+    ) -> Result<Play, AllocError> {
+        let mut twins = Vec::new(alloc);
+        for probe in probes {
+            let process = probe.id();
+            assert!(rt; process < PROCESSES);
+            let setup = ProbeSetup {
+                processes: PROCESSES,
+                process,
+            };
+            let core = ProbeCore::new(7, setup, CLOCK_LIMIT);
+            twins.push(Twin { probe, core })?;
+        }
+        Ok(Play {
+            draws: Draws { state: number },
+            twins,
+            checker: Checker::new(alloc, PROCESSES)?,
+        })
+    }
+
+    /// The process at this place observes that its condition holds.
+    fn observe(&mut self, rt: &(impl Abort + Wait), place: usize) -> Result<(), AllocError> {
+        let Some(twin) = self.twins.get_mut(place) else {
+            return Ok(());
+        };
+        twin.probe.observe(true);
+        twin.probe.flush_waiting(rt);
+        let _ = twin.core.observe(true);
+        let Some(note) = twin.core.pending() else {
+            return Ok(());
+        };
+        twin.core.was_put();
+        give(rt, &mut self.checker, twin.probe.id(), note)
+    }
+
+    /// The process at one place sends a message, which that at another receives. `None` where one of them refuses it.
+    fn send(&mut self, from: usize, to: usize) -> Option<()> {
+        let receiver = self.twins.get(to)?.probe.id();
+        let sender = self.twins.get_mut(from)?;
+        let message = sender.core.stamp(receiver, ()).ok()?;
+        let message = sender.probe.stamp(receiver, message).ok()?;
+        let receiver = self.twins.get_mut(to)?;
+        let message = receiver.probe.receive(message).ok()?;
+        receiver.core.receive(message).ok()
+    }
+
+    /// One of so many processes makes a call.
+    fn call(&mut self, rt: &(impl Abort + Wait), processes: u32) -> Result<(), AllocError>
+        requires { 0 < processes }
+    {
+        let place = self.draws.below(processes) as usize;
+        if self.draws.below(3) == 0 {
+            return self.observe(rt, place);
+        }
+        let to = self.draws.below(processes) as usize;
+        let _ = self.send(place, to);
+        Ok(())
+    }
+
+    /// So many processes make some calls.
+    fn go_on(&mut self, rt: &(impl Abort + Wait), processes: u32) -> Result<(), AllocError>
+        requires { 0 < processes }
+    {
+        let calls = self.draws.below(CALLS);
+        for _ in 0..calls {
+            self.call(rt, processes)?;
+        }
+        Ok(())
+    }
+
+    /// Some process is lost: its number.
+    fn lose(&mut self) -> Option<u32> {
+        let place = self.draws.below(PROCESSES) as usize;
+        if place >= self.twins.len() {
+            return None;
+        }
+        let lost = self.twins.remove(place);
+        Some(lost.probe.id())
+    }
+
+    /// The whole run: which process was lost, and what the notes tell that were put.
+    fn run(mut self, rt: &(impl Abort + Wait)) -> Result<(Option<u32>, Report), AllocError> {
+        self.go_on(rt, PROCESSES)?;
+        let lost = self.lose();
+        self.go_on(rt, PROCESSES - 1)?;
+        for twin in self.twins {
+            drop(twin.probe.close_waiting(rt));
+        }
+        Ok((lost, self.checker.report()))
+    }
+}
+
+/// Three processes under two leaves, which are under another relay.
+fn two_leaves(rt: &impl Abort, alloc: Global) -> Result<Plan, AllocError>
+    ensures { IfOk result IsCheckedPlan }
+{
+    let parents = vec![in alloc; Parent::Root, Parent::Relay(0), Parent::Relay(0)]?;
+    let attach = vec![in alloc; Some(1), Some(1), Some(2)]?;
+    let plan = Plan::new(PROCESSES, 32, 4, parents, attach);
+    assert!(rt; plan.check().is_ok());
+    Ok(plan)
+}
+
+/// What is left of a run.
+#[derive(Drop)]
+struct Left {
+    checker: CheckerEnd,
+    relays: Vec<Option<RelayFault>>,
+    lost: Option<u32>,
+    told: Report,
+}
+
+/// The run of this number: the processes in one thread, and each relay and the checker's loop in one of its own.
+fn run_drawn<R: Threads + Wait + Abort + Sync>(
+    rt: &R,
+    alloc: Global,
+    number: u64,
+) -> Result<Left, AllocError> {
+    let plan = two_leaves(rt, alloc)?;
+    let (watch, checker) = open(alloc, &plan)?;
+    let Watch {
+        probes,
+        relays,
+        inbox,
+    } = watch;
+    let play = Play::new(rt, alloc, number, probes)?;
+    let book = Mutex::new(Book::new(PROCESSES));
+    let (checker, (relays, played)) = join(
+        rt,
+        || -> CheckerEnd
+            requires { IsFreshFor inbox checker }
+        { check_loop(rt, inbox, checker, &book) },
+        || {
+            join(
+                rt,
+                || map_vec(rt, relays, &|relay: Relay| relay.run(rt).fault()),
+                || play.run(rt),
+            )
+        },
+    );
+    let (lost, told) = played?;
+    Ok(Left {
+        checker,
+        relays: relays?,
+        lost,
+        told,
+    })
+}
+
+#[test]
+fn each_run_of_a_thousand_ends_where_a_process_is_lost(rt: HostRuntime) -> Result<(), Fail> {
+    let mut found = 0u64;
+    for number in 0..RUNS {
+        let left = run_drawn(&rt, rt.alloc(), number)?;
+        let lost = left.lost.map(CheckFault::Lost);
+        assert_eq!(rt;
+            (left.checker.report(), left.checker.fault()),
+            (left.told, lost),
+            "run {number}"
+        );
+        assert!(rt;
+            left.told != Report::Nothing && lost.is_some(),
+            "run {number}"
+        );
+        assert!(rt;
+            left.relays.iter().all(|fault| fault.is_none()),
+            "run {number}"
+        );
+        if left.told != Report::Undecided {
+            found = found.wrapping_add(1);
+        }
+    }
+    assert!(rt; (100..RUNS - 100).contains(&found), "{found} cuts");
+    Ok(())
+}

@@ -1,0 +1,119 @@
+//! Probes that put a note and are dropped between two looks of their leaf at their rings.
+use super::threads::{Arrival, take_all};
+use std::alloc::{AllocError, Global};
+use std::sync::Wait;
+use std::test::Fail;
+use std::thread::{Threads, join, map_vec};
+use std::time::{Clock, Duration, Instant};
+use wcp_lane::Taker;
+use wcp_model::plain_plan;
+use wcp_tree::{Bundle, LiveProbe, Relay, Watch, watch};
+
+/// How many watches race at once, each in two threads: more than there are processors, so that now and then a leaf is
+/// stopped between its looks at a ring.
+const WATCHES: u32 = 4;
+
+/// For how many milliseconds they race, again and again.
+const WHILE: u64 = 1_000;
+
+const ROUNDS: u32 = 10_000;
+
+const PROCESSES: u32 = 16;
+
+/// How many snapshots process 0 emits at most.
+const SNAPSHOTS: u32 = 20_000;
+
+/// How often it is tried to put one: a leaf that runs makes room sooner.
+const TRIES: u32 = 1_000;
+
+/// Puts what is pending, unless the leaf is stopped. Whether it was put.
+fn put_soon(probe: &mut LiveProbe) -> bool {
+    for _ in 0..TRIES {
+        if probe.flush() {
+            return true;
+        }
+    }
+    false
+}
+
+/// Emits snapshots until the leaf is stopped, which leaves the ring full, and takes what comes meanwhile.
+fn emit_until_stopped(rt: &impl Wait, probe: &mut LiveProbe, taker: &mut Taker<Bundle>) {
+    for _ in 0..SNAPSHOTS {
+        probe.observe(true);
+        if !put_soon(probe) {
+            return;
+        }
+        let _ = probe.stamp(1, ());
+        let _ = taker.try_take(rt);
+    }
+}
+
+/// Process 0 keeps the leaf at work. Once the leaf is stopped each other process emits one snapshot, and all are lost.
+fn emit_and_drop(
+    rt: &impl Wait,
+    probes: Vec<LiveProbe>,
+    mut taker: Taker<Bundle>,
+) -> Taker<Bundle> {
+    for mut probe in probes {
+        if probe.id() == 0 {
+            emit_until_stopped(rt, &mut probe, &mut taker);
+        } else {
+            probe.observe(true);
+            probe.flush();
+        }
+    }
+    taker
+}
+
+/// Whether of each process but process 0 its snapshot came, and then the mark that it was lost.
+fn all_come<R: Threads + Wait + Sync>(rt: &R, watch: Watch) -> bool {
+    let Watch {
+        probes,
+        mut relays,
+        inbox,
+    } = watch;
+    let Some(leaf) = relays.pop() else {
+        return false;
+    };
+    let taker = inbox.into_taker();
+    let (fault, taker) = join(
+        rt,
+        || leaf.run(rt).fault(),
+        || emit_and_drop(rt, probes, taker),
+    );
+    let arrivals = take_all(rt, taker, PROCESSES);
+    fault.is_none()
+        && arrivals
+            .iter()
+            .skip(1)
+            .all(|arrival| *arrival == Arrival::Lost(1))
+}
+
+fn open_watches(alloc: Global) -> Result<Vec<Watch>, AllocError> {
+    let plan = plain_plan(alloc, PROCESSES, 128, 64)?;
+    let mut watches = Vec::new(alloc);
+    for _ in 0..WATCHES {
+        watches.push(watch(alloc, &plan, 7)?)?;
+    }
+    Ok(watches)
+}
+
+#[test]
+fn what_a_process_puts_before_it_is_lost_comes(rt: HostRuntime) -> Result<(), Fail> {
+    let start = Instant::now(&rt)?;
+    let mut failed = 0u32;
+    for _ in 0..ROUNDS {
+        let watches = open_watches(rt.alloc())?;
+        let came = map_vec(&rt, watches, &|watch: Watch| all_come(&rt, watch))?;
+        for came in came {
+            if !came {
+                failed = failed.wrapping_add(1);
+            }
+        }
+        if start.elapsed(&rt)? > Duration::from_millis(WHILE) {
+            break;
+        }
+    }
+    assert_eq!(rt; failed, 0);
+    Ok(())
+}

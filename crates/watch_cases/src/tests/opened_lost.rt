@@ -1,0 +1,119 @@
+//! Watches whose threads are run here, and of which process 0 may be lost.
+ghost use Rattle.std.specs.Prelude.{◌≡◌, Some};
+
+use super::lost::Member;
+use std::alloc::Global;
+use std::marker::Brand;
+use std::sync::{Mutex, Wait};
+use std::test::Fail;
+use std::thread::{Threads, join};
+use wullaphi::{
+    GlobalCut, Opening, Plan, Report, SettleFault, Watch, WatchFault, WatchParts, WatchProbe,
+    WatchProbeEnd, plain_plan,
+};
+
+/// What the checker's end tells, and why the ends aren't settled.
+#[derive(Clone, Copy, Debug, PartialEq, Eq)]
+struct Told {
+    report: Report,
+    lost: Option<u32>,
+    fault: Option<SettleFault>,
+}
+
+/// Runs a member with this probe, or drops the probe in place of that.
+fn run_member<W: Opening, R: Wait>(
+    rt: &R,
+    probe: WatchProbe<W>,
+    member: Option<Member>,
+) -> Option<WatchProbeEnd<W>> {
+    let (_, end) = probe.run_or_lose(rt, member?, &());
+    end
+}
+
+/// Runs a watch of two processes in threads: this member is process 0, and process 1 does its part.
+fn watched<W: Opening + Send + Sync, R: Threads + Wait + Sync>(
+    rt: &R,
+    alloc: Global,
+    watch: Watch,
+    member: Option<Member>,
+) -> Result<Told, WatchFault>
+    requires { W.opened ≡ Some watch }
+{
+    let book = Mutex::new(watch.book());
+    let WatchParts {
+        mut probes,
+        mut relays,
+        checker,
+        mut ends,
+    } = watch.parts::<W>(alloc)?;
+    let (Some(second), Some(first), Some(relay)) = (probes.pop(), probes.pop(), relays.pop()) else {
+        return Err(WatchFault::Count);
+    };
+    let (checker, (relay, (first, second))) = join(
+        rt,
+        || checker.run(rt, &book),
+        move || {
+            relay.run_beside(rt, move || {
+                join(
+                    rt,
+                    move || run_member(rt, first, member),
+                    move || run_member(rt, second, Some(Member::Whole)),
+                )
+            })
+        },
+    );
+    for end in [first, second] {
+        if let Some(end) = end {
+            ends.add_probe(end)?;
+        }
+    }
+    ends.add_relay(relay)?;
+    let (report, lost) = (checker.report(), checker.lost());
+    ends.add_checker(checker);
+    let fault = ends.settle(book.into_inner()).err();
+    Ok(Told {
+        report,
+        lost,
+        fault,
+    })
+}
+
+/// Opens a watch of this plan, and runs it here.
+fn opened<R: Threads + Wait + Sync>(
+    rt: &R,
+    alloc: Global,
+    plan: &Plan,
+    member: Option<Member>,
+) -> Result<Told, WatchFault> {
+    let watch = Watch::open(alloc, plan, 1)?;
+    watched::<Brand, R>(rt, alloc, watch, member)
+}
+
+/// The report where this member is process 0, which says whether it was lost.
+fn assert_told(
+    rt: &HostRuntime,
+    plan: &Plan,
+    member: Option<Member>,
+    report: Report,
+    lost: Option<u32>,
+) -> Result<(), Fail> {
+    let told = opened(rt, rt.alloc(), plan, member)?;
+    let fault = lost.map(|_| SettleFault::Missing);
+    let expected = Told {
+        report,
+        lost,
+        fault,
+    };
+    assert_eq!(rt; told, expected, "{member:?}");
+    Ok(())
+}
+
+#[test]
+fn a_lost_process_of_threads_of_ones_own_has_no_end(rt: HostRuntime) -> Result<(), Fail> {
+    let plan = plain_plan(rt.alloc(), 2, 8, 4)?;
+    let found = Report::Found(GlobalCut::new(&[0, 0]));
+    assert_told(&rt, &plan, Some(Member::Whole), found, None)?;
+    assert_told(&rt, &plan, Some(Member::Lost), found, Some(0))?;
+    assert_told(&rt, &plan, Some(Member::Absent), Report::Undecided, Some(0))?;
+    assert_told(&rt, &plan, None, Report::Undecided, Some(0))
+}

@@ -1,0 +1,11 @@
+use Rattle.std.proofs.Common.{◌≡◌, drop}
+use Rattle.json.specs.Value.{members_view}
+use Rattle.wcp_log.specs.Clock.{clock_of}
+use Rattle.wcp_log.specs.Views.{seen_clock}
+use Rattle.wcp_log.proofs.Clocks.{with_front}
+use Rattle.wcp_log.proofs.clock.clock_of.Given as goal
+
+abbrev pub invariant-loop-member : goal.invariant-loop-member
+invariant-loop-member l =
+    with_front (seen_clock l.clock.items) (clock_of (members_view (drop l.member-index l.members)))
+    ≡ clock_of (members_view l.members)

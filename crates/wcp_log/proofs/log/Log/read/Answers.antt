@@ -1,0 +1,13 @@
+use Rattle.std.proofs.Common.{refl, arith}
+use Rattle.wcp_log.proofs.Turning.{reads_turn, reads_fault}
+use Rattle.wcp_log.proofs.log.Log.read.Goals as goal
+
+pub returns-in-Ok : goal.returns-in-Ok
+returns-in-Ok c = λ form so_far read.
+    let said = rw (c.take-half.ensures.value, c.in-Ok.is) at (c.turn-half.ensures so_far.events read.keeps) in
+    reads_turn form so_far c.args.self.now _ c.args.line.now c.in-Ok.logged read (omega arith) said.0 said.1 refl refl
+
+pub returns-in-Err : goal.returns-in-Err
+returns-in-Err c = λ form so_far read.
+    let said = rw (c.take-half.ensures.value, c.in-Err.is) at (c.turn-half.ensures so_far.events read.keeps) in
+    rw c.fault_at.ensures (reads_fault c.in-Err.fault form so_far c.args.self.now _ c.args.line.now read (omega arith) said.0 said.1 said.2 refl refl)

@@ -1,0 +1,6 @@
+use Rattle.std.proofs.Common.{◌≡◌, take}
+use Rattle.wcp_log.specs.Views.{seen_clock}
+use Rattle.wcp_log.proofs.order.copied.Given as goal
+
+abbrev pub invariant-loop-one : goal.invariant-loop-one
+invariant-loop-one l = seen_clock l.copy.items ≡ seen_clock (take l.one-index l.clock)

@@ -1,0 +1,7 @@
+use Rattle.std.proofs.Common.{◌≡◌, false, take}
+use Rattle.wcp_log.specs.Order.{falls}
+use Rattle.wcp_log.specs.Views.{seen_clock}
+use Rattle.wcp_log.proofs.order.falls.Given as goal
+
+abbrev pub invariant-loop-one : goal.invariant-loop-one
+invariant-loop-one l = falls (seen_clock (take l.one-index l.earlier)) (seen_clock l.later) ≡ false

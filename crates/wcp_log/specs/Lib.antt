@@ -1,0 +1,9 @@
+pub mod Judgement
+pub mod Clock
+pub mod Event
+pub mod Order
+pub mod Views
+pub mod Kept
+pub mod Log
+pub mod Turns
+pub mod State

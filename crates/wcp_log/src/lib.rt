@@ -1,0 +1,25 @@
+//! The events of a log with vector clocks, read line by line as it comes in.
+//!
+//! What is proved. `Log::read`: after the lines so far, an event is answered exactly where the next line ends one, and
+//! it is the one that the lines spell: its host, its clock member by member, its text and the number of the text's
+//! line; a fault is answered exactly where the line has it and none before it in their order, with the line's number.
+//! Events, faults and their order are said by one definition (`next_turn` in `specs/Log.antt`). A host's clock is
+//! judged after that of its event before. After a fault, or where memory runs out, the log is as before. `Log::end`: a
+//! fault exactly where the second line of an event is missing. `number_of`: the number of a host in a clock.
+#![tactic(auto)]
+
+mod clock;
+mod event;
+mod fault;
+mod line;
+mod log;
+mod number;
+mod order;
+mod stamp;
+mod turn;
+
+pub use event::{Event, Member, number_of};
+pub use fault::{FaultKind, LogFault, ReadFault};
+pub use line::MAX_LINE;
+pub use log::Log;
+pub use turn::{Form, Logged};
