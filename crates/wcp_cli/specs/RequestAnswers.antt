@@ -62,7 +62,7 @@ ring_text n rounds fault = opening_text n ++ flat_map task_line (ring_tasks n ro
 -- The answer to a request for the version: the program's name and version, and the toolchain that it is proved with,
 -- a line each.
 abbrev pub version_text : List ℕ
-version_text = codes "wcpwatch 0.1.0" ++ line_feed ∷ codes "rattle-kit-13b logic dac8208d650f15bf" ++ line_feed ∷ []
+version_text = codes "wcpwatch 0.1.0" ++ line_feed ∷ codes "rattle-kit-13f logic dac8208d650f15bf" ++ line_feed ∷ []
 
 -- The text is the whole input, and no longer than a text may be.
 pub record IsInput (input input_after : Known) (text : List ℕ) : Type 0 where

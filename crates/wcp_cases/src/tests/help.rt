@@ -5,7 +5,7 @@ use wcp_cli::drive;
 
 const TEXT: &[u8] = b"wcp 1\nprocs 1\np 0 true\n";
 
-const VERSION: &[u8] = b"wcpwatch 0.1.0\nrattle-kit-13b logic dac8208d650f15bf\n";
+const VERSION: &[u8] = b"wcpwatch 0.1.0\nrattle-kit-13f logic dac8208d650f15bf\n";
 
 #[test]
 fn other_words_are_refused(rt: HostRuntime) {
