@@ -1,0 +1,79 @@
+"""Logs with vector clocks, made by hosts that send each other messages. Each event counts itself in the host's own number."""
+import json
+import random
+
+
+class Host:
+    def __init__(self, name):
+        self.name = name
+        self.clock = {}
+        self.inbox = []
+
+    def event(self, text, known=None):
+        """An event of the host, which may have got a message: (host, clock, text)."""
+        for name, number in (known or {}).items():
+            self.clock[name] = max(self.clock.get(name, 0), number)
+        self.clock[self.name] = self.clock.get(self.name, 0) + 1
+        return self.name, dict(self.clock), text
+
+
+def events(rng, names, turns, words):
+    """So many events, in the order in which they happened."""
+    hosts = [Host(name) for name in names]
+    for _ in range(turns):
+        host = rng.choice(hosts)
+        word = rng.choice(words)
+        if host.inbox and rng.random() < 0.5:
+            yield host.event("gets a message, " + word, host.inbox.pop(rng.randrange(len(host.inbox))))
+        elif len(hosts) > 1 and rng.random() < 0.5:
+            sent = host.event("sends a message, " + word)
+            rng.choice([other for other in hosts if other is not host]).inbox.append(sent[1])
+            yield sent
+        else:
+            yield host.event(word)
+
+
+def without_some(rng, log, share):
+    """What a logger keeps that loses this share of the events."""
+    return [event for event in log if rng.random() >= share]
+
+
+def in_other_order(rng, log):
+    """The events of each host in their order, those of different hosts in any."""
+    queues = {}
+    for event in log:
+        queues.setdefault(event[0], []).append(event)
+    mixed = []
+    while queues:
+        name = rng.choice(sorted(queues))
+        mixed.append(queues[name].pop(0))
+        if not queues[name]:
+            del queues[name]
+    return mixed
+
+
+def text_of(form, log):
+    """The log in one of the forms."""
+    lines = []
+    for host, clock, text in log:
+        if form == "lines":
+            lines.append(json.dumps({"host": host, "clock": clock, "event": text}))
+        else:
+            pair = [host + " " + json.dumps(clock), text]
+            lines += pair if form == "shiviz" else pair[::-1]
+    return "".join(line + "\n" for line in lines)
+
+
+def main():
+    """python3 bench/trace_logs.py HOSTS EVENTS: a log in the form `shiviz`; a host holds a lease at one event of forty."""
+    import sys
+
+    hosts, turns = int(sys.argv[1]), int(sys.argv[2])
+    rng = random.Random(1)
+    words = ["holds the lease"] + ["works on item %d" % item for item in range(39)]
+    for event in events(rng, ["host%d" % number for number in range(hosts)], turns, words):
+        sys.stdout.write(text_of("shiviz", [event]))
+
+
+if __name__ == "__main__":
+    main()
