@@ -1,64 +1,96 @@
 use std::alloc::{AllocError, Global};
+use std::process::Abort;
 use std::test::Fail;
 use wcp_model::plain_plan;
-use wcp_probe::Refusal;
+use wcp_probe::{Refusal, Stamped};
 use wcp_tree::{LiveProbe, watch};
 
-/// The probes of two processes of a watch of this number, the second first.
-fn two_probes(alloc: Global, number: u64) -> Result<Vec<LiveProbe>, AllocError> {
+/// The two probes of a watch.
+#[derive(Drop)]
+struct Pair {
+    first: LiveProbe,
+    second: LiveProbe,
+}
+
+/// The probes of two processes of a watch of this number.
+fn two_probes(rt: &impl Abort, alloc: Global, number: u64) -> Result<Pair, AllocError> {
     let plan = plain_plan(alloc, 2, 8, 4)?;
-    Ok(watch(alloc, &plan, number)?.probes)
+    let mut probes = watch(alloc, &plan, number)?.probes;
+    let second = probes.pop().expect(rt, "a probe");
+    let first = probes.pop().expect(rt, "a probe");
+    Ok(Pair { first, second })
+}
+
+/// A message of the first process to the second.
+fn message(rt: &impl Abort, pair: &mut Pair, value: u32) -> Stamped<u32> {
+    pair.first.stamp(1, value).ok().expect(rt, "a message")
+}
+
+/// The message, once this probe has refused it so.
+fn refused(
+    rt: &impl Abort,
+    probe: &mut LiveProbe,
+    message: Stamped<u32>,
+    expected: Refusal,
+) -> Stamped<u32> {
+    let (refusal, message) = probe.receive(message).err().expect(rt, "a refusal");
+    assert_eq!(rt; refusal, expected);
+    message
+}
+
+/// The second process takes the message, which brings this value.
+fn taken(rt: &impl Abort, pair: &mut Pair, message: Stamped<u32>, value: u32) {
+    assert_eq!(rt; pair.second.receive(message).ok(), Some(value));
+}
+
+#[test]
+fn no_stamp_is_for_the_process_itself_or_for_one_that_is_not_there(
+    rt: HostRuntime,
+) -> Result<(), Fail> {
+    let mut pair = two_probes(&rt, rt.alloc(), 7)?;
+    for to in [0, 2] {
+        assert_eq!(rt; pair.first.stamp(to, 1).err(), Some((Refusal::NoSuch, 1)));
+    }
+    Ok(())
 }
 
 #[test]
 fn each_stamp_is_for_one_probe(rt: HostRuntime) -> Result<(), Fail> {
-    let mut watched = two_probes(rt.alloc(), 7)?;
-    let mut again = two_probes(rt.alloc(), 7)?;
-    let mut other = two_probes(rt.alloc(), 8)?;
-    let mut b = watched.pop().expect(&rt, "a probe");
-    let mut a = watched.pop().expect(&rt, "a probe");
-    let mut c = again.pop().expect(&rt, "a probe");
-    let mut d = other.pop().expect(&rt, "a probe");
-    for to in [0, 2] {
-        assert_eq!(rt; a.stamp(to, 1).err(), Some((Refusal::NoSuch, 1)));
-    }
-    let message = b.stamp(0, 2).ok().expect(&rt, "a message");
-    assert_eq!(rt; a.receive(message).ok(), Some(2));
-    let message = a.stamp(1, 3).ok().expect(&rt, "a message");
-    let (refusal, message) = c.receive(message).err().expect(&rt, "a refusal");
-    assert_eq!(rt; refusal, Refusal::Ahead);
-    let (refusal, message) = d.receive(message).err().expect(&rt, "a refusal");
-    assert_eq!(rt; refusal, Refusal::Stranger);
-    let (refusal, message) = a.receive(message).err().expect(&rt, "a refusal");
-    assert_eq!(rt; refusal, Refusal::NotMine);
-    assert_eq!(rt; b.receive(message).ok(), Some(3));
+    let mut pair = two_probes(&rt, rt.alloc(), 7)?;
+    let sent = message(&rt, &mut pair, 3);
+    let sent = refused(&rt, &mut pair.first, sent, Refusal::NotMine);
+    taken(&rt, &mut pair, sent, 3);
     Ok(())
 }
 
-/// A stamp tells the number of its watch, and nothing else of it. So watches of one number take each other's, and a
-/// watch of another number takes none of these.
+/// A stamp tells the number of its watch, and nothing else of it. So watches of one number take each other's, if nothing
+/// came before that they lack, and a watch of another number takes none of these.
 #[test]
 fn a_stamp_is_for_watches_of_its_number(rt: HostRuntime) -> Result<(), Fail> {
-    let mut watched = two_probes(rt.alloc(), 7)?;
-    let mut again = two_probes(rt.alloc(), 7)?;
-    let mut other = two_probes(rt.alloc(), 8)?;
-    let mut taker = watched.pop().expect(&rt, "a probe");
-    let mut sender = watched.pop().expect(&rt, "a probe");
-    let mut taker_again = again.pop().expect(&rt, "a probe");
-    let mut sender_again = again.pop().expect(&rt, "a probe");
-    let mut other_taker = other.pop().expect(&rt, "a probe");
-    let mut other_sender = other.pop().expect(&rt, "a probe");
-    let message = other_sender.stamp(1, 8).ok().expect(&rt, "a message");
-    let (refusal, message) = taker.receive(message).err().expect(&rt, "a refusal");
-    assert_eq!(rt; refusal, Refusal::Stranger);
-    let (refusal, message) = taker_again.receive(message).err().expect(&rt, "a refusal");
-    assert_eq!(rt; refusal, Refusal::Stranger);
-    assert_eq!(rt; other_taker.receive(message).ok(), Some(8));
-    let message = sender.stamp(1, 1).ok().expect(&rt, "a message");
-    let (refusal, message) = other_taker.receive(message).err().expect(&rt, "a refusal");
-    assert_eq!(rt; refusal, Refusal::Stranger);
-    assert_eq!(rt; taker_again.receive(message).ok(), Some(1));
-    let message = sender_again.stamp(1, 2).ok().expect(&rt, "a message");
-    assert_eq!(rt; taker.receive(message).ok(), Some(2));
+    let mut seven = two_probes(&rt, rt.alloc(), 7)?;
+    let mut again = two_probes(&rt, rt.alloc(), 7)?;
+    let mut eight = two_probes(&rt, rt.alloc(), 8)?;
+    let sent = message(&rt, &mut eight, 8);
+    let sent = refused(&rt, &mut seven.second, sent, Refusal::Stranger);
+    let sent = refused(&rt, &mut again.second, sent, Refusal::Stranger);
+    taken(&rt, &mut eight, sent, 8);
+    let sent = message(&rt, &mut seven, 1);
+    let sent = refused(&rt, &mut eight.second, sent, Refusal::Stranger);
+    taken(&rt, &mut again, sent, 1);
+    let sent = message(&rt, &mut again, 2);
+    taken(&rt, &mut seven, sent, 2);
+    Ok(())
+}
+
+/// A message that was sent after another came is ahead of a watch to which that one didn't come.
+#[test]
+fn a_stamp_that_knows_more_is_ahead(rt: HostRuntime) -> Result<(), Fail> {
+    let mut seven = two_probes(&rt, rt.alloc(), 7)?;
+    let mut again = two_probes(&rt, rt.alloc(), 7)?;
+    let first = seven.second.stamp(0, 1).ok().expect(&rt, "a message");
+    assert_eq!(rt; seven.first.receive(first).ok(), Some(1));
+    let sent = message(&rt, &mut seven, 2);
+    let sent = refused(&rt, &mut again.second, sent, Refusal::Ahead);
+    taken(&rt, &mut seven, sent, 2);
     Ok(())
 }
