@@ -15,7 +15,7 @@ pub use Rattle.wcp_log.specs.Event.{Event}
 pub use Rattle.wcp_log.specs.Log.{Logged}
 pub use Rattle.wcp_log.specs.Order.{last_clock, falls, follows}
 pub use Rattle.wcp_moment.specs.Moment.{Watch, Taken, watch_at, HaveDistinctHosts, own, IsLater, IsOver, IsMoment, IsEarliest, events_of, MayFollow, Follow, IsKnown, IsNextAt}
-pub use Rattle.wcp_moment.specs.Queues.{Candidate, Queue, empty_queue, queue_at, watched_by, first_among, first_of, waiting, clock_of, front_clock, is_passed_among, is_passed, lasts_to_floor, stands, begun, ended_by, ending, going_on, with_event}
+pub use Rattle.wcp_moment.specs.Queues.{Candidate, Queue, empty_queue, queue_at, watched_by, first_among, first_of, begin_with, waiting, clock_of, front_clock, is_passed_among, is_passed, lasts_to_floor, stands, begun, ended_by, ending, going_on, with_event}
 pub use Rattle.wcp_moment.specs.Elimination.{KnowsNoMore, ComesBefore, LastKnowsAll, IsCandidate, HasEnded, GoesOn, IsQueueOf, IsKnownElsewhere, IsAmong, AreLeft, IsUnderFloors, AreUnderFloors, ArePassedByNone, RiseTo, AllStand, OneDoesNotStand}
 pub use Rattle.wcp_moment.specs.declared.watched.Lasting.{Lasting}
 pub use Rattle.wcp_moment.specs.declared.watched.Lasting.TheVariants.{While, At}

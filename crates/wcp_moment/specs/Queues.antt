@@ -42,8 +42,11 @@ abbrev pub first_of : Queue → Option Candidate
 first_of queue = first_among queue.ended queue.ongoing
 
 -- The events that candidates begin with.
+abbrev pub begin_with : List Candidate → List Logged
+begin_with candidates = map (λ one. one.logged) candidates
+
 abbrev pub waiting : Queue → List Logged
-waiting queue = map (λ one. one.logged) (queue.ended ++ option_to_list queue.ongoing)
+waiting queue = begin_with (queue.ended ++ option_to_list queue.ongoing)
 
 -- Each event of the host that can still be in the moment, or comes later, knows what this clock knows.
 abbrev pub clock_of : Option Candidate → List Member → List Member
