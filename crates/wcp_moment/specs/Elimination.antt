@@ -30,11 +30,11 @@ pub record IsCandidate (taken : List Taken) (host : List ℕ) (logged : Logged) 
   pub of_host : logged.event.host ≡ host
 
 -- A state has ended: it lasts up to the number before that of the first later event, or of its own one.
-abbrev pub HasEnded : Lasting → List Taken → Event → ℕ → Type 0
-HasEnded While taken event lasts_to = (next : Taken) × IsLater taken event next
-    × (own next.logged.event ≡ lasts_to + 1)
-    × ((other : Taken) → IsLater taken event other → lasts_to < own other.logged.event)
-HasEnded At taken event lasts_to = own event ≡ lasts_to + 1
+abbrev pub HasEnded : Lasting → List Taken → Candidate → Type 0
+HasEnded While taken one = (next : Taken) × IsLater taken one.logged.event next
+    × (own next.logged.event ≡ one.lasts_to + 1)
+    × ((other : Taken) → IsLater taken one.logged.event other → one.lasts_to < own other.logged.event)
+HasEnded At taken one = own one.logged.event ≡ one.lasts_to + 1
 
 -- A state goes on: the event that it begins with is the last one of its host.
 pub record GoesOn (lasting : Lasting) (taken : List Taken) (one : Candidate) : Type 0 where
@@ -46,7 +46,7 @@ pub record GoesOn (lasting : Lasting) (taken : List Taken) (one : Candidate) : T
 pub record IsQueueOf (taken : List Taken) (queue : Queue) : Type 0 where
   pub candidates : All (IsCandidate taken queue.host) (waiting queue)
   pub in_order : AllPairs (λ one other. ComesBefore one.event other.event) (waiting queue)
-  pub ended : All (λ one. HasEnded queue.lasting taken one.logged.event one.lasts_to) queue.ended
+  pub ended : All (HasEnded queue.lasting taken) queue.ended
   pub ongoing : (one : Candidate) → queue.ongoing ≡ Some one → GoesOn queue.lasting taken one
   pub latest : KnowsNoMore queue.latest (last_clock queue.host (events_of taken))
 

@@ -8,13 +8,14 @@ use Rattle.wcp_moment.specs.declared.watched.Lasting.{Lasting}
 use Rattle.wcp_moment.specs.declared.watched.Lasting.TheVariants.{While, At}
 use Rattle.wcp_moment.specs.Moment.{Watch}
 
--- A state that can still be in the moment: the event that it begins with, and the host's number up to which it lasts.
+-- A state that can still be in the moment: the event that it begins with, and the host's number up to which it
+-- lasts.
 pub record Candidate : Type 0 where
   pub logged : Logged
   pub lasts_to : ℕ
 
--- The candidates of a watched host: those whose end was read, the oldest first, and the one that still goes on; and the
--- clock of the host's last event at which its condition didn't hold.
+-- The candidates of a watched host: those whose end was read, the oldest first, and the one that still goes on; and
+-- the clock of the host's last event at which its condition didn't hold.
 pub record Queue : Type 0 where
   pub host : List ℕ
   pub lasting : Lasting
@@ -42,8 +43,11 @@ abbrev pub first_of : Queue → Option Candidate
 first_of queue = first_among queue.ended queue.ongoing
 
 -- The events that candidates begin with.
+abbrev pub begin_with : List Candidate → List Logged
+begin_with candidates = map (λ one. one.logged) candidates
+
 abbrev pub waiting : Queue → List Logged
-waiting queue = map (λ one. one.logged) (queue.ended ++ option_to_list queue.ongoing)
+waiting queue = begin_with (queue.ended ++ option_to_list queue.ongoing)
 
 -- Each event of the host that can still be in the moment, or comes later, knows what this clock knows.
 abbrev pub clock_of : Option Candidate → List Member → List Member

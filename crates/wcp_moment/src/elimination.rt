@@ -11,8 +11,8 @@ use crate::queue::Queue;
 use std::alloc::AllocError;
 use wcp_log::{Logged, number_of};
 
-/// Takes the next event of the host at `place`, at which its condition holds or not, and eliminates. Answers whether the
-/// first candidates are known to be the moment. `Err` where memory runs out: nothing has changed.
+/// Takes the next event of the host at `place`, at which its condition holds or not, and eliminates. Answers whether
+/// the first candidates are known to be the moment. `Err` where memory runs out: nothing has changed.
 pub(crate) fn take_next(
     queues: &mut [Queue],
     floors: &mut [u32],
@@ -35,8 +35,8 @@ pub(crate) fn take_next(
     Ok(all_stand(queues, floors))
 }
 
-/// Adds the next event of the host at `place`, at which its condition holds or not. `Err` where memory runs out: nothing
-/// has changed.
+/// Adds the next event of the host at `place`, at which its condition holds or not. `Err` where memory runs out:
+/// nothing has changed.
 fn add(
     queues: &mut [Queue],
     floors: &mut [u32],

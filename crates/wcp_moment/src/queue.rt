@@ -99,8 +99,8 @@ impl Queue {
         self.host.as_str()
     }
 
-    /// The clock of the first candidate, else that of the host's last event: each candidate and each later event of the
-    /// host knows what it knows.
+    /// The clock of the first candidate, else that of the host's last event: each candidate and each later event of
+    /// the host knows what it knows.
     pub fn front_clock(&self) -> &[Member]
         ensures { seen_clock result.now ≡ front_clock self.now }
     {

@@ -12,9 +12,9 @@ pub fn answer(alloc: Global, lasting: Lasting, bytes: &[u8]) -> Result<String, A
     let mut search = alice_and_bob(alloc, lasting)?;
     let mut log = Log::new(alloc, Form::Shiviz);
     let mut line: u64 = 0;
-    for bytes in bytes.split(|byte| *byte == b'\n') {
+    for row in bytes.split(|byte| *byte == b'\n') {
         line = line.saturating_add(1);
-        let logged = match log.read(bytes) {
+        let logged = match log.read(row) {
             Ok(Some(logged)) => logged,
             Err(ReadFault::NoMemory) => return Err(AllocError),
             Ok(None) | Err(ReadFault::Log(_)) => continue,

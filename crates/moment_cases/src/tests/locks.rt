@@ -56,8 +56,8 @@ const LEFT_OUT: &[(&[u8], &str)] = &[
     ),
     // an event of bob at which he doesn't hold the lock passes what alice held before it
     (
-        b"alice {\"alice\":1}\nholds the lock\nalice {\"alice\":2}\nholds it still\nbob {\"bob\":1,\"alice\":2}\nasks\n\
-bob {\"bob\":2,\"alice\":2}\nholds it\n",
+        b"alice {\"alice\":1}\nholds the lock\nalice {\"alice\":2}\nholds it still\n\
+bob {\"bob\":1,\"alice\":2}\nasks\nbob {\"bob\":2,\"alice\":2}\nholds it\n",
         "line 8: alice 4 holds it still bob 8 holds it",
     ),
 ];

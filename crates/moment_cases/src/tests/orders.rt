@@ -23,7 +23,7 @@ fn merged(alloc: Global, order: u32) -> Result<String, AllocError> {
     let mut text = String::new(alloc);
     let mut alice = ALICE.iter();
     let mut bob = BOB.iter();
-    for bit in 0..8 {
+    for bit in 0..8u32 {
         let next = if order >> bit & 1 == 1 {
             alice.next()
         } else {

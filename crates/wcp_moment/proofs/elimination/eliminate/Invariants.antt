@@ -7,7 +7,8 @@ use Rattle.wcp_moment.proofs.elimination.eliminate.Given as goal
 
 abbrev pub invariant-loop-place : goal.invariant-loop-place
 invariant-loop-place l = record {
-  left : (taken : List Taken) → LastKnowsAll taken → AreLeft taken l.initial.queues l.initial.floors → AreLeft taken l.queues l.floors;
+  left : (taken : List Taken) → LastKnowsAll taken → AreLeft taken l.initial.queues l.initial.floors
+      → AreLeft taken l.queues l.floors;
   under : AreUnderFloors l.initial.queues l.initial.floors → AreUnderFloors l.queues l.floors;
   watched : watched_by l.queues ≡ watched_by l.initial.queues;
 }
