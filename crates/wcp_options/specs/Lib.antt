@@ -1,3 +1,3 @@
 pub mod Options
-pub mod Requests
 pub mod Plain
+pub mod Requests

@@ -1,5 +1,6 @@
 -- Plain words: options that say conditions, one after another, each with its value.
-use Rattle.std.specs.Prelude.{Bool, false, List, [], ◌∷◌, ◌==◌, codes, if◌then◌else◌}
+use Rattle.std.specs.Prelude.{◌≡◌, Bool, false, List, [], ◌∷◌, ◌==◌, codes, if◌then◌else◌}
+use Rattle.std.specs.List.{AllByRecursion}
 use Rattle.std.specs.Str.{bytes_eq}
 use Rattle.clap.specs.Words.{Text}
 
@@ -36,6 +37,10 @@ words_of (given ∷ others) = flag_of given.kind ∷ given.value ∷ words_of ot
 abbrev pub is_flag : Text → Bool
 is_flag [] = false
 is_flag (byte ∷ bytes) = byte == 45
+
+-- No value begins with a hyphen.
+abbrev pub ArePlain : List Given → Type 0
+ArePlain given = AllByRecursion (λ one. is_flag one.value ≡ false) given
 
 -- The values of an option among them, in their order.
 abbrev pub values_given : Text → List Given → List Text

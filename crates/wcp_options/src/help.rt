@@ -18,8 +18,7 @@ pub const FROM: &str = "The host's condition holds from an event whose text has 
 pub const UNTIL: &str = "The end of --from: an event of the same host whose text has a match";
 
 /// What `--at` says.
-pub const AT: &str =
-    "The host's condition holds at an event whose text has a match, and no longer";
+pub const AT: &str = "The host's condition holds at an event whose text has a match, and no longer";
 
 /// What `--form` says.
 pub const FORM: &str =

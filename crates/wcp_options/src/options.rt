@@ -1,7 +1,8 @@
-ghost use Rattle.std.specs.Prelude.{◌≡◌, false, map, IfOk};
+ghost use Rattle.std.specs.Prelude.{◌≡◌, false, List, drop, map, IfOk};
 ghost use Rattle.clap.specs.Words.{app_of, found_of, kind_of, rows_of, rule_of};
 ghost use Rattle.wcp_options.specs.Options.{program, condition_option, form_option, form_named, form_at, values_at, seen_texts};
-ghost use Rattle.wcp_options.specs.Requests.{IsRequestOf, IsTraceOf, IsRefusalOf};
+ghost use Rattle.wcp_options.specs.Requests.{IsRequestOf, IsTraceOf, IsRefusalOf, IsTraceGiven, asks_by_word, spelled};
+ghost use Rattle.wcp_options.specs.Plain.{Given, ArePlain, words_of};
 
 use crate::help;
 use clap::error::ErrorKind;
@@ -34,10 +35,30 @@ pub struct Options<'a> {
 }
 
 /// What the words ask for, of which the first is the program's name.
-pub fn read_options<'a, S: AsStr>(
-    alloc: Global,
-    words: &'a [S],
-) -> Result<Request<'a>, AllocError>
+pub fn read_options<'a, S: AsStr>(alloc: Global, words: &'a [S]) -> Result<Request<'a>, AllocError>
+    ensures asked { IfOk result (IsRequestOf (spelled (map S.text words.entry.now))) }
+    ensures plain { (given : List Given) → drop 1 (map S.text words.entry.now) ≡ words_of given → ArePlain given →
+        IfOk result (IsTraceGiven given) }
+{
+    if asks_by_word(words) {
+        request_of(alloc, HELP_WORDS)
+    } else {
+        request_of(alloc, words)
+    }
+}
+
+/// The words of a call for help.
+const HELP_WORDS: &[&str] = &["wcptrace", "--help"];
+
+/// Whether the word `help` stands alone after the program's name.
+fn asks_by_word<S: AsStr>(words: &[S]) -> bool
+    ensures { result ≡ asks_by_word (map S.text words.now) }
+{
+    words.len() == 2 && words[1].as_str() == "help"
+}
+
+/// What words ask for by options.
+fn request_of<'a, S: AsStr>(alloc: Global, words: &'a [S]) -> Result<Request<'a>, AllocError>
     ensures { IfOk result (IsRequestOf (map S.text words.entry.now)) }
 {
     match command(alloc)?.try_get_matches_from(words) {

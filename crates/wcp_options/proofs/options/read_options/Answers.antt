@@ -1,22 +1,12 @@
-use Rattle.std.proofs.Common.{◌≡◌, ◌∙◌, ap, map, sym, subst, List}
-use Rattle.std.proofs.lemmas.Result.{IfOk-weaker}
-use Rattle.clap.specs.Words.{App, HasKind, Row, app_of, fault_of, is_simple, is_simple_and_free, kind_of, matches_of}
-use Rattle.wcp_options.specs.Options.{program}
-use Rattle.wcp_options.specs.Requests.{IsTraceOf, Passed}
-use Rattle.wcp_options.proofs.Found.{program_is_free, program_is_simple, refused_as}
+use Rattle.std.proofs.Common.{map, sym, ◌∙◌}
+use Rattle.std.proofs.lemmas.Bool.{true≢false}
+use Rattle.wcp_options.proofs.PlainRequests.{asked_plainly, plain-not_help}
 use Rattle.wcp_options.proofs.options.read_options.Goals as goal
 
-pub returns-in-Ok : goal.returns-in-Ok
-returns-in-Ok g c =
-    let words = map g.S.AsStr.text c.args.words.now in
-    let app : app_of c.in_ok-command.field-0 ≡ program = c.in_ok-command.ensures in
-    let found = (c.in-Ok.ensures.matches (ap is_simple app ∙ program_is_simple)).0 ∙ ap (λ (a : App). matches_of a words) app in
-    let passes = ap (λ (a : App). fault_of a words) (sym app) ∙ c.in-Ok.ensures.kinds (ap is_simple_and_free app ∙ program_is_free) in
-    IfOk-weaker c.trace_of.result _ _ (λ request is. Passed passes (subst (λ (rows : List Row). IsTraceOf rows request) found is)) c.trace_of.ensures
+pub returns-then-asks_by_word-clause-plain : goal.returns-then-asks_by_word-clause-plain
+returns-then-asks_by_word-clause-plain g c = λ given are plain.
+    absurd (true≢false (sym c.if-asks_by_word.true ∙ c.asks_by_word.ensures ∙ plain-not_help (map g.S.AsStr.text c.args.words.now) given are))
 
-pub returns-in-Err : goal.returns-in-Err
-returns-in-Err g c =
-    let words = map g.S.AsStr.text c.args.words.now in
-    let failed = c.in-Err.ensures.kinds (ap is_simple_and_free c.in_ok-command.ensures ∙ program_is_free) in
-    refused_as words (kind_of c.in-Err.error) c.request_without_matches.result
-    (subst (λ (a : App). HasKind (fault_of a words) c.in-Err.error) c.in_ok-command.ensures failed) c.request_without_matches.ensures
+pub returns-else-asks_by_word-clause-plain : goal.returns-else-asks_by_word-clause-plain
+returns-else-asks_by_word-clause-plain g c =
+    asked_plainly (map g.S.AsStr.text c.args.words.now) c.request_of-else-asks_by_word.result c.request_of-else-asks_by_word.ensures
