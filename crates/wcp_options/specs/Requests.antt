@@ -36,7 +36,8 @@ IsRefusalOf why (Trace options) = ⊥
 -- What words ask for, of which the first is the program's name.
 pub data IsRequestOf (words : List Text) (request : Request) : Type 0 where
   Passed : fault_of program words ≡ [] → IsTraceOf (matches_of program words) request → IsRequestOf words request
-  Refused : (why : ErrorKind) → IsAmong why (fault_of program words) → IsRefusalOf why request → IsRequestOf words request
+  Refused : (why : ErrorKind) → IsAmong why (fault_of program words) → IsRefusalOf why request
+      → IsRequestOf words request
 
 -- After the program's name there is the word `help` alone.
 abbrev pub asks_by_word : List Text → Bool

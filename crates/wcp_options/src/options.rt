@@ -1,6 +1,7 @@
 ghost use Rattle.std.specs.Prelude.{◌≡◌, false, List, drop, map, IfOk};
 ghost use Rattle.clap.specs.Words.{app_of, found_of, kind_of, rows_of, rule_of};
-ghost use Rattle.wcp_options.specs.Options.{program, condition_option, form_option, form_named, form_at, values_at, seen_texts};
+ghost use Rattle.wcp_options.specs.Options.{program, condition_option, form_option};
+ghost use Rattle.wcp_options.specs.Options.{form_named, form_at, values_at, seen_texts};
 ghost use Rattle.wcp_options.specs.Requests.{IsRequestOf, IsTraceOf, IsRefusalOf, IsTraceGiven, asks_by_word, spelled};
 ghost use Rattle.wcp_options.specs.Plain.{Given, ArePlain, words_of};
 
