@@ -1,0 +1,143 @@
+# Runs a program of this repository. `wcpwatch` and `wcptrace` read this file: it wants the program's `name`, the words that
+# the call has, and `reads_input`, which says whether the program reads its input with these words.
+top=$(dirname -- "$(readlink -f -- "$0")")
+folder=$top/crates/$name
+program=$folder/out/$name
+toolchain='rattle-kit-13f logic dac8208d650f15bf'
+
+# More bytes of input than the program reads, and fewer than `rt try` hands on.
+most=16777216
+
+say() {
+    echo "$name: $*" >&2
+}
+
+# The program and the crates that it stands on, a line each.
+crates() {
+    awk -v program="$name" '
+        { sub(/#.*/, "") }
+        NF { name = $1; sub(/:.*/, "", name); sub(/^[^:]*:?/, ""); needs[name] = $0 }
+        function visit(name, words, count, i) {
+            if (!(name in needs) || name in seen) return
+            seen[name] = 1
+            count = split(needs[name], words, /[ \t,]+/)
+            for (i = 1; i <= count; i++) visit(words[i])
+            print name
+        }
+        END { visit(program) }' "$top/crates.txt"
+}
+
+# A source that is newer than the program, where there is one.
+newer_source() {
+    # shellcheck disable=SC2046
+    (cd "$top" && find crates.txt $(crates | sed 's,^,crates/,') -name out -prune -o \
+        \( -name '*.rt' -o -name '*.antt' -o -name crates.txt \) -newer "$program" -print) | head -n 1
+}
+
+# A folder for what a call keeps until it ends, however it ends.
+make_room() {
+    room=$(mktemp -d) || exit 2
+    trap 'rm -rf "$room"' EXIT
+    trap 'exit 129' HUP
+    trap 'exit 130' INT
+    trap 'exit 143' TERM
+}
+
+# Another version may do as well, so it gets a line and no more.
+look_for_toolchain() {
+    found=$(rt version 2>/dev/null)
+    case $found in
+        "$toolchain") ;;
+        rattle-kit-*) say "the toolchain is another than the one that this is proved with: \`rt version\` prints" \
+            "\`$found\`, and not \`$toolchain\`" ;;
+        *) say "there is no toolchain: put one on PATH of which \`rt version\` prints \`$toolchain\`"; exit 2 ;;
+    esac
+}
+
+# Answers by a build without proofs, of which nothing is kept. `rt try` runs the program for this call alone, and what the program
+# wrote comes with lines of its own on standard error: first the program's, then its own, of which the last has the status.
+answer_unproved() {
+    look_for_toolchain
+    say "$1: building it without proofs for this call, in about a minute (./$name --prove proves it and keeps it)"
+    shift
+    make_room
+    if reads_input "$@"; then
+        head -c "$most" >"$room/input" 2>/dev/null || { say read; exit 2; }
+    else
+        : >"$room/input"
+    fi
+    (cd "$folder" && rt try --seconds 600 -- "$@") <"$room/input" >"$room/output" 2>"$room/errors"
+    status=$(sed -n '$s/^run=ended status=\([0-9]*\) .*proved=no$/\1/p' "$room/errors")
+    if [ -z "$status" ]; then
+        say "there is no answer, since the build without proofs did not come to an end:"
+        tail -n 20 "$room/errors" >&2
+        exit 2
+    fi
+    cat "$room/output" 2>/dev/null || { say write; exit 2; }
+    sed -E '/^(rt|interpreter|checked|races): /d; /^run=/d' "$room/errors" >&2
+    exit "$status"
+}
+
+# How many crates are proved side by side: as many as there are processors, with 2 GiB of free memory each.
+jobs() {
+    awk -v most="$(nproc)" '
+        /^MemAvailable:/ { most = int($2 / 2097152) < most ? int($2 / 2097152) : most }
+        END { print most < 1 ? 1 : most }' /proc/meminfo
+}
+
+# Passes on from the lines of `rt all check` how far it is. It prints the lines of a crate once that crate is checked.
+tell_progress() {
+    checked=0
+    while IFS= read -r line; do
+        printf '%s\n' "$line" >>"$room/log"
+        case $line in
+            '== summary') ;;
+            '== '*) checked=$((checked + 1))
+                say "checked ${line#== }, crate $checked of $total, after $(($(date +%s) - start)) s" ;;
+            'rt: waiting '*) say "${line#rt: }" ;;
+        esac
+    done
+}
+
+# The last lines on the first crate that is not proved, or those of all where no crate is said to have failed.
+show_failure() {
+    failed=$(sed -n 's/^\(.*\): failed (.*)$/\1/p' "$room/log" | head -n 1)
+    say "${failed:-the program} could not be proved:"
+    awk -v head="== $failed" -v all="$([ -n "$failed" ] || echo 1)" '
+        /^== / { within = $0 == head; next }
+        /^(statements|library|crate) .*: modules loaded=|^logic \/|^fn .*: proved$/ { next }
+        within || all' "$room/log" | tail -n 20 >&2
+}
+
+# Proves the program and all that it stands on, builds it, and prints where it is.
+prove() {
+    look_for_toolchain
+    make_room
+    total=$(crates | wc -l)
+    jobs=$(jobs)
+    start=$(date +%s)
+    say "proving $total crates, at most $jobs at a time, which takes half an hour or more"
+    touch "$room/start"
+    { (cd "$folder" && rt all check --jobs "$jobs") 2>&1 </dev/null; echo $? >"$room/status"; } | tell_progress
+    [ "$(cat "$room/status")" = 0 ] || { show_failure; exit 2; }
+    say "all $total crates are proved; building the program"
+    (cd "$folder" && rt run -- --help) >"$room/log" 2>&1 </dev/null \
+        || { say "the program could not be built:"; tail -n 20 "$room/log" >&2; exit 2; }
+    # As old as the start, so that a source that was edited meanwhile is newer.
+    touch -r "$room/start" "$program"
+    newer=$(newer_source)
+    [ -z "$newer" ] || { say "$newer is newer than the start of the proof, so prove it once more"; exit 2; }
+    echo "$program"
+}
+
+is_built() {
+    [ -x "$program" ] && newer=$(newer_source) && [ -z "$newer" ]
+}
+
+case $#:${1-} in
+    1:--prove) if is_built; then echo "$program"; else prove; fi ;;
+    *:--prove) say "--prove stands alone"; exit 2 ;;
+    *) if is_built; then exec "$program" "$@"; fi
+        if [ -n "${newer-}" ]; then answer_unproved "$newer is newer than the proved program" "$@"; fi
+        answer_unproved "the program isn't proved yet" "$@" ;;
+esac
