@@ -63,8 +63,8 @@ fn each_stamp_is_for_one_probe(rt: HostRuntime) -> Result<(), Fail> {
     Ok(())
 }
 
-/// A stamp tells the number of its watch, and nothing else of it. So watches of one number take each other's, if nothing
-/// came before that they lack, and a watch of another number takes none of these.
+/// A stamp tells the number of its watch, and nothing else of it. So watches of one number take each other's, if
+/// nothing came before that they lack, and a watch of another number takes none of these.
 #[test]
 fn a_stamp_is_for_watches_of_its_number(rt: HostRuntime) -> Result<(), Fail> {
     let mut seven = two_probes(&rt, rt.alloc(), 7)?;
