@@ -1,9 +1,9 @@
 -- Conditions that were read, and the first that wasn't.
-use Rattle.std.proofs.Common.{◌≡◌, ◌==◌, inr, ℕ, ◌<◌, ◌≤◌, ◌+◌, ◌&&◌, Bool, true, false, not, cond, List, [], ◌∷◌}
+use Rattle.std.proofs.Common.{◌≡◌, ◌==◌, inr, ℕ, ◌<◌, ◌≤◌, ◌+◌, ◌&&◌, Bool, true, false, cond, List, [], ◌∷◌}
 use Rattle.std.proofs.Common.{◌++◌, map, length, get_or, take, drop, Option, Some, None, Result, Ok, Err, IfOk}
-use Rattle.std.proofs.Common.{string_bytes, refl, ap, sym, ◌∙◌, subst, add-one, arith, rules}
+use Rattle.std.proofs.Common.{refl, ap, sym, ◌∙◌, subst, add-one, arith, rules}
 use Rattle.std.proofs.Math.Seq.{drop-cons}
-use Rattle.std.specs.List.{All, AllPairs, AllByRecursion, IsDistinct, list_any}
+use Rattle.std.specs.List.{All, AllByRecursion, IsDistinct, list_any}
 use Rattle.std.specs.Str.{bytes_eq}
 use Rattle.std.specs.declared.vec.Vec.{Vec}
 use Rattle.std.proofs.lemmas.List.{length-map, map-append, map_more, take-append-drop}
@@ -17,8 +17,6 @@ use Rattle.regex.specs.Patterns.{default_config}
 use Rattle.regex.specs.Strings.{regex_source}
 use Rattle.regex.specs.Names.{names_of}
 use Rattle.regex.specs.Failures.{IsPattern}
-use Rattle.regex.specs.declared.error.Error.{Error}
-use Rattle.regex.specs.declared.error.Error.TheVariants.{OutOfMemory}
 use Rattle.regex.specs.declared.string.regex.Regex.{Regex}
 use Rattle.wcp_condition.specs.declared.fault.ConditionFault.{ConditionFault}
 use Rattle.wcp_condition.specs.declared.fault.ConditionFault.TheVariants.{Usage, Expression, NoMemory}
@@ -29,8 +27,8 @@ use Rattle.wcp_condition.specs.declared.condition.Condition.{Condition}
 use Rattle.wcp_condition.specs.Asked.{◌>>=◌, Asked, Text, Word, Saying, are_distinct, are_fit, most_hosts}
 use Rattle.wcp_condition.specs.Asked.{conditions_of, all_read, word_in, saying_by, while_rule, from_rule, at_rule}
 use Rattle.wcp_condition.specs.Rules.{map_rule, EachOf}
-use Rattle.wcp_condition.specs.Sayings.{Fails, seen_saying}
-use Rattle.wcp_condition.specs.Conditions.{host_of, said_by, IsReadExpression, IsRead, CanBeRead, FailsBy, FailsFirst}
+use Rattle.wcp_condition.specs.Sayings.{seen_saying}
+use Rattle.wcp_condition.specs.Conditions.{host_of, said_by, IsReadExpression, IsRead, CanBeRead}
 use Rattle.wcp_condition.specs.Conditions.{RefusesExpression, RefusesSaying, RefusesSayings, ReadsSayings, HaveHosts}
 
 -- The grammar reads the text of an expression that was read.

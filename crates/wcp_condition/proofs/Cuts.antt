@@ -1,5 +1,5 @@
 -- Words HOST=EXPRESSION.
-use Rattle.std.proofs.Common.{◌≡◌, ℕ, ◌<◌, Bool, true, false, List, length, Option, Some, None, MatchOption, eqb, refl}
+use Rattle.std.proofs.Common.{◌≡◌, ℕ, ◌<◌, List, length, Option, MatchOption, eqb}
 use Rattle.std.proofs.Common.{arith}
 use Rattle.std.specs.Borrow.{Bor}
 use Rattle.std.specs.List.{position_or_len, before_first, after_first}

@@ -1,7 +1,7 @@
 -- What the words of a command line say, and whether no host is said twice.
 use Rattle.std.proofs.Common.{◌≡◌, ◌≢◌, ℕ, ◌<◌, ◌≤◌, ◌+◌, ◌==◌, ◌&&◌, Bool, true, false, not, cond, List, [], ◌∷◌}
 use Rattle.std.proofs.Common.{◌++◌, map, length, get_or, drop, Option, Some, None, option_map, find, refl, ap, sym}
-use Rattle.std.proofs.Common.{◌∙◌, add-one, suc, arith, if◌then◌else◌}
+use Rattle.std.proofs.Common.{◌∙◌, add-one, suc}
 use Rattle.std.specs.Borrow.{Bor}
 use Rattle.std.specs.List.{list_any}
 use Rattle.std.specs.Str.{bytes_eq}
@@ -13,7 +13,7 @@ use Rattle.wcp_condition.specs.declared.fault.ConditionFault.{ConditionFault}
 use Rattle.wcp_condition.specs.declared.fault.ConditionFault.TheVariants.{Usage, Expression, NoMemory}
 use Rattle.wcp_condition.specs.declared.word.Word.{Word as OwnWord}
 use Rattle.wcp_condition.specs.declared.saying.Saying.{Saying as OwnSaying}
-use Rattle.wcp_condition.specs.Asked.{◌>>=◌, Asked, Text, Word, Saying, all_read, word_in, saying_by, while_rule}
+use Rattle.wcp_condition.specs.Asked.{Asked, Text, Word, Saying, all_read, word_in, saying_by, while_rule}
 use Rattle.wcp_condition.specs.Asked.{from_rule, at_rule, until_of, are_distinct, are_fit, most_hosts, conditions_of}
 use Rattle.wcp_condition.specs.declared.rule.Rule.TheVariants.{FromUntil}
 use Rattle.wcp_condition.specs.Sayings.{Fails, seen_word, seen_saying, host_said}

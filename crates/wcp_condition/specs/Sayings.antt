@@ -1,5 +1,5 @@
 -- What the values of the code stand for while words are read: texts, words, sayings.
-use Rattle.std.specs.Prelude.{◌≡◌, ℕ, List, map, Option, Some, None, Result, Ok, Err}
+use Rattle.std.specs.Prelude.{◌≡◌, List, map, Option, Some, None, Result, Ok, Err}
 use Rattle.std.specs.Borrow.{Bor}
 use Rattle.wcp_condition.specs.declared.fault.ConditionFault.{ConditionFault}
 use Rattle.wcp_condition.specs.declared.fault.ConditionFault.TheVariants.{Usage, Expression, NoMemory}

@@ -39,7 +39,7 @@ enum Kind<'w, 'a> {
 }
 
 /// The most hosts that have a condition.
-pub const MAX_HOSTS: usize = 16;
+const MAX_HOSTS: usize = 16;
 
 /// The conditions that the words say.
 pub(crate) fn sayings_of<'a>(

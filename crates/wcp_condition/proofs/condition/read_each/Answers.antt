@@ -1,4 +1,4 @@
-use Rattle.std.proofs.Common.{◌≡◌, map}
+use Rattle.std.proofs.Common.{map}
 use Rattle.wcp_condition.specs.Sayings.{seen_saying}
 use Rattle.wcp_condition.specs.Conditions.{ReadsSayings}
 use Rattle.wcp_condition.proofs.Handed.{handed_on}

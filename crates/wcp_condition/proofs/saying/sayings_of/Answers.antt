@@ -1,6 +1,6 @@
-use Rattle.std.proofs.Common.{◌≡◌, ◌≢◌, ◌==◌, true, false, map, length, Result, Some, sym, ◌∙◌}
+use Rattle.std.proofs.Common.{◌≡◌, ◌≢◌, ◌==◌, true, false, map, length, sym, ◌∙◌}
 use Rattle.wcp_condition.specs.Asked.{conditions_of, are_fit}
-use Rattle.wcp_condition.specs.Sayings.{Gives, seen_word, seen_saying, seen_texts, seen_words}
+use Rattle.wcp_condition.specs.Sayings.{Gives, seen_saying, seen_texts, seen_words}
 use Rattle.wcp_condition.proofs.Handed.{handed_on}
 use Rattle.wcp_condition.proofs.Sayings.{untils_fail, whiles_fail, spans_fail, ats_fail, said, seen_in_one, fit_said}
 use Rattle.wcp_condition.proofs.Sayings.{unfit_said, unpaired_said}

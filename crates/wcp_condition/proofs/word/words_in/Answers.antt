@@ -1,4 +1,4 @@
-use Rattle.std.proofs.Common.{◌≡◌, ◌++◌, ◌∷◌, [], map, Option, Some, None, option_map, ap, sym, ◌∙◌, get_or}
+use Rattle.std.proofs.Common.{◌≡◌, ◌∷◌, [], Some, None, option_map, ap, sym, ◌∙◌}
 use Rattle.std.proofs.lemmas.List.{map-append}
 use Rattle.wcp_condition.specs.Asked.{word_in}
 use Rattle.wcp_condition.specs.Sayings.{seen_word}
