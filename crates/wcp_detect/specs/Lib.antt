@@ -1,0 +1,4 @@
+pub mod Faults
+pub mod Watching
+pub mod Texts
+pub mod Detection
