@@ -1,0 +1,4 @@
+pub mod Handed
+pub mod Cuts
+pub mod Reading
+pub mod Sayings

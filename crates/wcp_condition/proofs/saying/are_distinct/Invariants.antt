@@ -1,0 +1,8 @@
+use Rattle.std.proofs.Common.{◌≡◌, map, drop}
+use Rattle.wcp_condition.specs.Asked.{are_distinct}
+use Rattle.wcp_condition.specs.Sayings.{host_said}
+use Rattle.wcp_condition.proofs.saying.are_distinct.Given as goal
+
+abbrev pub invariant-loop-at : goal.invariant-loop-at
+invariant-loop-at l =
+    are_distinct (map host_said (drop l.at l.sayings)) ≡ are_distinct (map host_said l.sayings)

@@ -1,0 +1,9 @@
+use Rattle.std.proofs.Common.{◌≡◌, map, take, Some}
+use Rattle.wcp_condition.specs.Asked.{saying_by, all_read}
+use Rattle.wcp_condition.specs.Sayings.{seen_texts, seen_saying, kind_rule}
+use Rattle.wcp_condition.proofs.saying.sayings_in.Given as goal
+
+abbrev pub invariant-loop-text : goal.invariant-loop-text
+invariant-loop-text l =
+    all_read (saying_by (kind_rule l.kind)) (seen_texts (take l.text-index l.texts))
+    ≡ Some (map seen_saying l.sayings.items)
