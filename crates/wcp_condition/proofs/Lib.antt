@@ -2,3 +2,4 @@ pub mod Handed
 pub mod Cuts
 pub mod Reading
 pub mod Sayings
+pub mod Conditions

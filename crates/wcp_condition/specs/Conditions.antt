@@ -58,7 +58,31 @@ pub record FailsFirst (host : Text) (why : Error) (sayings : List Saying) : Type
   pub failed_by : FailsBy why failed.rule
   pub not_memory : why ≢ OutOfMemory
 
--- What's said wasn't read, with this fault, or memory ran out.
+-- An expression of this host wasn't read, with this fault, or memory ran out.
+abbrev pub RefusesExpression : Text → Text → ConditionFault → Type 0
+RefusesExpression host source Usage = ⊥
+RefusesExpression host source (Expression named why) =
+    (string_bytes named ≡ host) × IsDefaultFailure source why × (why ≢ OutOfMemory)
+RefusesExpression host source NoMemory = Unit {0}
+
+-- It was read, or refused.
+abbrev pub ReadsExpression : Text → Text → Result Regex ConditionFault → Type 0
+ReadsExpression host source (Ok regex) = (regex_source regex ≡ source) × IsReadExpression regex
+ReadsExpression host source (Err fault) = RefusesExpression host source fault
+
+-- What is said of a host wasn't read, with this fault, or memory ran out.
+abbrev pub RefusesSaying : Saying → ConditionFault → Type 0
+RefusesSaying saying Usage = ⊥
+RefusesSaying saying (Expression host why) =
+    (string_bytes host ≡ saying.host) × FailsBy why saying.rule × (why ≢ OutOfMemory)
+RefusesSaying saying NoMemory = Unit {0}
+
+-- It was read as this condition, or refused.
+abbrev pub ReadsSaying : Saying → Result Condition ConditionFault → Type 0
+ReadsSaying saying (Ok condition) = (said_by condition ≡ saying) × IsRead condition
+ReadsSaying saying (Err fault) = RefusesSaying saying fault
+
+-- What is said of hosts wasn't read, with this fault, or memory ran out.
 abbrev pub RefusesSayings : List Saying → ConditionFault → Type 0
 RefusesSayings sayings Usage = ⊥
 RefusesSayings sayings (Expression host why) = FailsFirst (string_bytes host) why sayings
@@ -71,22 +95,6 @@ RefusesWords asked Usage = conditions_of asked ≡ None
 RefusesWords asked (Expression host why) =
     (sayings : List Saying) × (conditions_of asked ≡ Some sayings) × FailsFirst (string_bytes host) why sayings
 RefusesWords asked NoMemory = Unit {0}
-
--- An expression of this host was read of its text, or refused.
-abbrev pub ReadsExpression : Text → Text → Result Regex ConditionFault → Type 0
-ReadsExpression host source (Ok regex) = (regex_source regex ≡ source) × IsReadExpression regex
-ReadsExpression host source (Err Usage) = ⊥
-ReadsExpression host source (Err (Expression named why)) =
-    (string_bytes named ≡ host) × IsDefaultFailure source why × (why ≢ OutOfMemory)
-ReadsExpression host source (Err NoMemory) = Unit {0}
-
--- What is said of a host was read as this condition, or refused.
-abbrev pub ReadsSaying : Saying → Result Condition ConditionFault → Type 0
-ReadsSaying saying (Ok condition) = (said_by condition ≡ saying) × IsRead condition
-ReadsSaying saying (Err Usage) = ⊥
-ReadsSaying saying (Err (Expression host why)) =
-    (string_bytes host ≡ saying.host) × FailsBy why saying.rule × (why ≢ OutOfMemory)
-ReadsSaying saying (Err NoMemory) = Unit {0}
 
 module _ {Z : Type 0} where
   -- What is said was read as these conditions, or refused.

@@ -1,0 +1,3 @@
+mod holding;
+mod reading;
+mod words;

@@ -1,0 +1,9 @@
+use Rattle.std.proofs.Common.{◌≡◌, map, take}
+use Rattle.std.specs.List.{All}
+use Rattle.wcp_condition.specs.Sayings.{seen_saying}
+use Rattle.wcp_condition.specs.Conditions.{said_by, IsRead}
+use Rattle.wcp_condition.proofs.condition.read_each.Given as goal
+
+abbrev pub invariant-loop-saying : goal.invariant-loop-saying
+invariant-loop-saying l =
+    (map said_by l.conditions.items ≡ map seen_saying (take l.saying-index l.sayings)) × All IsRead l.conditions.items
