@@ -1,0 +1,6 @@
+mod Words
+pub mod Clocks
+pub mod OneQueue
+pub mod Left
+pub mod Known
+pub mod Steps

@@ -1,0 +1,24 @@
+use Rattle.wcp_log.specs.Turns.{seen_logged}
+use Rattle.wcp_moment.proofs.Words.{◌≡◌, ◌∙◌, true, [], is_some, ap, sym, get_or_default, While, Queue, empty_queue, queue_at, first_of}
+use Rattle.wcp_moment.proofs.Left.{watched_by-set}
+use Rattle.wcp_moment.proofs.Steps.{AddsEvent-front, AddsEvent-behind, some_copied, changed_is_same_host}
+use Rattle.wcp_moment.proofs.elimination.add.Goals as goal
+
+pub returns-then-is_front-clause-adds : goal.returns-then-is_front-clause-adds
+returns-then-is_front-clause-adds c taken distinct last next =
+    AddsEvent-front taken (seen_logged c.args.logged) c.args.holds c.args.queues.now c.args.floors.now c.args.place c.index-queues-place-2.result c.take.new.self c.requires.within c.in_ok-take.ensures.ok distinct last next c.raise.new.floors c.raise.ensures
+
+pub returns-then-is_front-clause-watched : goal.returns-then-is_front-clause-watched
+returns-then-is_front-clause-watched c =
+    watched_by-set c.args.queues.now c.args.place c.take.new.self (changed_is_same_host (seen_logged c.args.logged) c.args.holds c.args.queues.now c.args.place c.index-queues-place-2.result c.take.new.self c.requires.within c.in_ok-take.ensures.ok)
+
+pub returns-else-is_front-clause-adds : goal.returns-else-is_front-clause-adds
+returns-else-is_front-clause-adds c taken distinct last next =
+    let at = get_or_default c.args.queues.now c.args.place c.index-queues-place.result (empty_queue [] While) c.requires.within in
+    let some : is_some (first_of (queue_at c.args.queues.now c.args.place)) ≡ true =
+    ap (λ (queue : Queue). is_some (first_of queue)) (sym at) ∙ ap is_some (sym c.first.ensures) ∙ some_copied c.first.result c.if-is_front.ensures in
+    AddsEvent-behind taken (seen_logged c.args.logged) c.args.holds c.args.queues.now c.args.floors.now c.args.place c.index-queues-place-2.result c.take.new.self c.requires.within c.in_ok-take.ensures.ok distinct last next some
+
+pub returns-else-is_front-clause-watched : goal.returns-else-is_front-clause-watched
+returns-else-is_front-clause-watched c =
+    watched_by-set c.args.queues.now c.args.place c.take.new.self (changed_is_same_host (seen_logged c.args.logged) c.args.holds c.args.queues.now c.args.place c.index-queues-place-2.result c.take.new.self c.requires.within c.in_ok-take.ensures.ok)
