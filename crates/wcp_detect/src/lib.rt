@@ -2,11 +2,13 @@
 #![tactic(auto)]
 
 mod answer;
-mod detect;
+mod detection;
 mod fault;
 mod judged;
+mod tally;
+mod text;
 mod watcher;
 
 pub use answer::Answer;
-pub use detect::detect;
+pub use detection::detect;
 pub use fault::DetectFault;
