@@ -1,5 +1,6 @@
 -- Detection, from the first event to the answer.
-use Rattle.wcp_detect.proofs.Words.{◌≡◌, ◌∙◌, ◌+◌, ◌-◌, ◌^◌, ◌<◌, ◌≤◌, ℕ, Bool, true, false, List, [], ◌∷◌, ◌++◌, Option, Some, None, Result, Ok, Err, length, length-append, length-map, refl, sym, ap, subst, arith, append-nil, Logged, Taken, Watch, HasTaken, watched_by, is_known, Condition, Watcher, watch_of, watches, taken_of, IsWatching, CanTake, WatchesNext}
+use Rattle.wcp_detect.proofs.Words.{◌≡◌, ◌∙◌, ◌+◌, ◌-◌, ◌^◌, ◌<◌, ◌≤◌, ℕ, Bool, true, false, List, [], ◌∷◌, ◌++◌, Option, Some, None, Result, Ok, Err, length, length-append, length-map, refl, sym, ap, subst, arith, append-nil, Logged, Taken, Watch, HasTaken, watched_by, is_known, Condition, Watcher, watch_of, watches, taken_of, IsWatching, CanTake, WatchesNext, host_of, slice_index_or}
+use Rattle.std.proofs.lemmas.List.{get_or_default}
 use Rattle.std.specs.Prelude.{MatchBool}
 use Rattle.std.specs.Result.{IsErr, IsErrAnd}
 use Rattle.std.proofs.lemmas.Result.{err_from_is_err_and}
@@ -11,7 +12,8 @@ use Rattle.wcp_events.specs.declared.fault.EventFault.{EventFault}
 use Rattle.wcp_events.specs.declared.fault.EventFault.TheVariants as events
 use Rattle.wcp_events.specs.Reading.{HasReadEvents, ReadsEvent, SaysWhole}
 use Rattle.wcp_moment.specs.declared.search.Search.{Search}
-use Rattle.wcp_moment.specs.Moment.{IsKnown}
+use Rattle.wcp_moment.specs.Moment.{IsEarliest, IsKnown}
+use Rattle.wcp_moment.specs.Standing.{HasNoMoment, IsSearching}
 use Rattle.wcp_moment.specs.Search.{moment_of}
 use Rattle.wcp_detect.specs.declared.answer.Answer.{Answer}
 use Rattle.wcp_detect.specs.declared.fault.DetectFault.{DetectFault}
@@ -19,7 +21,7 @@ use Rattle.wcp_detect.specs.declared.fault.DetectFault.TheVariants as fault
 use Rattle.wcp_detect.specs.Faults.{fault_of_events}
 use Rattle.wcp_detect.specs.Texts.{found_text}
 use Rattle.wcp_detect.specs.Loop.{IsDetecting}
-use Rattle.wcp_detect.specs.Detection.{Answers, AnswersLast, AtEnd, Early, IsAnswer}
+use Rattle.wcp_detect.specs.Detection.{Answers, AnswersLast, AtEnd, Early, Found, HasSilentHost, IsAnswer, IsFirstSilent, IsLastAnswer}
 use Rattle.wcp_detect.proofs.Watches.{none_taken}
 
 -- No moment is known of nothing.
@@ -36,7 +38,7 @@ first_unknown conditions watcher watching =
 
 -- Where a search knows the moment, it is known.
 known_moment : (taken : List Taken) (search : Search) → HasTaken taken search → is_known search ≡ true → IsKnown (watched_by search) taken (moment_of search)
-known_moment taken one had is = subst (λ b. MatchBool b (IsKnown (watched_by one) taken (moment_of one)) _) is had.moment
+known_moment taken one had is = subst (λ b. MatchBool b (IsKnown (watched_by one) taken (moment_of one)) (IsSearching taken one.queues.items one.floors.items)) is had.moment
 
 pub starts : (form : Form) (conditions : List Condition) (input left : Option (List ℕ)) (log : Log) (watcher : Watcher) → HasReadEvents form input left [] log → IsWatching conditions [] watcher → IsDetecting form conditions input left log watcher 0
 starts form conditions input left log watcher read watching = record {
@@ -95,3 +97,24 @@ pub event_fault : (form : Form) (conditions : List Condition) (input left : Opti
 event_fault form conditions input left logged log (events.Log what) reads = reads
 event_fault form conditions input left logged log events.Read reads = tt
 event_fault form conditions input left logged log events.NoMemory reads = tt
+
+-- What a search says at its end.
+abbrev EndsWith : Bool → Search → Search → Type 0
+EndsWith known old new = (taken : List Taken) → HasTaken taken old → MatchBool known (IsEarliest (watched_by new) taken (moment_of new)) (HasNoMoment (watched_by new) taken)
+
+pub last_found : (conditions : List Condition) (logged : List Logged) (watcher : Watcher) (new : Search) (known : Bool) (printed : List ℕ) (status : ℕ) → IsWatching conditions logged watcher → EndsWith known watcher.search new → known ≡ true
+    → watched_by new ≡ watched_by watcher.search → printed ≡ found_text watcher.conditions.now (moment_of new) → status ≡ 0 → IsLastAnswer conditions logged printed status
+last_found conditions logged watcher new true printed status watching ends is same print status_is =
+    Found (moment_of new) (subst (λ (w : List Watch). IsEarliest w (taken_of conditions logged) (moment_of new)) (same ∙ watching.watched) (ends (taken_of conditions logged) watching.taken))
+    (print ∙ ap (λ (cs : List Condition). found_text cs (moment_of new)) watching.by) status_is
+last_found conditions logged watcher new false printed status watching ends is same print status_is = absurd (cc)
+
+pub last_silent : (conditions : List Condition) (logged : List Logged) (watcher : Watcher) (new : Search) (known : Bool) (place : ℕ) (condition : Condition) (host : List ℕ) → IsWatching conditions logged watcher → EndsWith known watcher.search new → known ≡ false
+    → watched_by new ≡ watched_by watcher.search → IsFirstSilent logged conditions place → condition ≡ slice_index_or watcher.conditions.now place condition → host_of condition ≡ host → HasSilentHost conditions logged host
+last_silent conditions logged watcher new true place condition host watching ends is same first at named = absurd (cc)
+last_silent conditions logged watcher new false place condition host watching ends is same first at named = record {
+  no_moment = subst (λ (w : List Watch). HasNoMoment w (taken_of conditions logged)) (same ∙ watching.watched) (ends (taken_of conditions logged) watching.taken);
+  place = place;
+  first = first;
+  named = λ other. ap host_of (get_or_default conditions place other condition first.within ∙ ap (λ (cs : List Condition). slice_index_or cs place condition) (sym watching.by) ∙ sym at) ∙ named;
+}

@@ -74,7 +74,8 @@ fn last_answer(alloc: Global, mut watcher: Watcher<'_>) -> Result<Answer, Detect
         return Ok(found_answer(alloc, &watcher)?);
     }
     if let Some(place) = first_silent(&watcher.judges) {
-        return Err(DetectFault::NoHost(watcher.conditions[place].host.clone()?));
+        let host = String::from_str(alloc, watcher.conditions[place].host.as_str())?;
+        return Err(DetectFault::NoHost(host));
     }
     Ok(Answer {
         text: none_text(alloc, watcher.conditions, &watcher.judges)?,

@@ -14,4 +14,4 @@ loop-place-preserved c =
 pub returns : goal.returns
 returns c =
     let whole = members_whole (string_bytes c.loop-place.text) c.args.conditions.now c.loop-place.place (moment_of c.args.search.now) _ (omega arith) c.loop-place.invariant in
-    cc (whole, c.into_bytes.ensures)
+    ap (λ v. v.items) c.into_bytes.ensures.value ∙ whole

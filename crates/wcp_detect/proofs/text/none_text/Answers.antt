@@ -21,4 +21,4 @@ returns c logged are =
     let conditions = c.args.conditions.now in
     let line = λ (condition : Condition). count_line (host_of condition) (count_events (host_of condition) logged) (count_matched (host_of condition) (taken_of conditions logged)) in
     let whole = lines_whole line (string_bytes c.loop-place.text) conditions c.loop-place.place _ (omega arith) (c.loop-place.invariant logged are) in
-    cc (whole, c.into_bytes.ensures)
+    ap (λ v. v.items) c.into_bytes.ensures.value ∙ whole

@@ -34,5 +34,5 @@ returns c conditions before watching follow =
     let kept : length c.judge_at-holds.new.judges ≡ length self.judges.items = ap length of_self.set ∙ length-set self.judges.items c.in-Some.place of_self.judge in
     takes_at conditions before (seen_logged c.args.logged) c.in-Some.place self _ c.judge_at-holds.result c.take.result watching follow
     (subst (λ (cs : List Condition). IsPlace host cs c.in-Some.place) watching.by named)
-    (rw (with_items_is self.judges c.judge_at-holds.new.judges kept) of_self)
+    (rw (with_items_is self.judges c.judge_at-holds.new.judges (omega (arith, kept))) of_self)
     refl c.take.ensures.watched c.take.ensures.taken
