@@ -1,5 +1,7 @@
 -- Conditions that were read, and the first that wasn't.
-use Rattle.std.proofs.Common.{◌≡◌, ◌==◌, inr, ℕ, ◌<◌, ◌≤◌, ◌+◌, ◌&&◌, Bool, true, false, not, cond, List, [], ◌∷◌, ◌++◌, map, length, get_or, take, drop, Option, Some, None, Result, Ok, Err, IfOk, string_bytes, refl, ap, sym, ◌∙◌, subst, add-one, arith, rules}
+use Rattle.std.proofs.Common.{◌≡◌, ◌==◌, inr, ℕ, ◌<◌, ◌≤◌, ◌+◌, ◌&&◌, Bool, true, false, not, cond, List, [], ◌∷◌}
+use Rattle.std.proofs.Common.{◌++◌, map, length, get_or, take, drop, Option, Some, None, Result, Ok, Err, IfOk}
+use Rattle.std.proofs.Common.{string_bytes, refl, ap, sym, ◌∙◌, subst, add-one, arith, rules}
 use Rattle.std.proofs.Math.Seq.{drop-cons}
 use Rattle.std.specs.List.{All, AllPairs, AllByRecursion, IsDistinct, list_any}
 use Rattle.std.specs.Str.{bytes_eq}
@@ -24,38 +26,51 @@ use Rattle.wcp_condition.specs.declared.rule.Rule.{Rule}
 use Rattle.wcp_condition.specs.declared.rule.Rule.TheVariants.{While, FromUntil, At}
 use Rattle.wcp_condition.specs.declared.saying.Saying.{Saying as OwnSaying}
 use Rattle.wcp_condition.specs.declared.condition.Condition.{Condition}
-use Rattle.wcp_condition.specs.Asked.{◌>>=◌, Asked, Text, Word, Saying, are_distinct, are_fit, most_hosts, conditions_of, all_read, word_in, saying_by, while_rule, from_rule, at_rule}
+use Rattle.wcp_condition.specs.Asked.{◌>>=◌, Asked, Text, Word, Saying, are_distinct, are_fit, most_hosts}
+use Rattle.wcp_condition.specs.Asked.{conditions_of, all_read, word_in, saying_by, while_rule, from_rule, at_rule}
 use Rattle.wcp_condition.specs.Rules.{map_rule, EachOf}
 use Rattle.wcp_condition.specs.Sayings.{Fails, seen_saying}
-use Rattle.wcp_condition.specs.Conditions.{host_of, said_by, IsReadExpression, IsRead, CanBeRead, FailsBy, FailsFirst, RefusesExpression, RefusesSaying, RefusesSayings, ReadsSayings, HaveHosts}
+use Rattle.wcp_condition.specs.Conditions.{host_of, said_by, IsReadExpression, IsRead, CanBeRead, FailsBy, FailsFirst}
+use Rattle.wcp_condition.specs.Conditions.{RefusesExpression, RefusesSaying, RefusesSayings, ReadsSayings, HaveHosts}
 
 -- The grammar reads the text of an expression that was read.
 pub can_be_read : (regex : Regex) → IsReadExpression regex → IsPattern default_config (regex_source regex)
 can_be_read regex read = (regex.pattern.program.hir, names_of regex.pattern.names.items, rw read.0 at read.1)
 
 -- The first expression of a rule was read, and the second wasn't.
-pub until_refused : (host : Text) (rule : Rule Text) (from until : Text) (fault : ConditionFault) → rule ≡ FromUntil from until → IsPattern default_config from → RefusesExpression host until fault → RefusesSaying (record { host = host; rule = rule }) fault
+pub until_refused : (host : Text) (rule : Rule Text) (from until : Text) (fault : ConditionFault)
+    → rule ≡ FromUntil from until → IsPattern default_config from → RefusesExpression host until fault
+    → RefusesSaying (record { host = host; rule = rule }) fault
 until_refused host rule from until Usage is read refuses = refuses
-until_refused host rule from until (Expression named why) is read refuses = (refuses.0, rw is (inr (read, refuses.1)), refuses.2)
+until_refused host rule from until (Expression named why) is read refuses =
+    (refuses.0, rw is (inr (read, refuses.1)), refuses.2)
 until_refused host rule from until NoMemory is read refuses = tt
 
-rule_can_be_read : (rule : Rule Regex) → EachOf IsReadExpression rule → EachOf (IsPattern default_config) (map_rule regex_source rule)
+rule_can_be_read : (rule : Rule Regex) → EachOf IsReadExpression rule
+    → EachOf (IsPattern default_config) (map_rule regex_source rule)
 rule_can_be_read (While regex) read = can_be_read regex read
 rule_can_be_read (FromUntil from until) read = (can_be_read from read.0, can_be_read until read.1)
 rule_can_be_read (At regex) read = can_be_read regex read
 
 all_can_be_read : (conditions : List Condition) → All IsRead conditions → All CanBeRead (map said_by conditions)
-all_can_be_read conditions read = All-map CanBeRead said_by conditions (λ i d within. rule_can_be_read _ (read i d within))
+all_can_be_read conditions read =
+    All-map CanBeRead said_by conditions (λ i d within. rule_can_be_read _ (read i d within))
 
-split_at : (sayings : List OwnSaying) (i : ℕ) (d : OwnSaying) → i < length sayings → map seen_saying sayings ≡ map seen_saying (take i sayings) ++ seen_saying (get_or sayings i d) ∷ map seen_saying (drop (i + 1) sayings)
+split_at : (sayings : List OwnSaying) (i : ℕ) (d : OwnSaying) → i < length sayings
+    → map seen_saying sayings
+    ≡ map seen_saying (take i sayings) ++ seen_saying (get_or sayings i d) ∷ map seen_saying (drop (i + 1) sayings)
 split_at sayings i d within =
-    let left : drop i sayings ≡ get_or sayings i d ∷ drop (i + 1) sayings = rw add-one (drop-cons sayings i d within) in
-    let whole : sayings ≡ take i sayings ++ (get_or sayings i d ∷ drop (i + 1) sayings) = sym (take-append-drop i sayings) ∙ ap (λ (rest : List OwnSaying). take i sayings ++ rest) left in
+    let left : drop i sayings ≡ get_or sayings i d ∷ drop (i + 1) sayings =
+    rw add-one (drop-cons sayings i d within) in
+    let whole : sayings ≡ take i sayings ++ (get_or sayings i d ∷ drop (i + 1) sayings) =
+    sym (take-append-drop i sayings) ∙ ap (λ (rest : List OwnSaying). take i sayings ++ rest) left in
     ap (map seen_saying) whole ∙ map-append seen_saying (take i sayings) (get_or sayings i d ∷ drop (i + 1) sayings)
 
 -- The i-th saying wasn't read, and those before it were.
-pub fails_at : (sayings : List OwnSaying) (i : ℕ) (d : OwnSaying) (conditions : List Condition) (fault : ConditionFault) → i < length sayings → All IsRead conditions
-    → map said_by conditions ≡ map seen_saying (take i sayings) → RefusesSaying (seen_saying (get_or sayings i d)) fault → RefusesSayings (map seen_saying sayings) fault
+pub fails_at : (sayings : List OwnSaying) (i : ℕ) (d : OwnSaying) (conditions : List Condition)
+    (fault : ConditionFault) → i < length sayings → All IsRead conditions
+    → map said_by conditions ≡ map seen_saying (take i sayings)
+    → RefusesSaying (seen_saying (get_or sayings i d)) fault → RefusesSayings (map seen_saying sayings) fault
 fails_at sayings i d conditions Usage within read so_far refuses = refuses
 fails_at sayings i d conditions NoMemory within read so_far refuses = tt
 fails_at sayings i d conditions (Expression host why) within read so_far refuses = record {
@@ -69,7 +84,8 @@ fails_at sayings i d conditions (Expression host why) within read so_far refuses
   not_memory = refuses.2;
 }
 
-none_equal : (host : Text) (hosts : List Text) → list_any (bytes_eq host) hosts ≡ false → AllByRecursion (λ y. bytes_eq host y ≡ false) hosts
+none_equal : (host : Text) (hosts : List Text) → list_any (bytes_eq host) hosts ≡ false
+    → AllByRecursion (λ y. bytes_eq host y ≡ false) hosts
 none_equal host [] none = search rules
 none_equal host (other ∷ others) none =
     let first : bytes_eq host other ≡ false = grind arith in
@@ -84,37 +100,49 @@ tested_distinct (host ∷ hosts) test =
     let rest : are_distinct hosts ≡ true = grind arith in
     (none_equal host hosts none, tested_distinct hosts rest)
 
-passed : (paired fit : Bool) (all sayings : List Saying) → fit ≡ are_fit all → cond (paired && fit) (Some all) None ≡ Some sayings → are_fit sayings ≡ true
-passed true true all sayings is said = let same : all ≡ sayings = cc in subst (λ (s : List Saying). are_fit s ≡ true) same (sym is)
+passed : (paired fit : Bool) (all sayings : List Saying) → fit ≡ are_fit all
+    → cond (paired && fit) (Some all) None ≡ Some sayings → are_fit sayings ≡ true
+passed true true all sayings is said =
+    let same : all ≡ sayings = cc in
+    subst (λ (s : List Saying). are_fit s ≡ true) same (sym is)
 passed true false all sayings is said = cc
 passed false true all sayings is said = cc
 passed false false all sayings is said = cc
 
 joined_fit : (spans ats : Option (List Saying)) (whiles sayings : List Saying) (paired : Bool)
-    → (spans >>= λ spans. ats >>= λ ats. cond (paired && are_fit (whiles ++ spans ++ ats)) (Some (whiles ++ spans ++ ats)) None) ≡ Some sayings → are_fit sayings ≡ true
+    → (spans >>= λ spans. ats >>= λ ats. cond (paired && are_fit (whiles ++ spans ++ ats))
+    (Some (whiles ++ spans ++ ats)) None) ≡ Some sayings → are_fit sayings ≡ true
 joined_fit None ats whiles sayings paired said = cc
 joined_fit (Some spans) None whiles sayings paired said = cc
-joined_fit (Some spans) (Some ats) whiles sayings paired said = passed paired _ (whiles ++ spans ++ ats) sayings refl said
+joined_fit (Some spans) (Some ats) whiles sayings paired said =
+    passed paired _ (whiles ++ spans ++ ats) sayings refl said
 
-read_fit : (untils : Option (List Word)) (whiles ats : Option (List Saying)) (spans : List Word → Option (List Saying)) (sayings : List Saying) (paired : Bool)
-    → (untils >>= λ untils. whiles >>= λ whiles. spans untils >>= λ spans. ats >>= λ ats. cond (paired && are_fit (whiles ++ spans ++ ats)) (Some (whiles ++ spans ++ ats)) None) ≡ Some sayings → are_fit sayings ≡ true
+read_fit : (untils : Option (List Word)) (whiles ats : Option (List Saying)) (spans : List Word → Option (List Saying))
+    (sayings : List Saying) (paired : Bool)
+    → (untils >>= λ untils. whiles >>= λ whiles. spans untils >>= λ spans. ats >>= λ ats. cond
+    (paired && are_fit (whiles ++ spans ++ ats)) (Some (whiles ++ spans ++ ats)) None) ≡ Some sayings
+    → are_fit sayings ≡ true
 read_fit None whiles ats spans sayings paired said = cc
 read_fit (Some untils) None ats spans sayings paired said = cc
-read_fit (Some untils) (Some whiles) ats spans sayings paired said = joined_fit (spans untils) ats whiles sayings paired said
+read_fit (Some untils) (Some whiles) ats spans sayings paired said =
+    joined_fit (spans untils) ats whiles sayings paired said
 
 -- What words say has hosts that are distinct, and not too many.
 said_is_fit : (asked : Asked) (sayings : List Saying) → conditions_of asked ≡ Some sayings → are_fit sayings ≡ true
 unfolding conditions_of
 said_is_fit asked sayings said =
-    read_fit (all_read word_in asked.untils) (all_read (saying_by while_rule) asked.whiles) (all_read (saying_by at_rule) asked.ats) (λ untils. all_read (saying_by (from_rule untils)) asked.froms)
+    read_fit (all_read word_in asked.untils) (all_read (saying_by while_rule) asked.whiles)
+    (all_read (saying_by at_rule) asked.ats) (λ untils. all_read (saying_by (from_rule untils)) asked.froms)
     sayings (length asked.untils == length asked.froms) said
 
-parted : (n : ℕ) (distinct : Bool) → (nat_le 1 n && nat_le n most_hosts && distinct) ≡ true → (1 ≤ n) × (n ≤ most_hosts) × (distinct ≡ true)
+parted : (n : ℕ) (distinct : Bool) → (nat_le 1 n && nat_le n most_hosts && distinct) ≡ true
+    → (1 ≤ n) × (n ≤ most_hosts) × (distinct ≡ true)
 parted n distinct fit = (grind (arith, nat_tests), grind (arith, nat_tests), grind (arith, nat_tests))
 
 have_hosts : (conditions : List Condition) → are_fit (map said_by conditions) ≡ true → HaveHosts conditions
 have_hosts conditions fit =
-    let parts = parted (length conditions) (are_distinct (map host_of conditions)) (rw (length-map conditions said_by, map-map (λ (s : Saying). s.host) said_by conditions) at fit) in
+    let parts = parted (length conditions) (are_distinct (map host_of conditions))
+    (rw (length-map conditions said_by, map-map (λ (s : Saying). s.host) said_by conditions) at fit) in
     record {
       distinct = AllPairs-from_IsDistinct bytes_eq-Decides _ (tested_distinct _ parts.2);
       some = parts.0;
@@ -122,14 +150,23 @@ have_hosts conditions fit =
     }
 
 -- The hosts of conditions that were read of words.
-pub have_hosts_if_read : {Z : Type 0} (asked : Asked) (sayings : List Saying) → conditions_of asked ≡ Some sayings → (result : Result (Vec Condition Z) ConditionFault) → ReadsSayings sayings result → IfOk result (λ conditions. HaveHosts conditions.items)
-have_hosts_if_read asked sayings said (Ok conditions) reads = have_hosts conditions.items (rw reads.0 (said_is_fit asked sayings said))
+pub have_hosts_if_read : {Z : Type 0} (asked : Asked) (sayings : List Saying) → conditions_of asked ≡ Some sayings
+    → (result : Result (Vec Condition Z) ConditionFault) → ReadsSayings sayings result
+    → IfOk result (λ conditions. HaveHosts conditions.items)
+have_hosts_if_read asked sayings said (Ok conditions) reads =
+    have_hosts conditions.items (rw reads.0 (said_is_fit asked sayings said))
 have_hosts_if_read asked sayings said (Err fault) reads = tt
 
 -- One condition more.
-pub read_more : (sayings : List OwnSaying) (i : ℕ) (d : OwnSaying) (conditions : List Condition) (condition : Condition) → i < length sayings → (map said_by conditions ≡ map seen_saying (take i sayings)) × All IsRead conditions
-    → (said_by condition ≡ seen_saying (get_or sayings i d)) × IsRead condition → (map said_by (conditions ++ condition ∷ []) ≡ map seen_saying (take (i + 1) sayings)) × All IsRead (conditions ++ condition ∷ [])
+pub read_more : (sayings : List OwnSaying) (i : ℕ) (d : OwnSaying) (conditions : List Condition)
+    (condition : Condition) → i < length sayings
+    → (map said_by conditions ≡ map seen_saying (take i sayings)) × All IsRead conditions
+    → (said_by condition ≡ seen_saying (get_or sayings i d)) × IsRead condition
+    → (map said_by (conditions ++ condition ∷ []) ≡ map seen_saying (take (i + 1) sayings)) × All IsRead
+    (conditions ++ condition ∷ [])
 read_more sayings i d conditions condition within so_far reads = (
-  rw (map-append said_by conditions (condition ∷ []), map_more seen_saying sayings i d within) (ap (λ (front : List Saying). front ++ said_by condition ∷ []) so_far.0 ∙ ap (λ (one : Saying). map seen_saying (take i sayings) ++ one ∷ []) reads.0),
+  rw (map-append said_by conditions (condition ∷ []), map_more seen_saying sayings i d within)
+      (ap (λ (front : List Saying). front ++ said_by condition ∷ []) so_far.0
+      ∙ ap (λ (one : Saying). map seen_saying (take i sayings) ++ one ∷ []) reads.0),
   All-push IsRead conditions condition so_far.1 reads.1,
 )

@@ -1,9 +1,13 @@
 -- Words HOST=EXPRESSION.
-use Rattle.std.proofs.Common.{◌≡◌, ℕ, ◌<◌, Bool, true, false, List, length, Option, Some, None, MatchOption, eqb, refl, arith}
+use Rattle.std.proofs.Common.{◌≡◌, ℕ, ◌<◌, Bool, true, false, List, length, Option, Some, None, MatchOption, eqb, refl}
+use Rattle.std.proofs.Common.{arith}
 use Rattle.std.specs.Borrow.{Bor}
 use Rattle.std.specs.List.{position_or_len, before_first, after_first}
 use Rattle.std.proofs.lemmas.Str.Pattern.{IsSplitOnceResult, split_once_first}
 
 -- A text is cut at its first `=`.
-pub cut_once : (text : List ℕ) (r : Option (Bor (List ℕ) × Bor (List ℕ))) → IsSplitOnceResult 61 text r → MatchOption r (position_or_len (λ b. eqb b 61) text ≡ length text) (λ x. (position_or_len (λ b. eqb b 61) text < length text) × (x.0.now ≡ before_first (λ b. eqb b 61) text) × (x.1.now ≡ after_first (λ b. eqb b 61) text))
+pub cut_once : (text : List ℕ) (r : Option (Bor (List ℕ) × Bor (List ℕ))) → IsSplitOnceResult 61 text r
+    → MatchOption r (position_or_len (λ b. eqb b 61) text ≡ length text)
+    (λ x. (position_or_len (λ b. eqb b 61) text < length text) × (x.0.now ≡ before_first (λ b. eqb b 61) text) ×
+    (x.1.now ≡ after_first (λ b. eqb b 61) text))
 cut_once text r split = split_once_first 61 text r split (omega arith)

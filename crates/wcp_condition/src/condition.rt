@@ -16,9 +16,9 @@ pub struct Condition {
     pub rule: Rule<Regex>,
 }
 
-/// The conditions that the words of a command line say: those of `--while` in their order, then those of `--from`, then
-/// those of `--at`. A host ends at the first `=` of its word, and an expression may be empty. All words are looked at
-/// before the first expression is read.
+/// The conditions that the words of a command line say: those of `--while` in their order, then those of `--from`,
+/// then those of `--at`. A host ends at the first `=` of its word, and an expression may be empty. All words are
+/// looked at before the first expression is read.
 pub fn read_conditions(
     alloc: Global,
     words: &ConditionWords<'_>,
@@ -74,8 +74,8 @@ fn expression(alloc: Global, host: &str, source: &str) -> Result<Regex, Conditio
 }
 
 impl Condition {
-    /// Whether what holds at an event lasts until the host's next event, as by `--while` and `--from`. By `--at` it's over
-    /// with the event.
+    /// Whether what holds at an event lasts until the host's next event, as by `--while` and `--from`. By `--at` it's
+    /// over with the event.
     pub fn lasts(&self) -> bool
         ensures { result ≡ lasts self.now.rule }
     {

@@ -2,7 +2,8 @@ ghost use Rattle.std.specs.Prelude.{◌≡◌, ◌++◌, map, option_map, find, 
 ghost use Rattle.std.specs.List.{list_any};
 ghost use Rattle.std.specs.Str.{bytes_eq};
 ghost use Rattle.wcp_condition.specs.Asked.{all_read, saying_by, conditions_of, are_fit, are_distinct};
-ghost use Rattle.wcp_condition.specs.Sayings.{Gives, seen_rule, seen_saying, host_said, seen_texts, seen_words, seen_word, kind_rule};
+ghost use Rattle.wcp_condition.specs.Sayings.{Gives, kind_rule, seen_words, seen_texts, seen_word};
+ghost use Rattle.wcp_condition.specs.Sayings.{seen_rule, seen_saying, host_said};
 
 use crate::fault::ConditionFault;
 use crate::rule::Rule;

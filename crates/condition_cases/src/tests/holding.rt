@@ -1,6 +1,5 @@
-use crate::tests::reading::{ats, between, marks, whiles};
+use crate::tests::reading::{Row, marks, whiles, words};
 use std::test::Fail;
-use wcp_condition::ConditionWords;
 
 /// The texts of a client of a lock.
 const CLIENT: &[&str] = &[
@@ -13,26 +12,28 @@ const CLIENT: &[&str] = &[
     "",
 ];
 
+/// Words, and a mark for each event of the client.
+const ROWS: &[(Row, &str)] = &[
+    ([&["alice=holds the lock"], &[], &[], &[]], "-+---+-"),
+    ([&[], &[], &[], &["alice=holds the lock"]], "-+---+-"),
+    ([&["alice=^holds the lock$"], &[], &[], &[]], "-+-----"),
+    ([&["alice=lock"], &[], &[], &[]], "++-+++-"),
+    ([&["alice="], &[], &[], &[]], "+++++++"),
+    ([&["alice=^$"], &[], &[], &[]], "------+"),
+    ([&["alice=x=y"], &[], &[], &[]], "-------"),
+    ([&[], &["alice=holds"], &["alice=gives"], &[]], "-++--++"),
+    // a text that matches both turns the condition round
+    ([&[], &["alice=lock"], &["alice=lock"], &[]], "+--+-++"),
+    ([&[], &["alice=^$"], &["alice="], &[]], "------+"),
+    // before the first event it doesn't hold, and an until alone begins nothing
+    ([&[], &["alice=never"], &["alice=gives"], &[]], "-------"),
+];
+
 #[test]
 fn events_at_which_a_condition_holds(rt: HostRuntime) -> Result<(), Fail> {
-    let rows: [(ConditionWords<'static>, &str); 11] = [
-        (whiles(&["alice=holds the lock"]), "-+---+-"),
-        (ats(&["alice=holds the lock"]), "-+---+-"),
-        (whiles(&["alice=^holds the lock$"]), "-+-----"),
-        (whiles(&["alice=lock"]), "++-+++-"),
-        (whiles(&["alice="]), "+++++++"),
-        (whiles(&["alice=^$"]), "------+"),
-        (whiles(&["alice=x=y"]), "-------"),
-        (between(&["alice=holds"], &["alice=gives"]), "-++--++"),
-        // a text that matches both turns the condition round
-        (between(&["alice=lock"], &["alice=lock"]), "+--+-++"),
-        (between(&["alice=^$"], &["alice="]), "------+"),
-        // before the first event it doesn't hold, and an until alone begins nothing
-        (between(&["alice=never"], &["alice=gives"]), "-------"),
-    ];
-    for (said, expected) in &rows {
-        let found = marks(rt.alloc(), said, CLIENT)?;
-        assert_eq!(rt; found.as_str(), *expected, "{said:?}");
+    for (row, expected) in ROWS {
+        let found = marks(rt.alloc(), &words(*row), CLIENT)?;
+        assert_eq!(rt; found.as_str(), *expected);
     }
     Ok(())
 }

@@ -2,6 +2,20 @@ use std::alloc::{AllocError, Global};
 use std::fmt::Write;
 use wcp_condition::{ConditionFault, ConditionWords, read_conditions};
 
+/// The words of `--while`, `--from`, `--until` and `--at`.
+pub type Row = [&'static [&'static str]; 4];
+
+/// The words of a row.
+pub fn words(row: Row) -> ConditionWords<'static> {
+    let [whiles, froms, untils, ats] = row;
+    ConditionWords {
+        whiles,
+        froms,
+        untils,
+        ats,
+    }
+}
+
 /// The words of `--while` alone.
 pub fn whiles<'a>(words: &'a [&'a str]) -> ConditionWords<'a> {
     ConditionWords {

@@ -1,67 +1,49 @@
-use crate::tests::reading::{ats, between, shown, whiles};
+use crate::tests::reading::{Row, ats, between, shown, whiles, words};
 use std::test::Fail;
 use wcp_condition::ConditionWords;
 
 /// Words that say no conditions.
-const NO_CONDITIONS: &[ConditionWords<'static>] = &[
-    whiles_of(&[]),
-    whiles_of(&["alice"]),
-    whiles_of(&["=holds"]),
-    whiles_of(&["="]),
-    whiles_of(&[""]),
-    whiles_of(&["alice=holds", "bob"]),
-    whiles_of(&["alice=holds", "alice=asks"]),
-    words(&["alice=holds"], &[], &[], &["alice=holds"]),
-    words(&["alice=holds"], &["alice=holds"], &["alice=gives"], &[]),
-    words(&[], &["alice=holds"], &["alice=gives"], &["alice=x"]),
-    words(&[], &["alice=holds"], &[], &[]),
-    words(&[], &[], &["alice=gives"], &[]),
-    words(&["bob=x"], &[], &["alice=gives"], &[]),
-    words(&[], &["alice=holds"], &["bob=gives"], &[]),
-    words(&[], &["alice=holds"], &["alice=gives", "alice=dies"], &[]),
-    words(&[], &["alice=holds", "alice=asks"], &["alice=gives"], &[]),
-    words(
+const NO_CONDITIONS: &[Row] = &[
+    [&[], &[], &[], &[]],
+    [&["alice"], &[], &[], &[]],
+    [&["=holds"], &[], &[], &[]],
+    [&["="], &[], &[], &[]],
+    [&[""], &[], &[], &[]],
+    [&["alice=holds", "bob"], &[], &[], &[]],
+    [&["alice=holds", "alice=asks"], &[], &[], &[]],
+    [&["alice=holds"], &[], &[], &["alice=holds"]],
+    [&["alice=holds"], &["alice=holds"], &["alice=gives"], &[]],
+    [&[], &["alice=holds"], &["alice=gives"], &["alice=x"]],
+    [&[], &["alice=holds"], &[], &[]],
+    [&[], &[], &["alice=gives"], &[]],
+    [&["bob=x"], &[], &["alice=gives"], &[]],
+    [&[], &["alice=holds"], &["bob=gives"], &[]],
+    [&[], &["alice=holds"], &["alice=gives", "alice=dies"], &[]],
+    [&[], &["alice=holds", "alice=asks"], &["alice=gives"], &[]],
+    [
         &[],
         &["alice=holds", "alice=asks"],
         &["alice=gives", "alice=dies"],
         &[],
-    ),
-    words(
+    ],
+    [
         &[],
         &["alice=holds", "bob=holds"],
         &["alice=gives", "carol=gives"],
         &[],
-    ),
-    words(&[], &["alice"], &["alice=gives"], &[]),
-    words(&[], &["alice=holds"], &["alice"], &[]),
-    words(&["alice=holds"], &[], &[], &["=x"]),
-    // an expression that is none is said after all words were looked at
-    whiles_of(&["alice=(", "bob"]),
-    words(&["alice=("], &[], &["bob=x"], &[]),
+    ],
+    [&[], &["alice"], &["alice=gives"], &[]],
+    [&[], &["alice=holds"], &["alice"], &[]],
+    [&["alice=holds"], &[], &[], &["=x"]],
+    // all words are looked at before the first expression is read
+    [&["alice=(", "bob"], &[], &[], &[]],
+    [&["alice=("], &[], &["bob=x"], &[]],
 ];
-
-const fn words(
-    whiles: &'static [&'static str],
-    froms: &'static [&'static str],
-    untils: &'static [&'static str],
-    ats: &'static [&'static str],
-) -> ConditionWords<'static> {
-    ConditionWords {
-        whiles,
-        froms,
-        untils,
-        ats,
-    }
-}
-
-const fn whiles_of(texts: &'static [&'static str]) -> ConditionWords<'static> {
-    words(texts, &[], &[], &[])
-}
 
 #[test]
 fn words_without_conditions(rt: HostRuntime) -> Result<(), Fail> {
     for row in NO_CONDITIONS {
-        let found = shown(rt.alloc(), row)?;
+        let found = shown(rt.alloc(), &words(*row))?;
         assert_eq!(rt; found.as_str(), "usage", "{row:?}");
     }
     Ok(())
@@ -69,12 +51,12 @@ fn words_without_conditions(rt: HostRuntime) -> Result<(), Fail> {
 
 #[test]
 fn conditions_in_order(rt: HostRuntime) -> Result<(), Fail> {
-    let said = words(
+    let said = words([
         &["bob=x", "alice=x"],
         &["dave=x", "carol=y"],
         &["carol=x", "dave=y"],
         &["erin=x"],
-    );
+    ]);
     let found = shown(rt.alloc(), &said)?;
     assert_eq!(rt;
         found.as_str(),
@@ -95,7 +77,12 @@ fn sixteen_hosts_and_no_more(rt: HostRuntime) -> Result<(), Fail> {
     assert_eq!(rt; few.len(), 16 * "a ends;".len());
     let many = shown(rt.alloc(), &ats(&SEVENTEEN))?;
     assert_eq!(rt; many.as_str(), "usage");
-    let mixed = words(&SEVENTEEN[..8], &SEVENTEEN[8..17], &SEVENTEEN[8..17], &[]);
+    let mixed = ConditionWords {
+        whiles: &SEVENTEEN[..8],
+        froms: &SEVENTEEN[8..],
+        untils: &SEVENTEEN[8..],
+        ats: &[],
+    };
     assert_eq!(rt; shown(rt.alloc(), &mixed)?.as_str(), "usage");
     Ok(())
 }
@@ -109,7 +96,7 @@ fn the_first_expression_that_is_none(rt: HostRuntime) -> Result<(), Fail> {
         ),
         (
             whiles(&["alice=x", "bob=a{2", "carol=("]),
-            "expression bob: regex parse error at 1..2: unclosed counted repetition",
+            "expression bob: regex parse error at 1..3: unclosed counted repetition",
         ),
         (
             between(&["alice=x"], &["alice=["]),
@@ -120,12 +107,12 @@ fn the_first_expression_that_is_none(rt: HostRuntime) -> Result<(), Fail> {
             "expression alice: regex parse error at 0..1: repetition operator missing expression",
         ),
         (
-            words(&["dave=x"], &["bob=("], &["bob=["], &["carol=*"]),
+            words([&["dave=x"], &["bob=("], &["bob=["], &["carol=*"]]),
             "expression bob: regex parse error at 0..1: unclosed group",
         ),
         (
-            words(&["dave=\\"], &["bob=("], &["bob=["], &["carol=*"]),
-            "expression dave: regex parse error at 0..1: incomplete escape sequence, reached end of pattern prematurely",
+            words([&["dave=+"], &["bob=("], &["bob=["], &["carol=*"]]),
+            "expression dave: regex parse error at 0..1: repetition operator missing expression",
         ),
     ];
     for (said, fault) in &rows {

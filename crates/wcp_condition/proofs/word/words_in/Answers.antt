@@ -12,6 +12,8 @@ returns-in_default c =
 
 pub loop-text-preserved : goal.loop-text-preserved
 loop-text-preserved c =
-    let one : option_map seen_word c.word_in.result ≡ Some (seen_word c.in-Some.word) = ap (option_map seen_word) c.in-Some.is in
-    let more = read_more word_in c.args.texts.now c.loop-text.text-index _ _ _ c.loop-text-test.true c.loop-text.invariant (sym c.word_in.ensures ∙ one) in
+    let one : option_map seen_word c.word_in.result ≡ Some (seen_word c.in-Some.word) =
+    ap (option_map seen_word) c.in-Some.is in
+    let more = read_more word_in c.args.texts.now c.loop-text.text-index _ _ _ c.loop-text-test.true
+    c.loop-text.invariant (sym c.word_in.ensures ∙ one) in
     rw (c.in_ok-push.ensures.items, map-append seen_word c.loop-text.words.items (c.in-Some.word ∷ [])) more

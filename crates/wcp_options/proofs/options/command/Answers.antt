@@ -1,0 +1,20 @@
+use Rattle.std.proofs.Common.{◌≡◌, ◌∙◌, ap₂, rules}
+use Rattle.std.proofs.lemmas.Result.{IfOk-weaker}
+use Rattle.clap.specs.Words.{app_of, with_rule}
+use Rattle.wcp_options.specs.Options.{named}
+use Rattle.wcp_options.proofs.options.command.Goals as goal
+
+pub returns : goal.returns
+returns c =
+    let start : app_of c.after_help.result ≡ named = search rules in
+    let first = c.in_ok-arg.ensures.shape c.condition_option.ensures.local
+    ∙ ap₂ with_rule start c.condition_option.ensures.rule in
+    let second = c.in_ok-arg-2.ensures.shape c.condition_option-2.ensures.local
+    ∙ ap₂ with_rule first c.condition_option-2.ensures.rule in
+    let third = c.in_ok-arg-3.ensures.shape c.condition_option-3.ensures.local
+    ∙ ap₂ with_rule second c.condition_option-3.ensures.rule in
+    let fourth = c.in_ok-arg-4.ensures.shape c.condition_option-4.ensures.local
+    ∙ ap₂ with_rule third c.condition_option-4.ensures.rule in
+    IfOk-weaker c.arg-5.result _ _
+    (λ r adds. adds.shape c.form_option.ensures.local ∙ ap₂ with_rule fourth c.form_option.ensures.rule)
+    c.arg-5.ensures

@@ -1,0 +1,57 @@
+-- The options of the program, and what clap finds at them.
+use Rattle.std.specs.Prelude.{List, [], ◌∷◌, map, Option, Some, None, codes, if◌then◌else◌, unwrap_or, true}
+use Rattle.std.specs.Option.{option_map_or}
+use Rattle.std.specs.Borrow.{Bor}
+use Rattle.std.specs.Str.{bytes_eq}
+use Rattle.clap.specs.Words.{App, Row, Rule, Text, all_of, first_of, new_app, new_rule}
+use Rattle.clap.specs.Simple.{on_top}
+use Rattle.clap.specs.declared.builder.action.ArgAction.TheVariants.{Append}
+use Rattle.wcp_log.specs.declared.turn.Form.{Form}
+use Rattle.wcp_log.specs.declared.turn.Form.TheVariants.{Lines, Shiviz, ShivizReversed}
+
+-- An option that takes one value at each use, and may be used again.
+abbrev pub condition_option : Text → Rule
+condition_option name = record (new_rule name) {
+  long = Some name;
+  value_names = 1;
+  action = Some Append;
+}
+
+-- The option of the log's form, which takes one value.
+abbrev pub form_option : Rule
+form_option = record (new_rule (codes "form")) {
+  long = Some (codes "form");
+  value_names = 1;
+}
+
+-- The options of the program.
+abbrev pub rules : List Rule
+rules = condition_option (codes "while") ∷ condition_option (codes "from") ∷ condition_option (codes "until")
+    ∷ condition_option (codes "at") ∷ form_option ∷ []
+
+-- The program's name, and that it has a version.
+abbrev pub named : App
+named = on_top (λ s. record s { has_version = true }) (new_app (codes "wcptrace"))
+
+-- The command line of the program: its options, and what clap adds for help and for the version.
+abbrev pub program : App
+program = on_top (λ s. record s { rules = rules }) named
+
+abbrev pub seen_texts : List (Bor Text) → List Text
+seen_texts texts = map (λ text. text.now) texts
+
+-- The values that were found at an option, in the order given.
+abbrev pub values_at : Text → List Row → List Text
+values_at name rows = unwrap_or (all_of name rows) []
+
+-- The form with this name.
+abbrev pub form_named : Text → Option Form
+form_named name =
+    if bytes_eq name (codes "lines") then Some Lines
+    else if bytes_eq name (codes "shiviz") then Some Shiviz
+    else if bytes_eq name (codes "shiviz-reversed") then Some ShivizReversed
+    else None
+
+-- The form that was found, and that of ShiViz where none was.
+abbrev pub form_at : List Row → Option Form
+form_at rows = option_map_or form_named (first_of (codes "form") rows) (Some Shiviz)

@@ -1,0 +1,50 @@
+//! What the program says of itself.
+
+/// What the program does.
+pub const ABOUT: &str =
+    "Finds the first moment in a log with vector clocks at which the conditions of all watched hosts held.";
+
+/// The program's name and version, and the toolchain that it is proved with.
+pub const VERSION: &str = "wcptrace 0.1.0\nrattle-kit-13b logic dac8208d650f15bf\n";
+
+/// What `--while` says.
+pub const WHILE: &str =
+    "The host's condition holds from an event whose text has a match until the host's next event";
+
+/// What `--from` says.
+pub const FROM: &str = "The host's condition holds from an event whose text has a match";
+
+/// What `--until` says.
+pub const UNTIL: &str = "The end of --from: an event of the same host whose text has a match";
+
+/// What `--at` says.
+pub const AT: &str = "The host's condition holds at an event whose text has a match, and no longer";
+
+/// What `--form` says.
+pub const FORM: &str =
+    "The form of the log: lines, shiviz or shiviz-reversed; shiviz where none is given";
+
+/// The forms, the answer, the exit statuses and the fault lines.
+pub const MORE: &str = "\
+The log is read from standard input, line by line as it comes in. Each host that is named by an
+option is watched, at most 16 of them, each by one condition; other hosts may stand in the log.
+HOST ends at the first `=`. REGEX is a regular expression, which may match anywhere in the text.
+
+  lines            a line for each event: {\"host\":\"alice\",\"clock\":{\"alice\":2},\"event\":\"holds\"}
+  shiviz           two lines for each event: alice {\"alice\":2}, and then its text
+  shiviz-reversed  the text first
+
+The answer is written as soon as it is known:
+
+  found                                none
+  alice line 8 holds the lock          alice events 12 matched 3
+  bob line 18 holds the lock           bob events 9 matched 2
+
+Exit status: 0 found, 1 none, 2 where no answer can be given, with one line on standard error:
+  line L: KIND          line L has a fault: long, text, clock, own, order, falls or many
+  usage                 the words ask for nothing that the program knows
+  expression HOST: WHY  the expression of this host is none
+  nohost HOST           this host logs nothing
+  read, write           the input or the output failed
+  memory                memory ran out
+";
