@@ -17,9 +17,10 @@ one_place conditions p q c hosts p_in q_in same = elim (leb_tells p q) [
   where
     many : length (map host_of conditions) ≡ length conditions
     many = length-map conditions host_of
+
     apart : (i j : ℕ) → i < length conditions → j < length conditions → i < j → host_of (slice_index_or conditions i c) ≡ host_of (slice_index_or conditions j c) → ⊥
     apart i j i_in j_in below alike = hosts.distinct i j [] below (omega (arith, many))
-      (get_or-map host_of conditions i c [] i_in ∙ alike ∙ sym (get_or-map host_of conditions j c [] j_in))
+        (get_or-map host_of conditions i c [] i_in ∙ alike ∙ sym (get_or-map host_of conditions j c [] j_in))
 
 of_first : (host : List ℕ) (first : Condition) (conditions : List Condition) (condition : Condition) (same : Bool) → bytes_eq (host_of first) host ≡ same → condition_at host (first ∷ conditions) ≡ Some condition
     → (condition_at host conditions ≡ Some condition → host_of condition ≡ host) → host_of condition ≡ host

@@ -29,8 +29,8 @@ matched_other : (conditions : List Condition) (host : List ℕ) (taken : List Ta
     → count_matched host (taken ++ option_to_list (taken_after conditions before one)) ≡ count_matched host taken
 matched_other conditions host taken before one None is other = rw is (ap (count_matched host) (append-nil taken))
 matched_other conditions host taken before one (Some found) is other = rw is (
-      let holds = holds_at_last (rule_of found) (texts_at one.event.host (before ++ one ∷ [])) in
-      ap length (filter_push (λ t. t.holds && bytes_eq t.logged.event.host host) taken (record { logged = one; holds = holds }) false (ap (λ b. holds && b) other ∙ and_false holds) ∙ append-nil (filter (λ t. t.holds && bytes_eq t.logged.event.host host) taken))
+    let holds = holds_at_last (rule_of found) (texts_at one.event.host (before ++ one ∷ [])) in
+    ap length (filter_push (λ t. t.holds && bytes_eq t.logged.event.host host) taken (record { logged = one; holds = holds }) false (ap (λ b. holds && b) other ∙ and_false holds) ∙ append-nil (filter (λ t. t.holds && bytes_eq t.logged.event.host host) taken))
     )
 
 -- The event is another host's.
@@ -62,12 +62,12 @@ knows_own conditions before one condition judge judge' holds found of knows next
     let last = holds_at_last (rule_of condition) (texts_at one.event.host (before ++ one ∷ [])) in
     let test = λ (t : Taken). t.holds && bytes_eq t.logged.event.host host in
     let taken : taken_of conditions (before ++ one ∷ []) ≡ taken_of conditions before ++ record { logged = one; holds = last } ∷ [] =
-      taken_more conditions [] before one ∙ ap (λ o. taken_of conditions before ++ option_to_list (option_map (λ c. record { logged = one; holds = holds_at_last (rule_of c) (texts_at one.event.host (before ++ one ∷ [])) }) o)) found in
+    taken_more conditions [] before one ∙ ap (λ o. taken_of conditions before ++ option_to_list (option_map (λ c. record { logged = one; holds = holds_at_last (rule_of c) (texts_at one.event.host (before ++ one ∷ [])) }) o)) found in
     record {
       judged = subst (λ texts. HasJudged (rule_of condition) texts judge'.judge) (sym (texts_own host before one own)) judged.1;
       events = next.events ∙ ap (λ n. n + 1) knows.events ∙ sym (ap length (filter_push (λ one. bytes_eq one.event.host host) before one true own) ∙ length-append (events_at host before) (one ∷ []));
       matched = next.matched ∙ ap (λ n. n + (if holds then 1 else 0)) knows.matched
-        ∙ sym (ap (count_matched host) taken
+          ∙ sym (ap (count_matched host) taken
           ∙ ap length (filter_push test (taken_of conditions before) (record { logged = one; holds = last }) holds (ap (λ b. last && b) own ∙ and_true last ∙ as_held))
           ∙ counted (filter test (taken_of conditions before)) (record { logged = one; holds = last }) holds);
     }

@@ -62,8 +62,8 @@ passes_over conditions before one watcher watching none = record {
   };
   watched = watching.watched;
   taken = subst (λ taken. HasTaken taken watcher.search)
-    (sym (taken_more conditions [] before one ∙ ap (λ o. taken_of conditions before ++ option_to_list (option_map (λ c. record { logged = one; holds = holds_at_last (rule_of c) (texts_at one.event.host (before ++ one ∷ [])) }) o)) none ∙ append-nil (taken_of conditions before)))
-    watching.taken;
+      (sym (taken_more conditions [] before one ∙ ap (λ o. taken_of conditions before ++ option_to_list (option_map (λ c. record { logged = one; holds = holds_at_last (rule_of c) (texts_at one.event.host (before ++ one ∷ [])) }) o)) none ∙ append-nil (taken_of conditions before)))
+      watching.taken;
 }
 
 judges_more : (conditions : List Condition) (before : List Logged) (one : Logged) (place : ℕ) (judges judges' : List Judged) (holds : Bool) → HaveHosts conditions → IsPlace one.event.host conditions place → AreJudges conditions before judges
@@ -72,11 +72,11 @@ judges_more conditions before one place judges judges' holds hosts is_place are 
   as_many = omega (arith, are.as_many, length-set judges place next.judge);
   each = λ p c j within. elim (eqb_tells p place) [
     | inl here ↦ rw (here.1, get_or-set_same judges place next.judge j (omega (arith, is_place.within, are.as_many)))
-      (knows_own conditions before one (slice_index_or conditions place c) (slice_index_or judges place j) next.judge holds (is_place.first c) (found_is_of one.event.host conditions (slice_index_or conditions place c) (is_place.first c)) (are.each place c j is_place.within) (next.next j))
+        (knows_own conditions before one (slice_index_or conditions place c) (slice_index_or judges place j) next.judge holds (is_place.first c) (found_is_of one.event.host conditions (slice_index_or conditions place c) (is_place.first c)) (are.each place c j is_place.within) (next.next j))
     | inr there ↦ rw (get_or-set_other judges place p next.judge j there.1)
-      (knows_other conditions before one (slice_index_or conditions p c) (slice_index_or judges p j)
-      (is_other one (slice_index_or conditions p c) (λ same. there.1 (one_place conditions p place c hosts within is_place.within (same ∙ sym (found_is_of one.event.host conditions (slice_index_or conditions place c) (is_place.first c))))))
-      (are.each p c j within))
+        (knows_other conditions before one (slice_index_or conditions p c) (slice_index_or judges p j)
+        (is_other one (slice_index_or conditions p c) (λ same. there.1 (one_place conditions p place c hosts within is_place.within (same ∙ sym (found_is_of one.event.host conditions (slice_index_or conditions place c) (is_place.first c))))))
+        (are.each p c j within))
   ];
 })
 
@@ -101,9 +101,8 @@ takes_place conditions before one place c old new holds (Ok known) watching foll
     }) in
     let held = holds_own conditions before one condition (slice_index_or old.judges.items place judged.judge) judged.judge holds of (watching.judges.each place c judged.judge is_place.within) (judged.next judged.judge) in
     let taken : taken_of conditions before ++ record { logged = one; holds = holds } ∷ [] ≡ taken_of conditions (before ++ one ∷ []) =
-      ap (λ b. taken_of conditions before ++ record { logged = one; holds = b } ∷ []) held
-      ∙ sym (taken_more conditions [] before one ∙ ap (λ o. taken_of conditions before ++ option_to_list (option_map (λ c. record { logged = one; holds = holds_at_last (rule_of c) (texts_at one.event.host (before ++ one ∷ [])) }) o)) found) in
-    (
+    ap (λ b. taken_of conditions before ++ record { logged = one; holds = b } ∷ []) held
+    ∙ sym (taken_more conditions [] before one ∙ ap (λ o. taken_of conditions before ++ option_to_list (option_map (λ c. record { logged = one; holds = holds_at_last (rule_of c) (texts_at one.event.host (before ++ one ∷ [])) }) o)) found) in (
       record {
         by = same_conditions ∙ watching.by;
         hosts = watching.hosts;

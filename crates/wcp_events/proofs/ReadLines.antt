@@ -77,7 +77,7 @@ reads_line form input left left' logged log log' line one before given is =
         so_far = after says.so_far is.turn;
         said = log_more form no_lines says.lines (line ∷ []) says.so_far says.said ∙ log_line form says.so_far line is.turn is.said;
         ended = logged_more form no_lines says.lines (line ∷ []) says.so_far says.said ∙ ap (λ l. l ++ logged_from form says.so_far (line ∷ [])) says.ended
-          ∙ ap (λ l. logged ++ l) (logged_line form says.so_far line is.turn is.said ∙ append-nil (option_to_list is.turn.event));
+            ∙ ap (λ l. logged ++ l) (logged_line form says.so_far line is.turn is.said ∙ append-nil (option_to_list is.turn.event));
       };
       read = is.read;
       events = events_more says.so_far.events logged is.turn.event before.events;

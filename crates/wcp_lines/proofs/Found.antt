@@ -12,8 +12,8 @@ no_feed_before bytes place within nowhere = All-from_get_or (λ byte. byte ≢ l
 -- The LF that stands there parts the bytes.
 pub parted_at_feed : (bytes : List ℕ) (place : ℕ) → place < length bytes → Passes (is_byte 10) bytes place → bytes ≡ take place bytes ++ line_feed ∷ drop (place + 1) bytes
 parted_at_feed bytes place within passes = rw add-one (
-      sym (take-append-drop place bytes)
-      ∙ ap (λ l. take place bytes ++ l) (drop-cons bytes place 0 within ∙ ap (λ byte. byte ∷ drop (suc place) bytes) (eqb-true _ 10 passes))
+    sym (take-append-drop place bytes)
+    ∙ ap (λ l. take place bytes ++ l) (drop-cons bytes place 0 within ∙ ap (λ byte. byte ∷ drop (suc place) bytes) (eqb-true _ 10 passes))
     )
 
 -- So does one in the first bytes.

@@ -1,1 +1,2 @@
+mod Saying
 mod Statuses

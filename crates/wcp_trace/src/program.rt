@@ -1,8 +1,7 @@
 //! The program, over any reader and writers.
 ghost use Rattle.std.specs.Prelude.{◌≡◌, ◌≤◌, map, IfOk};
 ghost use Rattle.std.specs.Io.KnownBytes.{Keeps};
-ghost use Rattle.wcp_options.specs.Requests.{IsRequestOf};
-ghost use Rattle.wcp_trace.specs.Edge.{Does, DoesAsked, edge_of, status_after};
+ghost use Rattle.wcp_trace.specs.Edge.{DoesAsked, edge_of, status_after};
 ghost use Rattle.wcp_trace.specs.Requested.{AnswersRequest, AnswersTrace};
 
 use crate::fault::Fault;
@@ -72,12 +71,8 @@ fn obey<S: AsStr, I: Read, O: Write>(
 }
 
 /// The answer to a request.
-fn answer_to<I: Read>(
-    alloc: Global,
-    request: Request<'_>,
-    input: &mut I,
-) -> Result<Answer, Fault>
-    ensures answer { IfOk result (λ answer. AnswersRequest request (I.remaining input.old) (I.remaining input.new)
+fn answer_to<I: Read>(alloc: Global, request: Request<'_>, input: &mut I) -> Result<Answer, Fault>
+    ensures answer { IfOk result (λ answer. AnswersRequest request.entry (I.remaining input.old) (I.remaining input.new)
         answer.text.items answer.status) }
     ensures status { IfOk result (λ answer. answer.status ≤ 1) }
 {

@@ -15,11 +15,10 @@ pub returns-in_err-logged : goal.returns-in_err-logged
 returns-in_err-logged g c =
     let input = g.I.Read.remaining c.args.input.now in
     let before = c.loop.invariant in
-    let reads = c.in_err-logged.ensures c.args.form input before.logged before.read in
-    (
+    let reads = c.in_err-logged.ensures c.args.form input before.logged before.read in (
       c.next_event.new.self.lines.ahead,
       hands_on c.args.form c.args.conditions.now input _ _ _ c.from_residual-in_err-logged.ensures
-      (event_fault c.args.form c.args.conditions.now input _ before.logged c.next_event.new.self.log c.in_err-logged.field-0.0 reads),
+          (event_fault c.args.form c.args.conditions.now input _ before.logged c.next_event.new.self.log c.in_err-logged.field-0.0 reads),
     )
 
 pub returns-in_default : goal.returns-in_default
@@ -27,8 +26,7 @@ returns-in_default g c =
     let input = g.I.Read.remaining c.args.input.now in
     let rest = left c.next_event.new.self.lines (g.I.Read.remaining c.next_event.new.input) in
     let before = c.loop.invariant in
-    let says = subst (λ (one : Option OwnLogged). ReadsEvent c.args.form input rest before.logged (Ok one) c.next_event.new.self.log) c.in_default.is (c.in_ok-logged.ensures c.args.form input before.logged before.read) in
-    (
+    let says = subst (λ (one : Option OwnLogged). ReadsEvent c.args.form input rest before.logged (Ok one) c.next_event.new.self.log) c.in_default.is (c.in_ok-logged.ensures c.args.form input before.logged before.read) in (
       c.next_event.new.self.lines.ahead,
       answers_last c.args.form c.args.conditions.now input rest before.logged c.last_answer.result says (c.last_answer.ensures c.args.conditions.now before.logged before.watching),
     )
@@ -64,11 +62,10 @@ returns-then-branch g c =
     let before = c.loop.invariant in
     let reads = subst (λ (one : Option OwnLogged). ReadsEvent c.args.form input rest before.logged (Ok one) c.next_event.new.self.log) c.in-Some.is (c.in_ok-logged.ensures c.args.form input before.logged before.read) in
     let watched = c.in_ok-take.ensures c.args.conditions.now before.logged before.watching reads.0 in
-    let known = subst (λ (b : Bool). WatchesNext c.args.conditions.now before.logged (seen_logged c.in-Some.logged) (Ok b) c.take.new.self) c.if-branch.true watched in
-    (
+    let known = subst (λ (b : Bool). WatchesNext c.args.conditions.now before.logged (seen_logged c.in-Some.logged) (Ok b) c.take.new.self) c.if-branch.true watched in (
       c.next_event.new.self.lines.ahead,
       answers_early c.args.form c.args.conditions.now input _ rest c.loop.events.log c.next_event.new.self.log c.loop.watcher c.take.new.self c.loop.counter c.in-Some.logged _ _ before reads known
-      c.in_ok-found_answer.ensures.text c.in_ok-found_answer.ensures.status,
+          c.in_ok-found_answer.ensures.text c.in_ok-found_answer.ensures.status,
     )
 
 pub loop-preserved : goal.loop-preserved

@@ -9,8 +9,7 @@ pub returns-in_default : goal.returns-in_default
 returns-in_default c conditions before watching follow =
     let host = string_bytes c.args.logged.event.host in
     let none : condition_at c.as_str.result.now c.args.self.now.conditions.now ≡ None = c.in_default.ensures in
-    let named : condition_at host c.args.self.now.conditions.now ≡ None = subst (λ (h : List ℕ). condition_at h c.args.self.now.conditions.now ≡ None) c.as_str.ensures.value none in
-    (
+    let named : condition_at host c.args.self.now.conditions.now ≡ None = subst (λ (h : List ℕ). condition_at h c.args.self.now.conditions.now ≡ None) c.as_str.ensures.value none in (
       passes_over conditions before (seen_logged c.args.logged) c.args.self.now watching (subst (λ (cs : List Condition). condition_at host cs ≡ None) watching.by named),
       c.requires.none_known,
     )
@@ -28,9 +27,9 @@ returns c conditions before watching follow =
     let named : IsPlace host self.conditions.now c.in-Some.place = subst (λ (h : List ℕ). IsPlace h self.conditions.now c.in-Some.place) c.as_str.ensures.value is_place in
     let judged : JudgesOneAt c.in-Some.place c.deref_mut.result.now c.as_str-2.result.now c.judge_at-holds.result c.judge_at-holds.new.judges = c.judge_at-holds.ensures in
     let of_text : JudgesOneAt c.in-Some.place c.deref_mut.result.now (string_bytes c.args.logged.event.text) c.judge_at-holds.result c.judge_at-holds.new.judges =
-      subst (λ (t : List ℕ). JudgesOneAt c.in-Some.place c.deref_mut.result.now t c.judge_at-holds.result c.judge_at-holds.new.judges) c.as_str-2.ensures.value judged in
+    subst (λ (t : List ℕ). JudgesOneAt c.in-Some.place c.deref_mut.result.now t c.judge_at-holds.result c.judge_at-holds.new.judges) c.as_str-2.ensures.value judged in
     let of_self : JudgesOneAt c.in-Some.place self.judges.items (string_bytes c.args.logged.event.text) c.judge_at-holds.result c.judge_at-holds.new.judges =
-      subst (λ (old : List Judged). JudgesOneAt c.in-Some.place old (string_bytes c.args.logged.event.text) c.judge_at-holds.result c.judge_at-holds.new.judges) c.deref_mut.ensures.value of_text in
+    subst (λ (old : List Judged). JudgesOneAt c.in-Some.place old (string_bytes c.args.logged.event.text) c.judge_at-holds.result c.judge_at-holds.new.judges) c.deref_mut.ensures.value of_text in
     let kept : length c.judge_at-holds.new.judges ≡ length self.judges.items = ap length of_self.set ∙ length-set self.judges.items c.in-Some.place of_self.judge in
     takes_at conditions before (seen_logged c.args.logged) c.in-Some.place self _ c.judge_at-holds.result c.take.result watching follow
     (subst (λ (cs : List Condition). IsPlace host cs c.in-Some.place) watching.by named)

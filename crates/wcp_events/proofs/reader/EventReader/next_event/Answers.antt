@@ -30,8 +30,7 @@ returns-in-Some g c form known logged given =
     let before = c.loop.invariant form known logged given in
     let line = c.in_ok-advance.ensures.line (ap Ok c.if-not-branch.false) in
     let so_far = before.says.so_far in
-    let turn = subst (λ one. IsTurn form so_far c.line.result.now one c.read.new.self) c.in-Some.is (c.in_ok-logged.ensures form so_far before.read) in
-    (
+    let turn = subst (λ one. IsTurn form so_far c.line.result.now one c.read.new.self) c.in-Some.is (c.in_ok-logged.ensures form so_far before.read) in (
       line_follows form known _ logged c.loop.self.log c.read.new.self c.line.result.now c.in-Some.logged before turn,
       reads_line form known _ _ logged c.loop.self.log c.read.new.self c.line.result.now (Some c.in-Some.logged) before (subst (Gives _ _) (sym c.line.ensures) line) turn,
     )
