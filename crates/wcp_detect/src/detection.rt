@@ -1,0 +1,98 @@
+//! Detection while the log comes in.
+ghost use Rattle.std.specs.Prelude.{◌≡◌, true, ◌<◌, IfOk, IfSome, MatchOption, length};
+ghost use Rattle.wcp_moment.specs.Search.{is_known, moment_of, watched_by};
+ghost use Rattle.wcp_condition.specs.Conditions.{HaveHosts};
+ghost use Rattle.wcp_detect.specs.Detection.{AllLog, AnswersLast, Detects, IsFirstSilent};
+ghost use Rattle.wcp_detect.specs.Texts.{found_text};
+ghost use Rattle.wcp_detect.specs.Watcher.{AreJudges, IsWatching};
+ghost use Rattle.wcp_detect.specs.Watching.{watches};
+
+use crate::answer::Answer;
+use crate::fault::DetectFault;
+use crate::judged::Judged;
+use crate::text::{found_text, none_text};
+use crate::watcher::Watcher;
+use std::alloc::{AllocError, Global};
+use std::io::Read;
+use wcp_condition::Condition;
+use wcp_events::EventReader;
+use wcp_log::Form;
+
+/// The status where the moment was found.
+const FOUND: u8 = 0;
+
+/// The status where there is none.
+const NONE: u8 = 1;
+
+/// Reads a log of this form, event by event, until the earliest moment at which all conditions hold is known, and no
+/// further; or to its end. A fault of a line that comes before the moment is known is answered. A host that logs
+/// nothing is answered where there is no moment.
+pub fn detect<I: Read>(
+    alloc: Global,
+    form: Form,
+    conditions: &[Condition],
+    input: &mut I,
+) -> Result<Answer, DetectFault>
+    requires { HaveHosts conditions.now }
+    ensures { Detects form conditions.now (I.remaining input.old) (I.remaining input.new) result }
+{
+    let mut events = EventReader::new(alloc, form)?;
+    let mut watcher = Watcher::new(alloc, conditions)?;
+    for _ in 0..u64::MAX {
+        let Some(logged) = events.next_event(input)? else {
+            return last_answer(alloc, watcher);
+        };
+        if watcher.take(logged)? {
+            return Ok(found_answer(alloc, &watcher)?);
+        }
+    }
+    Err(DetectFault::Read)
+}
+
+/// The answer where the moment is known.
+fn found_answer(alloc: Global, watcher: &Watcher<'_>) -> Result<Answer, AllocError>
+    requires known { is_known watcher.now.search ≡ true }
+    requires watched { watched_by watcher.now.search ≡ watches watcher.now.conditions.now }
+    ensures text { IfOk result (λ answer. answer.text.items
+        ≡ found_text watcher.now.conditions.now (moment_of watcher.now.search)) }
+    ensures status { IfOk result (λ answer. answer.status ≡ 0) }
+{
+    Ok(Answer {
+        text: found_text(alloc, watcher.conditions, &watcher.search)?,
+        status: FOUND,
+    })
+}
+
+/// The answer at the end of the log.
+fn last_answer(alloc: Global, mut watcher: Watcher<'_>) -> Result<Answer, DetectFault>
+    requires as_many { length watcher.judges.items ≡ length watcher.conditions.now }
+    requires watched { watched_by watcher.search ≡ watches watcher.conditions.now }
+    ensures { (conditions : _) (logged : _) → IsWatching conditions logged watcher.entry →
+        AnswersLast conditions logged result }
+{
+    if watcher.search.end() {
+        return Ok(found_answer(alloc, &watcher)?);
+    }
+    if let Some(place) = first_silent(&watcher.judges) {
+        let host = String::from_str(alloc, watcher.conditions[place].host.as_str())?;
+        return Err(DetectFault::NoHost(host));
+    }
+    Ok(Answer {
+        text: none_text(alloc, watcher.conditions, &watcher.judges)?,
+        status: NONE,
+    })
+}
+
+/// The place of the first host that has no event, if there is one.
+fn first_silent(judges: &[Judged<'_>]) -> Option<usize>
+    ensures within { IfSome result (λ place. place < length judges.now) }
+    ensures first { (conditions : _) (logged : _) → AreJudges conditions logged judges.now →
+        MatchOption result (AllLog logged conditions) (IsFirstSilent logged conditions) }
+{
+    for place in 0..judges.len() {
+        if judges[place].tally.events == 0 {
+            return Some(place);
+        }
+    }
+    None
+}

@@ -1,0 +1,14 @@
+//! The earliest moment of a log at which the conditions of all its watched hosts hold, while the log comes in.
+#![tactic(auto)]
+
+mod answer;
+mod detection;
+mod fault;
+mod judged;
+mod tally;
+mod text;
+mod watcher;
+
+pub use answer::Answer;
+pub use detection::detect;
+pub use fault::DetectFault;

@@ -1,0 +1,4 @@
+pub mod Words
+mod Turns
+mod Lines
+mod ReadLines

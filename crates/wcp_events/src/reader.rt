@@ -1,0 +1,47 @@
+ghost use Rattle.std.specs.Prelude.{◌≡◌, List, [], Option, IfOk, ℕ};
+ghost use Rattle.wcp_lines.specs.Reader.{left};
+ghost use Rattle.wcp_events.specs.Reading.{HasReadEvents, ReadsEvent};
+
+use crate::fault::EventFault;
+use std::alloc::{AllocError, Global};
+use std::io::Read;
+use wcp_lines::LineReader;
+use wcp_log::{Form, Log, Logged};
+
+/// Reads the events of an input, always the same one.
+#[derive(Drop)]
+pub struct EventReader {
+    lines: LineReader,
+    log: Log,
+}
+
+impl EventReader {
+    /// A reader of a log of this form, before its first line.
+    pub fn new(alloc: Global, form: Form) -> Result<EventReader, AllocError>
+        ensures { IfOk result (λ reader. (input : Option (List ℕ)) →
+            HasReadEvents form input (left reader.lines input) [] reader.log) }
+    {
+        let lines = LineReader::new(alloc)?;
+        let log = Log::new(alloc, form);
+        Ok(EventReader { lines, log })
+    }
+
+    /// Reads the input up to the next event, and `None` where the log ends before one. After an `Err` there is no more to
+    /// be read.
+    pub fn next_event<I: Read>(&mut self, input: &mut I) -> Result<Option<Logged>, EventFault>
+        ensures { (form : _) (known : _) (logged : _) →
+            HasReadEvents form known (left self.old.lines (I.remaining input.old)) logged self.old.log →
+            ReadsEvent form known (left self.new.lines (I.remaining input.new)) logged result self.new.log }
+    {
+        for _ in 0..u64::MAX {
+            if !self.lines.advance(input)? {
+                self.log.end()?;
+                return Ok(None);
+            }
+            if let Some(logged) = self.log.read(self.lines.line())? {
+                return Ok(Some(logged));
+            }
+        }
+        Err(EventFault::Read)
+    }
+}

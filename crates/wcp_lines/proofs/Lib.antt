@@ -1,0 +1,4 @@
+pub mod Words
+mod Firsts
+mod Found
+mod Given

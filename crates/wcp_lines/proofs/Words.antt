@@ -1,0 +1,12 @@
+-- The words of the proofs of this crate, from one place.
+pub use Rattle.std.proofs.Common.{◌≡◌, ◌≢◌, ◌∙◌, ◌+◌, ◌-◌, ◌<◌, ◌≤◌, ℕ, Bool, true, false, List, [], ◌∷◌, ◌++◌, Option, Some, None, length, take, drop, vec_len, slice_range, slice_index, get_or, refl, sym, ap, subst, rules, arith, append_assoc, append-nil, inl, inr, length-append, length-take, length-drop, length-take-le, take-append-drop, drop-cons, drop-drop}
+pub use Rattle.std.proofs.KnownBytes.{Consumes-nil, Consumes-trans, Consumes-kept, Keeps-refl, Keeps-trans}
+pub use Rattle.std.proofs.lemmas.List.{drop-take, take_all}
+pub use Rattle.std.proofs.lemmas.List.Elements.{All-append, All-from_get_or, All-head, All-tail}
+pub use Rattle.std.specs.Io.KnownBytes.{Consumes, IsAtEnd, Keeps, prepend_known}
+pub use Rattle.std.specs.Prelude.{nat_eq, IfSome}
+pub use Rattle.memchr.specs.Find.{Nowhere, NoneBefore, Passes, is_byte}
+pub use Rattle.wcp_lines.specs.Lines.{line_feed, put_in_front}
+unfoldable pub use Rattle.wcp_lines.specs.Lines.{lines_of}
+pub use Rattle.wcp_lines.specs.Reader.{Gives, IsFirst, Whole, Front, left, most_given}
+pub use Rattle.wcp_lines.specs.Parts.{HasNoFeed, Moves, ToFeed, ToCut, Rest}

@@ -1,0 +1,24 @@
+ghost use Rattle.std.specs.Prelude.{◌≡◌};
+ghost use Rattle.wcp_lines.specs.declared.fault.InputFault.TheVariants.{NoMemory};
+
+use std::alloc::AllocError;
+use thiserror::Error;
+
+/// Why no line was read.
+#[derive(Clone, Copy, Debug, PartialEq, Eq, Error)]
+pub enum InputFault {
+    /// A read failed.
+    #[error("read")]
+    Read,
+    /// Memory ran out.
+    #[error("memory")]
+    NoMemory,
+}
+
+impl From<AllocError> for InputFault {
+    ghost from_gives = { λ _ given. given ≡ NoMemory };
+
+    fn from(_error: AllocError) -> InputFault {
+        InputFault::NoMemory
+    }
+}

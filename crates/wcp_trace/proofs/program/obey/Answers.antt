@@ -1,0 +1,19 @@
+use Rattle.std.proofs.Common.{subst}
+use Rattle.std.specs.Io.KnownBytes.{Appends}
+use Rattle.wcp_output.specs.Fronts.{AppendsFront}
+use Rattle.wcp_trace.specs.Edge.{Front, Whole}
+use Rattle.wcp_trace.proofs.Statuses.{status_after_err}
+use Rattle.wcp_trace.proofs.program.obey.Goals as goal
+
+pub returns-in_err-write_whole-clause-does : goal.returns-in_err-write_whole-clause-does
+returns-in_err-write_whole-clause-does g c =
+    let answer = c.in_ok-answer.answer in
+    Front c.in_ok-request.request answer.text.items answer.status (record { found = c.in_ok-request.ensures.asked; plain = c.in_ok-request.ensures.plain }) c.in_ok-answer.ensures.answer
+    (subst (AppendsFront (g.O.Write.contents c.args.output.now) (g.O.Write.contents c.write_whole.new.output)) c.as_slice.ensures.value c.in_err-write_whole.ensures.err)
+    (status_after_err _ c.from_residual-in_err-write_whole.ensures.0)
+
+pub returns-clause-does : goal.returns-clause-does
+returns-clause-does g c =
+    let answer = c.in_ok-answer.answer in
+    Whole c.in_ok-request.request answer.text.items (record { found = c.in_ok-request.ensures.asked; plain = c.in_ok-request.ensures.plain }) c.in_ok-answer.ensures.answer
+    (subst (Appends (g.O.Write.contents c.args.output.now) (g.O.Write.contents c.write_whole.new.output)) c.as_slice.ensures.value c.in_ok-write_whole.ensures.ok)
