@@ -104,7 +104,7 @@ fn the_first_expression_that_is_none(rt: HostRuntime) -> Result<(), Fail> {
         ),
         (
             between(&["alice=*"], &["alice=["]),
-            "expression alice: regex parse error at 0..1: repetition operator missing expression",
+            "expression alice: regex parse error at 0..0: repetition operator missing expression",
         ),
         (
             words([&["dave=x"], &["bob=("], &["bob=["], &["carol=*"]]),
@@ -112,7 +112,7 @@ fn the_first_expression_that_is_none(rt: HostRuntime) -> Result<(), Fail> {
         ),
         (
             words([&["dave=+"], &["bob=("], &["bob=["], &["carol=*"]]),
-            "expression dave: regex parse error at 0..1: repetition operator missing expression",
+            "expression dave: regex parse error at 0..0: repetition operator missing expression",
         ),
     ];
     for (said, fault) in &rows {
