@@ -1,5 +1,6 @@
 -- What is detected in an input, and what is answered.
-use Rattle.std.specs.Prelude.{◌≡◌, ℕ, ◌<◌, List, [], take, All, Option, Result, Ok, Err, length, slice_index_or, string_bytes}
+use Rattle.std.specs.Prelude.{◌≡◌, ℕ, ◌<◌, List, [], take, All, Option, Result, Ok, Err, length}
+use Rattle.std.specs.Prelude.{slice_index_or, string_bytes}
 use Rattle.std.specs.Io.KnownBytes.{prepend_known}
 use Rattle.wcp_log.specs.declared.turn.Form.{Form}
 use Rattle.wcp_log.specs.Log.{Logged}
@@ -30,7 +31,8 @@ pub record IsFirstSilent (logged : List Logged) (conditions : List Condition) (p
 
 -- The earliest moment of all events was printed, with status 0; or that there is none, with how often each condition
 -- held, and status 1: then each host logs something.
-pub data IsLastAnswer (conditions : List Condition) (logged : List Logged) (printed : List ℕ) (status : ℕ) : Type 0 where
+pub data IsLastAnswer (conditions : List Condition) (logged : List Logged) (printed : List ℕ) (status : ℕ)
+    : Type 0 where
   Found : (moment : ℕ → Logged) → IsEarliest (watches conditions) (taken_of conditions logged) moment
       → printed ≡ found_text conditions moment → status ≡ 0 → IsLastAnswer conditions logged printed status
   NoMoment : HasNoMoment (watches conditions) (taken_of conditions logged) → AllLog logged conditions

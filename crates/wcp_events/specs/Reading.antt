@@ -57,8 +57,8 @@ pub record HasReadEvents (form : Form) (input left : Option (List ℕ)) (logged 
 
 -- What reading one event more answers: the next event, or that there is none, or the fault of the input, unless a read
 -- failed or memory ran out.
-abbrev pub ReadsEvent : Form → Option (List ℕ) → Option (List ℕ) → List Logged → Result (Option OwnLogged) EventFault → Log
-    → Type 0
+abbrev pub ReadsEvent : Form → Option (List ℕ) → Option (List ℕ) → List Logged
+    → Result (Option OwnLogged) EventFault → Log → Type 0
 ReadsEvent form input left logged (Ok (Some one)) log =
     FollowsIn logged (seen_logged one).event × HasReadEvents form input left (logged ++ seen_logged one ∷ []) log
 ReadsEvent form input left logged (Ok None) log = SaysWhole form input left logged

@@ -26,8 +26,8 @@ impl EventReader {
         Ok(EventReader { lines, log })
     }
 
-    /// Reads the input up to the next event, and `None` where the log ends before one. After an `Err` there is no more to
-    /// be read.
+    /// Reads the input up to the next event, and `None` where the log ends before one. After an `Err` there is no
+    /// more to be read.
     pub fn next_event<I: Read>(&mut self, input: &mut I) -> Result<Option<Logged>, EventFault>
         ensures { (form : _) (known : _) (logged : _) →
             HasReadEvents form known (left self.old.lines (I.remaining input.old)) logged self.old.log →

@@ -12,8 +12,8 @@ most_given = 65537
 abbrev pub left : LineReader → Option (List ℕ) → Option (List ℕ)
 left reader input = prepend_known reader.ahead input
 
--- The line is the first one of the bytes, and the rest has the others; or it is the front of the first one, which is too
--- long to be given whole.
+-- The line is the first one of the bytes, and the rest has the others; or it is the front of the first one, which is
+-- too long to be given whole.
 pub data IsFirst (bytes line rest : List ℕ) : Type 0 where
   Whole : lines_of bytes ≡ line ∷ lines_of rest → IsFirst bytes line rest
   Front : (more : List ℕ) (later : List (List ℕ)) → lines_of bytes ≡ (line ++ more) ∷ later

@@ -1,6 +1,6 @@
 //! The bytes that were read ahead.
-ghost use Rattle.std.specs.Prelude.{◌≡◌, ◌+◌, ◌-◌, ◌<◌, ◌≤◌, ◌++◌, ℕ, List, [], length, take, drop, Ok, vec_len, slice_range};
-ghost use Rattle.std.specs.Prelude.{IfOk, OnErr, false};
+ghost use Rattle.std.specs.Prelude.{◌≡◌, ◌+◌, ◌-◌, ◌<◌, ◌≤◌, ◌++◌, ℕ, List, [], length, take, drop};
+ghost use Rattle.std.specs.Prelude.{Ok, IfOk, OnErr, false, vec_len, slice_range};
 ghost use Rattle.std.specs.Io.KnownBytes.{Keeps, Consumes, IsAtEnd, prepend_known};
 
 use crate::fault::InputFault;
@@ -24,7 +24,8 @@ impl Model for Block {
 
     ghost view = { λ block. slice_range block.bytes.items block.start block.end };
 
-    ghost invariant = { λ block. (block.start ≤ block.end) × (block.end ≤ vec_len block.bytes) × (0 < vec_len block.bytes) };
+    ghost invariant = { λ block. (block.start ≤ block.end) × (block.end ≤ vec_len block.bytes)
+        × (0 < vec_len block.bytes) };
 }
 
 impl Block {
@@ -80,7 +81,8 @@ impl Block {
 fn read_over<I: Read>(input: &mut I, bytes: &mut Vec<u8>) -> Result<usize, InputFault>
     ensures len { vec_len bytes.new ≡ vec_len bytes.old }
     ensures within { IfOk result (λ count. count ≤ vec_len bytes.new) }
-    ensures ok { IfOk result (λ count. Consumes (I.remaining input.old) (I.remaining input.new) (take count bytes.new.items)) }
+    ensures ok { IfOk result (λ count.
+        Consumes (I.remaining input.old) (I.remaining input.new) (take count bytes.new.items)) }
     ensures ended { IfOk result (λ count. count ≡ 0 → 0 < vec_len bytes.old → IsAtEnd (I.remaining input.new)) }
     ensures err { OnErr result (Keeps (I.remaining input.old) (I.remaining input.new)) }
 {

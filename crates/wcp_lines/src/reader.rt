@@ -1,5 +1,6 @@
 //! The lines of an input.
-ghost use Rattle.std.specs.Prelude.{◌≡◌, ◌+◌, ◌<◌, ◌≤◌, ◌++◌, ◌∷◌, [], List, ℕ, true, false, Ok, IfOk, OnErr, vec_len, length};
+ghost use Rattle.std.specs.Prelude.{◌≡◌, ◌+◌, ◌<◌, ◌≤◌, ◌++◌, ◌∷◌, [], List, ℕ, true, false, Ok};
+ghost use Rattle.std.specs.Prelude.{IfOk, OnErr, vec_len, length};
 ghost use Rattle.std.specs.Io.KnownBytes.{Consumes, IsAtEnd, Keeps};
 ghost use Rattle.wcp_lines.specs.Reader.{Gives, left};
 ghost use Rattle.wcp_lines.specs.Parts.{Moves};
@@ -37,16 +38,16 @@ impl LineReader {
         })
     }
 
-    /// Reads the next line of the input, always the same one. `false`: there is none. After an `Err` the part of the line
-    /// that was read stands in the place of the line, and the next call goes on behind it.
+    /// Reads the next line of the input, always the same one. `false`: there is none. After an `Err` the part of the
+    /// line that was read stands in the place of the line, and the next call goes on behind it.
     pub fn advance<I: Read>(&mut self, input: &mut I) -> Result<bool, InputFault>
-        ensures line { result ≡ Ok true
-            → Gives (left self.old (I.remaining input.old)) (left self.new (I.remaining input.new)) self.new.line.items }
+        ensures line { result ≡ Ok true → Gives (left self.old (I.remaining input.old))
+            (left self.new (I.remaining input.new)) self.new.line.items }
         ensures ended { result ≡ Ok false → IsAtEnd (left self.new (I.remaining input.new)) }
         ensures none { result ≡ Ok false
             → Keeps (left self.old (I.remaining input.old)) (left self.new (I.remaining input.new)) }
-        ensures err { OnErr result
-            (Consumes (left self.old (I.remaining input.old)) (left self.new (I.remaining input.new)) self.new.line.items) }
+        ensures err { OnErr result (Consumes (left self.old (I.remaining input.old))
+            (left self.new (I.remaining input.new)) self.new.line.items) }
     {
         self.line.clear();
         for _ in 0..u64::MAX {
@@ -70,7 +71,8 @@ impl LineReader {
     /// Adds to the line what waits of it. `true`: the line is whole.
     fn take_part(&mut self) -> Result<bool, AllocError>
         requires { vec_len self.old.line < 65537 }
-        ensures ok { IfOk result (λ whole. Moves self.old.ahead self.old.line.items self.new.ahead self.new.line.items whole) }
+        ensures ok { IfOk result (λ whole.
+            Moves self.old.ahead self.old.line.items self.new.ahead self.new.line.items whole) }
         ensures err { OnErr result (self.new.ahead ≡ self.old.ahead) }
         ensures line { OnErr result (self.new.line.items ≡ self.old.line.items) }
     {

@@ -1,7 +1,7 @@
 //! Writing a text whole.
 //!
-//! What is proved. `write_whole`: on `Ok` exactly the text was appended to what a writer holds that tells its bytes; where
-//! a write failed, a front of it was.
+//! What is proved. `write_whole`: on `Ok` exactly the text was appended to what a writer holds that tells its bytes;
+//! where a write failed, a front of it was.
 #![tactic(auto)]
 
 ghost use Rattle.std.specs.Prelude.{OnOk, OnErr};

@@ -24,8 +24,8 @@ edge_of input input_after output output_after = record {
   output_after = output_after;
 }
 
--- The words, of which the first is the program's name, ask for this request: what `clap` finds in them; and where options
--- with plain values stand there, a trace by these.
+-- The words, of which the first is the program's name, ask for this request: what `clap` finds in them; and where
+-- options with plain values stand there, a trace by these.
 pub record AskFor (words : List (List ℕ)) (request : Request) : Type 0 where
   pub found : IsRequestOf (spelled words) request
   pub plain : (given : List Given) → drop 1 words ≡ words_of given → ArePlain given → IsTraceGiven given request

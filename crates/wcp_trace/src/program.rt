@@ -24,8 +24,8 @@ const VERSION: &str = "wcptrace 0.1.0\nrattle-kit-13f logic dac8208d650f15bf\n";
 
 /// Runs the program on its words, of which the first is its name, and gives its exit status.
 ///
-/// The input is read line by line as it comes, and no further than the answer wants. The answer is written in one piece,
-/// as soon as it is known. Where there is none, `errors` gets one line that says why.
+/// The input is read line by line as it comes, and no further than the answer wants. The answer is written in one
+/// piece, as soon as it is known. Where there is none, `errors` gets one line that says why.
 pub fn drive<S: AsStr, I: Read, O: Write, E: Write>(
     alloc: Global,
     words: &[S],

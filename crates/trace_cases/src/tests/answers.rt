@@ -108,8 +108,8 @@ fn one_byte_a_read_is_the_same(rt: HostRuntime) -> Result<(), Fail> {
     Ok(())
 }
 
-/// The moment is known with line 14 of the log, and then nothing more is read: a reader that fails from there on would be
-/// told.
+/// The moment is known with line 14 of the log, and then nothing more is read: a reader that fails from there on
+/// would be told.
 #[test]
 fn found_before_the_input_ends(rt: HostRuntime) -> Result<(), Fail> {
     let unread = "ann {\"ann\":3, \"keeper\":2}\ngives the lease back\n";
