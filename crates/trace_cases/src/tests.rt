@@ -1,5 +1,6 @@
 mod answers;
 mod failures;
 mod faults;
+mod many;
 mod runs;
 mod streams;

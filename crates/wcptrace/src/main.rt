@@ -2,20 +2,25 @@
 #![tactic(auto)]
 
 use std::env;
-use std::io::ErrorKind;
+use std::io::{ErrorKind, IsTerminal};
 use std::process::ExitCode;
 use std::rt::Env;
+use wcp_progress::{Teller, TellingReader};
 use wcp_trace::{Fault, drive, refuse};
 
 fn main(rt: HostRuntime) -> ExitCode {
     let status = match words(&rt) {
-        Ok(words) => drive(
-            rt.alloc(),
-            words.as_slice(),
-            &mut rt.stdin(),
-            &mut rt.stdout(),
-            &mut rt.stderr(),
-        ),
+        Ok(words) => {
+            let is_watched = rt.stderr().is_terminal();
+            let teller = is_watched.then(|| Teller::new("wcptrace", &rt, rt.stderr()));
+            drive(
+                rt.alloc(),
+                words.as_slice(),
+                &mut TellingReader::new(rt.stdin(), teller),
+                &mut rt.stdout(),
+                &mut rt.stderr(),
+            )
+        }
         Err(fault) => refuse(&mut rt.stderr(), &fault),
     };
     ExitCode::from(status)
