@@ -5,6 +5,7 @@ use std::time::{Clock, Duration};
 use wcp_progress::{Teller, TellingReader};
 
 /// A clock on which so many milliseconds pass from one reading to the next.
+#[derive(Drop)]
 struct Ticks {
     read: Cell<u64>,
     step: u64,
