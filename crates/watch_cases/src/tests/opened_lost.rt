@@ -4,6 +4,7 @@ ghost use Rattle.std.specs.Prelude.{◌≡◌, Some};
 use super::lost::Member;
 use std::alloc::Global;
 use std::marker::Brand;
+use std::process::Abort;
 use std::sync::{Mutex, Wait};
 use std::test::Fail;
 use std::thread::{Threads, join};
@@ -90,14 +91,15 @@ fn opened<R: Threads + Wait + Sync>(
 }
 
 /// The report where this member is process 0, which says whether it was lost.
-fn assert_told(
-    rt: &HostRuntime,
+fn assert_told<R: Threads + Wait + Sync + Abort>(
+    rt: &R,
+    alloc: Global,
     plan: &Plan,
     member: Option<Member>,
     report: Report,
     lost: Option<u32>,
 ) -> Result<(), Fail> {
-    let told = opened(rt, rt.alloc(), plan, member)?;
+    let told = opened(rt, alloc, plan, member)?;
     let fault = lost.map(|_| SettleFault::Missing);
     let expected = Told {
         report,
@@ -112,8 +114,15 @@ fn assert_told(
 fn a_lost_process_of_threads_of_ones_own_has_no_end(rt: HostRuntime) -> Result<(), Fail> {
     let plan = plain_plan(rt.alloc(), 2, 8, 4)?;
     let found = Report::Found(GlobalCut::new(&[0, 0]));
-    assert_told(&rt, &plan, Some(Member::Whole), found, None)?;
-    assert_told(&rt, &plan, Some(Member::Lost), found, Some(0))?;
-    assert_told(&rt, &plan, Some(Member::Absent), Report::Undecided, Some(0))?;
-    assert_told(&rt, &plan, None, Report::Undecided, Some(0))
+    assert_told(&rt, rt.alloc(), &plan, Some(Member::Whole), found, None)?;
+    assert_told(&rt, rt.alloc(), &plan, Some(Member::Lost), found, Some(0))?;
+    assert_told(
+        &rt,
+        rt.alloc(),
+        &plan,
+        Some(Member::Absent),
+        Report::Undecided,
+        Some(0),
+    )?;
+    assert_told(&rt, rt.alloc(), &plan, None, Report::Undecided, Some(0))
 }
