@@ -110,12 +110,16 @@ fn assert_told<R: Threads + Wait + Sync + Abort>(
     Ok(())
 }
 
+/// The cut of two processes that have sent and received nothing.
+fn found() -> Report {
+    Report::Found(GlobalCut::new(&[0, 0]))
+}
+
 #[test]
 fn a_lost_process_of_threads_of_ones_own_has_no_end(rt: HostRuntime) -> Result<(), Fail> {
     let plan = plain_plan(rt.alloc(), 2, 8, 4)?;
-    let found = Report::Found(GlobalCut::new(&[0, 0]));
-    assert_told(&rt, rt.alloc(), &plan, Some(Member::Whole), found, None)?;
-    assert_told(&rt, rt.alloc(), &plan, Some(Member::Lost), found, Some(0))?;
+    assert_told(&rt, rt.alloc(), &plan, Some(Member::Whole), found(), None)?;
+    assert_told(&rt, rt.alloc(), &plan, Some(Member::Lost), found(), Some(0))?;
     assert_told(
         &rt,
         rt.alloc(),
