@@ -1,7 +1,8 @@
 -- Whether a name stands twice, as a test.
-use Rattle.std.proofs.Common.{◌≡◌, ℕ, Bool, true, false, List, [], ◌∷◌, refl, arith, rules}
+use Rattle.std.proofs.Common.{◌≡◌, ℕ, true, false, List, [], ◌∷◌, refl, arith, rules}
 use Rattle.std.specs.List.{AllByRecursion, IsDistinct, list_any}
 use Rattle.std.specs.Str.{bytes_eq}
+use Rattle.std.proofs.lemmas.Bool.{false_from_ne_true}
 use Rattle.std.proofs.lemmas.Slice.Eq.{bytes_eq-Decides}
 use Rattle.std.proofs.lemmas.Map.Made.{AllPairs-from_IsDistinct, IsDistinct-from_AllPairs}
 use Rattle.json.specs.Json.{Json, null, boolean, number, string, array, object, Items, no_items, item, Members, no_members, member}
@@ -96,10 +97,9 @@ mutual
       let rest : members_have_distinct_names others ≡ true = grind arith in
       (unique_names value one, unique_in_members others rest)
 
-not_true : (b : Bool) → (b ≡ true → ⊥) → b ≡ false
-not_true true h = absurd (h refl)
-not_true false h = refl
-
 -- A value that has a name twice fails the test.
 pub names_stand_twice : (value : Json) → (HasUniqueKeys value → ⊥) → has_distinct_names value ≡ false
-names_stand_twice value twice = not_true (has_distinct_names value) (λ test. twice (unique_names value test))
+names_stand_twice value twice = false_from_ne_true (has_distinct_names value) (λ test. twice (unique_names value test))
+
+-- Whether a name stands twice, both ways.
+pub ruleset tells_names = (distinct_names, names_stand_twice)

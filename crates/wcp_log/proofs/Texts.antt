@@ -1,8 +1,9 @@
 -- Which lines are text.
-use Rattle.std.proofs.Common.{◌≡◌, ℕ, ◌<◌, Bool, true, false, List, length, Option, Some, None, Ok, Err, MatchOption, eqb, refl, arith}
+use Rattle.std.proofs.Common.{◌≡◌, ℕ, ◌<◌, true, false, List, length, Option, Some, None, Ok, Err, MatchOption, eqb, arith}
 use Rattle.std.specs.Borrow.{Bor}
 use Rattle.std.specs.List.{position_or_len, before_first, after_first}
 use Rattle.std.specs.Str.{IsUtf8, is_utf8}
+use Rattle.std.proofs.lemmas.Bool.{false_from_ne_true}
 use Rattle.std.proofs.lemmas.Str.Pattern.{IsSplitOnceResult, split_once_first}
 use Rattle.std.proofs.lemmas.Str.{IsUtf8-from_is_utf8, is_utf8-from_IsUtf8}
 use Rattle.wcp_log.specs.declared.fault.FaultKind.TheVariants.{Text}
@@ -11,12 +12,8 @@ use Rattle.wcp_log.specs.Event.{cut_in}
 pub utf8_passes : (line : List ℕ) → IsUtf8 line → is_utf8 line ≡ true
 utf8_passes line utf8 = is_utf8-from_IsUtf8 line utf8
 
-not_true : (b : Bool) → (b ≡ true → ⊥) → b ≡ false
-not_true true h = absurd (h refl)
-not_true false h = refl
-
 pub not_utf8 : (line : List ℕ) → (IsUtf8 line → ⊥) → is_utf8 line ≡ false
-not_utf8 line none = not_true (is_utf8 line) (λ passes. none (IsUtf8-from_is_utf8 line passes))
+not_utf8 line none = false_from_ne_true (is_utf8 line) (λ passes. none (IsUtf8-from_is_utf8 line passes))
 
 parts_at : (text : List ℕ) (r : Option (Bor (List ℕ) × Bor (List ℕ)))
     → MatchOption r (position_or_len (λ b. eqb b 32) text ≡ length text) (λ x. (position_or_len (λ b. eqb b 32) text < length text) × (x.0.now ≡ before_first (λ b. eqb b 32) text) × (x.1.now ≡ after_first (λ b. eqb b 32) text))

@@ -1,5 +1,5 @@
 -- What a log that is being read keeps of the lines so far, and what reading one line more answers.
-use Rattle.std.specs.Prelude.{◌≡◌, ℕ, List, Option, Result, Ok, Err, option_map}
+use Rattle.std.specs.Prelude.{◌≡◌, ℕ, ◌-◌, List, Option, Result, Ok, Err, option_map}
 use Rattle.wcp_log.specs.declared.fault.LineFault.{LineFault}
 use Rattle.wcp_log.specs.declared.fault.LineFault.TheVariants.{Has, NoMemory}
 use Rattle.wcp_log.specs.declared.fault.ReadFault.{ReadFault}
@@ -7,7 +7,7 @@ use Rattle.wcp_log.specs.declared.fault.ReadFault.TheVariants as fault
 use Rattle.wcp_log.specs.declared.turn.Form.{Form}
 use Rattle.wcp_log.specs.declared.turn.Logged.{Logged as OwnLogged}
 use Rattle.wcp_log.specs.declared.log.Log.{Log}
-use Rattle.wcp_log.specs.Log.{Turn, SoFar, after, next_turn}
+use Rattle.wcp_log.specs.Log.{Turn, SoFar, after, next_turn, most_lines}
 use Rattle.wcp_log.specs.Turns.{seen_half, seen_logged}
 use Rattle.wcp_log.specs.Kept.{KeepsLast}
 
@@ -17,6 +17,10 @@ pub record HasRead (form : Form) (so_far : SoFar) (log : Log) : Type 0 where
   pub lines : log.lines ≡ so_far.lines
   pub waits : option_map seen_half log.half ≡ so_far.half
   pub keeps : KeepsLast log.clocks so_far.events
+
+-- How many lines more a log can have.
+abbrev pub lines_left : Log → ℕ
+lines_left log = most_lines - log.lines
 
 -- What one line more said was read: the event, if it ended one.
 pub record IsTurn (form : Form) (so_far : SoFar) (line : List ℕ) (logged : Option OwnLogged) (log : Log) : Type 0 where

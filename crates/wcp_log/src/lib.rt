@@ -4,8 +4,9 @@
 //! it is the one that the lines spell: its host, its clock member by member, its text and the number of the text's
 //! line; a fault is answered exactly where the line has it and none before it in their order, with the line's number.
 //! Events, faults and their order are said by one definition (`next_turn` in `specs/Log.antt`). A host's clock is
-//! judged after that of its event before. After a fault, or where memory runs out, the log is as before. `Log::end`: a
-//! fault exactly where the second line of an event is missing. `number_of`: the number of a host in a clock.
+//! judged after that of its event before. After a fault, or where memory runs out, the log is as before; each line that
+//! was read is one less of those that a log can have. `Log::end`: a fault exactly where the second line of an event is
+//! missing. `number_of`: the number of a host in a clock.
 #![tactic(auto)]
 
 mod clock;

@@ -16,7 +16,7 @@ use std::alloc::Global;
 pub const MAX_LINE: usize = 65_536;
 
 /// The event that a line spells, in one JSON object.
-#[tactic(auto, unfolding(crate::specs::Event::event_in), using(crate::proofs::Distinct::distinct_names, crate::proofs::Distinct::names_stand_twice))]
+#[tactic(auto, unfolding(crate::specs::Event::event_in), using(crate::proofs::Distinct::tells_names))]
 pub(crate) fn event_in(
     alloc: Global,
     scratch: &mut Scratch,

@@ -1,6 +1,6 @@
-ghost use Rattle.std.specs.Prelude.{◌≡◌};
+ghost use Rattle.std.specs.Prelude.{◌≡◌, ◌+◌, IfOk};
 ghost use Rattle.wcp_log.specs.Log.{SoFar, no_lines, end_of};
-ghost use Rattle.wcp_log.specs.State.{HasRead, ReadsLine, fault_at};
+ghost use Rattle.wcp_log.specs.State.{HasRead, ReadsLine, fault_at, lines_left};
 
 use crate::fault::{FaultKind, LineFault, LogFault, ReadFault};
 use crate::order::Clocks;
@@ -38,8 +38,9 @@ impl Log {
     /// Reads one line more, given without its LF. The event is answered by the line that ends it. After an `Err` the
     /// log is as before.
     pub fn read(&mut self, line: &[u8]) -> Result<Option<Logged>, ReadFault>
-        ensures { (form : _) (so_far : SoFar) → HasRead form so_far self.old →
+        ensures reads { (form : _) (so_far : SoFar) → HasRead form so_far self.old →
             ReadsLine form so_far line.now result self.new }
+        ensures counts { IfOk result (λ _. lines_left self.old ≡ lines_left self.new + 1) }
     {
         if self.lines == u64::MAX {
             let kind = FaultKind::Many;

@@ -45,7 +45,7 @@ fn cut(text: &str) -> Option<(&str, &str)>
 }
 
 /// The clock that a text is.
-#[tactic(auto, unfolding(crate::specs::Event::clock_in_text), using(crate::proofs::Distinct::distinct_names, crate::proofs::Distinct::names_stand_twice))]
+#[tactic(auto, unfolding(crate::specs::Event::clock_in_text), using(crate::proofs::Distinct::tells_names))]
 fn clock_in_text(alloc: Global, scratch: &mut Scratch, text: &str) -> Result<Vec<Member>, LineFault>
     ensures { Gives (λ clock. seen_clock clock.items) result (clock_in_text text.now) }
 {
