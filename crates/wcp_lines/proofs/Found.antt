@@ -1,5 +1,5 @@
 -- Where the first LF was found.
-use Rattle.wcp_lines.proofs.Words.{◌≡◌, ◌≢◌, ◌∙◌, ◌+◌, ◌<◌, ◌≤◌, ℕ, List, ◌∷◌, ◌++◌, length, take, drop, get_or, sym, ap, arith, append_assoc, length-take-le, take-append-drop, drop-cons, All-from_get_or, HasNoFeed, line_feed, Nowhere, Passes, is_byte, NoneBefore}
+use Rattle.wcp_lines.proofs.Words.{◌≡◌, ◌≢◌, ◌∙◌, ◌+◌, ◌<◌, ◌≤◌, ℕ, List, ◌∷◌, ◌++◌, length, take, drop, sym, ap, arith, append_assoc, length-take-le, take-append-drop, drop-cons, All-from_get_or, HasNoFeed, line_feed, Nowhere, Passes, is_byte}
 use Rattle.std.proofs.Common.{eq-eqb, eqb-true, add-one, suc}
 use Rattle.std.proofs.lemmas.List.{get_or-take, drop-append-le}
 

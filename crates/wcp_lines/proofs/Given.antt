@@ -1,7 +1,8 @@
 -- What has been given of a line, as parts of it go from the bytes that wait to the line.
-use Rattle.wcp_lines.proofs.Words.{◌≡◌, ◌≢◌, ◌∙◌, ◌<◌, ◌≤◌, ℕ, Bool, true, false, List, [], ◌∷◌, ◌++◌, Option, Some, None, length, refl, sym, ap, subst, arith, append_assoc, inl, inr, Consumes, prepend_known, Consumes-trans, All-append, line_feed, HasNoFeed, Gives, most_given, Moves, ToFeed, ToCut, Rest, Whole, Front, IsFirst, IfSome, IsAtEnd, lines_of, nat_eq, append-nil}
+use Rattle.wcp_lines.proofs.Words.{◌≡◌, ◌≢◌, ◌∙◌, ◌<◌, ◌≤◌, ℕ, Bool, true, false, List, [], ◌∷◌, ◌++◌, Option, Some, None, length, refl, sym, ap, subst, arith, append_assoc, inl, inr, Consumes, prepend_known, Consumes-trans, All-append, line_feed, HasNoFeed, Gives, most_given, Moves, ToFeed, ToCut, Rest, Whole, Front, IsFirst, IfSome, IsAtEnd, lines_of, nat_eq, append-nil, length-append}
 use Rattle.wcp_lines.proofs.Firsts.{first_to_feed, begins_with, last_line, none_left}
 use Rattle.std.proofs.lemmas.Bool.Decides.{eqb_tells}
+use Rattle.std.proofs.lemmas.List.{nil_from_length}
 use Rattle.std.proofs.Common.{true≢false, not}
 
 consumes_front : (known : Option (List ℕ)) (front rest waiting : List ℕ) → waiting ≡ front ++ rest → Consumes (prepend_known waiting known) (prepend_known rest known) front
@@ -69,17 +70,39 @@ pub record Begun (known known' : Option (List ℕ)) (line : List ℕ) : Type 0 w
   pub within : length line < most_given
 
 pub goes_on : (known input : Option (List ℕ)) (waiting line waiting' line' : List ℕ) → Consumes known (prepend_known waiting input) line → HasNoFeed line → Moves waiting line waiting' line' false → Begun known (prepend_known waiting' input) line'
-goes_on known input waiting line waiting' line' before clean (Rest part part_clean short grown parts) = record {
-  consumed = subst (Consumes known (prepend_known waiting' input)) (sym grown) (Consumes-trans known (prepend_known waiting input) (prepend_known waiting' input) line part before (consumes_front input part waiting' waiting parts));
-  no_feed = subst HasNoFeed (sym grown) (All-append (λ byte. byte ≢ line_feed) line part clean part_clean);
+goes_on known input waiting line waiting' line' before clean (Rest rest_clean short grown none) = record {
+  consumed = subst (Consumes known (prepend_known waiting' input)) (sym grown)
+      (Consumes-trans known (prepend_known waiting input) (prepend_known waiting' input) line waiting before
+      (consumes_front input waiting waiting' waiting (sym (append-nil waiting) ∙ ap (λ l. waiting ++ l) (sym none))));
+  no_feed = subst HasNoFeed (sym grown) (All-append (λ byte. byte ≢ line_feed) line waiting clean rest_clean);
   within = short;
 }
 
+-- Where some bytes wait and the line isn't whole, it gets longer.
+pub gets_longer : (waiting line waiting' line' : List ℕ) → waiting ≢ [] → Moves waiting line waiting' line' false
+    → length line < length line'
+gets_longer [] line waiting' line' some moved = absurd (some refl)
+gets_longer (byte ∷ bytes) line waiting' line' some (Rest clean short grown none) =
+    omega (arith, ap length grown ∙ length-append line (byte ∷ bytes))
+
+-- All that waits goes to the line where there is room for it.
+moves_all : (waiting line waiting' line' part : List ℕ) → HasNoFeed part → length line' < most_given
+    → line' ≡ line ++ part → waiting ≡ part ++ waiting' → length waiting ≤ length part
+    → Moves waiting line waiting' line' false
+moves_all waiting line waiting' line' part clean short grown parts all =
+    let size = ap length parts ∙ length-append part waiting' in
+    let none : waiting' ≡ [] = nil_from_length waiting' (omega arith) in
+    let is : part ≡ waiting = sym (append-nil part) ∙ ap (λ l. part ++ l) (sym none) ∙ sym parts in
+    Rest (subst HasNoFeed is clean) short (grown ∙ ap (λ l. line ++ l) is) none
+
 -- A part without LF makes the line whole where there is no more room.
-pub moves_part : (waiting line waiting' line' part : List ℕ) (n : ℕ) → n ≡ length line' → HasNoFeed part → n ≤ most_given → line' ≡ line ++ part → waiting ≡ part ++ waiting' → Moves waiting line waiting' line' (nat_eq n 65537)
-moves_part waiting line waiting' line' part n size clean within grown parts = elim (eqb_tells n 65537) [
+pub moves_part : (waiting line waiting' line' part : List ℕ) (n : ℕ) → n ≡ length line' → HasNoFeed part
+    → n ≤ most_given → line' ≡ line ++ part → waiting ≡ part ++ waiting'
+    → (n < most_given → length waiting ≤ length part) → Moves waiting line waiting' line' (nat_eq n most_given)
+moves_part waiting line waiting' line' part n size clean within grown parts all = elim (eqb_tells n most_given) [
   | inl full ↦ subst (Moves waiting line waiting' line') (sym full.0) (ToCut part clean (sym size ∙ full.1) grown parts)
-  | inr room ↦ subst (Moves waiting line waiting' line') (sym room.0) (Rest part clean (omega arith) grown parts)
+  | inr room ↦ subst (Moves waiting line waiting' line') (sym room.0)
+      (moves_all waiting line waiting' line' part clean (omega arith) grown parts (all (omega arith)))
 ]
 
 -- A text that isn't empty has a byte.

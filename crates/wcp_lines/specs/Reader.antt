@@ -8,9 +8,13 @@ use Rattle.wcp_lines.specs.Lines.{lines_of}
 abbrev pub most_given : ℕ
 most_given = 65537
 
--- The bytes that are left: those that were read ahead, and then those of the input, where they are known.
+-- The bytes that wait: those that were read ahead and that no line has taken.
+abbrev pub waiting : LineReader → List ℕ
+waiting reader = reader.ahead
+
+-- The bytes that are left: those that wait, and then those of the input, where they are known.
 abbrev pub left : LineReader → Option (List ℕ) → Option (List ℕ)
-left reader input = prepend_known reader.ahead input
+left reader input = prepend_known (waiting reader) input
 
 -- The line is the first one of the bytes, and the rest has the others; or it is the front of the first one, which is
 -- too long to be given whole.

@@ -1,6 +1,6 @@
 //! The bytes that were read ahead.
-ghost use Rattle.std.specs.Prelude.{◌≡◌, ◌+◌, ◌-◌, ◌<◌, ◌≤◌, ◌++◌, ℕ, List, [], length, take, drop};
-ghost use Rattle.std.specs.Prelude.{Ok, IfOk, OnErr, false, vec_len, slice_range};
+ghost use Rattle.std.specs.Prelude.{◌≡◌, ◌≢◌, ◌+◌, ◌-◌, ◌<◌, ◌≤◌, ◌++◌, ℕ, List, [], length, take, drop};
+ghost use Rattle.std.specs.Prelude.{Ok, IfOk, IfErr, OnErr, true, false, vec_len, slice_range};
 ghost use Rattle.std.specs.Io.KnownBytes.{Keeps, Consumes, IsAtEnd, prepend_known};
 
 use crate::fault::InputFault;
@@ -63,8 +63,11 @@ impl Block {
     pub fn fill<I: Read>(&mut self, input: &mut I) -> Result<bool, InputFault>
         ensures bytes { Keeps (prepend_known self.old (I.remaining input.old))
             (prepend_known self.new (I.remaining input.new)) }
-        ensures ended { result ≡ Ok false → IsAtEnd (I.remaining input.new) }
+        ensures some { result ≡ Ok true → self.new ≢ [] }
         ensures none { result ≡ Ok false → self.new ≡ [] }
+        ensures ended { result ≡ Ok false → IsAtEnd (I.remaining input.new) }
+        ensures refused { IfErr result (λ fault. fault ≡ InputFault.Read) }
+        ensures err { OnErr result (self.new ≡ []) }
     {
         if self.start < self.end {
             return Ok(true);
@@ -84,6 +87,7 @@ fn read_over<I: Read>(input: &mut I, bytes: &mut Vec<u8>) -> Result<usize, Input
     ensures ok { IfOk result (λ count.
         Consumes (I.remaining input.old) (I.remaining input.new) (take count bytes.new.items)) }
     ensures ended { IfOk result (λ count. count ≡ 0 → 0 < vec_len bytes.old → IsAtEnd (I.remaining input.new)) }
+    ensures refused { IfErr result (λ fault. fault ≡ InputFault.Read) }
     ensures err { OnErr result (Keeps (I.remaining input.old) (I.remaining input.new)) }
 {
     for _ in 0..u64::MAX {

@@ -1,8 +1,8 @@
 //! The lines of an input.
-ghost use Rattle.std.specs.Prelude.{◌≡◌, ◌+◌, ◌<◌, ◌≤◌, ◌++◌, ◌∷◌, [], List, ℕ, true, false, Ok};
+ghost use Rattle.std.specs.Prelude.{◌≡◌, ◌≢◌, ◌+◌, ◌<◌, ◌≤◌, ◌++◌, ◌∷◌, [], List, ℕ, true, false, Ok, Err};
 ghost use Rattle.std.specs.Prelude.{IfOk, OnErr, vec_len, length};
 ghost use Rattle.std.specs.Io.KnownBytes.{Consumes, IsAtEnd, Keeps};
-ghost use Rattle.wcp_lines.specs.Reader.{Gives, left};
+ghost use Rattle.wcp_lines.specs.Reader.{Gives, left, most_given, waiting};
 ghost use Rattle.wcp_lines.specs.Parts.{Moves};
 
 use crate::block::Block;
@@ -30,7 +30,7 @@ pub struct LineReader {
 impl LineReader {
     /// A reader before the first line.
     pub fn new(alloc: Global) -> Result<LineReader, AllocError>
-        ensures { IfOk result (λ reader. reader.ahead ≡ []) }
+        ensures { IfOk result (λ reader. waiting reader ≡ []) }
     {
         Ok(LineReader {
             ahead: Block::new(alloc)?,
@@ -48,9 +48,11 @@ impl LineReader {
             → Keeps (left self.old (I.remaining input.old)) (left self.new (I.remaining input.new)) }
         ensures err { OnErr result (Consumes (left self.old (I.remaining input.old))
             (left self.new (I.remaining input.new)) self.new.line.items) }
+        ensures refused { result ≡ Err InputFault.Read → waiting self.new ≡ [] }
+        ensures no_memory { result ≡ Err InputFault.NoMemory → waiting self.new ≢ [] }
     {
         self.line.clear();
-        for _ in 0..u64::MAX {
+        loop {
             if !self.ahead.fill(input)? {
                 return Ok(!self.line.is_empty());
             }
@@ -58,7 +60,6 @@ impl LineReader {
                 return Ok(true);
             }
         }
-        Err(InputFault::Read)
     }
 
     /// The line that was read last, without its LF.
@@ -70,7 +71,7 @@ impl LineReader {
 
     /// Adds to the line what waits of it. `true`: the line is whole.
     fn take_part(&mut self) -> Result<bool, AllocError>
-        requires { vec_len self.old.line < 65537 }
+        requires { vec_len self.old.line < most_given }
         ensures ok { IfOk result (λ whole.
             Moves self.old.ahead self.old.line.items self.new.ahead self.new.line.items whole) }
         ensures err { OnErr result (self.new.ahead ≡ self.old.ahead) }

@@ -1,4 +1,4 @@
-use Rattle.wcp_lines.proofs.Words.{◌≡◌, ◌∙◌, ◌+◌, ◌-◌, ◌<◌, ◌≤◌, ◌∷◌, ◌++◌, length, take, drop, sym, ap, subst, arith, length-append, length-take-le, take-append-drop, take_all, line_feed, HasNoFeed, ToFeed}
+use Rattle.wcp_lines.proofs.Words.{◌∙◌, ◌+◌, ◌<◌, ◌∷◌, ◌++◌, length, take, drop, sym, ap, subst, arith, length-append, length-take-le, take-append-drop, take_all, line_feed, HasNoFeed, ToFeed}
 use Rattle.wcp_lines.proofs.Found.{no_feed_before, parted_in_front}
 use Rattle.wcp_lines.proofs.Given.{moves_part}
 use Rattle.wcp_lines.proofs.reader.LineReader.take_part.Goals as goal
@@ -37,3 +37,4 @@ returns-in_ok-extend_from_slice-in-None-clause-ok c =
     grown
     (sym c.waiting-waiting.ensures ∙ sym (take-append-drop room waiting)
     ∙ ap (λ l. front ++ l) (ap (λ n. drop n waiting) (sym many) ∙ ap (drop (length front)) c.waiting-waiting.ensures ∙ sym c.take-in-None.ensures))
+    (λ short. omega (arith, size, many, c.min.ensures, c.len-room.ensures, c.len.ensures, ap length c.waiting-waiting.ensures))
