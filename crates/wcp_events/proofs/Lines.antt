@@ -1,5 +1,5 @@
 -- What more lines say after the first.
-use Rattle.wcp_events.proofs.Words.{◌≡◌, ◌∙◌, List, [], ◌∷◌, ◌++◌, Result, Ok, Err, refl, sym, ap, subst, append_assoc, ℕ, LogFault, Form, ◌>>=◌, Logged, SoFar, Turn, after, next_turn, log_from, logged_from, event_and_later, option_to_list}
+use Rattle.wcp_events.proofs.Words.{◌≡◌, ◌∙◌, List, [], ◌∷◌, ◌++◌, Result, Ok, Err, refl, sym, ap, append_assoc, ℕ, LogFault, Form, ◌>>=◌, Logged, SoFar, Turn, after, next_turn, log_from, logged_from, event_and_later, option_to_list}
 
 more_of_bind : {A B E : Type 0} (r : Result A E) (f g : A → Result B E) (y : B) (z : Result B E) → ((x : A) → f x ≡ Ok y → g x ≡ z) → (r >>= f) ≡ Ok y → (r >>= g) ≡ z
 more_of_bind (Ok x) f g y z on said = on x said

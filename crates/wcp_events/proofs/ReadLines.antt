@@ -1,5 +1,5 @@
 -- What has been read of an input, line by line.
-use Rattle.wcp_events.proofs.Words.{◌≡◌, ◌∙◌, ◌<◌, ◌++◌, ℕ, List, [], ◌∷◌, Option, Some, None, Result, Ok, Err, length, map, refl, sym, ap, subst, arith, append_assoc, append-nil, length-append, Consumes-trans, Consumes-kept, Consumes, IsAtEnd, Keeps, option_to_list, IfSome, Gives, IsFirst, Whole, Front, lines_of, LogFault, Log, Form, OwnLogged, Event, Logged, SoFar, Turn, after, end_of, next_turn, no_lines, with_event, log_from, HasRead, IsTurn, seen_logged, whole_log, events_of, logged_from, FollowsIn, Says, SaysWhole, HasFault, HasReadEvents, ReadsEvent, most_bytes}
+use Rattle.wcp_events.proofs.Words.{◌≡◌, ◌∙◌, ◌++◌, ℕ, List, [], ◌∷◌, Option, Some, None, Result, Ok, Err, refl, sym, ap, subst, arith, append_assoc, append-nil, length-append, Consumes-trans, Consumes-kept, Consumes, IsAtEnd, Keeps, option_to_list, IfSome, Gives, IsFirst, Whole, Front, lines_of, LogFault, Log, Form, OwnLogged, Event, Logged, SoFar, Turn, after, end_of, next_turn, no_lines, with_event, log_from, HasRead, IsTurn, seen_logged, whole_log, events_of, logged_from, FollowsIn, SaysWhole, HasFault, HasReadEvents, ReadsEvent}
 use Rattle.std.proofs.Common.{option_map}
 use Rattle.std.proofs.lemmas.List.{map-append}
 use Rattle.std.proofs.KnownBytes.{prepend_known-nil, Consumes-nil}
@@ -14,7 +14,7 @@ use Rattle.wcp_log.specs.declared.fault.ReadFault.TheVariants as read
 use Rattle.wcp_log.specs.State.{ReadsLine}
 use Rattle.wcp_events.specs.declared.fault.EventFault.{EventFault}
 use Rattle.wcp_events.specs.Faults.{fault_of_input, fault_of_read}
-use Rattle.wcp_events.proofs.Turns.{TurnFollows, turn_follows, next_of_long}
+use Rattle.wcp_events.proofs.Turns.{turn_follows, next_of_long}
 use Rattle.wcp_events.proofs.Lines.{log_more, logged_more, log_line, logged_line, log_stops}
 
 -- Which lines of the input were read.

@@ -1,5 +1,5 @@
 -- What a line says after the lines so far: its event's clock follows, and a line that is too long says nothing.
-use Rattle.wcp_events.proofs.Words.{◌≡◌, ◌∙◌, ◌+◌, ◌<◌, ℕ, Bool, true, false, cond, List, [], ◌∷◌, ◌++◌, Option, Some, None, Result, Ok, Err, length, refl, sym, ap, subst, IfSome, nat_lt, FaultKind, LogFault, Form, Lines, Shiviz, ShivizReversed, Event, Stamp, ◌>>=◌, at_line, Member, event_in, stamp_in, text_in, most_bytes, whole, if◌then◌else◌, Long, Many, Half, stamped, texted, Logged, SoFar, Turn, after, event_after, stamp_after, turn_of, next_turn, with_event, most_lines, last_clock, follows, HalfFollows}
+use Rattle.wcp_events.proofs.Words.{◌≡◌, ◌+◌, ◌<◌, ℕ, Bool, true, false, cond, List, Option, Some, None, Result, Ok, Err, length, refl, subst, IfSome, nat_lt, FaultKind, LogFault, Form, Lines, Shiviz, ShivizReversed, Event, Stamp, ◌>>=◌, at_line, Member, event_in, stamp_in, text_in, most_bytes, whole, if◌then◌else◌, Long, Many, Half, stamped, texted, SoFar, Turn, event_after, stamp_after, turn_of, next_turn, with_event, most_lines, last_clock, follows, HalfFollows}
 use Rattle.std.proofs.lemmas.Bool.{lt-leb}
 
 bind_gives : {A B E : Type 0} (P : Type 0) (r : Result A E) (f : A → Result B E) (y : B) → (r >>= f) ≡ Ok y → ((x : A) → r ≡ Ok x → f x ≡ Ok y → P) → P

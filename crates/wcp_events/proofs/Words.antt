@@ -20,7 +20,7 @@ pub use Rattle.wcp_log.specs.Judgement.{◌>>=◌, at_line}
 pub use Rattle.wcp_log.specs.Log.{Half, stamped, texted, Logged, SoFar, Turn, after, end_of, event_after, stamp_after, whole, first_turn, turn_of, next_turn, no_lines, with_event, most_lines}
 unfoldable pub use Rattle.wcp_log.specs.Log.{log_from}
 pub use Rattle.wcp_log.specs.Order.{last_clock, follows}
-pub use Rattle.wcp_log.specs.State.{HasRead, IsTurn, ReadsLine}
+pub use Rattle.wcp_log.specs.State.{HasRead, IsTurn, ReadsLine, lines_left}
 pub use Rattle.wcp_log.specs.Turns.{seen_logged}
 pub use Rattle.wcp_events.specs.Events.{event_and_later, whole_log, events_of, FollowsIn}
 unfoldable pub use Rattle.wcp_events.specs.Events.{logged_from}

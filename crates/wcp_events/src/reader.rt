@@ -1,5 +1,5 @@
-ghost use Rattle.std.specs.Prelude.{◌≡◌, List, [], Option, IfOk, ℕ};
-ghost use Rattle.wcp_lines.specs.Reader.{left};
+ghost use Rattle.std.specs.Prelude.{◌≡◌, List, [], Option, Err, IfOk, ℕ};
+ghost use Rattle.wcp_lines.specs.Reader.{left, waiting};
 ghost use Rattle.wcp_events.specs.Reading.{HasReadEvents, ReadsEvent};
 
 use crate::fault::EventFault;
@@ -29,11 +29,12 @@ impl EventReader {
     /// Reads the input up to the next event, and `None` where the log ends before one. After an `Err` there is no
     /// more to be read.
     pub fn next_event<I: Read>(&mut self, input: &mut I) -> Result<Option<Logged>, EventFault>
-        ensures { (form : _) (known : _) (logged : _) →
+        ensures reads { (form : _) (known : _) (logged : _) →
             HasReadEvents form known (left self.old.lines (I.remaining input.old)) logged self.old.log →
             ReadsEvent form known (left self.new.lines (I.remaining input.new)) logged result self.new.log }
+        ensures refused { result ≡ Err EventFault.Read → waiting self.new.lines ≡ [] }
     {
-        for _ in 0..u64::MAX {
+        loop {
             if !self.lines.advance(input)? {
                 self.log.end()?;
                 return Ok(None);
@@ -42,6 +43,5 @@ impl EventReader {
                 return Ok(Some(logged));
             }
         }
-        Err(EventFault::Read)
     }
 }
