@@ -1,5 +1,7 @@
 -- The words of the proofs of this crate, from one place.
-pub use Rattle.std.proofs.Common.{◌≡◌, ◌∙◌, ◌+◌, ◌-◌, ◌<◌, ◌≤◌, ℕ, Bool, true, false, cond, List, [], ◌∷◌, ◌++◌, Option, Some, None, Result, Ok, Err, length, map, refl, sym, ap, subst, arith, append_assoc, append-nil, length-append}
+pub use Rattle.std.proofs.Common.{◌≡◌, ◌∙◌, ◌+◌, ◌-◌, ◌<◌, ◌≤◌, ℕ, Bool, true, false, cond, List, [], ◌∷◌, ◌++◌, Option}
+pub use Rattle.std.proofs.Common.{Some, None, Result, Ok, Err, length, map, refl, sym, ap, subst, arith, append_assoc}
+pub use Rattle.std.proofs.Common.{append-nil, length-append}
 pub use Rattle.std.proofs.KnownBytes.{Consumes-nil, Consumes-trans, Consumes-kept}
 pub use Rattle.std.specs.Io.KnownBytes.{Consumes, IsAtEnd, Keeps}
 pub use Rattle.std.specs.Option.{option_to_list}
@@ -17,7 +19,8 @@ pub use Rattle.wcp_log.specs.Clock.{Member}
 pub use Rattle.wcp_log.specs.Event.{Event, Stamp, text_in, most_bytes}
 unfoldable pub use Rattle.wcp_log.specs.Event.{event_in, stamp_in}
 pub use Rattle.wcp_log.specs.Judgement.{◌>>=◌, at_line}
-pub use Rattle.wcp_log.specs.Log.{Half, stamped, texted, Logged, SoFar, Turn, after, end_of, event_after, stamp_after, whole, first_turn, turn_of, next_turn, no_lines, with_event, most_lines}
+pub use Rattle.wcp_log.specs.Log.{Half, stamped, texted, Logged, SoFar, Turn, after, end_of, event_after, stamp_after}
+pub use Rattle.wcp_log.specs.Log.{whole, first_turn, turn_of, next_turn, no_lines, with_event, most_lines}
 unfoldable pub use Rattle.wcp_log.specs.Log.{log_from}
 pub use Rattle.wcp_log.specs.Order.{last_clock, follows}
 pub use Rattle.wcp_log.specs.State.{HasRead, IsTurn, ReadsLine, lines_left}

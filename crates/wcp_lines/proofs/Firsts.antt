@@ -1,5 +1,6 @@
 -- The first line of a text.
-use Rattle.wcp_lines.proofs.Words.{◌≡◌, ◌≢◌, ℕ, List, [], ◌∷◌, ◌++◌, refl, ap, All-head, All-tail, HasNoFeed, line_feed, lines_of, put_in_front}
+use Rattle.wcp_lines.proofs.Words.{◌≡◌, ◌≢◌, ℕ, List, [], ◌∷◌, ◌++◌, refl, ap, All-head, All-tail, HasNoFeed, line_feed}
+use Rattle.wcp_lines.proofs.Words.{lines_of, put_in_front}
 use Rattle.std.proofs.Common.{ne_eqb}
 
 -- A LF ends the first line.
@@ -21,9 +22,11 @@ begins_with_byte byte [] = record { more = []; later = []; is = refl }
 begins_with_byte byte (line ∷ lines) = record { more = line; later = lines; is = refl }
 
 -- Where bytes without LF are the front of a text, they are the front of its first line.
-pub begins_with : (byte : ℕ) (line rest : List ℕ) → HasNoFeed (byte ∷ line) → BeginsWith (byte ∷ line) (lines_of ((byte ∷ line) ++ rest))
+pub begins_with : (byte : ℕ) (line rest : List ℕ) → HasNoFeed (byte ∷ line)
+    → BeginsWith (byte ∷ line) (lines_of ((byte ∷ line) ++ rest))
 unfolding lines_of
-begins_with byte [] rest clean = rw (ne_eqb byte 10 (All-head (λ byte. byte ≢ line_feed) byte [] clean)) (begins_with_byte byte (lines_of rest))
+begins_with byte [] rest clean =
+    rw (ne_eqb byte 10 (All-head (λ byte. byte ≢ line_feed) byte [] clean)) (begins_with_byte byte (lines_of rest))
 begins_with byte (next ∷ line) rest clean =
     let on = begins_with next line rest (All-tail (λ byte. byte ≢ line_feed) byte (next ∷ line) clean) in
     rw (ne_eqb byte 10 (All-head (λ byte. byte ≢ line_feed) byte (next ∷ line) clean))

@@ -1,5 +1,8 @@
 -- The words of the proofs of this crate, from one place.
-pub use Rattle.std.proofs.Common.{◌≡◌, ◌≢◌, ◌∙◌, ◌+◌, ◌-◌, ◌<◌, ◌≤◌, ℕ, Bool, true, false, List, [], ◌∷◌, ◌++◌, Option, Some, None, length, take, drop, vec_len, slice_range, slice_index, get_or, refl, sym, ap, subst, rules, arith, append_assoc, append-nil, inl, inr, length-append, length-take, length-drop, length-take-le, take-append-drop, drop-cons, drop-drop}
+pub use Rattle.std.proofs.Common.{◌≡◌, ◌≢◌, ◌∙◌, ◌+◌, ◌-◌, ◌<◌, ◌≤◌, ℕ, Bool, true, false, List, [], ◌∷◌, ◌++◌, Option}
+pub use Rattle.std.proofs.Common.{Some, None, length, take, drop, vec_len, slice_range, slice_index, get_or, refl, sym}
+pub use Rattle.std.proofs.Common.{ap, subst, rules, arith, append_assoc, append-nil, inl, inr, length-append}
+pub use Rattle.std.proofs.Common.{length-take, length-drop, length-take-le, take-append-drop, drop-cons, drop-drop}
 pub use Rattle.std.proofs.KnownBytes.{Consumes-nil, Consumes-trans, Consumes-kept, Keeps-refl, Keeps-trans}
 pub use Rattle.std.proofs.lemmas.List.{drop-take, take_all}
 pub use Rattle.std.proofs.lemmas.List.Elements.{All-append, All-from_get_or, All-head, All-tail}

@@ -1,4 +1,5 @@
-use Rattle.wcp_lines.proofs.Words.{◌∙◌, ◌+◌, ◌<◌, ◌∷◌, ◌++◌, length, take, drop, sym, ap, subst, arith, length-append, length-take-le, take-append-drop, take_all, line_feed, HasNoFeed, ToFeed}
+use Rattle.wcp_lines.proofs.Words.{◌∙◌, ◌+◌, ◌<◌, ◌∷◌, ◌++◌, length, take, drop, sym, ap, subst, arith, length-append}
+use Rattle.wcp_lines.proofs.Words.{length-take-le, take-append-drop, take_all, line_feed, HasNoFeed, ToFeed}
 use Rattle.wcp_lines.proofs.Found.{no_feed_before, parted_in_front}
 use Rattle.wcp_lines.proofs.Given.{moves_part}
 use Rattle.wcp_lines.proofs.reader.LineReader.take_part.Goals as goal
@@ -28,7 +29,8 @@ returns-in_ok-extend_from_slice-in-None-clause-ok c =
     let waiting = c.waiting-waiting.result.now in
     let room = c.min.result in
     let front = take room waiting in
-    let clean = subst HasNoFeed (take_all (length front) front (omega arith)) (no_feed_before front (length front) (omega arith) c.in-None.ensures) in
+    let clean = subst HasNoFeed (take_all (length front) front (omega arith))
+        (no_feed_before front (length front) (omega arith) c.in-None.ensures) in
     let grown = c.in_ok-extend_from_slice-in-None.ensures.items in
     let size = ap length grown ∙ length-append c.args.self.now.line.items front in
     let many = length-take-le room waiting (omega (arith, c.min.ensures)) in
@@ -36,5 +38,8 @@ returns-in_ok-extend_from_slice-in-None-clause-ok c =
     (omega (arith, size, many, c.min.ensures, c.len-room.ensures))
     grown
     (sym c.waiting-waiting.ensures ∙ sym (take-append-drop room waiting)
-    ∙ ap (λ l. front ++ l) (ap (λ n. drop n waiting) (sym many) ∙ ap (drop (length front)) c.waiting-waiting.ensures ∙ sym c.take-in-None.ensures))
-    (λ short. omega (arith, size, many, c.min.ensures, c.len-room.ensures, c.len.ensures, ap length c.waiting-waiting.ensures))
+    ∙ ap (λ l. front ++ l) (ap (λ n. drop n waiting) (sym many) ∙ ap (drop (length front)) c.waiting-waiting.ensures
+    ∙ sym c.take-in-None.ensures))
+    (λ short.
+        omega (arith, size, many, c.min.ensures, c.len-room.ensures, c.len.ensures,
+        ap length c.waiting-waiting.ensures))
