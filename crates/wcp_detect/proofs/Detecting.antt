@@ -1,5 +1,9 @@
 -- Detection, from the first event to the answer.
-use Rattle.wcp_detect.proofs.Words.{◌≡◌, ◌∙◌, ◌+◌, ◌-◌, ◌^◌, ◌<◌, ◌≤◌, ℕ, Bool, true, false, List, [], ◌∷◌, ◌++◌, Option, Some, None, Result, Ok, Err, length, length-append, length-map, refl, sym, ap, subst, arith, append-nil, Logged, Taken, Watch, HasTaken, watched_by, is_known, Condition, Watcher, watch_of, watches, taken_of, IsWatching, CanTake, WatchesNext, host_of, slice_index_or}
+use Rattle.wcp_detect.proofs.Words.{◌≡◌, ◌∙◌, ◌+◌, ◌-◌, ◌^◌, ◌<◌, ℕ, Bool, true, false, List, [], ◌∷◌, ◌++◌}
+use Rattle.wcp_detect.proofs.Words.{Option, Some, Result, Ok, Err, length, length-append, length-map, refl, sym}
+use Rattle.wcp_detect.proofs.Words.{ap, subst, arith, Logged, Taken, Watch, HasTaken, watched_by, is_known}
+use Rattle.wcp_detect.proofs.Words.{Condition, Watcher, watch_of, taken_of, IsWatching, CanTake, WatchesNext}
+use Rattle.wcp_detect.proofs.Words.{host_of, slice_index_or}
 use Rattle.std.proofs.lemmas.List.{get_or_default}
 use Rattle.std.specs.Prelude.{MatchBool}
 use Rattle.std.specs.Result.{IsErr, IsErrAnd}
@@ -21,26 +25,34 @@ use Rattle.wcp_detect.specs.declared.fault.DetectFault.TheVariants as fault
 use Rattle.wcp_detect.specs.Faults.{fault_of_events}
 use Rattle.wcp_detect.specs.Texts.{found_text}
 use Rattle.wcp_detect.specs.Loop.{IsDetecting}
-use Rattle.wcp_detect.specs.Detection.{Answers, AnswersLast, AtEnd, Early, Found, HasSilentHost, IsAnswer, IsFirstSilent, IsLastAnswer}
+use Rattle.wcp_detect.specs.Detection.{Answers, AnswersLast, AtEnd, Early, Found, HasSilentHost, IsAnswer}
+use Rattle.wcp_detect.specs.Detection.{IsFirstSilent, IsLastAnswer}
 use Rattle.wcp_detect.proofs.Watches.{none_taken}
 
 -- No moment is known of nothing.
-unknown_where : (known : Bool) (watched : List Watch) (moment : ℕ → Logged) (P : Type 0) → 0 < length watched → MatchBool known (IsKnown watched [] moment) P → known ≡ false
+unknown_where : (known : Bool) (watched : List Watch) (moment : ℕ → Logged) (P : Type 0) → 0 < length watched
+    → MatchBool known (IsKnown watched [] moment) P → known ≡ false
 unknown_where true watched moment P some is =
     let held = ((is [] tt).one.held 0 some) in absurd (omega (arith, held.1))
 unknown_where false watched moment P some is = refl
 
-first_unknown : (conditions : List Condition) (watcher : Watcher) → IsWatching conditions [] watcher → is_known watcher.search ≡ false
+first_unknown : (conditions : List Condition) (watcher : Watcher) → IsWatching conditions [] watcher
+    → is_known watcher.search ≡ false
 first_unknown conditions watcher watching =
     let taken = subst (λ taken. HasTaken taken watcher.search) (none_taken conditions) watching.taken in
     unknown_where (is_known watcher.search) (watched_by watcher.search) (moment_of watcher.search) _
     (omega (arith, watching.hosts.some, ap length watching.watched, length-map conditions watch_of)) taken.moment
 
 -- Where a search knows the moment, it is known.
-known_moment : (taken : List Taken) (search : Search) → HasTaken taken search → is_known search ≡ true → IsKnown (watched_by search) taken (moment_of search)
-known_moment taken one had is = subst (λ b. MatchBool b (IsKnown (watched_by one) taken (moment_of one)) (IsSearching taken one.queues.items one.floors.items)) is had.moment
+known_moment : (taken : List Taken) (search : Search) → HasTaken taken search → is_known search ≡ true
+    → IsKnown (watched_by search) taken (moment_of search)
+known_moment taken one had is =
+    subst (λ b. MatchBool b (IsKnown (watched_by one) taken (moment_of one))
+    (IsSearching taken one.queues.items one.floors.items)) is had.moment
 
-pub starts : (form : Form) (conditions : List Condition) (input left : Option (List ℕ)) (log : Log) (watcher : Watcher) → HasReadEvents form input left [] log → IsWatching conditions [] watcher → IsDetecting form conditions input left log watcher 0
+pub starts : (form : Form) (conditions : List Condition) (input left : Option (List ℕ)) (log : Log) (watcher : Watcher)
+    → HasReadEvents form input left [] log → IsWatching conditions [] watcher
+    → IsDetecting form conditions input left log watcher 0
 starts form conditions input left log watcher read watching = record {
   logged = [];
   read = read;
@@ -49,16 +61,23 @@ starts form conditions input left log watcher read watching = record {
   many = refl;
 }
 
-pub can_take : (form : Form) (conditions : List Condition) (input left : Option (List ℕ)) (log : Log) (watcher : Watcher) (count : ℕ) → IsDetecting form conditions input left log watcher count → count < 2 ^ 64 - 1 → CanTake watcher
+pub can_take : (form : Form) (conditions : List Condition) (input left : Option (List ℕ)) (log : Log)
+    (watcher : Watcher) (count : ℕ) → IsDetecting form conditions input left log watcher count → count < 2 ^ 64 - 1
+    → CanTake watcher
 can_take form conditions input left log watcher count detecting few = record {
   before = detecting.logged;
-  watching = subst (λ (cs : List Condition). IsWatching cs detecting.logged watcher) (sym detecting.watching.by) detecting.watching;
+  watching = subst (λ (cs : List Condition). IsWatching cs detecting.logged watcher)
+      (sym detecting.watching.by) detecting.watching;
   none_known = detecting.none_known;
   few = omega (arith, detecting.many);
 }
 
-pub goes_on : (form : Form) (conditions : List Condition) (input left left' : Option (List ℕ)) (log log' : Log) (watcher watcher' : Watcher) (count : ℕ) (one : OwnLogged) → (before : IsDetecting form conditions input left log watcher count)
-    → ReadsEvent form input left' before.logged (Ok (Some one)) log' → WatchesNext conditions before.logged (seen_logged one) (Ok false) watcher' → IsDetecting form conditions input left' log' watcher' (count + 1)
+pub goes_on : (form : Form) (conditions : List Condition) (input left left' : Option (List ℕ)) (log log' : Log)
+    (watcher watcher' : Watcher) (count : ℕ) (one : OwnLogged)
+    → (before : IsDetecting form conditions input left log watcher count)
+    → ReadsEvent form input left' before.logged (Ok (Some one)) log'
+    → WatchesNext conditions before.logged (seen_logged one) (Ok false) watcher'
+    → IsDetecting form conditions input left' log' watcher' (count + 1)
 goes_on form conditions input left left' log log' watcher watcher' count one before read watched = record {
   logged = before.logged ++ seen_logged one ∷ [];
   read = read.1;
@@ -68,53 +87,78 @@ goes_on form conditions input left left' log log' watcher watcher' count one bef
 }
 
 -- The moment is known.
-pub answers_early : (form : Form) (conditions : List Condition) (input left left' : Option (List ℕ)) (log log' : Log) (watcher watcher' : Watcher) (count : ℕ) (one : OwnLogged) (printed : List ℕ) (status : ℕ) → (before : IsDetecting form conditions input left log watcher count)
-    → ReadsEvent form input left' before.logged (Ok (Some one)) log' → WatchesNext conditions before.logged (seen_logged one) (Ok true) watcher'
-    → printed ≡ found_text watcher'.conditions.now (moment_of watcher'.search) → status ≡ 0 → IsAnswer form conditions input left' printed status
-answers_early form conditions input left left' log log' watcher watcher' count one printed status before read watched print status_is =
+pub answers_early : (form : Form) (conditions : List Condition) (input left left' : Option (List ℕ)) (log log' : Log)
+    (watcher watcher' : Watcher) (count : ℕ) (one : OwnLogged) (printed : List ℕ) (status : ℕ)
+    → (before : IsDetecting form conditions input left log watcher count)
+    → ReadsEvent form input left' before.logged (Ok (Some one)) log'
+    → WatchesNext conditions before.logged (seen_logged one) (Ok true) watcher'
+    → printed ≡ found_text watcher'.conditions.now (moment_of watcher'.search) → status ≡ 0
+    → IsAnswer form conditions input left' printed status
+answers_early form conditions input left left' log log' watcher watcher' count one printed status before read watched
+    print status_is =
     let logged = before.logged ++ seen_logged one ∷ [] in
     let known = known_moment (taken_of conditions logged) watcher'.search watched.0.taken watched.1 in
     Early logged (moment_of watcher'.search) read.1.says
-    (subst (λ (w : List Watch). IsKnown w (taken_of conditions logged) (moment_of watcher'.search)) watched.0.watched known)
+    (subst (λ (w : List Watch). IsKnown w (taken_of conditions logged) (moment_of watcher'.search)) watched.0.watched
+    known)
     (print ∙ ap (λ (cs : List Condition). found_text cs (moment_of watcher'.search)) watched.0.by) status_is
 
 -- The log has ended.
-pub answers_last : (form : Form) (conditions : List Condition) (input left : Option (List ℕ)) (logged : List Logged) (result : Result Answer DetectFault) → SaysWhole form input left logged → AnswersLast conditions logged result → Answers form conditions input left result
+pub answers_last : (form : Form) (conditions : List Condition) (input left : Option (List ℕ)) (logged : List Logged)
+    (result : Result Answer DetectFault) → SaysWhole form input left logged → AnswersLast conditions logged result
+    → Answers form conditions input left result
 answers_last form conditions input left logged (Ok answer) says last = AtEnd logged says last
 answers_last form conditions input left logged (Err (fault.Log what)) says last = absurd last
-answers_last form conditions input left logged (Err (fault.NoHost host)) says last = record { logged = logged; says = says; silent = last }
+answers_last form conditions input left logged (Err (fault.NoHost host)) says last =
+    record { logged = logged; says = says; silent = last }
 answers_last form conditions input left logged (Err fault.Read) says last = absurd last
 answers_last form conditions input left logged (Err fault.NoMemory) says last = tt
 
 -- A fault that was handed on.
-pub hands_on : (form : Form) (conditions : List Condition) (input left : Option (List ℕ)) (result : Result Answer DetectFault) (given : DetectFault) → IsErr result × IsErrAnd result (λ fault. fault ≡ given)
+pub hands_on : (form : Form) (conditions : List Condition) (input left : Option (List ℕ))
+    (result : Result Answer DetectFault) (given : DetectFault) → IsErr result × IsErrAnd result (λ fault. fault ≡ given)
     → Answers form conditions input left (Err given) → Answers form conditions input left result
 hands_on form conditions input left result given back answers =
     let found = err_from_is_err_and result back.1 in
-    subst (λ (r : Result Answer DetectFault). Answers form conditions input left r) (sym (found.1 ∙ ap Err found.2)) answers
+    subst (λ (r : Result Answer DetectFault). Answers form conditions input left r)
+    (sym (found.1 ∙ ap Err found.2)) answers
 
-pub event_fault : (form : Form) (conditions : List Condition) (input left : Option (List ℕ)) (logged : List Logged) (log : Log) (why : EventFault) → ReadsEvent form input left logged (Err why) log → Answers form conditions input left (Err (fault_of_events why))
+pub event_fault : (form : Form) (conditions : List Condition) (input left : Option (List ℕ)) (logged : List Logged)
+    (log : Log) (why : EventFault) → ReadsEvent form input left logged (Err why) log
+    → Answers form conditions input left (Err (fault_of_events why))
 event_fault form conditions input left logged log (events.Log what) reads = reads
 event_fault form conditions input left logged log events.Read reads = tt
 event_fault form conditions input left logged log events.NoMemory reads = tt
 
 -- What a search says at its end.
 abbrev EndsWith : Bool → Search → Search → Type 0
-EndsWith known old new = (taken : List Taken) → HasTaken taken old → MatchBool known (IsEarliest (watched_by new) taken (moment_of new)) (HasNoMoment (watched_by new) taken)
+EndsWith known old new =
+    (taken : List Taken) → HasTaken taken old
+    → MatchBool known (IsEarliest (watched_by new) taken (moment_of new)) (HasNoMoment (watched_by new) taken)
 
-pub last_found : (conditions : List Condition) (logged : List Logged) (watcher : Watcher) (new : Search) (known : Bool) (printed : List ℕ) (status : ℕ) → IsWatching conditions logged watcher → EndsWith known watcher.search new → known ≡ true
-    → watched_by new ≡ watched_by watcher.search → printed ≡ found_text watcher.conditions.now (moment_of new) → status ≡ 0 → IsLastAnswer conditions logged printed status
+pub last_found : (conditions : List Condition) (logged : List Logged) (watcher : Watcher) (new : Search) (known : Bool)
+    (printed : List ℕ) (status : ℕ) → IsWatching conditions logged watcher → EndsWith known watcher.search new
+    → known ≡ true
+    → watched_by new ≡ watched_by watcher.search → printed ≡ found_text watcher.conditions.now (moment_of new)
+    → status ≡ 0 → IsLastAnswer conditions logged printed status
 last_found conditions logged watcher new true printed status watching ends is same print status_is =
-    Found (moment_of new) (subst (λ (w : List Watch). IsEarliest w (taken_of conditions logged) (moment_of new)) (same ∙ watching.watched) (ends (taken_of conditions logged) watching.taken))
+    Found (moment_of new) (subst (λ (w : List Watch). IsEarliest w (taken_of conditions logged) (moment_of new))
+    (same ∙ watching.watched) (ends (taken_of conditions logged) watching.taken))
     (print ∙ ap (λ (cs : List Condition). found_text cs (moment_of new)) watching.by) status_is
 last_found conditions logged watcher new false printed status watching ends is same print status_is = absurd (cc)
 
-pub last_silent : (conditions : List Condition) (logged : List Logged) (watcher : Watcher) (new : Search) (known : Bool) (place : ℕ) (condition : Condition) (host : List ℕ) → IsWatching conditions logged watcher → EndsWith known watcher.search new → known ≡ false
-    → watched_by new ≡ watched_by watcher.search → IsFirstSilent logged conditions place → condition ≡ slice_index_or watcher.conditions.now place condition → host_of condition ≡ host → HasSilentHost conditions logged host
+pub last_silent : (conditions : List Condition) (logged : List Logged) (watcher : Watcher) (new : Search) (known : Bool)
+    (place : ℕ) (condition : Condition) (host : List ℕ) → IsWatching conditions logged watcher
+    → EndsWith known watcher.search new → known ≡ false
+    → watched_by new ≡ watched_by watcher.search → IsFirstSilent logged conditions place
+    → condition ≡ slice_index_or watcher.conditions.now place condition → host_of condition ≡ host
+    → HasSilentHost conditions logged host
 last_silent conditions logged watcher new true place condition host watching ends is same first at named = absurd (cc)
 last_silent conditions logged watcher new false place condition host watching ends is same first at named = record {
-  no_moment = subst (λ (w : List Watch). HasNoMoment w (taken_of conditions logged)) (same ∙ watching.watched) (ends (taken_of conditions logged) watching.taken);
+  no_moment = subst (λ (w : List Watch). HasNoMoment w (taken_of conditions logged)) (same ∙ watching.watched)
+      (ends (taken_of conditions logged) watching.taken);
   place = place;
   first = first;
-  named = λ other. ap host_of (get_or_default conditions place other condition first.within ∙ ap (λ (cs : List Condition). slice_index_or cs place condition) (sym watching.by) ∙ sym at) ∙ named;
+  named = λ other. ap host_of (get_or_default conditions place other condition first.within
+      ∙ ap (λ (cs : List Condition). slice_index_or cs place condition) (sym watching.by) ∙ sym at) ∙ named;
 }

@@ -1,5 +1,7 @@
 -- The words of the proofs of this crate, from one place.
-pub use Rattle.std.proofs.Common.{◌≡◌, ◌≢◌, ◌∙◌, ◌+◌, ◌-◌, ◌^◌, ◌<◌, ◌≤◌, ℕ, Bool, true, false, cond, List, [], ◌∷◌, ◌++◌, Option, Some, None, Result, Ok, Err, length, length-set, drop, take, map, inl, inr, option_map, refl, sym, ap, subst, arith, append_assoc, append-nil, length-append}
+pub use Rattle.std.proofs.Common.{◌≡◌, ◌≢◌, ◌∙◌, ◌+◌, ◌-◌, ◌^◌, ◌<◌, ◌≤◌, ℕ, Bool, true, false, cond, List, [], ◌∷◌}
+pub use Rattle.std.proofs.Common.{◌++◌, Option, Some, None, Result, Ok, Err, length, length-set, drop, take, map, inl}
+pub use Rattle.std.proofs.Common.{inr, option_map, refl, sym, ap, subst, arith, append_assoc, append-nil, length-append}
 pub use Rattle.std.proofs.lemmas.List.{map-append, length-map, get_or-map, get_or-set_same, get_or-set_other}
 pub use Rattle.std.proofs.lemmas.List.Elements.{filter-append}
 pub use Rattle.std.specs.Option.{option_to_list}
@@ -19,5 +21,7 @@ pub use Rattle.wcp_condition.specs.Holding.{holds_at_last}
 pub use Rattle.wcp_detect.specs.declared.judged.Judged.{Judged}
 pub use Rattle.wcp_detect.specs.declared.watcher.Watcher.{Watcher}
 unfoldable pub use Rattle.wcp_detect.specs.Watching.{taken_from}
-pub use Rattle.wcp_detect.specs.Watching.{watch_of, watches, events_at, texts_at, condition_at, taken_after, taken_of, count_events, count_matched}
-pub use Rattle.wcp_detect.specs.Watcher.{CanTake, WatchesNext, JudgesNext, Knows, AreJudges, HasRoomAt, JudgesOneAt, IsWatching, IsPlace}
+pub use Rattle.wcp_detect.specs.Watching.{watch_of, watches, events_at, texts_at, condition_at, taken_after, taken_of}
+pub use Rattle.wcp_detect.specs.Watching.{count_events, count_matched}
+pub use Rattle.wcp_detect.specs.Watcher.{CanTake, WatchesNext, JudgesNext, Knows, AreJudges, HasRoomAt, JudgesOneAt}
+pub use Rattle.wcp_detect.specs.Watcher.{IsWatching, IsPlace}

@@ -8,7 +8,7 @@ use Rattle.wcp_moment.specs.declared.watched.Lasting.TheVariants as lasting
 use Rattle.wcp_moment.specs.Moment.{Watch, Taken}
 use Rattle.wcp_condition.specs.declared.condition.Condition.{Condition}
 use Rattle.wcp_condition.specs.declared.rule.Rule.{Rule}
-use Rattle.wcp_condition.specs.declared.rule.Rule.TheVariants.{While, FromUntil, At}
+use Rattle.wcp_condition.specs.declared.rule.Rule.TheVariants.{At}
 use Rattle.wcp_condition.specs.Conditions.{host_of, rule_of}
 use Rattle.wcp_condition.specs.Holding.{holds_at_last}
 

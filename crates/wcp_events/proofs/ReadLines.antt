@@ -120,7 +120,7 @@ faulty_more : (form : Form) (lines later : List (List ℕ)) (so_far : SoFar) (li
     → whole_log form (lines ++ line ∷ later) ≡ Err fault
 faulty_more form lines later so_far line fault said refused =
     ap (λ r. r >>= λ so_far. end_of so_far >>= λ _. Ok so_far)
-        (log_more form no_lines lines (line ∷ later) so_far said ∙ log_stops form so_far line later fault refused)
+    (log_more form no_lines lines (line ∷ later) so_far said ∙ log_stops form so_far line later fault refused)
 
 fault_of_bytes : (form : Form) (bytes rest rest' : List ℕ) (lines : List (List ℕ)) (so_far : SoFar) (line : List ℕ)
     (fault : LogFault) → log_from form no_lines lines ≡ Ok so_far → next_turn form so_far line ≡ Err fault
@@ -207,7 +207,7 @@ pub reads_missing : (form : Form) (input left left' : Option (List ℕ)) (logged
 reads_missing form input left left' logged log fault before kept ended missing =
     let says = before.says in
     let whole : whole_log form says.lines ≡ Err fault =
-        said_whole form says.lines says.so_far says.said ∙ ap (λ r. r >>= λ _. Ok says.so_far) missing in
+    said_whole form says.lines says.so_far says.said ∙ ap (λ r. r >>= λ _. Ok says.so_far) missing in
     record {
       lines = says.lines;
       is = whole;
@@ -223,7 +223,7 @@ pub hands_on : (form : Form) (input left : Option (List ℕ)) (logged : List Log
 hands_on form input left logged answer log given back reads =
     let found = err_from_is_err_and answer back.1 in
     subst (λ (r : Result (Option OwnLogged) EventFault). ReadsEvent form input left logged r log)
-        (sym (found.1 ∙ ap Err found.2)) reads
+    (sym (found.1 ∙ ap Err found.2)) reads
 
 pub line_fault : (form : Form) (input left left' : Option (List ℕ)) (logged : List Logged) (log log' : Log)
     (line : List ℕ) (fault : ReadFault)

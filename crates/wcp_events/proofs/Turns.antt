@@ -63,12 +63,12 @@ turn_of_follows Lines None earlier at line turn before said =
     bind_gives (TurnFollows earlier turn) (event_after earlier line) (λ event. Ok (event_turn at event)) turn said
     (λ event read is.
     subst (TurnFollows earlier) (same_ok (event_turn at event) turn is)
-        (record { event = event_follows earlier line event read; half = tt }))
+    (record { event = event_follows earlier line event read; half = tt }))
 turn_of_follows Shiviz None earlier at line turn before said =
     bind_gives (TurnFollows earlier turn) (stamp_after earlier line) (λ stamp. Ok (half_turn (stamped stamp))) turn said
     (λ stamp read is.
     subst (TurnFollows earlier) (same_ok (half_turn (stamped stamp)) turn is)
-        (record { event = tt; half = stamp_follows earlier line stamp read }))
+    (record { event = tt; half = stamp_follows earlier line stamp read }))
 turn_of_follows ShivizReversed None earlier at line turn before said =
     bind_gives (TurnFollows earlier turn) (text_in line) (λ text. Ok (half_turn (texted at text))) turn said
     (λ text read is.
@@ -77,19 +77,19 @@ turn_of_follows form (Some (stamped stamp)) earlier at line turn before said =
     bind_gives (TurnFollows earlier turn) (text_in line) (λ text. Ok (event_turn at (whole stamp text))) turn said
     (λ text read is.
     subst (TurnFollows earlier) (same_ok (event_turn at (whole stamp text)) turn is)
-        (record { event = before; half = tt }))
+    (record { event = before; half = tt }))
 turn_of_follows form (Some (texted first text)) earlier at line turn before said =
     bind_gives (TurnFollows earlier turn) (stamp_after earlier line)
     (λ stamp. Ok (event_turn first (whole stamp text))) turn said (λ stamp read is.
     subst (TurnFollows earlier) (same_ok (event_turn first (whole stamp text)) turn is)
-        (record { event = stamp_follows earlier line stamp read; half = tt }))
+    (record { event = stamp_follows earlier line stamp read; half = tt }))
 
 pub turn_follows : (form : Form) (so_far : SoFar) (line : List ℕ) (turn : Turn) → HalfFollows so_far.events so_far.half
     → next_turn form so_far line ≡ Ok turn → TurnFollows so_far.events turn
 turn_follows form so_far line turn before said =
     turn_of_follows form so_far.half so_far.events (so_far.lines + 1) line turn before
     (at_line_ok (so_far.lines + 1) (turn_of form so_far.half so_far.events (so_far.lines + 1) line) turn
-        (if_ok (nat_lt so_far.lines most_lines) _ _ turn said))
+    (if_ok (nat_lt so_far.lines most_lines) _ _ turn said))
 
 -- A line that is too long says nothing.
 abbrev long_fault : SoFar → LogFault

@@ -30,7 +30,7 @@ parted_in_front bytes room place within passes =
     let front = take room bytes in
     let whole : front ++ drop room bytes ≡ bytes = take-append-drop room bytes in
     let after : drop (place + 1) front ++ drop room bytes ≡ drop (place + 1) bytes =
-        sym (drop-append-le (place + 1) front (drop room bytes) (omega arith)) ∙ ap (drop (place + 1)) whole in
+    sym (drop-append-le (place + 1) front (drop room bytes) (omega arith)) ∙ ap (drop (place + 1)) whole in
     sym whole
     ∙ ap (λ l. l ++ drop room bytes) (parted_at_feed front place within passes)
     ∙ append_assoc (take place front) (line_feed ∷ drop (place + 1) front) (drop room bytes)

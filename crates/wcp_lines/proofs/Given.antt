@@ -69,21 +69,21 @@ pub gives_whole : (known input : Option (List ℕ)) (waiting line waiting' line'
 gives_whole known input waiting line waiting' line' before clean (ToFeed part part_clean short grown parts) =
     let ending = part ++ line_feed ∷ [] in
     let taken : line ++ ending ≡ line' ++ line_feed ∷ [] =
-        sym (append_assoc line part (line_feed ∷ [])) ∙ ap (λ l. l ++ line_feed ∷ []) (sym grown) in
+    sym (append_assoc line part (line_feed ∷ [])) ∙ ap (λ l. l ++ line_feed ∷ []) (sym grown) in
     let now : Consumes (prepend_known waiting input) (prepend_known waiting' input) ending =
-        consumes_front input ending waiting' waiting (parts ∙ sym (append_assoc part (line_feed ∷ []) waiting')) in
+    consumes_front input ending waiting' waiting (parts ∙ sym (append_assoc part (line_feed ∷ []) waiting')) in
     gives_to_feed known (prepend_known waiting' input) line'
     (subst HasNoFeed (sym grown) (All-append (λ byte. byte ≢ line_feed) line part clean part_clean))
     (omega arith)
     (subst (Consumes known (prepend_known waiting' input)) taken
-        (Consumes-trans known (prepend_known waiting input) (prepend_known waiting' input) line ending before now))
+    (Consumes-trans known (prepend_known waiting input) (prepend_known waiting' input) line ending before now))
 gives_whole known input waiting line waiting' line' before clean (ToCut part part_clean long grown parts) =
     gives_cut known (prepend_known waiting' input) line'
     (subst HasNoFeed (sym grown) (All-append (λ byte. byte ≢ line_feed) line part clean part_clean))
     long
     (subst (Consumes known (prepend_known waiting' input)) (sym grown)
-        (Consumes-trans known (prepend_known waiting input) (prepend_known waiting' input) line part before
-        (consumes_front input part waiting' waiting parts)))
+    (Consumes-trans known (prepend_known waiting input) (prepend_known waiting' input) line part before
+    (consumes_front input part waiting' waiting parts)))
 
 -- What is known of a line while it isn't whole.
 pub record Begun (known known' : Option (List ℕ)) (line : List ℕ) : Type 0 where

@@ -12,4 +12,5 @@
 mod help;
 mod options;
 
+pub use help::VERSION;
 pub use options::{Options, Request, read_options};

@@ -10,7 +10,7 @@ use std::convert::AsStr;
 use std::io::{Read, Write};
 use wcp_condition::{ConditionWords, read_conditions};
 use wcp_detect::{Answer, detect};
-use wcp_options::{Options, Request, read_options};
+use wcp_options::{Options, Request, VERSION, read_options};
 use wcp_output::write_whole;
 
 /// The status after help and the version.
@@ -18,9 +18,6 @@ const TOLD: u8 = 0;
 
 /// The status where there is no answer.
 const REFUSED: u8 = 2;
-
-/// The program's name and version, and the toolchain that it is proved with.
-const VERSION: &str = "wcptrace 0.1.0\nrattle-kit-13f logic dac8208d650f15bf\n";
 
 /// Runs the program on its words, of which the first is its name, and gives its exit status.
 ///

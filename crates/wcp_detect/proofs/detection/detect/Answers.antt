@@ -1,4 +1,4 @@
-use Rattle.wcp_detect.proofs.Words.{◌≡◌, ◌∙◌, Bool, List, Option, Ok, Some, None, sym, ap, subst, WatchesNext, watches}
+use Rattle.wcp_detect.proofs.Words.{◌∙◌, Bool, Option, Ok, sym, ap, subst, WatchesNext, watches}
 use Rattle.wcp_log.specs.declared.turn.Logged.{Logged as OwnLogged}
 use Rattle.wcp_log.specs.Turns.{seen_logged}
 use Rattle.wcp_events.specs.Reading.{ReadsEvent}
@@ -9,16 +9,18 @@ use Rattle.wcp_detect.proofs.detection.detect.Goals as goal
 pub loop-init : goal.loop-init
 loop-init g c =
     let remaining = g.I.Read.remaining in
-    starts c.args.form c.args.conditions.now (remaining c.args.input.now) _ c.in_ok-events.events.log c.in_ok-watcher.watcher (c.in_ok-events.ensures (remaining c.args.input.now)) c.in_ok-watcher.ensures
+    starts c.args.form c.args.conditions.now (remaining c.args.input.now) _ c.in_ok-events.events.log
+    c.in_ok-watcher.watcher (c.in_ok-events.ensures (remaining c.args.input.now)) c.in_ok-watcher.ensures
 
 pub returns-in_err-logged : goal.returns-in_err-logged
 returns-in_err-logged g c =
     let input = g.I.Read.remaining c.args.input.now in
     let before = c.loop.invariant in
-    let reads = c.in_err-logged.ensures c.args.form input before.logged before.read in (
+    let reads = c.in_err-logged.ensures.reads c.args.form input before.logged before.read in (
       c.next_event.new.self.lines.ahead,
       hands_on c.args.form c.args.conditions.now input _ _ _ c.from_residual-in_err-logged.ensures
-          (event_fault c.args.form c.args.conditions.now input _ before.logged c.next_event.new.self.log c.in_err-logged.field-0.0 reads),
+          (event_fault c.args.form c.args.conditions.now input _ before.logged c.next_event.new.self.log
+          c.in_err-logged.field-0.0 reads),
     )
 
 pub returns-in_default : goal.returns-in_default
@@ -26,15 +28,19 @@ returns-in_default g c =
     let input = g.I.Read.remaining c.args.input.now in
     let rest = left c.next_event.new.self.lines (g.I.Read.remaining c.next_event.new.input) in
     let before = c.loop.invariant in
-    let says = subst (λ (one : Option OwnLogged). ReadsEvent c.args.form input rest before.logged (Ok one) c.next_event.new.self.log) c.in_default.is (c.in_ok-logged.ensures c.args.form input before.logged before.read) in (
+    let says = subst (λ (one : Option OwnLogged). ReadsEvent c.args.form input rest before.logged
+    (Ok one) c.next_event.new.self.log) c.in_default.is
+    (c.in_ok-logged.ensures.reads c.args.form input before.logged before.read) in (
       c.next_event.new.self.lines.ahead,
-      answers_last c.args.form c.args.conditions.now input rest before.logged c.last_answer.result says (c.last_answer.ensures c.args.conditions.now before.logged before.watching),
+      answers_last c.args.form c.args.conditions.now input rest before.logged c.last_answer.result says
+          (c.last_answer.ensures c.args.conditions.now before.logged before.watching),
     )
 
 pub returns-in_err-take : goal.returns-in_err-take
 returns-in_err-take g c = (
   c.next_event.new.self.lines.ahead,
-  hands_on c.args.form c.args.conditions.now (g.I.Read.remaining c.args.input.now) _ _ _ c.from_residual-in_err-take.ensures tt,
+  hands_on c.args.form c.args.conditions.now
+      (g.I.Read.remaining c.args.input.now) _ _ _ c.from_residual-in_err-take.ensures tt,
 )
 
 pub found_answer-requires-clause-known : goal.found_answer-requires-clause-known
@@ -42,7 +48,9 @@ found_answer-requires-clause-known g c =
     let input = g.I.Read.remaining c.args.input.now in
     let rest = left c.next_event.new.self.lines (g.I.Read.remaining c.next_event.new.input) in
     let before = c.loop.invariant in
-    let reads = subst (λ (one : Option OwnLogged). ReadsEvent c.args.form input rest before.logged (Ok one) c.next_event.new.self.log) c.in-Some.is (c.in_ok-logged.ensures c.args.form input before.logged before.read) in
+    let reads = subst (λ (one : Option OwnLogged). ReadsEvent c.args.form input rest before.logged
+    (Ok one) c.next_event.new.self.log) c.in-Some.is
+    (c.in_ok-logged.ensures.reads c.args.form input before.logged before.read) in
     let watched = c.in_ok-take.ensures c.args.conditions.now before.logged before.watching reads.0 in
     watched.1 ∙ c.if-branch.true
 
@@ -51,7 +59,9 @@ found_answer-requires-clause-watched g c =
     let input = g.I.Read.remaining c.args.input.now in
     let rest = left c.next_event.new.self.lines (g.I.Read.remaining c.next_event.new.input) in
     let before = c.loop.invariant in
-    let reads = subst (λ (one : Option OwnLogged). ReadsEvent c.args.form input rest before.logged (Ok one) c.next_event.new.self.log) c.in-Some.is (c.in_ok-logged.ensures c.args.form input before.logged before.read) in
+    let reads = subst (λ (one : Option OwnLogged). ReadsEvent c.args.form input rest before.logged
+    (Ok one) c.next_event.new.self.log) c.in-Some.is
+    (c.in_ok-logged.ensures.reads c.args.form input before.logged before.read) in
     let watched = c.in_ok-take.ensures c.args.conditions.now before.logged before.watching reads.0 in
     watched.0.watched ∙ ap watches (sym watched.0.by)
 
@@ -60,11 +70,15 @@ returns-then-branch g c =
     let input = g.I.Read.remaining c.args.input.now in
     let rest = left c.next_event.new.self.lines (g.I.Read.remaining c.next_event.new.input) in
     let before = c.loop.invariant in
-    let reads = subst (λ (one : Option OwnLogged). ReadsEvent c.args.form input rest before.logged (Ok one) c.next_event.new.self.log) c.in-Some.is (c.in_ok-logged.ensures c.args.form input before.logged before.read) in
+    let reads = subst (λ (one : Option OwnLogged). ReadsEvent c.args.form input rest before.logged
+    (Ok one) c.next_event.new.self.log) c.in-Some.is
+    (c.in_ok-logged.ensures.reads c.args.form input before.logged before.read) in
     let watched = c.in_ok-take.ensures c.args.conditions.now before.logged before.watching reads.0 in
-    let known = subst (λ (b : Bool). WatchesNext c.args.conditions.now before.logged (seen_logged c.in-Some.logged) (Ok b) c.take.new.self) c.if-branch.true watched in (
+    let known = subst (λ (b : Bool). WatchesNext c.args.conditions.now before.logged (seen_logged c.in-Some.logged)
+    (Ok b) c.take.new.self) c.if-branch.true watched in (
       c.next_event.new.self.lines.ahead,
-      answers_early c.args.form c.args.conditions.now input _ rest c.loop.events.log c.next_event.new.self.log c.loop.watcher c.take.new.self c.loop.counter c.in-Some.logged _ _ before reads known
+      answers_early c.args.form c.args.conditions.now input _ rest c.loop.events.log c.next_event.new.self.log
+          c.loop.watcher c.take.new.self c.loop.counter c.in-Some.logged _ _ before reads known
           c.in_ok-found_answer.ensures.text c.in_ok-found_answer.ensures.status,
     )
 
@@ -73,7 +87,11 @@ loop-preserved g c =
     let input = g.I.Read.remaining c.args.input.now in
     let rest = left c.next_event.new.self.lines (g.I.Read.remaining c.next_event.new.input) in
     let before = c.loop.invariant in
-    let reads = subst (λ (one : Option OwnLogged). ReadsEvent c.args.form input rest before.logged (Ok one) c.next_event.new.self.log) c.in-Some.is (c.in_ok-logged.ensures c.args.form input before.logged before.read) in
+    let reads = subst (λ (one : Option OwnLogged). ReadsEvent c.args.form input rest before.logged
+    (Ok one) c.next_event.new.self.log) c.in-Some.is
+    (c.in_ok-logged.ensures.reads c.args.form input before.logged before.read) in
     let watched = c.in_ok-take.ensures c.args.conditions.now before.logged before.watching reads.0 in
-    let unknown = subst (λ (b : Bool). WatchesNext c.args.conditions.now before.logged (seen_logged c.in-Some.logged) (Ok b) c.take.new.self) c.if-branch.false watched in
-    goes_on c.args.form c.args.conditions.now input _ rest c.loop.events.log c.next_event.new.self.log c.loop.watcher c.take.new.self c.loop.counter c.in-Some.logged before reads unknown
+    let unknown = subst (λ (b : Bool). WatchesNext c.args.conditions.now before.logged (seen_logged c.in-Some.logged)
+    (Ok b) c.take.new.self) c.if-branch.false watched in
+    goes_on c.args.form c.args.conditions.now input _ rest c.loop.events.log c.next_event.new.self.log c.loop.watcher
+    c.take.new.self c.loop.counter c.in-Some.logged before reads unknown

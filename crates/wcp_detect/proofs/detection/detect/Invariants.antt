@@ -1,4 +1,3 @@
-use Rattle.wcp_detect.proofs.Words.{HaveHosts}
 use Rattle.wcp_lines.specs.Reader.{left}
 use Rattle.wcp_detect.specs.Loop.{IsDetecting}
 use Rattle.wcp_detect.proofs.detection.detect.Given as goal
@@ -6,4 +5,5 @@ use Rattle.wcp_detect.proofs.detection.detect.Given as goal
 abbrev pub invariant-loop : goal.invariant-loop
 invariant-loop g l =
     let remaining = g.I.Read.remaining in
-    IsDetecting l.fn.form l.conditions (remaining l.fn.input) (left l.events.lines (remaining l.input)) l.events.log l.watcher l.counter
+    IsDetecting l.fn.form l.conditions (remaining l.fn.input)
+    (left l.events.lines (remaining l.input)) l.events.log l.watcher l.counter

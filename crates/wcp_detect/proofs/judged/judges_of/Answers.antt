@@ -11,8 +11,11 @@ loop-condition-preserved c =
     record {
       as_many = omega (arith, c.in_ok-push.ensures.len);
       each = rw c.in_ok-push.ensures.items (
-          each_more (Knows conditions []) conditions c.loop-condition.judges.items index item judge c.loop-condition.invariant.as_many (omega arith)
-          (subst (λ (one : Condition). Knows conditions [] one judge) c.condition-item.is (knows_none conditions item c.in_ok-judge.judge c.zero-tally.result c.in_ok-judge.ensures c.zero-tally.ensures.events c.zero-tally.ensures.matched))
+          each_more (Knows conditions []) conditions c.loop-condition.judges.items index item judge
+          c.loop-condition.invariant.as_many (omega arith)
+          (subst (λ (one : Condition). Knows conditions [] one judge) c.condition-item.is
+          (knows_none conditions item c.in_ok-judge.judge c.zero-tally.result c.in_ok-judge.ensures
+          c.zero-tally.ensures.events c.zero-tally.ensures.matched))
           c.loop-condition.invariant.each
           );
     }

@@ -1,4 +1,4 @@
-use Rattle.wcp_detect.proofs.Words.{◌≡◌, ◌∙◌, ◌++◌, ap, arith, host_of}
+use Rattle.wcp_detect.proofs.Words.{◌∙◌, ap, arith, host_of}
 use Rattle.std.specs.Prelude.{string_bytes}
 use Rattle.wcp_moment.specs.Search.{moment_of}
 use Rattle.wcp_detect.proofs.Printing.{member_more, members_whole}
@@ -7,11 +7,13 @@ use Rattle.wcp_detect.proofs.text.found_text.Goals as goal
 pub loop-place-preserved : goal.loop-place-preserved
 loop-place-preserved c =
     let is = ap host_of c.index-conditions-place.is in
-    let more = member_more (string_bytes c.loop-place.text) c.args.conditions.now c.loop-place.place c.index-conditions-place.result (moment_of c.args.search.now) _ (omega arith) c.loop-place.invariant in
+    let more = member_more (string_bytes c.loop-place.text) c.args.conditions.now c.loop-place.place
+    c.index-conditions-place.result (moment_of c.args.search.now) _ (omega arith) c.loop-place.invariant in
     let said = c.in_ok-push_place.ensures in
     cc (said, is, more)
 
 pub returns : goal.returns
 returns c =
-    let whole = members_whole (string_bytes c.loop-place.text) c.args.conditions.now c.loop-place.place (moment_of c.args.search.now) _ (omega arith) c.loop-place.invariant in
+    let whole = members_whole (string_bytes c.loop-place.text) c.args.conditions.now c.loop-place.place
+    (moment_of c.args.search.now) _ (omega arith) c.loop-place.invariant in
     ap (λ v. v.items) c.into_bytes.ensures.value ∙ whole

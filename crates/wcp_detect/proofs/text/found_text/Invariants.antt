@@ -5,4 +5,6 @@ use Rattle.wcp_detect.specs.Texts.{found_text, member_lines}
 use Rattle.wcp_detect.proofs.text.found_text.Given as goal
 
 abbrev pub invariant-loop-place : goal.invariant-loop-place
-invariant-loop-place l = string_bytes l.text ++ member_lines l.place (drop l.place l.conditions) (moment_of l.search) ≡ found_text l.conditions (moment_of l.search)
+invariant-loop-place l =
+    string_bytes l.text ++ member_lines l.place (drop l.place l.conditions) (moment_of l.search)
+    ≡ found_text l.conditions (moment_of l.search)

@@ -16,8 +16,10 @@ returns-clause-answer g c =
     let rest = g.I.Read.remaining c.detect.new.input in
     record {
       conditions = c.in_ok-conditions.conditions.items;
-      said = ap conditions_of (asked_same options _ _ _ _ c.as_slice.ensures.value c.as_slice-2.ensures.value c.as_slice-3.ensures.value c.as_slice-4.ensures.value) ∙ read.0;
+      said = ap conditions_of (asked_same options _ _ _ _ c.as_slice.ensures.value c.as_slice-2.ensures.value
+          c.as_slice-3.ensures.value c.as_slice-4.ensures.value) ∙ read.0;
       were_read = read.1;
       ahead = detected.0;
-      answer = subst (λ (cs : List Condition). IsAnswer options.form cs input (prepend_known detected.0 rest) answer.text.items answer.status) c.deref.ensures.value detected.1;
+      answer = subst (λ (cs : List Condition). IsAnswer options.form cs input
+          (prepend_known detected.0 rest) answer.text.items answer.status) c.deref.ensures.value detected.1;
     }

@@ -10,7 +10,7 @@ returns-in_err-end-clause-reads g c form known logged given =
     let is : Ok c.in_ok-advance.field-0 ≡ Ok false = ap Ok c.if-not-branch.true in
     hands_on form known _ logged _ c.loop-self.self.log _ c.from_residual-in_err-end.ensures
     (reads_missing form known _ _ logged c.loop-self.self.log c.in_err-end.field-0.0 before
-        (c.in_ok-advance.ensures.none is) (c.in_ok-advance.ensures.ended is) missing)
+    (c.in_ok-advance.ensures.none is) (c.in_ok-advance.ensures.ended is) missing)
 
 pub returns-then-not-branch-clause-reads : goal.returns-then-not-branch-clause-reads
 returns-then-not-branch-clause-reads g c form known logged given =
@@ -18,7 +18,7 @@ returns-then-not-branch-clause-reads g c form known logged given =
     let may_end = sym (c.end.ensures form before.says.so_far before.read) ∙ c.in_ok-end.was in
     let is : Ok c.in_ok-advance.field-0 ≡ Ok false = ap Ok c.if-not-branch.true in
     reads_end form known _ _ logged c.loop-self.self.log before (c.in_ok-advance.ensures.none is)
-        (c.in_ok-advance.ensures.ended is) may_end
+    (c.in_ok-advance.ensures.ended is) may_end
 
 pub returns-in_err-logged-clause-reads : goal.returns-in_err-logged-clause-reads
 returns-in_err-logged-clause-reads g c form known logged given =
@@ -27,7 +27,7 @@ returns-in_err-logged-clause-reads g c form known logged given =
     let reads = c.in_err-logged.ensures.reads form before.says.so_far before.read in
     hands_on form known _ logged _ c.read.new.self _ c.from_residual-in_err-logged.ensures
     (line_fault form known _ _ logged c.loop-self.self.log c.read.new.self c.line.result.now c.in_err-logged.field-0.0
-        before (subst (Gives _ _) (sym c.line.ensures) line) reads)
+    before (subst (Gives _ _) (sym c.line.ensures) line) reads)
 
 pub returns-in-Some-clause-reads : goal.returns-in-Some-clause-reads
 returns-in-Some-clause-reads g c form known logged given =
@@ -35,7 +35,7 @@ returns-in-Some-clause-reads g c form known logged given =
     let line = c.in_ok-advance.ensures.line (ap Ok c.if-not-branch.false) in
     let so_far = before.says.so_far in
     let turn = subst (λ one. IsTurn form so_far c.line.result.now one c.read.new.self) c.in-Some.is
-        (c.in_ok-logged.ensures.reads form so_far before.read) in (
+    (c.in_ok-logged.ensures.reads form so_far before.read) in (
       line_follows form known _ logged c.loop-self.self.log c.read.new.self c.line.result.now c.in-Some.logged before
           turn,
       reads_line form known _ _ logged c.loop-self.self.log c.read.new.self c.line.result.now
@@ -48,8 +48,8 @@ loop-self-preserved g c form known logged given =
     let line = c.in_ok-advance.ensures.line (ap Ok c.if-not-branch.false) in
     let so_far = before.says.so_far in
     let turn = subst (λ one. IsTurn form so_far c.line.result.now one c.read.new.self) c.in_default.is
-        (c.in_ok-logged.ensures.reads form so_far before.read) in
+    (c.in_ok-logged.ensures.reads form so_far before.read) in
     subst (λ (l : List Logged). HasReadEvents form known
     (left c.advance.new.self (g.I.Read.remaining c.advance.new.input)) l c.read.new.self) (append-nil logged)
     (reads_line form known _ _ logged c.loop-self.self.log c.read.new.self c.line.result.now None before
-        (subst (Gives _ _) (sym c.line.ensures) line) turn)
+    (subst (Gives _ _) (sym c.line.ensures) line) turn)

@@ -15,7 +15,7 @@ pub returns : goal.returns
 returns c =
     let block = c.self.inside in
     let many : c.args.count ≤ length (slice_range block.bytes.items block.start block.end) =
-        subst (λ (bytes : List ℕ). c.args.count ≤ length bytes) (sym c.self.view_is) c.requires in
+    subst (λ (bytes : List ℕ). c.args.count ≤ length bytes) (sym c.self.view_is) c.requires in
     range_moved block.bytes.items block.start block.end c.args.count
     (omega (arith, length-take (block.end - block.start) (drop block.start block.bytes.items)))
     ∙ ap (drop c.args.count) c.self.view_is

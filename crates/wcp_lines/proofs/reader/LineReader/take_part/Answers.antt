@@ -30,7 +30,7 @@ returns-in_ok-extend_from_slice-in-None-clause-ok c =
     let room = c.min.result in
     let front = take room waiting in
     let clean = subst HasNoFeed (take_all (length front) front (omega arith))
-        (no_feed_before front (length front) (omega arith) c.in-None.ensures) in
+    (no_feed_before front (length front) (omega arith) c.in-None.ensures) in
     let grown = c.in_ok-extend_from_slice-in-None.ensures.items in
     let size = ap length grown ∙ length-append c.args.self.now.line.items front in
     let many = length-take-le room waiting (omega (arith, c.min.ensures)) in
@@ -41,5 +41,12 @@ returns-in_ok-extend_from_slice-in-None-clause-ok c =
     ∙ ap (λ l. front ++ l) (ap (λ n. drop n waiting) (sym many) ∙ ap (drop (length front)) c.waiting-waiting.ensures
     ∙ sym c.take-in-None.ensures))
     (λ short.
-        omega (arith, size, many, c.min.ensures, c.len-room.ensures, c.len.ensures,
-        ap length c.waiting-waiting.ensures))
+    omega (
+      arith,
+      size,
+      many,
+      c.min.ensures,
+      c.len-room.ensures,
+      c.len.ensures,
+      ap length c.waiting-waiting.ensures,
+    ))
