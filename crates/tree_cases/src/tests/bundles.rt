@@ -4,6 +4,7 @@ ghost use Rattle.wcp_tree.specs.Bundles.{Continues};
 ghost use Rattle.tree_cases.specs.BundleLanes.{HasPut};
 
 use std::alloc::Global;
+use std::process::Abort;
 use std::sync::Wait;
 use std::test::Fail;
 use wcp_clock::{Clock, Item, Note};
@@ -34,14 +35,24 @@ fn snap(from: u32, number: u32) -> Item
     }
 }
 
+/// The item joins the bundle.
+fn joins(rt: &impl Abort, bundle: &mut Bundle, item: Item) {
+    assert!(rt; bundle.add(item).is_ok());
+}
+
+/// The item doesn't join the bundle, and comes back.
+fn stays_out(rt: &impl Abort, bundle: &mut Bundle, item: &Item) {
+    assert_eq!(rt; bundle.add(*item).err(), Some(*item));
+}
+
 #[test]
 fn who_may_join_a_bundle(rt: HostRuntime) -> Result<(), Fail> {
     let mut bundle = Bundle::one(snap(0, 3));
-    assert!(rt; bundle.add(snap(0, 4)).is_ok());
-    assert_eq!(rt; bundle.add(snap(1, 5)).err(), Some(snap(1, 5)));
-    assert_eq!(rt; bundle.add(snap(0, 6)).err(), Some(snap(0, 6)));
-    assert!(rt; bundle.add(close_mark(5)).is_ok());
-    assert_eq!(rt; bundle.add(snap(0, 5)).err(), Some(snap(0, 5)));
+    joins(&rt, &mut bundle, snap(0, 4));
+    stays_out(&rt, &mut bundle, &snap(1, 5));
+    stays_out(&rt, &mut bundle, &snap(0, 6));
+    joins(&rt, &mut bundle, close_mark(5));
+    stays_out(&rt, &mut bundle, &snap(0, 5));
     assert_eq!(rt; bundle.len(), 3);
     assert_eq!(rt; bundle.get(2), Some(close_mark(5)));
     assert_eq!(rt; bundle.get(3), None);
@@ -59,10 +70,10 @@ fn lost_mark(count: u32) -> Item {
 #[test]
 fn nothing_joins_a_bundle_behind_the_mark_of_a_lost_process(rt: HostRuntime) -> Result<(), Fail> {
     let mut bundle = Bundle::one(snap(0, 3));
-    assert_eq!(rt; bundle.add(lost_mark(3)).err(), Some(lost_mark(3)));
-    assert!(rt; bundle.add(lost_mark(4)).is_ok());
-    assert_eq!(rt; bundle.add(close_mark(5)).err(), Some(close_mark(5)));
-    assert_eq!(rt; bundle.add(snap(0, 5)).err(), Some(snap(0, 5)));
+    stays_out(&rt, &mut bundle, &lost_mark(3));
+    joins(&rt, &mut bundle, lost_mark(4));
+    stays_out(&rt, &mut bundle, &close_mark(5));
+    stays_out(&rt, &mut bundle, &snap(0, 5));
     assert_eq!(rt; bundle.len(), 2);
     Ok(())
 }
@@ -71,9 +82,9 @@ fn nothing_joins_a_bundle_behind_the_mark_of_a_lost_process(rt: HostRuntime) -> 
 fn a_bundle_has_room_for_eight(rt: HostRuntime) -> Result<(), Fail> {
     let mut bundle = Bundle::one(snap(1, 0));
     for number in 1..8 {
-        assert!(rt; bundle.add(snap(1, number)).is_ok());
+        joins(&rt, &mut bundle, snap(1, number));
     }
-    assert_eq!(rt; bundle.add(snap(1, 8)).err(), Some(snap(1, 8)));
+    stays_out(&rt, &mut bundle, &snap(1, 8));
     assert_eq!(rt; bundle.len(), 8);
     Ok(())
 }
@@ -116,17 +127,28 @@ fn put_pair<R: Wait>(rt: &R, putter: &mut Putter<Bundle>, number: u32, second: I
     }
 }
 
+/// Takes a bundle, which is of just these items.
+fn assert_takes(
+    rt: &(impl Abort + Wait),
+    taker: &mut Taker<Bundle>,
+    items: &[Item],
+) -> Result<(), Fail>
+    ensures { taker.new.lane ≡ taker.old.lane }
+{
+    let taken = taker.take(rt)?;
+    assert_eq!(rt; taken.items(), items);
+    Ok(())
+}
+
 #[test]
 fn two_bundles_over_a_lane_for_one(rt: HostRuntime) -> Result<(), Fail> {
     let (mut putter, mut taker) = lane_of_bundles(rt.alloc())?;
     let put = put_pair(&rt, &mut putter, 0, snap(0, 1));
     assert!(rt; put);
-    let taken = taker.take(&rt)?;
-    assert_eq!(rt; taken.items(), [snap(0, 0), snap(0, 1)].as_slice());
+    assert_takes(&rt, &mut taker, [snap(0, 0), snap(0, 1)].as_slice())?;
     let put = put_pair(&rt, &mut putter, 2, close_mark(3));
     assert!(rt; put);
-    let taken = taker.take(&rt)?;
-    assert_eq!(rt; taken.items(), [snap(0, 2), close_mark(3)].as_slice());
+    assert_takes(&rt, &mut taker, [snap(0, 2), close_mark(3)].as_slice())?;
     let receipt = reconcile(taker.end(), putter.end())?;
     assert!(rt; receipt.matched(0));
     Ok(())

@@ -3,13 +3,15 @@ ghost use Rattle.std.specs.Prelude.{◌≡◌, false, ◌∷◌, [], IfOk, lengt
 ghost use Rattle.std.specs.FinSet as set;
 ghost use Rattle.wcp_tree.specs.declared.feed.Feed.{Feed};
 
+use super::watches::run_relay;
 use std::alloc::{AllocError, Global};
+use std::process::Abort;
 use std::test::Fail;
 use wcp_clock::{Clock, Note};
 use wcp_lane::{LaneFault, Members, Putter, Taker, lane};
 use wcp_model::Parent;
 use wcp_ring::{RingPutter, Sleeper, ring};
-use wcp_tree::{Bundle, Feed, RelayFault, leaf_relay};
+use wcp_tree::{Bundle, Feed, Relay, RelayFault, leaf_relay};
 
 /// A lane of bundles with one putter, of just process 0.
 fn lane_of_one(alloc: Global) -> Result<(Putter<Bundle>, Taker<Bundle>), LaneFault>
@@ -34,15 +36,36 @@ fn feed_of_one(alloc: Global) -> Result<(RingPutter, Vec<Feed>), AllocError>
     Ok((putter, feeds))
 }
 
+/// A leaf, and the end of its one ring that puts.
+#[derive(Drop)]
+struct Leaf {
+    ring: RingPutter,
+    relay: Relay,
+}
+
+/// The leaf of process 0, over a new ring, that puts into a lane of its own.
+fn leaf_of_one(alloc: Global, putter: Putter<Bundle>) -> Result<Leaf, AllocError>
+    requires members { putter.members ≡ set.insert set.empty 0 }
+    requires none_put { putter.put ≡ [] }
+{
+    let (ring, feeds) = feed_of_one(alloc)?;
+    let sleeper = Sleeper::new(alloc)?;
+    let relay = leaf_relay(alloc, 0, 7, Parent::Root, 4, feeds, sleeper, putter)?;
+    Ok(Leaf { ring, relay })
+}
+
+/// Puts a second snapshot of a process of which no first one was put.
+fn put_second(rt: &impl Abort, ring: &mut RingPutter) {
+    let clock = Clock::new(1);
+    assert!(rt; ring.try_put(Note::Snap { number: 1, clock }).is_ok());
+}
+
 #[test]
 fn a_snapshot_out_of_its_place_is_a_gap(rt: HostRuntime) -> Result<(), Fail> {
     let (putter, taker) = lane_of_one(rt.alloc())?;
-    let (mut ring, feeds) = feed_of_one(rt.alloc())?;
-    let sleeper = Sleeper::new(rt.alloc())?;
-    let leaf = leaf_relay(rt.alloc(), 0, 7, Parent::Root, 4, feeds, sleeper, putter)?;
-    let clock = Clock::new(1);
-    assert!(rt; ring.try_put(Note::Snap { number: 1, clock }).is_ok());
-    assert_eq!(rt; leaf.run(&rt).fault(), Some(RelayFault::Gap(0)));
+    let Leaf { mut ring, relay } = leaf_of_one(rt.alloc(), putter)?;
+    put_second(&rt, &mut ring);
+    assert_eq!(rt; run_relay(&rt, relay), Some(RelayFault::Gap(0)));
     drop(taker);
     Ok(())
 }

@@ -1,5 +1,6 @@
 //! Probes that put a note and are dropped between two looks of their leaf at their rings.
 use super::threads::{Arrival, take_all};
+use super::watches::run_relay;
 use std::alloc::{AllocError, Global};
 use std::sync::Wait;
 use std::test::Fail;
@@ -78,15 +79,18 @@ fn all_come<R: Threads + Wait + Sync>(rt: &R, watch: Watch) -> bool {
     let taker = inbox.into_taker();
     let (fault, taker) = join(
         rt,
-        || leaf.run(rt).fault(),
+        || run_relay(rt, leaf),
         || emit_and_drop(rt, probes, taker),
     );
-    let arrivals = take_all(rt, taker, PROCESSES);
-    fault.is_none()
-        && arrivals
-            .iter()
-            .skip(1)
-            .all(|arrival| *arrival == Arrival::Lost(1))
+    fault.is_none() && others_come(rt, taker)
+}
+
+/// Whether of each process but process 0 its snapshot comes, and then the mark that it was lost.
+fn others_come(rt: &impl Wait, taker: Taker<Bundle>) -> bool {
+    take_all(rt, taker, PROCESSES)
+        .iter()
+        .skip(1)
+        .all(|arrival| *arrival == Arrival::Lost(1))
 }
 
 fn open_watches(alloc: Global) -> Result<Vec<Watch>, AllocError> {
@@ -98,18 +102,24 @@ fn open_watches(alloc: Global) -> Result<Vec<Watch>, AllocError> {
     Ok(watches)
 }
 
+/// Lets all watches race once: how many of them failed.
+fn race<R: Threads + Wait + Sync>(rt: &R, alloc: Global) -> Result<u32, AllocError> {
+    let watches = open_watches(alloc)?;
+    let mut failed = 0u32;
+    for came in map_vec(rt, watches, &|watch: Watch| all_come(rt, watch))? {
+        if !came {
+            failed = failed.wrapping_add(1);
+        }
+    }
+    Ok(failed)
+}
+
 #[test]
 fn what_a_process_puts_before_it_is_lost_comes(rt: HostRuntime) -> Result<(), Fail> {
     let start = Instant::now(&rt)?;
     let mut failed = 0u32;
     for _ in 0..ROUNDS {
-        let watches = open_watches(rt.alloc())?;
-        let came = map_vec(&rt, watches, &|watch: Watch| all_come(&rt, watch))?;
-        for came in came {
-            if !came {
-                failed = failed.wrapping_add(1);
-            }
-        }
+        failed = failed.wrapping_add(race(&rt, rt.alloc())?);
         if start.elapsed(&rt)? > Duration::from_millis(WHILE) {
             break;
         }

@@ -43,13 +43,18 @@ fn taken(rt: &impl Abort, pair: &mut Pair, message: Stamped<u32>, value: u32) {
     assert_eq!(rt; pair.second.receive(message).ok(), Some(value));
 }
 
+/// There is no such process to which this one can send.
+fn has_no_such(rt: &impl Abort, probe: &mut LiveProbe, to: u32) {
+    assert_eq!(rt; probe.stamp(to, 1).err(), Some((Refusal::NoSuch, 1)));
+}
+
 #[test]
 fn no_stamp_is_for_the_process_itself_or_for_one_that_is_not_there(
     rt: HostRuntime,
 ) -> Result<(), Fail> {
     let mut pair = two_probes(&rt, rt.alloc(), 7)?;
     for to in [0, 2] {
-        assert_eq!(rt; pair.first.stamp(to, 1).err(), Some((Refusal::NoSuch, 1)));
+        has_no_such(&rt, &mut pair.first, to);
     }
     Ok(())
 }
@@ -63,6 +68,23 @@ fn each_stamp_is_for_one_probe(rt: HostRuntime) -> Result<(), Fail> {
     Ok(())
 }
 
+/// Two watches of another number refuse the message of one, which takes it then.
+fn take_of_eight(rt: &impl Abort, eight: &mut Pair, seven: &mut Pair, again: &mut Pair) {
+    let sent = message(rt, eight, 8);
+    let sent = refused(rt, &mut seven.second, sent, Refusal::Stranger);
+    let sent = refused(rt, &mut again.second, sent, Refusal::Stranger);
+    taken(rt, eight, sent, 8);
+}
+
+/// A watch of another number refuses the message of one of two, which take each other's.
+fn take_of_seven(rt: &impl Abort, eight: &mut Pair, seven: &mut Pair, again: &mut Pair) {
+    let sent = message(rt, seven, 1);
+    let sent = refused(rt, &mut eight.second, sent, Refusal::Stranger);
+    taken(rt, again, sent, 1);
+    let sent = message(rt, again, 2);
+    taken(rt, seven, sent, 2);
+}
+
 /// A stamp tells the number of its watch, and nothing else of it. So watches of one number take each other's, if
 /// nothing came before that they lack, and a watch of another number takes none of these.
 #[test]
@@ -70,16 +92,15 @@ fn a_stamp_is_for_watches_of_its_number(rt: HostRuntime) -> Result<(), Fail> {
     let mut seven = two_probes(&rt, rt.alloc(), 7)?;
     let mut again = two_probes(&rt, rt.alloc(), 7)?;
     let mut eight = two_probes(&rt, rt.alloc(), 8)?;
-    let sent = message(&rt, &mut eight, 8);
-    let sent = refused(&rt, &mut seven.second, sent, Refusal::Stranger);
-    let sent = refused(&rt, &mut again.second, sent, Refusal::Stranger);
-    taken(&rt, &mut eight, sent, 8);
-    let sent = message(&rt, &mut seven, 1);
-    let sent = refused(&rt, &mut eight.second, sent, Refusal::Stranger);
-    taken(&rt, &mut again, sent, 1);
-    let sent = message(&rt, &mut again, 2);
-    taken(&rt, &mut seven, sent, 2);
+    take_of_eight(&rt, &mut eight, &mut seven, &mut again);
+    take_of_seven(&rt, &mut eight, &mut seven, &mut again);
     Ok(())
+}
+
+/// The first process takes a message of the second one.
+fn take_back(rt: &impl Abort, pair: &mut Pair) {
+    let first = pair.second.stamp(0, 1).ok().expect(rt, "a message");
+    assert_eq!(rt; pair.first.receive(first).ok(), Some(1));
 }
 
 /// A message that was sent after another came is ahead of a watch to which that one didn't come.
@@ -87,8 +108,7 @@ fn a_stamp_is_for_watches_of_its_number(rt: HostRuntime) -> Result<(), Fail> {
 fn a_stamp_that_knows_more_is_ahead(rt: HostRuntime) -> Result<(), Fail> {
     let mut seven = two_probes(&rt, rt.alloc(), 7)?;
     let mut again = two_probes(&rt, rt.alloc(), 7)?;
-    let first = seven.second.stamp(0, 1).ok().expect(&rt, "a message");
-    assert_eq!(rt; seven.first.receive(first).ok(), Some(1));
+    take_back(&rt, &mut seven);
     let sent = message(&rt, &mut seven, 2);
     let sent = refused(&rt, &mut again.second, sent, Refusal::Ahead);
     taken(&rt, &mut seven, sent, 2);

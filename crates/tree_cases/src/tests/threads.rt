@@ -1,4 +1,5 @@
 //! Watches whose probes and relays run in threads of their own.
+use super::watches::run_relay;
 use std::alloc::{AllocError, Global};
 use std::sync::Wait;
 use std::thread::{Threads, map_vec};
@@ -65,7 +66,7 @@ pub fn run_all<R: Threads + Wait + Sync>(
         jobs,
         &|job: Job| match job {
             Job::Probe(probe) => emit_all(rt, probe, snapshots, leaving),
-            Job::Relay(relay) => Done::Relay(relay.run(rt).fault()),
+            Job::Relay(relay) => Done::Relay(run_relay(rt, relay)),
         },
     )
 }
@@ -116,6 +117,15 @@ impl Arrival {
     }
 }
 
+/// Notes what arrives with a bundle.
+fn arrive(arrivals: &mut [Arrival; MAX_PROCS], bundle: &Bundle) {
+    for item in bundle.items() {
+        if let Some(arrival) = arrivals.get_mut(item.from as usize) {
+            *arrival = arrival.then(&item.note);
+        }
+    }
+}
+
 /// Takes until a last note came of each of so many processes, or the lane is cut: what arrived of each.
 pub fn take_all<R: Wait>(rt: &R, mut taker: Taker<Bundle>, processes: u32) -> [Arrival; MAX_PROCS] {
     let mut arrivals = [Arrival::Open(0); MAX_PROCS];
@@ -124,11 +134,7 @@ pub fn take_all<R: Wait>(rt: &R, mut taker: Taker<Bundle>, processes: u32) -> [A
         let Ok(bundle) = taker.take(rt) else {
             break;
         };
-        for item in bundle.items() {
-            if let Some(arrival) = arrivals.get_mut(item.from as usize) {
-                *arrival = arrival.then(&item.note);
-            }
-        }
+        arrive(&mut arrivals, &bundle);
         if bundle.last_item().note.is_last() {
             ended = ended.saturating_add(1);
         }

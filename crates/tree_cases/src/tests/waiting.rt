@@ -1,6 +1,6 @@
 //! What a relay does as it waits, and how much goes into a lane of a watch.
 use super::threads::take_all;
-use super::watches::open;
+use super::watches::{close, emit, last_probe, last_relay, open, run_relay, run_well};
 use std::alloc::{AllocError, Global};
 use std::process::Abort;
 use std::sync::Wait;
@@ -11,13 +11,32 @@ use std::thread::{Threads, join, map_vec, yield_now};
 use wcp_clock::{Clock, Item, Note};
 use wcp_lane::{Origin, Taker};
 use wcp_model::{Parent, plain_plan};
-use wcp_tree::{Bundle, LiveProbe, Relay, Watch, watch};
+use wcp_tree::{Bundle, LiveProbe, Relay, RelayFault, Watch, watch};
 
 /// How often a test looks for what is to come.
 const LOOKS: u32 = 2_000_000;
 
 /// How often a test looks for what must not come.
 const FEW_LOOKS: u32 = 20_000;
+
+/// The process puts three snapshots and its close mark, and sends after each snapshot.
+fn put_four(rt: &impl Abort, mut probe: LiveProbe) {
+    for _ in 0..3 {
+        emit(rt, &mut probe);
+        assert!(rt; probe.stamp(1, ()).is_ok());
+    }
+    close(rt, probe);
+}
+
+/// These are the three snapshots and the close mark of process 0.
+fn assert_four(rt: &impl Abort, bundle: &Bundle) {
+    assert_eq!(rt; bundle.len(), 4);
+    for (place, item) in bundle.items().iter().enumerate() {
+        assert_eq!(rt; item.from, 0);
+        assert_eq!(rt; item.place(), place as u64);
+        assert_eq!(rt; item.last(), place == 3);
+    }
+}
 
 #[test]
 fn what_a_process_put_in_a_row_comes_as_one_bundle(rt: HostRuntime) -> Result<(), Fail> {
@@ -27,23 +46,10 @@ fn what_a_process_put_in_a_row_comes_as_one_bundle(rt: HostRuntime) -> Result<()
         mut relays,
         inbox,
     } = watch(rt.alloc(), &plan, 7)?;
-    let second = probes.pop().expect(&rt, "a probe");
-    assert!(rt; second.close().is_ok());
-    let mut first = probes.pop().expect(&rt, "a probe");
-    for _ in 0..3 {
-        assert!(rt; first.observe(true) && first.flush());
-        assert!(rt; first.stamp(1, ()).is_ok());
-    }
-    assert!(rt; first.close().is_ok());
-    let relay = relays.pop().expect(&rt, "a relay");
-    assert!(rt; relay.run(&rt).fault().is_none());
-    let bundle = inbox.into_taker().take(&rt)?;
-    assert_eq!(rt; bundle.len(), 4);
-    for (place, item) in bundle.items().iter().enumerate() {
-        assert_eq!(rt; item.from, 0);
-        assert_eq!(rt; item.place(), place as u64);
-        assert_eq!(rt; item.last(), place == 3);
-    }
+    close(&rt, last_probe(&rt, &mut probes));
+    put_four(&rt, last_probe(&rt, &mut probes));
+    run_well(&rt, last_relay(&rt, &mut relays));
+    assert_four(&rt, &inbox.into_taker().take(&rt)?);
     Ok(())
 }
 
@@ -63,9 +69,9 @@ fn closed_watch(
         inbox,
     } = open(rt, alloc, (processes, 2, 1), &[Parent::Root], &attach)?;
     for probe in probes {
-        assert!(rt; probe.close().is_ok());
+        close(rt, probe);
     }
-    Ok((relays.pop().expect(rt, "a relay"), inbox.into_taker()))
+    Ok((last_relay(rt, &mut relays), inbox.into_taker()))
 }
 
 /// Looks so many times whether this is set.
@@ -79,27 +85,42 @@ fn is_set_in(looks: u32, flag: &AtomicBool) -> bool {
     false
 }
 
-/// Each close mark goes over the lane alone: two find room while nobody takes, and a third waits.
-#[test]
-fn an_inbox_has_the_room_of_the_plan(rt: HostRuntime) -> Result<(), Fail> {
-    let (relay, taker) = closed_watch(&rt, rt.alloc(), 2)?;
-    assert!(rt; relay.run(&rt).fault().is_none());
+/// Two close marks find room while nobody takes.
+fn two_find_room(rt: &(impl Abort + Wait), alloc: Global) -> Result<(), AllocError> {
+    let (relay, taker) = closed_watch(rt, alloc, 2)?;
+    run_well(rt, relay);
     drop(taker);
-    let (relay, taker) = closed_watch(&rt, rt.alloc(), 3)?;
+    Ok(())
+}
+
+/// The fault of a relay that runs, and whether it ended before anything of three processes was taken.
+fn run_and_take_late<R: Threads + Wait + Sync>(
+    rt: &R,
+    relay: Relay,
+    taker: Taker<Bundle>,
+) -> (Option<RelayFault>, bool) {
     let ended = AtomicBool::new(false);
-    let (fault, early) = join(
-        &rt,
+    join(
+        rt,
         || {
-            let fault = relay.run(&rt).fault();
+            let fault = run_relay(rt, relay);
             ended.store(true, SeqCst);
             fault
         },
         || {
             let early = is_set_in(FEW_LOOKS, &ended);
-            take_all(&rt, taker, 3);
+            take_all(rt, taker, 3);
             early
         },
-    );
+    )
+}
+
+/// Each close mark goes over the lane alone: two find room while nobody takes, and a third waits.
+#[test]
+fn an_inbox_has_the_room_of_the_plan(rt: HostRuntime) -> Result<(), Fail> {
+    two_find_room(&rt, rt.alloc())?;
+    let (relay, taker) = closed_watch(&rt, rt.alloc(), 3)?;
+    let (fault, early) = run_and_take_late(&rt, relay, taker);
     assert!(rt; fault.is_none() && !early);
     Ok(())
 }
@@ -142,11 +163,11 @@ fn comes_in_silence<R: Threads + Wait + Abort + Sync>(
         relays,
         inbox,
     } = open(rt, alloc, (1, 8, 4), parents, &[Some(leaf)])?;
-    let probe = probes.pop().expect(rt, "a probe");
+    let probe = last_probe(rt, &mut probes);
     let taker = inbox.into_taker();
     let (faults, first) = join(
         rt,
-        || map_vec(rt, relays, &|relay: Relay| relay.run(rt).fault()),
+        || map_vec(rt, relays, &|relay: Relay| run_relay(rt, relay)),
         || emit_and_wait(rt, probe, taker),
     );
     for fault in faults? {
@@ -155,24 +176,23 @@ fn comes_in_silence<R: Threads + Wait + Abort + Sync>(
     Ok(first)
 }
 
-#[test]
-fn an_item_comes_to_the_root_while_all_else_is_silent(rt: HostRuntime) -> Result<(), Fail> {
-    let snap = Item {
+/// The first snapshot of the one process, before any event.
+fn first_snap() -> Item {
+    Item {
         from: 0,
         note: Note::Snap {
             number: 0,
             clock: Clock::new(1),
         },
-    };
-    let below_the_root = [Parent::Root];
-    let below_another = [Parent::Root, Parent::Relay(0)];
-    assert_eq!(rt;
-        comes_in_silence(&rt, rt.alloc(), &below_the_root, 0)?,
-        Some(snap)
-    );
-    assert_eq!(rt;
-        comes_in_silence(&rt, rt.alloc(), &below_another, 1)?,
-        Some(snap)
-    );
+    }
+}
+
+#[test]
+fn an_item_comes_to_the_root_while_all_else_is_silent(rt: HostRuntime) -> Result<(), Fail> {
+    let below_the_root = comes_in_silence(&rt, rt.alloc(), &[Parent::Root], 0)?;
+    assert_eq!(rt; below_the_root, Some(first_snap()));
+    let parents = [Parent::Root, Parent::Relay(0)];
+    let below_another = comes_in_silence(&rt, rt.alloc(), &parents, 1)?;
+    assert_eq!(rt; below_another, Some(first_snap()));
     Ok(())
 }
