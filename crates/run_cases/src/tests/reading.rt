@@ -1,6 +1,6 @@
 ghost use Rattle.wcp_watch.specs.CheckerEnds.{IsFreshFor};
 
-use super::watches::{emit_all, open};
+use super::watches::{Opened, emit_all, open, run_relay};
 use std::alloc::{AllocError, Global};
 use std::sync::atomic::{AtomicBool, Ordering};
 use std::sync::{Mutex, Wait};
@@ -46,7 +46,7 @@ fn run_all<R: Threads + Wait + Sync>(rt: &R, jobs: Vec<Job>) -> Result<Vec<bool>
         jobs,
         &|job: Job| match job {
             Job::Probe(probe) => emit_all(rt, probe, SNAPSHOTS).emitted() == SNAPSHOTS,
-            Job::Relay(relay) => relay.run(rt).fault().is_none(),
+            Job::Relay(relay) => run_relay(rt, relay).is_none(),
         },
     )
 }
@@ -73,17 +73,24 @@ fn rises(rt: &impl Wait, book: &Mutex<Book>, ended: &AtomicBool) -> bool {
     unreachable!()
 }
 
+/// What the checker's loop leaves, and whether the totals never fell meanwhile.
+#[derive(Drop)]
+struct Read {
+    end: CheckerEnd,
+    rose: bool,
+}
+
 /// The checker's loop, and beside it a reader of the book.
 fn check_and_read<R: Threads + Wait + Sync>(
     rt: &R,
     inbox: CheckerInbox,
     checker: Checker,
     book: &Mutex<Book>,
-) -> (CheckerEnd, bool)
+) -> Read
     requires { IsFreshFor inbox checker }
 {
     let ended = AtomicBool::new(false);
-    join(
+    let (end, rose) = join(
         rt,
         || -> CheckerEnd
             requires { IsFreshFor inbox checker }
@@ -93,7 +100,15 @@ fn check_and_read<R: Threads + Wait + Sync>(
             end
         },
         || rises(rt, book, &ended),
-    )
+    );
+    Read { end, rose }
+}
+
+/// What is left of the jobs, the checker's loop and the reader.
+#[derive(Drop)]
+struct Run {
+    done: Vec<bool>,
+    read: Read,
 }
 
 /// The jobs, the checker's loop and the reader, in threads.
@@ -103,34 +118,43 @@ fn run_and_read<R: Threads + Wait + Sync>(
     inbox: CheckerInbox,
     checker: Checker,
     book: &Mutex<Book>,
-) -> Result<(Vec<bool>, CheckerEnd, bool), AllocError>
+) -> Result<Run, AllocError>
     requires { IsFreshFor inbox checker }
 {
-    let (done, (end, rose)) = join(
+    let (done, read) = join(
         rt,
         || run_all(rt, jobs),
-        || -> (CheckerEnd, bool)
+        || -> Read
             requires { IsFreshFor inbox checker }
         { check_and_read(rt, inbox, checker, book) },
     );
-    Ok((done?, end, rose))
+    Ok(Run { done: done?, read })
 }
 
-#[test]
-fn totals_never_fall_while_sixteen_probes_run(rt: HostRuntime) -> Result<(), Fail> {
-    let plan = plain_plan(rt.alloc(), 16, 8, 4)?;
-    let (watch, checker) = open(rt.alloc(), &plan)?;
+/// A watch of sixteen processes runs, with this book.
+fn run_sixteen<R: Threads + Wait + Sync>(
+    rt: &R,
+    alloc: Global,
+    book: &Mutex<Book>,
+) -> Result<Run, AllocError> {
+    let plan = plain_plan(alloc, 16, 8, 4)?;
+    let Opened { watch, checker } = open(alloc, &plan)?;
     let Watch {
         probes,
         relays,
         inbox,
     } = watch;
-    let jobs = jobs_of(rt.alloc(), probes, relays)?;
+    let jobs = jobs_of(alloc, probes, relays)?;
+    run_and_read(rt, jobs, inbox, checker, book)
+}
+
+#[test]
+fn totals_never_fall_while_sixteen_probes_run(rt: HostRuntime) -> Result<(), Fail> {
     let book = Mutex::new(Book::new(16));
-    let (done, end, rose) = run_and_read(&rt, jobs, inbox, checker, &book)?;
+    let Run { done, read } = run_sixteen(&rt, rt.alloc(), &book)?;
     assert!(rt; done.iter().all(|whole| *whole));
-    assert_eq!(rt; end.fault(), None);
-    assert!(rt; rose);
+    assert_eq!(rt; read.end.fault(), None);
+    assert!(rt; read.rose);
     let all = 16 * u64::from(SNAPSHOTS);
     assert_eq!(rt;
         book.into_inner().totals(),

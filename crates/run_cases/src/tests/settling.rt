@@ -4,8 +4,8 @@ ghost use Rattle.wcp_model.specs.PlanFault.{IsCheckedPlan};
 ghost use Rattle.wcp_tree.specs.RelayEnds.{fault_of, number_of, watch_of};
 ghost use Rattle.wcp_watch.specs.Settling.{ComeFromWatch, IsEndOfSomeProbe, IsEndOfSomeRelay};
 
-use super::checking::{ONE, two_hops};
-use super::watches::open;
+use super::checking::{ONE, assert_end, two_hops};
+use super::watches::{Opened, open, run_relay};
 use std::alloc::{AllocError, Global};
 use std::process::Abort;
 use std::sync::{Mutex, Wait};
@@ -13,7 +13,7 @@ use std::test::Fail;
 use wcp_book::Book;
 use wcp_model::{GlobalCut, Plan, Report, Tallies, Tally};
 use wcp_tree::{LiveProbe, ProbeEnd, Relay, RelayEnd, Watch, watch};
-use wcp_watch::{CheckFault, CheckerEnd, SettleFault, check_loop, settle};
+use wcp_watch::{CheckFault, CheckerEnd, SettleFault, Settled, check_loop, settle};
 
 /// What is left of a watch that ran.
 #[derive(Drop)]
@@ -84,7 +84,7 @@ fn run_watch(rt: &(impl Abort + Wait), alloc: Global, lost: Option<u32>) -> Resu
     ensures { IfOk result (λ ends. ComeFromWatch ends.probes.items ends.relays.items ends.checker) }
 {
     let plan = two_hops(rt, alloc)?;
-    let (watch, checker) = open(alloc, &plan)?;
+    let Opened { watch, checker } = open(alloc, &plan)?;
     let Watch {
         probes,
         relays,
@@ -166,26 +166,32 @@ fn with_a_second_end(mut ends: Ends, faulted: RelayEnd) -> Result<Option<Ends>, 
     Ok(None)
 }
 
+/// Each process emits one snapshot and closes.
+fn emit_of_each(probes: Vec<LiveProbe>) {
+    for probe in probes {
+        drop(emit_one(probe));
+    }
+}
+
+/// The last relay runs, and then the last but one: the end of that one. `None` where there aren't two.
+fn run_last_two(rt: &impl Wait, mut relays: Vec<Relay>) -> Option<RelayEnd> {
+    let last = relays.pop()?;
+    let _ = run_relay(rt, last);
+    let first = relays.pop()?;
+    Some(first.run(rt))
+}
+
 /// The end of the first relay of a watch of two hops whose inbox is gone.
 fn cut_relay(rt: &(impl Abort + Wait), alloc: Global) -> Result<Option<RelayEnd>, AllocError> {
     let plan = two_hops(rt, alloc)?;
     let Watch {
         probes,
-        mut relays,
+        relays,
         inbox,
     } = watch(alloc, &plan, 7)?;
     drop(inbox);
-    for probe in probes {
-        drop(emit_one(probe));
-    }
-    let Some(last) = relays.pop() else {
-        return Ok(None);
-    };
-    drop(last.run(rt));
-    let Some(first) = relays.pop() else {
-        return Ok(None);
-    };
-    Ok(Some(first.run(rt)))
+    emit_of_each(probes);
+    Ok(run_last_two(rt, relays))
 }
 
 /// Why the ends are not settled.
@@ -193,6 +199,28 @@ fn settle_fault(ends: Ends) -> Option<SettleFault>
     requires { ComeFromWatch ends.probes.items ends.relays.items ends.checker }
 {
     settle(ends.probes, ends.relays, ends.checker, ends.book).err()
+}
+
+/// The ends are not settled, for this reason. Where that is so for another one, the number of the case is told.
+fn is_not_settled(rt: &impl Abort, ends: Ends, fault: SettleFault, case: u32)
+    requires { ComeFromWatch ends.probes.items ends.relays.items ends.checker }
+{
+    assert_eq!(rt; settle_fault(ends), Some(fault), "in case {case}");
+}
+
+/// The ends with this book in place of their own.
+fn with_book(ends: Ends, book: Book) -> Ends
+    requires { ComeFromWatch ends.probes.items ends.relays.items ends.checker }
+    ensures { ComeFromWatch result.probes.items result.relays.items result.checker }
+{
+    Ends { book, ..ends }
+}
+
+/// What the ends are settled to.
+fn settled(rt: &impl Abort, ends: Ends) -> Settled
+    requires { ComeFromWatch ends.probes.items ends.relays.items ends.checker }
+{
+    settle(ends.probes, ends.relays, ends.checker, ends.book).expect(rt, "all is there")
 }
 
 #[test]
@@ -205,10 +233,7 @@ fn two_hops_are_settled(rt: HostRuntime) -> Result<(), Fail> {
             taken: 2
         }
     );
-    let settled = settle(ends.probes, ends.relays, ends.checker, ends.book).expect(
-        &rt,
-        "all is there",
-    );
+    let settled = settled(&rt, ends);
     assert_eq!(rt; settled.report, Report::Found(GlobalCut::new(&[0, 0])));
     assert_eq!(rt; settled.tallies, Tallies::new(&[ONE, ONE]));
     Ok(())
@@ -219,13 +244,16 @@ fn each_probe_without_an_end_is_missing(rt: HostRuntime) -> Result<(), Fail> {
     for p in 0..2 {
         let ends = run_watch(&rt, rt.alloc(), None)?;
         let ends = without_probe(ends, p).expect(&rt, "a probe");
-        assert_eq!(rt;
-            settle_fault(ends),
-            Some(SettleFault::Missing),
-            "of process {p}"
-        );
+        is_not_settled(&rt, ends, SettleFault::Missing, p);
     }
     Ok(())
+}
+
+/// All loops have ended, though this process was lost before it had put anything, and its probe has no end.
+fn is_without(rt: &impl Abort, ends: &Ends, p: u32) {
+    let end = &ends.checker;
+    assert_end(rt, end, Report::Undecided, Some(CheckFault::Lost(p)));
+    assert_eq!(rt; (ends.probes.len(), ends.relays.len()), (1, 2));
 }
 
 /// All loops end where a process is lost before it has put anything, and its probe has no end.
@@ -233,12 +261,8 @@ fn each_probe_without_an_end_is_missing(rt: HostRuntime) -> Result<(), Fail> {
 fn a_process_that_is_lost_is_missing(rt: HostRuntime) -> Result<(), Fail> {
     for p in 0..2 {
         let ends = run_watch(&rt, rt.alloc(), Some(p))?;
-        assert_eq!(rt;
-            (ends.checker.fault(), ends.checker.report()),
-            (Some(CheckFault::Lost(p)), Report::Undecided)
-        );
-        assert_eq!(rt; (ends.probes.len(), ends.relays.len()), (1, 2));
-        assert_eq!(rt; settle_fault(ends), Some(SettleFault::Missing));
+        is_without(&rt, &ends, p);
+        is_not_settled(&rt, ends, SettleFault::Missing, p);
     }
     Ok(())
 }
@@ -248,11 +272,7 @@ fn each_relay_without_an_end_is_missing(rt: HostRuntime) -> Result<(), Fail> {
     for number in 0..2 {
         let ends = run_watch(&rt, rt.alloc(), None)?;
         let ends = without_relay(ends, number).expect(&rt, "a relay");
-        assert_eq!(rt;
-            settle_fault(ends),
-            Some(SettleFault::Missing),
-            "of relay {number}"
-        );
+        is_not_settled(&rt, ends, SettleFault::Missing, number);
     }
     Ok(())
 }
@@ -290,8 +310,7 @@ fn a_cut_that_is_another_or_was_not_told_is_unfinished(rt: HostRuntime) -> Resul
         (None, Some(SettleFault::Unfinished)),
     ] {
         let ends = run_watch(&rt, rt.alloc(), None)?;
-        let book = book_with(&rt, told);
-        let met = settle(ends.probes, ends.relays, ends.checker, book).err();
+        let met = settle_fault(with_book(ends, book_with(&rt, told)));
         assert_eq!(rt; met, fault, "with {told:?}");
     }
     Ok(())
@@ -301,10 +320,23 @@ fn a_cut_that_is_another_or_was_not_told_is_unfinished(rt: HostRuntime) -> Resul
 fn each_share_that_was_not_posted_is_unfinished(rt: HostRuntime) -> Result<(), Fail> {
     for p in 0..2 {
         let ends = run_watch(&rt, rt.alloc(), None)?;
-        let book = book_without(&rt, p);
-        let fault = settle(ends.probes, ends.relays, ends.checker, book).err();
-        assert_eq!(rt; fault, Some(SettleFault::Unfinished), "of process {p}");
+        let ends = with_book(ends, book_without(&rt, p));
+        is_not_settled(&rt, ends, SettleFault::Unfinished, p);
     }
+    Ok(())
+}
+
+/// The end of this probe is a stranger among those of a watch.
+fn is_a_stranger(
+    rt: &(impl Abort + Wait),
+    alloc: Global,
+    probe: LiveProbe,
+) -> Result<(), AllocError> {
+    let ends = run_watch(rt, alloc, None)?;
+    let stranger = emit_one(probe).expect(rt, "room");
+    assert!(rt; stranger.watch() != ends.checker.watch());
+    let ends = with_a_stranger(ends, stranger)?;
+    is_not_settled(rt, ends, SettleFault::Stranger, 0);
     Ok(())
 }
 
@@ -313,11 +345,7 @@ fn each_probe_of_another_watch_is_a_stranger(rt: HostRuntime) -> Result<(), Fail
     let plan = two_hops(&rt, rt.alloc())?;
     let other = watch(rt.alloc(), &plan, 8)?;
     for probe in other.probes {
-        let ends = run_watch(&rt, rt.alloc(), None)?;
-        let stranger = emit_one(probe).expect(&rt, "room");
-        assert!(rt; stranger.watch() != ends.checker.watch());
-        let ends = with_a_stranger(ends, stranger)?;
-        assert_eq!(rt; settle_fault(ends), Some(SettleFault::Stranger));
+        is_a_stranger(&rt, rt.alloc(), probe)?;
     }
     Ok(())
 }
@@ -329,7 +357,7 @@ fn a_relay_that_was_cut_is_faulted(rt: HostRuntime) -> Result<(), Fail> {
     let ends = with_a_second_end(ends, faulted)?.expect(&rt, "a fault of the first relay");
     let ends = without_relay(ends, 0).expect(&rt, "the first relay's other end");
     assert_eq!(rt; ends.relays.len(), 2);
-    assert_eq!(rt; settle_fault(ends), Some(SettleFault::Faulted));
+    is_not_settled(&rt, ends, SettleFault::Faulted, 0);
     Ok(())
 }
 
@@ -341,6 +369,6 @@ fn two_ends_of_a_relay_are_strangers(rt: HostRuntime) -> Result<(), Fail> {
     let ends = without_relay(ends, 1).expect(&rt, "a relay");
     let ends = with_a_second_end(ends, second)?.expect(&rt, "a fault of the first relay");
     assert_eq!(rt; ends.relays.len(), 2);
-    assert_eq!(rt; settle_fault(ends), Some(SettleFault::Stranger));
+    is_not_settled(&rt, ends, SettleFault::Stranger, 0);
     Ok(())
 }

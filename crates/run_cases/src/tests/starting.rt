@@ -3,12 +3,14 @@ ghost use Rattle.std.specs.Prelude.{IfOk};
 ghost use Rattle.wcp_model.specs.PlanFault.{IsCheckedPlan};
 ghost use Rattle.wcp_watch.specs.CheckerEnds.{IsFreshFor};
 
-use super::watches::{emit_all, open};
+use super::watches::{Opened, emit_all, open};
 use std::alloc::{AllocError, Global};
+use std::process::Abort;
 use std::sync::atomic::AtomicU32;
 use std::sync::atomic::Ordering::SeqCst;
 use std::sync::{Mutex, Wait};
 use std::test::Fail;
+use std::thread::Threads;
 use wcp_book::Book;
 use wcp_model::{Plan, plain_plan};
 use wcp_threads::{Part, RunsWith};
@@ -82,20 +84,25 @@ fn one_process(alloc: Global) -> Result<Parts<Process>, AllocError>
     processes_of(alloc, &plan)
 }
 
+fn workers_of(alloc: Global, probes: Vec<LiveProbe>) -> Result<Vec<Process>, AllocError> {
+    let mut workers = Vec::with_capacity(alloc, probes.len())?;
+    for probe in probes {
+        workers.push(Process { probe })?;
+    }
+    Ok(workers)
+}
+
 fn processes_of(alloc: Global, plan: &Plan) -> Result<Parts<Process>, AllocError>
     requires { IsCheckedPlan plan.now }
     ensures { IfOk result (λ parts. IsFreshFor parts.checking.inbox parts.checking.checker) }
 {
-    let (watch, checker) = open(alloc, plan)?;
+    let Opened { watch, checker } = open(alloc, plan)?;
     let Watch {
         probes,
         relays,
         inbox,
     } = watch;
-    let mut workers = Vec::with_capacity(alloc, probes.len())?;
-    for probe in probes {
-        workers.push(Process { probe })?;
-    }
+    let workers = workers_of(alloc, probes)?;
     Ok(Parts {
         workers,
         relays,
@@ -103,26 +110,81 @@ fn processes_of(alloc: Global, plan: &Plan) -> Result<Parts<Process>, AllocError
     })
 }
 
-/// Threads can be made, since those of one process run; of those of sixteen one can't, and then none runs.
-#[test]
-fn nothing_runs_where_a_thread_is_refused(rt: HostRuntime) -> Result<(), Fail> {
-    let alloc = rt.alloc();
+/// The parts of a watch of one process, and those of one of sixteen.
+#[derive(Drop)]
+struct FewAndMany {
+    few: Parts<Process>,
+    many: Parts<Process>,
+}
+
+/// Both, before the address space is taken up.
+fn few_and_many(alloc: Global) -> Result<FewAndMany, AllocError>
+    ensures few { IfOk result (λ both. IsFreshFor both.few.checking.inbox both.few.checking.checker) }
+    ensures many { IfOk result (λ both. IsFreshFor both.many.checking.inbox both.many.checking.checker) }
+{
     let few = one_process(alloc)?;
     let many = sixteen_processes(alloc)?;
-    let (begun_of_few, begun) = (AtomicU32::new(0), AtomicU32::new(0));
-    let (book_of_few, book) = (Mutex::new(Book::new(1)), Mutex::new(Book::new(16)));
+    Ok(FewAndMany { few, many })
+}
+
+/// Takes up what is left of the address space but for the gap and what is spare.
+fn take_up_but_gap(alloc: Global) -> Result<Vec<Vec<u8>>, AllocError> {
     let spare = Vec::<u8>::with_capacity(alloc, SPARE)?;
     let gap = Vec::<u8>::with_capacity(alloc, GAP)?;
     let blocks = take_up(alloc)?;
     drop(gap);
     drop(spare);
-    let few_ended = run_parts(&rt, alloc, few, &begun_of_few, &book_of_few);
-    let ended = run_parts(&rt, alloc, many, &begun, &book);
+    Ok(blocks)
+}
+
+/// What the processes of a run share, and its book.
+#[derive(Drop)]
+struct Shared {
+    begun: AtomicU32,
+    book: Mutex<Book>,
+}
+
+/// Runs the few and then the many, gives the blocks back, and compares how both ended.
+fn run_both<R: Threads + Wait + Sync + Abort>(
+    rt: &R,
+    parts: FewAndMany,
+    blocks: Vec<Vec<u8>>,
+    of_few: &Shared,
+    of_many: &Shared,
+    alloc: Global,
+)
+    requires few { IsFreshFor parts.few.checking.inbox parts.few.checking.checker }
+    requires many { IsFreshFor parts.many.checking.inbox parts.many.checking.checker }
+{
+    let FewAndMany { few, many } = parts;
+    let few_ended = run_parts(rt, alloc, few, &of_few.begun, &of_few.book);
+    let ended = run_parts(rt, alloc, many, &of_many.begun, &of_many.book);
     drop(blocks);
     assert_eq!(rt; few_ended.err(), None);
-    assert_eq!(rt; begun_of_few.load(SeqCst), 1);
     assert_eq!(rt; ended.err(), Some(StartFault::Spawn));
-    assert_eq!(rt; begun.load(SeqCst), 0);
-    assert_eq!(rt; book.into_inner().totals().taken, 0);
+}
+
+/// So many processes had begun.
+fn assert_begun(rt: &impl Abort, shared: &Shared, begun: u32) {
+    assert_eq!(rt; shared.begun.load(SeqCst), begun);
+}
+
+/// Threads can be made, since those of one process run; of those of sixteen one can't, and then none runs.
+#[test]
+fn nothing_runs_where_a_thread_is_refused(rt: HostRuntime) -> Result<(), Fail> {
+    let parts = few_and_many(rt.alloc())?;
+    let of_few = Shared {
+        begun: AtomicU32::new(0),
+        book: Mutex::new(Book::new(1)),
+    };
+    let of_many = Shared {
+        begun: AtomicU32::new(0),
+        book: Mutex::new(Book::new(16)),
+    };
+    let blocks = take_up_but_gap(rt.alloc())?;
+    run_both(&rt, parts, blocks, &of_few, &of_many, rt.alloc());
+    assert_begun(&rt, &of_few, 1);
+    assert_begun(&rt, &of_many, 0);
+    assert_eq!(rt; of_many.book.into_inner().totals().taken, 0);
     Ok(())
 }

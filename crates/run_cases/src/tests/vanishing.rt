@@ -4,7 +4,7 @@ ghost use Rattle.std.specs.Prelude.{◌<◌, IfOk};
 ghost use Rattle.wcp_model.specs.PlanFault.{IsCheckedPlan};
 ghost use Rattle.wcp_watch.specs.CheckerEnds.{IsFreshFor};
 
-use super::watches::open;
+use super::watches::{Opened, open, run_relay};
 use std::alloc::{AllocError, Global};
 use std::process::Abort;
 use std::sync::{Mutex, Wait};
@@ -15,7 +15,7 @@ use wcp_clock::{CLOCK_LIMIT, Item, Note};
 use wcp_model::{Parent, Plan, ProbeSetup, Report};
 use wcp_probe::ProbeCore;
 use wcp_queue::Checker;
-use wcp_tree::{LiveProbe, Relay, RelayFault, Watch};
+use wcp_tree::{CheckerInbox, LiveProbe, Relay, RelayFault, Watch};
 use wcp_watch::{CheckFault, CheckerEnd, check_loop};
 
 /// How many runs there are.
@@ -183,13 +183,62 @@ fn two_leaves(rt: &impl Abort, alloc: Global) -> Result<Plan, AllocError>
     Ok(plan)
 }
 
+/// What is left of the relays and the processes of a run.
+#[derive(Drop)]
+struct Played {
+    relays: Vec<Option<RelayFault>>,
+    lost: Option<u32>,
+    told: Report,
+}
+
+/// The processes run in one thread, and each relay in one of its own.
+fn run_beside<R: Threads + Wait + Abort + Sync>(
+    rt: &R,
+    relays: Vec<Relay>,
+    play: Play,
+) -> Result<Played, AllocError> {
+    let (relays, played) = join(
+        rt,
+        || map_vec(rt, relays, &|relay: Relay| run_relay(rt, relay)),
+        || play.run(rt),
+    );
+    let (lost, told) = played?;
+    Ok(Played {
+        relays: relays?,
+        lost,
+        told,
+    })
+}
+
 /// What is left of a run.
 #[derive(Drop)]
 struct Left {
     checker: CheckerEnd,
-    relays: Vec<Option<RelayFault>>,
-    lost: Option<u32>,
-    told: Report,
+    played: Played,
+}
+
+/// The checker's loop, and beside it the relays and the processes.
+fn run_checked<R: Threads + Wait + Abort + Sync>(
+    rt: &R,
+    inbox: CheckerInbox,
+    checker: Checker,
+    relays: Vec<Relay>,
+    play: Play,
+) -> Result<Left, AllocError>
+    requires { IsFreshFor inbox checker }
+{
+    let book = Mutex::new(Book::new(PROCESSES));
+    let (checker, played) = join(
+        rt,
+        || -> CheckerEnd
+            requires { IsFreshFor inbox checker }
+        { check_loop(rt, inbox, checker, &book) },
+        || run_beside(rt, relays, play),
+    );
+    Ok(Left {
+        checker,
+        played: played?,
+    })
 }
 
 /// The run of this number: the processes in one thread, and each relay and the checker's loop in one of its own.
@@ -199,34 +248,32 @@ fn run_drawn<R: Threads + Wait + Abort + Sync>(
     number: u64,
 ) -> Result<Left, AllocError> {
     let plan = two_leaves(rt, alloc)?;
-    let (watch, checker) = open(alloc, &plan)?;
+    let Opened { watch, checker } = open(alloc, &plan)?;
     let Watch {
         probes,
         relays,
         inbox,
     } = watch;
     let play = Play::new(rt, alloc, number, probes)?;
-    let book = Mutex::new(Book::new(PROCESSES));
-    let (checker, (relays, played)) = join(
-        rt,
-        || -> CheckerEnd
-            requires { IsFreshFor inbox checker }
-        { check_loop(rt, inbox, checker, &book) },
-        || {
-            join(
-                rt,
-                || map_vec(rt, relays, &|relay: Relay| relay.run(rt).fault()),
-                || play.run(rt),
-            )
-        },
+    run_checked(rt, inbox, checker, relays, play)
+}
+
+/// The checker tells in this run what the notes tell that were put, and which process was lost. No relay met a fault.
+fn assert_told(rt: &impl Abort, number: u64, checker: &CheckerEnd, played: &Played) {
+    let lost = played.lost.map(CheckFault::Lost);
+    assert_eq!(rt;
+        (checker.report(), checker.fault()),
+        (played.told, lost),
+        "run {number}"
     );
-    let (lost, told) = played?;
-    Ok(Left {
-        checker,
-        relays: relays?,
-        lost,
-        told,
-    })
+    assert!(rt;
+        played.told != Report::Nothing && lost.is_some(),
+        "run {number}"
+    );
+    assert!(rt;
+        played.relays.iter().all(|fault| fault.is_none()),
+        "run {number}"
+    );
 }
 
 #[test]
@@ -234,21 +281,8 @@ fn each_run_of_a_thousand_ends_where_a_process_is_lost(rt: HostRuntime) -> Resul
     let mut found = 0u64;
     for number in 0..RUNS {
         let left = run_drawn(&rt, rt.alloc(), number)?;
-        let lost = left.lost.map(CheckFault::Lost);
-        assert_eq!(rt;
-            (left.checker.report(), left.checker.fault()),
-            (left.told, lost),
-            "run {number}"
-        );
-        assert!(rt;
-            left.told != Report::Nothing && lost.is_some(),
-            "run {number}"
-        );
-        assert!(rt;
-            left.relays.iter().all(|fault| fault.is_none()),
-            "run {number}"
-        );
-        if left.told != Report::Undecided {
+        assert_told(&rt, number, &left.checker, &left.played);
+        if left.played.told != Report::Undecided {
             found = found.wrapping_add(1);
         }
     }

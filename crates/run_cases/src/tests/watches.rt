@@ -9,14 +9,21 @@ use std::sync::{Mutex, Wait};
 use wcp_book::Book;
 use wcp_model::Plan;
 use wcp_queue::Checker;
-use wcp_tree::{LiveProbe, ProbeEnd, Watch, watch};
+use wcp_tree::{CheckerInbox, LiveProbe, ProbeEnd, Relay, RelayFault, Watch, watch};
 use wcp_watch::{CheckerEnd, check_loop};
 
+/// A watch, and a checker for its inbox.
+#[derive(Drop)]
+pub struct Opened {
+    pub watch: Watch,
+    pub checker: Checker,
+}
+
 /// The watch of a plan, and a checker for its inbox. Where memory runs out, asking again makes them.
-pub fn open(alloc: Global, plan: &Plan) -> Result<(Watch, Checker), AllocError>
+pub fn open(alloc: Global, plan: &Plan) -> Result<Opened, AllocError>
     requires { IsCheckedPlan plan.now }
-    ensures fresh { IfOk result (λ opened. IsFreshFor opened.0.inbox opened.1) }
-    ensures wired { IfOk result (λ opened. IsWired plan.now 7 opened.0) }
+    ensures fresh { IfOk result (λ opened. IsFreshFor opened.watch.inbox opened.checker) }
+    ensures wired { IfOk result (λ opened. IsWired plan.now 7 opened.watch) }
 {
     match open_once(alloc, plan) {
         Ok(opened) => Ok(opened),
@@ -24,14 +31,46 @@ pub fn open(alloc: Global, plan: &Plan) -> Result<(Watch, Checker), AllocError>
     }
 }
 
-fn open_once(alloc: Global, plan: &Plan) -> Result<(Watch, Checker), AllocError>
+fn open_once(alloc: Global, plan: &Plan) -> Result<Opened, AllocError>
     requires { IsCheckedPlan plan.now }
-    ensures fresh { IfOk result (λ opened. IsFreshFor opened.0.inbox opened.1) }
-    ensures wired { IfOk result (λ opened. IsWired plan.now 7 opened.0) }
+    ensures fresh { IfOk result (λ opened. IsFreshFor opened.watch.inbox opened.checker) }
+    ensures wired { IfOk result (λ opened. IsWired plan.now 7 opened.watch) }
 {
-    let watch = watch(alloc, plan, 7)?;
     let checker = Checker::new(alloc, plan.n)?;
-    Ok((watch, checker))
+    let watch = watch(alloc, plan, 7)?;
+    Ok(Opened { watch, checker })
+}
+
+/// What the checker's loop leaves, and its book.
+#[derive(Drop)]
+pub struct Checked {
+    pub end: CheckerEnd,
+    pub book: Book,
+}
+
+/// The checker's loop, which posts in this book.
+pub fn check(rt: &impl Wait, inbox: CheckerInbox, checker: Checker, book: Book) -> Checked
+    requires { IsFreshFor inbox checker }
+{
+    let book = Mutex::new(book);
+    let end = check_loop(rt, inbox, checker, &book);
+    Checked {
+        end,
+        book: book.into_inner(),
+    }
+}
+
+/// Runs a relay: the fault that it meets.
+pub fn run_relay(rt: &impl Wait, relay: Relay) -> Option<RelayFault> {
+    relay.run(rt).fault()
+}
+
+/// The first `count` relays run, the highest number first. The others are gone.
+fn run_first(rt: &impl Wait, mut relays: Vec<Relay>, count: usize) {
+    relays.truncate(count);
+    for relay in relays.into_iter().rev() {
+        let _ = run_relay(rt, relay);
+    }
 }
 
 /// A watch that runs in one thread: each process emits one snapshot and closes, but for process 0 where `lost` says after
@@ -44,25 +83,25 @@ pub fn run_in_one_thread(
     lost: Option<u32>,
     count: usize,
     book: Book,
-) -> Result<(CheckerEnd, Book), AllocError>
+) -> Result<Checked, AllocError>
     requires { IsCheckedPlan plan.now }
 {
-    let (watch, checker) = open(alloc, plan)?;
+    let Opened { watch, checker } = open(alloc, plan)?;
     let Watch {
         probes,
-        mut relays,
+        relays,
         inbox,
     } = watch;
-    relays.truncate(count);
+    emit_of_each(rt, probes, lost);
+    run_first(rt, relays, count);
+    Ok(check(rt, inbox, checker, book))
+}
+
+/// Each process emits one snapshot and closes, but for process 0, which may be lost.
+fn emit_of_each(rt: &impl Wait, probes: Vec<LiveProbe>, lost: Option<u32>) {
     for probe in probes {
         emit_one(rt, probe, lost);
     }
-    for relay in relays.into_iter().rev() {
-        let _ = relay.run(rt);
-    }
-    let book = Mutex::new(book);
-    let end = check_loop(rt, inbox, checker, &book);
-    Ok((end, book.into_inner()))
 }
 
 /// Emits one snapshot and closes, or is lost as process 0 after so many.
