@@ -1,16 +1,25 @@
+use std::process::Abort;
 use wcp_book::{Book, BookFault};
 use wcp_model::{GlobalCut, Tally};
+
+/// Posts that so many snapshots of a process were emitted and taken, and compares the answer.
+fn assert_posted(
+    rt: &impl Abort,
+    book: &mut Book,
+    p: u32,
+    snapshots: u32,
+    answer: Result<(), BookFault>,
+) {
+    let snapshots = u64::from(snapshots);
+    assert_eq!(rt; book.post(p, snapshots, snapshots), answer, "process {p}");
+}
 
 #[test]
 fn shares_are_posted_once(rt: HostRuntime) {
     let mut book = Book::new(2);
-    for (p, snapshots, answer) in [
-        (0, 2, Ok(())),
-        (0, 1, Err(BookFault::Twice)),
-        (2, 1, Err(BookFault::NoSuch)),
-    ] {
-        assert_eq!(rt; book.post(p, snapshots, snapshots), answer, "process {p}");
-    }
+    assert_posted(&rt, &mut book, 0, 2, Ok(()));
+    assert_posted(&rt, &mut book, 0, 1, Err(BookFault::Twice));
+    assert_posted(&rt, &mut book, 2, 1, Err(BookFault::NoSuch));
     let share = Tally {
         emitted: 2,
         taken: 2,

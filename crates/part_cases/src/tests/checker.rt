@@ -66,27 +66,38 @@ fn received(rt: &impl Abort, sent: &Clock) -> Option<Clock> {
     Some(first.merge(sent))
 }
 
+/// Compares the report of a checker.
+fn assert_report(rt: &impl Abort, checker: &Checker, report: Report) {
+    assert_eq!(rt; checker.report(), report);
+}
+
+/// A checker is of two processes, of which it took so many snapshots.
+fn assert_taken(rt: &impl Abort, checker: &Checker, first: u64, second: u64) {
+    assert_eq!(rt; checker.processes(), 2);
+    assert_eq!(rt; (checker.taken(0), checker.taken(1)), (first, second));
+}
+
+/// Takes the snapshots of so many sends of process 0, and then that of process 1 after it received the last message.
+fn take_both(rt: &impl Abort, checker: &mut Checker, sends: u32) -> Option<()> {
+    let sent = take_sends(rt, checker, sends)?;
+    let clock = received(rt, &sent)?;
+    take(rt, checker, 1, 0, clock);
+    Some(())
+}
+
 /// Process 0 takes a snapshot before and after each of its sends, and process 1 one after it
 /// received the last. Each head of process 0 but the last precedes that of process 1.
 #[test]
 fn a_head_that_precedes_another_is_dropped(rt: HostRuntime) -> Result<(), Fail> {
     for sends in [1, 20] {
         let mut checker = checker_of_two(rt.alloc())?;
-        assert_eq!(rt; checker.processes(), 2);
-        assert_eq!(rt; checker.report(), Report::Undecided);
-        let sent = take_sends(&rt, &mut checker, sends).ok_or("the clock's end")?;
-        let clock = received(&rt, &sent).ok_or("the clock's end")?;
-        take(&rt, &mut checker, 1, 0, clock);
-        assert_eq!(rt;
-            checker.report(),
-            Report::Found(GlobalCut::new(&[sends, 1]))
-        );
+        assert_taken(&rt, &checker, 0, 0);
+        assert_report(&rt, &checker, Report::Undecided);
+        take_both(&rt, &mut checker, sends).ok_or("the clock's end")?;
+        let cut = GlobalCut::new(&[sends, 1]);
+        assert_report(&rt, &checker, Report::Found(cut));
         assert!(rt; (1..=2 * (u64::from(sends) + 2)).contains(&checker.tests()));
-        assert_eq!(rt; checker.processes(), 2);
-        assert_eq!(rt;
-            (checker.taken(0), checker.taken(1)),
-            (u64::from(sends) + 1, 1)
-        );
+        assert_taken(&rt, &checker, u64::from(sends) + 1, 1);
     }
     Ok(())
 }
@@ -99,14 +110,10 @@ const WAITING: u32 = 32_768;
 #[test]
 fn a_process_waits_for_long(rt: HostRuntime) -> Result<(), Fail> {
     let mut checker = checker_of_two(rt.alloc())?;
-    assert_eq!(rt; checker.processes(), 2);
+    assert_taken(&rt, &checker, 0, 0);
     assert!(rt; take_sends(&rt, &mut checker, WAITING - 1).is_some());
-    assert_eq!(rt; checker.processes(), 2);
-    assert_eq!(rt;
-        (checker.taken(0), checker.taken(1)),
-        (u64::from(WAITING), 0)
-    );
-    assert_eq!(rt; checker.report(), Report::Undecided);
+    assert_taken(&rt, &checker, u64::from(WAITING), 0);
+    assert_report(&rt, &checker, Report::Undecided);
     assert_eq!(rt; checker.tests(), 2);
     Ok(())
 }
@@ -200,6 +207,12 @@ fn takes_first(rt: &impl Abort, checker: &mut Checker, from: u32) -> bool {
     takes(rt, checker, &item)
 }
 
+/// A checker is of two processes, of which process 0 is closed or not, and so is process 1.
+fn assert_ended(rt: &impl Abort, checker: &Checker, first: bool, second: bool) {
+    assert_eq!(rt; checker.processes(), 2);
+    assert_eq!(rt; (checker.closed(0), checker.closed(1)), (first, second));
+}
+
 /// A starved checker takes each item at once, and finds nothing, also where all is closed.
 #[test]
 fn a_starved_checker_stays_undecided(rt: HostRuntime) -> Result<(), Fail> {
@@ -209,16 +222,13 @@ fn a_starved_checker_stays_undecided(rt: HostRuntime) -> Result<(), Fail> {
     checker.starve();
     assert!(rt; checker.is_starved());
     assert!(rt; takes_first(&rt, &mut checker, 1));
-    assert_eq!(rt; checker.report(), Report::Undecided);
-    assert_eq!(rt; checker.processes(), 2);
-    assert_eq!(rt; (checker.taken(0), checker.taken(1)), (1, 1));
+    assert_report(&rt, &checker, Report::Undecided);
+    assert_taken(&rt, &checker, 1, 1);
     for from in 0..2 {
         assert!(rt; takes_close(&rt, &mut checker, from));
     }
-    assert_eq!(rt; checker.processes(), 2);
-    assert!(rt; checker.closed(0));
-    assert!(rt; checker.closed(1));
-    assert_eq!(rt; checker.report(), Report::Undecided);
+    assert_ended(&rt, &checker, true, true);
+    assert_report(&rt, &checker, Report::Undecided);
     Ok(())
 }
 
@@ -229,30 +239,38 @@ fn a_starved_checker_keeps_the_cut_that_it_found(rt: HostRuntime) -> Result<(), 
         assert!(rt; takes_first(&rt, &mut checker, from));
     }
     checker.starve();
-    let found = Report::Found(GlobalCut::new(&[0, 0]));
-    assert_eq!(rt; checker.report(), found);
+    let cut = GlobalCut::new(&[0, 0]);
+    assert_report(&rt, &checker, Report::Found(cut));
     assert!(rt; takes_close(&rt, &mut checker, 0));
-    assert_eq!(rt; checker.report(), found);
+    assert_report(&rt, &checker, Report::Found(cut));
     Ok(())
+}
+
+/// Takes the first snapshot of a process of two. Where memory runs out, asking again takes it.
+fn take_first(rt: &impl Abort, checker: &mut Checker, from: u32) {
+    assert!(rt; takes_first(rt, checker, from) || takes_first(rt, checker, from));
+}
+
+/// A checker of two processes took the mark that process 0 was lost.
+fn assert_lost(rt: &impl Abort, checker: &Checker) {
+    assert_eq!(rt; checker.processes(), 2);
+    assert_eq!(rt; (checker.lost(0), checker.closed(0)), (true, false));
 }
 
 /// A checker without a cut that took the mark of a lost process is undecided, also where all others are closed.
 #[test]
 fn a_checker_of_a_lost_process_stays_undecided(rt: HostRuntime) -> Result<(), Fail> {
     let mut checker = checker_of_two(rt.alloc())?;
-    assert!(rt; takes_first(&rt, &mut checker, 0) || takes_first(&rt, &mut checker, 0));
+    take_first(&rt, &mut checker, 0);
     assert!(rt; takes_lost(&rt, &mut checker, 0));
-    assert_eq!(rt; checker.processes(), 2);
-    assert!(rt; checker.lost(0));
-    assert!(rt; !checker.closed(0));
+    assert_lost(&rt, &checker);
     let close = Item {
         from: 1,
         note: Note::Close { count: 0 },
     };
     assert!(rt; takes(&rt, &mut checker, &close));
-    assert_eq!(rt; checker.report(), Report::Undecided);
-    assert_eq!(rt; checker.processes(), 2);
-    assert_eq!(rt; (checker.taken(0), checker.taken(1)), (1, 0));
+    assert_report(&rt, &checker, Report::Undecided);
+    assert_taken(&rt, &checker, 1, 0);
     Ok(())
 }
 
@@ -260,9 +278,9 @@ fn a_checker_of_a_lost_process_stays_undecided(rt: HostRuntime) -> Result<(), Fa
 #[test]
 fn a_checker_of_a_lost_process_finds_a_cut(rt: HostRuntime) -> Result<(), Fail> {
     let mut checker = checker_of_two(rt.alloc())?;
-    assert!(rt; takes_first(&rt, &mut checker, 0) || takes_first(&rt, &mut checker, 0));
+    take_first(&rt, &mut checker, 0);
     assert!(rt; takes_lost(&rt, &mut checker, 0));
-    assert!(rt; takes_first(&rt, &mut checker, 1) || takes_first(&rt, &mut checker, 1));
-    assert_eq!(rt; checker.report(), Report::Found(GlobalCut::new(&[0, 0])));
+    take_first(&rt, &mut checker, 1);
+    assert_report(&rt, &checker, Report::Found(GlobalCut::new(&[0, 0])));
     Ok(())
 }

@@ -1,3 +1,4 @@
+use std::process::Abort;
 use wcp_clock::{Clock, Item, Note};
 
 /// The clocks of process 0 after a send and of process 1 after its receive, of two processes that
@@ -8,6 +9,37 @@ fn one_message() -> Option<(Clock, Clock)> {
     Some((sent, received))
 }
 
+/// Compares the components of a clock: those of processes 0 and 1, and none of process 15.
+fn assert_components(rt: &impl Abort, clock: &Clock, first: u32, second: u32) {
+    assert_eq!(rt;
+        (clock.get(0), clock.get(1), clock.get(15)),
+        (first, second, 0)
+    );
+}
+
+/// The first snapshot with this clock.
+fn snapshot(clock: &Clock) -> Note {
+    Note::Snap {
+        number: 0,
+        clock: *clock,
+    }
+}
+
+/// That snapshot of process 1.
+fn item(clock: &Clock) -> Item {
+    Item {
+        from: 1,
+        note: snapshot(clock),
+    }
+}
+
+/// An item is the same as another one of the same clock. A note differs from one of another clock, and of another kind.
+fn assert_differ(rt: &impl Abort, sent: &Clock, received: &Clock) {
+    assert_eq!(rt; item(received), item(received));
+    assert!(rt; snapshot(received) != snapshot(sent));
+    assert!(rt; snapshot(received) != Note::Close { count: 0 });
+}
+
 #[test]
 fn a_message_carries_the_senders_clock(rt: HostRuntime) {
     let start = Clock::new(2);
@@ -16,36 +48,11 @@ fn a_message_carries_the_senders_clock(rt: HostRuntime) {
     assert!(rt; clocks.is_some());
     if let Some((sent, received)) = clocks {
         assert_eq!(rt; received.len(), 2);
-        for (clock, first, second) in [(start, 0, 0), (sent, 1, 0), (received, 1, 1)] {
-            assert_eq!(rt;
-                (clock.get(0), clock.get(1), clock.get(15)),
-                (first, second, 0)
-            );
-        }
+        assert_components(&rt, &start, 0, 0);
+        assert_components(&rt, &sent, 1, 0);
+        assert_components(&rt, &received, 1, 1);
         assert!(rt; start.precedes(0, &received));
         assert!(rt; !received.precedes(0, &sent));
-        let snapshot = Note::Snap {
-            number: 0,
-            clock: received,
-        };
-        let item = Item {
-            from: 1,
-            note: snapshot,
-        };
-        assert_eq!(rt;
-            item,
-            Item {
-                from: 1,
-                note: snapshot
-            }
-        );
-        assert!(rt;
-            snapshot
-                != Note::Snap {
-                    number: 0,
-                    clock: sent
-                }
-        );
-        assert!(rt; snapshot != Note::Close { count: 0 });
+        assert_differ(&rt, &sent, &received);
     }
 }

@@ -99,17 +99,23 @@ fn a_clock_ends_at_its_limit(rt: HostRuntime) -> Result<(), Fail> {
     Ok(())
 }
 
+/// Only the receiver takes a message, unless it is behind: all others refuse it, and each gets it back.
+fn send_past_others(rt: &impl Abort, a: &mut ProbeCore, b: &mut ProbeCore, text: String) -> String {
+    let (mut behind, mut stranger) = (core(7, 1), core(8, 1));
+    let message = stamped(rt, a, 1, text);
+    let message = refused(rt, &mut behind, message, Refusal::Ahead);
+    let message = refused(rt, &mut stranger, message, Refusal::Stranger);
+    let message = refused(rt, a, message, Refusal::NotMine);
+    received(rt, b, message)
+}
+
 #[test]
 fn a_stamp_is_for_one_receiver_that_is_not_behind(rt: HostRuntime) -> Result<(), Fail> {
-    let (mut a, mut b, mut c) = (core(7, 0), core(7, 1), core(7, 1));
-    let mut stranger = core(8, 1);
+    let (mut a, mut b) = (core(7, 0), core(7, 1));
     let first = stamped(&rt, &mut b, 0, String::from_str(rt.alloc(), "first")?);
     let first = received(&rt, &mut a, first);
-    let second = stamped(&rt, &mut a, 1, String::from_str(rt.alloc(), "second")?);
-    let second = refused(&rt, &mut c, second, Refusal::Ahead);
-    let second = refused(&rt, &mut stranger, second, Refusal::Stranger);
-    let second = refused(&rt, &mut a, second, Refusal::NotMine);
-    let second = received(&rt, &mut b, second);
+    let second = String::from_str(rt.alloc(), "second")?;
+    let second = send_past_others(&rt, &mut a, &mut b, second);
     assert_eq!(rt; (first.as_str(), second.as_str()), ("first", "second"));
     assert_eq!(rt; components(&b.clock()), [2, 2, 0]);
     Ok(())
