@@ -1,0 +1,177 @@
+-- One more event stands in a column.
+use Rattle.wcp_layout.proofs.Words.{◌≡◌, ◌≢◌, ℕ, ◌+◌, ◌<◌, ◌≤◌, ◌⊎◌, ◌∙◌, Bool, true, false, List, length, set, slice_get, slice_index, Some, refl, sym, ap, subst, inl, inr, ⊎_elim, arith, cases_eq, cases_lt, and_parts, and_from, false≢true, eqb-true, eq-eqb, same_Some, length-set, get_or-set_same, get_or-set_other, slice_get_within, count_before-place, sends, sends_yes, Task, IsFitOrder, AreSendAndReceive, AreSends, IsDelivery, delivery_later, IsEventAt, is_event, IsOfHalf, StandInColumns, MayStand, IsLaid}
+use Rattle.wcp_model.specs.declared.workload.Action.TheVariants as action
+use Rattle.std.proofs.Math.Bool.{beq}
+
+-- the event at a place is that of one process
+pub event_of_task : (order : List Task) (p place : ℕ) (event : IsEventAt order p place) → event.task.p ≡ p
+event_of_task order p place event = eqb-true _ p (and_parts _ _ event.own).0
+
+pub same_process : (order : List Task) (p q place : ℕ) → IsEventAt order p place → IsEventAt order q place → p ≡ q
+same_process order p q place one other =
+    sym (event_of_task order p place one) ∙ ap (λ (task : Task). task.p) (same_Some _ _ (sym one.at ∙ other.at)) ∙ event_of_task order q place other
+
+pub event_from : (order : List Task) (place : ℕ) (task : Task) → slice_get order place ≡ Some task → is_event task.action ≡ true → IsEventAt order task.p place
+event_from order place task at is = record { task = task; at = at; own = and_from _ _ (eq-eqb task.p task.p refl) is }
+
+module _ (order : List Task) where
+  -- a message has its send and its receive, and a receive one send
+  pub send_event : (sent received : ℕ) (message : AreSendAndReceive order sent received) → IsEventAt order message.from sent
+  send_event sent received message = event_from order sent (record { p = message.from; action = action.Send message.to }) message.send refl
+
+  pub receive_event : (sent received : ℕ) (message : AreSendAndReceive order sent received) → IsEventAt order message.to received
+  receive_event sent received message = event_from order received (record { p = message.to; action = action.Recv message.from }) message.receive refl
+
+  pub message_later : IsFitOrder order order → (sent received : ℕ) → AreSendAndReceive order sent received → sent < received
+  message_later fit sent received message =
+      let delivery : IsDelivery order message.from message.to sent received = record { send = message.send; receive = message.receive; same_rank = sym message.same_number } in
+      delivery_later fit delivery
+
+  same_send : (one other received : ℕ) → AreSendAndReceive order one received → AreSendAndReceive order other received → one ≡ other
+  same_send one other received first second =
+      let same = same_Some _ _ (sym first.receive ∙ second.receive) in
+      let to : first.to ≡ second.to = ap (λ (task : Task). task.p) same in
+      let act = ap (λ (task : Task). task.action) same in
+      let from : first.from ≡ second.from = cc act in
+      count_before-place (sends first.from first.to) order one other _ _ first.send second.send (sends_yes first.from first.to) (rw (from, to) (sends_yes second.from second.to))
+      (sym first.same_number ∙ rw (from, to) second.same_number)
+
+  module _ (columns : List ℕ) (stand : StandInColumns order columns) (p i c : ℕ) (event : IsEventAt order p i) where
+    inside : i < length columns
+    inside = omega (arith, slice_get_within order i event.task event.at, stand.tasks)
+
+    pub column_here : slice_index (set columns i c) i ≡ c
+    column_here = get_or-set_same columns i c 0 inside
+
+    pub column_there : (k : ℕ) → k ≢ i → slice_index (set columns i c) k ≡ slice_index columns k
+    column_there k other = get_or-set_other columns i k c 0 other
+
+    stand_more : slice_index columns i ≡ 0 → IsFitOrder order order
+        → ((j : ℕ) → IsEventAt order p j → j < i → (0 < slice_index columns j) × (slice_index columns j < c))
+        → ((sent : ℕ) → AreSendAndReceive order sent i → (0 < slice_index columns sent) × (slice_index columns sent < c))
+        → StandInColumns order (set columns i c)
+    stand_more none fit own message = record {
+      tasks = length-set columns i c ∙ stand.tasks;
+      own = λ q k j at_k at_j less positive. elim (cases_eq k i) [
+        | inl here ↦
+            let before = own j (subst (λ r. IsEventAt order r j) (same_process order q p i (subst (IsEventAt order q) here at_k) event) at_j) (omega arith) in
+            let there = column_there j (λ same. omega (arith, same)) in
+            let at : slice_index (set columns i c) k ≡ c = rw here column_here in
+            (omega (arith, before.0, there), omega (arith, before.1, there, at))
+        | inr other ↦
+            let there = column_there k other in
+            let positive_k : 0 < slice_index columns k = omega (arith, there, positive) in
+            let before = stand.own q k j at_k at_j less positive_k in
+            let also = column_there j (λ same. let zero : slice_index columns j ≡ 0 = rw same none in omega (arith, zero, before.0)) in
+            (omega (arith, before.0, also), omega (arith, before.1, also, there))
+      ];
+      message = λ sent received is positive. elim (cases_eq received i) [
+        | inl here ↦
+            let before = message sent (subst (AreSendAndReceive order sent) here is) in
+            let there = column_there sent (λ same. omega (arith, same, message_later fit sent received is)) in
+            let at : slice_index (set columns i c) received ≡ c = rw here column_here in
+            (omega (arith, before.0, there), omega (arith, before.1, there, at))
+        | inr other ↦
+            let there = column_there received other in
+            let positive_r : 0 < slice_index columns received = omega (arith, there, positive) in
+            let before = stand.message sent received is positive_r in
+            let also = column_there sent (λ same. let zero : slice_index columns sent ≡ 0 = rw same none in omega (arith, zero, before.0)) in
+            (omega (arith, before.0, also), omega (arith, before.1, also, there))
+      ];
+    }
+
+module _ (order : List Task) (halves : List Bool) (half : Bool) (floor : ℕ) (start : List ℕ) (place : ℕ) (columns last : List ℕ) (is : IsLaid order halves half floor start place columns last) where
+  -- the task at a place stands in no column
+  pub laid_past : ((p : ℕ) → IsEventAt order p place → IsOfHalf halves half place → ⊥) → IsLaid order halves half floor start (place + 1) columns last
+  laid_past none = record {
+    stand = is.stand;
+    laid = λ p i event own below. elim (cases_lt i place) [
+      | inl before ↦ is.laid p i event own before
+      | inr here ↦ let same : i ≡ place = omega arith in absurd (none p (subst (IsEventAt order p) same event) (subst (IsOfHalf halves half) same own))
+    ];
+    unlaid = λ i own le. is.unlaid i own (omega arith);
+    kept = is.kept;
+    processes = is.processes;
+    greatest = is.greatest;
+    reached = is.reached;
+    few_columns = λ i. omega (arith, is.few_columns i);
+  }
+
+  module _ (fit : IsFitOrder order order) (may : MayStand order halves half start) (sent : List ℕ) (are : AreSends order sent) (task : Task) (at : slice_get order place ≡ Some task) (is_one : is_event task.action ≡ true) (own : IsOfHalf halves half place) (within : task.p < 16) (c : ℕ) (floor_less : floor < c) (last_less : slice_index last task.p < c) (sent_less : slice_index columns (slice_index sent place) < c) where
+    event : IsEventAt order task.p place
+    event = event_from order place task at is_one
+
+    -- what went before stands in a column
+    stands : (q j : ℕ) → IsEventAt order q j → j < place → IsOfHalf halves half j ⊎ (0 < slice_index start j) → 0 < slice_index columns j
+    stands q j at_j less one = ⊎_elim
+        (λ of_half. omega (arith, is.laid q j at_j of_half less))
+        (λ stood. omega (arith, stood, is.kept j (λ of_half. omega (arith, may.none j of_half, stood))))
+        one
+
+    -- the event at a place stands in a column
+    pub laid_more : c ≤ floor + (place + 1) → IsLaid order halves half floor start (place + 1) (set columns place c) (set last task.p c)
+    laid_more few = record {
+      stand = stand_more order columns is.stand task.p place c event (is.unlaid place own (omega arith)) fit
+          (λ j at_j less. (stands task.p j at_j less (may.own task.p place j event at_j less own), omega (arith, is.greatest task.p j at_j)))
+          (λ from message.
+          let same = same_send order from (slice_index sent place) place message (are.each place message.to message.from message.receive) in
+          (stands message.from from (send_event order from place message) (message_later order fit from place message) (may.message from place message own), rw same sent_less));
+      laid = λ p i at_i own_i below. elim (cases_eq i place) [
+        | inl here ↦ rw (here, column_here order columns is.stand task.p place c event) floor_less
+        | inr other ↦ rw (column_there order columns is.stand task.p place c event i other) (is.laid p i at_i own_i (omega arith))
+      ];
+      unlaid = λ i own_i le. rw (column_there order columns is.stand task.p place c event i (λ same. omega (arith, same))) (is.unlaid i own_i (omega arith));
+      kept = λ i other. rw (column_there order columns is.stand task.p place c event i (λ same. other (rw same own))) (is.kept i other);
+      processes = length-set last task.p c ∙ is.processes;
+      greatest = λ p i at_i. elim (cases_eq i place) [
+        | inl here ↦
+            let same = same_process order p task.p place (subst (IsEventAt order p) here at_i) event in
+            let one : slice_index (set columns place c) i ≡ c = rw here (column_here order columns is.stand task.p place c event) in
+            let other : slice_index (set last task.p c) p ≡ c = rw same (get_or-set_same last task.p c 0 (omega (arith, within, is.processes))) in
+            omega (arith, one, other)
+        | inr there ↦ elim (cases_eq p task.p) [
+          | inl same ↦
+              let other : slice_index (set last task.p c) p ≡ c = rw same (get_or-set_same last task.p c 0 (omega (arith, within, is.processes))) in
+              let least : slice_index columns i ≤ slice_index last task.p = rw same at (is.greatest p i at_i) in
+              omega (arith, column_there order columns is.stand task.p place c event i there, other, least, last_less)
+          | inr apart ↦ omega (arith, column_there order columns is.stand task.p place c event i there, get_or-set_other last task.p p c 0 apart, is.greatest p i at_i)
+        ]
+      ];
+      few_columns = λ i. elim (cases_eq i place) [
+        | inl here ↦ rw (here, column_here order columns is.stand task.p place c event) few
+        | inr other ↦ rw (column_there order columns is.stand task.p place c event i other) (omega (arith, is.few_columns i))
+      ];
+      reached = λ p. elim (cases_eq p task.p) [
+        | inl same ↦
+            let now : slice_index (set last task.p c) p ≡ c = rw same (get_or-set_same last task.p c 0 (omega (arith, within, is.processes))) in
+            inr (place, subst (λ q. IsEventAt order q place) (sym same) event, now ∙ sym (column_here order columns is.stand task.p place c event))
+        | inr apart ↦ rw (get_or-set_other last task.p p c 0 apart) (⊎_elim inl (λ (i, at_i, same). inr (
+          i,
+          at_i,
+          same ∙ sym (column_there order columns is.stand task.p place c event i (λ here. apart (same_process order p task.p place (subst (IsEventAt order p) here at_i) event))),
+        )) (is.reached p))
+      ];
+    }
+
+-- the last columns are few
+pub last_few : (order : List Task) (halves : List Bool) (half : Bool) (floor : ℕ) (start : List ℕ) (place : ℕ) (columns last : List ℕ) → IsLaid order halves half floor start place columns last → (p : ℕ) → slice_index last p ≤ floor + place
+last_few order halves half floor start place columns last is p = ⊎_elim (λ zero. omega (arith, zero)) (λ (i, at_i, same). omega (arith, same, is.few_columns i)) (is.reached p)
+
+-- an observation is no event
+pub no_event : (order : List Task) (p place : ℕ) (task : Task) → slice_get order place ≡ Some task → is_event task.action ≡ false → IsEventAt order p place → ⊥
+no_event order p place task at is event =
+    let one : is_event event.task.action ≡ true = (and_parts _ _ event.own).1 in
+    false≢true (sym is ∙ ap (λ (t : Task). is_event t.action) (same_Some _ _ (sym at ∙ event.at)) ∙ one)
+
+-- what `==` says of halves
+pub beq_true : (a b : Bool) → beq a b ≡ true → a ≡ b
+beq_true true true same = refl
+beq_true false false same = refl
+beq_true true false same = cc
+beq_true false true same = cc
+
+pub beq_same : (a b : Bool) → a ≡ b → beq a b ≡ true
+beq_same true true same = refl
+beq_same false false same = refl
+beq_same true false same = cc
+beq_same false true same = cc

@@ -1,0 +1,6 @@
+mod Words
+pub mod Queues
+pub mod Laying
+pub mod Halves
+pub mod Splitting
+pub mod Counting

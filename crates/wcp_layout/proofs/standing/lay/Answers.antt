@@ -1,0 +1,33 @@
+use Rattle.wcp_layout.proofs.Words.{◌∙◌, ◌+◌, ◌≤◌, false, get_or, slice_index, sym, arith, false≢true, slice_get-get_or, Task}
+use Rattle.wcp_model.specs.declared.workload.Action.TheVariants.{Observe}
+use Rattle.wcp_layout.proofs.Laying.{laid_past, laid_more, last_few, no_event, beq_true, beq_same}
+use Rattle.wcp_layout.proofs.standing.lay.Goals.{then-is_event+then-halves-place, else-is_event, else-is_event-via-then-is_event+else-halves-place, else-is_event-via-else-is_event}
+use Rattle.wcp_layout.proofs.standing.lay.Goals as goal
+
+pub overflow_add-column : goal.overflow_add-column
+overflow_add-column c =
+    let is = c.loop-place.invariant in
+    let none : Task = record { p = 0; action = Observe false } in
+    let task : Task = get_or c.args.order.now c.loop-place.place none in
+    let last : slice_index c.loop-place.last task.p ≤ c.args.floor + c.loop-place.place = last_few _ _ _ _ _ _ _ _ is task.p in
+    omega (arith, last, is.few_columns (slice_index c.args.sent.now c.loop-place.place))
+
+pub loop-place-preserved : goal.loop-place-preserved
+loop-place-preserved c =
+    let order = c.args.order.now in
+    let place = c.loop-place.place in
+    let none : Task = record { p = 0; action = Observe false } in
+    let task : Task = get_or order place none in
+    let at = slice_get-get_or order place none c.loop-place-test.true in
+    let is = c.loop-place.invariant in
+    let last : slice_index c.loop-place.last task.p ≤ c.args.floor + place = last_few _ _ _ _ _ _ _ _ is task.p in
+    elim c.if-is_event.branch [
+      | then-is_event+then-halves-place w ↦ rw (w.columns-is, w.last-is) (laid_more order c.args.halves.now c.args.half c.args.floor c.args.columns.now place c.loop-place.columns c.loop-place.last is
+          c.requires.fit c.requires.may c.args.sent.now c.requires.sends task at (sym c.is_event.ensures ∙ w.if-is_event.true) (beq_true _ _ w.if-halves-place.true) (c.requires.few place none c.loop-place-test.true) _ (omega arith) (omega arith) (omega arith)
+          (omega (arith, last, is.few_columns (slice_index c.args.sent.now place))))
+      | else-is_event w ↦ rw (w.columns-is, w.last-is) (laid_past order c.args.halves.now c.args.half c.args.floor c.args.columns.now place c.loop-place.columns c.loop-place.last is
+          (λ p event own. elim w.else-is_event.branch [
+            | else-is_event-via-then-is_event+else-halves-place w' ↦ false≢true (sym w'.if-halves-place.false ∙ beq_same _ _ own)
+            | else-is_event-via-else-is_event w' ↦ no_event order p place task at (sym c.is_event.ensures ∙ w'.if-is_event.false) event
+          ]))
+    ]

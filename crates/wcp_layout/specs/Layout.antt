@@ -1,0 +1,23 @@
+use Rattle.std.specs.Prelude.{◌≡◌, ℕ, ◌<◌, List, length, slice_index, Option}
+use Rattle.wcp_model.specs.declared.workload.Task.{Task}
+use Rattle.wcp_order.specs.Stuck.{AreSendAndReceive}
+use Rattle.wcp_layout.specs.declared.layout.Layout.{Layout}
+use Rattle.wcp_layout.specs.Events.{AreIntervals, IsEventAt}
+use Rattle.wcp_layout.specs.Halves.{IsBefore}
+use Rattle.wcp_layout.specs.Messages.{AreSends}
+
+-- A layout of a fit order of n processes about a cut: each communication event stands in one column. Along a process
+-- columns rise, and each message goes right. All before the cut stands left of the line, and all behind it right.
+pub record IsLayout (n : ℕ) (order : List Task) (cut : Option (List ℕ)) (layout : Layout) : Type 0 where
+  pub intervals : AreIntervals n order layout.intervals.items
+  pub sent : AreSends order layout.sent.items
+  pub tasks : length layout.columns.items ≡ length order
+  pub own : (p i j : ℕ) → IsEventAt order p i → IsEventAt order p j → j < i →
+      slice_index layout.columns.items j < slice_index layout.columns.items i
+  pub message : (sent received : ℕ) → AreSendAndReceive order sent received →
+      slice_index layout.columns.items sent < slice_index layout.columns.items received
+  pub first : (p i : ℕ) → IsEventAt order p i → 0 < slice_index layout.columns.items i
+  pub before : (p i : ℕ) → IsEventAt order p i → IsBefore cut p (slice_index layout.intervals.items i) →
+      slice_index layout.columns.items i < layout.line
+  pub behind : (p i : ℕ) → IsEventAt order p i → (IsBefore cut p (slice_index layout.intervals.items i) → ⊥) →
+      layout.line < slice_index layout.columns.items i

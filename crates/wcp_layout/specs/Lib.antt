@@ -1,0 +1,5 @@
+pub mod Events
+pub mod Messages
+pub mod Columns
+pub mod Halves
+pub mod Layout

@@ -1,0 +1,11 @@
+//! Where the events of a workload stand in a picture of it.
+#![tactic(auto)]
+
+mod cut_halves;
+mod events;
+mod layout;
+mod messages;
+mod place_queue;
+mod standing;
+
+pub use layout::{Layout, lay_out};
