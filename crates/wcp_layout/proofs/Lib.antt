@@ -4,3 +4,4 @@ pub mod Laying
 pub mod Halves
 pub mod Splitting
 pub mod Counting
+pub mod Listing

@@ -3,3 +3,4 @@ pub mod Messages
 pub mod Columns
 pub mod Halves
 pub mod Layout
+pub mod Rows

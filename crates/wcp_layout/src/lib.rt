@@ -6,6 +6,10 @@ mod events;
 mod layout;
 mod messages;
 mod place_queue;
+mod row;
+mod rows;
 mod standing;
 
 pub use layout::{Layout, lay_out};
+pub use row::Row;
+pub use rows::{event_columns, true_states};
