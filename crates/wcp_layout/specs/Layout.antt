@@ -5,12 +5,15 @@ use Rattle.wcp_layout.specs.declared.layout.Layout.{Layout}
 use Rattle.wcp_layout.specs.Events.{AreIntervals, IsEventAt}
 use Rattle.wcp_layout.specs.Halves.{IsBefore}
 use Rattle.wcp_layout.specs.Messages.{AreSends}
+use Rattle.wcp_layout.specs.Rows.{AreEventColumns, AreTrueRows}
 
 -- A layout of a fit order of n processes about a cut: each communication event stands in one column. Along a process
 -- columns rise, and each message goes right. All before the cut stands left of the line, and all behind it right.
 pub record IsLayout (n : ℕ) (order : List Task) (cut : Option (List ℕ)) (layout : Layout) : Type 0 where
   pub intervals : AreIntervals n order layout.intervals.items
   pub sent : AreSends order layout.sent.items
+  pub events : AreEventColumns n order layout.columns.items layout.events.items
+  pub truths : AreTrueRows n order layout.truths.items
   pub tasks : length layout.columns.items ≡ length order
   pub own : (p i j : ℕ) → IsEventAt order p i → IsEventAt order p j → j < i →
       slice_index layout.columns.items j < slice_index layout.columns.items i

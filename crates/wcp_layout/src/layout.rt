@@ -8,11 +8,13 @@ ghost use Rattle.wcp_model.specs.WorkloadComputation.{IsFitOrder, IsWithin};
 use crate::cut_halves::halves;
 use crate::events::intervals;
 use crate::messages::sends;
+use crate::row::Row;
+use crate::rows::{event_columns, true_states};
 use crate::standing::{Columns, stand_in_columns};
 use std::alloc::{AllocError, Global};
 use wcp_model::{GlobalCut, Task};
 
-/// Where the tasks of a fit order stand in a picture. Each list has an element for each task.
+/// Where the tasks of a fit order stand in a picture. The first three lists have an element for each task.
 #[derive(Debug, Drop)]
 pub struct Layout {
     /// The interval that the process of each task is in: its communication event k ends its interval k.
@@ -21,6 +23,10 @@ pub struct Layout {
     pub sent: Vec<usize>,
     /// The column of each communication event, from 1, and 0 of each observation.
     pub columns: Vec<u32>,
+    /// For each process the columns of its communication events.
+    pub events: Vec<Row>,
+    /// For each process the intervals in which it is observed true, rising.
+    pub truths: Vec<Row>,
     /// The column of the cut's line. All that stands before the cut is left of it, and all else right.
     pub line: u32,
 }
@@ -47,10 +53,14 @@ pub fn lay_out(
         of_tasks: columns,
         line,
     } = stand_in_columns(alloc, order, &sent, &halves)?;
+    let events = event_columns(alloc, n, order, &columns)?;
+    let truths = true_states(alloc, n, order, &intervals)?;
     Ok(Layout {
         intervals,
         sent,
         columns,
+        events,
+        truths,
         line,
     })
 }

@@ -14,6 +14,8 @@ returns c =
     record {
       intervals = c.in_ok-intervals.ensures;
       sent = c.in_ok-sent.ensures;
+      events = rw c.deref-4.ensures.value at c.in_ok-events.ensures;
+      truths = c.in_ok-truths.ensures;
       tasks = are.tasks;
       own = are.own;
       message = are.message;
