@@ -1,6 +1,6 @@
 -- The two halves, one after the other.
 use Rattle.wcp_layout.proofs.Words.{◌≡◌, ◌∙◌, ℕ, ◌<◌, ◌⊎◌, Bool, true, false, List, length, slice_index, slice_index_or, refl, sym, inl, inr, arith, cases_Bool, false≢true, slice_get_within, Task, IsFitOrder, IsEventAt, IsOfHalf, IsClosed, MayStand, IsLaid, AreColumns}
-use Rattle.wcp_layout.proofs.Laying.{send_event, receive_event}
+use Rattle.wcp_layout.proofs.Laying.{next_stays, send_event, receive_event}
 
 -- the first half, where nothing stands in a column
 pub may_first : (order : List Task) (halves : List Bool) (zeros : List ℕ) → IsClosed order halves → ((i : ℕ) → slice_index zeros i ≡ 0) → MayStand order halves true zeros
@@ -35,6 +35,7 @@ module _ (order : List Task) (halves : List Bool) (zeros columns last : List ℕ
       stand = first.stand;
       laid = λ p i at_i own below. absurd (omega (arith, below));
       unlaid = λ i own le. rest_none i own;
+      next = λ p i at_i own below. absurd (omega (arith, below));
       kept = λ i other. refl;
       processes = first.processes;
       greatest = first.greatest;
@@ -50,10 +51,17 @@ module _ (order : List Task) (halves : List Bool) (zeros columns last : List ℕ
       before = λ p i at_i own. let same = stays i own in
           (stands p i at_i, omega (arith, same, above i));
       behind = λ p i at_i own. second.laid p i at_i own (slice_get_within order i at_i.task at_i.at);
+      next_before = λ p i at_i own.
+          let within = slice_get_within order i at_i.task at_i.at in
+          next_stays order columns after 0 p i first.stand stood at_i (first.laid p i at_i own within) (first.next p i at_i own within);
+      next_behind = λ p i at_i own. second.next p i at_i own (slice_get_within order i at_i.task at_i.at);
     }
       where
         stays : (i : ℕ) → IsOfHalf halves true i → slice_index after i ≡ slice_index columns i
         stays i own = second.kept i (λ also. false≢true (sym also ∙ own))
+
+        stood : (k : ℕ) → 0 < slice_index columns k → slice_index after k ≡ slice_index columns k
+        stood k positive = second.kept k (λ other. omega (arith, rest_none k other, positive))
 
         stands : (p i : ℕ) → IsEventAt order p i → 0 < slice_index after i
         stands p i at_i = elim (cases_Bool (slice_index_or halves i false)) [

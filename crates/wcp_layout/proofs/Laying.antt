@@ -1,6 +1,9 @@
 -- One more event stands in a column.
-use Rattle.wcp_layout.proofs.Words.{◌≡◌, ◌≢◌, ℕ, ◌+◌, ◌<◌, ◌≤◌, ◌⊎◌, ◌∙◌, Bool, true, false, List, length, set, slice_get, slice_index, Some, refl, sym, ap, subst, inl, inr, ⊎_elim, arith, cases_eq, cases_lt, and_parts, and_from, false≢true, eqb-true, eq-eqb, same_Some, length-set, get_or-set_same, get_or-set_other, slice_get_within, count_before-place, sends, sends_yes, Task, IsFitOrder, AreSendAndReceive, AreSends, IsDelivery, delivery_later, IsEventAt, is_event, IsOfHalf, StandInColumns, MayStand, IsLaid}
+use Rattle.wcp_layout.proofs.Words.{◌≡◌, ◌≢◌, ℕ, ◌+◌, ◌<◌, ◌≤◌, ◌⊎◌, ◌∙◌, max, Bool, true, false, List, length, set, slice_get, slice_index, Some, refl, sym, ap, subst, inl, inr, ⊎_elim, arith, cases_eq, cases_lt, cases_order, and_parts, and_from, false≢true, eqb-true, eq-eqb, same_Some, length-set, get_or-set_same, get_or-set_other, slice_get_within, Action, count_before-place, sends, sends_yes, Task, IsFitOrder, AreSendAndReceive, AreSends, IsDelivery, delivery_later, IsEventAt, is_event, IsOfHalf, StandInColumns, MayStand, IsLaid}
 use Rattle.wcp_model.specs.declared.workload.Action.TheVariants as action
+use Rattle.wcp_layout.specs.Columns.{StandsNext}
+use Rattle.wcp_layout.specs.Columns.StandsNext.{Floor, Own, Send}
+use Rattle.wcp_layout.specs.Messages.{IsSendOf}
 use Rattle.std.proofs.Math.Bool.{beq}
 
 -- the event at a place is that of one process
@@ -80,6 +83,15 @@ module _ (order : List Task) where
       ];
     }
 
+-- where the columns of what stands stay, an event stands next to the same one
+pub next_stays : (order : List Task) (columns after : List ℕ) (floor p i : ℕ) → StandInColumns order columns → ((k : ℕ) → 0 < slice_index columns k → slice_index after k ≡ slice_index columns k) → IsEventAt order p i → 0 < slice_index columns i
+    → StandsNext order columns floor p i → StandsNext order after floor p i
+next_stays order columns after floor p i stand same event positive (Floor next) = Floor (same i positive ∙ next)
+next_stays order columns after floor p i stand same event positive (Own j at_j less next) =
+    Own j at_j less (omega (arith, same i positive, next, same j (stand.own p i j event at_j less positive).0))
+next_stays order columns after floor p i stand same event positive (Send sent message next) =
+    Send sent message (omega (arith, same i positive, next, same sent (stand.message sent i message positive).0))
+
 module _ (order : List Task) (halves : List Bool) (half : Bool) (floor : ℕ) (start : List ℕ) (place : ℕ) (columns last : List ℕ) (is : IsLaid order halves half floor start place columns last) where
   -- the task at a place stands in no column
   pub laid_past : ((p : ℕ) → IsEventAt order p place → IsOfHalf halves half place → ⊥) → IsLaid order halves half floor start (place + 1) columns last
@@ -87,6 +99,10 @@ module _ (order : List Task) (halves : List Bool) (half : Bool) (floor : ℕ) (s
     stand = is.stand;
     laid = λ p i event own below. elim (cases_lt i place) [
       | inl before ↦ is.laid p i event own before
+      | inr here ↦ let same : i ≡ place = omega arith in absurd (none p (subst (IsEventAt order p) same event) (subst (IsOfHalf halves half) same own))
+    ];
+    next = λ p i event own below. elim (cases_lt i place) [
+      | inl before ↦ is.next p i event own before
       | inr here ↦ let same : i ≡ place = omega arith in absurd (none p (subst (IsEventAt order p) same event) (subst (IsOfHalf halves half) same own))
     ];
     unlaid = λ i own le. is.unlaid i own (omega arith);
@@ -108,17 +124,74 @@ module _ (order : List Task) (halves : List Bool) (half : Bool) (floor : ℕ) (s
         (λ stood. omega (arith, stood, is.kept j (λ of_half. omega (arith, may.none j of_half, stood))))
         one
 
+    none_here : slice_index columns place ≡ 0
+    none_here = is.unlaid place own (omega arith)
+
+    -- the event at a place stands next to one
+    abbrev NextHere : Type 0
+    NextHere = StandsNext order (set columns place c) floor task.p place
+
+    here : slice_index (set columns place c) place ≡ c
+    here = column_here order columns is.stand task.p place c event
+
+    next_floor : c ≡ floor + 1 → NextHere
+    next_floor after = Floor (here ∙ after)
+
+    next_none : (k : ℕ) → slice_index columns k ≡ 0 → c ≡ slice_index columns k + 1 → NextHere
+    next_none k zero after = next_floor (omega (arith, after, zero, floor_less))
+
+    earlier : (j : ℕ) → IsEventAt order task.p j → 0 < slice_index columns j → j < place
+    earlier j at_j positive = elim (cases_order j place) [
+      | inr (inl less) ↦ less
+      | inl same ↦ let zero : slice_index columns j ≡ 0 = rw same none_here in absurd (omega (arith, zero, positive))
+      | inr (inr more) ↦ absurd (omega (arith, none_here, (is.stand.own task.p j place at_j event more positive).0))
+    ]
+
+    next_own : (j : ℕ) → IsEventAt order task.p j → c ≡ slice_index columns j + 1 → NextHere
+    next_own j at_j after = elim (cases_lt 0 (slice_index columns j)) [
+      | inl positive ↦
+          let less = earlier j at_j positive in
+          let there = column_there order columns is.stand task.p place c event j (λ same. omega (arith, same, less)) in
+          Own j at_j less (omega (arith, here, after, there))
+      | inr zero ↦ next_none j (omega (arith, zero)) after
+    ]
+
+    next_send : (act : Action) (from : ℕ) → IsSendOf order place act from → c ≡ slice_index columns from + 1 → NextHere
+    next_send (action.Observe holds) from same after = next_none from (rw same none_here) after
+    next_send (action.Send to) from same after = next_none from (rw same none_here) after
+    next_send (action.Recv source) from message after =
+        let there = column_there order columns is.stand task.p place c event from (λ same. omega (arith, same, message_later order fit from place message)) in
+        Send from message (omega (arith, here, after, there))
+
+    next_last : (slice_index last task.p ≡ 0) ⊎ ((i : ℕ) × IsEventAt order task.p i × (slice_index last task.p ≡ slice_index columns i)) → c ≡ slice_index last task.p + 1 → NextHere
+    next_last (inl zero) after = next_floor (omega (arith, after, zero, floor_less))
+    next_last (inr found) after = next_own found.0 found.1 (omega (arith, after, found.2))
+
+    next_here : (c ≡ floor + 1) ⊎ ((c ≡ slice_index last task.p + 1) ⊎ (c ≡ slice_index columns (slice_index sent place) + 1)) → NextHere
+    next_here (inl after) = next_floor after
+    next_here (inr (inl after)) = next_last (is.reached task.p) after
+    next_here (inr (inr after)) = next_send task.action (slice_index sent place) (are.each place task at) after
+
     -- the event at a place stands in a column
-    pub laid_more : c ≤ floor + (place + 1) → IsLaid order halves half floor start (place + 1) (set columns place c) (set last task.p c)
-    laid_more few = record {
+    pub laid_more : (c ≡ floor + 1) ⊎ ((c ≡ slice_index last task.p + 1) ⊎ (c ≡ slice_index columns (slice_index sent place) + 1)) → c ≤ floor + (place + 1) → IsLaid order halves half floor start (place + 1) (set columns place c) (set last task.p c)
+    laid_more one few = record {
       stand = stand_more order columns is.stand task.p place c event (is.unlaid place own (omega arith)) fit
           (λ j at_j less. (stands task.p j at_j less (may.own task.p place j event at_j less own), omega (arith, is.greatest task.p j at_j)))
           (λ from message.
-          let same = same_send order from (slice_index sent place) place message (are.each place message.to message.from message.receive) in
+          let same = same_send order from (slice_index sent place) place message (are.each place (record { p = message.to; action = action.Recv message.from }) message.receive) in
           (stands message.from from (send_event order from place message) (message_later order fit from place message) (may.message from place message own), rw same sent_less));
       laid = λ p i at_i own_i below. elim (cases_eq i place) [
         | inl here ↦ rw (here, column_here order columns is.stand task.p place c event) floor_less
         | inr other ↦ rw (column_there order columns is.stand task.p place c event i other) (is.laid p i at_i own_i (omega arith))
+      ];
+      next = λ p i at_i own_i below. elim (cases_eq i place) [
+        | inl here ↦
+            let same = same_process order p task.p place (subst (IsEventAt order p) here at_i) event in
+            rw (here, same) (next_here one)
+        | inr other ↦
+            next_stays order columns (set columns place c) floor p i is.stand
+            (λ k positive. column_there order columns is.stand task.p place c event k (λ same. let zero : slice_index columns k ≡ 0 = rw same none_here in omega (arith, zero, positive)))
+            at_i (omega (arith, is.laid p i at_i own_i (omega arith))) (is.next p i at_i own_i (omega arith))
       ];
       unlaid = λ i own_i le. rw (column_there order columns is.stand task.p place c event i (λ same. omega (arith, same))) (is.unlaid i own_i (omega arith));
       kept = λ i other. rw (column_there order columns is.stand task.p place c event i (λ same. other (rw same own))) (is.kept i other);
@@ -175,3 +248,13 @@ beq_same true true same = refl
 beq_same false false same = refl
 beq_same true false same = cc
 beq_same false true same = cc
+
+-- 1 and the greatest of three numbers is 1 and one of them
+pub greatest_is : (a b d greater greatest c : ℕ) → greater ≡ max a b → greatest ≡ max greater d → c ≡ 1 + greatest → (c ≡ a + 1) ⊎ ((c ≡ b + 1) ⊎ (c ≡ d + 1))
+greatest_is a b d greater greatest c one other is = elim (cases_lt greater d) [
+  | inl less ↦ inr (inr (omega (arith, one, other, is, less)))
+  | inr le ↦ elim (cases_lt a b) [
+    | inl less ↦ inr (inl (omega (arith, one, other, is, less)))
+    | inr least ↦ inl (omega (arith, one, other, is, least))
+  ]
+]

@@ -144,5 +144,5 @@ module _ (order : List Task) where
   AreSends-all sent all each = record {
     tasks = all;
     inside = λ place below. let (task, at) = element_within order place below in send_inside place (slice_index sent place) task.action below (each place task below at);
-    each = λ place p from at. each place (record { p = p; action = action.Recv from }) (slice_get_within order place _ at) at;
+    each = λ place task at. each place task (slice_get_within order place task at) at;
   }

@@ -26,6 +26,15 @@ pub record StandInColumns (order : List Task) (columns : List ℕ) : Type 0 wher
   pub message : (sent received : ℕ) → AreSendAndReceive order sent received → 0 < slice_index columns received →
       (0 < slice_index columns sent) × (slice_index columns sent < slice_index columns received)
 
+-- The event of process p at place i stands in the column behind the floor, behind an earlier event of its process, or
+-- behind the send of its message.
+pub data StandsNext (order : List Task) (columns : List ℕ) (floor p i : ℕ) : Type 0 where
+  Floor : slice_index columns i ≡ floor + 1 → StandsNext order columns floor p i
+  Own : (j : ℕ) → IsEventAt order p j → j < i → slice_index columns i ≡ slice_index columns j + 1 →
+      StandsNext order columns floor p i
+  Send : (sent : ℕ) → AreSendAndReceive order sent i → slice_index columns i ≡ slice_index columns sent + 1 →
+      StandsNext order columns floor p i
+
 -- No event of a half stands in a column yet, and what goes before one is of this half or stands in one.
 pub record MayStand (order : List Task) (halves : List Bool) (half : Bool) (columns : List ℕ) : Type 0 where
   pub none : (i : ℕ) → IsOfHalf halves half i → slice_index columns i ≡ 0
@@ -40,6 +49,8 @@ pub record IsLaid (order : List Task) (halves : List Bool) (half : Bool) (floor 
     (columns last : List ℕ) : Type 0 where
   pub stand : StandInColumns order columns
   pub laid : (p i : ℕ) → IsEventAt order p i → IsOfHalf halves half i → i < place → floor < slice_index columns i
+  pub next : (p i : ℕ) → IsEventAt order p i → IsOfHalf halves half i → i < place →
+      StandsNext order columns floor p i
   pub unlaid : (i : ℕ) → IsOfHalf halves half i → place ≤ i → slice_index columns i ≡ 0
   pub kept : (i : ℕ) → (IsOfHalf halves half i → ⊥) → slice_index columns i ≡ slice_index start i
   pub processes : length last ≡ most_processes
@@ -49,7 +60,7 @@ pub record IsLaid (order : List Task) (halves : List Bool) (half : Bool) (floor 
   pub few_columns : (i : ℕ) → slice_index columns i ≤ floor + place
 
 -- Each event of an order stands in a column: along a process columns rise, each message goes right, the events of the
--- first half stand left of the line, and all others right of it.
+-- first half stand left of the line, and all others right of it; and each stands as far left as that allows.
 pub record AreColumns (order : List Task) (halves : List Bool) (columns : List ℕ) (line : ℕ) : Type 0 where
   pub tasks : length columns ≡ length order
   pub own : (p i j : ℕ) → IsEventAt order p i → IsEventAt order p j → j < i →
@@ -59,3 +70,5 @@ pub record AreColumns (order : List Task) (halves : List Bool) (columns : List �
   pub before : (p i : ℕ) → IsEventAt order p i → IsOfHalf halves true i →
       (0 < slice_index columns i) × (slice_index columns i < line)
   pub behind : (p i : ℕ) → IsEventAt order p i → IsOfHalf halves false i → line < slice_index columns i
+  pub next_before : (p i : ℕ) → IsEventAt order p i → IsOfHalf halves true i → StandsNext order columns 0 p i
+  pub next_behind : (p i : ℕ) → IsEventAt order p i → IsOfHalf halves false i → StandsNext order columns line p i

@@ -2,13 +2,16 @@ use Rattle.std.specs.Prelude.{◌≡◌, ℕ, ◌<◌, List, length, slice_index
 use Rattle.wcp_model.specs.declared.workload.Task.{Task}
 use Rattle.wcp_order.specs.Stuck.{AreSendAndReceive}
 use Rattle.wcp_layout.specs.declared.layout.Layout.{Layout}
+use Rattle.wcp_layout.specs.Columns.{StandsNext}
 use Rattle.wcp_layout.specs.Events.{AreIntervals, IsEventAt}
 use Rattle.wcp_layout.specs.Halves.{IsBefore}
 use Rattle.wcp_layout.specs.Messages.{AreSends}
 use Rattle.wcp_layout.specs.Rows.{AreEventColumns, AreTrueRows}
 
 -- A layout of a fit order of n processes about a cut: each communication event stands in one column. Along a process
--- columns rise, and each message goes right. All before the cut stands left of the line, and all behind it right.
+-- columns rise, and each message goes right. All before the cut stands left of the line, and all behind it
+-- right; and each event stands as far left as that allows, so that its column is 1 and the greatest of those that it
+-- stands right of.
 pub record IsLayout (n : ℕ) (order : List Task) (cut : Option (List ℕ)) (layout : Layout) : Type 0 where
   pub intervals : AreIntervals n order layout.intervals.items
   pub sent : AreSends order layout.sent.items
@@ -24,3 +27,7 @@ pub record IsLayout (n : ℕ) (order : List Task) (cut : Option (List ℕ)) (lay
       slice_index layout.columns.items i < layout.line
   pub behind : (p i : ℕ) → IsEventAt order p i → (IsBefore cut p (slice_index layout.intervals.items i) → ⊥) →
       layout.line < slice_index layout.columns.items i
+  pub next_before : (p i : ℕ) → IsEventAt order p i → IsBefore cut p (slice_index layout.intervals.items i) →
+      StandsNext order layout.columns.items 0 p i
+  pub next_behind : (p i : ℕ) → IsEventAt order p i → (IsBefore cut p (slice_index layout.intervals.items i) → ⊥) →
+      StandsNext order layout.columns.items layout.line p i

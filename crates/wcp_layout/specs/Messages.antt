@@ -6,12 +6,18 @@ use Rattle.wcp_model.specs.declared.workload.Action.{Action}
 use Rattle.wcp_model.specs.WorkloadComputation.{sends, receives, IsFitOrder, IsWithin}
 use Rattle.wcp_order.specs.Stuck.{AreSendAndReceive}
 
--- For each task of an order a place in it: for a receive, that of the send of its message.
+-- A place is that of the send of the message, where the action at a place receives one, and else the place itself.
+abbrev pub IsSendOf : List Task → ℕ → Action → ℕ → Type 0
+IsSendOf order place (action.Observe holds) sent = sent ≡ place
+IsSendOf order place (action.Send to) sent = sent ≡ place
+IsSendOf order place (action.Recv from) sent = AreSendAndReceive order sent place
+
+-- For each task of an order a place in it: for a receive, that of the send of its message, and else its own.
 pub record AreSends (order : List Task) (sent : List ℕ) : Type 0 where
   pub tasks : length sent ≡ length order
   pub inside : (place : ℕ) → place < length order → slice_index sent place < length order
-  pub each : (place p from : ℕ) → slice_get order place ≡ Some (record { p = p; action = action.Recv from }) →
-      AreSendAndReceive order (slice_index sent place) place
+  pub each : (place : ℕ) (task : Task) → slice_get order place ≡ Some task →
+      IsSendOf order place task.action (slice_index sent place)
 
 -- The places of the messages in transit on the channel of this number.
 abbrev pub queue_at : List (List ℕ) → ℕ → List ℕ
@@ -35,9 +41,3 @@ pub record IsNext (n : ℕ) (order : List Task) (place : ℕ) (task : Task) : Ty
   pub within : All (IsWithin n) order
   pub fit : IsFitOrder order order
   pub at : slice_get order place ≡ Some task
-
--- A place is that of the send of the message, where the action at a place receives one, and else the place itself.
-abbrev pub IsSendOf : List Task → ℕ → Action → ℕ → Type 0
-IsSendOf order place (action.Observe holds) sent = sent ≡ place
-IsSendOf order place (action.Send to) sent = sent ≡ place
-IsSendOf order place (action.Recv from) sent = AreSendAndReceive order sent place

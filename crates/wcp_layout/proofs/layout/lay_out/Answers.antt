@@ -28,4 +28,9 @@ returns c =
         | inl own ↦ absurd (behind (half_to c.args.n c.args.order.now c.requires.within c.requires.fit c.in_ok-intervals.intervals.items c.in_ok-intervals.ensures c.args.cut.now c.in_ok-halves.halves.items of p i event own))
         | inr other ↦ are.behind p i event other
       ];
+      next_before = λ p i event before. are.next_before p i event (half_from c.args.n c.args.order.now c.requires.within c.requires.fit c.in_ok-intervals.intervals.items c.in_ok-intervals.ensures c.args.cut.now c.in_ok-halves.halves.items of p i event before);
+      next_behind = λ p i event behind. elim (cases_Bool (slice_index_or c.in_ok-halves.halves.items i false)) [
+        | inl own ↦ absurd (behind (half_to c.args.n c.args.order.now c.requires.within c.requires.fit c.in_ok-intervals.intervals.items c.in_ok-intervals.ensures c.args.cut.now c.in_ok-halves.halves.items of p i event own))
+        | inr other ↦ are.next_behind p i event other
+      ];
     }

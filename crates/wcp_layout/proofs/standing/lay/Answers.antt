@@ -1,6 +1,6 @@
-use Rattle.wcp_layout.proofs.Words.{◌∙◌, ◌+◌, ◌≤◌, false, get_or, slice_index, sym, arith, false≢true, slice_get-get_or, Task}
+use Rattle.wcp_layout.proofs.Words.{◌∙◌, ◌+◌, ◌≤◌, false, get_or, slice_index, sym, arith, false≢true, refl, slice_get-get_or, Task}
 use Rattle.wcp_model.specs.declared.workload.Action.TheVariants.{Observe}
-use Rattle.wcp_layout.proofs.Laying.{laid_past, laid_more, last_few, no_event, beq_true, beq_same}
+use Rattle.wcp_layout.proofs.Laying.{greatest_is, laid_past, laid_more, last_few, no_event, beq_true, beq_same}
 use Rattle.wcp_layout.proofs.standing.lay.Goals.{then-is_event+then-halves-place, else-is_event, else-is_event-via-then-is_event+else-halves-place, else-is_event-via-else-is_event}
 use Rattle.wcp_layout.proofs.standing.lay.Goals as goal
 
@@ -23,7 +23,7 @@ loop-place-preserved c =
     let last : slice_index c.loop-place.last task.p ≤ c.args.floor + place = last_few _ _ _ _ _ _ _ _ is task.p in
     elim c.if-is_event.branch [
       | then-is_event+then-halves-place w ↦ rw (w.columns-is, w.last-is) (laid_more order c.args.halves.now c.args.half c.args.floor c.args.columns.now place c.loop-place.columns c.loop-place.last is
-          c.requires.fit c.requires.may c.args.sent.now c.requires.sends task at (sym c.is_event.ensures ∙ w.if-is_event.true) (beq_true _ _ w.if-halves-place.true) (c.requires.few place none c.loop-place-test.true) _ (omega arith) (omega arith) (omega arith)
+          c.requires.fit c.requires.may c.args.sent.now c.requires.sends task at (sym c.is_event.ensures ∙ w.if-is_event.true) (beq_true _ _ w.if-halves-place.true) (c.requires.few place none c.loop-place-test.true) _ (omega arith) (omega arith) (omega arith) (greatest_is _ _ _ w.max.result w.max-column.result _ w.max.ensures w.max-column.ensures refl)
           (omega (arith, last, is.few_columns (slice_index c.args.sent.now place))))
       | else-is_event w ↦ rw (w.columns-is, w.last-is) (laid_past order c.args.halves.now c.args.half c.args.floor c.args.columns.now place c.loop-place.columns c.loop-place.last is
           (λ p event own. elim w.else-is_event.branch [
