@@ -1,5 +1,5 @@
 -- The two halves, one after the other.
-use Rattle.wcp_layout.proofs.Words.{◌≡◌, ◌∙◌, ℕ, ◌<◌, ◌⊎◌, Bool, true, false, List, length, slice_index, slice_index_or, refl, sym, inl, inr, arith, cases_Bool, false≢true, slice_get_within, Task, IsFitOrder, IsEventAt, IsOfHalf, IsClosed, MayStand, IsLaid, AreColumns}
+use Rattle.wcp_layout.proofs.Words.{◌≡◌, ◌∙◌, ℕ, ◌+◌, ◌<◌, ◌≤◌, ◌⊎◌, Bool, true, false, List, length, slice_index, slice_index_or, refl, sym, inl, inr, arith, cases_Bool, false≢true, slice_get_within, Task, IsFitOrder, IsEventAt, IsOfHalf, IsClosed, MayStand, IsLaid, AreColumns}
 use Rattle.wcp_layout.proofs.Laying.{next_stays, send_event, receive_event}
 
 -- the first half, where nothing stands in a column
@@ -43,8 +43,11 @@ module _ (order : List Task) (halves : List Bool) (zeros columns last : List ℕ
       few_columns = λ i. omega (arith, above i);
     }
 
-    pub both_laid : (after end : List ℕ) → IsFitOrder order order → IsLaid order halves false line columns (length order) after end → AreColumns order halves after line
-    both_laid after end fit second = record {
+    pub both_laid : (after end : List ℕ) → 0 < line → line ≤ length order + 1 → IsFitOrder order order → IsLaid order halves false line columns (length order) after end → AreColumns order halves after line
+    both_laid after end some few fit second = record {
+      some_line = some;
+      few_lines = few;
+      few_columns = second.few_columns;
       tasks = second.stand.tasks;
       own = λ p i j at_i at_j less. (second.stand.own p i j at_i at_j less (stands p i at_i)).1;
       message = λ sent received is. (second.stand.message sent received is (stands is.to received (receive_event order sent received is))).1;

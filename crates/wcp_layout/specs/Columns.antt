@@ -72,3 +72,6 @@ pub record AreColumns (order : List Task) (halves : List Bool) (columns : List �
   pub behind : (p i : ℕ) → IsEventAt order p i → IsOfHalf halves false i → line < slice_index columns i
   pub next_before : (p i : ℕ) → IsEventAt order p i → IsOfHalf halves true i → StandsNext order columns 0 p i
   pub next_behind : (p i : ℕ) → IsEventAt order p i → IsOfHalf halves false i → StandsNext order columns line p i
+  pub some_line : 0 < line
+  pub few_lines : line ≤ length order + 1
+  pub few_columns : (i : ℕ) → slice_index columns i ≤ line + length order

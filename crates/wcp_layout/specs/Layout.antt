@@ -1,4 +1,4 @@
-use Rattle.std.specs.Prelude.{◌≡◌, ℕ, ◌<◌, List, length, slice_index, Option}
+use Rattle.std.specs.Prelude.{◌≡◌, ℕ, ◌+◌, ◌<◌, ◌≤◌, List, length, slice_index, Option}
 use Rattle.wcp_model.specs.declared.workload.Task.{Task}
 use Rattle.wcp_order.specs.Stuck.{AreSendAndReceive}
 use Rattle.wcp_layout.specs.declared.layout.Layout.{Layout}
@@ -31,3 +31,6 @@ pub record IsLayout (n : ℕ) (order : List Task) (cut : Option (List ℕ)) (lay
       StandsNext order layout.columns.items 0 p i
   pub next_behind : (p i : ℕ) → IsEventAt order p i → (IsBefore cut p (slice_index layout.intervals.items i) → ⊥) →
       StandsNext order layout.columns.items layout.line p i
+  pub some_line : 0 < layout.line
+  pub few_lines : layout.line ≤ length order + 1
+  pub few_columns : (i : ℕ) → slice_index layout.columns.items i ≤ layout.line + length order

@@ -12,4 +12,4 @@ mod standing;
 
 pub use layout::{Layout, lay_out};
 pub use row::Row;
-pub use rows::{event_columns, true_states};
+pub use standing::greatest;

@@ -11,7 +11,7 @@ use wcp_model::{Action, Task};
 
 /// For each of `n` processes the columns of its communication events, where the tasks of the order have
 /// these columns. `Err` where memory runs out.
-pub fn event_columns(
+pub(crate) fn event_columns(
     alloc: Global,
     n: u32,
     order: &[Task],
@@ -28,7 +28,7 @@ pub fn event_columns(
 
 /// For each of `n` processes the intervals in which it is observed true, where the processes of the
 /// tasks are in these intervals. `Err` where memory runs out.
-pub fn true_states(
+pub(crate) fn true_states(
     alloc: Global,
     n: u32,
     order: &[Task],

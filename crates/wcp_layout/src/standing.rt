@@ -91,7 +91,7 @@ fn lay(
 }
 
 /// The greatest of these columns, or 0.
-fn greatest(columns: &[u32]) -> u32
+pub fn greatest(columns: &[u32]) -> u32
     ensures above { (i : ℕ) → slice_index columns.now i ≤ result }
     ensures one { (limit : ℕ) → ((i : ℕ) → slice_index columns.now i ≤ limit) → result ≤ limit }
 {

@@ -33,4 +33,7 @@ returns c =
         | inl own ↦ absurd (behind (half_to c.args.n c.args.order.now c.requires.within c.requires.fit c.in_ok-intervals.intervals.items c.in_ok-intervals.ensures c.args.cut.now c.in_ok-halves.halves.items of p i event own))
         | inr other ↦ are.next_behind p i event other
       ];
+      some_line = are.some_line;
+      few_lines = are.few_lines;
+      few_columns = are.few_columns;
     }

@@ -19,4 +19,4 @@ pub lay-requires-2-clause-start : goal.lay-requires-2-clause-start
 lay-requires-2-clause-start c = second_starts c.args.order.now c.args.halves.now c.args.columns.now _ _ (λ i. rw c.requires.none (zeros (length c.args.order.now) i)) c.lay.ensures _ (λ i. omega (arith, c.greatest-line.ensures.above i))
 
 pub returns : goal.returns
-returns c = both_laid c.args.order.now c.args.halves.now c.args.columns.now _ _ (λ i. rw c.requires.none (zeros (length c.args.order.now) i)) c.lay.ensures _ (λ i. omega (arith, c.greatest-line.ensures.above i)) _ _ c.requires.fit c.lay-2.ensures
+returns c = both_laid c.args.order.now c.args.halves.now c.args.columns.now _ _ (λ i. rw c.requires.none (zeros (length c.args.order.now) i)) c.lay.ensures _ (λ i. omega (arith, c.greatest-line.ensures.above i)) _ _ (omega arith) (omega (arith, c.greatest-line.ensures.one (length c.args.order.now) (λ i. omega (arith, c.lay.ensures.few_columns i)))) c.requires.fit c.lay-2.ensures
