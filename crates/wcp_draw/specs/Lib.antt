@@ -1,0 +1,4 @@
+pub mod Frame
+pub mod Escape
+pub mod Shapes
+pub mod Picture
