@@ -1,18 +1,38 @@
 -- The events before a place.
-use Rattle.wcp_layout.proofs.Words.{◌≡◌, ℕ, ◌+◌, ◌<◌, cond, List, [], ◌∷◌, ◌++◌, length, take, count_by, set, slice_get, slice_index, Some, inl, inr, arith, cases_eq, cases_lt, cases_Bool, ne_eqb, eq-eqb, get_or_append_left, get_or_push, get_or-set_same, get_or-set_other, count_before-yes, count_before-no, Task, is_event, is_event_of}
+use Rattle.wcp_layout.proofs.Words.{◌≡◌, ℕ, ◌+◌, ◌<◌, cond, List, [], ◌∷◌, ◌++◌, length, take, count_by, set, slice_get}
+use Rattle.wcp_layout.proofs.Words.{slice_index, Some, inl, inr, arith, cases_eq, cases_lt, cases_Bool, ne_eqb, eq-eqb}
+use Rattle.wcp_layout.proofs.Words.{get_or_append_left, get_or_push, get_or-set_same, get_or-set_other}
+use Rattle.wcp_layout.proofs.Words.{count_before-yes, count_before-no, Task, is_event, is_event_of}
 
 -- one more task is counted
-pub counted_more : (order : List Task) (place : ℕ) (task : Task) (events : List ℕ) → slice_get order place ≡ Some task → task.p < length events → ((p : ℕ) → p < 16 → slice_index events p ≡ count_by (is_event_of p) (take place order))
-    → (p : ℕ) → p < 16 → slice_index (set events task.p (slice_index events task.p + cond (is_event task.action) 1 0)) p ≡ count_by (is_event_of p) (take (place + 1) order)
+pub counted_more : (order : List Task) (place : ℕ) (task : Task) (events : List ℕ) → slice_get order place ≡ Some task
+    → task.p < length events → ((p : ℕ) → p < 16 → slice_index events p ≡ count_by (is_event_of p) (take place order))
+    → (p : ℕ) → p < 16 → slice_index (set events task.p (slice_index events task.p + cond (is_event task.action) 1 0))
+    p ≡ count_by (is_event_of p) (take (place + 1) order)
 counted_more order place task events at inside counted p below =
     let yes = count_before-yes (is_event_of p) order place task at in
     let no = count_before-no (is_event_of p) order place task at in
-    grind (arith, yes, no, counted p below, cases_eq p task.p, cases_Bool (is_event task.action), get_or-set_same, get_or-set_other, ne_eqb, eq-eqb)
+    grind (
+      arith,
+      yes,
+      no,
+      counted p below,
+      cases_eq p task.p,
+      cases_Bool (is_event task.action),
+      get_or-set_same,
+      get_or-set_other,
+      ne_eqb,
+      eq-eqb,
+    )
 
 -- one more number is listed
-pub listed_more : (order : List Task) (P : Task → ℕ → ℕ → Type 0) (numbers : List ℕ) (number place : ℕ) → length numbers ≡ place → ((k : ℕ) (task : Task) → k < place → slice_get order k ≡ Some task → P task k (slice_index numbers k))
-    → ((task : Task) → slice_get order place ≡ Some task → P task place number) → (k : ℕ) (task : Task) → k < place + 1 → slice_get order k ≡ Some task → P task k (slice_index (numbers ++ number ∷ []) k)
+pub listed_more : (order : List Task) (P : Task → ℕ → ℕ → Type 0) (numbers : List ℕ) (number place : ℕ)
+    → length numbers ≡ place → ((k : ℕ) (task : Task) → k < place → slice_get order k ≡ Some task
+    → P task k (slice_index numbers k))
+    → ((task : Task) → slice_get order place ≡ Some task → P task place number) → (k : ℕ) (task : Task) → k < place + 1
+    → slice_get order k ≡ Some task → P task k (slice_index (numbers ++ number ∷ []) k)
 listed_more order P numbers number place all before here k task below at = elim (cases_lt k place) [
   | inl less ↦ rw (get_or_append_left numbers (number ∷ []) 0 k (omega (arith, less, all))) (before k task less at)
-  | inr last ↦ let same : k ≡ place = omega arith in rw (same, get_or_push numbers number 0 place all) (here task (rw same at at))
+  | inr last ↦ let same : k ≡ place = omega arith in rw (same, get_or_push numbers number 0 place all)
+      (here task (rw same at at))
 ]

@@ -1,5 +1,11 @@
 -- One more event stands in a column.
-use Rattle.wcp_layout.proofs.Words.{◌≡◌, ◌≢◌, ℕ, ◌+◌, ◌<◌, ◌≤◌, ◌⊎◌, ◌∙◌, max, Bool, true, false, List, length, set, slice_get, slice_index, Some, refl, sym, ap, subst, inl, inr, ⊎_elim, arith, cases_eq, cases_lt, cases_order, and_parts, and_from, false≢true, eqb-true, eq-eqb, same_Some, length-set, get_or-set_same, get_or-set_other, slice_get_within, Action, count_before-place, sends, sends_yes, Task, IsFitOrder, AreSendAndReceive, AreSends, IsDelivery, delivery_later, IsEventAt, is_event, IsOfHalf, StandInColumns, MayStand, IsLaid}
+use Rattle.wcp_layout.proofs.Words.{◌≡◌, ◌≢◌, ℕ, ◌+◌, ◌<◌, ◌≤◌, ◌⊎◌, ◌∙◌, max, Bool, true, false, List, length, set}
+use Rattle.wcp_layout.proofs.Words.{slice_get, slice_index, Some, refl, sym, ap, subst, inl, inr, ⊎_elim, arith}
+use Rattle.wcp_layout.proofs.Words.{cases_eq, cases_lt, cases_order, and_parts, and_from, false≢true, eqb-true, eq-eqb}
+use Rattle.wcp_layout.proofs.Words.{same_Some, length-set, get_or-set_same, get_or-set_other, slice_get_within, Action}
+use Rattle.wcp_layout.proofs.Words.{count_before-place, sends, sends_yes, Task, IsFitOrder, AreSendAndReceive, AreSends}
+use Rattle.wcp_layout.proofs.Words.{IsDelivery, delivery_later, IsEventAt, is_event, IsOfHalf, StandInColumns, MayStand}
+use Rattle.wcp_layout.proofs.Words.{IsLaid}
 use Rattle.wcp_model.specs.declared.workload.Action.TheVariants as action
 use Rattle.wcp_layout.specs.Columns.{StandsNext}
 use Rattle.wcp_layout.specs.Columns.StandsNext.{Floor, Own, Send}
@@ -12,31 +18,41 @@ event_of_task order p place event = eqb-true _ p (and_parts _ _ event.own).0
 
 pub same_process : (order : List Task) (p q place : ℕ) → IsEventAt order p place → IsEventAt order q place → p ≡ q
 same_process order p q place one other =
-    sym (event_of_task order p place one) ∙ ap (λ (task : Task). task.p) (same_Some _ _ (sym one.at ∙ other.at)) ∙ event_of_task order q place other
+    sym (event_of_task order p place one) ∙ ap (λ (task : Task). task.p) (same_Some _ _ (sym one.at ∙ other.at))
+    ∙ event_of_task order q place other
 
-pub event_from : (order : List Task) (place : ℕ) (task : Task) → slice_get order place ≡ Some task → is_event task.action ≡ true → IsEventAt order task.p place
+pub event_from : (order : List Task) (place : ℕ) (task : Task) → slice_get order place ≡ Some task
+    → is_event task.action ≡ true → IsEventAt order task.p place
 event_from order place task at is = record { task = task; at = at; own = and_from _ _ (eq-eqb task.p task.p refl) is }
 
 module _ (order : List Task) where
   -- a message has its send and its receive, and a receive one send
-  pub send_event : (sent received : ℕ) (message : AreSendAndReceive order sent received) → IsEventAt order message.from sent
-  send_event sent received message = event_from order sent (record { p = message.from; action = action.Send message.to }) message.send refl
+  pub send_event : (sent received : ℕ) (message : AreSendAndReceive order sent received)
+      → IsEventAt order message.from sent
+  send_event sent received message = event_from order sent
+      (record { p = message.from; action = action.Send message.to }) message.send refl
 
-  pub receive_event : (sent received : ℕ) (message : AreSendAndReceive order sent received) → IsEventAt order message.to received
-  receive_event sent received message = event_from order received (record { p = message.to; action = action.Recv message.from }) message.receive refl
+  pub receive_event : (sent received : ℕ) (message : AreSendAndReceive order sent received)
+      → IsEventAt order message.to received
+  receive_event sent received message = event_from order received
+      (record { p = message.to; action = action.Recv message.from }) message.receive refl
 
-  pub message_later : IsFitOrder order order → (sent received : ℕ) → AreSendAndReceive order sent received → sent < received
+  pub message_later : IsFitOrder order order → (sent received : ℕ) → AreSendAndReceive order sent received
+      → sent < received
   message_later fit sent received message =
-      let delivery : IsDelivery order message.from message.to sent received = record { send = message.send; receive = message.receive; same_rank = sym message.same_number } in
+      let delivery : IsDelivery order message.from message.to sent received =
+      record { send = message.send; receive = message.receive; same_rank = sym message.same_number } in
       delivery_later fit delivery
 
-  same_send : (one other received : ℕ) → AreSendAndReceive order one received → AreSendAndReceive order other received → one ≡ other
+  same_send : (one other received : ℕ) → AreSendAndReceive order one received → AreSendAndReceive order other received
+      → one ≡ other
   same_send one other received first second =
       let same = same_Some _ _ (sym first.receive ∙ second.receive) in
       let to : first.to ≡ second.to = ap (λ (task : Task). task.p) same in
       let act = ap (λ (task : Task). task.action) same in
       let from : first.from ≡ second.from = cc act in
-      count_before-place (sends first.from first.to) order one other _ _ first.send second.send (sends_yes first.from first.to) (rw (from, to) (sends_yes second.from second.to))
+      count_before-place (sends first.from first.to) order one other _ _ first.send second.send
+      (sends_yes first.from first.to) (rw (from, to) (sends_yes second.from second.to))
       (sym first.same_number ∙ rw (from, to) second.same_number)
 
   module _ (columns : List ℕ) (stand : StandInColumns order columns) (p i c : ℕ) (event : IsEventAt order p i) where
@@ -51,13 +67,15 @@ module _ (order : List Task) where
 
     stand_more : slice_index columns i ≡ 0 → IsFitOrder order order
         → ((j : ℕ) → IsEventAt order p j → j < i → (0 < slice_index columns j) × (slice_index columns j < c))
-        → ((sent : ℕ) → AreSendAndReceive order sent i → (0 < slice_index columns sent) × (slice_index columns sent < c))
+        → ((sent : ℕ) → AreSendAndReceive order sent i → (0 < slice_index columns sent) × (slice_index columns
+        sent < c))
         → StandInColumns order (set columns i c)
     stand_more none fit own message = record {
       tasks = length-set columns i c ∙ stand.tasks;
       own = λ q k j at_k at_j less positive. elim (cases_eq k i) [
         | inl here ↦
-            let before = own j (subst (λ r. IsEventAt order r j) (same_process order q p i (subst (IsEventAt order q) here at_k) event) at_j) (omega arith) in
+            let before = own j (subst (λ r. IsEventAt order r j)
+            (same_process order q p i (subst (IsEventAt order q) here at_k) event) at_j) (omega arith) in
             let there = column_there j (λ same. omega (arith, same)) in
             let at : slice_index (set columns i c) k ≡ c = rw here column_here in
             (omega (arith, before.0, there), omega (arith, before.1, there, at))
@@ -65,7 +83,8 @@ module _ (order : List Task) where
             let there = column_there k other in
             let positive_k : 0 < slice_index columns k = omega (arith, there, positive) in
             let before = stand.own q k j at_k at_j less positive_k in
-            let also = column_there j (λ same. let zero : slice_index columns j ≡ 0 = rw same none in omega (arith, zero, before.0)) in
+            let also = column_there j (λ same. let zero : slice_index columns j ≡ 0 = rw same none in
+            omega (arith, zero, before.0)) in
             (omega (arith, before.0, also), omega (arith, before.1, also, there))
       ];
       message = λ sent received is positive. elim (cases_eq received i) [
@@ -78,13 +97,16 @@ module _ (order : List Task) where
             let there = column_there received other in
             let positive_r : 0 < slice_index columns received = omega (arith, there, positive) in
             let before = stand.message sent received is positive_r in
-            let also = column_there sent (λ same. let zero : slice_index columns sent ≡ 0 = rw same none in omega (arith, zero, before.0)) in
+            let also = column_there sent (λ same. let zero : slice_index columns sent ≡ 0 = rw same none in
+            omega (arith, zero, before.0)) in
             (omega (arith, before.0, also), omega (arith, before.1, also, there))
       ];
     }
 
 -- where the columns of what stands stay, an event stands next to the same one
-pub next_stays : (order : List Task) (columns after : List ℕ) (floor p i : ℕ) → StandInColumns order columns → ((k : ℕ) → 0 < slice_index columns k → slice_index after k ≡ slice_index columns k) → IsEventAt order p i → 0 < slice_index columns i
+pub next_stays : (order : List Task) (columns after : List ℕ) (floor p i : ℕ) → StandInColumns order columns
+    → ((k : ℕ) → 0 < slice_index columns k → slice_index after k ≡ slice_index columns k) → IsEventAt order p i
+    → 0 < slice_index columns i
     → StandsNext order columns floor p i → StandsNext order after floor p i
 next_stays order columns after floor p i stand same event positive (Floor next) = Floor (same i positive ∙ next)
 next_stays order columns after floor p i stand same event positive (Own j at_j less next) =
@@ -92,18 +114,22 @@ next_stays order columns after floor p i stand same event positive (Own j at_j l
 next_stays order columns after floor p i stand same event positive (Send sent message next) =
     Send sent message (omega (arith, same i positive, next, same sent (stand.message sent i message positive).0))
 
-module _ (order : List Task) (halves : List Bool) (half : Bool) (floor : ℕ) (start : List ℕ) (place : ℕ) (columns last : List ℕ) (is : IsLaid order halves half floor start place columns last) where
+module _ (order : List Task) (halves : List Bool) (half : Bool) (floor : ℕ) (start : List ℕ) (place : ℕ)
+    (columns last : List ℕ) (is : IsLaid order halves half floor start place columns last) where
   -- the task at a place stands in no column
-  pub laid_past : ((p : ℕ) → IsEventAt order p place → IsOfHalf halves half place → ⊥) → IsLaid order halves half floor start (place + 1) columns last
+  pub laid_past : ((p : ℕ) → IsEventAt order p place → IsOfHalf halves half place → ⊥)
+      → IsLaid order halves half floor start (place + 1) columns last
   laid_past none = record {
     stand = is.stand;
     laid = λ p i event own below. elim (cases_lt i place) [
       | inl before ↦ is.laid p i event own before
-      | inr here ↦ let same : i ≡ place = omega arith in absurd (none p (subst (IsEventAt order p) same event) (subst (IsOfHalf halves half) same own))
+      | inr here ↦ let same : i ≡ place = omega arith in absurd
+          (none p (subst (IsEventAt order p) same event) (subst (IsOfHalf halves half) same own))
     ];
     next = λ p i event own below. elim (cases_lt i place) [
       | inl before ↦ is.next p i event own before
-      | inr here ↦ let same : i ≡ place = omega arith in absurd (none p (subst (IsEventAt order p) same event) (subst (IsOfHalf halves half) same own))
+      | inr here ↦ let same : i ≡ place = omega arith in absurd
+          (none p (subst (IsEventAt order p) same event) (subst (IsOfHalf halves half) same own))
     ];
     unlaid = λ i own le. is.unlaid i own (omega arith);
     kept = is.kept;
@@ -113,12 +139,17 @@ module _ (order : List Task) (halves : List Bool) (half : Bool) (floor : ℕ) (s
     few_columns = λ i. omega (arith, is.few_columns i);
   }
 
-  module _ (fit : IsFitOrder order order) (may : MayStand order halves half start) (sent : List ℕ) (are : AreSends order sent) (task : Task) (at : slice_get order place ≡ Some task) (is_one : is_event task.action ≡ true) (own : IsOfHalf halves half place) (within : task.p < 16) (c : ℕ) (floor_less : floor < c) (last_less : slice_index last task.p < c) (sent_less : slice_index columns (slice_index sent place) < c) where
+  module _ (fit : IsFitOrder order order) (may : MayStand order halves half start) (sent : List ℕ)
+      (are : AreSends order sent) (task : Task) (at : slice_get order place ≡ Some task)
+      (is_one : is_event task.action ≡ true) (own : IsOfHalf halves half place) (within : task.p < 16) (c : ℕ)
+      (floor_less : floor < c) (last_less : slice_index last task.p < c)
+      (sent_less : slice_index columns (slice_index sent place) < c) where
     event : IsEventAt order task.p place
     event = event_from order place task at is_one
 
     -- what went before stands in a column
-    stands : (q j : ℕ) → IsEventAt order q j → j < place → IsOfHalf halves half j ⊎ (0 < slice_index start j) → 0 < slice_index columns j
+    stands : (q j : ℕ) → IsEventAt order q j → j < place → IsOfHalf halves half j ⊎ (0 < slice_index start j)
+        → 0 < slice_index columns j
     stands q j at_j less one = ⊎_elim
         (λ of_half. omega (arith, is.laid q j at_j of_half less))
         (λ stood. omega (arith, stood, is.kept j (λ of_half. omega (arith, may.none j of_half, stood))))
@@ -160,29 +191,43 @@ module _ (order : List Task) (halves : List Bool) (half : Bool) (floor : ℕ) (s
     next_send (action.Observe holds) from same after = next_none from (rw same none_here) after
     next_send (action.Send to) from same after = next_none from (rw same none_here) after
     next_send (action.Recv source) from message after =
-        let there = column_there order columns is.stand task.p place c event from (λ same. omega (arith, same, message_later order fit from place message)) in
+        let there = column_there order columns is.stand task.p place c event from
+        (λ same. omega (arith, same, message_later order fit from place message)) in
         Send from message (omega (arith, here, after, there))
 
-    next_last : (slice_index last task.p ≡ 0) ⊎ ((i : ℕ) × IsEventAt order task.p i × (slice_index last task.p ≡ slice_index columns i)) → c ≡ slice_index last task.p + 1 → NextHere
+    next_last : (slice_index last task.p ≡ 0) ⊎ ((i : ℕ) × IsEventAt order task.p
+        i × (slice_index last task.p ≡ slice_index columns i)) → c ≡ slice_index last task.p + 1 → NextHere
     next_last (inl zero) after = next_floor (omega (arith, after, zero, floor_less))
     next_last (inr found) after = next_own found.0 found.1 (omega (arith, after, found.2))
 
-    next_here : (c ≡ floor + 1) ⊎ ((c ≡ slice_index last task.p + 1) ⊎ (c ≡ slice_index columns (slice_index sent place) + 1)) → NextHere
+    next_here : (c ≡ floor + 1) ⊎ ((c ≡ slice_index last task.p + 1) ⊎ (c ≡ slice_index columns
+        (slice_index sent place) + 1)) → NextHere
     next_here (inl after) = next_floor after
     next_here (inr (inl after)) = next_last (is.reached task.p) after
     next_here (inr (inr after)) = next_send task.action (slice_index sent place) (are.each place task at) after
 
     -- the event at a place stands in a column
-    pub laid_more : (c ≡ floor + 1) ⊎ ((c ≡ slice_index last task.p + 1) ⊎ (c ≡ slice_index columns (slice_index sent place) + 1)) → c ≤ floor + (place + 1) → IsLaid order halves half floor start (place + 1) (set columns place c) (set last task.p c)
+    pub laid_more : (c ≡ floor + 1) ⊎ ((c ≡ slice_index last task.p + 1) ⊎ (c ≡ slice_index columns
+        (slice_index sent place) + 1)) → c ≤ floor + (place + 1)
+        → IsLaid order halves half floor start (place + 1) (set columns place c) (set last task.p c)
     laid_more one few = record {
       stand = stand_more order columns is.stand task.p place c event (is.unlaid place own (omega arith)) fit
-          (λ j at_j less. (stands task.p j at_j less (may.own task.p place j event at_j less own), omega (arith, is.greatest task.p j at_j)))
+          (λ j at_j less. (
+            stands task.p j at_j less (may.own task.p place j event at_j less own),
+            omega
+                (arith, is.greatest task.p j at_j),
+          ))
           (λ from message.
-          let same = same_send order from (slice_index sent place) place message (are.each place (record { p = message.to; action = action.Recv message.from }) message.receive) in
-          (stands message.from from (send_event order from place message) (message_later order fit from place message) (may.message from place message own), rw same sent_less));
+          let same = same_send order from (slice_index sent place) place message
+          (are.each place (record { p = message.to; action = action.Recv message.from }) message.receive) in (
+            stands message.from from (send_event order from place message) (message_later order fit from place message)
+                (may.message from place message own),
+            rw same sent_less,
+          ));
       laid = λ p i at_i own_i below. elim (cases_eq i place) [
         | inl here ↦ rw (here, column_here order columns is.stand task.p place c event) floor_less
-        | inr other ↦ rw (column_there order columns is.stand task.p place c event i other) (is.laid p i at_i own_i (omega arith))
+        | inr other ↦ rw (column_there order columns is.stand task.p place c event i other)
+            (is.laid p i at_i own_i (omega arith))
       ];
       next = λ p i at_i own_i below. elim (cases_eq i place) [
         | inl here ↦
@@ -190,48 +235,72 @@ module _ (order : List Task) (halves : List Bool) (half : Bool) (floor : ℕ) (s
             rw (here, same) (next_here one)
         | inr other ↦
             next_stays order columns (set columns place c) floor p i is.stand
-            (λ k positive. column_there order columns is.stand task.p place c event k (λ same. let zero : slice_index columns k ≡ 0 = rw same none_here in omega (arith, zero, positive)))
+            (λ k positive. column_there order columns is.stand task.p place c event k
+            (λ same. let zero : slice_index columns k ≡ 0 = rw same none_here in omega (arith, zero, positive)))
             at_i (omega (arith, is.laid p i at_i own_i (omega arith))) (is.next p i at_i own_i (omega arith))
       ];
-      unlaid = λ i own_i le. rw (column_there order columns is.stand task.p place c event i (λ same. omega (arith, same))) (is.unlaid i own_i (omega arith));
-      kept = λ i other. rw (column_there order columns is.stand task.p place c event i (λ same. other (rw same own))) (is.kept i other);
+      unlaid = λ i own_i le. rw (column_there order columns is.stand task.p place c event i
+          (λ same. omega (arith, same))) (is.unlaid i own_i (omega arith));
+      kept = λ i other. rw (column_there order columns is.stand task.p place c event i (λ same. other (rw same own)))
+          (is.kept i other);
       processes = length-set last task.p c ∙ is.processes;
       greatest = λ p i at_i. elim (cases_eq i place) [
         | inl here ↦
             let same = same_process order p task.p place (subst (IsEventAt order p) here at_i) event in
-            let one : slice_index (set columns place c) i ≡ c = rw here (column_here order columns is.stand task.p place c event) in
-            let other : slice_index (set last task.p c) p ≡ c = rw same (get_or-set_same last task.p c 0 (omega (arith, within, is.processes))) in
+            let one : slice_index (set columns place c) i ≡ c =
+            rw here (column_here order columns is.stand task.p place c event) in
+            let other : slice_index (set last task.p c) p ≡ c =
+            rw same (get_or-set_same last task.p c 0 (omega (arith, within, is.processes))) in
             omega (arith, one, other)
         | inr there ↦ elim (cases_eq p task.p) [
           | inl same ↦
-              let other : slice_index (set last task.p c) p ≡ c = rw same (get_or-set_same last task.p c 0 (omega (arith, within, is.processes))) in
+              let other : slice_index (set last task.p c) p ≡ c =
+              rw same (get_or-set_same last task.p c 0 (omega (arith, within, is.processes))) in
               let least : slice_index columns i ≤ slice_index last task.p = rw same at (is.greatest p i at_i) in
               omega (arith, column_there order columns is.stand task.p place c event i there, other, least, last_less)
-          | inr apart ↦ omega (arith, column_there order columns is.stand task.p place c event i there, get_or-set_other last task.p p c 0 apart, is.greatest p i at_i)
+          | inr apart ↦ omega (
+            arith,
+            column_there order columns is.stand task.p place c event i there,
+            get_or-set_other
+                last task.p p c 0 apart,
+            is.greatest p i at_i,
+          )
         ]
       ];
       few_columns = λ i. elim (cases_eq i place) [
         | inl here ↦ rw (here, column_here order columns is.stand task.p place c event) few
-        | inr other ↦ rw (column_there order columns is.stand task.p place c event i other) (omega (arith, is.few_columns i))
+        | inr other ↦ rw (column_there order columns is.stand task.p place c event i other)
+            (omega (arith, is.few_columns i))
       ];
       reached = λ p. elim (cases_eq p task.p) [
         | inl same ↦
-            let now : slice_index (set last task.p c) p ≡ c = rw same (get_or-set_same last task.p c 0 (omega (arith, within, is.processes))) in
-            inr (place, subst (λ q. IsEventAt order q place) (sym same) event, now ∙ sym (column_here order columns is.stand task.p place c event))
+            let now : slice_index (set last task.p c) p ≡ c =
+            rw same (get_or-set_same last task.p c 0 (omega (arith, within, is.processes))) in
+            inr (
+              place,
+              subst (λ q. IsEventAt order q place) (sym same) event,
+              now
+                  ∙ sym (column_here order columns is.stand task.p place c event),
+            )
         | inr apart ↦ rw (get_or-set_other last task.p p c 0 apart) (⊎_elim inl (λ (i, at_i, same). inr (
           i,
           at_i,
-          same ∙ sym (column_there order columns is.stand task.p place c event i (λ here. apart (same_process order p task.p place (subst (IsEventAt order p) here at_i) event))),
+          same ∙ sym (column_there order columns is.stand task.p place c event i
+              (λ here. apart (same_process order p task.p place (subst (IsEventAt order p) here at_i) event))),
         )) (is.reached p))
       ];
     }
 
 -- the last columns are few
-pub last_few : (order : List Task) (halves : List Bool) (half : Bool) (floor : ℕ) (start : List ℕ) (place : ℕ) (columns last : List ℕ) → IsLaid order halves half floor start place columns last → (p : ℕ) → slice_index last p ≤ floor + place
-last_few order halves half floor start place columns last is p = ⊎_elim (λ zero. omega (arith, zero)) (λ (i, at_i, same). omega (arith, same, is.few_columns i)) (is.reached p)
+pub last_few : (order : List Task) (halves : List Bool) (half : Bool) (floor : ℕ) (start : List ℕ) (place : ℕ)
+    (columns last : List ℕ) → IsLaid order halves half floor start place columns last → (p : ℕ)
+    → slice_index last p ≤ floor + place
+last_few order halves half floor start place columns last is p = ⊎_elim (λ zero. omega (arith, zero))
+    (λ (i, at_i, same). omega (arith, same, is.few_columns i)) (is.reached p)
 
 -- an observation is no event
-pub no_event : (order : List Task) (p place : ℕ) (task : Task) → slice_get order place ≡ Some task → is_event task.action ≡ false → IsEventAt order p place → ⊥
+pub no_event : (order : List Task) (p place : ℕ) (task : Task) → slice_get order place ≡ Some task
+    → is_event task.action ≡ false → IsEventAt order p place → ⊥
 no_event order p place task at is event =
     let one : is_event event.task.action ≡ true = (and_parts _ _ event.own).1 in
     false≢true (sym is ∙ ap (λ (t : Task). is_event t.action) (same_Some _ _ (sym at ∙ event.at)) ∙ one)
@@ -250,7 +319,8 @@ beq_same true false same = cc
 beq_same false true same = cc
 
 -- 1 and the greatest of three numbers is 1 and one of them
-pub greatest_is : (a b d greater greatest c : ℕ) → greater ≡ max a b → greatest ≡ max greater d → c ≡ 1 + greatest → (c ≡ a + 1) ⊎ ((c ≡ b + 1) ⊎ (c ≡ d + 1))
+pub greatest_is : (a b d greater greatest c : ℕ) → greater ≡ max a b → greatest ≡ max greater d → c ≡ 1 + greatest
+    → (c ≡ a + 1) ⊎ ((c ≡ b + 1) ⊎ (c ≡ d + 1))
 greatest_is a b d greater greatest c one other is = elim (cases_lt greater d) [
   | inl less ↦ inr (inr (omega (arith, one, other, is, less)))
   | inr le ↦ elim (cases_lt a b) [

@@ -1,16 +1,23 @@
 -- Rows after one more task.
-use Rattle.wcp_layout.proofs.Words.{◌≡◌, ◌≢◌, ◌∙◌, ℕ, ◌+◌, ◌-◌, ◌<◌, true, false, List, [], ◌∷◌, ◌++◌, length, take, count_by, set, slice_get, slice_index, Some, refl, sym, ap, subst, inl, inr, ⊎_elim, arith, cases_eq, cases_lt, cases_Bool, same_Some, get_or-set_same, get_or-set_other, get_or_append_left, get_or_push, length_push, take_all, slice_get_within, count_before-yes, count_before-no, count_before-mono, Task, is_event, is_event_of, IsEventAt}
+use Rattle.wcp_layout.proofs.Words.{◌≡◌, ◌≢◌, ◌∙◌, ℕ, ◌+◌, ◌-◌, ◌<◌, true, false, List, [], ◌∷◌, ◌++◌, length, take}
+use Rattle.wcp_layout.proofs.Words.{count_by, set, slice_get, slice_index, Some, refl, sym, ap, subst, inl, inr, ⊎_elim}
+use Rattle.wcp_layout.proofs.Words.{arith, cases_eq, cases_lt, cases_Bool, same_Some, get_or-set_same, get_or-set_other}
+use Rattle.wcp_layout.proofs.Words.{get_or_append_left, get_or_push, length_push, take_all, slice_get_within}
+use Rattle.wcp_layout.proofs.Words.{count_before-yes, count_before-no, count_before-mono, Task, is_event, is_event_of}
+use Rattle.wcp_layout.proofs.Words.{IsEventAt}
 use Rattle.std.specs.List.{Contains}
 use Rattle.std.specs.List.Sorted.{IsStrictlyIncreasing}
 use Rattle.std.proofs.lemmas.List.Elements.{Contains-push, Contains-push_cases, Contains-append_left, Contains-get_or}
 use Rattle.wcp_model.proofs.RisingClocks.{rises_to}
 use Rattle.wcp_model.proofs.StepsOfOrder.{step_at, observe_task, interval_at_is, communications_is}
 use Rattle.wcp_model.specs.declared.workload.Action.TheVariants as action
-use Rattle.wcp_layout.specs.Rows.{row_at, finds_true, EndsWith, RiseUpTo, HasOneMore, AreEventColumns, AreTrueRows, AreColumnsBefore, AreTruthsBefore}
+use Rattle.wcp_layout.specs.Rows.{row_at, finds_true, EndsWith, RiseUpTo, HasOneMore, AreEventColumns, AreTrueRows}
+use Rattle.wcp_layout.specs.Rows.{AreColumnsBefore, AreTruthsBefore}
 use Rattle.wcp_layout.proofs.Laying.{event_of_task, event_from}
 
 -- one row is written and each other one stays
-pub rows_written : (n q : ℕ) (P Q : ℕ → List ℕ → Type 0) (rows : List (List ℕ)) (row : List ℕ) → length rows ≡ n → q < n → ((p : ℕ) → p < n → P p (row_at rows p)) → ((p : ℕ) → p ≢ q → (r : List ℕ) → P p r → Q p r) → Q q row
+pub rows_written : (n q : ℕ) (P Q : ℕ → List ℕ → Type 0) (rows : List (List ℕ)) (row : List ℕ) → length rows ≡ n → q < n
+    → ((p : ℕ) → p < n → P p (row_at rows p)) → ((p : ℕ) → p ≢ q → (r : List ℕ) → P p r → Q p r) → Q q row
     → (p : ℕ) → p < n → Q p (row_at (set rows q row) p)
 rows_written n q P Q rows row all within before stays here p below = elim (cases_eq p q) [
   | inl same ↦ rw (same, get_or-set_same rows q row [] (omega (arith, within, all))) here
@@ -26,9 +33,11 @@ module _ (order : List Task) (place : ℕ) (task : Task) (at : slice_get order p
   ]
 
   pub other_process : (p : ℕ) → p ≢ task.p → IsEventAt order p place → ⊥
-  other_process p other event = other (sym (event_of_task order p place event) ∙ ap (λ (t : Task). t.p) (same_Some _ _ (sym event.at ∙ at)))
+  other_process p other event = other (sym (event_of_task order p place event)
+      ∙ ap (λ (t : Task). t.p) (same_Some _ _ (sym event.at ∙ at)))
 
-  pub columns_stay : (columns : List ℕ) (p : ℕ) (row : List ℕ) → (IsEventAt order p place → ⊥) → AreColumnsBefore order columns place p row → AreColumnsBefore order columns (place + 1) p row
+  pub columns_stay : (columns : List ℕ) (p : ℕ) (row : List ℕ) → (IsEventAt order p place → ⊥)
+      → AreColumnsBefore order columns place p row → AreColumnsBefore order columns (place + 1) p row
   columns_stay columns p row none are = record {
     events = are.events ∙ sym (count_before-no (is_event_of p) order place task at (no_event_of p none));
     each = λ i event below. elim (cases_eq i place) [
@@ -37,47 +46,83 @@ module _ (order : List Task) (place : ℕ) (task : Task) (at : slice_get order p
     ];
   }
 
-  pub columns_more : (columns row : List ℕ) → is_event task.action ≡ true → AreColumnsBefore order columns place task.p row → AreColumnsBefore order columns (place + 1) task.p (row ++ slice_index columns place ∷ [])
+  pub columns_more : (columns row : List ℕ) → is_event task.action ≡ true
+      → AreColumnsBefore order columns place task.p row → AreColumnsBefore order columns (place + 1) task.p
+      (row ++ slice_index columns place ∷ [])
   columns_more columns row is are =
       let event = event_from order place task at is in
-      let own : is_event_of task.p task ≡ true = ap (is_event_of task.p) (same_Some _ _ (sym at ∙ event.at)) ∙ event.own in
+      let own : is_event_of task.p task ≡ true = ap (is_event_of task.p) (same_Some _ _ (sym at ∙ event.at))
+      ∙ event.own in
       let more = count_before-yes (is_event_of task.p) order place task at own in
       record {
         events = length_push row (slice_index columns place) ∙ ap (λ k. k + 1) are.events ∙ sym more;
         each = λ i event_i below. elim (cases_eq i place) [
-          | inl here ↦ rw (here, get_or_push row (slice_index columns place) 0 (count_by (is_event_of task.p) (take place order)) are.events) refl
+          | inl here ↦ rw (
+            here,
+            get_or_push row (slice_index columns place) 0
+                (count_by (is_event_of task.p) (take place order)) are.events,
+          ) refl
           | inr other ↦
               let one = count_before-yes (is_event_of task.p) order i event_i.task event_i.at event_i.own in
               let fewer = count_before-mono (is_event_of task.p) order (i + 1) place (omega arith) in
-              get_or_append_left row (slice_index columns place ∷ []) 0 _ (omega (arith, one, fewer, are.events)) ∙ are.each i event_i (omega arith)
+              get_or_append_left row (slice_index columns place ∷ []) 0 _ (omega (arith, one, fewer, are.events))
+              ∙ are.each i event_i (omega arith)
         ];
       }
 
-  pub truths_stay : (p : ℕ) (row : List ℕ) → ((task.p ≡ p) → (finds_true task.action ≡ true) → ⊥) → AreTruthsBefore order place p row → AreTruthsBefore order (place + 1) p row
+  pub truths_stay : (p : ℕ) (row : List ℕ) → ((task.p ≡ p) → (finds_true task.action ≡ true) → ⊥)
+      → AreTruthsBefore order place p row → AreTruthsBefore order (place + 1) p row
   truths_stay p row none are = record {
     rising = are.rising;
     each = λ k. (
-      λ has. let it = (are.each k).0 has in record { at = it.at; before = omega (arith, it.before); observed = it.observed; within = it.within },
+      λ has. let it = (are.each k).0 has in record {
+        at = it.at;
+        before = omega (arith, it.before);
+        observed =
+            it.observed;
+        within = it.within;
+      },
       λ it. elim (cases_eq it.at place) [
         | inl here ↦
             let same = same_Some _ _ (sym at ∙ ap (slice_get order) (sym here) ∙ it.observed) in
             absurd (none (ap (λ (t : Task). t.p) same) (ap (λ (t : Task). finds_true t.action) same))
-        | inr other ↦ (are.each k).1 (record { at = it.at; before = omega (arith, it.before); observed = it.observed; within = it.within })
+        | inr other ↦ (are.each k).1 (record {
+          at = it.at;
+          before = omega (arith, it.before);
+          observed =
+              it.observed;
+          within = it.within;
+        })
       ],
     );
   }
 
-  pub truths_more : (old new : List ℕ) (number : ℕ) → finds_true task.action ≡ true → number ≡ count_by (is_event_of task.p) (take place order) → HasOneMore number old new → AreTruthsBefore order place task.p old → AreTruthsBefore order (place + 1) task.p new
+  pub truths_more : (old new : List ℕ) (number : ℕ) → finds_true task.action ≡ true
+      → number ≡ count_by (is_event_of task.p) (take place order) → HasOneMore number old new
+      → AreTruthsBefore order place task.p old → AreTruthsBefore order (place + 1) task.p new
   truths_more old new number is counted more are = record {
     rising = more.rising;
     each = λ k. (
       λ has. ⊎_elim
-          (λ before. let it = (are.each k).0 before in record { at = it.at; before = omega (arith, it.before); observed = it.observed; within = it.within })
-          (λ here. record { at = place; before = omega arith; observed = at ∙ ap Some (observes task is); within = sym counted ∙ sym here })
+          (λ before. let it = (are.each k).0 before in record
+          { at = it.at; before = omega (arith, it.before); observed = it.observed; within = it.within })
+          (λ here. record {
+            at = place;
+            before = omega arith;
+            observed = at
+                ∙ ap Some (observes task is);
+            within = sym counted ∙ sym here;
+          })
           ((more.each k).0 has),
       λ it. (more.each k).1 elim (cases_eq it.at place) [
         | inl here ↦ inr (sym it.within ∙ ap (λ i. count_by (is_event_of task.p) (take i order)) here ∙ sym counted)
-        | inr other ↦ inl ((are.each k).1 (record { at = it.at; before = omega (arith, it.before); observed = it.observed; within = it.within }))
+        | inr other ↦ inl ((are.each k).1 (record {
+          at = it.at;
+          before = omega (arith, it.before);
+          observed =
+              it.observed;
+          within = it.within;
+        }))
       ],
     );
   }
@@ -86,10 +131,12 @@ module _ (order : List Task) (place : ℕ) (task : Task) (at : slice_get order p
       observes t found = grind arith
 
   -- what is observed so far is in an interval up to this
-  pub truths_below : (p : ℕ) (row : List ℕ) (number : ℕ) → number ≡ count_by (is_event_of p) (take place order) → AreTruthsBefore order place p row → RiseUpTo number row
+  pub truths_below : (p : ℕ) (row : List ℕ) (number : ℕ) → number ≡ count_by (is_event_of p) (take place order)
+      → AreTruthsBefore order place p row → RiseUpTo number row
   truths_below p row number counted are = record {
     rising = are.rising;
-    below = λ k has. let it = (are.each k).0 has in omega (arith, it.within, counted, count_before-mono (is_event_of p) order it.at place (omega (arith, it.before)));
+    below = λ k has. let it = (are.each k).0 has in omega
+        (arith, it.within, counted, count_before-mono (is_event_of p) order it.at place (omega (arith, it.before)));
   }
 
 -- no row has numbers before the first task
@@ -109,13 +156,19 @@ no_truths order p = record {
 module _ (number : ℕ) (row : List ℕ) (rise : RiseUpTo number row) where
   pub has_already : EndsWith number row → HasOneMore number row row
   has_already ends =
-      let here : Contains row number = subst (Contains row) ends.1 (Contains-get_or row (length row - 1) 0 (omega (arith, ends.0))) in
+      let here : Contains row number = subst (Contains row) ends.1
+      (Contains-get_or row (length row - 1) 0 (omega (arith, ends.0))) in
       record { rising = rise.rising; each = λ k. (λ has. inl has, ⊎_elim (λ has. has) (λ same. rw same here)) }
 
   pub has_more : (EndsWith number row → ⊥) → HasOneMore number row (row ++ number ∷ [])
   has_more other = record {
     rising = rising_push;
-    each = λ k. (λ has. ⊎_elim inl (λ same. inr (sym same)) (Contains-push_cases row number k has), ⊎_elim (λ has. Contains-append_left row (number ∷ []) k has) (λ same. rw same (Contains-push row number)));
+    each = λ k. (
+      λ has. ⊎_elim inl (λ same. inr (sym same))
+          (Contains-push_cases row number k has),
+      ⊎_elim (λ has. Contains-append_left row (number ∷ []) k has)
+          (λ same. rw same (Contains-push row number)),
+    );
   }
     where
       last_below : (i : ℕ) → i < length row → slice_index row i < number
@@ -133,22 +186,38 @@ module _ (number : ℕ) (row : List ℕ) (rise : RiseUpTo number row) where
 
 -- the rows of all tasks
 module _ (n : ℕ) (order : List Task) (rows : List (List ℕ)) (processes : length rows ≡ n) where
-  pub AreEventColumns-all : (columns : List ℕ) → ((p : ℕ) → p < n → AreColumnsBefore order columns (length order) p (row_at rows p)) → AreEventColumns n order columns rows
+  pub AreEventColumns-all : (columns : List ℕ) → ((p : ℕ) → p < n
+      → AreColumnsBefore order columns (length order) p (row_at rows p)) → AreEventColumns n order columns rows
   AreEventColumns-all columns are = record {
     processes = processes;
-    events = λ p below. (are p below).events ∙ ap (count_by (is_event_of p)) (take_all (length order) order (omega arith)) ∙ sym (communications_is n order p);
-    each = λ p i below event. ap (slice_index (row_at rows p)) (interval_at_is n order p i) ∙ (are p below).each i event (slice_get_within order i event.task event.at);
+    events = λ p below. (are p below).events ∙ ap (count_by (is_event_of p))
+        (take_all (length order) order (omega arith)) ∙ sym (communications_is n order p);
+    each = λ p i below event. ap (slice_index (row_at rows p)) (interval_at_is n order p i)
+        ∙ (are p below).each i event (slice_get_within order i event.task event.at);
   }
 
-  pub AreTrueRows-all : ((p : ℕ) → p < n → AreTruthsBefore order (length order) p (row_at rows p)) → AreTrueRows n order rows
+  pub AreTrueRows-all : ((p : ℕ) → p < n → AreTruthsBefore order (length order) p (row_at rows p))
+      → AreTrueRows n order rows
   AreTrueRows-all are = record {
     processes = processes;
     each = λ p below. record {
       rising = (are p below).rising;
       each = λ k. (
-        λ has. let it = ((are p below).each k).0 has in record { place = it.at; observed = step_at n order it.at _ it.observed; within = interval_at_is n order p it.at ∙ it.within },
+        λ has. let it = ((are p below).each k).0 has in record {
+          place = it.at;
+          observed = step_at n order it.at _ it.observed;
+          within = interval_at_is n order p it.at
+              ∙ it.within;
+        },
         λ it. let there = observe_task n order it.place p true it.observed in
-            ((are p below).each k).1 (record { at = it.place; before = slice_get_within order it.place _ there; observed = there; within = sym (interval_at_is n order p it.place) ∙ it.within }),
+            ((are p below).each k).1 (record {
+              at = it.place;
+              before =
+                  slice_get_within order it.place _ there;
+              observed = there;
+              within =
+                  sym (interval_at_is n order p it.place) ∙ it.within;
+            }),
       );
     };
   }

@@ -1,9 +1,13 @@
 -- The words of the proofs of this crate, from one place.
-pub use Rattle.std.proofs.Common.{◌≡◌, ◌≢◌, ℕ, zero, suc, ◌+◌, ◌-◌, ◌*◌, ◌<◌, ◌≤◌, ◌⊎◌, Bool, true, false, List, [], ◌∷◌, ◌++◌}
-pub use Rattle.std.proofs.Common.{length, map, max, take, cond, count_by, get_or, set, slice_get, slice_index, slice_index_or, Some, None, Option, ◌↔◌}
-pub use Rattle.std.proofs.Common.{refl, sym, ap, ◌∙◌, subst, inl, inr, ⊎_elim, eqb-true, eq-eqb, arith, replicate, All, get_or-set_same}
+pub use Rattle.std.proofs.Common.{◌≡◌, ◌≢◌, ℕ, zero, suc, ◌+◌, ◌-◌, ◌*◌, ◌<◌, ◌≤◌, ◌⊎◌, Bool, true, false, List, []}
+pub use Rattle.std.proofs.Common.{◌∷◌, ◌++◌}
+pub use Rattle.std.proofs.Common.{length, map, max, take, cond, count_by, get_or, set, slice_get, slice_index}
+pub use Rattle.std.proofs.Common.{slice_index_or, Some, None, Option, ◌↔◌}
+pub use Rattle.std.proofs.Common.{refl, sym, ap, ◌∙◌, subst, inl, inr, ⊎_elim, eqb-true, eq-eqb, arith, replicate, All}
+pub use Rattle.std.proofs.Common.{get_or-set_same}
 pub use Rattle.std.proofs.Common.{get_or-set_other, add-one}
-pub use Rattle.std.proofs.lemmas.Bool.{cases_eq, cases_lt, cases_order, cases_Bool, ne_eqb, and_parts, and_from, false≢true}
+pub use Rattle.std.proofs.lemmas.Bool.{cases_eq, cases_lt, cases_order, cases_Bool, ne_eqb, and_parts, and_from}
+pub use Rattle.std.proofs.lemmas.Bool.{false≢true}
 pub use Rattle.std.proofs.lemmas.Grind.{common_steps}
 pub use Rattle.std.proofs.lemmas.List.{length-set, length-replicate, get_or-replicate, length_push, get_or_append_left}
 pub use Rattle.std.proofs.lemmas.List.{get_or_push, get_or_default, get_or_past, take_all}

@@ -1,4 +1,5 @@
-use Rattle.wcp_layout.proofs.Words.{◌≡◌, ◌∙◌, false, get_or, take, count_by, sym, arith, slice_get-get_or, same_Some, length-set, length_push, length, ◌+◌, ap, slice_get_within, Task, is_event_of}
+use Rattle.wcp_layout.proofs.Words.{◌≡◌, ◌∙◌, false, get_or, take, count_by, sym, arith, slice_get-get_or, same_Some}
+use Rattle.wcp_layout.proofs.Words.{length-set, length_push, length, ◌+◌, ap, slice_get_within, Task, is_event_of}
 use Rattle.wcp_model.proofs.StepsOfOrder.{interval_at_is}
 use Rattle.wcp_model.specs.declared.workload.Action.TheVariants.{Observe}
 use Rattle.wcp_layout.proofs.Counting.{counted_more, listed_more}
@@ -16,14 +17,18 @@ loop-task-preserved c =
     let pushed = c.in_ok-push.ensures.items in
     record {
       processes = length-set c.loop-task.events task.p _ ∙ old.processes;
-      counted = rw c.ended.ensures (counted_more order place task c.loop-task.events at (omega (arith, below.0)) old.counted);
+      counted = rw c.ended.ensures (counted_more order place task c.loop-task.events at (omega (arith, below.0))
+          old.counted);
       so_far = ap length pushed ∙ length_push _ _ ∙ ap (λ k. k + 1) old.so_far;
-      each = rw pushed (listed_more order (λ task k number. number ≡ count_by (is_event_of task.p) (take k order)) _ _ place old.so_far old.each
+      each = rw pushed (listed_more order (λ task k number. number ≡ count_by (is_event_of task.p) (take k order)) _ _
+          place old.so_far old.each
           (λ other there. rw (same_Some _ _ (sym there ∙ at)) (old.counted task.p (omega (arith, below.0)))));
     }
 
 pub returns : goal.returns
 returns c = record {
   tasks = omega arith;
-  each = λ place task at. c.loop-task.invariant.each place task (omega (arith, slice_get_within c.args.order.now place task at)) at ∙ sym (interval_at_is c.args.n c.args.order.now task.p place);
+  each = λ place task at. c.loop-task.invariant.each place task
+      (omega (arith, slice_get_within c.args.order.now place task at)) at
+      ∙ sym (interval_at_is c.args.n c.args.order.now task.p place);
 }

@@ -4,7 +4,8 @@ use Rattle.wcp_layout.proofs.layout.lay_out.Goals as goal
 
 pub stand_in_columns-requires-clause-closed : goal.stand_in_columns-requires-clause-closed
 stand_in_columns-requires-clause-closed c =
-    rw c.deref-3.ensures.value (closed_halves c.args.n c.args.order.now c.requires.within c.requires.fit c.in_ok-intervals.intervals.items c.in_ok-intervals.ensures c.args.cut.now c.in_ok-halves.halves.items
+    rw c.deref-3.ensures.value (closed_halves c.args.n c.args.order.now c.requires.within c.requires.fit
+    c.in_ok-intervals.intervals.items c.in_ok-intervals.ensures c.args.cut.now c.in_ok-halves.halves.items
     (rw c.deref.ensures.value at c.in_ok-halves.ensures) c.requires.cut)
 
 pub returns : goal.returns
@@ -23,14 +24,22 @@ returns c =
         | inl own ↦ (are.before p i event own).0
         | inr other ↦ omega (arith, are.behind p i event other)
       ];
-      before = λ p i event before. (are.before p i event (half_from c.args.n c.args.order.now c.requires.within c.requires.fit c.in_ok-intervals.intervals.items c.in_ok-intervals.ensures c.args.cut.now c.in_ok-halves.halves.items of p i event before)).1;
+      before = λ p i event before. (are.before p i event (half_from c.args.n c.args.order.now c.requires.within
+          c.requires.fit c.in_ok-intervals.intervals.items c.in_ok-intervals.ensures c.args.cut.now
+          c.in_ok-halves.halves.items of p i event before)).1;
       behind = λ p i event behind. elim (cases_Bool (slice_index_or c.in_ok-halves.halves.items i false)) [
-        | inl own ↦ absurd (behind (half_to c.args.n c.args.order.now c.requires.within c.requires.fit c.in_ok-intervals.intervals.items c.in_ok-intervals.ensures c.args.cut.now c.in_ok-halves.halves.items of p i event own))
+        | inl own ↦ absurd (behind (half_to c.args.n c.args.order.now c.requires.within c.requires.fit
+            c.in_ok-intervals.intervals.items c.in_ok-intervals.ensures c.args.cut.now c.in_ok-halves.halves.items of p
+            i event own))
         | inr other ↦ are.behind p i event other
       ];
-      next_before = λ p i event before. are.next_before p i event (half_from c.args.n c.args.order.now c.requires.within c.requires.fit c.in_ok-intervals.intervals.items c.in_ok-intervals.ensures c.args.cut.now c.in_ok-halves.halves.items of p i event before);
+      next_before = λ p i event before. are.next_before p i event
+          (half_from c.args.n c.args.order.now c.requires.within c.requires.fit c.in_ok-intervals.intervals.items
+          c.in_ok-intervals.ensures c.args.cut.now c.in_ok-halves.halves.items of p i event before);
       next_behind = λ p i event behind. elim (cases_Bool (slice_index_or c.in_ok-halves.halves.items i false)) [
-        | inl own ↦ absurd (behind (half_to c.args.n c.args.order.now c.requires.within c.requires.fit c.in_ok-intervals.intervals.items c.in_ok-intervals.ensures c.args.cut.now c.in_ok-halves.halves.items of p i event own))
+        | inl own ↦ absurd (behind (half_to c.args.n c.args.order.now c.requires.within c.requires.fit
+            c.in_ok-intervals.intervals.items c.in_ok-intervals.ensures c.args.cut.now c.in_ok-halves.halves.items of p
+            i event own))
         | inr other ↦ are.next_behind p i event other
       ];
       some_line = are.some_line;
