@@ -2,7 +2,7 @@ use Rattle.std.specs.Prelude.{◌≡◌, ℕ, ◌+◌, ◌-◌, ◌*◌, ◌<◌
 use Rattle.std.specs.Prelude.{None, Some}
 use Rattle.wcp_draw.specs.declared.frame.Frame.{Frame}
 
--- How far right a column is drawn. What is left of the first column that is drawn is at the left edge, and what is right
+-- How far right a column is drawn. What is left of the first one that is drawn is at the left edge, and what is right
 -- of the last at the right edge.
 abbrev pub across : Frame → ℕ → ℕ
 across frame column = frame.left + 44 * min (column - frame.base) (frame.columns + 1)

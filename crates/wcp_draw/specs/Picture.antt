@@ -26,7 +26,10 @@ size_text width height =
 -- The tip of an arrow, and the ground on which all is drawn.
 unfoldable pub ground_text : List ℕ
 ground_text =
-    codes "<style>text{font-family:DejaVu Sans,Helvetica,Arial,sans-serif}</style>\n<defs><marker id=\"tip\" viewBox=\"0 0 8 8\" refX=\"10\" refY=\"4\" markerWidth=\"7\" markerHeight=\"7\" orient=\"auto\"><path d=\"M0 0.8L8 4L0 7.2z\" fill=\"#44607a\"/></marker></defs>\n<rect width=\"100%\" height=\"100%\" fill=\"#fff\"/>\n"
+    codes "<style>text{font-family:DejaVu Sans,Helvetica,Arial,sans-serif}</style>\n"
+    ++ (codes "<defs><marker id=\"tip\" viewBox=\"0 0 8 8\" refX=\"10\" refY=\"4\" markerWidth=\"7\" "
+    ++ (codes "markerHeight=\"7\" orient=\"auto\"><path d=\"M0 0.8L8 4L0 7.2z\" fill=\"#44607a\"/></marker></defs>\n"
+    ++ codes "<rect width=\"100%\" height=\"100%\" fill=\"#fff\"/>\n"))
 
 -- The first lines of a picture.
 unfoldable pub head_text : Frame → List ℕ

@@ -6,4 +6,5 @@ use Rattle.wcp_draw.proofs.process.push_states.Given as goal
 
 abbrev pub invariant-loop-k : goal.invariant-loop-k
 invariant-loop-k l = string_bytes l.text ≡ string_bytes l.fn.text
-    ++ flat_map (λ k. state_text l.frame l.p k (begin_of l.events k) (end_of l.events k) l.member) (take l.k-index l.truths)
+    ++ flat_map (λ k. state_text l.frame l.p k (begin_of l.events k) (end_of l.events k) l.member)
+    (take l.k-index l.truths)

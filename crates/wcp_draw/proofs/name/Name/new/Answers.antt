@@ -9,5 +9,7 @@ use Rattle.wcp_draw.proofs.name.Name.new.Goals as goal
 pub returns : goal.returns
 unfolding escaped
 returns c =
-    let t = YieldsList-end (YieldsList-from_chars c.args.text.now c.utf8.text cc) c.loop-c.yielded _ c.loop-c.yielded_by _ _ c.in-None.is c.next.ensures.steps in
-    c.loop-c.invariant ∙ ap (flat_map escaped_char) (sym (map_fixed (λ x. x) c.loop-c.yielded (λ i d below. refl)) ∙ t.0)
+    let t = YieldsList-end (YieldsList-from_chars c.args.text.now c.utf8.text cc) c.loop-c.yielded _ c.loop-c.yielded_by
+    _ _ c.in-None.is c.next.ensures.steps in
+    c.loop-c.invariant ∙ ap (flat_map escaped_char) (sym (map_fixed (λ x. x) c.loop-c.yielded (λ i d below. refl))
+    ∙ t.0)
