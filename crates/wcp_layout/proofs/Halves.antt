@@ -56,6 +56,7 @@ module _ (order : List Task) (halves : List Bool) (zeros columns last : List ℕ
         few_lines = few;
         few_columns = second.few_columns;
         tasks = second.stand.tasks;
+        only = second.stand.only;
         own = λ p i j at_i at_j less. (second.stand.own p i j at_i at_j less (stands p i at_i)).1;
         message = λ sent received is. (second.stand.message sent received is
             (stands is.to received (receive_event order sent received is))).1;

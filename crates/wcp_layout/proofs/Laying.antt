@@ -72,6 +72,10 @@ module _ (order : List Task) where
         → StandInColumns order (set columns i c)
     stand_more none fit own message = record {
       tasks = length-set columns i c ∙ stand.tasks;
+      only = λ k positive. elim (cases_eq k i) [
+        | inl here ↦ (p, subst (IsEventAt order p) (sym here) event)
+        | inr other ↦ stand.only k (omega (arith, column_there k other, positive))
+      ];
       own = λ q k j at_k at_j less positive. elim (cases_eq k i) [
         | inl here ↦
             let before = own j (subst (λ r. IsEventAt order r j)

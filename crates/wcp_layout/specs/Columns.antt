@@ -21,6 +21,7 @@ pub record IsClosed (order : List Task) (halves : List Bool) : Type 0 where
 -- stands right of all earlier events of its process, and a receive right of its send (Lamport 1978: time runs on).
 pub record StandInColumns (order : List Task) (columns : List ℕ) : Type 0 where
   pub tasks : length columns ≡ length order
+  pub only : (i : ℕ) → 0 < slice_index columns i → (p : ℕ) × IsEventAt order p i
   pub own : (p i j : ℕ) → IsEventAt order p i → IsEventAt order p j → j < i → 0 < slice_index columns i →
       (0 < slice_index columns j) × (slice_index columns j < slice_index columns i)
   pub message : (sent received : ℕ) → AreSendAndReceive order sent received → 0 < slice_index columns received →
@@ -63,6 +64,7 @@ pub record IsLaid (order : List Task) (halves : List Bool) (half : Bool) (floor 
 -- first half stand left of the line, and all others right of it; and each stands as far left as that allows.
 pub record AreColumns (order : List Task) (halves : List Bool) (columns : List ℕ) (line : ℕ) : Type 0 where
   pub tasks : length columns ≡ length order
+  pub only : (i : ℕ) → 0 < slice_index columns i → (p : ℕ) × IsEventAt order p i
   pub own : (p i j : ℕ) → IsEventAt order p i → IsEventAt order p j → j < i →
       slice_index columns j < slice_index columns i
   pub message : (sent received : ℕ) → AreSendAndReceive order sent received →

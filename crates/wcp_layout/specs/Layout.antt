@@ -8,16 +8,17 @@ use Rattle.wcp_layout.specs.Halves.{IsBefore}
 use Rattle.wcp_layout.specs.Messages.{AreSends}
 use Rattle.wcp_layout.specs.Rows.{AreEventColumns, AreTrueRows}
 
--- A layout of a fit order of n processes about a cut: each communication event stands in one column. Along a process
--- columns rise, and each message goes right. All before the cut stands left of the line, and all behind it
--- right; and each event stands as far left as that allows, so that its column is 1 and the greatest of those that it
--- stands right of.
+-- A layout of a fit order of n processes about a cut: each communication event stands in one column, and nothing else
+-- does. Along a process columns rise, and each message goes right. All before the cut stands left of the line, and all
+-- behind it right; and each event stands as far left as that allows, so that its column is 1 and the greatest of those
+-- that it stands right of.
 pub record IsLayout (n : ℕ) (order : List Task) (cut : Option (List ℕ)) (layout : Layout) : Type 0 where
   pub intervals : AreIntervals n order layout.intervals.items
   pub sent : AreSends order layout.sent.items
   pub events : AreEventColumns n order layout.columns.items layout.events.items
   pub truths : AreTrueRows n order layout.truths.items
   pub tasks : length layout.columns.items ≡ length order
+  pub only : (i : ℕ) → 0 < slice_index layout.columns.items i → (p : ℕ) × IsEventAt order p i
   pub own : (p i j : ℕ) → IsEventAt order p i → IsEventAt order p j → j < i →
       slice_index layout.columns.items j < slice_index layout.columns.items i
   pub message : (sent received : ℕ) → AreSendAndReceive order sent received →

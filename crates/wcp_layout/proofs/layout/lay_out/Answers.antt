@@ -18,6 +18,7 @@ returns c =
       events = rw c.deref-4.ensures.value at c.in_ok-events.ensures;
       truths = c.in_ok-truths.ensures;
       tasks = are.tasks;
+      only = are.only;
       own = are.own;
       message = are.message;
       first = λ p i event. elim (cases_Bool (slice_index_or c.in_ok-halves.halves.items i false)) [
