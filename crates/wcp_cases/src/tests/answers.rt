@@ -14,14 +14,19 @@ fn agrees<R: AllocGlobal + Threads + Wait + Sync + Abort>(rt: &R, words: &[&str]
     gives(rt, words, &mut input, answer_of(row), row.name, length);
 }
 
-#[test]
-fn texts_are_answered(rt: HostRuntime) {
-    for row in ANSWERED.iter() {
-        agrees(&rt, ["wcpwatch", row.word].as_slice(), row);
+/// Each text gives what its row has, and a workload also without a word.
+fn are_answered<R: AllocGlobal + Threads + Wait + Sync + Abort>(rt: &R, rows: &[Row]) {
+    for row in rows {
+        agrees(rt, ["wcpwatch", row.word].as_slice(), row);
         if row.word == "single" {
-            agrees(&rt, ["wcpwatch"].as_slice(), row);
+            agrees(rt, ["wcpwatch"].as_slice(), row);
         }
     }
+}
+
+#[test]
+fn texts_are_answered(rt: HostRuntime) {
+    are_answered(&rt, ANSWERED.as_slice());
 }
 
 /// How often a text is run in threads: each time they may get on in another order.
@@ -34,21 +39,31 @@ fn runs_agree<R: AllocGlobal + Threads + Wait + Sync + Abort>(rt: &R, row: &Row)
     }
 }
 
+/// Each run of a workload in threads gives what its row has.
+fn all_runs_agree<R: AllocGlobal + Threads + Wait + Sync + Abort>(rt: &R, rows: &[Row]) {
+    for row in rows {
+        if row.word != "replay" {
+            runs_agree(rt, row);
+        }
+    }
+}
+
 #[test]
 fn workloads_are_run_in_threads_to_the_same_answer(rt: HostRuntime) {
-    for row in ANSWERED.iter() {
-        if row.word != "replay" {
-            runs_agree(&rt, row);
+    all_runs_agree(&rt, ANSWERED.as_slice());
+}
+
+/// Each text is refused as its row says, and a workload also where it is run in threads.
+fn are_refused<R: AllocGlobal + Threads + Wait + Sync + Abort>(rt: &R, rows: &[Row]) {
+    for row in rows {
+        agrees(rt, ["wcpwatch", row.word].as_slice(), row);
+        if row.word == "single" {
+            agrees(rt, ["wcpwatch", "run"].as_slice(), row);
         }
     }
 }
 
 #[test]
 fn other_texts_are_refused(rt: HostRuntime) {
-    for row in REFUSED.iter() {
-        agrees(&rt, ["wcpwatch", row.word].as_slice(), row);
-        if row.word == "single" {
-            agrees(&rt, ["wcpwatch", "run"].as_slice(), row);
-        }
-    }
+    are_refused(&rt, REFUSED.as_slice());
 }

@@ -30,14 +30,19 @@ fn by_bytes<R: AllocGlobal + Threads + Wait + Sync + Abort>(
     gives(rt, words.as_slice(), &mut input, answer, row.name, place);
 }
 
-/// A read that is interrupted is made again.
+/// Gives each text byte by byte, without a trouble, and with reads that are interrupted: each of them is made again.
+fn same_by_bytes<R: AllocGlobal + Threads + Wait + Sync + Abort>(rt: &R, rows: &[Row]) {
+    let interrupted = Trouble::EveryOther(ErrorKind::Interrupted);
+    for row in rows {
+        by_bytes(rt, row, Trouble::No, answer_of(row), 0);
+        by_bytes(rt, row, interrupted, answer_of(row), 1);
+    }
+}
+
 #[test]
 fn one_byte_at_a_time_is_the_same(rt: HostRuntime) {
-    let interrupted = Trouble::EveryOther(ErrorKind::Interrupted);
-    for row in ANSWERED.iter().chain(REFUSED.iter()) {
-        by_bytes(&rt, row, Trouble::No, answer_of(row), 0);
-        by_bytes(&rt, row, interrupted, answer_of(row), 1);
-    }
+    same_by_bytes(&rt, ANSWERED.as_slice());
+    same_by_bytes(&rt, REFUSED.as_slice());
 }
 
 /// Lets each read of a row's text fail in turn, that at its end too.
@@ -48,11 +53,17 @@ fn each_read_of<R: AllocGlobal + Threads + Wait + Sync + Abort>(rt: &R, row: &Ro
     }
 }
 
+/// Lets each read of each text fail in turn.
+fn each_read_of_each<R: AllocGlobal + Threads + Wait + Sync + Abort>(rt: &R, rows: &[Row]) {
+    for row in rows {
+        each_read_of(rt, row);
+    }
+}
+
 #[test]
 fn each_read_may_fail(rt: HostRuntime) {
-    for row in ANSWERED.iter().chain(REFUSED.iter()) {
-        each_read_of(&rt, row);
-    }
+    each_read_of_each(&rt, ANSWERED.as_slice());
+    each_read_of_each(&rt, REFUSED.as_slice());
 }
 
 /// The words that read their input.

@@ -1,6 +1,9 @@
 //! The ring workloads that the program prints.
 
-use wcp_cli::drive;
+use super::runs::{Answer, gives};
+use std::process::Abort;
+use std::sync::Wait;
+use std::thread::Threads;
 
 /// Words after `ring`, and the text that they give.
 static RINGS: [(&[&str], &str); 2] = [
@@ -16,17 +19,24 @@ static RINGS: [(&[&str], &str); 2] = [
     ),
 ];
 
+/// What isn't read.
+const UNREAD: &[u8] = b"not read";
+
+/// The program gives this text at these words, and reads nothing.
+fn prints<R: AllocGlobal + Threads + Wait + Sync + Abort>(rt: &R, words: &[&str], text: &str) {
+    let answer = Answer {
+        output: text.as_bytes(),
+        errors: b"",
+        status: 0,
+    };
+    let mut input = UNREAD;
+    gives(rt, words, &mut input, answer, "a ring", text.len());
+    assert_eq!(rt; input, UNREAD);
+}
+
 #[test]
 fn rings_are_printed(rt: HostRuntime) {
     for (words, text) in RINGS.iter() {
-        let unread: &[u8] = b"not read";
-        let mut input = unread;
-        let mut output = Vec::new(rt.alloc());
-        let mut errors = Vec::new(rt.alloc());
-        let status = drive(&rt, *words, &mut input, &mut output, &mut errors);
-        assert_eq!(rt; output.as_slice(), text.as_bytes());
-        assert!(rt; errors.is_empty());
-        assert_eq!(rt; status, 0);
-        assert_eq!(rt; input, unread);
+        prints(&rt, *words, *text);
     }
 }

@@ -44,53 +44,92 @@ fn gives<R: AllocGlobal + Threads + Wait + Sync + Abort>(
     assert_eq!(rt; given, status);
 }
 
+/// Takes the output byte by byte, with this trouble: it is whole, and flushed once.
+fn same_by_bytes<R: AllocGlobal + Threads + Wait + Sync + Abort>(
+    rt: &R,
+    row: &Row,
+    trouble: Trouble,
+) {
+    let whole = row.output.as_bytes();
+    let mut output = taking(rt.alloc(), 1, trouble);
+    gives(rt, row, &mut output, Trouble::No, whole, b"", row.status);
+    assert_eq!(rt; output.flushes, 1);
+}
+
+/// Takes the output of each text byte by byte.
+fn each_by_bytes<R: AllocGlobal + Threads + Wait + Sync + Abort>(rt: &R, rows: &[Row]) {
+    for row in rows {
+        same_by_bytes(rt, row, Trouble::No);
+        same_by_bytes(rt, row, Trouble::EveryOther(ErrorKind::Interrupted));
+    }
+}
+
 /// A write that is interrupted is made again.
 #[test]
 fn one_byte_at_a_time_is_the_same(rt: HostRuntime) {
-    let interrupted = Trouble::EveryOther(ErrorKind::Interrupted);
-    for row in ANSWERED.iter() {
-        let whole = row.output.as_bytes();
-        let mut output = taking(rt.alloc(), 1, Trouble::No);
-        gives(&rt, row, &mut output, Trouble::No, whole, b"", row.status);
-        assert_eq!(rt; output.flushes, 1);
-        let mut output = taking(rt.alloc(), 1, interrupted);
-        gives(&rt, row, &mut output, Trouble::No, whole, b"", row.status);
-        assert_eq!(rt; output.flushes, 1);
+    each_by_bytes(&rt, ANSWERED.as_slice());
+}
+
+/// Lets each write of a row's output fail in turn.
+fn each_write_of<R: AllocGlobal + Threads + Wait + Sync + Abort>(rt: &R, row: &Row) {
+    let whole = row.output.as_bytes();
+    for write in 0..whole.len() {
+        let mut output = taking(rt.alloc(), 1, Trouble::At(write, ErrorKind::Other));
+        let front = &whole[..write];
+        gives(rt, row, &mut output, Trouble::No, front, UNWRITTEN, 2);
+    }
+}
+
+/// Lets each write of each output fail in turn.
+fn each_write_of_each<R: AllocGlobal + Threads + Wait + Sync + Abort>(rt: &R, rows: &[Row]) {
+    for row in rows {
+        each_write_of(rt, row);
     }
 }
 
 #[test]
 fn each_write_may_fail(rt: HostRuntime) {
-    for row in ANSWERED.iter() {
+    each_write_of_each(&rt, ANSWERED.as_slice());
+}
+
+/// Lets the flush of each output fail.
+fn each_flush<R: AllocGlobal + Threads + Wait + Sync + Abort>(rt: &R, rows: &[Row]) {
+    for row in rows {
+        let mut output = taking(rt.alloc(), 1, Trouble::No);
+        output.flush_trouble = Trouble::At(0, ErrorKind::Other);
         let whole = row.output.as_bytes();
-        for write in 0..whole.len() {
-            let mut output = taking(rt.alloc(), 1, Trouble::At(write, ErrorKind::Other));
-            let front = &whole[..write];
-            gives(&rt, row, &mut output, Trouble::No, front, UNWRITTEN, 2);
-        }
+        gives(rt, row, &mut output, Trouble::No, whole, UNWRITTEN, 2);
     }
 }
 
 #[test]
 fn the_flush_may_fail(rt: HostRuntime) {
-    for row in ANSWERED.iter() {
-        let whole = row.output.as_bytes();
-        let mut output = taking(rt.alloc(), 1, Trouble::No);
-        output.flush_trouble = Trouble::At(0, ErrorKind::Other);
-        gives(&rt, row, &mut output, Trouble::No, whole, UNWRITTEN, 2);
+    each_flush(&rt, ANSWERED.as_slice());
+}
+
+/// Takes nothing of the output, with this trouble of the errors, and compares what is said.
+fn takes_nothing<R: AllocGlobal + Threads + Wait + Sync + Abort>(
+    rt: &R,
+    row: &Row,
+    trouble: Trouble,
+    said: &[u8],
+) {
+    let mut output = taking(rt.alloc(), 0, Trouble::No);
+    gives(rt, row, &mut output, trouble, b"", said, 2);
+}
+
+/// Takes nothing of each output, where the errors are taken and where they aren't.
+fn each_takes_nothing<R: AllocGlobal + Threads + Wait + Sync + Abort>(rt: &R, rows: &[Row]) {
+    for row in rows {
+        takes_nothing(rt, row, Trouble::No, UNWRITTEN);
+        takes_nothing(rt, row, Trouble::Always(ErrorKind::Other), b"");
     }
 }
 
 /// The status stays where the errors aren't taken either.
 #[test]
 fn a_write_of_nothing_fails(rt: HostRuntime) {
-    for row in ANSWERED.iter() {
-        let mut output = taking(rt.alloc(), 0, Trouble::No);
-        gives(&rt, row, &mut output, Trouble::No, b"", UNWRITTEN, 2);
-        let mut output = taking(rt.alloc(), 0, Trouble::No);
-        let trouble = Trouble::Always(ErrorKind::Other);
-        gives(&rt, row, &mut output, trouble, b"", b"", 2);
-    }
+    each_takes_nothing(&rt, ANSWERED.as_slice());
 }
 
 /// Lets each write of the line that says why a text is refused fail in turn.
@@ -103,10 +142,15 @@ fn each_write_of_errors<R: AllocGlobal + Threads + Wait + Sync + Abort>(rt: &R, 
     }
 }
 
+/// Lets each write of each such line fail in turn.
+fn each_write_of_all_errors<R: AllocGlobal + Threads + Wait + Sync + Abort>(rt: &R, rows: &[Row]) {
+    for row in rows {
+        each_write_of_errors(rt, row);
+    }
+}
+
 /// The status stays, and a front of the line was taken.
 #[test]
 fn each_write_of_errors_may_fail(rt: HostRuntime) {
-    for row in REFUSED.iter() {
-        each_write_of_errors(&rt, row);
-    }
+    each_write_of_all_errors(&rt, REFUSED.as_slice());
 }
