@@ -1,17 +1,11 @@
-mod asked_again;
 mod books;
 mod checker;
 mod clocks;
 mod computations;
-mod faults;
-mod heads;
 mod holds;
 mod orders;
 mod outcomes;
-mod plans;
 mod refusals;
 mod replays;
 mod stamps;
-mod texts;
-mod texts_made;
 mod trees;
