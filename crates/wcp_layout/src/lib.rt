@@ -3,9 +3,9 @@
 //! What is proved. `lay_out`, of a fit order of tasks and a satisfying cut of its computation, if there is one: the
 //! interval that the process of each task is in, and for each receive the place of the send of its message. Each
 //! communication event stands in one column: along a process columns rise, each message goes right, all before the cut
-//! stands left of the line and all behind it right, and each event stands as far left as that allows, so that its column
-//! is 1 and the greatest of those that it stands right of. The row of a process has the column of each of its events,
-//! and its true states.
+//! stands left of the line and all behind it right, and each event stands as far left as that allows, so that its
+//! column is 1 and the greatest of those that it stands right of. The row of a process has the column of each of its
+//! events, and its true states.
 #![tactic(auto)]
 
 mod cut_halves;

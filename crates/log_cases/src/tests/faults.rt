@@ -74,17 +74,20 @@ const LINES: &[Row] = &[
     ),
     // of a restart the own number is said first
     (
-        b"{\"host\":\"a\",\"clock\":{\"a\":2,\"b\":2},\"event\":\"x\"}\n{\"host\":\"a\",\"clock\":{\"a\":1},\"event\":\"x\"}",
+        b"{\"host\":\"a\",\"clock\":{\"a\":2,\"b\":2},\"event\":\"x\"}\n\
+          {\"host\":\"a\",\"clock\":{\"a\":1},\"event\":\"x\"}",
         2,
         Order,
     ),
     (
-        b"{\"host\":\"a\",\"clock\":{\"a\":1,\"b\":2},\"event\":\"x\"}\n{\"host\":\"a\",\"clock\":{\"a\":2},\"event\":\"x\"}",
+        b"{\"host\":\"a\",\"clock\":{\"a\":1,\"b\":2},\"event\":\"x\"}\n\
+          {\"host\":\"a\",\"clock\":{\"a\":2},\"event\":\"x\"}",
         2,
         Falls,
     ),
     (
-        b"{\"host\":\"a\",\"clock\":{\"a\":1,\"b\":2},\"event\":\"x\"}\n{\"host\":\"a\",\"clock\":{\"b\":1,\"a\":2},\"event\":\"x\"}",
+        b"{\"host\":\"a\",\"clock\":{\"a\":1,\"b\":2},\"event\":\"x\"}\n\
+          {\"host\":\"a\",\"clock\":{\"b\":1,\"a\":2},\"event\":\"x\"}",
         2,
         Falls,
     ),

@@ -9,20 +9,22 @@ const LINES: &[u8] = b"{\"host\":\"alice\",\"clock\":{\"alice\":1},\"event\":\"a
 const LINES_READ: &str =
     "1 alice alice=1: asks\n2 server alice=1 server=2: grants\n3 alice server=2 alice=4: holds\n";
 
-const SHIVIZ: &[u8] =
-    b"alice {\"alice\":1}\nasks\nserver {\"alice\":1, \"server\":2}\ngrants it \nalice {\"server\":2,\"alice\":4}\nholds";
+const SHIVIZ: &[u8] = b"alice {\"alice\":1}\nasks\nserver {\"alice\":1, \"server\":2}\ngrants it \n\
+      alice {\"server\":2,\"alice\":4}\nholds";
 
 const SHIVIZ_READ: &str =
     "2 alice alice=1: asks\n4 server alice=1 server=2: grants it \n6 alice server=2 alice=4: holds\n";
 
 const REVERSED: &[u8] =
-    b"asks\nalice {\"alice\":1}\ngrants it \nserver {\"alice\":1, \"server\":2}\nholds\nalice {\"server\":2,\"alice\":4}\n";
+    b"asks\nalice {\"alice\":1}\ngrants it \nserver {\"alice\":1, \"server\":2}\n\
+      holds\nalice {\"server\":2,\"alice\":4}\n";
 
 const REVERSED_READ: &str =
     "1 alice alice=1: asks\n3 server alice=1 server=2: grants it \n5 alice server=2 alice=4: holds\n";
 
 const NAMES: &[u8] =
-    b"{\"host\":\"\xc3\xa9t\xc3\xa9 1\",\"clock\":{\"\\u00e9t\\u00e9 1\":1,\"\\ud83d\\ude00\":0},\"event\":\"a\\tb \\\"c\\\"\"}\n";
+    b"{\"host\":\"\xc3\xa9t\xc3\xa9 1\",\"clock\":{\"\\u00e9t\\u00e9 1\":1,\"\\ud83d\\ude00\":0},\
+      \"event\":\"a\\tb \\\"c\\\"\"}\n";
 
 const NAMES_READ: &str = "1 \u{e9}t\u{e9} 1 \u{e9}t\u{e9} 1=1 \u{1f600}=0: a\tb \"c\"\n";
 

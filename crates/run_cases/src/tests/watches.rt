@@ -73,9 +73,9 @@ fn run_first(rt: &impl Wait, mut relays: Vec<Relay>, count: usize) {
     }
 }
 
-/// A watch that runs in one thread: each process emits one snapshot and closes, but for process 0 where `lost` says after
-/// how many it is lost. Then the first `count` relays run, the highest number first, and then the checker's loop, which
-/// posts in this book. The other relays are gone.
+/// A watch that runs in one thread: each process emits one snapshot and closes, but for process 0 where `lost` says
+/// after how many it is lost. Then the first `count` relays run, the highest number first, and then the checker's loop,
+/// which posts in this book. The other relays are gone.
 pub fn run_in_one_thread(
     rt: &impl Wait,
     alloc: Global,
