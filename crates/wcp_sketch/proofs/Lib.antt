@@ -1,1 +1,3 @@
+mod Named
+mod Parts
 pub mod Found

@@ -1,4 +1,4 @@
-use Rattle.std.specs.Prelude.{◌≡◌, ℕ, List, length, Option, None, Some}
+use Rattle.std.specs.Prelude.{◌≡◌, ℕ, Bool, List, length, Option, None, Some, is_some}
 use Rattle.wcp_model.specs.declared.outcome.Outcome.{Outcome}
 use Rattle.wcp_model.specs.declared.outcome.Report.{Report}
 use Rattle.wcp_model.specs.declared.outcome.Report.TheVariants.{Found, Nothing, Undecided}
@@ -11,6 +11,7 @@ use Rattle.wcp_layout.specs.declared.layout.Layout.{Layout}
 use Rattle.wcp_draw.specs.Frame.{IsFrame}
 use Rattle.wcp_draw.specs.Picture.{picture_text}
 use Rattle.wcp_script.specs.TextFault.{workloads, Spells}
+use Rattle.wcp_sketch.specs.Names.{AreNames}
 
 -- The cut that a report found, if it found one.
 abbrev pub cut_of : Report → Option (List ℕ)
@@ -19,8 +20,8 @@ cut_of Nothing = None
 cut_of Undecided = None
 
 -- The picture of these tasks of processes with these names: of a layout of a fit order of them about the cut of their
--- outcome.
-pub record IsPictureOf (names : List (List ℕ)) (tasks : List Task) (picture : List ℕ) : Type 0 where
+-- outcome; and whether there is one.
+pub record IsPictureOf (names : List (List ℕ)) (tasks : List Task) (picture : List ℕ) (found : Bool) : Type 0 where
   pub order : List Task
   pub fit : IsFitOrder tasks order
   pub outcome : Outcome
@@ -29,11 +30,14 @@ pub record IsPictureOf (names : List (List ℕ)) (tasks : List Task) (picture : 
   pub is_layout : IsLayout (length names) order (cut_of outcome.report) layout
   pub drawn : (frame : _) × IsFrame (length names) layout.line layout.columns.items (cut_of outcome.report) frame
       × (picture ≡ picture_text frame names order layout (cut_of outcome.report))
+  pub found_is : found ≡ is_some (cut_of outcome.report)
 
--- The picture of a text with these names: of the workload that it spells, which has as many processes.
-pub record IsSketchOf (names : List (List ℕ)) (text picture : List ℕ) : Type 0 where
+-- The picture of a text with these names: of the workload that it spells, whose processes have them; and whether it
+-- shows a cut.
+pub record IsSketchOf (list : Option (List ℕ)) (text picture : List ℕ) (found : Bool) : Type 0 where
   pub plan : Plan
   pub tasks : List Task
   pub spells : Spells workloads text plan tasks
-  pub processes : length names ≡ plan.n
-  pub is_picture : IsPictureOf names tasks picture
+  pub names : List (List ℕ)
+  pub are_names : AreNames list plan.n names
+  pub is_picture : IsPictureOf names tasks picture found

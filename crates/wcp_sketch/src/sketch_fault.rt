@@ -13,7 +13,7 @@ pub enum SketchFault {
     /// The text has a fault: it spells no workload.
     #[error(transparent)]
     Script(ScriptFault),
-    /// There are not as many names as processes.
+    /// A name is empty, or there are not as many names as processes.
     #[error("names")]
     Names,
     /// Memory ran out.

@@ -1,9 +1,11 @@
 //! The picture of a text.
-ghost use Rattle.std.specs.Prelude.{◌≡◌, length, string_bytes, IfOk, IfErr};
+ghost use Rattle.std.specs.Prelude.{◌≡◌, length, option_map, string_bytes, IfOk, IfErr};
 ghost use Rattle.wcp_model.specs.WorkloadComputation.{CouldBeRead, IsFitOrder};
 ghost use Rattle.wcp_sketch.specs.Faults.{IsWhy};
 ghost use Rattle.wcp_sketch.specs.Sketches.{cut_of, IsPictureOf, IsSketchOf};
 
+use crate::naming::names_of;
+use crate::picture::Picture;
 use crate::sketch_fault::SketchFault;
 use std::alloc::{AllocError, Global};
 use wcp_draw::{Name, draw};
@@ -27,27 +29,34 @@ fn sketch_in_order(
     names: &[Name],
     workload: &Workload,
     order: &[Task],
-) -> Result<String, AllocError>
+) -> Result<Picture, AllocError>
     requires read { CouldBeRead workload.now.plan.n workload.now.tasks.items }
     requires fit { IsFitOrder workload.now.tasks.items order.now }
     requires names { length names.now ≡ workload.now.plan.n }
-    ensures { IfOk result (λ text. IsPictureOf names.now workload.now.tasks.items (string_bytes text)) }
+    ensures { IfOk result (λ picture. IsPictureOf names.now workload.now.tasks.items
+        (string_bytes picture.text) picture.found) }
 {
     let outcome = single_in_order(alloc, workload, order)?;
     let cut = cut_of(outcome.report);
     let layout = lay_out(alloc, workload.plan.n, order, &cut)?;
-    draw(alloc, names, order, &layout, &cut)
+    let text = draw(alloc, names, order, &layout, &cut)?;
+    Ok(Picture {
+        text,
+        found: cut.is_some(),
+    })
 }
 
-/// The picture of the workload that a text spells, whose processes have these names, about its least
-/// cut, if it has one. `Err` says why there is none.
-pub fn sketch(alloc: Global, names: &[Name], text: &[u8]) -> Result<String, SketchFault>
-    ensures picture { IfOk result (λ picture. IsSketchOf names.now text.now (string_bytes picture)) }
-    ensures fault { IfErr result (IsWhy names.now text.now) }
+/// The picture of the workload that a text spells, about its least cut, if it has one.
+///
+/// Its processes have the names that stand between the commas of a list, or `process 0` and so on where there is no
+/// list. `Err` says why there is no picture. A text is refused before its names are looked at.
+#[tactic(auto, using(crate::proofs::Named::names_length))]
+pub fn sketch(alloc: Global, names: Option<&str>, text: &[u8]) -> Result<Picture, SketchFault>
+    ensures picture { IfOk result (λ picture. IsSketchOf (option_map (λ list. list.now) names.entry) text.now
+        (string_bytes picture.text) picture.found) }
+    ensures fault { IfErr result (IsWhy (option_map (λ list. list.now) names.entry) text.now) }
 {
     let read = read_ordered(alloc, text)?;
-    if names.len() != read.workload.plan.n as usize {
-        return Err(SketchFault::Names);
-    }
-    Ok(sketch_in_order(alloc, names, &read.workload, read.in_order())?)
+    let names = names_of(alloc, names, read.workload.plan.n)?;
+    Ok(sketch_in_order(alloc, &names, &read.workload, read.in_order())?)
 }

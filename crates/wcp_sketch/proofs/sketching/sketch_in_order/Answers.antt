@@ -1,4 +1,3 @@
-use Rattle.std.proofs.lemmas.Result.{IfOk-weaker}
 use Rattle.wcp_sketch.proofs.Found.{may_split, has_members, order_within, order_fit, order_few}
 use Rattle.wcp_sketch.proofs.sketching.sketch_in_order.Goals as goal
 
@@ -32,12 +31,13 @@ draw-requires c =
     }
 
 pub returns : goal.returns
-returns c = IfOk-weaker c.draw.result _ _ (λ text drawn. record {
+returns c = record {
   order = c.args.order.now;
   fit = c.requires.fit;
   outcome = c.in_ok-outcome.outcome;
   is_outcome = rw c.requires.names c.in_ok-outcome.ensures;
   layout = c.in_ok-layout.layout;
   is_layout = rw c.requires.names (rw c.cut_of-cut.ensures at c.in_ok-layout.ensures);
-  drawn = rw c.cut_of-cut.ensures at drawn;
-}) c.draw.ensures
+  drawn = rw c.cut_of-cut.ensures at c.in_ok-text.ensures;
+  found_is = rw c.cut_of-cut.ensures at c.is_some.ensures;
+}
