@@ -1,0 +1,13 @@
+use Rattle.std.specs.Prelude.{ℕ, ◌≤◌, List, Option, length}
+use Rattle.std.specs.Io.KnownBytes.{Consumes, IsAtEnd}
+use Rattle.wcp_clock.specs.Limits.{most_bytes}
+
+-- What is known of the bytes that a reader has left, or of those that a writer holds.
+abbrev pub Known : Type 0
+Known = Option (List ℕ)
+
+-- The text is the whole input, and no longer than a text may be.
+pub record IsInput (input input_after : Known) (text : List ℕ) : Type 0 where
+  pub consumed : Consumes input input_after text
+  pub ended : IsAtEnd input_after
+  pub within : length text ≤ most_bytes
