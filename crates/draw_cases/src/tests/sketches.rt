@@ -7,11 +7,7 @@ use wcp_script::{FaultKind, ScriptFault};
 use wcp_sketch::{Picture, SketchFault, sketch};
 
 /// The picture of a text of processes with these names.
-fn picture(
-    alloc: Global,
-    names: Option<&str>,
-    text: &[u8],
-) -> Result<Picture, SketchFault> {
+fn picture(alloc: Global, names: Option<&str>, text: &[u8]) -> Result<Picture, SketchFault> {
     match sketch(alloc, names, text) {
         Err(SketchFault::Memory) => sketch(alloc, names, text),
         answer => answer,
@@ -61,5 +57,8 @@ fn a_text_with_a_fault(rt: HostRuntime) {
         kind: FaultKind::Process,
     };
     let text = b"wcp 1\nprocs 2\np 0 true\np 0 send 2\n";
-    assert_eq!(rt; why(rt.alloc(), "a", text), Some(SketchFault::Script(fault)));
+    assert_eq!(rt;
+        why(rt.alloc(), "a", text),
+        Some(SketchFault::Script(fault))
+    );
 }

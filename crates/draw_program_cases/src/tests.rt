@@ -1,0 +1,5 @@
+mod answers;
+mod failures;
+mod faults;
+mod runs;
+mod streams;
