@@ -1,6 +1,5 @@
 mod Imports
 mod FoundWords
-mod Fronts
 mod NoRingWords
 mod NumberWords
 mod Requests

@@ -1,8 +1,10 @@
-use Rattle.std.specs.Prelude.{◌≡◌, ℕ, List, take, Result, Ok, Err}
+use Rattle.std.specs.Prelude.{◌≡◌, ℕ, List, Result, Ok, Err}
 use Rattle.std.specs.Io.KnownBytes.{Appends, Keeps}
+use Rattle.wcp_input.specs.Input.{Known}
+use Rattle.wcp_output.specs.Fronts.{AppendsFront}
 use Rattle.wcp_cli.specs.declared.fault.Fault.{Fault}
 use Rattle.wcp_cli.specs.declared.words.Request.{Request}
-use Rattle.wcp_cli.specs.RequestAnswers.{IsAnswerTo, Known, Reads}
+use Rattle.wcp_cli.specs.RequestAnswers.{IsAnswerTo, Reads}
 use Rattle.wcp_cli.specs.Words.{HasRing, IsSameRequest}
 
 -- The input and the output of the program, each before and after.
@@ -20,10 +22,6 @@ edge_of input input_after output output_after = record {
   output = output;
   output_after = output_after;
 }
-
--- Known bytes grow by a front of a text.
-abbrev pub AppendsFront : Known → Known → List ℕ → Type 0
-AppendsFront old new text = (count : ℕ) × Appends old new (take count text)
 
 -- The program does this request at its edge, with this status: it writes the answer whole; or, where a write failed, a
 -- front of the answer, with status 2; or, where there is no answer, nothing, with status 2.

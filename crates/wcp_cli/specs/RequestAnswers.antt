@@ -1,7 +1,7 @@
-use Rattle.std.specs.Prelude.{◌≡◌, ℕ, ◌≤◌, Bool, List, [], ◌∷◌, ◌++◌, Option, length, string_bytes, codes}
+use Rattle.std.specs.Prelude.{◌≡◌, ℕ, Bool, List, [], ◌∷◌, ◌++◌, string_bytes, codes}
 use Rattle.std.specs.List.{flat_map}
-use Rattle.std.specs.Io.KnownBytes.{Keeps, Consumes, IsAtEnd}
-use Rattle.wcp_clock.specs.Limits.{most_bytes}
+use Rattle.std.specs.Io.KnownBytes.{Keeps}
+use Rattle.wcp_input.specs.Input.{IsInput, Known}
 use Rattle.wcp_model.specs.declared.outcome.Outcome.{Outcome}
 use Rattle.wcp_model.specs.declared.outcome.Report.{Report}
 use Rattle.wcp_model.specs.declared.outcome.Report.TheVariants.{Found, Nothing, Undecided}
@@ -21,10 +21,6 @@ use Rattle.wcp_script.specs.WorkloadText.{task_line}
 use Rattle.wcp_world.specs.Plays.{IsPlayed}
 use Rattle.wcp_cli.specs.declared.words.Request.{Request}
 use Rattle.wcp_cli.specs.declared.words.Request.TheVariants.{Single, Run, Replay, Ring, Help, Version, Unknown}
-
--- What is known of the bytes that a reader has left, or of those that a writer holds.
-abbrev pub Known : Type 0
-Known = Option (List ℕ)
 
 -- The exit status after a report: 0 where a bad moment was found.
 abbrev pub status_of : Report → ℕ
@@ -63,12 +59,6 @@ ring_text n rounds fault = opening_text n ++ flat_map task_line (ring_tasks n ro
 -- a line each.
 abbrev pub version_text : List ℕ
 version_text = codes "wcpwatch 0.1.0" ++ line_feed ∷ codes "rattle-kit-13f logic dac8208d650f15bf" ++ line_feed ∷ []
-
--- The text is the whole input, and no longer than a text may be.
-pub record IsInput (input input_after : Known) (text : List ℕ) : Type 0 where
-  pub consumed : Consumes input input_after text
-  pub ended : IsAtEnd input_after
-  pub within : length text ≤ most_bytes
 
 -- The answer to a request is printed, with its status. `single`, `run` and `replay` answer to their whole input, the
 -- first two alike, and the others read nothing: a ring's answer is its text, the answer to a request for help is the

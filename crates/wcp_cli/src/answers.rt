@@ -6,12 +6,12 @@ ghost use Rattle.wcp_cli.specs.Words.{HasRing, IsRing};
 
 use crate::fault::Fault;
 use crate::help;
-use crate::input::read_text;
 use crate::words::{Request, Ring};
 use std::alloc::Global;
 use std::io::Read;
 use std::sync::Wait;
 use std::thread::Threads;
+use wcp_input::read_text;
 use wcp_model::{Outcome, Report};
 use wcp_report::{replay_text, report_text};
 use wcp_run::run;

@@ -1,9 +1,11 @@
 ghost use Rattle.std.specs.Prelude.{◌≡◌};
-ghost use Rattle.wcp_cli.specs.declared.fault.Fault.TheVariants.{Memory, Run};
-ghost use Rattle.wcp_cli.specs.Faults.{fault_of_read};
+ghost use Rattle.wcp_cli.specs.declared.fault.Fault.TheVariants.{Memory, Run, Write};
+ghost use Rattle.wcp_cli.specs.Faults.{fault_of_input, fault_of_read};
 
 use std::alloc::AllocError;
 use thiserror::Error;
+use wcp_input::ReadTextFault;
+use wcp_output::WriteFailed;
 use wcp_run::RunFault;
 use wcp_script::{ReadFault, ScriptFault};
 
@@ -39,6 +41,26 @@ impl From<AllocError> for Fault {
 
     fn from(_error: AllocError) -> Fault {
         Fault::Memory
+    }
+}
+
+impl From<ReadTextFault> for Fault {
+    ghost from_gives = { λ fault given. given ≡ fault_of_input fault };
+
+    fn from(fault: ReadTextFault) -> Fault {
+        match fault {
+            ReadTextFault::Read => Fault::Read,
+            ReadTextFault::TooLarge => Fault::TooLarge,
+            ReadTextFault::Memory => Fault::Memory,
+        }
+    }
+}
+
+impl From<WriteFailed> for Fault {
+    ghost from_gives = { λ _ given. given ≡ Write };
+
+    fn from(_error: WriteFailed) -> Fault {
+        Fault::Write
     }
 }
 

@@ -15,8 +15,6 @@
 mod answers;
 mod fault;
 mod help;
-mod input;
-mod output;
 mod program;
 mod words;
 

@@ -6,12 +6,12 @@ ghost use Rattle.wcp_cli.specs.Words.{AskFor, HasRing};
 
 use crate::answers::answer_to;
 use crate::fault::Fault;
-use crate::output::write_whole;
 use crate::words::{Request, read_words};
 use std::convert::AsStr;
 use std::io::{Read, Write};
 use std::sync::Wait;
 use std::thread::Threads;
+use wcp_output::write_whole;
 
 /// The status where there is no answer.
 const REFUSED: u8 = 2;

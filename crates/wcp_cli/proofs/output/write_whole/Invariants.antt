@@ -1,8 +1,0 @@
-use Rattle.wcp_cli.proofs.Imports.{◌≤◌, length, take, Appends}
-use Rattle.wcp_cli.proofs.output.write_whole.Given as goal
-
-abbrev pub invariant-loop : goal.invariant-loop
-invariant-loop g l = record {
-  written : Appends (g.W.Write.contents l.fn.output) (g.W.Write.contents l.output) (take l.written l.text);
-  within : l.written ≤ length l.text;
-}
