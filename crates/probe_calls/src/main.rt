@@ -20,6 +20,7 @@ fn probes(alloc: Global) -> Result<Vec<ProbeCore>, AllocError> {
             ProbeSetup {
                 processes: PROCS,
                 process: id,
+                watched: true,
             },
             CLOCK_LIMIT,
         ))?;

@@ -55,6 +55,7 @@ fn jobs(alloc: Global, sender: &Sender<Item>) -> Result<Vec<Job>, AllocError> {
                 ProbeSetup {
                     processes: 16,
                     process: id,
+                    watched: true,
                 },
                 CLOCK_LIMIT,
             ),

@@ -8,7 +8,7 @@ use std::thread::{Threads, join, map_vec};
 use std::time::{Clock, Duration};
 use std::{io, thread};
 use wcp_lane::Taker;
-use wcp_model::{Parent, Plan, plain_plan};
+use wcp_model::{Parent, Plan, Watched, plain_plan};
 use wcp_tree::{Bundle, LiveProbe, Relay, Watch, watch};
 
 /// How many items the hold of each relay has room for.
@@ -133,7 +133,7 @@ pub fn eight_leaves<R: Threads + Wait + Clock + Sync>(
         attach.push(Some(leaf))?;
         attach.push(Some(leaf))?;
     }
-    let plan = Plan::new(16, ROOM, HOLD, parents, attach);
+    let plan = Plan::new(16, ROOM, HOLD, parents, attach, Watched::all(16));
     if plan.check().is_err() {
         return Ok(Taken::nothing());
     }

@@ -63,6 +63,7 @@ fn one_ring<R: Clock>(rt: &R, alloc: Global, word: &str, snapshots: u32) -> io::
         ProbeSetup {
             processes: 16,
             process: 15,
+            watched: true,
         },
         CLOCK_LIMIT,
     );

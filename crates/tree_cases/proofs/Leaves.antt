@@ -6,7 +6,7 @@ use Rattle.std.specs.FinSet as set
 use Rattle.std.proofs.lemmas.Bool.Decides.{nat_tests}
 use Rattle.std.proofs.lemmas.Grind.{common_steps}
 use Rattle.wcp_lane.specs.Passes.{Numbers}
-use Rattle.wcp_lane.proofs.Marks.{contains_with}
+use Rattle.wcp_clock.proofs.Marks.{contains_with}
 use Rattle.wcp_tree.specs.declared.feed.Feed.{Feed}
 use Rattle.wcp_tree.specs.Feeding.{IsNewFeed, processes_of}
 

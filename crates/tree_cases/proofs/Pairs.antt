@@ -9,7 +9,7 @@ use Rattle.wcp_clock.specs.declared.note.Item.{Item}
 use Rattle.wcp_clock.specs.Notes.{place_of, is_last}
 use Rattle.wcp_model.specs.LaneRule.{IsNext}
 use Rattle.wcp_lane.specs.Ends.{LaneName, PutEnd, new_putter}
-use Rattle.wcp_lane.proofs.Marks.{contains_with}
+use Rattle.wcp_clock.proofs.Marks.{contains_with}
 use Rattle.wcp_tree.specs.Feeding.{items_of}
 use Rattle.wcp_tree.specs.declared.bundle.Bundle.{Bundle}
 use Rattle.wcp_tree.proofs.Accepting.{ItemMayFollow}

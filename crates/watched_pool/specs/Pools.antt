@@ -1,18 +1,25 @@
 -- What a run of a pool tells.
-use Rattle.std.specs.Prelude.{◌≡◌, ◌+◌, ◌*◌, ◌≤◌, ℕ, zero, suc, Some, IsSomeAnd, List, [], ◌∷◌, ◌++◌, length}
+use Rattle.std.specs.Prelude.{◌≡◌, ◌+◌, ◌*◌, ◌≤◌, ℕ, zero, suc, true, Some, IsSomeAnd, List, [], ◌∷◌, ◌++◌, length}
 use Rattle.std.specs.Prelude.{slice_get}
 use Rattle.std.specs.List.{sum_by}
 use Rattle.wcp_clock.specs.declared.note.Item.{Item}
-use Rattle.wcp_model.specs.ProbeLog.{Call, Closed, setup, state_of_log}
+use Rattle.wcp_clock.specs.ProcessNumbers.{NumberSet}
+use Rattle.wcp_model.specs.ProbeLog.{Call, Closed, state_of_log}
+use Rattle.wcp_model.specs.Watched.{AreAllWatched}
+use Rattle.wcp_model.specs.declared.probe_setup.ProbeSetup.{ProbeSetup}
 use Rattle.wcp_model.specs.Report.{IsDrained, IsReportByClocks, notes_taken}
 use Rattle.wcp_tree.specs.LiveProbe.{snapshots_in}
 use Rattle.watched_pool.specs.declared.dispatcher.Pace.{Pace}
 use Rattle.watched_pool.specs.declared.pool.PoolReport.{PoolReport}
 use Rattle.watched_pool.specs.Logs.{IsReplicaLog, IsDispatcherLog, most_unanswered}
 
+-- What the probe of process p of n is made with: each process of a pool is watched.
+abbrev pub pool_setup : ℕ → ℕ → ProbeSetup
+pool_setup n p = record { processes = n; process = p; watched = true }
+
 -- What was taken of process p of n is all that its probe emits where it makes these calls and then closes.
 abbrev pub IsLogTaken : ℕ → List Item → ℕ → List Call → Type 0
-IsLogTaken n items p log = notes_taken p items ≡ (state_of_log (setup n p) (log ++ Closed ∷ [])).notes
+IsLogTaken n items p log = notes_taken p items ≡ (state_of_log (pool_setup n p) (log ++ Closed ∷ [])).notes
 
 -- The jobs of process p, in a pool of so many replicas and rounds: the dispatcher gives them all out, and each replica
 -- does one in each round.
@@ -51,6 +58,8 @@ pub record IsPoolReport (replicas rounds : ℕ) (pace : Pace) (told : PoolReport
   pub shares : length told.shares.items ≡ replicas + 1
   pub tallies : length told.outcome.tallies ≡ replicas + 1
   pub drained : IsDrained (replicas + 1) items
-  pub exact : IsReportByClocks (replicas + 1) items told.outcome.report
+  pub watched : NumberSet
+  pub all_watched : AreAllWatched (replicas + 1) watched
+  pub exact : IsReportByClocks (replicas + 1) watched items told.outcome.report
   pub emitted : told.totals.emitted ≡ sum_by (λ tally. tally.emitted) told.outcome.tallies
   pub taken : told.totals.taken ≡ sum_by (λ tally. tally.taken) told.outcome.tallies

@@ -1,16 +1,18 @@
 ghost use Rattle.std.specs.Prelude.{◌≡◌, IfOk};
 ghost use Rattle.watched_pool.specs.Members.{IsPool};
+ghost use Rattle.wcp_model.specs.Watched.{AreAllWatched};
 
 use crate::dispatcher::{Dispatcher, Pace, Partner, Partners, REPLICAS};
 use crate::member::Member;
 use crate::replica::Replica;
 use crossbeam_channel::bounded;
 use std::alloc::{AllocError, Global};
-use wullaphi::{Parent, Plan};
+use wullaphi::{Parent, Plan, Watched};
 
 /// Two leaf relays under another: the one serves the dispatcher and replica 1, the other replicas 2 and 3.
 pub(crate) fn pool_plan(alloc: Global) -> Result<Plan, AllocError>
-    ensures { IfOk result (λ plan. plan.n ≡ 4) }
+    ensures processes { IfOk result (λ plan. plan.n ≡ 4) }
+    ensures watched { IfOk result (λ plan. AreAllWatched 4 plan.watched) }
 {
     Ok(Plan::new(
         4,
@@ -18,6 +20,7 @@ pub(crate) fn pool_plan(alloc: Global) -> Result<Plan, AllocError>
         4,
         vec![in alloc; Parent::Root, Parent::Relay(0), Parent::Relay(0)]?,
         vec![in alloc; Some(1), Some(1), Some(2), Some(2)]?,
+        Watched::all(4),
     ))
 }
 

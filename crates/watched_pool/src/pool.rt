@@ -2,7 +2,7 @@
 ghost use Rattle.std.specs.Prelude.{◌≡◌, map, IfOk, Ok};
 ghost use Rattle.watched_pool.specs.Members.{LeavesPart};
 ghost use Rattle.watched_pool.specs.Pools.{IsPoolReport};
-ghost use Rattle.wullaphi.specs.Watched.{IsWatched};
+ghost use Rattle.wullaphi.specs.WatchOutcomes.{IsWatchOutcome};
 
 use crate::dispatcher::{Pace, REPLICAS};
 use crate::job::Numbers;
@@ -14,7 +14,7 @@ use std::sync::atomic::{AtomicBool, Ordering};
 use std::sync::{Mutex, Wait};
 use std::thread::{Threads, join, sleep};
 use std::time::{Clock, Duration};
-use wullaphi::{Book, Outcome, Plan, Tally, WatchFault, Watched, watch_processes};
+use wullaphi::{Book, Outcome, Plan, Tally, WatchFault, WatchOutcome, watch_processes};
 
 /// The number of the watch: stamps of another one are refused.
 const WATCH: u64 = 1;
@@ -66,16 +66,16 @@ fn watch_and_read<R: Threads + Wait + Clock + Sync>(
     watch: u64,
     members: Vec<Member>,
     numbers: &Numbers,
-) -> Result<(Watched<Result<Share, Stop>>, Tally), WatchFault>
-    ensures { IfOk result (λ run. IsWatched LeavesPart watch plan.now.n members.items run.0) }
+) -> Result<(WatchOutcome<Result<Share, Stop>>, Tally), WatchFault>
+    ensures { IfOk result (λ run. IsWatchOutcome LeavesPart watch plan.now members.items run.0) }
 {
     let book = Mutex::new(Book::new(REPLICAS + 1));
     let ended = AtomicBool::new(false);
     let (seen, watched) = join(
         rt,
         || last_totals(rt, &book, &ended),
-        || -> Result<Watched<Result<Share, Stop>>, WatchFault>
-            ensures { IfOk result (IsWatched LeavesPart watch plan.entry.now.n members.items) }
+        || -> Result<WatchOutcome<Result<Share, Stop>>, WatchFault>
+            ensures { IfOk result (IsWatchOutcome LeavesPart watch plan.entry.now members.items) }
         {
             let watched = watch_processes(rt, alloc, plan, watch, members, numbers, &book);
             ended.store(true, Ordering::SeqCst);

@@ -59,10 +59,13 @@ fn push_shares(text: &mut String, run: &PoolReport) -> Result<(), AllocError> {
 fn push_moment(text: &mut String, cut: &GlobalCut) -> Result<(), AllocError> {
     text.push_str("the replicas were all at work at once:")?;
     for replica in 1..cut.len() {
-        let round = cut.get(replica) / 2;
-        let job = u64::from(round) * u64::from(REPLICAS) + u64::from(replica);
-        write!(text, " replica {replica} on job {job},")?;
+        if let Some(events) = cut.get(replica) {
+            let job = u64::from(events / 2) * u64::from(REPLICAS) + u64::from(replica);
+            write!(text, " replica {replica} on job {job},")?;
+        }
     }
-    let events = cut.get(0);
-    writeln!(text, " after {events} sends and receives of the dispatcher")
+    match cut.get(0) {
+        Some(events) => writeln!(text, " after {events} sends and receives of the dispatcher"),
+        None => writeln!(text, " whatever the dispatcher did"),
+    }
 }

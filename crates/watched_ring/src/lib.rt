@@ -25,8 +25,7 @@ pub fn run_program<R: Threads + Wait + Env + Print + AllocGlobal + Sync>(rt: &R)
             Report::Found(cut) => {
                 print!(rt; "workers {a} and {b} held a token at once")?;
                 for worker in 0..cut.len() {
-                    if worker == a || worker == b {
-                        let messages = cut.get(worker);
+                    if let Some(messages) = cut.get(worker) {
                         print!(rt; ", worker {worker} after {messages} of its messages")?;
                     }
                 }

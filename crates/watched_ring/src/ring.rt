@@ -4,7 +4,7 @@ use crossbeam_channel::bounded;
 use std::alloc::Global;
 use std::sync::{Mutex, Wait};
 use std::thread::Threads;
-use wullaphi::{Book, Report, plain_plan, watch_processes};
+use wullaphi::{Book, Report, Watched, plain_plan, watch_processes};
 
 const ROUNDS: u32 = 2;
 
@@ -23,7 +23,6 @@ pub(crate) fn run_ring<R: Threads + Wait + Sync>(
     let mut workers = Vec::with_capacity(alloc, 3)?;
     for (id, inbox, next, outbox) in [(0, at_0, 1, to_1), (1, at_1, 2, to_2), (2, at_2, 0, to_0)] {
         workers.push(Worker {
-            asked: id == a || id == b,
             lets_in: if id == 0 { tokens } else { 0 },
             token: Token(3 * ROUNDS),
             turns: tokens * ROUNDS,
@@ -32,11 +31,23 @@ pub(crate) fn run_ring<R: Threads + Wait + Sync>(
             outbox,
         })?;
     }
-    let plan = plain_plan(alloc, 3, 8, 4)?;
+    let mut plan = plain_plan(alloc, 3, 8, 4)?;
+    plan.watched = pair(a, b);
     let book = Mutex::new(Book::new(3));
     let watched = watch_processes(rt, alloc, &plan, 1, workers, &(), &book)?;
     for answer in watched.answers {
         answer?;
     }
     Ok(watched.outcome.report)
+}
+
+/// Workers `a` and `b` of the three.
+fn pair(a: u32, b: u32) -> Watched {
+    let mut pair = Watched::none();
+    for worker in 0..3 {
+        if worker == a || worker == b {
+            pair = pair.with(worker);
+        }
+    }
+    pair
 }

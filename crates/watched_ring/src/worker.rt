@@ -7,10 +7,9 @@ use wullaphi::{LentProbe, Loan, Process, Stamped};
 #[derive(Clone, Copy)]
 pub(crate) struct Token(pub(crate) u32);
 
-/// A worker of the ring. Its condition is that it holds a token where we ask about it; else it is always true.
+/// A worker of the ring. Its condition is that it holds a token.
 #[derive(Drop)]
 pub(crate) struct Worker {
-    pub(crate) asked: bool,
     /// How often it lets in its token.
     pub(crate) lets_in: u32,
     pub(crate) token: Token,
@@ -32,12 +31,12 @@ impl Process for Worker {
             self.hold(rt, probe, self.token)?;
         }
         for _ in 0..self.turns {
-            probe.observe(rt, !self.asked);
+            probe.observe(rt, false);
             let message = self.inbox.recv(rt)?;
             let token = probe.receive(message).map_err(|(refusal, _)| refusal)?;
             self.hold(rt, probe, token)?;
         }
-        probe.observe(rt, !self.asked);
+        probe.observe(rt, false);
         Ok(())
     }
 }

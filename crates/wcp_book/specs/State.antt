@@ -1,4 +1,5 @@
 use Rattle.std.specs.Prelude.{ℕ, Bool, ◌||◌, is_some, Option, List}
+use Rattle.wcp_model.specs.Cut.{Intervals}
 use Rattle.wcp_model.specs.declared.outcome.Tally.{Tally}
 use Rattle.wcp_book.specs.declared.news.News.{News}
 use Rattle.wcp_book.specs.declared.news.News.TheVariants.{Told, Awaited}
@@ -7,7 +8,7 @@ use Rattle.wcp_book.specs.declared.news.News.TheVariants.{Told, Awaited}
 -- and whether it has ended: nothing more will be told.
 pub record BookState : Type 0 where
   pub shares : List (Option Tally)
-  pub found : Option (List ℕ)
+  pub found : Option Intervals
   pub ended : Bool
 
 -- There is news of it: a cut was told, or it has ended.

@@ -161,11 +161,14 @@ The head of a text
       relay R root    relay R = 0, 1, 2, .. up to 14 passes on to the checker; or
                       `relay R S`: it passes on to relay S, and S is below R
       attach P R      relay R takes from process P; P = 0, 1, 2, .. up to N - 1
+      watch P Q ..    only the processes P, Q, .. have a condition, in rising order;
+                      without this line all of them do
 
   With no relay lines one relay takes from all processes and passes on to the checker.
   A relay takes from processes alone or from relays alone, and each from one at least;
-  there are at most 8 relays on the way to the checker. Each line ends in a line feed,
-  and its words are separated by one space.
+  there are at most 8 relays on the way to the checker. A process without a condition
+  only passes messages on: it emits nothing, and stands as `-` in the line `found`. Each
+  line ends in a line feed, and its words are separated by one space.
 
   Mistakes that are easily made: a last line without its line feed, a tab in place of a
   space, and a misspelled word are `line L: line`. A byte order mark before the text, or

@@ -1,5 +1,5 @@
 ghost use Rattle.std.specs.Prelude.{◌≡◌, ◌+◌, ◌<◌, ◌≤◌, ◌↔◌, length, replicate, slice_index, slice_set, IsTrue};
-ghost use Rattle.std.specs.Prelude.{IsNone, IfSome, nat_eq};
+ghost use Rattle.std.specs.Prelude.{All, IsNone, IfSome, map, nat_eq};
 ghost use Rattle.std.specs.Cmp.{partial_equiv_from_equiv};
 ghost use Rattle.std.specs.Cmp.Lexicographic.{pointwise, nat_list_eq_equiv};
 ghost use Rattle.wcp_clock.specs.Limits.{most_processes};
@@ -82,6 +82,21 @@ impl Clock {
     {
         Clock {
             components: self.components.merge(&other.components),
+        }
+    }
+
+    /// The components of these processes, in their order.
+    pub fn restrict(&self, processes: &PerProcess<u32>) -> Clock
+        requires { All (λ p. p < most_processes) processes.now }
+        ensures { result ≡ map (slice_index self.now) processes.now }
+    {
+        let count = processes.len() as usize;
+        let mut known = [0; MAX_PROCS];
+        for (place, p) in processes.values().iter().enumerate() {
+            known[place] = self.get(*p);
+        }
+        Clock {
+            components: PerProcess::new(&known[..count]),
         }
     }
 

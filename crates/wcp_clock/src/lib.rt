@@ -9,6 +9,7 @@ mod clock;
 mod limits;
 mod note;
 mod per_process;
+mod process_set;
 
 pub use clock::Clock;
 pub use limits::{
@@ -17,3 +18,4 @@ pub use limits::{
 };
 pub use note::{Item, Note};
 pub use per_process::{Padding, PerProcess};
+pub use process_set::ProcessSet;

@@ -1,4 +1,4 @@
-ghost use Rattle.std.specs.Prelude.{◌≡◌, ◌<◌, ◌≤◌, length, slice_get, slice_index, slice_index_or, Some};
+ghost use Rattle.std.specs.Prelude.{◌≡◌, ◌<◌, ◌≤◌, length, slice_get, slice_index, slice_index_or, Some, None};
 ghost use Rattle.wcp_clock.specs.Limits.{most_processes};
 ghost use Rattle.wcp_clock.specs.Merge.{merged};
 
@@ -19,6 +19,14 @@ impl Padding for u32 {
 
     fn padding() -> Self {
         0
+    }
+}
+
+impl Padding for Option<u32> {
+    ghost padding = { None };
+
+    fn padding() -> Self {
+        None
     }
 }
 

@@ -5,6 +5,7 @@ use Rattle.std.specs.List.{flat_map, slice_index_or}
 use Rattle.wcp_model.specs.declared.workload.Action.{Action}
 use Rattle.wcp_model.specs.declared.workload.Action.TheVariants as action
 use Rattle.wcp_model.specs.declared.workload.Task.{Task}
+use Rattle.wcp_model.specs.Cut.{Intervals}
 use Rattle.wcp_layout.specs.Rows.{row_at}
 use Rattle.wcp_layout.specs.declared.layout.Layout.{Layout}
 use Rattle.wcp_draw.specs.declared.frame.Frame.{Frame}
@@ -36,20 +37,25 @@ unfoldable pub head_text : Frame → List ℕ
 head_text frame =
     size_text (across frame (frame.base + frame.columns + 1) + 24) (down frame frame.n + 8) ++ ground_text
 
+-- A space, and the interval that a cut names of a process: `-` where it names none.
+abbrev pub interval_text : Option ℕ → List ℕ
+interval_text None = codes " -"
+interval_text (Some interval) = 32 ∷ decimal interval
+
 -- The intervals of a cut.
-abbrev pub intervals_text : List ℕ → List ℕ
-intervals_text cut = flat_map (λ interval. 32 ∷ decimal interval) cut
+abbrev pub intervals_text : Intervals → List ℕ
+intervals_text cut = flat_map interval_text cut
 
 -- The word before the intervals of a cut.
 unfoldable pub opening_text : List ℕ
 opening_text = codes "<text x=\"14\" y=\"22\" font-size=\"13\" fill=\"#222\">found"
 
 -- The state of each process in the cut.
-unfoldable pub members_text : List ℕ → List ℕ
+unfoldable pub members_text : Intervals → List ℕ
 members_text cut = opening_text ++ (intervals_text cut ++ codes "</text>\n")
 
 -- What was found: the cut, or that there is none.
-abbrev pub found_text : Option (List ℕ) → List ℕ
+abbrev pub found_text : Option Intervals → List ℕ
 found_text None = codes "<text x=\"14\" y=\"22\" font-size=\"13\" fill=\"#222\">none</text>\n"
 found_text (Some cut) = members_text cut
 
@@ -61,10 +67,10 @@ begin_of events k = if k == 0 then 0 else slice_index events (k - 1)
 abbrev pub end_of : List ℕ → ℕ → ℕ
 end_of events k = slice_index_or events k 4294967295
 
--- The member of the cut of process p, where there is a cut.
-abbrev pub member_of : Option (List ℕ) → ℕ → Option ℕ
+-- The member of the cut of process p, where there is a cut and it names one.
+abbrev pub member_of : Option Intervals → ℕ → Option ℕ
 member_of None p = None
-member_of (Some cut) p = Some (slice_index cut p)
+member_of (Some cut) p = slice_index_or cut p None
 
 -- The true states of process p, which has events in these columns.
 unfoldable pub states_text : Frame → ℕ → List ℕ → Option ℕ → List ℕ → List ℕ
@@ -72,7 +78,7 @@ states_text frame p events member truths =
     flat_map (λ k. state_text frame p k (begin_of events k) (end_of events k) member) truths
 
 -- Process p: its name, its line, and its true states.
-unfoldable pub process_text : Frame → Layout → Option (List ℕ) → ℕ → List ℕ → List ℕ
+unfoldable pub process_text : Frame → Layout → Option Intervals → ℕ → List ℕ → List ℕ
 process_text frame layout cut p name =
     name_text frame p name ++ (axis_text frame p
     ++ states_text frame p (row_at layout.events.items p) (member_of cut p) (row_at layout.truths.items p))
@@ -94,12 +100,17 @@ message_text frame order layout place =
 unfoldable pub dots_text : Frame → Layout → ℕ → List ℕ
 dots_text frame layout p = flat_map (dot_text frame p) (row_at layout.events.items p)
 
+-- The number of the member of process p that the line of the cut crosses, where there is one.
+abbrev pub crossed_text : Frame → ℕ → ℕ → Option ℕ → List ℕ
+crossed_text frame line p None = []
+crossed_text frame line p (Some member) = number_text frame line p member
+
 -- The states of the cut that its line crosses.
-abbrev pub numbers_text : Frame → ℕ → List ℕ → List ℕ
-numbers_text frame line cut = texts_to (λ p. number_text frame line p (slice_index cut p)) frame.n
+abbrev pub numbers_text : Frame → ℕ → Intervals → List ℕ
+numbers_text frame line cut = texts_to (λ p. crossed_text frame line p (slice_index_or cut p None)) frame.n
 
 -- The line of the cut, and the states of the cut that it crosses, where there is a cut.
-unfoldable pub cut_text : Frame → ℕ → Option (List ℕ) → List ℕ
+unfoldable pub cut_text : Frame → ℕ → Option Intervals → List ℕ
 cut_text frame line None = []
 cut_text frame line (Some cut) = line_text frame line ++ numbers_text frame line cut
 
@@ -125,7 +136,7 @@ left_out_text frame left right =
 
 -- The picture of a computation in a frame: what was found, each process with its name, its line and its true states,
 -- the arrows of the messages, the dots of the events, the line of the cut, and what is left out.
-unfoldable pub picture_text : Frame → List (List ℕ) → List Task → Layout → Option (List ℕ) → List ℕ
+unfoldable pub picture_text : Frame → List (List ℕ) → List Task → Layout → Option Intervals → List ℕ
 picture_text frame names order layout cut =
     head_text frame ++ (found_text cut
     ++ (texts_to (λ p. process_text frame layout cut p (row_at names p)) frame.n

@@ -5,8 +5,8 @@ ghost use Rattle.wcp_clock.specs.Limits.{most_processes, most_steps};
 ghost use Rattle.wcp_draw.specs.Frame.{IsFrame};
 ghost use Rattle.wcp_draw.specs.Picture.{cut_text, dots_text, found_text, head_text, left_of, left_out_text};
 ghost use Rattle.wcp_draw.specs.Picture.{members_text, message_text, numbers_text, picture_text, process_text};
-ghost use Rattle.wcp_draw.specs.Picture.{counts_text, ground_text, intervals_text, opening_text, size_text};
-ghost use Rattle.wcp_draw.specs.Picture.{received_text, right_of, texts_to};
+ghost use Rattle.wcp_draw.specs.Picture.{counts_text, crossed_text, ground_text, interval_text, intervals_text};
+ghost use Rattle.wcp_draw.specs.Picture.{opening_text, received_text, right_of, size_text, texts_to};
 ghost use Rattle.wcp_layout.specs.Layout.{IsLayout};
 ghost use Rattle.wcp_layout.specs.Messages.{AreSends};
 ghost use Rattle.wcp_layout.specs.Rows.{row_at};
@@ -91,10 +91,19 @@ fn push_intervals(text: &mut String, cut: &GlobalCut) -> Result<(), AllocError>
     ensures { OnOk result (string_bytes text.new ≡ string_bytes text.old ++ intervals_text cut.now) }
 {
     for p in 0..cut.len() {
-        let interval = cut.get(p);
-        write!(text, " {interval}")?;
+        push_interval(text, cut.get(p))?;
     }
     Ok(())
+}
+
+/// The interval that a cut names of a process, or `-` where it names none.
+fn push_interval(text: &mut String, interval: Option<u32>) -> Result<(), AllocError>
+    ensures { OnOk result (string_bytes text.new ≡ string_bytes text.old ++ interval_text interval) }
+{
+    match interval {
+        None => text.push_str(" -"),
+        Some(interval) => write!(text, " {interval}"),
+    }
 }
 
 /// The processes, one below another.
@@ -175,6 +184,24 @@ fn push_events(text: &mut String, frame: &Frame, layout: &Layout) -> Result<(), 
     Ok(())
 }
 
+/// The number of the member of process `p` that the line crosses, where there is one.
+fn push_crossed(
+    text: &mut String,
+    frame: &Frame,
+    line: u32,
+    p: u32,
+    member: Option<u32>,
+) -> Result<(), AllocError>
+    requires { p < frame.now.n }
+    ensures { OnOk result
+        (string_bytes text.new ≡ string_bytes text.old ++ crossed_text frame.now line p member) }
+{
+    match member {
+        None => Ok(()),
+        Some(member) => push_number(text, frame, line, p, member),
+    }
+}
+
 /// The states of the cut that the line crosses.
 fn push_numbers(
     text: &mut String,
@@ -187,7 +214,7 @@ fn push_numbers(
         (string_bytes text.new ≡ string_bytes text.old ++ numbers_text frame.now line cut.now) }
 {
     for p in 0..frame.n {
-        push_number(text, frame, line, p, cut.get(p))?;
+        push_crossed(text, frame, line, p, cut.get(p))?;
     }
     Ok(())
 }

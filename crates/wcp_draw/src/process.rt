@@ -33,14 +33,14 @@ fn end_of(events: &[u32], k: u32) -> u32
     }
 }
 
-/// The member of the cut of process `p`, where there is a cut.
+/// The member of the cut of process `p`, where there is a cut and it names one.
 fn member_of(cut: &Option<GlobalCut>, p: u32) -> Option<u32>
     requires { MatchOption cut.now (Unit {0}) (λ cut. p < length cut) }
     ensures { result ≡ member_of cut.now p }
 {
     match cut {
         None => None,
-        Some(cut) => Some(cut.get(p)),
+        Some(cut) => cut.get(p),
     }
 }
 

@@ -2,7 +2,6 @@ mod Words
 pub mod Counting
 pub mod Hands
 pub mod Lists
-pub mod Marks
 pub mod NewPutters
 pub mod Sets
 pub mod Steps

@@ -13,10 +13,10 @@ pub use Rattle.std.specs.Prelude.{All, nat_eq, ◌==◌}
 pub use Rattle.wcp_clock.specs.Limits.{most_processes}
 pub use Rattle.wcp_lane.specs.Ends.{put_by, unowned_by, AreCounts, IsSpanOf, LaneName, PutEnd, new_putter, lane_of, hand_of}
 pub use Rattle.wcp_lane.specs.Message.{AllMayFollow}
-pub use Rattle.wcp_lane.specs.Numbers.{set_of, contains-marks}
+pub use Rattle.wcp_clock.specs.Numbers.{set_of, contains-marks}
 pub use Rattle.wcp_lane.specs.MemberSets.{AreApart, ShareNone, AreMemberSets, IsCapacity, HasLaneFault}
 pub use Rattle.wcp_lane.specs.Passes.{Numbers, putter, taker, joined, with_put, with_taken, IsRest, IsBalanced, all_numbers, nobody, without, taken_of, put_of, IsPut, IsTaken, IsRuled}
-pub use Rattle.wcp_lane.specs.ProcessNumbers.{AreProcessNumbers}
+pub use Rattle.wcp_clock.specs.ProcessNumbers.{AreProcessNumbers}
 pub use Rattle.wcp_lane.specs.declared.passes.Hand.{Hand}
 pub use Rattle.wcp_model.specs.LaneRule.{items_from, IsNext, AreInSequence}
 pub use lib.ListN.{get_elem?}

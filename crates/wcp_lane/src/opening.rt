@@ -5,7 +5,7 @@ ghost use Rattle.std.specs.FinSet as set;
 ghost use Rattle.crossbeam_channel.specs.Ends.{sends_on};
 ghost use Rattle.crossbeam_channel.specs.Claims.{view, IsSeatAt};
 ghost use Rattle.wcp_clock.specs.Limits.{most_processes};
-ghost use Rattle.wcp_lane.specs.ProcessNumbers.{AreProcessNumbers};
+ghost use Rattle.wcp_clock.specs.ProcessNumbers.{AreProcessNumbers};
 ghost use Rattle.wcp_lane.specs.Passes.{taker, putter, without};
 ghost use Rattle.wcp_lane.specs.Ends.{new_putter, unowned_by, lane_of};
 ghost use Rattle.wcp_lane.specs.MemberSets.{AreApart, AreMemberSets, IsCapacity, IsFirstLaneFault};

@@ -28,7 +28,7 @@ impl<M: Origin> Model for Putter<M> {
     ghost use Rattle.crossbeam_channel.specs.Ends.{sends_on};
     ghost use Rattle.crossbeam_channel.specs.Claims.{IsSeatAt};
     ghost use Rattle.wcp_lane.specs.Passes.{putter};
-    ghost use Rattle.wcp_lane.specs.ProcessNumbers.{AreProcessNumbers};
+    ghost use Rattle.wcp_clock.specs.ProcessNumbers.{AreProcessNumbers};
     ghost use Rattle.wcp_lane.specs.Ends.{PutEnd, lane_of, hand_of, put_by, AreCounts};
     ghost use Rattle.std.specs.Coded.{codes};
     ghost use Rattle.wcp_lane.specs.Passes.{numbers_code};

@@ -44,7 +44,7 @@ module _ (order : List Task) where
       record { send = message.send; receive = message.receive; same_rank = sym message.same_number } in
       delivery_later fit delivery
 
-  same_send : (one other received : ℕ) → AreSendAndReceive order one received → AreSendAndReceive order other received
+  pub same_send : (one other received : ℕ) → AreSendAndReceive order one received → AreSendAndReceive order other received
       → one ≡ other
   same_send one other received first second =
       let same = same_Some _ _ (sym first.receive ∙ second.receive) in

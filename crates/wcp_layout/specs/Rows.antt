@@ -6,7 +6,7 @@ use Rattle.std.specs.List.Sorted.{IsStrictlyIncreasing}
 use Rattle.wcp_model.specs.declared.workload.Action.{Action}
 use Rattle.wcp_model.specs.declared.workload.Action.TheVariants as action
 use Rattle.wcp_model.specs.declared.workload.Task.{Task}
-use Rattle.wcp_model.specs.Computation.{AreTrueStates, communications, interval_at}
+use Rattle.wcp_model.specs.Computation.{Computation, IsTrueState, communications, interval_at}
 use Rattle.wcp_model.specs.WorkloadComputation.{computation_of}
 use Rattle.wcp_layout.specs.Events.{IsEventAt, is_event_of}
 
@@ -58,6 +58,11 @@ pub record AreEventColumns (n : ℕ) (order : List Task) (columns : List ℕ) (r
   pub events : (p : ℕ) → p < n → length (row_at rows p) ≡ communications (computation_of n order) p
   pub each : (p i : ℕ) → p < n → IsEventAt order p i →
       slice_index (row_at rows p) (interval_at (computation_of n order) p i) ≡ slice_index columns i
+
+-- The true states of a process, by rising interval.
+pub record AreTrueStates (c : Computation) (p : ℕ) (intervals : List ℕ) : Type 0 where
+  pub rising : IsStrictlyIncreasing intervals
+  pub each : (k : ℕ) → Contains intervals k ↔ IsTrueState c (record { process = p; interval = k })
 
 -- For each of n processes its true states.
 pub record AreTrueRows (n : ℕ) (order : List Task) (rows : List (List ℕ)) : Type 0 where

@@ -48,7 +48,7 @@ pub fn lay_out(
 {
     let intervals = intervals(alloc, n, order)?;
     let sent = sends(alloc, n, order)?;
-    let halves = halves(alloc, order, &intervals, cut)?;
+    let halves = halves(alloc, n, order, &intervals, &sent, cut)?;
     let Columns {
         of_tasks: columns,
         line,

@@ -1,6 +1,8 @@
 -- What a checked plan keeps.
-use Rattle.wcp_model.proofs.Words.{◌≡◌, ◌≢◌, ℕ, true, false, ◌<◌, ◌≤◌, length, take, get_or, slice_get, Option, Some, None, inr, refl, sym, ap, ◌∙◌, eqb-true, eq-eqb, arith, list_any, list_any_at, slice_get-get_or, slice_get_within, get_or_from_slice_get, most_processes, most_cap, most_hold, most_relays, Relay, Plan, IsCheckedPlan, is_number, is_leaf, leaf_of, parent_of}
+use Rattle.wcp_model.proofs.Words.{AreSomeWatched, cases_lt, cases_Bool, inl, ◌≡◌, ◌≢◌, ℕ, true, false, ◌<◌, ◌≤◌, length, take, get_or, slice_get, Option, Some, None, inr, refl, sym, ap, ◌∙◌, eqb-true, eq-eqb, arith, list_any, list_any_at, slice_get-get_or, slice_get_within, get_or_from_slice_get, most_processes, most_cap, most_hold, most_relays, Relay, Plan, IsCheckedPlan, is_number, is_leaf, leaf_of, parent_of}
+use Rattle.std.specs.FinSet as set
 use Rattle.std.specs.Option.{option_flatten}
+use Rattle.wcp_model.proofs.Decided.{Decided, some_below_decided, agree_decided}
 use Rattle.std.proofs.Math.Seq.{take-length}
 use Rattle.wcp_model.specs.declared.plan.PlanFault.TheVariants as fault
 
@@ -19,6 +21,29 @@ module _ (plan : Plan) (checked : IsCheckedPlan plan) where
 
   pub few_processes : plan.n ≤ most_processes
   few_processes = grind (arith, checked fault.Procs)
+
+  -- some of them are watched, and nobody else
+  pub some_watched : AreSomeWatched plan.n plan.watched
+  some_watched = record { some = some; within = within }
+    where
+      within : (p : ℕ) → set.contains plan.watched p ≡ true → p < plan.n
+      within p member = elim (cases_lt p plan.n) [
+        | inl below ↦ below
+        | inr past ↦ absurd (checked fault.Watched (inr (p, member, past)))
+      ]
+
+      decided : Decided ((p : ℕ) × (p < plan.n) × (set.contains plan.watched p ≡ true))
+      decided = some_below_decided (λ p. set.contains plan.watched p ≡ true) plan.n
+          (λ p below. agree_decided (set.contains plan.watched p) true)
+
+      some : (p : ℕ) × (set.contains plan.watched p ≡ true)
+      some = elim decided [
+        | inl found ↦ (found.0, found.2)
+        | inr none ↦ absurd (checked fault.Watched (inl (λ p. elim (cases_Bool (set.contains plan.watched p)) [
+          | inl member ↦ absurd (none (p, within p member, member))
+          | inr out ↦ out
+        ])))
+      ]
 
   -- links, inboxes and holds have room for a note at least, and for as many as the limits allow
   pub capacity : (0 < plan.cap) × (plan.cap ≤ most_cap)

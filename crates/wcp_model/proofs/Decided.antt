@@ -1,4 +1,5 @@
-use Rattle.std.proofs.Common.{ℕ, zero, suc, ◌<◌, ◌⊎◌, inl, inr, ⊎_elim, arith}
+use Rattle.std.proofs.Common.{◌≡◌, ℕ, zero, suc, ◌<◌, ◌⊎◌, Bool, inl, inr, ⊎_elim, arith}
+use Rattle.std.proofs.lemmas.Bool.{cases_Bool}
 
 -- a fact that holds or not
 abbrev pub Decided : Type 0 → Type 0
@@ -26,3 +27,7 @@ all_below_decided P n decided = elim (some_below_decided (λ k. P k → ⊥) n (
   | inl some ↦ inr (λ all. some.2 (all some.0 some.1))
   | inr none ↦ inl (λ k below. ⊎_elim (λ p. p) (λ not. absurd (none (k, below, not))) (decided k below))
 ]
+
+-- whether two tests agree is decided
+pub agree_decided : (a b : Bool) → Decided (a ≡ b)
+agree_decided a b = grind (arith, cases_Bool a, cases_Bool b)

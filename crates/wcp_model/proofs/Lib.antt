@@ -1,6 +1,8 @@
 mod Words
-pub mod CutLaws
 pub mod Decided
+pub mod WatchedProcesses
+pub mod Choosing
+pub mod CutLaws
 pub mod Places
 pub mod Reached
 pub mod SamePlace
@@ -27,7 +29,6 @@ pub mod AcceptedSteps
 pub mod EmissionFronts
 pub mod AcceptedReplies
 pub mod GrowthLaws
-pub mod Choosing
 pub mod NotesInTurn
 pub mod RisingClocks
 pub mod TakenFronts

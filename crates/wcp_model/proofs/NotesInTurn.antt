@@ -1,4 +1,4 @@
-use Rattle.wcp_model.proofs.Words.{◌≡◌, ℕ, ◌+◌, ◌⊎◌, Bool, true, false, List, [], ◌∷◌, ◌++◌, length, fold, refl, sym, ap, ◌∙◌, inl, append-nil, append_assoc, arith, list_any, length-append, list_any-append, Note, Computation, snapshots_from, is_closed, AreEmissions, Call, ProbeState, after_call, setup, state_of_log, snapshot_clocks, IsNextNote, AreInTurn}
+use Rattle.wcp_model.proofs.Words.{NumberSet, ◌≡◌, ℕ, ◌+◌, ◌⊎◌, Bool, true, false, List, [], ◌∷◌, ◌++◌, length, fold, refl, sym, ap, ◌∙◌, inl, append-nil, append_assoc, arith, list_any, length-append, list_any-append, Note, Computation, snapshots_from, is_closed, AreEmissions, Call, ProbeSetup, ProbeState, after_call, setup, state_of_log, snapshot_clocks, IsNextNote, AreInTurn}
 use Rattle.std.specs.Prelude.{if◌then◌else◌}
 use Rattle.wcp_clock.specs.declared.note.Note.TheVariants as note
 use Rattle.wcp_clock.specs.Notes.{is_close, is_last, place_of}
@@ -22,13 +22,13 @@ in_turn_from number count closed (clock ∷ clocks) (x ∷ before) after next co
     grind (arith, in_turn_from (number + 1) count closed clocks before after next (omega arith) (cc is))
 
 -- what a process emits is in turn
-pub emissions_in_turn : (n : ℕ) (c : Computation) (p : ℕ) (notes : List Note) → AreEmissions n c p notes → AreInTurn notes
-emissions_in_turn n c p notes emitted before after next is =
+pub emissions_in_turn : (n : ℕ) (watched : NumberSet) (c : Computation) (p : ℕ) (notes : List Note) → AreEmissions n watched c p notes → AreInTurn notes
+emissions_in_turn n watched c p notes emitted before after next is =
     grind (arith, in_turn_from 0 (length emitted.clocks) (is_closed c p) emitted.clocks before after next (omega arith) (sym emitted.notes_are ∙ is))
 
 -- so the note behind a front of the emissions is the next that a checker may take
-pub next_of_emissions : (n : ℕ) (c : Computation) (p : ℕ) (before after : List Note) (next : Note) → AreEmissions n c p (before ++ next ∷ after) → IsNextNote before next
-next_of_emissions n c p before after next emitted = emissions_in_turn n c p (before ++ next ∷ after) emitted before after next refl
+pub next_of_emissions : (n : ℕ) (watched : NumberSet) (c : Computation) (p : ℕ) (before after : List Note) (next : Note) → AreEmissions n watched c p (before ++ next ∷ after) → IsNextNote before next
+next_of_emissions n watched c p before after next emitted = emissions_in_turn n watched c p (before ++ next ∷ after) emitted before after next refl
 
 -- a note of a list with one more is the last, or stood there before
 split_push : (xs before after : List Note) (x y : Note) → xs ++ x ∷ [] ≡ before ++ y ∷ after → ((before ≡ xs) × (y ≡ x)) ⊎ ((more : List Note) × (xs ≡ before ++ y ∷ more))
@@ -57,12 +57,12 @@ pub record CountsNotes (s : ProbeState) : Type 0 where
   pub closed : s.closed ≡ list_any is_close s.notes
   pub ended : s.closed ≡ list_any is_last s.notes
 
-pub counts_after : (p : ℕ) (s : ProbeState) (call : Call) → CountsNotes s → CountsNotes (after_call p s call)
-counts_after p s call is = grind (arith, append-nil, length-append, list_any-append, snapshot_clocks-append)
+pub counts_after : (made : ProbeSetup) (s : ProbeState) (call : Call) → CountsNotes s → CountsNotes (after_call made s call)
+counts_after made s call is = grind (arith, append-nil, length-append, list_any-append, snapshot_clocks-append)
 
-counts_from : (p : ℕ) (s : ProbeState) (log : List Call) → CountsNotes s → CountsNotes (fold (after_call p) s log)
-counts_from p s [] is = is
-counts_from p s (call ∷ log) is = counts_from p (after_call p s call) log (counts_after p s call is)
+counts_from : (made : ProbeSetup) (s : ProbeState) (log : List Call) → CountsNotes s → CountsNotes (fold (after_call made) s log)
+counts_from made s [] is = is
+counts_from made s (call ∷ log) is = counts_from made (after_call made s call) log (counts_after made s call is)
 
-pub log_counts_notes : (n p : ℕ) (log : List Call) → CountsNotes (state_of_log (setup n p) log)
-log_counts_notes n p log = counts_from p (state_of_log (setup n p) []) log (record { snapshots = refl; closed = refl; ended = refl })
+pub log_counts_notes : (n : ℕ) (watched : NumberSet) (p : ℕ) (log : List Call) → CountsNotes (state_of_log (setup n watched p) log)
+log_counts_notes n watched p log = counts_from (setup n watched p) (state_of_log (setup n watched p) []) log (record { snapshots = refl; closed = refl; ended = refl })

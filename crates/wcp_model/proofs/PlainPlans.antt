@@ -1,4 +1,6 @@
-use Rattle.wcp_model.proofs.Words.{◌≡◌, ℕ, ◌≤◌, List, [], ◌∷◌, Some, length, take, slice_get, true, ap, subst, arith, list_any, length-replicate, get_or-replicate, Parent, Root, Relay, Plan, most_processes, most_cap, most_hold, is_number, plain_attach, IsPlainPlan, IsPath, IsCheckedPlan}
+use Rattle.wcp_model.proofs.Words.{false, true≢false, sym, ◌∙◌, ◌<◌, inl, inr, ◌≡◌, ℕ, ◌≤◌, List, [], ◌∷◌, Some, length, take, slice_get, true, ap, subst, arith, list_any, length-replicate, get_or-replicate, Parent, Root, Relay, Plan, most_processes, most_cap, most_hold, is_number, plain_attach, IsPlainPlan, IsPath, IsCheckedPlan}
+use Rattle.std.specs.FinSet as set
+use Rattle.std.proofs.lemmas.Bool.Decides.{nat_tests}
 use Rattle.wcp_model.specs.declared.plan.PlanFault.TheVariants as fault
 
 -- one relay under the root has no relay as its parent
@@ -30,3 +32,12 @@ plain_is_checked n cap hold plan is some few cap_low cap_high hold_low hold_high
         let first : has.0 ≡ 0 = omega (arith, has.1, ap length is.tree) in
         has.2 (rw (is.attached, is.processes, first) (plain_leaf n some))
     none fault.Unattached = λ has. grind (arith, length-replicate, get_or-replicate, is.tree, is.attached, is.processes)
+    none fault.Watched = λ has. elim has [
+      | inl nobody ↦ absurd (true≢false (sym (watches 0 some) ∙ nobody 0))
+      | inr stranger ↦
+          let within : stranger.0 < n = grind (arith, nat_tests, is.watched stranger.0, stranger.1) in
+          absurd (omega (arith, is.processes, stranger.2))
+    ]
+      where
+        watches : (p : ℕ) → p < n → set.contains plan.watched p ≡ true
+        watches p below = grind (arith, nat_tests, is.watched p)

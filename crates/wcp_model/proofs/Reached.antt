@@ -1,5 +1,7 @@
-use Rattle.wcp_model.proofs.Words.{◌≡◌, ◌≢◌, ℕ, zero, suc, ◌+◌, ◌<◌, ◌≤◌, ◌⊎◌, true, false, List, length, count_by, slice_get, Some, refl, sym, ◌∙◌, ap, subst, inl, inr, ⊎_elim, arith, cases_lt, cases_eq, cases_Bool, cases_order, eq-eqb, take_all, sum_by-take-le, slice_get_within, slice_get_cases, State, Step, Observe, Send, Recv, Computation, is_communication_of, communications, interval_at, message_at, IsState, IsTrueState, DirectlyPrecedes, Next, Message, HappenedBefore, Direct, Chain, member, IsConsistent, IsSatisfyingCut}
-use Rattle.wcp_model.proofs.Decided.{Decided, decided_from, some_below_decided, all_below_decided}
+use Rattle.wcp_model.proofs.Words.{NumberSet, Intervals, NamesWatched, IsWatched, None, Bool, is_some, slice_index_or, ◌≡◌, ◌≢◌, ℕ, zero, suc, ◌+◌, ◌<◌, ◌≤◌, ◌⊎◌, true, false, List, length, count_by, slice_get, Some, refl, sym, ◌∙◌, ap, subst, inl, inr, ⊎_elim, arith, cases_lt, cases_eq, cases_Bool, cases_order, eq-eqb, take_all, sum_by-take-le, slice_get_within, slice_get_cases, State, Step, Observe, Send, Recv, Computation, is_communication_of, communications, interval_at, message_at, IsState, IsTrueState, DirectlyPrecedes, Next, Message, HappenedBefore, Direct, Chain, member, IsConsistent, IsSatisfyingCut}
+use Rattle.std.specs.FinSet as set
+use Rattle.wcp_model.proofs.WatchedProcesses.{all_watched_decided}
+use Rattle.wcp_model.proofs.Decided.{Decided, decided_from, some_below_decided, all_below_decided, agree_decided}
 use Rattle.wcp_model.proofs.Places.{count_before-yes, count_before-no, count_before-past, count_before-place}
 use Rattle.wcp_model.proofs.SamePlace.{element_after}
 
@@ -166,12 +168,31 @@ pub true_state_decided : (c : Computation) (s : State) → Decided (IsTrueState 
 true_state_decided c s = grind (arith, slice_get_within, some_below_decided (λ place. IsTrueAt c s place) (length c) (λ place below. true_at_decided c s place))
 
 -- whether a cut is consistent is decided
-pub consistent_decided : (n : ℕ) (c : Computation) (cut : List ℕ) → Decided (IsConsistent n c cut)
-consistent_decided n c cut =
-    decided_from (λ apart p q p_below q_below. apart p p_below q q_below) (λ consistent p p_below q q_below. consistent p q p_below q_below)
-    (all_below_decided (λ p. (q : ℕ) → q < n → p ≢ q → HappenedBefore c (member cut p) (member cut q) → ⊥) n (λ p p_below.
-    all_below_decided (λ q. p ≢ q → HappenedBefore c (member cut p) (member cut q) → ⊥) n (λ q q_below. grind (arith, happened_before_decided c (member cut p) (member cut q)))))
+pub consistent_decided : (n : ℕ) (watched : NumberSet) (c : Computation) (cut : Intervals)
+    → Decided (IsConsistent n watched c cut)
+consistent_decided n watched c cut =
+    decided_from (λ apart p q p_is q_is. apart p p_is q q_is) (λ consistent p p_is q q_is. consistent p q p_is q_is)
+    (all_watched_decided n watched
+    (λ p. (q : ℕ) → IsWatched n watched q → p ≢ q → HappenedBefore c (member cut p) (member cut q) → ⊥)
+    (λ p p_is. all_watched_decided n watched
+    (λ q. p ≢ q → HappenedBefore c (member cut p) (member cut q) → ⊥)
+    (λ q q_is. grind (arith, happened_before_decided c (member cut p) (member cut q)))))
 
--- whether a list of intervals is a satisfying cut is decided
-pub satisfying_decided : (n : ℕ) (c : Computation) (cut : List ℕ) → IsSatisfyingCut n c cut ⊎ (IsSatisfyingCut n c cut → ⊥)
-satisfying_decided n c cut = grind (arith, cases_eq (length cut) n, consistent_decided n c cut, all_below_decided (λ p. IsTrueState c (member cut p)) n (λ p below. true_state_decided c (member cut p)))
+-- whether a list of intervals names the watched processes is decided
+pub named_decided : (n : ℕ) (watched : NumberSet) (cut : Intervals) → Decided (NamesWatched n watched cut)
+named_decided n watched cut = grind (
+  arith,
+  cases_eq (length cut) n,
+  all_below_decided (λ p. is_some (slice_index_or cut p None) ≡ set.contains watched p) n
+      (λ p below. agree_decided (is_some (slice_index_or cut p None)) (set.contains watched p)),
+)
+
+-- whether it is a satisfying cut is decided
+pub satisfying_decided : (n : ℕ) (watched : NumberSet) (c : Computation) (cut : Intervals)
+    → Decided (IsSatisfyingCut n watched c cut)
+satisfying_decided n watched c cut = grind (
+  arith,
+  named_decided n watched cut,
+  consistent_decided n watched c cut,
+  all_watched_decided n watched (λ p. IsTrueState c (member cut p)) (λ p is. true_state_decided c (member cut p)),
+)

@@ -1,14 +1,14 @@
-use Rattle.wcp_model.proofs.Words.{◌≡◌, ℕ, ◌<◌, ◌≤◌, List, [], ◌++◌, length, slice_index, get_or, Contains, refl, sym, ap, ◌∙◌, subst, arith, length-append, append_assoc, get_or_append_left, get_or_default, Contains-get_or, Item, Computation, IsTrueState, member, minimum, IsSatisfyingCut, IsLeastCut, IsLeastOf, IsReportOf, notes_taken, snapshot_clocks, clocks_taken, IsDrained, IsNamed, IsNamedCut, IsCutByClocks, IsReportOfTaken, IsReportByClocks, AreFrontsOfEmissions, IsStateClock}
+use Rattle.wcp_model.proofs.Words.{NumberSet, Intervals, IsWatched, IsAtOrBelow, interval_of, IsEmittedState, ◌≡◌, ℕ, ◌<◌, ◌≤◌, List, [], ◌++◌, length, slice_index, get_or, Contains, refl, sym, ap, ◌∙◌, subst, arith, length-append, append_assoc, get_or_append_left, get_or_default, Contains-get_or, Item, Computation, IsTrueState, member, minimum, IsSatisfyingCut, IsLeastCut, IsLeastOf, IsReportOf, notes_taken, snapshot_clocks, clocks_taken, IsDrained, IsNamed, IsNamedCut, IsCutByClocks, IsReportOfTaken, IsReportByClocks, AreFrontsOfEmissions, IsStateClock}
 use Rattle.wcp_model.specs.declared.outcome.Report.{Report}
 use Rattle.wcp_model.specs.declared.outcome.Report.TheVariants.{Found, Nothing, Undecided}
-use Rattle.wcp_model.proofs.Choosing.{choice_from_each}
-use Rattle.wcp_model.proofs.CutLaws.{slice_index-minimum, minimum_is_satisfying}
+use Rattle.wcp_model.proofs.CutLaws.{interval_of-minimum, minimum_is_satisfying}
+use Rattle.wcp_model.proofs.WatchedProcesses.{choice_of_watched}
 use Rattle.wcp_model.proofs.NotesInTurn.{snapshot_clocks-append, emissions_in_turn, nothing_follows}
 use Rattle.wcp_model.proofs.Predecessors.{local_state}
 use Rattle.wcp_model.proofs.RisingClocks.{emitted_clocks, rises_above}
 
 -- What was taken of each process is a front of its emissions.
-module _ (n : ℕ) (c : Computation) (items : List Item) (fronts : AreFrontsOfEmissions n c items) where
+module _ (n : ℕ) (watched : NumberSet) (c : Computation) (items : List Item) (fronts : AreFrontsOfEmissions n watched c items) where
   -- a taken clock is that of a true state
   record IsOfState (p : ℕ) (clock : List ℕ) (interval : ℕ) : Type 0 where
     pub clock_is : IsStateClock n c (local_state p interval) clock
@@ -17,7 +17,7 @@ module _ (n : ℕ) (c : Computation) (items : List Item) (fronts : AreFrontsOfEm
   all_clocks : (p : ℕ) (within : p < n) → clocks_taken p items ++ snapshot_clocks (fronts p within).0 ≡ (fronts p within).1.clocks
   all_clocks p within =
       let (rest, emitted) = fronts p within in
-      sym (snapshot_clocks-append (notes_taken p items) rest) ∙ emitted_clocks n c p (notes_taken p items ++ rest) emitted
+      sym (snapshot_clocks-append (notes_taken p items) rest) ∙ emitted_clocks n watched c p (notes_taken p items ++ rest) emitted
 
   fewer : (p : ℕ) (within : p < n) → length (clocks_taken p items) ≤ length (fronts p within).1.intervals
   fewer p within = omega (arith, length-append (clocks_taken p items) (snapshot_clocks (fronts p within).0), ap length (all_clocks p within), (fronts p within).1.same_length)
@@ -36,98 +36,116 @@ module _ (n : ℕ) (c : Computation) (items : List Item) (fronts : AreFrontsOfEm
   named_state p k within named = grind (arith, state_at, named_at p k within named)
 
   -- a cut by clocks is one of named states, and the other way round
-  cut_by_states : (cut : List ℕ) → IsCutByClocks n items cut → IsNamedCut n c items cut
+  cut_by_states : (cut : Intervals) → IsCutByClocks n watched items cut → IsNamedCut n watched c items cut
   cut_by_states cut is = record {
     satisfying = record {
       members = is.members;
-      consistent = λ p q p_within q_within apart before.
-          is.concurrent p q p_within q_within apart (omega (arith, is.own p p_within, ((named_state q (slice_index cut q) q_within (named q q_within)).clock_is.others p p_within apart (slice_index cut p)).0 before));
-      true_states = λ p p_within. (named_state p (slice_index cut p) p_within (named p p_within)).true_state;
+      consistent = λ p q p_is q_is apart before. is.concurrent p q p_is q_is apart (omega (
+        arith,
+        is.own p p_is,
+        ((named_state q (interval_of cut q) q_is.below (named q q_is)).clock_is.others p p_is.below apart
+            (interval_of cut p)).0 before,
+      ));
+      true_states = λ p p_is. (named_state p (interval_of cut p) p_is.below (named p p_is)).true_state;
     };
     named = named;
   }
     where
-      named : (p : ℕ) → p < n → IsNamed items (member cut p)
-      named p p_within = record { clock = is.clock p; taken = is.taken p p_within; own = is.own p p_within }
+      named : (p : ℕ) → IsWatched n watched p → IsNamed items (member cut p)
+      named p p_is = record { clock = is.clock p; taken = is.taken p p_is; own = is.own p p_is }
 
-  cut_by_clocks : (cut : List ℕ) → IsNamedCut n c items cut → IsCutByClocks n items cut
+  cut_by_clocks : (cut : Intervals) → IsNamedCut n watched c items cut → IsCutByClocks n watched items cut
   cut_by_clocks cut is =
-      let (clock, each) = choice_from_each [] (λ p clock. (named : IsNamed items (member cut p)) × (named.clock ≡ clock)) n (λ p within. ((is.named p within).clock, (is.named p within, refl))) in
+      let (clock, each) = choice_of_watched n watched []
+      (λ p clock. (named : IsNamed items (member cut p)) × (named.clock ≡ clock))
+      (λ p p_is. ((is.named p p_is).clock, (is.named p p_is, refl))) in
       record {
         members = is.satisfying.members;
         clock = clock;
-        taken = λ p within. subst (Contains (clocks_taken p items)) (each p within).1 (each p within).0.taken;
-        own = λ p within. ap (λ (v : List ℕ). slice_index v p) (sym (each p within).1) ∙ (each p within).0.own;
-        concurrent = λ p q p_within q_within apart less.
-            let one = (each p p_within).0 in
-            let other = (each q q_within).0 in
-            is.satisfying.consistent p q p_within q_within apart
-            (grind (arith, named_state q (slice_index cut q) q_within other));
+        taken = λ p p_is. subst (Contains (clocks_taken p items)) (each p p_is).1 (each p p_is).0.taken;
+        own = λ p p_is. ap (λ (v : List ℕ). slice_index v p) (sym (each p p_is).1) ∙ (each p p_is).0.own;
+        concurrent = λ p q p_is q_is apart less.
+            let one = (each p p_is).0 in
+            let other = (each q q_is).0 in
+            is.satisfying.consistent p q p_is q_is apart
+            (grind (arith, named_state q (interval_of cut q) q_is.below other));
       }
 
-  least_by_states : (cut : List ℕ) → IsLeastOf n (IsCutByClocks n items) cut → IsLeastOf n (IsNamedCut n c items) cut
+  least_by_states : (cut : Intervals) → IsLeastOf n watched (IsCutByClocks n watched items) cut → IsLeastOf n watched (IsNamedCut n watched c items) cut
   least_by_states cut least = record {
     one = cut_by_states cut least.one;
     below = λ other is. least.below other (cut_by_clocks other is);
   }
 
   -- the report by clocks is the report of what was taken
-  pub report_of_taken : (report : Report) → IsReportByClocks n items report → IsReportOfTaken n c items report
+  pub report_of_taken : (report : Report) → IsReportByClocks n watched items report → IsReportOfTaken n watched c items report
   report_of_taken report least = grind (arith, cut_by_clocks, least_by_states)
 
   -- a true state has a place among the snapshots, and is named once that one is taken
-  place_of : (p k : ℕ) (within : p < n) → IsTrueState c (local_state p k) → (i : ℕ) × (i < length (fronts p within).1.intervals) × (slice_index (fronts p within).1.intervals i ≡ k)
-  place_of p k within true_state = grind (arith, ((fronts p within).1.true_states.each k).1 true_state, get_or_default)
+  place_of : (p k : ℕ) (is : IsWatched n watched p) → IsTrueState c (local_state p k)
+      → (i : ℕ) × (i < length (fronts p is.below).1.intervals) × (slice_index (fronts p is.below).1.intervals i ≡ k)
+  place_of p k is true_state = grind (
+    arith,
+    ((fronts p is.below).1.states.each k).1 (record { watched_process = is.member; true_state = true_state }),
+    get_or_default,
+  )
 
   named_by : (p k i : ℕ) (within : p < n) → slice_index (fronts p within).1.intervals i ≡ k → i < length (clocks_taken p items) → IsNamed items (local_state p k)
   named_by p k i within here taken = grind (arith, Contains-get_or, state_at)
 
   -- so each true state below a named one is named
-  named_below : (p k l : ℕ) → p < n → IsNamed items (local_state p k) → IsTrueState c (local_state p l) → l ≤ k → IsNamed items (local_state p l)
-  named_below p k l within named true_state order =
-      let emitted = (fronts p within).1 in
-      let (i, i_below, interval, at) = named_at p k within named in
-      let (j, j_below, here) = place_of p l within true_state in
-      named_by p l j within here (grind (arith, rises_above))
+  named_below : (p k l : ℕ) → IsWatched n watched p → IsNamed items (local_state p k) → IsTrueState c (local_state p l)
+      → l ≤ k → IsNamed items (local_state p l)
+  named_below p k l is named true_state order =
+      let emitted = (fronts p is.below).1 in
+      let (i, i_below, interval, at) = named_at p k is.below named in
+      let (j, j_below, here) = place_of p l is true_state in
+      named_by p l j is.below here (grind (arith, rises_above))
 
   -- so the least cut of those named is the least cut of the whole computation, before all is drained and after
-  pub found_is_least : (cut : List ℕ) → IsReportByClocks n items (Found cut) → IsLeastCut n c cut
-  found_is_least cut found = grind (arith, below, least)
+  pub found_is_least : (cut : Intervals) → IsReportByClocks n watched items (Found cut) → IsLeastCut n watched c cut
+  found_is_least cut found = record { one = least.one.satisfying; below = below }
     where
-      least : IsLeastOf n (IsNamedCut n c items) cut
+      least : IsLeastOf n watched (IsNamedCut n watched c items) cut
       least = least_by_states cut found
 
-      below : (other : List ℕ) → IsSatisfyingCut n c other → (p : ℕ) → p < n → slice_index cut p ≤ slice_index other p
-      below other also p within =
-          let same : length cut ≡ length other = least.one.satisfying.members ∙ sym also.members in
-          let both : IsSatisfyingCut n c (minimum cut other) = minimum_is_satisfying n c cut other least.one.satisfying also in
-          let named : (q : ℕ) → q < n → IsNamed items (member (minimum cut other) q) = λ q q_within.
-          named_below q (slice_index cut q) (slice_index (minimum cut other) q) q_within (least.one.named q q_within) (both.true_states q q_within) (omega (arith, slice_index-minimum cut other q same)) in
-          omega (arith, least.below (minimum cut other) (record { satisfying = both; named = named }) p within, slice_index-minimum cut other p same)
+      below : (other : Intervals) → IsSatisfyingCut n watched c other → IsAtOrBelow n watched cut other
+      below other also p is =
+          let both : IsSatisfyingCut n watched c (minimum cut other) =
+          minimum_is_satisfying n watched c cut other least.one.satisfying also in
+          let index = interval_of-minimum n watched cut other least.one.satisfying.members also.members in
+          let named : (q : ℕ) → IsWatched n watched q → IsNamed items (member (minimum cut other) q) = λ q q_is.
+          named_below q (interval_of cut q) (interval_of (minimum cut other) q) q_is (least.one.named q q_is)
+          (both.true_states q q_is) (omega (arith, index q q_is)) in
+          omega (arith, least.below (minimum cut other) (record { satisfying = both; named = named }) p is, index p is)
 
   -- where all is drained, all emissions were taken
   nothing_left : IsDrained n items → (p : ℕ) (within : p < n) → (fronts p within).0 ≡ []
   nothing_left drained p within =
       let (rest, emitted) = fronts p within in
       let (count, before, is) = drained p within in
-      nothing_follows before rest count (rw (is, append_assoc) at (emissions_in_turn n c p (notes_taken p items ++ rest) emitted))
+      nothing_follows before rest count (rw (is, append_assoc) at (emissions_in_turn n watched c p (notes_taken p items ++ rest) emitted))
 
-  -- a process's true states are as many as its snapshots taken
+  -- a process's emitted states are as many as its snapshots taken
   pub all_states_taken : IsDrained n items → (p : ℕ) (within : p < n) → length (fronts p within).1.intervals ≡ length (clocks_taken p items)
   all_states_taken drained p within =
       omega (arith, (fronts p within).1.same_length, ap length (all_clocks p within), length-append (clocks_taken p items) (snapshot_clocks (fronts p within).0), ap (λ notes. length (snapshot_clocks notes)) (nothing_left drained p within))
 
-  named_when_drained : IsDrained n items → (p k : ℕ) → p < n → IsTrueState c (local_state p k) → IsNamed items (local_state p k)
-  named_when_drained drained p k within true_state =
-      let (i, below, here) = place_of p k within true_state in
-      named_by p k i within here (omega (arith, all_states_taken drained p within))
+  named_when_drained : IsDrained n items → (p k : ℕ) → IsWatched n watched p → IsTrueState c (local_state p k)
+      → IsNamed items (local_state p k)
+  named_when_drained drained p k is true_state =
+      let (i, below, here) = place_of p k is true_state in
+      named_by p k i is.below here (omega (arith, all_states_taken drained p is.below))
 
   -- and the report is that of the whole computation
-  pub report_when_drained : IsDrained n items → (report : Report) → IsReportByClocks n items report → IsReportOf n c report
+  pub report_when_drained : IsDrained n items → (report : Report) → IsReportByClocks n watched items report → IsReportOf n watched c report
   report_when_drained drained (Found cut) found = found_is_least cut found
   report_when_drained drained Nothing none = (
     λ cut satisfying.
-        none.0 cut (cut_by_clocks cut (record { satisfying = satisfying; named = λ p within. named_when_drained drained p (slice_index cut p) within (satisfying.true_states p within) })),
+        none.0 cut (cut_by_clocks cut (record {
+          satisfying = satisfying;
+          named = λ p is. named_when_drained drained p (interval_of cut p) is (satisfying.true_states p is);
+        })),
     tt,
   )
   report_when_drained drained Undecided none = absurd (none.1 drained)

@@ -28,8 +28,8 @@ scan_at next out start (first ∷ xs) zero x at =
 scan_at next out start (first ∷ xs) (suc place) x at = scan_at next out (next start first) xs place x at
 
 -- the log with one more call
-pub log_push : (made : ProbeSetup) (log : List Call) (call : Call) → state_of_log made (log ++ call ∷ []) ≡ after_call made.process (state_of_log made log) call
-log_push made log call = fold-append (after_call made.process) (state_of_log made []) log (call ∷ [])
+pub log_push : (made : ProbeSetup) (log : List Call) (call : Call) → state_of_log made (log ++ call ∷ []) ≡ after_call made (state_of_log made log) call
+log_push made log call = fold-append (after_call made) (state_of_log made []) log (call ∷ [])
 
 -- one more task is one more action of its process alone
 pub actions_of-push : (p : ℕ) (tasks : List Task) (task : Task) → actions_of p (tasks ++ task ∷ []) ≡ actions_of p tasks ++ cond (is_task_of p task) (task.action ∷ []) []
@@ -91,7 +91,7 @@ beside-push {X} test actions xs act x same = grind (arith, kept-push, zip-push)
 -- a log that follows actions has a stamp for each send and receive among them
 module _ (actions : List Action) (log : List Call) (follows : FollowsActions actions log) where
   a_clock_each : (made : ProbeSetup) → length actions ≡ length (clocks_after made log)
-  a_clock_each made = same_length actions log follows ∙ sym (length-scan (after_call made.process) (λ s next. (after_call made.process s next).clock) (state_of_log made []) log)
+  a_clock_each made = same_length actions log follows ∙ sym (length-scan (after_call made) (λ s next. (after_call made s next).clock) (state_of_log made []) log)
 
   a_stamp_each : length actions ≡ length (map stamp_of log)
   a_stamp_each = same_length actions log follows ∙ sym (length-map log stamp_of)

@@ -13,11 +13,12 @@ pub use Rattle.std.specs.List.{range_with_len, list_any, scan, zip, AllPairs}
 pub use Rattle.std.specs.List.Sorted.{IsStrictlyIncreasing}
 pub use Rattle.wcp_clock.specs.Limits.{most_processes, most_cap, most_hold, most_relays}
 pub use Rattle.wcp_clock.specs.Merge.{merged}
+pub use Rattle.wcp_clock.specs.ProcessNumbers.{NumberSet, AreProcessNumbers}
 pub use Rattle.wcp_clock.specs.declared.note.Item.{Item}
 pub use Rattle.wcp_clock.specs.declared.note.Note.{Note}
-pub use Rattle.wcp_model.specs.Computation.{Computation, IsTrueState, is_communication_of, is_send, communications, interval_at, message_at, IsState, AreTrueStates}
-pub use Rattle.wcp_model.specs.Cut.{member, IsConsistent, IsSatisfyingCut, minimum, IsLeastCut, IsLeastOf, MinimumLaw, LeastCutLaw}
-pub use Rattle.wcp_model.specs.Emission.{is_close_of, is_closed, snapshots_from, AreEmissions}
+pub use Rattle.wcp_model.specs.Computation.{Computation, IsTrueState, is_communication_of, is_send, communications, interval_at, message_at, IsState}
+pub use Rattle.wcp_model.specs.Cut.{Intervals, NamesWatched, interval_of, lesser, IsAtOrBelow, member, IsConsistent, IsSatisfyingCut, minimum, IsLeastCut, IsLeastOf, MinimumLaw, LeastCutLaw}
+pub use Rattle.wcp_model.specs.Emission.{is_close_of, is_closed, snapshots_from, AreEmissions, IsEmittedState, AreEmittedStates}
 pub use Rattle.wcp_model.specs.FirstReason.{first_reason, IsFirstReason, FirstReasonLaw}
 pub use Rattle.wcp_model.specs.Order.{IsMessage, DirectlyPrecedes, Next, Message, HappenedBefore, Direct, Chain}
 pub use Rattle.wcp_model.specs.Outcome.{IsReportOf, IsOutcomeOf, IsWorkloadOutcome}
@@ -29,15 +30,17 @@ pub use Rattle.wcp_model.specs.Report.{notes_taken, snapshot_clocks, clocks_take
 pub use Rattle.wcp_model.specs.StateClock.{IsStateClock, CountsBefore, StatesHaveClocks}
 pub use Rattle.wcp_model.specs.TaskLog.{actions_of, IsCallFor, FollowsActions, stamps_got, AreLogsOfTasks, TaskLogLaw, beside, clocks_after, stamp_of, stamps_sent}
 pub use Rattle.wcp_model.specs.Tree.{is_number, plain_attach, IsPlainPlan, is_leaf, leaf_of, parent_of}
+pub use Rattle.wcp_model.specs.Watched.{IsWatched, AreAllWatched, AreSomeWatched}
 pub use Rattle.wcp_model.specs.WorkloadComputation.{is_task_of, is_send_to, is_receive_from, sends, receives, message_number, step_of, steps_from, computation_of, IsWithin, IsFitOrder, is_any_send, FitOrderLaw, place_after}
 pub use Rattle.wcp_model.specs.declared.plan.Parent.{Parent}
 pub use Rattle.wcp_model.specs.declared.plan.Parent.TheVariants.{Root, Relay}
 pub use Rattle.wcp_model.specs.declared.plan.Plan.{Plan}
 pub use Rattle.wcp_model.specs.declared.plan.PlanFault.{PlanFault}
-pub use Rattle.wcp_model.specs.declared.plan.PlanFault.TheVariants.{Procs, Cap, Hold, Depth, Mixed, Childless, Unattached}
+pub use Rattle.wcp_model.specs.declared.plan.PlanFault.TheVariants.{Procs, Cap, Hold, Depth, Mixed, Childless, Unattached, Watched}
 pub use Rattle.wcp_model.specs.declared.state.State.{State}
 pub use Rattle.wcp_model.specs.declared.step.Step.{Step}
 pub use Rattle.wcp_model.specs.declared.step.Step.TheVariants.{Observe, Send, Recv, Close}
 pub use Rattle.wcp_model.specs.declared.workload.Action.{Action}
 pub use Rattle.wcp_model.specs.declared.workload.Task.{Task}
+pub use Rattle.std.specs.Prelude.{is_some, unwrap_or, not, ◌||◌}
 pub use borrow.Author.Count.{below_more}

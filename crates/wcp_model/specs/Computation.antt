@@ -1,6 +1,4 @@
-use Rattle.std.specs.Prelude.{◌≡◌, ◌==◌, ℕ, ◌≤◌, ◌↔◌, Bool, true, false, List, take, count_by, slice_get, Some}
-use Rattle.std.specs.Prelude.{Contains}
-use Rattle.std.specs.List.Sorted.{IsStrictlyIncreasing}
+use Rattle.std.specs.Prelude.{◌≡◌, ◌==◌, ℕ, ◌≤◌, Bool, true, false, List, take, count_by, slice_get, Some}
 use Rattle.wcp_model.specs.declared.state.State.{State}
 use Rattle.wcp_model.specs.declared.step.Step.{Step}
 use Rattle.wcp_model.specs.declared.step.Step.TheVariants.{Observe, Send, Recv}
@@ -42,8 +40,3 @@ pub record IsTrueState (c : Computation) (s : State) : Type 0 where
   pub place : ℕ
   pub observed : slice_get c place ≡ Some (Observe s.process true)
   pub within : interval_at c s.process place ≡ s.interval
-
--- The true states of a process, by rising interval.
-pub record AreTrueStates (c : Computation) (p : ℕ) (intervals : List ℕ) : Type 0 where
-  pub rising : IsStrictlyIncreasing intervals
-  pub each : (k : ℕ) → Contains intervals k ↔ IsTrueState c (record { process = p; interval = k })

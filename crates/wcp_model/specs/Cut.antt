@@ -1,45 +1,73 @@
-use Rattle.std.specs.Prelude.{◌≡◌, ◌≢◌, ℕ, ◌<◌, ◌≤◌, min, List, [], ◌∷◌, length, slice_index}
+use Rattle.std.specs.Prelude.{◌≡◌, ◌≢◌, ℕ, ◌<◌, ◌≤◌, min, List, [], ◌∷◌, length, slice_index_or}
+use Rattle.std.specs.Prelude.{Option, Some, None, is_some, unwrap_or}
+use Rattle.std.specs.FinSet as set
+use Rattle.wcp_clock.specs.ProcessNumbers.{NumberSet}
 use Rattle.wcp_model.specs.declared.state.State.{State}
 use Rattle.wcp_model.specs.Computation.{Computation, IsTrueState}
 use Rattle.wcp_model.specs.Order.{HappenedBefore}
+use Rattle.wcp_model.specs.Watched.{IsWatched}
 
--- A cut names one state of each of n processes: the list of their intervals (Mattern 1989).
-abbrev pub member : List ℕ → ℕ → State
-member cut p = record { process = p; interval = slice_index cut p }
+-- A cut names one state of each watched process: the list of the intervals of the n processes, with none where a
+-- process isn't watched (Mattern 1989).
+abbrev pub Intervals : Type 0
+Intervals = List (Option ℕ)
+
+-- The interval that a cut names of a process, and 0 where it names none.
+abbrev pub interval_of : Intervals → ℕ → ℕ
+interval_of cut p = unwrap_or (slice_index_or cut p None) 0
+
+abbrev pub member : Intervals → ℕ → State
+member cut p = record { process = p; interval = interval_of cut p }
+
+-- It names a state of each of the n processes that is watched, and of no other.
+pub record NamesWatched (n : ℕ) (watched : NumberSet) (cut : Intervals) : Type 0 where
+  pub processes : length cut ≡ n
+  pub named : (p : ℕ) → p < n → is_some (slice_index_or cut p None) ≡ set.contains watched p
 
 -- A cut is consistent if no member happened before another (Chandy and Lamport 1985; Mattern 1989).
-abbrev pub IsConsistent : ℕ → Computation → List ℕ → Type 0
-IsConsistent n c cut = (p q : ℕ) → p < n → q < n → p ≢ q → HappenedBefore c (member cut p) (member cut q) → ⊥
+abbrev pub IsConsistent : ℕ → NumberSet → Computation → Intervals → Type 0
+IsConsistent n watched c cut = (p q : ℕ) → IsWatched n watched p → IsWatched n watched q → p ≢ q →
+    HappenedBefore c (member cut p) (member cut q) → ⊥
 
 -- A cut is satisfying if it is consistent and each member is true: the weak conjunctive predicate (Garg and Waldecker
 -- 1994).
-pub record IsSatisfyingCut (n : ℕ) (c : Computation) (cut : List ℕ) : Type 0 where
-  pub members : length cut ≡ n
-  pub consistent : IsConsistent n c cut
-  pub true_states : (p : ℕ) → p < n → IsTrueState c (member cut p)
+pub record IsSatisfyingCut (n : ℕ) (watched : NumberSet) (c : Computation) (cut : Intervals) : Type 0 where
+  pub members : NamesWatched n watched cut
+  pub consistent : IsConsistent n watched c cut
+  pub true_states : (p : ℕ) → IsWatched n watched p → IsTrueState c (member cut p)
 
--- The least of the cuts of a kind is one that lies at or below each of them, at each process.
-pub record IsLeastOf (n : ℕ) (IsOne : List ℕ → Type 0) (cut : List ℕ) : Type 0 where
+-- One cut lies at or below another if its member does at each watched process.
+abbrev pub IsAtOrBelow : ℕ → NumberSet → Intervals → Intervals → Type 0
+IsAtOrBelow n watched cut other = (p : ℕ) → IsWatched n watched p → interval_of cut p ≤ interval_of other p
+
+-- The least of the cuts of a kind is one that lies at or below each of them.
+pub record IsLeastOf (n : ℕ) (watched : NumberSet) (IsOne : Intervals → Type 0) (cut : Intervals) : Type 0 where
   pub one : IsOne cut
-  pub below : (other : List ℕ) → IsOne other → (p : ℕ) → p < n → slice_index cut p ≤ slice_index other p
+  pub below : (other : Intervals) → IsOne other → IsAtOrBelow n watched cut other
 
 -- The least cut of a computation is the least of its satisfying cuts (Garg and Waldecker 1994).
-abbrev pub IsLeastCut : ℕ → Computation → List ℕ → Type 0
-IsLeastCut n c = IsLeastOf n (IsSatisfyingCut n c)
+abbrev pub IsLeastCut : ℕ → NumberSet → Computation → Intervals → Type 0
+IsLeastCut n watched c = IsLeastOf n watched (IsSatisfyingCut n watched c)
 
 -- The componentwise minimum of two cuts.
-abbrev pub minimum : List ℕ → List ℕ → List ℕ
-minimum (k ∷ ks) (l ∷ ls) = min k l ∷ minimum ks ls
+abbrev pub lesser : Option ℕ → Option ℕ → Option ℕ
+lesser (Some k) (Some l) = Some (min k l)
+lesser (Some k) None = None
+lesser None other = None
+
+abbrev pub minimum : Intervals → Intervals → Intervals
+minimum (k ∷ ks) (l ∷ ls) = lesser k l ∷ minimum ks ls
 minimum [] ls = []
 minimum (k ∷ ks) [] = []
 
 -- The minimum law: satisfying cuts are closed under the minimum (Garg and Waldecker 1994).
 abbrev pub MinimumLaw : Type 0
 MinimumLaw =
-    (n : ℕ) (c : Computation) (one other : List ℕ) → IsSatisfyingCut n c one → IsSatisfyingCut n c other →
-    IsSatisfyingCut n c (minimum one other)
+    (n : ℕ) (watched : NumberSet) (c : Computation) (one other : Intervals) → IsSatisfyingCut n watched c one →
+    IsSatisfyingCut n watched c other → IsSatisfyingCut n watched c (minimum one other)
 
 -- Where there is a satisfying cut, there is a least one.
 abbrev pub LeastCutLaw : Type 0
 LeastCutLaw =
-    (n : ℕ) (c : Computation) (cut : List ℕ) → IsSatisfyingCut n c cut → (least : List ℕ) × IsLeastCut n c least
+    (n : ℕ) (watched : NumberSet) (c : Computation) (cut : Intervals) → IsSatisfyingCut n watched c cut →
+    (least : Intervals) × IsLeastCut n watched c least

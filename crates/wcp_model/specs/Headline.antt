@@ -4,7 +4,7 @@ use Rattle.wcp_clock.specs.declared.note.Note.TheVariants as note
 use Rattle.wcp_model.specs.declared.outcome.Report.{Report}
 use Rattle.wcp_model.specs.declared.outcome.Report.TheVariants.{Found}
 use Rattle.wcp_model.specs.declared.plan.Plan.{Plan}
-use Rattle.wcp_model.specs.Cut.{IsLeastCut}
+use Rattle.wcp_model.specs.Cut.{Intervals, IsLeastCut}
 use Rattle.wcp_model.specs.Outcome.{IsReportOf}
 use Rattle.wcp_model.specs.Report.{notes_taken, AreFrontsOfEmissions, IsDrained, IsReportOfTaken}
 use Rattle.wcp_model.specs.Replies.{Answered, accepted, items_taken, computation, AreReplies}
@@ -16,6 +16,7 @@ use Rattle.wcp_model.specs.Replies.{Answered, accepted, items_taken, computation
 --
 --   every relay tree           a plan that passed its check (IsCheckedPlan): the premise of each call with this promise
 --   every list of steps        any steps in any order, refused ones included: a history, each step with its reply
+--   every conjunct holds       the state of each watched process is true; another has no condition (IsSatisfyingCut)
 --   each step, answered        the reply that the definitions give from the steps and replies before it (AreReplies)
 --   what the checker has taken the notes of the items in its replies, in order (items_taken, notes_taken)
 --   what a process emitted     the snapshots of its true states, with their clocks, and its close mark (AreEmissions)
@@ -27,10 +28,13 @@ use Rattle.wcp_model.specs.Replies.{Answered, accepted, items_taken, computation
 pub record IsHeadline (plan : Plan) (history : List Answered) (report : Report) : Type 0 where
   pub replies : AreReplies plan history
   pub taken_is_prefix : (place : ℕ) →
-      AreFrontsOfEmissions plan.n (computation (accepted (take place history))) (items_taken (take place history))
+      AreFrontsOfEmissions plan.n plan.watched (computation (accepted (take place history)))
+      (items_taken (take place history))
   pub none_after_close : (p count : ℕ) (before after : List Note) → p < plan.n →
       notes_taken p (items_taken history) ≡ before ++ note.Close count ∷ after → after ≡ []
-  pub of_what_was_taken : IsReportOfTaken plan.n (computation (accepted history)) (items_taken history) report
-  pub when_drained : IsDrained plan.n (items_taken history) → IsReportOf plan.n (computation (accepted history)) report
-  pub found_early : (cut : List ℕ) (more : List Answered) → report ≡ Found cut →
-      IsLeastCut plan.n (computation (accepted (history ++ more))) cut
+  pub of_what_was_taken : IsReportOfTaken plan.n plan.watched (computation (accepted history))
+      (items_taken history) report
+  pub when_drained : IsDrained plan.n (items_taken history) →
+      IsReportOf plan.n plan.watched (computation (accepted history)) report
+  pub found_early : (cut : Intervals) (more : List Answered) → report ≡ Found cut →
+      IsLeastCut plan.n plan.watched (computation (accepted (history ++ more))) cut

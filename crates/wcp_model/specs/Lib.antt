@@ -1,5 +1,6 @@
 pub mod Computation
 pub mod Order
+pub mod Watched
 pub mod Cut
 pub mod WorkloadComputation
 pub mod Outcome

@@ -1,5 +1,6 @@
-use Rattle.std.specs.Prelude.{◌≡◌, ◌≢◌, ℕ, ◌<◌, ◌≤◌, ◌⊎◌, List, [], ◌∷◌, length, slice_get, Some, Any, Contains}
+use Rattle.std.specs.Prelude.{◌≡◌, ◌≢◌, ℕ, ◌<◌, ◌≤◌, ◌⊎◌, true, false, List, [], ◌∷◌, ◌++◌, length, slice_get, Some, Any, Contains}
 use Rattle.std.specs.Prelude.{MatchOption, IsTrue}
+use Rattle.std.specs.FinSet as set
 use Rattle.wcp_clock.specs.Limits.{most_processes, most_cap, most_hold, most_relays, most_path}
 use Rattle.wcp_model.specs.FirstReason.{IsFirstReason}
 use Rattle.wcp_model.specs.declared.plan.Parent.{Parent}
@@ -29,8 +30,8 @@ IsPath parents (relay ∷ above ∷ path) = (slice_get parents relay ≡ Some (R
 abbrev pub ServesRelay : Plan → ℕ → Type 0
 ServesRelay plan relay = Contains plan.parents.items (Relay relay)
 
--- What each fault means; without any, leaves of the tree serve the processes, each of which has one leaf, and all
--- other relays serve relays.
+-- What each fault means; without any, leaves of the tree serve the processes, each of which has one leaf, all other
+-- relays serve relays, and some of the processes are watched, and nobody else.
 abbrev pub HasFault : Plan → PlanFault → Type 0
 HasFault plan fault.Procs = IsOutside 1 most_processes plan.n
 HasFault plan fault.Cap = IsOutside 1 most_cap plan.cap
@@ -44,13 +45,16 @@ HasFault plan fault.Childless =
 HasFault plan fault.Unattached =
     (length plan.attach.items ≢ plan.n)
     ⊎ Any (λ entry. MatchOption entry (Unit {0}) (λ relay. length plan.parents.items ≤ relay)) plan.attach.items
+HasFault plan fault.Watched =
+    ((p : ℕ) → set.contains plan.watched p ≡ false)
+    ⊎ ((p : ℕ) × (set.contains plan.watched p ≡ true) × (plan.n ≤ p))
 
 -- The faults that are looked for in a tree, and all faults, in the order in which they count.
 abbrev pub tree_faults : List PlanFault
 tree_faults = fault.Depth ∷ fault.Mixed ∷ fault.Childless ∷ fault.Unattached ∷ []
 
 abbrev pub plan_faults : List PlanFault
-plan_faults = fault.Procs ∷ fault.Cap ∷ fault.Hold ∷ fault.Parent ∷ tree_faults
+plan_faults = fault.Procs ∷ fault.Cap ∷ fault.Hold ∷ fault.Parent ∷ tree_faults ++ fault.Watched ∷ []
 
 -- The first fault of a plan: the plan has it, and none before it.
 abbrev pub IsFirstFault : Plan → PlanFault → Type 0

@@ -1,14 +1,16 @@
-use Rattle.std.specs.Prelude.{◌≡◌, ◌==◌, ℕ, ◌+◌, ◌<◌, ◌↔◌, Bool, true, false, IsTrue, List, [], ◌∷◌, ◌++◌, fold}
+use Rattle.std.specs.Prelude.{◌≡◌, ◌==◌, ℕ, ◌+◌, ◌<◌, ◌↔◌, ◌||◌, not, Bool, true, false, IsTrue, List, [], ◌∷◌, ◌++◌, fold}
 use Rattle.std.specs.Prelude.{filter, replicate, slice_get, slice_index, slice_set, Some, if◌then◌else◌}
+use Rattle.std.specs.FinSet as set
 use Rattle.wcp_clock.specs.Merge.{merged}
+use Rattle.wcp_clock.specs.ProcessNumbers.{NumberSet}
 use Rattle.wcp_clock.specs.declared.note.Note.{Note}
 use Rattle.wcp_clock.specs.declared.note.Note.TheVariants as note
 use Rattle.wcp_model.specs.declared.probe_setup.ProbeSetup.{ProbeSetup}
 use Rattle.wcp_model.specs.declared.step.Step.{Step}
 use Rattle.wcp_model.specs.declared.step.Step.TheVariants as step
-use Rattle.wcp_model.specs.Computation.{Computation, communications, interval_at, message_at, IsTrueState}
+use Rattle.wcp_model.specs.Computation.{Computation, communications, interval_at, message_at}
 use Rattle.wcp_model.specs.StateClock.{IsStateClock}
-use Rattle.wcp_model.specs.Emission.{AreEmissions, is_closed}
+use Rattle.wcp_model.specs.Emission.{AreEmissions, IsEmittedState, is_closed}
 
 -- The accepted calls of one probe; a receive has the clock that its stamp carried.
 pub data Call : Type 0 where
@@ -28,24 +30,28 @@ pub record ProbeState : Type 0 where
 
 -- A send counts an event; a receive counts one and takes the greater of each other component (Fidge 1988; Mattern
 -- 1989). The first true observation of an interval emits a snapshot, and each send and receive begins an interval
--- (Garg and Waldecker 1994).
-abbrev pub after_call : ℕ → ProbeState → Call → ProbeState
-after_call p s (Observed false) = s
-after_call p s (Observed true) =
-    if s.flag then s
+-- (Garg and Waldecker 1994); a process that isn't watched emits none.
+abbrev pub after_call : ProbeSetup → ProbeState → Call → ProbeState
+after_call made s (Observed false) = s
+after_call made s (Observed true) =
+    if not made.watched || s.flag then s
     else record s { flag = true; snapshots = s.snapshots + 1; notes = s.notes ++ note.Snap s.snapshots s.clock ∷ [] }
-after_call p s Sent = record s { clock = slice_set s.clock p (slice_index s.clock p + 1); flag = false }
-after_call p s (Received stamp) =
-    record s { clock = slice_set (merged s.clock stamp) p (slice_index s.clock p + 1); flag = false }
-after_call p s Closed = record s { closed = true; notes = s.notes ++ note.Close s.snapshots ∷ [] }
+after_call made s Sent =
+    record s { clock = slice_set s.clock made.process (slice_index s.clock made.process + 1); flag = false }
+after_call made s (Received stamp) = record s {
+  clock = slice_set (merged s.clock stamp) made.process (slice_index s.clock made.process + 1);
+  flag = false;
+}
+after_call made s Closed = record s { closed = true; notes = s.notes ++ note.Close s.snapshots ∷ [] }
 
--- What a probe is made with, as far as its log tells: how many processes there are, and which one is its own.
-abbrev pub setup : ℕ → ℕ → ProbeSetup
-setup n p = record { processes = n; process = p }
+-- What a probe is made with, as far as its log tells: how many processes there are, which one is its own, and whether
+-- that one is watched.
+abbrev pub setup : ℕ → NumberSet → ℕ → ProbeSetup
+setup n watched p = record { processes = n; process = p; watched = set.contains watched p }
 
 -- The probe log: what a probe has come to after these calls.
 abbrev pub state_of_log : ProbeSetup → List Call → ProbeState
-state_of_log made log = fold (after_call made.process)
+state_of_log made log = fold (after_call made)
     (record { clock = replicate made.processes 0; flag = false; closed = false; snapshots = 0; notes = [] }) log
 
 abbrev pub is_step_of : ℕ → Step → Bool
@@ -89,13 +95,14 @@ pub record IsAccepted (c : Computation) : Type 0 where
       slice_get c place ≡ Some (step.Close p) → slice_get c later ≡ Some s → is_step_of p s ≡ false
 
 -- The log law: the log of each process has the clock of its last state, and its emissions.
-pub record HasClockAndEmissions (n : ℕ) (c : Computation) (p : ℕ) (s : ProbeState) : Type 0 where
+pub record HasClockAndEmissions (n : ℕ) (watched : NumberSet) (c : Computation) (p : ℕ) (s : ProbeState)
+    : Type 0 where
   pub clock : IsStateClock n c (record { process = p; interval = communications c p }) s.clock
-  pub flag : IsTrue s.flag ↔ IsTrueState c (record { process = p; interval = communications c p })
+  pub flag : IsTrue s.flag ↔ IsEmittedState watched c (record { process = p; interval = communications c p })
   pub closed : s.closed ≡ is_closed c p
-  pub emissions : AreEmissions n c p s.notes
+  pub emissions : AreEmissions n watched c p s.notes
 
 abbrev pub LogLaw : Type 0
 LogLaw =
-    (n : ℕ) (c : Computation) (p : ℕ) (log : List Call) → IsAccepted c → p < n → IsLogOf n c p log →
-    HasClockAndEmissions n c p (state_of_log (setup n p) log)
+    (n : ℕ) (watched : NumberSet) (c : Computation) (p : ℕ) (log : List Call) → IsAccepted c → p < n →
+    IsLogOf n c p log → HasClockAndEmissions n watched c p (state_of_log (setup n watched p) log)

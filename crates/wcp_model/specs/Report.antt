@@ -5,12 +5,14 @@ use Rattle.wcp_clock.specs.declared.note.Item.{Item}
 use Rattle.wcp_clock.specs.declared.note.Note.{Note}
 use Rattle.wcp_clock.specs.declared.note.Note.TheVariants as note
 use Rattle.wcp_clock.specs.Notes.{is_last, place_of}
+use Rattle.wcp_clock.specs.ProcessNumbers.{NumberSet}
 use Rattle.wcp_model.specs.declared.outcome.Report.{Report}
 use Rattle.wcp_model.specs.declared.state.State.{State}
 use Rattle.wcp_model.specs.Computation.{Computation}
-use Rattle.wcp_model.specs.Cut.{member, IsSatisfyingCut}
+use Rattle.wcp_model.specs.Cut.{Intervals, NamesWatched, interval_of, member, IsSatisfyingCut}
 use Rattle.wcp_model.specs.Emission.{AreEmissions}
 use Rattle.wcp_model.specs.Outcome.{IsReportOn}
+use Rattle.wcp_model.specs.Watched.{IsWatched}
 
 -- What a checker has taken is the list of its items, in the order in which it took them; the notes taken of one process
 -- are those of its items, in that order (Garg and Waldecker 1994: what the checker process received from each process).
@@ -39,8 +41,9 @@ abbrev pub AreInTurn : List Note → Type 0
 AreInTurn notes = (before after : List Note) (next : Note) → notes ≡ before ++ next ∷ after → IsNextNote before next
 
 -- What was taken of each process is a front of its emissions in the computation.
-abbrev pub AreFrontsOfEmissions : ℕ → Computation → List Item → Type 0
-AreFrontsOfEmissions n c items = (p : ℕ) → p < n → (rest : List Note) × AreEmissions n c p (notes_taken p items ++ rest)
+abbrev pub AreFrontsOfEmissions : ℕ → NumberSet → Computation → List Item → Type 0
+AreFrontsOfEmissions n watched c items = (p : ℕ) → p < n →
+    (rest : List Note) × AreEmissions n watched c p (notes_taken p items ++ rest)
 
 -- All is drained if the notes taken of each process end with its close mark.
 abbrev pub IsDrained : ℕ → List Item → Type 0
@@ -55,27 +58,29 @@ pub record IsNamed (items : List Item) (s : State) : Type 0 where
   pub own : slice_index clock s.process ≡ s.interval
 
 -- A satisfying cut among the states that the taken snapshots name.
-pub record IsNamedCut (n : ℕ) (c : Computation) (items : List Item) (cut : List ℕ) : Type 0 where
-  pub satisfying : IsSatisfyingCut n c cut
-  pub named : (p : ℕ) → p < n → IsNamed items (member cut p)
+pub record IsNamedCut (n : ℕ) (watched : NumberSet) (c : Computation) (items : List Item) (cut : Intervals)
+    : Type 0 where
+  pub satisfying : IsSatisfyingCut n watched c cut
+  pub named : (p : ℕ) → IsWatched n watched p → IsNamed items (member cut p)
 
--- The same read by clocks alone, each named state counted as true: one taken snapshot of each process, where none
--- precedes another; it would if its own component were less than the other's there (Mattern 1989; Garg and Waldecker
+-- The same read by clocks alone, each named state counted as true: one taken snapshot of each watched process, where
+-- none precedes another; it would if its own component were less than the other's there (Mattern 1989; Garg and Waldecker
 -- 1994).
-pub record IsCutByClocks (n : ℕ) (items : List Item) (cut : List ℕ) : Type 0 where
-  pub members : length cut ≡ n
+pub record IsCutByClocks (n : ℕ) (watched : NumberSet) (items : List Item) (cut : Intervals) : Type 0 where
+  pub members : NamesWatched n watched cut
   pub clock : ℕ → List ℕ
-  pub taken : (p : ℕ) → p < n → Contains (clocks_taken p items) (clock p)
-  pub own : (p : ℕ) → p < n → slice_index (clock p) p ≡ slice_index cut p
-  pub concurrent : (p q : ℕ) → p < n → q < n → p ≢ q → slice_index (clock p) p < slice_index (clock q) p → ⊥
+  pub taken : (p : ℕ) → IsWatched n watched p → Contains (clocks_taken p items) (clock p)
+  pub own : (p : ℕ) → IsWatched n watched p → slice_index (clock p) p ≡ interval_of cut p
+  pub concurrent : (p q : ℕ) → IsWatched n watched p → IsWatched n watched q → p ≢ q →
+      slice_index (clock p) p < slice_index (clock q) p → ⊥
 
 -- The report of what was taken, on the states that it names (Garg and Waldecker 1994: detection of the first cut).
-abbrev pub IsReportOfTaken : ℕ → Computation → List Item → Report → Type 0
-IsReportOfTaken n c items = IsReportOn n (IsNamedCut n c items) (IsDrained n items)
+abbrev pub IsReportOfTaken : ℕ → NumberSet → Computation → List Item → Report → Type 0
+IsReportOfTaken n watched c items = IsReportOn n watched (IsNamedCut n watched c items) (IsDrained n items)
 
 -- The report of what was taken, read by clocks alone.
-abbrev pub IsReportByClocks : ℕ → List Item → Report → Type 0
-IsReportByClocks n items = IsReportOn n (IsCutByClocks n items) (IsDrained n items)
+abbrev pub IsReportByClocks : ℕ → NumberSet → List Item → Report → Type 0
+IsReportByClocks n watched items = IsReportOn n watched (IsCutByClocks n watched items) (IsDrained n items)
 
 -- These clocks of process p never fall in a component, and rise in its own (Fidge 1988; Mattern 1989: clocks grow
 -- along a process).

@@ -1,5 +1,6 @@
 use Rattle.std.specs.Prelude.{◌≡◌, ℕ, ◌<◌, Bool, List, [], ◌∷◌, ◌++◌, count_by, filter, map, All}
 use Rattle.std.specs.List.{scan, zip}
+use Rattle.wcp_clock.specs.ProcessNumbers.{NumberSet}
 use Rattle.wcp_model.specs.declared.workload.Action.{Action}
 use Rattle.wcp_model.specs.declared.workload.Action.TheVariants as action
 use Rattle.wcp_model.specs.declared.workload.Task.{Task}
@@ -35,7 +36,7 @@ beside test actions xs = map (λ pair. pair.1) (filter (λ pair. test pair.0) (z
 -- The clock of a probe after each call of its log.
 abbrev pub clocks_after : ProbeSetup → List Call → List (List ℕ)
 clocks_after made log =
-    scan (after_call made.process) (λ s call. (after_call made.process s call).clock) (state_of_log made []) log
+    scan (after_call made) (λ s call. (after_call made s call).clock) (state_of_log made []) log
 
 -- The clock that the stamp of a received message carried.
 abbrev pub stamp_of : Call → List ℕ
@@ -52,15 +53,16 @@ stamps_got p actions log = beside (is_receive_from p) actions (map stamp_of log)
 
 -- Logs are of tasks if each follows what its process does, and for each two processes of which the tasks send from one
 -- to the other, the stamps that this gets are a front of those that the first sends.
-pub record AreLogsOfTasks (n : ℕ) (tasks : List Task) (logs : ℕ → List Call) : Type 0 where
+pub record AreLogsOfTasks (n : ℕ) (watched : NumberSet) (tasks : List Task) (logs : ℕ → List Call) : Type 0 where
   pub follows : (p : ℕ) → p < n → FollowsActions (actions_of p tasks) (logs p)
   pub in_order : (p q : ℕ) → p < n → q < n → 0 < count_by (sends p q) tasks →
       (in_transit : List (List ℕ)) × (stamps_got p (actions_of q tasks) (logs q) ++ in_transit
-      ≡ stamps_sent (setup n p) q (actions_of p tasks) (logs p))
+      ≡ stamps_sent (setup n watched p) q (actions_of p tasks) (logs p))
 
 -- The task log law: each log of tasks, with its close, is the log of its process in the computation of any fit order of
 -- these tasks.
 abbrev pub TaskLogLaw : Type 0
 TaskLogLaw =
-    (n : ℕ) (tasks order : List Task) (logs : ℕ → List Call) → All (IsWithin n) tasks → IsFitOrder tasks order →
-    AreLogsOfTasks n tasks logs → (p : ℕ) → p < n → IsLogOf n (computation_of n order) p (logs p ++ Closed ∷ [])
+    (n : ℕ) (watched : NumberSet) (tasks order : List Task) (logs : ℕ → List Call) → All (IsWithin n) tasks →
+    IsFitOrder tasks order → AreLogsOfTasks n watched tasks logs → (p : ℕ) → p < n →
+    IsLogOf n (computation_of n order) p (logs p ++ Closed ∷ [])

@@ -8,7 +8,7 @@
 //! early-find law (`growth_law`, `early_find_law`), and the first-reason law, that the first of some reasons by their
 //! tests is the first that holds (`first_reason_law`). `Plan::check` gives the first fault that a plan has, and none
 //! exactly where it has none; `is_attached`, `is_leaf` and `parent_of` answer as the definitions of the tree do;
-//! `plain_plan` is the plan of one relay that serves every process, and passes the check within the limits.
+//! `plain_plan` is the plan of one relay that serves every process, each watched, and passes the check within the limits.
 #![tactic(auto)]
 
 mod clock_laws;
@@ -23,6 +23,7 @@ mod probe_setup;
 mod state;
 mod step;
 mod task_log;
+mod watched;
 mod workload;
 
 pub use clock_laws::{clock_law, states_have_clocks};
@@ -37,4 +38,5 @@ pub use probe_setup::ProbeSetup;
 pub use state::State;
 pub use step::{Reply, Step, Why};
 pub use task_log::task_log_law;
+pub use watched::Watched;
 pub use workload::{Action, Task, Workload};

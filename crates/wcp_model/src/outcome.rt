@@ -1,7 +1,7 @@
 use wcp_clock::{Padding, PerProcess};
 
-/// A cut: the interval of each process.
-pub type GlobalCut = PerProcess<u32>;
+/// A cut: the interval of each watched process, and `None` for another.
+pub type GlobalCut = PerProcess<Option<u32>>;
 
 /// How many snapshots of a process were emitted, and how many of them the checker took. Close marks
 /// don't count.

@@ -10,6 +10,7 @@ ghost use Rattle.wcp_model.specs.PlanFault.{HasFault, HasWrongParent, IsFirstFau
 ghost use Rattle.wcp_model.specs.PlanFault.{IsPath, ServesRelay, tree_faults};
 
 use crate::probe_setup::ProbeSetup;
+use crate::watched::Watched;
 use std::alloc::{AllocError, Global};
 use thiserror::Error;
 use wcp_clock::{MAX_CAP, MAX_HOLD, MAX_PATH, MAX_PROCS, MAX_RELAYS};
@@ -36,9 +37,11 @@ pub struct Plan {
     pub parents: Vec<Parent>,
     /// The relay that serves each process.
     pub attach: Vec<Option<u32>>,
+    /// The processes that have a condition.
+    pub watched: Watched,
 }
 
-/// The plan of one relay, under the root, which serves every process. `Err` where memory runs out.
+/// The plan of one relay, under the root, which serves every process; each has a condition. `Err` where memory runs out.
 pub fn plain_plan(alloc: Global, n: u32, cap: u32, hold: u32) -> Result<Plan, AllocError>
     ensures plain { IfOk result (IsPlainPlan n cap hold) }
     ensures checked { IfOk result (λ plan.
@@ -47,7 +50,8 @@ pub fn plain_plan(alloc: Global, n: u32, cap: u32, hold: u32) -> Result<Plan, Al
 {
     let parents = vec![in alloc; Parent::Root]?;
     let attach = vec![in alloc; Some(0); n as usize]?;
-    Ok(Plan::new(n, cap, hold, parents, attach))
+    let watched = Watched::all(n.min(MAX_PROCS as u32));
+    Ok(Plan::new(n, cap, hold, parents, attach, watched))
 }
 
 /// Why a plan is refused. Where several faults apply, the first in this order is given.
@@ -78,10 +82,13 @@ pub enum PlanFault {
     /// `attach` has more or fewer entries than there are processes, or an entry that names no relay.
     #[error("a process that no relay serves")]
     Unattached,
+    /// No process is watched, or one that there isn't.
+    #[error("no watched process, or one that there is not")]
+    Watched,
 }
 
 /// The faults in the order in which they are looked for.
-const FAULTS: [PlanFault; 8] = [
+const FAULTS: [PlanFault; 9] = [
     PlanFault::Procs,
     PlanFault::Cap,
     PlanFault::Hold,
@@ -90,12 +97,21 @@ const FAULTS: [PlanFault; 8] = [
     PlanFault::Mixed,
     PlanFault::Childless,
     PlanFault::Unattached,
+    PlanFault::Watched,
 ];
 
 impl Plan {
-    /// The plan of this tree, with these capacities, checked by nobody.
-    pub fn new(n: u32, cap: u32, hold: u32, parents: Vec<Parent>, attach: Vec<Option<u32>>) -> Plan
-        ensures { result ≡ record { n = n; cap = cap; hold = hold; parents = parents; attach = attach } }
+    /// The plan of this tree, with these capacities and watched processes, checked by nobody.
+    pub fn new(
+        n: u32,
+        cap: u32,
+        hold: u32,
+        parents: Vec<Parent>,
+        attach: Vec<Option<u32>>,
+        watched: Watched,
+    ) -> Plan
+        ensures { result
+            ≡ record { n = n; cap = cap; hold = hold; parents = parents; attach = attach; watched = watched } }
     {
         Plan {
             n,
@@ -103,6 +119,7 @@ impl Plan {
             hold,
             parents,
             attach,
+            watched,
         }
     }
 
@@ -134,6 +151,7 @@ impl Plan {
             PlanFault::Mixed => self.has_mixed_relay(),
             PlanFault::Childless => self.has_childless_relay(),
             PlanFault::Unattached => self.has_unattached_process(),
+            PlanFault::Watched => self.has_wrong_watched(),
         }
     }
 
@@ -201,6 +219,21 @@ impl Plan {
         })
     }
 
+    fn has_wrong_watched(&self) -> bool
+        ensures { IsTrue result ↔ HasFault self.now plan_fault.Watched }
+    {
+        let mut nobody = true;
+        for p in 0..MAX_PROCS as u32 {
+            if self.watched.has(p) {
+                if p >= self.n {
+                    return true;
+                }
+                nobody = false;
+            }
+        }
+        nobody
+    }
+
     /// Whether the relay serves process `p`.
     pub fn is_attached(&self, relay: u32, p: u32) -> bool
         ensures { result ≡ is_attached self.now relay p }
@@ -230,11 +263,12 @@ impl Plan {
 
     /// What the probe of process `p` is made with.
     pub fn probe_setup(&self, p: u32) -> ProbeSetup
-        ensures { result ≡ setup self.now.n p }
+        ensures { result ≡ setup self.now.n self.now.watched p }
     {
         ProbeSetup {
             processes: self.n,
             process: p,
+            watched: self.watched.has(p),
         }
     }
 
@@ -255,6 +289,7 @@ impl Plan {
             self.hold,
             Vec::from_slice(alloc, &self.parents)?,
             Vec::from_slice(alloc, &self.attach)?,
+            self.watched,
         ))
     }
 

@@ -5,4 +5,6 @@ pub struct ProbeSetup {
     pub processes: u32,
     /// The number of its own.
     pub process: u32,
+    /// Whether it has a condition.
+    pub watched: bool,
 }

@@ -9,3 +9,4 @@ pub use Rattle.wcp_model.specs.Order.{HappenedBefore}
 pub use Rattle.wcp_model.specs.declared.state.State.{State}
 pub use Rattle.wcp_model.specs.declared.step.Step.{Step}
 pub use Rattle.wcp_model.specs.declared.step.Step.TheVariants.{Send, Recv, Observe}
+pub use Rattle.wcp_plain.specs.Named.{Names}

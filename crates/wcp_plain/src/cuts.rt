@@ -1,7 +1,9 @@
-ghost use Rattle.std.specs.Prelude.{◌≡◌, ◌≢◌, ℕ, ◌<◌, ◌≤◌, ◌^◌, ◌↔◌, length, true, IfOk, IsTrue};
+ghost use Rattle.std.specs.Prelude.{◌≡◌, ◌≢◌, ℕ, ◌<◌, ◌^◌, ◌↔◌, length, true, IfOk, IsTrue};
+ghost use Rattle.wcp_clock.specs.ProcessNumbers.{NumberSet};
 ghost use Rattle.wcp_model.specs.Computation.{IsTrueState, is_communication_of};
-ghost use Rattle.wcp_model.specs.Cut.{IsConsistent, IsSatisfyingCut, member};
+ghost use Rattle.wcp_model.specs.Cut.{IsSatisfyingCut, NamesWatched, member};
 ghost use Rattle.wcp_model.specs.Order.{HappenedBefore};
+ghost use Rattle.wcp_plain.specs.Named.{Names};
 
 use crate::order::happened_before;
 use std::alloc::{AllocError, Global};
@@ -54,22 +56,29 @@ fn is_true_observation_of(process: usize, step: &Step) -> bool
     }
 }
 
-/// Whether the list of intervals, one for each process, is a satisfying cut. `Err` where memory runs
+/// Whether the cut, an interval of each process that it names, is satisfying. `Err` where memory runs
 /// out.
-pub fn is_satisfying_cut(alloc: Global, steps: &[Step], cut: &[u64]) -> Result<bool, AllocError>
-    ensures { IfOk result (λ yes. IsTrue yes ↔ IsSatisfyingCut (length cut.now) steps.now cut.now) }
+pub fn is_satisfying_cut(
+    alloc: Global,
+    steps: &[Step],
+    cut: &[Option<u64>],
+) -> Result<bool, AllocError>
+    ensures { IfOk result (λ yes. (n : ℕ) (watched : NumberSet) → NamesWatched n watched cut.now
+        → IsTrue yes ↔ IsSatisfyingCut n watched steps.now cut.now) }
 {
     Ok(has_true_members(steps, cut) && is_consistent(alloc, steps, cut)?)
 }
 
 /// Whether each member of the cut is a true state.
-fn has_true_members(steps: &[Step], cut: &[u64]) -> bool
+fn has_true_members(steps: &[Step], cut: &[Option<u64>]) -> bool
     ensures true_states { IsTrue result
-        ↔ ((p : ℕ) → p < length cut.now → IsTrueState steps.now (member cut.now p)) }
-    ensures few { IsTrue result → length cut.now ≤ 2 ^ 32 }
+        ↔ ((p : ℕ) → Names cut.now p → IsTrueState steps.now (member cut.now p)) }
+    ensures few { IsTrue result → (p : ℕ) → Names cut.now p → p < 2 ^ 32 }
 {
     for p in 0..cut.len() {
-        if !is_true_in(steps, p, cut[p]) {
+        if let Some(interval) = cut[p]
+            && !is_true_in(steps, p, interval)
+        {
             return false;
         }
     }
@@ -77,12 +86,13 @@ fn has_true_members(steps: &[Step], cut: &[u64]) -> bool
 }
 
 /// Whether no member of the cut happened before another.
-fn is_consistent(alloc: Global, steps: &[Step], cut: &[u64]) -> Result<bool, AllocError>
-    requires { length cut.now ≤ 2 ^ 32 }
-    ensures { IfOk result (λ yes. IsTrue yes ↔ IsConsistent (length cut.now) steps.now cut.now) }
+fn is_consistent(alloc: Global, steps: &[Step], cut: &[Option<u64>]) -> Result<bool, AllocError>
+    requires { (p : ℕ) → Names cut.now p → p < 2 ^ 32 }
+    ensures { IfOk result (λ yes. IsTrue yes ↔ ((p q : ℕ) → Names cut.now p → Names cut.now q → p ≢ q
+        → HappenedBefore steps.now (member cut.now p) (member cut.now q) → ⊥)) }
 {
     for p in 0..cut.len() {
-        if precedes_another(alloc, steps, cut, p)? {
+        if cut[p].is_some() && precedes_another(alloc, steps, cut, p)? {
             return Ok(false);
         }
     }
@@ -93,20 +103,23 @@ fn is_consistent(alloc: Global, steps: &[Step], cut: &[u64]) -> Result<bool, All
 fn precedes_another(
     alloc: Global,
     steps: &[Step],
-    cut: &[u64],
+    cut: &[Option<u64>],
     p: usize,
 ) -> Result<bool, AllocError>
-    requires few { length cut.now ≤ 2 ^ 32 }
-    requires within { p < length cut.now }
+    requires few { (q : ℕ) → Names cut.now q → q < 2 ^ 32 }
+    requires named { Names cut.now p }
     ensures { IfOk result
         (λ yes. IsTrue yes
         ↔ ((q : ℕ)
-        × (q < length cut.now)
+        × Names cut.now q
         × (p ≢ q)
         × HappenedBefore steps.now (member cut.now p) (member cut.now q))) }
 {
     for q in 0..cut.len() {
-        if p != q && happened_before(alloc, steps, member(cut, p), member(cut, q))? {
+        if p != q
+            && cut[q].is_some()
+            && happened_before(alloc, steps, member(cut, p), member(cut, q))?
+        {
             return Ok(true);
         }
     }
@@ -114,13 +127,13 @@ fn precedes_another(
 }
 
 /// The member of process p of the cut.
-fn member(cut: &[u64], p: usize) -> State
+fn member(cut: &[Option<u64>], p: usize) -> State
     requires number { p < 2 ^ 32 }
     requires within { p < length cut.now }
     ensures { result ≡ member cut.now p }
 {
     State {
         process: p as u32,
-        interval: cut[p],
+        interval: cut[p].unwrap_or(0),
     }
 }

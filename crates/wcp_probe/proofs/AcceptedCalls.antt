@@ -13,8 +13,8 @@ pub close_accepted : (core : Core) → Accepts core Closed (record core { closed
 close_accepted core log stands = grind (arith, log_push (setup_of core) log Closed)
 
 -- the first true observation of an interval emits a snapshot
-pub snapshot_accepted : (core : Core) → core.flag ≡ false → Accepts core (Observed true) (record core { flag = true; emitted = core.emitted + 1; pending = Some (note.Snap core.emitted core.clock) })
-snapshot_accepted core unflagged log stands = grind (arith, log_push (setup_of core) log (Observed true))
+pub snapshot_accepted : (core : Core) → core.watched ≡ true → core.flag ≡ false → Accepts core (Observed true) (record core { flag = true; emitted = core.emitted + 1; pending = Some (note.Snap core.emitted core.clock) })
+snapshot_accepted core is_watched unflagged log stands = grind (arith, log_push (setup_of core) log (Observed true))
 
 -- a receive counts one event of the receiver, and takes the greater of each other component
 pub receive_accepted : (core : Core) (stamp clock : List ℕ) → length clock ≡ length core.clock → clock ≡ slice_set (merged core.clock stamp) core.id (slice_index core.clock core.id + 1) → Accepts core (Received stamp) (record core { clock = clock; flag = false })

@@ -1,13 +1,15 @@
 use Rattle.std.specs.Prelude.{◌≡◌, ℕ, Bool, Option, List, [], ◌∷◌, ◌++◌, length, MatchOption}
 use Rattle.wcp_clock.specs.declared.note.Note.{Note}
 use Rattle.wcp_model.specs.declared.probe_setup.ProbeSetup.{ProbeSetup}
-use Rattle.wcp_model.specs.ProbeLog.{Call, setup, state_of_log}
+use Rattle.wcp_model.specs.ProbeLog.{Call, state_of_log}
 
--- What a probe has: its watch, its process and the limit of its clock, its clock, whether it has emitted the snapshot
--- of this interval (the flag) and is closed, how many snapshots it has emitted, and the note that is pending.
+-- What a probe has: its watch, its process, whether that is watched, and the limit of its clock, its clock, whether it
+-- has emitted the snapshot of this interval (the flag) and is closed, how many snapshots it has emitted, and the note
+-- that is pending.
 pub record Core : Type 0 where
   pub watch : ℕ
   pub id : ℕ
+  pub watched : Bool
   pub limit : ℕ
   pub clock : List ℕ
   pub flag : Bool
@@ -17,7 +19,7 @@ pub record Core : Type 0 where
 
 -- What a probe was made with.
 abbrev pub setup_of : Core → ProbeSetup
-setup_of core = setup (length core.clock) core.id
+setup_of core = record { processes = length core.clock; process = core.id; watched = core.watched }
 
 -- The note is the last of these.
 abbrev pub IsLast : List Note → Note → Type 0

@@ -48,6 +48,7 @@ pub enum Refusal {
 pub struct ProbeCore {
     watch: u64,
     id: u32,
+    watched: bool,
     limit: u32,
     clock: Clock,
     flag: bool,
@@ -67,6 +68,7 @@ impl Model for ProbeCore {
     ghost view = { λ p. record {
       watch = p.watch;
       id = p.id;
+      watched = p.watched;
       limit = p.limit;
       clock = p.clock;
       flag = p.flag;
@@ -95,6 +97,7 @@ impl ProbeCore {
         ensures fresh { result ≡ record {
           watch = watch;
           id = made.process;
+          watched = made.watched;
           limit = limit;
           clock = replicate made.processes 0;
           flag = false;
@@ -107,6 +110,7 @@ impl ProbeCore {
         ProbeCore {
             watch,
             id: made.process,
+            watched: made.watched,
             limit,
             clock: Clock::new(made.processes),
             flag: false,
@@ -117,12 +121,13 @@ impl ProbeCore {
     }
 
     /// The process observes its condition. The answer is whether a snapshot was emitted, which then
-    /// is pending: the first true observation of an interval emits one.
+    /// is pending: the first true observation of an interval emits one, unless the process isn't watched.
     pub fn observe(&mut self, holds: bool) -> Result<bool, Refusal>
         ensures first { MatchResult result (λ _. observe_refusal self.old ≡ None)
             (λ why. observe_refusal self.old ≡ Some why) }
         ensures accepted { OnOk result (Accepts self.old (Observed holds) self.new) }
-        ensures emits { IfOk result (λ emitted. IsTrue emitted ↔ (IsTrue holds × (self.old.flag ≡ false))) }
+        ensures emits { IfOk result (λ emitted. IsTrue emitted
+            ↔ (IsTrue holds × (self.old.watched ≡ true) × (self.old.flag ≡ false))) }
         ensures spared { IfOk result (λ emitted. IsTrue emitted → self.old.pending ≡ None) }
         ensures pending { IfOk result (λ emitted. self.new ≡ (if emitted
             then record self.old {
@@ -136,7 +141,7 @@ impl ProbeCore {
         if self.closed {
             return Err(Refusal::Closed);
         }
-        if !holds || self.flag {
+        if !holds || !self.watched || self.flag {
             return Ok(false);
         }
         self.pending = Some(Note::Snap {

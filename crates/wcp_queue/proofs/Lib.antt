@@ -1,4 +1,5 @@
 mod Words
+pub mod WatchedRows
 pub mod Choices
 pub mod LeftQueues
 pub mod NotesTaken

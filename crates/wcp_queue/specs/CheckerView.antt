@@ -3,6 +3,9 @@ use Rattle.wcp_queue.specs.Checker.{CheckerState, IsSoundChecker}
 
 abbrev pub checker_state : Inside → CheckerState
 checker_state c = record {
+  count = c.processes;
+  watched = c.watched;
+  members = c.members;
   queues = c.queues.items;
   floor = c.floor;
   taken = c.taken;

@@ -3,3 +3,4 @@ pub mod CheckerView
 pub mod Choices
 pub mod Elimination
 pub mod Floor
+pub mod Rows

@@ -1,11 +1,13 @@
 ghost use Rattle.std.specs.Prelude.{◌≡◌, ◌≢◌, ℕ, true, false, ◌*◌, ◌^◌, ◌<◌, ◌≤◌, [], List, length, count_by};
-ghost use Rattle.std.specs.Prelude.{◌↔◌, IfOk, IfErr, IsOk, IsTrue, OnOk, OnErr};
+ghost use Rattle.std.specs.Prelude.{◌↔◌, All, IfOk, IfErr, IfSome, IsNone, IsOk, IsSome, IsTrue, OnOk, OnErr};
 ghost use Rattle.std.specs.List.{list_all, list_any};
 ghost use Rattle.wcp_clock.specs.Limits.{most_processes};
 ghost use Rattle.wcp_clock.specs.declared.note.Item.{Item};
 ghost use Rattle.wcp_clock.specs.declared.note.Note.TheVariants.{Snap};
 ghost use Rattle.wcp_model.specs.declared.outcome.Report.TheVariants.{Found, Nothing};
 ghost use Rattle.wcp_clock.specs.Notes.{is_close, is_last, is_lost};
+ghost use Rattle.wcp_model.specs.Watched.{AreSomeWatched};
+ghost use Rattle.wcp_queue.specs.Rows.{cut_of, members_of, row_of};
 ghost use Rattle.wcp_model.specs.Report.{ClocksRise, IsReportByClocks, clocks_taken, notes_taken};
 
 use crate::elimination::add_candidate;
@@ -13,26 +15,33 @@ use crate::floor::Floor;
 use crate::queue::Queue;
 use std::alloc::{AllocError, Global};
 use std::marker::Model;
-use wcp_clock::{Clock, Item, MAX_PROCS, Note};
-use wcp_model::{GlobalCut, Report};
+use wcp_clock::{Clock, Item, MAX_PROCS, Note, PerProcess};
+use wcp_model::{GlobalCut, Report, Watched};
 
 /// Takes the snapshots of 1 to 16 processes, in any interleaving, and finds the least cut of those
-/// taken at which every process's condition holds.
+/// taken at which the condition of every watched process holds.
 #[derive(Debug, Drop)]
 pub struct Checker {
+    processes: u32,
+    watched: Watched,
+    members: PerProcess<u32>,
     queues: Vec<Queue>,
     floor: Floor,
     taken: [u64; MAX_PROCS],
     closed: [bool; MAX_PROCS],
     lost: [bool; MAX_PROCS],
-    found: Option<GlobalCut>,
+    found: Option<PerProcess<u32>>,
     starved: bool,
 }
 
 impl Model for Checker {
     ghost use Rattle.wcp_queue.specs.Checker.{CheckerState};
+    ghost use Rattle.std.specs.Coded.{codes};
+    ghost use Rattle.wcp_clock.specs.ProcessNumbers.{numbers_code};
 
     ghost Value = { CheckerState };
+
+    ghost coded = { Prim.hlevel (codes, numbers_code) };
 
     ghost use Rattle.wcp_queue.specs.CheckerView.{checker_state, IsSoundInside};
 
@@ -46,19 +55,25 @@ impl Checker {
     ghost use Rattle.wcp_queue.specs.Checker.{MayTake, StandsForItems, TakesItem, IsSearching, GrowsNothing};
     ghost use Rattle.wcp_queue.specs.Checker.{KeepsFound, HasFound, IsReportOfAnyClocks, IsReportOfStarved};
 
-    /// A checker of `n` processes that has taken nothing. `Err` where memory runs out.
-    pub fn new(alloc: Global, n: u32) -> Result<Checker, AllocError>
-        requires some { 0 < n }
+    /// A checker of `n` processes that has taken nothing, for the conditions of those that are watched. `Err` where
+    /// memory runs out.
+    pub fn new(alloc: Global, n: u32, watched: Watched) -> Result<Checker, AllocError>
         requires few { n ≤ most_processes }
+        requires watched { AreSomeWatched n watched }
         ensures processes { IfOk result (λ checker. processes checker ≡ n) }
+        ensures watched { IfOk result (λ checker. checker.watched ≡ watched) }
         ensures empty { IfOk result (λ checker. StandsForItems checker []) }
         ensures not_starved { IfOk result (λ checker. checker.starved ≡ false) }
     {
-        let mut queues = Vec::with_capacity(alloc, n as usize)?;
-        for _ in 0..n {
+        let members = members_of(n, &watched);
+        let mut queues = Vec::with_capacity(alloc, members.len() as usize)?;
+        for _ in 0..members.len() {
             queues.push(Queue::new(alloc)?)?;
         }
         Ok(Checker {
+            processes: n,
+            watched,
+            members,
             queues,
             floor: Floor::new(),
             taken: [0; MAX_PROCS],
@@ -75,7 +90,14 @@ impl Checker {
         ensures some { 0 < processes self.now }
         ensures few { processes self.now ≤ most_processes }
     {
-        self.queues.len() as u32
+        self.processes
+    }
+
+    /// Which of them are watched.
+    pub fn watched(&self) -> Watched
+        ensures { result ≡ self.now.watched }
+    {
+        self.watched
     }
 
     /// Takes an item. `Err` where memory runs out: it hands the item back, and nothing has changed.
@@ -86,6 +108,7 @@ impl Checker {
         ensures found_stays { KeepsFound self.old self.new }
         ensures grows_nothing { ¬ IsSearching self.old → GrowsNothing self.old self.new }
         ensures processes { processes self.new ≡ processes self.old }
+        ensures watched { self.new.watched ≡ self.old.watched }
 
         // Want of memory.
         ensures handed_back { IfErr result (λ refused. refused.1 ≡ item) }
@@ -122,14 +145,37 @@ impl Checker {
         ensures found_stays { KeepsFound self.old self.new }
         ensures grows_nothing { ¬ IsSearching self.old → GrowsNothing self.old self.new }
         ensures processes { processes self.new ≡ processes self.old }
+        ensures watched { self.new.watched ≡ self.old.watched }
         ensures unchanged { OnErr result (self.new ≡ self.old) }
         ensures needs_none { ¬ IsSearching self.old → IsOk result }
     {
-        if self.is_searching() {
-            add_candidate(&mut self.queues, p, clock, &mut self.floor, &mut self.found)?;
+        if let Some(row) = self.row_to_search(p as u32) {
+            let known = clock.restrict(&self.members);
+            add_candidate(
+                &mut self.queues,
+                row as usize,
+                &known,
+                &mut self.floor,
+                &mut self.found,
+            )?;
         }
         self.taken[p] += 1;
         Ok(())
+    }
+
+    /// The row of process `p`, if it is watched and the checker searches.
+    fn row_to_search(&self, p: u32) -> Option<u32>
+        ensures none { IsNone result → IsSearching self.now → row_of self.now.members p ≡ length self.now.members }
+        ensures searching { IsSome result → IsSearching self.now }
+        ensures row { IfSome result (λ row. row ≡ row_of self.now.members p) }
+        ensures within { IfSome result (λ row. row < length self.now.members) }
+        ensures members { All (λ p. p < most_processes) self.now.members }
+    {
+        if self.is_searching() {
+            find_row(&self.members, p)
+        } else {
+            None
+        }
     }
 
     fn is_searching(&self) -> bool
@@ -160,20 +206,21 @@ impl Checker {
     pub fn report(&self) -> Report
         ensures value { result ≡ report_of self.now }
         ensures any_clocks { self.now.starved ≡ false → (items : List Item) → StandsForItems self.now items
-            → IsReportOfAnyClocks (processes self.now) items result }
+            → IsReportOfAnyClocks (processes self.now) self.now.watched items result }
         ensures exact { self.now.starved ≡ false → (items : List Item) → StandsForItems self.now items
-            → ClocksRise (processes self.now) items → IsReportByClocks (processes self.now) items result }
+            → ClocksRise (processes self.now) items
+            → IsReportByClocks (processes self.now) self.now.watched items result }
         ensures starved { self.now.starved ≡ true → (items : List Item) → StandsForItems self.now items
-            → IsReportOfStarved (processes self.now) items result }
+            → IsReportOfStarved (processes self.now) self.now.watched items result }
         ensures lost { (p : ℕ) → p < processes self.now → lost_of self.now p ≡ true → result ≢ Nothing }
     {
-        if let Some(cut) = self.found {
-            return Report::Found(cut);
+        if let Some(intervals) = &self.found {
+            return Report::Found(cut_of(self.processes, &self.members, intervals));
         }
         if self.starved {
             return Report::Undecided;
         }
-        let n = self.queues.len();
+        let n = self.processes as usize;
         if are_all_closed(&self.closed[..n]) {
             Report::Nothing
         } else {
@@ -187,7 +234,7 @@ impl Checker {
         ensures value { result ≡ self.now.floor.tests }
         ensures bound { (items : List Item) → StandsForItems self.now items
             → result ≤ processes self.now * count_by is_snapshot items }
-        ensures alone { processes self.now ≡ 1 → result ≡ 0 }
+        ensures alone { length self.now.members ≡ 1 → result ≡ 0 }
     {
         self.floor.tests()
     }
@@ -221,6 +268,53 @@ impl Checker {
     {
         self.lost[p as usize]
     }
+}
+
+/// The watched ones of `n` processes, by rising number.
+fn members_of(n: u32, watched: &Watched) -> PerProcess<u32>
+    requires few { n ≤ most_processes }
+    requires watched { AreSomeWatched n watched.now }
+    ensures { result ≡ members_of n watched.now }
+{
+    let mut members = [0; MAX_PROCS];
+    let mut count = 0;
+    for p in 0..n {
+        if watched.has(p) {
+            members[count] = p;
+            count += 1;
+        }
+    }
+    PerProcess::new(&members[..count])
+}
+
+/// The place of process `p` among these.
+fn find_row(members: &PerProcess<u32>, p: u32) -> Option<u32>
+    ensures none { IsNone result → row_of members.now p ≡ length members.now }
+    ensures row { IfSome result (λ row. row ≡ row_of members.now p) }
+    ensures within { IfSome result (λ row. row < length members.now) }
+{
+    for row in 0..members.len() {
+        if members.get(row) == p {
+            return Some(row);
+        }
+    }
+    None
+}
+
+/// The cut of `n` processes that names the interval of each of these members.
+fn cut_of(n: u32, members: &PerProcess<u32>, intervals: &PerProcess<u32>) -> GlobalCut
+    requires some { 0 < n }
+    requires few { n ≤ most_processes }
+    requires each { length intervals.now ≡ length members.now }
+    ensures { result ≡ cut_of n members.now intervals.now }
+{
+    let mut cut = [None; MAX_PROCS];
+    for p in 0..n {
+        if let Some(row) = find_row(members, p) {
+            cut[p as usize] = Some(intervals.get(row));
+        }
+    }
+    GlobalCut::new(&cut[..n as usize])
 }
 
 fn are_all_closed(closed: &[bool]) -> bool

@@ -8,17 +8,16 @@ ghost use Rattle.wcp_queue.specs.Elimination.{Compares, Eliminates, AddsCandidat
 use crate::floor::Floor;
 use crate::queue::Queue;
 use std::alloc::AllocError;
-use wcp_clock::Clock;
-use wcp_model::GlobalCut;
+use wcp_clock::{Clock, PerProcess};
 
-/// Adds a snapshot of `p` and eliminates heads. Finds the cut of the heads that are left, if every
+/// Adds a snapshot of `p`, one of the watched processes by rising number, and eliminates heads. Finds the cut of the heads that are left, if every
 /// process has one. `Err` where memory runs out.
 pub fn add_candidate(
     queues: &mut [Queue],
     p: usize,
     clock: &Clock,
     floor: &mut Floor,
-    found: &mut Option<GlobalCut>,
+    found: &mut Option<PerProcess<u32>>,
 ) -> Result<(), AllocError>
     requires few { length queues.old ≤ most_processes }
     requires within { p < length queues.old }

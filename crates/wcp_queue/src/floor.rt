@@ -4,8 +4,7 @@ ghost use Rattle.wcp_clock.specs.Limits.{most_processes};
 ghost use Rattle.wcp_queue.specs.Floor.{component, has_head, first_floor, HaveHeads, IsCutOfHeads, IsSameBut, RisesTo};
 
 use crate::queue::Queue;
-use wcp_clock::MAX_PROCS;
-use wcp_model::GlobalCut;
+use wcp_clock::{MAX_PROCS, PerProcess};
 
 /// The floor under the heads: the componentwise maximum of every clock that was ever a head. Where a
 /// process has a head, its own component is the floor's.
@@ -43,8 +42,8 @@ impl Floor {
         self.tests
     }
 
-    /// The cut of the heads, if each of `n` processes has one.
-    pub fn cut(&self, n: usize) -> Option<GlobalCut>
+    /// The intervals of the heads, if each of `n` processes has one.
+    pub fn cut(&self, n: usize) -> Option<PerProcess<u32>>
         requires some { 0 < n }
         requires few { n ≤ most_processes }
         ensures { MatchOption result (HaveHeads n self.now → ⊥) (IsCutOfHeads n self.now) }
@@ -54,7 +53,7 @@ impl Floor {
                 return None;
             }
         }
-        Some(GlobalCut::new(&self.components[..n]))
+        Some(PerProcess::new(&self.components[..n]))
     }
 
     /// Whether a snapshot of `p`, one of `n` processes, with this component of its own lies under the

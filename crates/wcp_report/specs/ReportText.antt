@@ -1,14 +1,20 @@
-use Rattle.std.specs.Prelude.{ℕ, ◌+◌, List, [], ◌∷◌, ◌++◌, codes, sum_by}
+use Rattle.std.specs.Prelude.{ℕ, ◌+◌, Option, Some, None, List, [], ◌∷◌, ◌++◌, codes, sum_by}
 use Rattle.std.specs.Fmt.{decimal}
 use Rattle.std.specs.List.{flat_map}
+use Rattle.wcp_model.specs.Cut.{Intervals}
 use Rattle.wcp_model.specs.declared.outcome.Report.{Report}
 use Rattle.wcp_model.specs.declared.outcome.Report.TheVariants.{Found, Nothing, Undecided}
 use Rattle.wcp_model.specs.declared.outcome.Tally.{Tally}
 use Rattle.wcp_model.specs.declared.outcome.Outcome.{Outcome}
 
--- `found`, and the interval of each process.
-abbrev pub cut_text : List ℕ → List ℕ
-cut_text cut = codes "found" ++ (flat_map (λ interval. 32 ∷ decimal interval) cut ++ 10 ∷ [])
+-- A space, and the interval of a process in the cut; `-` where it isn't watched.
+abbrev pub member_text : Option ℕ → List ℕ
+member_text (Some interval) = 32 ∷ decimal interval
+member_text None = codes " -"
+
+-- `found`, and the interval of each watched process.
+abbrev pub cut_text : Intervals → List ℕ
+cut_text cut = codes "found" ++ (flat_map member_text cut ++ 10 ∷ [])
 
 -- The line that says what is known of the bad moment.
 abbrev pub report_line : Report → List ℕ

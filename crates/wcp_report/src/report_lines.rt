@@ -1,6 +1,7 @@
 //! The printed text of an outcome.
 ghost use Rattle.std.specs.Prelude.{◌≡◌, ◌++◌, IfOk, OnOk, string_bytes};
-ghost use Rattle.wcp_report.specs.ReportText.{cut_text, report_line, process_lines, total_line, outcome_text};
+ghost use Rattle.wcp_report.specs.ReportText.{cut_text, member_text, report_line, process_lines, total_line};
+ghost use Rattle.wcp_report.specs.ReportText.{outcome_text};
 
 use std::alloc::{AllocError, Global};
 use wcp_model::{GlobalCut, Outcome, Report, Tallies};
@@ -39,10 +40,18 @@ fn push_cut(text: &mut String, cut: &GlobalCut) -> Result<(), AllocError>
 {
     text.push_str("found")?;
     for p in 0..cut.len() {
-        let interval = cut.get(p);
-        write!(text, " {interval}")?;
+        push_member(text, cut.get(p))?;
     }
     text.push_str("\n")
+}
+
+fn push_member(text: &mut String, member: Option<u32>) -> Result<(), AllocError>
+    ensures { OnOk result (string_bytes text.new ≡ string_bytes text.old ++ member_text member) }
+{
+    match member {
+        Some(interval) => write!(text, " {interval}"),
+        None => text.push_str(" -"),
+    }
 }
 
 fn push_processes(text: &mut String, tallies: &Tallies) -> Result<(), AllocError>

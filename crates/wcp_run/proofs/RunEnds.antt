@@ -37,6 +37,9 @@ module _ {plan : Plan} {tasks : List Task} {ends : Ends WorkerEnd} (run : AreEnd
   n_is : ends.checker.processes ≡ plan.n
   n_is = all_processes run.are.wired (rw run.are.inbox at run.ended.checker)
 
+  watched_is : ends.checker.watched ≡ plan.watched
+  watched_is = run.ended.checker.same_watched ∙ run.are.watched
+
   -- the process that the checker tells to be lost is one of the workers'
   pub told_within : IsToldWithin ends
   told_within p told =
@@ -56,7 +59,7 @@ module _ {plan : Plan} {tasks : List Task} {ends : Ends WorkerEnd} (run : AreEnd
     here : (p : ℕ) → p < plan.n → HasPlayedAt run.ended.workers left p
     here p below = played_at run.ended.workers left p (omega (arith, workers_count))
 
-    of_process : (p : ℕ) (below : p < plan.n) → IsEndOfProcess run.are.watch plan.n p (here p below).worker.probe (here p below).probe
+    of_process : (p : ℕ) (below : p < plan.n) → IsEndOfProcess run.are.watch plan.n plan.watched p (here p below).worker.probe (here p below).probe
     of_process p below =
         let one = here p below in
         end_of_process run.are.wired p one.worker.probe one.probe (run.are.workers.each p one.worker one.worker_at).probe one.has.closed
@@ -67,10 +70,10 @@ module _ {plan : Plan} {tasks : List Task} {ends : Ends WorkerEnd} (run : AreEnd
         let below : k < plan.n = omega (arith, as_many run.ended.workers left, workers_count) in
         subst (IsEndOfSomeProbe run.are.watch.probes.items)
         (sym (get_or_from_slice_get played.probes.items k (here k below).probe d (here k below).probe_at)) (of_process k below).is_end)
-        run.ended run.are.relays run.are.inbox
+        run.ended run.are.relays run.are.inbox run.are.watched
 
     module _ (matched : AreMatched played.mailboxes.items) {book : BookState} {settled : Settled} (is : IsSettled played.probes.items ends.checker book settled) where
-      have_run : HaveRun plan.n tasks ends.checker.receipt.taken played.mailboxes.items
+      have_run : HaveRun plan.n plan.watched tasks ends.checker.receipt.taken played.mailboxes.items
       have_run = record {
         count = (as_many run.ended.workers left).1 ∙ workers_count;
         each = λ p mailbox at.
@@ -112,9 +115,9 @@ module _ {plan : Plan} {tasks : List Task} {ends : Ends WorkerEnd} (run : AreEnd
           let count = snapshots_counted (notes_taken p ends.checker.receipt.taken) in
           ((cc), (cc))
 
-      pub outcome_of_run : IsWorkloadOutcome plan.n tasks (record { report = settled.report; tallies = settled.tallies })
-      outcome_of_run = IsWorkloadOutcome-run plan.n tasks ends.checker.receipt.taken played.mailboxes.items have_run _ run.within (record {
-        exact = λ rising. rw n_is at is.exact;
+      pub outcome_of_run : IsWorkloadOutcome plan.n plan.watched tasks (record { report = settled.report; tallies = settled.tallies })
+      outcome_of_run = IsWorkloadOutcome-run plan.n plan.watched tasks ends.checker.receipt.taken played.mailboxes.items have_run _ run.within (record {
+        exact = λ rising. rw (n_is, watched_is) at is.exact;
         processes = is.processes ∙ n_is;
         emitted = λ p tally at. (tally_at p tally at).0;
         taken = λ p tally at. (tally_at p tally at).1;

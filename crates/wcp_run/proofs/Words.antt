@@ -17,3 +17,4 @@ pub use Rattle.wcp_worker.specs.Played.{HasPlayed, IsEndOfWorker}
 pub use Rattle.wcp_worker.specs.Runs.{AreOfLane, ends_between, outbox_of, inbox_of, AreMatched, HaveRun}
 pub use Rattle.wcp_worker.specs.declared.worker.Worker.{Worker}
 pub use Rattle.wcp_worker.specs.declared.worker_end.WorkerEnd.{WorkerEnd}
+pub use Rattle.wcp_clock.specs.ProcessNumbers.{NumberSet}

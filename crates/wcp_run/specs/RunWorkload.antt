@@ -16,7 +16,7 @@ use Rattle.wcp_watch.specs.CheckerEnds.{IsFreshFor}
 use Rattle.wcp_watch.specs.RunParts.{HaveEnded}
 
 -- The parts of a watch that was wired as a plan says: a worker for each process, which has its probe and does what the
--- tasks say, the relays, and a fresh checker.
+-- tasks say, the relays, and a fresh checker for the conditions of those that are watched.
 pub record ArePartsOf (plan : Plan) (tasks : List Task) (parts : Parts Worker) : Type 0 where
   pub number : ℕ
   pub watch : Watch
@@ -24,6 +24,7 @@ pub record ArePartsOf (plan : Plan) (tasks : List Task) (parts : Parts Worker) :
   pub workers : AreWorkersOf tasks watch.probes.items parts.workers.items
   pub relays : parts.relays.items ≡ watch.relays.items
   pub inbox : parts.checking.inbox ≡ watch.inbox
+  pub watched : parts.checking.checker.watched ≡ plan.watched
   pub fresh : IsFreshFor parts.checking.inbox parts.checking.checker
 
 -- These are the ends of such parts, of tasks under a checked plan.

@@ -22,7 +22,7 @@ pub(crate) fn open_parts(alloc: Global, workload: &Workload) -> Result<Parts<Wor
         inbox,
     } = watch(alloc, &workload.plan, 0)?;
     let workers = open_workers(alloc, workload, probes)?;
-    let checker = Checker::new(alloc, workload.plan.n)?;
+    let checker = Checker::new(alloc, workload.plan.n, workload.plan.watched)?;
     Ok(Parts {
         workers,
         relays,

@@ -1,6 +1,7 @@
 -- What follows for a text from what reading it answered.
-use Rattle.wcp_script.proofs.Words.{◌≡◌, ℕ, ◌≤◌, List, length, Result, Ok, Err, sym, ap, subst, ◌∙◌, arith, IfOk, IfErr, Plan, Step, Task, IsCheckedPlan, IsSamePlan, IsFitOrder, CouldBeRead, ScriptFault, ReadFault, Script, NoMemory, IsStuckAt, HeadRead, head_of, IsPlanOf, TextKind, workloads, schedules, steps_by, Spells, HasTextFault, InHead, OfPlan, InStep, HasWorkloadFault, InText, AtEnd, IsReadAs, IsRefusedFor, IsFaultOf, ReadsSchedule, ReadsWorkload}
+use Rattle.wcp_script.proofs.Words.{◌≡◌, ℕ, ◌≤◌, List, length, Result, Ok, Err, sym, ap, subst, ◌∙◌, arith, IfOk, IfErr, Plan, Step, Task, IsCheckedPlan, IsSamePlan, IsFitOrder, CouldBeRead, ScriptFault, ReadFault, Script, NoMemory, IsStuckAt, HeadRead, head_of, IsPlanOf, TextKind, workloads, schedules, steps_by, Spells, HasTextFault, InHead, OfPlan, InStep, HasWorkloadFault, InText, AtEnd, IsReadAs, IsRefusedFor, IsFaultOf, ReadsSchedule, ReadsWorkload, some_watched}
 use Rattle.wcp_model.specs.declared.workload.Workload.{Workload}
+use Rattle.wcp_model.specs.Watched.{AreSomeWatched}
 use Rattle.wcp_script.specs.declared.schedule.Schedule.{Schedule}
 use Rattle.wcp_script.proofs.Questions.{ok_is}
 use Rattle.wcp_script.proofs.SamePlan.{same_plan, same_fault_of_plan}
@@ -18,7 +19,10 @@ same_steps_after text_kind one other same = ap (steps_after text_kind) same
 
 -- A text spells one plan and one list of steps.
 same_reading : {S : Type 0} (text_kind : TextKind S) (text : List ℕ) (plan plan' : Plan) (steps steps' : List S) → Spells text_kind text plan steps → Spells text_kind text plan' steps' → IsSamePlan plan plan' × (steps ≡ steps')
-same_reading text_kind text plan plan' steps steps' h k = grind arith
+same_reading text_kind text plan plan' steps steps' h k =
+    let same = same_head text_kind text h.read k.read h.head k.head in
+    let read : steps_after text_kind h.read ≡ steps_after text_kind k.read = same_steps_after text_kind h.read k.read same in
+    (same_plan h.read k.read plan plan' same h.plan_of_head k.plan_of_head, grind (arith, read, h.lines, k.lines))
 
 -- A plan of one head is without fault where another plan of the head is.
 no_plan_fault : {S : Type 0} (text_kind : TextKind S) (text : List ℕ) (one other : HeadRead) (plan plan' : Plan) → head_of text_kind.is_step_word text ≡ Ok one → head_of text_kind.is_step_word text ≡ Ok other → IsPlanOf one.head plan → IsPlanOf other.head plan' → IsCheckedPlan plan' → IsCheckedPlan plan
@@ -97,3 +101,8 @@ workload_answered text (Ok workload) h =
 workload_answered text (Err (Script given)) h =
     (tt, tt, tt, λ plan tasks spells could. no_workload_fault text given plan tasks could.order spells could.fit h, h, λ fault has. same_workload_fault text given fault h has)
 workload_answered text (Err NoMemory) h = (tt, tt, tt, λ plan tasks spells could. tt, tt, λ fault has. tt)
+
+-- Of a workload that was read some are watched.
+pub some_watched_read : (read : Result Workload ReadFault) → IfOk read (λ workload. IsCheckedPlan workload.plan) → IfOk read (λ workload. AreSomeWatched workload.plan.n workload.plan.watched)
+some_watched_read (Ok workload) checked = some_watched workload.plan checked
+some_watched_read (Err fault) checked = tt

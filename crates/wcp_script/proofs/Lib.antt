@@ -4,6 +4,8 @@ pub mod Numbers
 pub mod StepLines
 pub mod Questions
 pub mod LinesOfWords
+pub mod WatchLines
+pub mod WordsLeft
 pub mod HeadLines
 pub mod ScheduleWords
 pub mod SamePlan

@@ -2,11 +2,19 @@
 use Rattle.wcp_script.proofs.Words.{common_steps, ◌≡◌, ◌≢◌, ℕ, ◌<◌, ◌≤◌, Bool, true, false, cond, eqb, List, [], ◌∷◌, ◌++◌, length, Option, Some, None, Ok, refl, sym, ap, ◌∙◌, append_assoc, arith, le-leb, ne_eqb, inl, inr, ⊎_elim, codes, replicate, slice_get, flat_map, list_all, AllByRecursion, decimal, and_parts, cases_lt, cases_eq, recursion_from_All, Parent, Root, Relay, Plan, Task, IsCheckedPlan, IsOutside, IsWithin, CouldBeRead, Word, line_text, text_of, lines_of, action_words, task_line, cap_lines, hold_lines, relay_lines, attach_lines, numbered, is_first, is_root_alone, has_one_relay, tree_lines, head_lines, is_task_word, Head, HeadRead, first_head, IsPlanOf, workloads, steps_by, Spells}
 use Rattle.std.proofs.lemmas.List.Folds.{flat_map-map}
 use Rattle.std.proofs.lemmas.Option.{slice_get_within, get_or_from_slice_get}
+use Rattle.std.specs.Option.{unwrap_or}
 use Rattle.wcp_model.specs.declared.plan.PlanFault.TheVariants as fault
 use Rattle.wcp_script.specs.PlanText.{text_of_workload}
 use Rattle.wcp_script.specs.Head.{processes_in, processes_by, head_by, head_of}
 use Rattle.wcp_script.proofs.LinesOfWords.{IsWord, IsWord-literal, IsWord-decimal, number_in-decimal, words_of-joined, worded, lines_of-line_text, lines_of_nothing}
 use Rattle.wcp_script.proofs.PrintedTasks.{task_is_words, lines_of-task_line, steps_by-task_lines}
+use Rattle.std.specs.FinSet as set
+use Rattle.wcp_model.specs.Watched.{AreSomeWatched}
+use Rattle.wcp_script.specs.declared.head_line.HeadLine.TheVariants as said
+use Rattle.std.proofs.lemmas.Bool.{le-ltb}
+use Rattle.wcp_script.proofs.Words.{lt-ltb, false_from_ne_true, some_watched, watch_lines, are_all_watched, watched_words, range_with_len, is_watched_by, subst}
+use Rattle.wcp_script.proofs.WatchLines.{watched_from, watch_line-printed, printed_words, printed_has, printed_past}
+use Rattle.wcp_script.proofs.Ranges.{all_from_range}
 use Rattle.wcp_script.proofs.PrintedHead.{Makes, Makes-append, made_is_read, said_unless, unwrap_or-said_unless, cap_makes, hold_makes, relays_make, attaches_make}
 
 -- ---- what a plan that is checked has
@@ -22,6 +30,7 @@ record Sound (plan : Plan) : Type 0 where
   lower : (i above : ℕ) → slice_get plan.parents.items i ≡ Some (Relay above) → above < i
   entries : length plan.attach.items ≡ plan.n
   served : (i relay : ℕ) → slice_get plan.attach.items i ≡ Some (Some relay) → relay < 15
+  watched : AreSomeWatched plan.n plan.watched
 
 sound_from : (plan : Plan) → IsCheckedPlan plan → Sound plan
 sound_from plan checked =
@@ -36,6 +45,7 @@ sound_from plan checked =
       served = λ i relay is. ⊎_elim (λ (less : relay < length plan.parents.items). omega (arith, size.1))
           (λ (not : length plan.parents.items ≤ relay). absurd (checked fault.Unattached (inr (i, Some relay, slice_get_within plan.attach.items i (Some relay) is, get_or_from_slice_get plan.attach.items i (Some relay) (Some relay) is, not))))
           (cases_lt relay (length plan.parents.items));
+      watched = some_watched plan checked;
     }
 
 -- ---- one relay that serves every process
@@ -57,20 +67,29 @@ all_first (entry ∷ attach) each =
 abbrev capacities : Plan → Head
 capacities plan = record (first_head plan.n) { cap = said_unless 8 plan.cap; hold = said_unless 4 plan.hold }
 
--- Of the capacities the lines make a head of the plan.
-abbrev MakesPlan : Plan → List (List Word) → Type 0
-MakesPlan plan lines = (head : Head) × Makes (capacities plan) lines head × IsPlanOf head plan
+-- A head with the tree and the capacities of the plan, which names nobody.
+record IsTreeOf (head : Head) (plan : Plan) : Type 0 where
+  n : plan.n ≡ head.n
+  cap : plan.cap ≡ unwrap_or head.cap 8
+  hold : plan.hold ≡ unwrap_or head.hold 4
+  parents : plan.parents.items ≡ cond (eqb (length head.parents) 0) (Root ∷ []) head.parents
+  attach : plan.attach.items ≡ cond (eqb (length head.parents) 0) (replicate head.n (Some 0)) head.attach
+  nobody : head.watched ≡ None
 
-tree_makes : (plan : Plan) (one : Bool) → has_one_relay plan ≡ one → Sound plan → MakesPlan plan (cond one [] (numbered relay_lines 0 plan.parents.items ++ numbered attach_lines 0 plan.attach.items))
+-- Of the capacities the lines make such a head.
+abbrev MakesTree : Plan → List (List Word) → Type 0
+MakesTree plan lines = (head : Head) × Makes (capacities plan) lines head × IsTreeOf head plan
+
+tree_makes : (plan : Plan) (one : Bool) → has_one_relay plan ≡ one → Sound plan → MakesTree plan (cond one [] (numbered relay_lines 0 plan.parents.items ++ numbered attach_lines 0 plan.attach.items))
 tree_makes plan true is sound =
     grind (arith, all_first, and_parts, is_root, unwrap_or-said_unless)
 tree_makes plan false is sound =
     let parents = plan.parents.items in
     let attach = plan.attach.items in
-    let relays = relays_make (capacities plan) [] parents 0 refl refl (omega (arith, sound.relays.1)) (λ i above here. omega (arith, sound.lower i above here)) in
+    let relays = relays_make (capacities plan) [] parents 0 refl refl refl (omega (arith, sound.relays.1)) (λ i above here. omega (arith, sound.lower i above here)) in
     let with_relays : Head = record (capacities plan) { parents = parents } in
     let attached = attaches_make with_relays [] attach (replicate plan.n None) attach None 0 refl (ap (λ k. replicate k None) (sym sound.entries)) refl
-    sound.relays.0 (omega (arith, sound.entries)) sound.procs.1 sound.served (λ p past. refl) in
+    refl sound.relays.0 (omega (arith, sound.entries)) sound.procs.1 sound.served (λ p past. refl) in
     let head : Head = record with_relays { attach = attach; last_attached = attached.0 } in
     let some : eqb (length parents) 0 ≡ false = ne_eqb (length parents) 0 (λ e. absurd (omega (arith, sound.relays.0))) in (
       head,
@@ -78,13 +97,70 @@ tree_makes plan false is sound =
       grind (arith, unwrap_or-said_unless),
     )
 
+watched_below : (plan : Plan) → Sound plan → (p : ℕ) → plan.n ≤ p → set.contains plan.watched p ≡ false
+watched_below plan sound p past =
+    false_from_ne_true (set.contains plan.watched p) (λ has. absurd (omega (arith, sound.watched.within p has, past)))
+
+-- the line of the watched, where not all are
+watch_makes : (plan : Plan) (head : Head) (all : Bool) → are_all_watched plan.n plan.watched ≡ all → Sound plan → IsTreeOf head plan
+    → (made : Head) × Makes head (cond all [] ((codes "watch" ∷ flat_map (watched_words plan.watched) (range_with_len 0 plan.n)) ∷ [])) made × IsPlanOf made plan
+watch_makes plan head true is sound tree =
+    let each = all_from_range (set.contains plan.watched) 0 plan.n is in (
+      head,
+      refl,
+      record {
+        n = tree.n;
+        cap = tree.cap;
+        hold = tree.hold;
+        parents = tree.parents;
+        attach = tree.attach;
+        watched = λ p. rw (tree.nobody) (elim (cases_lt p plan.n) [
+          | inl below ↦ each p (omega arith) (omega (arith, below)) ∙ sym (lt-ltb p head.n (omega (arith, tree.n, below)))
+          | inr past ↦ watched_below plan sound p past ∙ sym (le-ltb p head.n (omega (arith, tree.n, past)))
+        ]);
+      },
+    )
+watch_makes plan head false is sound tree =
+    let q = sound.watched.some.0 in
+    let has = sound.watched.some.1 in
+    let below = sound.watched.within q has in
+    let numbers = watched_from plan.watched 0 plan.n in
+    let line = watch_line-printed plan.n plan.watched q sound.procs.1 below has in
+    let words = printed_words plan.watched 0 plan.n (omega (arith, sound.procs.1)) in (
+      record head { watched = Some (set.from_list numbers) },
+      (
+        said.Watch (set.from_list numbers),
+        record {
+          are_words = (IsWord-literal (codes "watch") refl, words);
+          no_step = refl;
+          says = rw (← tree.n) line;
+          first = tree.nobody;
+        },
+        refl,
+      ),
+      record {
+        n = tree.n;
+        cap = tree.cap;
+        hold = tree.hold;
+        parents = tree.parents;
+        attach = tree.attach;
+        watched = λ p. sym (set.contains-from_list_nat numbers p ∙ elim (cases_lt p plan.n) [
+          | inl inside ↦ printed_has plan.watched 0 plan.n p (omega arith) (omega (arith, inside))
+          | inr past ↦ printed_past plan.watched 0 plan.n p (omega (arith, past)) ∙ sym (watched_below plan sound p past)
+        ]);
+      },
+    )
+
 -- The lines after the first two.
 abbrev further_lines : Plan → List (List Word)
-further_lines plan = cap_lines plan.cap ++ (hold_lines plan.hold ++ tree_lines plan)
+further_lines plan = cap_lines plan.cap ++ (hold_lines plan.hold ++ (tree_lines plan ++ watch_lines plan.n plan.watched))
 
 further_make : (plan : Plan) → Sound plan → (head : Head) × Makes (first_head plan.n) (further_lines plan) head × IsPlanOf head plan
 further_make plan sound =
-    grind (arith, tree_makes plan (has_one_relay plan) refl sound, hold_makes plan.n plan.hold (said_unless 8 plan.cap) (eqb plan.hold 4) sound.hold.0 sound.hold.1, cap_makes plan.n plan.cap (eqb plan.cap 8) sound.cap.0 sound.cap.1)
+    let tree = tree_makes plan (has_one_relay plan) refl sound in
+    let watch = watch_makes plan tree.0 (are_all_watched plan.n plan.watched) refl sound tree.2 in
+    let both = Makes-append (capacities plan) tree.0 watch.0 (tree_lines plan) (watch_lines plan.n plan.watched) tree.1 watch.1 in
+    grind (arith, both, watch.2, Makes-append, hold_makes plan.n plan.hold (said_unless 8 plan.cap) (eqb plan.hold 4) sound.hold.0 sound.hold.1, cap_makes plan.n plan.cap (eqb plan.cap 8) sound.cap.0 sound.cap.1)
 
 -- ---- the whole text
 

@@ -1,11 +1,25 @@
 -- What a range of numbers gives, piece by piece.
-use Rattle.wcp_script.proofs.Words.{◌≡◌, ℕ, zero, suc, ◌+◌, ◌*◌, ◌<◌, ◌≤◌, List, [], ◌++◌, length, ap, ◌∙◌, append_assoc, length-append, mul-suc, arith, flat_map, range_with_len, append-nil}
+use Rattle.wcp_script.proofs.Words.{◌≡◌, ℕ, zero, suc, ◌+◌, ◌-◌, ◌*◌, ◌<◌, ◌≤◌, List, [], ◌∷◌, ◌++◌, length, ap, ◌∙◌, append_assoc, length-append, mul-suc, arith, flat_map, range_with_len, append-nil, Bool, true, list_all, and_parts, cases_eq, inl, inr, sym}
 
 -- one more piece
 pub flat_map-range_more : {X : Type 0} (f : ℕ → List X) (a n : ℕ) → flat_map f (range_with_len a (n + 1)) ≡ flat_map f (range_with_len a n) ++ f (a + n)
 flat_map-range_more f a zero = append-nil (f a) ∙ ap f (omega arith)
 flat_map-range_more f a (suc n) =
     grind (arith, append_assoc, flat_map-range_more f (a + 1) n)
+
+-- from a number on
+pub range_next : (p n : ℕ) → p < n → range_with_len p (n - p) ≡ p ∷ range_with_len (p + 1) (n - (p + 1))
+range_next p n below = let more : n - p ≡ suc (n - (p + 1)) = omega (arith, below) in ap (range_with_len p) more
+
+-- what is so of all of a range is so of each
+pub all_from_range : (f : ℕ → Bool) (a n : ℕ) → list_all f (range_with_len a n) ≡ true → (i : ℕ) → a ≤ i → i < a + n → f i ≡ true
+all_from_range f a zero all i low high = absurd (omega (arith, low, high))
+all_from_range f a (suc n) all i low high =
+    let parts = and_parts (f a) (list_all f (range_with_len (a + 1) n)) all in
+    elim (cases_eq a i) [
+      | inl same ↦ sym (ap f same) ∙ parts.0
+      | inr apart ↦ all_from_range f (a + 1) n parts.1 i (omega (arith, low, apart)) (omega (arith, high))
+    ]
 
 -- the same behind what was there
 pub pieces_more : {X : Type 0} (f : ℕ → List X) (a n i : ℕ) (old before new : List X) → a + n ≡ i → before ≡ old ++ flat_map f (range_with_len a n) → new ≡ before ++ f i → new ≡ old ++ flat_map f (range_with_len a (n + 1))

@@ -16,7 +16,7 @@ pub use Rattle.std.specs.Fmt.{decimal}
 pub use Rattle.std.specs.List.{flat_map, range_with_len, count_by, join_with_byte, list_all, AllByRecursion, slice_split, position}
 pub use Rattle.std.specs.Prelude.{OnOk, IfOk, IfErr, codes, replicate, slice_get, slice_set}
 pub use Rattle.std.specs.Str.Parse.{digits_value, AllDigits}
-pub use Rattle.wcp_model.proofs.CheckedPlans.{some_process, few_processes}
+pub use Rattle.wcp_model.proofs.CheckedPlans.{some_process, few_processes, some_watched}
 pub use Rattle.wcp_model.specs.PlanFault.{IsCheckedPlan, IsOutside, HasFault}
 pub use Rattle.wcp_model.specs.Tree.{IsSamePlan}
 pub use Rattle.wcp_model.specs.WorkloadComputation.{sends, receives, IsWithin, IsFitOrder, CouldBeRead}
@@ -26,10 +26,10 @@ pub use Rattle.wcp_model.specs.declared.plan.Plan.{Plan}
 pub use Rattle.wcp_model.specs.declared.step.Step.{Step}
 pub use Rattle.wcp_model.specs.declared.workload.Task.{Task}
 pub use Rattle.wcp_order.specs.Stuck.{IsStuckAt, IfOrder, IfStuck, IsFirstStuck}
-pub use Rattle.wcp_script.specs.Head.{HeadRead, head_of, IsPlanOf, Head, first_head, processes_in, processes_by, head_by, head_line, with_line, first_word, head_words, parent_in, is_above, is_after, IsWithinLimits, line_count}
+pub use Rattle.wcp_script.specs.Head.{HeadRead, head_of, IsPlanOf, Head, first_head, processes_in, processes_by, head_by, head_line, with_line, first_word, head_words, is_watched_by, parent_in, is_above, is_after, IsWithinLimits, line_count}
 pub use Rattle.wcp_script.specs.Judgement.{number_in, ◌>>=◌, at_line, ask}
 pub use Rattle.wcp_script.specs.Lines.{Word, text_of, TextLine, line_text, lines_of, words_of, number_spelled, lines_among}
-pub use Rattle.wcp_script.specs.PlanText.{cap_lines, hold_lines, relay_lines, attach_lines, numbered, is_first, is_root_alone, has_one_relay, tree_lines, head_lines, text_of_workload, parent_word, opening_lines}
+pub use Rattle.wcp_script.specs.PlanText.{cap_lines, hold_lines, relay_lines, attach_lines, numbered, is_first, is_root_alone, has_one_relay, tree_lines, watch_lines, are_all_watched, watched_words, head_lines, text_of_workload, parent_word, opening_lines}
 pub use Rattle.wcp_script.specs.ReadAnswers.{IsReadAs, IsRefusedFor, IsFaultOf, ReadsSchedule, ReadsWorkload, Fails, ReadsText, ReadsInOrder}
 pub use Rattle.wcp_script.specs.Ring.{before, finds_both, received, sent, ring_turn, ring_round, ring_fault, ring_tasks, ring_length}
 pub use Rattle.wcp_script.specs.TextFault.{TextKind, workloads, schedules, steps_by, Spells, HasTextFault, InHead, OfPlan, InStep, HasWorkloadFault, InText, AtEnd, step_after}

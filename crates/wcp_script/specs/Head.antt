@@ -1,6 +1,9 @@
 -- The head of a text, line by line, and the plan that it describes.
 use Rattle.std.specs.Prelude.{◌≡◌, ◌==◌, ◌&&◌, ℕ, ◌+◌, ◌<◌, ◌≤◌, Bool, true, not, drop, List, [], ◌∷◌, ◌++◌, length}
 use Rattle.std.specs.Prelude.{replicate, slice_set, nat_lt, nat_le, Option, Some, None, is_none, Result, Ok, Err}
+use Rattle.std.specs.FinSet as set
+use Rattle.std.specs.List.{list_all}
+use Rattle.wcp_clock.specs.ProcessNumbers.{NumberSet}
 use Rattle.std.specs.Prelude.{codes, if◌then◌else◌}
 use Rattle.std.specs.Str.{bytes_eq}
 use Rattle.std.specs.Option.{ok_or, unwrap_or}
@@ -13,7 +16,7 @@ use Rattle.wcp_script.specs.declared.fault.FaultKind.{FaultKind}
 use Rattle.wcp_script.specs.declared.fault.FaultKind.TheVariants as kind
 use Rattle.wcp_script.specs.declared.fault.ScriptFault.{ScriptFault}
 use Rattle.wcp_script.specs.declared.head_line.HeadLine.{HeadLine}
-use Rattle.wcp_script.specs.declared.head_line.HeadLine.TheVariants.{Cap, Hold, Relay, Attach}
+use Rattle.wcp_script.specs.declared.head_line.HeadLine.TheVariants.{Cap, Hold, Relay, Attach, Watch}
 use Rattle.wcp_script.specs.Capacities.{plain_cap, plain_hold}
 use Rattle.wcp_script.specs.Lines.{TextLine, lines_of, words_of}
 use Rattle.wcp_script.specs.Judgement.{◌>>=◌, ask, number_in, at_line}
@@ -43,7 +46,7 @@ processes_by (version ∷ processes ∷ others) =
     if is_version version then at_line 2 (processes_in processes) else at_line 1 (Err kind.Header)
 
 -- What the lines of a head said so far: the number of processes, the capacities, the parent of each relay, the relay of
--- each process, and which process the last attach line named.
+-- each process, which process the last attach line named, and whom a watch line named.
 pub record Head : Type 0 where
   pub n : ℕ
   pub cap : Option ℕ
@@ -51,10 +54,19 @@ pub record Head : Type 0 where
   pub parents : List Parent
   pub attach : List (Option ℕ)
   pub last_attached : Option ℕ
+  pub watched : Option NumberSet
 
 -- The head of two lines.
 abbrev pub first_head : ℕ → Head
-first_head n = record { n = n; cap = None; hold = None; parents = []; attach = replicate n None; last_attached = None }
+first_head n = record {
+  n = n;
+  cap = None;
+  hold = None;
+  parents = [];
+  attach = replicate n None;
+  last_attached = None;
+  watched = None;
+}
 
 -- The head has no relay line.
 abbrev pub has_no_relay : Head → Bool
@@ -112,39 +124,71 @@ attach_line head process number = do
   _ ← ask (nat_lt p head.n) kind.Process
   Ok (Attach p relay)
 
--- What a further line of a head says, by its words.
-abbrev pub head_words : Head → List (List ℕ) → Result HeadLine FaultKind
-head_words head (first ∷ second ∷ []) =
+-- The words are numbers, each in the place of one.
+abbrev pub numbers_in : List (List ℕ) → Result (List ℕ) FaultKind
+numbers_in [] = Ok []
+numbers_in (word ∷ words) = do
+  number ← number_in word
+  numbers ← numbers_in words
+  Ok (number ∷ numbers)
+
+-- The processes come each after the one before it, and the first of them after this one, if there is one.
+abbrev pub rise_behind : Option ℕ → List ℕ → Bool
+rise_behind before [] = true
+rise_behind before (p ∷ ps) = is_after before p && rise_behind (Some p) ps
+
+-- `watch I J ..` names one process or more, which rise and are among the n.
+abbrev pub watch_line : ℕ → List (List ℕ) → Result HeadLine FaultKind
+watch_line n [] = Err kind.Line
+watch_line n (word ∷ words) = do
+  numbers ← numbers_in (word ∷ words)
+  _ ← ask (rise_behind None numbers) kind.Line
+  _ ← ask (list_all (λ p. nat_lt p n) numbers) kind.Process
+  Ok (Watch (set.from_list numbers))
+
+-- What a further line of a head says, by its words, if it is no watch line.
+abbrev pub words_before_watch : Head → List (List ℕ) → Result HeadLine FaultKind
+words_before_watch head (first ∷ second ∷ []) =
     if bytes_eq first (codes "cap") then cap_line head second
     else (if bytes_eq first (codes "hold") then hold_line head second else Err kind.Line)
-head_words head (first ∷ second ∷ third ∷ []) =
+words_before_watch head (first ∷ second ∷ third ∷ []) =
     if bytes_eq first (codes "relay") then relay_line head second third
     else (if bytes_eq first (codes "attach") then attach_line head second third else Err kind.Line)
-head_words head words = Err kind.Line
+words_before_watch head words = Err kind.Line
 
--- What a further line of a head says, if it has its LF.
+-- What a further line of a head says, by its words.
+abbrev pub head_words : Head → List (List ℕ) → Result HeadLine FaultKind
+head_words head [] = Err kind.Line
+head_words head (first ∷ words) =
+    if bytes_eq first (codes "watch") then watch_line head.n words else words_before_watch head (first ∷ words)
+
+-- What a further line of a head says, if it has its LF and stands before a watch line or is the first one.
 unfoldable pub head_line : Head → TextLine → Result HeadLine FaultKind
-head_line head line = if line.ended then head_words head (words_of line.bytes) else Err kind.Line
+head_line head line =
+    if line.ended && is_none head.watched then head_words head (words_of line.bytes) else Err kind.Line
 
--- A head allows one line for each capacity, and one for each of at most 15 relays; and the processes that its lines
--- attach rise and are below n.
+-- A head allows one line for each capacity, one for each of at most 15 relays, and one that names the watched; and the
+-- processes that its lines attach rise and are below n.
 abbrev pub IsAllowed : Head → HeadLine → Type 0
 IsAllowed head (Cap cap) = head.cap ≡ None
 IsAllowed head (Hold hold) = head.hold ≡ None
 IsAllowed head (Relay parent) = length head.parents < most_relays
 IsAllowed head (Attach p relay) = (is_after head.last_attached p ≡ true) × (p < head.n)
+IsAllowed head (Watch named) = head.watched ≡ None
 
 -- How many lines a head has at most, by what they said: an attach line names a process above that of the one before it.
-abbrev said_once : Option ℕ → ℕ
+abbrev said_once : {X : Type 0} → Option X → ℕ
 said_once None = 0
-said_once (Some capacity) = 1
+said_once (Some said) = 1
 
 abbrev next_process : Option ℕ → ℕ
 next_process None = 0
 next_process (Some p) = p + 1
 
 abbrev pub line_count : Head → ℕ
-line_count head = 2 + said_once head.cap + said_once head.hold + length head.parents + next_process head.last_attached
+line_count head =
+    2 + said_once head.cap + said_once head.hold + length head.parents + next_process head.last_attached
+    + said_once head.watched
 
 -- The lists of a head are within their limits: an entry for each process, and at most 15 relays.
 pub record IsWithinLimits (head : Head) : Type 0 where
@@ -153,9 +197,10 @@ pub record IsWithinLimits (head : Head) : Type 0 where
   pub relays : length head.parents ≤ most_relays
   pub next : next_process head.last_attached ≤ head.n
 
--- A head has at most 35 lines: the first two, one for each capacity, and one for each relay and each process.
+-- A head has at most 36 lines: the first two, one for each capacity, one for each relay and each process, and one that
+-- names the watched.
 abbrev pub most_head_lines : ℕ
-most_head_lines = 4 + most_relays + most_processes
+most_head_lines = 5 + most_relays + most_processes
 
 -- The head with one line more.
 abbrev pub with_line : Head → HeadLine → Head
@@ -163,6 +208,7 @@ with_line head (Cap cap) = record head { cap = Some cap }
 with_line head (Hold hold) = record head { hold = Some hold }
 with_line head (Relay parent) = record head { parents = head.parents ++ parent ∷ [] }
 with_line head (Attach p relay) = record head { attach = slice_set head.attach p (Some relay); last_attached = Some p }
+with_line head (Watch named) = record head { watched = Some named }
 
 -- A head that was read, with the number of its last line, and the lines after it.
 pub record HeadRead : Type 0 where
@@ -191,11 +237,17 @@ head_of is_step_word text = do
   n ← processes_by (lines_of text)
   head_by is_step_word (first_head n) 2 (drop 2 (lines_of text))
 
--- The plan that a head describes: the plain capacities where it doesn't say others, and without relay lines one relay
--- under the root, which serves every process.
+-- A head has process p watched where its watch line names it; without such a line each of the n processes is watched.
+abbrev pub is_watched_by : ℕ → Option NumberSet → ℕ → Bool
+is_watched_by n None p = nat_lt p n
+is_watched_by n (Some named) p = set.contains named p
+
+-- The plan that a head describes: the plain capacities where it doesn't say others, without relay lines one relay under
+-- the root, which serves every process, and those watched that the head has so.
 pub record IsPlanOf (head : Head) (plan : Plan) : Type 0 where
   pub n : plan.n ≡ head.n
   pub cap : plan.cap ≡ unwrap_or head.cap plain_cap
   pub hold : plan.hold ≡ unwrap_or head.hold plain_hold
   pub parents : plan.parents.items ≡ (if has_no_relay head then plain_parents else head.parents)
   pub attach : plan.attach.items ≡ (if has_no_relay head then plain_attach head.n else head.attach)
+  pub watched : (p : ℕ) → set.contains plan.watched p ≡ is_watched_by head.n head.watched p

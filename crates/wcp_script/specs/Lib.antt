@@ -4,6 +4,7 @@ pub mod WorkloadText
 pub mod PlanText
 pub mod Judgement
 pub mod Head
+pub mod Named
 pub mod WorkloadLines
 pub mod ScheduleLines
 pub mod TextFault

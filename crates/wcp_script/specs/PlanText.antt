@@ -1,14 +1,16 @@
 -- The text of a workload under its plan.
 use Rattle.std.specs.Prelude.{◌==◌, ◌&&◌, ℕ, ◌+◌, Bool, true, false, List, [], ◌∷◌, ◌++◌, length, map, Option, Some}
 use Rattle.std.specs.Prelude.{None, codes, if◌then◌else◌}
-use Rattle.std.specs.List.{list_all}
+use Rattle.std.specs.FinSet as set
+use Rattle.std.specs.List.{flat_map, list_all, range_with_len}
 use Rattle.std.specs.Fmt.{decimal}
 use Rattle.wcp_model.specs.declared.plan.Parent.{Parent}
 use Rattle.wcp_model.specs.declared.plan.Parent.TheVariants.{Root, Relay}
 use Rattle.wcp_model.specs.declared.plan.Plan.{Plan}
 use Rattle.wcp_model.specs.declared.workload.Task.{Task}
+use Rattle.wcp_clock.specs.ProcessNumbers.{NumberSet}
 use Rattle.wcp_script.specs.Capacities.{plain_cap, plain_hold}
-use Rattle.wcp_script.specs.Lines.{Word, text_of}
+use Rattle.wcp_script.specs.Lines.{Word, space, text_of}
 use Rattle.wcp_script.specs.WorkloadText.{task_words}
 
 -- The first two lines: the format with its version, and the number of processes.
@@ -61,9 +63,29 @@ tree_lines plan =
     if has_one_relay plan then []
     else numbered relay_lines 0 plan.parents.items ++ numbered attach_lines 0 plan.attach.items
 
+-- The word of a process that is watched.
+abbrev pub watched_words : NumberSet → ℕ → List Word
+watched_words watched p = if set.contains watched p then decimal p ∷ [] else []
+
+-- It is printed behind a space.
+abbrev pub spaced_word : NumberSet → ℕ → List ℕ
+spaced_word watched p = if set.contains watched p then space ∷ decimal p else []
+
+-- Each of the n processes is watched.
+abbrev pub are_all_watched : ℕ → NumberSet → Bool
+are_all_watched n watched = list_all (set.contains watched) (range_with_len 0 n)
+
+-- The line that names those of the n processes that are watched, where not all are.
+abbrev pub watch_lines : ℕ → NumberSet → List (List Word)
+watch_lines n watched =
+    if are_all_watched n watched then []
+    else (codes "watch" ∷ flat_map (watched_words watched) (range_with_len 0 n)) ∷ []
+
 -- The lines of the head.
 abbrev pub head_lines : Plan → List (List Word)
-head_lines plan = opening_lines plan.n ++ (cap_lines plan.cap ++ (hold_lines plan.hold ++ tree_lines plan))
+head_lines plan =
+    opening_lines plan.n ++ (cap_lines plan.cap ++ (hold_lines plan.hold
+    ++ (tree_lines plan ++ watch_lines plan.n plan.watched)))
 
 -- The text of the first two lines.
 abbrev pub opening_text : ℕ → List ℕ

@@ -1,5 +1,6 @@
 -- What the values of the code stand for in a text: a line, the words of a line, the form of a step line, a head.
-use Rattle.std.specs.Prelude.{◌≡◌, ℕ, ◌+◌, Bool, ◌≤◌, List, [], ◌∷◌, length, Ok}
+use Rattle.std.specs.Prelude.{◌≡◌, ℕ, ◌+◌, Bool, ◌≤◌, List, [], ◌∷◌, length, Option, None, Some, Ok}
+use Rattle.std.specs.Borrow.{Bor}
 use Rattle.wcp_script.specs.declared.lines.Line.{Line}
 use Rattle.wcp_script.specs.declared.lines.Words.{Words}
 use Rattle.wcp_script.specs.declared.lines.Words.TheVariants.{One, Two, Three, Four, More}
@@ -7,7 +8,7 @@ use Rattle.wcp_script.specs.declared.task_line.StepForm.{StepForm as Form}
 use Rattle.wcp_script.specs.declared.task_line.StepForm.TheVariants as form
 use Rattle.wcp_script.specs.declared.head.Head.{Head as OwnHead}
 use Rattle.wcp_script.specs.declared.head.HeadRead.{HeadRead as OwnRead}
-use Rattle.wcp_script.specs.Lines.{TextLine, lines_of}
+use Rattle.wcp_script.specs.Lines.{TextLine, lines_of, words_of}
 use Rattle.wcp_script.specs.Judgement.{◌>>=◌, at_line}
 use Rattle.wcp_script.specs.Head.{Head, HeadRead, head_line, with_line, head_by}
 use Rattle.wcp_script.specs.WorkloadLines.{StepForm, Observes, Sends, Receives}
@@ -24,6 +25,11 @@ AreWords words (Three first second third) = words ≡ first.now ∷ second.now �
 AreWords words (Four first second third fourth) = words ≡ first.now ∷ second.now ∷ third.now ∷ fourth.now ∷ []
 AreWords words More = 5 ≤ length words
 
+-- The words behind the first of a line, where there are some.
+abbrev pub words_behind : Option (Bor (List ℕ)) → List (List ℕ)
+words_behind None = []
+words_behind (Some words) = words_of words.now
+
 -- A form as a text has it.
 abbrev pub seen_form : Form → StepForm
 seen_form (form.Observe process holds) = Observes process.now holds
@@ -39,6 +45,7 @@ seen_head head = record {
   parents = head.parents.items;
   attach = head.attach.items;
   last_attached = head.last_attached;
+  watched = head.watched;
 }
 
 -- The head ends before these lines, whatever it is.

@@ -12,7 +12,7 @@ use crate::lines::{Line, first_word, next_line};
 use crate::opening::{OPENING_LINES, read_opening};
 use crate::step_line::StepLine;
 use std::alloc::{AllocError, Global};
-use wcp_model::{Parent, Plan, plain_plan};
+use wcp_model::{Parent, Plan, Watched, plain_plan};
 
 /// How many notes each link and each inbox has room for, where the text doesn't say.
 pub(crate) const PLAIN_CAP: u32 = 8;
@@ -31,6 +31,8 @@ pub(crate) struct Head {
     pub attach: Vec<Option<u32>>,
     /// The process of the last attach line.
     pub last_attached: Option<u32>,
+    /// The processes of the watch line.
+    pub watched: Option<Watched>,
 }
 
 /// A head, the number of its last line, and the text after it.
@@ -46,6 +48,7 @@ pub(crate) struct HeadRead<'a> {
 pub(crate) fn read_head<S: StepLine>(alloc: Global, text: &[u8]) -> Result<HeadRead<'_>, ReadFault>
     ensures exact { Gives seen_read result (head_of S.text_kind.is_step_word text.now) }
     ensures short { IfOk result (λ read. read.last ≤ most_head_lines) }
+    ensures few { IfOk result (λ read. read.head.n ≤ most_processes) }
 {
     let (n, rest) = read_opening(text)?;
     let head = Head::new(alloc, n)?;
@@ -57,6 +60,7 @@ fn read_head_lines<S: StepLine>(mut head: Head, text: &[u8]) -> Result<HeadRead<
     requires new { seen_head head ≡ first_head head.n }
     ensures exact { Gives seen_read result (head_by S.text_kind.is_step_word (seen_head head) 2 (lines_of text.now)) }
     ensures short { IfOk result (λ read. read.last ≤ most_head_lines) }
+    ensures few { IfOk result (λ read. read.head.n ≤ most_processes) }
 {
     let mut last = OPENING_LINES;
     let mut rest = text;
@@ -106,6 +110,7 @@ impl Head {
             parents: Vec::new(alloc),
             attach: vec![in alloc; None; n as usize]?,
             last_attached: None,
+            watched: None,
         })
     }
 
@@ -125,19 +130,29 @@ impl Head {
                 self.attach[p as usize] = Some(relay);
                 self.last_attached = Some(p);
             }
+            HeadLine::Watch(watched) => self.watched = Some(watched),
         }
         Ok(())
     }
 
     /// The plan that the head describes.
     pub(crate) fn into_plan(self, alloc: Global) -> Result<Plan, AllocError>
+        requires { self.n ≤ most_processes }
         ensures { IfOk result (IsPlanOf (seen_head self)) }
     {
         let cap = self.cap.unwrap_or(PLAIN_CAP);
         let hold = self.hold.unwrap_or(PLAIN_HOLD);
+        let watched = match self.watched {
+            Some(watched) => watched,
+            None => Watched::all(self.n),
+        };
         if self.parents.is_empty() {
-            return plain_plan(alloc, self.n, cap, hold);
+            let mut plan = plain_plan(alloc, self.n, cap, hold)?;
+            plan.watched = watched;
+            return Ok(plan);
         }
-        Ok(Plan::new(self.n, cap, hold, self.parents, self.attach))
+        let parents = self.parents;
+        let attach = self.attach;
+        Ok(Plan::new(self.n, cap, hold, parents, attach, watched))
     }
 }

@@ -1,14 +1,16 @@
-ghost use Rattle.std.specs.Prelude.{◌≡◌, [], ◌∷◌, IfOk};
+ghost use Rattle.std.specs.Prelude.{◌≡◌, ◌≤◌, [], ◌∷◌, IfOk};
+ghost use Rattle.wcp_clock.specs.Limits.{most_processes};
 ghost use Rattle.wcp_script.specs.Head.{IsAllowed, parent_in, is_above, is_after, cap_line, hold_line, relay_line};
-ghost use Rattle.wcp_script.specs.Head.{attach_line, head_words, head_line};
+ghost use Rattle.wcp_script.specs.Head.{attach_line, words_before_watch, head_line};
 ghost use Rattle.wcp_script.specs.Views.{seen_line, seen_head};
 
 use crate::fault::{FaultKind, ask};
 use crate::head::Head;
-use crate::lines::{Line, Words, words_of};
+use crate::lines::{Line, Words, next_word, words_of};
 use crate::number::number_in;
+use crate::watch_line::watch_line;
 use wcp_clock::{MAX_CAP, MAX_HOLD, MAX_RELAYS};
-use wcp_model::Parent;
+use wcp_model::{Parent, Watched};
 
 /// What a line of the head says, behind its first two lines.
 #[derive(Clone, Copy)]
@@ -21,16 +23,23 @@ pub(crate) enum HeadLine {
     Relay(Parent),
     /// Process `.0` is served by relay `.1`.
     Attach(u32, u32),
+    /// These processes have a condition.
+    Watch(Watched),
 }
 
 impl Head {
     /// What a further line says.
     #[tactic(auto, unfolding(crate::specs::Head::head_line))]
     pub(crate) fn judge(&self, line: Line<'_>) -> Result<HeadLine, FaultKind>
+        requires few { self.now.n ≤ most_processes }
         ensures exact { result ≡ head_line (seen_head self.now) (seen_line line.entry) }
         ensures allowed { IfOk result (IsAllowed (seen_head self.now)) }
     {
-        ask(line.ended, FaultKind::Line)?;
+        ask(line.ended && self.watched.is_none(), FaultKind::Line)?;
+        let (first, others) = next_word(line.bytes);
+        if first == b"watch".as_slice() {
+            return watch_line(self.n, others);
+        }
         match words_of(line.bytes) {
             Words::Two(first, second) => self.capacity_line(first, second),
             Words::Three(first, second, third) => self.tree_line(first, second, third),
@@ -39,7 +48,7 @@ impl Head {
     }
 
     fn capacity_line(&self, first: &[u8], second: &[u8]) -> Result<HeadLine, FaultKind>
-        ensures exact { result ≡ head_words (seen_head self.now) (first.now ∷ second.now ∷ []) }
+        ensures exact { result ≡ words_before_watch (seen_head self.now) (first.now ∷ second.now ∷ []) }
         ensures allowed { IfOk result (IsAllowed (seen_head self.now)) }
     {
         if first == b"cap".as_slice() {
@@ -52,7 +61,7 @@ impl Head {
     }
 
     fn tree_line(&self, first: &[u8], second: &[u8], third: &[u8]) -> Result<HeadLine, FaultKind>
-        ensures exact { result ≡ head_words (seen_head self.now) (first.now ∷ second.now ∷ third.now ∷ []) }
+        ensures exact { result ≡ words_before_watch (seen_head self.now) (first.now ∷ second.now ∷ third.now ∷ []) }
         ensures allowed { IfOk result (IsAllowed (seen_head self.now)) }
     {
         if first == b"relay".as_slice() {
@@ -137,7 +146,7 @@ fn is_above(relay: u32, parent: Parent) -> bool
     }
 }
 
-fn is_after(last: Option<u32>, p: u32) -> bool
+pub(crate) fn is_after(last: Option<u32>, p: u32) -> bool
     ensures { result ≡ is_after last p }
 {
     match last {

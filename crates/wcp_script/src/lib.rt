@@ -23,6 +23,7 @@ mod schedule_line;
 mod step_line;
 mod task_line;
 mod text;
+mod watch_line;
 mod workload;
 
 pub use fault::{FaultKind, ReadFault, ScriptFault};

@@ -2,7 +2,7 @@ ghost use Rattle.std.specs.Prelude.{◌≡◌, ◌==◌, ◌<◌, [], ◌∷◌,
 ghost use Rattle.std.specs.List.{slice_split};
 ghost use Rattle.wcp_script.specs.Lines.{lines_of, words_of};
 ghost use Rattle.wcp_script.specs.Head.{first_word};
-ghost use Rattle.wcp_script.specs.Views.{seen_line, AreWords};
+ghost use Rattle.wcp_script.specs.Views.{seen_line, words_behind, AreWords};
 
 /// A line of a text, without its LF.
 #[derive(Clone, Copy)]
@@ -60,6 +60,18 @@ pub(crate) fn words_of(line: &[u8]) -> Words<'_>
     match cut(rest, b' ') {
         None => Words::Four(first, second, third, rest),
         Some(_) => Words::More,
+    }
+}
+
+/// The first of some words with a space between each two, and those behind it, if there are some.
+#[tactic(auto, unfolding(crate::specs::Lines::words_of))]
+pub(crate) fn next_word(words: &[u8]) -> (&[u8], Option<&[u8]>)
+    ensures words { words_of words.now ≡ result.0.now ∷ words_behind result.1 }
+    ensures shorter { IfSome result.1 (λ others. length others.now < length words.now) }
+{
+    match cut(words, b' ') {
+        Some((word, others)) => (word, Some(others)),
+        None => (words, None),
     }
 }
 

@@ -1,18 +1,18 @@
 //! The text of a workload.
 ghost use Rattle.std.specs.Prelude.{◌≡◌, ◌++◌, IfOk, OnOk, string_bytes};
-ghost use Rattle.std.specs.List.{flat_map, list_all};
+ghost use Rattle.std.specs.List.{flat_map, list_all, range_with_len};
 ghost use Rattle.wcp_model.specs.PlanFault.{IsCheckedPlan};
 ghost use Rattle.wcp_model.specs.WorkloadComputation.{CouldBeRead};
 ghost use Rattle.wcp_script.specs.TextFault.{workloads, Spells};
 ghost use Rattle.wcp_script.specs.WorkloadText.{task_line};
 ghost use Rattle.wcp_script.specs.Lines.{text_of};
 ghost use Rattle.wcp_script.specs.PlanText.{attach_lines, cap_lines, has_one_relay, head_lines, hold_lines, is_first};
-ghost use Rattle.wcp_script.specs.PlanText.{numbered};
+ghost use Rattle.wcp_script.specs.PlanText.{are_all_watched, numbered, spaced_word, watch_lines};
 ghost use Rattle.wcp_script.specs.PlanText.{opening_lines, relay_lines, text_of_workload, tree_lines};
 
 use crate::head::{PLAIN_CAP, PLAIN_HOLD};
 use std::alloc::{AllocError, Global};
-use wcp_model::{Action, Parent, Plan, Task, Workload};
+use wcp_model::{Action, Parent, Plan, Task, Watched, Workload};
 
 /// The text that spells a workload: the lines of its head, and a line for each task in turn. `Err`
 /// where memory runs out.
@@ -36,7 +36,8 @@ fn push_head(text: &mut String, plan: &Plan) -> Result<(), AllocError>
     push_opening(text, plan.n)?;
     push_cap(text, plan.cap)?;
     push_hold(text, plan.hold)?;
-    push_tree(text, plan)
+    push_tree(text, plan)?;
+    push_watch(text, plan.n, plan.watched)
 }
 
 fn push_opening(text: &mut String, n: u32) -> Result<(), AllocError>
@@ -129,6 +130,50 @@ fn push_attachment(text: &mut String, p: usize, entry: Option<u32>) -> Result<()
         Some(relay) => writeln!(text, "attach {p} {relay}"),
         None => Ok(()),
     }
+}
+
+#[tactic(auto, using(crate::proofs::PrintedLines::watch_printed))]
+fn push_watch(text: &mut String, n: u32, watched: Watched) -> Result<(), AllocError>
+    ensures { OnOk result (string_bytes text.new ≡ string_bytes text.old ++ text_of (watch_lines n watched)) }
+{
+    if are_all_watched(n, watched) {
+        return Ok(());
+    }
+    write!(text, "watch")?;
+    push_watched(text, n, watched)?;
+    writeln!(text, "")
+}
+
+#[tactic(auto, using(crate::proofs::Ranges::range_next))]
+fn are_all_watched(n: u32, watched: Watched) -> bool
+    ensures { result ≡ are_all_watched n watched }
+{
+    for p in 0..n {
+        if !watched.has(p) {
+            return false;
+        }
+    }
+    true
+}
+
+#[tactic(auto, using(crate::proofs::Ranges::pieces_more))]
+fn push_watched(text: &mut String, n: u32, watched: Watched) -> Result<(), AllocError>
+    ensures { OnOk result (string_bytes text.new
+        ≡ string_bytes text.old ++ flat_map (spaced_word watched) (range_with_len 0 n)) }
+{
+    for p in 0..n {
+        push_spaced(text, watched, p)?;
+    }
+    Ok(())
+}
+
+fn push_spaced(text: &mut String, watched: Watched, p: u32) -> Result<(), AllocError>
+    ensures { OnOk result (string_bytes text.new ≡ string_bytes text.old ++ spaced_word watched p) }
+{
+    if !watched.has(p) {
+        return Ok(());
+    }
+    write!(text, " {p}")
 }
 
 fn push_tasks(text: &mut String, tasks: &[Task]) -> Result<(), AllocError>

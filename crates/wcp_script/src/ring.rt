@@ -2,6 +2,7 @@
 ghost use Rattle.std.specs.Prelude.{◌≡◌, ◌<◌, ◌≤◌, ◌++◌, length, IfOk, OnOk};
 ghost use Rattle.wcp_clock.specs.Limits.{most_processes};
 ghost use Rattle.wcp_model.specs.PlanFault.{IsCheckedPlan};
+ghost use Rattle.wcp_model.specs.Watched.{AreSomeWatched};
 ghost use Rattle.wcp_model.specs.WorkloadComputation.{CouldBeRead};
 ghost use Rattle.std.specs.List.{flat_map, range_with_len};
 ghost use Rattle.wcp_script.specs.Ring.{IsRingPlan, finds_both, most_rounds, received, sent, ring_turn, ring_round};
@@ -30,6 +31,7 @@ pub fn ring_workload(
     requires few_rounds { rounds ≤ most_rounds }
     ensures plan { IfOk result (λ workload. IsRingPlan n workload.plan) }
     ensures checked { IfOk result (λ workload. IsCheckedPlan workload.plan) }
+    ensures watched { IfOk result (λ workload. AreSomeWatched workload.plan.n workload.plan.watched) }
     ensures tasks { IfOk result (λ workload. workload.tasks.items ≡ ring_tasks n rounds fault) }
     ensures count { IfOk result (λ workload. length workload.tasks.items ≡ ring_length n rounds fault) }
     ensures could_be_read { IfOk result (λ workload. CouldBeRead n workload.tasks.items) }

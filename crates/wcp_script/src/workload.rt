@@ -3,6 +3,7 @@ ghost use Rattle.wcp_model.specs.declared.plan.Plan.{Plan};
 ghost use Rattle.wcp_model.specs.declared.workload.Task.{Task};
 ghost use Rattle.wcp_model.specs.PlanFault.{IsCheckedPlan};
 ghost use Rattle.wcp_model.specs.Tree.{IsSamePlan};
+ghost use Rattle.wcp_model.specs.Watched.{AreSomeWatched};
 ghost use Rattle.wcp_model.specs.WorkloadComputation.{CouldBeRead};
 ghost use Rattle.wcp_script.specs.declared.fault.ScriptFault.{ScriptFault};
 ghost use Rattle.wcp_script.specs.TextFault.{workloads, Spells, HasWorkloadFault};
@@ -21,6 +22,7 @@ pub fn read_workload(alloc: Global, bytes: &[u8]) -> Result<Workload, ReadFault>
     ensures spelled { IfOk result (λ workload. Spells workloads bytes.now workload.plan workload.tasks.items) }
     ensures could_be_read { IfOk result (λ workload. CouldBeRead workload.plan.n workload.tasks.items) }
     ensures checked { IfOk result (λ workload. IsCheckedPlan workload.plan) }
+    ensures watched { IfOk result (λ workload. AreSomeWatched workload.plan.n workload.plan.watched) }
 
     // What spells a workload that could be read is read as it, unless memory runs out.
     ensures only { (plan : Plan) (tasks : List Task) →
@@ -65,6 +67,7 @@ impl OrderedWorkload {
 pub fn read_ordered(alloc: Global, bytes: &[u8]) -> Result<OrderedWorkload, ReadFault>
     ensures exact { ReadsInOrder bytes.now result }
     ensures could_be_read { IfOk result (λ ordered. CouldBeRead ordered.workload.plan.n ordered.workload.tasks.items) }
+    ensures watched { IfOk result (λ ordered. AreSomeWatched ordered.workload.plan.n ordered.workload.plan.watched) }
 {
     let Text { plan, last, steps } = read_text(alloc, bytes)?;
     let order = match fit_order(alloc, plan.n, &steps)? {

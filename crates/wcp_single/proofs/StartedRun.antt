@@ -1,16 +1,16 @@
-use Rattle.wcp_single.proofs.Words.{common_steps, ◌≡◌, ℕ, ◌+◌, ◌*◌, ◌<◌, List, [], ◌∷◌, ◌++◌, length, replicate, take, get_or, All, refl, ap, ◌∙◌, arith, length_push, length-replicate, get_or-replicate, get_or_append_left, get_or_push, Task, IsWithin, IsFitOrder, IsFitOrder-take, Seal, CheckerState, WatchedProcess, IsRunning, HasTaken, HasDone, IsNextTask}
+use Rattle.wcp_single.proofs.Words.{NumberSet, common_steps, ◌≡◌, ℕ, ◌+◌, ◌*◌, ◌<◌, List, [], ◌∷◌, ◌++◌, length, replicate, take, get_or, All, refl, ap, ◌∙◌, arith, length_push, length-replicate, get_or-replicate, get_or_append_left, get_or_push, Task, setup, IsWithin, IsFitOrder, IsFitOrder-take, Seal, CheckerState, WorkloadProcess, IsRunning, HasTaken, HasDone, IsNextTask}
 use Rattle.wcp_clock.specs.Limits.{most_events}
 
 -- the first processes run, with nothing in their logs
-abbrev pub AreNew : ℕ → ℕ → List WatchedProcess → Type 0
-AreNew n count processes = (length processes ≡ count) × ((p : ℕ) (d : WatchedProcess) → p < count → IsRunning n p [] (get_or processes p d))
+abbrev pub AreNew : ℕ → NumberSet → ℕ → List WorkloadProcess → Type 0
+AreNew n watched count processes = (length processes ≡ count) × ((p : ℕ) (d : WorkloadProcess) → p < count → IsRunning (setup n watched p) [] (get_or processes p d))
 
-pub one_more_new : (n count : ℕ) (processes : List WatchedProcess) (new : WatchedProcess) → AreNew n count processes → IsRunning n count [] new → AreNew n (count + 1) (processes ++ new ∷ [])
-one_more_new n count processes new are is = grind (arith, get_or_append_left, get_or_push, length_push)
+pub one_more_new : (n : ℕ) (watched : NumberSet) (count : ℕ) (processes : List WorkloadProcess) (new : WorkloadProcess) → AreNew n watched count processes → IsRunning (setup n watched count) [] new → AreNew n watched (count + 1) (processes ++ new ∷ [])
+one_more_new n watched count processes new are is = grind (arith, get_or_append_left, get_or_push, length_push)
 
 -- the run starts there, with no message in transit
-pub run_starts : (n : ℕ) (processes : List WatchedProcess) (queues : List (List Seal)) (checker : CheckerState) → AreNew n n processes → queues ≡ replicate (n * n) [] → HasTaken n [] checker → HasDone n [] processes queues checker
-run_starts n processes queues checker are none has_taken = record {
+pub run_starts : (n : ℕ) (watched : NumberSet) (processes : List WorkloadProcess) (queues : List (List Seal)) (checker : CheckerState) → AreNew n watched n processes → queues ≡ replicate (n * n) [] → HasTaken n watched [] checker → HasDone n watched [] processes queues checker
+run_starts n watched processes queues checker are none has_taken = record {
   processes_are = are.0;
   channels_are = ap length none ∙ length-replicate (n * n) [];
   logs = λ p. [];

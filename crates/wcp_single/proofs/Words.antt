@@ -1,5 +1,5 @@
 -- The words of the proofs of this crate, from one place.
-pub use Rattle.std.proofs.Common.{◌≡◌, ◌≢◌, ◌==◌, ◌&&◌, ℕ, ◌+◌, ◌*◌, ◌<◌, Bool, true, false, cond, List, [], ◌∷◌, ◌++◌, length, map, take, drop, set, get_or, count_by, All, refl, sym, ap, ◌∙◌, subst, inl, inr, append-nil, append_assoc, arith, eq-eqb, get_or-set_same, get_or-set_other, ◌↔◌, IsTrue, Option, Some, None, MatchOption, ap₂, replicate, slice_get, subst₂}
+pub use Rattle.std.proofs.Common.{◌≡◌, ◌≢◌, ◌==◌, ◌&&◌, ℕ, ◌+◌, ◌*◌, ◌<◌, Bool, true, false, cond, List, [], ◌∷◌, ◌++◌, length, map, take, drop, set, get_or, count_by, All, refl, sym, ap, ◌∙◌, subst, inl, inr, append-nil, append_assoc, arith, eq-eqb, get_or-set_same, get_or-set_other, ◌↔◌, IsTrue, Option, Some, None, MatchOption, replicate, slice_get, subst₂}
 pub use Rattle.std.proofs.lemmas.Bool.{cases_eq, ne_eqb, false_from_ne_true}
 pub use Rattle.std.proofs.lemmas.Grind.{common_steps}
 pub use Rattle.std.proofs.lemmas.List.{take_all, take_at, length-append, length-map, length-set, length_push, length-replicate, get_or-replicate, get_or_append_left, get_or_push, get_or_read_under, take_more}
@@ -21,6 +21,8 @@ pub use Rattle.wcp_model.specs.declared.workload.Task.{Task}
 pub use Rattle.wcp_order.proofs.Tasks.{at_place, receive_is_no_send, sends_ends, receives_ends, send_is_no_receive, observe_is_no_send, observe_is_no_receive}
 pub use Rattle.wcp_probe.specs.Seal.{Seal, seal_of}
 pub use Rattle.wcp_queue.specs.Checker.{CheckerState, MayTake, TakesItem, processes, taken_of, StandsForItems}
-pub use Rattle.wcp_single.specs.WatchedProcess.{IsRunning, MayCommunicate, MayReceive, MakesCall, Feeds, HasTaken, IsFed, IsFedMore, IsWatched}
-pub use Rattle.wcp_single.specs.WorkloadRun.{IsChannel, IsNextTask, queue_at, HasDone, HasClosed, IsEnding}
-pub use Rattle.wcp_single.specs.declared.watched_process.WatchedProcess.{WatchedProcess}
+pub use Rattle.wcp_single.specs.WorkloadProcess.{IsRunning, MayCommunicate, MayReceive, MakesCall, Feeds, HasTaken, IsFed, IsFedMore, IsCaughtUp}
+pub use Rattle.wcp_single.specs.WorkloadRun.{IsChannel, IsNextTask, MayDoNext, queue_at, HasDone, HasClosed, IsEnding}
+pub use Rattle.wcp_single.specs.declared.workload_process.WorkloadProcess.{WorkloadProcess}
+pub use Rattle.wcp_clock.specs.ProcessNumbers.{NumberSet}
+pub use Rattle.wcp_model.specs.declared.probe_setup.ProbeSetup.{ProbeSetup}

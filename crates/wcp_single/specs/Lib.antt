@@ -1,2 +1,2 @@
-pub mod WatchedProcess
+pub mod WorkloadProcess
 pub mod WorkloadRun

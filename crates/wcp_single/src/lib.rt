@@ -7,8 +7,8 @@
 #![tactic(auto)]
 
 mod stamp_queue;
-mod watched_process;
 mod workload_outcome;
+mod workload_process;
 mod workload_run;
 
 pub use workload_outcome::{single, single_in_order};

@@ -2,6 +2,7 @@
 ghost use Rattle.std.specs.Prelude.{◌<◌, ◌≤◌, length, All, IfOk};
 ghost use Rattle.wcp_clock.specs.Limits.{most_events, most_processes};
 ghost use Rattle.wcp_model.specs.Outcome.{IsWorkloadOutcome};
+ghost use Rattle.wcp_model.specs.Watched.{AreSomeWatched};
 ghost use Rattle.wcp_model.specs.WorkloadComputation.{CouldBeRead, IsFitOrder, IsWithin};
 
 use crate::workload_run::WorkloadRun;
@@ -11,12 +12,12 @@ use wcp_order::{FitOrder, fit_order};
 
 /// The outcome of these tasks of the plan's processes, which are a fit order.
 fn outcome(alloc: Global, plan: &Plan, order: &[Task]) -> Result<Outcome, AllocError>
-    requires some { 1 ≤ plan.now.n }
     requires few { plan.now.n ≤ most_processes }
+    requires watched { AreSomeWatched plan.now.n plan.now.watched }
     requires few_tasks { length order.now < most_events }
     requires within { All (IsWithin plan.now.n) order.now }
     requires fit { IsFitOrder order.now order.now }
-    ensures { IfOk result (IsWorkloadOutcome plan.now.n order.now) }
+    ensures { IfOk result (IsWorkloadOutcome plan.now.n plan.now.watched order.now) }
 {
     let mut run = WorkloadRun::new(alloc, plan)?;
     for task in order {
@@ -30,8 +31,9 @@ fn outcome(alloc: Global, plan: &Plan, order: &[Task]) -> Result<Outcome, AllocE
 
 /// The outcome of a workload: of one fit order, and so of each. `Err` where memory runs out.
 pub fn single(alloc: Global, workload: &Workload) -> Result<Outcome, AllocError>
-    requires { CouldBeRead workload.now.plan.n workload.now.tasks.items }
-    ensures { IfOk result (IsWorkloadOutcome workload.now.plan.n workload.now.tasks.items) }
+    requires read { CouldBeRead workload.now.plan.n workload.now.tasks.items }
+    requires watched { AreSomeWatched workload.now.plan.n workload.now.plan.watched }
+    ensures { IfOk result (IsWorkloadOutcome workload.now.plan.n workload.now.plan.watched workload.now.tasks.items) }
 {
     match fit_order(alloc, workload.plan.n, &workload.tasks)? {
         FitOrder::AsListed => single_in_order(alloc, workload, &workload.tasks),
@@ -49,8 +51,9 @@ pub fn single_in_order(
     order: &[Task],
 ) -> Result<Outcome, AllocError>
     requires read { CouldBeRead workload.now.plan.n workload.now.tasks.items }
+    requires watched { AreSomeWatched workload.now.plan.n workload.now.plan.watched }
     requires fit { IsFitOrder workload.now.tasks.items order.now }
-    ensures { IfOk result (IsWorkloadOutcome workload.now.plan.n workload.now.tasks.items) }
+    ensures { IfOk result (IsWorkloadOutcome workload.now.plan.n workload.now.plan.watched workload.now.tasks.items) }
 {
     outcome(alloc, &workload.plan, order)
 }

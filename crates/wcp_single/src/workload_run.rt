@@ -6,13 +6,15 @@ ghost use Rattle.wcp_clock.specs.Limits.{most_processes};
 ghost use Rattle.wcp_model.specs.declared.outcome.Tally.{Tally};
 ghost use Rattle.wcp_model.specs.declared.workload.Task.{Task};
 ghost use Rattle.wcp_model.specs.Outcome.{IsWorkloadOutcome};
+ghost use Rattle.wcp_clock.specs.ProcessNumbers.{NumberSet};
+ghost use Rattle.wcp_model.specs.Watched.{AreSomeWatched};
 ghost use Rattle.wcp_model.specs.WorkloadComputation.{IsWithin};
 ghost use Rattle.wcp_queue.specs.Checker.{processes, taken_of};
-ghost use Rattle.wcp_single.specs.declared.watched_process.WatchedProcess.{WatchedProcess};
-ghost use Rattle.wcp_single.specs.WorkloadRun.{IsEnding, IsNextTask, HasDone};
+ghost use Rattle.wcp_single.specs.declared.workload_process.WorkloadProcess.{WorkloadProcess};
+ghost use Rattle.wcp_single.specs.WorkloadRun.{IsEnding, IsNextTask, HasDone, MayDoNext};
 
 use crate::stamp_queue::StampQueue;
-use crate::watched_process::WatchedProcess;
+use crate::workload_process::WorkloadProcess;
 use std::alloc::{AllocError, Global};
 use wcp_clock::MAX_PROCS;
 use wcp_model::{Action, Outcome, Plan, Tallies, Tally, Task};
@@ -22,7 +24,7 @@ use wcp_queue::Checker;
 /// How far the run of a workload has come.
 #[derive(Drop)]
 pub struct WorkloadRun {
-    processes: Vec<WatchedProcess>,
+    processes: Vec<WorkloadProcess>,
     /// The messages in transit on each channel.
     in_transit: Vec<StampQueue>,
     checker: Checker,
@@ -31,14 +33,15 @@ pub struct WorkloadRun {
 impl WorkloadRun {
     /// The run before the first task. `Err` where memory runs out.
     pub fn new(alloc: Global, plan: &Plan) -> Result<WorkloadRun, AllocError>
-        requires some { 0 < plan.now.n }
         requires few { plan.now.n ≤ most_processes }
-        ensures { IfOk result (λ run. HasDone plan.now.n [] run.processes.items run.in_transit.items run.checker) }
+        requires watched { AreSomeWatched plan.now.n plan.now.watched }
+        ensures { IfOk result (λ run.
+            HasDone plan.now.n plan.now.watched [] run.processes.items run.in_transit.items run.checker) }
     {
         let n = plan.n;
         let mut processes = Vec::with_capacity(alloc, n as usize)?;
         for id in 0..n {
-            processes.push(WatchedProcess::new(plan.probe_setup(id)))?;
+            processes.push(WorkloadProcess::new(plan.probe_setup(id)))?;
         }
         let mut in_transit = Vec::with_capacity(alloc, (n * n) as usize)?;
         for _ in 0..n * n {
@@ -47,7 +50,7 @@ impl WorkloadRun {
         Ok(WorkloadRun {
             processes,
             in_transit,
-            checker: Checker::new(alloc, n)?,
+            checker: Checker::new(alloc, n, plan.watched)?,
         })
     }
 
@@ -55,11 +58,11 @@ impl WorkloadRun {
     #[tactic(auto, using(crate::proofs::NextTask::ends_within))]
     pub fn perform(&mut self, n: u32, task: Task) -> Result<(), AllocError>
         requires few { n ≤ most_processes }
-        requires next { (done : List Task) × IsNextTask n done task
-            × HasDone n done self.old.processes.items self.old.in_transit.items self.old.checker }
-        ensures { OnOk result ((done : List Task) → IsNextTask n done task
-            → HasDone n done self.old.processes.items self.old.in_transit.items self.old.checker
-            → HasDone n (done ++ task ∷ []) self.new.processes.items self.new.in_transit.items self.new.checker) }
+        requires next { MayDoNext n task self.old.processes.items self.old.in_transit.items self.old.checker }
+        ensures { OnOk result ((watched : NumberSet) (done : List Task) → IsNextTask n done task
+            → HasDone n watched done self.old.processes.items self.old.in_transit.items self.old.checker
+            → HasDone n watched (done ++ task ∷ [])
+            self.new.processes.items self.new.in_transit.items self.new.checker) }
     {
         let p = task.p as usize;
         match task.action {
@@ -78,11 +81,11 @@ impl WorkloadRun {
 
     /// Closes process `p`, after all tasks. `Err` where memory runs out.
     pub fn close(&mut self, p: u32) -> Result<(), AllocError>
-        requires next { (n : ℕ) × (tasks : List Task) × (p < n)
-            × IsEnding n tasks p self.old.processes.items self.old.checker }
-        ensures { OnOk result ((n : ℕ) (tasks : List Task) → p < n
-            → IsEnding n tasks p self.old.processes.items self.old.checker
-            → IsEnding n tasks (p + 1) self.new.processes.items self.new.checker) }
+        requires next { (n : ℕ) × (watched : NumberSet) × (tasks : List Task) × (p < n)
+            × IsEnding n watched tasks p self.old.processes.items self.old.checker }
+        ensures { OnOk result ((n : ℕ) (watched : NumberSet) (tasks : List Task) → p < n
+            → IsEnding n watched tasks p self.old.processes.items self.old.checker
+            → IsEnding n watched tasks (p + 1) self.new.processes.items self.new.checker) }
     {
         self.processes[p as usize].close(&mut self.checker)?;
         Ok(())
@@ -92,9 +95,10 @@ impl WorkloadRun {
     pub fn outcome(&self) -> Outcome
         requires some { 0 < length self.now.processes.items }
         requires few { length self.now.processes.items ≤ most_processes }
-        requires watched { processes self.now.checker ≡ length self.now.processes.items }
-        ensures { (n : ℕ) (tasks : List Task) → All (IsWithin n) tasks
-            → IsEnding n tasks n self.now.processes.items self.now.checker → IsWorkloadOutcome n tasks result }
+        requires processes { processes self.now.checker ≡ length self.now.processes.items }
+        ensures { (n : ℕ) (watched : NumberSet) (tasks : List Task) → All (IsWithin n) tasks
+            → IsEnding n watched tasks n self.now.processes.items self.now.checker
+            → IsWorkloadOutcome n watched tasks result }
     {
         Outcome {
             report: self.checker.report(),
@@ -106,9 +110,9 @@ impl WorkloadRun {
     fn tallies(&self) -> Tallies
         requires some { 0 < length self.now.processes.items }
         requires few { length self.now.processes.items ≤ most_processes }
-        requires watched { processes self.now.checker ≡ length self.now.processes.items }
+        requires processes { processes self.now.checker ≡ length self.now.processes.items }
         ensures processes { length result ≡ length self.now.processes.items }
-        ensures emitted { (p : ℕ) (tally : Tally) (process : WatchedProcess) → slice_get result p ≡ Some tally
+        ensures emitted { (p : ℕ) (tally : Tally) (process : WorkloadProcess) → slice_get result p ≡ Some tally
             → tally.emitted ≡ (slice_index_or self.now.processes.items p process).probe.emitted }
         ensures taken { (p : ℕ) (tally : Tally) → slice_get result p ≡ Some tally
             → tally.taken ≡ taken_of self.now.checker p }

@@ -1,6 +1,7 @@
 -- What the outcome of a workload gives a picture.
 use Rattle.std.proofs.Common.{◌≡◌, ℕ, ◌≤◌, List, length, MatchOption, arith, All}
 use Rattle.wcp_clock.specs.Limits.{most_steps}
+use Rattle.wcp_clock.specs.ProcessNumbers.{NumberSet}
 use Rattle.wcp_model.proofs.AcceptedOrder.{IsFitOrder-itself, All-fit_order}
 use Rattle.wcp_model.specs.declared.outcome.Report.{Report}
 use Rattle.wcp_model.specs.declared.outcome.Report.TheVariants.{Found, Nothing, Undecided}
@@ -12,18 +13,19 @@ use Rattle.wcp_layout.specs.Halves.{MaySplit}
 use Rattle.wcp_sketch.specs.Sketches.{cut_of}
 
 -- a cut that was found splits an order
-pub may_split : (n : ℕ) (order : List Task) (report : Report) → IsReportOf n (computation_of n order) report
-    → MaySplit n order (cut_of report)
-may_split n order (Found cut) is = is.one
-may_split n order Nothing is = tt
-may_split n order Undecided is = tt
+pub may_split : (n : ℕ) (watched : NumberSet) (order : List Task) (report : Report)
+    → IsReportOf n watched (computation_of n order) report → MaySplit n order (cut_of report)
+may_split n watched order (Found cut) is = (watched, is.one)
+may_split n watched order Nothing is = tt
+may_split n watched order Undecided is = tt
 
--- it has a member for each process
-pub has_members : (n : ℕ) (order : List Task) (report : Report) → IsReportOf n (computation_of n order) report
+-- it has an entry for each process
+pub has_members : (n : ℕ) (watched : NumberSet) (order : List Task) (report : Report)
+    → IsReportOf n watched (computation_of n order) report
     → MatchOption (cut_of report) (Unit {0}) (λ cut. length cut ≡ n)
-has_members n order (Found cut) is = is.one.members
-has_members n order Nothing is = tt
-has_members n order Undecided is = tt
+has_members n watched order (Found cut) is = is.one.members.processes
+has_members n watched order Nothing is = tt
+has_members n watched order Undecided is = tt
 
 module _ (n : ℕ) (tasks order : List Task) (read : CouldBeRead n tasks) (fit : IsFitOrder tasks order) where
   pub order_within : All (IsWithin n) order

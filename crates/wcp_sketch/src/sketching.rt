@@ -1,5 +1,6 @@
 //! The picture of a text.
 ghost use Rattle.std.specs.Prelude.{◌≡◌, length, option_map, string_bytes, IfOk, IfErr};
+ghost use Rattle.wcp_model.specs.Watched.{AreSomeWatched};
 ghost use Rattle.wcp_model.specs.WorkloadComputation.{CouldBeRead, IsFitOrder};
 ghost use Rattle.wcp_sketch.specs.Faults.{IsWhy};
 ghost use Rattle.wcp_sketch.specs.Sketches.{cut_of, IsPictureOf, IsSketchOf};
@@ -31,9 +32,10 @@ fn sketch_in_order(
     order: &[Task],
 ) -> Result<Picture, AllocError>
     requires read { CouldBeRead workload.now.plan.n workload.now.tasks.items }
+    requires watched { AreSomeWatched workload.now.plan.n workload.now.plan.watched }
     requires fit { IsFitOrder workload.now.tasks.items order.now }
     requires names { length names.now ≡ workload.now.plan.n }
-    ensures { IfOk result (λ picture. IsPictureOf names.now workload.now.tasks.items
+    ensures { IfOk result (λ picture. IsPictureOf names.now workload.now.plan.watched workload.now.tasks.items
         (string_bytes picture.text) picture.found) }
 {
     let outcome = single_in_order(alloc, workload, order)?;

@@ -1,7 +1,7 @@
 -- A set to which one number after another is added where it passes.
 use Rattle.wcp_tree.proofs.Words.{◌≡◌, ◌↔◌, ℕ, ◌+◌, ◌<◌, true, true≢false, sym, ◌∙◌, arith, nat_cmp, cases_eq, nat_tests, Numbers}
 use Rattle.std.specs.FinSet as set
-use Rattle.wcp_lane.proofs.Marks.{contains_with}
+use Rattle.wcp_clock.proofs.Marks.{contains_with}
 
 -- the set has just the numbers below k that are P
 pub record HasAllBelow (members : Numbers) (k : ℕ) (P : ℕ → Type 0) : Type 0 where

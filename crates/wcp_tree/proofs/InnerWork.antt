@@ -1,7 +1,7 @@
 -- A relay with a lane stays at work.
 use Rattle.wcp_tree.proofs.Words.{◌≡◌, ◌≢◌, ℕ, suc, true, false, true≢false, None, List, [], ◌∷◌, ◌++◌, sym, ap, ◌∙◌, subst, refl, append_assoc, ⊎_elim, arith, All, IfNone, nat_cmp, cases_eq, nat_tests, append-nil, Item, is_last, TakeEnd, Numbers, Bundle, Outlet, items_of, EndsWithLast, handed, IsFaithful, IsSound, AreTakenNext, IsSameOutlet, IsInnerAtWork, ItemsMayFollow, AreEnded}
 use Rattle.std.specs.FinSet as set
-use Rattle.wcp_lane.proofs.Marks.{contains_with}
+use Rattle.wcp_clock.proofs.Marks.{contains_with}
 use Rattle.wcp_tree.proofs.Accepting.{ItemMayFollow, follow_same}
 use Rattle.wcp_tree.proofs.Lists.{items_of-append, items_of-own, items_of-other}
 use Rattle.wcp_tree.proofs.Faithful.{faithful_same, only_none}

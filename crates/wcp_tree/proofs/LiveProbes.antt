@@ -1,14 +1,16 @@
 -- Live probes that are fresh, and that stay the same.
-use Rattle.wcp_tree.proofs.Words.{◌≡◌, ℕ, ◌<◌, None, List, [], ◌∷◌, ◌++◌, length, replicate, refl, sym, ap, subst, ◌∙◌, append-nil, arith, Result, Ok, Err, OnOk, OnErr, length-replicate, Note, Item, Call, AreRising, clocks_taken, notes_taken, snapshot_clocks-append, HasLog, IsSameLive, LiveAccepts, LiveFor, LiveSide, NotesRise, emitted_by, fresh_core}
+use Rattle.wcp_tree.proofs.Words.{ProbeSetup, ◌≡◌, ℕ, ◌<◌, None, List, [], ◌∷◌, ◌++◌, length, replicate, refl, sym, ap, subst, ◌∙◌, append-nil, arith, Result, Ok, Err, OnOk, OnErr, length-replicate, Note, Item, Call, AreRising, clocks_taken, notes_taken, snapshot_clocks-append, HasLog, IsSameLive, LiveAccepts, LiveFor, LiveSide, NotesRise, emitted_by, fresh_core}
+use Rattle.wcp_probe.specs.Core.{setup_of}
 use Rattle.std.proofs.Math.Logic.{∥∥₁_map, ∥∥₁_elim}
 use Rattle.std.proofs.Props.{props}
 use Rattle.wcp_clock.specs.declared.note.Note.TheVariants as note
 use Rattle.wcp_tree.proofs.RisingLogs.{log_clocks_rise}
 
 -- before any call, a probe stands for no calls
-pub fresh_stands : (watch p n : ℕ) (probe : LiveSide) → probe.core ≡ fresh_core watch p n → probe.link.put ≡ [] → LiveFor probe []
-fresh_stands watch p n probe fresh empty = rw fresh (record {
-  core = record { clock = ap (λ k. replicate k 0) (sym (length-replicate n 0)); flag = refl; closed = refl; emitted = refl; pending = tt };
+pub fresh_stands : (watch : ℕ) (made : ProbeSetup) (probe : LiveSide) → probe.core ≡ fresh_core watch made
+    → probe.link.put ≡ [] → LiveFor probe []
+fresh_stands watch made probe fresh empty = rw fresh (record {
+  core = record { clock = ap (λ k. replicate k 0) (sym (length-replicate made.processes 0)); flag = refl; closed = refl; emitted = refl; pending = tt };
   emissions = ap (λ put. put ++ []) empty;
 })
 
@@ -36,7 +38,7 @@ NotesRise-prop p notes = hlevel props
 pub emissions_rise : (probe : LiveSide) → probe.core.id < length probe.core.clock → HasLog probe → NotesRise probe.core.id (emitted_by probe)
 emissions_rise probe within logged = ∥∥₁_elim logged (NotesRise-prop probe.core.id (emitted_by probe)) (λ x.
     subst (NotesRise probe.core.id) (sym x.1.emissions)
-    (log_clocks_rise (length probe.core.clock) probe.core.id x.0 within (ap length (sym x.1.core.clock))))
+    (log_clocks_rise (setup_of probe.core) x.0 within (ap length (sym x.1.core.clock))))
 
 -- and stay so with the close mark behind
 pub closed_rises : (probe : LiveSide) (put : List Note) (count : ℕ) → probe.core.id < length probe.core.clock → HasLog probe → probe.core.pending ≡ None → put ≡ probe.link.put ++ note.Close count ∷ [] → NotesRise probe.core.id put

@@ -1,11 +1,11 @@
 -- One ring after another is opened, and one feed after another is taken.
-use Rattle.wcp_tree.proofs.Words.{◌≡◌, ◌≢◌, ◌⊎◌, ℕ, ◌+◌, ◌≤◌, false, List, [], ◌∷◌, ◌++◌, length, get_or, All, Option, Some, None, eqb-true, eq-eqb, refl, sym, ap, subst, ◌∙◌, inl, arith, common_steps, gets, slice_get, slice_set, cases_eq, length-set, length_push, All-push, All-weaker, Plan, leaf_of, TakeSide, Feed, LiveSide, fresh_core, IsTakerAt, AreRings, IsFeed, AreFeeds}
+use Rattle.wcp_tree.proofs.Words.{setup, ◌≡◌, ◌≢◌, ◌⊎◌, ℕ, ◌+◌, ◌≤◌, false, List, [], ◌∷◌, ◌++◌, length, get_or, All, Option, Some, None, eqb-true, eq-eqb, refl, sym, ap, subst, ◌∙◌, inl, arith, common_steps, gets, slice_get, slice_set, cases_eq, length-set, length_push, All-push, All-weaker, Plan, leaf_of, TakeSide, Feed, LiveSide, fresh_core, IsTakerAt, AreRings, IsFeed, AreFeeds}
 use Rattle.std.proofs.lemmas.List.Quantifiers.{all_pairs_push}
 use Rattle.wcp_tree.proofs.Entries.{taken_out}
 
 module _ (plan : Plan) (watch : ℕ) where
   pub one_ring_more : (k : ℕ) (probes : List LiveSide) (takers : List (Option TakeSide)) (probe : LiveSide) (taker : TakeSide)
-      → AreRings plan watch k probes takers → probe.core ≡ fresh_core watch k plan.n → probe.link.put ≡ [] → probe.link.free ≡ plan.cap
+      → AreRings plan watch k probes takers → probe.core ≡ fresh_core watch (setup plan.n plan.watched k) → probe.link.put ≡ [] → probe.link.free ≡ plan.cap
       → taker.ring ≡ probe.link.ring → taker.taken ≡ []
       → AreRings plan watch (k + 1) (probes ++ probe ∷ []) (takers ++ Some taker ∷ [])
   one_ring_more k probes takers probe taker rings fresh empty room one_ring none = record {

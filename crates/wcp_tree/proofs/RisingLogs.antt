@@ -1,5 +1,5 @@
 -- The clocks of the snapshots that a log emits rise.
-use Rattle.wcp_tree.proofs.Words.{◌≡◌, ℕ, zero, suc, ◌+◌, ◌<◌, ◌≤◌, false, true, true≢false, List, [], ◌∷◌, ◌++◌, length, fold, slice_index, slice_set, get_or, refl, arith, append-nil, cases_eq, cases_Bool, cases_lt, length-set, length-replicate, get_or-set_same, get_or-set_other, get_or_append_left, get_or_push, length_push, Call, Observed, Sent, Received, Closed, ProbeState, after_call, setup, state_of_log, snapshot_clocks, AreRising, snapshot_clocks-append}
+use Rattle.wcp_tree.proofs.Words.{ProbeSetup, ◌≡◌, ℕ, zero, suc, ◌+◌, ◌<◌, ◌≤◌, false, true, true≢false, List, [], ◌∷◌, ◌++◌, length, fold, slice_index, slice_set, get_or, refl, arith, append-nil, cases_eq, cases_Bool, cases_lt, length-set, length-replicate, get_or-set_same, get_or-set_other, get_or_append_left, get_or_push, length_push, Call, Observed, Sent, Received, Closed, ProbeState, after_call, setup, state_of_log, snapshot_clocks, AreRising, snapshot_clocks-append}
 use Rattle.wcp_clock.specs.Merge.{merged}
 use Rattle.wcp_clock.specs.declared.note.Note.TheVariants as note
 
@@ -51,31 +51,33 @@ risen_by_first p s down risen = rw (snapshot_clocks-append s.notes (note.Snap s.
 })
 
 -- each call keeps that, where the clock keeps its components
-length-after : (p : ℕ) (s : ProbeState) (call : Call) → length (after_call p s call).clock ≤ length s.clock
-length-after p s call = grind (arith, cases_Bool s.flag, length-set {A = ℕ}, length-merged_first)
+length-after : (made : ProbeSetup) (s : ProbeState) (call : Call) → length (after_call made s call).clock ≤ length s.clock
+length-after made s call = grind (arith, cases_Bool s.flag, cases_Bool made.watched, length-set {A = ℕ}, length-merged_first)
 
-length-after_all : (p : ℕ) (s : ProbeState) (log : List Call) → length (fold (after_call p) s log).clock ≤ length s.clock
-length-after_all p s [] = omega arith
-length-after_all p s (call ∷ log) = omega (arith, length-after p s call, length-after_all p (after_call p s call) log)
+length-after_all : (made : ProbeSetup) (s : ProbeState) (log : List Call) → length (fold (after_call made) s log).clock ≤ length s.clock
+length-after_all made s [] = omega arith
+length-after_all made s (call ∷ log) = omega (arith, length-after made s call, length-after_all made (after_call made s call) log)
 
-risen_after : (p : ℕ) (s : ProbeState) (call : Call) → length s.clock ≤ length (after_call p s call).clock → HasRisen p (snapshot_clocks s.notes) s → HasRisen p (snapshot_clocks (after_call p s call).notes) (after_call p s call)
-risen_after p s (Observed false) long risen = risen
-risen_after p s (Observed true) long risen = grind (arith, cases_Bool s.flag, risen_by_first p s)
-risen_after p s Sent long risen = risen_by_event p (snapshot_clocks s.notes) s s.clock risen refl (λ q. omega arith)
-risen_after p s (Received stamp) long risen = risen_by_event p (snapshot_clocks s.notes) s (merged s.clock stamp) risen (omega (arith, length-merged_first s.clock stamp, length-set (merged s.clock stamp) p (slice_index s.clock p + 1))) (λ q. merged_above s.clock stamp q (omega (arith, length-set (merged s.clock stamp) p (slice_index s.clock p + 1))))
-risen_after p s Closed long risen = grind (arith, append-nil, snapshot_clocks-append)
+risen_after : (made : ProbeSetup) (s : ProbeState) (call : Call) → length s.clock ≤ length (after_call made s call).clock → HasRisen made.process (snapshot_clocks s.notes) s → HasRisen made.process (snapshot_clocks (after_call made s call).notes) (after_call made s call)
+risen_after made s (Observed false) long risen = risen
+risen_after made s (Observed true) long risen = grind (arith, cases_Bool made.watched, cases_Bool s.flag, risen_by_first made.process s)
+risen_after made s Sent long risen = risen_by_event made.process (snapshot_clocks s.notes) s s.clock risen refl (λ q. omega arith)
+risen_after made s (Received stamp) long risen = risen_by_event made.process (snapshot_clocks s.notes) s (merged s.clock stamp) risen (omega (arith, length-merged_first s.clock stamp, length-set (merged s.clock stamp) made.process (slice_index s.clock made.process + 1))) (λ q. merged_above s.clock stamp q (omega (arith, length-set (merged s.clock stamp) made.process (slice_index s.clock made.process + 1))))
+risen_after made s Closed long risen = grind (arith, append-nil, snapshot_clocks-append)
 
-risen_from : (p : ℕ) (s : ProbeState) (log : List Call) → length s.clock ≤ length (fold (after_call p) s log).clock → HasRisen p (snapshot_clocks s.notes) s → HasRisen p (snapshot_clocks (fold (after_call p) s log).notes) (fold (after_call p) s log)
-risen_from p s [] long risen = risen
-risen_from p s (call ∷ log) long risen =
-    let here : length s.clock ≤ length (after_call p s call).clock = omega (arith, length-after_all p (after_call p s call) log) in
-    risen_from p (after_call p s call) log (omega (arith, length-after p s call)) (risen_after p s call here risen)
+risen_from : (made : ProbeSetup) (s : ProbeState) (log : List Call) → length s.clock ≤ length (fold (after_call made) s log).clock → HasRisen made.process (snapshot_clocks s.notes) s → HasRisen made.process (snapshot_clocks (fold (after_call made) s log).notes) (fold (after_call made) s log)
+risen_from made s [] long risen = risen
+risen_from made s (call ∷ log) long risen =
+    let here : length s.clock ≤ length (after_call made s call).clock = omega (arith, length-after_all made (after_call made s call) log) in
+    risen_from made (after_call made s call) log (omega (arith, length-after made s call)) (risen_after made s call here risen)
 
 -- so the clocks of the snapshots of a log rise, where the clock kept its components
-pub log_clocks_rise : (n p : ℕ) (log : List Call) → p < n → length (state_of_log (setup n p) log).clock ≡ n → AreRising p (snapshot_clocks (state_of_log (setup n p) log).notes)
-log_clocks_rise n p log within same =
-    let n_long = length-replicate n (zero) in
-    (risen_from p (state_of_log (setup n p) []) log (omega (arith, n_long, same)) (record {
+pub log_clocks_rise : (made : ProbeSetup) (log : List Call) → made.process < made.processes
+    → length (state_of_log made log).clock ≡ made.processes
+    → AreRising made.process (snapshot_clocks (state_of_log made log).notes)
+log_clocks_rise made log within same =
+    let n_long = length-replicate made.processes (zero) in
+    (risen_from made (state_of_log made []) log (omega (arith, n_long, same)) (record {
       rising = record { never_fall = λ i j q up below. absurd (omega arith); rise = λ i j up below. absurd (omega arith) };
       none_above = λ i q below. absurd (omega arith);
       own_below = λ down i below. absurd (omega arith);

@@ -22,7 +22,7 @@ pub use Rattle.wcp_lane.proofs.Steps.{AreInSequence-push, All-front, may_follow}
 pub use Rattle.wcp_lane.specs.Ends.{LaneName, PutEnd, TakeEnd, new_putter}
 pub use Rattle.wcp_lane.specs.MemberSets.{AreApart, AreMemberSets, IsFirstLaneFault}
 pub use Rattle.wcp_lane.specs.Passes.{Numbers}
-pub use Rattle.wcp_lane.specs.ProcessNumbers.{AreProcessNumbers}
+pub use Rattle.wcp_clock.specs.ProcessNumbers.{AreProcessNumbers}
 pub use Rattle.wcp_model.proofs.CheckedPlans.{parent_below, all_served, attached_exists, has_leaf, is_its_leaf, is_its_number, not_mixed, few_relays, hold_room, some_relays, capacity, is_not_its_number, few_processes}
 pub use Rattle.wcp_model.proofs.NotesInTurn.{snapshot_clocks-append}
 pub use Rattle.wcp_model.specs.LaneRule.{AreInSequence, IsNext}
@@ -50,3 +50,4 @@ pub use Rattle.wcp_tree.specs.declared.outlet.Outlet.{Outlet}
 pub use Rattle.wcp_tree.specs.declared.source.Source.{Source}
 pub use Rattle.wcp_tree.specs.declared.source.Source.TheVariants.{Leaf, Inner}
 pub use mathlib.Core.List.{IsPrefix}
+pub use Rattle.wcp_model.specs.declared.probe_setup.ProbeSetup.{ProbeSetup}

@@ -3,7 +3,9 @@ use Rattle.std.specs.Prelude.{◌≡◌, ℕ, false, not, Option, Some, None}
 use Rattle.std.specs.Prelude.{List, [], ◌∷◌, ◌++◌, count_by, length, replicate, slice_get}
 use Rattle.wcp_clock.specs.Limits.{most_events}
 use Rattle.wcp_clock.specs.declared.note.Note.{Note}
-use Rattle.wcp_model.specs.ProbeLog.{Call, Closed, state_of_log}
+use Rattle.wcp_clock.specs.ProcessNumbers.{NumberSet}
+use Rattle.wcp_model.specs.declared.probe_setup.ProbeSetup.{ProbeSetup}
+use Rattle.wcp_model.specs.ProbeLog.{Call, Closed, setup, state_of_log}
 use Rattle.wcp_model.specs.Report.{AreRising, snapshot_clocks}
 use Rattle.wcp_probe.specs.Core.{Core, StandsForLog, IsSameProbe, setup_of}
 use Rattle.wcp_ring.specs.Ends.{PutSide, EndedSide}
@@ -21,12 +23,13 @@ pub record ClosedSide : Type 0 where
   pub link : EndedSide
 
 -- The core of a probe before any call.
-abbrev pub fresh_core : ℕ → ℕ → ℕ → Core
-fresh_core watch id n = record {
+abbrev pub fresh_core : ℕ → ProbeSetup → Core
+fresh_core watch made = record {
   watch = watch;
-  id = id;
+  id = made.process;
+  watched = made.watched;
   limit = most_events;
-  clock = replicate n 0;
+  clock = replicate made.processes 0;
   flag = false;
   closed = false;
   emitted = 0;
@@ -34,10 +37,10 @@ fresh_core watch id n = record {
 }
 
 -- The probes of n processes before any call, by the numbers of the processes.
-pub record AreFreshProbes (n : ℕ) (probes : List LiveSide) : Type 0 where
+pub record AreFreshProbes (n : ℕ) (watched : NumberSet) (probes : List LiveSide) : Type 0 where
   pub count : length probes ≡ n
   pub each : (p : ℕ) (probe : LiveSide) → slice_get probes p ≡ Some probe
-      → (probe.core ≡ fresh_core probe.core.watch p n) × (probe.link.put ≡ [])
+      → (probe.core ≡ fresh_core probe.core.watch (setup n watched p)) × (probe.link.put ≡ [])
 
 -- The note that is pending, if there is one.
 abbrev pub pending_notes : Option Note → List Note

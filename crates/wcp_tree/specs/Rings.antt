@@ -3,6 +3,7 @@ use Rattle.std.specs.Prelude.{◌≡◌, ◌≢◌, ◌==◌, ◌↔◌, ℕ, �
 use Rattle.std.specs.Prelude.{Option, Some, List, [], length, slice_get, All, AllPairs}
 use Rattle.std.specs.List.{list_any}
 use Rattle.wcp_model.specs.declared.plan.Plan.{Plan}
+use Rattle.wcp_model.specs.ProbeLog.{setup}
 use Rattle.wcp_model.specs.Tree.{leaf_of}
 use Rattle.wcp_ring.specs.Ends.{TakeSide}
 use Rattle.wcp_tree.specs.declared.feed.Feed.{Feed}
@@ -19,7 +20,7 @@ pub record IsNewRing (plan : Plan) (watch p : ℕ)
   pub probe : LiveSide
   pub taker : TakeSide
   pub is_probe : slice_get probes p ≡ Some probe
-  pub fresh : probe.core ≡ fresh_core watch p plan.n
+  pub fresh : probe.core ≡ fresh_core watch (setup plan.n plan.watched p)
   pub empty : probe.link.put ≡ []
   pub room : probe.link.free ≡ plan.cap
   pub is_taker : IsTakerAt takers p taker

@@ -1,6 +1,6 @@
 ghost use Rattle.std.specs.Prelude.{◌≡◌, ℕ, true, [], ◌++◌, ◌↔◌, ◌<◌, IsTrue, IfOk, IfSome, IfNone, OnErr, OnOk};
 ghost use Rattle.std.specs.FinSet as set;
-ghost use Rattle.wcp_lane.specs.ProcessNumbers.{AreProcessNumbers};
+ghost use Rattle.wcp_clock.specs.ProcessNumbers.{AreProcessNumbers};
 ghost use Rattle.wcp_tree.specs.Feeding.{items_of};
 ghost use Rattle.wcp_tree.specs.RelayWork.{IsInnerAtWork, IsSameOutlet, IsSameTaker, AreTakenNext, AreEnded};
 

@@ -57,7 +57,7 @@ impl LiveProbe {
         requires process { made.process < made.processes }
         requires processes { made.processes ≤ most_processes }
         requires empty { putter.put ≡ [] }
-        ensures fresh { result ≡ record { core = fresh_core watch made.process made.processes; link = putter } }
+        ensures fresh { result ≡ record { core = fresh_core watch made; link = putter } }
         ensures stands { LiveFor result [] }
     {
         LiveProbe {
@@ -76,10 +76,11 @@ impl LiveProbe {
     }
 
     /// The process observes its condition. The answer is whether a snapshot was emitted, which then
-    /// is pending: the first true observation of an interval emits one.
+    /// is pending: the first true observation of an interval emits one, unless the process isn't watched.
     pub fn observe(&mut self, holds: bool) -> bool
         ensures accepted { LiveAccepts self.old (Observed holds) self.new }
-        ensures emits { IsTrue result ↔ (IsTrue holds × (self.old.core.flag ≡ false)) }
+        ensures emits { IsTrue result
+            ↔ (IsTrue holds × (self.old.core.watched ≡ true) × (self.old.core.flag ≡ false)) }
         ensures spared { IsTrue result → self.old.core.pending ≡ None }
         ensures link { self.new.link ≡ self.old.link }
         ensures pending { self.new.core ≡ (if result

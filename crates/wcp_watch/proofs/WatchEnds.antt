@@ -1,5 +1,5 @@
 -- The ends of the parts of a watch come from it.
-use Rattle.wcp_watch.proofs.Words.{◌≡◌, ◌↔◌, ℕ, ◌<◌, true, Option, None, Some, List, get_or, All, sym, ap, subst, ◌∙◌, arith, IfNone, slice_get, length-replicate, slice_get-get_or, ClosedSide, IsEndOfProbe, LiveSide, IsEndOfRelay, fault_of, IsWired, RelayEnd, IsEndOfLoop, ComeFromWatch, IsEndOfSomeProbe, IsEndOfSomeRelay, CheckerEnd}
+use Rattle.wcp_watch.proofs.Words.{NumberSet, ◌≡◌, ◌↔◌, ℕ, ◌<◌, true, Option, None, Some, List, get_or, All, sym, ap, subst, ◌∙◌, arith, IfNone, slice_get, length-replicate, slice_get-get_or, ClosedSide, IsEndOfProbe, LiveSide, IsEndOfRelay, fault_of, IsWired, RelayEnd, IsEndOfLoop, ComeFromWatch, IsEndOfSomeProbe, IsEndOfSomeRelay, CheckerEnd}
 use Rattle.std.specs.FinSet as set
 use Rattle.wcp_model.specs.PlanFault.{IsCheckedPlan}
 use Rattle.wcp_model.specs.ProbeLog.{setup}
@@ -18,26 +18,26 @@ where_none None holds = holds
 where_none (Some x) holds = tt
 
 -- a probe was made for process p of n, and its end carries that number
-pub record IsEndOfProcess (watch : Watch) (n p : ℕ) (probe : LiveSide) (end : ClosedSide) : Type 0 where
+pub record IsEndOfProcess (watch : Watch) (n : ℕ) (watched : NumberSet) (p : ℕ) (probe : LiveSide) (end : ClosedSide) : Type 0 where
   pub id : end.id ≡ p
-  pub made : setup_of probe.core ≡ setup n p
+  pub made : setup_of probe.core ≡ setup n watched p
   pub is_end : IsEndOfSomeProbe watch.probes.items end
 
 module _ {plan : Plan} {number : ℕ} {watch : Watch} (wired : IsWired plan number watch) where
   -- the loop was of just its processes
-  pub all_processes : {checker : CheckerEnd} → IsEndOfLoop watch.inbox checker → checker.processes ≡ plan.n
-  all_processes {checker} is =
+  pub all_processes : {watched : NumberSet} {checker : CheckerEnd} → IsEndOfLoop watch.inbox watched checker → checker.processes ≡ plan.n
+  all_processes {watched} {checker} is =
       let members : (p : ℕ) → (set.contains checker.receipt.members p ≡ true) ↔ (p < plan.n) = rw is.members wired.members in
       grind (arith, members checker.processes, members plan.n, is.processes checker.processes, is.processes plan.n)
 
   pub end_of_process : (p : ℕ) (probe : LiveSide) (end : ClosedSide) → slice_get watch.probes.items p ≡ Some probe → IsEndOfProbe probe end
-      → IsEndOfProcess watch plan.n p probe end
+      → IsEndOfProcess watch plan.n plan.watched p probe end
   end_of_process p probe end at closed =
       let core = ((probes_fresh plan number watch wired).each p probe at).0 in
       let id : end.id ≡ p = closed.id ∙ ap (λ (c : Core). c.id) core in
       record {
         id = id;
-        made = ap setup_of core ∙ ap (λ n. setup n p) (length-replicate plan.n 0);
+        made = ap setup_of core ∙ ap (λ n. setup n plan.watched p) (length-replicate plan.n 0);
         is_end = record { probe = probe; is_probe = ap (slice_get watch.probes.items) id ∙ at; one_ring = closed.ring };
       }
 
@@ -55,7 +55,7 @@ module _ {plan : Plan} {number : ℕ} {watch : Watch} (wired : IsWired plan numb
 
   module _ (checked : IsCheckedPlan plan) {probes : List ClosedSide} (of_probes : All (IsEndOfSomeProbe watch.probes.items) probes) where
     pub come_from_watch : {relays : List RelayEnd} {checker : CheckerEnd} → All (IsEndOfSomeRelay watch.relays.items) relays
-        → IsEndOfLoop watch.inbox checker → ComeFromWatch probes relays checker
+        → IsEndOfLoop watch.inbox plan.watched checker → ComeFromWatch probes relays checker
     come_from_watch of_relays of_checker = record {
       plan = plan;
       watch = watch;
@@ -69,6 +69,7 @@ module _ {plan : Plan} {number : ℕ} {watch : Watch} (wired : IsWired plan numb
     -- so do the ends of parts that have its relays and its inbox
     pub come_from_parts : {W E : Type 0} {IsEnd : W → E → Type 0} {parts : Parts W} {ends : Ends E} → HaveEnded IsEnd parts ends
         → parts.relays.items ≡ watch.relays.items → parts.checking.inbox ≡ watch.inbox
+        → parts.checking.checker.watched ≡ plan.watched
         → ComeFromWatch probes ends.relays.items ends.checker
-    come_from_parts ended relays inbox =
-        come_from_watch (relay_ends (rw relays at ended.relays)) (rw inbox at ended.checker)
+    come_from_parts ended relays inbox watched =
+        come_from_watch (relay_ends (rw relays at ended.relays)) (rw (inbox, watched) at ended.checker)

@@ -39,10 +39,11 @@ pub use Rattle.wcp_tree.specs.declared.relay_end.Receipts.TheVariants.{Feeds, La
 pub use Rattle.wcp_tree.specs.declared.relay_end.RelayEnd.{RelayEnd}
 pub use Rattle.wcp_tree.specs.declared.source.Source.{Source}
 pub use Rattle.wcp_tree.specs.declared.source.Source.TheVariants.{Leaf, Inner}
-pub use Rattle.wcp_watch.specs.CheckerEnds.{AreAllEnded, IsEndOfLoop, IsLowestLost, HasTakenClose, HasTakenLast, TakesItems, first_fault, KeepsUp}
+pub use Rattle.wcp_watch.specs.CheckerEnds.{AreAllEnded, IsEndOfLoop, IsLowestLost, IsSameWatch, HasTakenClose, HasTakenLast, TakesItems, first_fault, KeepsUp}
 pub use Rattle.wcp_watch.specs.Matching.{AreEndsThere, AreFirstMatched, HasProbe, IsKeptAt, inbox_place, KeepInboxes}
 pub use Rattle.wcp_watch.specs.Seats.{AreOfWatch, AreSeats, AreAllSeated, SitsAt, AreAllThere, IsEndAt}
 pub use Rattle.wcp_watch.specs.Settling.{AreTakenFrom, IsPutMatched, IsRingMatched, feeds_in, feeds_left_by, IsFirstSettleFault, IsFreeOf, settle_faults, AreLinksMatched, ComeFromWatch, IsSettled, cut_of, share_of, IsLaneMatched, IsEndOfSomeProbe, IsEndOfSomeRelay}
 pub use Rattle.wcp_watch.specs.declared.checker_end.CheckerEnd.{CheckerEnd}
 pub use Rattle.wcp_watch.specs.declared.settle_fault.SettleFault.TheVariants.{Stranger, Missing, Faulted, Unfinished}
 pub use denote.Param.Send.{IsSend, EachSend, enum_send, recorded_send, struct_send, sendable}
+pub use Rattle.wcp_clock.specs.ProcessNumbers.{NumberSet}

@@ -3,6 +3,7 @@ use Rattle.std.specs.Prelude.{◌≡◌, ◌≢◌, ℕ, ◌<◌, ◌↔◌, Boo
 use Rattle.std.specs.Prelude.{List, [], ◌∷◌, ◌++◌}
 use Rattle.std.specs.FinSet as set
 use Rattle.std.specs.List.{list_any}
+use Rattle.wcp_clock.specs.ProcessNumbers.{NumberSet}
 use Rattle.wcp_clock.specs.Notes.{place_of, is_close, is_last, is_lost}
 use Rattle.wcp_clock.specs.declared.note.Item.{Item}
 use Rattle.wcp_model.specs.Report.{ClocksRise, IsReportByClocks, IsDrained, notes_taken}
@@ -30,6 +31,11 @@ pub record IsFreshFor (inbox : CheckerInbox) (checker : CheckerState) : Type 0 w
   pub none_taken : inbox.taker.taken ≡ []
   pub stands : StandsForItems checker []
   pub not_starved : checker.starved ≡ false
+
+-- A checker stays one of these processes, of which the same are watched.
+pub record IsSameWatch (old new : CheckerState) : Type 0 where
+  pub processes : processes new ≡ processes old
+  pub watched : new.watched ≡ old.watched
 
 -- A checker has taken the close mark of process p, and so many snapshots of it.
 pub record HasTakenClose (checker : CheckerState) (p count : ℕ) : Type 0 where
@@ -67,16 +73,17 @@ first_fault false (Some cut) lost = Some (fault.Cut cut)
 first_fault false None (Some p) = Some (fault.Lost p)
 first_fault false None None = None
 
--- What the loop of a checker leaves: its receipt is of the inbox's lane and was matched with no putter yet; unless the
--- lane was cut each process has ended, and all is drained unless one was lost. The report is that of all that was
--- taken, and never nothing where a process was lost; where the checker was starved it is a cut found among these
--- snapshots, or undecided.
-pub record IsEndOfLoop (inbox : CheckerInbox) (end : CheckerEnd) : Type 0 where
+-- What the loop of a checker leaves for which these are watched: its receipt is of the inbox's lane and was matched with
+-- no putter yet; unless the lane was cut each process has ended, and all is drained unless one was lost. The report is
+-- that of all that was taken, and never nothing where a process was lost; where the checker was starved it is a cut
+-- found among these snapshots, or undecided.
+pub record IsEndOfLoop (inbox : CheckerInbox) (watched : NumberSet) (end : CheckerEnd) : Type 0 where
   pub watch : end.watch ≡ inbox.watch
   pub relays : end.relays ≡ inbox.relays
   pub lane : end.receipt.lane ≡ inbox.taker.lane
   pub members : end.receipt.members ≡ inbox.taker.members
   pub processes : (p : ℕ) → (set.contains end.receipt.members p ≡ true) ↔ (p < end.processes)
+  pub same_watched : end.watched ≡ watched
   pub unmatched : end.receipt.matched ≡ set.empty
   pub ended : IfNone end.cut (AreAllEnded end.processes end.receipt.taken)
   pub lost : IsLowestLost end.processes end.receipt.taken end.lost
@@ -84,7 +91,7 @@ pub record IsEndOfLoop (inbox : CheckerInbox) (end : CheckerEnd) : Type 0 where
   pub starved : Bool
   pub fault : end.fault ≡ first_fault starved end.cut end.lost
   pub never_none : IfSome end.lost (λ p. end.report ≢ Nothing)
-  pub any_clocks : starved ≡ false → IsReportOfAnyClocks end.processes end.receipt.taken end.report
+  pub any_clocks : starved ≡ false → IsReportOfAnyClocks end.processes end.watched end.receipt.taken end.report
   pub exact : starved ≡ false → ClocksRise end.processes end.receipt.taken
-      → IsReportByClocks end.processes end.receipt.taken end.report
-  pub of_starved : starved ≡ true → IsReportOfStarved end.processes end.receipt.taken end.report
+      → IsReportByClocks end.processes end.watched end.receipt.taken end.report
+  pub of_starved : starved ≡ true → IsReportOfStarved end.processes end.watched end.receipt.taken end.report

@@ -17,7 +17,7 @@ pub record AreReady {W : Type 0} (IsReady : W → Type 0) (parts : Parts W) : Ty
 pub record HaveEnded {W E : Type 0} (IsEnd : W → E → Type 0) (parts : Parts W) (ends : Ends E) : Type 0 where
   pub workers : AreEndsOf IsEnd parts.workers.items ends.workers.items
   pub relays : AreEndsOf IsEndOfRelay parts.relays.items ends.relays.items
-  pub checker : IsEndOfLoop parts.checking.inbox ends.checker
+  pub checker : IsEndOfLoop parts.checking.inbox parts.checking.checker.watched ends.checker
 
 -- The threads of a run are those of its parts.
 pub record AreThreadsOf {W E : Type 0} (parts : Parts W) (threads : Running W E) : Type 0 where

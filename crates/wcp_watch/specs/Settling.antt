@@ -1,6 +1,7 @@
 -- The settling of a watch: what its ends have in common, and what they tell together.
 use Rattle.std.specs.Prelude.{◌≡◌, ◌≤◌, ℕ, true, false, Option, Some, None, IfNone}
 use Rattle.std.specs.Prelude.{List, [], ◌∷◌, length, slice_get, All}
+use Rattle.wcp_model.specs.Cut.{Intervals}
 use Rattle.std.specs.FinSet as set
 use Rattle.std.specs.List.{sum_by}
 use Rattle.std.specs.Option.{option_flatten}
@@ -61,7 +62,7 @@ pub record ComeFromWatch (probes : List ClosedSide) (relays : List RelayEnd) (ch
   pub wired : IsWired plan checker.watch watch
   pub of_probes : All (λ end. end.watch ≡ checker.watch → IsEndOfSomeProbe watch.probes.items end) probes
   pub of_relays : All (λ end. watch_of end ≡ checker.watch → IsEndOfSomeRelay watch.relays.items end) relays
-  pub of_checker : IsEndOfLoop watch.inbox checker
+  pub of_checker : IsEndOfLoop watch.inbox plan.watched checker
 
 -- A ring was matched: the process was not lost, and its feed took what its probe put.
 abbrev pub IsRingMatched : (ℕ → ClosedSide → Type 0) → Feed → Type 0
@@ -107,7 +108,7 @@ abbrev pub share_of : ClosedSide → Tally
 share_of probe = record { emitted = snapshots_in probe.link.put; taken = snapshots_in probe.link.put }
 
 -- The cut of a report, if it is one.
-abbrev pub cut_of : Report → Option (List ℕ)
+abbrev pub cut_of : Report → Option Intervals
 cut_of (Found cut) = Some cut
 cut_of Nothing = None
 cut_of Undecided = None
@@ -148,8 +149,8 @@ pub record IsSettled (probes : List ClosedSide) (checker : CheckerEnd) (book : B
     (settled : Settled) : Type 0 where
   pub all : AreAllThere (λ end. end.id) checker.processes probes
   pub whole : All (λ end. notes_taken end.id checker.receipt.taken ≡ end.link.put) probes
-  pub any_clocks : IsReportOfAnyClocks checker.processes checker.receipt.taken settled.report
-  pub exact : IsReportByClocks checker.processes checker.receipt.taken settled.report
+  pub any_clocks : IsReportOfAnyClocks checker.processes checker.watched checker.receipt.taken settled.report
+  pub exact : IsReportByClocks checker.processes checker.watched checker.receipt.taken settled.report
   pub drained : IsDrained checker.processes checker.receipt.taken
   pub processes : length settled.tallies ≡ checker.processes
   pub tallies : All (λ end. slice_get settled.tallies end.id ≡ Some (record {

@@ -3,7 +3,7 @@ ghost use Rattle.wcp_watch.specs.CheckerEnds as of_loop;
 
 use thiserror::Error;
 use wcp_lane::{Cut, TakeReceipt};
-use wcp_model::Report;
+use wcp_model::{Report, Watched};
 use wcp_tree::Bundle;
 
 /// Why the report of a checker's loop isn't that of all snapshots: the first reason that applies.
@@ -37,6 +37,8 @@ pub struct CheckerEnd {
     pub(crate) watch: u64,
     /// How many processes the watch has.
     pub(crate) processes: u32,
+    /// Which of them are watched.
+    pub(crate) watched: Watched,
     /// How many relays the watch has.
     pub(crate) relays: u32,
     /// What is left of the end of the root's lane that took.

@@ -8,7 +8,8 @@ ghost use Rattle.wcp_queue.specs.Checker.{processes, closed_of, lost_of, report_
 ghost use Rattle.wcp_queue.specs.Checker.{HasFound, MayTake, StandsForItems};
 ghost use Rattle.wcp_lane.specs.Ends.{TakeEnd};
 ghost use Rattle.wcp_tree.specs.RelayWork.{AreTakenNext, IsSameTaker};
-ghost use Rattle.wcp_watch.specs.CheckerEnds.{AreAllEnded, IsEndOfLoop, IsFreshFor, IsLowestLost, KeepsUp};
+ghost use Rattle.wcp_watch.specs.CheckerEnds.{AreAllEnded, IsEndOfLoop, IsFreshFor, IsLowestLost, IsSameWatch};
+ghost use Rattle.wcp_watch.specs.CheckerEnds.{KeepsUp};
 ghost use Rattle.wcp_watch.specs.CheckerEnds.{HasTakenClose, HasTakenLast, TakesItems};
 
 use crate::checker_end::{CheckerEnd, first_fault};
@@ -37,7 +38,7 @@ pub fn check_loop<R: Wait>(
     book: &Mutex<Book>,
 ) -> CheckerEnd
     requires { IsFreshFor inbox checker }
-    ensures { IsEndOfLoop inbox result }
+    ensures { IsEndOfLoop inbox checker.watched result }
 {
     let watch = inbox.watch();
     let relays = inbox.relays();
@@ -48,6 +49,7 @@ pub fn check_loop<R: Wait>(
     CheckerEnd {
         watch,
         processes: checker.processes(),
+        watched: checker.watched(),
         relays,
         receipt: taker.end(),
         report: checker.report(),
@@ -65,7 +67,7 @@ fn take_all<R: Wait>(
     book: &Mutex<Book>,
 ) -> Result<(), Cut>
     requires { KeepsUp taker.old checker.old }
-    ensures same { IsSameTaker taker.old taker.new × (processes checker.new ≡ processes checker.old) }
+    ensures same { IsSameTaker taker.old taker.new × IsSameWatch checker.old checker.new }
     ensures keeps_up { KeepsUp taker.new checker.new }
     ensures ended { OnOk result (AreAllEnded (processes checker.new) taker.new.taken) }
 {
@@ -96,7 +98,7 @@ fn take_bundle<R: Wait>(
     checker: &mut Checker,
 ) -> Result<Item, Cut>
     requires { KeepsUp taker.old checker.old }
-    ensures same { IsSameTaker taker.old taker.new × (processes checker.new ≡ processes checker.old) }
+    ensures same { IsSameTaker taker.old taker.new × IsSameWatch checker.old checker.new }
     ensures keeps_up { KeepsUp taker.new checker.new }
     ensures close { IfOk result (λ end.
         is_close end.note ≡ true → HasTakenClose checker.new end.from (place_of end.note)) }
@@ -109,7 +111,7 @@ fn take_bundle<R: Wait>(
 /// Gives the checker the items of a bundle that was taken, in order.
 fn give_all(checker: &mut Checker, bundle: &Bundle)
     requires { (taker : TakeEnd Bundle Item) × KeepsUp taker checker.old × AreTakenNext taker bundle.now }
-    ensures processes { processes checker.new ≡ processes checker.old }
+    ensures same { IsSameWatch checker.old checker.new }
     ensures taken { TakesItems checker.old checker.new bundle.now }
     ensures close { HasTakenLast checker.new bundle.now }
 {
@@ -122,7 +124,7 @@ fn give_all(checker: &mut Checker, bundle: &Bundle)
 /// Gives the checker an item; where there is no memory for it the checker is starved first.
 fn give(checker: &mut Checker, item: &Item)
     requires { MayTake checker.old item.now }
-    ensures processes { processes checker.new ≡ processes checker.old }
+    ensures same { IsSameWatch checker.old checker.new }
     ensures taken { TakesItems checker.old checker.new (item.now ∷ []) }
 {
     let Err((_, item)) = checker.take(*item) else {

@@ -18,7 +18,7 @@ impl Part<CheckerEnd> for Checking {
 
     ghost is_ready = { λ c. IsFreshFor c.inbox c.checker };
 
-    ghost is_end = { λ c end. IsEndOfLoop c.inbox end };
+    ghost is_end = { λ c end. IsEndOfLoop c.inbox c.checker.watched end };
 }
 
 impl RunsWith<Mutex<Book>, CheckerEnd> for Checking {

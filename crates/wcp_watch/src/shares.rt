@@ -65,7 +65,33 @@ pub(crate) fn is_book_of(tallies: &Tallies, report: Report, book: &Book) -> bool
     ensures { IsTrue result ↔ (((p : ℕ) → option_flatten (slice_get book.now.shares p) ≡ slice_get tallies.now p)
         × (book.now.found ≡ cut_of report)) }
 {
-    are_posted(tallies, book) && book.found() == found_in(report)
+    are_posted(tallies, book) && is_same(book.found(), found_in(report))
+}
+
+/// Whether both are the same cut, or there is none.
+fn is_same(one: Option<GlobalCut>, other: Option<GlobalCut>) -> bool
+    ensures { IsTrue result ↔ (one ≡ other) }
+{
+    match (one, other) {
+        (Some(one), Some(other)) => are_same(&one, &other),
+        (None, None) => true,
+        (None, Some(_)) | (Some(_), None) => false,
+    }
+}
+
+/// Whether both cuts name the same intervals.
+fn are_same(one: &GlobalCut, other: &GlobalCut) -> bool
+    ensures { IsTrue result ↔ (one.now ≡ other.now) }
+{
+    if one.len() != other.len() {
+        return false;
+    }
+    for p in 0..one.len() {
+        if one.get(p) != other.get(p) {
+            return false;
+        }
+    }
+    true
 }
 
 /// The cut of this report, if it is one.

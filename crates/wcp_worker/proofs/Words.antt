@@ -6,7 +6,7 @@ pub use Rattle.std.proofs.lemmas.List.{append-nil, length-map, length-set, get_o
 pub use Rattle.std.proofs.lemmas.Option.{gets, slice_get_within, slice_get-get_or, get_or_from_slice_get}
 pub use Rattle.std.specs.List.{list_any}
 pub use Rattle.std.specs.Prelude.{IfSome, IsOk, OnOk, nat_eq}
-pub use Rattle.wcp_lane.proofs.Marks.{alone, alone_has, contains_with}
+pub use Rattle.wcp_clock.proofs.Marks.{alone, alone_has, contains_with}
 pub use Rattle.wcp_lane.specs.Ends.{PutEnd, TakeEnd, new_putter}
 pub use Rattle.wcp_lane.specs.Passes.{Numbers}
 pub use Rattle.wcp_model.specs.declared.probe_setup.ProbeSetup.{ProbeSetup}
@@ -32,3 +32,4 @@ pub use Rattle.wcp_worker.specs.declared.mailbox.Mailbox.{Mailbox}
 pub use Rattle.wcp_worker.specs.declared.message.Message.{Message}
 pub use Rattle.wcp_worker.specs.declared.player.Player.{Player}
 pub use Rattle.wcp_worker.specs.declared.worker.Worker.{Worker}
+pub use Rattle.wcp_clock.specs.ProcessNumbers.{NumberSet}

@@ -1,4 +1,4 @@
-use Rattle.wcp_world.proofs.Words.{common_steps, ◌≡◌, ◌≢◌, ℕ, ◌+◌, ◌<◌, Bool, true, false, not, cond, nat_le, nat_lt, length, set, get_or, eqb, Option, None, Some, MatchOption, List, [], ◌∷◌, ◌++◌, slice_get, drop, take, refl, sym, ap, ap₂, subst, ◌∙◌, append-nil, eqb-true, eq-eqb, add-zero, true≢false, arith, option_and_then, option_flatten, option_map, nat_tests, get_or_default, length-set, get_or-set_same, get_or-set_other, slice_get_cases, slice_get_within, Item, Note, Parent, Root, Relay, Plan, Step, Done, Refused, IsSamePlan, is_number, is_attached, is_leaf, leaf_of, parent_of, Place, Pending, Link, HoldOf, InboxOf, is_same_place, source, target, takes_from, taken_from, notes_in, next_place, IsEntry, Emitted, reasons, move_reasons, names_nothing, notes_taken, attached_exists, get_behind, Held, IsAnswer, put_more, TransportState, IsPlaceOf, place_number, held_at, IsTransportOf, IsNextAtRoot, IsMoveBetween, IsWayOf, is_relayed, notes_along, IsShift, shift_reasons, KeepsIfRefused, Reply, Why, accepted_by, first_reason, Vanished, entered, Dropped, is_dropped, is_drop_of, marks_in, given, size_of, room_of, count_by, cases_Bool, cases_lt, or-false, list_any-append, ◌||◌, ⊎_elim, inl, inr, ◌⊎◌, ◌≤◌, take_at, cases_eq, ne_eqb, puts_into}
+use Rattle.wcp_world.proofs.Words.{common_steps, ◌≡◌, ◌≢◌, ℕ, ◌+◌, ◌<◌, Bool, true, false, not, cond, nat_le, nat_lt, length, set, eqb, Option, None, Some, MatchOption, List, [], ◌∷◌, ◌++◌, slice_get, drop, take, refl, sym, ap, ap₂, subst, ◌∙◌, append-nil, eqb-true, eq-eqb, add-zero, true≢false, arith, option_and_then, option_flatten, option_map, nat_tests, length-set, get_or-set_same, get_or-set_other, slice_get_cases, slice_get_within, Item, Note, Parent, Root, Relay, Plan, Step, Done, Refused, IsSamePlan, is_number, is_attached, is_leaf, leaf_of, parent_of, Place, Pending, Link, HoldOf, InboxOf, is_same_place, source, target, takes_from, taken_from, notes_in, next_place, IsEntry, Emitted, reasons, move_reasons, names_nothing, notes_taken, attached_exists, get_behind, Held, IsAnswer, put_more, TransportState, IsPlaceOf, place_number, held_at, IsTransportOf, IsNextAtRoot, IsMoveBetween, IsWayOf, is_relayed, notes_along, IsShift, shift_reasons, KeepsIfRefused, Reply, Why, accepted_by, first_reason, Vanished, Dropped, is_dropped, is_drop_of, marks_in, given, size_of, room_of, count_by, cases_lt, or-false, inl, inr, ◌≤◌, take_at, cases_eq, ne_eqb, puts_into}
 use Rattle.std.specs.List.{list_any}
 use Rattle.std.specs.Prelude.{IsErr, OnOk}
 use Rattle.wcp_world.proofs.Words.{Result, Ok, Err, ◌↔◌}
@@ -7,7 +7,7 @@ use Rattle.wcp_clock.specs.declared.note.Note.TheVariants as note
 use Rattle.wcp_model.specs.declared.step.Step.TheVariants as step
 use Rattle.wcp_model.specs.declared.step.Why.TheVariants as why
 use Rattle.wcp_world.proofs.Places.{same_place, number_apart, number_within, next_is_place, itself, next_apart}
-use Rattle.wcp_world.proofs.Entries.{item_if, IsStirred, entry_grows, entry_process, transport_after, stirred_after, no_drop, dropped_push, gone_from, come_to}
+use Rattle.wcp_world.proofs.Entries.{item_if, IsStirred, entry_grows, entry_process, transport_after, stirred_after, no_drop, dropped_push, come_to}
 
 -- what a place holds once one was changed
 held_set : (plan : Plan) (places : List Held) (x y : Place) (new : Held) → length places ≡ plan.n + length plan.parents.items + 1 + length plan.parents.items → IsPlaceOf plan x → IsPlaceOf plan y →

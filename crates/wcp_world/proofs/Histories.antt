@@ -1,4 +1,4 @@
-use Rattle.wcp_world.proofs.Words.{◌≡◌, ℕ, ◌+◌, ◌<◌, ◌≤◌, Result, Ok, Err, IfOk, OnErr, List, [], ◌∷◌, ◌++◌, length, take, sym, ap, ◌∙◌, subst, ⊎_elim, append-nil, arith, le_refl, cases_lt, flat_map-append, length_push, take-append-le, take_at, take_all, map_push, slice_get_within, Plan, Step, Reply, Answered, accepted, items_taken, accepted_by, taken_by, computation, IsReply, AreReplies, AreFrontsOfEmissions, AreInTurn, ClocksRise, IsReportByClocks, get_push, WorldState, Stands, IsReached, MakesStep, IsWorldOf, IsTallyOf, AreTalliesOf, HasAnswered, nothing_follows, processes, StandsForItems, Item, notes_taken}
+use Rattle.wcp_world.proofs.Words.{◌≡◌, ℕ, ◌+◌, ◌<◌, ◌≤◌, Result, Ok, Err, IfOk, OnErr, List, [], ◌∷◌, ◌++◌, length, take, sym, ap, ◌∙◌, subst, subst₂, ⊎_elim, append-nil, arith, le_refl, cases_lt, flat_map-append, length_push, take-append-le, take_at, take_all, map_push, slice_get_within, Plan, Step, Reply, Answered, accepted, items_taken, accepted_by, taken_by, computation, IsReply, AreReplies, AreFrontsOfEmissions, AreInTurn, ClocksRise, IsReportByClocks, get_push, WorldState, Stands, IsReached, MakesStep, IsWorldOf, IsTallyOf, AreTalliesOf, HasAnswered, nothing_follows, processes, StandsForItems, Item, notes_taken}
 use Rattle.wcp_world.proofs.WorldAfterStep.{taken_fronts, handed_in_turn}
 use Rattle.wcp_world.proofs.LostMarks.{front_in_turn, report_without, rises_with}
 use Rattle.wcp_model.proofs.NotesInTurn.{emissions_in_turn}
@@ -26,7 +26,7 @@ replies_push plan history a are is place b at =
 
 -- after each front of a longer history what was taken is a front of what was emitted
 abbrev pub HasFronts : Plan → List Answered → Type 0
-HasFronts plan history = AreFrontsOfEmissions plan.n (computation (accepted history)) (items_taken history)
+HasFronts plan history = AreFrontsOfEmissions plan.n plan.watched (computation (accepted history)) (items_taken history)
 
 fronts_push : (plan : Plan) (history : List Answered) (a : Answered) → ((place : ℕ) → HasFronts plan (take place history)) → HasFronts plan (history ++ a ∷ []) → (place : ℕ) → HasFronts plan (take place (history ++ a ∷ []))
 fronts_push plan history a before now place = ⊎_elim
@@ -65,7 +65,7 @@ reached_after (Ok reply) old new s answers same reached = (reached.0, reached.1 
 reached_after (Err e) old new s answers same reached = subst IsReached (sym same) reached
 
 -- one more tally
-pub tallies_push : (w : WorldState) (p : ℕ) (tallies : List Tally) (tally : Tally) → AreTalliesOf w p tallies → ((plan : Plan) (history : List Answered) → IsWorldOf plan history w → IsTallyOf plan.n (computation (accepted history)) (items_taken history) p tally) →
+pub tallies_push : (w : WorldState) (p : ℕ) (tallies : List Tally) (tally : Tally) → AreTalliesOf w p tallies → ((plan : Plan) (history : List Answered) → IsWorldOf plan history w → IsTallyOf plan.n plan.watched (computation (accepted history)) (items_taken history) p tally) →
     AreTalliesOf w (p + 1) (tallies ++ tally ∷ [])
 tallies_push w p tallies tally are is = (
   length_push tallies tally ∙ ap (λ k. k + 1) are.0,
@@ -77,11 +77,11 @@ pub answered_push : (plan : Plan) (steps : List Step) (replies : List Reply) (ol
     ((plan : Plan) (history : List Answered) → IsWorldOf plan history old → IsWorldOf plan (history ++ record { step = s; reply = reply } ∷ []) new) → HasAnswered plan (steps ++ s ∷ []) (replies ++ reply ∷ []) new
 answered_push plan steps replies old new s reply has more = grind (arith, map_push, more plan has.history has.is)
 
-fronts_now : (plan : Plan) (history : List Answered) (w : WorldState) → IsWorldOf plan history w → AreFrontsOfEmissions plan.n (computation (accepted history)) (items_taken history)
-fronts_now plan history w is = subst (λ h. AreFrontsOfEmissions plan.n (computation (accepted h)) (items_taken h)) (take_all (length history) history (le_refl (length history))) (is.fronts (length history))
+fronts_now : (plan : Plan) (history : List Answered) (w : WorldState) → IsWorldOf plan history w → AreFrontsOfEmissions plan.n plan.watched (computation (accepted history)) (items_taken history)
+fronts_now plan history w is = subst (λ h. AreFrontsOfEmissions plan.n plan.watched (computation (accepted h)) (items_taken h)) (take_all (length history) history (le_refl (length history))) (is.fronts (length history))
 
 -- the report by clocks of what a world's checker took is that of the headline
-headline_holds : (plan : Plan) (history : List Answered) (w : WorldState) (report : Report) → IsWorldOf plan history w → IsReportByClocks plan.n (items_taken history) report → IsHeadline plan history report
+headline_holds : (plan : Plan) (history : List Answered) (w : WorldState) (report : Report) → IsWorldOf plan history w → IsReportByClocks plan.n plan.watched (items_taken history) report → IsHeadline plan history report
 headline_holds plan history w report is by_clocks =
     let c = computation (accepted history) in
     let items = items_taken history in
@@ -89,18 +89,18 @@ headline_holds plan history w report is by_clocks =
     record {
       replies = is.replies;
       taken_is_prefix = is.fronts;
-      none_after_close = λ p count before after within taken. nothing_follows before after count (let (rest, are) = fronts p within in subst AreInTurn taken (front_in_turn (notes_taken p items) rest (emissions_in_turn plan.n c p _ are)));
-      of_what_was_taken = report_of_taken plan.n c items fronts report by_clocks;
-      when_drained = λ drained. report_when_drained plan.n c items fronts drained report by_clocks;
-      found_early = λ cut more found. subst (λ d. IsLeastCut plan.n d cut) (sym (computation_append history more)) (early_find_holds plan.n c (computation (accepted more)) cut (found_is_least plan.n c items fronts cut (subst (IsReportByClocks plan.n items) found by_clocks)));
+      none_after_close = λ p count before after within taken. nothing_follows before after count (let (rest, are) = fronts p within in subst AreInTurn taken (front_in_turn (notes_taken p items) rest (emissions_in_turn plan.n plan.watched c p _ are)));
+      of_what_was_taken = report_of_taken plan.n plan.watched c items fronts report by_clocks;
+      when_drained = λ drained. report_when_drained plan.n plan.watched c items fronts drained report by_clocks;
+      found_early = λ cut more found. subst (λ d. IsLeastCut plan.n plan.watched d cut) (sym (computation_append history more)) (early_find_holds plan.n plan.watched c (computation (accepted more)) cut (found_is_least plan.n plan.watched c items fronts cut (subst (IsReportByClocks plan.n plan.watched items) found by_clocks)));
     }
 
 -- and the checker's report is exact, since its clocks rise
 pub report_holds : (plan : Plan) (history : List Answered) (w : WorldState) (report : Report) → IsWorldOf plan history w →
-    ((items : List Item) → StandsForItems w.checker items → ClocksRise (processes w.checker) items → IsReportByClocks (processes w.checker) items report) → IsHeadline plan history report
+    ((items : List Item) → StandsForItems w.checker items → ClocksRise (processes w.checker) items → IsReportByClocks (processes w.checker) w.checker.watched items report) → IsHeadline plan history report
 report_holds plan history w report is exact =
     let handed = is.stands.handed in
     let turn = handed_in_turn plan (accepted history) (items_taken history) w is.stands in
-    let rise : ClocksRise plan.n handed = rises_with plan.n handed turn (subst (ClocksRise plan.n) is.stands.taken_are (clocks_rise plan.n (computation (accepted history)) (items_taken history) (fronts_now plan history w is))) in
-    headline_holds plan history w report is (subst (λ items. IsReportByClocks plan.n items report) (sym is.stands.taken_are)
-    (report_without plan.n handed turn report (subst (λ n. IsReportByClocks n handed report) is.stands.processes_are (exact handed is.stands.checker (subst (λ n. ClocksRise n handed) (sym is.stands.processes_are) rise)))))
+    let rise : ClocksRise plan.n handed = rises_with plan.n plan.watched handed turn (subst (ClocksRise plan.n) is.stands.taken_are (clocks_rise plan.n plan.watched (computation (accepted history)) (items_taken history) (fronts_now plan history w is))) in
+    headline_holds plan history w report is (subst (λ items. IsReportByClocks plan.n plan.watched items report) (sym is.stands.taken_are)
+    (report_without plan.n plan.watched handed turn report (subst₂ (λ n watched. IsReportByClocks n watched handed report) is.stands.processes_are is.stands.watched_are (exact handed is.stands.checker (subst (λ n. ClocksRise n handed) (sym is.stands.processes_are) rise)))))

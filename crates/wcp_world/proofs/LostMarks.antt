@@ -1,9 +1,10 @@
-use Rattle.wcp_world.proofs.Words.{◌≡◌, ℕ, ◌+◌, ◌<◌, ◌⊎◌, Bool, true, false, not, List, [], ◌∷◌, ◌++◌, length, filter, filter-append, refl, sym, ap, ◌∙◌, subst, append-nil, append_assoc, arith, if◌then◌else◌, ◌↔◌, inl, inr, Item, Note, Computation, Step, AreEmissions, AreInTurn, IsReportByClocks, ClocksRise, notes_taken, computation, is_closed, is_dropped, nothing_follows, cases_Bool}
+use Rattle.wcp_world.proofs.Words.{NumberSet, ◌≡◌, ℕ, ◌+◌, ◌<◌, Bool, true, false, not, List, [], ◌∷◌, ◌++◌, length, filter, filter-append, refl, sym, ap, ◌∙◌, subst, append-nil, append_assoc, arith, if◌then◌else◌, Item, Note, Computation, Step, AreEmissions, AreInTurn, IsReportByClocks, ClocksRise, notes_taken, computation, is_closed, is_dropped, nothing_follows}
 use Rattle.std.specs.List.{list_any}
+use Rattle.wcp_model.specs.Cut.{Intervals}
 use Rattle.wcp_clock.specs.declared.note.Note.TheVariants as note
-use Rattle.wcp_clock.specs.Notes.{is_last, is_lost, place_of}
+use Rattle.wcp_clock.specs.Notes.{is_last, is_lost}
 use Rattle.wcp_model.specs.Emission.{snapshots_from}
-use Rattle.wcp_model.specs.Report.{snapshot_clocks, clocks_taken, IsNextNote, IsDrained, IsCutByClocks}
+use Rattle.wcp_model.specs.Report.{snapshot_clocks, clocks_taken, IsDrained, IsCutByClocks}
 use Rattle.wcp_model.specs.declared.outcome.Report.{Report}
 use Rattle.wcp_model.specs.declared.outcome.Report.TheVariants.{Found, Nothing, Undecided}
 use Rattle.wcp_model.proofs.NotesInTurn.{emissions_in_turn, AreInTurn-push}
@@ -41,8 +42,8 @@ front_kept number count true [] (x ∷ front) rest is = grind (arith, front_kept
 front_kept number count false [] (x ∷ front) rest is = cc is
 front_kept number count closed (clock ∷ clocks) (x ∷ front) rest is = grind (arith, front_kept (number + 1) count closed clocks front rest)
 
-pub emissions_kept : (n : ℕ) (c : Computation) (p : ℕ) (front rest : List Note) → AreEmissions n c p (front ++ rest) → filter is_kept front ≡ front
-emissions_kept n c p front rest are = front_kept 0 (length are.clocks) (is_closed c p) are.clocks front rest (sym are.notes_are)
+pub emissions_kept : (n : ℕ) (watched : NumberSet) (c : Computation) (p : ℕ) (front rest : List Note) → AreEmissions n watched c p (front ++ rest) → filter is_kept front ≡ front
+emissions_kept n watched c p front rest are = front_kept 0 (length are.clocks) (is_closed c p) are.clocks front rest (sym are.notes_are)
 
 -- what a process emits before a close is snapshots alone
 front_counts : (number : ℕ) (clocks : List (List ℕ)) (front rest : List Note) → snapshots_from number clocks ≡ front ++ rest →
@@ -57,11 +58,11 @@ front_in_turn front rest turn before after next is =
     turn before (after ++ rest) next (ap (λ l. l ++ rest) is ∙ append_assoc before (next ∷ after) rest)
 
 -- and so are the notes put of a lost process with the mark that counts them
-pub mark_in_turn : (n : ℕ) (c : Computation) (p : ℕ) (put rest : List Note) → AreEmissions n c p (put ++ rest) → is_closed c p ≡ false → AreInTurn (put ++ note.Lost (length put) ∷ [])
-mark_in_turn n c p put rest are without_close =
+pub mark_in_turn : (n : ℕ) (watched : NumberSet) (c : Computation) (p : ℕ) (put rest : List Note) → AreEmissions n watched c p (put ++ rest) → is_closed c p ≡ false → AreInTurn (put ++ note.Lost (length put) ∷ [])
+mark_in_turn n watched c p put rest are without_close =
     let snapshots : snapshots_from 0 are.clocks ≡ put ++ rest = sym (append-nil (snapshots_from 0 are.clocks)) ∙ rw without_close at (sym are.notes_are) in
     let counts = front_counts 0 are.clocks put rest snapshots in
-    AreInTurn-push put (note.Lost (length put)) (front_in_turn put rest (emissions_in_turn n c p (put ++ rest) are)) (record { place = counts.0; still_open = counts.1 })
+    AreInTurn-push put (note.Lost (length put)) (front_in_turn put rest (emissions_in_turn n watched c p (put ++ rest) are)) (record { place = counts.0; still_open = counts.1 })
 
 -- a close mark that ends the notes that are kept stands among all
 close_among : (notes before : List Note) (count : ℕ) → filter is_kept notes ≡ before ++ note.Close count ∷ [] →
@@ -74,7 +75,7 @@ close_among (x ∷ notes) [] count is = ([], notes, grind arith)
 close_among (x ∷ notes) (y ∷ before) count is =
     let (earlier, later, there) = close_among notes before count (grind arith) in (x ∷ earlier, later, ap (λ l. x ∷ l) there)
 
-module _ (n : ℕ) (items : List Item) (turn : (p : ℕ) → p < n → AreInTurn (notes_taken p items)) where
+module _ (n : ℕ) (watched : NumberSet) (items : List Item) (turn : (p : ℕ) → p < n → AreInTurn (notes_taken p items)) where
   -- all is drained of items without marks where it is of all
   drained_without : IsDrained n (without_lost items) → IsDrained n items
   drained_without drained p within =
@@ -88,7 +89,7 @@ module _ (n : ℕ) (items : List Item) (turn : (p : ℕ) → p < n → AreInTurn
       let (count, before, is) = drained p within in
       (count, filter is_kept before, notes_without p items ∙ ap (filter is_kept) is ∙ filter-append is_kept before (note.Close count ∷ []))
 
-  cut_without : (cut : List ℕ) → IsCutByClocks n items cut → IsCutByClocks n (without_lost items) cut
+  cut_without : (cut : Intervals) → IsCutByClocks n watched items cut → IsCutByClocks n watched (without_lost items) cut
   cut_without cut is = record {
     members = is.members;
     clock = is.clock;
@@ -97,7 +98,7 @@ module _ (n : ℕ) (items : List Item) (turn : (p : ℕ) → p < n → AreInTurn
     concurrent = is.concurrent;
   }
 
-  cut_with : (cut : List ℕ) → IsCutByClocks n (without_lost items) cut → IsCutByClocks n items cut
+  cut_with : (cut : Intervals) → IsCutByClocks n watched (without_lost items) cut → IsCutByClocks n watched items cut
   cut_with cut is = record {
     members = is.members;
     clock = is.clock;
@@ -107,7 +108,7 @@ module _ (n : ℕ) (items : List Item) (turn : (p : ℕ) → p < n → AreInTurn
   }
 
   -- the report of items is that of these items without marks
-  pub report_without : (report : Report) → IsReportByClocks n items report → IsReportByClocks n (without_lost items) report
+  pub report_without : (report : Report) → IsReportByClocks n watched items report → IsReportByClocks n watched (without_lost items) report
   report_without (Found cut) is = record { one = cut_without cut is.one; below = λ other one. is.below other (cut_with other one) }
   report_without Nothing is = (λ cut one. is.0 cut (cut_with cut one), drained_with is.1)
   report_without Undecided is = (λ cut one. is.0 cut (cut_with cut one), λ drained. is.1 (drained_without drained))

@@ -1,4 +1,4 @@
-use Rattle.wcp_world.proofs.Words.{◌≡◌, ◌≢◌, ◌+◌, ◌<◌, true, false, length, Some, arith, ℕ, zero, suc, ◌*◌, ◌≤◌, get_or, Option, List, [], ◌∷◌, refl, ap, ◌∙◌, ⊎_elim, ◌++◌, replicate, ap₂, Plan, Place, is_same_place, next_place, Pending, Link, HoldOf, InboxOf, size_of, few_processes, some_process, capacity, hold_room, parent_below, attached_exists, has_leaf, IsPlaceOf, place_number, IsWay, TransportState, IsTransportOf, held_at, notes_at, notes_along, option_and_then, false_from_ne_true, cases_lt, cases_order, slice_get-get_or, option_and_then_some, Parent, Root, Relay, leaf_of, parent_of, IsSamePlan, length-append, length-replicate, get_or-replicate, get_or_append_left, get_or-append_right, Held, empty_hold}
+use Rattle.wcp_world.proofs.Words.{◌≡◌, ◌≢◌, ◌+◌, ◌<◌, true, false, length, Some, arith, ℕ, zero, suc, ◌*◌, ◌≤◌, get_or, Option, List, [], ◌∷◌, refl, ap, ◌∙◌, ⊎_elim, ◌++◌, replicate, ap₂, Plan, Place, is_same_place, next_place, Pending, Link, HoldOf, InboxOf, size_of, few_processes, some_watched, capacity, hold_room, parent_below, attached_exists, has_leaf, IsPlaceOf, place_number, IsWay, TransportState, IsTransportOf, held_at, notes_at, notes_along, option_and_then, false_from_ne_true, cases_lt, cases_order, slice_get-get_or, option_and_then_some, Parent, Root, Relay, leaf_of, parent_of, IsSamePlan, length-append, length-replicate, get_or-replicate, get_or_append_left, get_or-append_right, Held, empty_hold}
 use Rattle.wcp_model.specs.PlanFault.{IsCheckedPlan}
 
 pub same_place : (x y : Place) → is_same_place x y ≡ true → x ≡ y
@@ -21,7 +21,7 @@ module _ (plan : Plan) (checked : IsCheckedPlan plan) where
   next_is_place x y next is = grind (arith, attached_exists, parent_below)
 
 -- what the numbers of a checked plan are within
-pub ruleset plan_limits = (few_processes, some_process, capacity, hold_room)
+pub ruleset plan_limits = (few_processes, some_watched, capacity, hold_room)
 
 -- a place on the way of a process to the checker
 pub data IsOnWay (plan : Plan) (p : ℕ) : Place → Type 0 where

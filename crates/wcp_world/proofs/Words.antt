@@ -13,7 +13,7 @@ pub use Rattle.wcp_clock.specs.declared.note.Item.{Item}
 pub use Rattle.wcp_clock.specs.declared.note.Note.{Note}
 pub use Rattle.wcp_hold.specs.Held.{Held, empty_hold}
 pub use Rattle.wcp_model.proofs.AcceptedReplies.{length-receivers}
-pub use Rattle.wcp_model.proofs.CheckedPlans.{few_processes, some_process, capacity, hold_room, parent_below, attached_exists, has_leaf}
+pub use Rattle.wcp_model.proofs.CheckedPlans.{few_processes, some_watched, capacity, hold_room, parent_below, attached_exists, has_leaf}
 pub use Rattle.wcp_model.proofs.GrowingLogs.{stamp_grows, log_grows, get_push}
 pub use Rattle.wcp_model.proofs.Growth.{get_behind, get_front, at_grows}
 pub use Rattle.wcp_model.proofs.NotesInTurn.{next_of_emissions, nothing_follows, log_counts_notes}
@@ -57,3 +57,4 @@ pub use Rattle.wcp_model.specs.Emission.{is_drop_of, is_dropped}
 pub use Rattle.wcp_model.specs.Occupancy.{Vanished, entered}
 pub use Rattle.wcp_model.specs.declared.step.Step.TheVariants.{Dropped}
 pub use Rattle.wcp_world.specs.Transport.{marks_in, given, size_of, IsGivenMark}
+pub use Rattle.wcp_clock.specs.ProcessNumbers.{NumberSet}

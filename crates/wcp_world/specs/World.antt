@@ -35,9 +35,10 @@ pub record Stands (plan : Plan) (steps : List Step) (taken : List Item) (w : Wor
   pub put : ℕ → List Note
   pub handed : List Item
   pub taken_are : taken ≡ without_lost handed
-  pub processes : AreProcessesOf plan.n (computation steps) put w.processes
+  pub processes : AreProcessesOf plan.n plan.watched (computation steps) put w.processes
   pub transport : IsTransportOf plan steps put handed w.transport
   pub processes_are : process_count w ≡ plan.n
+  pub watched_are : w.checker.watched ≡ plan.watched
   pub checker : StandsForItems w.checker handed
   pub not_starved : w.checker.starved ≡ false
 
@@ -56,7 +57,8 @@ MakesStep old s answer new = (plan : Plan) (steps : List Step) (taken : List Ite
 pub record IsWorldOf (plan : Plan) (history : List Answered) (w : WorldState) : Type 0 where
   pub replies : AreReplies plan history
   pub fronts : (place : ℕ) →
-      AreFrontsOfEmissions plan.n (computation (accepted (take place history))) (items_taken (take place history))
+      AreFrontsOfEmissions plan.n plan.watched (computation (accepted (take place history)))
+      (items_taken (take place history))
   pub stands : Stands plan (accepted history) (items_taken history) w
 
 -- Of the ten steps only a send and a check may want memory.

@@ -31,7 +31,7 @@ impl Detector {
         Ok(Detector {
             processes: Processes::new(alloc, plan)?,
             transport: Transport::new(alloc, plan)?,
-            checker: Checker::new(alloc, plan.n)?,
+            checker: Checker::new(alloc, plan.n, plan.watched)?,
         })
     }
 
@@ -111,6 +111,7 @@ fn hand_over(checker: &mut Checker, item: &Item) -> Result<(), AllocError>
     requires { MayTake checker.old item.now }
     ensures taken { OnOk result (TakesItem checker.old checker.new item.now) }
     ensures processes { processes checker.new ≡ processes checker.old }
+    ensures watched { checker.new.watched ≡ checker.old.watched }
     ensures unchanged { OnErr result (checker.new ≡ checker.old) }
 {
     match checker.take(*item) {

@@ -25,9 +25,13 @@ pub struct Transport {
 }
 
 impl Model for Transport {
+    ghost use Rattle.std.specs.Coded.{codes};
+    ghost use Rattle.wcp_clock.specs.ProcessNumbers.{numbers_code};
     ghost use Rattle.wcp_world.specs.Transport.{TransportState};
 
     ghost Value = { TransportState };
+
+    ghost coded = { Prim.hlevel (codes, numbers_code) };
 
     ghost view = { λ t. record { plan = t.plan; places = t.places.items } };
 }

@@ -18,10 +18,14 @@ pub struct World {
 }
 
 impl Model for World {
+    ghost use Rattle.std.specs.Coded.{codes};
+    ghost use Rattle.wcp_clock.specs.ProcessNumbers.{numbers_code};
     ghost use Rattle.wcp_world.specs.World.{WorldState, IsReached};
     ghost use Rattle.wcp_world.specs.WorldView.{state_of};
 
     ghost Value = { WorldState };
+
+    ghost coded = { Prim.hlevel (codes, numbers_code) };
 
     ghost view = { λ w. state_of w.detector };
 
@@ -77,7 +81,7 @@ impl World {
         requires { p < process_count self.now }
         ensures { (plan : Plan) (history : List Answered)
             → IsWorldOf plan history self.now
-            → IsTallyOf plan.n (computation (accepted history)) (items_taken history) p result }
+            → IsTallyOf plan.n plan.watched (computation (accepted history)) (items_taken history) p result }
     {
         Tally {
             emitted: self.detector.processes.emitted(p) as u64,

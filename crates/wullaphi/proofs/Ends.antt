@@ -30,12 +30,12 @@ use Rattle.wcp_watch.specs.declared.settled.Settled.{Settled}
 use Rattle.wullaphi.specs.Lent.{HasLeft, HasRun}
 use Rattle.wullaphi.specs.Refused.{IfLost}
 use Rattle.wullaphi.specs.Seats.{ArePartsOf, IsEndOfSeat}
-use Rattle.wullaphi.specs.Watched.{HasAnswered, IsLost, IsWatched, tally_of}
+use Rattle.wullaphi.specs.WatchOutcomes.{HasAnswered, IsLost, IsWatchOutcome, tally_of}
 use Rattle.wullaphi.specs.declared.seat.Seat.{Seat}
 use Rattle.wullaphi.specs.declared.seat.SeatEnd.{SeatEnd}
 use Rattle.wullaphi.specs.declared.watch_fault.WatchFault.{WatchFault}
 use Rattle.wullaphi.specs.declared.watch_fault.WatchFault.TheVariants as fault
-use Rattle.wullaphi.specs.declared.watched.Watched.{Watched}
+use Rattle.wullaphi.specs.declared.watch_outcome.WatchOutcome.{WatchOutcome}
 
 -- what holds where something is there
 some_of : {X : Type 0} (found : Option X) {Holds : X → Type 0} → IsSomeAnd found Holds → (x : X) × (found ≡ Some x) × Holds x
@@ -81,7 +81,7 @@ module _ {P A : Type 0} (Leaves : P → LiveSide → A → Type 0) (done : A →
     pub is_end : IsEndOfSeat Leaves done seat end
     pub probe_at : slice_get are.watch.probes.items k ≡ Some seat.probe
     pub of_watch : seat.probe.core.watch ≡ number
-    pub made : setup_of seat.probe.core ≡ setup plan.n k
+    pub made : setup_of seat.probe.core ≡ setup plan.n plan.watched k
 
   end_at : (k : ℕ) (end : SeatEnd A) → slice_get ends.workers.items k ≡ Some end → HasEnd k end
   end_at k end at =
@@ -96,7 +96,7 @@ module _ {P A : Type 0} (Leaves : P → LiveSide → A → Type 0) (done : A →
         is_end = is_end;
         probe_at = there;
         of_watch = number_is k seat.probe there;
-        made = ap setup_of fresh.0 ∙ ap (λ n. setup n k) (length-replicate plan.n 0);
+        made = ap setup_of fresh.0 ∙ ap (λ n. setup n plan.watched k) (length-replicate plan.n 0);
       }
 
   pub count : length ends.workers.items ≡ plan.n
@@ -117,7 +117,7 @@ module _ {P A : Type 0} (Leaves : P → LiveSide → A → Type 0) (done : A →
 
   -- what a process answered, and whether its part is done by that
   answered_at : (k : ℕ) (end : SeatEnd A) (process : P) (is : Bool) → slice_get ends.workers.items k ≡ Some end → slice_get processes k ≡ Some process
-      → is_some end.probe ≡ is → HasAnswered Leaves done number (setup plan.n k) process is
+      → is_some end.probe ≡ is → HasAnswered Leaves done number (setup plan.n plan.watched k) process is
   answered_at k end process is at process_at closed =
       let of = end_at k end at in
       let left = left_of end.probe of.is_end.ran of.is_end.lost in
@@ -134,7 +134,7 @@ module _ {P A : Type 0} (Leaves : P → LiveSide → A → Type 0) (done : A →
       }
 
   pub is_lost : (p : ℕ) (report : Report) → IsSomeAnd (slice_get ends.workers.items p) (λ end. end.probe ≡ None)
-      → All (λ end. IsSome end.probe) (take p ends.workers.items) → report ≢ Nothing → IsLost Leaves done number plan.n processes p report
+      → All (λ end. IsSome end.probe) (take p ends.workers.items) → report ≢ Nothing → IsLost Leaves done number plan processes p report
   is_lost p report lost before some =
       let (end, at, none) = some_of (slice_get ends.workers.items p) lost in
       let within : p < plan.n = rw count at (slice_get_within ends.workers.items p end at) in
@@ -163,7 +163,7 @@ module _ {P A : Type 0} (Leaves : P → LiveSide → A → Type 0) (done : A →
       pub probe_at : slice_get probes k ≡ Some probe
       pub same : end.probe ≡ Some probe
       pub of : HasEnd k end
-      pub of_process : IsEndOfProcess are.watch plan.n k of.seat.probe probe
+      pub of_process : IsEndOfProcess are.watch plan.n plan.watched k of.seat.probe probe
 
     has_probe : (k : ℕ) (end : SeatEnd A) → slice_get ends.workers.items k ≡ Some end → HasProbe k end
     has_probe k end at =
@@ -189,7 +189,7 @@ module _ {P A : Type 0} (Leaves : P → LiveSide → A → Type 0) (done : A →
         subst IsOfWatch same has.of_process.is_end
 
     pub come : ComeFromWatch probes ends.relays.items ends.checker
-    come = come_from_parts are.wired checked of_probes ended are.relays are.inbox
+    come = come_from_parts are.wired checked of_probes ended are.relays are.inbox are.watched
 
     -- each did its part, by its answer
     pub all_done : (answers : List A) → map (λ (end : SeatEnd A). end.answer) ends.workers.items ≡ answers → All (λ answer. done answer ≡ true) answers
@@ -205,10 +205,13 @@ module _ {P A : Type 0} (Leaves : P → LiveSide → A → Type 0) (done : A →
         subst (λ (a : A). done a ≡ true) same (sym has.of.is_end.done_is ∙ ap is_some has.same)
 
     module _ (answers : List A) (answered : map (λ (end : SeatEnd A). end.answer) ends.workers.items ≡ answers)
-        {book : BookState} {settled : Settled} (is : IsSettled probes ends.checker book settled) (watched : Watched A)
+        {book : BookState} {settled : Settled} (is : IsSettled probes ends.checker book settled) (watched : WatchOutcome A)
         (totals : AreTotals book.shares watched.totals) (answers_are : watched.answers.items ≡ answers) (report_is : watched.outcome.report ≡ settled.report) (tallies_are : watched.outcome.tallies ≡ settled.tallies) where
       n_is : ends.checker.processes ≡ plan.n
       n_is = all_processes are.wired (rw are.inbox at ended.checker)
+
+      watched_is : ends.checker.watched ≡ plan.watched
+      watched_is = ended.checker.same_watched ∙ are.watched
 
       -- what was taken of a process are all notes of its probe
       taken_at : (p : ℕ) (end : SeatEnd A) (has : HasProbe p end) → notes_taken p ends.checker.receipt.taken ≡ has.probe.link.put
@@ -227,7 +230,7 @@ module _ {P A : Type 0} (Leaves : P → LiveSide → A → Type 0) (done : A →
           cc
 
       ran : (p : ℕ) (process : P) (answer : A) → slice_get processes p ≡ Some process → slice_get watched.answers.items p ≡ Some answer
-          → HasRun Leaves number (setup plan.n p) process answer (notes_taken p ends.checker.receipt.taken)
+          → HasRun Leaves number (setup plan.n plan.watched p) process answer (notes_taken p ends.checker.receipt.taken)
       ran p process answer process_at answer_at =
           let (end, at) = element_within ends.workers.items p (omega (arith, slice_get_within watched.answers.items p answer answer_at, answers_count, count)) in
           let has = has_probe p end at in
@@ -258,14 +261,14 @@ module _ {P A : Type 0} (Leaves : P → LiveSide → A → Type 0) (done : A →
           ∙ ap (λ notes. Some (tally (snapshots_in notes) (snapshots_in (notes_taken has.probe.id ends.checker.receipt.taken)))) (sym (taken_at p end has))
           ∙ ap (λ q. Some (tally (snapshots_in (notes_taken p ends.checker.receipt.taken)) (snapshots_in (notes_taken q ends.checker.receipt.taken)))) has.of_process.id
 
-      pub is_watched : IsWatched Leaves number plan.n processes watched
+      pub is_watched : IsWatchOutcome Leaves number plan processes watched
       is_watched = record {
         taken = ends.checker.receipt.taken;
         processes_are = processes_count;
         answers = answers_count;
         ran = ran;
         drained = subst (λ n. IsDrained n ends.checker.receipt.taken) n_is is.drained;
-        exact = rw report_is (subst (λ n. IsReportByClocks n ends.checker.receipt.taken settled.report) n_is is.exact);
+        exact = rw report_is (rw (n_is, watched_is) at is.exact);
         all_tallies = ap length tallies_are ∙ is.processes ∙ n_is;
         tallies = tallies;
         emitted_in_all = (is.totals watched.totals totals).0 ∙ ap (sum_by (λ (tally : Tally). tally.emitted)) (sym tallies_are);

@@ -7,6 +7,7 @@ use Rattle.wcp_model.specs.PlanFault.{IsCheckedPlan}
 use Rattle.wcp_model.specs.declared.plan.Plan.{Plan}
 use Rattle.wcp_probe.specs.Core.{Core}
 use Rattle.wcp_queue.specs.Checker.{CheckerState, StandsForItems, processes}
+use Rattle.wcp_model.specs.ProbeLog.{setup}
 use Rattle.wcp_tree.proofs.FreshProbes.{probes_fresh}
 use Rattle.wcp_tree.proofs.LiveProbes.{fresh_stands}
 use Rattle.wcp_tree.specs.LiveProbe.{ClosedSide, IsEndOfProbe, LiveSide}
@@ -36,11 +37,12 @@ pushed_more {old = old} {given = given} pushed is same =
 
 -- a watch that was opened with a new checker
 pub fresh_watch : {plan : Plan} {number : ℕ} {tree : Watch} {checker : CheckerState} → IsCheckedPlan plan
-    → IsWired plan number tree → processes checker ≡ plan.n → StandsForItems checker [] → checker.starved ≡ false
+    → IsWired plan number tree → processes checker ≡ plan.n → checker.watched ≡ plan.watched → StandsForItems checker [] → checker.starved ≡ false
     → IsFreshWatch (record { plan = plan; tree = tree }) plan.n checker
-fresh_watch {plan} {tree = tree} checked wired count empty not_starved = record {
+fresh_watch {plan} {tree = tree} checked wired count watched empty not_starved = record {
   is_open = record { checked = checked; wired = subst (λ number. IsWired plan number tree) (sym wired.number) wired };
   count = refl;
+  watched = watched;
   fresh = record {
     members = λ p. rw count (wired.members p);
     none_taken = wired.none_taken;
@@ -92,10 +94,10 @@ module _ {opening : Option OpenedWatch} where
     whole = whole;
   })
 
-  pub checker_end : {inbox : CheckerInbox} {checker : CheckerState} {end : CheckerEnd} → IsEndOfLoop inbox end
+  pub checker_end : {inbox : CheckerInbox} {checker : CheckerState} {end : CheckerEnd} → IsEndOfLoop inbox checker.watched end
       → HasOpened (IsCheckerOf inbox checker) opening → HasOpened (IsCheckerEndOf end) opening
   checker_end {end = end} ended =
-      follows (λ opened is. subst (λ inbox. IsEndOfLoop inbox end) is.is_inbox ended)
+      follows (λ opened is. rw (is.is_inbox, is.watched) at ended)
 
   -- an end more
   module _ {ends : EndsOfWatch} (has : HasOpened (AreEndsOf ends) opening) where
@@ -127,7 +129,7 @@ module _ {opening : Option OpenedWatch} where
 
     -- where the checker's is among them, the ends come from the watch, and what they tell together is of its plan
     module _ {checker : CheckerEnd} (is_checker : ends.checker ≡ Some checker) where
-      of_checker : IsEndOfLoop has.opened.tree.inbox checker
+      of_checker : IsEndOfLoop has.opened.tree.inbox has.opened.plan.watched checker
       of_checker = rw is_checker at has.holds.checker
 
       pub come : ComeFromWatch ends.probes ends.relays checker
@@ -160,7 +162,7 @@ module _ {opening : Option OpenedWatch} where
         let fresh = (probes_fresh opened.plan opened.tree.inbox.watch opened.tree is_open.wired).each k probe at in
         its (record {
           is_probe = ap (slice_get opened.tree.probes.items) (ap (λ (core : Core). core.id) fresh.0) ∙ at;
-          fresh = fresh_stands _ k opened.plan.n probe fresh.0 fresh.1;
+          fresh = fresh_stands _ (setup opened.plan.n opened.plan.watched k) probe fresh.0 fresh.1;
           put = ap (λ (core : Core). core.pending) fresh.0;
         })
 

@@ -3,4 +3,4 @@ pub mod Opened
 pub mod OwnEnds
 pub mod Refused
 pub mod Seats
-pub mod Watched
+pub mod WatchOutcomes

@@ -23,10 +23,12 @@ pub record IsOpen (opened : OpenedWatch) : Type 0 where
   pub checked : IsCheckedPlan opened.plan
   pub wired : IsWired opened.plan opened.tree.inbox.watch opened.tree
 
--- Nothing of an opened watch has run: its checker is fresh for its inbox, and has as many processes as the plan says.
+-- Nothing of an opened watch has run: its checker is fresh for its inbox, and has as many processes as the plan says,
+-- of which the same are watched.
 pub record IsFreshWatch (opened : OpenedWatch) (processes : ℕ) (checker : CheckerState) : Type 0 where
   pub is_open : IsOpen opened
   pub count : processes ≡ opened.plan.n
+  pub watched : checker.watched ≡ opened.plan.watched
   pub fresh : IsFreshFor opened.tree.inbox checker
 
 -- There is an opened watch, of which this holds.
@@ -46,9 +48,10 @@ pub record IsProbeOf (probe : LiveSide) (opened : OpenedWatch) : Type 0 where
 abbrev pub IsRelayOf : Relay → OpenedWatch → Type 0
 IsRelayOf relay opened = slice_get opened.tree.relays.items relay.number ≡ Some relay
 
--- This is its inbox, with a checker that is fresh for it.
+-- This is its inbox, with a checker that is fresh for it, for the conditions of the watched processes of the plan.
 pub record IsCheckerOf (inbox : CheckerInbox) (checker : CheckerState) (opened : OpenedWatch) : Type 0 where
   pub is_inbox : inbox ≡ opened.tree.inbox
+  pub watched : checker.watched ≡ opened.plan.watched
   pub fresh : IsFreshFor inbox checker
 
 -- This is the end of one of its probes, of one of its relays, or of its checker.
@@ -59,7 +62,7 @@ abbrev pub IsRelayEndOf : RelayEnd → OpenedWatch → Type 0
 IsRelayEndOf end opened = IsEndOfSomeRelay opened.tree.relays.items end
 
 abbrev pub IsCheckerEndOf : CheckerEnd → OpenedWatch → Type 0
-IsCheckerEndOf end opened = IsEndOfLoop opened.tree.inbox end
+IsCheckerEndOf end opened = IsEndOfLoop opened.tree.inbox opened.plan.watched end
 
 -- Ends of a watch: of probes and of relays, in the order in which they were added, and that of the checker, if it was.
 pub record EndsOfWatch : Type 0 where

@@ -28,7 +28,7 @@ pub record IsEndOfSeat {P A : Type 0} (Leaves : P → LiveSide → A → Type 0)
       (HasLeft Leaves seat.probe.core.watch (setup_of seat.probe.core) seat.process end.answer)
 
 -- The parts of a watch of this number that was wired as a plan says: a seat for each process, which has its probe, the
--- relays, and a fresh checker.
+-- relays, and a fresh checker for the conditions of those that are watched.
 pub record ArePartsOf {P : Type 0} (plan : Plan) (number : ℕ) (processes : List P)
     (parts : Parts (Seat P)) : Type 0 where
   pub watch : Watch
@@ -37,4 +37,5 @@ pub record ArePartsOf {P : Type 0} (plan : Plan) (number : ℕ) (processes : Lis
   pub processes_are : map (λ seat. seat.process) parts.workers.items ≡ processes
   pub relays : parts.relays.items ≡ watch.relays.items
   pub inbox : parts.checking.inbox ≡ watch.inbox
+  pub watched : parts.checking.checker.watched ≡ plan.watched
   pub fresh : IsFreshFor parts.checking.inbox parts.checking.checker

@@ -32,7 +32,7 @@ mod process;
 mod seat;
 mod waiting;
 mod watch_fault;
-mod watched;
+mod watch_outcome;
 mod watching;
 
 pub use lent_probe::{LentProbe, Loan};
@@ -42,11 +42,11 @@ pub use own_parts::{WatchChecker, WatchProbe, WatchRelay};
 pub use process::{LosableProcess, Process};
 pub use waiting::wait_for_cut;
 pub use watch_fault::WatchFault;
-pub use watched::Watched;
+pub use watch_outcome::WatchOutcome;
 pub use watching::watch_processes;
 pub use wcp_book::Book;
 pub use wcp_model::{
-    GlobalCut, Outcome, Parent, Plan, PlanFault, Report, Tallies, Tally, plain_plan,
+    GlobalCut, Outcome, Parent, Plan, PlanFault, Report, Tallies, Tally, Watched, plain_plan,
 };
 pub use wcp_probe::{Refusal, Stamped};
 pub use wcp_report::{push_report, report_text};

@@ -43,12 +43,13 @@ pub struct Watch {
 
 impl Model for Watch {
     ghost use Rattle.std.specs.Coded.{codes};
+    ghost use Rattle.wcp_clock.specs.ProcessNumbers.{numbers_code};
     ghost use Rattle.wcp_tree.specs.contracts.parts.Watch as of_tree;
     ghost use Rattle.wullaphi.specs.Opened.{IsFreshWatch, OpenedWatch};
 
     ghost Value = { OpenedWatch };
 
-    ghost coded = { Prim.hlevel (codes, of_tree.the_row.coded) };
+    ghost coded = { Prim.hlevel (codes, of_tree.the_row.coded, numbers_code) };
 
     ghost view = { λ w. record { plan = w.plan.value; tree = w.tree } };
 
@@ -126,7 +127,7 @@ fn open_checked(alloc: Global, plan: &Plan, number: u64) -> Result<Watch, WatchF
     ensures fault { IfErr result (λ fault. fault ≡ WatchFault.Memory) }
 {
     let tree = watch(alloc, plan, number)?;
-    let checker = Checker::new(alloc, plan.n)?;
+    let checker = Checker::new(alloc, plan.n, plan.watched)?;
     Ok(Watch {
         plan: Snapshot::of(plan),
         processes: plan.n,

@@ -7,12 +7,12 @@ ghost use Rattle.wcp_model.specs.declared.outcome.Report.TheVariants.{Nothing};
 ghost use Rattle.wullaphi.specs.Refused.{IfLost, IsOfRun};
 ghost use Rattle.wcp_watch.specs.RunParts.{AreReady};
 ghost use Rattle.wullaphi.specs.Seats.{ArePartsOf, IsNewSeat};
-ghost use Rattle.wullaphi.specs.Watched.{IsLost, IsWatched};
+ghost use Rattle.wullaphi.specs.WatchOutcomes.{IsLost, IsWatchOutcome};
 
 use crate::process::LosableProcess;
 use crate::seat::{Seat, first_lost, seat_all, take_apart};
 use crate::watch_fault::WatchFault;
-use crate::watched::Watched;
+use crate::watch_outcome::WatchOutcome;
 use std::alloc::{AllocError, Global};
 use std::sync::{Mutex, Wait};
 use std::thread::Threads;
@@ -46,17 +46,17 @@ pub fn watch_processes<
     processes: Vec<P>,
     shared: &S,
     book: &Mutex<Book>,
-) -> Result<Watched<A>, WatchFault>
-    ensures watched { IfOk result (IsWatched P.leaves number plan.now.n processes.items) }
+) -> Result<WatchOutcome<A>, WatchFault>
+    ensures watched { IfOk result (IsWatchOutcome P.leaves number plan.now processes.items) }
     ensures plan { (first : PlanFault) → (result ≡ Err (WatchFault.Plan first)) ↔ IsFirstFault plan.now first }
     ensures count { (result ≡ Err WatchFault.Count)
         ↔ (IsCheckedPlan plan.now × (length processes.items ≢ plan.now.n)) }
-    ensures done { IfOk result (λ watched. All (λ answer. P.done answer ≡ true) watched.answers.items) }
-    ensures lost { IfErr result (λ fault. IfLost fault (IsLost P.leaves P.done number plan.now.n processes.items)) }
+    ensures done { IfOk result (λ told. All (λ answer. P.done answer ≡ true) told.answers.items) }
+    ensures lost { IfErr result (λ fault. IfLost fault (IsLost P.leaves P.done number plan.now processes.items)) }
 {
-    let watched = watch_checked(rt, alloc, plan, number, processes, shared, book);
+    let told = watch_checked(rt, alloc, plan, number, processes, shared, book);
     book.lock(rt).end();
-    watched
+    told
 }
 
 /// Watches these processes, if the plan has no fault and there are as many as it says.
@@ -73,13 +73,13 @@ fn watch_checked<
     processes: Vec<P>,
     shared: &S,
     book: &Mutex<Book>,
-) -> Result<Watched<A>, WatchFault>
-    ensures watched { IfOk result (IsWatched P.leaves number plan.now.n processes.items) }
+) -> Result<WatchOutcome<A>, WatchFault>
+    ensures watched { IfOk result (IsWatchOutcome P.leaves number plan.now processes.items) }
     ensures plan { (first : PlanFault) → (result ≡ Err (WatchFault.Plan first)) ↔ IsFirstFault plan.now first }
     ensures count { (result ≡ Err WatchFault.Count)
         ↔ (IsCheckedPlan plan.now × (length processes.items ≢ plan.now.n)) }
-    ensures done { IfOk result (λ watched. All (λ answer. P.done answer ≡ true) watched.answers.items) }
-    ensures lost { IfErr result (λ fault. IfLost fault (IsLost P.leaves P.done number plan.now.n processes.items)) }
+    ensures done { IfOk result (λ told. All (λ answer. P.done answer ≡ true) told.answers.items) }
+    ensures lost { IfErr result (λ fault. IfLost fault (IsLost P.leaves P.done number plan.now processes.items)) }
 {
     if let Err(fault) = plan.check() {
         return Err(WatchFault::Plan(fault));
@@ -104,13 +104,13 @@ fn watch_planned<
     processes: Vec<P>,
     shared: &S,
     book: &Mutex<Book>,
-) -> Result<Watched<A>, WatchFault>
+) -> Result<WatchOutcome<A>, WatchFault>
     requires checked { IsCheckedPlan plan.now }
     requires count { length processes.items ≡ plan.now.n }
-    ensures watched { IfOk result (IsWatched P.leaves number plan.now.n processes.items) }
+    ensures watched { IfOk result (IsWatchOutcome P.leaves number plan.now processes.items) }
     ensures fault { IfErr result IsOfRun }
-    ensures done { IfOk result (λ watched. All (λ answer. P.done answer ≡ true) watched.answers.items) }
-    ensures lost { IfErr result (λ fault. IfLost fault (IsLost P.leaves P.done number plan.now.n processes.items)) }
+    ensures done { IfOk result (λ told. All (λ answer. P.done answer ≡ true) told.answers.items) }
+    ensures lost { IfErr result (λ fault. IfLost fault (IsLost P.leaves P.done number plan.now processes.items)) }
 {
     let parts = open_parts(alloc, plan, number, processes)?;
     begin_anew(rt, book, plan.n);
@@ -129,7 +129,7 @@ fn watch_planned<
     let posted = book.lock(rt).copied();
     let totals = posted.totals();
     let settled = settle(probes, relays, checker, posted)?;
-    Ok(Watched {
+    Ok(WatchOutcome {
         outcome: Outcome {
             report: settled.report,
             tallies: settled.tallies,
@@ -170,7 +170,7 @@ fn open_parts<P: Drop>(
         inbox,
     } = watch(alloc, plan, number)?;
     let workers = seat_all(alloc, probes, processes)?;
-    let checker = Checker::new(alloc, plan.n)?;
+    let checker = Checker::new(alloc, plan.n, plan.watched)?;
     Ok(Parts {
         workers,
         relays,

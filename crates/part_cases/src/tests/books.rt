@@ -32,9 +32,9 @@ fn shares_are_posted_once(rt: HostRuntime) {
 fn the_first_cut_that_is_told_stays(rt: HostRuntime) {
     let mut book = Book::new(2);
     assert_eq!(rt; book.found(), None);
-    let first = GlobalCut::new(&[3, 1]);
+    let first = GlobalCut::new(&[Some(3), Some(1)]);
     book.tell(first);
-    book.tell(GlobalCut::new(&[3, 2]));
+    book.tell(GlobalCut::new(&[Some(3), Some(2)]));
     assert_eq!(rt;
         (book.found(), book.copied().found()),
         (Some(first), Some(first))

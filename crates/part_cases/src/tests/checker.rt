@@ -6,16 +6,16 @@ use std::alloc::{AllocError, Global};
 use std::process::Abort;
 use std::test::Fail;
 use wcp_clock::{CLOCK_LIMIT, Clock, Item, Note};
-use wcp_model::{Action, GlobalCut, ProbeSetup, Report};
+use wcp_model::{Action, GlobalCut, ProbeSetup, Report, Watched};
 use wcp_probe::ProbeCore;
 use wcp_queue::Checker;
 use wcp_script::ring_workload;
 
 /// A checker of two processes. Where memory runs out, asking again makes it.
 fn checker_of_two(alloc: Global) -> Result<Checker, AllocError> {
-    match Checker::new(alloc, 2) {
+    match Checker::new(alloc, 2, Watched::all(2)) {
         Ok(checker) => Ok(checker),
-        Err(_) => Checker::new(alloc, 2),
+        Err(_) => Checker::new(alloc, 2, Watched::all(2)),
     }
 }
 
@@ -94,7 +94,7 @@ fn a_head_that_precedes_another_is_dropped(rt: HostRuntime) -> Result<(), Fail> 
         assert_taken(&rt, &checker, 0, 0);
         assert_report(&rt, &checker, Report::Undecided);
         take_both(&rt, &mut checker, sends).ok_or("the clock's end")?;
-        let cut = GlobalCut::new(&[sends, 1]);
+        let cut = GlobalCut::new(&[Some(sends), Some(1)]);
         assert_report(&rt, &checker, Report::Found(cut));
         assert!(rt; (1..=2 * (u64::from(sends) + 2)).contains(&checker.tests()));
         assert_taken(&rt, &checker, u64::from(sends) + 1, 1);
@@ -137,7 +137,7 @@ fn tests_of_ring(rt: &impl Abort, alloc: Global, n: u32, rounds: u32) -> Result<
     requires few_rounds { rounds ≤ most_rounds }
 {
     let ring = ring_workload(alloc, n, rounds, false)?;
-    let mut checker = Checker::new(alloc, n)?;
+    let mut checker = Checker::new(alloc, n, Watched::all(n))?;
     let mut probes = Vec::new(alloc);
     for id in 0..n {
         probes.push(ProbeCore::new(
@@ -145,6 +145,7 @@ fn tests_of_ring(rt: &impl Abort, alloc: Global, n: u32, rounds: u32) -> Result<
             ProbeSetup {
                 processes: n,
                 process: id,
+                watched: true,
             },
             CLOCK_LIMIT,
         ))?;
@@ -239,7 +240,7 @@ fn a_starved_checker_keeps_the_cut_that_it_found(rt: HostRuntime) -> Result<(), 
         assert!(rt; takes_first(&rt, &mut checker, from));
     }
     checker.starve();
-    let cut = GlobalCut::new(&[0, 0]);
+    let cut = GlobalCut::new(&[Some(0), Some(0)]);
     assert_report(&rt, &checker, Report::Found(cut));
     assert!(rt; takes_close(&rt, &mut checker, 0));
     assert_report(&rt, &checker, Report::Found(cut));
@@ -281,6 +282,10 @@ fn a_checker_of_a_lost_process_finds_a_cut(rt: HostRuntime) -> Result<(), Fail> 
     take_first(&rt, &mut checker, 0);
     assert!(rt; takes_lost(&rt, &mut checker, 0));
     take_first(&rt, &mut checker, 1);
-    assert_report(&rt, &checker, Report::Found(GlobalCut::new(&[0, 0])));
+    assert_report(
+        &rt,
+        &checker,
+        Report::Found(GlobalCut::new(&[Some(0), Some(0)])),
+    );
     Ok(())
 }

@@ -62,7 +62,8 @@ fn check_cuts(rt: &impl Abort, alloc: Global, example: &Example<'_>) -> Result<(
         for satisfying in example.satisfying {
             is_satisfying |= *satisfying == cut;
         }
-        let answer = is_satisfying_cut(alloc, example.steps, cut)?;
+        let named = [Some(intervals[0]), Some(intervals[1]), Some(intervals[2])];
+        let answer = is_satisfying_cut(alloc, example.steps, &named[..cut.len()])?;
         assert_eq!(rt; answer, is_satisfying, "{name}: {cut:?}");
     }
     Ok(())

@@ -118,7 +118,7 @@ fn beginning<'a>(
 
 #[test]
 fn items_are_taken_in_the_order_of_their_emission(rt: HostRuntime) -> Result<(), Fail> {
-    let first = Report::Found(GlobalCut::new(&[0]));
+    let first = Report::Found(GlobalCut::new(&[Some(0)]));
     let alloc = rt.alloc();
     assert_played_by_one_relay(
         &rt,
@@ -135,7 +135,7 @@ fn items_are_taken_in_the_order_of_their_emission(rt: HostRuntime) -> Result<(),
 #[test]
 fn the_least_cut_is_found_once_all_is_taken(rt: HostRuntime) -> Result<(), Fail> {
     let alloc = rt.alloc();
-    let both = Report::Found(GlobalCut::new(&[0, 0]));
+    let both = Report::Found(GlobalCut::new(&[Some(0), Some(0)]));
     let whole = &NEWEST_FIRST_HOLD_LOSES_CUT;
     assert_played_by_one_relay(&rt, alloc, whole, 8, both)?;
     let first = beginning(
@@ -151,7 +151,7 @@ fn the_least_cut_is_found_once_all_is_taken(rt: HostRuntime) -> Result<(), Fail>
 
 #[test]
 fn a_step_asked_again_is_answered_as_with_ample_memory(rt: HostRuntime) -> Result<(), Fail> {
-    let both = Report::Found(GlobalCut::new(&[0, 0]));
+    let both = Report::Found(GlobalCut::new(&[Some(0), Some(0)]));
     let whole = &NEWEST_FIRST_HOLD_LOSES_CUT;
     let plan = one_relay(&rt, rt.alloc(), whole, 8)?;
     assert_made_one_by_one(&rt, rt.alloc(), &plan, whole, both)?;

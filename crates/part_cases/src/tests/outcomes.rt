@@ -2,9 +2,12 @@ use wcp_model::{GlobalCut, Tallies, Tally};
 
 #[test]
 fn a_cut_and_tallies_are_read_back(rt: HostRuntime) {
-    let cut = GlobalCut::new(&[2, 0, 5]);
+    let cut = GlobalCut::new(&[Some(2), None, Some(5)]);
     assert_eq!(rt; cut.len(), 3);
-    assert_eq!(rt; (cut.get(0), cut.get(1), cut.get(2)), (2, 0, 5));
+    assert_eq!(rt;
+        (cut.get(0), cut.get(1), cut.get(2)),
+        (Some(2), None, Some(5))
+    );
 
     let one = Tally {
         emitted: 3,

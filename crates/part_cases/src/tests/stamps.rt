@@ -14,6 +14,7 @@ fn core(watch: u64, id: u32) -> ProbeCore
         ProbeSetup {
             processes: 2,
             process: id,
+            watched: true,
         },
         CLOCK_LIMIT,
     )
@@ -85,6 +86,7 @@ fn a_clock_ends_at_its_limit(rt: HostRuntime) -> Result<(), Fail> {
         ProbeSetup {
             processes: 2,
             process: 0,
+            watched: true,
         },
         2,
     );

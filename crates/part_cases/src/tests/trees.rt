@@ -3,7 +3,7 @@ use crate::tests::replays::{Replay, assert_made_one_by_one, assert_played};
 use std::alloc::{AllocError, Global};
 use std::test::Fail;
 use wcp_model::Step::{Admit, Check, Close, Observe, Pass, Pull, Put, Recv, Send};
-use wcp_model::{GlobalCut, Parent, Plan, Report, Why};
+use wcp_model::{GlobalCut, Parent, Plan, Report, Watched, Why};
 
 /// Two processes, each with a leaf relay of its own, and an inner relay above both leaves.
 fn tree(alloc: Global, cap: u32, hold: u32) -> Result<Plan, AllocError> {
@@ -14,6 +14,7 @@ fn tree(alloc: Global, cap: u32, hold: u32) -> Result<Plan, AllocError> {
         hold,
         Vec::from_slice(alloc, &parents)?,
         Vec::from_slice(alloc, &[Some(1), Some(2)])?,
+        Watched::all(2),
     ))
 }
 
@@ -169,7 +170,7 @@ static EACH_MOVE_REFUSED: Replay<'static> = Replay {
 #[test]
 fn items_go_through_a_tree_of_relays(rt: HostRuntime) -> Result<(), Fail> {
     let alloc = rt.alloc();
-    let least = Report::Found(GlobalCut::new(&[1, 1]));
+    let least = Report::Found(GlobalCut::new(&[Some(1), Some(1)]));
     let wide = tree(alloc, 8, 4).or_else(|_| tree(alloc, 8, 4))?;
     let narrow = tree(alloc, 1, 1).or_else(|_| tree(alloc, 1, 1))?;
     assert_played(&rt, alloc, &wide, &LEAST_CUT, least)?;
@@ -181,7 +182,7 @@ fn items_go_through_a_tree_of_relays(rt: HostRuntime) -> Result<(), Fail> {
 #[test]
 fn a_tree_is_drained_step_by_step(rt: HostRuntime) -> Result<(), Fail> {
     let alloc = rt.alloc();
-    let least = Report::Found(GlobalCut::new(&[1, 1]));
+    let least = Report::Found(GlobalCut::new(&[Some(1), Some(1)]));
     let plan = tree(alloc, 8, 4).or_else(|_| tree(alloc, 8, 4))?;
     assert_made_one_by_one(&rt, alloc, &plan, &LEAST_CUT, least)?;
     Ok(())

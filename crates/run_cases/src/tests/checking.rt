@@ -6,7 +6,7 @@ use std::alloc::{AllocError, Global};
 use std::process::Abort;
 use std::test::Fail;
 use wcp_book::Book;
-use wcp_model::{GlobalCut, Parent, Plan, Report, Tally, plain_plan};
+use wcp_model::{GlobalCut, Parent, Plan, Report, Tally, Watched, plain_plan};
 use wcp_watch::{CheckFault, CheckerEnd};
 
 /// One snapshot, emitted and taken.
@@ -27,6 +27,7 @@ pub fn two_hops(rt: &impl Abort, alloc: Global) -> Result<Plan, AllocError>
         4,
         parents.to_vec(alloc).or_else(|_| parents.to_vec(alloc))?,
         attach.to_vec(alloc).or_else(|_| attach.to_vec(alloc))?,
+        Watched::all(2),
     );
     assert!(rt; plan.check().is_ok());
     Ok(plan)
@@ -52,7 +53,7 @@ fn two_hops_find_the_first_cut(rt: HostRuntime) -> Result<(), Fail> {
     let plan = two_hops(&rt, rt.alloc())?;
     let Checked { end, book } = run_in_one_thread(&rt, rt.alloc(), &plan, None, 2, Book::new(2))?;
     assert_eq!(rt; end.watch(), 7);
-    let cut = GlobalCut::new(&[0, 0]);
+    let cut = GlobalCut::new(&[Some(0), Some(0)]);
     assert_end(&rt, &end, Report::Found(cut), None);
     assert_found(&rt, &book, Some(cut));
     assert_shares(&rt, &book, Some(ONE), Some(ONE));
@@ -71,7 +72,12 @@ fn two_hops_find_the_first_cut(rt: HostRuntime) -> Result<(), Fail> {
 fn a_post_that_is_refused_holds_nothing_up(rt: HostRuntime) -> Result<(), Fail> {
     let plan = plain_plan(rt.alloc(), 2, 8, 4)?;
     let Checked { end, book } = run_in_one_thread(&rt, rt.alloc(), &plan, None, 1, Book::new(1))?;
-    assert_end(&rt, &end, Report::Found(GlobalCut::new(&[0, 0])), None);
+    assert_end(
+        &rt,
+        &end,
+        Report::Found(GlobalCut::new(&[Some(0), Some(0)])),
+        None,
+    );
     assert_eq!(rt; (book.share(0), book.totals()), (Some(ONE), ONE));
     Ok(())
 }
@@ -82,7 +88,7 @@ fn two_leaves(rt: &impl Abort, alloc: Global) -> Result<Plan, AllocError>
 {
     let parents = vec![in alloc; Parent::Root, Parent::Root]?;
     let attach = vec![in alloc; Some(0), Some(1)]?;
-    let plan = Plan::new(2, 8, 4, parents, attach);
+    let plan = Plan::new(2, 8, 4, parents, attach, Watched::all(2));
     assert!(rt; plan.check().is_ok());
     Ok(plan)
 }

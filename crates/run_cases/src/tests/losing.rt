@@ -35,7 +35,7 @@ fn what_a_lost_process_put_counts(rt: HostRuntime) -> Result<(), Fail> {
         2,
         Book::new(2),
     )?;
-    let cut = GlobalCut::new(&[0, 0]);
+    let cut = GlobalCut::new(&[Some(0), Some(0)]);
     assert_end(&rt, &end, Report::Found(cut), Some(CheckFault::Lost(0)));
     assert_found(&rt, &book, Some(cut));
     Ok(())

@@ -13,7 +13,7 @@ const ASLEEP: u64 = 20;
 
 /// The cut that is told.
 fn the_cut() -> GlobalCut {
-    GlobalCut::new(&[3, 1])
+    GlobalCut::new(&[Some(3), Some(1)])
 }
 
 /// Changes the book in this way, once those who wait for its news are asleep.

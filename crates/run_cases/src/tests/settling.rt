@@ -234,7 +234,10 @@ fn two_hops_are_settled(rt: HostRuntime) -> Result<(), Fail> {
         }
     );
     let settled = settled(&rt, ends);
-    assert_eq!(rt; settled.report, Report::Found(GlobalCut::new(&[0, 0])));
+    assert_eq!(rt;
+        settled.report,
+        Report::Found(GlobalCut::new(&[Some(0), Some(0)]))
+    );
     assert_eq!(rt; settled.tallies, Tallies::new(&[ONE, ONE]));
     Ok(())
 }
@@ -283,7 +286,7 @@ fn book_without(rt: &impl Abort, left_out: u32) -> Book {
     assert!(rt; left_out < 2);
     let posted = book.post(1 - left_out, 1, 1);
     assert_eq!(rt; posted, Ok(()));
-    book.tell(GlobalCut::new(&[0, 0]));
+    book.tell(GlobalCut::new(&[Some(0), Some(0)]));
     book
 }
 
@@ -302,8 +305,8 @@ fn book_with(rt: &impl Abort, cut: Option<GlobalCut>) -> Book {
 
 #[test]
 fn a_cut_that_is_another_or_was_not_told_is_unfinished(rt: HostRuntime) -> Result<(), Fail> {
-    let cut = GlobalCut::new(&[0, 0]);
-    let other = GlobalCut::new(&[0, 1]);
+    let cut = GlobalCut::new(&[Some(0), Some(0)]);
+    let other = GlobalCut::new(&[Some(0), Some(1)]);
     for (told, fault) in [
         (Some(cut), None),
         (Some(other), Some(SettleFault::Unfinished)),

@@ -44,7 +44,7 @@ fn run_until_found<R: Threads + Wait + Sync>(
 fn processes_that_wait_for_the_cut_end(rt: HostRuntime) -> Result<(), Fail> {
     let book = Mutex::new(Book::new(16));
     let end = run_until_found(&rt, rt.alloc(), &book)?.expect(&rt, "threads");
-    let cut = GlobalCut::new(&[0; 16]);
+    let cut = GlobalCut::new(&[Some(0); 16]);
     assert_eq!(rt; (end.fault(), end.report()), (None, Report::Found(cut)));
     assert_eq!(rt; book.into_inner().found(), Some(cut));
     Ok(())

@@ -12,7 +12,7 @@ use std::test::Fail;
 use std::thread::{Threads, join, map_vec};
 use wcp_book::Book;
 use wcp_clock::{CLOCK_LIMIT, Item, Note};
-use wcp_model::{Parent, Plan, ProbeSetup, Report};
+use wcp_model::{Parent, Plan, ProbeSetup, Report, Watched};
 use wcp_probe::ProbeCore;
 use wcp_queue::Checker;
 use wcp_tree::{CheckerInbox, LiveProbe, Relay, RelayFault, Watch};
@@ -89,6 +89,7 @@ impl Play {
             let setup = ProbeSetup {
                 processes: PROCESSES,
                 process,
+                watched: true,
             };
             let core = ProbeCore::new(7, setup, CLOCK_LIMIT);
             twins.push(Twin { probe, core })?;
@@ -96,7 +97,7 @@ impl Play {
         Ok(Play {
             draws: Draws { state: number },
             twins,
-            checker: Checker::new(alloc, PROCESSES)?,
+            checker: Checker::new(alloc, PROCESSES, Watched::all(PROCESSES))?,
         })
     }
 
@@ -178,7 +179,7 @@ fn two_leaves(rt: &impl Abort, alloc: Global) -> Result<Plan, AllocError>
 {
     let parents = vec![in alloc; Parent::Root, Parent::Relay(0), Parent::Relay(0)]?;
     let attach = vec![in alloc; Some(1), Some(1), Some(2)]?;
-    let plan = Plan::new(PROCESSES, 32, 4, parents, attach);
+    let plan = Plan::new(PROCESSES, 32, 4, parents, attach, Watched::all(PROCESSES));
     assert!(rt; plan.check().is_ok());
     Ok(plan)
 }

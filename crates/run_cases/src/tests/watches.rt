@@ -1,5 +1,5 @@
 //! Watches whose processes emit, for the tests.
-ghost use Rattle.std.specs.Prelude.{IfOk};
+ghost use Rattle.std.specs.Prelude.{◌≡◌, IfOk};
 ghost use Rattle.wcp_model.specs.PlanFault.{IsCheckedPlan};
 ghost use Rattle.wcp_watch.specs.CheckerEnds.{IsFreshFor};
 ghost use Rattle.wcp_tree.specs.Watches.{IsWired};
@@ -24,6 +24,7 @@ pub fn open(alloc: Global, plan: &Plan) -> Result<Opened, AllocError>
     requires { IsCheckedPlan plan.now }
     ensures fresh { IfOk result (λ opened. IsFreshFor opened.watch.inbox opened.checker) }
     ensures wired { IfOk result (λ opened. IsWired plan.now 7 opened.watch) }
+    ensures watched { IfOk result (λ opened. opened.checker.watched ≡ plan.now.watched) }
 {
     match open_once(alloc, plan) {
         Ok(opened) => Ok(opened),
@@ -35,8 +36,9 @@ fn open_once(alloc: Global, plan: &Plan) -> Result<Opened, AllocError>
     requires { IsCheckedPlan plan.now }
     ensures fresh { IfOk result (λ opened. IsFreshFor opened.watch.inbox opened.checker) }
     ensures wired { IfOk result (λ opened. IsWired plan.now 7 opened.watch) }
+    ensures watched { IfOk result (λ opened. opened.checker.watched ≡ plan.now.watched) }
 {
-    let checker = Checker::new(alloc, plan.n)?;
+    let checker = Checker::new(alloc, plan.n, plan.watched)?;
     let watch = watch(alloc, plan, 7)?;
     Ok(Opened { watch, checker })
 }

@@ -1,5 +1,6 @@
 //! Calls that take memory, each asked again where it is refused: a test passes whichever of its allocations fails.
 ghost use Rattle.std.specs.Prelude.{IfOk};
+ghost use Rattle.wcp_model.specs.Watched.{AreSomeWatched};
 ghost use Rattle.wcp_model.specs.WorkloadComputation.{CouldBeRead};
 
 use super::texts_made::{FOUND, RING, RING_WITH_FAULT, found};
@@ -40,7 +41,8 @@ const TRUE_AGAIN_AFTER_SEND: &[u8] =
 
 /// Reads a workload. Where memory runs out, asking again reads it.
 fn workload_of(alloc: Global, text: &[u8]) -> Result<Workload, ReadFault>
-    ensures { IfOk result (λ workload. CouldBeRead workload.plan.n workload.tasks.items) }
+    ensures read { IfOk result (λ workload. CouldBeRead workload.plan.n workload.tasks.items) }
+    ensures watched { IfOk result (λ workload. AreSomeWatched workload.plan.n workload.plan.watched) }
 {
     match read_workload(alloc, text) {
         Err(ReadFault::NoMemory) => read_workload(alloc, text),
@@ -71,11 +73,11 @@ fn all_taken(report: Report, emitted: [u64; 2]) -> Outcome {
 #[test]
 fn workloads_are_read_and_run(rt: HostRuntime) -> Result<(), Fail> {
     let alloc = rt.alloc();
-    let second = all_taken(Report::Found(GlobalCut::new(&[1, 1])), [2, 1]);
+    let second = all_taken(Report::Found(GlobalCut::new(&[Some(1), Some(1)])), [2, 1]);
     assert_eq!(rt; outcome_of(alloc, TRUE_AGAIN_AFTER_SEND)?, second);
     let none = all_taken(Report::Nothing, [1, 1]);
     assert_eq!(rt; outcome_of(alloc, RING)?, none);
-    let first = all_taken(Report::Found(GlobalCut::new(&[0, 0])), [1, 2]);
+    let first = all_taken(Report::Found(GlobalCut::new(&[Some(0), Some(0)])), [1, 2]);
     assert_eq!(rt; outcome_of(alloc, RING_WITH_FAULT)?, first);
     Ok(())
 }

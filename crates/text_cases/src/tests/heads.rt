@@ -69,6 +69,26 @@ const HEADS: &[Row] = &[
     (b"relay 0 root\nattach 0 0\nattach 0 0\n", 5, Line),
     (b"relay 0 root\nattach 1 0\nattach 0 0\n", 5, Line),
     (b"relay 0 root\nattach 1 0\nattach 2 0\n", 5, Process),
+    // whom is watched
+    (b"watch\n", 3, Line),
+    (b"watch 0", 3, Line),
+    (b"Watch 0\n", 3, Line),
+    (b"watch \n", 3, Number),
+    (b"watch x\n", 3, Number),
+    (b"watch 0 \n", 3, Number),
+    (b"watch 1 0 x\n", 3, Number),
+    (b"watch 0 0\n", 3, Line),
+    (b"watch 2 1\n", 3, Line),
+    (b"watch 2\n", 3, Process),
+    (
+        b"watch 0 1 2 3 4 5 6 7 8 9 10 11 12 13 14 15 16\n",
+        3,
+        Process,
+    ),
+    (b"watch 0\nwatch x\n", 4, Line),
+    (b"watch 0\ncap x\n", 4, Line),
+    (b"watch 0\nrelay 0 root\n", 4, Line),
+    (b"relay 0 root\nwatch 0\nattach 0 0\n", 5, Line),
     // the plan as a whole, at the end of the text
     (b"relay 0 root\n", 3, Plan),
     (b"relay 0 root\nattach 0 0\n", 4, Plan),
@@ -161,7 +181,7 @@ fn faults_at_the_first_step_line(rt: HostRuntime) -> Result<(), Fail> {
 
 /// A head that says all that a head can say.
 const WHOLE: &[u8] =
-    b"cap 1024\nhold 64\nrelay 0 root\nrelay 1 0\nrelay 2 0\nattach 0 2\nattach 1 1\n";
+    b"cap 1024\nhold 64\nrelay 0 root\nrelay 1 0\nrelay 2 0\nattach 0 2\nattach 1 1\nwatch 1\n";
 
 #[test]
 fn a_whole_head(rt: HostRuntime) -> Result<(), Fail> {
@@ -169,6 +189,7 @@ fn a_whole_head(rt: HostRuntime) -> Result<(), Fail> {
     let plan = read_schedule(rt.alloc(), &text)?.plan;
     let parents = &[Parent::Root, Parent::Relay(0), Parent::Relay(0)];
     assert_plan(&rt, &plan, (2, 1024, 64), parents, &[Some(2), Some(1)]);
+    assert!(rt; !plan.watched.has(0) && plan.watched.has(1));
     Ok(())
 }
 
@@ -177,5 +198,6 @@ fn a_head_that_says_nothing_of_relays(rt: HostRuntime) -> Result<(), Fail> {
     let text = text_of(rt.alloc(), TWO_PROCESSES, b"hold 1\np 0 true\n")?;
     let plan = read_workload(rt.alloc(), &text)?.plan;
     assert_plan(&rt, &plan, (2, 8, 1), &[Parent::Root], &[Some(0), Some(0)]);
+    assert!(rt; plan.watched.has(0) && plan.watched.has(1) && !plan.watched.has(2));
     Ok(())
 }

@@ -3,7 +3,7 @@ use PlanFault::{Cap, Childless, Depth, Hold, Mixed, Procs, Unattached};
 use std::alloc::{AllocError, Global};
 use std::process::Abort;
 use std::test::Fail;
-use wcp_model::{Parent, Plan, PlanFault, plain_plan};
+use wcp_model::{Parent, Plan, PlanFault, Watched, plain_plan};
 
 /// The numbers of a plan, its parents and attachments, and its first fault.
 type Row<'a> = (
@@ -51,6 +51,7 @@ fn assert_first_faults(rt: &impl Abort, alloc: Global, rows: &[Row]) -> Result<(
             hold,
             Vec::from_slice(alloc, parents)?,
             Vec::from_slice(alloc, attach)?,
+            Watched::all(n.min(16)),
         );
         assert_eq!(rt; plan.check(), *expected);
     }

@@ -2,7 +2,7 @@
 use std::alloc::{AllocError, Global};
 use std::process::Abort;
 use std::sync::Wait;
-use wcp_model::{Parent, Plan};
+use wcp_model::{Parent, Plan, Watched};
 use wcp_tree::{LiveProbe, Relay, RelayFault, Watch, watch};
 
 /// A plan of these numbers, parents and attachments. Where memory runs out, asking again makes it.
@@ -14,7 +14,8 @@ fn plan_of(
 ) -> Result<Plan, AllocError> {
     let parents = Vec::from_slice(alloc, parents).or_else(|_| Vec::from_slice(alloc, parents))?;
     let attach = Vec::from_slice(alloc, attach).or_else(|_| Vec::from_slice(alloc, attach))?;
-    Ok(Plan::new(n, cap, hold, parents, attach))
+    let watched = Watched::all(n.min(16));
+    Ok(Plan::new(n, cap, hold, parents, attach, watched))
 }
 
 /// Watch 7 of a plan of these numbers, parents and attachments. Where memory runs out, asking again makes it.

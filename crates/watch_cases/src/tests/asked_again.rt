@@ -4,8 +4,8 @@ use std::sync::{Mutex, Wait};
 use std::test::Fail;
 use std::thread::Threads;
 use wullaphi::{
-    Book, LentProbe, Loan, Outcome, Plan, Process, Report, Tallies, Tally, WatchFault, Watched,
-    plain_plan, watch_processes,
+    Book, LentProbe, Loan, Outcome, Plan, Process, Report, Tallies, Tally, WatchFault,
+    WatchOutcome, plain_plan, watch_processes,
 };
 
 /// How often a process is true: more than the checker has room for at first.
@@ -41,7 +41,7 @@ fn watch<R: Threads + Wait + Sync>(
     alloc: Global,
     plan: &Plan,
     book: &Mutex<Book>,
-) -> Result<Watched<u32>, WatchFault> {
+) -> Result<WatchOutcome<u32>, WatchFault> {
     let callers = vec![in alloc; Caller { times: OFTEN }, Caller { times: 0 }]?;
     watch_processes(rt, alloc, plan, 1, callers, &(), book)
 }
@@ -52,7 +52,7 @@ fn watch_again<R: Threads + Wait + Sync>(
     alloc: Global,
     plan: &Plan,
     book: &Mutex<Book>,
-) -> Result<Watched<u32>, WatchFault> {
+) -> Result<WatchOutcome<u32>, WatchFault> {
     match watch(rt, alloc, plan, book) {
         Err(WatchFault::Memory | WatchFault::Spawn) => watch(rt, alloc, plan, book),
         ended => ended,

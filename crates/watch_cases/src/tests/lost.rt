@@ -4,7 +4,7 @@ use std::sync::{Mutex, Wait};
 use std::test::Fail;
 use std::thread::Threads;
 use wullaphi::{
-    Book, GlobalCut, LentProbe, Loan, LosableProcess, Report, WatchFault, Watched, plain_plan,
+    Book, GlobalCut, LentProbe, Loan, LosableProcess, Report, WatchFault, WatchOutcome, plain_plan,
     watch_processes,
 };
 
@@ -50,7 +50,7 @@ fn watch<R: Threads + Wait + Sync>(
     rt: &R,
     alloc: Global,
     members: [Member; 3],
-) -> Result<Watched<bool>, WatchFault> {
+) -> Result<WatchOutcome<bool>, WatchFault> {
     let members = members.to_vec(alloc)?;
     let plan = plain_plan(alloc, 3, 8, 4)?;
     let book = Mutex::new(Book::new(3));
@@ -59,7 +59,7 @@ fn watch<R: Threads + Wait + Sync>(
 
 /// The cut of three processes that have sent and received nothing.
 fn found() -> Report {
-    Report::Found(GlobalCut::new(&[0, 0, 0]))
+    Report::Found(GlobalCut::new(&[Some(0), Some(0), Some(0)]))
 }
 
 #[test]

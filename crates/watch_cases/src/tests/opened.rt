@@ -129,7 +129,7 @@ fn threads_of_ones_own_tell_what_the_call_tells_unless_an_end_is_left_out(
         taken: 1,
     };
     let outcome = Outcome {
-        report: Report::Found(GlobalCut::new(&[0, 0])),
+        report: Report::Found(GlobalCut::new(&[Some(0), Some(0)])),
         tallies: Tallies::new(&[once, once]),
     };
     assert_eq!(rt; own, outcome);

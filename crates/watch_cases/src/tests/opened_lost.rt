@@ -112,7 +112,7 @@ fn assert_told<R: Threads + Wait + Sync + Abort>(
 
 /// The cut of two processes that have sent and received nothing.
 fn found() -> Report {
-    Report::Found(GlobalCut::new(&[0, 0]))
+    Report::Found(GlobalCut::new(&[Some(0), Some(0)]))
 }
 
 #[test]

@@ -4,7 +4,7 @@ use std::sync::{Mutex, Wait};
 use std::test::Fail;
 use std::thread::{Threads, join};
 use wullaphi::{
-    Book, GlobalCut, LentProbe, Loan, Process, Report, WatchFault, Watched, plain_plan,
+    Book, GlobalCut, LentProbe, Loan, Process, Report, WatchFault, WatchOutcome, plain_plan,
     wait_for_cut, watch_processes,
 };
 
@@ -54,7 +54,7 @@ fn watch_and_wait<R: Threads + Wait + Sync>(
     alloc: Global,
     members: Vec<Member>,
     book: &Mutex<Book>,
-) -> Result<(Watched<Option<GlobalCut>>, Option<GlobalCut>), WatchFault> {
+) -> Result<(WatchOutcome<Option<GlobalCut>>, Option<GlobalCut>), WatchFault> {
     let plan = plain_plan(alloc, 2, 8, 4)?;
     let (watched, told) = join(
         rt,
@@ -77,7 +77,7 @@ fn told_by<R: Threads + Wait + Sync>(
 
 /// The cut of two processes that have sent and received nothing.
 fn first_cut() -> GlobalCut {
-    GlobalCut::new(&[0, 0])
+    GlobalCut::new(&[Some(0), Some(0)])
 }
 
 #[test]

@@ -12,7 +12,7 @@ pub struct Row {
 }
 
 /// Texts that are answered.
-pub static ANSWERED: [Row; 27] = [
+pub static ANSWERED: [Row; 29] = [
     Row {
         name: "true again after a send",
         word: "single",
@@ -58,6 +58,22 @@ pub static ANSWERED: [Row; 27] = [
         word: "single",
         text: "wcp 1\nprocs 2\np 0 true\np 0 send 1\np 1 recv 0\np 1 true\n",
         output: "none\nprocess 0 emitted 1 taken 1\nprocess 1 emitted 1 taken 1\ntotal emitted 2 taken 2\n",
+        errors: "",
+        status: 1,
+    },
+    Row {
+        name: "one watched",
+        word: "single",
+        text: "wcp 1\nprocs 2\nwatch 0\np 0 true\np 0 send 1\np 1 recv 0\np 1 true\n",
+        output: "found 0 -\nprocess 0 emitted 1 taken 1\nprocess 1 emitted 0 taken 0\ntotal emitted 1 taken 1\n",
+        errors: "",
+        status: 0,
+    },
+    Row {
+        name: "two of three watched",
+        word: "single",
+        text: "wcp 1\nprocs 3\nwatch 0 2\np 0 true\np 0 send 1\np 1 true\np 1 recv 0\np 1 send 2\np 2 recv 1\np 2 true\n",
+        output: "none\nprocess 0 emitted 1 taken 1\nprocess 1 emitted 0 taken 0\nprocess 2 emitted 1 taken 1\ntotal emitted 2 taken 2\n",
         errors: "",
         status: 1,
     },

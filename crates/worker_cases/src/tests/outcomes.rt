@@ -12,8 +12,9 @@ use wcp_worker::Gate;
 
 /// Two processes emitted so many snapshots, all of which were taken, and this is the first cut.
 pub fn found(cut: [u32; 2], emitted: [u64; 2]) -> Outcome {
+    let [first, second] = cut;
     Outcome {
-        report: Report::Found(GlobalCut::new(&cut)),
+        report: Report::Found(GlobalCut::new(&[Some(first), Some(second)])),
         tallies: Tallies::new(&emitted.map(all_taken)),
     }
 }

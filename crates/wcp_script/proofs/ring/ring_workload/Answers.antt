@@ -1,4 +1,4 @@
-use Rattle.wcp_script.proofs.Words.{◌≡◌, length, ◌++◌, sym, ap, subst, ◌∙◌, flat_map, range_with_len, CouldBeRead, ring_fault, ring_round}
+use Rattle.wcp_script.proofs.Words.{◌≡◌, length, ◌++◌, sym, ap, subst, ◌∙◌, flat_map, range_with_len, CouldBeRead, ring_fault, ring_round, arith, some_watched}
 use Rattle.wcp_script.specs.Ring.{ring_tasks}
 use Rattle.wcp_script.proofs.RingTasks.{length-ring_tasks, ring_could_be_read}
 use Rattle.wcp_script.proofs.ring.ring_workload.Goals as goal
@@ -19,3 +19,6 @@ returns-clause-count c = ap length (is_ring c) ∙ length-ring_tasks c.args.n c.
 pub returns-clause-could_be_read : goal.returns-clause-could_be_read
 returns-clause-could_be_read c =
     subst (CouldBeRead c.args.n) (sym (is_ring c)) (ring_could_be_read c.args.n c.args.rounds c.args.fault c.requires.several c.requires.few c.requires.some_rounds c.requires.few_rounds)
+
+pub returns-clause-watched : goal.returns-clause-watched
+returns-clause-watched c = some_watched c.in_ok-plan.plan (c.in_ok-plan.ensures.checked (omega (arith, c.requires.several)) c.requires.few (omega arith) (omega arith) (omega arith) (omega arith))

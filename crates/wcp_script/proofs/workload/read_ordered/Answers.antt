@@ -1,4 +1,4 @@
-use Rattle.wcp_script.proofs.Words.{ℕ, ◌+◌, ◌<◌, List, sym, ap, subst, arith, Task, IsFitOrder, IfOrder, IfStuck, IsFirstStuck, IsStuckAt, ScriptFault, ReadsInOrder, AtEnd}
+use Rattle.wcp_script.proofs.Words.{ℕ, ◌+◌, ◌<◌, List, sym, ap, subst, arith, Task, IsFitOrder, IfOrder, IfStuck, IsFirstStuck, IsStuckAt, ScriptFault, ReadsInOrder, AtEnd, some_watched}
 use Rattle.wcp_script.specs.declared.fault.FaultKind.TheVariants as kind
 use Rattle.wcp_script.proofs.HandedOn.{handed_on, fault_in_text}
 use Rattle.wcp_script.proofs.Spelled.{could_be_read, spells_is}
@@ -52,3 +52,6 @@ returns-clause-could_be_read c =
       | in-AsListed w ↦ could_be_read _ _ tasks tasks exact.0 (rw w.in-AsListed.is at found)
       | in-Order w ↦ could_be_read _ _ tasks w.in-Order.order.items exact.0 (rw w.in-Order.is at found)
     ]
+
+pub returns-clause-watched : goal.returns-clause-watched
+returns-clause-watched c = some_watched c.in_ok-plan.field-0.plan c.in_ok-plan.ensures.exact.0.checked

@@ -18,5 +18,6 @@ outcome-requires-clause-fit c = IsFitOrder-itself c.args.workload.now.tasks.item
 pub returns : goal.returns
 returns c =
     let n = c.args.workload.now.plan.n in
-    IfOk-weaker c.outcome.result (IsWorkloadOutcome n c.args.order.now) (IsWorkloadOutcome n c.args.workload.now.tasks.items)
+    let watched = c.args.workload.now.plan.watched in
+    IfOk-weaker c.outcome.result (IsWorkloadOutcome n watched c.args.order.now) (IsWorkloadOutcome n watched c.args.workload.now.tasks.items)
     (λ outcome is other fit. is other (record { same_tasks = λ p. fit.same_tasks p ∙ sym (c.requires.fit.same_tasks p); sent_first = fit.sent_first })) c.outcome.ensures

@@ -12,7 +12,7 @@ lay_out-requires c =
       few_tasks = order_few n tasks order c.requires.read c.requires.fit;
       within = order_within n tasks order c.requires.read c.requires.fit;
       fit = order_fit n tasks order c.requires.read c.requires.fit;
-      cut = rw c.cut_of-cut.ensures (may_split n order c.in_ok-outcome.outcome.report report);
+      cut = rw c.cut_of-cut.ensures (may_split n c.args.workload.now.plan.watched order c.in_ok-outcome.outcome.report report);
     }
 
 pub draw-requires : goal.draw-requires
@@ -27,7 +27,7 @@ draw-requires c =
       within = rw c.requires.names (order_within n tasks order c.requires.read c.requires.fit);
       layout = rw c.requires.names c.in_ok-layout.ensures;
       members = rw c.requires.names (rw c.cut_of-cut.ensures
-          (has_members n order c.in_ok-outcome.outcome.report report));
+          (has_members n c.args.workload.now.plan.watched order c.in_ok-outcome.outcome.report report));
     }
 
 pub returns : goal.returns

@@ -1,4 +1,3 @@
-use Rattle.wcp_model.specs.declared.probe_setup.ProbeSetup.{ProbeSetup}
 use Rattle.wcp_tree.proofs.Words.{fresh_core, ◌≡◌, ◌+◌, ◌++◌, ◌∷◌, [], List, Option, Some, sym, ap, subst, ◌∙◌, PutSide, TakeSide, LiveSide, AreRings, capacity, few_processes}
 use Rattle.wcp_tree.proofs.OpeningRings.{one_ring_more}
 use Rattle.wcp_tree.proofs.ring_opening.open_rings.Goals as goal
@@ -20,7 +19,7 @@ loop-p-preserved c =
     one_ring_more c.args.plan.now c.args.watch c.loop-p.p c.loop-p.probes.items c.loop-p.takers.items c.new.result
     c.in_ok-putter.taker c.loop-p.invariant
     (ap (λ (s : LiveSide). s.core) c.new.ensures.fresh
-    ∙ ap (λ (made : ProbeSetup). fresh_core c.args.watch made.process made.processes) c.probe_setup.ensures)
+    ∙ ap (fresh_core c.args.watch) c.probe_setup.ensures)
     (ap (λ (s : PutSide). s.put) link ∙ c.in_ok-putter.ensures.putter.0)
     (ap (λ (s : PutSide). s.free) link ∙ c.in_ok-putter.ensures.putter.1)
     (sym c.in_ok-putter.ensures.one_ring ∙ sym (ap (λ (s : PutSide). s.ring) link))

@@ -14,7 +14,7 @@ give-requires c =
     let follow = subst (ItemsMayFollow taker.members taker.taken) (sym c.items-items.ensures.value) c.requires.2 in
     let one = one_may_follow taker.members taker.taken items i item c.loop-item-test.true follow in
     may_take (taker.taken ++ take i items) taker.members c.loop-item.checker item
-    (λ p. subst (λ n. (set.contains taker.members p ≡ true) ↔ (p < n)) (sym old.processes_are) (keeps.members p))
+    (λ p. subst (λ n. (set.contains taker.members p ≡ true) ↔ (p < n)) (sym old.same.processes) (keeps.members p))
     (old.taken taker.taken keeps.stands) (subst (ItemMayFollow taker.members (taker.taken ++ take i items)) (sym c.item-item.is) one)
 
 pub loop-item-preserved : goal.loop-item-preserved
@@ -31,10 +31,13 @@ loop-item-preserved c =
     let follow = subst (ItemsMayFollow taker.members taker.taken) (sym c.items-items.ensures.value) c.requires.2 in
     let one = one_may_follow taker.members taker.taken items i item c.loop-item-test.true follow in
     let may = may_take (taker.taken ++ take i items) taker.members now (get_or items i item)
-    (λ p. subst (λ n. (set.contains taker.members p ≡ true) ↔ (p < n)) (sym old.processes_are) (keeps.members p))
+    (λ p. subst (λ n. (set.contains taker.members p ≡ true) ↔ (p < n)) (sym old.same.processes) (keeps.members p))
     (old.taken taker.taken keeps.stands) one in
     record {
-      processes_are = c.give.ensures.processes ∙ old.processes_are;
+      same = record {
+        processes = c.give.ensures.same.processes ∙ old.same.processes;
+        watched = c.give.ensures.same.watched ∙ old.same.watched;
+      };
       taken = more_taken c.args.checker.now now new items i item c.loop-item-test.true old.taken step;
-      last = last_taken now new taker.taken items i item c.loop-item-test.true c.give.ensures.processes (old.taken taker.taken keeps.stands) may step;
+      last = last_taken now new taker.taken items i item c.loop-item-test.true c.give.ensures.same.processes (old.taken taker.taken keeps.stands) may step;
     }

@@ -1,10 +1,10 @@
-use Rattle.wcp_watch.proofs.Words.{◌≡◌, take, processes, HasTakenLast, TakesItems}
+use Rattle.wcp_watch.proofs.Words.{take, HasTakenLast, IsSameWatch, TakesItems}
 use Rattle.wcp_watch.proofs.checking.give_all.Given as goal
 
 abbrev pub invariant-loop-item : goal.invariant-loop-item
 invariant-loop-item l =
     record {
-      processes_are : processes l.checker ≡ processes l.initial.checker;
+      same : IsSameWatch l.initial.checker l.checker;
       taken : TakesItems l.initial.checker l.checker (take l.item-index l.items);
       last : HasTakenLast l.checker (take l.item-index l.items);
     }

@@ -1,4 +1,4 @@
-use Rattle.wcp_watch.proofs.Words.{◌≡◌, ℕ, ◌<◌, true, ◌||◌, processes, closed_of, lost_of, IsSameTaker, KeepsUp}
+use Rattle.wcp_watch.proofs.Words.{◌≡◌, ℕ, ◌<◌, true, ◌||◌, processes, IsSameWatch, closed_of, lost_of, IsSameTaker, KeepsUp}
 use Rattle.wcp_watch.proofs.checking.take_all.Given as goal
 
 abbrev pub invariant-loop : goal.invariant-loop
@@ -7,7 +7,7 @@ invariant-loop g l =
       goes_on : (goal.iterator-loop g).can_next l.iterator';
       ends : (goal.iterator-loop g).is_finite l.iterator';
       taker : IsSameTaker l.initial.taker l.taker;
-      processes_are : processes l.checker ≡ processes l.initial.checker;
+      same : IsSameWatch l.initial.checker l.checker;
       keeps_up : KeepsUp l.taker l.checker;
       finished : l.finished ≡ true → (p : ℕ) → p < processes l.checker → (closed_of l.checker p || lost_of l.checker p) ≡ true;
     }

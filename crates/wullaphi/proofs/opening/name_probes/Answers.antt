@@ -25,3 +25,9 @@ loop-probe-preserved g c =
       rest = All-tail its c.in-Some.probe _ (subst (All its) next old.rest);
       named = pushed_more c.in_ok-push.ensures.items c.new.ensures old.named;
     }
+
+pub loop-probe-init : goal.loop-probe-init
+loop-probe-init g c =
+    let its : LiveSide → Type 0 = λ probe. HasOpened (IsProbeOf probe) g.W.Opening.opened in
+    let same = c.into_iter-probe-iterator.ensures.into_iter_gives.0 in
+    record { whole = same; rest = subst (All its) (sym same) c.requires; named = c.in_ok-named.ensures.items }

@@ -1,11 +1,11 @@
 use Rattle.std.proofs.Common.{subst, sym}
-use Rattle.wcp_model.proofs.CheckedPlans.{few_processes, some_process}
+use Rattle.wcp_model.proofs.CheckedPlans.{few_processes, some_watched}
 use Rattle.wullaphi.proofs.OwnWatches.{fresh_watch}
 use Rattle.wullaphi.specs.Opened.{IsFreshWatch}
 use Rattle.wullaphi.proofs.opening.open_checked.Goals as goal
 
-pub new-requires-clause-some : goal.new-requires-clause-some
-new-requires-clause-some c = some_process c.args.plan.now c.requires
+pub new-requires-clause-watched : goal.new-requires-clause-watched
+new-requires-clause-watched c = some_watched c.args.plan.now c.requires
 
 pub new-requires-clause-few : goal.new-requires-clause-few
 new-requires-clause-few c = few_processes c.args.plan.now c.requires
@@ -16,4 +16,4 @@ invariant_of-result c =
     let tree = c.in_ok-tree.tree in
     subst (λ plan. IsFreshWatch (record { plan = plan; tree = tree }) c.args.plan.now.n c.in_ok-checker.checker)
     (sym c.of.ensures)
-    (fresh_watch c.requires c.in_ok-tree.ensures made.processes made.empty made.not_starved)
+    (fresh_watch c.requires c.in_ok-tree.ensures made.processes made.watched made.empty made.not_starved)

@@ -1,7 +1,7 @@
 use Rattle.std.proofs.Common.{refl, sym, subst}
 use Rattle.wcp_model.proofs.CheckedPlans.{few_processes, some_process}
 use Rattle.wullaphi.proofs.Ends.{all_done, come, few_ends, is_lost, is_watched, lost_as}
-use Rattle.wullaphi.specs.Watched.{IsLost}
+use Rattle.wullaphi.specs.WatchOutcomes.{IsLost}
 use Rattle.wullaphi.proofs.watching.watch_planned.Goals as goal
 
 pub begin_anew-requires-clause-some : goal.begin_anew-requires-clause-some
@@ -30,7 +30,7 @@ returns-in-Some-clause-lost g c =
     (rw c.deref.ensures.value at c.in-Some.ensures.lost)
     (rw c.deref.ensures.value at c.in-Some.ensures.before)
     is.1 in
-    subst (λ q. IsLost g.P.LosableProcess.leaves g.P.LosableProcess.done c.args.number c.args.plan.now.n c.args.processes.items q report) (sym is.0) lost)
+    subst (λ q. IsLost g.P.LosableProcess.leaves g.P.LosableProcess.done c.args.number c.args.plan.now c.args.processes.items q report) (sym is.0) lost)
     c.fault_of_lost.ensures.lost
 
 pub take_apart-requires : goal.take_apart-requires

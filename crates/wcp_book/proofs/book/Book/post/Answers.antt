@@ -9,7 +9,7 @@ use Rattle.wcp_book.specs.Totals.{HasFewSnapshots}
 use Rattle.wcp_book.proofs.Posted.{posted_totals, few_totals, no_share}
 use Rattle.wcp_book.proofs.book.Book.post.Goals as goal
 
-abbrev book_of : List (Option Tally) → Option (List ℕ) → Bool → BookState
+abbrev book_of : List (Option Tally) → Option (List (Option ℕ)) → Bool → BookState
 book_of shares found ended = record { shares = shares; found = found; ended = ended }
 
 module _ (c : goal.After-self-2-1) where

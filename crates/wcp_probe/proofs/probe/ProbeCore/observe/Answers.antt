@@ -5,4 +5,4 @@ use Rattle.wcp_probe.proofs.probe.ProbeCore.observe.Goals as goal
 
 pub returns-clause-accepted : goal.returns-clause-accepted
 returns-clause-accepted c log stands =
-    rw c.if-not-holds.false (snapshot_accepted _ c.if-self-2.false log (subst (λ (core : Core). StandsForLog core log) (sym c.self.view_is) stands))
+    rw c.if-not-holds.false (snapshot_accepted _ c.if-not-self.false c.if-self-2.false log (subst (λ (core : Core). StandsForLog core log) (sym c.self.view_is) stands))

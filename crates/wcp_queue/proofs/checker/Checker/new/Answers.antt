@@ -1,10 +1,18 @@
-use Rattle.std.proofs.Common.{arith}
+use Rattle.wcp_queue.proofs.Words.{◌≡◌, length, arith}
 use Rattle.wcp_queue.proofs.SoundCheckers.{IsSoundChecker-fresh}
 use Rattle.wcp_queue.proofs.StandingForItems.{StandsForItems-fresh}
 use Rattle.wcp_queue.proofs.checker.Checker.new.Goals as goal
 
 pub invariant_of-result : goal.invariant_of-result
-invariant_of-result c = rw (c.loop.invariant, c.new-2.ensures) (IsSoundChecker-fresh c.loop.counter (omega arith) (omega arith))
+invariant_of-result c =
+    let members = c.members_of-members.result in
+    let rows : c.loop.counter ≡ length members = omega (arith, c.len-end.ensures) in
+    rw (c.loop.invariant, c.new-2.ensures, rows)
+    (IsSoundChecker-fresh c.args.n c.args.watched members c.requires.few c.requires.watched c.members_of-members.ensures)
 
 pub returns-clause-empty : goal.returns-clause-empty
-returns-clause-empty c = rw (c.loop.invariant, c.new-2.ensures) (StandsForItems-fresh c.loop.counter (omega arith))
+returns-clause-empty c =
+    let members = c.members_of-members.result in
+    let rows : c.loop.counter ≡ length members = omega (arith, c.len-end.ensures) in
+    rw (c.loop.invariant, c.new-2.ensures, rows)
+    (StandsForItems-fresh c.args.n c.args.watched members c.requires.few (omega (arith, c.len-end.ensures)))

@@ -3,15 +3,15 @@ use Rattle.wcp_queue.proofs.FoundCuts.{IsDrained-marks, marks-not_all, IsCutByCl
 use Rattle.wcp_queue.proofs.checker.Checker.report.Goals as goal
 
 pub returns-in-Some-clause-any_clocks : goal.returns-in-Some-clause-any_clocks
-returns-in-Some-clause-any_clocks c = rw (← c.self.view_is) (λ fed items stands. IsCutByClocks-report _ c.self.invariant items stands c.in-Some.cut c.in-Some.is)
+returns-in-Some-clause-any_clocks c = rw (← c.self.view_is, c.cut_of.ensures) (λ fed items stands. IsCutByClocks-report _ c.self.invariant items stands c.in-Some.intervals c.in-Some.is)
 
 pub returns-in-Some-clause-exact : goal.returns-in-Some-clause-exact
-returns-in-Some-clause-exact c = rw (← c.self.view_is) (λ fed items stands order. IsLeastOf-report _ c.self.invariant items stands c.in-Some.cut c.in-Some.is order)
+returns-in-Some-clause-exact c = rw (← c.self.view_is, c.cut_of.ensures) (λ fed items stands order. IsLeastOf-report _ c.self.invariant items stands c.in-Some.intervals c.in-Some.is order)
 
 pub returns-in-Some-clause-starved : goal.returns-in-Some-clause-starved
-returns-in-Some-clause-starved c = rw (← c.self.view_is) (λ starved items stands. (
-  IsCutByClocks-report _ c.self.invariant items stands c.in-Some.cut c.in-Some.is,
-  IsLeastOf-report _ c.self.invariant items stands c.in-Some.cut c.in-Some.is,
+returns-in-Some-clause-starved c = rw (← c.self.view_is, c.cut_of.ensures) (λ starved items stands. (
+  IsCutByClocks-report _ c.self.invariant items stands c.in-Some.intervals c.in-Some.is,
+  IsLeastOf-report _ c.self.invariant items stands c.in-Some.intervals c.in-Some.is,
 ))
 
 pub returns-then-are_all_closed-clause-any_clocks : goal.returns-then-are_all_closed-clause-any_clocks

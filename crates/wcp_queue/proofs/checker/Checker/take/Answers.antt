@@ -13,6 +13,7 @@ returns-in-Close-clause-taken c =
           (StandsForItems-close (checker_state c.self.inside) noted items c.args.item.from c.in-Close.count stands
           (rw c.in-Close.is at may) (omega (arith, may.from, c.self.invariant.few, c.self.invariant.marks)) refl);
       starved = refl;
+      watched = refl;
     })
 
 pub returns-in-Lost-clause-taken : goal.returns-in-Lost-clause-taken
@@ -26,4 +27,5 @@ returns-in-Lost-clause-taken c =
           (StandsForItems-lost (checker_state c.self.inside) noted items c.args.item.from c.in-Lost.count stands
           (rw c.in-Lost.is at may) (omega (arith, may.from, c.self.invariant.few, c.self.invariant.losses)) refl);
       starved = refl;
+      watched = refl;
     })

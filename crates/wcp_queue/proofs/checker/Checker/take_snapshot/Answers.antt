@@ -1,49 +1,67 @@
-use Rattle.wcp_queue.proofs.Words.{length, refl, ap, arith, false≢true, with_items_is, checker_state}
+use Rattle.wcp_queue.proofs.Words.{◌<◌, length, refl, ap, arith, with_items_is, checker_state}
 use Rattle.std.proofs.lemmas.Option.{MatchOption-at_none}
-use Rattle.wcp_queue.proofs.SoundCheckers.{room_for_tests, IsSoundChecker-snapshot}
+use Rattle.wcp_queue.proofs.SoundCheckers.{room_for_tests, intervals_of_heads, IsSoundChecker-snapshot}
 use Rattle.wcp_queue.proofs.StandingForItems.{StandsForItems-snapshot, StandsForItems-counted}
+use Rattle.wcp_queue.proofs.WatchedRows.{own_row}
 use Rattle.wcp_queue.proofs.checker.Checker.take_snapshot.Goals as goal
-use Rattle.wcp_queue.proofs.checker.Checker.take_snapshot.Goals.{then-is_searching+in_ok-add_candidate, else-is_searching}
+use Rattle.wcp_queue.proofs.checker.Checker.take_snapshot.Goals.{in-Some+in_ok-add_candidate, in_default}
 
 pub add_candidate-requires-clause-room : goal.add_candidate-requires-clause-room
 add_candidate-requires-clause-room c = rw c.deref_mut.ensures.value (room_for_tests (checker_state c.self.inside) c.self.invariant)
 
 pub invariant_of-self-2 : goal.invariant_of-self-2
 invariant_of-self-2 c =
+    let old = checker_state c.self.inside in
+    let sound = c.self.invariant in
     let within = rw (← c.self.view_is) at c.requires.within in
     let few = rw (← c.self.view_is) at c.requires.few in
-    elim c.if-is_searching.branch [
-      | then-is_searching+in_ok-add_candidate w ↦
+    let counted : c.args.p < length old.taken = omega (arith, within, sound.few, sound.counts) in
+    elim c.match-row_to_search.branch [
+      | in-Some+in_ok-add_candidate w ↦
           let shown = w.deref_mut.ensures.value in
           let items = with_items_is c.self.inside.queues w.add_candidate.new.queues (omega arith) in
           let added = w.in_ok-add_candidate.ensures in
           rw (w.self-inside-is, items)
-          (IsSoundChecker-snapshot (checker_state c.self.inside) c.self.invariant _ c.args.p (omega (arith, within, c.self.invariant.few, c.self.invariant.counts)) few refl refl refl (omega (arith, ap length shown))
+          (IsSoundChecker-snapshot old sound _ c.args.p counted few refl refl refl (omega (arith, ap length shown))
+          refl refl refl (intervals_of_heads _ _ _ _ _ (rw shown at added.cut) sound.rows)
           added.stable (λ none. rw shown at (MatchOption-at_none _ _ none added.cut)) (rw shown at added.tests))
-      | else-is_searching w ↦
+      | in_default w ↦
           rw w.self-inside-is
-          (IsSoundChecker-snapshot (checker_state c.self.inside) c.self.invariant _ c.args.p (omega (arith, within, c.self.invariant.few, c.self.invariant.counts)) few refl refl refl refl
-          c.self.invariant.stable c.self.invariant.waiting (omega arith))
+          (IsSoundChecker-snapshot old sound _ c.args.p counted few refl refl refl refl refl refl refl sound.intervals
+          sound.stable sound.waiting (omega arith))
     ]
 
 pub returns-clause-taken : goal.returns-clause-taken
 returns-clause-taken c =
+    let old = checker_state c.self.inside in
+    let sound = c.self.invariant in
     let within = rw (← c.self.view_is) at c.requires.within in
     let still_open = rw (← c.self.view_is) at c.requires.still_open in
     let not_lost = rw (← c.self.view_is) at c.requires.not_lost in
-    elim c.if-is_searching.branch [
-      | then-is_searching+in_ok-add_candidate w ↦
+    let counted : c.args.p < length old.taken = omega (arith, within, sound.few, sound.counts) in
+    elim c.match-row_to_search.branch [
+      | in-Some+in_ok-add_candidate w ↦
           let shown = w.deref_mut.ensures.value in
           let items = with_items_is c.self.inside.queues w.add_candidate.new.queues (omega arith) in
           let added = w.in_ok-add_candidate.ensures in
+          let row_is = rw (← c.self.view_is) at w.in-Some.ensures.row in
+          let row_within = rw (← c.self.view_is) at w.in-Some.ensures.within in
+          let known = rw w.restrict-known.ensures at (rw shown at added.left) in
           rw (w.self-inside-is, items, ← c.self.view_is) (record {
-            stands = λ list stands. StandsForItems-snapshot (checker_state c.self.inside) _ list c.args.p c.args.clock.now stands within still_open not_lost (omega (arith, within, c.self.invariant.few, c.self.invariant.counts)) refl refl refl (omega (arith, ap length shown)) refl
-                ((rw (← c.self.view_is) at w.if-is_searching.ensures).0 refl) (rw shown at added.left) (rw shown at added.cut);
+            stands = λ list stands. StandsForItems-snapshot old _ sound list c.args.p c.args.clock.now stands within
+                still_open not_lost counted refl refl refl (omega (arith, ap length shown)) refl refl refl
+                w.in-Some.row (omega (arith, row_within, sound.rows)) (own_row _ _ _ row_is row_within)
+                (rw (← c.self.view_is) at (w.in-Some.ensures.searching refl)) known (rw shown at added.cut);
             starved = refl;
+            watched = refl;
           })
-      | else-is_searching w ↦
+      | in_default w ↦
+          let none = c.row_to_search.ensures.none (rw w.in_default.is refl) in
           rw (w.self-inside-is, ← c.self.view_is) (record {
-            stands = λ list stands. StandsForItems-counted (checker_state c.self.inside) _ list c.args.p c.args.clock.now stands within still_open not_lost (omega (arith, within, c.self.invariant.few, c.self.invariant.counts)) refl refl refl refl refl (λ searching. false≢true ((rw (← c.self.view_is) at w.if-is_searching.ensures).1 searching)) refl;
+            stands = λ list stands. StandsForItems-counted old _ sound list c.args.p c.args.clock.now stands within
+                still_open not_lost counted refl refl refl refl refl refl refl
+                (rw (← c.self.view_is) at none) refl refl refl;
             starved = refl;
+            watched = refl;
           })
     ]

@@ -14,4 +14,4 @@ hand_over-requires c =
 pub returns-clause-answered : goal.returns-clause-answered
 returns-clause-answered c plan steps taken stands =
     check_answered plan steps taken (state_of c.args.self.now) stands c.in-Some.item c.take_next.new.self c.hand_over.new.checker
-    (c.in-Some.ensures.reads plan steps stands.put stands.handed stands.transport) (sym c.next.ensures.next ∙ c.in-Some.is) c.take_next.ensures c.in_ok-hand_over.ensures.taken c.hand_over.ensures.processes
+    (c.in-Some.ensures.reads plan steps stands.put stands.handed stands.transport) (sym c.next.ensures.next ∙ c.in-Some.is) c.take_next.ensures c.in_ok-hand_over.ensures.taken c.hand_over.ensures.processes c.hand_over.ensures.watched

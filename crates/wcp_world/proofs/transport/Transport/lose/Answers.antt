@@ -1,4 +1,4 @@
-use Rattle.wcp_world.proofs.Words.{◌≡◌, ◌<◌, length, set, arith, get_or_read, Link, held_at, place_number}
+use Rattle.wcp_world.proofs.Words.{set, arith, get_or_read}
 use Rattle.wcp_world.proofs.AnsweredMoves.{mark_fits, mark_given, pushed}
 use Rattle.wcp_world.proofs.transport.Transport.lose.Goals as goal
 

@@ -1,4 +1,4 @@
-use Rattle.wcp_world.proofs.Words.{◌≡◌, ◌+◌, ◌<◌, ◌≤◌, length, set, sym, arith, get_or_read, true≢false, Link, held_at, place_number}
+use Rattle.wcp_world.proofs.Words.{◌<◌, ◌≤◌, length, set, sym, arith, get_or_read, true≢false, Link, held_at, place_number}
 use Rattle.wcp_world.proofs.AnsweredMoves.{puts, pushed, put_refused}
 use Rattle.wcp_world.proofs.transport.Transport.put.Goals as goal
 

@@ -14,4 +14,4 @@ name_relays-requires g c = own_relays (c.requires ∙ ap Some (sym c.self.view_i
 pub new-requires-2 : goal.new-requires-2
 new-requires-2 g c =
     its (c.requires ∙ ap Some (sym c.self.view_is)) c.self.invariant.is_open
-    (record { is_inbox = refl; fresh = c.self.invariant.fresh })
+    (record { is_inbox = refl; watched = c.self.invariant.watched; fresh = c.self.invariant.fresh })

@@ -1,9 +1,0 @@
-use Rattle.wcp_lane.proofs.Words.{◌≡◌, ℕ, ◌<◌, true, AreProcessNumbers}
-use Rattle.std.specs.FinSet as set
-use Rattle.wcp_lane.proofs.members.Members.meets.Given as goal
-
-abbrev pub invariant-loop-p : goal.invariant-loop-p
-invariant-loop-p l = record {
-  within : 0 < l.p → AreProcessNumbers l.self;
-  apart : (q : ℕ) → q < l.p → set.contains l.self q ≡ true → set.contains l.other q ≡ true → ⊥;
-}

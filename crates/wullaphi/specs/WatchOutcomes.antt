@@ -1,0 +1,55 @@
+-- What a watch of processes tells.
+use Rattle.std.specs.Prelude.{◌≡◌, ◌≢◌, ℕ, ◌<◌, Bool, false, true, Some, List, length, slice_get}
+use Rattle.std.specs.List.{sum_by}
+use Rattle.wcp_clock.specs.declared.note.Item.{Item}
+use Rattle.wcp_clock.specs.declared.note.Note.{Note}
+use Rattle.wcp_model.specs.ProbeLog.{setup}
+use Rattle.wcp_model.specs.Report.{IsDrained, IsReportByClocks, notes_taken}
+use Rattle.wcp_model.specs.declared.plan.Plan.{Plan}
+use Rattle.wcp_model.specs.declared.outcome.Report.{Report}
+use Rattle.wcp_model.specs.declared.outcome.Report.TheVariants.{Nothing}
+use Rattle.wcp_model.specs.declared.outcome.Tally.{Tally}
+use Rattle.wcp_model.specs.declared.probe_setup.ProbeSetup.{ProbeSetup}
+use Rattle.wcp_tree.specs.LiveProbe.{LiveSide, snapshots_in}
+use Rattle.wullaphi.specs.Lent.{HasLeft, HasRun}
+use Rattle.wullaphi.specs.declared.watch_outcome.WatchOutcome.{WatchOutcome}
+
+-- The tally of a process all of whose notes were taken: the number of its snapshots, twice.
+abbrev pub tally_of : List Note → Tally
+tally_of notes = record { emitted = snapshots_in notes; taken = snapshots_in notes }
+
+-- A watch of this number and plan, of these processes, tells this: each has run with its probe, of this watch, and gave the
+-- answer at its place; what the checker took of it are all notes of its probe, each once and in order; the report is
+-- the exact one of all that was taken; and the totals are the sums of the tallies.
+pub record IsWatchOutcome {P A : Type 0} (Leaves : P → LiveSide → A → Type 0) (number : ℕ) (plan : Plan) (processes : List P)
+    (told : WatchOutcome A) : Type 0 where
+  pub taken : List Item
+  pub processes_are : length processes ≡ plan.n
+  pub answers : length told.answers.items ≡ plan.n
+  pub ran : (p : ℕ) (process : P) (answer : A)
+      → slice_get processes p ≡ Some process → slice_get told.answers.items p ≡ Some answer
+      → HasRun Leaves number (setup plan.n plan.watched p) process answer (notes_taken p taken)
+  pub drained : IsDrained plan.n taken
+  pub exact : IsReportByClocks plan.n plan.watched taken told.outcome.report
+  pub all_tallies : length told.outcome.tallies ≡ plan.n
+  pub tallies : (p : ℕ) → p < plan.n → slice_get told.outcome.tallies p ≡ Some (tally_of (notes_taken p taken))
+  pub emitted_in_all : told.totals.emitted ≡ sum_by (λ tally. tally.emitted) told.outcome.tallies
+  pub taken_in_all : told.totals.taken ≡ sum_by (λ tally. tally.taken) told.outcome.tallies
+
+-- A process has run in this watch, and answered something by which its part is done, or isn't.
+pub record HasAnswered {P A : Type 0} (Leaves : P → LiveSide → A → Type 0) (done : A → Bool) (watch : ℕ)
+    (made : ProbeSetup) (process : P) (is_done : Bool) : Type 0 where
+  pub answer : A
+  pub left : HasLeft Leaves watch made process answer
+  pub done_is : done answer ≡ is_done
+
+-- Process p is the lowest of these processes that was lost in the watch of this number: by its answer its part isn't
+-- done, and that of each process before it is. The report isn't that there is no cut.
+pub record IsLost {P A : Type 0} (Leaves : P → LiveSide → A → Type 0) (done : A → Bool) (number : ℕ) (plan : Plan)
+    (processes : List P) (p : ℕ) (report : Report) : Type 0 where
+  pub process : P
+  pub is_process : slice_get processes p ≡ Some process
+  pub lost : HasAnswered Leaves done number (setup plan.n plan.watched p) process false
+  pub before : (q : ℕ) (other : P) → q < p → slice_get processes q ≡ Some other
+      → HasAnswered Leaves done number (setup plan.n plan.watched q) other true
+  pub some_report : report ≢ Nothing
