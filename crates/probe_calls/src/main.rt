@@ -6,7 +6,7 @@
 use std::alloc::{AllocError, Global};
 use std::{env, io};
 use wcp_clock::CLOCK_LIMIT;
-use wcp_model::ProbeSetup;
+use wcp_model::{Flag, ProbeSetup};
 use wcp_probe::ProbeCore;
 
 /// The processes of the watch.
@@ -21,6 +21,7 @@ fn probes(alloc: Global) -> Result<Vec<ProbeCore>, AllocError> {
                 processes: PROCS,
                 process: id,
                 watched: true,
+                flag: Flag::Event,
             },
             CLOCK_LIMIT,
         ))?;

@@ -5,7 +5,7 @@ use std::io;
 use std::sync::Wait;
 use std::thread::{Threads, join, map_vec};
 use wcp_clock::{CLOCK_LIMIT, Item};
-use wcp_model::ProbeSetup;
+use wcp_model::{Flag, ProbeSetup};
 use wcp_probe::ProbeCore;
 
 /// A process without a link of its own.
@@ -56,6 +56,7 @@ fn jobs(alloc: Global, sender: &Sender<Item>) -> Result<Vec<Job>, AllocError> {
                     processes: 16,
                     process: id,
                     watched: true,
+                    flag: Flag::Event,
                 },
                 CLOCK_LIMIT,
             ),

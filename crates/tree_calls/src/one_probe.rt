@@ -3,7 +3,7 @@ use std::alloc::Global;
 use std::io;
 use std::time::{Clock, Duration, Instant};
 use wcp_clock::{CLOCK_LIMIT, MAX_CAP, Note};
-use wcp_model::{ProbeSetup, plain_plan};
+use wcp_model::{Flag, ProbeSetup, plain_plan};
 use wcp_probe::ProbeCore;
 use wcp_tree::{LiveProbe, watch};
 
@@ -64,6 +64,7 @@ fn one_ring<R: Clock>(rt: &R, alloc: Global, word: &str, snapshots: u32) -> io::
             processes: 16,
             process: 15,
             watched: true,
+            flag: Flag::Event,
         },
         CLOCK_LIMIT,
     );

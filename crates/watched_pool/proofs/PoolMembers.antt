@@ -1,5 +1,5 @@
 -- The members of a pool, by the numbers of their processes.
-use Rattle.watched_pool.proofs.Words.{◌≡◌, ℕ, zero, suc, ◌+◌, Some, List, ◌∷◌, length, slice_get, refl, sym, ap, subst, ◌∙◌, arith, Call, All-at, Pace, Member, IsLogOfPart, IsPool, IsReplica, jobs_of, IsLogAt, jobs_at}
+use Rattle.watched_pool.proofs.Words.{◌≡◌, ℕ, zero, suc, ◌+◌, Some, List, length, slice_get, refl, sym, ap, subst, ◌∙◌, arith, Call, All-at, Pace, Member, IsLogOfPart, IsPool, IsReplica, jobs_of, IsLogAt, jobs_at}
 use Rattle.watched_pool.specs.declared.dispatcher.Dispatcher.{Dispatcher}
 use Rattle.watched_pool.specs.declared.member.Member.TheVariants as member
 

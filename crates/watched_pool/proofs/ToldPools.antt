@@ -1,18 +1,17 @@
 -- What a watch of the members of a pool tells.
-use Rattle.watched_pool.proofs.Words.{◌≡◌, ℕ, zero, suc, ◌+◌, ◌<◌, ◌≤◌, Some, Result, Ok, Err, List, [], ◌∷◌, ◌++◌, length, map, slice_get, refl, sym, ap, subst, ◌∙◌, arith, IsSomeAnd, length-map, Call, ProbeSetup, setup, snapshots_in, mapped_at, Pace, Member, DidPart, IsLogOfPart, IsPool, LeavesPart, IsLogAt, IsLogTaken, IsPoolReport, IsToldAt, jobs_at, snapshots_at}
-use Rattle.std.proofs.lemmas.Option.{slice_get_within}
+use Rattle.watched_pool.proofs.Words.{◌≡◌, ℕ, zero, suc, ◌+◌, ◌≤◌, Some, Result, Ok, List, [], ◌∷◌, ◌++◌, length, map, slice_get, refl, sym, ap, subst, ◌∙◌, arith, IsSomeAnd, length-map, Call, ProbeSetup, setup, snapshots_in, mapped_at, Pace, Member, DidPart, IsLogOfPart, IsPool, LeavesPart, IsLogAt, IsLogTaken, IsPoolReport, IsToldAt, jobs_at, snapshots_at}
 use Rattle.wcp_clock.specs.declared.note.Item.{Item}
 use Rattle.wcp_model.specs.Report.{notes_taken}
 use Rattle.wcp_model.specs.declared.outcome.Outcome.{Outcome}
 use Rattle.wcp_model.specs.declared.outcome.Tally.{Tally}
 use Rattle.wcp_model.proofs.SamePlace.{element_within}
-use Rattle.wullaphi.specs.Lent.{HasRun}
 use Rattle.wcp_model.specs.Watched.{AreAllWatched}
+use Rattle.wcp_model.specs.declared.flag.Flag.TheVariants as reset_at
 use Rattle.wcp_model.specs.declared.plan.Plan.{Plan}
 use Rattle.std.proofs.lemmas.Bool.{lt-ltb}
 use Rattle.wcp_model.specs.ProbeLog.{Closed, state_of_log}
 use Rattle.watched_pool.specs.Pools.{pool_setup}
-use Rattle.wullaphi.specs.WatchOutcomes.{IsWatchOutcome, tally_of}
+use Rattle.wullaphi.specs.WatchOutcomes.{IsWatchOutcome}
 use Rattle.wullaphi.specs.declared.watch_outcome.WatchOutcome.{WatchOutcome}
 use Rattle.watched_pool.specs.declared.member.Share.{Share}
 use Rattle.watched_pool.specs.declared.member.Stop.{Stop}
@@ -29,15 +28,16 @@ counted replicas rounds pace items (suc k) log is taken =
 
 module _ (replicas : ℕ) {rounds : ℕ} {pace : Pace} {members : List Member} {watched : WatchOutcome (Result Share Stop)}
     {number : ℕ} {plan : Plan} (n_is : plan.n ≡ replicas + 1) (all : AreAllWatched (replicas + 1) plan.watched)
+    (flag_is : plan.flag ≡ reset_at.Event)
     (pool : IsPool pace rounds members) (is : IsWatchOutcome LeavesPart number plan members watched)
     (told : PoolReport) (shares : watched.answers.items ≡ map Ok told.shares.items) (outcome : told.outcome ≡ watched.outcome) (totals : told.totals ≡ watched.totals) where
   shares_count : length told.shares.items ≡ replicas + 1
   shares_count = sym (length-map told.shares.items Ok) ∙ ap length (sym shares) ∙ is.answers ∙ n_is
 
-  made_is : (p : ℕ) → p ≤ replicas → setup plan.n plan.watched p ≡ pool_setup (replicas + 1) p
+  made_is : (p : ℕ) → p ≤ replicas → setup plan.n plan.watched plan.flag p ≡ pool_setup (replicas + 1) p
   made_is p within =
       let member = all p ∙ lt-ltb p (replicas + 1) (omega (arith, within)) in
-      λ i. record { processes = n_is i; process = p; watched = member i }
+      λ i. record { processes = n_is i; process = p; watched = member i; flag = flag_is i }
 
   told_at : (p : ℕ) → p ≤ replicas → IsToldAt replicas rounds pace told is.taken p
   told_at p within =

@@ -6,6 +6,7 @@ use Rattle.wcp_clock.specs.declared.note.Item.{Item}
 use Rattle.wcp_clock.specs.ProcessNumbers.{NumberSet}
 use Rattle.wcp_model.specs.ProbeLog.{Call, Closed, state_of_log}
 use Rattle.wcp_model.specs.Watched.{AreAllWatched}
+use Rattle.wcp_model.specs.declared.flag.Flag.TheVariants as reset_at
 use Rattle.wcp_model.specs.declared.probe_setup.ProbeSetup.{ProbeSetup}
 use Rattle.wcp_model.specs.Report.{IsDrained, IsReportByClocks, notes_taken}
 use Rattle.wcp_tree.specs.LiveProbe.{snapshots_in}
@@ -13,9 +14,9 @@ use Rattle.watched_pool.specs.declared.dispatcher.Pace.{Pace}
 use Rattle.watched_pool.specs.declared.pool.PoolReport.{PoolReport}
 use Rattle.watched_pool.specs.Logs.{IsReplicaLog, IsDispatcherLog, most_unanswered}
 
--- What the probe of process p of n is made with: each process of a pool is watched.
+-- What the probe of process p of n is made with: each process of a pool is watched, and each event resets its flag.
 abbrev pub pool_setup : ℕ → ℕ → ProbeSetup
-pool_setup n p = record { processes = n; process = p; watched = true }
+pool_setup n p = record { processes = n; process = p; watched = true; flag = reset_at.Event }
 
 -- What was taken of process p of n is all that its probe emits where it makes these calls and then closes.
 abbrev pub IsLogTaken : ℕ → List Item → ℕ → List Call → Type 0

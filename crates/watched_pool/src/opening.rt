@@ -1,6 +1,7 @@
 ghost use Rattle.std.specs.Prelude.{◌≡◌, IfOk};
 ghost use Rattle.watched_pool.specs.Members.{IsPool};
 ghost use Rattle.wcp_model.specs.Watched.{AreAllWatched};
+ghost use Rattle.wcp_model.specs.declared.flag.Flag.TheVariants as reset_at;
 
 use crate::dispatcher::{Dispatcher, Pace, Partner, Partners, REPLICAS};
 use crate::member::Member;
@@ -13,6 +14,7 @@ use wullaphi::{Parent, Plan, Watched};
 pub(crate) fn pool_plan(alloc: Global) -> Result<Plan, AllocError>
     ensures processes { IfOk result (λ plan. plan.n ≡ 4) }
     ensures watched { IfOk result (λ plan. AreAllWatched 4 plan.watched) }
+    ensures flag { IfOk result (λ plan. plan.flag ≡ reset_at.Event) }
 {
     Ok(Plan::new(
         4,

@@ -36,7 +36,7 @@ all_watched n plan few ring = all_in (set.contains plan.watched) 0 n (λ p below
 -- so its head has no line beyond the first two
 short_head : (n : ℕ) (plan : Plan) → n ≤ 16 → IsRingPlan n plan → head_lines plan ≡ opening_lines n
 short_head n plan few ring =
-    rw (has_one n plan ring, ring.processes, all_watched n plan few ring, ring.links, ring.holds)
+    rw (has_one n plan ring, ring.processes, all_watched n plan few ring, ring.flag, ring.links, ring.holds)
     (append-nil (opening_lines n))
 
 pub ring_is_printed : (n rounds : ℕ) (fault : Bool) (plan : Plan) (tasks : List Task) → n ≤ 16 → IsRingPlan n plan → tasks ≡ ring_tasks n rounds fault

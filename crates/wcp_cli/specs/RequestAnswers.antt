@@ -35,7 +35,7 @@ pub record IsOutcomeAnswer (text printed : List ℕ) (status : ℕ) : Type 0 whe
   pub outcome : Outcome
   pub spelled : Spells workloads text plan tasks
   pub could_be_read : CouldBeRead plan.n tasks
-  pub right : IsWorkloadOutcome plan.n plan.watched tasks outcome
+  pub right : IsWorkloadOutcome plan.n plan.watched plan.flag tasks outcome
   pub print : printed ≡ outcome_text outcome
   pub status_is : status ≡ status_of outcome.report
 

@@ -163,6 +163,8 @@ The head of a text
       attach P R      relay R takes from process P; P = 0, 1, 2, .. up to N - 1
       watch P Q ..    only the processes P, Q, .. have a condition, in rising order;
                       without this line all of them do
+      flag send       a process emits again only once it has sent, and not once it has
+                      received: fewer snapshots, the same answer
 
   With no relay lines one relay takes from all processes and passes on to the checker.
   A relay takes from processes alone or from relays alone, and each from one at least;

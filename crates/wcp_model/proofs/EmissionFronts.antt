@@ -1,9 +1,11 @@
-use Rattle.wcp_model.proofs.Words.{NumberSet, ◌≡◌, ℕ, ◌+◌, ◌<◌, ◌≤◌, true, List, [], ◌++◌, length, drop, slice_index, slice_index_or, ap, ◌∙◌, subst, inl, inr, ⊎_elim, append_assoc, append-nil, length-append, arith, suc, ◌⊎◌, ◌∷◌, Contains, refl, ap₂, cases_Bool, cases_lt, get_or_append_left, nil_from_length, Contains-append_cases, Contains-append_right, Contains-push_cases, Contains-get_or, list_any-append, AllPairs-from_increasing, Note, Computation, communications, is_closed, AreEmissions, IsEmittedState, State, IsAccepted, IsStateClock, AllPairs}
+use Rattle.wcp_model.proofs.Words.{NumberSet, Flag, false, snapshots_from, ◌≡◌, ℕ, ◌+◌, ◌<◌, ◌≤◌, true, List, [], ◌++◌, length, drop, slice_index, slice_index_or, ap, ◌∙◌, subst, inl, inr, ⊎_elim, append_assoc, append-nil, length-append, arith, suc, ◌⊎◌, ◌∷◌, Contains, refl, ap₂, cases_Bool, cases_lt, get_or_append_left, nil_from_length, Contains-append_cases, Contains-append_right, Contains-push_cases, Contains-get_or, list_any-append, AllPairs-from_increasing, Note, Computation, communications, is_closed, AreEmissions, IsEmittedState, State, IsAccepted, IsStateClock, AllPairs}
+use Rattle.std.specs.Prelude.{if◌then◌else◌}
+use Rattle.wcp_clock.specs.declared.note.Note.TheVariants as note
 use Rattle.std.proofs.lemmas.List.Prefix.{front_from_reads}
 use Rattle.wcp_model.proofs.AcceptedSteps.{none_new_after_close}
 use Rattle.wcp_model.proofs.Growth.{clock_grows, true_state_shrinks}
 use Rattle.wcp_model.proofs.Predecessors.{local_state}
-use Rattle.wcp_model.proofs.RunningEmissions.{snapshots_append, NoneNew, emitted_state_grows, emitted_state_exists}
+use Rattle.wcp_model.proofs.RunningEmissions.{snapshots_append, NoneNew, emitted_state_grows, emitted_state_of_front, emitted_state_exists}
 use Rattle.wcp_model.proofs.StateClocks.{clock_alone}
 
 -- each number is below all later ones
@@ -48,22 +50,20 @@ rising_front (x ∷ xs) (y ∷ ys) rise rises kept new =
     (found.0, ap₂ (λ z zs. z ∷ zs) same found.1)
 
 -- an emitted state before the last one was emitted before
-emitted_state_shrinks : (watched : NumberSet) (c e : Computation) (s : State) → s.interval < communications c s.process
-    → IsEmittedState watched (c ++ e) s → IsEmittedState watched c s
-emitted_state_shrinks watched c e s below is = record {
-  watched_process = is.watched_process;
-  true_state = true_state_shrinks c e s below is.true_state;
-}
+emitted_state_shrinks : (watched : NumberSet) (flag : Flag) (c e : Computation) (s : State) → s.interval < communications c s.process
+    → IsEmittedState watched flag (c ++ e) s → IsEmittedState watched flag c s
+emitted_state_shrinks watched flag c e s below is =
+    emitted_state_of_front watched flag c e s (true_state_shrinks c e s below is.true_state) is
 
-module _ (n : ℕ) (watched : NumberSet) (c e : Computation) (p : ℕ) (notes more : List Note) (is : AreEmissions n watched c p notes) (grown : AreEmissions n watched (c ++ e) p more) where
+module _ (n : ℕ) (watched : NumberSet) (flag : Flag) (c e : Computation) (p : ℕ) (notes more : List Note) (is : AreEmissions n watched flag c p notes) (grown : AreEmissions n watched flag (c ++ e) p more) where
   -- the true states of a computation come first among those of a longer one
   intervals_front : (rest : List ℕ) × (grown.intervals ≡ is.intervals ++ rest)
   intervals_front =
       rising_front is.intervals grown.intervals (AllPairs-from_increasing is.intervals is.states.rising) (AllPairs-from_increasing grown.intervals grown.states.rising)
-      (λ k within. (grown.states.each k).1 (emitted_state_grows watched c e (local_state p k) ((is.states.each k).0 within)))
+      (λ k within. (grown.states.each k).1 (emitted_state_grows watched flag c e (local_state p k) ((is.states.each k).0 within)))
       (λ k within. ⊎_elim
-      (λ (over : k < communications c p). inl ((is.states.each k).1 (emitted_state_shrinks watched c e (local_state p k) over ((grown.states.each k).0 within))))
-      (λ (last : communications c p ≤ k). inr (λ j old. omega (arith, emitted_state_exists watched c (local_state p j) ((is.states.each j).0 old))))
+      (λ (over : k < communications c p). inl ((is.states.each k).1 (emitted_state_shrinks watched flag c e (local_state p k) over ((grown.states.each k).0 within))))
+      (λ (last : communications c p ≤ k). inr (λ j old. omega (arith, emitted_state_exists watched flag c (local_state p j) ((is.states.each j).0 old))))
       (cases_lt k (communications c p)))
 
   -- with the same clocks
@@ -79,25 +79,29 @@ module _ (n : ℕ) (watched : NumberSet) (c e : Computation) (p : ℕ) (notes mo
             clock_alone n (c ++ e) (local_state p k) (slice_index_or grown.clocks i []) (slice_index_or is.clocks i [])
             (subst (λ l. IsStateClock n (c ++ e) (local_state p l) (slice_index_or grown.clocks i [])) here (grown.each i (omega (arith, longer))))
             (clock_grows n c e (local_state p k) (slice_index_or is.clocks i [])
-            (emitted_state_exists watched c (local_state p k) ((is.states.each k).0 (Contains-get_or is.intervals i 0 within))) (is.each i within))),
+            (emitted_state_exists watched flag c (local_state p k) ((is.states.each k).0 (Contains-get_or is.intervals i 0 within))) (is.each i within))),
       )
 
   -- of a process that is closed there are no more
-  none_behind : NoneNew watched c e p → length clocks_front.0 ≡ 0
+  none_behind : NoneNew watched flag c e p → length clocks_front.0 ≡ 0
   none_behind none =
       let all : (rest : List ℕ) × (is.intervals ≡ grown.intervals ++ rest) =
       rising_front grown.intervals is.intervals (AllPairs-from_increasing grown.intervals grown.states.rising) (AllPairs-from_increasing is.intervals is.states.rising)
       (λ k within. (is.states.each k).1 (none k ((grown.states.each k).0 within)))
-      (λ k within. inl ((grown.states.each k).1 (emitted_state_grows watched c e (local_state p k) ((is.states.each k).0 within)))) in
+      (λ k within. inl ((grown.states.each k).1 (emitted_state_grows watched flag c e (local_state p k) ((is.states.each k).0 within)))) in
       omega (arith, is.same_length, grown.same_length, ap length all.1, length-append grown.intervals all.0, ap length clocks_front.1, length-append is.clocks clocks_front.0)
 
   -- so the emissions of a computation come first among those of a longer one, if no state of a closed process becomes true
-  pub emissions_front : (is_closed c p ≡ true → NoneNew watched c e p) → (rest : List Note) × (more ≡ notes ++ rest)
+  pub emissions_front : (is_closed c p ≡ true → NoneNew watched flag c e p) → (rest : List Note) × (more ≡ notes ++ rest)
   emissions_front none = ⊎_elim
-      (grind (arith, append-nil, list_any-append, nil_from_length, none_behind))
-      (grind (arith, append-nil, append_assoc, clocks_front, snapshots_append))
+      (λ (closed : is_closed c p ≡ true). ([], grind (arith, append-nil, list_any-append, nil_from_length, none_behind (none closed))))
+      (λ (was_open : is_closed c p ≡ false). (
+        snapshots_from (length is.clocks) clocks_front.0
+            ++ (if is_closed (c ++ e) p then note.Close (length grown.clocks) ∷ [] else []),
+        grind (arith, append-nil, append_assoc, clocks_front, snapshots_append),
+      ))
       (cases_Bool (is_closed c p))
 
 -- in an accepted computation the emissions of each process grow at their end alone
-pub emissions_grow : (n : ℕ) (watched : NumberSet) (c e : Computation) (p : ℕ) (notes more : List Note) → IsAccepted (c ++ e) → AreEmissions n watched c p notes → AreEmissions n watched (c ++ e) p more → (rest : List Note) × (more ≡ notes ++ rest)
-emissions_grow n watched c e p notes more accepted is grown = emissions_front n watched c e p notes more is grown (none_new_after_close watched c e p accepted)
+pub emissions_grow : (n : ℕ) (watched : NumberSet) (flag : Flag) (c e : Computation) (p : ℕ) (notes more : List Note) → IsAccepted (c ++ e) → AreEmissions n watched flag c p notes → AreEmissions n watched flag (c ++ e) p more → (rest : List Note) × (more ≡ notes ++ rest)
+emissions_grow n watched flag c e p notes more accepted is grown = emissions_front n watched flag c e p notes more is grown (none_new_after_close watched flag c e p accepted)

@@ -1,4 +1,4 @@
-use Rattle.wcp_model.proofs.Words.{NumberSet, Intervals, IsWatched, IsAtOrBelow, interval_of, ◌≡◌, ℕ, ◌<◌, ◌≤◌, List, ◌++◌, ap, ◌∙◌, arith, slice_index, flat_map-append, filter-append, Computation, member, minimum, IsSatisfyingCut, IsAccepted, Answered, accepted, is_event, computation}
+use Rattle.wcp_model.proofs.Words.{NumberSet, Flag, Intervals, IsAtOrBelow, ◌≡◌, ℕ, List, ◌++◌, ap, ◌∙◌, arith, flat_map-append, filter-append, Computation, member, minimum, IsSatisfyingCut, IsAccepted, Answered, accepted, is_event, computation}
 use Rattle.wcp_model.specs.Growth.{GrowsInto, GrowthLaw, EarlyFindLaw}
 use Rattle.wcp_model.proofs.AcceptedReplies.{replies_accepted}
 use Rattle.wcp_model.proofs.CutLaws.{interval_of-minimum, minimum_is_satisfying}
@@ -7,8 +7,9 @@ use Rattle.wcp_model.proofs.Reached.{true_state_exists}
 use Rattle.wcp_model.proofs.Growth.{before_grows, before_shrinks, true_state_grows, true_state_shrinks}
 
 -- an accepted computation grew from each of its fronts
-pub accepted_grows : (n : ℕ) (watched : NumberSet) (c e : Computation) → IsAccepted (c ++ e) → GrowsInto n watched c (c ++ e)
-accepted_grows n watched c e accepted = search (emissions_grow, before_grows, before_shrinks, arith)
+pub accepted_grows : (n : ℕ) (watched : NumberSet) (flag : Flag) (c e : Computation) → IsAccepted (c ++ e)
+    → GrowsInto n watched flag c (c ++ e)
+accepted_grows n watched flag c e accepted = search (emissions_grow, before_grows, before_shrinks, arith)
 
 -- the computation of a longer history is that of its front and more
 pub computation_append : (history more : List Answered) → computation (accepted (history ++ more)) ≡ computation (accepted history) ++ computation (accepted more)

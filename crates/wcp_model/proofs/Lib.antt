@@ -14,6 +14,7 @@ pub mod Predecessors
 pub mod Growth
 pub mod GrowingLogs
 pub mod RunningClock
+pub mod Flags
 pub mod RunningEmissions
 pub mod RunningLog
 pub mod AcceptedOrder
@@ -31,5 +32,6 @@ pub mod AcceptedReplies
 pub mod GrowthLaws
 pub mod NotesInTurn
 pub mod RisingClocks
+pub mod SendFlag
 pub mod TakenFronts
 pub mod TakenOutcomes

@@ -1,4 +1,4 @@
-use Rattle.wcp_model.proofs.Words.{NumberSet, common_steps, ◌≡◌, ◌==◌, ℕ, zero, suc, ◌+◌, ◌-◌, ◌<◌, ◌≤◌, ◌&&◌, Bool, false, cond, Some, List, [], ◌∷◌, ◌++◌, length, count_by, filter, map, slice_get, slice_index, take, drop, All, refl, sym, ap, ap₂, subst, subst₂, inl, inr, eq-eqb, append-nil, ◌∙◌, arith, range_with_len, and_parts, cases_eq, cases_lt, ne_eqb, take_all, take_more, take-take, take-map, take-append-drop, length-map, length-take, take_at, length-filter, count_by-le-length, sum_by-take-le, slice_get-map, slice_get_within, get_or_from_slice_get, Step, Action, Task, Computation, is_send, communications, interval_at, IsStateClock, Call, Observed, Sent, Received, Closed, is_step_of, setup, state_of_log, IsStampOf, IsCallOf, AreCallsOf, IsLogOf, IsAccepted, actions_of, IsCallFor, FollowsActions, stamps_got, AreLogsOfTasks, TaskLogLaw, is_task_of, is_send_to, is_receive_from, sends, receives, message_number, step_of, steps_from, computation_of, IsWithin, IsFitOrder}
+use Rattle.wcp_model.proofs.Words.{NumberSet, Flag, common_steps, ◌≡◌, ◌==◌, ℕ, zero, suc, ◌+◌, ◌-◌, ◌<◌, ◌≤◌, ◌&&◌, Bool, false, cond, Some, List, [], ◌∷◌, ◌++◌, length, count_by, filter, map, slice_get, slice_index, take, drop, All, refl, sym, ap, ap₂, subst, subst₂, inl, inr, eq-eqb, append-nil, ◌∙◌, arith, range_with_len, and_parts, cases_eq, cases_lt, ne_eqb, take_all, take_more, take-take, take-map, take-append-drop, length-map, length-take, take_at, length-filter, count_by-le-length, sum_by-take-le, slice_get-map, slice_get_within, get_or_from_slice_get, Step, Action, Task, Computation, is_send, communications, interval_at, IsStateClock, Call, Observed, Sent, Received, Closed, is_step_of, setup, state_of_log, IsStampOf, IsCallOf, AreCallsOf, IsLogOf, IsAccepted, actions_of, IsCallFor, FollowsActions, stamps_got, AreLogsOfTasks, TaskLogLaw, is_task_of, is_send_to, is_receive_from, sends, receives, message_number, step_of, steps_from, computation_of, IsWithin, IsFitOrder}
 use Rattle.wcp_model.specs.declared.step.Step.TheVariants as step
 use Rattle.wcp_model.specs.declared.workload.Action.TheVariants as action
 use Rattle.wcp_model.proofs.AcceptedOrder.{IsFitOrder-itself, All-fit_order, order_accepted}
@@ -73,7 +73,7 @@ one_close_of p from (suc n) behind within = elim (cases_eq from p) [
 ]
 
 -- logs of the tasks of a fit order
-module _ (n : ℕ) (watched : NumberSet) (order : List Task) (within : All (IsWithin n) order) (fit : IsFitOrder order order) (logs : ℕ → List Call) (are : AreLogsOfTasks n watched order logs) where
+module _ (n : ℕ) (watched : NumberSet) (flag : Flag) (order : List Task) (within : All (IsWithin n) order) (fit : IsFitOrder order order) (logs : ℕ → List Call) (are : AreLogsOfTasks n watched flag order logs) where
   -- what a process has logged at a place
   abbrev log_at : ℕ → ℕ → List Call
   log_at p place = take (done order p place) (logs p)
@@ -95,16 +95,16 @@ module _ (n : ℕ) (watched : NumberSet) (order : List Task) (within : All (IsWi
 
   -- the stamp of a message carries the clock of its sender's probe after the send
   sent_stamp : (sent p q : ℕ) → p < n → slice_get order sent ≡ Some (record { p = p; action = action.Send q }) → AreLogsAt (sent + 1) →
-      IsStampOf n (front n order (sent + 1)) (message_number order p q (count_by (sends p q) (take sent order))) (state_of_log (setup n watched p) (log_at p (sent + 1))).clock
+      IsStampOf n (front n order (sent + 1)) (message_number order p q (count_by (sends p q) (take sent order))) (state_of_log (setup n watched flag p) (log_at p (sent + 1))).clock
   sent_stamp sent p q below at logs_are = record {
     sent = sent;
     from = p;
     to = q;
     send = slice_get-take (sent + 1) (computation_of n order) sent (omega arith) ∙ send;
     number = ap (count_by is_send) before ∙ message_at_is n order sent ∙ sym (message_number_is order p q _ sent at refl);
-    clock = subst (λ k. IsStateClock n (front n order (sent + 1)) (local_state p k) (state_of_log (setup n watched p) (log_at p (sent + 1))).clock)
+    clock = subst (λ k. IsStateClock n (front n order (sent + 1)) (local_state p k) (state_of_log (setup n watched flag p) (log_at p (sent + 1))).clock)
         (interval_at-event (computation_of n order) p sent (step.Send p q) send (eq-eqb p p refl) ∙ ap (λ c. communications c p + 1) (sym before))
-        (log_law_holds n watched (front n order (sent + 1)) p (log_at p (sent + 1)) (accepted_at (sent + 1)) below (logs_are p below)).clock;
+        (log_law_holds n watched flag (front n order (sent + 1)) p (log_at p (sent + 1)) (accepted_at (sent + 1)) below (logs_are p below)).clock;
   }
     where
       send : slice_get (computation_of n order) sent ≡ Some (step.Send p q)
@@ -126,9 +126,9 @@ module _ (n : ℕ) (watched : NumberSet) (order : List Task) (within : All (IsWi
       let got = stamp_got_at p (actions_of q order) (logs q) (done order q received) (action.Recv p) (Received stamp) (action_at order received receive at) took (eq-eqb p p refl) in
       let same_rank = rank_of (is_receive_from p) order q received ∙ sym delivery.same_rank ∙ sym (rank_of (is_send_to q) order p sent) in
       let next = log_next sent send delivery.send p_below in
-      let sent_at = stamp_sent_at (setup n watched p) q (actions_of p order) (logs p) (done order p sent) (action.Send q) call (action_at order sent send delivery.send) made_call (eq-eqb q q refl) in
+      let sent_at = stamp_sent_at (setup n watched flag p) q (actions_of p order) (logs p) (done order p sent) (action.Send q) call (action_at order sent send delivery.send) made_call (eq-eqb q q refl) in
       let stands = get_front (stamps_got p (actions_of q order) (logs q)) in_transit _ (slice_get_within _ _ _ got) in
-      let clock : (state_of_log (setup n watched p) (log_at p (sent + 1))).clock ≡ stamp = cc (next, sent_at, together, stands, got, same_rank) in
+      let clock : (state_of_log (setup n watched flag p) (log_at p (sent + 1))).clock ≡ stamp = cc (next, sent_at, together, stands, got, same_rank) in
       let number = message_number order p q (count_by (receives p q) (take received order)) in
       let then : IsStampOf n (front n order (sent + 1)) number stamp = subst₂ (λ rank. IsStampOf n (front n order (sent + 1)) (message_number order p q rank)) delivery.same_rank clock (sent_stamp sent p q p_below delivery.send (logs_are (sent + 1) (omega (arith, earlier)))) in
       let short : take (sent + 1) (front n order received) ≡ front n order (sent + 1) = take-take (sent + 1) received (computation_of n order) (omega (arith, earlier)) in
@@ -178,16 +178,16 @@ module _ (n : ℕ) (watched : NumberSet) (order : List Task) (within : All (IsWi
   whole p below = grind (arith, length-filter, length-map, same_length, take_all)
 
   -- a probe's own component counts the events of its process
-  own_component : (place p : ℕ) → place ≤ length order → p < n → slice_index (state_of_log (setup n watched p) (log_at p place)).clock p ≡ communications (front n order place) p
-  own_component place p inside below = (log_law_holds n watched (front n order place) p (log_at p place) (accepted_at place) below (logs_until (length order) (omega arith) place inside p below)).clock.own
+  own_component : (place p : ℕ) → place ≤ length order → p < n → slice_index (state_of_log (setup n watched flag p) (log_at p place)).clock p ≡ communications (front n order place) p
+  own_component place p inside below = (log_law_holds n watched flag (front n order place) p (log_at p place) (accepted_at place) below (logs_until (length order) (omega arith) place inside p below)).clock.own
 
   -- so it is at most the number of tasks
-  pub few_events : (p : ℕ) → p < n → slice_index (state_of_log (setup n watched p) (logs p)).clock p ≤ length order
+  pub few_events : (p : ℕ) → p < n → slice_index (state_of_log (setup n watched flag p) (logs p)).clock p ≤ length order
   few_events p below = grind (arith, count_by-le-length, length-take, own_component, whole)
 
   -- and the stamp that a process gets is a clock that is not ahead of its own
   not_ahead : (place p q : ℕ) (stamp : List ℕ) → p < n → q < n → slice_get order place ≡ Some (record { p = q; action = action.Recv p }) → slice_get (logs q) (done order q place) ≡ Some (Received stamp) →
-      (length stamp ≡ n) × (slice_index stamp q ≤ slice_index (state_of_log (setup n watched q) (log_at q place)).clock q)
+      (length stamp ≡ n) × (slice_index stamp q ≤ slice_index (state_of_log (setup n watched flag q) (log_at q place)).clock q)
   not_ahead place p q stamp p_below q_below at took =
       search (arith, received_stamp place p q stamp p_below q_below, logs_until, own_component, slice_get_within, stamp_below)
 
@@ -201,27 +201,27 @@ module _ (n : ℕ) (watched : NumberSet) (order : List Task) (within : All (IsWi
       (subst (λ own. AreCallsOf n (steps ++ closes 0 n) own (Closed ∷ [])) (sym (one_close_of p 0 n (omega arith) (omega arith))) (tt, tt))
 
 -- with one more receive, its stamp is a clock that is not ahead of the probe that gets it
-module _ (n : ℕ) (watched : NumberSet) (tasks : List Task) (p q : ℕ) (act : Action) (acts : act ≡ action.Recv p) (log : List Call) (stamp : List ℕ) (logs : ℕ → List Call) where
+module _ (n : ℕ) (watched : NumberSet) (flag : Flag) (tasks : List Task) (p q : ℕ) (act : Action) (acts : act ≡ action.Recv p) (log : List Call) (stamp : List ℕ) (logs : ℕ → List Call) where
   abbrev receive : Task
   receive = record { p = q; action = act }
 
   abbrev longer : List Task
   longer = tasks ++ receive ∷ []
 
-  pub got_not_ahead : p < n → q < n → All (IsWithin n) longer → IsFitOrder longer longer → AreLogsOfTasks n watched longer logs → FollowsActions (actions_of q tasks) log → logs q ≡ log ++ Received stamp ∷ [] →
-      (length stamp ≡ n) × (slice_index stamp q ≤ slice_index (state_of_log (setup n watched q) log).clock q)
+  pub got_not_ahead : p < n → q < n → All (IsWithin n) longer → IsFitOrder longer longer → AreLogsOfTasks n watched flag longer logs → FollowsActions (actions_of q tasks) log → logs q ≡ log ++ Received stamp ∷ [] →
+      (length stamp ≡ n) × (slice_index stamp q ≤ slice_index (state_of_log (setup n watched flag q) log).clock q)
   got_not_ahead p_below q_below within fit are follows own =
       let place : done longer q (length tasks) ≡ length log =
       grind (arith, length-filter, length-map, same_length, take_at) in
       let before : take (done longer q (length tasks)) (logs q) ≡ log = ap₂ take place own ∙ take_at log (Received stamp ∷ []) (length log) refl in
-      subst (λ calls. (length stamp ≡ n) × (slice_index stamp q ≤ slice_index (state_of_log (setup n watched q) calls).clock q)) before
-      (not_ahead n watched longer within fit logs are (length tasks) p q stamp p_below q_below
+      subst (λ calls. (length stamp ≡ n) × (slice_index stamp q ≤ slice_index (state_of_log (setup n watched flag q) calls).clock q)) before
+      (not_ahead n watched flag longer within fit logs are (length tasks) p q stamp p_below q_below
       (get_behind tasks receive [] ∙ ap (λ a. Some (record { p = q; action = a })) acts)
       (ap₂ slice_get own place ∙ get_behind log (Received stamp) []))
 
 -- logs of tasks are logs of a fit order of them
-AreLogsOfTasks-along : (n : ℕ) (watched : NumberSet) (tasks order : List Task) (logs : ℕ → List Call) → IsFitOrder tasks order → AreLogsOfTasks n watched tasks logs → AreLogsOfTasks n watched order logs
-AreLogsOfTasks-along n watched tasks order logs fit are = record {
+AreLogsOfTasks-along : (n : ℕ) (watched : NumberSet) (flag : Flag) (tasks order : List Task) (logs : ℕ → List Call) → IsFitOrder tasks order → AreLogsOfTasks n watched flag tasks logs → AreLogsOfTasks n watched flag order logs
+AreLogsOfTasks-along n watched flag tasks order logs fit are = record {
   follows = λ p below. rw (same p) (are.follows p below);
   in_order = λ p q p_below q_below some.
       let (in_transit, together) = are.in_order p q p_below q_below (omega (arith, some, same_count (is_task_of p) (sends p q) order tasks (λ t h. (and_parts _ _ h).0) (fit.same_tasks p))) in
@@ -233,5 +233,5 @@ AreLogsOfTasks-along n watched tasks order logs fit are = record {
 
 -- the task log law
 pub task_log_law_holds : TaskLogLaw
-task_log_law_holds n watched tasks order logs within fit are =
-    logs_with_close n watched order (All-fit_order (IsWithin n) tasks order fit within) (IsFitOrder-itself tasks order fit) logs (AreLogsOfTasks-along n watched tasks order logs fit are)
+task_log_law_holds n watched flag tasks order logs within fit are =
+    logs_with_close n watched flag order (All-fit_order (IsWithin n) tasks order fit within) (IsFitOrder-itself tasks order fit) logs (AreLogsOfTasks-along n watched flag tasks order logs fit are)

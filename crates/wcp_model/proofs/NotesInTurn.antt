@@ -1,4 +1,4 @@
-use Rattle.wcp_model.proofs.Words.{NumberSet, ◌≡◌, ℕ, ◌+◌, ◌⊎◌, Bool, true, false, List, [], ◌∷◌, ◌++◌, length, fold, refl, sym, ap, ◌∙◌, inl, append-nil, append_assoc, arith, list_any, length-append, list_any-append, Note, Computation, snapshots_from, is_closed, AreEmissions, Call, ProbeSetup, ProbeState, after_call, setup, state_of_log, snapshot_clocks, IsNextNote, AreInTurn}
+use Rattle.wcp_model.proofs.Words.{NumberSet, Flag, ◌≡◌, ℕ, ◌+◌, ◌⊎◌, Bool, true, false, List, [], ◌∷◌, ◌++◌, length, fold, refl, sym, ap, ◌∙◌, inl, append-nil, append_assoc, arith, list_any, length-append, list_any-append, Note, Computation, snapshots_from, is_closed, AreEmissions, Call, ProbeSetup, ProbeState, after_call, setup, state_of_log, snapshot_clocks, IsNextNote, AreInTurn}
 use Rattle.std.specs.Prelude.{if◌then◌else◌}
 use Rattle.wcp_clock.specs.declared.note.Note.TheVariants as note
 use Rattle.wcp_clock.specs.Notes.{is_close, is_last, place_of}
@@ -22,13 +22,13 @@ in_turn_from number count closed (clock ∷ clocks) (x ∷ before) after next co
     grind (arith, in_turn_from (number + 1) count closed clocks before after next (omega arith) (cc is))
 
 -- what a process emits is in turn
-pub emissions_in_turn : (n : ℕ) (watched : NumberSet) (c : Computation) (p : ℕ) (notes : List Note) → AreEmissions n watched c p notes → AreInTurn notes
-emissions_in_turn n watched c p notes emitted before after next is =
+pub emissions_in_turn : (n : ℕ) (watched : NumberSet) (flag : Flag) (c : Computation) (p : ℕ) (notes : List Note) → AreEmissions n watched flag c p notes → AreInTurn notes
+emissions_in_turn n watched flag c p notes emitted before after next is =
     grind (arith, in_turn_from 0 (length emitted.clocks) (is_closed c p) emitted.clocks before after next (omega arith) (sym emitted.notes_are ∙ is))
 
 -- so the note behind a front of the emissions is the next that a checker may take
-pub next_of_emissions : (n : ℕ) (watched : NumberSet) (c : Computation) (p : ℕ) (before after : List Note) (next : Note) → AreEmissions n watched c p (before ++ next ∷ after) → IsNextNote before next
-next_of_emissions n watched c p before after next emitted = emissions_in_turn n watched c p (before ++ next ∷ after) emitted before after next refl
+pub next_of_emissions : (n : ℕ) (watched : NumberSet) (flag : Flag) (c : Computation) (p : ℕ) (before after : List Note) (next : Note) → AreEmissions n watched flag c p (before ++ next ∷ after) → IsNextNote before next
+next_of_emissions n watched flag c p before after next emitted = emissions_in_turn n watched flag c p (before ++ next ∷ after) emitted before after next refl
 
 -- a note of a list with one more is the last, or stood there before
 split_push : (xs before after : List Note) (x y : Note) → xs ++ x ∷ [] ≡ before ++ y ∷ after → ((before ≡ xs) × (y ≡ x)) ⊎ ((more : List Note) × (xs ≡ before ++ y ∷ more))
@@ -64,5 +64,5 @@ counts_from : (made : ProbeSetup) (s : ProbeState) (log : List Call) → CountsN
 counts_from made s [] is = is
 counts_from made s (call ∷ log) is = counts_from made (after_call made s call) log (counts_after made s call is)
 
-pub log_counts_notes : (n : ℕ) (watched : NumberSet) (p : ℕ) (log : List Call) → CountsNotes (state_of_log (setup n watched p) log)
-log_counts_notes n watched p log = counts_from (setup n watched p) (state_of_log (setup n watched p) []) log (record { snapshots = refl; closed = refl; ended = refl })
+pub log_counts_notes : (n : ℕ) (watched : NumberSet) (flag : Flag) (p : ℕ) (log : List Call) → CountsNotes (state_of_log (setup n watched flag p) log)
+log_counts_notes n watched flag p log = counts_from (setup n watched flag p) (state_of_log (setup n watched flag p) []) log (record { snapshots = refl; closed = refl; ended = refl })

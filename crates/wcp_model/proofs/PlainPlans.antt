@@ -1,4 +1,4 @@
-use Rattle.wcp_model.proofs.Words.{false, true≢false, sym, ◌∙◌, ◌<◌, inl, inr, ◌≡◌, ℕ, ◌≤◌, List, [], ◌∷◌, Some, length, take, slice_get, true, ap, subst, arith, list_any, length-replicate, get_or-replicate, Parent, Root, Relay, Plan, most_processes, most_cap, most_hold, is_number, plain_attach, IsPlainPlan, IsPath, IsCheckedPlan}
+use Rattle.wcp_model.proofs.Words.{true≢false, sym, ◌∙◌, ◌<◌, inl, inr, ◌≡◌, ℕ, ◌≤◌, List, [], ◌∷◌, Some, length, take, slice_get, true, ap, subst, arith, list_any, length-replicate, get_or-replicate, Parent, Root, Relay, Plan, most_processes, most_cap, most_hold, is_number, plain_attach, IsPlainPlan, IsPath, IsCheckedPlan}
 use Rattle.std.specs.FinSet as set
 use Rattle.std.proofs.lemmas.Bool.Decides.{nat_tests}
 use Rattle.wcp_model.specs.declared.plan.PlanFault.TheVariants as fault

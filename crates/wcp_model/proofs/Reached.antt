@@ -1,4 +1,4 @@
-use Rattle.wcp_model.proofs.Words.{NumberSet, Intervals, NamesWatched, IsWatched, None, Bool, is_some, slice_index_or, ◌≡◌, ◌≢◌, ℕ, zero, suc, ◌+◌, ◌<◌, ◌≤◌, ◌⊎◌, true, false, List, length, count_by, slice_get, Some, refl, sym, ◌∙◌, ap, subst, inl, inr, ⊎_elim, arith, cases_lt, cases_eq, cases_Bool, cases_order, eq-eqb, take_all, sum_by-take-le, slice_get_within, slice_get_cases, State, Step, Observe, Send, Recv, Computation, is_communication_of, communications, interval_at, message_at, IsState, IsTrueState, DirectlyPrecedes, Next, Message, HappenedBefore, Direct, Chain, member, IsConsistent, IsSatisfyingCut}
+use Rattle.wcp_model.proofs.Words.{NumberSet, Intervals, NamesWatched, IsWatched, None, is_some, slice_index_or, ◌≡◌, ◌≢◌, ℕ, zero, suc, ◌+◌, ◌<◌, ◌≤◌, ◌⊎◌, true, false, length, count_by, slice_get, Some, refl, sym, ◌∙◌, ap, subst, inl, inr, ⊎_elim, arith, cases_lt, cases_eq, cases_Bool, cases_order, eq-eqb, take_all, sum_by-take-le, slice_get_within, slice_get_cases, State, Step, Observe, Send, Recv, Computation, is_communication_of, communications, interval_at, message_at, IsState, IsTrueState, DirectlyPrecedes, Next, Message, HappenedBefore, Direct, Chain, member, IsConsistent, IsSatisfyingCut}
 use Rattle.std.specs.FinSet as set
 use Rattle.wcp_model.proofs.WatchedProcesses.{all_watched_decided}
 use Rattle.wcp_model.proofs.Decided.{Decided, decided_from, some_below_decided, all_below_decided, agree_decided}

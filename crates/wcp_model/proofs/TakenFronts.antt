@@ -1,14 +1,15 @@
-use Rattle.wcp_model.proofs.Words.{NumberSet, Intervals, IsWatched, IsAtOrBelow, interval_of, IsEmittedState, ◌≡◌, ℕ, ◌<◌, ◌≤◌, List, [], ◌++◌, length, slice_index, get_or, Contains, refl, sym, ap, ◌∙◌, subst, arith, length-append, append_assoc, get_or_append_left, get_or_default, Contains-get_or, Item, Computation, IsTrueState, member, minimum, IsSatisfyingCut, IsLeastCut, IsLeastOf, IsReportOf, notes_taken, snapshot_clocks, clocks_taken, IsDrained, IsNamed, IsNamedCut, IsCutByClocks, IsReportOfTaken, IsReportByClocks, AreFrontsOfEmissions, IsStateClock}
+use Rattle.wcp_model.proofs.Words.{NumberSet, Flag, Intervals, IsWatched, interval_of, IsEmittedState, ◌≡◌, ℕ, ◌<◌, ◌≤◌, List, [], ◌++◌, length, slice_index, get_or, Contains, refl, sym, ap, ◌∙◌, subst, arith, length-append, append_assoc, get_or_append_left, get_or_default, Contains-get_or, Item, Computation, IsTrueState, member, IsLeastCut, IsLeastOf, IsReportOf, notes_taken, snapshot_clocks, clocks_taken, IsDrained, IsNamed, IsNamedCut, IsCutByClocks, IsReportOfTaken, IsReportByClocks, AreFrontsOfEmissions, IsStateClock}
 use Rattle.wcp_model.specs.declared.outcome.Report.{Report}
 use Rattle.wcp_model.specs.declared.outcome.Report.TheVariants.{Found, Nothing, Undecided}
-use Rattle.wcp_model.proofs.CutLaws.{interval_of-minimum, minimum_is_satisfying}
 use Rattle.wcp_model.proofs.WatchedProcesses.{choice_of_watched}
 use Rattle.wcp_model.proofs.NotesInTurn.{snapshot_clocks-append, emissions_in_turn, nothing_follows}
 use Rattle.wcp_model.proofs.Predecessors.{local_state}
 use Rattle.wcp_model.proofs.RisingClocks.{emitted_clocks, rises_above}
+use Rattle.wcp_model.proofs.SendFlag.{IsEmittedLeast, emitted_least}
 
 -- What was taken of each process is a front of its emissions.
-module _ (n : ℕ) (watched : NumberSet) (c : Computation) (items : List Item) (fronts : AreFrontsOfEmissions n watched c items) where
+module _ (n : ℕ) (watched : NumberSet) (flag : Flag) (c : Computation) (items : List Item)
+    (fronts : AreFrontsOfEmissions n watched flag c items) where
   -- a taken clock is that of a true state
   record IsOfState (p : ℕ) (clock : List ℕ) (interval : ℕ) : Type 0 where
     pub clock_is : IsStateClock n c (local_state p interval) clock
@@ -17,7 +18,7 @@ module _ (n : ℕ) (watched : NumberSet) (c : Computation) (items : List Item) (
   all_clocks : (p : ℕ) (within : p < n) → clocks_taken p items ++ snapshot_clocks (fronts p within).0 ≡ (fronts p within).1.clocks
   all_clocks p within =
       let (rest, emitted) = fronts p within in
-      sym (snapshot_clocks-append (notes_taken p items) rest) ∙ emitted_clocks n watched c p (notes_taken p items ++ rest) emitted
+      sym (snapshot_clocks-append (notes_taken p items) rest) ∙ emitted_clocks n watched flag c p (notes_taken p items ++ rest) emitted
 
   fewer : (p : ℕ) (within : p < n) → length (clocks_taken p items) ≤ length (fronts p within).1.intervals
   fewer p within = omega (arith, length-append (clocks_taken p items) (snapshot_clocks (fronts p within).0), ap length (all_clocks p within), (fronts p within).1.same_length)
@@ -81,70 +82,70 @@ module _ (n : ℕ) (watched : NumberSet) (c : Computation) (items : List Item) (
   pub report_of_taken : (report : Report) → IsReportByClocks n watched items report → IsReportOfTaken n watched c items report
   report_of_taken report least = grind (arith, cut_by_clocks, least_by_states)
 
-  -- a true state has a place among the snapshots, and is named once that one is taken
-  place_of : (p k : ℕ) (is : IsWatched n watched p) → IsTrueState c (local_state p k)
-      → (i : ℕ) × (i < length (fronts p is.below).1.intervals) × (slice_index (fronts p is.below).1.intervals i ≡ k)
-  place_of p k is true_state = grind (
-    arith,
-    ((fronts p is.below).1.states.each k).1 (record { watched_process = is.member; true_state = true_state }),
-    get_or_default,
-  )
+  -- an emitted state has a place among the snapshots, and is named once that one is taken
+  place_of : (p k : ℕ) (within : p < n) → IsEmittedState watched flag c (local_state p k)
+      → (i : ℕ) × (i < length (fronts p within).1.intervals) × (slice_index (fronts p within).1.intervals i ≡ k)
+  place_of p k within emitted = grind (arith, ((fronts p within).1.states.each k).1 emitted, get_or_default)
 
   named_by : (p k i : ℕ) (within : p < n) → slice_index (fronts p within).1.intervals i ≡ k → i < length (clocks_taken p items) → IsNamed items (local_state p k)
   named_by p k i within here taken = grind (arith, Contains-get_or, state_at)
 
-  -- so each true state below a named one is named
-  named_below : (p k l : ℕ) → IsWatched n watched p → IsNamed items (local_state p k) → IsTrueState c (local_state p l)
-      → l ≤ k → IsNamed items (local_state p l)
-  named_below p k l is named true_state order =
-      let emitted = (fronts p is.below).1 in
-      let (i, i_below, interval, at) = named_at p k is.below named in
-      let (j, j_below, here) = place_of p l is true_state in
-      named_by p l j is.below here (grind (arith, rises_above))
+  -- so each emitted state below a named one is named
+  named_below : (p k l : ℕ) (within : p < n) → IsNamed items (local_state p k)
+      → IsEmittedState watched flag c (local_state p l) → l ≤ k → IsNamed items (local_state p l)
+  named_below p k l within named emitted order =
+      let (i, i_below, interval, at) = named_at p k within named in
+      let (j, j_below, here) = place_of p l within emitted in
+      let rising = (fronts p within).1.states.rising in
+      named_by p l j within here (grind (arith, rises_above (fronts p within).1.intervals i j rising))
 
   -- so the least cut of those named is the least cut of the whole computation, before all is drained and after
   pub found_is_least : (cut : Intervals) → IsReportByClocks n watched items (Found cut) → IsLeastCut n watched c cut
-  found_is_least cut found = record { one = least.one.satisfying; below = below }
+  found_is_least cut found = record {
+    one = least.one.satisfying;
+    below = λ other also p is. omega (arith, least.below lowest.cut named p is, lowest.least.below other also p is);
+  }
     where
       least : IsLeastOf n watched (IsNamedCut n watched c items) cut
       least = least_by_states cut found
 
-      below : (other : Intervals) → IsSatisfyingCut n watched c other → IsAtOrBelow n watched cut other
-      below other also p is =
-          let both : IsSatisfyingCut n watched c (minimum cut other) =
-          minimum_is_satisfying n watched c cut other least.one.satisfying also in
-          let index = interval_of-minimum n watched cut other least.one.satisfying.members also.members in
-          let named : (q : ℕ) → IsWatched n watched q → IsNamed items (member (minimum cut other) q) = λ q q_is.
-          named_below q (interval_of cut q) (interval_of (minimum cut other) q) q_is (least.one.named q q_is)
-          (both.true_states q q_is) (omega (arith, index q q_is)) in
-          omega (arith, least.below (minimum cut other) (record { satisfying = both; named = named }) p is, index p is)
+      lowest : IsEmittedLeast n watched flag c
+      lowest = emitted_least n watched flag c cut least.one.satisfying
+
+      named : IsNamedCut n watched c items lowest.cut
+      named = record {
+        satisfying = lowest.least.one;
+        named = λ p is. named_below p (interval_of cut p) (interval_of lowest.cut p) is.below (least.one.named p is)
+            (lowest.emitted p is) (lowest.least.below cut least.one.satisfying p is);
+      }
 
   -- where all is drained, all emissions were taken
   nothing_left : IsDrained n items → (p : ℕ) (within : p < n) → (fronts p within).0 ≡ []
   nothing_left drained p within =
       let (rest, emitted) = fronts p within in
       let (count, before, is) = drained p within in
-      nothing_follows before rest count (rw (is, append_assoc) at (emissions_in_turn n watched c p (notes_taken p items ++ rest) emitted))
+      nothing_follows before rest count (rw (is, append_assoc) at (emissions_in_turn n watched flag c p (notes_taken p items ++ rest) emitted))
 
   -- a process's emitted states are as many as its snapshots taken
   pub all_states_taken : IsDrained n items → (p : ℕ) (within : p < n) → length (fronts p within).1.intervals ≡ length (clocks_taken p items)
   all_states_taken drained p within =
       omega (arith, (fronts p within).1.same_length, ap length (all_clocks p within), length-append (clocks_taken p items) (snapshot_clocks (fronts p within).0), ap (λ notes. length (snapshot_clocks notes)) (nothing_left drained p within))
 
-  named_when_drained : IsDrained n items → (p k : ℕ) → IsWatched n watched p → IsTrueState c (local_state p k)
+  named_when_drained : IsDrained n items → (p k : ℕ) (within : p < n) → IsEmittedState watched flag c (local_state p k)
       → IsNamed items (local_state p k)
-  named_when_drained drained p k is true_state =
-      let (i, below, here) = place_of p k is true_state in
-      named_by p k i is.below here (omega (arith, all_states_taken drained p is.below))
+  named_when_drained drained p k within emitted =
+      let (i, below, here) = place_of p k within emitted in
+      named_by p k i within here (omega (arith, all_states_taken drained p within))
 
   -- and the report is that of the whole computation
   pub report_when_drained : IsDrained n items → (report : Report) → IsReportByClocks n watched items report → IsReportOf n watched c report
   report_when_drained drained (Found cut) found = found_is_least cut found
   report_when_drained drained Nothing none = (
     λ cut satisfying.
-        none.0 cut (cut_by_clocks cut (record {
-          satisfying = satisfying;
-          named = λ p is. named_when_drained drained p (interval_of cut p) is (satisfying.true_states p is);
+        let lowest = emitted_least n watched flag c cut satisfying in
+        none.0 lowest.cut (cut_by_clocks lowest.cut (record {
+          satisfying = lowest.least.one;
+          named = λ p is. named_when_drained drained p (interval_of lowest.cut p) is.below (lowest.emitted p is);
         })),
     tt,
   )

@@ -1,5 +1,5 @@
 -- What is known of each watched process.
-use Rattle.wcp_model.proofs.Words.{◌≡◌, ℕ, ◌<◌, ◌≤◌, Bool, true, false, true≢false, sym, ◌∙◌, inl, inr, arith}
+use Rattle.wcp_model.proofs.Words.{ℕ, ◌<◌, true≢false, sym, ◌∙◌, inl, inr}
 use Rattle.wcp_model.proofs.Words.{cases_Bool, NumberSet, IsWatched}
 use Rattle.std.specs.FinSet as set
 use Rattle.wcp_model.proofs.Choosing.{choice_from_each}

@@ -19,12 +19,15 @@ pub use Rattle.wcp_clock.specs.declared.note.Note.{Note}
 pub use Rattle.wcp_model.specs.Computation.{Computation, IsTrueState, is_communication_of, is_send, communications, interval_at, message_at, IsState}
 pub use Rattle.wcp_model.specs.Cut.{Intervals, NamesWatched, interval_of, lesser, IsAtOrBelow, member, IsConsistent, IsSatisfyingCut, minimum, IsLeastCut, IsLeastOf, MinimumLaw, LeastCutLaw}
 pub use Rattle.wcp_model.specs.Emission.{is_close_of, is_closed, snapshots_from, AreEmissions, IsEmittedState, AreEmittedStates}
+pub use Rattle.wcp_model.specs.Flag.{is_send_of, resets, WasReset, IsFlagUp}
+pub use Rattle.wcp_model.specs.FlagLaws.{EventFlagLaw, SendFlagLaw}
+pub use Rattle.wcp_model.specs.declared.flag.Flag.{Flag}
 pub use Rattle.wcp_model.specs.FirstReason.{first_reason, IsFirstReason, FirstReasonLaw}
 pub use Rattle.wcp_model.specs.Order.{IsMessage, DirectlyPrecedes, Next, Message, HappenedBefore, Direct, Chain}
 pub use Rattle.wcp_model.specs.Outcome.{IsReportOf, IsOutcomeOf, IsWorkloadOutcome}
 pub use Rattle.wcp_model.specs.PlanFault.{HasWrongParent, IsPath, IsCheckedPlan, HasFault, IsFirstFault, tree_faults, plan_faults, ServesRelay}
 pub use Rattle.wcp_model.specs.declared.probe_setup.ProbeSetup.{ProbeSetup}
-pub use Rattle.wcp_model.specs.ProbeLog.{Call, Observed, Sent, Received, Closed, ProbeState, after_call, setup, state_of_log, is_step_of, IsStampOf, IsCallOf, AreCallsOf, IsAccepted, HasClockAndEmissions, LogLaw, IsLogOf}
+pub use Rattle.wcp_model.specs.ProbeLog.{Call, Observed, Sent, Received, Closed, ProbeState, after_call, is_up_after_receive, setup, state_of_log, is_step_of, IsStampOf, IsCallOf, AreCallsOf, IsAccepted, HasClockAndEmissions, LogLaw, IsLogOf}
 pub use Rattle.wcp_model.specs.Replies.{Answered, accepted_by, accepted, is_event, computation, receivers, event_reasons, IsReply, AreReplies}
 pub use Rattle.wcp_model.specs.Report.{notes_taken, snapshot_clocks, clocks_taken, AreRising, ClocksRise, AreFrontsOfEmissions, IsDrained, IsNamed, IsNamedCut, IsCutByClocks, IsReportOfTaken, IsReportByClocks, IsNextNote, AreInTurn}
 pub use Rattle.wcp_model.specs.StateClock.{IsStateClock, CountsBefore, StatesHaveClocks}

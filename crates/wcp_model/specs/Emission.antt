@@ -6,10 +6,12 @@ use Rattle.std.specs.List.{list_any}
 use Rattle.wcp_clock.specs.ProcessNumbers.{NumberSet}
 use Rattle.wcp_clock.specs.declared.note.Note.{Note}
 use Rattle.wcp_clock.specs.declared.note.Note.TheVariants as note
+use Rattle.wcp_model.specs.declared.flag.Flag.{Flag}
 use Rattle.wcp_model.specs.declared.step.Step.{Step}
 use Rattle.wcp_model.specs.declared.step.Step.TheVariants as step
 use Rattle.wcp_model.specs.declared.state.State.{State}
 use Rattle.wcp_model.specs.Computation.{Computation, IsTrueState}
+use Rattle.wcp_model.specs.Flag.{WasReset}
 use Rattle.wcp_model.specs.StateClock.{IsStateClock}
 
 abbrev pub is_close_of : ℕ → Step → Bool
@@ -37,22 +39,25 @@ abbrev pub snapshots_from : ℕ → List (List ℕ) → List Note
 snapshots_from number [] = []
 snapshots_from number (clock ∷ clocks) = note.Snap number clock ∷ snapshots_from (number + 1) clocks
 
--- A state is emitted if its process is watched and it is true (Garg and Waldecker 1994: the first true state between
--- two communication events).
-pub record IsEmittedState (watched : NumberSet) (c : Computation) (s : State) : Type 0 where
+-- A state is emitted if its process is watched, it is true, and since each earlier true state of its process the flag
+-- was reset (Garg and Waldecker 1994: the first true state since the flag's reset).
+pub record IsEmittedState (watched : NumberSet) (flag : Flag) (c : Computation) (s : State) : Type 0 where
   pub watched_process : set.contains watched s.process ≡ true
   pub true_state : IsTrueState c s
+  pub first : (k : ℕ) → k < s.interval → IsTrueState c (record { process = s.process; interval = k }) →
+      WasReset flag c s.process k s.interval
 
 -- The states of a process that are emitted, by rising interval.
-pub record AreEmittedStates (watched : NumberSet) (c : Computation) (p : ℕ) (intervals : List ℕ) : Type 0 where
+pub record AreEmittedStates (watched : NumberSet) (flag : Flag) (c : Computation) (p : ℕ) (intervals : List ℕ) : Type 0 where
   pub rising : IsStrictlyIncreasing intervals
-  pub each : (k : ℕ) → Contains intervals k ↔ IsEmittedState watched c (record { process = p; interval = k })
+  pub each : (k : ℕ) → Contains intervals k ↔ IsEmittedState watched flag c (record { process = p; interval = k })
 
 -- What a process emits: a snapshot of each of these states, by rising interval, with the state's clock, and once it is
 -- closed a mark that counts them (Garg and Waldecker 1994: the messages to the checker process).
-pub record AreEmissions (n : ℕ) (watched : NumberSet) (c : Computation) (p : ℕ) (notes : List Note) : Type 0 where
+pub record AreEmissions (n : ℕ) (watched : NumberSet) (flag : Flag) (c : Computation) (p : ℕ) (notes : List Note)
+    : Type 0 where
   pub intervals : List ℕ
-  pub states : AreEmittedStates watched c p intervals
+  pub states : AreEmittedStates watched flag c p intervals
   pub clocks : List (List ℕ)
   pub same_length : length clocks ≡ length intervals
   pub each : (i : ℕ) → i < length intervals →

@@ -28,7 +28,7 @@ use Rattle.wcp_model.specs.Replies.{Answered, accepted, items_taken, computation
 pub record IsHeadline (plan : Plan) (history : List Answered) (report : Report) : Type 0 where
   pub replies : AreReplies plan history
   pub taken_is_prefix : (place : ℕ) →
-      AreFrontsOfEmissions plan.n plan.watched (computation (accepted (take place history)))
+      AreFrontsOfEmissions plan.n plan.watched plan.flag (computation (accepted (take place history)))
       (items_taken (take place history))
   pub none_after_close : (p count : ℕ) (before after : List Note) → p < plan.n →
       notes_taken p (items_taken history) ≡ before ++ note.Close count ∷ after → after ≡ []

@@ -1,11 +1,13 @@
 pub mod Computation
 pub mod Order
 pub mod Watched
+pub mod Flag
 pub mod Cut
 pub mod WorkloadComputation
 pub mod Outcome
 pub mod StateClock
 pub mod Emission
+pub mod FlagLaws
 pub mod ProbeLog
 pub mod TaskLog
 pub mod FirstReason

@@ -5,12 +5,15 @@ use Rattle.wcp_clock.specs.Merge.{merged}
 use Rattle.wcp_clock.specs.ProcessNumbers.{NumberSet}
 use Rattle.wcp_clock.specs.declared.note.Note.{Note}
 use Rattle.wcp_clock.specs.declared.note.Note.TheVariants as note
+use Rattle.wcp_model.specs.declared.flag.Flag.{Flag}
+use Rattle.wcp_model.specs.declared.flag.Flag.TheVariants as reset_at
 use Rattle.wcp_model.specs.declared.probe_setup.ProbeSetup.{ProbeSetup}
 use Rattle.wcp_model.specs.declared.step.Step.{Step}
 use Rattle.wcp_model.specs.declared.step.Step.TheVariants as step
 use Rattle.wcp_model.specs.Computation.{Computation, communications, interval_at, message_at}
 use Rattle.wcp_model.specs.StateClock.{IsStateClock}
-use Rattle.wcp_model.specs.Emission.{AreEmissions, IsEmittedState, is_closed}
+use Rattle.wcp_model.specs.Emission.{AreEmissions, is_closed}
+use Rattle.wcp_model.specs.Flag.{IsFlagUp}
 
 -- The accepted calls of one probe; a receive has the clock that its stamp carried.
 pub data Call : Type 0 where
@@ -19,40 +22,45 @@ pub data Call : Type 0 where
   Received : (stamp : List ℕ) → Call
   Closed : Call
 
--- What a probe has come to: its clock, whether this interval's snapshot was emitted, whether it is closed, and its
--- emissions.
+-- What a probe has come to: its clock, whether its flag is up, whether it is closed, and its emissions.
 pub record ProbeState : Type 0 where
   pub clock : List ℕ
-  pub flag : Bool
+  pub flag_up : Bool
   pub closed : Bool
   pub snapshots : ℕ
   pub notes : List Note
 
+-- A receive resets the flag, or leaves it up.
+abbrev pub is_up_after_receive : Flag → Bool → Bool
+is_up_after_receive reset_at.Event up = false
+is_up_after_receive reset_at.Send up = up
+
 -- A send counts an event; a receive counts one and takes the greater of each other component (Fidge 1988; Mattern
--- 1989). The first true observation of an interval emits a snapshot, and each send and receive begins an interval
--- (Garg and Waldecker 1994); a process that isn't watched emits none.
+-- 1989). A true observation emits a snapshot where the flag isn't up, and puts it up; a send resets it, and so does a
+-- receive but where sends alone do (Garg and Waldecker 1994). A process that isn't watched emits none.
 abbrev pub after_call : ProbeSetup → ProbeState → Call → ProbeState
 after_call made s (Observed false) = s
 after_call made s (Observed true) =
-    if not made.watched || s.flag then s
-    else record s { flag = true; snapshots = s.snapshots + 1; notes = s.notes ++ note.Snap s.snapshots s.clock ∷ [] }
+    if not made.watched || s.flag_up then s
+    else record s { flag_up = true; snapshots = s.snapshots + 1; notes = s.notes ++ note.Snap s.snapshots s.clock ∷ [] }
 after_call made s Sent =
-    record s { clock = slice_set s.clock made.process (slice_index s.clock made.process + 1); flag = false }
+    record s { clock = slice_set s.clock made.process (slice_index s.clock made.process + 1); flag_up = false }
 after_call made s (Received stamp) = record s {
   clock = slice_set (merged s.clock stamp) made.process (slice_index s.clock made.process + 1);
-  flag = false;
+  flag_up = is_up_after_receive made.flag s.flag_up;
 }
 after_call made s Closed = record s { closed = true; notes = s.notes ++ note.Close s.snapshots ∷ [] }
 
--- What a probe is made with, as far as its log tells: how many processes there are, which one is its own, and whether
--- that one is watched.
-abbrev pub setup : ℕ → NumberSet → ℕ → ProbeSetup
-setup n watched p = record { processes = n; process = p; watched = set.contains watched p }
+-- What a probe is made with, as far as its log tells: how many processes there are, which one is its own, whether that
+-- one is watched, and what resets its flag.
+abbrev pub setup : ℕ → NumberSet → Flag → ℕ → ProbeSetup
+setup n watched flag p =
+    record { processes = n; process = p; watched = set.contains watched p; flag = flag }
 
 -- The probe log: what a probe has come to after these calls.
 abbrev pub state_of_log : ProbeSetup → List Call → ProbeState
 state_of_log made log = fold (after_call made)
-    (record { clock = replicate made.processes 0; flag = false; closed = false; snapshots = 0; notes = [] }) log
+    (record { clock = replicate made.processes 0; flag_up = false; closed = false; snapshots = 0; notes = [] }) log
 
 abbrev pub is_step_of : ℕ → Step → Bool
 is_step_of p (step.Observe q holds) = q == p
@@ -95,14 +103,15 @@ pub record IsAccepted (c : Computation) : Type 0 where
       slice_get c place ≡ Some (step.Close p) → slice_get c later ≡ Some s → is_step_of p s ≡ false
 
 -- The log law: the log of each process has the clock of its last state, and its emissions.
-pub record HasClockAndEmissions (n : ℕ) (watched : NumberSet) (c : Computation) (p : ℕ) (s : ProbeState)
+pub record HasClockAndEmissions (n : ℕ) (watched : NumberSet) (flag : Flag) (c : Computation) (p : ℕ) (s : ProbeState)
     : Type 0 where
   pub clock : IsStateClock n c (record { process = p; interval = communications c p }) s.clock
-  pub flag : IsTrue s.flag ↔ IsEmittedState watched c (record { process = p; interval = communications c p })
+  pub flag_up : IsTrue s.flag_up ↔ IsFlagUp watched flag c (record { process = p; interval = communications c p })
   pub closed : s.closed ≡ is_closed c p
-  pub emissions : AreEmissions n watched c p s.notes
+  pub emissions : AreEmissions n watched flag c p s.notes
 
 abbrev pub LogLaw : Type 0
 LogLaw =
-    (n : ℕ) (watched : NumberSet) (c : Computation) (p : ℕ) (log : List Call) → IsAccepted c → p < n →
-    IsLogOf n c p log → HasClockAndEmissions n watched c p (state_of_log (setup n watched p) log)
+    (n : ℕ) (watched : NumberSet) (flag : Flag) (c : Computation) (p : ℕ) (log : List Call) → IsAccepted c → p < n →
+    IsLogOf n c p log →
+    HasClockAndEmissions n watched flag c p (state_of_log (setup n watched flag p) log)

@@ -125,7 +125,7 @@ IsAcceptance plan emissions steps s answer = answer ≡ reply.Done
 -- The reply to a step after these accepted steps: the first reason that holds, else acceptance.
 pub record IsReply (plan : Plan) (steps : List Step) (s : Step) (answer : Reply) : Type 0 where
   pub emissions : ℕ → List Note
-  pub are : (p : ℕ) → p < plan.n → AreEmissions plan.n plan.watched (computation steps) p (emissions p)
+  pub are : (p : ℕ) → p < plan.n → AreEmissions plan.n plan.watched plan.flag (computation steps) p (emissions p)
   pub first : MatchOption (first_reason (reasons plan emissions steps s))
       (IsAcceptance plan emissions steps s answer) (λ why. answer ≡ reply.Refused why)
 

@@ -6,6 +6,7 @@ use Rattle.wcp_clock.specs.declared.note.Note.{Note}
 use Rattle.wcp_clock.specs.declared.note.Note.TheVariants as note
 use Rattle.wcp_clock.specs.Notes.{is_last, place_of}
 use Rattle.wcp_clock.specs.ProcessNumbers.{NumberSet}
+use Rattle.wcp_model.specs.declared.flag.Flag.{Flag}
 use Rattle.wcp_model.specs.declared.outcome.Report.{Report}
 use Rattle.wcp_model.specs.declared.state.State.{State}
 use Rattle.wcp_model.specs.Computation.{Computation}
@@ -41,9 +42,9 @@ abbrev pub AreInTurn : List Note → Type 0
 AreInTurn notes = (before after : List Note) (next : Note) → notes ≡ before ++ next ∷ after → IsNextNote before next
 
 -- What was taken of each process is a front of its emissions in the computation.
-abbrev pub AreFrontsOfEmissions : ℕ → NumberSet → Computation → List Item → Type 0
-AreFrontsOfEmissions n watched c items = (p : ℕ) → p < n →
-    (rest : List Note) × AreEmissions n watched c p (notes_taken p items ++ rest)
+abbrev pub AreFrontsOfEmissions : ℕ → NumberSet → Flag → Computation → List Item → Type 0
+AreFrontsOfEmissions n watched flag c items = (p : ℕ) → p < n →
+    (rest : List Note) × AreEmissions n watched flag c p (notes_taken p items ++ rest)
 
 -- All is drained if the notes taken of each process end with its close mark.
 abbrev pub IsDrained : ℕ → List Item → Type 0

@@ -4,6 +4,7 @@ use Rattle.wcp_clock.specs.ProcessNumbers.{NumberSet}
 use Rattle.wcp_model.specs.declared.workload.Action.{Action}
 use Rattle.wcp_model.specs.declared.workload.Action.TheVariants as action
 use Rattle.wcp_model.specs.declared.workload.Task.{Task}
+use Rattle.wcp_model.specs.declared.flag.Flag.{Flag}
 use Rattle.wcp_model.specs.declared.probe_setup.ProbeSetup.{ProbeSetup}
 use Rattle.wcp_model.specs.ProbeLog.{Call, Observed, Sent, Received, Closed, setup, after_call}
 use Rattle.wcp_model.specs.ProbeLog.{state_of_log, IsLogOf}
@@ -53,16 +54,16 @@ stamps_got p actions log = beside (is_receive_from p) actions (map stamp_of log)
 
 -- Logs are of tasks if each follows what its process does, and for each two processes of which the tasks send from one
 -- to the other, the stamps that this gets are a front of those that the first sends.
-pub record AreLogsOfTasks (n : ℕ) (watched : NumberSet) (tasks : List Task) (logs : ℕ → List Call) : Type 0 where
+pub record AreLogsOfTasks (n : ℕ) (watched : NumberSet) (flag : Flag) (tasks : List Task) (logs : ℕ → List Call) : Type 0 where
   pub follows : (p : ℕ) → p < n → FollowsActions (actions_of p tasks) (logs p)
   pub in_order : (p q : ℕ) → p < n → q < n → 0 < count_by (sends p q) tasks →
       (in_transit : List (List ℕ)) × (stamps_got p (actions_of q tasks) (logs q) ++ in_transit
-      ≡ stamps_sent (setup n watched p) q (actions_of p tasks) (logs p))
+      ≡ stamps_sent (setup n watched flag p) q (actions_of p tasks) (logs p))
 
 -- The task log law: each log of tasks, with its close, is the log of its process in the computation of any fit order of
 -- these tasks.
 abbrev pub TaskLogLaw : Type 0
 TaskLogLaw =
-    (n : ℕ) (watched : NumberSet) (tasks order : List Task) (logs : ℕ → List Call) → All (IsWithin n) tasks →
-    IsFitOrder tasks order → AreLogsOfTasks n watched tasks logs → (p : ℕ) → p < n →
+    (n : ℕ) (watched : NumberSet) (flag : Flag) (tasks order : List Task) (logs : ℕ → List Call) → All (IsWithin n) tasks →
+    IsFitOrder tasks order → AreLogsOfTasks n watched flag tasks logs → (p : ℕ) → p < n →
     IsLogOf n (computation_of n order) p (logs p ++ Closed ∷ [])

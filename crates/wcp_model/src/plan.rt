@@ -1,6 +1,7 @@
 ghost use Rattle.std.specs.Prelude.{◌≡◌, ◌↔◌, ℕ, ◌+◌, ◌<◌, ◌≤◌, List, [], ◌∷◌, length, take, replicate, Contains};
 ghost use Rattle.std.specs.Prelude.{IsTrue, IsOk, IfOk, Some, Err};
 ghost use Rattle.wcp_clock.specs.Limits.{most_processes, most_cap, most_hold};
+ghost use Rattle.wcp_model.specs.declared.flag.Flag.TheVariants as reset_at;
 ghost use Rattle.wcp_model.specs.declared.plan.Parent.TheVariants.{Root};
 ghost use Rattle.wcp_model.specs.declared.plan.PlanFault.{PlanFault};
 ghost use Rattle.wcp_model.specs.declared.plan.PlanFault.TheVariants as plan_fault;
@@ -9,6 +10,7 @@ ghost use Rattle.wcp_model.specs.ProbeLog.{setup};
 ghost use Rattle.wcp_model.specs.PlanFault.{HasFault, HasWrongParent, IsFirstFault, IsCheckedPlan};
 ghost use Rattle.wcp_model.specs.PlanFault.{IsPath, ServesRelay, tree_faults};
 
+use crate::flag::Flag;
 use crate::probe_setup::ProbeSetup;
 use crate::watched::Watched;
 use std::alloc::{AllocError, Global};
@@ -39,9 +41,12 @@ pub struct Plan {
     pub attach: Vec<Option<u32>>,
     /// The processes that have a condition.
     pub watched: Watched,
+    /// What resets the flags of the processes.
+    pub flag: Flag,
 }
 
-/// The plan of one relay, under the root, which serves every process; each has a condition. `Err` where memory runs out.
+/// The plan of one relay, under the root, which serves every process; each has a condition, and each event resets its
+/// flag. `Err` where memory runs out.
 pub fn plain_plan(alloc: Global, n: u32, cap: u32, hold: u32) -> Result<Plan, AllocError>
     ensures plain { IfOk result (IsPlainPlan n cap hold) }
     ensures checked { IfOk result (λ plan.
@@ -101,7 +106,8 @@ const FAULTS: [PlanFault; 9] = [
 ];
 
 impl Plan {
-    /// The plan of this tree, with these capacities and watched processes, checked by nobody.
+    /// The plan of this tree, with these capacities and watched processes, checked by nobody. Each event resets
+    /// a flag.
     pub fn new(
         n: u32,
         cap: u32,
@@ -111,7 +117,15 @@ impl Plan {
         watched: Watched,
     ) -> Plan
         ensures { result
-            ≡ record { n = n; cap = cap; hold = hold; parents = parents; attach = attach; watched = watched } }
+            ≡ record {
+              n = n;
+              cap = cap;
+              hold = hold;
+              parents = parents;
+              attach = attach;
+              watched = watched;
+              flag = reset_at.Event;
+            } }
     {
         Plan {
             n,
@@ -120,6 +134,7 @@ impl Plan {
             parents,
             attach,
             watched,
+            flag: Flag::Event,
         }
     }
 
@@ -263,12 +278,13 @@ impl Plan {
 
     /// What the probe of process `p` is made with.
     pub fn probe_setup(&self, p: u32) -> ProbeSetup
-        ensures { result ≡ setup self.now.n self.now.watched p }
+        ensures { result ≡ setup self.now.n self.now.watched self.now.flag p }
     {
         ProbeSetup {
             processes: self.n,
             process: p,
             watched: self.watched.has(p),
+            flag: self.flag,
         }
     }
 
@@ -283,14 +299,15 @@ impl Plan {
     pub fn copy(&self, alloc: Global) -> Result<Plan, AllocError>
         ensures { IfOk result (λ copy. IsSamePlan copy self.now) }
     {
-        Ok(Plan::new(
-            self.n,
-            self.cap,
-            self.hold,
-            Vec::from_slice(alloc, &self.parents)?,
-            Vec::from_slice(alloc, &self.attach)?,
-            self.watched,
-        ))
+        Ok(Plan {
+            n: self.n,
+            cap: self.cap,
+            hold: self.hold,
+            parents: Vec::from_slice(alloc, &self.parents)?,
+            attach: Vec::from_slice(alloc, &self.attach)?,
+            watched: self.watched,
+            flag: self.flag,
+        })
     }
 
     fn serves_relay(&self, relay: u32) -> bool

@@ -1,3 +1,5 @@
+use crate::flag::Flag;
+
 /// What a probe is made with, as far as its log tells.
 #[derive(Clone, Copy, Debug, PartialEq, Eq)]
 pub struct ProbeSetup {
@@ -7,4 +9,6 @@ pub struct ProbeSetup {
     pub process: u32,
     /// Whether it has a condition.
     pub watched: bool,
+    /// What resets its flag.
+    pub flag: Flag,
 }

@@ -4,7 +4,7 @@ use Rattle.std.proofs.lemmas.List.{length-set, get_or-set_same}
 use Rattle.wcp_clock.specs.declared.note.Note.TheVariants as note
 use Rattle.wcp_clock.specs.Merge.{merged}
 use Rattle.wcp_clock.proofs.Merging.{length-merged}
-use Rattle.wcp_model.specs.ProbeLog.{Observed, Received, Closed}
+use Rattle.wcp_model.specs.ProbeLog.{Observed, Received, Closed, is_up_after_receive}
 use Rattle.wcp_model.proofs.TaskLogs.{log_push}
 use Rattle.wcp_probe.specs.Core.{Core, Accepts, setup_of}
 
@@ -13,11 +13,11 @@ pub close_accepted : (core : Core) → Accepts core Closed (record core { closed
 close_accepted core log stands = grind (arith, log_push (setup_of core) log Closed)
 
 -- the first true observation of an interval emits a snapshot
-pub snapshot_accepted : (core : Core) → core.watched ≡ true → core.flag ≡ false → Accepts core (Observed true) (record core { flag = true; emitted = core.emitted + 1; pending = Some (note.Snap core.emitted core.clock) })
+pub snapshot_accepted : (core : Core) → core.watched ≡ true → core.flag_up ≡ false → Accepts core (Observed true) (record core { flag_up = true; emitted = core.emitted + 1; pending = Some (note.Snap core.emitted core.clock) })
 snapshot_accepted core is_watched unflagged log stands = grind (arith, log_push (setup_of core) log (Observed true))
 
 -- a receive counts one event of the receiver, and takes the greater of each other component
-pub receive_accepted : (core : Core) (stamp clock : List ℕ) → length clock ≡ length core.clock → clock ≡ slice_set (merged core.clock stamp) core.id (slice_index core.clock core.id + 1) → Accepts core (Received stamp) (record core { clock = clock; flag = false })
+pub receive_accepted : (core : Core) (stamp clock : List ℕ) → length clock ≡ length core.clock → clock ≡ slice_set (merged core.clock stamp) core.id (slice_index core.clock core.id + 1) → Accepts core (Received stamp) (record core { clock = clock; flag_up = is_up_after_receive core.flag core.flag_up })
 receive_accepted core stamp clock same_length is log stands = grind (arith, common_steps)
 
 -- the order of counting and merging is open where the merged clock knows no more of that process

@@ -1,25 +1,27 @@
 use Rattle.std.specs.Prelude.{◌≡◌, ℕ, Bool, Option, List, [], ◌∷◌, ◌++◌, length, MatchOption}
 use Rattle.wcp_clock.specs.declared.note.Note.{Note}
+use Rattle.wcp_model.specs.declared.flag.Flag.{Flag}
 use Rattle.wcp_model.specs.declared.probe_setup.ProbeSetup.{ProbeSetup}
 use Rattle.wcp_model.specs.ProbeLog.{Call, state_of_log}
 
--- What a probe has: its watch, its process, whether that is watched, and the limit of its clock, its clock, whether it
--- has emitted the snapshot of this interval (the flag) and is closed, how many snapshots it has emitted, and the note
--- that is pending.
+-- What a probe has: its watch, its process, whether that is watched, what resets its flag, the limit of its clock, its
+-- clock, whether its flag is up and whether it is closed, how many snapshots it has emitted, and the note that is
+-- pending.
 pub record Core : Type 0 where
   pub watch : ℕ
   pub id : ℕ
   pub watched : Bool
+  pub flag : Flag
   pub limit : ℕ
   pub clock : List ℕ
-  pub flag : Bool
+  pub flag_up : Bool
   pub closed : Bool
   pub emitted : ℕ
   pub pending : Option Note
 
 -- What a probe was made with.
 abbrev pub setup_of : Core → ProbeSetup
-setup_of core = record { processes = length core.clock; process = core.id; watched = core.watched }
+setup_of core = record { processes = length core.clock; process = core.id; watched = core.watched; flag = core.flag }
 
 -- The note is the last of these.
 abbrev pub IsLast : List Note → Note → Type 0
@@ -29,7 +31,7 @@ IsLast notes note = (earlier : List Note) × (notes ≡ earlier ++ note ∷ [])
 -- emission.
 pub record StandsForLog (core : Core) (log : List Call) : Type 0 where
   pub clock : core.clock ≡ (state_of_log (setup_of core) log).clock
-  pub flag : core.flag ≡ (state_of_log (setup_of core) log).flag
+  pub flag_up : core.flag_up ≡ (state_of_log (setup_of core) log).flag_up
   pub closed : core.closed ≡ (state_of_log (setup_of core) log).closed
   pub emitted : core.emitted ≡ (state_of_log (setup_of core) log).snapshots
   pub pending : MatchOption core.pending (Unit {0}) (IsLast (state_of_log (setup_of core) log).notes)

@@ -3,7 +3,7 @@ ghost use Rattle.std.specs.Prelude.{IsTrue, IsSome, IfOk, OnOk, OnErr, IfErr, Ma
 ghost use Rattle.std.specs.Prelude.{if◌then◌else◌};
 ghost use Rattle.wcp_clock.specs.Limits.{most_processes, most_events};
 ghost use Rattle.wcp_clock.specs.declared.note.Note.TheVariants as note;
-ghost use Rattle.wcp_model.specs.ProbeLog.{Call, Observed, Sent, Received};
+ghost use Rattle.wcp_model.specs.ProbeLog.{Call, Observed, Sent, Received, is_up_after_receive};
 ghost use Rattle.wcp_model.specs.ProbeLog.{Closed as closed_call};
 ghost use Rattle.wcp_probe.specs.Core.{Core, StandsForLog, Accepts, IsSameProbe};
 ghost use Rattle.wcp_probe.specs.Seal.{Seal, seal_of, value_of, IsSealed};
@@ -14,7 +14,7 @@ use crate::stamp::Stamped;
 use std::marker::Model;
 use thiserror::Error;
 use wcp_clock::{Clock, Note};
-use wcp_model::ProbeSetup;
+use wcp_model::{Flag, ProbeSetup};
 
 /// Why a probe refused a call. Where several reasons hold, the first in this order is given.
 #[derive(Clone, Copy, Debug, PartialEq, Eq, Error)]
@@ -49,9 +49,10 @@ pub struct ProbeCore {
     watch: u64,
     id: u32,
     watched: bool,
+    flag: Flag,
     limit: u32,
     clock: Clock,
-    flag: bool,
+    flag_up: bool,
     closed: bool,
     emitted: u32,
     pending: Option<Note>,
@@ -69,9 +70,10 @@ impl Model for ProbeCore {
       watch = p.watch;
       id = p.id;
       watched = p.watched;
+      flag = p.flag;
       limit = p.limit;
       clock = p.clock;
-      flag = p.flag;
+      flag_up = p.flag_up;
       closed = p.closed;
       emitted = p.emitted;
       pending = p.pending;
@@ -82,8 +84,8 @@ impl Model for ProbeCore {
       processes : length p.clock ≤ most_processes;
       limit : p.limit ≤ most_events;
       events : slice_index p.clock p.id ≤ p.limit;
-      emitted : p.emitted ≤ slice_index p.clock p.id + (if p.flag then 1 else 0);
-      pending : IsTrue (is_some p.pending) → IsTrue (p.flag || p.closed);
+      emitted : p.emitted ≤ slice_index p.clock p.id + (if p.flag_up then 1 else 0);
+      pending : IsTrue (is_some p.pending) → IsTrue (p.flag_up || p.closed);
     } };
 }
 
@@ -98,9 +100,10 @@ impl ProbeCore {
           watch = watch;
           id = made.process;
           watched = made.watched;
+          flag = made.flag;
           limit = limit;
           clock = replicate made.processes 0;
-          flag = false;
+          flag_up = false;
           closed = false;
           emitted = 0;
           pending = None;
@@ -111,9 +114,10 @@ impl ProbeCore {
             watch,
             id: made.process,
             watched: made.watched,
+            flag: made.flag,
             limit,
             clock: Clock::new(made.processes),
-            flag: false,
+            flag_up: false,
             closed: false,
             emitted: 0,
             pending: None,
@@ -121,17 +125,17 @@ impl ProbeCore {
     }
 
     /// The process observes its condition. The answer is whether a snapshot was emitted, which then
-    /// is pending: the first true observation of an interval emits one, unless the process isn't watched.
+    /// is pending: a true observation emits one where the flag isn't up and the process is watched.
     pub fn observe(&mut self, holds: bool) -> Result<bool, Refusal>
         ensures first { MatchResult result (λ _. observe_refusal self.old ≡ None)
             (λ why. observe_refusal self.old ≡ Some why) }
         ensures accepted { OnOk result (Accepts self.old (Observed holds) self.new) }
         ensures emits { IfOk result (λ emitted. IsTrue emitted
-            ↔ (IsTrue holds × (self.old.watched ≡ true) × (self.old.flag ≡ false))) }
+            ↔ (IsTrue holds × (self.old.watched ≡ true) × (self.old.flag_up ≡ false))) }
         ensures spared { IfOk result (λ emitted. IsTrue emitted → self.old.pending ≡ None) }
         ensures pending { IfOk result (λ emitted. self.new ≡ (if emitted
             then record self.old {
-              flag = true;
+              flag_up = true;
               emitted = self.old.emitted + 1;
               pending = Some (note.Snap self.old.emitted self.old.clock);
             }
@@ -141,7 +145,7 @@ impl ProbeCore {
         if self.closed {
             return Err(Refusal::Closed);
         }
-        if !holds || !self.watched || self.flag {
+        if !holds || !self.watched || self.flag_up {
             return Ok(false);
         }
         self.pending = Some(Note::Snap {
@@ -149,7 +153,7 @@ impl ProbeCore {
             clock: self.clock,
         });
         self.emitted += 1;
-        self.flag = true;
+        self.flag_up = true;
         Ok(true)
     }
 
@@ -159,7 +163,7 @@ impl ProbeCore {
             (λ back. stamp_refusal self.old to ≡ Some back.0) }
         ensures accepted { OnOk result (Accepts self.old Sent self.new) }
         ensures same { OnOk result (IsSameProbe self.old self.new) }
-        ensures rest { OnOk result (self.new ≡ record self.old { clock = self.new.clock; flag = false }) }
+        ensures rest { OnOk result (self.new ≡ record self.old { clock = self.new.clock; flag_up = false }) }
         ensures pending { OnOk result (self.new.pending ≡ self.old.pending) }
         ensures stamped { IfOk result (λ message. IsSealed message (record {
           watch = self.old.watch;
@@ -182,7 +186,7 @@ impl ProbeCore {
             return Err((Refusal::ClockEnd, value));
         };
         self.clock = clock;
-        self.flag = false;
+        self.flag_up = false;
         Ok(Stamped {
             watch: self.watch,
             from: self.id,
@@ -198,7 +202,10 @@ impl ProbeCore {
             (λ back. receive_refusal self.old (seal_of message) ≡ Some back.0) }
         ensures accepted { OnOk result (Accepts self.old (Received (seal_of message).clock) self.new) }
         ensures same { OnOk result (IsSameProbe self.old self.new) }
-        ensures rest { OnOk result (self.new ≡ record self.old { clock = self.new.clock; flag = false }) }
+        ensures rest { OnOk result (self.new ≡ record self.old {
+          clock = self.new.clock;
+          flag_up = is_up_after_receive self.old.flag self.old.flag_up;
+        }) }
         ensures pending { OnOk result (self.new.pending ≡ self.old.pending) }
         ensures value { IfOk result (λ value. value ≡ value_of message) }
         ensures refused { IfErr result (λ back. (back.1 ≡ message) × (self.new ≡ self.old)) }
@@ -210,7 +217,7 @@ impl ProbeCore {
             return Err((Refusal::ClockEnd, message));
         };
         self.clock = clock.merge(&message.clock);
-        self.flag = false;
+        self.flag_up = self.flag.is_up_after_receive(self.flag_up);
         let Stamped {
             watch: _,
             from: _,

@@ -1,4 +1,4 @@
-use Rattle.wcp_queue.proofs.Words.{NumberSet, Intervals, interval_of, IsWatched, members_of, row_of, known_of, rows_of, cut_of, get_or-map, length-map, common_steps, ◌≡◌, ℕ, ◌<◌, ◌≤◌, Bool, true, false, List, [], length, get_or, slice_index, sym, ◌∙◌, ap, arith, Option, None, Some, MatchOption, ◌∷◌, ◌++◌, take, refl, subst, append-nil, get_or_default, get_or-take, length-take-le, Contains-get_or, All-from_get_or, Item, clocks_taken, IsCutByClocks, ClocksRise, notes_taken, IsDrained, AreInTurn, GrowTo, IsSatisfyingChoice, AreInOrder, choice_from_each, Floor, HaveHeads, IsCutOfHeads, AreStable, AreLeft, IsFoundAmong, GainCandidate, list_all, both_ways, AllPass-from_list_all, list_all-from_AllPass, Close, nothing_follows, CheckerState, processes, StandsForItems, IsSoundChecker}
+use Rattle.wcp_queue.proofs.Words.{NumberSet, Intervals, interval_of, IsWatched, members_of, row_of, known_of, rows_of, cut_of, get_or-map, length-map, common_steps, ◌≡◌, ℕ, ◌<◌, ◌≤◌, Bool, true, false, List, [], length, get_or, slice_index, sym, ◌∙◌, ap, arith, Option, None, Some, MatchOption, ◌∷◌, ◌++◌, take, subst, append-nil, get_or_default, get_or-take, length-take-le, Contains-get_or, All-from_get_or, Item, clocks_taken, IsCutByClocks, ClocksRise, notes_taken, IsDrained, AreInTurn, GrowTo, IsSatisfyingChoice, AreInOrder, choice_from_each, Floor, HaveHeads, IsCutOfHeads, AreStable, AreLeft, IsFoundAmong, GainCandidate, list_all, both_ways, AllPass-from_list_all, list_all-from_AllPass, Close, nothing_follows, CheckerState, processes, StandsForItems, IsSoundChecker}
 use Rattle.std.proofs.Common.{ap₂, subst₂}
 use Rattle.wcp_model.specs.Cut.{IsLeastOf, IsAtOrBelow}
 use Rattle.wcp_queue.proofs.WatchedRows.{known_at, row_of_watched, member_is_watched, apart_rows}

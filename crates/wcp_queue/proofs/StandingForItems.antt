@@ -1,4 +1,4 @@
-use Rattle.wcp_queue.proofs.Words.{NumberSet, IsWatched, members_of, row_of, known_of, rows_of, map, map_push, inl, inr, ◌≢◌, IsSoundChecker, ◌≡◌, ℕ, ◌+◌, ◌<◌, ◌≤◌, Bool, true, false, Option, Some, None, MatchOption, is_some, List, [], ◌∷◌, ◌++◌, length, get_or, set, replicate, sum, cond, slice_index, refl, sym, ◌∙◌, ap, subst, arith, true≢false, length-append, get_or-set_same, get_or-set_other, get_or-replicate, length-replicate, sum_by-set, sum_by_push, Item, Snap, Close, Lost, is_close, is_last, is_lost, list_any, cases_eq, notes_taken, clocks_taken, AreInTurn-none, first_floor, HaveHeads, IsCutOfHeads, AreLeft, AddsCandidate, IsFoundAmong, GainCandidate, CheckerState, processes, taken_of, closed_of, lost_of, is_snapshot, IsSearching, MayTake, StandsForItems}
+use Rattle.wcp_queue.proofs.Words.{NumberSet, IsWatched, row_of, known_of, rows_of, map, map_push, inl, inr, ◌≢◌, IsSoundChecker, ◌≡◌, ℕ, ◌+◌, ◌<◌, ◌≤◌, Bool, true, false, Option, Some, None, MatchOption, List, [], ◌∷◌, ◌++◌, length, get_or, set, replicate, sum, cond, slice_index, refl, sym, ◌∙◌, ap, subst, arith, true≢false, length-append, get_or-set_same, get_or-set_other, get_or-replicate, length-replicate, sum_by-set, sum_by_push, Item, Snap, Close, Lost, is_close, is_last, is_lost, list_any, cases_eq, notes_taken, clocks_taken, AreInTurn-none, HaveHeads, IsCutOfHeads, AreLeft, AddsCandidate, IsFoundAmong, GainCandidate, CheckerState, processes, taken_of, closed_of, lost_of, is_snapshot, IsSearching, MayTake, StandsForItems}
 use Rattle.wcp_clock.specs.declared.note.Note.{Note}
 use Rattle.wcp_queue.proofs.FoundCuts.{IsFoundAmong-heads, IsFoundAmong-gain, IsFoundAmong-same}
 use Rattle.wcp_queue.proofs.LeftQueues.{AreLeft-start, AreLeft-rows}

@@ -1,8 +1,8 @@
 -- The watched processes by rising number, and the rows that a checker has of them.
-use Rattle.wcp_queue.proofs.Words.{◌≡◌, ◌≢◌, ℕ, zero, suc, ◌+◌, ◌<◌, ◌≤◌, ◌⊎◌, Bool, true, false, true≢false, cond, Option, Some}
-use Rattle.wcp_queue.proofs.Words.{None, List, [], ◌∷◌, ◌++◌, length, get_or, slice_get, slice_index, slice_index_or, map, filter}
+use Rattle.wcp_queue.proofs.Words.{◌≡◌, ◌≢◌, ℕ, zero, suc, ◌+◌, ◌<◌, ◌≤◌, ◌⊎◌, Bool, true, false, cond, Option, Some}
+use Rattle.wcp_queue.proofs.Words.{None, List, [], ◌∷◌, ◌++◌, length, get_or, slice_get, slice_index, slice_index_or, filter}
 use Rattle.wcp_queue.proofs.Words.{refl, sym, ◌∙◌, ap, subst, inl, inr, arith, is_some, unwrap_or, cases_Bool, cases_eq, cases_lt}
-use Rattle.wcp_queue.proofs.Words.{eqb, eq-eqb, eqb-true, ne_eqb, get_or-map, length-map, slice_get-get_or, slice_get_past}
+use Rattle.wcp_queue.proofs.Words.{eqb, eq-eqb, ne_eqb, get_or-map, slice_get-get_or, slice_get_past}
 use Rattle.wcp_queue.proofs.Words.{length-map-range_with_len, get_or-map-range_with_len, range_with_len, NumberSet, IsWatched}
 use Rattle.wcp_queue.proofs.Words.{filter-append}
 use Rattle.wcp_queue.proofs.Words.{NamesWatched, interval_of, AreSomeWatched, members_of, row_of, known_of, cut_of}

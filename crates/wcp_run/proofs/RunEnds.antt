@@ -59,7 +59,7 @@ module _ {plan : Plan} {tasks : List Task} {ends : Ends WorkerEnd} (run : AreEnd
     here : (p : ℕ) → p < plan.n → HasPlayedAt run.ended.workers left p
     here p below = played_at run.ended.workers left p (omega (arith, workers_count))
 
-    of_process : (p : ℕ) (below : p < plan.n) → IsEndOfProcess run.are.watch plan.n plan.watched p (here p below).worker.probe (here p below).probe
+    of_process : (p : ℕ) (below : p < plan.n) → IsEndOfProcess run.are.watch plan.n plan.watched plan.flag p (here p below).worker.probe (here p below).probe
     of_process p below =
         let one = here p below in
         end_of_process run.are.wired p one.worker.probe one.probe (run.are.workers.each p one.worker one.worker_at).probe one.has.closed
@@ -73,7 +73,7 @@ module _ {plan : Plan} {tasks : List Task} {ends : Ends WorkerEnd} (run : AreEnd
         run.ended run.are.relays run.are.inbox run.are.watched
 
     module _ (matched : AreMatched played.mailboxes.items) {book : BookState} {settled : Settled} (is : IsSettled played.probes.items ends.checker book settled) where
-      have_run : HaveRun plan.n plan.watched tasks ends.checker.receipt.taken played.mailboxes.items
+      have_run : HaveRun plan.n plan.watched plan.flag tasks ends.checker.receipt.taken played.mailboxes.items
       have_run = record {
         count = (as_many run.ended.workers left).1 ∙ workers_count;
         each = λ p mailbox at.
@@ -115,8 +115,8 @@ module _ {plan : Plan} {tasks : List Task} {ends : Ends WorkerEnd} (run : AreEnd
           let count = snapshots_counted (notes_taken p ends.checker.receipt.taken) in
           ((cc), (cc))
 
-      pub outcome_of_run : IsWorkloadOutcome plan.n plan.watched tasks (record { report = settled.report; tallies = settled.tallies })
-      outcome_of_run = IsWorkloadOutcome-run plan.n plan.watched tasks ends.checker.receipt.taken played.mailboxes.items have_run _ run.within (record {
+      pub outcome_of_run : IsWorkloadOutcome plan.n plan.watched plan.flag tasks (record { report = settled.report; tallies = settled.tallies })
+      outcome_of_run = IsWorkloadOutcome-run plan.n plan.watched plan.flag tasks ends.checker.receipt.taken played.mailboxes.items have_run _ run.within (record {
         exact = λ rising. rw (n_is, watched_is) at is.exact;
         processes = is.processes ∙ n_is;
         emitted = λ p tally at. (tally_at p tally at).0;

@@ -31,7 +31,7 @@ pub fn run<R: Threads + Wait + Sync, G: Gate + Sync>(
 ) -> Result<Outcome, RunFault>
     requires read { CouldBeRead workload.now.plan.n workload.now.tasks.items }
     requires checked { IsCheckedPlan workload.now.plan }
-    ensures { IfOk result (IsWorkloadOutcome workload.now.plan.n workload.now.plan.watched workload.now.tasks.items) }
+    ensures { IfOk result (IsWorkloadOutcome workload.now.plan.n workload.now.plan.watched workload.now.plan.flag workload.now.tasks.items) }
 {
     let Ok(parts) = open_parts(alloc, workload) else {
         return Err(RunFault::Memory);
@@ -48,7 +48,7 @@ pub fn run<R: Threads + Wait + Sync, G: Gate + Sync>(
 fn conclude(alloc: Global, ends: Ends<WorkerEnd>, book: Book) -> Result<Outcome, RunFault>
     requires { (plan : Plan) × (tasks : List Task) × AreEndsOfRun plan tasks ends }
     ensures outcome { IfOk result (λ outcome. (plan : Plan) (tasks : List Task) → AreEndsOfRun plan tasks ends
-        → IsWorkloadOutcome plan.n plan.watched tasks outcome) }
+        → IsWorkloadOutcome plan.n plan.watched plan.flag tasks outcome) }
     ensures first { (first : RunFault) → IsFirstRunFault ends first → result ≡ Err first }
 {
     if let Some(fault) = fault_of_run(&ends) {

@@ -9,10 +9,13 @@ use Rattle.wcp_script.specs.Head.{processes_in, processes_by, head_by, head_of}
 use Rattle.wcp_script.proofs.LinesOfWords.{IsWord, IsWord-literal, IsWord-decimal, number_in-decimal, words_of-joined, worded, lines_of-line_text, lines_of_nothing}
 use Rattle.wcp_script.proofs.PrintedTasks.{task_is_words, lines_of-task_line, steps_by-task_lines}
 use Rattle.std.specs.FinSet as set
+use Rattle.wcp_model.specs.declared.flag.Flag.{Flag}
+use Rattle.wcp_model.specs.declared.flag.Flag.TheVariants as reset_at
+use Rattle.wcp_script.specs.PlanText.{flag_lines}
 use Rattle.wcp_model.specs.Watched.{AreSomeWatched}
 use Rattle.wcp_script.specs.declared.head_line.HeadLine.TheVariants as said
 use Rattle.std.proofs.lemmas.Bool.{le-ltb}
-use Rattle.wcp_script.proofs.Words.{lt-ltb, false_from_ne_true, some_watched, watch_lines, are_all_watched, watched_words, range_with_len, is_watched_by, subst}
+use Rattle.wcp_script.proofs.Words.{lt-ltb, false_from_ne_true, some_watched, watch_lines, are_all_watched, watched_words, range_with_len, is_watched_by}
 use Rattle.wcp_script.proofs.WatchLines.{watched_from, watch_line-printed, printed_words, printed_has, printed_past}
 use Rattle.wcp_script.proofs.Ranges.{all_from_range}
 use Rattle.wcp_script.proofs.PrintedHead.{Makes, Makes-append, made_is_read, said_unless, unwrap_or-said_unless, cap_makes, hold_makes, relays_make, attaches_make}
@@ -67,7 +70,7 @@ all_first (entry ∷ attach) each =
 abbrev capacities : Plan → Head
 capacities plan = record (first_head plan.n) { cap = said_unless 8 plan.cap; hold = said_unless 4 plan.hold }
 
--- A head with the tree and the capacities of the plan, which names nobody.
+-- A head with the tree and the capacities of the plan, which names nobody and says nothing of the flag.
 record IsTreeOf (head : Head) (plan : Plan) : Type 0 where
   n : plan.n ≡ head.n
   cap : plan.cap ≡ unwrap_or head.cap 8
@@ -75,6 +78,7 @@ record IsTreeOf (head : Head) (plan : Plan) : Type 0 where
   parents : plan.parents.items ≡ cond (eqb (length head.parents) 0) (Root ∷ []) head.parents
   attach : plan.attach.items ≡ cond (eqb (length head.parents) 0) (replicate head.n (Some 0)) head.attach
   nobody : head.watched ≡ None
+  unsaid : head.flag ≡ None
 
 -- Of the capacities the lines make such a head.
 abbrev MakesTree : Plan → List (List Word) → Type 0
@@ -86,10 +90,10 @@ tree_makes plan true is sound =
 tree_makes plan false is sound =
     let parents = plan.parents.items in
     let attach = plan.attach.items in
-    let relays = relays_make (capacities plan) [] parents 0 refl refl refl (omega (arith, sound.relays.1)) (λ i above here. omega (arith, sound.lower i above here)) in
+    let relays = relays_make (capacities plan) [] parents 0 refl refl refl refl (omega (arith, sound.relays.1)) (λ i above here. omega (arith, sound.lower i above here)) in
     let with_relays : Head = record (capacities plan) { parents = parents } in
     let attached = attaches_make with_relays [] attach (replicate plan.n None) attach None 0 refl (ap (λ k. replicate k None) (sym sound.entries)) refl
-    refl sound.relays.0 (omega (arith, sound.entries)) sound.procs.1 sound.served (λ p past. refl) in
+    refl refl sound.relays.0 (omega (arith, sound.entries)) sound.procs.1 sound.served (λ p past. refl) in
     let head : Head = record with_relays { attach = attach; last_attached = attached.0 } in
     let some : eqb (length parents) 0 ≡ false = ne_eqb (length parents) 0 (λ e. absurd (omega (arith, sound.relays.0))) in (
       head,
@@ -101,9 +105,19 @@ watched_below : (plan : Plan) → Sound plan → (p : ℕ) → plan.n ≤ p → 
 watched_below plan sound p past =
     false_from_ne_true (set.contains plan.watched p) (λ has. absurd (omega (arith, sound.watched.within p has, past)))
 
+-- A head that lacks only what a flag line says.
+record IsUnflagged (head : Head) (plan : Plan) : Type 0 where
+  n : plan.n ≡ head.n
+  cap : plan.cap ≡ unwrap_or head.cap 8
+  hold : plan.hold ≡ unwrap_or head.hold 4
+  parents : plan.parents.items ≡ cond (eqb (length head.parents) 0) (Root ∷ []) head.parents
+  attach : plan.attach.items ≡ cond (eqb (length head.parents) 0) (replicate head.n (Some 0)) head.attach
+  watched : (p : ℕ) → set.contains plan.watched p ≡ is_watched_by head.n head.watched p
+  unsaid : head.flag ≡ None
+
 -- the line of the watched, where not all are
 watch_makes : (plan : Plan) (head : Head) (all : Bool) → are_all_watched plan.n plan.watched ≡ all → Sound plan → IsTreeOf head plan
-    → (made : Head) × Makes head (cond all [] ((codes "watch" ∷ flat_map (watched_words plan.watched) (range_with_len 0 plan.n)) ∷ [])) made × IsPlanOf made plan
+    → (made : Head) × Makes head (cond all [] ((codes "watch" ∷ flat_map (watched_words plan.watched) (range_with_len 0 plan.n)) ∷ [])) made × IsUnflagged made plan
 watch_makes plan head true is sound tree =
     let each = all_from_range (set.contains plan.watched) 0 plan.n is in (
       head,
@@ -118,6 +132,7 @@ watch_makes plan head true is sound tree =
           | inl below ↦ each p (omega arith) (omega (arith, below)) ∙ sym (lt-ltb p head.n (omega (arith, tree.n, below)))
           | inr past ↦ watched_below plan sound p past ∙ sym (le-ltb p head.n (omega (arith, tree.n, past)))
         ]);
+        unsaid = tree.unsaid;
       },
     )
 watch_makes plan head false is sound tree =
@@ -133,8 +148,8 @@ watch_makes plan head false is sound tree =
         record {
           are_words = (IsWord-literal (codes "watch") refl, words);
           no_step = refl;
-          says = rw (← tree.n) line;
-          first = tree.nobody;
+          says = rw (tree.nobody, ← tree.n) line;
+          first = tree.unsaid;
         },
         refl,
       ),
@@ -148,19 +163,60 @@ watch_makes plan head false is sound tree =
           | inl inside ↦ printed_has plan.watched 0 plan.n p (omega arith) (omega (arith, inside))
           | inr past ↦ printed_past plan.watched 0 plan.n p (omega (arith, past)) ∙ sym (watched_below plan sound p past)
         ]);
+        unsaid = tree.unsaid;
       },
     )
 
+-- a head with what a flag line says, or none
+with_flag : (plan : Plan) (head : Head) (flag : Option Flag) → plan.flag ≡ unwrap_or flag reset_at.Event
+    → IsUnflagged head plan → IsPlanOf (record head { flag = flag }) plan
+with_flag plan head flag is before = record {
+  n = before.n;
+  cap = before.cap;
+  hold = before.hold;
+  parents = before.parents;
+  attach = before.attach;
+  watched = before.watched;
+  flag = is;
+}
+
+-- the line of the flag, where sends alone reset it
+flag_makes : (plan : Plan) (head : Head) (flag : Flag) → plan.flag ≡ flag → IsUnflagged head plan
+    → (made : Head) × Makes head (flag_lines flag) made × IsPlanOf made plan
+flag_makes plan head reset_at.Event is before = (
+  record head { flag = None },
+  ap (λ (o : Option Flag). record head { flag = o }) before.unsaid,
+  with_flag plan head None is before,
+)
+flag_makes plan head reset_at.Send is before = (
+  record head { flag = Some reset_at.Send },
+  (
+    said.Reset reset_at.Send,
+    record {
+      are_words = (IsWord-literal (codes "flag") refl, (IsWord-literal (codes "send") refl, tt));
+      no_step = refl;
+      says = refl;
+      first = before.unsaid;
+    },
+    refl,
+  ),
+  with_flag plan head (Some reset_at.Send) is before,
+)
+
 -- The lines after the first two.
 abbrev further_lines : Plan → List (List Word)
-further_lines plan = cap_lines plan.cap ++ (hold_lines plan.hold ++ (tree_lines plan ++ watch_lines plan.n plan.watched))
+further_lines plan = cap_lines plan.cap
+    ++ (hold_lines plan.hold ++ (tree_lines plan ++ (watch_lines plan.n plan.watched ++ flag_lines plan.flag)))
 
 further_make : (plan : Plan) → Sound plan → (head : Head) × Makes (first_head plan.n) (further_lines plan) head × IsPlanOf head plan
 further_make plan sound =
     let tree = tree_makes plan (has_one_relay plan) refl sound in
     let watch = watch_makes plan tree.0 (are_all_watched plan.n plan.watched) refl sound tree.2 in
-    let both = Makes-append (capacities plan) tree.0 watch.0 (tree_lines plan) (watch_lines plan.n plan.watched) tree.1 watch.1 in
-    grind (arith, both, watch.2, Makes-append, hold_makes plan.n plan.hold (said_unless 8 plan.cap) (eqb plan.hold 4) sound.hold.0 sound.hold.1, cap_makes plan.n plan.cap (eqb plan.cap 8) sound.cap.0 sound.cap.1)
+    let flag = flag_makes plan watch.0 plan.flag refl watch.2 in
+    let end = Makes-append tree.0 watch.0 flag.0 (watch_lines plan.n plan.watched) (flag_lines plan.flag) watch.1 flag.1 in
+    let rest = watch_lines plan.n plan.watched ++ flag_lines plan.flag in
+    let both = Makes-append (capacities plan) tree.0 flag.0 (tree_lines plan) rest tree.1 end in
+    grind (arith, both, flag.2, Makes-append, hold_makes plan.n plan.hold (said_unless 8 plan.cap) (eqb plan.hold 4) sound.hold.0 sound.hold.1, cap_makes plan.n plan.cap (eqb plan.cap 8) sound.cap.0 sound.cap.1)
 
 -- ---- the whole text
 

@@ -11,7 +11,7 @@ pub record Says (head : Head) (words : List Word) (what : HeadLine) : Type 0 whe
   pub are_words : AllByRecursion IsWord words
   pub no_step : is_task_word (first_word words) ≡ false
   pub says : head_words head words ≡ Ok what
-  pub first : head.watched ≡ None
+  pub first : head.flag ≡ None
 
 -- These lines, one after the other, make of one head the other.
 abbrev pub Makes : Head → List (List Word) → Head → Type 0
@@ -73,45 +73,45 @@ parent_in-parent_word relay parent small lower = grind (arith, IsWord-decimal, n
 above_from : (relay : ℕ) (parent : Parent) → ((above : ℕ) → parent ≡ Relay above → above < relay) → is_above relay parent ≡ true
 above_from relay parent lower = grind arith
 
-relay_says : (head : Head) (k : ℕ) (parent : Parent) → head.watched ≡ None → head.last_attached ≡ None → k ≡ length head.parents → k < 15 → is_above k parent ≡ true → Says head (codes "relay" ∷ decimal k ∷ parent_word parent ∷ []) (said.Relay parent)
-relay_says head k parent nobody none next few lower = grind (arith, IsWord-decimal, number_in-decimal, parent_in-parent_word)
+relay_says : (head : Head) (k : ℕ) (parent : Parent) → head.watched ≡ None → head.flag ≡ None → head.last_attached ≡ None → k ≡ length head.parents → k < 15 → is_above k parent ≡ true → Says head (codes "relay" ∷ decimal k ∷ parent_word parent ∷ []) (said.Relay parent)
+relay_says head k parent nobody unsaid none next few lower = grind (arith, IsWord-decimal, number_in-decimal, parent_in-parent_word)
 
-pub relays_make : (head : Head) (front parents : List Parent) (k : ℕ) → head.watched ≡ None → head.last_attached ≡ None → k ≡ length front → k + length parents ≤ 15 → ((i above : ℕ) → slice_get parents i ≡ Some (Relay above) → above < k + i)
+pub relays_make : (head : Head) (front parents : List Parent) (k : ℕ) → head.watched ≡ None → head.flag ≡ None → head.last_attached ≡ None → k ≡ length front → k + length parents ≤ 15 → ((i above : ℕ) → slice_get parents i ≡ Some (Relay above) → above < k + i)
     → Makes (record head { parents = front }) (numbered relay_lines k parents) (record head { parents = front ++ parents })
-relays_make head front [] k nobody none next few lower = ap (λ (all : List Parent). record head { parents = all }) (sym (append-nil front))
-relays_make head front (parent ∷ parents) k nobody none next few lower =
+relays_make head front [] k nobody unsaid none next few lower = ap (λ (all : List Parent). record head { parents = all }) (sym (append-nil front))
+relays_make head front (parent ∷ parents) k nobody unsaid none next few lower =
     let more : List Parent = front ++ parent ∷ [] in
     let here : is_above k parent ≡ true = above_from k parent (λ above is. omega (arith, lower 0 above (ap Some is))) in
-    let others = relays_make head more parents (k + 1) nobody none (omega (arith, length-append front (parent ∷ []))) (omega arith) (λ i above is. omega (arith, lower (suc i) above is)) in (
+    let others = relays_make head more parents (k + 1) nobody unsaid none (omega (arith, length-append front (parent ∷ []))) (omega arith) (λ i above is. omega (arith, lower (suc i) above is)) in (
       said.Relay parent,
-      relay_says (record head { parents = front }) k parent nobody none next (omega arith) here,
+      relay_says (record head { parents = front }) k parent nobody unsaid none next (omega arith) here,
       subst (λ (all : List Parent). Makes (record head { parents = more }) (numbered relay_lines (k + 1) parents) (record head { parents = all })) (append_assoc front (parent ∷ []) parents) others,
     )
 
 -- ---- attachments
 
-attach_says : (head : Head) (p relay : ℕ) → head.watched ≡ None → 1 ≤ length head.parents → p < head.n → head.n ≤ 16 → relay < 15 → is_after head.last_attached p ≡ true → Says head (codes "attach" ∷ decimal p ∷ decimal relay ∷ []) (said.Attach p relay)
-attach_says head p relay nobody some inside few lower rising = grind (arith, IsWord-decimal, number_in-decimal)
+attach_says : (head : Head) (p relay : ℕ) → head.watched ≡ None → head.flag ≡ None → 1 ≤ length head.parents → p < head.n → head.n ≤ 16 → relay < 15 → is_after head.last_attached p ≡ true → Says head (codes "attach" ∷ decimal p ∷ decimal relay ∷ []) (said.Attach p relay)
+attach_says head p relay nobody unsaid some inside few lower rising = grind (arith, IsWord-decimal, number_in-decimal)
 
 pub attaches_make : (head : Head) (served entries start all : List (Option ℕ)) (before : Option ℕ) (k : ℕ) → k ≡ length served → start ≡ served ++ replicate (length entries) None → all ≡ served ++ entries
-    → head.watched ≡ None → 1 ≤ length head.parents → k + length entries ≤ head.n → head.n ≤ 16 → ((i relay : ℕ) → slice_get entries i ≡ Some (Some relay) → relay < 15) → ((p : ℕ) → k ≤ p → is_after before p ≡ true)
+    → head.watched ≡ None → head.flag ≡ None → 1 ≤ length head.parents → k + length entries ≤ head.n → head.n ≤ 16 → ((i relay : ℕ) → slice_get entries i ≡ Some (Some relay) → relay < 15) → ((p : ℕ) → k ≤ p → is_after before p ≡ true)
     → (after : Option ℕ) × Makes (record head { attach = start; last_attached = before }) (numbered attach_lines k entries) (record head { attach = all; last_attached = after })
-attaches_make head served [] start all before k next begun whole nobody some inside few lower rising =
+attaches_make head served [] start all before k next begun whole nobody unsaid some inside few lower rising =
     (before, ap (λ (attach : List (Option ℕ)). record head { attach = attach; last_attached = before }) (begun ∙ sym whole))
-attaches_make head served (None ∷ entries) start all before k next begun whole nobody some inside few lower rising =
+attaches_make head served (None ∷ entries) start all before k next begun whole nobody unsaid some inside few lower rising =
     attaches_make head (served ++ None ∷ []) entries start all before (k + 1) (omega (arith, length-append {A = Option ℕ} served (None ∷ [])))
     (begun ∙ sym (append_assoc served (None ∷ []) (replicate (length entries) None))) (whole ∙ sym (append_assoc served (None ∷ []) entries))
-    nobody some (omega arith) few (λ i relay is. lower (suc i) relay is) (λ p past. rising p (omega arith))
-attaches_make head served (Some relay ∷ entries) start all before k next begun whole nobody some inside few lower rising =
+    nobody unsaid some (omega arith) few (λ i relay is. lower (suc i) relay is) (λ p past. rising p (omega arith))
+attaches_make head served (Some relay ∷ entries) start all before k next begun whole nobody unsaid some inside few lower rising =
     let none : List (Option ℕ) = replicate (length entries) None in
     let set : slice_set start k (Some relay) ≡ served ++ Some relay ∷ none = rw (begun, next) (set-append_seam served None none (Some relay)) in
     let others = attaches_make head (served ++ Some relay ∷ []) entries (slice_set start k (Some relay)) all (Some k) (k + 1) (omega (arith, length-append {A = Option ℕ} served (Some relay ∷ [])))
     (set ∙ sym (append_assoc served (Some relay ∷ []) none)) (whole ∙ sym (append_assoc served (Some relay ∷ []) entries))
-    nobody some (omega arith) few (λ i relay is. lower (suc i) relay is) (λ p past. lt-ltb k p (omega arith)) in (
+    nobody unsaid some (omega arith) few (λ i relay is. lower (suc i) relay is) (λ p past. lt-ltb k p (omega arith)) in (
       others.0,
       (
         said.Attach k relay,
-        attach_says (record head { attach = start; last_attached = before }) k relay nobody some (omega arith) few (lower 0 relay refl) (rising k (omega arith)),
+        attach_says (record head { attach = start; last_attached = before }) k relay nobody unsaid some (omega arith) few (lower 0 relay refl) (rising k (omega arith)),
         others.1,
       ),
     )

@@ -9,10 +9,10 @@ use Rattle.wcp_script.specs.PlanText.{spaced_word}
 text_more : (old front new : List ℕ) (xs ys : List (List Word)) → front ≡ old ++ text_of xs → new ≡ front ++ text_of ys → new ≡ old ++ text_of (xs ++ ys)
 text_more old front new xs ys was is = grind (arith, append_assoc, flat_map-append)
 
--- the text with the five parts of a head
-pub head_printed : {A E : Type 0} (r : Result A E) (old one two three four new : List ℕ) (opening cap hold tree watch : List (List Word)) → one ≡ old ++ text_of opening → two ≡ one ++ text_of cap → three ≡ two ++ text_of hold → four ≡ three ++ text_of tree
-    → OnOk r (new ≡ four ++ text_of watch) → OnOk r (new ≡ old ++ text_of (opening ++ (cap ++ (hold ++ (tree ++ watch)))))
-head_printed r old one two three four new opening cap hold tree watch first second third fourth last = grind (arith, text_more)
+-- the text with the six parts of a head
+pub head_printed : {A E : Type 0} (r : Result A E) (old one two three four five new : List ℕ) (opening cap hold tree watch flag : List (List Word)) → one ≡ old ++ text_of opening → two ≡ one ++ text_of cap → three ≡ two ++ text_of hold → four ≡ three ++ text_of tree → five ≡ four ++ text_of watch
+    → OnOk r (new ≡ five ++ text_of flag) → OnOk r (new ≡ old ++ text_of (opening ++ (cap ++ (hold ++ (tree ++ (watch ++ flag))))))
+head_printed r old one two three four five new opening cap hold tree watch flag first second third fourth fifth last = grind (arith, text_more)
 
 -- the words of a line, each behind a space but the first
 pub line_text_spaced : (word : Word) (words : List Word) → line_text (word ∷ words) ≡ word ++ (flat_map (λ other. 32 ∷ other) words ++ 10 ∷ [])

@@ -1,5 +1,5 @@
 -- What the numbers of a watch line say, and how such a line is printed and read back.
-use Rattle.wcp_script.proofs.Words.{◌≡◌, ℕ, zero, suc, ◌+◌, ◌<◌, ◌≤◌, Bool, true, false, cond, ◌&&◌, eqb, List, [], ◌∷◌, ◌++◌, length, Option, Some, None, Result, Ok, Err, refl, sym, ap, ◌∙◌, append-nil, append_assoc, arith, lt-ltb, ne_eqb, inl, inr, codes, flat_map, range_with_len, list_all, AllByRecursion, decimal, and_parts, cases_lt, cases_eq, HeadLine, FaultKind, Word, Head, is_after, number_in, ask, ◌>>=◌}
+use Rattle.wcp_script.proofs.Words.{◌≡◌, ℕ, zero, suc, ◌+◌, ◌<◌, ◌≤◌, Bool, true, false, cond, ◌&&◌, eqb, List, [], ◌∷◌, ◌++◌, length, Option, Some, None, Result, Ok, Err, refl, sym, ap, ◌∙◌, append-nil, append_assoc, arith, lt-ltb, ne_eqb, inl, inr, flat_map, range_with_len, list_all, AllByRecursion, and_parts, cases_eq, HeadLine, FaultKind, Word, is_after, number_in, ask, ◌>>=◌}
 use Rattle.std.specs.FinSet as set
 use Rattle.std.specs.Borrow.{Bor}
 use Rattle.std.specs.Prelude.{is_some}
@@ -8,7 +8,6 @@ use Rattle.wcp_script.specs.Views.{words_behind}
 use Rattle.wcp_script.proofs.Words.{length-slice_split, false≢true}
 use Rattle.std.specs.Prelude.{nat_lt, nat_eq}
 use Rattle.std.specs.List.{list_any}
-use Rattle.std.specs.Ordering.{nat_cmp}
 use Rattle.std.specs.Cmp.{nat_cmp_total}
 use Rattle.std.proofs.lemmas.Bool.{cases_Bool, eq-eqb}
 use Rattle.wcp_clock.specs.ProcessNumbers.{NumberSet}

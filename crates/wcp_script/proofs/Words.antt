@@ -29,7 +29,7 @@ pub use Rattle.wcp_order.specs.Stuck.{IsStuckAt, IfOrder, IfStuck, IsFirstStuck}
 pub use Rattle.wcp_script.specs.Head.{HeadRead, head_of, IsPlanOf, Head, first_head, processes_in, processes_by, head_by, head_line, with_line, first_word, head_words, is_watched_by, parent_in, is_above, is_after, IsWithinLimits, line_count}
 pub use Rattle.wcp_script.specs.Judgement.{number_in, ◌>>=◌, at_line, ask}
 pub use Rattle.wcp_script.specs.Lines.{Word, text_of, TextLine, line_text, lines_of, words_of, number_spelled, lines_among}
-pub use Rattle.wcp_script.specs.PlanText.{cap_lines, hold_lines, relay_lines, attach_lines, numbered, is_first, is_root_alone, has_one_relay, tree_lines, watch_lines, are_all_watched, watched_words, head_lines, text_of_workload, parent_word, opening_lines}
+pub use Rattle.wcp_script.specs.PlanText.{cap_lines, hold_lines, relay_lines, attach_lines, numbered, is_first, is_root_alone, has_one_relay, tree_lines, watch_lines, flag_lines, are_all_watched, watched_words, head_lines, text_of_workload, parent_word, opening_lines}
 pub use Rattle.wcp_script.specs.ReadAnswers.{IsReadAs, IsRefusedFor, IsFaultOf, ReadsSchedule, ReadsWorkload, Fails, ReadsText, ReadsInOrder}
 pub use Rattle.wcp_script.specs.Ring.{before, finds_both, received, sent, ring_turn, ring_round, ring_fault, ring_tasks, ring_length}
 pub use Rattle.wcp_script.specs.TextFault.{TextKind, workloads, schedules, steps_by, Spells, HasTextFault, InHead, OfPlan, InStep, HasWorkloadFault, InText, AtEnd, step_after}

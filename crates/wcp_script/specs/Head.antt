@@ -8,6 +8,8 @@ use Rattle.std.specs.Prelude.{codes, if◌then◌else◌}
 use Rattle.std.specs.Str.{bytes_eq}
 use Rattle.std.specs.Option.{ok_or, unwrap_or}
 use Rattle.wcp_clock.specs.Limits.{most_processes, most_cap, most_hold, most_relays}
+use Rattle.wcp_model.specs.declared.flag.Flag.{Flag}
+use Rattle.wcp_model.specs.declared.flag.Flag.TheVariants as reset_at
 use Rattle.wcp_model.specs.declared.plan.Parent.{Parent}
 use Rattle.wcp_model.specs.declared.plan.Parent.TheVariants as parent
 use Rattle.wcp_model.specs.declared.plan.Plan.{Plan}
@@ -16,7 +18,7 @@ use Rattle.wcp_script.specs.declared.fault.FaultKind.{FaultKind}
 use Rattle.wcp_script.specs.declared.fault.FaultKind.TheVariants as kind
 use Rattle.wcp_script.specs.declared.fault.ScriptFault.{ScriptFault}
 use Rattle.wcp_script.specs.declared.head_line.HeadLine.{HeadLine}
-use Rattle.wcp_script.specs.declared.head_line.HeadLine.TheVariants.{Cap, Hold, Relay, Attach, Watch}
+use Rattle.wcp_script.specs.declared.head_line.HeadLine.TheVariants.{Cap, Hold, Relay, Attach, Watch, Reset}
 use Rattle.wcp_script.specs.Capacities.{plain_cap, plain_hold}
 use Rattle.wcp_script.specs.Lines.{TextLine, lines_of, words_of}
 use Rattle.wcp_script.specs.Judgement.{◌>>=◌, ask, number_in, at_line}
@@ -46,7 +48,7 @@ processes_by (version ∷ processes ∷ others) =
     if is_version version then at_line 2 (processes_in processes) else at_line 1 (Err kind.Header)
 
 -- What the lines of a head said so far: the number of processes, the capacities, the parent of each relay, the relay of
--- each process, which process the last attach line named, and whom a watch line named.
+-- each process, which process the last attach line named, whom a watch line named, and what a flag line said.
 pub record Head : Type 0 where
   pub n : ℕ
   pub cap : Option ℕ
@@ -55,6 +57,7 @@ pub record Head : Type 0 where
   pub attach : List (Option ℕ)
   pub last_attached : Option ℕ
   pub watched : Option NumberSet
+  pub flag : Option Flag
 
 -- The head of two lines.
 abbrev pub first_head : ℕ → Head
@@ -66,6 +69,7 @@ first_head n = record {
   attach = replicate n None;
   last_attached = None;
   watched = None;
+  flag = None;
 }
 
 -- The head has no relay line.
@@ -156,25 +160,33 @@ words_before_watch head (first ∷ second ∷ third ∷ []) =
     else (if bytes_eq first (codes "attach") then attach_line head second third else Err kind.Line)
 words_before_watch head words = Err kind.Line
 
--- What a further line of a head says, by its words.
+-- `flag send` says that sends alone reset the flag.
+abbrev pub flag_line : List (List ℕ) → Result HeadLine FaultKind
+flag_line (word ∷ []) = if bytes_eq word (codes "send") then Ok (Reset reset_at.Send) else Err kind.Line
+flag_line words = Err kind.Line
+
+-- What a further line of a head says, by its words: behind a watch line only a flag line may stand.
 abbrev pub head_words : Head → List (List ℕ) → Result HeadLine FaultKind
 head_words head [] = Err kind.Line
 head_words head (first ∷ words) =
-    if bytes_eq first (codes "watch") then watch_line head.n words else words_before_watch head (first ∷ words)
+    if bytes_eq first (codes "flag") then flag_line words
+    else (if not (is_none head.watched) then Err kind.Line
+    else (if bytes_eq first (codes "watch") then watch_line head.n words else words_before_watch head (first ∷ words)))
 
--- What a further line of a head says, if it has its LF and stands before a watch line or is the first one.
+-- What a further line of a head says, if it has its LF and no flag line stands before it.
 unfoldable pub head_line : Head → TextLine → Result HeadLine FaultKind
 head_line head line =
-    if line.ended && is_none head.watched then head_words head (words_of line.bytes) else Err kind.Line
+    if line.ended && is_none head.flag then head_words head (words_of line.bytes) else Err kind.Line
 
--- A head allows one line for each capacity, one for each of at most 15 relays, and one that names the watched; and the
--- processes that its lines attach rise and are below n.
+-- A head allows one line for each capacity, one for each of at most 15 relays, one that names the watched and one that
+-- says what resets the flag; and the processes that its lines attach rise and are below n.
 abbrev pub IsAllowed : Head → HeadLine → Type 0
 IsAllowed head (Cap cap) = head.cap ≡ None
 IsAllowed head (Hold hold) = head.hold ≡ None
 IsAllowed head (Relay parent) = length head.parents < most_relays
 IsAllowed head (Attach p relay) = (is_after head.last_attached p ≡ true) × (p < head.n)
 IsAllowed head (Watch named) = head.watched ≡ None
+IsAllowed head (Reset flag) = head.flag ≡ None
 
 -- How many lines a head has at most, by what they said: an attach line names a process above that of the one before it.
 abbrev said_once : {X : Type 0} → Option X → ℕ
@@ -188,7 +200,7 @@ next_process (Some p) = p + 1
 abbrev pub line_count : Head → ℕ
 line_count head =
     2 + said_once head.cap + said_once head.hold + length head.parents + next_process head.last_attached
-    + said_once head.watched
+    + said_once head.watched + said_once head.flag
 
 -- The lists of a head are within their limits: an entry for each process, and at most 15 relays.
 pub record IsWithinLimits (head : Head) : Type 0 where
@@ -197,10 +209,10 @@ pub record IsWithinLimits (head : Head) : Type 0 where
   pub relays : length head.parents ≤ most_relays
   pub next : next_process head.last_attached ≤ head.n
 
--- A head has at most 36 lines: the first two, one for each capacity, one for each relay and each process, and one that
--- names the watched.
+-- A head has at most 37 lines: the first two, one for each capacity, one for each relay and each process, one that names
+-- the watched, and one that says what resets the flag.
 abbrev pub most_head_lines : ℕ
-most_head_lines = 5 + most_relays + most_processes
+most_head_lines = 6 + most_relays + most_processes
 
 -- The head with one line more.
 abbrev pub with_line : Head → HeadLine → Head
@@ -209,6 +221,7 @@ with_line head (Hold hold) = record head { hold = Some hold }
 with_line head (Relay parent) = record head { parents = head.parents ++ parent ∷ [] }
 with_line head (Attach p relay) = record head { attach = slice_set head.attach p (Some relay); last_attached = Some p }
 with_line head (Watch named) = record head { watched = Some named }
+with_line head (Reset flag) = record head { flag = Some flag }
 
 -- A head that was read, with the number of its last line, and the lines after it.
 pub record HeadRead : Type 0 where
@@ -243,7 +256,8 @@ is_watched_by n None p = nat_lt p n
 is_watched_by n (Some named) p = set.contains named p
 
 -- The plan that a head describes: the plain capacities where it doesn't say others, without relay lines one relay under
--- the root, which serves every process, and those watched that the head has so.
+-- the root, which serves every process, those watched that the head has so, and a flag that each event resets where no
+-- flag line says other.
 pub record IsPlanOf (head : Head) (plan : Plan) : Type 0 where
   pub n : plan.n ≡ head.n
   pub cap : plan.cap ≡ unwrap_or head.cap plain_cap
@@ -251,3 +265,4 @@ pub record IsPlanOf (head : Head) (plan : Plan) : Type 0 where
   pub parents : plan.parents.items ≡ (if has_no_relay head then plain_parents else head.parents)
   pub attach : plan.attach.items ≡ (if has_no_relay head then plain_attach head.n else head.attach)
   pub watched : (p : ℕ) → set.contains plan.watched p ≡ is_watched_by head.n head.watched p
+  pub flag : plan.flag ≡ unwrap_or head.flag reset_at.Event

@@ -1,5 +1,5 @@
 -- What the numbers of a watch line say, one after the other.
-use Rattle.std.specs.Prelude.{ℕ, ◌&&◌, true, nat_lt, List, [], ◌∷◌, None, Some, Result, Ok, Err, if◌then◌else◌}
+use Rattle.std.specs.Prelude.{ℕ, ◌&&◌, true, nat_lt, List, [], ◌∷◌, None, Some, Result, Ok, if◌then◌else◌}
 use Rattle.std.specs.FinSet as set
 use Rattle.wcp_script.specs.declared.fault.FaultKind.{FaultKind}
 use Rattle.wcp_script.specs.declared.watch_line.Named.{Named}

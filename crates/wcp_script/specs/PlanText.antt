@@ -4,6 +4,8 @@ use Rattle.std.specs.Prelude.{None, codes, if◌then◌else◌}
 use Rattle.std.specs.FinSet as set
 use Rattle.std.specs.List.{flat_map, list_all, range_with_len}
 use Rattle.std.specs.Fmt.{decimal}
+use Rattle.wcp_model.specs.declared.flag.Flag.{Flag}
+use Rattle.wcp_model.specs.declared.flag.Flag.TheVariants as reset_at
 use Rattle.wcp_model.specs.declared.plan.Parent.{Parent}
 use Rattle.wcp_model.specs.declared.plan.Parent.TheVariants.{Root, Relay}
 use Rattle.wcp_model.specs.declared.plan.Plan.{Plan}
@@ -81,11 +83,16 @@ watch_lines n watched =
     if are_all_watched n watched then []
     else (codes "watch" ∷ flat_map (watched_words watched) (range_with_len 0 n)) ∷ []
 
+-- The line that says what resets the flag, where it isn't each event.
+abbrev pub flag_lines : Flag → List (List Word)
+flag_lines reset_at.Event = []
+flag_lines reset_at.Send = (codes "flag" ∷ codes "send" ∷ []) ∷ []
+
 -- The lines of the head.
 abbrev pub head_lines : Plan → List (List Word)
 head_lines plan =
     opening_lines plan.n ++ (cap_lines plan.cap ++ (hold_lines plan.hold
-    ++ (tree_lines plan ++ watch_lines plan.n plan.watched)))
+    ++ (tree_lines plan ++ (watch_lines plan.n plan.watched ++ flag_lines plan.flag))))
 
 -- The text of the first two lines.
 abbrev pub opening_text : ℕ → List ℕ

@@ -46,6 +46,7 @@ seen_head head = record {
   attach = head.attach.items;
   last_attached = head.last_attached;
   watched = head.watched;
+  flag = head.flag;
 }
 
 -- The head ends before these lines, whatever it is.

@@ -12,7 +12,7 @@ use crate::lines::{Line, first_word, next_line};
 use crate::opening::{OPENING_LINES, read_opening};
 use crate::step_line::StepLine;
 use std::alloc::{AllocError, Global};
-use wcp_model::{Parent, Plan, Watched, plain_plan};
+use wcp_model::{Flag, Parent, Plan, Watched, plain_plan};
 
 /// How many notes each link and each inbox has room for, where the text doesn't say.
 pub(crate) const PLAIN_CAP: u32 = 8;
@@ -33,6 +33,8 @@ pub(crate) struct Head {
     pub last_attached: Option<u32>,
     /// The processes of the watch line.
     pub watched: Option<Watched>,
+    /// What the flag line says.
+    pub flag: Option<Flag>,
 }
 
 /// A head, the number of its last line, and the text after it.
@@ -111,6 +113,7 @@ impl Head {
             attach: vec![in alloc; None; n as usize]?,
             last_attached: None,
             watched: None,
+            flag: None,
         })
     }
 
@@ -131,6 +134,7 @@ impl Head {
                 self.last_attached = Some(p);
             }
             HeadLine::Watch(watched) => self.watched = Some(watched),
+            HeadLine::Reset(flag) => self.flag = Some(flag),
         }
         Ok(())
     }
@@ -146,13 +150,17 @@ impl Head {
             Some(watched) => watched,
             None => Watched::all(self.n),
         };
+        let flag = self.flag.unwrap_or(Flag::Event);
         if self.parents.is_empty() {
             let mut plan = plain_plan(alloc, self.n, cap, hold)?;
             plan.watched = watched;
+            plan.flag = flag;
             return Ok(plan);
         }
         let parents = self.parents;
         let attach = self.attach;
-        Ok(Plan::new(self.n, cap, hold, parents, attach, watched))
+        let mut plan = Plan::new(self.n, cap, hold, parents, attach, watched);
+        plan.flag = flag;
+        Ok(plan)
     }
 }

@@ -1,8 +1,8 @@
 ghost use Rattle.std.specs.Prelude.{◌≡◌, ◌≤◌, [], ◌∷◌, IfOk};
 ghost use Rattle.wcp_clock.specs.Limits.{most_processes};
 ghost use Rattle.wcp_script.specs.Head.{IsAllowed, parent_in, is_above, is_after, cap_line, hold_line, relay_line};
-ghost use Rattle.wcp_script.specs.Head.{attach_line, words_before_watch, head_line};
-ghost use Rattle.wcp_script.specs.Views.{seen_line, seen_head};
+ghost use Rattle.wcp_script.specs.Head.{attach_line, flag_line, words_before_watch, head_line};
+ghost use Rattle.wcp_script.specs.Views.{seen_line, seen_head, words_behind};
 
 use crate::fault::{FaultKind, ask};
 use crate::head::Head;
@@ -10,7 +10,7 @@ use crate::lines::{Line, Words, next_word, words_of};
 use crate::number::number_in;
 use crate::watch_line::watch_line;
 use wcp_clock::{MAX_CAP, MAX_HOLD, MAX_RELAYS};
-use wcp_model::{Parent, Watched};
+use wcp_model::{Flag, Parent, Watched};
 
 /// What a line of the head says, behind its first two lines.
 #[derive(Clone, Copy)]
@@ -25,6 +25,8 @@ pub(crate) enum HeadLine {
     Attach(u32, u32),
     /// These processes have a condition.
     Watch(Watched),
+    /// This resets the flag.
+    Reset(Flag),
 }
 
 impl Head {
@@ -35,8 +37,12 @@ impl Head {
         ensures exact { result ≡ head_line (seen_head self.now) (seen_line line.entry) }
         ensures allowed { IfOk result (IsAllowed (seen_head self.now)) }
     {
-        ask(line.ended && self.watched.is_none(), FaultKind::Line)?;
+        ask(line.ended && self.flag.is_none(), FaultKind::Line)?;
         let (first, others) = next_word(line.bytes);
+        if first == b"flag".as_slice() {
+            return flag_line(others);
+        }
+        ask(self.watched.is_none(), FaultKind::Line)?;
         if first == b"watch".as_slice() {
             return watch_line(self.n, others);
         }
@@ -124,6 +130,19 @@ impl Head {
         ask(is_after(self.last_attached, p), FaultKind::Line)?;
         ask(p < self.n, FaultKind::Process)?;
         Ok(HeadLine::Attach(p, relay))
+    }
+}
+
+/// What a flag line says, by the words behind its first.
+fn flag_line(words: Option<&[u8]>) -> Result<HeadLine, FaultKind>
+    ensures { result ≡ flag_line (words_behind words.entry) }
+{
+    let Some(words) = words else {
+        return Err(FaultKind::Line);
+    };
+    match words_of(words) {
+        Words::One(word) if word == b"send".as_slice() => Ok(HeadLine::Reset(Flag::Send)),
+        _ => Err(FaultKind::Line),
     }
 }
 

@@ -6,13 +6,13 @@ ghost use Rattle.wcp_model.specs.WorkloadComputation.{CouldBeRead};
 ghost use Rattle.wcp_script.specs.TextFault.{workloads, Spells};
 ghost use Rattle.wcp_script.specs.WorkloadText.{task_line};
 ghost use Rattle.wcp_script.specs.Lines.{text_of};
-ghost use Rattle.wcp_script.specs.PlanText.{attach_lines, cap_lines, has_one_relay, head_lines, hold_lines, is_first};
+ghost use Rattle.wcp_script.specs.PlanText.{attach_lines, cap_lines, flag_lines, has_one_relay, head_lines, hold_lines, is_first};
 ghost use Rattle.wcp_script.specs.PlanText.{are_all_watched, numbered, spaced_word, watch_lines};
 ghost use Rattle.wcp_script.specs.PlanText.{opening_lines, relay_lines, text_of_workload, tree_lines};
 
 use crate::head::{PLAIN_CAP, PLAIN_HOLD};
 use std::alloc::{AllocError, Global};
-use wcp_model::{Action, Parent, Plan, Task, Watched, Workload};
+use wcp_model::{Action, Flag, Parent, Plan, Task, Watched, Workload};
 
 /// The text that spells a workload: the lines of its head, and a line for each task in turn. `Err`
 /// where memory runs out.
@@ -37,7 +37,8 @@ fn push_head(text: &mut String, plan: &Plan) -> Result<(), AllocError>
     push_cap(text, plan.cap)?;
     push_hold(text, plan.hold)?;
     push_tree(text, plan)?;
-    push_watch(text, plan.n, plan.watched)
+    push_watch(text, plan.n, plan.watched)?;
+    push_flag(text, plan.flag)
 }
 
 fn push_opening(text: &mut String, n: u32) -> Result<(), AllocError>
@@ -142,6 +143,15 @@ fn push_watch(text: &mut String, n: u32, watched: Watched) -> Result<(), AllocEr
     write!(text, "watch")?;
     push_watched(text, n, watched)?;
     writeln!(text, "")
+}
+
+fn push_flag(text: &mut String, flag: Flag) -> Result<(), AllocError>
+    ensures { OnOk result (string_bytes text.new ≡ string_bytes text.old ++ text_of (flag_lines flag)) }
+{
+    match flag {
+        Flag::Event => Ok(()),
+        Flag::Send => writeln!(text, "flag send"),
+    }
 }
 
 #[tactic(auto, using(crate::proofs::Ranges::range_next))]

@@ -25,4 +25,5 @@ pub use Rattle.wcp_single.specs.WorkloadProcess.{IsRunning, MayCommunicate, MayR
 pub use Rattle.wcp_single.specs.WorkloadRun.{IsChannel, IsNextTask, MayDoNext, queue_at, HasDone, HasClosed, IsEnding}
 pub use Rattle.wcp_single.specs.declared.workload_process.WorkloadProcess.{WorkloadProcess}
 pub use Rattle.wcp_clock.specs.ProcessNumbers.{NumberSet}
+pub use Rattle.wcp_model.specs.declared.flag.Flag.{Flag}
 pub use Rattle.wcp_model.specs.declared.probe_setup.ProbeSetup.{ProbeSetup}

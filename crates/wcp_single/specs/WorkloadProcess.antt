@@ -1,6 +1,7 @@
 use Rattle.std.specs.Prelude.{◌≡◌, ◌≢◌, ℕ, ◌<◌, ◌≤◌, List, [], ◌∷◌, ◌++◌, length, slice_index, None, false}
 use Rattle.wcp_clock.specs.Limits.{most_events}
 use Rattle.wcp_clock.specs.ProcessNumbers.{NumberSet}
+use Rattle.wcp_model.specs.declared.flag.Flag.{Flag}
 use Rattle.wcp_clock.specs.declared.note.Item.{Item}
 use Rattle.wcp_model.specs.ProbeLog.{Call, setup, state_of_log}
 use Rattle.wcp_model.specs.Report.{notes_taken}
@@ -48,30 +49,31 @@ pub record HasTaken (n : ℕ) (watched : NumberSet) (items : List Item) (checker
   pub not_starved : checker.starved ≡ false
 
 -- A checker of n processes has taken these items, and with them all that process p emits by this log.
-pub record IsFed (n : ℕ) (watched : NumberSet) (p : ℕ) (log : List Call) (items : List Item) (checker : CheckerState)
+pub record IsFed (n : ℕ) (watched : NumberSet) (flag : Flag) (p : ℕ) (log : List Call) (items : List Item) (checker : CheckerState)
     : Type 0 where
   pub within : p < n
   pub has_taken : HasTaken n watched items checker
-  pub all : notes_taken p items ≡ (state_of_log (setup n watched p) log).notes
+  pub all : notes_taken p items ≡ (state_of_log (setup n watched flag p) log).notes
 
 -- The checker has taken all that the process has emitted.
 pub record IsCaughtUp (process : WorkloadProcess) (checker : CheckerState) : Type 0 where
   pub n : ℕ
   pub watched : NumberSet
+  pub flag : Flag
   pub log : List Call
   pub items : List Item
-  pub running : IsRunning (setup n watched process.id) log process
-  pub fed : IsFed n watched process.id log items checker
+  pub running : IsRunning (setup n watched flag process.id) log process
+  pub fed : IsFed n watched flag process.id log items checker
 
 -- After these items, the checker has taken all else that process p emits by this log, and nothing of another process.
-pub record IsFedMore (n : ℕ) (watched : NumberSet) (p : ℕ) (log : List Call) (items : List Item)
+pub record IsFedMore (n : ℕ) (watched : NumberSet) (flag : Flag) (p : ℕ) (log : List Call) (items : List Item)
     (checker : CheckerState) : Type 0 where
   pub more : List Item
-  pub fed : IsFed n watched p log more checker
+  pub fed : IsFed n watched flag p log more checker
   pub others : (q : ℕ) → q ≢ p → notes_taken q more ≡ notes_taken q items
 
 -- The checker takes what the probe of a process emits by a call, and nothing else.
 abbrev pub Feeds : WorkloadProcess → Call → CheckerState → CheckerState → Type 0
-Feeds process call old new = (n : ℕ) (watched : NumberSet) (p : ℕ) (log : List Call) (items : List Item) →
-    IsRunning (setup n watched p) log process → IsFed n watched p log items old →
-    IsFedMore n watched p (log ++ call ∷ []) items new
+Feeds process call old new = (n : ℕ) (watched : NumberSet) (flag : Flag) (p : ℕ) (log : List Call) (items : List Item) →
+    IsRunning (setup n watched flag p) log process → IsFed n watched flag p log items old →
+    IsFedMore n watched flag p (log ++ call ∷ []) items new

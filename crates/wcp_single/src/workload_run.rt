@@ -7,6 +7,7 @@ ghost use Rattle.wcp_model.specs.declared.outcome.Tally.{Tally};
 ghost use Rattle.wcp_model.specs.declared.workload.Task.{Task};
 ghost use Rattle.wcp_model.specs.Outcome.{IsWorkloadOutcome};
 ghost use Rattle.wcp_clock.specs.ProcessNumbers.{NumberSet};
+ghost use Rattle.wcp_model.specs.declared.flag.Flag.{Flag};
 ghost use Rattle.wcp_model.specs.Watched.{AreSomeWatched};
 ghost use Rattle.wcp_model.specs.WorkloadComputation.{IsWithin};
 ghost use Rattle.wcp_queue.specs.Checker.{processes, taken_of};
@@ -36,7 +37,7 @@ impl WorkloadRun {
         requires few { plan.now.n ≤ most_processes }
         requires watched { AreSomeWatched plan.now.n plan.now.watched }
         ensures { IfOk result (λ run.
-            HasDone plan.now.n plan.now.watched [] run.processes.items run.in_transit.items run.checker) }
+            HasDone plan.now.n plan.now.watched plan.now.flag [] run.processes.items run.in_transit.items run.checker) }
     {
         let n = plan.n;
         let mut processes = Vec::with_capacity(alloc, n as usize)?;
@@ -59,9 +60,9 @@ impl WorkloadRun {
     pub fn perform(&mut self, n: u32, task: Task) -> Result<(), AllocError>
         requires few { n ≤ most_processes }
         requires next { MayDoNext n task self.old.processes.items self.old.in_transit.items self.old.checker }
-        ensures { OnOk result ((watched : NumberSet) (done : List Task) → IsNextTask n done task
-            → HasDone n watched done self.old.processes.items self.old.in_transit.items self.old.checker
-            → HasDone n watched (done ++ task ∷ [])
+        ensures { OnOk result ((watched : NumberSet) (flag : Flag) (done : List Task) → IsNextTask n done task
+            → HasDone n watched flag done self.old.processes.items self.old.in_transit.items self.old.checker
+            → HasDone n watched flag (done ++ task ∷ [])
             self.new.processes.items self.new.in_transit.items self.new.checker) }
     {
         let p = task.p as usize;
@@ -81,11 +82,11 @@ impl WorkloadRun {
 
     /// Closes process `p`, after all tasks. `Err` where memory runs out.
     pub fn close(&mut self, p: u32) -> Result<(), AllocError>
-        requires next { (n : ℕ) × (watched : NumberSet) × (tasks : List Task) × (p < n)
-            × IsEnding n watched tasks p self.old.processes.items self.old.checker }
-        ensures { OnOk result ((n : ℕ) (watched : NumberSet) (tasks : List Task) → p < n
-            → IsEnding n watched tasks p self.old.processes.items self.old.checker
-            → IsEnding n watched tasks (p + 1) self.new.processes.items self.new.checker) }
+        requires next { (n : ℕ) × (watched : NumberSet) × (flag : Flag) × (tasks : List Task) × (p < n)
+            × IsEnding n watched flag tasks p self.old.processes.items self.old.checker }
+        ensures { OnOk result ((n : ℕ) (watched : NumberSet) (flag : Flag) (tasks : List Task) → p < n
+            → IsEnding n watched flag tasks p self.old.processes.items self.old.checker
+            → IsEnding n watched flag tasks (p + 1) self.new.processes.items self.new.checker) }
     {
         self.processes[p as usize].close(&mut self.checker)?;
         Ok(())
@@ -96,9 +97,9 @@ impl WorkloadRun {
         requires some { 0 < length self.now.processes.items }
         requires few { length self.now.processes.items ≤ most_processes }
         requires processes { processes self.now.checker ≡ length self.now.processes.items }
-        ensures { (n : ℕ) (watched : NumberSet) (tasks : List Task) → All (IsWithin n) tasks
-            → IsEnding n watched tasks n self.now.processes.items self.now.checker
-            → IsWorkloadOutcome n watched tasks result }
+        ensures { (n : ℕ) (watched : NumberSet) (flag : Flag) (tasks : List Task) → All (IsWithin n) tasks
+            → IsEnding n watched flag tasks n self.now.processes.items self.now.checker
+            → IsWorkloadOutcome n watched flag tasks result }
     {
         Outcome {
             report: self.checker.report(),

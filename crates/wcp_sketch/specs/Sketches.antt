@@ -5,6 +5,7 @@ use Rattle.wcp_model.specs.declared.outcome.Report.TheVariants.{Found, Nothing, 
 use Rattle.wcp_model.specs.declared.workload.Task.{Task}
 use Rattle.wcp_model.specs.declared.plan.Plan.{Plan}
 use Rattle.wcp_clock.specs.ProcessNumbers.{NumberSet}
+use Rattle.wcp_model.specs.declared.flag.Flag.{Flag}
 use Rattle.wcp_model.specs.Cut.{Intervals}
 use Rattle.wcp_model.specs.Outcome.{IsWorkloadOutcome}
 use Rattle.wcp_model.specs.WorkloadComputation.{IsFitOrder}
@@ -21,14 +22,14 @@ cut_of (Found cut) = Some cut
 cut_of Nothing = None
 cut_of Undecided = None
 
--- The picture of these tasks of processes with these names, of which some are watched: of a layout of a fit order of
--- them about the cut of their outcome; and whether there is one.
-pub record IsPictureOf (names : List (List ℕ)) (watched : NumberSet) (tasks : List Task) (picture : List ℕ)
+-- The picture of these tasks of processes with these names, of which some are watched, under what resets their flags: of
+-- a layout of a fit order of them about the cut of their outcome; and whether there is one.
+pub record IsPictureOf (names : List (List ℕ)) (watched : NumberSet) (flag : Flag) (tasks : List Task) (picture : List ℕ)
     (found : Bool) : Type 0 where
   pub order : List Task
   pub fit : IsFitOrder tasks order
   pub outcome : Outcome
-  pub is_outcome : IsWorkloadOutcome (length names) watched tasks outcome
+  pub is_outcome : IsWorkloadOutcome (length names) watched flag tasks outcome
   pub layout : Layout
   pub is_layout : IsLayout (length names) order (cut_of outcome.report) layout
   pub drawn : (frame : _) × IsFrame (length names) layout.line layout.columns.items (cut_of outcome.report) frame
@@ -43,4 +44,4 @@ pub record IsSketchOf (list : Option (List ℕ)) (text picture : List ℕ) (foun
   pub spells : Spells workloads text plan tasks
   pub names : List (List ℕ)
   pub are_names : AreNames list plan.n names
-  pub is_picture : IsPictureOf names plan.watched tasks picture found
+  pub is_picture : IsPictureOf names plan.watched plan.flag tasks picture found

@@ -35,8 +35,8 @@ fn sketch_in_order(
     requires watched { AreSomeWatched workload.now.plan.n workload.now.plan.watched }
     requires fit { IsFitOrder workload.now.tasks.items order.now }
     requires names { length names.now ≡ workload.now.plan.n }
-    ensures { IfOk result (λ picture. IsPictureOf names.now workload.now.plan.watched workload.now.tasks.items
-        (string_bytes picture.text) picture.found) }
+    ensures { IfOk result (λ picture. IsPictureOf names.now workload.now.plan.watched workload.now.plan.flag
+        workload.now.tasks.items (string_bytes picture.text) picture.found) }
 {
     let outcome = single_in_order(alloc, workload, order)?;
     let cut = cut_of(outcome.report);

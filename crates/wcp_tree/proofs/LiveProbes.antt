@@ -10,7 +10,7 @@ use Rattle.wcp_tree.proofs.RisingLogs.{log_clocks_rise}
 pub fresh_stands : (watch : ℕ) (made : ProbeSetup) (probe : LiveSide) → probe.core ≡ fresh_core watch made
     → probe.link.put ≡ [] → LiveFor probe []
 fresh_stands watch made probe fresh empty = rw fresh (record {
-  core = record { clock = ap (λ k. replicate k 0) (sym (length-replicate made.processes 0)); flag = refl; closed = refl; emitted = refl; pending = tt };
+  core = record { clock = ap (λ k. replicate k 0) (sym (length-replicate made.processes 0)); flag_up = refl; closed = refl; emitted = refl; pending = tt };
   emissions = ap (λ put. put ++ []) empty;
 })
 

@@ -5,7 +5,7 @@ use Rattle.wcp_tree.proofs.Entries.{taken_out}
 
 module _ (plan : Plan) (watch : ℕ) where
   pub one_ring_more : (k : ℕ) (probes : List LiveSide) (takers : List (Option TakeSide)) (probe : LiveSide) (taker : TakeSide)
-      → AreRings plan watch k probes takers → probe.core ≡ fresh_core watch (setup plan.n plan.watched k) → probe.link.put ≡ [] → probe.link.free ≡ plan.cap
+      → AreRings plan watch k probes takers → probe.core ≡ fresh_core watch (setup plan.n plan.watched plan.flag k) → probe.link.put ≡ [] → probe.link.free ≡ plan.cap
       → taker.ring ≡ probe.link.ring → taker.taken ≡ []
       → AreRings plan watch (k + 1) (probes ++ probe ∷ []) (takers ++ Some taker ∷ [])
   one_ring_more k probes takers probe taker rings fresh empty room one_ring none = record {

@@ -1,5 +1,5 @@
 -- A feed stays in order as it gives the next note of its process.
-use Rattle.wcp_tree.proofs.Words.{◌≡◌, ◌+◌, true, false, true≢false, Bool, [], ◌∷◌, ◌++◌, length, length-append, append-nil, sym, refl, ap, ◌∙◌, subst, arith, All, All-push, get_or_push, length_push, TakeSide, Note, Lost, AreInSequence, place_of, is_last, AreInSequence-push, Feed, given_by, mark_of_lost, IsInOrder, IsNextAfterNotes, MayComeFromRing, CameFromRing}
+use Rattle.wcp_tree.proofs.Words.{◌≡◌, ◌+◌, true, false, true≢false, [], ◌∷◌, ◌++◌, length, length-append, append-nil, sym, refl, ap, ◌∙◌, subst, arith, All, All-push, get_or_push, length_push, TakeSide, Note, Lost, AreInSequence, place_of, is_last, AreInSequence-push, Feed, given_by, mark_of_lost, IsInOrder, IsNextAfterNotes, MayComeFromRing, CameFromRing}
 
 -- a feed of a process that was not lost gave what it took
 pub given_is_taken : (feed : Feed) → feed.lost ≡ false → given_by feed ≡ feed.taker.taken

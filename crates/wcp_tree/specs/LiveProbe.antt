@@ -1,9 +1,10 @@
 -- What a live probe has, and the log of calls that it stands for.
-use Rattle.std.specs.Prelude.{◌≡◌, ℕ, false, not, Option, Some, None}
+use Rattle.std.specs.Prelude.{◌≡◌, ℕ, false, Option, Some, None}
 use Rattle.std.specs.Prelude.{List, [], ◌∷◌, ◌++◌, count_by, length, replicate, slice_get}
 use Rattle.wcp_clock.specs.Limits.{most_events}
 use Rattle.wcp_clock.specs.declared.note.Note.{Note}
 use Rattle.wcp_clock.specs.ProcessNumbers.{NumberSet}
+use Rattle.wcp_model.specs.declared.flag.Flag.{Flag}
 use Rattle.wcp_model.specs.declared.probe_setup.ProbeSetup.{ProbeSetup}
 use Rattle.wcp_model.specs.ProbeLog.{Call, Closed, setup, state_of_log}
 use Rattle.wcp_model.specs.Report.{AreRising, snapshot_clocks}
@@ -28,19 +29,20 @@ fresh_core watch made = record {
   watch = watch;
   id = made.process;
   watched = made.watched;
+  flag = made.flag;
   limit = most_events;
   clock = replicate made.processes 0;
-  flag = false;
+  flag_up = false;
   closed = false;
   emitted = 0;
   pending = None;
 }
 
 -- The probes of n processes before any call, by the numbers of the processes.
-pub record AreFreshProbes (n : ℕ) (watched : NumberSet) (probes : List LiveSide) : Type 0 where
+pub record AreFreshProbes (n : ℕ) (watched : NumberSet) (flag : Flag) (probes : List LiveSide) : Type 0 where
   pub count : length probes ≡ n
   pub each : (p : ℕ) (probe : LiveSide) → slice_get probes p ≡ Some probe
-      → (probe.core ≡ fresh_core probe.core.watch (setup n watched p)) × (probe.link.put ≡ [])
+      → (probe.core ≡ fresh_core probe.core.watch (setup n watched flag p)) × (probe.link.put ≡ [])
 
 -- The note that is pending, if there is one.
 abbrev pub pending_notes : Option Note → List Note

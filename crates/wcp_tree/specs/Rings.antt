@@ -20,7 +20,7 @@ pub record IsNewRing (plan : Plan) (watch p : ℕ)
   pub probe : LiveSide
   pub taker : TakeSide
   pub is_probe : slice_get probes p ≡ Some probe
-  pub fresh : probe.core ≡ fresh_core watch (setup plan.n plan.watched p)
+  pub fresh : probe.core ≡ fresh_core watch (setup plan.n plan.watched plan.flag p)
   pub empty : probe.link.put ≡ []
   pub room : probe.link.free ≡ plan.cap
   pub is_taker : IsTakerAt takers p taker

@@ -76,16 +76,16 @@ impl LiveProbe {
     }
 
     /// The process observes its condition. The answer is whether a snapshot was emitted, which then
-    /// is pending: the first true observation of an interval emits one, unless the process isn't watched.
+    /// is pending: a true observation emits one where the flag isn't up and the process is watched.
     pub fn observe(&mut self, holds: bool) -> bool
         ensures accepted { LiveAccepts self.old (Observed holds) self.new }
         ensures emits { IsTrue result
-            ↔ (IsTrue holds × (self.old.core.watched ≡ true) × (self.old.core.flag ≡ false)) }
+            ↔ (IsTrue holds × (self.old.core.watched ≡ true) × (self.old.core.flag_up ≡ false)) }
         ensures spared { IsTrue result → self.old.core.pending ≡ None }
         ensures link { self.new.link ≡ self.old.link }
         ensures pending { self.new.core ≡ (if result
             then record self.old.core {
-              flag = true;
+              flag_up = true;
               emitted = self.old.core.emitted + 1;
               pending = Some (note.Snap self.old.core.emitted self.old.core.clock);
             }

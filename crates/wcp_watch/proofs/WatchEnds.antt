@@ -1,5 +1,5 @@
 -- The ends of the parts of a watch come from it.
-use Rattle.wcp_watch.proofs.Words.{NumberSet, ◌≡◌, ◌↔◌, ℕ, ◌<◌, true, Option, None, Some, List, get_or, All, sym, ap, subst, ◌∙◌, arith, IfNone, slice_get, length-replicate, slice_get-get_or, ClosedSide, IsEndOfProbe, LiveSide, IsEndOfRelay, fault_of, IsWired, RelayEnd, IsEndOfLoop, ComeFromWatch, IsEndOfSomeProbe, IsEndOfSomeRelay, CheckerEnd}
+use Rattle.wcp_watch.proofs.Words.{NumberSet, Flag, ◌≡◌, ◌↔◌, ℕ, ◌<◌, true, Option, None, Some, List, get_or, All, sym, ap, subst, ◌∙◌, arith, IfNone, slice_get, length-replicate, slice_get-get_or, ClosedSide, IsEndOfProbe, LiveSide, IsEndOfRelay, fault_of, IsWired, RelayEnd, IsEndOfLoop, ComeFromWatch, IsEndOfSomeProbe, IsEndOfSomeRelay, CheckerEnd}
 use Rattle.std.specs.FinSet as set
 use Rattle.wcp_model.specs.PlanFault.{IsCheckedPlan}
 use Rattle.wcp_model.specs.ProbeLog.{setup}
@@ -18,9 +18,9 @@ where_none None holds = holds
 where_none (Some x) holds = tt
 
 -- a probe was made for process p of n, and its end carries that number
-pub record IsEndOfProcess (watch : Watch) (n : ℕ) (watched : NumberSet) (p : ℕ) (probe : LiveSide) (end : ClosedSide) : Type 0 where
+pub record IsEndOfProcess (watch : Watch) (n : ℕ) (watched : NumberSet) (flag : Flag) (p : ℕ) (probe : LiveSide) (end : ClosedSide) : Type 0 where
   pub id : end.id ≡ p
-  pub made : setup_of probe.core ≡ setup n watched p
+  pub made : setup_of probe.core ≡ setup n watched flag p
   pub is_end : IsEndOfSomeProbe watch.probes.items end
 
 module _ {plan : Plan} {number : ℕ} {watch : Watch} (wired : IsWired plan number watch) where
@@ -31,13 +31,13 @@ module _ {plan : Plan} {number : ℕ} {watch : Watch} (wired : IsWired plan numb
       grind (arith, members checker.processes, members plan.n, is.processes checker.processes, is.processes plan.n)
 
   pub end_of_process : (p : ℕ) (probe : LiveSide) (end : ClosedSide) → slice_get watch.probes.items p ≡ Some probe → IsEndOfProbe probe end
-      → IsEndOfProcess watch plan.n plan.watched p probe end
+      → IsEndOfProcess watch plan.n plan.watched plan.flag p probe end
   end_of_process p probe end at closed =
       let core = ((probes_fresh plan number watch wired).each p probe at).0 in
       let id : end.id ≡ p = closed.id ∙ ap (λ (c : Core). c.id) core in
       record {
         id = id;
-        made = ap setup_of core ∙ ap (λ n. setup n plan.watched p) (length-replicate plan.n 0);
+        made = ap setup_of core ∙ ap (λ n. setup n plan.watched plan.flag p) (length-replicate plan.n 0);
         is_end = record { probe = probe; is_probe = ap (slice_get watch.probes.items) id ∙ at; one_ring = closed.ring };
       }
 

@@ -47,3 +47,4 @@ pub use Rattle.wcp_watch.specs.declared.checker_end.CheckerEnd.{CheckerEnd}
 pub use Rattle.wcp_watch.specs.declared.settle_fault.SettleFault.TheVariants.{Stranger, Missing, Faulted, Unfinished}
 pub use denote.Param.Send.{IsSend, EachSend, enum_send, recorded_send, struct_send, sendable}
 pub use Rattle.wcp_clock.specs.ProcessNumbers.{NumberSet}
+pub use Rattle.wcp_model.specs.declared.flag.Flag.{Flag}

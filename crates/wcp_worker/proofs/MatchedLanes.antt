@@ -1,5 +1,5 @@
 -- The lanes among the mailboxes of all processes, as their ends are taken out.
-use Rattle.wcp_worker.proofs.Words.{◌≡◌, ◌≢◌, ◌↔◌, ℕ, Option, Some, None, Result, Ok, Err, List, length, slice_get, slice_set, get_or, inl, inr, true, true≢false, refl, ap, sym, ◌∙◌, ◌<◌, subst₂, arith, cases_eq, common_steps, gets, length-map, length-set, slice_index_or, IsOk, OnOk, slice_get_within, slice_get-get_or, Inbox, Outbox, Mailbox, seal_of, Message, IfBoth, messages_from, messages_put, messages_taken, clocks_from, outbox_to, inbox_from, outbox_of, inbox_of, ends_between, AreAllTaken, AreMatched, AreOfLane, IsAllTaken, IsLaneOf}
+use Rattle.wcp_worker.proofs.Words.{◌≡◌, ◌≢◌, ◌↔◌, ℕ, Option, Some, None, Result, Ok, Err, List, length, slice_get, slice_set, get_or, true, true≢false, refl, ap, sym, ◌∙◌, ◌<◌, subst₂, arith, cases_eq, common_steps, gets, length-map, length-set, slice_index_or, IsOk, OnOk, slice_get_within, slice_get-get_or, Inbox, Outbox, Mailbox, seal_of, Message, IfBoth, messages_from, messages_put, messages_taken, clocks_from, outbox_to, inbox_from, outbox_of, inbox_of, ends_between, AreAllTaken, AreMatched, AreOfLane, IsAllTaken, IsLaneOf}
 use Rattle.std.specs.FinSet as set
 use Rattle.wcp_lane.specs.declared.fault.Unfinished.{Unfinished}
 

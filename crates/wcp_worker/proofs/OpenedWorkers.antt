@@ -1,5 +1,5 @@
 -- The workers of a workload, once all their lanes are opened.
-use Rattle.wcp_worker.proofs.Words.{NumberSet, setup, ◌≡◌, ◌⊎◌, ℕ, ◌<◌, ◌≤◌, Option, Some, None, List, [], ◌++◌, length, map, filter, get_or, All, refl, sym, ap, ◌∙◌, subst, arith, common_steps, IfSome, slice_get, count_by, get_or_past, length-map, get_or_from_slice_get, slice_get-get_or, slice_get_within, Task, actions_of, is_task_of, is_send_to, Core, LiveSide, LiveFor, fresh_stands, mapped_at, Outbox, Inbox, Player, Worker, IsOutboxOf, IsInboxOf, IfBoth, IsSameOutbox, IsSameInbox, IsLaneFor, messages_put, messages_taken, clocks_from, outbox_to, inbox_from, clocks_sent_to, IsFreshPlayer, IsIdle, HasTasks, HaveLanes, AreFreshProbes, AreWorkersOf}
+use Rattle.wcp_worker.proofs.Words.{NumberSet, Flag, setup, ◌≡◌, ℕ, ◌<◌, ◌≤◌, Option, Some, None, List, [], ◌++◌, length, map, filter, get_or, All, refl, sym, ap, ◌∙◌, subst, arith, common_steps, IfSome, slice_get, count_by, get_or_past, length-map, get_or_from_slice_get, slice_get-get_or, slice_get_within, Task, actions_of, is_task_of, is_send_to, Core, LiveSide, LiveFor, fresh_stands, mapped_at, Outbox, Inbox, Player, Worker, IsOutboxOf, IsInboxOf, IfBoth, IsSameOutbox, IsSameInbox, IsLaneFor, messages_put, messages_taken, clocks_from, outbox_to, inbox_from, clocks_sent_to, IsFreshPlayer, IsIdle, HasTasks, HaveLanes, AreFreshProbes, AreWorkersOf}
 use Rattle.std.proofs.lemmas.List.Sums.{length-filter, count_by-le-length}
 use Rattle.wcp_worker.proofs.OpenedRows.{lane_along}
 
@@ -68,8 +68,8 @@ few_given tasks idle given p d none below has =
     omega (arith, is, few_of p tasks)
 
 module _
-    (n : ℕ) (watched : NumberSet) (tasks : List Task) (probes : List LiveSide) (idle given opened : List Worker)
-    (fresh : AreFreshProbes n watched probes) (made : map (λ (w : Worker). w.probe) idle ≡ probes) (none : All IsIdle idle)
+    (n : ℕ) (watched : NumberSet) (flag : Flag) (tasks : List Task) (probes : List LiveSide) (idle given opened : List Worker)
+    (fresh : AreFreshProbes n watched flag probes) (made : map (λ (w : Worker). w.probe) idle ≡ probes) (none : All IsIdle idle)
     (count : length given ≡ length idle)
     (tasked : (p : ℕ) (d : Worker) → p < length idle → HasTasks p tasks (get_or idle p d) (get_or given p d))
     (have : HaveLanes (length given) given opened) where
@@ -99,7 +99,7 @@ module _
               actions = ap (λ (w : Worker). w.actions.items) (sym is) ∙ ap (λ a. a.items) (have.actions p worker within)
                   ∙ actions_given tasks idle given p worker none below (tasked p worker below);
               fresh = fresh_player p (record { probe = worker.probe; mailbox = worker.mailbox }) (ap (λ (core : Core). core.id) new.0)
-                  (fresh_stands worker.probe.core.watch (setup n watched p) worker.probe new.0 new.1)
+                  (fresh_stands worker.probe.core.watch (setup n watched flag p) worker.probe new.0 new.1)
                   (λ q. subst (λ (w : Worker). IfSome (outbox_to w.mailbox q) (IsNewOutbox p)) is (outbox_at p q worker within))
                   (λ q. subst (λ (w : Worker). IfSome (inbox_from w.mailbox q) (IsNewInbox q)) is (inbox_at p q worker within));
             };

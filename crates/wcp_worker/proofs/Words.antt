@@ -33,3 +33,4 @@ pub use Rattle.wcp_worker.specs.declared.message.Message.{Message}
 pub use Rattle.wcp_worker.specs.declared.player.Player.{Player}
 pub use Rattle.wcp_worker.specs.declared.worker.Worker.{Worker}
 pub use Rattle.wcp_clock.specs.ProcessNumbers.{NumberSet}
+pub use Rattle.wcp_model.specs.declared.flag.Flag.{Flag}

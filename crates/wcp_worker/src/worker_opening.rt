@@ -23,7 +23,7 @@ pub fn open_workers(
     probes: Vec<LiveProbe>,
 ) -> Result<Vec<Worker>, AllocError>
     requires read { CouldBeRead workload.now.plan.n workload.now.tasks.items }
-    requires probes { AreFreshProbes workload.now.plan.n workload.now.plan.watched probes.items }
+    requires probes { AreFreshProbes workload.now.plan.n workload.now.plan.watched workload.now.plan.flag probes.items }
     ensures { IfOk result (λ workers. AreWorkersOf workload.now.tasks.items probes.items workers.items) }
 {
     let mut workers = idle_workers(alloc, probes)?;

@@ -1,4 +1,4 @@
-use Rattle.wcp_world.proofs.Words.{NumberSet, first_reason, ◌≡◌, Bool, true, false, is_some, List, [], ◌∷◌, map, Option, None, Some, if◌then◌else◌, refl, arith, ◌≢◌, ℕ, ◌+◌, ◌<◌, ◌≤◌, ◌↔◌, cond, nat_lt, nat_le, IsTrue, MatchOption, ◌++◌, length, slice_get, slice_index, count_by, set, eqb, sym, ap, ◌∙◌, subst₂, ⊎_elim, append-nil, eq-eqb, option_map, option_to_list, Why, why_of, delivery_reasons, IsPosted, IsDelivered, cases_eq, ne_eqb, nat_tests, set-get_or, take_at, sum_by_push, get_or_from_slice_get, slice_get_past, slice_get_within, MatchOption-at_some, MatchOption-at_none, most_events, Note, Step, Observe, Send, Recv, Close, Reply, Done, Refused, Computation, is_communication_of, is_send, communications, interval_at, is_closed, Call, Observed, Sent, Received, Closed, ProbeSetup, after_call, setup, is_step_of, IsStampOf, IsCallOf, IsAccepted, accepted_by, event_reasons, get_behind, stamp_grows, log_grows, length-receivers, local_state, Stamped, Core, Accepts, IsSameProbe, seal_of, Letter, IsAnswer, KeepsIfRefused, ProcessesState, AreProcessesOf, IsProbeOf, AreLettersOf, pending_at}
+use Rattle.wcp_world.proofs.Words.{NumberSet, Flag, first_reason, ◌≡◌, Bool, true, false, is_some, List, [], ◌∷◌, map, Option, None, Some, if◌then◌else◌, refl, arith, ◌≢◌, ℕ, ◌+◌, ◌<◌, ◌≤◌, ◌↔◌, cond, nat_lt, nat_le, IsTrue, MatchOption, ◌++◌, length, slice_get, slice_index, count_by, set, eqb, sym, ap, ◌∙◌, subst₂, ⊎_elim, append-nil, eq-eqb, option_map, option_to_list, Why, why_of, delivery_reasons, IsPosted, IsDelivered, cases_eq, ne_eqb, nat_tests, set-get_or, take_at, sum_by_push, get_or_from_slice_get, slice_get_past, slice_get_within, MatchOption-at_some, MatchOption-at_none, most_events, Note, Step, Observe, Send, Recv, Close, Reply, Done, Refused, Computation, is_communication_of, is_send, communications, interval_at, is_closed, Call, Observed, Sent, Received, Closed, ProbeSetup, after_call, setup, is_step_of, IsStampOf, IsCallOf, IsAccepted, accepted_by, event_reasons, get_behind, stamp_grows, log_grows, length-receivers, local_state, Stamped, Core, Accepts, IsSameProbe, seal_of, Letter, IsAnswer, KeepsIfRefused, ProcessesState, AreProcessesOf, IsProbeOf, AreLettersOf, pending_at}
 use Rattle.wcp_model.specs.declared.step.Why.TheVariants as why
 use Rattle.wcp_probe.specs.declared.probe.Refusal.{Refusal}
 use Rattle.wcp_probe.specs.declared.probe.Refusal.TheVariants as refusal
@@ -6,7 +6,7 @@ use Rattle.wcp_clock.specs.declared.note.Note.TheVariants as note
 use Rattle.wcp_model.specs.StateClock.{IsStateClock}
 use Rattle.wcp_model.proofs.FirstReasons.{none_holds}
 use Rattle.wcp_model.proofs.AcceptedSteps.{accepted_push}
-use Rattle.wcp_model.proofs.RunningEmissions.{interval_at_seam}
+use Rattle.wcp_model.proofs.Flags.{interval_at_seam}
 use Rattle.wcp_model.proofs.TaskLogs.{log_push}
 use Rattle.wcp_probe.specs.Refusals.{at_clock_end, observe_refusal, close_refusal, stamp_refusal}
 use Rattle.std.proofs.Common.{inl, inr, ◌-◌}
@@ -40,9 +40,9 @@ ended_is_second : (n : ℕ) (c : Computation) (pending : ℕ → Bool) (s : Step
 ended_is_second n c pending s q own = grind arith
 
 -- the clock after a send is that of the state behind it
-stamp_of_send : (n : ℕ) (watched : NumberSet) (c : Computation) (p to : ℕ) (put : List Note) (new : Core) → p < n → IsAccepted (c ++ Send p to ∷ []) →
-    IsProbeOf n watched (c ++ Send p to ∷ []) p put new → IsStampOf n (c ++ Send p to ∷ []) (count_by is_send c) new.clock
-stamp_of_send n watched c p to put new in_range order is =
+stamp_of_send : (n : ℕ) (watched : NumberSet) (flag : Flag) (c : Computation) (p to : ℕ) (put : List Note) (new : Core) → p < n → IsAccepted (c ++ Send p to ∷ []) →
+    IsProbeOf n watched flag (c ++ Send p to ∷ []) p put new → IsStampOf n (c ++ Send p to ∷ []) (count_by is_send c) new.clock
+stamp_of_send n watched flag c p to put new in_range order is =
     let d = c ++ Send p to ∷ [] in
     let own : eqb p p ≡ true = eq-eqb p p refl in
     let last : communications d p ≡ interval_at d p (length c) + 1 = grind (arith, sum_by_push (λ x. cond (is_communication_of p x) 1 0) c (Send p to), interval_at_seam c (Send p to ∷ []) p) in
@@ -52,10 +52,10 @@ stamp_of_send n watched c p to put new in_range order is =
       to = to;
       send = get_behind c (Send p to) [];
       number = ap (count_by is_send) (take_at c (Send p to ∷ []) (length c) refl);
-      clock = subst₂ (λ k clock. IsStateClock n d (local_state p k) clock) last (sym (clock_is n watched d p put new is)) (law_of_probe n watched d p put new is order in_range).clock;
+      clock = subst₂ (λ k clock. IsStateClock n d (local_state p k) clock) last (sym (clock_is n watched flag d p put new is)) (law_of_probe n watched flag d p put new is order in_range).clock;
     }
 
-module _ (n : ℕ) (watched : NumberSet) (c : Computation) (put : ℕ → List Note) (app : ProcessesState) (stands : AreProcessesOf n watched c put app)
+module _ (n : ℕ) (watched : NumberSet) (flag : Flag) (c : Computation) (put : ℕ → List Note) (app : ProcessesState) (stands : AreProcessesOf n watched flag c put app)
     (p : ℕ) (core : Core) (at : slice_get app.probes p ≡ Some core) where
   in_range : p < n
   in_range = omega (arith, slice_get_within app.probes p core at, stands.members)
@@ -63,8 +63,8 @@ module _ (n : ℕ) (watched : NumberSet) (c : Computation) (put : ℕ → List N
   within : nat_lt p n ≡ true
   within = let lt : p < n = in_range in grind (arith, nat_tests)
 
-  keeps : KeepsLog n watched c p core
-  keeps = keeps_log n watched c put app stands p core at in_range
+  keeps : KeepsLog n watched flag c p core
+  keeps = keeps_log n watched flag c put app stands p core at in_range
 
   id_is : core.id ≡ p
   id_is = ap (λ (made : ProbeSetup). made.process) keeps.made
@@ -76,13 +76,13 @@ module _ (n : ℕ) (watched : NumberSet) (c : Computation) (put : ℕ → List N
   open_is : core.closed ≡ false → (is_closed c p ≡ false) × (is_dropped c p ≡ false)
   open_is willing = neither (is_closed c p) (is_dropped c p) (keeps.ended ∙ willing)
 
-  abbrev live : core.closed ≡ false → IsProbeOf n watched c p (put p) core
+  abbrev live : core.closed ≡ false → IsProbeOf n watched flag c p (put p) core
   live willing = stands.probes p core at (open_is willing).1
 
   -- and its clock counts the process's events
   events_are : core.closed ≡ false → slice_index core.clock p ≡ communications c p
   events_are willing =
-      ap (λ v. slice_index v p) (clock_is n watched c p (put p) core (live willing)) ∙ (law_of_probe n watched c p (put p) core (live willing) stands.order in_range).clock.own
+      ap (λ v. slice_index v p) (clock_is n watched flag c p (put p) core (live willing)) ∙ (law_of_probe n watched flag c p (put p) core (live willing) stands.order in_range).clock.own
 
   clock_end_is : core.closed ≡ false → nat_le most_events (communications c p) ≡ at_clock_end core
   clock_end_is willing = rw ((live willing).limit, id_is, events_are willing) refl
@@ -137,7 +137,7 @@ module _ (n : ℕ) (watched : NumberSet) (c : Computation) (put : ℕ → List N
   module _ (new : Core) where
     -- what is to be shown of the answer to an event, and of the processes after it
     abbrev Performed : Step → Reply → List Letter → Type 0
-    Performed s answer letters = IsAnswer (reasons s) answer × AreProcessesOf n watched (c ++ accepted_by s answer) put (record { probes = set app.probes p new; letters = letters })
+    Performed s answer letters = IsAnswer (reasons s) answer × AreProcessesOf n watched flag (c ++ accepted_by s answer) put (record { probes = set app.probes p new; letters = letters })
 
     -- an event that is refused
     pub refuses : (s : Step) (why : Why) (letters : List Letter) → new ≡ core → letters ≡ app.letters → first_reason (reasons s) ≡ Some why → Performed s (Refused why) letters
@@ -148,7 +148,7 @@ module _ (n : ℕ) (watched : NumberSet) (c : Computation) (put : ℕ → List N
     refuses_as s asked refused why letters same same_letters first is why_is = refuses s why letters same same_letters (first ∙ ap (option_map why_of) is ∙ ap Some (sym why_is))
 
     module _ (s : Step) (call : Call) (owner : (q : ℕ) → is_step_of q s ≡ eqb p q) (willing : core.closed ≡ false) where
-      abbrev is : IsProbeOf n watched c p (put p) core
+      abbrev is : IsProbeOf n watched flag c p (put p) core
       is = live willing
 
       abbrev grown : Computation
@@ -156,9 +156,9 @@ module _ (n : ℕ) (watched : NumberSet) (c : Computation) (put : ℕ → List N
 
       -- the probe of the process whose event is new
       own_probe : IsCallOf n grown s call → Accepts core call new → IsSameProbe core new →
-          (after_call (setup n watched p) (state n watched c p (put p) core is) call).notes ≡ put p ++ option_to_list new.pending → IsProbeOf n watched grown p (put p) new
+          (after_call (setup n watched flag p) (state n watched flag c p (put p) core is) call).notes ≡ put p ++ option_to_list new.pending → IsProbeOf n watched flag grown p (put p) new
       own_probe is_call accepted same notes =
-          grind (arith, log_grows n c (s ∷ []) p is.log (call ∷ []) is.is_log (rw (owner p, eq-eqb p p refl) (is_call, tt)), log_push (setup n watched p) is.log call)
+          grind (arith, log_grows n c (s ∷ []) p is.log (call ∷ []) is.is_log (rw (owner p, eq-eqb p p refl) (is_call, tt)), log_push (setup n watched flag p) is.log call)
 
       -- the event drops no process
       drops : (q : ℕ) → is_drop_of q s ≡ false
@@ -169,25 +169,25 @@ module _ (n : ℕ) (watched : NumberSet) (c : Computation) (put : ℕ → List N
 
       -- an event that is accepted
       accepts : (letters : List Letter) → first_reason (reasons s) ≡ None → IsCallOf n grown s call → Accepts core call new → IsSameProbe core new →
-          (after_call (setup n watched p) (state n watched c p (put p) core is) call).notes ≡ put p ++ option_to_list new.pending → (IsAccepted grown → IsProbeOf n watched grown p (put p) new → AreLettersOf n grown letters) →
-          IsAnswer (reasons s) Done × AreProcessesOf n watched grown put (record { probes = set app.probes p new; letters = letters })
+          (after_call (setup n watched flag p) (state n watched flag c p (put p) core is) call).notes ≡ put p ++ option_to_list new.pending → (IsAccepted grown → IsProbeOf n watched flag grown p (put p) new → AreLettersOf n grown letters) →
+          IsAnswer (reasons s) Done × AreProcessesOf n watched flag grown put (record { probes = set app.probes p new; letters = letters })
       accepts letters first is_call accepted same notes letters_are =
           let order : IsAccepted grown = accepted_push c s stands.order (λ q own. (neither (is_closed c q) (is_dropped c q) (none_holds (reasons s) 1 (has_ended c q, why.Closed) (ended_is_second n c (λ x. is_some (pending_at app x)) s q own) first)).0) (grind (arith, length-receivers, slice_get_past)) in
-          let now : IsProbeOf n watched grown p (put p) new = own_probe is_call accepted same notes in (
+          let now : IsProbeOf n watched flag grown p (put p) new = own_probe is_call accepted same notes in (
             rw first refl,
-            one_set n watched c grown put put app p new letters stands order (letters_are order now)
+            one_set n watched flag c grown put put app p new letters stands order (letters_are order now)
                 (λ _. now, λ gone. cc (gone, stays p, (open_is willing).1))
-                (λ q x apart. other_stands n watched c s put q x (owner q ∙ ne_eqb p q (λ e. apart (sym e))) (drops q))
+                (λ q x apart. other_stands n watched flag c s put q x (owner q ∙ ne_eqb p q (λ e. apart (sym e))) (drops q))
                 (λ q gone. stands.lost_known q (sym (stays q) ∙ gone)),
           )
 
     -- the process observes its condition
-    pub observes : (holds emitted : Bool) → observe_refusal core ≡ None → Accepts core (Observed holds) new → IsTrue emitted ↔ (IsTrue holds × (core.watched ≡ true) × (core.flag ≡ false)) → (IsTrue emitted → core.pending ≡ None) →
-        new ≡ (if emitted then record core { flag = true; emitted = core.emitted + 1; pending = Some (note.Snap core.emitted core.clock) } else core) → Performed (Observe p holds) Done app.letters
+    pub observes : (holds emitted : Bool) → observe_refusal core ≡ None → Accepts core (Observed holds) new → IsTrue emitted ↔ (IsTrue holds × (core.watched ≡ true) × (core.flag_up ≡ false)) → (IsTrue emitted → core.pending ≡ None) →
+        new ≡ (if emitted then record core { flag_up = true; emitted = core.emitted + 1; pending = Some (note.Snap core.emitted core.clock) } else core) → Performed (Observe p holds) Done app.letters
     observes holds emitted willing accepted emits spared new_is =
         let first = observe_reasons holds ∙ ap (option_map why_of) willing in
         let still_open = none_holds ((core.closed, refusal.Closed) ∷ []) 0 (core.closed, refusal.Closed) refl willing in
-        let told = observed n watched c p (put p) core (live still_open) new holds emitted emits spared new_is in
+        let told = observed n watched flag c p (put p) core (live still_open) new holds emitted emits spared new_is in
         accepts (Observe p holds) (Observed holds) (λ q. refl) still_open app.letters first refl accepted told.0 told.1
         (λ order now. letters_stay n c app.letters stands.letters (Observe p holds) refl (λ message. refl))
 
@@ -196,7 +196,7 @@ module _ (n : ℕ) (watched : NumberSet) (c : Computation) (put : ℕ → List N
     closes willing accepted new_is =
         let first = close_reasons ∙ ap (option_map why_of) willing in
         let still_open = none_holds ((core.closed, refusal.Closed) ∷ (is_some core.pending, refusal.Backlog) ∷ []) 0 (core.closed, refusal.Closed) refl willing in
-        let told = closed n watched c p (put p) core (live still_open) new (nothing_pending core willing) new_is in
+        let told = closed n watched flag c p (put p) core (live still_open) new (nothing_pending core willing) new_is in
         accepts (Close p) Closed (λ q. refl) still_open app.letters first tt accepted told.0 told.1
         (λ order now. letters_stay n c app.letters stands.letters (Close p) refl (λ message. refl))
 
@@ -208,7 +208,7 @@ module _ (n : ℕ) (watched : NumberSet) (c : Computation) (put : ℕ → List N
         accepts (Send p to) Sent (λ q. refl) still_open more first tt posted.accepted posted.same
         ((live still_open).notes ∙ ap (λ o. put p ++ option_to_list o) (sym posted.pending))
         (λ order now. rw posted.letters_are (letters_posted n c app.letters stands.letters p to posted.message stands.order (posted.watch ∙ (live still_open).watch) posted.addressed
-        (rw posted.clock (stamp_of_send n watched c p to (put p) new in_range order now))))
+        (rw posted.clock (stamp_of_send n watched flag c p to (put p) new in_range order now))))
 
     -- the process receives a message, or refuses it
     pub receives : (number : ℕ) (answer : Reply) (fewer : List Letter) → IsAnswer (delivery_reasons core app.letters p number) answer → (answer ≡ Done → IsDelivered core new app.letters fewer number) →
@@ -231,18 +231,18 @@ module _ (n : ℕ) (watched : NumberSet) (c : Computation) (put : ℕ → List N
     -- the process is lost
     pub loses : core.closed ≡ false → new ≡ record core { closed = true; pending = None } →
         (first_reason (reasons (Dropped p)) ≡ None) × (core.emitted - length (option_to_list core.pending) ≡ length (put p))
-        × AreProcessesOf n watched (c ++ Dropped p ∷ []) put (record app { probes = set app.probes p new })
+        × AreProcessesOf n watched flag (c ++ Dropped p ∷ []) put (record app { probes = set app.probes p new })
     loses willing new_is =
         let grown = c ++ Dropped p ∷ [] in
         let kept : (q : ℕ) → q ≢ p → is_drop_of q (Dropped p) ≡ false = λ q apart. ne_eqb p q (λ e. apart (sym e)) in
-        let now : IsLostProbeOf n watched grown p (put p) new = rw new_is
-        (lost_probe n watched grown p (put p) core (probe_stays n watched c (Dropped p) p refl (put p) core (live willing)) (closed_stays c (Dropped p) p refl ∙ (open_is willing).0)) in (
+        let now : IsLostProbeOf n watched flag grown p (put p) new = rw new_is
+        (lost_probe n watched flag grown p (put p) core (probe_stays n watched flag c (Dropped p) p refl (put p) core (live willing)) (closed_stays c (Dropped p) p refl ∙ (open_is willing).0)) in (
           lose_reasons ∙ rw willing refl,
-          put_counted n watched c p (put p) core (live willing) stands.order in_range (open_is willing).0,
-          one_set n watched c grown put put app p new app.letters stands (accepted_push c (Dropped p) stands.order (λ q own. cc own) (λ q message sent. cc sent))
+          put_counted n watched flag c p (put p) core (live willing) stands.order in_range (open_is willing).0,
+          one_set n watched flag c grown put put app p new app.letters stands (accepted_push c (Dropped p) stands.order (λ q own. cc own) (λ q message sent. cc sent))
               (letters_stay n c app.letters stands.letters (Dropped p) refl (λ message. refl))
               (λ live. cc (live, dropped_now c p), λ _. now)
-              (λ q x apart. other_stands n watched c (Dropped p) put q x refl (kept q apart))
+              (λ q x apart. other_stands n watched flag c (Dropped p) put q x refl (kept q apart))
               (λ q gone. ⊎_elim
               (λ (same : q ≡ p). rw same in_range)
               (λ (apart : q ≢ p). stands.lost_known q (sym (dropped_stays c (Dropped p) q (kept q apart)) ∙ gone))

@@ -26,7 +26,7 @@ replies_push plan history a are is place b at =
 
 -- after each front of a longer history what was taken is a front of what was emitted
 abbrev pub HasFronts : Plan → List Answered → Type 0
-HasFronts plan history = AreFrontsOfEmissions plan.n plan.watched (computation (accepted history)) (items_taken history)
+HasFronts plan history = AreFrontsOfEmissions plan.n plan.watched plan.flag (computation (accepted history)) (items_taken history)
 
 fronts_push : (plan : Plan) (history : List Answered) (a : Answered) → ((place : ℕ) → HasFronts plan (take place history)) → HasFronts plan (history ++ a ∷ []) → (place : ℕ) → HasFronts plan (take place (history ++ a ∷ []))
 fronts_push plan history a before now place = ⊎_elim
@@ -65,7 +65,7 @@ reached_after (Ok reply) old new s answers same reached = (reached.0, reached.1 
 reached_after (Err e) old new s answers same reached = subst IsReached (sym same) reached
 
 -- one more tally
-pub tallies_push : (w : WorldState) (p : ℕ) (tallies : List Tally) (tally : Tally) → AreTalliesOf w p tallies → ((plan : Plan) (history : List Answered) → IsWorldOf plan history w → IsTallyOf plan.n plan.watched (computation (accepted history)) (items_taken history) p tally) →
+pub tallies_push : (w : WorldState) (p : ℕ) (tallies : List Tally) (tally : Tally) → AreTalliesOf w p tallies → ((plan : Plan) (history : List Answered) → IsWorldOf plan history w → IsTallyOf plan.n plan.watched plan.flag (computation (accepted history)) (items_taken history) p tally) →
     AreTalliesOf w (p + 1) (tallies ++ tally ∷ [])
 tallies_push w p tallies tally are is = (
   length_push tallies tally ∙ ap (λ k. k + 1) are.0,
@@ -77,8 +77,8 @@ pub answered_push : (plan : Plan) (steps : List Step) (replies : List Reply) (ol
     ((plan : Plan) (history : List Answered) → IsWorldOf plan history old → IsWorldOf plan (history ++ record { step = s; reply = reply } ∷ []) new) → HasAnswered plan (steps ++ s ∷ []) (replies ++ reply ∷ []) new
 answered_push plan steps replies old new s reply has more = grind (arith, map_push, more plan has.history has.is)
 
-fronts_now : (plan : Plan) (history : List Answered) (w : WorldState) → IsWorldOf plan history w → AreFrontsOfEmissions plan.n plan.watched (computation (accepted history)) (items_taken history)
-fronts_now plan history w is = subst (λ h. AreFrontsOfEmissions plan.n plan.watched (computation (accepted h)) (items_taken h)) (take_all (length history) history (le_refl (length history))) (is.fronts (length history))
+fronts_now : (plan : Plan) (history : List Answered) (w : WorldState) → IsWorldOf plan history w → AreFrontsOfEmissions plan.n plan.watched plan.flag (computation (accepted history)) (items_taken history)
+fronts_now plan history w is = subst (λ h. AreFrontsOfEmissions plan.n plan.watched plan.flag (computation (accepted h)) (items_taken h)) (take_all (length history) history (le_refl (length history))) (is.fronts (length history))
 
 -- the report by clocks of what a world's checker took is that of the headline
 headline_holds : (plan : Plan) (history : List Answered) (w : WorldState) (report : Report) → IsWorldOf plan history w → IsReportByClocks plan.n plan.watched (items_taken history) report → IsHeadline plan history report
@@ -89,10 +89,10 @@ headline_holds plan history w report is by_clocks =
     record {
       replies = is.replies;
       taken_is_prefix = is.fronts;
-      none_after_close = λ p count before after within taken. nothing_follows before after count (let (rest, are) = fronts p within in subst AreInTurn taken (front_in_turn (notes_taken p items) rest (emissions_in_turn plan.n plan.watched c p _ are)));
-      of_what_was_taken = report_of_taken plan.n plan.watched c items fronts report by_clocks;
-      when_drained = λ drained. report_when_drained plan.n plan.watched c items fronts drained report by_clocks;
-      found_early = λ cut more found. subst (λ d. IsLeastCut plan.n plan.watched d cut) (sym (computation_append history more)) (early_find_holds plan.n plan.watched c (computation (accepted more)) cut (found_is_least plan.n plan.watched c items fronts cut (subst (IsReportByClocks plan.n plan.watched items) found by_clocks)));
+      none_after_close = λ p count before after within taken. nothing_follows before after count (let (rest, are) = fronts p within in subst AreInTurn taken (front_in_turn (notes_taken p items) rest (emissions_in_turn plan.n plan.watched plan.flag c p _ are)));
+      of_what_was_taken = report_of_taken plan.n plan.watched plan.flag c items fronts report by_clocks;
+      when_drained = λ drained. report_when_drained plan.n plan.watched plan.flag c items fronts drained report by_clocks;
+      found_early = λ cut more found. subst (λ d. IsLeastCut plan.n plan.watched d cut) (sym (computation_append history more)) (early_find_holds plan.n plan.watched c (computation (accepted more)) cut (found_is_least plan.n plan.watched plan.flag c items fronts cut (subst (IsReportByClocks plan.n plan.watched items) found by_clocks)));
     }
 
 -- and the checker's report is exact, since its clocks rise
@@ -101,6 +101,6 @@ pub report_holds : (plan : Plan) (history : List Answered) (w : WorldState) (rep
 report_holds plan history w report is exact =
     let handed = is.stands.handed in
     let turn = handed_in_turn plan (accepted history) (items_taken history) w is.stands in
-    let rise : ClocksRise plan.n handed = rises_with plan.n plan.watched handed turn (subst (ClocksRise plan.n) is.stands.taken_are (clocks_rise plan.n plan.watched (computation (accepted history)) (items_taken history) (fronts_now plan history w is))) in
+    let rise : ClocksRise plan.n handed = rises_with plan.n plan.watched handed turn (subst (ClocksRise plan.n) is.stands.taken_are (clocks_rise plan.n plan.watched plan.flag (computation (accepted history)) (items_taken history) (fronts_now plan history w is))) in
     headline_holds plan history w report is (subst (λ items. IsReportByClocks plan.n plan.watched items report) (sym is.stands.taken_are)
     (report_without plan.n plan.watched handed turn report (subst₂ (λ n watched. IsReportByClocks n watched handed report) is.stands.processes_are is.stands.watched_are (exact handed is.stands.checker (subst (λ n. ClocksRise n handed) (sym is.stands.processes_are) rise)))))

@@ -1,4 +1,4 @@
-use Rattle.wcp_world.proofs.Words.{NumberSet, ◌≡◌, ℕ, ◌+◌, ◌<◌, Bool, true, false, not, List, [], ◌∷◌, ◌++◌, length, filter, filter-append, refl, sym, ap, ◌∙◌, subst, append-nil, append_assoc, arith, if◌then◌else◌, Item, Note, Computation, Step, AreEmissions, AreInTurn, IsReportByClocks, ClocksRise, notes_taken, computation, is_closed, is_dropped, nothing_follows}
+use Rattle.wcp_world.proofs.Words.{NumberSet, Flag, ◌≡◌, ℕ, ◌+◌, ◌<◌, Bool, true, false, not, List, [], ◌∷◌, ◌++◌, length, filter, filter-append, refl, sym, ap, ◌∙◌, subst, append-nil, append_assoc, arith, if◌then◌else◌, Item, Note, Computation, Step, AreEmissions, AreInTurn, IsReportByClocks, ClocksRise, notes_taken, computation, is_closed, is_dropped, nothing_follows}
 use Rattle.std.specs.List.{list_any}
 use Rattle.wcp_model.specs.Cut.{Intervals}
 use Rattle.wcp_clock.specs.declared.note.Note.TheVariants as note
@@ -42,8 +42,8 @@ front_kept number count true [] (x ∷ front) rest is = grind (arith, front_kept
 front_kept number count false [] (x ∷ front) rest is = cc is
 front_kept number count closed (clock ∷ clocks) (x ∷ front) rest is = grind (arith, front_kept (number + 1) count closed clocks front rest)
 
-pub emissions_kept : (n : ℕ) (watched : NumberSet) (c : Computation) (p : ℕ) (front rest : List Note) → AreEmissions n watched c p (front ++ rest) → filter is_kept front ≡ front
-emissions_kept n watched c p front rest are = front_kept 0 (length are.clocks) (is_closed c p) are.clocks front rest (sym are.notes_are)
+pub emissions_kept : (n : ℕ) (watched : NumberSet) (flag : Flag) (c : Computation) (p : ℕ) (front rest : List Note) → AreEmissions n watched flag c p (front ++ rest) → filter is_kept front ≡ front
+emissions_kept n watched flag c p front rest are = front_kept 0 (length are.clocks) (is_closed c p) are.clocks front rest (sym are.notes_are)
 
 -- what a process emits before a close is snapshots alone
 front_counts : (number : ℕ) (clocks : List (List ℕ)) (front rest : List Note) → snapshots_from number clocks ≡ front ++ rest →
@@ -58,11 +58,11 @@ front_in_turn front rest turn before after next is =
     turn before (after ++ rest) next (ap (λ l. l ++ rest) is ∙ append_assoc before (next ∷ after) rest)
 
 -- and so are the notes put of a lost process with the mark that counts them
-pub mark_in_turn : (n : ℕ) (watched : NumberSet) (c : Computation) (p : ℕ) (put rest : List Note) → AreEmissions n watched c p (put ++ rest) → is_closed c p ≡ false → AreInTurn (put ++ note.Lost (length put) ∷ [])
-mark_in_turn n watched c p put rest are without_close =
+pub mark_in_turn : (n : ℕ) (watched : NumberSet) (flag : Flag) (c : Computation) (p : ℕ) (put rest : List Note) → AreEmissions n watched flag c p (put ++ rest) → is_closed c p ≡ false → AreInTurn (put ++ note.Lost (length put) ∷ [])
+mark_in_turn n watched flag c p put rest are without_close =
     let snapshots : snapshots_from 0 are.clocks ≡ put ++ rest = sym (append-nil (snapshots_from 0 are.clocks)) ∙ rw without_close at (sym are.notes_are) in
     let counts = front_counts 0 are.clocks put rest snapshots in
-    AreInTurn-push put (note.Lost (length put)) (front_in_turn put rest (emissions_in_turn n watched c p (put ++ rest) are)) (record { place = counts.0; still_open = counts.1 })
+    AreInTurn-push put (note.Lost (length put)) (front_in_turn put rest (emissions_in_turn n watched flag c p (put ++ rest) are)) (record { place = counts.0; still_open = counts.1 })
 
 -- a close mark that ends the notes that are kept stands among all
 close_among : (notes before : List Note) (count : ℕ) → filter is_kept notes ≡ before ++ note.Close count ∷ [] →

@@ -1,4 +1,4 @@
-use Rattle.wcp_world.proofs.Words.{NumberSet, common_steps, ◌≡◌, ◌≢◌, ℕ, suc, ◌+◌, ◌<◌, ◌≤◌, ◌⊎◌, true, false, List, [], ◌∷◌, ◌++◌, length, slice_get, slice_index, count_by, set, None, Some, length-append, refl, sym, ap, ◌∙◌, ⊎_elim, append-nil, eqb-true, eq-eqb, le_refl, arith, ◌↔◌, Bool, IsTrue, if◌then◌else◌, IsSome, subst, replicate, cases_lt, flat_map-append, length-map, map-append, length-set, length-replicate, sum_by-take-le, gets, slice_get-get_or, slice_get-map, get_or_from_slice_get, slice_get_cases, slice_get_within, Step, Send, Recv, Computation, IsState, is_send, interval_at, communications, IsStampOf, IsAccepted, Observed, Closed, ProbeState, after_call, setup, state_of_log, HasClockAndEmissions, receivers, is_receive_of, was_received, was_sent_to, span, local_state, length-receivers, stamp_grows, get_push, seal_of, Stamped, Letter, AreLettersOf, IsLetterOf, IsProbeOf, ProcessesState, AreProcessesOf, CountsEmissions, WasPut, pending_at, is_addressed, option_to_list, Note, is_closed, AreEmissions, Core, IsSameProbe, setup_of, log_counts_notes, put_more, most_events}
+use Rattle.wcp_world.proofs.Words.{NumberSet, Flag, common_steps, ◌≡◌, ◌≢◌, ℕ, suc, ◌+◌, ◌<◌, ◌≤◌, ◌⊎◌, true, false, List, [], ◌∷◌, ◌++◌, length, slice_get, slice_index, count_by, set, None, Some, length-append, refl, sym, ap, ◌∙◌, ⊎_elim, append-nil, eqb-true, eq-eqb, le_refl, arith, ◌↔◌, Bool, IsTrue, if◌then◌else◌, IsSome, subst, replicate, cases_lt, flat_map-append, length-map, map-append, length-set, length-replicate, sum_by-take-le, gets, slice_get-get_or, slice_get-map, get_or_from_slice_get, slice_get_cases, slice_get_within, Step, Send, Recv, Computation, IsState, is_send, interval_at, communications, IsStampOf, IsAccepted, Observed, Closed, ProbeState, after_call, setup, state_of_log, HasClockAndEmissions, receivers, is_receive_of, was_received, was_sent_to, span, local_state, length-receivers, stamp_grows, get_push, seal_of, Stamped, Letter, AreLettersOf, IsLetterOf, IsProbeOf, ProcessesState, AreProcessesOf, CountsEmissions, WasPut, pending_at, is_addressed, option_to_list, Note, is_closed, AreEmissions, Core, IsSameProbe, setup_of, log_counts_notes, put_more, most_events}
 use Rattle.std.specs.FinSet as number_set
 use Rattle.std.specs.Prelude.{◌||◌, ◌-◌}
 use Rattle.std.proofs.Common.{inl, inr}
@@ -81,10 +81,10 @@ module _ (n : ℕ) (c : Computation) (letters : List Letter) (are : AreLettersOf
         each = grind (arith, get_set, letter_stays, received_now);
       }
 
-module _ (n : ℕ) (watched : NumberSet) (c : Computation) (p : ℕ) (put : List Note) (core : Core) (is : IsProbeOf n watched c p put core) where
+module _ (n : ℕ) (watched : NumberSet) (flag : Flag) (c : Computation) (p : ℕ) (put : List Note) (core : Core) (is : IsProbeOf n watched flag c p put core) where
   -- what the probe's log leads to
   abbrev pub state : ProbeState
-  state = state_of_log (setup n watched p) is.log
+  state = state_of_log (setup n watched flag p) is.log
 
   same_state : state_of_log (setup_of core) is.log ≡ state
   same_state = ap (λ made. state_of_log made is.log) is.made
@@ -95,8 +95,8 @@ module _ (n : ℕ) (watched : NumberSet) (c : Computation) (p : ℕ) (put : List
   pub emitted_is : core.emitted ≡ state.snapshots
   emitted_is = is.stands.emitted ∙ ap (λ (s : ProbeState). s.snapshots) same_state
 
-  pub law_of_probe : IsAccepted c → p < n → HasClockAndEmissions n watched c p state
-  law_of_probe order in_range = log_law_holds n watched c p is.log order in_range is.is_log
+  pub law_of_probe : IsAccepted c → p < n → HasClockAndEmissions n watched flag c p state
+  law_of_probe order in_range = log_law_holds n watched flag c p is.log order in_range is.is_log
 
   -- a probe is closed where its process is
   pub is_closed_as : IsAccepted c → p < n → is_closed c p ≡ core.closed
@@ -107,14 +107,14 @@ module _ (n : ℕ) (watched : NumberSet) (c : Computation) (p : ℕ) (put : List
   all_put none = is.notes ∙ ap (λ o. put ++ option_to_list o) none ∙ append-nil put
 
   -- what an observation makes of the notes
-  pub observed : (new : Core) (holds emitted : Bool) → IsTrue emitted ↔ (IsTrue holds × (core.watched ≡ true) × (core.flag ≡ false)) → (IsTrue emitted → core.pending ≡ None) →
-      new ≡ (if emitted then record core { flag = true; emitted = core.emitted + 1; pending = Some (note.Snap core.emitted core.clock) } else core) →
-      IsSameProbe core new × ((after_call (setup n watched p) state (Observed holds)).notes ≡ put ++ option_to_list new.pending)
+  pub observed : (new : Core) (holds emitted : Bool) → IsTrue emitted ↔ (IsTrue holds × (core.watched ≡ true) × (core.flag_up ≡ false)) → (IsTrue emitted → core.pending ≡ None) →
+      new ≡ (if emitted then record core { flag_up = true; emitted = core.emitted + 1; pending = Some (note.Snap core.emitted core.clock) } else core) →
+      IsSameProbe core new × ((after_call (setup n watched flag p) state (Observed holds)).notes ≡ put ++ option_to_list new.pending)
   observed new holds emitted emits spared new_is = grind (arith, all_put)
 
   -- and a close
   pub closed : (new : Core) → core.pending ≡ None → new ≡ record core { closed = true; pending = Some (note.Close core.emitted) } →
-      IsSameProbe core new × ((after_call (setup n watched p) state Closed).notes ≡ put ++ option_to_list new.pending)
+      IsSameProbe core new × ((after_call (setup n watched flag p) state Closed).notes ≡ put ++ option_to_list new.pending)
   closed new nothing new_is = rw (new_is, all_put nothing, emitted_is) (record { watch = refl; limit = refl; made = refl }, refl)
 
 -- of two tests of which neither holds, each doesn't
@@ -140,17 +140,17 @@ dropped_stays c s q other = list_any-append (is_drop_of q) c (s ∷ []) ∙ rw o
 pub dropped_now : (c : Computation) (p : ℕ) → is_dropped (c ++ Dropped p ∷ []) p ≡ true
 dropped_now c p = list_any-append (is_drop_of p) c (Dropped p ∷ []) ∙ rw (eq-eqb p p refl) (or-true (is_dropped c p))
 
-module _ (n : ℕ) (watched : NumberSet) (c : Computation) (s : Step) (q : ℕ) (other : is_step_of q s ≡ false) where
+module _ (n : ℕ) (watched : NumberSet) (flag : Flag) (c : Computation) (s : Step) (q : ℕ) (other : is_step_of q s ≡ false) where
   -- a step that is none of a process leaves its log
   log_stays : (log : List Call) → IsLogOf n c q log → IsLogOf n (c ++ s ∷ []) q log
   log_stays log is = subst (IsLogOf n (c ++ s ∷ []) q) (append-nil log) (log_grows n c (s ∷ []) q log [] is (rw other tt))
 
   -- and what its probe stands for
-  pub probe_stays : (put : List Note) (core : Core) → IsProbeOf n watched c q put core → IsProbeOf n watched (c ++ s ∷ []) q put core
+  pub probe_stays : (put : List Note) (core : Core) → IsProbeOf n watched flag c q put core → IsProbeOf n watched flag (c ++ s ∷ []) q put core
   probe_stays put core is = record { log = is.log; is_log = log_stays is.log is.is_log; stands = is.stands; watch = is.watch; limit = is.limit; made = is.made; notes = is.notes }
 
   -- where it is lost too
-  lost_stays : (put : List Note) (core : Core) → IsLostProbeOf n watched c q put core → IsLostProbeOf n watched (c ++ s ∷ []) q put core
+  lost_stays : (put : List Note) (core : Core) → IsLostProbeOf n watched flag c q put core → IsLostProbeOf n watched flag (c ++ s ∷ []) q put core
   lost_stays put core is = record {
     log = is.log;
     is_log = log_stays is.log is.is_log;
@@ -164,22 +164,22 @@ module _ (n : ℕ) (watched : NumberSet) (c : Computation) (s : Step) (q : ℕ) 
   }
 
 -- a probe stands for its process, which is lost or isn't
-abbrev pub StandsForProcess : ℕ → NumberSet → Computation → (ℕ → List Note) → ℕ → Core → Type 0
-StandsForProcess n watched c put q core = (is_dropped c q ≡ false → IsProbeOf n watched c q (put q) core) × (is_dropped c q ≡ true → IsLostProbeOf n watched c q (put q) core)
+abbrev pub StandsForProcess : ℕ → NumberSet → Flag → Computation → (ℕ → List Note) → ℕ → Core → Type 0
+StandsForProcess n watched flag c put q core = (is_dropped c q ≡ false → IsProbeOf n watched flag c q (put q) core) × (is_dropped c q ≡ true → IsLostProbeOf n watched flag c q (put q) core)
 
 -- and does so after a step that is none of the process, and doesn't drop it
-pub other_stands : (n : ℕ) (watched : NumberSet) (c : Computation) (s : Step) (put : ℕ → List Note) (q : ℕ) (core : Core) → is_step_of q s ≡ false → is_drop_of q s ≡ false → StandsForProcess n watched c put q core → StandsForProcess n watched (c ++ s ∷ []) put q core
-other_stands n watched c s put q core other kept was =
+pub other_stands : (n : ℕ) (watched : NumberSet) (flag : Flag) (c : Computation) (s : Step) (put : ℕ → List Note) (q : ℕ) (core : Core) → is_step_of q s ≡ false → is_drop_of q s ≡ false → StandsForProcess n watched flag c put q core → StandsForProcess n watched flag (c ++ s ∷ []) put q core
+other_stands n watched flag c s put q core other kept was =
     let same = sym (dropped_stays c s q kept) in
-    (λ live. probe_stays n watched c s q other (put q) core (was.0 (same ∙ live)), λ gone. lost_stays n watched c s q other (put q) core (was.1 (same ∙ gone)))
+    (λ live. probe_stays n watched flag c s q other (put q) core (was.0 (same ∙ live)), λ gone. lost_stays n watched flag c s q other (put q) core (was.1 (same ∙ gone)))
 
 -- processes of which one probe was set
-pub one_set : (n : ℕ) (watched : NumberSet) (c d : Computation) (put more : ℕ → List Note) (app : ProcessesState) (p : ℕ) (new : Core) (letters : List Letter) → AreProcessesOf n watched c put app → IsAccepted d → AreLettersOf n d letters →
-    StandsForProcess n watched d more p new → ((q : ℕ) (core : Core) → q ≢ p → StandsForProcess n watched c put q core → StandsForProcess n watched d more q core) → ((q : ℕ) → is_dropped d q ≡ true → q < n) →
-    AreProcessesOf n watched d more (record { probes = set app.probes p new; letters = letters })
-one_set n watched c d put more app p new letters stands order are here there known =
-    let each : (q : ℕ) (x : Core) → slice_get (set app.probes p new) q ≡ Some x → StandsForProcess n watched d more q x = λ q x at. ⊎_elim
-    (λ (same : (q ≡ p) × (new ≡ x)). subst (λ k. StandsForProcess n watched d more k x) (sym same.0) (subst (StandsForProcess n watched d more p) same.1 here))
+pub one_set : (n : ℕ) (watched : NumberSet) (flag : Flag) (c d : Computation) (put more : ℕ → List Note) (app : ProcessesState) (p : ℕ) (new : Core) (letters : List Letter) → AreProcessesOf n watched flag c put app → IsAccepted d → AreLettersOf n d letters →
+    StandsForProcess n watched flag d more p new → ((q : ℕ) (core : Core) → q ≢ p → StandsForProcess n watched flag c put q core → StandsForProcess n watched flag d more q core) → ((q : ℕ) → is_dropped d q ≡ true → q < n) →
+    AreProcessesOf n watched flag d more (record { probes = set app.probes p new; letters = letters })
+one_set n watched flag c d put more app p new letters stands order are here there known =
+    let each : (q : ℕ) (x : Core) → slice_get (set app.probes p new) q ≡ Some x → StandsForProcess n watched flag d more q x = λ q x at. ⊎_elim
+    (λ (same : (q ≡ p) × (new ≡ x)). subst (λ k. StandsForProcess n watched flag d more k x) (sym same.0) (subst (StandsForProcess n watched flag d more p) same.1 here))
     (λ (apart : (q ≢ p) × (slice_get app.probes q ≡ Some x)). there q x apart.0 (stands.probes q x apart.1, stands.lost q x apart.1))
     (get_set app.probes new x p q at) in
     record { order = order; members = length-set app.probes p new ∙ stands.members; probes = λ q x at. (each q x at).0; lost = λ q x at. (each q x at).1; lost_known = known; letters = are }
@@ -189,11 +189,11 @@ length-snapshots number [] = refl
 length-snapshots number (clock ∷ clocks) = ap suc (length-snapshots (number + 1) clocks)
 
 -- the probe of a process that is lost with its last note pending, which then is gone
-pub lost_probe : (n : ℕ) (watched : NumberSet) (c : Computation) (p : ℕ) (put : List Note) (core : Core) → IsProbeOf n watched c p put core → is_closed c p ≡ false → IsLostProbeOf n watched c p put (record core { closed = true; pending = None })
-lost_probe n watched c p put core is not_closed = record {
+pub lost_probe : (n : ℕ) (watched : NumberSet) (flag : Flag) (c : Computation) (p : ℕ) (put : List Note) (core : Core) → IsProbeOf n watched flag c p put core → is_closed c p ≡ false → IsLostProbeOf n watched flag c p put (record core { closed = true; pending = None })
+lost_probe n watched flag c p put core is not_closed = record {
   log = is.log;
   is_log = is.is_log;
-  emitted = emitted_is n watched c p put core is;
+  emitted = emitted_is n watched flag c p put core is;
   made = is.made;
   closed = refl;
   nothing = refl;
@@ -203,28 +203,28 @@ lost_probe n watched c p put core is not_closed = record {
 }
 
 -- the emissions of a process that isn't closed are snapshots
-all_snapshots : (n : ℕ) (watched : NumberSet) (c : Computation) (p : ℕ) (notes : List Note) → AreEmissions n watched c p notes → is_closed c p ≡ false → length notes ≡ length (snapshot_clocks notes)
-all_snapshots n watched c p notes emitted is_open =
+all_snapshots : (n : ℕ) (watched : NumberSet) (flag : Flag) (c : Computation) (p : ℕ) (notes : List Note) → AreEmissions n watched flag c p notes → is_closed c p ≡ false → length notes ≡ length (snapshot_clocks notes)
+all_snapshots n watched flag c p notes emitted is_open =
     let only : notes ≡ snapshots_from 0 emitted.clocks = rw (is_open, append-nil (snapshots_from 0 emitted.clocks)) at emitted.notes_are in
-    ap length only ∙ length-snapshots 0 emitted.clocks ∙ sym (ap length (emitted_clocks n watched c p notes emitted))
+    ap length only ∙ length-snapshots 0 emitted.clocks ∙ sym (ap length (emitted_clocks n watched flag c p notes emitted))
 
 -- the probe of a process that isn't closed counts the notes that were put, and the one that is pending
-pub put_counted : (n : ℕ) (watched : NumberSet) (c : Computation) (p : ℕ) (put : List Note) (core : Core) → IsProbeOf n watched c p put core → IsAccepted c → p < n → is_closed c p ≡ false →
+pub put_counted : (n : ℕ) (watched : NumberSet) (flag : Flag) (c : Computation) (p : ℕ) (put : List Note) (core : Core) → IsProbeOf n watched flag c p put core → IsAccepted c → p < n → is_closed c p ≡ false →
     core.emitted - length (option_to_list core.pending) ≡ length put
-put_counted n watched c p put core is order in_range is_open =
-    let s = state n watched c p put core is in
-    let as_many = all_snapshots n watched c p s.notes (law_of_probe n watched c p put core is order in_range).emissions is_open in
-    omega (arith, emitted_is n watched c p put core is, (log_counts_notes n watched p is.log).snapshots, as_many, ap length is.notes, length-append put (option_to_list core.pending))
+put_counted n watched flag c p put core is order in_range is_open =
+    let s = state n watched flag c p put core is in
+    let as_many = all_snapshots n watched flag c p s.notes (law_of_probe n watched flag c p put core is order in_range).emissions is_open in
+    omega (arith, emitted_is n watched flag c p put core is, (log_counts_notes n watched flag p is.log).snapshots, as_many, ap length is.notes, length-append put (option_to_list core.pending))
 
 -- what a probe keeps of the log of its process, whether that is lost or not
-pub record KeepsLog (n : ℕ) (watched : NumberSet) (c : Computation) (p : ℕ) (core : Core) : Type 0 where
+pub record KeepsLog (n : ℕ) (watched : NumberSet) (flag : Flag) (c : Computation) (p : ℕ) (core : Core) : Type 0 where
   pub log : List Call
   pub is_log : IsLogOf n c p log
-  pub emitted : core.emitted ≡ (state_of_log (setup n watched p) log).snapshots
-  pub made : setup_of core ≡ setup n watched p
+  pub emitted : core.emitted ≡ (state_of_log (setup n watched flag p) log).snapshots
+  pub made : setup_of core ≡ setup n watched flag p
   pub ended : has_ended c p ≡ core.closed
 
-module _ (n : ℕ) (watched : NumberSet) (c : Computation) (put : ℕ → List Note) (app : ProcessesState) (stands : AreProcessesOf n watched c put app) (p : ℕ) where
+module _ (n : ℕ) (watched : NumberSet) (flag : Flag) (c : Computation) (put : ℕ → List Note) (app : ProcessesState) (stands : AreProcessesOf n watched flag c put app) (p : ℕ) where
   -- a process has a probe
   probe_within : p < n → (core : Core) × (slice_get app.probes p ≡ Some core)
   probe_within within = ⊎_elim
@@ -232,30 +232,30 @@ module _ (n : ℕ) (watched : NumberSet) (c : Computation) (put : ℕ → List N
       (λ (past : (length app.probes ≤ p) × _). absurd (omega (arith, past.0, stands.members)))
       (slice_get_cases app.probes p).1
 
-  pub keeps_log : (core : Core) → slice_get app.probes p ≡ Some core → p < n → KeepsLog n watched c p core
+  pub keeps_log : (core : Core) → slice_get app.probes p ≡ Some core → p < n → KeepsLog n watched flag c p core
   keeps_log core at within = elim (cases_Bool (is_dropped c p)) [
     | inl gone ↦
         let is = stands.lost p core at gone in
         record { log = is.log; is_log = is.is_log; emitted = is.emitted; made = is.made; ended = rw (gone, is.closed) (or-true (is_closed c p)) }
     | inr live ↦
         let is = stands.probes p core at live in
-        record { log = is.log; is_log = is.is_log; emitted = emitted_is n watched c p (put p) core is; made = is.made; ended = rw live (or-false (is_closed c p) ∙ is_closed_as n watched c p (put p) core is stands.order within) }
+        record { log = is.log; is_log = is.is_log; emitted = emitted_is n watched flag c p (put p) core is; made = is.made; ended = rw live (or-false (is_closed c p) ∙ is_closed_as n watched flag c p (put p) core is stands.order within) }
   ]
 
   -- the notes that were put of a process, followed by what is pending, are its emissions
-  pub put_and_pending : p < n → is_dropped c p ≡ false → AreEmissions n watched c p (put p ++ option_to_list (pending_at app p))
+  pub put_and_pending : p < n → is_dropped c p ≡ false → AreEmissions n watched flag c p (put p ++ option_to_list (pending_at app p))
   put_and_pending within live =
       let (core, at) = probe_within within in
       let is = stands.probes p core at live in
-      rw at (subst (AreEmissions n watched c p) is.notes (law_of_probe n watched c p (put p) core is stands.order within).emissions)
+      rw at (subst (AreEmissions n watched flag c p) is.notes (law_of_probe n watched flag c p (put p) core is stands.order within).emissions)
 
   -- those of a lost process are its emissions with more behind them, and no mark is among these
-  pub put_and_gone : is_dropped c p ≡ true → (rest : List Note) × AreEmissions n watched c p (put p ++ rest) × (is_closed c p ≡ false)
+  pub put_and_gone : is_dropped c p ≡ true → (rest : List Note) × AreEmissions n watched flag c p (put p ++ rest) × (is_closed c p ≡ false)
   put_and_gone gone =
       let within = stands.lost_known p gone in
       let (core, at) = probe_within within in
       let is = stands.lost p core at gone in
-      (is.rest, subst (AreEmissions n watched c p) is.notes (log_law_holds n watched c p is.log stands.order within is.is_log).emissions, is.without_close)
+      (is.rest, subst (AreEmissions n watched flag c p) is.notes (log_law_holds n watched flag c p is.log stands.order within is.is_log).emissions, is.without_close)
 
   -- nothing is pending at a lost process
   pub pending_of_lost : is_dropped c p ≡ true → pending_at app p ≡ None
@@ -266,26 +266,26 @@ module _ (n : ℕ) (watched : NumberSet) (c : Computation) (put : ℕ → List N
 module _ (app : ProcessesState) (p : ℕ) (core : Core) (at : slice_get app.probes p ≡ Some core) where
   -- a probe counts the snapshots among the emissions of its process
   pub emitted_counts : CountsEmissions app p core.emitted
-  emitted_counts n watched c put stands =
+  emitted_counts n watched flag c put stands =
       let within : p < n = omega (arith, slice_get_within app.probes p core at, stands.members) in
-      let is = keeps_log n watched c put app stands p core at within in (
-        (state_of_log (setup n watched p) is.log).notes,
-        (log_law_holds n watched c p is.log stands.order within is.is_log).emissions,
-        is.emitted ∙ (log_counts_notes n watched p is.log).snapshots,
+      let is = keeps_log n watched flag c put app stands p core at within in (
+        (state_of_log (setup n watched flag p) is.log).notes,
+        (log_law_holds n watched flag c p is.log stands.order within is.is_log).emissions,
+        is.emitted ∙ (log_counts_notes n watched flag p is.log).snapshots,
       )
 
   -- the probe whose pending note was put
-  probe_put : (n : ℕ) (watched : NumberSet) (c : Computation) (put : ℕ → List Note) (note : Note) → IsProbeOf n watched c p (put p) core → pending_at app p ≡ Some note →
-      IsProbeOf n watched c p (put_more put p note p) (record core { pending = None })
-  probe_put n watched c put note is pending = grind (arith, append-nil)
+  probe_put : (n : ℕ) (watched : NumberSet) (flag : Flag) (c : Computation) (put : ℕ → List Note) (note : Note) → IsProbeOf n watched flag c p (put p) core → pending_at app p ≡ Some note →
+      IsProbeOf n watched flag c p (put_more put p note p) (record core { pending = None })
+  probe_put n watched flag c put note is pending = grind (arith, append-nil)
 
   pub put_stands : (new : Core) → new ≡ record core { pending = None } → WasPut app p (record app { probes = set app.probes p new })
-  put_stands new new_is n watched c put note stands pending =
-      let not_gone : is_dropped c p ≡ true → ⊥ = λ gone. cc (pending_of_lost n watched c put app stands p gone, pending) in
+  put_stands new new_is n watched flag c put note stands pending =
+      let not_gone : is_dropped c p ≡ true → ⊥ = λ gone. cc (pending_of_lost n watched flag c put app stands p gone, pending) in
       let live = false_from_ne_true (is_dropped c p) not_gone in
-      one_set n watched c c put (put_more put p note) app p new app.letters stands stands.order stands.letters
-      (λ _. rw new_is (probe_put n watched c put note (stands.probes p core at live) pending), λ gone. absurd (not_gone gone))
-      (λ q x apart was. subst (λ notes. (is_dropped c q ≡ false → IsProbeOf n watched c q notes x) × (is_dropped c q ≡ true → IsLostProbeOf n watched c q notes x)) (sym (rw (ne_eqb q p apart) refl)) was)
+      one_set n watched flag c c put (put_more put p note) app p new app.letters stands stands.order stands.letters
+      (λ _. rw new_is (probe_put n watched flag c put note (stands.probes p core at live) pending), λ gone. absurd (not_gone gone))
+      (λ q x apart was. subst (λ notes. (is_dropped c q ≡ false → IsProbeOf n watched flag c q notes x) × (is_dropped c q ≡ true → IsLostProbeOf n watched flag c q notes x)) (sym (rw (ne_eqb q p apart) refl)) was)
       stands.lost_known
 
 -- a process whose note is pending has a probe
@@ -293,17 +293,17 @@ pub pending_within : (app : ProcessesState) (p : ℕ) → IsSome (pending_at app
 pending_within app p some = grind (arith, slice_get_cases)
 
 -- the probe of a process before its first event
-abbrev pub first_core : ℕ → NumberSet → ℕ → Core
-first_core n watched p = record { watch = 0; id = p; watched = number_set.contains watched p; limit = most_events; clock = replicate n 0; flag = false; closed = false; emitted = 0; pending = None }
+abbrev pub first_core : ℕ → NumberSet → Flag → ℕ → Core
+first_core n watched flag p = record { watch = 0; id = p; watched = number_set.contains watched p; flag = flag; limit = most_events; clock = replicate n 0; flag_up = false; closed = false; emitted = 0; pending = None }
 
 -- the first probes of n processes
-pub record AreFirstCores (n : ℕ) (watched : NumberSet) (count : ℕ) (cores : List Core) : Type 0 where
+pub record AreFirstCores (n : ℕ) (watched : NumberSet) (flag : Flag) (count : ℕ) (cores : List Core) : Type 0 where
   pub members : length cores ≡ count
-  pub each : (p : ℕ) (core : Core) → slice_get cores p ≡ Some core → core ≡ first_core n watched p
+  pub each : (p : ℕ) (core : Core) → slice_get cores p ≡ Some core → core ≡ first_core n watched flag p
 
-first_probe : (n : ℕ) (watched : NumberSet) (p : ℕ) → IsProbeOf n watched [] p [] (first_core n watched p)
-first_probe n watched p = grind (arith, length-replicate)
+first_probe : (n : ℕ) (watched : NumberSet) (flag : Flag) (p : ℕ) → IsProbeOf n watched flag [] p [] (first_core n watched flag p)
+first_probe n watched flag p = grind (arith, length-replicate)
 
 -- the processes before any event
-pub fresh_stands : (n : ℕ) (watched : NumberSet) (cores : List Core) → AreFirstCores n watched n cores → AreProcessesOf n watched [] (λ p. []) (record { probes = cores; letters = [] })
-fresh_stands n watched cores are = grind (arith, first_probe)
+pub fresh_stands : (n : ℕ) (watched : NumberSet) (flag : Flag) (cores : List Core) → AreFirstCores n watched flag n cores → AreProcessesOf n watched flag [] (λ p. []) (record { probes = cores; letters = [] })
+fresh_stands n watched flag cores are = grind (arith, first_probe)

@@ -58,3 +58,4 @@ pub use Rattle.wcp_model.specs.Occupancy.{Vanished, entered}
 pub use Rattle.wcp_model.specs.declared.step.Step.TheVariants.{Dropped}
 pub use Rattle.wcp_world.specs.Transport.{marks_in, given, size_of, IsGivenMark}
 pub use Rattle.wcp_clock.specs.ProcessNumbers.{NumberSet}
+pub use Rattle.wcp_model.specs.declared.flag.Flag.{Flag}

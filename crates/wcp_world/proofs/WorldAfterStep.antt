@@ -65,23 +65,23 @@ module _ (plan : Plan) (steps : List Step) (taken : List Item) (w : WorldState) 
 
   -- what was emitted of a process and not put: what is pending, or what is gone with a lost process
   abbrev unput : (p : ℕ) (b : Bool) → is_dropped c p ≡ b → List Note
-  unput p true dropped = (put_and_gone plan.n plan.watched c stands.put w.processes stands.processes p dropped).0
+  unput p true dropped = (put_and_gone plan.n plan.watched plan.flag c stands.put w.processes stands.processes p dropped).0
   unput p false live = option_to_list (pending_at w.processes p)
 
   -- the emissions of each process
   abbrev pub emissions : ℕ → List Note
   emissions p = stands.put p ++ unput p (is_dropped c p) refl
 
-  unput_emitted : (p : ℕ) (b : Bool) (is : is_dropped c p ≡ b) → p < plan.n → AreEmissions plan.n plan.watched c p (stands.put p ++ unput p b is)
-  unput_emitted p true dropped within = (put_and_gone plan.n plan.watched c stands.put w.processes stands.processes p dropped).1
-  unput_emitted p false live within = put_and_pending plan.n plan.watched c stands.put w.processes stands.processes p within live
+  unput_emitted : (p : ℕ) (b : Bool) (is : is_dropped c p ≡ b) → p < plan.n → AreEmissions plan.n plan.watched plan.flag c p (stands.put p ++ unput p b is)
+  unput_emitted p true dropped within = (put_and_gone plan.n plan.watched plan.flag c stands.put w.processes stands.processes p dropped).1
+  unput_emitted p false live within = put_and_pending plan.n plan.watched plan.flag c stands.put w.processes stands.processes p within live
 
-  pub are_emissions : (p : ℕ) → p < plan.n → AreEmissions plan.n plan.watched c p (emissions p)
+  pub are_emissions : (p : ℕ) → p < plan.n → AreEmissions plan.n plan.watched plan.flag c p (emissions p)
   are_emissions p within = unput_emitted p (is_dropped c p) refl within
 
   unput_pending : (p : ℕ) (b : Bool) (is : is_dropped c p ≡ b) →
       (if b then 0 else (length (stands.put p ++ unput p b is) - taken_from steps (Pending p))) ≡ length (option_to_list (pending_at w.processes p))
-  unput_pending p true dropped = rw (pending_of_lost plan.n plan.watched c stands.put w.processes stands.processes p dropped) refl
+  unput_pending p true dropped = rw (pending_of_lost plan.n plan.watched plan.flag c stands.put w.processes stands.processes p dropped) refl
   unput_pending p false live = omega (arith, length-append (stands.put p) (option_to_list (pending_at w.processes p)), stands.transport.as_many p)
 
   pub pending_count : (p : ℕ) → notes_in plan emissions steps (Pending p) ≡ length (option_to_list (pending_at w.processes p))
@@ -99,7 +99,7 @@ module _ (plan : Plan) (steps : List Step) (taken : List Item) (w : WorldState) 
       (answer ≡ Done → IsAcceptance plan emissions steps s answer) → Performs w.processes s answer new →
       IsReply plan steps s answer × Stands plan (steps ++ accepted_by s answer) (taken ++ taken_by answer) (record w { processes = new })
   event_answered s answer new event still enters same accepts performs =
-      let told = performs plan.n plan.watched (computation steps) stands.put stands.processes in
+      let told = performs plan.n plan.watched plan.flag (computation steps) stands.put stands.processes in
       let first : MatchOption (first_reason (reasons plan emissions steps s)) (answer ≡ Done) (λ why. answer ≡ Refused why) =
       subst (λ o. MatchOption o (answer ≡ Done) (λ why. answer ≡ Refused why)) (sym same) told.0 in (
         reply_is s answer (accepting (first_reason (reasons plan emissions steps s)) answer _ accepts first),
@@ -143,7 +143,7 @@ module _ (plan : Plan) (steps : List Step) (taken : List Item) (w : WorldState) 
           put = put_more stands.put p note;
           handed = stands.handed;
           taken_are = stands.taken_are;
-          processes = rw (computation_stays steps (step.Put p) Done refl) (was_put plan.n plan.watched (computation steps) stands.put note stands.processes pending);
+          processes = rw (computation_stays steps (step.Put p) Done refl) (was_put plan.n plan.watched plan.flag (computation steps) stands.put note stands.processes pending);
           transport = told.1 refl;
           processes_are = stands.processes_are;
           watched_are = stands.watched_are;
@@ -175,7 +175,7 @@ module _ (plan : Plan) (steps : List Step) (taken : List Item) (w : WorldState) 
   -- a process may be lost where nothing refuses it
   pub may_lose : (p count : ℕ) (processes : ProcessesState) → Loses w.processes p (Ok count) processes → (p < plan.n) × (is_dropped steps p ≡ false)
   may_lose p count processes loses =
-      let told = loses plan.n plan.watched c stands.put stands.processes in
+      let told = loses plan.n plan.watched plan.flag c stands.put stands.processes in
       let outside : not (nat_lt p plan.n) ≡ false = none_holds (event_reasons plan.n c (λ q. is_some (pending_at w.processes q)) (step.Dropped p)) 0 (not (nat_lt p plan.n), why.NoSuch) refl told.0 in
       let not_ended : has_ended c p ≡ false = none_holds (event_reasons plan.n c (λ q. is_some (pending_at w.processes q)) (step.Dropped p)) 1 (has_ended c p, why.Closed) refl told.0 in
       (grind (arith, nat_tests, outside), sym (dropped_among steps p) ∙ (neither (is_closed c p) (is_dropped c p) not_ended).1)
@@ -184,7 +184,7 @@ module _ (plan : Plan) (steps : List Step) (taken : List Item) (w : WorldState) 
   pub lose_answered : (p count : ℕ) (processes : ProcessesState) (transport : TransportState) → Loses w.processes p (Ok count) processes → IsGivenMark w.transport p count transport →
       IsReply plan steps (step.Dropped p) Done × Stands plan (steps ++ step.Dropped p ∷ []) (taken ++ []) (record w { processes = processes; transport = transport })
   lose_answered p count processes transport loses given_mark =
-      let told = loses plan.n plan.watched c stands.put stands.processes in
+      let told = loses plan.n plan.watched plan.flag c stands.put stands.processes in
       let may = may_lose p count processes loses in
       rw (append-nil taken) (
         reply_is (step.Dropped p) Done (rw told.0 refl),
@@ -203,16 +203,16 @@ module _ (plan : Plan) (steps : List Step) (taken : List Item) (w : WorldState) 
 
   -- a process that is refused to be lost
   pub lose_refused : (p : ℕ) (why : Why) (processes : ProcessesState) → Loses w.processes p (Err why) processes → IsReply plan steps (step.Dropped p) (Refused why) × Stands plan (steps ++ []) (taken ++ []) w
-  lose_refused p why processes loses = refused_for (step.Dropped p) why (loses plan.n plan.watched c stands.put stands.processes)
+  lose_refused p why processes loses = refused_for (step.Dropped p) why (loses plan.n plan.watched plan.flag c stands.put stands.processes)
 
   -- what was put of a process has no mark
   put_kept : (p : ℕ) → p < plan.n → filter is_kept (given steps p (stands.put p)) ≡ stands.put p
   put_kept p within =
-      let kept = emissions_kept plan.n plan.watched c p (stands.put p) _ (are_emissions p within) in
+      let kept = emissions_kept plan.n plan.watched plan.flag c p (stands.put p) _ (are_emissions p within) in
       filter-append is_kept (stands.put p) _ ∙ grind (arith, append-nil)
 
   -- what was taken of each process is a front of what it emitted
-  pub taken_fronts : AreFrontsOfEmissions plan.n plan.watched c taken
+  pub taken_fronts : AreFrontsOfEmissions plan.n plan.watched plan.flag c taken
   taken_fronts p within =
       let order = stands.transport.in_order p within in
       let along = notes_along (notes_at plan w.transport.places p) (Link p ∷ order.way) in
@@ -220,12 +220,12 @@ module _ (plan : Plan) (steps : List Step) (taken : List Item) (w : WorldState) 
       let front : notes_taken p taken ++ filter is_kept along ≡ stands.put p =
       ap (λ items. notes_taken p items ++ filter is_kept along) stands.taken_are ∙ ap (λ l. l ++ filter is_kept along) (notes_without p stands.handed)
       ∙ sym (filter-append is_kept (notes_taken p stands.handed) along) ∙ ap (filter is_kept) order.notes ∙ put_kept p within in
-      (filter is_kept along ++ rest, subst (AreEmissions plan.n plan.watched c p) (sym (ap (λ l. l ++ rest) front) ∙ append_assoc (notes_taken p taken) (filter is_kept along) rest) (are_emissions p within))
+      (filter is_kept along ++ rest, subst (AreEmissions plan.n plan.watched plan.flag c p) (sym (ap (λ l. l ++ rest) front) ∙ append_assoc (notes_taken p taken) (filter is_kept along) rest) (are_emissions p within))
 
   -- what the link of a process was given is in turn
   given_by_case : (p : ℕ) (b : Bool) → is_dropped c p ≡ b → p < plan.n → AreInTurn (stands.put p ++ (if b then note.Lost (length (stands.put p)) ∷ [] else []))
-  given_by_case p true dropped within = let gone = put_and_gone plan.n plan.watched c stands.put w.processes stands.processes p dropped in mark_in_turn plan.n plan.watched c p (stands.put p) gone.0 gone.1 gone.2
-  given_by_case p false live within = rw (append-nil (stands.put p)) (front_in_turn (stands.put p) _ (emissions_in_turn plan.n plan.watched c p _ (are_emissions p within)))
+  given_by_case p true dropped within = let gone = put_and_gone plan.n plan.watched plan.flag c stands.put w.processes stands.processes p dropped in mark_in_turn plan.n plan.watched plan.flag c p (stands.put p) gone.0 gone.1 gone.2
+  given_by_case p false live within = rw (append-nil (stands.put p)) (front_in_turn (stands.put p) _ (emissions_in_turn plan.n plan.watched plan.flag c p _ (are_emissions p within)))
 
   given_in_turn : (p : ℕ) → p < plan.n → AreInTurn (given steps p (stands.put p))
   given_in_turn p within = rw (← dropped_among steps p) (given_by_case p (is_dropped c p) refl within)

@@ -35,7 +35,7 @@ pub record Stands (plan : Plan) (steps : List Step) (taken : List Item) (w : Wor
   pub put : ℕ → List Note
   pub handed : List Item
   pub taken_are : taken ≡ without_lost handed
-  pub processes : AreProcessesOf plan.n plan.watched (computation steps) put w.processes
+  pub processes : AreProcessesOf plan.n plan.watched plan.flag (computation steps) put w.processes
   pub transport : IsTransportOf plan steps put handed w.transport
   pub processes_are : process_count w ≡ plan.n
   pub watched_are : w.checker.watched ≡ plan.watched
@@ -57,7 +57,7 @@ MakesStep old s answer new = (plan : Plan) (steps : List Step) (taken : List Ite
 pub record IsWorldOf (plan : Plan) (history : List Answered) (w : WorldState) : Type 0 where
   pub replies : AreReplies plan history
   pub fronts : (place : ℕ) →
-      AreFrontsOfEmissions plan.n plan.watched (computation (accepted (take place history)))
+      AreFrontsOfEmissions plan.n plan.watched plan.flag (computation (accepted (take place history)))
       (items_taken (take place history))
   pub stands : Stands plan (accepted history) (items_taken history) w
 

@@ -33,7 +33,7 @@ impl Processes {
     /// The processes of a plan, before any event. `Err` where memory runs out.
     pub fn new(alloc: Global, plan: &Plan) -> Result<Processes, AllocError>
         requires { plan.now.n ≤ most_processes }
-        ensures { IfOk result (λ app. AreProcessesOf plan.now.n plan.now.watched [] (λ p. []) app) }
+        ensures { IfOk result (λ app. AreProcessesOf plan.now.n plan.now.watched plan.now.flag [] (λ p. []) app) }
     {
         let mut probes = Vec::with_capacity(alloc, plan.n as usize)?;
         for id in 0..plan.n {

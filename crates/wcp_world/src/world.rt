@@ -81,7 +81,7 @@ impl World {
         requires { p < process_count self.now }
         ensures { (plan : Plan) (history : List Answered)
             → IsWorldOf plan history self.now
-            → IsTallyOf plan.n plan.watched (computation (accepted history)) (items_taken history) p result }
+            → IsTallyOf plan.n plan.watched plan.flag (computation (accepted history)) (items_taken history) p result }
     {
         Tally {
             emitted: self.detector.processes.emitted(p) as u64,

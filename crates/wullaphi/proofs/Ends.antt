@@ -81,7 +81,7 @@ module _ {P A : Type 0} (Leaves : P → LiveSide → A → Type 0) (done : A →
     pub is_end : IsEndOfSeat Leaves done seat end
     pub probe_at : slice_get are.watch.probes.items k ≡ Some seat.probe
     pub of_watch : seat.probe.core.watch ≡ number
-    pub made : setup_of seat.probe.core ≡ setup plan.n plan.watched k
+    pub made : setup_of seat.probe.core ≡ setup plan.n plan.watched plan.flag k
 
   end_at : (k : ℕ) (end : SeatEnd A) → slice_get ends.workers.items k ≡ Some end → HasEnd k end
   end_at k end at =
@@ -96,7 +96,7 @@ module _ {P A : Type 0} (Leaves : P → LiveSide → A → Type 0) (done : A →
         is_end = is_end;
         probe_at = there;
         of_watch = number_is k seat.probe there;
-        made = ap setup_of fresh.0 ∙ ap (λ n. setup n plan.watched k) (length-replicate plan.n 0);
+        made = ap setup_of fresh.0 ∙ ap (λ n. setup n plan.watched plan.flag k) (length-replicate plan.n 0);
       }
 
   pub count : length ends.workers.items ≡ plan.n
@@ -117,7 +117,7 @@ module _ {P A : Type 0} (Leaves : P → LiveSide → A → Type 0) (done : A →
 
   -- what a process answered, and whether its part is done by that
   answered_at : (k : ℕ) (end : SeatEnd A) (process : P) (is : Bool) → slice_get ends.workers.items k ≡ Some end → slice_get processes k ≡ Some process
-      → is_some end.probe ≡ is → HasAnswered Leaves done number (setup plan.n plan.watched k) process is
+      → is_some end.probe ≡ is → HasAnswered Leaves done number (setup plan.n plan.watched plan.flag k) process is
   answered_at k end process is at process_at closed =
       let of = end_at k end at in
       let left = left_of end.probe of.is_end.ran of.is_end.lost in
@@ -163,7 +163,7 @@ module _ {P A : Type 0} (Leaves : P → LiveSide → A → Type 0) (done : A →
       pub probe_at : slice_get probes k ≡ Some probe
       pub same : end.probe ≡ Some probe
       pub of : HasEnd k end
-      pub of_process : IsEndOfProcess are.watch plan.n plan.watched k of.seat.probe probe
+      pub of_process : IsEndOfProcess are.watch plan.n plan.watched plan.flag k of.seat.probe probe
 
     has_probe : (k : ℕ) (end : SeatEnd A) → slice_get ends.workers.items k ≡ Some end → HasProbe k end
     has_probe k end at =
@@ -230,7 +230,7 @@ module _ {P A : Type 0} (Leaves : P → LiveSide → A → Type 0) (done : A →
           cc
 
       ran : (p : ℕ) (process : P) (answer : A) → slice_get processes p ≡ Some process → slice_get watched.answers.items p ≡ Some answer
-          → HasRun Leaves number (setup plan.n plan.watched p) process answer (notes_taken p ends.checker.receipt.taken)
+          → HasRun Leaves number (setup plan.n plan.watched plan.flag p) process answer (notes_taken p ends.checker.receipt.taken)
       ran p process answer process_at answer_at =
           let (end, at) = element_within ends.workers.items p (omega (arith, slice_get_within watched.answers.items p answer answer_at, answers_count, count)) in
           let has = has_probe p end at in

@@ -12,7 +12,7 @@ use Rattle.wullaphi.specs.Lent.{IsLent}
 
 -- an observation that is put leaves a probe of the same numbers
 pub observed : (emits : Bool) (core : Core)
-    → IsSameProbe core (record (if emits then record core { flag = true; emitted = core.emitted + 1; pending = Some (note.Snap core.emitted core.clock) } else core) { pending = None })
+    → IsSameProbe core (record (if emits then record core { flag_up = true; emitted = core.emitted + 1; pending = Some (note.Snap core.emitted core.clock) } else core) { pending = None })
 observed true core = record { watch = refl; limit = refl; made = refl }
 observed false core = record { watch = refl; limit = refl; made = refl }
 

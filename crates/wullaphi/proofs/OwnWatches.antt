@@ -162,7 +162,7 @@ module _ {opening : Option OpenedWatch} where
         let fresh = (probes_fresh opened.plan opened.tree.inbox.watch opened.tree is_open.wired).each k probe at in
         its (record {
           is_probe = ap (slice_get opened.tree.probes.items) (ap (λ (core : Core). core.id) fresh.0) ∙ at;
-          fresh = fresh_stands _ (setup opened.plan.n opened.plan.watched k) probe fresh.0 fresh.1;
+          fresh = fresh_stands _ (setup opened.plan.n opened.plan.watched opened.plan.flag k) probe fresh.0 fresh.1;
           put = ap (λ (core : Core). core.pending) fresh.0;
         })
 

@@ -19,7 +19,7 @@ module _ {P : Type 0} {plan : Plan} {number : ℕ} {processes : List P} {parts :
       let there : slice_get are.watch.probes.items k ≡ Some seat.probe =
       ap (λ (probes : List LiveSide). slice_get probes k) (sym are.probes) ∙ mapped_at (λ (s : Seat P). s.probe) parts.workers.items k seat at in
       let fresh = (probes_fresh plan number are.watch are.wired).each k seat.probe there in
-      record { fresh = fresh_stands _ (setup plan.n plan.watched k) seat.probe fresh.0 fresh.1; put = ap (λ (core : Core). core.pending) fresh.0 }
+      record { fresh = fresh_stands _ (setup plan.n plan.watched plan.flag k) seat.probe fresh.0 fresh.1; put = ap (λ (core : Core). core.pending) fresh.0 }
 
   pub all_ready : AreReady IsNewSeat parts
   all_ready = record {

@@ -28,7 +28,7 @@ pub record IsWatchOutcome {P A : Type 0} (Leaves : P → LiveSide → A → Type
   pub answers : length told.answers.items ≡ plan.n
   pub ran : (p : ℕ) (process : P) (answer : A)
       → slice_get processes p ≡ Some process → slice_get told.answers.items p ≡ Some answer
-      → HasRun Leaves number (setup plan.n plan.watched p) process answer (notes_taken p taken)
+      → HasRun Leaves number (setup plan.n plan.watched plan.flag p) process answer (notes_taken p taken)
   pub drained : IsDrained plan.n taken
   pub exact : IsReportByClocks plan.n plan.watched taken told.outcome.report
   pub all_tallies : length told.outcome.tallies ≡ plan.n
@@ -49,7 +49,7 @@ pub record IsLost {P A : Type 0} (Leaves : P → LiveSide → A → Type 0) (don
     (processes : List P) (p : ℕ) (report : Report) : Type 0 where
   pub process : P
   pub is_process : slice_get processes p ≡ Some process
-  pub lost : HasAnswered Leaves done number (setup plan.n plan.watched p) process false
+  pub lost : HasAnswered Leaves done number (setup plan.n plan.watched plan.flag p) process false
   pub before : (q : ℕ) (other : P) → q < p → slice_get processes q ≡ Some other
-      → HasAnswered Leaves done number (setup plan.n plan.watched q) other true
+      → HasAnswered Leaves done number (setup plan.n plan.watched plan.flag q) other true
   pub some_report : report ≢ Nothing

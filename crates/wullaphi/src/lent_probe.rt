@@ -27,11 +27,12 @@ pub trait Loan {
 impl Loan for Brand {
     ghost use Rattle.std.specs.Prelude.{None};
     ghost use Rattle.std.specs.FinSet as set;
+    ghost use Rattle.wcp_model.specs.declared.flag.Flag.TheVariants as reset_at;
     ghost use Rattle.wcp_model.specs.ProbeLog.{setup};
 
     ghost watch = { 0 };
 
-    ghost made = { setup 0 set.empty 0 };
+    ghost made = { setup 0 set.empty reset_at.Event 0 };
 
     ghost ring = { None };
 }

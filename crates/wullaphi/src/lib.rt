@@ -46,7 +46,7 @@ pub use watch_outcome::WatchOutcome;
 pub use watching::watch_processes;
 pub use wcp_book::Book;
 pub use wcp_model::{
-    GlobalCut, Outcome, Parent, Plan, PlanFault, Report, Tallies, Tally, Watched, plain_plan,
+    Flag, GlobalCut, Outcome, Parent, Plan, PlanFault, Report, Tallies, Tally, Watched, plain_plan,
 };
 pub use wcp_probe::{Refusal, Stamped};
 pub use wcp_report::{push_report, report_text};

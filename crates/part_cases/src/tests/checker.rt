@@ -6,7 +6,7 @@ use std::alloc::{AllocError, Global};
 use std::process::Abort;
 use std::test::Fail;
 use wcp_clock::{CLOCK_LIMIT, Clock, Item, Note};
-use wcp_model::{Action, GlobalCut, ProbeSetup, Report, Watched};
+use wcp_model::{Action, Flag, GlobalCut, ProbeSetup, Report, Watched};
 use wcp_probe::ProbeCore;
 use wcp_queue::Checker;
 use wcp_script::ring_workload;
@@ -146,6 +146,7 @@ fn tests_of_ring(rt: &impl Abort, alloc: Global, n: u32, rounds: u32) -> Result<
                 processes: n,
                 process: id,
                 watched: true,
+                flag: Flag::Event,
             },
             CLOCK_LIMIT,
         ))?;

@@ -3,7 +3,7 @@ ghost use Rattle.std.specs.Prelude.{◌<◌};
 use std::process::Abort;
 use std::test::Fail;
 use wcp_clock::{CLOCK_LIMIT, Clock, Note};
-use wcp_model::ProbeSetup;
+use wcp_model::{Flag, ProbeSetup};
 use wcp_probe::{ProbeCore, Refusal, Stamped};
 
 fn core(watch: u64, id: u32) -> ProbeCore
@@ -15,6 +15,7 @@ fn core(watch: u64, id: u32) -> ProbeCore
             processes: 2,
             process: id,
             watched: true,
+            flag: Flag::Event,
         },
         CLOCK_LIMIT,
     )
@@ -87,6 +88,7 @@ fn a_clock_ends_at_its_limit(rt: HostRuntime) -> Result<(), Fail> {
             processes: 2,
             process: 0,
             watched: true,
+            flag: Flag::Event,
         },
         2,
     );

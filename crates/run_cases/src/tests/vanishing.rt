@@ -12,7 +12,7 @@ use std::test::Fail;
 use std::thread::{Threads, join, map_vec};
 use wcp_book::Book;
 use wcp_clock::{CLOCK_LIMIT, Item, Note};
-use wcp_model::{Parent, Plan, ProbeSetup, Report, Watched};
+use wcp_model::{Flag, Parent, Plan, ProbeSetup, Report, Watched};
 use wcp_probe::ProbeCore;
 use wcp_queue::Checker;
 use wcp_tree::{CheckerInbox, LiveProbe, Relay, RelayFault, Watch};
@@ -90,6 +90,7 @@ impl Play {
                 processes: PROCESSES,
                 process,
                 watched: true,
+                flag: Flag::Event,
             };
             let core = ProbeCore::new(7, setup, CLOCK_LIMIT);
             twins.push(Twin { probe, core })?;

@@ -4,7 +4,7 @@ use crate::tests::faults::{
 use crate::tests::plans::assert_plan;
 use FaultKind::{Line, Number, Plan, Process};
 use std::test::Fail;
-use wcp_model::Parent;
+use wcp_model::{Flag, Parent};
 use wcp_script::{FaultKind, read_schedule, read_workload};
 
 /// Fifteen relays under the root.
@@ -89,6 +89,17 @@ const HEADS: &[Row] = &[
     (b"watch 0\ncap x\n", 4, Line),
     (b"watch 0\nrelay 0 root\n", 4, Line),
     (b"relay 0 root\nwatch 0\nattach 0 0\n", 5, Line),
+    // what resets the flag
+    (b"flag\n", 3, Line),
+    (b"flag send", 3, Line),
+    (b"flag event\n", 3, Line),
+    (b"flag sends\n", 3, Line),
+    (b"flag send \n", 3, Line),
+    (b"flag send send\n", 3, Line),
+    (b"flag send\nflag send\n", 4, Line),
+    (b"flag send\nwatch 0\n", 4, Line),
+    (b"flag send\ncap x\n", 4, Line),
+    (b"watch 0\nflag send\nwatch 1\n", 5, Line),
     // the plan as a whole, at the end of the text
     (b"relay 0 root\n", 3, Plan),
     (b"relay 0 root\nattach 0 0\n", 4, Plan),
@@ -181,7 +192,7 @@ fn faults_at_the_first_step_line(rt: HostRuntime) -> Result<(), Fail> {
 
 /// A head that says all that a head can say.
 const WHOLE: &[u8] =
-    b"cap 1024\nhold 64\nrelay 0 root\nrelay 1 0\nrelay 2 0\nattach 0 2\nattach 1 1\nwatch 1\n";
+    b"cap 1024\nhold 64\nrelay 0 root\nrelay 1 0\nrelay 2 0\nattach 0 2\nattach 1 1\nwatch 1\nflag send\n";
 
 #[test]
 fn a_whole_head(rt: HostRuntime) -> Result<(), Fail> {
@@ -190,6 +201,7 @@ fn a_whole_head(rt: HostRuntime) -> Result<(), Fail> {
     let parents = &[Parent::Root, Parent::Relay(0), Parent::Relay(0)];
     assert_plan(&rt, &plan, (2, 1024, 64), parents, &[Some(2), Some(1)]);
     assert!(rt; !plan.watched.has(0) && plan.watched.has(1));
+    assert_eq!(rt; plan.flag, Flag::Send);
     Ok(())
 }
 
@@ -199,5 +211,6 @@ fn a_head_that_says_nothing_of_relays(rt: HostRuntime) -> Result<(), Fail> {
     let plan = read_workload(rt.alloc(), &text)?.plan;
     assert_plan(&rt, &plan, (2, 8, 1), &[Parent::Root], &[Some(0), Some(0)]);
     assert!(rt; plan.watched.has(0) && plan.watched.has(1) && !plan.watched.has(2));
+    assert_eq!(rt; plan.flag, Flag::Event);
     Ok(())
 }

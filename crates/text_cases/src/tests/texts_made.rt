@@ -3,8 +3,8 @@ use std::process::Abort;
 use std::test::Fail;
 use wcp_clock::{Clock, Item, Note};
 use wcp_model::{
-    Action, GlobalCut, Outcome, Parent, Plan, Reply, Report, Tallies, Tally, Task, Watched, Why,
-    Workload,
+    Action, Flag, GlobalCut, Outcome, Parent, Plan, Reply, Report, Tallies, Tally, Task, Watched,
+    Why, Workload,
 };
 use wcp_report::{push_reply, push_report, reply_text, report_text};
 use wcp_script::{ring_workload, workload_text};
@@ -50,17 +50,20 @@ fn the_longest_ring(rt: HostRuntime) -> Result<(), Fail> {
     Ok(())
 }
 
-/// A leaf for each of three processes, of which two are watched, and a relay above the leaves.
+/// A leaf for each of three processes, of which two are watched, and a relay above the leaves; sends alone reset the
+/// flags.
 fn three_leaves(alloc: Global) -> Result<Plan, AllocError> {
     let leaf = Parent::Relay(0);
-    Ok(Plan::new(
+    let mut plan = Plan::new(
         3,
         1024,
         1,
         Vec::from_slice(alloc, &[Parent::Root, leaf, leaf, leaf])?,
         Vec::from_slice(alloc, &[Some(1), Some(2), Some(3)])?,
         Watched::none().with(0).with(2),
-    ))
+    );
+    plan.flag = Flag::Send;
+    Ok(plan)
 }
 
 const TASKS: &[Task] = &[
@@ -85,7 +88,7 @@ const TASKS: &[Task] = &[
 /// The text of these tasks under the plan of three leaves.
 const TREE: &[u8] =
     b"wcp 1\nprocs 3\ncap 1024\nhold 1\nrelay 0 root\nrelay 1 0\nrelay 2 0\nrelay 3 0\n\
-attach 0 1\nattach 1 2\nattach 2 3\nwatch 0 2\np 0 true\np 0 send 2\np 2 recv 0\np 1 false\n";
+attach 0 1\nattach 1 2\nattach 2 3\nwatch 0 2\nflag send\np 0 true\np 0 send 2\np 2 recv 0\np 1 false\n";
 
 #[test]
 fn a_workload_with_a_tree_of_relays(rt: HostRuntime) -> Result<(), Fail> {

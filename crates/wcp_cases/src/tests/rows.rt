@@ -12,7 +12,7 @@ pub struct Row {
 }
 
 /// Texts that are answered.
-pub static ANSWERED: [Row; 29] = [
+pub static ANSWERED: [Row; 32] = [
     Row {
         name: "true again after a send",
         word: "single",
@@ -76,6 +76,30 @@ pub static ANSWERED: [Row; 29] = [
         output: "none\nprocess 0 emitted 1 taken 1\nprocess 1 emitted 0 taken 0\nprocess 2 emitted 1 taken 1\ntotal emitted 2 taken 2\n",
         errors: "",
         status: 1,
+    },
+    Row {
+        name: "sends alone reset the flag",
+        word: "single",
+        text: "wcp 1\nprocs 2\nflag send\np 0 send 1\np 1 true\np 1 recv 0\np 1 true\np 0 true\n",
+        output: "found 1 0\nprocess 0 emitted 1 taken 1\nprocess 1 emitted 1 taken 1\ntotal emitted 2 taken 2\n",
+        errors: "",
+        status: 0,
+    },
+    Row {
+        name: "a send resets the flag",
+        word: "single",
+        text: "wcp 1\nprocs 2\nflag send\np 0 true\np 0 send 1\np 0 true\np 1 recv 0\np 1 true\n",
+        output: "found 1 1\nprocess 0 emitted 2 taken 2\nprocess 1 emitted 1 taken 1\ntotal emitted 3 taken 3\n",
+        errors: "",
+        status: 0,
+    },
+    Row {
+        name: "a receive leaves the flag up",
+        word: "replay",
+        text: "wcp 1\nprocs 2\nflag send\nobserve 0 true\nput 0\nobserve 1 true\nput 1\nsend 1 0\nrecv 0 0\nobserve 0 true\nput 0\nadmit 0 0\nadmit 0 1\nadmit 0 0\npass 0\npass 0\npass 0\ncheck\ncheck\ncheck\n",
+        output: "done\ndone\ndone\ndone\ndone\ndone\ndone\nrefused empty\ndone\ndone\nrefused empty\ndone\ndone\nrefused empty\ntook 0 snap 0 0 0\ntook 1 snap 0 0 0\nrefused empty\nfound 0 0\nprocess 0 emitted 1 taken 1\nprocess 1 emitted 1 taken 1\ntotal emitted 2 taken 2\n",
+        errors: "",
+        status: 0,
     },
     Row {
         name: "ordered through a third process",

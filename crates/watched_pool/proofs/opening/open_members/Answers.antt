@@ -1,4 +1,4 @@
-use Rattle.watched_pool.proofs.Words.{ℕ, zero, suc, ◌+◌, ◌∷◌, [], All, length, refl, sym, ap, ◌∙◌, subst, arith, length-append, Member, IsReplica}
+use Rattle.watched_pool.proofs.Words.{zero, suc, ◌+◌, ◌∷◌, [], All, length, refl, sym, ap, ◌∙◌, subst, arith, length-append, Member, IsReplica}
 use Rattle.std.proofs.lemmas.List.Elements.{All-append}
 use Rattle.watched_pool.proofs.opening.open_members.Goals as goal
 

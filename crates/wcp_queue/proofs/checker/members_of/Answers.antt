@@ -1,4 +1,4 @@
-use Rattle.wcp_queue.proofs.Words.{◌≡◌, ap, sym, ◌∙◌, subst, take, length, arith, length-take-le, members_of}
+use Rattle.wcp_queue.proofs.Words.{◌≡◌, sym, ◌∙◌, subst, length, arith, length-take-le, members_of}
 use Rattle.wcp_queue.proofs.WatchedRows.{AreListed, listed_with, listed_without, listed_members, some_rows}
 use Rattle.wcp_queue.proofs.checker.members_of.Goals as goal
 use Rattle.wcp_queue.proofs.checker.members_of.Goals.{then-has, else-has}

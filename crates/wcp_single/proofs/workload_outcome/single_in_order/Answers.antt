@@ -19,5 +19,6 @@ pub returns : goal.returns
 returns c =
     let n = c.args.workload.now.plan.n in
     let watched = c.args.workload.now.plan.watched in
-    IfOk-weaker c.outcome.result (IsWorkloadOutcome n watched c.args.order.now) (IsWorkloadOutcome n watched c.args.workload.now.tasks.items)
+    let flag = c.args.workload.now.plan.flag in
+    IfOk-weaker c.outcome.result (IsWorkloadOutcome n watched flag c.args.order.now) (IsWorkloadOutcome n watched flag c.args.workload.now.tasks.items)
     (λ outcome is other fit. is other (record { same_tasks = λ p. fit.same_tasks p ∙ sym (c.requires.fit.same_tasks p); sent_first = fit.sent_first })) c.outcome.ensures

@@ -9,7 +9,7 @@ use Rattle.wcp_probe.proofs.probe.ProbeCore.receive.Goals as goal
 pub invariant_of-self : goal.invariant_of-self
 invariant_of-self g c =
     let p = c.self.inside in
-    let core : Core = record { watch = p.watch; id = p.id; watched = p.watched; limit = p.limit; clock = p.clock; flag = p.flag; closed = p.closed; emitted = p.emitted; pending = p.pending } in
+    let core : Core = record { watch = p.watch; id = p.id; watched = p.watched; flag = p.flag; limit = p.limit; clock = p.clock; flag_up = p.flag_up; closed = p.closed; emitted = p.emitted; pending = p.pending } in
     let seal : Seal = record { watch = c.args.message.watch; from = 0; to = c.args.message.to; clock = c.args.message.clock } in
     let fits = subst (λ (k : Core). (is_some k.pending ≡ false) × (length seal.clock ≡ length k.clock) × (slice_index seal.clock k.id ≤ slice_index k.clock k.id)) (sym c.self.view_is) (matching c.args.self.now seal (sym c.why_not.ensures ∙ none_from c.why_not.result c.in_default.not-Some)) in
     let after = received p.clock c.args.message.clock c.in-Some-tick.clock p.id c.self.invariant.process fits.1 fits.2 c.in-Some-tick.ensures.counted in
@@ -21,24 +21,24 @@ invariant_of-self g c =
       processes = omega arith;
       limit = omega arith;
       events = omega arith;
-      emitted = omega (arith, flag_bound p.flag);
+      emitted = omega (arith, flag_bound p.flag_up);
       pending = not_some (is_some p.pending) fits.0;
     }
 
 pub returns-clause-accepted : goal.returns-clause-accepted
 returns-clause-accepted g c log stands =
     let p = c.self.inside in
-    let core : Core = record { watch = p.watch; id = p.id; watched = p.watched; limit = p.limit; clock = p.clock; flag = p.flag; closed = p.closed; emitted = p.emitted; pending = p.pending } in
+    let core : Core = record { watch = p.watch; id = p.id; watched = p.watched; flag = p.flag; limit = p.limit; clock = p.clock; flag_up = p.flag_up; closed = p.closed; emitted = p.emitted; pending = p.pending } in
     let seal : Seal = record { watch = c.args.message.watch; from = 0; to = c.args.message.to; clock = c.args.message.clock } in
     let fits = subst (λ (k : Core). (is_some k.pending ≡ false) × (length seal.clock ≡ length k.clock) × (slice_index seal.clock k.id ≤ slice_index k.clock k.id)) (sym c.self.view_is) (matching c.args.self.now seal (sym c.why_not.ensures ∙ none_from c.why_not.result c.in_default.not-Some)) in
     let after = received p.clock c.args.message.clock c.in-Some-tick.clock p.id c.self.invariant.process fits.1 fits.2 c.in-Some-tick.ensures.counted in
-    receive_accepted core c.args.message.clock c.merge-self-inside.result (ap length c.merge-self-inside.ensures ∙ after.0) (c.merge-self-inside.ensures ∙ after.2) log (subst (λ (core : Core). StandsForLog core log) (sym c.self.view_is) stands)
+    rw c.is_up_after_receive-self-inside.ensures (receive_accepted core c.args.message.clock c.merge-self-inside.result (ap length c.merge-self-inside.ensures ∙ after.0) (c.merge-self-inside.ensures ∙ after.2) log (subst (λ (core : Core). StandsForLog core log) (sym c.self.view_is) stands))
 
 pub returns-clause-same : goal.returns-clause-same
 returns-clause-same g c =
     let p = c.self.inside in
-    let core : Core = record { watch = p.watch; id = p.id; watched = p.watched; limit = p.limit; clock = p.clock; flag = p.flag; closed = p.closed; emitted = p.emitted; pending = p.pending } in
+    let core : Core = record { watch = p.watch; id = p.id; watched = p.watched; flag = p.flag; limit = p.limit; clock = p.clock; flag_up = p.flag_up; closed = p.closed; emitted = p.emitted; pending = p.pending } in
     let seal : Seal = record { watch = c.args.message.watch; from = 0; to = c.args.message.to; clock = c.args.message.clock } in
     let fits = subst (λ (k : Core). (is_some k.pending ≡ false) × (length seal.clock ≡ length k.clock) × (slice_index seal.clock k.id ≤ slice_index k.clock k.id)) (sym c.self.view_is) (matching c.args.self.now seal (sym c.why_not.ensures ∙ none_from c.why_not.result c.in_default.not-Some)) in
     let after = received p.clock c.args.message.clock c.in-Some-tick.clock p.id c.self.invariant.process fits.1 fits.2 c.in-Some-tick.ensures.counted in
-    subst (λ (old : Core). IsSameProbe old (record core { clock = c.merge-self-inside.result; flag = false })) c.self.view_is (record { watch = refl; limit = refl; made = ap (λ (n : ℕ). record { processes = n; process = p.id; watched = p.watched }) (ap length c.merge-self-inside.ensures ∙ after.0) })
+    subst (λ (old : Core). IsSameProbe old (record core { clock = c.merge-self-inside.result; flag_up = c.is_up_after_receive-self-inside.result })) c.self.view_is (record { watch = refl; limit = refl; made = ap (λ (n : ℕ). record { processes = n; process = p.id; watched = p.watched; flag = p.flag }) (ap length c.merge-self-inside.ensures ∙ after.0) })

@@ -1,4 +1,4 @@
-use Rattle.wcp_queue.proofs.Words.{◌++◌, ◌∷◌, [], slice_set, true, sym, ap, ◌∙◌, refl, subst, arith, place_of, StandsForItems, checker_state}
+use Rattle.wcp_queue.proofs.Words.{◌++◌, ◌∷◌, [], slice_set, true, sym, refl, subst, arith, StandsForItems, checker_state}
 use Rattle.wcp_queue.proofs.StandingForItems.{StandsForItems-close, StandsForItems-lost}
 use Rattle.wcp_queue.proofs.checker.Checker.take.Goals as goal
 

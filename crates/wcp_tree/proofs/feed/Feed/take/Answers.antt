@@ -1,4 +1,4 @@
-use Rattle.wcp_tree.proofs.Words.{◌≡◌, Bool, false, true, true≢false, ap, ◌∙◌, sym, refl, subst, Feed, IsInOrder, IsNextOfProcess, MayComeFromRing, All-push, given_by}
+use Rattle.wcp_tree.proofs.Words.{◌≡◌, Bool, false, true, true≢false, ap, ◌∙◌, sym, refl, subst, Feed, IsInOrder, MayComeFromRing, All-push}
 use Rattle.wcp_tree.proofs.Ordering.{given_more, in_order_snap, in_order_last, in_order_lost, in_order_same, out_of_turn, place_in_turn}
 use Rattle.wcp_tree.proofs.feed.Feed.take.Goals as goal
 use Rattle.wcp_tree.proofs.feed.Feed.take.Goals.{then-is_last, else-is_last, then-self-2-via-then-self-2, then-self-2-via-else-self-2+then-not-may_come}
