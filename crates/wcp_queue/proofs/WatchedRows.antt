@@ -78,6 +78,14 @@ module _ (test : ℕ → Bool) where
     | inr out ↦ rw out (omega (arith, kept_few (a + 1) n))
   ]
 
+  -- what keeps as many as there are keeps all of them
+  kept_all : (a n : ℕ) → length (kept a n) ≡ n → kept a n ≡ range_with_len a n
+  kept_all a zero all = refl
+  kept_all a (suc n) all = elim (cases_Bool (test a)) [
+    | inl passes ↦ rw passes (ap (λ rest. a ∷ rest) (kept_all (a + 1) n (omega (arith, rw passes at all))))
+    | inr out ↦ absurd (omega (arith, kept_few (a + 1) n, rw out at all))
+  ]
+
 -- a process has a row, or its row is past the rows
 pub record HasRow (members : List ℕ) (p : ℕ) : Type 0 where
   pub within : row_of members p < length members
@@ -327,3 +335,32 @@ module _ (entries : List (Option ℕ)) (n : ℕ) (members intervals : List ℕ) 
       get_or-take n entries k None (omega (arith, size))
       ∙ are.done k (omega (arith, size))
       ∙ sym (get_or-map-range_with_len entry 0 n k k None (omega (arith, size)) at))
+
+-- Where every process is watched, the row of each is its number, and a clock says all that it says of them.
+row_in_range : (a n k : ℕ) → k < n → row_of (range_with_len a n) (a + k) ≡ k
+row_in_range a zero k below = absurd (omega arith)
+row_in_range a (suc n) zero below = rw (eq-eqb a (a + 0) (omega arith)) refl
+row_in_range a (suc n) (suc k) below =
+    let next : a + suc k ≡ (a + 1) + k = omega arith in
+    rw (ne_eqb a (a + suc k) (λ same. absurd (omega (arith, same))))
+    (ap suc (ap (row_of (range_with_len (a + 1) n)) next ∙ row_in_range (a + 1) n k (omega arith)))
+
+known_in_range : (n : ℕ) (clock : List ℕ) → length clock ≡ n → known_of (range_with_len 0 n) clock ≡ clock
+known_in_range n clock long =
+    ext_get_or 0 (known_of (range_with_len 0 n) clock) clock (length-map-range_with_len (slice_index clock) 0 n ∙ sym long)
+    (λ k below.
+    let within : k < n = omega (arith, length-map-range_with_len (slice_index clock) 0 n) in
+    let at : 0 + k ≡ k = omega arith in
+    get_or-map-range_with_len (slice_index clock) 0 n k k 0 within at)
+
+module _ (n : ℕ) (watched : NumberSet) (members : List ℕ) (is : members ≡ members_of n watched) (all : length members ≡ n) where
+  all_members : members ≡ range_with_len 0 n
+  all_members = is ∙ kept_all (set.contains watched) 0 n (ap length (sym is) ∙ all)
+
+  pub row_of_all : (p : ℕ) → p < n → row_of members p ≡ p
+  row_of_all p below =
+      let at : p ≡ 0 + p = omega arith in
+      ap (λ l. row_of l p) all_members ∙ ap (row_of (range_with_len 0 n)) at ∙ row_in_range 0 n p below
+
+  pub known_of_all : (clock : List ℕ) → length clock ≡ n → known_of members clock ≡ clock
+  known_of_all clock long = ap (λ l. known_of l clock) all_members ∙ known_in_range n clock long

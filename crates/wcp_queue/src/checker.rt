@@ -1,5 +1,5 @@
 ghost use Rattle.std.specs.Prelude.{◌≡◌, ◌≢◌, ℕ, true, false, ◌*◌, ◌^◌, ◌<◌, ◌≤◌, [], List, length, count_by};
-ghost use Rattle.std.specs.Prelude.{◌↔◌, All, IfOk, IfErr, IfSome, IsNone, IsOk, IsSome, IsTrue, OnOk, OnErr};
+ghost use Rattle.std.specs.Prelude.{◌↔◌, IfOk, IfErr, IfSome, IsNone, IsOk, IsSome, IsTrue, OnOk, OnErr};
 ghost use Rattle.std.specs.List.{list_all, list_any};
 ghost use Rattle.wcp_clock.specs.Limits.{most_processes};
 ghost use Rattle.wcp_clock.specs.declared.note.Item.{Item};
@@ -7,7 +7,7 @@ ghost use Rattle.wcp_clock.specs.declared.note.Note.TheVariants.{Snap};
 ghost use Rattle.wcp_model.specs.declared.outcome.Report.TheVariants.{Found, Nothing};
 ghost use Rattle.wcp_clock.specs.Notes.{is_close, is_last, is_lost};
 ghost use Rattle.wcp_model.specs.Watched.{AreSomeWatched};
-ghost use Rattle.wcp_queue.specs.Rows.{cut_of, members_of, row_of};
+ghost use Rattle.wcp_queue.specs.Rows.{cut_of, known_of, members_of, row_of};
 ghost use Rattle.wcp_model.specs.Report.{ClocksRise, IsReportByClocks, clocks_taken, notes_taken};
 
 use crate::elimination::add_candidate;
@@ -150,7 +150,7 @@ impl Checker {
         ensures needs_none { ¬ IsSearching self.old → IsOk result }
     {
         if let Some(row) = self.row_to_search(p as u32) {
-            let known = clock.restrict(&self.members);
+            let known = self.known(clock);
             add_candidate(
                 &mut self.queues,
                 row as usize,
@@ -165,17 +165,37 @@ impl Checker {
 
     /// The row of process `p`, if it is watched and the checker searches.
     fn row_to_search(&self, p: u32) -> Option<u32>
+        requires { p < processes self.now }
         ensures none { IsNone result → IsSearching self.now → row_of self.now.members p ≡ length self.now.members }
         ensures searching { IsSome result → IsSearching self.now }
         ensures row { IfSome result (λ row. row ≡ row_of self.now.members p) }
         ensures within { IfSome result (λ row. row < length self.now.members) }
-        ensures members { All (λ p. p < most_processes) self.now.members }
     {
-        if self.is_searching() {
-            find_row(&self.members, p)
-        } else {
+        if !self.is_searching() {
             None
+        } else if self.watches_all() {
+            Some(p)
+        } else {
+            find_row(&self.members, p)
         }
+    }
+
+    /// What a clock says of the watched processes.
+    fn known(&self, clock: &Clock) -> Clock
+        ensures { result ≡ known_of self.now.members clock.now }
+    {
+        if self.watches_all() && clock.len() == self.processes {
+            *clock
+        } else {
+            clock.restrict(&self.members)
+        }
+    }
+
+    /// Whether every process is watched: then its number is its row.
+    fn watches_all(&self) -> bool
+        ensures { IsTrue result ↔ (length self.now.members ≡ processes self.now) }
+    {
+        self.members.len() == self.processes
     }
 
     fn is_searching(&self) -> bool

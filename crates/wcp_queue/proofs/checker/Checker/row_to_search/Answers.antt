@@ -1,9 +1,11 @@
-use Rattle.wcp_queue.proofs.Words.{checker_state}
-use Rattle.wcp_queue.proofs.SoundCheckers.{members_few}
+use Rattle.wcp_queue.proofs.Words.{sym, checker_state}
+use Rattle.wcp_queue.proofs.WatchedRows.{row_of_all}
 use Rattle.wcp_queue.proofs.checker.Checker.row_to_search.Goals as goal
 
-pub returns-then-is_searching-clause-members : goal.returns-then-is_searching-clause-members
-returns-then-is_searching-clause-members c = rw (← c.self.view_is) (members_few (checker_state c.self.inside) c.self.invariant)
-
-pub returns-else-is_searching-clause-members : goal.returns-else-is_searching-clause-members
-returns-else-is_searching-clause-members c = rw (← c.self.view_is) (members_few (checker_state c.self.inside) c.self.invariant)
+pub returns-then-watches_all-clause-row : goal.returns-then-watches_all-clause-row
+returns-then-watches_all-clause-row c =
+    let checker = checker_state c.self.inside in
+    let all = rw (← c.self.view_is) at (c.watches_all.ensures.0 c.if-watches_all.true) in
+    let within = rw (← c.self.view_is) at c.requires in
+    rw (← c.self.view_is)
+    (sym (row_of_all checker.count checker.watched checker.members c.self.invariant.members all c.args.p within))

@@ -46,7 +46,7 @@ returns-clause-taken c =
           let added = w.in_ok-add_candidate.ensures in
           let row_is = rw (← c.self.view_is) at w.in-Some.ensures.row in
           let row_within = rw (← c.self.view_is) at w.in-Some.ensures.within in
-          let known = rw w.restrict-known.ensures at (rw shown at added.left) in
+          let known = rw (rw (← c.self.view_is) at w.known-known.ensures) at (rw shown at added.left) in
           rw (w.self-inside-is, items, ← c.self.view_is) (record {
             stands = λ list stands. StandsForItems-snapshot old _ sound list c.args.p c.args.clock.now stands within
                 still_open not_lost counted refl refl refl (omega (arith, ap length shown)) refl refl refl
