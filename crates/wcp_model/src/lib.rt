@@ -6,11 +6,11 @@
 //! `least_cut_law`), the fit-order law (`fit_order_law`), the clock law and that each state has a clock (`clock_law`,
 //! `states_have_clocks`), the log law (`log_law`), the task log law (`task_log_law`), the growth law and the
 //! early-find law (`growth_law`, `early_find_law`), the event-flag law and the send-flag law (`event_flag_law`,
-//! `send_flag_law`: whatever resets the flag, each member of a least cut is emitted), and the first-reason law, that the first of some reasons by their
-//! tests is the first that holds (`first_reason_law`). `Plan::check` gives the first fault that a plan has, and none
-//! exactly where it has none; `is_attached`, `is_leaf` and `parent_of` answer as the definitions of the tree do;
-//! `plain_plan` is the plan of one relay that serves every process, each watched and with its flag reset by each event,
-//! and passes the check within the limits.
+//! `send_flag_law`: whatever resets the flag, each member of a least cut is emitted), and the first-reason law, that
+//! the first of some reasons by their tests is the first that holds (`first_reason_law`). `Plan::check` gives the
+//! first fault that a plan has, and none exactly where it has none; `is_attached`, `is_leaf` and `parent_of` answer
+//! as the definitions of the tree do; `plain_plan` is the plan of one relay that serves every process, each watched
+//! and with its flag reset by each event, and passes the check within the limits.
 #![tactic(auto)]
 
 mod clock_laws;
