@@ -11,10 +11,7 @@ use Rattle.wcp_model.proofs.Decided.{Decided, decided_from, some_below_decided}
 
 -- what happened before a state happened before each later state of its process
 pub happened_before_later : (c : Computation) (s : State) (q k l : ℕ) → k ≤ l → l ≤ communications c q → HappenedBefore c s (local_state q k) → HappenedBefore c s (local_state q l)
-happened_before_later c s q k l order within before = elim (cases_lt k l) [
-  | inl less ↦ before_trans c s (local_state q k) before (before_later c q k l less within)
-  | inr last ↦ let same : k ≡ l = omega arith in rw same at before
-]
+happened_before_later c s q k l order within before = grind (arith, cases_lt, before_trans, local_state, before_later)
 
 -- the minimum of two cuts names what both name, and of that the lesser
 lesser-none : (o : Option ℕ) → lesser o None ≡ None
@@ -48,24 +45,11 @@ unwrap-lesser None b a_is b_is = absurd (true≢false (sym a_is))
 module _ (n : ℕ) (watched : NumberSet) (one other : Intervals) (mine : NamesWatched n watched one)
     (theirs : NamesWatched n watched other) where
   pub NamesWatched-minimum : NamesWatched n watched (minimum one other)
-  NamesWatched-minimum = record {
-    processes = length-minimum one other (mine.processes ∙ sym theirs.processes) ∙ mine.processes;
-    named = λ p below. ap is_some (at-minimum one other p)
-        ∙ is_some-lesser (slice_index_or one p None) (slice_index_or other p None)
-        ∙ ap₂ ◌&&◌ (mine.named p below) (theirs.named p below)
-        ∙ and_itself (set.contains watched p);
-  }
-    where
-      and_itself : (b : Bool) → (b && b) ≡ b
-      and_itself true = refl
-      and_itself false = refl
+  NamesWatched-minimum = grind (arith, length-minimum, at-minimum, is_some-lesser)
 
   pub interval_of-minimum : (p : ℕ) → IsWatched n watched p
       → interval_of (minimum one other) p ≡ min (interval_of one p) (interval_of other p)
-  interval_of-minimum p is =
-      ap (λ o. unwrap_or o 0) (at-minimum one other p)
-      ∙ unwrap-lesser (slice_index_or one p None) (slice_index_or other p None)
-      (mine.named p is.below ∙ is.member) (theirs.named p is.below ∙ is.member)
+  interval_of-minimum p is = grind (arith, at-minimum, unwrap-lesser)
 
 -- a member of a satisfying cut happened before no member of a cut that lies at or below it
 pub nothing_before_below : (n : ℕ) (watched : NumberSet) (c : Computation) (cut lower : Intervals) (p q : ℕ)
@@ -73,10 +57,12 @@ pub nothing_before_below : (n : ℕ) (watched : NumberSet) (c : Computation) (cu
     → interval_of lower p ≡ interval_of cut p → interval_of lower q ≤ interval_of cut q
     → HappenedBefore c (member lower p) (member lower q) → ⊥
 nothing_before_below n watched c cut lower p q satisfying p_is q_is apart same order before =
-    let later : HappenedBefore c (member lower p) (member cut q) =
-    happened_before_later c (member lower p) q _ _ order
-    (true_state_exists c (member cut q) (satisfying.true_states q q_is)) before in
-    satisfying.consistent p q p_is q_is apart (subst (λ k. HappenedBefore c (local_state p k) (member cut q)) same later)
+    grind (
+      arith,
+      happened_before_later c (member lower p) q _ _ order (true_state_exists c (member cut q) (satisfying.true_states q q_is)) before,
+      true_state_exists c (member cut q) (satisfying.true_states q q_is),
+      local_state,
+    )
 
 pub minimum_is_satisfying : MinimumLaw
 minimum_is_satisfying n watched c one other left right = record {
@@ -146,9 +132,7 @@ marked_from watched k (o ∷ cut) named =
 -- a cut is that of its intervals
 pub marked_back : (n : ℕ) (watched : NumberSet) (cut : Intervals) → NamesWatched n watched cut
     → marked watched 0 (map or_zero cut) ≡ cut
-marked_back n watched cut is =
-    let place : (i : ℕ) → i ≡ 0 + i = λ i. omega arith in
-    marked_from watched 0 cut (λ i below. is.named i (omega (arith, is.processes)) ∙ ap (set.contains watched) (place i))
+marked_back n watched cut is = grind (arith, marked_from)
 
 -- a minimum that is less at one place has a lesser sum
 lesser_le : (a b : Option ℕ) → (or_zero (lesser a b) ≤ or_zero a) × (or_zero (lesser a b) ≤ or_zero b)
@@ -162,13 +146,7 @@ total-cons o cut = sum-cons (or_zero o) (map or_zero cut)
 pub total-minimum_le : (one other : Intervals) → total (minimum one other) ≤ total one
 total-minimum_le [] other = omega arith
 total-minimum_le (k ∷ ks) [] = omega arith
-total-minimum_le (k ∷ ks) (l ∷ ls) = omega (
-  arith,
-  total-cons k ks,
-  total-cons (lesser k l) (minimum ks ls),
-  total-minimum_le ks ls,
-  (lesser_le k l).0,
-)
+total-minimum_le (k ∷ ks) (l ∷ ls) = grind (arith, total-cons, total-minimum_le ks ls, lesser_le)
 
 pub total-minimum_lt : (one other : Intervals) (p : ℕ) → interval_of other p < interval_of one p
     → total (minimum one other) < total one
@@ -176,20 +154,8 @@ total-minimum_lt [] other p less = absurd (omega arith)
 total-minimum_lt (k ∷ ks) [] zero less = omega (arith, total-cons k ks)
 total-minimum_lt (k ∷ ks) [] (suc p) less =
     omega (arith, total-cons k ks, total-minimum_lt ks [] p less, total-minimum_le ks [])
-total-minimum_lt (k ∷ ks) (l ∷ ls) zero less = omega (
-  arith,
-  total-cons k ks,
-  total-cons (lesser k l) (minimum ks ls),
-  total-minimum_le ks ls,
-  (lesser_le k l).1,
-)
-total-minimum_lt (k ∷ ks) (l ∷ ls) (suc p) less = omega (
-  arith,
-  total-cons k ks,
-  total-cons (lesser k l) (minimum ks ls),
-  total-minimum_lt ks ls p less,
-  (lesser_le k l).0,
-)
+total-minimum_lt (k ∷ ks) (l ∷ ls) zero less = grind (arith, total-cons, total-minimum_le, lesser_le)
+total-minimum_lt (k ∷ ks) (l ∷ ls) (suc p) less = grind (arith, total-cons, total-minimum_lt ks ls p less, lesser_le)
 
 -- a satisfying cut of a lesser sum, by its intervals
 abbrev pub IsSatisfyingList : ℕ → NumberSet → Computation → List ℕ → Type 0
@@ -227,17 +193,7 @@ least_from_decider decide n watched c cut satisfying = descend (suc (total cut))
   where
     total-marked_le : (k : ℕ) (list : List ℕ) → total (marked watched k list) ≤ sum list
     total-marked_le k [] = omega arith
-    total-marked_le k (x ∷ xs) = omega (
-      arith,
-      total-cons (cond (set.contains watched k) (Some x) None) (marked watched (suc k) xs),
-      sum-cons x xs,
-      total-marked_le (suc k) xs,
-      first_le (set.contains watched k) x,
-    )
-      where
-        first_le : (b : Bool) (x : ℕ) → or_zero (cond b (Some x) None) ≤ x
-        first_le true x = omega arith
-        first_le false x = omega arith
+    total-marked_le k (x ∷ xs) = grind (arith, total-cons, marked, sum-cons, total-marked_le (suc k) xs, or_zero)
 
     descend : (limit : ℕ) (cut : Intervals) → total cut < limit → IsSatisfyingCut n watched c cut
         → (least : Intervals) × IsLeastCut n watched c least

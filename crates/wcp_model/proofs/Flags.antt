@@ -1,6 +1,6 @@
 -- What the flag of a process is at, one more step on.
-use Rattle.wcp_model.proofs.Words.{NumberSet, ◌≡◌, ℕ, ◌+◌, ◌<◌, ◌≤◌, ◌⊎◌, true, false, true≢false, [], ◌∷◌, ◌++◌}
-use Rattle.wcp_model.proofs.Words.{length, slice_get, count_by, Some, refl, sym, ap, ◌∙◌, inl, inr, ⊎_elim, arith, cases_lt}
+use Rattle.wcp_model.proofs.Words.{NumberSet, ◌≡◌, ℕ, ◌+◌, ◌<◌, ◌≤◌, ◌⊎◌, true, false, true≢false, [], ◌∷◌, ◌++◌, gets}
+use Rattle.wcp_model.proofs.Words.{length, slice_get, count_by, Some, refl, sym, ap, inl, inr, arith, cases_lt}
 use Rattle.wcp_model.proofs.Words.{cases_Bool, eq-eqb, cond, sum_by_push, take_at, slice_get_within, slice_get_cases, common_steps}
 use Rattle.wcp_model.proofs.Words.{State, Step, Observe, Send, Computation, IsTrueState}
 use Rattle.wcp_model.proofs.Words.{is_communication_of, communications, interval_at}
@@ -29,42 +29,22 @@ interval_at_seam c e p = ap (count_by (is_communication_of p)) (take_at c e (len
 -- one more step: the process has one more event, or none
 pub communications_push : (c : Computation) (x : Step) (p one : ℕ) → cond (is_communication_of p x) 1 0 ≡ one
     → communications (c ++ x ∷ []) p ≡ communications c p + one
-communications_push c x p one here =
-    sum_by_push (λ y. cond (is_communication_of p y) 1 0) c x ∙ ap (λ k. communications c p + k) here
+communications_push c x p one here = grind (arith, sum_by_push)
 
 -- a state is true after one more step if it was before, or if the step is a true observation in it
 pub true_state_cases : (c : Computation) (x : Step) (s : State) → IsTrueState (c ++ x ∷ []) s
     → IsTrueState c s ⊎ ((x ≡ Observe s.process true) × (communications c s.process ≡ s.interval))
 true_state_cases c x s is =
-    ⊎_elim (λ (lt : is.place < length c). inl (true_state_of_front c (x ∷ []) s is lt))
-    (grind (arith, common_steps, get_behind, slice_get_within))
-    (cases_lt is.place (length c))
+    grind (arith, common_steps, gets, true_state_of_front, get_behind, slice_get_within, cases_lt is.place (length c))
 
 module _ (flag : Flag) (p first second : ℕ) where
   -- a reset stays, and one between intervals that were there is an old one
   pub reset_grows : (c e : Computation) → WasReset flag c p first second → WasReset flag (c ++ e) p first second
-  reset_grows c e is = record {
-    place = is.place;
-    step = is.step;
-    at = at_grows c e is.place is.step is.at;
-    resetting = is.resetting;
-    from = omega (arith, is.from, interval_grows c e p is.place is.step is.at);
-    before = omega (arith, is.before, interval_grows c e p is.place is.step is.at);
-  }
+  reset_grows c e is = grind (arith, at_grows c e is.place is.step is.at, interval_grows c e p is.place is.step is.at)
 
   pub reset_shrinks : (c e : Computation) → second ≤ communications c p → WasReset flag (c ++ e) p first second
       → WasReset flag c p first second
-  reset_shrinks c e exists is =
-      let place = in_front (is_communication_of p) c e is.place (omega (arith, is.before)) in
-      let same = count_front (is_communication_of p) c e is.place (omega arith) in
-      record {
-        place = is.place;
-        step = is.step;
-        at = sym (get_front c e is.place place) ∙ is.at;
-        resetting = is.resetting;
-        from = omega (arith, is.from, same);
-        before = omega (arith, is.before, same);
-      }
+  reset_shrinks c e exists is = grind (arith, in_front, count_front, get_front)
 
   -- whether there is one is decided
   abbrev IsResetAt : Computation → ℕ → Type 0
@@ -123,39 +103,26 @@ module _ (watched : NumberSet) (flag : Flag) (c : Computation) (x : Step) (p : �
   -- another step adds no reset
   reset_before : (first : ℕ) → resets flag p x ≡ false → WasReset flag longer p first (communications longer p)
       → WasReset flag c p first (communications c p)
-  reset_before first other is = elim (cases_lt is.place (length c)) [
-    | inl front ↦
-        let at = sym (get_front c (x ∷ []) is.place front) ∙ is.at in
-        let same = count_front (is_communication_of p) c (x ∷ []) is.place (omega arith) in
-        let event : IsEventOf c p (interval_at c p is.place) is.place = record {
-          step = is.step;
-          at = at;
-          own = resets_event flag p is.step is.resetting;
-          number = refl;
-        } in
-        record {
-          place = is.place;
-          step = is.step;
-          at = at;
-          resetting = is.resetting;
-          from = omega (arith, is.from, same);
-          before = event_below c p (interval_at c p is.place) is.place event;
-        }
-    | inr last ↦
-        let inside = slice_get_within longer is.place is.step is.at in
-        absurd (true≢false (grind (arith, common_steps, is.at, is.resetting, other, get_behind c x [], inside)))
-  ]
+  reset_before first other is =
+      grind (
+        arith,
+        common_steps,
+        gets,
+        cases_lt,
+        get_front,
+        count_front,
+        IsEventOf,
+        resets_event,
+        event_below,
+        slice_get_within,
+        longer,
+        get_behind,
+      )
 
   -- the flag stays up where the step doesn't reset it
   pub flag_up_stays : resets flag p x ≡ false → IsFlagUp watched flag c (local_state p (communications c p))
       → IsFlagUp watched flag longer (local_state p (communications longer p))
-  flag_up_stays other up = record {
-    watched_process = up.watched_process;
-    since = up.since;
-    order = omega (arith, up.order, no_fewer);
-    true_state = true_state_grows c (x ∷ []) (local_state p up.since) up.true_state;
-    still_up = λ reset. up.still_up (reset_before up.since other reset);
-  }
+  flag_up_stays other up = grind (arith, no_fewer, true_state_grows, local_state, reset_before)
 
   -- and where the step is no true observation, the flag is up only if it was, and the step doesn't reset it
   pub flag_was_up : (x ≡ Observe p true → ⊥)

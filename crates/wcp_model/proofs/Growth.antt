@@ -1,4 +1,4 @@
-use Rattle.wcp_model.proofs.Words.{common_steps, ◌≡◌, ℕ, zero, suc, ◌+◌, ◌<◌, ◌≤◌, Bool, true, List, [], ◌∷◌, ◌++◌, length, take, slice_get, count_by, Some, refl, sym, ap, ◌∙◌, arith, take-append-le, take_at, slice_get_within, State, Step, Observe, Send, Recv, Computation, IsState, IsTrueState, is_communication_of, is_send, communications, interval_at, message_at, IsMessage, DirectlyPrecedes, HappenedBefore, Direct, Chain, IsStampOf, IsStateClock}
+use Rattle.wcp_model.proofs.Words.{common_steps, ◌≡◌, ℕ, zero, suc, ◌+◌, ◌<◌, ◌≤◌, Bool, List, [], ◌∷◌, ◌++◌, length, take, slice_get, count_by, Some, refl, sym, ap, ◌∙◌, arith, take-append-le, take_at, slice_get_within, State, Step, Send, Recv, Computation, IsState, IsTrueState, is_communication_of, is_send, communications, interval_at, message_at, IsMessage, DirectlyPrecedes, HappenedBefore, Direct, Chain, IsStampOf, IsStateClock, gets}
 use Rattle.wcp_model.proofs.EventPlaces.{event_of_send, event_below}
 use Rattle.wcp_model.proofs.Predecessors.{before_from_state}
 use Rattle.wcp_model.proofs.Places.{count_before-mono}
@@ -36,16 +36,16 @@ message_grows c e place x at = count_front is_send c e place (omega (arith, slic
 
 -- a message stays one in a longer computation
 pub is_message_grows : (c e : Computation) (s t : State) → IsMessage c s t → IsMessage (c ++ e) s t
-is_message_grows c e s t m = record {
-  sent = m.sent;
-  received = m.received;
-  to = m.to;
-  later = m.later;
-  send = at_grows c e m.sent (Send s.process m.to) m.send;
-  receive = grind (arith, at_grows, message_grows);
-  from_state = interval_grows c e s.process m.sent (Send s.process m.to) m.send ∙ m.from_state;
-  to_state = omega (arith, m.to_state, interval_grows c e t.process m.received (Recv t.process (message_at c m.sent)) m.receive);
-}
+is_message_grows c e s t m =
+    grind (
+      arith,
+      common_steps,
+      gets,
+      at_grows c e m.sent (Send s.process m.to) m.send,
+      message_grows,
+      interval_grows c e s.process m.sent (Send s.process m.to) m.send,
+      interval_grows c e t.process m.received (Recv t.process (message_at c m.sent)) m.receive,
+    )
 
 -- direct precedence stays
 pub direct_grows : (c e : Computation) (s t : State) → DirectlyPrecedes c s t → DirectlyPrecedes (c ++ e) s t
@@ -81,8 +81,7 @@ clock_shrinks n c e s clock exists is = record {
 
 -- a true state stays true
 pub true_state_grows : (c e : Computation) (s : State) → IsTrueState c s → IsTrueState (c ++ e) s
-true_state_grows c e s is =
-    grind (arith, interval_grows c e s.process is.place (Observe s.process true) is.observed, at_grows c e is.place (Observe s.process true) is.observed)
+true_state_grows c e s is = grind (arith, common_steps, gets, interval_grows, at_grows)
 
 -- a state that an observation of the front makes true was true
 pub true_state_of_front : (c e : Computation) (s : State) (is : IsTrueState (c ++ e) s) → is.place < length c → IsTrueState c s

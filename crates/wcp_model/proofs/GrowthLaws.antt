@@ -30,8 +30,7 @@ satisfying_below : (n : ℕ) (watched : NumberSet) (c e : Computation) (cut lowe
     → IsSatisfyingCut n watched c lower
 satisfying_below n watched c e cut lower is below lower_is = record {
   members = lower_is.members;
-  consistent = λ p q p_is q_is apart before.
-      lower_is.consistent p q p_is q_is apart (before_grows c e (member lower p) before);
+  consistent = λ p q p_is q_is apart before. grind (arith, before_grows c e (member lower p) before);
   true_states = grind (arith, true_state_exists, true_state_shrinks);
 }
 

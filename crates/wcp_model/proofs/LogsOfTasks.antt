@@ -1,4 +1,4 @@
-use Rattle.wcp_model.proofs.Words.{NumberSet, Flag, common_steps, ◌≡◌, ◌==◌, ℕ, zero, suc, ◌+◌, ◌-◌, ◌<◌, ◌≤◌, ◌&&◌, Bool, false, cond, Some, List, [], ◌∷◌, ◌++◌, length, count_by, filter, map, slice_get, slice_index, take, drop, All, refl, sym, ap, ap₂, subst, subst₂, inl, inr, eq-eqb, append-nil, ◌∙◌, arith, range_with_len, and_parts, cases_eq, cases_lt, ne_eqb, take_all, take_more, take-take, take-map, take-append-drop, length-map, length-take, take_at, length-filter, count_by-le-length, sum_by-take-le, slice_get-map, slice_get_within, get_or_from_slice_get, Step, Action, Task, Computation, is_send, communications, interval_at, IsStateClock, Call, Observed, Sent, Received, Closed, is_step_of, setup, state_of_log, IsStampOf, IsCallOf, AreCallsOf, IsLogOf, IsAccepted, actions_of, IsCallFor, FollowsActions, stamps_got, AreLogsOfTasks, TaskLogLaw, is_task_of, is_send_to, is_receive_from, sends, receives, message_number, step_of, steps_from, computation_of, IsWithin, IsFitOrder}
+use Rattle.wcp_model.proofs.Words.{NumberSet, Flag, common_steps, ◌≡◌, ◌==◌, ℕ, zero, suc, ◌+◌, ◌-◌, ◌<◌, ◌≤◌, ◌&&◌, Bool, false, cond, Some, List, [], ◌∷◌, ◌++◌, length, count_by, filter, map, slice_get, slice_index, take, drop, All, refl, sym, ap, ap₂, subst, subst₂, inl, inr, eq-eqb, append-nil, ◌∙◌, arith, range_with_len, and_parts, cases_eq, cases_lt, ne_eqb, take_all, take_more, take-take, take-map, take-append-drop, length-map, length-take, take_at, length-filter, count_by-le-length, sum_by-take-le, slice_get-map, slice_get_within, get_or_from_slice_get, Step, Action, Task, Computation, is_send, communications, interval_at, IsStateClock, Call, Observed, Sent, Received, Closed, is_step_of, setup, state_of_log, IsStampOf, IsCallOf, AreCallsOf, IsLogOf, IsAccepted, actions_of, IsCallFor, FollowsActions, stamps_got, AreLogsOfTasks, TaskLogLaw, is_task_of, is_send_to, is_receive_from, sends, receives, message_number, step_of, steps_from, computation_of, IsWithin, IsFitOrder, gets}
 use Rattle.wcp_model.specs.declared.step.Step.TheVariants as step
 use Rattle.wcp_model.specs.declared.workload.Action.TheVariants as action
 use Rattle.wcp_model.proofs.AcceptedOrder.{IsFitOrder-itself, All-fit_order, order_accepted}
@@ -35,8 +35,7 @@ action_at order place task at =
 -- as many actions of a process pass as tasks of it do
 pub count_actions : (test : Action → Bool) (p : ℕ) (tasks : List Task) → count_by test (actions_of p tasks) ≡ count_by (λ task. is_task_of p task && test task.action) tasks
 count_actions test p [] = refl
-count_actions test p (task ∷ tasks) =
-    grind (arith, common_steps, count_actions test p tasks)
+count_actions test p (task ∷ tasks) = grind (arith, common_steps, gets, count_actions test p tasks)
 
 rank_of : (test : Action → Bool) (order : List Task) (p place : ℕ) → count_by test (take (done order p place) (actions_of p order)) ≡ count_by (λ task. is_task_of p task && test task.action) (take place order)
 rank_of test order p place = ap (count_by test) actions_before ∙ count_actions test p (take place order)

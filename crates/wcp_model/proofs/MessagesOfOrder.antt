@@ -8,8 +8,7 @@ use Rattle.wcp_model.proofs.StepsOfOrder.{sends_any, step_at, send_task, receive
 -- among the elements that pass a test, the place of one that passes a stricter test is the number of them before it
 place_after_is : (any test : Task → Bool) → ((task : Task) → test task ≡ true → any task ≡ true) → (order : List Task) (place earlier : ℕ) (task : Task) → slice_get order place ≡ Some task → test task ≡ true → count_by test (take place order) ≡ earlier → place_after test earlier (filter any order) ≡ count_by any (take place order)
 place_after_is any test implies [] place earlier task found passes behind = cc
-place_after_is any test implies (first ∷ rest) zero earlier task found passes behind =
-    grind arith
+place_after_is any test implies (first ∷ rest) zero earlier task found passes behind = grind arith
 place_after_is any test implies (first ∷ rest) (suc place) earlier task found passes behind =
     elim (cases_Bool (test first)) [
       | inl here ↦ grind (arith, count_by_yes, implies first here, λ (k : ℕ). place_after_is any test implies rest place k task found passes)

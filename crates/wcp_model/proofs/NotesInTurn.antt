@@ -13,11 +13,9 @@ snapshot_clocks-append (note.Lost count ∷ notes) more = snapshot_clocks-append
 in_turn_from : (number count : ℕ) (closed : Bool) (clocks : List (List ℕ)) (before after : List Note) (next : Note) → count ≡ number + length clocks → snapshots_from number clocks ++ (if closed then note.Close count ∷ [] else []) ≡ before ++ next ∷ after →
     (place_of next ≡ number + length (snapshot_clocks before)) × (list_any is_last before ≡ false)
 in_turn_from number count false [] before after next counted is = absurd (omega (arith, ap length is, length-append before (next ∷ after)))
-in_turn_from number count true [] [] after next counted is =
-    grind arith
+in_turn_from number count true [] [] after next counted is = grind arith
 in_turn_from number count true [] (x ∷ before) after next counted is = absurd (omega (arith, ap length is, length-append before (next ∷ after)))
-in_turn_from number count closed (clock ∷ clocks) [] after next counted is =
-    grind arith
+in_turn_from number count closed (clock ∷ clocks) [] after next counted is = grind arith
 in_turn_from number count closed (clock ∷ clocks) (x ∷ before) after next counted is =
     grind (arith, in_turn_from (number + 1) count closed clocks before after next (omega arith) (cc is))
 
@@ -34,8 +32,7 @@ next_of_emissions n watched flag c p before after next emitted = emissions_in_tu
 split_push : (xs before after : List Note) (x y : Note) → xs ++ x ∷ [] ≡ before ++ y ∷ after → ((before ≡ xs) × (y ≡ x)) ⊎ ((more : List Note) × (xs ≡ before ++ y ∷ more))
 split_push [] [] after x y is = inl (refl, cc is)
 split_push [] (b ∷ before) after x y is = absurd (omega (arith, ap length is, length-append before (y ∷ after)))
-split_push (a ∷ xs) [] after x y is =
-    grind arith
+split_push (a ∷ xs) [] after x y is = grind arith
 split_push (a ∷ xs) (b ∷ before) after x y is =
     grind (arith, split_push xs before after x y (cc is))
 

@@ -1,4 +1,4 @@
-use Rattle.wcp_model.proofs.Words.{true≢false, sym, ◌∙◌, ◌<◌, inl, inr, ◌≡◌, ℕ, ◌≤◌, List, [], ◌∷◌, Some, length, take, slice_get, true, ap, subst, arith, list_any, length-replicate, get_or-replicate, Parent, Root, Relay, Plan, most_processes, most_cap, most_hold, is_number, plain_attach, IsPlainPlan, IsPath, IsCheckedPlan}
+use Rattle.wcp_model.proofs.Words.{true≢false, sym, ◌∙◌, ◌<◌, inl, inr, ◌≡◌, ℕ, ◌≤◌, List, [], ◌∷◌, Some, length, take, slice_get, true, subst, arith, list_any, length-replicate, get_or-replicate, Parent, Root, Relay, Plan, most_processes, most_cap, most_hold, is_number, plain_attach, IsPlainPlan, IsPath, IsCheckedPlan}
 use Rattle.std.specs.FinSet as set
 use Rattle.std.proofs.lemmas.Bool.Decides.{nat_tests}
 use Rattle.wcp_model.specs.declared.plan.PlanFault.TheVariants as fault
@@ -28,9 +28,7 @@ plain_is_checked n cap hold plan is some few cap_low cap_high hold_low hold_high
     none fault.Parent = λ has. grind (arith, under_root, is.tree)
     none fault.Depth = λ has. omega (arith, has.2, path_under_root has.0 (subst (λ (tree : List Parent). IsPath tree has.0) is.tree has.1))
     none fault.Mixed = λ has. grind (arith, is.tree)
-    none fault.Childless = λ has.
-        let first : has.0 ≡ 0 = omega (arith, has.1, ap length is.tree) in
-        has.2 (rw (is.attached, is.processes, first) (plain_leaf n some))
+    none fault.Childless = grind (arith, plain_leaf)
     none fault.Unattached = λ has. grind (arith, length-replicate, get_or-replicate, is.tree, is.attached, is.processes)
     none fault.Watched = λ has. elim has [
       | inl nobody ↦ absurd (true≢false (sym (watches 0 some) ∙ nobody 0))

@@ -9,21 +9,13 @@ use Rattle.wcp_model.proofs.Growth.{clock_grows, true_state_grows, true_state_sh
 -- the snapshots of clocks and of more clocks, from a number on
 pub snapshots_append : (number : ℕ) (clocks others : List (List ℕ)) → snapshots_from number (clocks ++ others) ≡ snapshots_from number clocks ++ snapshots_from (number + length clocks) others
 snapshots_append number [] others = ap (λ k. snapshots_from k others) (omega arith)
-snapshots_append number (clock ∷ clocks) others =
-    ap (λ notes. note.Snap number clock ∷ notes) (snapshots_append (number + 1) clocks others ∙ ap (λ k. snapshots_from (number + 1) clocks ++ snapshots_from k others) (omega arith))
+snapshots_append number (clock ∷ clocks) others = grind (arith, snapshots_append (number + 1) clocks others)
 
 -- an emitted state stays one
 pub emitted_state_grows : (watched : NumberSet) (flag : Flag) (c e : Computation) (s : State)
     → IsEmittedState watched flag c s → IsEmittedState watched flag (c ++ e) s
 emitted_state_grows watched flag c e s is =
-    let exists = true_state_exists c s is.true_state in
-    record {
-      watched_process = is.watched_process;
-      true_state = true_state_grows c e s is.true_state;
-      first = λ k below true_state.
-          reset_grows flag s.process k s.interval c e
-          (is.first k below (true_state_shrinks c e (local_state s.process k) (omega arith) true_state));
-    }
+    grind (arith, true_state_exists, true_state_grows, reset_grows, true_state_shrinks, local_state)
 
 -- and one that was true before was emitted before
 pub emitted_state_of_front : (watched : NumberSet) (flag : Flag) (c e : Computation) (s : State) → IsTrueState c s

@@ -128,16 +128,7 @@ observes_first n watched flag c p s is_watched is_open clear counts h =
     } in
     record {
       clock = clock_stays n c (Observe p true) p s.clock refl h.clock;
-      flag_up = (
-        λ set. record {
-          watched_process = is_watched;
-          since = k;
-          order = omega (arith, same);
-          true_state = truth;
-          still_up = λ reset. absurd (omega (arith, reset.from, reset.before, same));
-        },
-        λ is. refl,
-      );
+      flag_up = grind arith;
       closed = h.closed ∙ sym (closed_stays c (Observe p true) p refl);
       emissions = rw (counts.snapshots ∙ ap length (emitted_clocks n watched flag c p s.notes h.emissions)) (emitted_snapshot n watched flag c (Observe p true ∷ []) p k s.notes s.clock is_open (closed_stays c (Observe p true) p refl ∙ is_open)
           (λ j is. elim (cases_lt j k) [
@@ -203,8 +194,7 @@ sends n watched flag c p to s in_range h =
 -- a receive leaves the flag up, where it doesn't reset it
 up_after_receive : (flag : Flag) (p message : ℕ) (up : Bool)
     → IsTrue (is_up_after_receive flag up) ↔ ((resets flag p (Recv p message) ≡ false) × IsTrue up)
-up_after_receive reset_at.Event p message up =
-    (λ set. absurd (true≢false (sym set)), λ kept. absurd (true≢false (sym (eq-eqb p p refl) ∙ kept.0)))
+up_after_receive reset_at.Event p message up = grind arith
 up_after_receive reset_at.Send p message up = (λ set. (refl, set), λ kept. kept.1)
 
 -- a receive, of a message whose stamp has the clock of the state behind its send

@@ -26,8 +26,7 @@ slice_get-take (suc n) (x ∷ xs) (suc place) below = slice_get-take n xs place 
 -- an element that passes stands in the filtered list behind those before it that pass
 pub slice_get-filter : {X : Type 0} (P : X → Bool) (xs : List X) (place : ℕ) (x : X) → slice_get xs place ≡ Some x → P x ≡ true → slice_get (filter P xs) (length (filter P (take place xs))) ≡ Some x
 slice_get-filter P [] place x found passes = cc
-slice_get-filter P (y ∷ ys) zero x found passes =
-    grind arith
+slice_get-filter P (y ∷ ys) zero x found passes = grind arith
 slice_get-filter P (y ∷ ys) (suc place) x found passes = grind (arith, slice_get-filter P ys place x found passes)
 
 -- an element passes the test and stands in the list after `earlier` others that do

@@ -1,14 +1,13 @@
 -- Why each member of a least cut is emitted.
 use Rattle.wcp_model.proofs.Words.{NumberSet, Flag, Intervals, NamesWatched, IsWatched, interval_of, ◌≡◌, ◌≢◌, ℕ}
-use Rattle.wcp_model.proofs.Words.{◌<◌, ◌≤◌, ◌⊎◌, Some, None, is_some, unwrap_or, slice_get, slice_index_or, slice_set}
+use Rattle.wcp_model.proofs.Words.{◌<◌, ◌≤◌, ◌⊎◌, Some, None, unwrap_or, slice_get, slice_index_or, slice_set}
 use Rattle.wcp_model.proofs.Words.{refl, sym, ap, ◌∙◌, subst, inl, inr, ⊎_elim, arith, cases_lt, cases_eq}
 use Rattle.wcp_model.proofs.Words.{length-set, get_or-set_same, get_or-set_other, State, Send, Computation, IsTrueState}
 use Rattle.wcp_model.proofs.Words.{interval_at, member, IsSatisfyingCut, IsLeastCut, IsEmittedState, WasReset, EventFlagLaw, SendFlagLaw}
 use Rattle.wcp_model.proofs.Words.{HappenedBefore, Direct, Chain, DirectlyPrecedes, Next, Message}
-use Rattle.std.specs.FinSet as set
 use Rattle.wcp_model.proofs.CutLaws.{happened_before_later, least_from_decider}
 use Rattle.wcp_model.proofs.EventPlaces.{event_of}
-use Rattle.wcp_model.proofs.Flags.{send_resets, reset_decided}
+use Rattle.wcp_model.proofs.Flags.{reset_decided}
 use Rattle.wcp_model.proofs.Predecessors.{local_state}
 use Rattle.wcp_model.proofs.Reached.{same_state, true_state_exists, satisfying_decided}
 
@@ -33,14 +32,7 @@ event_flag_holds watched c s is_watched true_state = record {
 module _ (flag : Flag) (c : Computation) (p i k : ℕ) (order : i < k) (none : WasReset flag c p i k → ⊥) where
   no_send : (place to : ℕ) → slice_get c place ≡ Some (Send p to) → i ≤ interval_at c p place
       → interval_at c p place < k → ⊥
-  no_send place to at from before = none (record {
-    place = place;
-    step = Send p to;
-    at = at;
-    resetting = send_resets flag p to;
-    from = from;
-    before = before;
-  })
+  no_send place to at from before = grind arith
 
   -- what the earlier state happened before is a state up to the later, or the later happened before it
   abbrev IsOnTheWay : State → Type 0
@@ -57,10 +49,7 @@ module _ (flag : Flag) (c : Computation) (p i k : ℕ) (order : i < k) (none : W
     where
       before_it : DirectlyPrecedes c s t → s.interval < k → IsOnTheWay t
       before_it (Next process interval exists) earlier = inl (sym process ∙ own, omega arith, omega arith)
-      before_it (Message m) earlier =
-          let sent : slice_get c m.sent ≡ Some (Send p m.to) = m.send ∙ ap (λ q. Some (Send q m.to)) own in
-          let at : interval_at c p m.sent ≡ s.interval = sym (ap (λ q. interval_at c q m.sent) own) ∙ m.from_state in
-          absurd (no_send m.sent m.to sent (omega arith) (omega arith))
+      before_it (Message m) earlier = grind arith
 
   on_the_way : {t : State} → HappenedBefore c (local_state p i) t → IsOnTheWay t
   on_the_way {t = t} (Direct step) = on_from (local_state p i) t refl (omega arith) (omega arith) step
@@ -72,10 +61,7 @@ module _ (flag : Flag) (c : Computation) (p i k : ℕ) (order : i < k) (none : W
   -- so the later state happened before each state of another process that the earlier did
   pub later_before : (q l : ℕ) → p ≢ q → HappenedBefore c (local_state p i) (local_state q l)
       → HappenedBefore c (local_state p k) (local_state q l)
-  later_before q l apart before = ⊎_elim
-      (λ (here : (q ≡ p) × (i ≤ l) × (l ≤ k)). absurd (apart (sym here.0)))
-      (λ (after : HappenedBefore c (local_state p k) (local_state q l)). after)
-      (on_the_way before)
+  later_before q l apart before = grind (arith, local_state, on_the_way)
 
 -- a cut with another interval at a watched process
 module _ (n : ℕ) (watched : NumberSet) (cut : Intervals) (names : NamesWatched n watched cut) (p i : ℕ)
@@ -96,14 +82,7 @@ module _ (n : ℕ) (watched : NumberSet) (cut : Intervals) (names : NamesWatched
   interval_of-moved q other = ap (λ o. unwrap_or o 0) (moved_elsewhere q other)
 
   pub moved_names : NamesWatched n watched moved
-  moved_names = record {
-    processes = length-set cut p (Some i) ∙ names.processes;
-    named = λ q below. elim (cases_eq p q) [
-      | inl same ↦ subst (λ r. is_some (slice_index_or moved r None) ≡ set.contains watched r) same
-          (ap is_some moved_here ∙ sym is.member)
-      | inr other ↦ ap is_some (moved_elsewhere q other) ∙ names.named q below
-    ];
-  }
+  moved_names = grind (arith, length-set, cases_eq, moved, moved_here, moved_elsewhere)
 
 -- An earlier true state of a member's process, since which nothing resets the flag, may stand for the member: so a least
 -- cut has none.

@@ -22,8 +22,7 @@ sends_any task = is_any_send task.action
 -- among the steps after the earlier tasks, at each place stands the step of the task there
 step_from : (order earlier tasks : List Task) (place : ℕ) (task : Task) → slice_get tasks place ≡ Some task → slice_get (steps_from order earlier tasks) place ≡ Some (step_of order (earlier ++ take place tasks) task.p task.action)
 step_from order earlier [] place task found = cc
-step_from order earlier (first ∷ rest) zero task found =
-    grind (arith, append-nil)
+step_from order earlier (first ∷ rest) zero task found = grind (arith, append-nil)
 step_from order earlier (first ∷ rest) (suc place) task found =
     grind (arith, append_assoc, step_from order (earlier ++ first ∷ []) rest place task found)
 

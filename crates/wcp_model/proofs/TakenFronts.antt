@@ -28,10 +28,7 @@ module _ (n : ℕ) (watched : NumberSet) (flag : Flag) (c : Computation) (items 
 
   -- the place of the snapshot that names a state
   named_at : (p k : ℕ) (within : p < n) (named : IsNamed items (local_state p k)) → (i : ℕ) × (i < length (clocks_taken p items)) × (slice_index (fronts p within).1.intervals i ≡ k) × (get_or (clocks_taken p items) i [] ≡ named.clock)
-  named_at p k within named =
-      let (i, below, here) = named.taken in
-      let at : get_or (clocks_taken p items) i [] ≡ named.clock = get_or_default (clocks_taken p items) i [] named.clock below ∙ here in
-      (i, below, sym (state_at p i within below).clock_is.own ∙ ap (λ (clock : List ℕ). slice_index clock p) at ∙ named.own, at)
+  named_at p k within named = grind (arith, named, get_or_default, state_at)
 
   named_state : (p k : ℕ) → p < n → (named : IsNamed items (local_state p k)) → IsOfState p named.clock k
   named_state p k within named = grind (arith, state_at, named_at p k within named)
@@ -73,10 +70,7 @@ module _ (n : ℕ) (watched : NumberSet) (flag : Flag) (c : Computation) (items 
       }
 
   least_by_states : (cut : Intervals) → IsLeastOf n watched (IsCutByClocks n watched items) cut → IsLeastOf n watched (IsNamedCut n watched c items) cut
-  least_by_states cut least = record {
-    one = cut_by_states cut least.one;
-    below = λ other is. least.below other (cut_by_clocks other is);
-  }
+  least_by_states cut least = grind (arith, cut_by_states, least, cut_by_clocks)
 
   -- the report by clocks is the report of what was taken
   pub report_of_taken : (report : Report) → IsReportByClocks n watched items report → IsReportOfTaken n watched c items report
@@ -94,10 +88,7 @@ module _ (n : ℕ) (watched : NumberSet) (flag : Flag) (c : Computation) (items 
   named_below : (p k l : ℕ) (within : p < n) → IsNamed items (local_state p k)
       → IsEmittedState watched flag c (local_state p l) → l ≤ k → IsNamed items (local_state p l)
   named_below p k l within named emitted order =
-      let (i, i_below, interval, at) = named_at p k within named in
-      let (j, j_below, here) = place_of p l within emitted in
-      let rising = (fronts p within).1.states.rising in
-      named_by p l j within here (grind (arith, rises_above (fronts p within).1.intervals i j rising))
+      grind (arith, named_at p k within named, named, place_of p l within emitted, named_by, rises_above)
 
   -- so the least cut of those named is the least cut of the whole computation, before all is drained and after
   pub found_is_least : (cut : Intervals) → IsReportByClocks n watched items (Found cut) → IsLeastCut n watched c cut
@@ -113,11 +104,7 @@ module _ (n : ℕ) (watched : NumberSet) (flag : Flag) (c : Computation) (items 
       lowest = emitted_least n watched flag c cut least.one.satisfying
 
       named : IsNamedCut n watched c items lowest.cut
-      named = record {
-        satisfying = lowest.least.one;
-        named = λ p is. named_below p (interval_of cut p) (interval_of lowest.cut p) is.below (least.one.named p is)
-            (lowest.emitted p is) (lowest.least.below cut least.one.satisfying p is);
-      }
+      named = grind (arith, lowest, least, named_below)
 
   -- where all is drained, all emissions were taken
   nothing_left : IsDrained n items → (p : ℕ) (within : p < n) → (fronts p within).0 ≡ []
@@ -134,8 +121,7 @@ module _ (n : ℕ) (watched : NumberSet) (flag : Flag) (c : Computation) (items 
   named_when_drained : IsDrained n items → (p k : ℕ) (within : p < n) → IsEmittedState watched flag c (local_state p k)
       → IsNamed items (local_state p k)
   named_when_drained drained p k within emitted =
-      let (i, below, here) = place_of p k within emitted in
-      named_by p k i within here (omega (arith, all_states_taken drained p within))
+      grind (arith, place_of p k within emitted, named_by, all_states_taken drained p within)
 
   -- and the report is that of the whole computation
   pub report_when_drained : IsDrained n items → (report : Report) → IsReportByClocks n watched items report → IsReportOf n watched c report

@@ -3,8 +3,7 @@ use Rattle.wcp_model.proofs.SamePlace.{count_by_yes}
 
 -- one more element, which is kept or not
 kept-push : {X Y : Type 0} (f : X → Y) (keeps : X → Bool) (xs : List X) (x : X) → map f (filter keeps (xs ++ x ∷ [])) ≡ map f (filter keeps xs) ++ cond (keeps x) (f x ∷ []) []
-kept-push {X} {Y} f keeps xs x =
-    grind (arith, filter-append, map-append)
+kept-push {X} {Y} f keeps xs x = grind (arith, filter-append, map-append)
 
 zip-push : {X Y : Type 0} (xs : List X) (ys : List Y) (x : X) (y : Y) → length xs ≡ length ys → zip (xs ++ x ∷ []) (ys ++ y ∷ []) ≡ zip xs ys ++ (x, y) ∷ []
 zip-push [] [] x y same = refl
@@ -23,8 +22,7 @@ length-scan next out start (x ∷ xs) = ap suc (length-scan next out (next start
 -- the element of a scan at a place
 scan_at : {S X Y : Type 0} (next : S → X → S) (out : S → X → Y) (start : S) (xs : List X) (place : ℕ) (x : X) → slice_get xs place ≡ Some x → slice_get (scan next out start xs) place ≡ Some (out (fold next start (take place xs)) x)
 scan_at next out start [] place x at = cc
-scan_at next out start (first ∷ xs) zero x at =
-    grind arith
+scan_at next out start (first ∷ xs) zero x at = grind arith
 scan_at next out start (first ∷ xs) (suc place) x at = scan_at next out (next start first) xs place x at
 
 -- the log with one more call
@@ -54,16 +52,14 @@ pub call_for : (actions : List Action) (log : List Call) (place : ℕ) (act : Ac
 call_for [] [] place act follows at = cc
 call_for [] (call ∷ log) place act follows at = absurd follows
 call_for (first ∷ actions) [] place act follows at = absurd follows
-call_for (first ∷ actions) (call ∷ log) zero act follows at =
-    grind arith
+call_for (first ∷ actions) (call ∷ log) zero act follows at = grind arith
 call_for (first ∷ actions) (call ∷ log) (suc place) act follows at = call_for actions log place act follows.1 at
 
 -- what stands beside an action that passes, behind what stands beside those before it that do
 beside_at : {X : Type 0} (test : Action → Bool) (actions : List Action) (xs : List X) (place : ℕ) (act : Action) (x : X) → slice_get actions place ≡ Some act → slice_get xs place ≡ Some x → test act ≡ true → slice_get (beside test actions xs) (count_by test (take place actions)) ≡ Some x
 beside_at test [] xs place act x at here passes = cc
 beside_at test (first ∷ actions) [] place act x at here passes = cc
-beside_at test (first ∷ actions) (y ∷ xs) zero act x at here passes =
-    grind arith
+beside_at test (first ∷ actions) (y ∷ xs) zero act x at here passes = grind arith
 beside_at test (first ∷ actions) (y ∷ xs) (suc place) act x at here passes = grind (arith, count_by_yes, beside_at test actions xs place act x)
 
 -- as many stand there as actions pass

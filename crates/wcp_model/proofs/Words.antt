@@ -8,7 +8,7 @@ pub use Rattle.std.proofs.lemmas.List.Folds.{list_any-append, list_any_at, Any-f
 pub use Rattle.std.proofs.lemmas.List.FromFn.{length-map-range_with_len, get_or-map-range_with_len}
 pub use Rattle.std.proofs.lemmas.List.Kept.{AllPairs-from_increasing}
 pub use Rattle.std.proofs.lemmas.List.Sums.{sum_by_push, sum_by-take-le, length-filter, count_by-le-length, sum_by-cons, fold-append, count_by_more_yes, count_by_more_no}
-pub use Rattle.std.proofs.lemmas.Option.{slice_get_within, slice_get-get_or, slice_get_cases, slice_get-map, get_or_from_slice_get, same_Some, slice_get_past}
+pub use Rattle.std.proofs.lemmas.Option.{slice_get_within, slice_get-get_or, slice_get_cases, slice_get-map, get_or_from_slice_get, same_Some, slice_get_past, gets}
 pub use Rattle.std.specs.List.{range_with_len, list_any, scan, zip, AllPairs}
 pub use Rattle.std.specs.List.Sorted.{IsStrictlyIncreasing}
 pub use Rattle.wcp_clock.specs.Limits.{most_processes, most_cap, most_hold, most_relays}

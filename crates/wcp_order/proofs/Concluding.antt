@@ -1,5 +1,5 @@
 -- What is found where no process can go on.
-use Rattle.wcp_order.proofs.Words.{count_before-mono, take_all, ◌≡◌, ℕ, ◌+◌, ◌<◌, ◌≤◌, cond, List, [], ◌∷◌, length, take, count_by, Some, refl, sym, ◌∙◌, ap, arith, inl, inr, slice_get, slice_index, filter, All, cases_lt, All-head, All-tail, length-filter, sum_by-take-le, Task, is_task_of, IsWithin, IsFitOrder, element_within, count_before-yes, same_count, IsFirstStuck, IsProgress, IsBlocked, IsFirstLeft}
+use Rattle.wcp_order.proofs.Words.{count_before-mono, take_all, ◌≡◌, ℕ, ◌+◌, ◌<◌, ◌≤◌, cond, List, [], ◌∷◌, length, take, count_by, Some, refl, ◌∙◌, ap, arith, slice_get, slice_index, filter, All, cases_lt, All-head, All-tail, length-filter, sum_by-take-le, Task, is_task_of, IsWithin, IsFitOrder, element_within, count_before-yes, same_count, IsFirstStuck, IsProgress, IsBlocked, IsFirstLeft, common_steps, gets}
 use Rattle.wcp_model.proofs.AcceptedOrder.{IsFitOrder-itself}
 use Rattle.wcp_order.proofs.Doable.{can_if_done, done_if_can}
 use Rattle.wcp_order.proofs.Fronts.{begins_itself, no_more_than_all}
@@ -9,12 +9,7 @@ use Rattle.wcp_order.proofs.Tasks.{at_place, is_task_of_itself}
 -- of two lists of histories that are the same the progress is
 pub IsProgress_same : (n : ℕ) (history other : ℕ → List Task) (order : List Task) (done in_transit : List ℕ)
     → ((p : ℕ) → p < n → history p ≡ other p) → IsProgress n history order done in_transit → IsProgress n other order done in_transit
-IsProgress_same n history other order done in_transit same progress = record {
-  is_done = progress.is_done;
-  processes = progress.processes;
-  counts = progress.counts;
-  first = λ p below. rw (← same p below) (progress.first p below);
-}
+IsProgress_same n history other order done in_transit same progress = grind arith
 
 -- where none are left to count down of the process of a task, it is the first that is left
 pub IsFirstLeft_at : (tasks : List Task) (done left : List ℕ) (place : ℕ) → place < length tasks → All (λ task. task.p < length done) tasks
@@ -22,19 +17,24 @@ pub IsFirstLeft_at : (tasks : List Task) (done left : List ℕ) (place : ℕ) �
     → ((task : Task) → slice_get tasks place ≡ Some task → slice_index left task.p ≡ 0) → IsFirstLeft tasks done place
 IsFirstLeft_at tasks done left place inside within counted none = record {
   inside = inside;
-  left = λ task at.
-      omega (arith, none task at, counted task.p (at_place (λ task. task.p < length done) tasks place task within at));
+  left = λ task at. grind (arith, common_steps, gets);
   before = λ i task at earlier.
-      let more = count_before-yes (is_task_of task.p) tasks i task at (is_task_of_itself task) in
-      let behind = count_before-mono (is_task_of task.p) tasks (i + 1) place (omega (arith, earlier)) in
-      omega (arith, more, behind, counted task.p (at_place (λ task. task.p < length done) tasks i task within at));
+      grind (
+        arith,
+        common_steps,
+        gets,
+        count_before-yes (is_task_of task.p) tasks i task at (is_task_of_itself task),
+        is_task_of_itself task,
+        count_before-mono,
+        at_place,
+      );
 }
 
 -- no task is of a process that isn't within the limits
 filter_outside : (n p : ℕ) (tasks : List Task) → All (IsWithin n) tasks → n ≤ p → filter (is_task_of p) tasks ≡ []
 filter_outside n p [] within outside = refl
 filter_outside n p (task ∷ tasks) within outside =
-    grind (arith, All-head, filter_outside n p tasks (All-tail (IsWithin n) task tasks within) outside)
+    grind (arith, All-head, filter_outside n p tasks (All-tail (IsWithin n) task tasks within) outside, All-tail)
 
 module _ (n : ℕ) (tasks order : List Task) (done in_transit : List ℕ) (within : All (IsWithin n) tasks) (progress : IsProgress n (λ p. filter (is_task_of p) tasks) order done in_transit) where
   -- no more tasks are done than there are
@@ -45,12 +45,7 @@ module _ (n : ℕ) (tasks order : List Task) (done in_transit : List ℕ) (withi
   -- where all tasks are done, their order is fit
   pub IsFitOrder_done : ((p : ℕ) → p < n → count_by (is_task_of p) tasks ≤ slice_index done p) → IsFitOrder tasks order
   IsFitOrder_done all_done = record {
-    same_tasks = λ p. elim (cases_lt p n) [
-      | inl below ↦
-          progress.first p below ∙ take_all (count_by (is_task_of p) order) (filter (is_task_of p) tasks)
-          (omega (arith, all_done p below, progress.counts p below, length-filter (is_task_of p) tasks))
-      | inr outside ↦ filter_outside n p order progress.is_done.within outside ∙ sym (filter_outside n p tasks within outside)
-    ];
+    same_tasks = λ p. grind (arith, cases_lt, take_all, length-filter, filter_outside);
     sent_first = progress.is_done.fit.sent_first;
   }
 

@@ -1,5 +1,5 @@
 -- The messages that are in transit after tasks in a fit order.
-use Rattle.wcp_order.proofs.Words.{add-one, suc, count_before-no, count_before-past, element_within, cases_Bool, ◌≡◌, ℕ, ◌+◌, ◌*◌, ◌<◌, ◌≤◌, Bool, true, false, List, [], ◌∷◌, ◌++◌, length, take, count_by, replicate, Some, refl, ◌∙◌, ap, arith, inl, inr, set, get_or-set_same, get_or-set_other, All, slice_index, slice_get, cases_eq, cases_lt, common_steps, length-set, length-replicate, get_or-replicate, length_push, take-append-le, take_all, All-push, All-nil, sum_by_push, Action, Task, sends, receives, IsWithin, IsFitOrder, sends_yes, receives_yes, count_before-yes, element_after, IsDone, IsReady, in_transit_after}
+use Rattle.wcp_order.proofs.Words.{add-one, suc, count_before-no, count_before-past, element_within, cases_Bool, ◌≡◌, ℕ, ◌+◌, ◌*◌, ◌<◌, ◌≤◌, Bool, true, false, List, [], ◌∷◌, ◌++◌, length, take, count_by, replicate, Some, refl, ◌∙◌, ap, arith, inl, inr, set, get_or-set_same, get_or-set_other, All, slice_index, slice_get, cases_eq, cases_lt, common_steps, length-set, length-replicate, get_or-replicate, length_push, take-append-le, take_all, All-push, All-nil, sum_by_push, Action, Task, sends, receives, IsWithin, IsFitOrder, sends_yes, receives_yes, count_before-yes, element_after, IsDone, IsReady, in_transit_after, gets}
 use Rattle.std.proofs.lemmas.Nat.{mul-add-lt, same_from_place}
 use Rattle.wcp_model.specs.declared.workload.Action.TheVariants as action
 use Rattle.wcp_order.proofs.Tasks.{at_place, receives_is, receive_is_no_send, sends_ends, receives_ends}
@@ -29,12 +29,7 @@ sent_at_end n order in_transit within counted p q = elim (cases_lt 0 (count_by (
 
 -- nothing is in transit where nothing is done
 pub none_done : (n : ℕ) (in_transit : List ℕ) → in_transit ≡ replicate (n * n) 0 → IsDone n [] in_transit
-none_done n in_transit none = record {
-  channels = rw none (length-replicate (n * n) 0);
-  within = All-nil (IsWithin n);
-  fit = record { same_tasks = λ p. refl; sent_first = λ place p q. grind (arith, common_steps) };
-  counted = λ p q p_below q_below. grind (arith, get_or-replicate, mul-add-lt p n q n p_below q_below);
-}
+none_done n in_transit none = grind (arith, length-replicate, All-nil, get_or-replicate, mul-add-lt)
 
 module _ (n : ℕ) (order : List Task) (in_transit : List ℕ) (done : IsDone n order in_transit) where
   -- where a task counts on the channel from a to b alone, the count there is written and each other one stays
@@ -99,7 +94,13 @@ pub ready_if_fit : (n : ℕ) (tasks : List Task) (place : ℕ) (in_transit : Lis
 ready_if_fit n tasks place in_transit within done fit p (action.Observe holds) at = tt
 ready_if_fit n tasks place in_transit within done fit p (action.Send to) at = tt
 ready_if_fit n tasks place in_transit within done fit p (action.Recv from) at =
-    let here = at_place (IsWithin n) tasks place (record { p = p; action = action.Recv from }) within at in
-    let more = count_before-yes (receives from p) tasks place _ at (receives_yes from p) in
-    let before = rw (← add-one place) at (sent_before tasks fit place from p) in
-    omega (arith, more, before, done.counted from p here.1.0 here.0)
+    grind (
+      arith,
+      common_steps,
+      gets,
+      at_place,
+      count_before-yes (receives from p) tasks place _ at (receives_yes from p),
+      receives_yes from p,
+      add-one place,
+      sent_before tasks fit place from p,
+    )

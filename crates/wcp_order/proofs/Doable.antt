@@ -12,7 +12,7 @@ rank tasks p place = count_by (is_task_of p) (take place tasks)
 
 -- a place before which fewer tasks of a process stand is an earlier one
 earlier_place : (tasks : List Task) (p i j : ℕ) → rank tasks p j < rank tasks p i → j < i
-earlier_place tasks p i j fewer = grind (arith, count_before-mono (is_task_of p) tasks i j)
+earlier_place tasks p i j fewer = grind (arith, count_before-mono)
 
 module _ (n : ℕ) (tasks order : List Task) (within : All (IsWithin n) tasks) (fit : IsFitOrder order order)
     (begins : (p : ℕ) → p < n → Begins (is_task_of p) order tasks) where

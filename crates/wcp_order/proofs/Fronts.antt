@@ -1,5 +1,5 @@
 -- Lists whose elements that pass a test are the first ones of another list that do.
-use Rattle.wcp_order.proofs.Words.{count_before-mono, ◌≡◌, ℕ, ◌+◌, ◌<◌, ◌≤◌, Bool, true, cond, List, [], ◌∷◌, take, filter, count_by, Some, refl, sym, ap, arith, slice_get, cases_Bool, length-filter, take-take, take_all, sum_by-take-le, filter_front, count_by_yes, count_by_no, count_before-yes}
+use Rattle.wcp_order.proofs.Words.{count_before-mono, ◌≡◌, ℕ, ◌+◌, ◌<◌, ◌≤◌, Bool, true, List, [], ◌∷◌, take, filter, count_by, Some, refl, sym, arith, slice_get, cases_Bool, length-filter, take-take, take_all, sum_by-take-le, filter_front, count_by_yes, count_by_no, count_before-yes}
 
 -- what passes of the one list is the first of what passes of the other
 abbrev pub Begins : {X : Type 0} → (X → Bool) → List X → List X → Type 0
@@ -11,30 +11,22 @@ module _ {X : Type 0} (P : X → Bool) where
 
   -- so is what passes of its front
   pub begins_take : (xs ys : List X) (k : ℕ) → Begins P ys xs → Begins P (take k ys) xs
-  begins_take xs ys k begins =
-      let fewer = sum_by-take-le (λ y. cond (P y) 1 0) ys k in
-      let same = take-take (count_by P (take k ys)) (count_by P ys) (filter P xs) fewer in
-      cc (filter_front P k ys, length-filter P (take k ys), begins, same)
+  begins_take xs ys k begins = grind (arith, sum_by-take-le, take-take, filter_front, length-filter)
 
 module _ {X : Type 0} (P Q : X → Bool) (implies : (x : X) → Q x ≡ true → P x ≡ true) where
   pub count_by-filter : (xs : List X) → count_by Q (filter P xs) ≡ count_by Q xs
   count_by-filter [] = refl
-  count_by-filter (x ∷ xs) =
-      grind (arith, implies x, count_by-filter xs, count_by_yes, count_by_no, cases_Bool (P x), cases_Bool (Q x))
+  count_by-filter (x ∷ xs) = grind (arith, count_by-filter xs, count_by_yes, count_by_no, cases_Bool)
 
   module _ (xs : List X) where
     -- where fewer pass the test, no more pass a stricter one
     no_more_pass : (ys zs : List X) → Begins P ys xs → Begins P zs xs
         → count_by P ys ≤ count_by P zs → count_by Q ys ≤ count_by Q zs
-    no_more_pass ys zs ys_begin zs_begin fewer =
-        let mono = count_before-mono Q (filter P xs) (count_by P ys) (count_by P zs) fewer in
-        omega (arith, mono, count_by-filter ys, count_by-filter zs, ap (count_by Q) ys_begin, ap (count_by Q) zs_begin)
+    no_more_pass ys zs ys_begin zs_begin fewer = grind (arith, count_before-mono, count_by-filter)
 
     module _ (ys : List X) (begins : Begins P ys xs) where
       pub no_more_than_all : count_by Q ys ≤ count_by Q xs
-      no_more_than_all =
-          let at_most = sum_by-take-le (λ x. cond (Q x) 1 0) (filter P xs) (count_by P ys) in
-          omega (arith, at_most, count_by-filter ys, count_by-filter xs, ap (count_by Q) begins)
+      no_more_than_all = grind (arith, sum_by-take-le, count_by-filter)
 
       front : (i : ℕ) → Begins P (take i xs) xs
       front i = begins_take P xs xs i (begins_itself P xs)
@@ -43,13 +35,16 @@ module _ {X : Type 0} (P Q : X → Bool) (implies : (x : X) → Q x ≡ true →
       pub among_by_stricter : (i : ℕ) (x : X) → slice_get xs i ≡ Some x → Q x ≡ true
           → count_by P (take i xs) < count_by P ys → count_by Q (take i xs) < count_by Q ys
       among_by_stricter i x at passes more =
-          let by_test = count_before-yes P xs i x at (implies x passes) in
-          let by_stricter = count_before-yes Q xs i x at passes in
-          omega (arith, by_test, by_stricter, no_more_pass (take (i + 1) xs) ys (front (i + 1)) begins)
+          grind (
+            arith,
+            count_before-yes P xs i x at (implies x passes),
+            count_before-yes Q xs i x at passes,
+            no_more_pass (take (i + 1) xs) ys (front (i + 1)) begins,
+            front (i + 1),
+          )
 
       pub among_by_test : (i : ℕ) → count_by Q (take i xs) < count_by Q ys → count_by P (take i xs) < count_by P ys
       among_by_test i more = grind (arith, no_more_pass ys (take i xs) begins (front i))
 
       pub as_many_pass : (i : ℕ) → count_by P (take i xs) ≡ count_by P ys → count_by Q (take i xs) ≡ count_by Q ys
-      as_many_pass i same =
-          omega (arith, no_more_pass ys (take i xs) begins (front i), no_more_pass (take i xs) ys (front i) begins)
+      as_many_pass i same = grind (arith, no_more_pass, front)

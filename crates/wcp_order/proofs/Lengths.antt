@@ -1,6 +1,5 @@
 -- Lists with as many tasks of each process are as long.
 use Rattle.wcp_order.proofs.Words.{get_or, ◌≡◌, ℕ, suc, zero, ◌<◌, ◌≤◌, List, [], ◌∷◌, length, Bool, true, not, count_by, refl, arith, filter, All, All-filter, filter_passes, length-filter, Task, is_task_of, IsWithin, same_count}
-use Rattle.std.proofs.lemmas.Bool.Decides.{nat_tests}
 use Rattle.std.proofs.lemmas.List.Filters.{length-filter_both}
 use Rattle.wcp_order.proofs.Fronts.{count_by-filter}
 
@@ -8,10 +7,10 @@ abbrev is_of_other : ℕ → Task → Bool
 is_of_other n task = not (is_task_of n task)
 
 process_below : (n : ℕ) (task : Task) → is_of_other n task ≡ true → task.p < suc n → task.p < n
-process_below n task other below = grind (arith, nat_tests)
+process_below n task other below = grind arith
 
 below_is_other : (n p : ℕ) → p < n → (task : Task) → is_task_of p task ≡ true → is_of_other n task ≡ true
-below_is_other n p below task passes = grind (arith, nat_tests)
+below_is_other n p below task passes = grind arith
 
 -- with no more tasks of each process a list is no longer
 pub length_tasks-le : (n : ℕ) (xs ys : List Task) → All (λ task. task.p < n) xs
