@@ -1,4 +1,4 @@
-use Rattle.wcp_world.proofs.Words.{common_steps, ◌≡◌, ◌≢◌, ℕ, ◌+◌, ◌<◌, Bool, true, false, not, cond, nat_le, nat_lt, length, set, eqb, Option, None, Some, MatchOption, List, [], ◌∷◌, ◌++◌, slice_get, drop, take, refl, sym, ap, ap₂, subst, ◌∙◌, append-nil, eqb-true, eq-eqb, add-zero, true≢false, arith, option_and_then, option_flatten, option_map, nat_tests, length-set, get_or-set_same, get_or-set_other, slice_get_cases, slice_get_within, Item, Note, Parent, Root, Relay, Plan, Step, Done, Refused, IsSamePlan, is_number, is_attached, is_leaf, leaf_of, parent_of, Place, Pending, Link, HoldOf, InboxOf, is_same_place, source, target, takes_from, taken_from, notes_in, next_place, IsEntry, Emitted, reasons, move_reasons, names_nothing, notes_taken, attached_exists, get_behind, Held, IsAnswer, put_more, TransportState, IsPlaceOf, place_number, held_at, IsTransportOf, IsNextAtRoot, IsMoveBetween, IsWayOf, is_relayed, notes_along, IsShift, shift_reasons, KeepsIfRefused, Reply, Why, accepted_by, first_reason, Vanished, Dropped, is_dropped, is_drop_of, marks_in, given, size_of, room_of, count_by, cases_lt, or-false, inl, inr, ◌≤◌, take_at, cases_eq, ne_eqb, puts_into}
+use Rattle.wcp_world.proofs.Words.{common_steps, ◌≡◌, ◌≢◌, ℕ, ◌+◌, ◌<◌, Bool, true, false, not, cond, nat_le, nat_lt, length, set, eqb, Option, None, Some, MatchOption, List, [], ◌∷◌, ◌++◌, slice_get, drop, take, refl, sym, ap, ap₂, subst, ◌∙◌, append-nil, eqb-true, eq-eqb, add-zero, true≢false, arith, option_and_then, option_flatten, option_map, nat_tests, length-set, get_or-set_same, get_or-set_other, slice_get_cases, slice_get_within, Item, Note, Parent, Root, Relay, Plan, Step, Done, Refused, IsSamePlan, is_number, is_attached, is_leaf, leaf_of, parent_of, Place, Pending, Link, HoldOf, InboxOf, is_same_place, source, target, takes_from, taken_from, notes_in, next_place, IsEntry, Emitted, reasons, move_reasons, names_nothing, notes_taken, attached_exists, get_behind, Held, IsAnswer, put_more, TransportState, IsPlaceOf, place_number, held_at, IsTransportOf, IsNextAtRoot, IsMoveBetween, IsWayOf, is_relayed, notes_along, IsShift, shift_reasons, KeepsIfRefused, Reply, Why, accepted_by, first_reason, Vanished, Dropped, is_dropped, is_drop_of, marks_in, given, size_of, room_of, count_by, cases_lt, or-false, inl, inr, ◌≤◌, take_at, cases_eq, ne_eqb, puts_into, gets}
 use Rattle.std.specs.List.{list_any}
 use Rattle.std.specs.Prelude.{IsErr, OnOk}
 use Rattle.wcp_world.proofs.Words.{Result, Ok, Err, ◌↔◌}
@@ -78,10 +78,7 @@ module _ (plan : Plan) (steps : List Step) (put : ℕ → List Note) (taken : Li
   first_entry x is item left first = grind (arith, add-zero (taken_from steps x))
 
   process_of : {x : Place} {i : ℕ} {item : Item} → IsEntry plan put steps x i item → item.from < plan.n
-  process_of entry = entry_process plan put steps (λ p i note at. elim (cases_lt p plan.n) [
-    | inl within ↦ within
-    | inr beyond ↦ let none = stands.known p beyond in cc
-  ]) stands.lost_known entry
+  process_of entry = grind (arith, entry_process, cases_lt)
 
   -- what a step that moves an item from one place to another does to each
   stirred_by_shift : (s : Step) (from to : Place) → source s ≡ Some from → target plan s ≡ Some to → IsPlaceOf plan from → IsPlaceOf plan to → is_same_place from to ≡ false →
@@ -135,9 +132,7 @@ module _ (plan : Plan) (steps : List Step) (put : ℕ → List Note) (taken : Li
         (λ p. rw (no_put p) (sym (append-nil (put p)))) (ap length is.moved ∙ length-set _ (place_number plan move.from) _ ∙ length-set t.places (place_number plan move.to) _))
 
     full_is : nat_le (held_at t.places j).room (length (held_at t.places j).items) ≡ eqb (length (held_at t.places j).items) (held_at t.places j).room
-    full_is =
-        let le : length (held_at t.places j).items ≤ (held_at t.places j).room = omega (arith, size_is, rw (← move.number_to) at (stands.held move.to is_to).within, (no_link plan steps move.from move.to move.is_from move.is_next).1) in
-        grind (arith, nat_tests, le)
+    full_is = grind (arith, size_is, is_to, no_link, nat_tests)
 
     tests_are : (emissions : ℕ → List Note) → reasons plan emissions steps s ≡ (false, why.NoSuch) ∷ shift_reasons t.places i j
     tests_are emissions = no_event emissions ∙ rw (move.named, move.takes, move.is_next, notes_are emissions move.from move.is_from, notes_are emissions move.to is_to, ← full_is, move.number_from, move.number_to, (stands.held move.to is_to).room ∙ (no_link plan steps move.from move.to move.is_from move.is_next).0) refl
@@ -194,9 +189,7 @@ module _ (plan : Plan) (steps : List Step) (put : ℕ → List Note) (taken : Li
 
   pub put_refused : (p : ℕ) → p < plan.n → plan.cap ≤ length (here (Link p)).items → (emissions : ℕ → List Note) → 0 < notes_in plan emissions steps (Pending p) →
       IsAnswer (reasons plan emissions steps (step.Put p)) (Refused why.Full)
-  put_refused p in_range full emissions some =
-      let room : nat_le plan.cap (length (here (Link p)).items) ≡ true = grind (arith, nat_tests, full) in
-      subst (λ rs. IsAnswer rs (Refused why.Full)) (sym (put_tests p in_range emissions some)) (rw room refl)
+  put_refused p in_range full emissions some = grind (arith, nat_tests, put_tests)
 
   -- the link of a lost process has room for the mark
   pub mark_fits : (p : ℕ) → p < plan.n → is_dropped steps p ≡ false → length (here (Link p)).items < (here (Link p)).room
@@ -235,15 +228,10 @@ module _ (plan : Plan) (steps : List Step) (put : ℕ → List Note) (taken : Li
       others_stay q other = dropped_push steps s q ∙ rw (ne_eqb p q (λ e. other (sym e))) (or-false (is_dropped steps q))
 
       own : given (steps ++ s ∷ []) p (put p) ≡ given steps p (put p) ++ come_to plan s item p (Link p)
-      own =
-          let brought : come_to plan s item p (Link p) ≡ note.Lost (length (put p)) ∷ [] = grind (arith, eq-eqb) in
-          rw (dropped_push steps s p, live, brought, eq-eqb p p refl) (sym (ap (λ l. l ++ note.Lost (length (put p)) ∷ []) (append-nil (put p))))
+      own = grind (arith, common_steps, gets, eq-eqb, dropped_push, append-nil)
 
       given_is : (q : ℕ) → given (steps ++ s ∷ []) q (put q) ≡ given steps q (put q) ++ come_to plan s item q (Link q)
-      given_is q = elim (cases_eq q p) [
-        | inl same ↦ subst (λ r. given (steps ++ s ∷ []) r (put r) ≡ given steps r (put r) ++ come_to plan s item r (Link r)) (sym same) own
-        | inr other ↦ rw (others_stay q other, ne_eqb q p other) (sym (append-nil (given steps q (put q))))
-      ]
+      given_is q = grind (arith, common_steps, gets, cases_eq, own, others_stay, append-nil)
 
   -- the checker took the first item of the root inbox
   pub taken_after : (item : Item) (left : List Item) (places : List Held) → (here (InboxOf Root)).items ≡ item ∷ left → places ≡ set t.places (place_number plan (InboxOf Root)) (record (here (InboxOf Root)) { items = left }) →

@@ -39,10 +39,7 @@ dropped_push steps s p = list_any-append (is_drop_of p) steps (s ∷ []) ∙ ap 
 
 -- a step that takes a note drops no process
 pub no_drop : (steps : List Step) (s : Step) (from : Place) (p : ℕ) → source s ≡ Some from → is_dropped (steps ++ s ∷ []) p ≡ is_dropped steps p
-no_drop steps s from p takes = dropped_push steps s p ∙ other s takes
-  where
-    other : (s : Step) → source s ≡ Some from → (is_dropped steps p || is_drop_of p s) ≡ is_dropped steps p
-    other s takes = grind (arith, or-false)
+no_drop steps s from p takes = grind (arith, dropped_push steps s p, or-false)
 
 -- the process of an entry is one that has emissions or was dropped
 pub entry_process : (plan : Plan) (emissions : ℕ → List Note) (steps : List Step) → ((p i : ℕ) (note : Note) → slice_get (emissions p) i ≡ Some note → p < plan.n) → ((p : ℕ) → is_dropped steps p ≡ true → p < plan.n) →

@@ -19,10 +19,7 @@ taken_push history a = flat_map-append _ history (a ∷ []) ∙ ap (λ e. items_
 
 pub replies_push : (plan : Plan) (history : List Answered) (a : Answered) → AreReplies plan history → IsReply plan (accepted history) a.step a.reply → AreReplies plan (history ++ a ∷ [])
 replies_push plan history a are is place b at =
-    ⊎_elim
-    (grind (arith, slice_get_within, take-append-le))
-    (grind (arith, take_at))
-    (get_push history a b place at)
+    grind (arith, slice_get_within, take-append-le, take_at, get_push history a b place at)
 
 -- after each front of a longer history what was taken is a front of what was emitted
 abbrev pub HasFronts : Plan → List Answered → Type 0

@@ -54,8 +54,7 @@ front_counts number (clock ∷ clocks) (x ∷ front) rest is = grind (arith, fro
 
 -- a front of notes in turn is in turn
 pub front_in_turn : (front rest : List Note) → AreInTurn (front ++ rest) → AreInTurn front
-front_in_turn front rest turn before after next is =
-    turn before (after ++ rest) next (ap (λ l. l ++ rest) is ∙ append_assoc before (next ∷ after) rest)
+front_in_turn front rest turn before after next is = grind (arith, append_assoc)
 
 -- and so are the notes put of a lost process with the mark that counts them
 pub mark_in_turn : (n : ℕ) (watched : NumberSet) (flag : Flag) (c : Computation) (p : ℕ) (put rest : List Note) → AreEmissions n watched flag c p (put ++ rest) → is_closed c p ≡ false → AreInTurn (put ++ note.Lost (length put) ∷ [])
@@ -90,22 +89,10 @@ module _ (n : ℕ) (watched : NumberSet) (items : List Item) (turn : (p : ℕ) �
       (count, filter is_kept before, notes_without p items ∙ ap (filter is_kept) is ∙ filter-append is_kept before (note.Close count ∷ []))
 
   cut_without : (cut : Intervals) → IsCutByClocks n watched items cut → IsCutByClocks n watched (without_lost items) cut
-  cut_without cut is = record {
-    members = is.members;
-    clock = is.clock;
-    taken = λ p within. rw (clocks_without p items) (is.taken p within);
-    own = is.own;
-    concurrent = is.concurrent;
-  }
+  cut_without cut is = grind (arith, clocks_without)
 
   cut_with : (cut : Intervals) → IsCutByClocks n watched (without_lost items) cut → IsCutByClocks n watched items cut
-  cut_with cut is = record {
-    members = is.members;
-    clock = is.clock;
-    taken = λ p within. rw (← clocks_without p items) (is.taken p within);
-    own = is.own;
-    concurrent = is.concurrent;
-  }
+  cut_with cut is = grind (arith, clocks_without)
 
   -- the report of items is that of these items without marks
   pub report_without : (report : Report) → IsReportByClocks n watched items report → IsReportByClocks n watched (without_lost items) report

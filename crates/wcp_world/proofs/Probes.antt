@@ -151,17 +151,14 @@ module _ (n : ℕ) (watched : NumberSet) (flag : Flag) (c : Computation) (s : St
 
   -- where it is lost too
   lost_stays : (put : List Note) (core : Core) → IsLostProbeOf n watched flag c q put core → IsLostProbeOf n watched flag (c ++ s ∷ []) q put core
-  lost_stays put core is = record {
-    log = is.log;
-    is_log = log_stays is.log is.is_log;
-    emitted = is.emitted;
-    made = is.made;
-    closed = is.closed;
-    nothing = is.nothing;
-    without_close = closed_stays c s q (closes_no_other s q other) ∙ is.without_close;
-    rest = is.rest;
-    notes = is.notes;
-  }
+  lost_stays put core is =
+      grind (
+        arith,
+        log_stays is.log is.is_log,
+        closed,
+        closed_stays c s q (closes_no_other s q other),
+        closes_no_other s q other,
+      )
 
 -- a probe stands for its process, which is lost or isn't
 abbrev pub StandsForProcess : ℕ → NumberSet → Flag → Computation → (ℕ → List Note) → ℕ → Core → Type 0
@@ -169,9 +166,7 @@ StandsForProcess n watched flag c put q core = (is_dropped c q ≡ false → IsP
 
 -- and does so after a step that is none of the process, and doesn't drop it
 pub other_stands : (n : ℕ) (watched : NumberSet) (flag : Flag) (c : Computation) (s : Step) (put : ℕ → List Note) (q : ℕ) (core : Core) → is_step_of q s ≡ false → is_drop_of q s ≡ false → StandsForProcess n watched flag c put q core → StandsForProcess n watched flag (c ++ s ∷ []) put q core
-other_stands n watched flag c s put q core other kept was =
-    let same = sym (dropped_stays c s q kept) in
-    (λ live. probe_stays n watched flag c s q other (put q) core (was.0 (same ∙ live)), λ gone. lost_stays n watched flag c s q other (put q) core (was.1 (same ∙ gone)))
+other_stands n watched flag c s put q core other kept was = grind (arith, dropped_stays, probe_stays, lost_stays)
 
 -- processes of which one probe was set
 pub one_set : (n : ℕ) (watched : NumberSet) (flag : Flag) (c d : Computation) (put more : ℕ → List Note) (app : ProcessesState) (p : ℕ) (new : Core) (letters : List Letter) → AreProcessesOf n watched flag c put app → IsAccepted d → AreLettersOf n d letters →
@@ -190,17 +185,7 @@ length-snapshots number (clock ∷ clocks) = ap suc (length-snapshots (number + 
 
 -- the probe of a process that is lost with its last note pending, which then is gone
 pub lost_probe : (n : ℕ) (watched : NumberSet) (flag : Flag) (c : Computation) (p : ℕ) (put : List Note) (core : Core) → IsProbeOf n watched flag c p put core → is_closed c p ≡ false → IsLostProbeOf n watched flag c p put (record core { closed = true; pending = None })
-lost_probe n watched flag c p put core is not_closed = record {
-  log = is.log;
-  is_log = is.is_log;
-  emitted = emitted_is n watched flag c p put core is;
-  made = is.made;
-  closed = refl;
-  nothing = refl;
-  without_close = not_closed;
-  rest = option_to_list core.pending;
-  notes = is.notes;
-}
+lost_probe n watched flag c p put core is not_closed = grind (arith, emitted_is, closed)
 
 -- the emissions of a process that isn't closed are snapshots
 all_snapshots : (n : ℕ) (watched : NumberSet) (flag : Flag) (c : Computation) (p : ℕ) (notes : List Note) → AreEmissions n watched flag c p notes → is_closed c p ≡ false → length notes ≡ length (snapshot_clocks notes)
@@ -227,10 +212,7 @@ pub record KeepsLog (n : ℕ) (watched : NumberSet) (flag : Flag) (c : Computati
 module _ (n : ℕ) (watched : NumberSet) (flag : Flag) (c : Computation) (put : ℕ → List Note) (app : ProcessesState) (stands : AreProcessesOf n watched flag c put app) (p : ℕ) where
   -- a process has a probe
   probe_within : p < n → (core : Core) × (slice_get app.probes p ≡ Some core)
-  probe_within within = ⊎_elim
-      (λ (here : (core : Core) × (p < length app.probes) × (slice_get app.probes p ≡ Some core) × _). (here.0, here.2))
-      (λ (past : (length app.probes ≤ p) × _). absurd (omega (arith, past.0, stands.members)))
-      (slice_get_cases app.probes p).1
+  probe_within within = grind (arith, slice_get_cases app.probes p)
 
   pub keeps_log : (core : Core) → slice_get app.probes p ≡ Some core → p < n → KeepsLog n watched flag c p core
   keeps_log core at within = elim (cases_Bool (is_dropped c p)) [

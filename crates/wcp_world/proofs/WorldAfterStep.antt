@@ -1,4 +1,4 @@
-use Rattle.wcp_world.proofs.Words.{first_reason, ◌≡◌, ℕ, ◌+◌, ◌<◌, true, false, nat_lt, is_some, Option, None, Some, MatchOption, List, [], ◌∷◌, ◌++◌, length, eqb, eq-eqb, refl, sym, ap, ◌∙◌, subst, append-nil, append_assoc, add-zero, arith, ◌≤◌, Result, Ok, Err, IfOk, true≢false, option_to_list, nat_tests, length-append, filter-append, Item, Note, Plan, Step, Reply, Done, Took, Refused, Why, AreEmissions, Place, Pending, InboxOf, source, is_place, takes_from, puts_into, taken_from, notes_in, IsEntry, is_event, computation, accepted_by, taken_by, event_reasons, reasons, IsAcceptance, IsReply, ProcessesState, Performs, WasPut, pending_at, TransportState, IsTransportOf, IsNextAtRoot, Conveys, Puts, TakesNext, next_of, ReadsNext, is_relayed, put_more, WorldState, Stands, MakesStep, CheckerState, MayTake, TakesItem, processes, notes_taken, AreFrontsOfEmissions, Root, Computation, filter, is_dropped, entered, Dropped, given, Bool, AreInTurn, if◌then◌else◌, is_closed, IsGivenMark, notes_along, notes_at, Link, or-false, is_drop_of, not}
+use Rattle.wcp_world.proofs.Words.{first_reason, ◌≡◌, ℕ, ◌+◌, ◌<◌, true, false, nat_lt, is_some, Option, None, Some, MatchOption, List, [], ◌∷◌, ◌++◌, length, eqb, eq-eqb, refl, sym, ap, ◌∙◌, subst, append-nil, append_assoc, add-zero, arith, ◌≤◌, Result, Ok, Err, IfOk, true≢false, option_to_list, nat_tests, length-append, filter-append, Item, Note, Plan, Step, Reply, Done, Took, Refused, Why, AreEmissions, Place, Pending, InboxOf, source, is_place, takes_from, puts_into, taken_from, notes_in, IsEntry, is_event, computation, accepted_by, taken_by, event_reasons, reasons, IsAcceptance, IsReply, ProcessesState, Performs, WasPut, pending_at, TransportState, IsTransportOf, IsNextAtRoot, Conveys, Puts, TakesNext, next_of, ReadsNext, is_relayed, put_more, WorldState, Stands, MakesStep, CheckerState, MayTake, TakesItem, processes, notes_taken, AreFrontsOfEmissions, Root, Computation, filter, is_dropped, entered, Dropped, given, Bool, AreInTurn, if◌then◌else◌, is_closed, IsGivenMark, notes_along, notes_at, Link, or-false, is_drop_of, not, common_steps, gets}
 use Rattle.wcp_clock.specs.declared.note.Note.TheVariants as note
 use Rattle.wcp_model.specs.declared.step.Step.TheVariants as step
 use Rattle.wcp_model.specs.declared.step.Why.TheVariants as why
@@ -158,8 +158,7 @@ module _ (plan : Plan) (steps : List Step) (taken : List Item) (w : WorldState) 
 
   pub put_of_nothing : (p : ℕ) → p < plan.n → pending_at w.processes p ≡ None → IsReply plan steps (step.Put p) (Refused why.Empty) × Stands plan (steps ++ []) (taken ++ []) w
   put_of_nothing p inside nothing =
-      let none : notes_in plan emissions steps (Pending p) ≡ 0 = pending_count p ∙ ap (λ o. length (option_to_list o)) nothing in
-      refused_for (step.Put p) why.Empty (grind (arith, nat_tests))
+      grind (arith, common_steps, gets, pending_count, refused_for, nat_tests)
 
   pub put_had_no_room : (p : ℕ) (note : Note) (new : TransportState) → pending_at w.processes p ≡ Some note → Puts w.transport p note false new → new ≡ w.transport →
       IsReply plan steps (step.Put p) (Refused why.Full) × Stands plan (steps ++ []) (taken ++ []) (record w { transport = new })
@@ -207,9 +206,7 @@ module _ (plan : Plan) (steps : List Step) (taken : List Item) (w : WorldState) 
 
   -- what was put of a process has no mark
   put_kept : (p : ℕ) → p < plan.n → filter is_kept (given steps p (stands.put p)) ≡ stands.put p
-  put_kept p within =
-      let kept = emissions_kept plan.n plan.watched plan.flag c p (stands.put p) _ (are_emissions p within) in
-      filter-append is_kept (stands.put p) _ ∙ grind (arith, append-nil)
+  put_kept p within = grind (arith, emissions_kept, are_emissions, filter-append, append-nil)
 
   -- what was taken of each process is a front of what it emitted
   pub taken_fronts : AreFrontsOfEmissions plan.n plan.watched plan.flag c taken
@@ -236,9 +233,7 @@ module _ (plan : Plan) (steps : List Step) (taken : List Item) (w : WorldState) 
 
   -- the checker may take the next item of the root inbox
   next_given : (item : Item) (next : IsNextAtRoot plan steps stands.put stands.handed item) → given steps item.from (stands.put item.from) ≡ notes_taken item.from stands.handed ++ item.note ∷ next.rest
-  next_given item next =
-      let own : notes_taken item.from (item ∷ []) ≡ item.note ∷ [] = rw (eq-eqb item.from item.from refl) refl in
-      sym next.front ∙ ap (λ l. l ++ next.rest) (notes_append item.from stands.handed (item ∷ []) ∙ ap (λ l. notes_taken item.from stands.handed ++ l) own) ∙ append_assoc (notes_taken item.from stands.handed) (item.note ∷ []) next.rest
+  next_given item next = grind (arith, eq-eqb, notes_append, append_assoc)
 
   pub may_take : (item : Item) → IsNextAtRoot plan steps stands.put stands.handed item → MayTake w.checker item
   may_take item next =
