@@ -57,12 +57,9 @@ pub nothing_before_below : (n : ℕ) (watched : NumberSet) (c : Computation) (cu
     → interval_of lower p ≡ interval_of cut p → interval_of lower q ≤ interval_of cut q
     → HappenedBefore c (member lower p) (member lower q) → ⊥
 nothing_before_below n watched c cut lower p q satisfying p_is q_is apart same order before =
-    grind (
-      arith,
-      happened_before_later c (member lower p) q _ _ order (true_state_exists c (member cut q) (satisfying.true_states q q_is)) before,
-      true_state_exists c (member cut q) (satisfying.true_states q q_is),
-      local_state,
-    )
+    let later : HappenedBefore c (member lower p) (member cut q) =
+    grind (arith, happened_before_later, true_state_exists) in
+    satisfying.consistent p q p_is q_is apart (subst (λ k. HappenedBefore c (local_state p k) (member cut q)) same later)
 
 pub minimum_is_satisfying : MinimumLaw
 minimum_is_satisfying n watched c one other left right = record {

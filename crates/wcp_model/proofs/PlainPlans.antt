@@ -32,9 +32,7 @@ plain_is_checked n cap hold plan is some few cap_low cap_high hold_low hold_high
     none fault.Unattached = λ has. grind (arith, length-replicate, get_or-replicate, is.tree, is.attached, is.processes)
     none fault.Watched = λ has. elim has [
       | inl nobody ↦ absurd (true≢false (sym (watches 0 some) ∙ nobody 0))
-      | inr stranger ↦
-          let within : stranger.0 < n = grind (arith, nat_tests, is.watched stranger.0, stranger.1) in
-          absurd (omega (arith, is.processes, stranger.2))
+      | inr stranger ↦ grind arith
     ]
       where
         watches : (p : ℕ) → p < n → set.contains plan.watched p ≡ true

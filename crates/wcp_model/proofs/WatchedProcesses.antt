@@ -1,4 +1,5 @@
 -- What is known of each watched process.
+use Rattle.std.proofs.Common.{arith}
 use Rattle.wcp_model.proofs.Words.{ℕ, ◌<◌, true≢false, sym, ◌∙◌, inl, inr}
 use Rattle.wcp_model.proofs.Words.{cases_Bool, NumberSet, IsWatched}
 use Rattle.std.specs.FinSet as set
@@ -10,9 +11,7 @@ module _ (n : ℕ) (watched : NumberSet) where
   module _ {X : Type 0} (none : X) (P : ℕ → X → Type 0) (each : (p : ℕ) → IsWatched n watched p → (x : X) × P p x) where
     one_for : (p : ℕ) → p < n → (x : X) × (IsWatched n watched p → P p x)
     one_for p below = elim (cases_Bool (set.contains watched p)) [
-      | inl member ↦
-          let (x, holds) = each p (record { below = below; member = member }) in
-          (x, λ is. holds)
+      | inl member ↦ grind arith
       | inr out ↦ (none, λ is. absurd (true≢false (sym is.member ∙ out)))
     ]
 

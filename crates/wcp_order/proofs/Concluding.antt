@@ -19,15 +19,9 @@ IsFirstLeft_at tasks done left place inside within counted none = record {
   inside = inside;
   left = λ task at. grind (arith, common_steps, gets);
   before = λ i task at earlier.
-      grind (
-        arith,
-        common_steps,
-        gets,
-        count_before-yes (is_task_of task.p) tasks i task at (is_task_of_itself task),
-        is_task_of_itself task,
-        count_before-mono,
-        at_place,
-      );
+      let more = count_before-yes (is_task_of task.p) tasks i task at (is_task_of_itself task) in
+      let behind = count_before-mono (is_task_of task.p) tasks (i + 1) place (omega (arith, earlier)) in
+      omega (arith, more, behind, counted task.p (at_place (λ task. task.p < length done) tasks i task within at));
 }
 
 -- no task is of a process that isn't within the limits

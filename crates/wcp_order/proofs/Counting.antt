@@ -94,13 +94,7 @@ pub ready_if_fit : (n : ℕ) (tasks : List Task) (place : ℕ) (in_transit : Lis
 ready_if_fit n tasks place in_transit within done fit p (action.Observe holds) at = tt
 ready_if_fit n tasks place in_transit within done fit p (action.Send to) at = tt
 ready_if_fit n tasks place in_transit within done fit p (action.Recv from) at =
-    grind (
-      arith,
-      common_steps,
-      gets,
-      at_place,
-      count_before-yes (receives from p) tasks place _ at (receives_yes from p),
-      receives_yes from p,
-      add-one place,
-      sent_before tasks fit place from p,
-    )
+    let here = at_place (IsWithin n) tasks place (record { p = p; action = action.Recv from }) within at in
+    let more = count_before-yes (receives from p) tasks place _ at (receives_yes from p) in
+    let before = rw (← add-one place) at (sent_before tasks fit place from p) in
+    omega (arith, more, before, done.counted from p here.1.0 here.0)

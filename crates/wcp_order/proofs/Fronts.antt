@@ -35,13 +35,9 @@ module _ {X : Type 0} (P Q : X → Bool) (implies : (x : X) → Q x ≡ true →
       pub among_by_stricter : (i : ℕ) (x : X) → slice_get xs i ≡ Some x → Q x ≡ true
           → count_by P (take i xs) < count_by P ys → count_by Q (take i xs) < count_by Q ys
       among_by_stricter i x at passes more =
-          grind (
-            arith,
-            count_before-yes P xs i x at (implies x passes),
-            count_before-yes Q xs i x at passes,
-            no_more_pass (take (i + 1) xs) ys (front (i + 1)) begins,
-            front (i + 1),
-          )
+          let by_test = count_before-yes P xs i x at (implies x passes) in
+          let by_stricter = count_before-yes Q xs i x at passes in
+          omega (arith, by_test, by_stricter, no_more_pass (take (i + 1) xs) ys (front (i + 1)) begins)
 
       pub among_by_test : (i : ℕ) → count_by Q (take i xs) < count_by Q ys → count_by P (take i xs) < count_by P ys
       among_by_test i more = grind (arith, no_more_pass ys (take i xs) begins (front i))
