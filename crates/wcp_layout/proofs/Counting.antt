@@ -1,8 +1,8 @@
 -- The events before a place.
 use Rattle.wcp_layout.proofs.Words.{◌≡◌, ℕ, ◌+◌, ◌<◌, cond, List, [], ◌∷◌, ◌++◌, length, take, count_by, set, slice_get}
-use Rattle.wcp_layout.proofs.Words.{slice_index, Some, inl, inr, arith, cases_eq, cases_lt, cases_Bool, ne_eqb, eq-eqb}
-use Rattle.wcp_layout.proofs.Words.{get_or_append_left, get_or_push, get_or-set_same, get_or-set_other}
-use Rattle.wcp_layout.proofs.Words.{count_before-yes, count_before-no, Task, is_event, is_event_of}
+use Rattle.wcp_layout.proofs.Words.{slice_index, Some, arith, cases_eq, cases_lt, cases_Bool, ne_eqb, eq-eqb}
+use Rattle.wcp_layout.proofs.Words.{get_or-set_same, get_or-set_other}
+use Rattle.wcp_layout.proofs.Words.{common_steps, count_before-yes, count_before-no, Task, is_event, is_event_of}
 
 -- one more task is counted
 pub counted_more : (order : List Task) (place : ℕ) (task : Task) (events : List ℕ) → slice_get order place ≡ Some task
@@ -31,8 +31,5 @@ pub listed_more : (order : List Task) (P : Task → ℕ → ℕ → Type 0) (num
     → P task k (slice_index numbers k))
     → ((task : Task) → slice_get order place ≡ Some task → P task place number) → (k : ℕ) (task : Task) → k < place + 1
     → slice_get order k ≡ Some task → P task k (slice_index (numbers ++ number ∷ []) k)
-listed_more order P numbers number place all before here k task below at = elim (cases_lt k place) [
-  | inl less ↦ rw (get_or_append_left numbers (number ∷ []) 0 k (omega (arith, less, all))) (before k task less at)
-  | inr last ↦ let same : k ≡ place = omega arith in rw (same, get_or_push numbers number 0 place all)
-      (here task (rw same at at))
-]
+listed_more order P numbers number place all before here k task below at =
+    grind (arith, common_steps, before k task, here, cases_lt k place)

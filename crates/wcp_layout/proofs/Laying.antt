@@ -65,6 +65,9 @@ module _ (order : List Task) where
     pub column_there : (k : ℕ) → k ≢ i → slice_index (set columns i c) k ≡ slice_index columns k
     column_there k other = get_or-set_other columns i k c 0 other
 
+    same_owner : (q k : ℕ) → IsEventAt order q k → k ≡ i → q ≡ p
+    same_owner q k at_k here = same_process order q p i (subst (IsEventAt order q) here at_k) event
+
     stand_more : slice_index columns i ≡ 0 → IsFitOrder order order
         → ((j : ℕ) → IsEventAt order p j → j < i → (0 < slice_index columns j) × (slice_index columns j < c))
         → ((sent : ℕ) → AreSendAndReceive order sent i → (0 < slice_index columns sent) × (slice_index columns
@@ -76,35 +79,33 @@ module _ (order : List Task) where
         | inl here ↦ (p, subst (IsEventAt order p) (sym here) event)
         | inr other ↦ stand.only k (omega (arith, column_there k other, positive))
       ];
-      own = λ q k j at_k at_j less positive. elim (cases_eq k i) [
-        | inl here ↦
-            let before = own j (subst (λ r. IsEventAt order r j)
-            (same_process order q p i (subst (IsEventAt order q) here at_k) event) at_j) (omega arith) in
-            let there = column_there j (λ same. omega (arith, same)) in
-            let at : slice_index (set columns i c) k ≡ c = rw here column_here in
-            (omega (arith, before.0, there), omega (arith, before.1, there, at))
-        | inr other ↦
-            let there = column_there k other in
-            let positive_k : 0 < slice_index columns k = omega (arith, there, positive) in
-            let before = stand.own q k j at_k at_j less positive_k in
-            let also = column_there j (λ same. let zero : slice_index columns j ≡ 0 = rw same none in
-            omega (arith, zero, before.0)) in
-            (omega (arith, before.0, also), omega (arith, before.1, also, there))
-      ];
-      message = λ sent received is positive. elim (cases_eq received i) [
-        | inl here ↦
-            let before = message sent (subst (AreSendAndReceive order sent) here is) in
-            let there = column_there sent (λ same. omega (arith, same, message_later fit sent received is)) in
-            let at : slice_index (set columns i c) received ≡ c = rw here column_here in
-            (omega (arith, before.0, there), omega (arith, before.1, there, at))
-        | inr other ↦
-            let there = column_there received other in
-            let positive_r : 0 < slice_index columns received = omega (arith, there, positive) in
-            let before = stand.message sent received is positive_r in
-            let also = column_there sent (λ same. let zero : slice_index columns sent ≡ 0 = rw same none in
-            omega (arith, zero, before.0)) in
-            (omega (arith, before.0, also), omega (arith, before.1, also, there))
-      ];
+      own = λ q k j at_k at_j less positive.
+          let new = λ (here : k ≡ i). own j (rw (same_owner q k at_k here) at at_j) (omega arith) in
+          grind (
+            arith,
+            none,
+            new,
+            stand.own q k j at_k at_j less,
+            column_here,
+            column_there k,
+            column_there j,
+            cases_eq k i,
+            cases_eq j i,
+          );
+      message = λ sent received is positive.
+          let new = λ (here : received ≡ i). message sent (rw here at is) in
+          grind (
+            arith,
+            none,
+            new,
+            stand.message sent received is,
+            message_later fit sent received is,
+            column_here,
+            column_there received,
+            column_there sent,
+            cases_eq received i,
+            cases_eq sent i,
+          );
     }
 
 -- where the columns of what stands stay, an event stands next to the same one
@@ -125,16 +126,8 @@ module _ (order : List Task) (halves : List Bool) (half : Bool) (floor : ℕ) (s
       → IsLaid order halves half floor start (place + 1) columns last
   laid_past none = record {
     stand = is.stand;
-    laid = λ p i event own below. elim (cases_lt i place) [
-      | inl before ↦ is.laid p i event own before
-      | inr here ↦ let same : i ≡ place = omega arith in absurd
-          (none p (subst (IsEventAt order p) same event) (subst (IsOfHalf halves half) same own))
-    ];
-    next = λ p i event own below. elim (cases_lt i place) [
-      | inl before ↦ is.next p i event own before
-      | inr here ↦ let same : i ≡ place = omega arith in absurd
-          (none p (subst (IsEventAt order p) same event) (subst (IsOfHalf halves half) same own))
-    ];
+    laid = λ p i event own below. is.laid p i event own (earlier p i event own below);
+    next = λ p i event own below. is.next p i event own (earlier p i event own below);
     unlaid = λ i own le. is.unlaid i own (omega arith);
     kept = is.kept;
     processes = is.processes;
@@ -142,6 +135,12 @@ module _ (order : List Task) (halves : List Bool) (half : Bool) (floor : ℕ) (s
     reached = is.reached;
     few_columns = λ i. omega (arith, is.few_columns i);
   }
+    where
+      earlier : (p i : ℕ) → IsEventAt order p i → IsOfHalf halves half i → i < place + 1 → i < place
+      earlier p i event own below = elim (cases_eq i place) [
+        | inl here ↦ absurd (none p (rw here at event) (rw here at own))
+        | inr other ↦ omega arith
+      ]
 
   module _ (fit : IsFitOrder order order) (may : MayStand order halves half start) (sent : List ℕ)
       (are : AreSends order sent) (task : Task) (at : slice_get order place ≡ Some task)
@@ -169,6 +168,15 @@ module _ (order : List Task) (halves : List Bool) (half : Bool) (floor : ℕ) (s
     here : slice_index (set columns place c) place ≡ c
     here = column_here order columns is.stand task.p place c event
 
+    there : (k : ℕ) → k ≢ place → slice_index (set columns place c) k ≡ slice_index columns k
+    there k other = get_or-set_other columns place k c 0 other
+
+    last_here : slice_index (set last task.p c) task.p ≡ c
+    last_here = get_or-set_same last task.p c 0 (omega (arith, within, is.processes))
+
+    last_there : (p : ℕ) → p ≢ task.p → slice_index (set last task.p c) p ≡ slice_index last p
+    last_there p other = get_or-set_other last task.p p c 0 other
+
     next_floor : c ≡ floor + 1 → NextHere
     next_floor after = Floor (here ∙ after)
 
@@ -186,8 +194,7 @@ module _ (order : List Task) (halves : List Bool) (half : Bool) (floor : ℕ) (s
     next_own j at_j after = elim (cases_lt 0 (slice_index columns j)) [
       | inl positive ↦
           let less = earlier j at_j positive in
-          let there = column_there order columns is.stand task.p place c event j (λ same. omega (arith, same, less)) in
-          Own j at_j less (omega (arith, here, after, there))
+          Own j at_j less (omega (arith, here, after, there j, less))
       | inr zero ↦ next_none j (omega (arith, zero)) after
     ]
 
@@ -195,9 +202,7 @@ module _ (order : List Task) (halves : List Bool) (half : Bool) (floor : ℕ) (s
     next_send (action.Observe holds) from same after = next_none from (rw same none_here) after
     next_send (action.Send to) from same after = next_none from (rw same none_here) after
     next_send (action.Recv source) from message after =
-        let there = column_there order columns is.stand task.p place c event from
-        (λ same. omega (arith, same, message_later order fit from place message)) in
-        Send from message (omega (arith, here, after, there))
+        Send from message (omega (arith, here, after, there from, message_later order fit from place message))
 
     next_last : (slice_index last task.p ≡ 0) ⊎ ((i : ℕ) × IsEventAt order task.p
         i × (slice_index last task.p ≡ slice_index columns i)) → c ≡ slice_index last task.p + 1 → NextHere
@@ -228,69 +233,37 @@ module _ (order : List Task) (halves : List Bool) (half : Bool) (floor : ℕ) (s
                 (may.message from place message own),
             rw same sent_less,
           ));
-      laid = λ p i at_i own_i below. elim (cases_eq i place) [
-        | inl here ↦ rw (here, column_here order columns is.stand task.p place c event) floor_less
-        | inr other ↦ rw (column_there order columns is.stand task.p place c event i other)
-            (is.laid p i at_i own_i (omega arith))
-      ];
+      laid = λ p i at_i own_i below. grind (arith, is.laid p i at_i own_i, here, there i, floor_less, cases_eq i place);
       next = λ p i at_i own_i below. elim (cases_eq i place) [
         | inl here ↦
             let same = same_process order p task.p place (subst (IsEventAt order p) here at_i) event in
             rw (here, same) (next_here one)
         | inr other ↦
             next_stays order columns (set columns place c) floor p i is.stand
-            (λ k positive. column_there order columns is.stand task.p place c event k
-            (λ same. let zero : slice_index columns k ≡ 0 = rw same none_here in omega (arith, zero, positive)))
-            at_i (omega (arith, is.laid p i at_i own_i (omega arith))) (is.next p i at_i own_i (omega arith))
+            (λ k positive. grind (arith, none_here, there k, cases_eq k place)) at_i (omega (arith, is.laid p i at_i own_i (omega arith))) (is.next p i at_i own_i (omega arith))
       ];
-      unlaid = λ i own_i le. rw (column_there order columns is.stand task.p place c event i
-          (λ same. omega (arith, same))) (is.unlaid i own_i (omega arith));
-      kept = λ i other. rw (column_there order columns is.stand task.p place c event i (λ same. other (rw same own)))
-          (is.kept i other);
+      unlaid = λ i own_i le. grind (arith, is.unlaid i own_i, there i);
+      kept = λ i other. grind (arith, is.kept i other, own, other, there i, cases_eq i place);
       processes = length-set last task.p c ∙ is.processes;
-      greatest = λ p i at_i. elim (cases_eq i place) [
-        | inl here ↦
-            let same = same_process order p task.p place (subst (IsEventAt order p) here at_i) event in
-            let one : slice_index (set columns place c) i ≡ c =
-            rw here (column_here order columns is.stand task.p place c event) in
-            let other : slice_index (set last task.p c) p ≡ c =
-            rw same (get_or-set_same last task.p c 0 (omega (arith, within, is.processes))) in
-            omega (arith, one, other)
-        | inr there ↦ elim (cases_eq p task.p) [
-          | inl same ↦
-              let other : slice_index (set last task.p c) p ≡ c =
-              rw same (get_or-set_same last task.p c 0 (omega (arith, within, is.processes))) in
-              let least : slice_index columns i ≤ slice_index last task.p = rw same at (is.greatest p i at_i) in
-              omega (arith, column_there order columns is.stand task.p place c event i there, other, least, last_less)
-          | inr apart ↦ omega (
-            arith,
-            column_there order columns is.stand task.p place c event i there,
-            get_or-set_other
-                last task.p p c 0 apart,
-            is.greatest p i at_i,
-          )
-        ]
-      ];
-      few_columns = λ i. elim (cases_eq i place) [
-        | inl here ↦ rw (here, column_here order columns is.stand task.p place c event) few
-        | inr other ↦ rw (column_there order columns is.stand task.p place c event i other)
-            (omega (arith, is.few_columns i))
-      ];
+      greatest = λ p i at_i. grind (
+        arith,
+        is.greatest p i at_i,
+        same_owner order columns is.stand task.p place c event p i at_i,
+        last_less,
+        here,
+        there i,
+        last_here,
+        last_there p,
+        cases_eq i place,
+        cases_eq p task.p,
+      );
+      few_columns = λ i. grind (arith, is.few_columns i, here, there i, few, cases_eq i place);
       reached = λ p. elim (cases_eq p task.p) [
-        | inl same ↦
-            let now : slice_index (set last task.p c) p ≡ c =
-            rw same (get_or-set_same last task.p c 0 (omega (arith, within, is.processes))) in
-            inr (
-              place,
-              subst (λ q. IsEventAt order q place) (sym same) event,
-              now
-                  ∙ sym (column_here order columns is.stand task.p place c event),
-            )
-        | inr apart ↦ rw (get_or-set_other last task.p p c 0 apart) (⊎_elim inl (λ (i, at_i, same). inr (
+        | inl same ↦ inr (place, rw same event, rw same (last_here ∙ sym here))
+        | inr apart ↦ rw (last_there p apart) (⊎_elim inl (λ (i, at_i, same). inr (
           i,
           at_i,
-          same ∙ sym (column_there order columns is.stand task.p place c event i
-              (λ here. apart (same_process order p task.p place (subst (IsEventAt order p) here at_i) event))),
+          same ∙ sym (there i (λ at. apart (same_owner order columns is.stand task.p place c event p i at_i at))),
         )) (is.reached p))
       ];
     }
@@ -299,8 +272,7 @@ module _ (order : List Task) (halves : List Bool) (half : Bool) (floor : ℕ) (s
 pub last_few : (order : List Task) (halves : List Bool) (half : Bool) (floor : ℕ) (start : List ℕ) (place : ℕ)
     (columns last : List ℕ) → IsLaid order halves half floor start place columns last → (p : ℕ)
     → slice_index last p ≤ floor + place
-last_few order halves half floor start place columns last is p = ⊎_elim (λ zero. omega (arith, zero))
-    (λ (i, at_i, same). omega (arith, same, is.few_columns i)) (is.reached p)
+last_few order halves half floor start place columns last is p = grind (arith, is.few_columns, is.reached p)
 
 -- an observation is no event
 pub no_event : (order : List Task) (p place : ℕ) (task : Task) → slice_get order place ≡ Some task
@@ -311,24 +283,12 @@ no_event order p place task at is event =
 
 -- what `==` says of halves
 pub beq_true : (a b : Bool) → beq a b ≡ true → a ≡ b
-beq_true true true same = refl
-beq_true false false same = refl
-beq_true true false same = cc
-beq_true false true same = cc
+beq_true a b same = grind arith
 
 pub beq_same : (a b : Bool) → a ≡ b → beq a b ≡ true
-beq_same true true same = refl
-beq_same false false same = refl
-beq_same true false same = cc
-beq_same false true same = cc
+beq_same a b same = grind arith
 
 -- 1 and the greatest of three numbers is 1 and one of them
 pub greatest_is : (a b d greater greatest c : ℕ) → greater ≡ max a b → greatest ≡ max greater d → c ≡ 1 + greatest
     → (c ≡ a + 1) ⊎ ((c ≡ b + 1) ⊎ (c ≡ d + 1))
-greatest_is a b d greater greatest c one other is = elim (cases_lt greater d) [
-  | inl less ↦ inr (inr (omega (arith, one, other, is, less)))
-  | inr le ↦ elim (cases_lt a b) [
-    | inl less ↦ inr (inl (omega (arith, one, other, is, less)))
-    | inr least ↦ inl (omega (arith, one, other, is, least))
-  ]
-]
+greatest_is a b d greater greatest c one other is = grind (arith, cases_lt greater d, cases_lt a b)

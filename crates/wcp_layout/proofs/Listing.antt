@@ -4,7 +4,8 @@ use Rattle.wcp_layout.proofs.Words.{count_by, set, slice_get, slice_index, Some,
 use Rattle.wcp_layout.proofs.Words.{arith, cases_eq, cases_lt, cases_Bool, same_Some, get_or-set_same, get_or-set_other}
 use Rattle.wcp_layout.proofs.Words.{get_or_append_left, get_or_push, length_push, take_all, slice_get_within}
 use Rattle.wcp_layout.proofs.Words.{count_before-yes, count_before-no, count_before-mono, Task, is_event, is_event_of}
-use Rattle.wcp_layout.proofs.Words.{IsEventAt}
+use Rattle.wcp_layout.proofs.Words.{IsEventAt, replicate, length-replicate, get_or-replicate, get_or, length-set}
+use Rattle.wcp_layout.proofs.Words.{get_or_default}
 use Rattle.std.specs.List.{Contains}
 use Rattle.std.specs.List.Sorted.{IsStrictlyIncreasing}
 use Rattle.std.proofs.lemmas.List.Elements.{Contains-push, Contains-push_cases, Contains-append_left, Contains-get_or}
@@ -12,17 +13,42 @@ use Rattle.wcp_model.proofs.RisingClocks.{rises_to}
 use Rattle.wcp_model.proofs.StepsOfOrder.{step_at, observe_task, interval_at_is, communications_is}
 use Rattle.wcp_model.specs.declared.workload.Action.TheVariants as action
 use Rattle.wcp_layout.specs.Rows.{row_at, finds_true, EndsWith, RiseUpTo, HasOneMore, AreEventColumns, AreTrueRows}
-use Rattle.wcp_layout.specs.Rows.{AreColumnsBefore, AreTruthsBefore}
+use Rattle.wcp_layout.specs.Rows.{AreColumnsBefore, AreTruthsBefore, IsTrueBefore}
 use Rattle.wcp_layout.proofs.Laying.{event_of_task, event_from}
 
+-- a row for each of n processes
+pub record AreRowsOf (n : ℕ) (P : ℕ → List ℕ → Type 0) (rows : List (List ℕ)) : Type 0 where
+  pub processes : length rows ≡ n
+  pub each : (p : ℕ) → p < n → P p (row_at rows p)
+
+pub rows_empty : (n : ℕ) (P : ℕ → List ℕ → Type 0) → ((p : ℕ) → P p []) → AreRowsOf n P (replicate n [])
+rows_empty n P none = record {
+  processes = length-replicate {A = List ℕ} n [];
+  each = λ p below. rw (get_or-replicate {A = List ℕ} n p [] [] below) (none p);
+}
+
+pub rows_stay : (n : ℕ) (P Q : ℕ → List ℕ → Type 0) (rows : List (List ℕ)) → ((p : ℕ) (r : List ℕ) → P p r → Q p r)
+    → AreRowsOf n P rows → AreRowsOf n Q rows
+rows_stay n P Q rows stays before = record {
+  processes = before.processes;
+  each = λ p below. stays p _ (before.each p below);
+}
+
+pub row_read : (n q : ℕ) (P : ℕ → List ℕ → Type 0) (rows : List (List ℕ)) (read : List ℕ) → q < n → AreRowsOf n P rows
+    → P q (get_or rows q read)
+row_read n q P rows read within are =
+    rw (get_or_default rows q read [] (omega (arith, within, are.processes))) (are.each q within)
+
 -- one row is written and each other one stays
-pub rows_written : (n q : ℕ) (P Q : ℕ → List ℕ → Type 0) (rows : List (List ℕ)) (row : List ℕ) → length rows ≡ n → q < n
-    → ((p : ℕ) → p < n → P p (row_at rows p)) → ((p : ℕ) → p ≢ q → (r : List ℕ) → P p r → Q p r) → Q q row
-    → (p : ℕ) → p < n → Q p (row_at (set rows q row) p)
-rows_written n q P Q rows row all within before stays here p below = elim (cases_eq p q) [
-  | inl same ↦ rw (same, get_or-set_same rows q row [] (omega (arith, within, all))) here
-  | inr other ↦ rw (get_or-set_other rows q p row [] other) (stays p other _ (before p below))
-]
+pub rows_written : (n q : ℕ) (P Q : ℕ → List ℕ → Type 0) (rows : List (List ℕ)) (row : List ℕ) → q < n
+    → AreRowsOf n P rows → ((p : ℕ) → p ≢ q → (r : List ℕ) → P p r → Q p r) → Q q row → AreRowsOf n Q (set rows q row)
+rows_written n q P Q rows row within before stays here = record {
+  processes = length-set rows q row ∙ before.processes;
+  each = λ p below. elim (cases_eq p q) [
+    | inl same ↦ rw (same, get_or-set_same rows q row [] (omega (arith, within, before.processes))) here
+    | inr other ↦ rw (get_or-set_other rows q p row [] other) (stays p other _ (before.each p below))
+  ];
+}
 
 module _ (order : List Task) (place : ℕ) (task : Task) (at : slice_get order place ≡ Some task) where
   -- an event of another process leaves a row as it is
@@ -70,32 +96,34 @@ module _ (order : List Task) (place : ℕ) (task : Task) (at : slice_get order p
         ];
       }
 
+  seen_later : (p k : ℕ) → IsTrueBefore order place p k → IsTrueBefore order (place + 1) p k
+  seen_later p k it = record {
+    at = it.at;
+    before = omega (arith, it.before);
+    observed = it.observed;
+    within = it.within;
+  }
+
+  seen_earlier : (p k : ℕ) (it : IsTrueBefore order (place + 1) p k) → it.at ≢ place → IsTrueBefore order place p k
+  seen_earlier p k it other = record {
+    at = it.at;
+    before = omega (arith, it.before);
+    observed = it.observed;
+    within = it.within;
+  }
+
   pub truths_stay : (p : ℕ) (row : List ℕ) → ((task.p ≡ p) → (finds_true task.action ≡ true) → ⊥)
       → AreTruthsBefore order place p row → AreTruthsBefore order (place + 1) p row
   truths_stay p row none are = record {
     rising = are.rising;
     each = λ k. (
-      λ has. let it = (are.each k).0 has in record {
-        at = it.at;
-        before = omega (arith, it.before);
-        observed =
-            it.observed;
-        within = it.within;
-      },
-      λ it. elim (cases_eq it.at place) [
-        | inl here ↦
-            let same = same_Some _ _ (sym at ∙ ap (slice_get order) (sym here) ∙ it.observed) in
-            absurd (none (ap (λ (t : Task). t.p) same) (ap (λ (t : Task). finds_true t.action) same))
-        | inr other ↦ (are.each k).1 (record {
-          at = it.at;
-          before = omega (arith, it.before);
-          observed =
-              it.observed;
-          within = it.within;
-        })
-      ],
+      (λ has. seen_later p k ((are.each k).0 has)),
+      (λ it. (are.each k).1 (seen_earlier p k it (λ here. seen_no (rw here at it.observed)))),
     );
   }
+    where
+      seen_no : slice_get order place ≡ Some (record { p = p; action = action.Observe true }) → ⊥
+      seen_no seen = grind arith
 
   pub truths_more : (old new : List ℕ) (number : ℕ) → finds_true task.action ≡ true
       → number ≡ count_by (is_event_of task.p) (take place order) → HasOneMore number old new
@@ -103,26 +131,15 @@ module _ (order : List Task) (place : ℕ) (task : Task) (at : slice_get order p
   truths_more old new number is counted more are = record {
     rising = more.rising;
     each = λ k. (
-      λ has. ⊎_elim
-          (λ before. let it = (are.each k).0 before in record
-          { at = it.at; before = omega (arith, it.before); observed = it.observed; within = it.within })
-          (λ here. record {
-            at = place;
-            before = omega arith;
-            observed = at
-                ∙ ap Some (observes task is);
-            within = sym counted ∙ sym here;
-          })
-          ((more.each k).0 has),
+      λ has. ⊎_elim (λ before. seen_later task.p k ((are.each k).0 before)) (λ here. record {
+        at = place;
+        before = omega arith;
+        observed = at ∙ ap Some (observes task is);
+        within = sym counted ∙ sym here;
+      }) ((more.each k).0 has),
       λ it. (more.each k).1 elim (cases_eq it.at place) [
-        | inl here ↦ inr (sym it.within ∙ ap (λ i. count_by (is_event_of task.p) (take i order)) here ∙ sym counted)
-        | inr other ↦ inl ((are.each k).1 (record {
-          at = it.at;
-          before = omega (arith, it.before);
-          observed =
-              it.observed;
-          within = it.within;
-        }))
+        | inl here ↦ inr (sym (rw here at it.within) ∙ sym counted)
+        | inr other ↦ inl ((are.each k).1 (seen_earlier task.p k it other))
       ],
     );
   }
@@ -185,38 +202,35 @@ module _ (number : ℕ) (row : List ℕ) (rise : RiseUpTo number row) where
       rising_push k below = grind (arith, rise.rising, last_below, get_or_append_left, get_or_push, length_push)
 
 -- the rows of all tasks
-module _ (n : ℕ) (order : List Task) (rows : List (List ℕ)) (processes : length rows ≡ n) where
-  pub AreEventColumns-all : (columns : List ℕ) → ((p : ℕ) → p < n
-      → AreColumnsBefore order columns (length order) p (row_at rows p)) → AreEventColumns n order columns rows
-  AreEventColumns-all columns are = record {
-    processes = processes;
-    events = λ p below. (are p below).events ∙ ap (count_by (is_event_of p))
-        (take_all (length order) order (omega arith)) ∙ sym (communications_is n order p);
+module _ (n : ℕ) (order : List Task) (rows : List (List ℕ)) where
+  pub AreEventColumns-all : (columns : List ℕ) (place : ℕ) → place ≡ length order
+      → AreRowsOf n (AreColumnsBefore order columns place) rows → AreEventColumns n order columns rows
+  AreEventColumns-all columns place all are = record {
+    processes = are.processes;
+    events = λ p below. (are.each p below).events ∙ ap (count_by (is_event_of p))
+        (take_all place order (omega (arith, all))) ∙ sym (communications_is n order p);
     each = λ p i below event. ap (slice_index (row_at rows p)) (interval_at_is n order p i)
-        ∙ (are p below).each i event (slice_get_within order i event.task event.at);
+        ∙ (are.each p below).each i event (omega (arith, all, slice_get_within order i event.task event.at));
   }
 
-  pub AreTrueRows-all : ((p : ℕ) → p < n → AreTruthsBefore order (length order) p (row_at rows p))
+  pub AreTrueRows-all : (place : ℕ) → place ≡ length order → AreRowsOf n (AreTruthsBefore order place) rows
       → AreTrueRows n order rows
-  AreTrueRows-all are = record {
-    processes = processes;
+  AreTrueRows-all place all are = record {
+    processes = are.processes;
     each = λ p below. record {
-      rising = (are p below).rising;
+      rising = (are.each p below).rising;
       each = λ k. (
-        λ has. let it = ((are p below).each k).0 has in record {
+        λ has. let it = ((are.each p below).each k).0 has in record {
           place = it.at;
           observed = step_at n order it.at _ it.observed;
-          within = interval_at_is n order p it.at
-              ∙ it.within;
+          within = interval_at_is n order p it.at ∙ it.within;
         },
         λ it. let there = observe_task n order it.place p true it.observed in
-            ((are p below).each k).1 (record {
+            ((are.each p below).each k).1 (record {
               at = it.place;
-              before =
-                  slice_get_within order it.place _ there;
+              before = omega (arith, all, slice_get_within order it.place _ there);
               observed = there;
-              within =
-                  sym (interval_at_is n order p it.place) ∙ it.within;
+              within = sym (interval_at_is n order p it.place) ∙ it.within;
             }),
       );
     };

@@ -3,9 +3,10 @@ use Rattle.wcp_layout.proofs.Words.{◌≡◌, ◌∙◌, ℕ, ◌+◌, ◌<◌,
 use Rattle.wcp_layout.proofs.Words.{sym, ap, subst, inl, inr, arith, cases_eq, cases_lt, cases_Bool, set, length-set}
 use Rattle.wcp_layout.proofs.Words.{get_or-set_same, get_or-set_other, slice_get, slice_index, slice_index_or}
 use Rattle.wcp_layout.proofs.Words.{slice_get_within, count_by, count_before-no, replicate, length-replicate}
-use Rattle.wcp_layout.proofs.Words.{get_or-replicate, get_or_past, false≢true, same_Some, take_all, at_place, Action}
+use Rattle.wcp_layout.proofs.Words.{get_or_past, same_Some, take_all, at_place, Action}
 use Rattle.wcp_layout.proofs.Words.{Task, IsWithin, AreSendAndReceive, IsEventAt, is_event, is_event_of, IsOfHalf}
 use Rattle.wcp_layout.proofs.Words.{IsSendOf}
+use Rattle.std.proofs.lemmas.Grind.{common_steps}
 use Rattle.wcp_model.specs.declared.workload.Action.TheVariants as action
 use Rattle.wcp_model.specs.Computation.{interval_at}
 use Rattle.wcp_model.specs.Cut.{Intervals}
@@ -19,23 +20,16 @@ use Rattle.wcp_layout.proofs.Past.{past_from, next_step, interval_rises, message
 
 -- some marks, of which none is set
 no_marks : (k i : ℕ) → IsOfHalf (replicate k false) true i → ⊥
-no_marks k i own = elim (cases_lt i k) [
-  | inl inside ↦ false≢true (sym (get_or-replicate k i false false inside) ∙ own)
-  | inr past ↦ false≢true (sym (get_or_past (replicate k false) i false
-      (omega (arith, length-replicate k false))) ∙ own)
-]
+no_marks k i own = grind (arith, common_steps, cases_lt i k, get_or_past (replicate k false) i false)
 
 -- one more mark
 mark_kept : (halves : List Bool) (at i : ℕ) → at < length halves → IsOfHalf halves true i
     → IsOfHalf (set halves at true) true i
-mark_kept halves at i inside own = elim (cases_eq i at) [
-  | inl same ↦ rw (same, get_or-set_same halves at true false inside) refl
-  | inr other ↦ rw (get_or-set_other halves at i true false other) own
-]
+mark_kept halves at i inside own = grind (arith, common_steps, cases_eq i at)
 
 mark_other : (halves : List Bool) (at i : ℕ) → (i ≡ at → ⊥) → IsOfHalf (set halves at true) true i
     → IsOfHalf halves true i
-mark_other halves at i other own = rw (get_or-set_other halves at i true false other) at own
+mark_other halves at i other own = grind (arith, common_steps)
 
 -- at the end nothing is to be marked
 pub none_marked : (n : ℕ) (order : List Task) (cut : Intervals)

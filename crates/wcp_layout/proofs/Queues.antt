@@ -2,10 +2,11 @@
 use Rattle.wcp_layout.proofs.Words.{◌≡◌, ℕ, ◌+◌, ◌*◌, ◌<◌, false, List, [], ◌∷◌, ◌++◌, length, set, slice_get}
 use Rattle.wcp_layout.proofs.Words.{slice_index, Some, ap, ◌∙◌, inl, inr, arith, get_or, get_or_default}
 use Rattle.wcp_layout.proofs.Words.{get_or-set_same, get_or-set_other, cases_eq, cases_lt, length-set, length-replicate}
-use Rattle.wcp_layout.proofs.Words.{get_or-replicate, length_push, get_or_append_left, get_or_push, mul-add-lt}
+use Rattle.wcp_layout.proofs.Words.{get_or-replicate, length_push, mul-add-lt}
 use Rattle.wcp_layout.proofs.Words.{same_from_place, replicate, sym, sends_yes, receives_yes, count_before-yes}
 use Rattle.wcp_layout.proofs.Words.{count_before-no, sends, receives, Action, Task, at_place, sends_ends, receives_ends}
 use Rattle.wcp_layout.proofs.Words.{send_is_no_receive, receive_is_no_send, AreSendAndReceive, AreInTransit, IsQueue}
+use Rattle.std.proofs.lemmas.Grind.{common_steps}
 use Rattle.wcp_layout.proofs.Words.{IsNext, IsSendOf, IsWithin, queue_at, add-one, suc, sent_before, AreSends}
 use Rattle.wcp_layout.proofs.Words.{element_within, slice_get_within}
 use Rattle.wcp_model.specs.declared.workload.Action.TheVariants as action
@@ -45,16 +46,9 @@ module _ (order : List Task) (place : ℕ) (task : Task) (at : slice_get order p
       let longer = length_push queue place in
       record {
         counted = omega (arith, sent, received, longer, is.counted);
-        send = λ k below. elim (cases_lt k (length queue)) [
-          | inl before ↦ rw (get_or_append_left queue (place ∷ []) 0 k before) (is.send k before)
-          | inr last ↦ rw (get_or_push queue place 0 k (omega (arith, below, longer))) (at ∙ ap Some is_send)
-        ];
-        number = λ k below. elim (cases_lt k (length queue)) [
-          | inl before ↦ rw (get_or_append_left queue (place ∷ []) 0 k before)
-              (omega (arith, received, is.number k before))
-          | inr last ↦ rw (get_or_push queue place 0 k (omega (arith, below, longer)))
-              (omega (arith, received, longer, is.counted))
-        ];
+        send = λ k below. grind (arith, common_steps, is.send k, at, is_send, longer, cases_lt k (length queue));
+        number = λ k below.
+            grind (arith, common_steps, is.number k, is.counted, received, longer, cases_lt k (length queue));
       }
 
   -- a receive takes the first message
@@ -78,8 +72,8 @@ module _ (order : List Task) (place : ℕ) (task : Task) (at : slice_get order p
         },
       )
 
-module _ (n : ℕ) (order : List Task) (place : ℕ) (task : Task) (next : IsNext n order place task)
-    (queues : List (List ℕ)) (are : AreInTransit n order place queues) where
+module _ {n : ℕ} {order : List Task} {place : ℕ} {task : Task} (next : IsNext n order place task)
+    {queues : List (List ℕ)} (are : AreInTransit n order place queues) where
   -- the partners of the task are within
   pub task_within : IsWithin n task
   task_within = at_place (IsWithin n) order place task next.within next.at
@@ -113,42 +107,42 @@ module _ (n : ℕ) (order : List Task) (place : ℕ) (task : Task) (next : IsNex
   }
 
   -- a partner's number is within
-  pub to_within : (to : ℕ) → task.action ≡ action.Send to → to < n
-  to_within to is = (rw is at task_within.1).0
+  pub to_within : {to : ℕ} → task.action ≡ action.Send to → to < n
+  to_within is = (rw is at task_within.1).0
 
-  pub from_within : (from : ℕ) → task.action ≡ action.Recv from → from < n
-  from_within from is = (rw is at task_within.1).0
+  pub from_within : {from : ℕ} → task.action ≡ action.Recv from → from < n
+  from_within is = (rw is at task_within.1).0
 
-  module _ (channel : ℕ) (old new : List ℕ) where
+  module _ {channel : ℕ} (old : List ℕ) where
     queue_read : (a b : ℕ) → a < n → b < n → channel ≡ a * n + b
         → get_or queues channel old ≡ queue_at queues (a * n + b)
     queue_read a b a_below b_below number = rw number (get_or_default queues (a * n + b) old []
         (omega (arith, mul-add-lt a n b n a_below b_below, are.channels)))
 
-    pub after_send : (to : ℕ) → task.action ≡ action.Send to → channel ≡ task.p * n + to
+    pub after_send : {new : List ℕ} (to : ℕ) → task.action ≡ action.Send to → channel ≡ task.p * n + to
         → new ≡ get_or queues channel old ++ place ∷ []
         → AreInTransit n order (place + 1) (set queues channel new)
     after_send to is number pushed =
         let is_send : task ≡ record { p = task.p; action = action.Send to } =
         λ i. record { p = task.p; action = is i } in
-        let read = queue_read task.p to task_within.0 (to_within to is) number in
-        rw (number, pushed, read) (written task.p to _ task_within.0 (to_within to is) elsewhere
-        (queue_longer order place task next.at task.p to _ (are.each task.p to task_within.0 (to_within to is))
+        let read = queue_read task.p to task_within.0 (to_within is) number in
+        rw (number, pushed, read) (written task.p to _ task_within.0 (to_within is) elsewhere
+        (queue_longer order place task next.at task.p to _ (are.each task.p to task_within.0 (to_within is))
         is_send))
       where
         elsewhere : (p q : ℕ) → ((p ≡ task.p) → (q ≡ to) → ⊥) → (sends p q task ≡ false) × (receives p q task ≡ false)
         elsewhere p q other = grind (arith, sends_ends, send_is_no_receive, is)
 
-    pub after_receive : (from sent : ℕ) → task.action ≡ action.Recv from → channel ≡ from * n + task.p
+    pub after_receive : {new : List ℕ} (from sent : ℕ) → task.action ≡ action.Recv from → channel ≡ from * n + task.p
         → get_or queues channel old ≡ sent ∷ new
         → AreInTransit n order (place + 1) (set queues channel new) × IsSendOf order place task.action sent
-    after_receive from sent is number popped =
+    after_receive {new} from sent is number popped =
         let is_receive : task ≡ record { p = task.p; action = action.Recv from } =
         λ i. record { p = task.p; action = is i } in
-        let read = queue_read from task.p (from_within from is) task_within.0 number in
+        let read = queue_read from task.p (from_within is) task_within.0 number in
         let shorter = queue_shorter order place task next.at from task.p _
-        (are.each from task.p (from_within from is) task_within.0) sent new is_receive (sym read ∙ popped) in
-        (rw number (written from task.p new (from_within from is) task_within.0 elsewhere shorter.0), rw is shorter.1)
+        (are.each from task.p (from_within is) task_within.0) sent new is_receive (sym read ∙ popped) in
+        (rw number (written from task.p new (from_within is) task_within.0 elsewhere shorter.0), rw is shorter.1)
       where
         elsewhere : (p q : ℕ) → ((p ≡ from) → (q ≡ task.p) → ⊥) → (sends p q task ≡ false) × (receives p q task ≡ false)
         elsewhere p q other = grind (arith, receives_ends, receive_is_no_send, is)
@@ -161,11 +155,11 @@ module _ (n : ℕ) (order : List Task) (place : ℕ) (task : Task) (next : IsNex
         ∙ ap (λ act. Some (record { p = task.p; action = act })) is in
         let more = count_before-yes (receives from task.p) order place _ at (receives_yes from task.p) in
         let before = rw (← add-one place) at (sent_before order next.fit place from task.p) in
-        rw (queue_read from task.p (from_within from is) task_within.0 number)
-        (omega (arith, more, before, (are.each from task.p (from_within from is) task_within.0).counted))
+        rw (queue_read from task.p (from_within is) task_within.0 number)
+        (omega (arith, more, before, (are.each from task.p (from_within is) task_within.0).counted))
 
-  pub channel_within : (a b channel : ℕ) → a < n → b < n → channel ≡ a * n + b → channel < length queues
-  channel_within a b channel a_below b_below number = omega (arith, mul-add-lt a n b n a_below b_below, are.channels)
+  pub channel_within : {a b channel : ℕ} → a < n → b < n → channel ≡ a * n + b → channel < length queues
+  channel_within {a} {b} a_below b_below number = omega (arith, mul-add-lt a n b n a_below b_below, are.channels)
 
 -- the sends of all tasks
 module _ (order : List Task) where

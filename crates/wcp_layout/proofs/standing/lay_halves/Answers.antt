@@ -1,14 +1,11 @@
-use Rattle.wcp_layout.proofs.Words.{◌≡◌, ℕ, slice_index, arith, get_or-replicate, get_or_past, length-replicate, inl}
-use Rattle.wcp_layout.proofs.Words.{inr, cases_lt, replicate, length}
+use Rattle.wcp_layout.proofs.Words.{◌≡◌, ℕ, common_steps, slice_index, arith, get_or_past}
+use Rattle.wcp_layout.proofs.Words.{cases_lt, replicate, length}
 use Rattle.wcp_layout.proofs.Halves.{may_first, may_second, second_starts, both_laid}
 use Rattle.wcp_layout.proofs.standing.lay_halves.Goals as goal
 
 -- each of some zeros is 0
 zeros : (n i : ℕ) → slice_index (replicate n 0) i ≡ 0
-zeros n i = elim (cases_lt i n) [
-  | inl inside ↦ get_or-replicate {A = ℕ} n i 0 0 inside
-  | inr past ↦ get_or_past (replicate n 0) i 0 (omega (arith, length-replicate {A = ℕ} n 0, past))
-]
+zeros n i = grind (arith, common_steps, cases_lt i n, get_or_past {X = ℕ} (replicate n 0) i 0)
 
 pub lay-requires-clause-may : goal.lay-requires-clause-may
 lay-requires-clause-may c = rw c.requires.none (may_first c.args.order.now c.args.halves.now _ c.requires.closed
