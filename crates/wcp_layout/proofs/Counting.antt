@@ -1,7 +1,6 @@
 -- The events before a place.
 use Rattle.wcp_layout.proofs.Words.{◌≡◌, ℕ, ◌+◌, ◌<◌, cond, List, [], ◌∷◌, ◌++◌, length, take, count_by, set, slice_get}
 use Rattle.wcp_layout.proofs.Words.{slice_index, Some, arith, cases_eq, cases_lt, cases_Bool, ne_eqb, eq-eqb}
-use Rattle.wcp_layout.proofs.Words.{get_or-set_same, get_or-set_other}
 use Rattle.wcp_layout.proofs.Words.{common_steps, count_before-yes, count_before-no, Task, is_event, is_event_of}
 
 -- one more task is counted
@@ -12,18 +11,8 @@ pub counted_more : (order : List Task) (place : ℕ) (task : Task) (events : Lis
 counted_more order place task events at inside counted p below =
     let yes = count_before-yes (is_event_of p) order place task at in
     let no = count_before-no (is_event_of p) order place task at in
-    grind (
-      arith,
-      yes,
-      no,
-      counted p below,
-      cases_eq p task.p,
-      cases_Bool (is_event task.action),
-      get_or-set_same,
-      get_or-set_other,
-      ne_eqb,
-      eq-eqb,
-    )
+    let old = counted p below in
+    grind (arith, common_steps, cases_eq p task.p, cases_Bool (is_event task.action), ne_eqb, eq-eqb)
 
 -- one more number is listed
 pub listed_more : (order : List Task) (P : Task → ℕ → ℕ → Type 0) (numbers : List ℕ) (number place : ℕ)

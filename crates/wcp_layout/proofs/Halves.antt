@@ -32,7 +32,7 @@ module _ (order : List Task) (halves : List Bool) (zeros columns last : List ℕ
     may_second = record {
       none = rest_none;
       own = λ p i j at_i at_j less own. first_stands p j at_j;
-      message = λ sent received message own. first_stands message.from sent (send_event order sent received message);
+      message = λ sent received message own. first_stands message.from sent (send_event message);
     }
 
     module _ (line : ℕ) (above : (i : ℕ) → slice_index columns i < line) where
@@ -59,14 +59,13 @@ module _ (order : List Task) (halves : List Bool) (zeros columns last : List ℕ
         only = second.stand.only;
         own = λ p i j at_i at_j less. (second.stand.own p i j at_i at_j less (stands p i at_i)).1;
         message = λ sent received is. (second.stand.message sent received is
-            (stands is.to received (receive_event order sent received is))).1;
+            (stands is.to received (receive_event is))).1;
         before = λ p i at_i own. let same = stays i own in
             (stands p i at_i, omega (arith, same, above i));
         behind = λ p i at_i own. second.laid p i at_i own (slice_get_within order i at_i.task at_i.at);
         next_before = λ p i at_i own.
             let within = slice_get_within order i at_i.task at_i.at in
-            next_stays order columns after 0 p i first.stand stood at_i (first.laid p i at_i own within)
-            (first.next p i at_i own within);
+            next_stays first.stand stood at_i (first.laid p i at_i own within) (first.next p i at_i own within);
         next_behind = λ p i at_i own. second.next p i at_i own (slice_get_within order i at_i.task at_i.at);
       }
         where

@@ -59,7 +59,7 @@ module _ (order : List Task) (place : ℕ) (task : Task) (at : slice_get order p
   ]
 
   pub other_process : (p : ℕ) → p ≢ task.p → IsEventAt order p place → ⊥
-  other_process p other event = other (sym (event_of_task order p place event)
+  other_process p other event = other (sym (event_of_task event)
       ∙ ap (λ (t : Task). t.p) (same_Some _ _ (sym event.at ∙ at)))
 
   pub columns_stay : (columns : List ℕ) (p : ℕ) (row : List ℕ) → (IsEventAt order p place → ⊥)
@@ -76,7 +76,7 @@ module _ (order : List Task) (place : ℕ) (task : Task) (at : slice_get order p
       → AreColumnsBefore order columns place task.p row → AreColumnsBefore order columns (place + 1) task.p
       (row ++ slice_index columns place ∷ [])
   columns_more columns row is are =
-      let event = event_from order place task at is in
+      let event : IsEventAt order task.p place = event_from at is in
       let own : is_event_of task.p task ≡ true = ap (is_event_of task.p) (same_Some _ _ (sym at ∙ event.at))
       ∙ event.own in
       let more = count_before-yes (is_event_of task.p) order place task at own in
@@ -85,8 +85,7 @@ module _ (order : List Task) (place : ℕ) (task : Task) (at : slice_get order p
         each = λ i event_i below. elim (cases_eq i place) [
           | inl here ↦ rw (
             here,
-            get_or_push row (slice_index columns place) 0
-                (count_by (is_event_of task.p) (take place order)) are.events,
+            get_or_push row (slice_index columns place) 0 (count_by (is_event_of task.p) (take place order)) are.events,
           ) refl
           | inr other ↦
               let one = count_before-yes (is_event_of task.p) order i event_i.task event_i.at event_i.own in
@@ -181,10 +180,8 @@ module _ (number : ℕ) (row : List ℕ) (rise : RiseUpTo number row) where
   has_more other = record {
     rising = rising_push;
     each = λ k. (
-      λ has. ⊎_elim inl (λ same. inr (sym same))
-          (Contains-push_cases row number k has),
-      ⊎_elim (λ has. Contains-append_left row (number ∷ []) k has)
-          (λ same. rw same (Contains-push row number)),
+      λ has. ⊎_elim inl (λ same. inr (sym same)) (Contains-push_cases row number k has),
+      ⊎_elim (λ has. Contains-append_left row (number ∷ []) k has) (λ same. rw same (Contains-push row number)),
     );
   }
     where

@@ -53,9 +53,9 @@ none_marked n order cut = record {
       absurd (omega (arith, slice_get_within order received _ message.receive));
 }
 
-module _ (n : ℕ) (order : List Task) (intervals sends : List ℕ) (cut : Intervals)
-    (is : IsCutOrder n order intervals sends cut) (place : ℕ) (task : Task) (at : slice_get order place ≡ Some task)
-    (halves later : List Bool) (marked : AreMarked n order cut (place + 1) halves later) where
+module _ {n : ℕ} {order : List Task} {intervals sends : List ℕ} {cut : Intervals}
+    (is : IsCutOrder n order intervals sends cut) (place : ℕ) {task : Task} (at : slice_get order place ≡ Some task)
+    {halves later : List Bool} (marked : AreMarked n order cut (place + 1) halves later) where
   abbrev Past : ℕ → ℕ → Type 0
   Past p i = IsPast (computation_of n order) cut (state_there n order p i)
 
@@ -79,28 +79,27 @@ module _ (n : ℕ) (order : List Task) (intervals sends : List ℕ) (cut : Inter
   marked_past quiet = record {
     tasks = marked.tasks;
     processes = marked.processes;
-    states = λ q below. later_stays q below (no_event order q place task at quiet);
+    states = λ q below. later_stays q below (no_event at quiet);
     only = marked.only;
     events = λ q i event le past. elim (cases_eq i place) [
-      | inl here ↦ absurd (no_event order q place task at quiet (subst (IsEventAt order q) here event))
+      | inl here ↦ absurd (no_event at quiet (subst (IsEventAt order q) here event))
       | inr other ↦ marked.events q i event (omega arith) past
     ];
     messages = λ from received message le up_to. elim (cases_eq received place) [
-      | inl here ↦ absurd (no_event order message.to place task at quiet
-          (subst (IsEventAt order message.to) here (receive_event order from received message)))
+      | inl here ↦ absurd (no_event at quiet (subst (IsEventAt order message.to) here (receive_event message)))
       | inr other ↦ marked.messages from received message (omega arith) up_to
     ];
   }
 
   module _ (one : is_event task.action ≡ true) where
     event : IsEventAt order task.p place
-    event = event_from order place task at one
+    event = event_from at one
 
     within : task.p < n
     within = (at_place (IsWithin n) order place task is.within at).0
 
     rises : interval_at (computation_of n order) task.p (place + 1) ≡ slice_index intervals place + 1
-    rises = interval_rises n order is.fit task.p place event ∙ ap (λ k. k + 1) (sym (is.numbered.each place task at))
+    rises = interval_rises n order is.fit event ∙ ap (λ k. k + 1) (sym (is.numbered.each place task at))
 
     -- `later`, or the member of the process, says that the event begins a state up to the cut
     abbrev Says : Type 0
@@ -124,17 +123,17 @@ module _ (n : ℕ) (order : List Task) (intervals sends : List ℕ) (cut : Inter
 
     -- then it is in the past of the cut, and so is the send of its message
     past_here : (q : ℕ) → IsEventAt order q place → UpTo task.p (place + 1) → Past q place
-    past_here q at_q begins = rw (same_process order q task.p place at_q event)
-        (past_from (computation_of n order) cut _ _ (next_step n order is.fit task.p place event) begins)
+    past_here q at_q begins = rw (same_process at_q event)
+        (past_from (computation_of n order) cut _ _ (next_step n order is.fit event) begins)
 
     past_sent : (act : Action) (sent q : ℕ) → IsSendOf order place act sent → IsEventAt order q sent
         → UpTo task.p (place + 1) → Past q sent
     past_sent (action.Observe holds) sent q same at_q begins = rw same (past_here q (rw same at at_q) begins)
     past_sent (action.Send to) sent q same at_q begins = rw same (past_here q (rw same at at_q) begins)
     past_sent (action.Recv from) sent q message at_q begins =
-        let own = same_process order task.p message.to place event (receive_event order sent place message) in
-        rw (same_process order q message.from sent at_q (send_event order sent place message))
-        (past_from (computation_of n order) cut _ _ (message_step n order is.fit sent place message) (rw own at begins))
+        let own = same_process event (receive_event message) in
+        rw (same_process at_q (send_event message))
+        (past_from (computation_of n order) cut _ _ (message_step n order is.fit message) (rw own at begins))
 
     -- marks that say so of the event and of the send of its message
     record MarksHere (after : List Bool) : Type 0 where
@@ -153,20 +152,18 @@ module _ (n : ℕ) (order : List Task) (intervals sends : List ℕ) (cut : Inter
       ]
 
       marked_here : Past task.p place → IsOfHalf after true place
-      marked_here past = elim (leads n order is.fit cut task.p place event past) [
+      marked_here past = elim (leads n order is.fit cut event past) [
         | inl begins ↦ (marks.here begins).0
         | inr by ↦ marks.kept place (marked.messages place by.received by.message
-            (omega (arith, message_later order is.fit place by.received by.message)) by.up_to)
+            (omega (arith, message_later is.fit by.message)) by.up_to)
       ]
 
       marked_message : (from received : ℕ) (message : AreSendAndReceive order from received) → received ≡ place
           → UpTo message.to (received + 1) → IsOfHalf after true from
       marked_message from received message here up_to =
-          let own = same_process order message.to task.p place
-          (subst (IsEventAt order message.to) here (receive_event order from received message)) event in
+          let own = same_process (subst (IsEventAt order message.to) here (receive_event message)) event in
           let acts = same_Some _ _ (sym at ∙ sym (ap (slice_get order) here) ∙ message.receive) in
-          let same = same_send order from (slice_index sends place) place
-          (subst (AreSendAndReceive order from) here message)
+          let same = same_send (subst (AreSendAndReceive order from) here message)
           (subst (λ (t : Task). IsSendOf order place t.action (slice_index sends place)) acts
           (is.sends.each place task at)) in
           rw same (marks.here (rw (own, here) at up_to)).1
@@ -182,12 +179,12 @@ module _ (n : ℕ) (order : List Task) (intervals sends : List ℕ) (cut : Inter
                 (omega (arith, within, is.few, marked.processes)),
           ) (past_after task.p place event, marked_here)
           | inr apart ↦ rw (get_or-set_other later task.p q (slice_index_or after place false) false apart)
-              (later_stays q below (λ other. apart (same_process order q task.p place other event)))
+              (later_stays q below (λ other. apart (same_process other event)))
         ];
         only = past_after;
         events = λ q i at_i le past. elim (cases_eq i place) [
           | inl here ↦
-              let own = same_process order q task.p place (rw here at at_i) event in
+              let own = same_process (rw here at at_i) event in
               rw here (marked_here (rw (here, own) at past))
           | inr other ↦ marks.kept i (marked.events q i at_i (omega arith) past)
         ];
@@ -206,8 +203,7 @@ module _ (n : ℕ) (order : List Task) (intervals sends : List ℕ) (cut : Inter
         let second : slice_index sends place < length once = omega (
           arith,
           marked.tasks,
-          is.sends.inside place
-              (slice_get_within order place task at),
+          is.sends.inside place (slice_get_within order place task at),
           length-set halves place true,
         ) in
         marked_event _ (record {

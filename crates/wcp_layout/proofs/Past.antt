@@ -41,8 +41,7 @@ module _ (c : Computation) (cut : Intervals) where
       let first = first_step past.before in (
         first.0,
         first.1,
-        ⊎_elim
-            (λ same. inl (subst (IsMember cut) (sym same) past.member))
+        ⊎_elim (λ same. inl (subst (IsMember cut) (sym same) past.member))
             (λ before. inr (record { later = past.later; member = past.member; before = before })) first.2,
       )
 
@@ -67,8 +66,7 @@ module _ (n : ℕ) (watched : NumberSet) (c : Computation) (cut : Intervals) (is
   members_apart : (s t : State) → IsMember cut s → IsMember cut t → (s.process ≡ t.process → ⊥)
       → HappenedBefore c s t → ⊥
   members_apart s t s_is t_is apart before = is.consistent s.process t.process (member_watched s s_is)
-      (member_watched t t_is) apart
-      (subst (λ u. HappenedBefore c u (member cut t.process)) (sym (member_is s s_is))
+      (member_watched t t_is) apart (subst (λ u. HappenedBefore c u (member cut t.process)) (sym (member_is s s_is))
       (subst (HappenedBefore c s) (sym (member_is t t_is)) before))
 
   -- the process has one member
@@ -98,41 +96,40 @@ module _ (n : ℕ) (watched : NumberSet) (c : Computation) (cut : Intervals) (is
 
 module _ (n : ℕ) (order : List Task) (fit : IsFitOrder order order) where
   -- an event ends the state of its process
-  pub interval_rises : (p place : ℕ) → IsEventAt order p place
+  pub interval_rises : {p place : ℕ} → IsEventAt order p place
       → interval_at (computation_of n order) p (place + 1) ≡ interval_at (computation_of n order) p place + 1
-  interval_rises p place event = interval_at_is n order p (place + 1)
+  interval_rises {p} {place} event = interval_at_is n order p (place + 1)
       ∙ count_before-yes (is_event_of p) order place event.task event.at event.own
       ∙ ap (λ k. k + 1) (sym (interval_at_is n order p place))
 
-  pub next_step : (p place : ℕ) → IsEventAt order p place
+  pub next_step : {p place : ℕ} → IsEventAt order p place
       → DirectlyPrecedes (computation_of n order) (state_there n order p place) (state_there n order p (place + 1))
-  next_step p place event =
-      Next refl (sym (interval_rises p place event)) (interval_at-le (computation_of n order) p (place + 1))
+  next_step {p} {place} event =
+      Next refl (sym (interval_rises event)) (interval_at-le (computation_of n order) p (place + 1))
 
   -- a send is no receive
-  send_or_receive : (place p to q from : ℕ)
-      → slice_get order place ≡ Some (record { p = p; action = action.Send to })
+  send_or_receive : (place p to q from : ℕ) → slice_get order place ≡ Some (record { p = p; action = action.Send to })
       → slice_get order place ≡ Some (record { p = q; action = action.Recv from }) → ⊥
   send_or_receive place p to q from send receive =
       let acts = ap (λ (task : Task). task.action) (same_Some _ _ (sym send ∙ receive)) in
       absurd (cc acts)
 
   -- a message leads to the state that its receive begins
-  pub message_step : (sent received : ℕ) (message : AreSendAndReceive order sent received)
+  pub message_step : {sent received : ℕ} (message : AreSendAndReceive order sent received)
       → DirectlyPrecedes (computation_of n order) (state_there n order message.from sent)
       (state_there n order message.to (received + 1))
-  message_step sent received message =
+  message_step {sent} {received} message =
       let delivery : IsDelivery order message.from message.to sent received = record
       { send = message.send; receive = message.receive; same_rank = sym message.same_number } in
       Message (record {
         sent = sent;
         received = received;
         to = message.to;
-        later = message_later order fit sent received message;
+        later = message_later fit message;
         send = step_at n order sent _ message.send;
         receive = delivery_step n delivery;
         from_state = refl;
-        to_state = sym (interval_rises message.to received (receive_event order sent received message));
+        to_state = sym (interval_rises (receive_event message));
       })
 
   module _ (cut : Intervals) where
@@ -142,14 +139,14 @@ module _ (n : ℕ) (order : List Task) (fit : IsFitOrder order order) where
       pub message : AreSendAndReceive order place received
       pub up_to : IsUpTo (computation_of n order) cut (state_there n order message.to (received + 1))
 
-    leads_by : (p place : ℕ) → IsEventAt order p place → (u : State)
+    leads_by : {p place : ℕ} → IsEventAt order p place → (u : State)
         → DirectlyPrecedes (computation_of n order) (state_there n order p place) u
         → IsUpTo (computation_of n order) cut u
         → IsUpTo (computation_of n order) cut (state_there n order p (place + 1)) ⊎ LeadsByMessage place
-    leads_by p place event u (Next process interval exists) up_to = inl (subst (IsUpTo (computation_of n order) cut)
+    leads_by {p} {place} event u (Next process interval exists) up_to = inl (subst (IsUpTo (computation_of n order) cut)
         (same_state u (state_there n order p (place + 1)) (sym process)
-        (sym interval ∙ sym (interval_rises p place event))) up_to)
-    leads_by p place event u (Message m) up_to =
+        (sym interval ∙ sym (interval_rises event))) up_to)
+    leads_by {p} {place} event u (Message m) up_to =
         let delivery = delivery_of n fit p m.to u.process m.sent m.received m.send m.receive in
         let message : AreSendAndReceive order m.sent m.received = record {
           from = p;
@@ -158,7 +155,7 @@ module _ (n : ℕ) (order : List Task) (fit : IsFitOrder order order) where
           receive = delivery.receive;
           same_number = sym delivery.same_rank;
         } in
-        let begins = interval_rises u.process m.received (receive_event order m.sent m.received message) in
+        let begins = interval_rises (receive_event message) in
         let same : m.sent ≡ place = count_before-place (is_event_of p) order m.sent place _ event.task delivery.send
         event.at (and_from _ _ (eq-eqb p p refl) refl) event.own
         (sym (interval_at_is n order p m.sent) ∙ m.from_state ∙ interval_at_is n order p place) in
@@ -170,12 +167,12 @@ module _ (n : ℕ) (order : List Task) (fit : IsFitOrder order order) where
         }))
 
     -- an event in the past of the cut leads up to it, by its process or by a message
-    pub leads : (p place : ℕ) → IsEventAt order p place
+    pub leads : {p place : ℕ} → IsEventAt order p place
         → IsPast (computation_of n order) cut (state_there n order p place)
         → IsUpTo (computation_of n order) cut (state_there n order p (place + 1)) ⊎ LeadsByMessage place
-    leads p place event past =
+    leads {p} {place} event past =
         let first = past_first (computation_of n order) cut (state_there n order p place) past in
-        leads_by p place event first.0 first.1 first.2
+        leads_by event first.0 first.1 first.2
 
     -- the past of a cut has all that goes before what is in it
     pub past_own : (p i j : ℕ) → j < i → IsPast (computation_of n order) cut (state_there n order p i)
@@ -191,8 +188,8 @@ module _ (n : ℕ) (order : List Task) (fit : IsFitOrder order order) where
         → IsPast (computation_of n order) cut (state_there n order message.to received)
         → IsPast (computation_of n order) cut (state_there n order message.from sent)
     past_message sent received message past =
-        elim (leads message.to received (receive_event order sent received message) past) [
-          | inl up_to ↦ past_from (computation_of n order) cut _ _ (message_step sent received message) up_to
+        elim (leads (receive_event message) past) [
+          | inl up_to ↦ past_from (computation_of n order) cut _ _ (message_step message) up_to
           | inr by ↦ absurd (send_or_receive received by.message.from by.message.to message.to message.from
               by.message.send message.receive)
         ]

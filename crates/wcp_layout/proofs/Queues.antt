@@ -127,8 +127,7 @@ module _ {n : ℕ} {order : List Task} {place : ℕ} {task : Task} (next : IsNex
         λ i. record { p = task.p; action = is i } in
         let read = queue_read task.p to task_within.0 (to_within is) number in
         rw (number, pushed, read) (written task.p to _ task_within.0 (to_within is) elsewhere
-        (queue_longer order place task next.at task.p to _ (are.each task.p to task_within.0 (to_within is))
-        is_send))
+        (queue_longer order place task next.at task.p to _ (are.each task.p to task_within.0 (to_within is)) is_send))
       where
         elsewhere : (p q : ℕ) → ((p ≡ task.p) → (q ≡ to) → ⊥) → (sends p q task ≡ false) × (receives p q task ≡ false)
         elsewhere p q other = grind (arith, sends_ends, send_is_no_receive, is)

@@ -31,24 +31,22 @@ module _ (n : ℕ) (order : List Task) where
         → Before cut message.to (interval_at (computation_of n order) message.to received)
         → Before cut message.from (interval_at (computation_of n order) message.from sent)
     send_is_before None sent received message before = tt
-    send_is_before (Some cut) sent received message before =
-        past_message n order fit cut sent received message before
+    send_is_before (Some cut) sent received message before = past_message n order fit cut sent received message before
 
     pub closed_halves : (cut : Option Intervals) (halves : List Bool) → AreHalves n order cut halves
         → IsClosed order halves
     closed_halves cut halves of = record {
       own = λ p i j at_i at_j less own. (of.each p j at_j).1
           (earlier_is_before cut p i j less ((of.each p i at_i).0 own));
-      message = λ sent received message own. (of.each message.from sent (send_event order sent received message)).1
-          (send_is_before cut sent received message
-          ((of.each message.to received (receive_event order sent received message)).0 own));
+      message = λ sent received message own. (of.each message.from sent (send_event message)).1
+          (send_is_before cut sent received message ((of.each message.to received (receive_event message)).0 own));
     }
 
   module _ (cut : Option Intervals) (halves : List Bool) (of : AreHalves n order cut halves) (intervals : List ℕ)
       (are : AreIntervals n order intervals) (p i : ℕ) (event : IsEventAt order p i) where
     interval_here : slice_index intervals i ≡ interval_at (computation_of n order) p i
     interval_here = are.each i event.task event.at
-        ∙ ap (λ q. interval_at (computation_of n order) q i) (event_of_task order p i event)
+        ∙ ap (λ q. interval_at (computation_of n order) q i) (event_of_task event)
 
     -- an event is of the first half if it stands before the cut, and else of the second
     pub half_before : Before cut p (slice_index intervals i) → IsOfHalf halves true i

@@ -9,8 +9,7 @@ use Rattle.wcp_layout.proofs.cut_halves.mark.Goals as goal
 pub returns-then-not-is_event : goal.returns-then-not-is_event
 returns-then-not-is_event c =
     let none : Task = record { p = 0; action = Observe false } in
-    marked_past _ c.args.order.now _ _ c.args.cut.now c.requires.cut c.args.place _
-    (slice_get-get_or c.args.order.now c.args.place none c.requires.place) c.args.halves.now c.args.later.now
+    marked_past c.requires.cut c.args.place (slice_get-get_or c.args.order.now c.args.place none c.requires.place)
     c.requires.marked (sym c.is_event.ensures ∙ c.if-not-is_event.true)
 
 pub returns : goal.returns
@@ -18,10 +17,8 @@ returns c =
     let none : Task = record { p = 0; action = Observe false } in
     let at = slice_get-get_or c.args.order.now c.args.place none c.requires.place in
     let one = sym c.is_event.ensures ∙ c.if-not-is_event.false in
-    let said = marked_said _ c.args.order.now _ _ c.args.cut.now c.requires.cut c.args.place _ at c.args.halves.now
-    c.args.later.now c.requires.marked one in
-    let unsaid = marked_unsaid _ c.args.order.now _ _ c.args.cut.now c.requires.cut c.args.place _ at
-    c.args.halves.now c.args.later.now c.requires.marked one in
+    let said = marked_said c.requires.cut c.args.place at c.requires.marked one in
+    let unsaid = marked_unsaid c.requires.cut c.args.place at c.requires.marked one in
     elim c.if-later-p.branch [
       | then-later-p w ↦ rw w.halves-is (elim w.then-later-p.branch [
         | then-later-p-via-then-later-p w' ↦ said (inl w'.if-later-p.true)

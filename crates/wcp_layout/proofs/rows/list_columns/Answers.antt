@@ -25,7 +25,7 @@ loop-place-preserved c =
           (columns_more order place task at columns _ (sym c.is_event.ensures ∙ w.if-is_event.true)
           (row_read c.args.n task.p _ _ _ below c.loop-place.invariant)))
       | else-is_event w ↦ rw w.rows-is (rows_stay c.args.n _ _ _ (λ p r. columns_stay order place task at columns p r
-          (no_event order p place task at (sym c.is_event.ensures ∙ w.if-is_event.false))) c.loop-place.invariant)
+          (no_event at (sym c.is_event.ensures ∙ w.if-is_event.false))) c.loop-place.invariant)
     ]
 
 pub returns : goal.returns

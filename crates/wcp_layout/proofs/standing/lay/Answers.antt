@@ -13,7 +13,7 @@ overflow_add-column c =
     let none : Task = record { p = 0; action = Observe false } in
     let task : Task = get_or c.args.order.now c.loop-place.place none in
     let last : slice_index c.loop-place.last task.p ≤ c.args.floor + c.loop-place.place =
-    last_few _ _ _ _ _ _ _ _ is task.p in
+    last_few is task.p in
     omega (arith, last, is.few_columns (slice_index c.args.sent.now c.loop-place.place))
 
 pub loop-place-preserved : goal.loop-place-preserved
@@ -24,22 +24,17 @@ loop-place-preserved c =
     let task : Task = get_or order place none in
     let at = slice_get-get_or order place none c.loop-place-test.true in
     let is = c.loop-place.invariant in
-    let last : slice_index c.loop-place.last task.p ≤ c.args.floor + place = last_few _ _ _ _ _ _ _ _ is task.p in
+    let last : slice_index c.loop-place.last task.p ≤ c.args.floor + place = last_few is task.p in
     elim c.if-is_event.branch [
       | then-is_event+then-halves-place w ↦ rw (w.columns-is, w.last-is)
-          (laid_more order c.args.halves.now c.args.half c.args.floor c.args.columns.now place c.loop-place.columns
-          c.loop-place.last is
-          c.requires.fit c.requires.may c.args.sent.now c.requires.sends task at
+          (laid_more is c.requires.fit c.requires.may c.requires.sends at
           (sym c.is_event.ensures ∙ w.if-is_event.true) (beq_true _ _ w.if-halves-place.true)
-          (c.requires.few place none c.loop-place-test.true) _ (omega arith) (omega arith) (omega arith)
+          (c.requires.few place none c.loop-place-test.true) (omega arith) (omega arith) (omega arith)
           (greatest_is _ _ _ w.max.result w.max-column.result _ w.max.ensures w.max-column.ensures refl)
           (omega (arith, last, is.few_columns (slice_index c.args.sent.now place))))
-      | else-is_event w ↦ rw (w.columns-is, w.last-is) (laid_past order c.args.halves.now c.args.half c.args.floor
-          c.args.columns.now place c.loop-place.columns c.loop-place.last is
-          (λ p event own. elim w.else-is_event.branch [
-            | else-is_event-via-then-is_event+else-halves-place w' ↦
-                false≢true (sym w'.if-halves-place.false ∙ beq_same _ _ own)
-            | else-is_event-via-else-is_event w' ↦ no_event order p place task at
-                (sym c.is_event.ensures ∙ w'.if-is_event.false) event
-          ]))
+      | else-is_event w ↦ rw (w.columns-is, w.last-is) (laid_past is (λ p event own. elim w.else-is_event.branch [
+        | else-is_event-via-then-is_event+else-halves-place w' ↦
+            false≢true (sym w'.if-halves-place.false ∙ beq_same _ _ own)
+        | else-is_event-via-else-is_event w' ↦ no_event at (sym c.is_event.ensures ∙ w'.if-is_event.false) event
+      ]))
     ]

@@ -23,9 +23,7 @@ lay-requires-2-clause-start c = second_starts c.args.order.now c.args.halves.now
 pub returns : goal.returns
 returns c = both_laid c.args.order.now c.args.halves.now c.args.columns.now _ _
     (λ i. rw c.requires.none (zeros (length c.args.order.now) i)) c.lay.ensures _
-    (λ i. omega (arith, c.greatest-line.ensures.above i)) _ _ (omega arith)
-    (omega (
+    (λ i. omega (arith, c.greatest-line.ensures.above i)) _ _ (omega arith) (omega (
       arith,
-      c.greatest-line.ensures.one (length c.args.order.now)
-          (λ i. omega (arith, c.lay.ensures.few_columns i)),
+      c.greatest-line.ensures.one (length c.args.order.now) (λ i. omega (arith, c.lay.ensures.few_columns i)),
     )) c.requires.fit c.lay-2.ensures

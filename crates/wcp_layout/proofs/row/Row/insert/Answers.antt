@@ -8,7 +8,5 @@ returns-then-is_last c = has_already c.args.number c.args.self.now c.requires (c
 
 pub returns : goal.returns
 returns c =
-    on_ok_weaker c.push.result
-    (λ pushed. rw pushed (has_more c.args.number c.args.self.now c.requires
-    (λ ends. false≢true (sym c.if-is_last.false ∙ c.is_last.ensures.1 ends))))
-    c.push.ensures
+    on_ok_weaker c.push.result (λ pushed. rw pushed (has_more c.args.number c.args.self.now c.requires
+    (λ ends. false≢true (sym c.if-is_last.false ∙ c.is_last.ensures.1 ends)))) c.push.ensures
