@@ -1,26 +1,23 @@
 -- The clocks of what is taken, one after another.
-use Rattle.wcp_moment.proofs.Words.{◌≡◌, ℕ, ◌<◌, ◌≤◌, Bool, true, false, cond, max, Ok, List, [], ◌∷◌, ◌++◌, refl}
-use Rattle.wcp_moment.proofs.Words.{◌∙◌, ap, subst, arith, zero, suc, inl, inr, ◌⊎◌, ⊎_elim, lt-ltb, map-append}
-use Rattle.wcp_moment.proofs.Words.{Contains, Contains-append_left, Contains-push_cases, bytes_eq, bytes_eq-Decides}
+use Rattle.std.proofs.lemmas.Grind.{common_steps}
+use Rattle.wcp_moment.proofs.Words.{◌≡◌, ℕ, ◌<◌, ◌≤◌, false, cond, max, Ok, List, [], ◌∷◌, ◌++◌, refl}
+use Rattle.wcp_moment.proofs.Words.{◌∙◌, ap, subst, arith, ◌⊎◌, ⊎_elim, lt-ltb, map-append}
+use Rattle.wcp_moment.proofs.Words.{Contains, Contains-append_left, bytes_eq, bytes_eq-Decides}
 use Rattle.wcp_moment.proofs.Words.{clock_after-push, Member, last_clock, falls, follows, Taken, own}
 use Rattle.wcp_moment.proofs.Words.{events_of, MayFollow, Follow, KnowsNoMore, ComesBefore, LastKnowsAll}
 use Rattle.wcp_log.specs.Clock.{number_of}
-use Rattle.wcp_moment.proofs.Words.{◌≢◌, true≢false, sym}
+use Rattle.wcp_moment.proofs.Words.{◌≢◌}
+use Rattle.std.proofs.lemmas.Bool.{cases_Bool}
 
 -- A clock with a member more knows no less.
 pub number_of-cons : (name : List ℕ) (one : Member) (others : List Member) → number_of name others ≤ number_of name
     (one ∷ others)
 unfolding number_of
-number_of-cons name one others = by_name (bytes_eq one.name name)
-  where
-    by_name : (b : Bool) → number_of name others ≤ cond b (max one.number (number_of name others))
-        (number_of name others)
-    by_name true = omega arith
-    by_name false = omega arith
+number_of-cons name one others = grind (arith, cases_Bool (bytes_eq one.name name))
 
 pub le-number_of : (one : Member) (others : List Member) → one.number ≤ number_of one.name (one ∷ others)
 unfolding number_of
-le-number_of one others = rw ((bytes_eq-Decides one.name one.name).1 refl) (omega arith)
+le-number_of one others = grind (arith, bytes_eq-Decides one.name one.name)
 
 -- Where no number falls, the later clock knows no less.
 pub knows-from_falls : (earlier later : List Member) → falls earlier later ≡ false → KnowsNoMore earlier later
@@ -29,14 +26,12 @@ knows-from_falls [] later none name = omega arith
 knows-from_falls (one ∷ others) later none name =
     let here : one.number ≤ number_of one.name later = grind arith in
     let rest = knows-from_falls others later (grind arith) name in
-    by_name here rest (bytes_eq one.name name) refl
+    by_name here rest
   where
-    by_name : one.number ≤ number_of one.name later → number_of name others ≤ number_of name later → (b : Bool)
-        → bytes_eq one.name name ≡ b → cond b (max one.number (number_of name others))
-        (number_of name others) ≤ number_of name later
-    by_name here rest true same = let reached : one.number ≤ number_of name later =
-        rw (← (bytes_eq-Decides one.name name).0 same) here in omega arith
-    by_name here rest false differs = rest
+    by_name : one.number ≤ number_of one.name later → number_of name others ≤ number_of name later
+        → cond (bytes_eq one.name name) (max one.number (number_of name others)) (number_of name others)
+        ≤ number_of name later
+    by_name here rest = grind (arith, cases_Bool (bytes_eq one.name name), bytes_eq-Decides one.name name)
 
 -- And the other way round.
 pub falls-from_knows : (earlier later : List Member) → KnowsNoMore earlier later → falls earlier later ≡ false
@@ -60,8 +55,7 @@ number_of-itself name number others = rw ((bytes_eq-Decides name name).1 refl) r
 last_clock-push : (host : List ℕ) (taken : List Taken) (next : Taken)
     → last_clock host (events_of (taken ++ next ∷ [])) ≡ cond
     (bytes_eq next.logged.event.host host) next.logged.event.clock (last_clock host (events_of taken))
-last_clock-push host taken next = ap (last_clock host) (map-append (λ (one : Taken). one.logged.event) taken
-    (next ∷ [])) ∙ clock_after-push host [] (events_of taken) next.logged.event
+last_clock-push host taken next = grind (arith, map-append, clock_after-push)
 
 -- What an event is to those taken before it.
 pub record ComesNext (taken : List Taken) (next : Taken) : Type 0 where
@@ -106,28 +100,14 @@ comes_next taken next follows = record {
 module _ (taken : List Taken) (next : Taken) (comes : ComesNext taken next) where
   pub last_clock-grows : (host : List ℕ) → KnowsNoMore (last_clock host (events_of taken))
       (last_clock host (events_of (taken ++ next ∷ [])))
-  last_clock-grows host name = by_host (bytes_eq next.logged.event.host host) refl
-    where
-      by_host : (b : Bool) → bytes_eq next.logged.event.host host ≡ b
-          → number_of name (last_clock host (events_of taken)) ≤ number_of name
-          (last_clock host (events_of (taken ++ next ∷ [])))
-      by_host true same = rw (← (bytes_eq-Decides next.logged.event.host host).0 same, comes.itself)
-          (comes.last_known name)
-      by_host false differs =
-          rw (comes.others host (λ same. true≢false (sym ((bytes_eq-Decides next.logged.event.host host).1 same)
-          ∙ differs))) (omega arith)
+  last_clock-grows host name = grind arith
 
   pub LastKnowsAll-push : LastKnowsAll taken → LastKnowsAll (taken ++ next ∷ [])
-  LastKnowsAll-push last one was_taken name = ⊎_elim
-      (λ (earlier : Contains taken one). omega
-      (arith, last one earlier name, last_clock-grows one.logged.event.host name))
-      (λ (same : next ≡ one). rw (← same, comes.itself) (omega arith))
-      (Contains-push_cases taken next one was_taken)
+  LastKnowsAll-push last one was_taken name = grind (arith, common_steps)
 
 pub first_or_later : (next : Taken) (more : List Taken) (one : Taken) → Contains (next ∷ more) one
     → (next ≡ one) ⊎ Contains more one
-first_or_later next more one (zero, within, is) = inl is
-first_or_later next more one (suc k, within, is) = inr (k, omega arith, is)
+first_or_later next more one is = grind arith
 
 -- What was taken of a host comes before its events that follow.
 pub ComesBefore-more : (taken more : List Taken) (one later : Taken) → LastKnowsAll taken → Follow taken more
@@ -136,22 +116,18 @@ pub ComesBefore-more : (taken more : List Taken) (one later : Taken) → LastKno
 ComesBefore-more taken [] one later last follow was_taken (k, within, is) same = absurd (omega arith)
 ComesBefore-more taken (next ∷ more) one later last follow was_taken comes same =
     let now = comes_next taken next follow.0 in
-    ⊎_elim
-    (λ (is : next ≡ later). subst (λ (x : Taken). ComesBefore one.logged.event x.logged.event) is
+    ⊎_elim (λ (is : next ≡ later). subst (λ (x : Taken). ComesBefore one.logged.event x.logged.event) is
     (now.before last one was_taken (rw is same)))
     (λ (in_more : Contains more later). ComesBefore-more (taken ++ next ∷ []) more one later
     (LastKnowsAll-push taken next now last) follow.1 (Contains-append_left taken (next ∷ []) one was_taken)
-    in_more same)
-    (first_or_later next more later comes)
+    in_more same) (first_or_later next more later comes)
 
 pub last_known-more : (taken more : List Taken) (later : Taken) → Follow taken more → Contains more later
     → KnowsNoMore (last_clock later.logged.event.host (events_of taken)) later.logged.event.clock
 last_known-more taken [] later follow (k, within, is) name = absurd (omega arith)
 last_known-more taken (next ∷ more) later follow comes name =
     let now = comes_next taken next follow.0 in
-    ⊎_elim
-    (λ (is : next ≡ later). rw (← is) (now.last_known name))
-    (λ (in_more : Contains more later). omega (
+    ⊎_elim (λ (is : next ≡ later). rw (← is) (now.last_known name)) (λ (in_more : Contains more later). omega (
       arith,
       last_clock-grows taken next now later.logged.event.host name,
       last_known-more (taken ++ next ∷ []) more later follow.1 in_more name,

@@ -1,19 +1,20 @@
 -- Which moments are known: the first candidates are the earliest moment where none of them is over.
-use Rattle.wcp_moment.proofs.Words.{◌≡◌, ◌≢◌, ℕ, ◌+◌, ◌<◌, ◌≤◌, true, false, leb-true, leb-false, false≢true}
-use Rattle.wcp_moment.proofs.Words.{true≢false, is_some, Option, Some, None, List, [], ◌∷◌, ◌++◌, length, set}
+use Rattle.std.proofs.lemmas.Grind.{common_steps}
+use Rattle.wcp_moment.proofs.Words.{◌≡◌, ◌≢◌, ℕ, ◌+◌, ◌<◌, ◌≤◌, true, false}
+use Rattle.wcp_moment.proofs.Words.{is_some, Option, Some, None, List, [], ◌∷◌, ◌++◌, length, set}
 use Rattle.wcp_moment.proofs.Words.{slice_index, refl, sym, ◌∙◌, ap, subst, arith, inl, inr, ◌⊎◌, ⊎_elim, append-nil}
 use Rattle.wcp_moment.proofs.Words.{cases_eq, length-set, length-map, Contains, Contains-append_left}
 use Rattle.wcp_moment.proofs.Words.{Contains-append_cases, Contains-push, All-head, All, number_of, Event, Logged}
 use Rattle.wcp_moment.proofs.Words.{Watch, Taken, own, IsOver, IsMoment, IsEarliest, IsKnown}
 use Rattle.wcp_moment.proofs.Words.{Follow, Lasting, While, At, Candidate, Queue, queue_at, watched_by}
 use Rattle.wcp_moment.proofs.Words.{first_among, first_of, waiting, front_clock, is_passed_among, stands}
-use Rattle.wcp_moment.proofs.Words.{lasts_to_floor, ComesBefore, LastKnowsAll, HasEnded, GoesOn, AreLeft}
+use Rattle.wcp_moment.proofs.Words.{lasts_to_floor, LastKnowsAll, HasEnded, GoesOn, AreLeft}
 use Rattle.wcp_moment.proofs.Words.{AreUnderFloors, ArePassedByNone, AllStand, OneDoesNotStand, RiseTo}
 use Rattle.wcp_moment.specs.Queues.{HaveFirsts}
 use Rattle.wcp_moment.specs.Standing.{moment_among, NoneIsKnown, HasNoMoment}
 use Rattle.wcp_moment.proofs.Clocks.{ComesBefore-more, may_follow, number_of-cons, number_of-itself}
 use Rattle.wcp_moment.proofs.OneQueue.{none_after, first_is_candidate, first_or_after, waiting_none}
-use Rattle.wcp_moment.proofs.Left.{seen, IsMomentOf-from_moment, IsMoment-from_queues, IsSameHost, queue_at-itself}
+use Rattle.wcp_moment.proofs.Left.{seen, IsMomentOf-from_moment, IsMoment-from_queues, IsSameHost}
 use Rattle.wcp_moment.proofs.Left.{queue_at-other, host-set}
 
 -- The floors once those of the other hosts rose to the front of one.
@@ -27,37 +28,19 @@ module _ (queues : List Queue) (place : ℕ) (queue : Queue) (is : IsSameHost qu
 
   pub AreUnderFloors-raised : AreUnderFloors queues old → RiseTo (set queues place queue) place old new
       → AreUnderFloors (set queues place queue) new
-  AreUnderFloors-raised under rise p p_in q q_in apart =
-      grind (
-        arith,
-        cases_eq,
-        length-set queues place queue,
-        host-set queues place queue is,
-        queue_at-other queues place queue is,
-      )
+  AreUnderFloors-raised under rise p p_in q q_in apart = grind (arith, cases_eq, length-set, host-set, queue_at-other)
 
   -- And where its front stays.
   pub AreUnderFloors-same : AreUnderFloors queues old → front_clock queue ≡ front_clock (queue_at queues place)
       → AreUnderFloors (set queues place queue) old
-  AreUnderFloors-same under front p p_in q q_in apart =
-      grind (
-        arith,
-        cases_eq,
-        length-set queues place queue,
-        host-set queues place queue is,
-        queue_at-other queues place queue is,
-        queue_at-itself queues place queue is,
-      )
+  AreUnderFloors-same under front p p_in q q_in apart = grind (arith, common_steps)
 
 -- A first candidate has ended and isn't over, or it goes on.
 state_parts : (ended : List Candidate) (ongoing : Option Candidate) (first : Candidate) (floor : ℕ)
     (P Q : Candidate → Type 0) → first_among ended ongoing ≡ Some first → is_passed_among floor ended ≡ false
     → All P ended → ((one : Candidate) → ongoing ≡ Some one → Q one)
     → (P first × (floor ≤ first.lasts_to)) ⊎ Q first
-state_parts [] ongoing first floor P Q is stays all goes = inr (goes first is)
-state_parts (one ∷ others) ongoing first floor P Q is stays all goes =
-    let same : one ≡ first = cc in
-    inl (All-head P first others (rw same at all), grind arith)
+state_parts ended ongoing first floor P Q is stays all goes = grind (arith, common_steps, All-head)
 
 -- A state isn't over up to the number that it lasts to.
 not_over : (lasting : Lasting) (taken more : List Taken) (one : Candidate) (other : Event) → LastKnowsAll taken
@@ -71,45 +54,38 @@ not_over While taken more one other last follow (inr goes) low (later, is, befor
 not_over While taken more one other last follow (inl (next, after, number, least)) low (later, is, before) =
     let reached : own later.logged.event ≤ one.lasts_to =
     omega (arith, before, ap (λ host. number_of host other.clock) is.host, low) in
-    ⊎_elim
-    (λ (earlier : Contains taken later). omega
+    ⊎_elim (λ (earlier : Contains taken later). omega
     (arith, reached, least later (record { was_taken = earlier; host = is.host; after = is.after })))
     (λ (comes : Contains more later). omega (
       arith,
       reached,
       number,
-      (ComesBefore-more taken more next later last follow after.was_taken comes
-          (after.host ∙ sym is.host)).own_rises,
+      (ComesBefore-more taken more next later last follow after.was_taken comes (after.host ∙ sym is.host)).own_rises,
     ))
     (Contains-append_cases taken more later is.was_taken)
 
 -- At the end of the log a state that goes on is never over.
 goes_for_ever : (lasting : Lasting) (taken : List Taken) (one : Candidate) (other : Event) → LastKnowsAll taken
     → GoesOn lasting taken one → IsOver lasting taken one.logged.event other → ⊥
-goes_for_ever At taken one other last goes over = absurd (cc (goes.lasts))
-goes_for_ever While taken one other last goes (later, is, before) =
-    omega (arith, is.after, none_after While taken one later last goes is.was_taken is.host)
+goes_for_ever lasting taken one other last goes over = grind (arith, common_steps, goes.lasts, none_after)
 
 -- The first candidate of a host.
 abbrev pub IsFirstAt : List Queue → ℕ → Candidate → Type 0
 IsFirstAt queues p first = first_of (queue_at queues p) ≡ Some first
 
 first_there : (first : Option Candidate) → is_some first ≡ true → (one : Candidate) × (first ≡ Some one)
-first_there None some = absurd (false≢true some)
-first_there (Some one) some = (one, refl)
+first_there first some = grind arith
 
 none_there : (first : Option Candidate) → is_some first ≡ false → first ≡ None
-none_there None none = refl
-none_there (Some one) none = absurd (true≢false none)
+none_there first none = grind arith
 
 up_to_floor : (first : Option Candidate) (one : Candidate) (floor : ℕ) → first ≡ Some one
     → (lasts_to_floor floor first ≡ true → floor ≤ one.lasts_to) × (lasts_to_floor floor first ≡ false
     → one.lasts_to < floor)
-up_to_floor first one floor is = (λ stands. leb-true _ _ (rw is at stands), λ stands. leb-false _ _ (rw is at stands))
+up_to_floor first one floor is = grind arith
 
 stands_there : (first : Option Candidate) (floor : ℕ) → lasts_to_floor floor first ≡ true → is_some first ≡ true
-stands_there None floor stands = stands
-stands_there (Some one) floor stands = refl
+stands_there first floor stands = grind arith
 
 moment_first : (queues : List Queue) (p : ℕ) (first : Candidate) → IsFirstAt queues p first
     → moment_among queues p ≡ first.logged
@@ -198,11 +174,9 @@ module _ (taken : List Taken) (queues : List Queue) (floors : List ℕ) (last : 
   -- A moment of what was taken is among what waits.
   waits_now : (moment : ℕ → Logged) → IsMoment (watched_by queues) taken moment → (p : ℕ) → p < length queues
       → Contains (waiting (queue_at queues p)) (moment p)
-  waits_now moment is p within = ⊎_elim
-      (λ (waits : Contains (waiting (queue_at queues p)) (moment p)). waits)
+  waits_now moment is p within = ⊎_elim (λ (waits : Contains (waiting (queue_at queues p)) (moment p)). waits)
       (λ (later : Contains [] (record { logged = moment p; holds = true })). absurd (let (k, k_within, at) = later in
-      omega arith))
-      ((left.moments [] tt moment (subst (λ (all : List Taken). IsMoment (watched_by queues) all moment)
+      omega arith)) ((left.moments [] tt moment (subst (λ (all : List Taken). IsMoment (watched_by queues) all moment)
       (sym (append-nil taken)) is)).waits p within)
 
   none_waits : (queue : Queue) (one : Logged) → first_of queue ≡ None → Contains (waiting queue) one → ⊥
@@ -239,11 +213,7 @@ module _ (taken : List Taken) (queues : List Queue) (floors : List ℕ) (last : 
     next = next_after first.logged.event
 
     follow : Follow taken (next ∷ [])
-    follow = (
-      rw goes.last (may_follow first.logged.event.host first.logged.event.clock _
-          (omega (arith, own-next_after first.logged.event)) (λ name. number_of-cons name _ first.logged.event.clock)),
-      tt,
-    )
+    follow = grind (arith, common_steps, may_follow, own-next_after, number_of-cons)
 
     not_first_then : (moment : ℕ → Logged) → IsMoment (watched_by queues) (taken ++ next ∷ []) moment
         → first.logged ≡ moment q → ⊥
@@ -274,9 +244,7 @@ module _ (taken : List Taken) (queues : List Queue) (floors : List ℕ) (last : 
         (record { logged = moment q; holds = true }) last goes (of.held q within) host in
         let after = first_or_after taken [] (queue_at queues q) (moment q) last tt (left.each q within)
         (of.host q within) (inl (waits_now moment is q within)) first here in
-        ⊎_elim (λ (same : first.logged ≡ moment q). same)
-        (λ (before : ComesBefore first.logged.event (moment q).event). absurd
-        (omega (arith, before.own_rises, none))) after
+        grind arith
 
     none_known : (moment : ℕ → Logged) → IsKnown (watched_by queues) taken moment → ⊥
     none_known moment known = not_first_then moment (known (next ∷ []) follow).one
@@ -290,9 +258,7 @@ module _ (taken : List Taken) (queues : List Queue) (floors : List ℕ) (last : 
           (waits_now moment (rw append-nil at (known [] tt).one) q within)
       by_first (Some first) here =
           let less = (up_to_floor _ first _ here).1 stands_not in
-          ⊎_elim
-          (λ (ended : HasEnded (queue_at queues q).lasting taken first ×
-          (slice_index floors q ≤ first.lasts_to)). omega (arith, ended.1, less))
-          (λ (goes : GoesOn (queue_at queues q).lasting taken first).
-          none_known q within first here goes less moment known)
-          (first_state q first within here)
+          elim (first_state q first within here) [
+            | inl ended ↦ omega (arith, ended.1, less)
+            | inr goes ↦ none_known q within first here goes less moment known
+          ]

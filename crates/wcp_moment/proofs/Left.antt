@@ -1,16 +1,17 @@
 -- What elimination leaves, with an event more, under higher floors, and without a candidate that is over.
+use Rattle.std.proofs.lemmas.Grind.{common_steps}
 use Rattle.wcp_moment.proofs.Words.{◌≡◌, ◌≢◌, ℕ, ◌<◌, ◌≤◌, true, false, List, [], ◌∷◌, ◌++◌, length}
-use Rattle.wcp_moment.proofs.Words.{set, drop, slice_index, refl, sym, ◌∙◌, ap, subst, arith, zero, suc, inl}
-use Rattle.wcp_moment.proofs.Words.{inr, ◌⊎◌, ⊎_elim, append_assoc, cases_eq, get_or-map, get_or-set_same}
+use Rattle.wcp_moment.proofs.Words.{set, drop, slice_index, refl, sym, ◌∙◌, ap, subst, arith, suc, inl}
+use Rattle.wcp_moment.proofs.Words.{inr, ◌⊎◌, ⊎_elim, append_assoc, cases_eq, get_or-set_same}
 use Rattle.wcp_moment.proofs.Words.{get_or-set_other, length-set, length-map, Contains, Contains-append_left}
 use Rattle.wcp_moment.proofs.Words.{Contains-push, All-head, All-tail, number_of, Logged, Watch, Taken, watch_at}
-use Rattle.wcp_moment.proofs.Words.{HaveDistinctHosts, own, IsOver, IsMoment, Lasting, While, At, Candidate}
+use Rattle.wcp_moment.proofs.Words.{HaveDistinctHosts, IsOver, IsMoment, Lasting, While, Candidate}
 use Rattle.wcp_moment.proofs.Words.{Queue, empty_queue, queue_at, watched_by, waiting}
 use Rattle.wcp_moment.proofs.Words.{is_passed_among, is_passed, with_event, LastKnowsAll, HasEnded}
 use Rattle.wcp_moment.proofs.Words.{IsQueueOf, IsKnownElsewhere, IsAmong, AreLeft, RiseTo, IsNextAt, IsCandidate}
 use Rattle.wcp_moment.proofs.Words.{false≢true, Event}
 use Rattle.std.proofs.Math.Seq.{map-set_same}
-use Rattle.std.proofs.lemmas.Bool.{cases_lt, ltb-true}
+use Rattle.std.proofs.lemmas.Bool.{cases_lt}
 use Rattle.wcp_moment.proofs.Clocks.{comes_next, first_or_later}
 use Rattle.wcp_moment.proofs.OneQueue.{IsQueueOf-other, IsQueueOf-event, waiting_after, front_known}
 
@@ -20,8 +21,7 @@ seen queue = record { host = queue.host; lasting = queue.lasting }
 -- The watched hosts by their queues.
 pub watch_at-queue : (queues : List Queue) (p : ℕ) → p < length queues → watch_at (watched_by queues) p ≡ seen
     (queue_at queues p)
-watch_at-queue queues p within = get_or-map seen queues p (empty_queue [] While)
-    (record { host = []; lasting = While }) within
+watch_at-queue queues p within = grind (arith, common_steps)
 
 pub distinct_queues : (queues : List Queue) → HaveDistinctHosts (watched_by queues) → (p q : ℕ) → p < length queues
     → q < length queues → (queue_at queues p).host ≡ (queue_at queues q).host → p ≡ q
@@ -66,11 +66,7 @@ module _ (queues : List Queue) (place : ℕ) (queue : Queue) (is : IsSameHost qu
   pub each_queue : (P : ℕ → Queue → Type 0) → P place queue
       → ((p : ℕ) → p < length queues → p ≢ place → P p (queue_at queues p)) → (p : ℕ)
       → p < length (set queues place queue) → P p (queue_at (set queues place queue) p)
-  each_queue P here others p within = ⊎_elim
-      (λ (same : p ≡ place). rw same (subst (P place) (sym queue_at-itself) here))
-      (λ (other : p ≢ place). subst (P p) (sym (queue_at-other p other))
-      (others p (omega (arith, length-set queues place queue)) other))
-      (cases_eq p place)
+  each_queue P here others p within = grind (arith, queue_at-itself, queue_at-other, length-set, cases_eq)
 
   -- A moment is among what is left with it, where the old queues and what comes after have it so.
   abbrev pub StillWaits : List Taken → (ℕ → Logged) → ℕ → Queue → Type 0
@@ -106,24 +102,20 @@ module _ (taken : List Taken) (next : Taken) (queues : List Queue) (floors : Lis
         (among : IsAmong queues floors (next ∷ more) moment) where
       -- The event is one of the moment's only at its own host.
       is_place : (p : ℕ) → p < length queues → next ≡ record { logged = moment p; holds = true } → p ≡ place
-      is_place p p_within same = distinct_queues queues distinct p place p_within within (sym (is.host p p_within)
-          ∙ ap (λ (x : Taken). x.logged.event.host) (sym same) ∙ of_host)
+      is_place p p_within same = grind (arith, distinct_queues, of_host)
 
       by_cases : (p : ℕ) (one : Queue) → p < length queues → (Contains (waiting (queue_at queues p)) (moment p)
           → Contains (waiting one) (moment p)) → (next ≡ record { logged = moment p; holds = true }
           → Contains (waiting one) (moment p))
           → StillWaits queues place queue same_host more moment p one
       by_cases p one p_within waits now = ⊎_elim (λ (here : Contains (waiting (queue_at queues p)) (moment p)). inl
-          (waits here))
-          (λ (comes : Contains (next ∷ more) (record { logged = moment p; holds = true })). ⊎_elim
+          (waits here)) (λ (comes : Contains (next ∷ more) (record { logged = moment p; holds = true })). ⊎_elim
           (λ (is : next ≡ record { logged = moment p; holds = true }). inl (now is)) inr
-          (first_or_later next more _ comes))
-          (among.waits p p_within)
+          (first_or_later next more _ comes)) (among.waits p p_within)
 
       among_event : IsAmong (set queues place queue) floors more moment
       among_event = IsAmong-set queues place queue same_host floors (next ∷ more) more moment among
-          (by_cases place queue within
-          (λ here. after (λ xs. Contains xs (moment place))
+          (by_cases place queue within (λ here. after (λ xs. Contains xs (moment place))
           (λ _. Contains-append_left (waiting (queue_at queues place)) _ (moment place) here) (λ _. here))
           (λ now. after (λ xs. Contains xs (moment place))
           (λ _. subst (λ (x : Taken). Contains (waiting (queue_at queues place) ++ next.logged ∷ []) x.logged)
@@ -176,15 +168,13 @@ AreLeft-raised taken queues old new place within last rise left = record {
             (λ (kept : slice_index new q ≡ slice_index old q). subst (IsKnownElsewhere queues moment q) (sym kept)
             (among.knows q q_within (omega (arith, kept, some))))
             (λ (raised : (place ≢ q) × (slice_index new q ≤ number_of (queue_at queues q).host
-            (moment place).event.clock)). (place, within, raised.0, raised.1))
-            kept_or_raised;
+            (moment place).event.clock)). (place, within, raised.0, raised.1)) kept_or_raised;
       };
 }
 
 passed_parts : (ended : List Candidate) (floor : ℕ) → is_passed_among floor ended ≡ true
     → (first : Candidate) × (others : List Candidate) × (ended ≡ first ∷ others) × (first.lasts_to < floor)
-passed_parts [] floor passed = absurd (false≢true passed)
-passed_parts (first ∷ others) floor passed = (first, others, refl, ltb-true _ _ passed)
+passed_parts ended floor passed = grind arith
 
 -- A queue without its first candidate.
 IsQueueOf-rest : (taken : List Taken) (queue : Queue) (first : Candidate) (others : List Candidate)
@@ -201,16 +191,7 @@ IsQueueOf-rest taken queue first others is = record {
 over_above : (lasting : Lasting) (taken more : List Taken) (one : Candidate) (other : Event)
     → HasEnded lasting taken one → one.lasts_to < number_of one.logged.event.host other.clock
     → IsOver lasting (taken ++ more) one.logged.event other
-over_above While taken more one other (next, later, number, least) above = (
-  next,
-  record {
-    was_taken = Contains-append_left taken more next later.was_taken;
-    host = later.host;
-    after = later.after;
-  },
-  subst (λ host. own next.logged.event ≤ number_of host other.clock) (sym later.host) (omega (arith, number, above)),
-)
-over_above At taken more one other ended above = omega (arith, ended, above)
+over_above lasting taken more one other is above = grind (arith, common_steps)
 
 -- A candidate that is over is in no moment.
 module _ (taken : List Taken) (queues : List Queue) (floors : List ℕ) (place : ℕ) (within : place < length queues)
@@ -242,16 +223,13 @@ module _ (taken : List Taken) (queues : List Queue) (floors : List ℕ) (place :
 
     in_rest : Contains (waiting (record old { ended = first ∷ others })) (moment place) → Contains (waiting shorter)
         (moment place)
-    in_rest (zero, k_within, at) = absurd (not_first at)
-    in_rest (suc k, k_within, at) = (k, omega arith, at)
+    in_rest is = grind (arith, not_first)
 
     among_shorter : IsAmong (set queues place shorter) floors more moment
     among_shorter = IsAmong-set queues place shorter same_shorter floors more more moment among
-        (⊎_elim (λ (waits : Contains (waiting old) (moment place)). inl
-        (in_rest
+        (⊎_elim (λ (waits : Contains (waiting old) (moment place)). inl (in_rest
         (subst (λ (ended : List Candidate). Contains (waiting (record old { ended = ended })) (moment place))
-        parts waits))) inr (among.waits place within))
-        (λ p p_within other. among.waits p p_within)
+        parts waits))) inr (among.waits place within)) (λ p p_within other. among.waits p p_within)
 
   AreLeft-rest : AreLeft taken (set queues place shorter) floors
   AreLeft-rest = record {

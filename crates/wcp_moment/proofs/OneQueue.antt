@@ -1,4 +1,5 @@
 -- One queue, with one event more, and what its first candidate says of the moments.
+use Rattle.std.proofs.lemmas.Grind.{common_steps}
 use Rattle.wcp_moment.proofs.Words.{◌≡◌, ◌≢◌, ℕ, ◌<◌, ◌≤◌, Bool, true, false, cond, Option, Some, None}
 use Rattle.wcp_moment.proofs.Words.{is_some, List, [], ◌∷◌, ◌++◌, length, map, get_or, refl, sym, ◌∙◌, ap, subst}
 use Rattle.wcp_moment.proofs.Words.{arith, zero, suc, inl, inr, ◌⊎◌, ⊎_elim, append-nil, map-append, Contains}
@@ -8,7 +9,8 @@ use Rattle.wcp_moment.proofs.Words.{number_of, Event, Logged, Member, last_clock
 use Rattle.wcp_moment.proofs.Words.{events_of, IsLater, Follow, Lasting, While, At, Candidate, Queue}
 use Rattle.wcp_moment.proofs.Words.{first_among, first_of, begin_with, waiting, clock_of, front_clock, begun}
 use Rattle.wcp_moment.proofs.Words.{ended_by, ending, going_on, with_event, KnowsNoMore, ComesBefore, LastKnowsAll}
-use Rattle.wcp_moment.proofs.Words.{IsCandidate, HasEnded, GoesOn, IsQueueOf, false≢true}
+use Rattle.wcp_moment.proofs.Words.{IsCandidate, HasEnded, GoesOn, IsQueueOf}
+use Rattle.std.proofs.lemmas.Bool.{cases_Bool}
 use Rattle.wcp_moment.proofs.Clocks.{ComesNext, last_clock-grows, ComesBefore-more, last_known-more}
 
 -- What waits after an event: what waited before, and then what it begins.
@@ -16,22 +18,14 @@ waiting_parts : (lasting : Lasting) (ended : List Candidate) (ongoing now : Opti
     → (lasting ≡ At → ongoing ≡ None)
     → begin_with ((ended ++ map (ended_by number) (option_to_list (ending lasting ongoing now))) ++ option_to_list
     (going_on lasting now)) ≡ begin_with (ended ++ option_to_list ongoing) ++ begin_with (option_to_list now)
-waiting_parts While ended None now number alone = simp (map-append, append-nil)
-waiting_parts While ended (Some one) now number alone = simp map-append
-waiting_parts At ended None None number alone = simp append-nil
-waiting_parts At ended None (Some now) number alone = simp (map-append, append-nil)
-waiting_parts At ended (Some one) now number alone = absurd (let none : Some one ≡ None = alone refl in cc)
+waiting_parts lasting ended ongoing now number alone = grind (arith, map-append, append-nil)
 
 -- The front stays the first candidate's, where there is one.
 front_parts : (lasting : Lasting) (ended : List Candidate) (ongoing now : Option Candidate) (number : ℕ)
     (latest newer : List Member) → (lasting ≡ At → ongoing ≡ None) → is_some (first_among ended ongoing) ≡ true
     → clock_of (first_among (ended ++ map (ended_by number) (option_to_list (ending lasting ongoing now)))
     (going_on lasting now)) newer ≡ clock_of (first_among ended ongoing) latest
-front_parts lasting (one ∷ others) ongoing now number latest newer alone some = refl
-front_parts lasting [] None now number latest newer alone some = absurd (false≢true some)
-front_parts While [] (Some one) now number latest newer alone some = refl
-front_parts At [] (Some one) now number latest newer alone some =
-    absurd (let none : Some one ≡ None = alone refl in cc)
+front_parts lasting ended ongoing now number latest newer alone some = grind arith
 
 first_parts : (ended : List Candidate) (ongoing : Option Candidate) (first : Candidate)
     → first_among ended ongoing ≡ Some first
@@ -43,9 +37,7 @@ first_parts (one ∷ others) ongoing first is = let same : one ≡ first = cc in
 
 none_parts : (ended : List Candidate) (ongoing : Option Candidate) → first_among ended ongoing ≡ None
     → begin_with (ended ++ option_to_list ongoing) ≡ []
-none_parts [] None is = refl
-none_parts [] (Some one) is = absurd (cc)
-none_parts (one ∷ others) ongoing is = absurd (cc)
+none_parts ended ongoing is = grind arith
 
 All-one : (P : Candidate → Type 0) (one : Candidate) → P one → All P (one ∷ [])
 All-one P one here = All-push P [] one (λ k d within. absurd (omega arith)) here
@@ -54,14 +46,7 @@ All-one P one here = All-push P [] one (λ k d within. absurd (omega arith)) her
 pub none_after : (lasting : Lasting) (taken : List Taken) (one : Candidate) (other : Taken) → LastKnowsAll taken
     → GoesOn lasting taken one → Contains taken other → other.logged.event.host ≡ one.logged.event.host
     → own other.logged.event ≤ own one.logged.event
-none_after lasting taken one other last goes was_taken same =
-    let known = last other was_taken other.logged.event.host in
-    omega (
-      arith,
-      rw same at known,
-      ap (λ host. number_of host other.logged.event.clock) same,
-      ap (number_of one.logged.event.host) goes.last,
-    )
+none_after lasting taken one other last goes was_taken same = grind arith
 
 module _ (taken : List Taken) (next : Taken) (last : LastKnowsAll taken) (comes : ComesNext taken next) where
   abbrev longer : List Taken
@@ -70,10 +55,7 @@ module _ (taken : List Taken) (next : Taken) (last : LastKnowsAll taken) (comes 
   -- A later event was taken before, or is the next one.
   later_cases : (event : Event) (later : Taken) → IsLater longer event later → IsLater taken event later ⊎
       (next ≡ later)
-  later_cases event later is =
-      ⊎_elim (λ (earlier : Contains taken later). inl
-      (record { was_taken = earlier; host = is.host; after = is.after })) inr
-      (Contains-push_cases taken next later is.was_taken)
+  later_cases event later is = grind (arith, Contains-push_cases taken next later is.was_taken)
 
   -- What ended a state ends it still.
   HasEnded-push : (lasting : Lasting) (one : Candidate) → HasEnded lasting taken one → HasEnded lasting longer one
@@ -104,8 +86,7 @@ module _ (taken : List Taken) (next : Taken) (last : LastKnowsAll taken) (comes 
       )
 
   IsCandidate-push : (host : List ℕ) (logged : Logged) → IsCandidate taken host logged → IsCandidate longer host logged
-  IsCandidate-push host logged is =
-      record { was_taken = Contains-append_left taken (next ∷ []) _ is.was_taken; of_host = is.of_host }
+  IsCandidate-push host logged is = grind (arith, Contains-append_left)
 
   module _ (queue : Queue) (is : IsQueueOf taken queue) where
     -- The candidate that goes on is one of those that wait.
@@ -144,53 +125,35 @@ module _ (taken : List Taken) (next : Taken) (last : LastKnowsAll taken) (comes 
 
       pub front_clock-event : is_some (first_of queue) ≡ true → front_clock (with_event queue next.logged next.holds)
           ≡ front_clock queue
-      front_clock-event some = front_parts queue.lasting queue.ended queue.ongoing _ number queue.latest _
-          none_goes_on some
+      front_clock-event some = grind arith
 
       -- What waits after it: the event too, where the condition holds.
       pub waiting_after : (P : List Logged → Type 0) → (next.holds ≡ true → P (waiting queue ++ next.logged ∷ []))
           → (next.holds ≡ false → P (waiting queue)) → P (waiting (with_event queue next.logged next.holds))
-      waiting_after P with_it without =
-          subst P (sym (waiting_parts queue.lasting queue.ended queue.ongoing _ number none_goes_on))
-          (by_holds next.holds refl)
-        where
-          by_holds : (holds : Bool) → next.holds ≡ holds
-              → P (waiting queue ++ begin_with (option_to_list (begun number next.logged holds)))
-          by_holds true is = with_it is
-          by_holds false is = subst P (sym (append-nil (waiting queue))) (without is)
+      waiting_after P with_it without = grind (arith, waiting_parts, none_goes_on, append-nil)
 
       comes_last : (k : ℕ) (d : Logged) → k < length (waiting queue)
           → ComesBefore (get_or (waiting queue) k d).event next.logged.event
-      comes_last k d within =
-          let one = is.candidates k d within in
-          comes.before last (record { logged = get_or (waiting queue) k d; holds = true }) one.was_taken
-          (one.of_host ∙ sym same)
+      comes_last k d within = grind (arith, common_steps)
 
       -- What the event ends has ended.
       ending_has_ended : (lasting : Lasting) (ongoing : Option Candidate) (holds : Bool)
           → ((one : Candidate) → ongoing ≡ Some one → GoesOn lasting taken one
-          × IsCandidate taken next.logged.event.host one.logged)
-          → All (HasEnded lasting longer)
+          × IsCandidate taken next.logged.event.host one.logged) → All (HasEnded lasting longer)
           (map (ended_by (own next.logged.event))
           (option_to_list (ending lasting ongoing (begun (own next.logged.event) next.logged holds))))
-      ending_has_ended While None holds goes = λ k d within. absurd (omega arith)
-      ending_has_ended While (Some one) holds goes = All-one (HasEnded While longer) _
-          (HasEnded-now While one (goes one refl).0 (goes one refl).1)
-      ending_has_ended At ongoing false goes = λ k d within. absurd (omega arith)
-      ending_has_ended At ongoing true goes = All-one (HasEnded At longer) _ (omega (arith, comes.own_some))
+      ending_has_ended lasting ongoing holds goes = grind (arith, common_steps, All-one, HasEnded-now)
 
       -- A queue with its host's next event.
       pub IsQueueOf-event : IsQueueOf longer (with_event queue next.logged next.holds)
       IsQueueOf-event = record {
         candidates = waiting_after (All (IsCandidate longer queue.host))
             (λ holds. All-push (IsCandidate longer queue.host) (waiting queue) next.logged
-            (λ k d within. IsCandidate-push queue.host _ (is.candidates k d within))
-            (record {
+            (λ k d within. IsCandidate-push queue.host _ (is.candidates k d within)) (record {
               was_taken = subst (λ b. Contains longer (record { logged = next.logged; holds = b })) holds
                   (Contains-push taken next);
               of_host = same;
-            }))
-            (λ _. λ k d within. IsCandidate-push queue.host _ (is.candidates k d within));
+            })) (λ _. λ k d within. IsCandidate-push queue.host _ (is.candidates k d within));
         in_order = waiting_after (AllPairs (λ one other. ComesBefore one.event other.event))
             (λ _. all_pairs_push (λ one other. ComesBefore one.event other.event)
             (waiting queue) next.logged is.in_order comes_last) (λ _. is.in_order);
@@ -207,16 +170,17 @@ module _ (taken : List Taken) (next : Taken) (last : LastKnowsAll taken) (comes 
         where
           going_on_goes : (lasting : Lasting) (holds : Bool) (one : Candidate)
               → going_on lasting (begun number next.logged holds) ≡ Some one → GoesOn lasting longer one
-          going_on_goes At holds one goes = absurd (cc)
-          going_on_goes While false one goes = absurd (cc)
-          going_on_goes While true one goes =
-              let begins : record { logged = next.logged; lasts_to = number } ≡ one = cc in
-              subst (GoesOn While longer) begins (record { lasts = refl; lasts_to = number_is; last = comes.itself })
+          going_on_goes lasting holds one goes = grind (arith, number_is, comes.itself)
 
           latest_after : (holds : Bool) → KnowsNoMore (cond holds queue.latest next.logged.event.clock)
               (last_clock queue.host (events_of longer))
-          latest_after true name = omega (arith, is.latest name, last_clock-grows taken next comes queue.host name)
-          latest_after false name = rw (← same, comes.itself) (omega arith)
+          latest_after holds name = grind (
+            arith,
+            is.latest name,
+            last_clock-grows taken next comes queue.host name,
+            comes.itself,
+            cases_Bool holds,
+          )
 
 -- The first candidate's event is the first that waits.
 first_waits_first : (queue : Queue) (first : Candidate) → first_of queue ≡ Some first
@@ -228,10 +192,7 @@ waiting_none queue is = none_parts queue.ended queue.ongoing is
 
 pub first_is_candidate : (taken : List Taken) (queue : Queue) (first : Candidate) → IsQueueOf taken queue
     → first_of queue ≡ Some first → IsCandidate taken queue.host first.logged
-first_is_candidate taken queue first is here =
-    let (rest, all) = first_waits_first queue first here in
-    All-contains (IsCandidate taken queue.host) (waiting queue) first.logged is.candidates
-    (rw all (zero, omega arith, refl))
+first_is_candidate taken queue first is here = grind arith
 
 -- What waits is the first of all, or comes after it.
 first_before : (first : Logged) (rest : List Logged) (one : Logged)
@@ -247,15 +208,13 @@ module _ (taken more : List Taken) (queue : Queue) (one : Logged) (last : LastKn
   -- An event of the host that can be in a moment is the first candidate, or comes after it.
   pub first_or_after : (first : Candidate) → first_of queue ≡ Some first
       → (first.logged ≡ one) ⊎ ComesBefore first.logged.event one.event
-  first_or_after first here = ⊎_elim
-      (λ (waits : Contains (waiting queue) one).
+  first_or_after first here = ⊎_elim (λ (waits : Contains (waiting queue) one).
       let (rest, all) = first_waits_first queue first here in
       first_before first.logged rest one (rw all at is.in_order) (rw all at waits))
       (λ (later : Contains more (record { logged = one; holds = true })).
       let candidate = first_is_candidate taken queue first is here in
       inr (ComesBefore-more taken more (record { logged = first.logged; holds = true })
-      (record { logged = one; holds = true }) last follow candidate.was_taken later
-      (candidate.of_host ∙ sym of_host)))
+      (record { logged = one; holds = true }) last follow candidate.was_taken later (candidate.of_host ∙ sym of_host)))
       among
 
   -- So it knows what the front knows.
@@ -264,12 +223,8 @@ module _ (taken more : List Taken) (queue : Queue) (one : Logged) (last : LastKn
     where
       by_first : (first : Option Candidate) → first_of queue ≡ first
           → number_of name (clock_of first queue.latest) ≤ number_of name one.event.clock
-      by_first (Some first) here = ⊎_elim
-          (λ (same : first.logged ≡ one). rw same (omega arith))
-          (λ (before : ComesBefore first.logged.event one.event). before.knows name)
-          (first_or_after first here)
-      by_first None here = ⊎_elim
-          (λ (waits : Contains (waiting queue) one). absurd
+      by_first (Some first) here = grind (arith, first_or_after first here)
+      by_first None here = ⊎_elim (λ (waits : Contains (waiting queue) one). absurd
           (let (k, within, at) = rw (waiting_none queue here) at waits in omega arith))
           (λ (later : Contains more (record { logged = one; holds = true })). omega (
             arith,

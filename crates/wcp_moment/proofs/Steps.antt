@@ -1,6 +1,7 @@
 -- What the steps of a search do to the queues and the floors.
-use Rattle.wcp_moment.proofs.Words.{◌≡◌, zero, suc, inr, map, last_clock, IsQueueOf, get_or-map, length-map, ℕ}
-use Rattle.wcp_moment.proofs.Words.{◌<◌, Bool, true, false, Option, Some, None, is_some, List, [], ◌∷◌, ◌++◌}
+use Rattle.std.proofs.lemmas.Grind.{common_steps}
+use Rattle.wcp_moment.proofs.Words.{◌≡◌, zero, suc, inr, map, IsQueueOf, get_or-map, length-map, ℕ}
+use Rattle.wcp_moment.proofs.Words.{◌<◌, Bool, true, false, Option, is_some, List, [], ◌∷◌, ◌++◌}
 use Rattle.wcp_moment.proofs.Words.{length, get_or, set, drop, slice_index, refl, sym, ◌∙◌, ap, subst, arith}
 use Rattle.wcp_moment.proofs.Words.{get_or_default, length-set, MatchBool, append_assoc, append-nil, Logged, Watch}
 use Rattle.wcp_moment.proofs.Words.{Taken, HaveDistinctHosts, IsNextAt, IsKnown, IsEarliest, While, Queue}
@@ -60,12 +61,7 @@ module _ (queues : List Queue) (place : ℕ) (read changed : Queue) (within : pl
     with_next = rw read_is at is
 
     pub changed_same_host : IsSameHost queues place changed
-    changed_same_host =
-        record {
-          within = within;
-          host = ap (λ (q : Queue). q.host) with_next;
-          lasting = ap (λ (q : Queue). q.lasting) with_next;
-        }
+    changed_same_host = grind (arith, common_steps, with_next)
 
     module _ (taken : List Taken) (distinct : HaveDistinctHosts (watched_by queues)) (last : LastKnowsAll taken)
         (at : IsNextAt (watched_by queues) place taken next.logged) where
@@ -96,13 +92,10 @@ module _ (queues : List Queue) (place : ℕ) (read changed : Queue) (within : pl
 -- A moment that is known is known after an event more.
 pub IsKnown-next : (watched : List Watch) (taken : List Taken) (next : Taken) (moment : ℕ → Logged)
     → MayFollow taken next.logged.event → IsKnown watched taken moment → IsKnown watched (taken ++ next ∷ []) moment
-IsKnown-next watched taken next moment follows known more follow =
-    subst (λ (all : List Taken). IsEarliest watched all moment) (sym (append_assoc taken (next ∷ []) more))
-    (known (next ∷ more) (follows, follow))
+IsKnown-next watched taken next moment follows known more follow = grind (arith, common_steps, append_assoc)
 
 matched : (b : Bool) (A B C D : Type 0) → (A → C) → (B → D) → MatchBool b A B → MatchBool b C D
-matched true A B C D then else is = then is
-matched false A B C D then else is = else is
+matched b A B C D then else is = grind arith
 
 -- Queues that stand for what was taken, of which the moment is known, stand for an event more.
 pub StandFor-known : (taken : List Taken) (next : Taken) (queues : List Queue) (floors : List ℕ)
@@ -127,13 +120,12 @@ StandFor-searching taken next place queues added others floors added_floors new 
     under settled all_stand = record {
       distinct = subst HaveDistinctHosts (sym watched) stand.distinct;
       last = last;
-      moment = matched known _ _ _ _ (IsKnown-stands longer others new last now_left now_under settled)
-          (λ one. record {
-            none_known = NoneIsKnown-waits longer others new last now_left now_under settled one;
-            left = now_left;
-            under = now_under;
-            settled = settled;
-          }) all_stand;
+      moment = matched known _ _ _ _ (IsKnown-stands longer others new last now_left now_under settled) (λ one. record {
+        none_known = NoneIsKnown-waits longer others new last now_left now_under settled one;
+        left = now_left;
+        under = now_under;
+        settled = settled;
+      }) all_stand;
     }
   where
     longer : List Taken
@@ -157,19 +149,16 @@ end_known taken queues floors stand =
 
 pub end_searching : (taken : List Taken) (queues : List Queue) (floors : List ℕ) (all : Bool)
     → MatchBool all (HaveFirsts queues) (OneHasNone queues) → StandFor taken queues floors false
-    → MatchBool all (IsEarliest (watched_by queues) taken (moment_among queues))
-    (HasNoMoment (watched_by queues) taken)
+    → MatchBool all (IsEarliest (watched_by queues) taken (moment_among queues)) (HasNoMoment (watched_by queues) taken)
 end_searching taken queues floors all firsts stand = matched all _ _ _ _
     (λ (have : HaveFirsts queues). IsEarliest-end taken queues floors stand.last stand.moment.left stand.moment.under
     stand.moment.settled have)
     (λ (lacks : OneHasNone queues). let (p, within, here) = lacks in
     HasNoMoment-end taken queues floors stand.last stand.moment.left stand.moment.under stand.moment.settled p
-    within here)
-    firsts
+    within here) firsts
 
 pub some_copied : {X : Type 0} (found : Option (Bor X)) → is_some found ≡ true → is_some (option_copied found) ≡ true
-some_copied None some = some
-some_copied (Some one) some = refl
+some_copied found some = grind arith
 
 -- The queue of a host before its first event.
 abbrev pub fresh : Watched → Queue
@@ -185,13 +174,7 @@ floor_fresh (one ∷ others) zero = refl
 floor_fresh (one ∷ others) (suc p) = floor_fresh others p
 
 IsQueueOf-fresh : (one : Watched) → IsQueueOf [] (fresh one)
-IsQueueOf-fresh one = record {
-  candidates = λ k d within. absurd (omega arith);
-  in_order = λ i j d less within. absurd (omega arith);
-  ended = λ k d within. absurd (omega arith);
-  ongoing = λ other is. absurd (cc);
-  latest = knows-from_falls [] (last_clock (string_bytes one.host) []) refl;
-}
+IsQueueOf-fresh one = grind (arith, common_steps, knows-from_falls)
 
 -- Before the first event.
 module _ (first : Watched) (others : List Watched) where
@@ -203,8 +186,7 @@ module _ (first : Watched) (others : List Watched) where
 
   at_fresh : (p : ℕ) → p < length (map fresh (first ∷ others)) → queue_at (map fresh (first ∷ others)) p ≡ fresh
       (get_or (first ∷ others) p first)
-  at_fresh p within = get_or-map fresh (first ∷ others) p first (empty_queue [] While)
-      (omega (arith, length-map {B = Queue} (first ∷ others) fresh))
+  at_fresh p within = grind (arith, get_or-map, length-map)
 
   IsSearching-fresh : IsSearching [] (map fresh (first ∷ others)) (map (λ (one : Watched). 0) (first ∷ others))
   IsSearching-fresh = record {
