@@ -1,19 +1,13 @@
 -- The clocks in JSON values, member by member, and the numbers in clocks.
-use Rattle.std.proofs.Common.{◌≡◌, ℕ, ◌+◌, ◌<◌, Bool, true, false, cond, max, List, [], ◌∷◌, ◌++◌, length, get_or, drop, take, Result, Ok, Err, string_bytes, refl, ap, sym, ◌∙◌, arith, add-one, append_assoc, append-nil, subst, ◌≤◌}
-use Rattle.std.proofs.lemmas.List.{map-append, drop_all}
-use Rattle.std.specs.Borrow.{Bor}
-use Rattle.std.specs.Str.{bytes_eq}
-use Rattle.std.proofs.Math.Seq.{drop-cons, take-suc}
-use Rattle.json.specs.Json.{Json, Members, no_members, member}
-use Rattle.json.specs.Value.{members_view, value_view}
+use Rattle.wcp_log.proofs.Words.{◌≡◌, ℕ, ◌+◌, ◌<◌, Bool, true, false, cond, max, List, [], ◌∷◌, ◌++◌, length, get_or}
+use Rattle.wcp_log.proofs.Words.{drop, take, Result, Ok, Err, string_bytes, refl, ap, sym, ◌∙◌, arith, add-one}
+use Rattle.wcp_log.proofs.Words.{append_assoc, append-nil, subst, ◌≤◌, map-append, drop_all, Bor, bytes_eq, drop-cons}
+use Rattle.wcp_log.proofs.Words.{take-suc, Json, Members, no_members, member, members_view, value_view, LineFault, Has}
+use Rattle.wcp_log.proofs.Words.{NoMemory, ◌>>=◌, Fails, Member, member_in, seen_member, seen_clock}
 use Rattle.json.specs.declared.value.Value.{Value}
 use Rattle.wcp_log.specs.declared.fault.FaultKind.{FaultKind}
-use Rattle.wcp_log.specs.declared.fault.LineFault.{LineFault}
-use Rattle.wcp_log.specs.declared.fault.LineFault.TheVariants.{Has, NoMemory}
 use Rattle.wcp_log.specs.declared.event.Member.{Member as OwnMember}
-use Rattle.wcp_log.specs.Judgement.{◌>>=◌, Fails}
-use Rattle.wcp_log.specs.Clock.{Member, member_in, clock_of, number_of}
-use Rattle.wcp_log.specs.Views.{seen_member, seen_clock}
+use Rattle.wcp_log.specs.Clock.{clock_of, number_of}
 
 abbrev pub with_front : List Member → Result (List Member) FaultKind → Result (List Member) FaultKind
 with_front front spelled = spelled >>= λ members. Ok (front ++ members)

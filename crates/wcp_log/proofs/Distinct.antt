@@ -1,13 +1,11 @@
 -- Whether a name stands twice, as a test.
-use Rattle.std.proofs.Common.{◌≡◌, ℕ, true, false, List, [], ◌∷◌, refl, arith, rules}
-use Rattle.std.specs.List.{AllByRecursion, IsDistinct, list_any}
-use Rattle.std.specs.Str.{bytes_eq}
-use Rattle.std.proofs.lemmas.Bool.{false_from_ne_true}
-use Rattle.std.proofs.lemmas.Slice.Eq.{bytes_eq-Decides}
+use Rattle.wcp_log.proofs.Words.{◌≡◌, ℕ, true, false, List, [], ◌∷◌, refl, arith, rules, AllByRecursion, list_any}
+use Rattle.wcp_log.proofs.Words.{bytes_eq, false_from_ne_true, bytes_eq-Decides, Json, null, boolean, number, string}
+use Rattle.wcp_log.proofs.Words.{array, object, Items, no_items, item, Members, no_members, member, are_distinct}
+use Rattle.wcp_log.proofs.Words.{has_distinct_names, items_have_distinct_names, members_have_distinct_names}
+use Rattle.std.specs.List.{IsDistinct}
 use Rattle.std.proofs.lemmas.Map.Made.{AllPairs-from_IsDistinct, IsDistinct-from_AllPairs}
-use Rattle.json.specs.Json.{Json, null, boolean, number, string, array, object, Items, no_items, item, Members, no_members, member}
 use Rattle.json.specs.Strict.{keys, AreDistinct, HasUniqueKeys, ItemsHaveUniqueKeys, MembersHaveUniqueKeys}
-use Rattle.wcp_log.specs.Clock.{are_distinct, has_distinct_names, items_have_distinct_names, members_have_distinct_names}
 
 none_equal : (name : List ℕ) (names : List (List ℕ)) → AllByRecursion (λ y. bytes_eq name y ≡ false) names → list_any (bytes_eq name) names ≡ false
 none_equal name [] differ = refl

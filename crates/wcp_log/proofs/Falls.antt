@@ -1,18 +1,14 @@
 -- Whether a number falls, and the clocks that are kept.
-use Rattle.std.proofs.Common.{◌≡◌, ℕ, ◌+◌, ◌<◌, ◌≤◌, Bool, true, false, cond, max, List, [], ◌∷◌, ◌++◌, length, get_or, take, Option, Some, unwrap_or, string_bytes, refl, ap, sym, ◌∙◌, subst, arith, add-one, zero, suc}
+use Rattle.wcp_log.proofs.Words.{◌≡◌, ℕ, ◌+◌, ◌<◌, ◌≤◌, Bool, true, false, cond, max, List, [], ◌∷◌, ◌++◌, length}
+use Rattle.wcp_log.proofs.Words.{get_or, take, Option, Some, unwrap_or, string_bytes, refl, ap, sym, ◌∙◌, subst, arith}
+use Rattle.wcp_log.proofs.Words.{add-one, zero, suc, take-suc, lt-ltb, map-append, take_all, bytes_eq, bytes_eq-Decides}
+use Rattle.wcp_log.proofs.Words.{Member, Event, falls, seen_member, seen_clock}
 use Rattle.std.proofs.Math.Dec.{ltb}
-use Rattle.std.proofs.Math.Seq.{take-suc}
-use Rattle.std.proofs.lemmas.Bool.{lt-ltb}
-use Rattle.std.proofs.lemmas.List.{map-append, take_all}
 use Rattle.std.proofs.lemmas.List.Folds.{list_any-append}
-use Rattle.std.specs.Str.{bytes_eq}
 use Rattle.std.specs.Map.{update}
-use Rattle.std.proofs.lemmas.Slice.Eq.{bytes_eq-Decides}
 use Rattle.wcp_log.specs.declared.event.Member.{Member as OwnMember}
-use Rattle.wcp_log.specs.Clock.{Member, number_of}
-use Rattle.wcp_log.specs.Event.{Event}
-use Rattle.wcp_log.specs.Order.{clock_after, falls}
-use Rattle.wcp_log.specs.Views.{seen_member, seen_clock}
+use Rattle.wcp_log.specs.Clock.{number_of}
+use Rattle.wcp_log.specs.Order.{clock_after}
 
 -- The clock up to a member, and with it.
 pub seen_clock-next : (clock : List OwnMember) (i : ℕ) (d : OwnMember) → i < length clock → d ≡ get_or clock i d → seen_clock (take (i + 1) clock) ≡ seen_clock (take i clock) ++ seen_member d ∷ []

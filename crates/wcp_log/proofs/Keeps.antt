@@ -1,16 +1,12 @@
 -- What is kept of the events so far, with one event more.
-use Rattle.std.proofs.Common.{◌≡◌, Bool, true, false, cond, List, [], ◌∷◌, ◌++◌, Some, String, string_bytes, refl, ap, sym, ◌∙◌}
+use Rattle.wcp_log.proofs.Words.{◌≡◌, Bool, true, false, cond, List, [], ◌∷◌, ◌++◌, Some, String, string_bytes, refl}
+use Rattle.wcp_log.proofs.Words.{ap, sym, ◌∙◌, bytes_eq, HashMap, UpdatesBy, get_by_text, hash_map_updates_text, Event}
+use Rattle.wcp_log.proofs.Words.{seen_clock, KeepsLast}
 use Rattle.std.specs.Option.{option_map_or}
-use Rattle.std.specs.Str.{bytes_eq}
 use Rattle.std.specs.String.{string_eq}
-use Rattle.std.specs.HashMap.{HashMap, UpdatesBy, get_by_text}
 use Rattle.std.specs.declared.vec.Vec.{Vec}
-use Rattle.std.proofs.lemmas.Map.Text.{hash_map_updates_text}
 use Rattle.wcp_log.specs.declared.event.Member.{Member as OwnMember}
-use Rattle.wcp_log.specs.Event.{Event}
 use Rattle.wcp_log.specs.Order.{clock_after}
-use Rattle.wcp_log.specs.Views.{seen_clock}
-use Rattle.wcp_log.specs.Kept.{KeepsLast}
 use Rattle.wcp_log.proofs.Falls.{clock_after-push}
 
 module _ {Y Z S : Type 0} where

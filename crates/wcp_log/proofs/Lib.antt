@@ -1,3 +1,4 @@
+mod Words
 pub mod Numbers
 pub mod Clocks
 pub mod Distinct

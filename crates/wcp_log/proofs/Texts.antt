@@ -1,9 +1,7 @@
 -- Which lines are text.
-use Rattle.std.proofs.Common.{◌≡◌, ℕ, ◌<◌, true, false, List, length, Option, Some, None, Ok, Err, MatchOption, eqb, arith}
-use Rattle.std.specs.Borrow.{Bor}
-use Rattle.std.specs.List.{position_or_len, before_first, after_first}
-use Rattle.std.specs.Str.{IsUtf8, is_utf8}
-use Rattle.std.proofs.lemmas.Bool.{false_from_ne_true}
+use Rattle.wcp_log.proofs.Words.{◌≡◌, ℕ, ◌<◌, true, false, List, length, Option, Some, None, Ok, Err, MatchOption, eqb}
+use Rattle.wcp_log.proofs.Words.{arith, Bor, position_or_len, before_first, after_first, IsUtf8, is_utf8}
+use Rattle.wcp_log.proofs.Words.{false_from_ne_true}
 use Rattle.std.proofs.lemmas.Str.Pattern.{IsSplitOnceResult, split_once_first}
 use Rattle.std.proofs.lemmas.Str.{IsUtf8-from_is_utf8, is_utf8-from_IsUtf8}
 use Rattle.wcp_log.specs.declared.fault.FaultKind.TheVariants.{Text}

@@ -1,17 +1,13 @@
 -- What a line says after the lines so far.
-use Rattle.std.proofs.Common.{◌≡◌, ℕ, ◌+◌, ◌<◌, List, Option, Some, None, Ok, Err, option_map, refl}
-use Rattle.std.proofs.lemmas.Bool.{lt-ltb}
-use Rattle.wcp_log.specs.declared.fault.LineFault.{LineFault}
-use Rattle.wcp_log.specs.declared.fault.LineFault.TheVariants.{Has, NoMemory}
+use Rattle.wcp_log.proofs.Words.{◌≡◌, ℕ, ◌+◌, ◌<◌, List, Option, Some, None, Ok, Err, option_map, refl, lt-ltb}
+use Rattle.wcp_log.proofs.Words.{LineFault, Has, NoMemory, Fails, Event, Stamp, KeepsLast}
 use Rattle.wcp_log.specs.declared.turn.Form.{Form}
 use Rattle.wcp_log.specs.declared.turn.Form.TheVariants.{Lines}
 use Rattle.wcp_log.specs.declared.turn.Logged.{Logged as OwnLogged}
 use Rattle.wcp_log.specs.declared.log.Log.{Log}
-use Rattle.wcp_log.specs.Judgement.{Fails}
-use Rattle.wcp_log.specs.Event.{Event, Stamp}
-use Rattle.wcp_log.specs.Log.{texted, SoFar, event_after, stamp_after, whole, first_turn, turn_of, with_event, most_lines}
+use Rattle.wcp_log.specs.Log.{texted, SoFar, event_after, stamp_after, whole, first_turn, turn_of, with_event}
+use Rattle.wcp_log.specs.Log.{most_lines}
 use Rattle.wcp_log.specs.Turns.{seen_half, seen_logged}
-use Rattle.wcp_log.specs.Kept.{KeepsLast}
 use Rattle.wcp_log.specs.State.{HasRead, IsTurn, ReadsLine, fault_at}
 
 pub event_turn_is : (form : Form) (earlier : List Event) (at : ℕ) (line : List ℕ) (event : Event) → form ≡ Lines → event_after earlier line ≡ Ok event → first_turn form earlier at line ≡ Ok (record { half = None; event = Some (record { line = at; event = event }) })

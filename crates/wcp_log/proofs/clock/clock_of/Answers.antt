@@ -1,9 +1,4 @@
-use Rattle.std.proofs.lemmas.List.{map-append}
-use Rattle.std.proofs.Common.{[], ◌∷◌, ap}
-use Rattle.json.specs.Value.{members_view}
-use Rattle.wcp_log.specs.Judgement.{Gives}
-use Rattle.wcp_log.specs.Clock.{clock_of}
-use Rattle.wcp_log.specs.Views.{seen_member, seen_clock}
+use Rattle.wcp_log.proofs.Words.{map-append, [], ◌∷◌, ap, members_view, Gives, clock_of, seen_member, seen_clock}
 use Rattle.wcp_log.proofs.Clocks.{clock_more_at, clock_fails_at, clock_ends, clock_begins}
 use Rattle.wcp_log.proofs.Handed.{handed_on}
 use Rattle.wcp_log.proofs.clock.clock_of.Goals as goal

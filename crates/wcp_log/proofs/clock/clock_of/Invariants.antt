@@ -1,7 +1,4 @@
-use Rattle.std.proofs.Common.{◌≡◌, drop}
-use Rattle.json.specs.Value.{members_view}
-use Rattle.wcp_log.specs.Clock.{clock_of}
-use Rattle.wcp_log.specs.Views.{seen_clock}
+use Rattle.wcp_log.proofs.Words.{◌≡◌, drop, members_view, clock_of, seen_clock}
 use Rattle.wcp_log.proofs.Clocks.{with_front}
 use Rattle.wcp_log.proofs.clock.clock_of.Given as goal
 

@@ -1,6 +1,4 @@
-use Rattle.std.proofs.Common.{◌≡◌, take}
-use Rattle.wcp_log.specs.Clock.{number_of}
-use Rattle.wcp_log.specs.Views.{seen_clock}
+use Rattle.wcp_log.proofs.Words.{◌≡◌, take, number_of, seen_clock}
 use Rattle.wcp_log.proofs.event.number_of.Given as goal
 
 abbrev pub invariant-loop-member : goal.invariant-loop-member

@@ -1,5 +1,4 @@
-use Rattle.std.proofs.Common.{◌≡◌, take}
-use Rattle.wcp_log.specs.Views.{seen_clock}
+use Rattle.wcp_log.proofs.Words.{◌≡◌, take, seen_clock}
 use Rattle.wcp_log.proofs.order.copied.Given as goal
 
 abbrev pub invariant-loop-one : goal.invariant-loop-one

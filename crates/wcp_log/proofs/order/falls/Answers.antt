@@ -1,6 +1,4 @@
-use Rattle.std.proofs.Common.{arith, ap, sym, ◌∙◌}
-use Rattle.wcp_log.specs.Clock.{number_of}
-use Rattle.wcp_log.specs.Views.{seen_clock}
+use Rattle.wcp_log.proofs.Words.{arith, ap, sym, ◌∙◌, number_of, seen_clock}
 use Rattle.wcp_log.proofs.Falls.{falls-next, falls-some}
 use Rattle.wcp_log.proofs.order.falls.Goals as goal
 

@@ -1,9 +1,5 @@
-use Rattle.std.proofs.Common.{ℕ, List, cond, max, take, ap, sym, ◌∙◌}
-use Rattle.std.specs.Str.{bytes_eq}
-use Rattle.std.specs.HashMap.{get_by}
-use Rattle.std.proofs.lemmas.Map.Text.{hash_map_updates_str}
-use Rattle.wcp_log.specs.Clock.{number_of}
-use Rattle.wcp_log.specs.Views.{seen_clock}
+use Rattle.wcp_log.proofs.Words.{ℕ, List, cond, max, take, ap, sym, ◌∙◌, bytes_eq, get_by, hash_map_updates_str}
+use Rattle.wcp_log.proofs.Words.{number_of, seen_clock}
 use Rattle.wcp_log.proofs.Clocks.{no_number_of, number_of-next}
 use Rattle.wcp_log.proofs.Falls.{numbers-next}
 use Rattle.wcp_log.proofs.order.numbers_of.Goals as goal

@@ -1,6 +1,4 @@
-use Rattle.std.proofs.Common.{◌≡◌, ◌<◌, true, length, string_bytes, arith}
-use Rattle.std.specs.Str.{bytes_eq}
-use Rattle.wcp_log.specs.Views.{seen_clock}
+use Rattle.wcp_log.proofs.Words.{◌≡◌, ◌<◌, true, length, string_bytes, arith, bytes_eq, seen_clock}
 use Rattle.wcp_log.proofs.Falls.{falls-next, reached-in_place}
 use Rattle.wcp_log.proofs.order.stands_in_place.Goals as goal
 

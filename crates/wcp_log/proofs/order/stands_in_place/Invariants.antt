@@ -1,6 +1,4 @@
-use Rattle.std.proofs.Common.{◌≡◌, false, take}
-use Rattle.wcp_log.specs.Order.{falls}
-use Rattle.wcp_log.specs.Views.{seen_clock}
+use Rattle.wcp_log.proofs.Words.{◌≡◌, false, take, falls, seen_clock}
 use Rattle.wcp_log.proofs.order.stands_in_place.Given as goal
 
 abbrev pub invariant-loop-i : goal.invariant-loop-i

@@ -1,5 +1,4 @@
-use Rattle.std.proofs.Common.{refl}
-use Rattle.wcp_log.specs.Views.{seen_event}
+use Rattle.wcp_log.proofs.Words.{refl, seen_event}
 use Rattle.wcp_log.proofs.Turning.{event_turn_is, event_turn_fails}
 use Rattle.wcp_log.proofs.turn.first_turn.Goals as goal
 

@@ -1,5 +1,4 @@
-use Rattle.std.proofs.Common.{[], refl, string_bytes}
-use Rattle.wcp_log.specs.Views.{seen_stamp}
+use Rattle.wcp_log.proofs.Words.{[], refl, string_bytes, seen_stamp}
 use Rattle.wcp_log.proofs.Turning.{stamp_turn_is, stamp_turn_fails}
 use Rattle.wcp_log.proofs.turn.stamp_turn.Goals as goal
 
