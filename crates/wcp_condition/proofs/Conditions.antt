@@ -1,14 +1,16 @@
 -- Conditions that were read, and the first that wasn't.
-use Rattle.std.proofs.Common.{◌≡◌, ◌==◌, inr, ℕ, ◌<◌, ◌≤◌, ◌+◌, ◌&&◌, Bool, true, false, cond, List, [], ◌∷◌}
-use Rattle.std.proofs.Common.{◌++◌, map, length, get_or, take, drop, Option, Some, None, Result, Ok, Err, IfOk}
-use Rattle.std.proofs.Common.{refl, ap, sym, ◌∙◌, subst, add-one, arith, rules}
-use Rattle.std.proofs.Math.Seq.{drop-cons}
-use Rattle.std.specs.List.{All, AllByRecursion, IsDistinct, list_any}
-use Rattle.std.specs.Str.{bytes_eq}
+use Rattle.wcp_condition.proofs.Words.{◌≡◌, ◌==◌, inr, ℕ, ◌<◌, ◌≤◌, ◌+◌, ◌&&◌, Bool, true, false, cond, List, [], ◌∷◌}
+use Rattle.wcp_condition.proofs.Words.{◌++◌, map, length, get_or, take, drop, Option, Some, None, Result, Ok, Err, IfOk}
+use Rattle.wcp_condition.proofs.Words.{refl, ap, sym, ◌∙◌, subst, add-one, arith, rules, drop-cons, All, AllByRecursion}
+use Rattle.wcp_condition.proofs.Words.{list_any, bytes_eq, length-map, map-append, map_more, take-append-drop, map-map}
+use Rattle.wcp_condition.proofs.Words.{ConditionFault, Usage, Expression, NoMemory, While, FromUntil, At, ◌>>=◌, Asked}
+use Rattle.wcp_condition.proofs.Words.{Text, Word, Saying, are_fit, most_hosts, all_read, word_in, saying_by}
+use Rattle.wcp_condition.proofs.Words.{while_rule, from_rule, at_rule, seen_saying, host_of, said_by, IsReadExpression}
+use Rattle.wcp_condition.proofs.Words.{IsRead, CanBeRead, RefusesExpression, RefusesSaying, RefusesSayings}
+use Rattle.wcp_condition.proofs.Words.{ReadsSayings, HaveHosts}
+use Rattle.std.specs.List.{IsDistinct}
 use Rattle.std.specs.declared.vec.Vec.{Vec}
-use Rattle.std.proofs.lemmas.List.{length-map, map-append, map_more, take-append-drop}
 use Rattle.std.proofs.lemmas.List.Elements.{All-map, All-push}
-use Rattle.std.proofs.lemmas.Simd.{map-map}
 use Rattle.std.proofs.lemmas.Bool.Decides.{nat_tests}
 use Rattle.std.specs.Prelude.{nat_le}
 use Rattle.std.proofs.lemmas.Slice.Eq.{bytes_eq-Decides}
@@ -18,18 +20,12 @@ use Rattle.regex.specs.Strings.{regex_source}
 use Rattle.regex.specs.Names.{names_of}
 use Rattle.regex.specs.Failures.{IsPattern}
 use Rattle.regex.specs.declared.string.regex.Regex.{Regex}
-use Rattle.wcp_condition.specs.declared.fault.ConditionFault.{ConditionFault}
-use Rattle.wcp_condition.specs.declared.fault.ConditionFault.TheVariants.{Usage, Expression, NoMemory}
 use Rattle.wcp_condition.specs.declared.rule.Rule.{Rule}
-use Rattle.wcp_condition.specs.declared.rule.Rule.TheVariants.{While, FromUntil, At}
 use Rattle.wcp_condition.specs.declared.saying.Saying.{Saying as OwnSaying}
 use Rattle.wcp_condition.specs.declared.condition.Condition.{Condition}
-use Rattle.wcp_condition.specs.Asked.{◌>>=◌, Asked, Text, Word, Saying, are_distinct, are_fit, most_hosts}
-use Rattle.wcp_condition.specs.Asked.{conditions_of, all_read, word_in, saying_by, while_rule, from_rule, at_rule}
+use Rattle.wcp_condition.specs.Asked.{are_distinct}
+use Rattle.wcp_condition.specs.Asked.{conditions_of}
 use Rattle.wcp_condition.specs.Rules.{map_rule, EachOf}
-use Rattle.wcp_condition.specs.Sayings.{seen_saying}
-use Rattle.wcp_condition.specs.Conditions.{host_of, said_by, IsReadExpression, IsRead, CanBeRead}
-use Rattle.wcp_condition.specs.Conditions.{RefusesExpression, RefusesSaying, RefusesSayings, ReadsSayings, HaveHosts}
 
 -- The grammar reads the text of an expression that was read.
 pub can_be_read : (regex : Regex) → IsReadExpression regex → IsPattern default_config (regex_source regex)

@@ -1,8 +1,6 @@
 -- Words HOST=EXPRESSION.
-use Rattle.std.proofs.Common.{◌≡◌, ℕ, ◌<◌, List, length, Option, MatchOption, eqb}
-use Rattle.std.proofs.Common.{arith}
-use Rattle.std.specs.Borrow.{Bor}
-use Rattle.std.specs.List.{position_or_len, before_first, after_first}
+use Rattle.wcp_condition.proofs.Words.{◌≡◌, ℕ, ◌<◌, List, length, Option, MatchOption, eqb, arith, Bor, position_or_len}
+use Rattle.wcp_condition.proofs.Words.{before_first, after_first}
 use Rattle.std.proofs.lemmas.Str.Pattern.{IsSplitOnceResult, split_once_first}
 
 -- A text is cut at its first `=`.

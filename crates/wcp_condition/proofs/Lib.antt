@@ -1,3 +1,4 @@
+mod Words
 pub mod Handed
 pub mod Cuts
 pub mod Reading

@@ -1,11 +1,7 @@
 -- Texts that are read one after another.
-use Rattle.std.proofs.Common.{◌≡◌, ℕ, ◌<◌, ◌+◌, List, [], ◌∷◌, ◌++◌, length, get_or, take, Option, Some, None}
-use Rattle.std.proofs.Common.{refl, ap, ◌∙◌, add-one, zero, suc, arith}
-use Rattle.std.specs.Borrow.{Bor}
-use Rattle.std.proofs.Math.Seq.{take-suc}
-use Rattle.std.proofs.lemmas.List.{map-append}
-use Rattle.wcp_condition.specs.Asked.{◌>>=◌, Text, all_read}
-use Rattle.wcp_condition.specs.Sayings.{seen_texts}
+use Rattle.wcp_condition.proofs.Words.{◌≡◌, ℕ, ◌<◌, ◌+◌, List, [], ◌∷◌, ◌++◌, length, get_or, take, Option, Some, None}
+use Rattle.wcp_condition.proofs.Words.{refl, ap, ◌∙◌, add-one, zero, suc, arith, Bor, take-suc, map-append, ◌>>=◌, Text}
+use Rattle.wcp_condition.proofs.Words.{all_read, seen_texts}
 
 module _ {B : Type 0} (read : Text → Option B) where
   abbrev with_one : Option (List B) → B → Option (List B)

@@ -1,22 +1,15 @@
 -- What the words of a command line say, and whether no host is said twice.
-use Rattle.std.proofs.Common.{◌≡◌, ◌≢◌, ℕ, ◌<◌, ◌≤◌, ◌+◌, ◌==◌, ◌&&◌, Bool, true, false, not, cond, List, [], ◌∷◌}
-use Rattle.std.proofs.Common.{◌++◌, map, length, get_or, drop, Option, Some, None, option_map, find, refl, ap, sym}
-use Rattle.std.proofs.Common.{◌∙◌, add-one, suc}
-use Rattle.std.specs.Borrow.{Bor}
-use Rattle.std.specs.List.{list_any}
-use Rattle.std.specs.Str.{bytes_eq}
-use Rattle.std.proofs.Math.Seq.{drop-cons}
-use Rattle.std.proofs.lemmas.List.{drop_all, length-map, map-append}
-use Rattle.std.proofs.lemmas.Simd.{map-map}
+use Rattle.wcp_condition.proofs.Words.{◌≡◌, ◌≢◌, ℕ, ◌<◌, ◌≤◌, ◌+◌, ◌==◌, ◌&&◌, Bool, true, false, not, cond, List, []}
+use Rattle.wcp_condition.proofs.Words.{◌∷◌, ◌++◌, map, length, get_or, drop, Option, Some, None, option_map, find, refl}
+use Rattle.wcp_condition.proofs.Words.{ap, sym, ◌∙◌, add-one, suc, Bor, list_any, bytes_eq, drop-cons, drop_all}
+use Rattle.wcp_condition.proofs.Words.{length-map, map-append, map-map, ConditionFault, Usage, Expression, NoMemory}
+use Rattle.wcp_condition.proofs.Words.{Asked, Text, Word, Saying, all_read, word_in, saying_by, while_rule, from_rule}
+use Rattle.wcp_condition.proofs.Words.{at_rule, until_of, are_fit, most_hosts, FromUntil, Fails, seen_word, seen_saying}
+use Rattle.wcp_condition.proofs.Words.{host_said}
 use Rattle.std.proofs.lemmas.Bool.{lt-ltb, le-leb, eq-eqb, ne_eqb}
-use Rattle.wcp_condition.specs.declared.fault.ConditionFault.{ConditionFault}
-use Rattle.wcp_condition.specs.declared.fault.ConditionFault.TheVariants.{Usage, Expression, NoMemory}
 use Rattle.wcp_condition.specs.declared.word.Word.{Word as OwnWord}
 use Rattle.wcp_condition.specs.declared.saying.Saying.{Saying as OwnSaying}
-use Rattle.wcp_condition.specs.Asked.{Asked, Text, Word, Saying, all_read, word_in, saying_by, while_rule}
-use Rattle.wcp_condition.specs.Asked.{from_rule, at_rule, until_of, are_distinct, are_fit, most_hosts, conditions_of}
-use Rattle.wcp_condition.specs.declared.rule.Rule.TheVariants.{FromUntil}
-use Rattle.wcp_condition.specs.Sayings.{Fails, seen_word, seen_saying, host_said}
+use Rattle.wcp_condition.specs.Asked.{are_distinct, conditions_of}
 
 -- The first of the items that passes, seen by f.
 find-map : {A B : Type 0} (f : A → B) (p : B → Bool) (items : List A)

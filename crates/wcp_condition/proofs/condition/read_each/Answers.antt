@@ -1,6 +1,4 @@
-use Rattle.std.proofs.Common.{map}
-use Rattle.wcp_condition.specs.Sayings.{seen_saying}
-use Rattle.wcp_condition.specs.Conditions.{ReadsSayings}
+use Rattle.wcp_condition.proofs.Words.{map, seen_saying, ReadsSayings}
 use Rattle.wcp_condition.proofs.Handed.{handed_on}
 use Rattle.wcp_condition.proofs.Conditions.{fails_at, read_more}
 use Rattle.wcp_condition.proofs.condition.read_each.Goals as goal

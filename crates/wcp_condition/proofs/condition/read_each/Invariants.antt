@@ -1,7 +1,4 @@
-use Rattle.std.proofs.Common.{◌≡◌, map, take}
-use Rattle.std.specs.List.{All}
-use Rattle.wcp_condition.specs.Sayings.{seen_saying}
-use Rattle.wcp_condition.specs.Conditions.{said_by, IsRead}
+use Rattle.wcp_condition.proofs.Words.{◌≡◌, map, take, All, seen_saying, said_by, IsRead}
 use Rattle.wcp_condition.proofs.condition.read_each.Given as goal
 
 abbrev pub invariant-loop-saying : goal.invariant-loop-saying

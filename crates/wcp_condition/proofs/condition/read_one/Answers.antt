@@ -1,6 +1,4 @@
-use Rattle.std.proofs.Common.{ap}
-use Rattle.wcp_condition.specs.Sayings.{seen_rule, seen_saying}
-use Rattle.wcp_condition.specs.Conditions.{ReadsSaying}
+use Rattle.wcp_condition.proofs.Words.{ap, seen_rule, seen_saying, ReadsSaying}
 use Rattle.wcp_condition.proofs.Handed.{handed_on}
 use Rattle.wcp_condition.proofs.Conditions.{can_be_read, until_refused}
 use Rattle.wcp_condition.proofs.condition.read_one.Goals as goal

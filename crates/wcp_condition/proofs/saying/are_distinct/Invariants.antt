@@ -1,6 +1,4 @@
-use Rattle.std.proofs.Common.{◌≡◌, map, drop}
-use Rattle.wcp_condition.specs.Asked.{are_distinct}
-use Rattle.wcp_condition.specs.Sayings.{host_said}
+use Rattle.wcp_condition.proofs.Words.{◌≡◌, map, drop, are_distinct, host_said}
 use Rattle.wcp_condition.proofs.saying.are_distinct.Given as goal
 
 abbrev pub invariant-loop-at : goal.invariant-loop-at

@@ -1,5 +1,4 @@
-use Rattle.std.proofs.Common.{◌≡◌, None, Some, ap, option_map, ◌∙◌}
-use Rattle.wcp_condition.specs.Sayings.{seen_word, seen_rule}
+use Rattle.wcp_condition.proofs.Words.{◌≡◌, None, Some, ap, option_map, ◌∙◌, seen_word, seen_rule}
 use Rattle.wcp_condition.proofs.Sayings.{ended_by}
 use Rattle.wcp_condition.proofs.saying.rule_of.Goals as goal
 

@@ -1,7 +1,5 @@
-use Rattle.std.proofs.Common.{◌≡◌, ◌∷◌, [], Some, None, option_map, ap, sym, ◌∙◌}
-use Rattle.std.proofs.lemmas.List.{map-append}
-use Rattle.wcp_condition.specs.Asked.{saying_by}
-use Rattle.wcp_condition.specs.Sayings.{seen_saying, kind_rule}
+use Rattle.wcp_condition.proofs.Words.{◌≡◌, ◌∷◌, [], Some, None, option_map, ap, sym, ◌∙◌, map-append, saying_by}
+use Rattle.wcp_condition.proofs.Words.{seen_saying, kind_rule}
 use Rattle.wcp_condition.proofs.Reading.{read_more, read_fails}
 use Rattle.wcp_condition.proofs.saying.sayings_in.Goals as goal
 

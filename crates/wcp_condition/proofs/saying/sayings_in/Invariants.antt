@@ -1,6 +1,4 @@
-use Rattle.std.proofs.Common.{◌≡◌, map, take, Some}
-use Rattle.wcp_condition.specs.Asked.{saying_by, all_read}
-use Rattle.wcp_condition.specs.Sayings.{seen_texts, seen_saying, kind_rule}
+use Rattle.wcp_condition.proofs.Words.{◌≡◌, map, take, Some, saying_by, all_read, seen_texts, seen_saying, kind_rule}
 use Rattle.wcp_condition.proofs.saying.sayings_in.Given as goal
 
 abbrev pub invariant-loop-text : goal.invariant-loop-text

@@ -1,10 +1,8 @@
-use Rattle.std.proofs.Common.{◌≡◌, ◌≢◌, ◌==◌, true, false, map, length, sym, ◌∙◌}
-use Rattle.wcp_condition.specs.Asked.{conditions_of, are_fit}
-use Rattle.wcp_condition.specs.Sayings.{Gives, seen_saying, seen_texts, seen_words}
+use Rattle.wcp_condition.proofs.Words.{◌≡◌, ◌≢◌, ◌==◌, true, false, map, length, sym, ◌∙◌, conditions_of, are_fit}
+use Rattle.wcp_condition.proofs.Words.{Gives, seen_saying, seen_texts, seen_words, length-map}
 use Rattle.wcp_condition.proofs.Handed.{handed_on}
 use Rattle.wcp_condition.proofs.Sayings.{untils_fail, whiles_fail, spans_fail, ats_fail, said, seen_in_one, fit_said}
 use Rattle.wcp_condition.proofs.Sayings.{unfit_said, unpaired_said}
-use Rattle.std.proofs.lemmas.List.{length-map}
 use Rattle.wcp_condition.proofs.saying.sayings_of.Goals as goal
 use Rattle.wcp_condition.proofs.saying.sayings_of.Goals.{else-words-via-then-words+else-are_fit}
 use Rattle.wcp_condition.proofs.saying.sayings_of.Goals.{else-words-via-else-words}

@@ -1,7 +1,5 @@
-use Rattle.std.proofs.Common.{◌≡◌, ◌∷◌, [], Some, None, option_map, ap, sym, ◌∙◌}
-use Rattle.std.proofs.lemmas.List.{map-append}
-use Rattle.wcp_condition.specs.Asked.{word_in}
-use Rattle.wcp_condition.specs.Sayings.{seen_word}
+use Rattle.wcp_condition.proofs.Words.{◌≡◌, ◌∷◌, [], Some, None, option_map, ap, sym, ◌∙◌, map-append, word_in}
+use Rattle.wcp_condition.proofs.Words.{seen_word}
 use Rattle.wcp_condition.proofs.Reading.{read_more, read_fails}
 use Rattle.wcp_condition.proofs.word.words_in.Goals as goal
 
