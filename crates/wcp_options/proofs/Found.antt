@@ -1,20 +1,16 @@
 -- What clap finds at the program's options, and how it answers words.
-use Rattle.std.proofs.Common.{◌≡◌, ◌⊎◌, inl, inr, true, List, [], map, codes, Option, Some, None, option_map, Result}
-use Rattle.std.proofs.Common.{Ok, Err, IfOk, refl, sym, ◌∙◌}
+use Rattle.wcp_options.proofs.Words.{◌≡◌, ◌⊎◌, inl, inr, true, List, [], map, codes, Option, Some, None, option_map}
+use Rattle.wcp_options.proofs.Words.{Result, Ok, Err, IfOk, refl, sym, ◌∙◌, Text, IsAmong, all_of, fault_of, first_of}
+use Rattle.wcp_options.proofs.Words.{first_value, is_simple, is_simple_and_free, matched_of, raw_values, rows_of}
+use Rattle.wcp_options.proofs.Words.{Shiviz, Request, Trace, Help, Version, Unknown, program, seen_texts, values_at}
+use Rattle.wcp_options.proofs.Words.{form_named, form_at, IsRefusalOf, IsRequestOf, Refused}
 use Rattle.std.specs.Borrow.{Bor}
 use Rattle.std.specs.Option.{MatchOption, option_map_or}
 use Rattle.clap.proofs.OnLiterals.{clap_on_literals}
 use Rattle.clap.proofs.WalkLemmas.{raw_values-rows, first_value-rows}
-use Rattle.clap.specs.Words.{Text, IsAmong, all_of, fault_of, first_of, first_value, is_simple, is_simple_and_free}
-use Rattle.clap.specs.Words.{matched_of, raw_values, rows_of}
 use Rattle.clap.specs.declared.parser.matches.Found.{Found}
 use Rattle.clap.specs.declared.error.kind.ErrorKind.{ErrorKind}
 use Rattle.clap.specs.declared.error.kind.ErrorKind.TheVariants as kind
-use Rattle.wcp_log.specs.declared.turn.Form.TheVariants.{Shiviz}
-use Rattle.wcp_options.specs.declared.options.Request.{Request}
-use Rattle.wcp_options.specs.declared.options.Request.TheVariants.{Trace, Help, Version, Unknown}
-use Rattle.wcp_options.specs.Options.{program, seen_texts, values_at, form_named, form_at}
-use Rattle.wcp_options.specs.Requests.{IsRefusalOf, IsRequestOf, Refused}
 
 pub program_is_free : is_simple_and_free program ≡ true
 unfolding clap_on_literals

@@ -1,3 +1,4 @@
+mod Words
 pub mod Found
 pub mod PlainWords
 pub mod PlainRequests

@@ -1,13 +1,10 @@
 -- What plain words ask for, and the word `help`.
-use Rattle.std.proofs.Common.{◌≡◌, ◌∙◌, false, List, [], ◌∷◌, codes, drop, Some, Result, Ok, Err, IfOk, refl, sym}
-use Rattle.std.proofs.Common.{subst}
-use Rattle.clap.specs.Words.{IsAmong, Row, Text}
+use Rattle.wcp_options.proofs.Words.{◌≡◌, ◌∙◌, false, List, [], ◌∷◌, codes, drop, Some, Result, Ok, Err, IfOk, refl}
+use Rattle.wcp_options.proofs.Words.{sym, subst, IsAmong, Row, Text, Request, Trace, Help, Version, Unknown, Given}
+use Rattle.wcp_options.proofs.Words.{ArePlain, words_of, IsRequestOf, Passed, Refused, IsTraceOf, IsTraceGiven}
+use Rattle.wcp_options.proofs.Words.{asks_by_word}
 use Rattle.clap.specs.Kinds.{Kinds}
 use Rattle.wcp_log.specs.declared.turn.Form.{Form}
-use Rattle.wcp_options.specs.declared.options.Request.{Request}
-use Rattle.wcp_options.specs.declared.options.Request.TheVariants.{Trace, Help, Version, Unknown}
-use Rattle.wcp_options.specs.Plain.{Given, ArePlain, words_of}
-use Rattle.wcp_options.specs.Requests.{IsRequestOf, Passed, Refused, IsTraceOf, IsTraceGiven, asks_by_word}
 use Rattle.wcp_options.proofs.PlainWords.{taken, plain-matches, plain-passes, plain-values, plain-form}
 
 trace_given : (given : List Given) (request : Request) → IsTraceOf (taken [] given) request

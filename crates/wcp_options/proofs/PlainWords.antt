@@ -1,9 +1,11 @@
 -- Plain words: what clap's walk over them finds.
-use Rattle.std.proofs.Common.{◌≡◌, ◌∙◌, ◌||◌, Bool, true, false, cond, List, [], ◌∷◌, ◌++◌, codes, drop, fold, Option}
-use Rattle.std.proofs.Common.{Some, None, option_map, refl, sym, ap, append_assoc, append-nil}
+use Rattle.wcp_options.proofs.Words.{◌≡◌, ◌∙◌, ◌||◌, Bool, true, false, cond, List, [], ◌∷◌, ◌++◌, codes, drop, fold}
+use Rattle.wcp_options.proofs.Words.{Option, Some, None, option_map, refl, sym, ap, append_assoc, append-nil}
+use Rattle.wcp_options.proofs.Words.{false_from_ne_true, true≢false, Row, Shape, Text, built, fault_of, matches_of}
+use Rattle.wcp_options.proofs.Words.{Shiviz, program, values_at, form_at, Kind, While, From, Until, At, Given, name_of}
+use Rattle.wcp_options.proofs.Words.{flag_of, words_of, is_flag, ArePlain, values_given}
 use Rattle.std.specs.Prelude.{find, unwrap_or}
 use Rattle.std.specs.Str.{bytes_eq}
-use Rattle.std.proofs.lemmas.Bool.{false_from_ne_true, true≢false}
 use Rattle.std.proofs.lemmas.Slice.Eq.{bytes_eq-Decides}
 use Rattle.clap.proofs.OnLiterals.{clap_on_literals}
 use Rattle.clap.specs.Faults.{built_fault, defaults_fault, settle_fault, turn_fault, walk_fault}
@@ -11,13 +13,8 @@ use Rattle.clap.specs.Lexer.{strip_byte}
 use Rattle.clap.specs.Simple.{names_of}
 use Rattle.clap.specs.Walk.{Names, Waiting, Walk, finished, idle, more_values, nothing_held, option, settled_rows}
 use Rattle.clap.specs.Walk.{walk, walk_from, walked, with_default, with_values}
-use Rattle.clap.specs.Words.{Row, Shape, Text, built, fault_of, matches_of}
 use Rattle.clap.specs.declared.builder.value_parser.Reading.{Reading}
 use Rattle.clap.specs.declared.parser.matches.ValueSource.{ValueSource}
-use Rattle.wcp_log.specs.declared.turn.Form.TheVariants.{Shiviz}
-use Rattle.wcp_options.specs.Options.{program, values_at, form_at}
-use Rattle.wcp_options.specs.Plain.{Kind, While, From, Until, At, Given, name_of, flag_of, words_of, is_flag, ArePlain}
-use Rattle.wcp_options.specs.Plain.{values_given}
 
 abbrev top : Shape
 top = (built program).top

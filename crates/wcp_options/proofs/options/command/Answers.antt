@@ -1,7 +1,4 @@
-use Rattle.std.proofs.Common.{◌≡◌, ◌∙◌, ap₂, rules}
-use Rattle.std.proofs.lemmas.Result.{IfOk-weaker}
-use Rattle.clap.specs.Words.{app_of, with_rule}
-use Rattle.wcp_options.specs.Options.{named}
+use Rattle.wcp_options.proofs.Words.{◌≡◌, ◌∙◌, ap₂, rules, IfOk-weaker, app_of, with_rule, named}
 use Rattle.wcp_options.proofs.options.command.Goals as goal
 
 pub returns : goal.returns

@@ -1,5 +1,4 @@
-use Rattle.std.proofs.Common.{Some, None, sym, ◌∙◌}
-use Rattle.clap.specs.Words.{found_of}
+use Rattle.wcp_options.proofs.Words.{Some, None, sym, ◌∙◌, found_of}
 use Rattle.wcp_options.proofs.Found.{form_as}
 use Rattle.wcp_options.proofs.options.form_of.Goals as goal
 

@@ -1,5 +1,4 @@
-use Rattle.std.proofs.Common.{map, sym, ◌∙◌}
-use Rattle.std.proofs.lemmas.Bool.{true≢false}
+use Rattle.wcp_options.proofs.Words.{map, sym, ◌∙◌, true≢false}
 use Rattle.wcp_options.proofs.PlainRequests.{asked_plainly, plain-not_help}
 use Rattle.wcp_options.proofs.options.read_options.Goals as goal
 

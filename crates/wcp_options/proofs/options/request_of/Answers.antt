@@ -1,8 +1,6 @@
-use Rattle.std.proofs.Common.{◌≡◌, ◌∙◌, ap, map, sym, subst, List}
-use Rattle.std.proofs.lemmas.Result.{IfOk-weaker}
-use Rattle.clap.specs.Words.{App, HasKind, Row, app_of, fault_of, is_simple, is_simple_and_free, kind_of, matches_of}
-use Rattle.wcp_options.specs.Options.{program}
-use Rattle.wcp_options.specs.Requests.{IsTraceOf, Passed}
+use Rattle.wcp_options.proofs.Words.{◌≡◌, ◌∙◌, ap, map, sym, subst, List, IfOk-weaker, App, HasKind, Row, app_of}
+use Rattle.wcp_options.proofs.Words.{fault_of, is_simple, is_simple_and_free, kind_of, matches_of, program, IsTraceOf}
+use Rattle.wcp_options.proofs.Words.{Passed}
 use Rattle.wcp_options.proofs.Found.{program_is_free, program_is_simple, refused_as}
 use Rattle.wcp_options.proofs.options.request_of.Goals as goal
 

@@ -1,7 +1,4 @@
-use Rattle.std.proofs.Common.{Some, None, sym, ◌∙◌, ap}
-use Rattle.std.proofs.lemmas.Result.{IfOk-weaker}
-use Rattle.clap.specs.Words.{found_of}
-use Rattle.wcp_options.specs.Options.{seen_texts}
+use Rattle.wcp_options.proofs.Words.{Some, None, sym, ◌∙◌, ap, IfOk-weaker, found_of, seen_texts}
 use Rattle.wcp_options.proofs.Found.{values_as}
 use Rattle.wcp_options.proofs.options.values_of.Goals as goal
 
