@@ -1,6 +1,7 @@
 -- The two halves, one after the other.
+use Rattle.std.proofs.lemmas.Grind.{common_steps}
 use Rattle.wcp_layout.proofs.Words.{◌≡◌, ◌∙◌, ℕ, ◌+◌, ◌<◌, ◌≤◌, ◌⊎◌, Bool, true, false, List, length, slice_index}
-use Rattle.wcp_layout.proofs.Words.{slice_index_or, refl, sym, inl, inr, arith, cases_Bool, false≢true}
+use Rattle.wcp_layout.proofs.Words.{slice_index_or, sym, inl, inr, arith, cases_Bool, false≢true}
 use Rattle.wcp_layout.proofs.Words.{slice_get_within, Task, IsFitOrder, IsEventAt, IsOfHalf, IsClosed, MayStand, IsLaid}
 use Rattle.wcp_layout.proofs.Words.{AreColumns}
 use Rattle.wcp_layout.proofs.Laying.{next_stays, send_event, receive_event}
@@ -37,17 +38,7 @@ module _ (order : List Task) (halves : List Bool) (zeros columns last : List ℕ
 
     module _ (line : ℕ) (above : (i : ℕ) → slice_index columns i < line) where
       pub second_starts : IsLaid order halves false line columns 0 columns last
-      second_starts = record {
-        stand = first.stand;
-        laid = λ p i at_i own below. absurd (omega (arith, below));
-        unlaid = λ i own le. rest_none i own;
-        next = λ p i at_i own below. absurd (omega (arith, below));
-        kept = λ i other. refl;
-        processes = first.processes;
-        greatest = first.greatest;
-        reached = first.reached;
-        few_columns = λ i. omega (arith, above i);
-      }
+      second_starts = grind (arith, common_steps, rest_none)
 
       pub both_laid : (after end : List ℕ) → 0 < line → line ≤ length order + 1 → IsFitOrder order order
           → IsLaid order halves false line columns (length order) after end → AreColumns order halves after line

@@ -1,4 +1,5 @@
 -- Rows after one more task.
+use Rattle.std.proofs.lemmas.Grind.{common_steps}
 use Rattle.wcp_layout.proofs.Words.{◌≡◌, ◌≢◌, ◌∙◌, ℕ, ◌+◌, ◌-◌, ◌<◌, true, false, List, [], ◌∷◌, ◌++◌, length, take}
 use Rattle.wcp_layout.proofs.Words.{count_by, set, slice_get, slice_index, Some, refl, sym, ap, subst, inl, inr, ⊎_elim}
 use Rattle.wcp_layout.proofs.Words.{arith, cases_eq, cases_lt, cases_Bool, same_Some, get_or-set_same, get_or-set_other}
@@ -53,10 +54,7 @@ rows_written n q P Q rows row within before stays here = record {
 module _ (order : List Task) (place : ℕ) (task : Task) (at : slice_get order place ≡ Some task) where
   -- an event of another process leaves a row as it is
   no_event_of : (p : ℕ) → (IsEventAt order p place → ⊥) → is_event_of p task ≡ false
-  no_event_of p none = elim (cases_Bool (is_event_of p task)) [
-    | inl own ↦ absurd (none (record { task = task; at = at; own = own }))
-    | inr other ↦ other
-  ]
+  no_event_of p none = grind (arith, common_steps, cases_Bool)
 
   pub other_process : (p : ℕ) → p ≢ task.p → IsEventAt order p place → ⊥
   other_process p other event = other (sym (event_of_task event)
@@ -96,20 +94,10 @@ module _ (order : List Task) (place : ℕ) (task : Task) (at : slice_get order p
       }
 
   seen_later : (p k : ℕ) → IsTrueBefore order place p k → IsTrueBefore order (place + 1) p k
-  seen_later p k it = record {
-    at = it.at;
-    before = omega (arith, it.before);
-    observed = it.observed;
-    within = it.within;
-  }
+  seen_later p k it = grind (arith, common_steps)
 
   seen_earlier : (p k : ℕ) (it : IsTrueBefore order (place + 1) p k) → it.at ≢ place → IsTrueBefore order place p k
-  seen_earlier p k it other = record {
-    at = it.at;
-    before = omega (arith, it.before);
-    observed = it.observed;
-    within = it.within;
-  }
+  seen_earlier p k it other = grind (arith, common_steps)
 
   pub truths_stay : (p : ℕ) (row : List ℕ) → ((task.p ≡ p) → (finds_true task.action ≡ true) → ⊥)
       → AreTruthsBefore order place p row → AreTruthsBefore order (place + 1) p row

@@ -13,17 +13,7 @@ use Rattle.wcp_model.specs.declared.workload.Action.TheVariants as action
 
 -- nothing is in transit before the first task
 pub none_in_transit : (n : ℕ) (order : List Task) → AreInTransit n order 0 (replicate (n * n) [])
-none_in_transit n order = record {
-  channels = length-replicate {A = List ℕ} (n * n) [];
-  each = λ p q p_below q_below.
-      let empty = get_or-replicate {A = List ℕ} (n * n) (p * n + q) [] [] (mul-add-lt p n q n p_below q_below) in
-      rw empty (record {
-        counted = omega arith;
-        send = λ k below. absurd (omega (arith, below));
-        number =
-            λ k below. absurd (omega (arith, below));
-      });
-}
+none_in_transit n order = grind (arith, common_steps, length-replicate, get_or-replicate, mul-add-lt)
 
 module _ (order : List Task) (place : ℕ) (task : Task) (at : slice_get order place ≡ Some task) (p q : ℕ)
     (queue : List ℕ) (is : IsQueue order place p q queue) where
