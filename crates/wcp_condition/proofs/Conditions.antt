@@ -1,11 +1,12 @@
 -- Conditions that were read, and the first that wasn't.
-use Rattle.wcp_condition.proofs.Words.{◌≡◌, ◌==◌, inr, ℕ, ◌<◌, ◌≤◌, ◌+◌, ◌&&◌, Bool, true, false, cond, List, [], ◌∷◌}
-use Rattle.wcp_condition.proofs.Words.{◌++◌, map, length, get_or, take, drop, Option, Some, None, Result, Ok, Err, IfOk}
-use Rattle.wcp_condition.proofs.Words.{refl, ap, sym, ◌∙◌, subst, add-one, arith, rules, drop-cons, All, AllByRecursion}
+use Rattle.std.proofs.lemmas.Grind.{common_steps}
+use Rattle.wcp_condition.proofs.Words.{◌≡◌, ℕ, ◌<◌, ◌≤◌, ◌+◌, ◌&&◌, Bool, true, false, cond, List, [], ◌∷◌}
+use Rattle.wcp_condition.proofs.Words.{◌++◌, map, length, get_or, take, drop, Option, Some, None, Result, IfOk}
+use Rattle.wcp_condition.proofs.Words.{ap, sym, ◌∙◌, subst, add-one, arith, rules, drop-cons, All, AllByRecursion}
 use Rattle.wcp_condition.proofs.Words.{list_any, bytes_eq, length-map, map-append, map_more, take-append-drop, map-map}
-use Rattle.wcp_condition.proofs.Words.{ConditionFault, Usage, Expression, NoMemory, While, FromUntil, At, ◌>>=◌, Asked}
-use Rattle.wcp_condition.proofs.Words.{Text, Word, Saying, are_fit, most_hosts, all_read, word_in, saying_by}
-use Rattle.wcp_condition.proofs.Words.{while_rule, from_rule, at_rule, seen_saying, host_of, said_by, IsReadExpression}
+use Rattle.wcp_condition.proofs.Words.{ConditionFault, Usage, Expression, NoMemory, FromUntil, ◌>>=◌, Asked}
+use Rattle.wcp_condition.proofs.Words.{Text, Word, Saying, are_fit, most_hosts}
+use Rattle.wcp_condition.proofs.Words.{seen_saying, said_by, IsReadExpression}
 use Rattle.wcp_condition.proofs.Words.{IsRead, CanBeRead, RefusesExpression, RefusesSaying, RefusesSayings}
 use Rattle.wcp_condition.proofs.Words.{ReadsSayings, HaveHosts}
 use Rattle.std.specs.List.{IsDistinct}
@@ -35,16 +36,11 @@ can_be_read regex read = (regex.pattern.program.hir, names_of regex.pattern.name
 pub until_refused : (host : Text) (rule : Rule Text) (from until : Text) (fault : ConditionFault)
     → rule ≡ FromUntil from until → IsPattern default_config from → RefusesExpression host until fault
     → RefusesSaying (record { host = host; rule = rule }) fault
-until_refused host rule from until Usage is read refuses = refuses
-until_refused host rule from until (Expression named why) is read refuses =
-    (refuses.0, rw is (inr (read, refuses.1)), refuses.2)
-until_refused host rule from until NoMemory is read refuses = tt
+until_refused host rule from until fault is read refuses = grind (arith, common_steps)
 
 rule_can_be_read : (rule : Rule Regex) → EachOf IsReadExpression rule
     → EachOf (IsPattern default_config) (map_rule regex_source rule)
-rule_can_be_read (While regex) read = can_be_read regex read
-rule_can_be_read (FromUntil from until) read = (can_be_read from read.0, can_be_read until read.1)
-rule_can_be_read (At regex) read = can_be_read regex read
+rule_can_be_read rule read = grind (arith, common_steps, can_be_read)
 
 all_can_be_read : (conditions : List Condition) → All IsRead conditions → All CanBeRead (map said_by conditions)
 all_can_be_read conditions read =
@@ -96,38 +92,25 @@ tested_distinct (host ∷ hosts) test =
 
 passed : (paired fit : Bool) (all sayings : List Saying) → fit ≡ are_fit all
     → cond (paired && fit) (Some all) None ≡ Some sayings → are_fit sayings ≡ true
-passed true true all sayings is said =
-    let same : all ≡ sayings = cc in
-    subst (λ (s : List Saying). are_fit s ≡ true) same (sym is)
-passed true false all sayings is said = cc
-passed false true all sayings is said = cc
-passed false false all sayings is said = cc
+passed paired fit all sayings is said = grind (arith, common_steps)
 
 joined_fit : (spans ats : Option (List Saying)) (whiles sayings : List Saying) (paired : Bool)
     → (spans >>= λ spans. ats >>= λ ats. cond (paired && are_fit (whiles ++ spans ++ ats))
     (Some (whiles ++ spans ++ ats)) None) ≡ Some sayings → are_fit sayings ≡ true
-joined_fit None ats whiles sayings paired said = cc
-joined_fit (Some spans) None whiles sayings paired said = cc
-joined_fit (Some spans) (Some ats) whiles sayings paired said =
-    passed paired _ (whiles ++ spans ++ ats) sayings refl said
+joined_fit spans ats whiles sayings paired said = grind (arith, common_steps, passed)
 
 read_fit : (untils : Option (List Word)) (whiles ats : Option (List Saying)) (spans : List Word → Option (List Saying))
     (sayings : List Saying) (paired : Bool)
     → (untils >>= λ untils. whiles >>= λ whiles. spans untils >>= λ spans. ats >>= λ ats. cond
     (paired && are_fit (whiles ++ spans ++ ats)) (Some (whiles ++ spans ++ ats)) None) ≡ Some sayings
     → are_fit sayings ≡ true
-read_fit None whiles ats spans sayings paired said = cc
-read_fit (Some untils) None ats spans sayings paired said = cc
-read_fit (Some untils) (Some whiles) ats spans sayings paired said =
-    joined_fit (spans untils) ats whiles sayings paired said
+read_fit untils whiles ats spans sayings paired said = grind (arith, common_steps, joined_fit)
 
 -- What words say has hosts that are distinct, and not too many.
 said_is_fit : (asked : Asked) (sayings : List Saying) → conditions_of asked ≡ Some sayings → are_fit sayings ≡ true
 unfolding conditions_of
 said_is_fit asked sayings said =
-    read_fit (all_read word_in asked.untils) (all_read (saying_by while_rule) asked.whiles)
-    (all_read (saying_by at_rule) asked.ats) (λ untils. all_read (saying_by (from_rule untils)) asked.froms)
-    sayings (length asked.untils == length asked.froms) said
+    grind (arith, common_steps, read_fit)
 
 parted : (n : ℕ) (distinct : Bool) → (nat_le 1 n && nat_le n most_hosts && distinct) ≡ true
     → (1 ≤ n) × (n ≤ most_hosts) × (distinct ≡ true)
@@ -135,21 +118,13 @@ parted n distinct fit = (grind (arith, nat_tests), grind (arith, nat_tests), gri
 
 have_hosts : (conditions : List Condition) → are_fit (map said_by conditions) ≡ true → HaveHosts conditions
 have_hosts conditions fit =
-    let parts = parted (length conditions) (are_distinct (map host_of conditions))
-    (rw (length-map conditions said_by, map-map (λ (s : Saying). s.host) said_by conditions) at fit) in
-    record {
-      distinct = AllPairs-from_IsDistinct bytes_eq-Decides _ (tested_distinct _ parts.2);
-      some = parts.0;
-      few = parts.1;
-    }
+    grind (arith, parted, length-map, map-map, AllPairs-from_IsDistinct, bytes_eq-Decides, tested_distinct)
 
 -- The hosts of conditions that were read of words.
 pub have_hosts_if_read : {Z : Type 0} (asked : Asked) (sayings : List Saying) → conditions_of asked ≡ Some sayings
     → (result : Result (Vec Condition Z) ConditionFault) → ReadsSayings sayings result
     → IfOk result (λ conditions. HaveHosts conditions.items)
-have_hosts_if_read asked sayings said (Ok conditions) reads =
-    have_hosts conditions.items (rw reads.0 (said_is_fit asked sayings said))
-have_hosts_if_read asked sayings said (Err fault) reads = tt
+have_hosts_if_read asked sayings said result reads = grind (arith, common_steps, have_hosts, said_is_fit)
 
 -- One condition more.
 pub read_more : (sayings : List OwnSaying) (i : ℕ) (d : OwnSaying) (conditions : List Condition)
@@ -158,9 +133,5 @@ pub read_more : (sayings : List OwnSaying) (i : ℕ) (d : OwnSaying) (conditions
     → (said_by condition ≡ seen_saying (get_or sayings i d)) × IsRead condition
     → (map said_by (conditions ++ condition ∷ []) ≡ map seen_saying (take (i + 1) sayings)) × All IsRead
     (conditions ++ condition ∷ [])
-read_more sayings i d conditions condition within so_far reads = (
-  rw (map-append said_by conditions (condition ∷ []), map_more seen_saying sayings i d within)
-      (ap (λ (front : List Saying). front ++ said_by condition ∷ []) so_far.0
-      ∙ ap (λ (one : Saying). map seen_saying (take i sayings) ++ one ∷ []) reads.0),
-  All-push IsRead conditions condition so_far.1 reads.1,
-)
+read_more sayings i d conditions condition within so_far reads =
+    grind (arith, common_steps, map-append, map_more, All-push)
