@@ -1,8 +1,9 @@
 -- Detection, from the first event to the answer.
+use Rattle.std.proofs.lemmas.Grind.{common_steps}
 use Rattle.wcp_detect.proofs.Words.{◌≡◌, ◌∙◌, ◌+◌, ◌-◌, ◌^◌, ◌<◌, ℕ, Bool, true, false, List, [], ◌∷◌, ◌++◌}
-use Rattle.wcp_detect.proofs.Words.{Option, Some, Result, Ok, Err, length, length-append, length-map, refl, sym}
+use Rattle.wcp_detect.proofs.Words.{Option, Some, Result, Ok, Err, length, length-append, length-map, refl}
 use Rattle.wcp_detect.proofs.Words.{ap, subst, arith, Logged, Taken, Watch, HasTaken, watched_by, is_known}
-use Rattle.wcp_detect.proofs.Words.{Condition, Watcher, watch_of, taken_of, IsWatching, CanTake, WatchesNext}
+use Rattle.wcp_detect.proofs.Words.{Condition, Watcher, taken_of, IsWatching, CanTake, WatchesNext}
 use Rattle.wcp_detect.proofs.Words.{host_of, slice_index_or}
 use Rattle.std.proofs.lemmas.List.{get_or_default}
 use Rattle.std.specs.Prelude.{MatchBool}
@@ -13,11 +14,10 @@ use Rattle.wcp_log.specs.declared.turn.Form.{Form}
 use Rattle.wcp_log.specs.declared.turn.Logged.{Logged as OwnLogged}
 use Rattle.wcp_log.specs.Turns.{seen_logged}
 use Rattle.wcp_events.specs.declared.fault.EventFault.{EventFault}
-use Rattle.wcp_events.specs.declared.fault.EventFault.TheVariants as events
 use Rattle.wcp_events.specs.Reading.{HasReadEvents, ReadsEvent, SaysWhole}
 use Rattle.wcp_moment.specs.declared.search.Search.{Search}
 use Rattle.wcp_moment.specs.Moment.{IsEarliest, IsKnown}
-use Rattle.wcp_moment.specs.Standing.{HasNoMoment, IsSearching}
+use Rattle.wcp_moment.specs.Standing.{HasNoMoment}
 use Rattle.wcp_moment.specs.Search.{moment_of}
 use Rattle.wcp_detect.specs.declared.answer.Answer.{Answer}
 use Rattle.wcp_detect.specs.declared.fault.DetectFault.{DetectFault}
@@ -39,38 +39,23 @@ unknown_where false watched moment P some is = refl
 first_unknown : (conditions : List Condition) (watcher : Watcher) → IsWatching conditions [] watcher
     → is_known watcher.search ≡ false
 first_unknown conditions watcher watching =
-    let taken = subst (λ taken. HasTaken taken watcher.search) (none_taken conditions) watching.taken in
-    unknown_where (is_known watcher.search) (watched_by watcher.search) (moment_of watcher.search) _
-    (omega (arith, watching.hosts.some, ap length watching.watched, length-map conditions watch_of)) taken.moment
+    grind (arith, none_taken, watching.taken, unknown_where, watching.hosts.some, watching.watched, length-map)
 
 -- Where a search knows the moment, it is known.
 known_moment : (taken : List Taken) (search : Search) → HasTaken taken search → is_known search ≡ true
     → IsKnown (watched_by search) taken (moment_of search)
-known_moment taken one had is =
-    subst (λ b. MatchBool b (IsKnown (watched_by one) taken (moment_of one))
-    (IsSearching taken one.queues.items one.floors.items)) is had.moment
+known_moment taken one had is = grind (arith, common_steps, had.moment)
 
 pub starts : (form : Form) (conditions : List Condition) (input left : Option (List ℕ)) (log : Log) (watcher : Watcher)
     → HasReadEvents form input left [] log → IsWatching conditions [] watcher
     → IsDetecting form conditions input left log watcher 0
-starts form conditions input left log watcher read watching = record {
-  logged = [];
-  read = read;
-  watching = watching;
-  none_known = first_unknown conditions watcher watching;
-  many = refl;
-}
+starts form conditions input left log watcher read watching = grind (arith, common_steps, first_unknown)
 
 pub can_take : (form : Form) (conditions : List Condition) (input left : Option (List ℕ)) (log : Log)
     (watcher : Watcher) (count : ℕ) → IsDetecting form conditions input left log watcher count → count < 2 ^ 64 - 1
     → CanTake watcher
-can_take form conditions input left log watcher count detecting few = record {
-  before = detecting.logged;
-  watching = subst (λ (cs : List Condition). IsWatching cs detecting.logged watcher)
-      (sym detecting.watching.by) detecting.watching;
-  none_known = detecting.none_known;
-  few = omega (arith, detecting.many);
-}
+can_take form conditions input left log watcher count detecting few =
+    grind (arith, common_steps, detecting.watching.by, detecting.none_known, detecting.many)
 
 pub goes_on : (form : Form) (conditions : List Condition) (input left left' : Option (List ℕ)) (log log' : Log)
     (watcher watcher' : Watcher) (count : ℕ) (one : OwnLogged)
@@ -78,13 +63,8 @@ pub goes_on : (form : Form) (conditions : List Condition) (input left left' : Op
     → ReadsEvent form input left' before.logged (Ok (Some one)) log'
     → WatchesNext conditions before.logged (seen_logged one) (Ok false) watcher'
     → IsDetecting form conditions input left' log' watcher' (count + 1)
-goes_on form conditions input left left' log log' watcher watcher' count one before read watched = record {
-  logged = before.logged ++ seen_logged one ∷ [];
-  read = read.1;
-  watching = watched.0;
-  none_known = watched.1;
-  many = length-append before.logged (seen_logged one ∷ []) ∙ ap (λ n. n + 1) before.many;
-}
+goes_on form conditions input left left' log log' watcher watcher' count one before read watched =
+    grind (arith, common_steps, length-append, before.many)
 
 -- The moment is known.
 pub answers_early : (form : Form) (conditions : List Condition) (input left left' : Option (List ℕ)) (log log' : Log)
@@ -118,17 +98,12 @@ answers_last form conditions input left logged (Err fault.NoMemory) says last = 
 pub hands_on : (form : Form) (conditions : List Condition) (input left : Option (List ℕ))
     (result : Result Answer DetectFault) (given : DetectFault) → IsErr result × IsErrAnd result (λ fault. fault ≡ given)
     → Answers form conditions input left (Err given) → Answers form conditions input left result
-hands_on form conditions input left result given back answers =
-    let found = err_from_is_err_and result back.1 in
-    subst (λ (r : Result Answer DetectFault). Answers form conditions input left r)
-    (sym (found.1 ∙ ap Err found.2)) answers
+hands_on form conditions input left result given back answers = grind (arith, common_steps, err_from_is_err_and)
 
 pub event_fault : (form : Form) (conditions : List Condition) (input left : Option (List ℕ)) (logged : List Logged)
     (log : Log) (why : EventFault) → ReadsEvent form input left logged (Err why) log
     → Answers form conditions input left (Err (fault_of_events why))
-event_fault form conditions input left logged log (events.Log what) reads = reads
-event_fault form conditions input left logged log events.Read reads = tt
-event_fault form conditions input left logged log events.NoMemory reads = tt
+event_fault form conditions input left logged log why reads = grind (arith, common_steps)
 
 -- What a search says at its end.
 abbrev EndsWith : Bool → Search → Search → Type 0
@@ -153,12 +128,5 @@ pub last_silent : (conditions : List Condition) (logged : List Logged) (watcher 
     → watched_by new ≡ watched_by watcher.search → IsFirstSilent logged conditions place
     → condition ≡ slice_index_or watcher.conditions.now place condition → host_of condition ≡ host
     → HasSilentHost conditions logged host
-last_silent conditions logged watcher new true place condition host watching ends is same first at named = absurd (cc)
-last_silent conditions logged watcher new false place condition host watching ends is same first at named = record {
-  no_moment = subst (λ (w : List Watch). HasNoMoment w (taken_of conditions logged)) (same ∙ watching.watched)
-      (ends (taken_of conditions logged) watching.taken);
-  place = place;
-  first = first;
-  named = λ other. ap host_of (get_or_default conditions place other condition first.within
-      ∙ ap (λ (cs : List Condition). slice_index_or cs place condition) (sym watching.by) ∙ sym at) ∙ named;
-}
+last_silent conditions logged watcher new known place condition host watching ends is same first at named =
+    grind (arith, common_steps, watching.watched, watching.taken, get_or_default, first.within, watching.by)

@@ -1,6 +1,7 @@
 -- The hosts of conditions are distinct.
-use Rattle.wcp_detect.proofs.Words.{◌≡◌, ◌∙◌, ◌<◌, ℕ, Bool, true, false, cond, List, [], ◌∷◌, Some}
-use Rattle.wcp_detect.proofs.Words.{None, length, map, refl, sym, ap, arith, length-map, slice_index_or, bytes_eq}
+use Rattle.std.proofs.lemmas.Grind.{common_steps}
+use Rattle.wcp_detect.proofs.Words.{◌≡◌, ◌∙◌, ◌<◌, ℕ, Bool, false, List, [], ◌∷◌, Some}
+use Rattle.wcp_detect.proofs.Words.{None, length, map, refl, sym, arith, length-map, slice_index_or, bytes_eq}
 use Rattle.wcp_detect.proofs.Words.{Condition, host_of, HaveHosts, condition_at, get_or-map, inl, inr}
 use Rattle.std.proofs.lemmas.Slice.Eq.{bytes_eq-Decides}
 use Rattle.std.proofs.lemmas.Bool.Decides.{leb_tells}
@@ -29,13 +30,7 @@ one_place conditions p q c hosts p_in q_in same = elim (leb_tells p q) [
 of_first : (host : List ℕ) (first : Condition) (conditions : List Condition) (condition : Condition) (same : Bool)
     → bytes_eq (host_of first) host ≡ same → condition_at host (first ∷ conditions) ≡ Some condition
     → (condition_at host conditions ≡ Some condition → host_of condition ≡ host) → host_of condition ≡ host
-of_first host first conditions condition true is found later =
-    let this : Some first ≡ Some condition =
-    ap (λ b. cond b (Some first) (condition_at host conditions)) (sym is) ∙ found in
-    let one : first ≡ condition = cc in
-    ap host_of (sym one) ∙ (bytes_eq-Decides (host_of first) host).0 is
-of_first host first conditions condition false is found later =
-    later (ap (λ b. cond b (Some first) (condition_at host conditions)) (sym is) ∙ found)
+of_first host first conditions condition same is found later = grind (arith, common_steps, bytes_eq-Decides)
 
 -- The condition that is found is of the host.
 pub found_is_of : (host : List ℕ) (conditions : List Condition) (condition : Condition)
@@ -48,11 +43,7 @@ found_is_of host (first ∷ conditions) condition found =
 none_later : (host : List ℕ) (first : Condition) (conditions : List Condition) (same : Bool)
     → bytes_eq (host_of first) host ≡ same → condition_at host (first ∷ conditions) ≡ None
     → (same ≡ false) × (condition_at host conditions ≡ None)
-none_later host first conditions true is none =
-    let this : Some first ≡ None =
-    ap (λ b. cond b (Some first) (condition_at host conditions)) (sym is) ∙ none in absurd (cc)
-none_later host first conditions false is none =
-    (refl, ap (λ b. cond b (Some first) (condition_at host conditions)) (sym is) ∙ none)
+none_later host first conditions same is none = grind (arith, common_steps)
 
 -- A host of a condition has one.
 pub none_is_of : (host : List ℕ) (conditions : List Condition) (p : ℕ) (c : Condition)

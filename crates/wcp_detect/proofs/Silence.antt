@@ -1,13 +1,13 @@
 -- The first host that logs nothing.
-use Rattle.wcp_detect.proofs.Words.{◌≡◌, ◌∙◌, ◌+◌, ◌<◌, ◌≤◌, ℕ, List, [], ◌∷◌, length, take, refl, sym, ap, subst}
+use Rattle.std.proofs.lemmas.Grind.{common_steps}
+use Rattle.wcp_detect.proofs.Words.{◌≡◌, ◌∙◌, ◌+◌, ◌<◌, ◌≤◌, ℕ, List, [], length, take, sym, ap}
 use Rattle.wcp_detect.proofs.Words.{arith, slice_index_or, Logged, Condition, Judged, host_of, events_at, AreJudges}
 use Rattle.std.proofs.lemmas.List.{take_all}
 use Rattle.std.proofs.lemmas.List.Elements.{All-more}
 use Rattle.wcp_detect.specs.Detection.{AllLog, IsFirstSilent, IsSilent}
 
 none_of_length : {X : Type 0} (xs : List X) → length xs ≡ 0 → xs ≡ []
-none_of_length [] none = refl
-none_of_length (x ∷ xs) none = absurd (omega arith)
+none_of_length xs none = grind (arith, common_steps)
 
 at_zero : (conditions : List Condition) (logged : List Logged) (judges : List Judged) (place : ℕ) (c : Condition)
     (j : Judged) → AreJudges conditions logged judges → place < length judges
@@ -36,13 +36,10 @@ log_at conditions logged judges place j c are within some before =
 pub all_log : (conditions : List Condition) (logged : List Logged) (judges : List Judged) (place : ℕ)
     → AreJudges conditions logged judges → length judges ≤ place → AllLog logged (take place conditions)
     → AllLog logged conditions
-all_log conditions logged judges place are all before =
-    subst (AllLog logged) (take_all place conditions (omega (arith, are.as_many))) before
+all_log conditions logged judges place are all before = grind (arith, take_all, are.as_many)
 
 pub log_next : (conditions : List Condition) (logged : List Logged) (judges : List Judged) (place : ℕ) (j : Judged)
     → AreJudges conditions logged judges → place < length judges
     → ((slice_index_or judges place j).tally.events ≡ 0 → ⊥)
     → AllLog logged (take place conditions) → AllLog logged (take (place + 1) conditions)
-log_next [] logged judges place j are within some before = absurd (omega (arith, are.as_many))
-log_next (first ∷ others) logged judges place j are within some before =
-    log_at (first ∷ others) logged judges place j first are within some before
+log_next conditions logged judges place j are within some before = grind (arith, common_steps, are.as_many, log_at)

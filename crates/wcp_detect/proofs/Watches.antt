@@ -1,9 +1,10 @@
 -- What a watcher knows, with one event of the log more.
+use Rattle.std.proofs.lemmas.Grind.{common_steps}
 use Rattle.wcp_detect.proofs.Words.{◌≡◌, ◌∙◌, ◌+◌, ◌-◌, ◌^◌, ◌<◌, ◌≤◌, ℕ, Bool, true, false, cond, filter}
-use Rattle.wcp_detect.proofs.Words.{count_matched, HasRoomAt, List, [], ◌∷◌, ◌++◌, Some, None, Result, Ok, Err}
+use Rattle.wcp_detect.proofs.Words.{HasRoomAt, List, [], ◌∷◌, ◌++◌, Some, None, Result, Ok, Err}
 use Rattle.wcp_detect.proofs.Words.{length, length-set, length-map, refl, sym, ap, subst, arith, append-nil}
 use Rattle.wcp_detect.proofs.Words.{option_to_list, option_map, get_or-map, get_or-set_same, get_or-set_other}
-use Rattle.wcp_detect.proofs.Words.{slice_index_or, inl, inr, bytes_eq, Logged, follows}
+use Rattle.wcp_detect.proofs.Words.{slice_index_or, inl, inr, bytes_eq, Logged}
 use Rattle.wcp_detect.proofs.Words.{FollowsIn, Taken, Watch, watch_at, MayFollow, IsNextAt, HaveDistinctHosts, HasTaken}
 use Rattle.wcp_detect.proofs.Words.{watched_by, TakesNext, Condition, host_of, rule_of, HaveHosts}
 use Rattle.wcp_detect.proofs.Words.{holds_at_last, Judged, Watcher, watch_of, watches, texts_at, condition_at}
@@ -30,13 +31,8 @@ pub each_more : (R : Condition → Judged → Type 0) (conditions : List Conditi
     → ((p : ℕ) (c : Condition) (j : Judged) → p < n → R (slice_index_or conditions p c) (slice_index_or judges p j))
     → (p : ℕ) (c : Condition) (j : Judged) → p < n + 1
     → R (slice_index_or conditions p c) (slice_index_or (judges ++ judge ∷ []) p j)
-each_more R conditions judges n condition judge many within now before p c j below = elim (eqb_tells p n) [
-  | inl here ↦ rw (here.1, ← many, get_or-append_seam judges judge [] j)
-      (subst (λ (one : Condition). R one judge)
-      (get_or_default conditions n condition c within ∙ ap (λ i. slice_index_or conditions i c) (sym many)) now)
-  | inr there ↦ let short : p < n = omega (arith, there.1) in
-      rw (get_or-append judges (judge ∷ []) j p (omega (arith, many))) (before p c j short)
-]
+each_more R conditions judges n condition judge many within now before p c j below =
+    grind (arith, eqb_tells, get_or-append_seam, get_or_default, get_or-append)
 
 -- The host that a search watches at a place is that of the condition there.
 pub watched_at : (conditions : List Condition) (p : ℕ) (c : Condition) → p < length conditions
@@ -63,12 +59,7 @@ none_taken conditions = refl
 
 is_other : (one : Logged) (condition : Condition) → (host_of condition ≡ one.event.host → ⊥)
     → bytes_eq one.event.host (host_of condition) ≡ false
-is_other one condition not_same = of (bytes_eq one.event.host (host_of condition)) refl
-  where
-    of : (b : Bool) → bytes_eq one.event.host (host_of condition) ≡ b
-        → bytes_eq one.event.host (host_of condition) ≡ false
-    of true is = absurd (not_same (sym ((bytes_eq-Decides one.event.host (host_of condition)).0 is)))
-    of false is = is
+is_other one condition not_same = grind (arith, common_steps, bytes_eq-Decides)
 
 -- An event of a host without a condition is passed over.
 pub passes_over : (conditions : List Condition) (before : List Logged) (one : Logged) (watcher : Watcher)
@@ -119,9 +110,7 @@ judges_more conditions before one place judges judges' holds hosts is_place are 
 clock_same : (conditions : List Condition) (before : List Logged) (one : Logged) (condition : Condition)
     → condition_at one.event.host conditions ≡ Some condition → FollowsIn before one.event
     → MayFollow (taken_of conditions before) one.event
-clock_same conditions before one condition found follow =
-    ap (λ clock. follows one.event.host clock one.event.clock)
-    (clock_taken conditions one.event.host condition [] [] before found) ∙ follow
+clock_same conditions before one condition found follow = grind (arith, common_steps, clock_taken)
 
 -- What the watcher took next.
 pub takes_place : (conditions : List Condition) (before : List Logged) (one : Logged) (place : ℕ) (c : Condition)
@@ -168,9 +157,7 @@ takes_place conditions before one place c old new holds
 pub knows_none : (conditions : List Condition) (condition : Condition) (judge : Judge) (tally : Tally)
     → HasJudged (rule_of condition) [] judge → tally.events ≡ 0 → tally.matched ≡ 0
     → Knows conditions [] condition (record { judge = judge; tally = tally })
-knows_none conditions condition judge tally judged events matched =
-    let none = sym (ap (count_matched (host_of condition)) (none_taken conditions)) in
-    record { judged = judged; events = events; matched = matched ∙ none }
+knows_none conditions condition judge tally judged events matched = grind (arith, common_steps, none_taken)
 
 few_pass : {X : Type 0} (test : X → Bool) (xs : List X) → length (filter test xs) ≤ length xs
 few_pass test [] = omega arith

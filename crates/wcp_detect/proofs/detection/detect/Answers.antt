@@ -1,7 +1,4 @@
-use Rattle.wcp_detect.proofs.Words.{◌∙◌, Bool, Option, Ok, sym, ap, subst, WatchesNext, watches}
-use Rattle.wcp_log.specs.declared.turn.Logged.{Logged as OwnLogged}
-use Rattle.wcp_log.specs.Turns.{seen_logged}
-use Rattle.wcp_events.specs.Reading.{ReadsEvent}
+use Rattle.wcp_detect.proofs.Words.{◌∙◌, sym, ap, watches}
 use Rattle.wcp_lines.specs.Reader.{left}
 use Rattle.wcp_detect.proofs.Detecting.{answers_early, answers_last, event_fault, goes_on, hands_on, starts}
 use Rattle.wcp_detect.proofs.detection.detect.Goals as goal
@@ -28,9 +25,7 @@ returns-in_default g c =
     let input = g.I.Read.remaining c.args.input.now in
     let rest = left c.next_event.new.self.lines (g.I.Read.remaining c.next_event.new.input) in
     let before = c.loop.invariant in
-    let says = subst (λ (one : Option OwnLogged). ReadsEvent c.args.form input rest before.logged
-    (Ok one) c.next_event.new.self.log) c.in_default.is
-    (c.in_ok-logged.ensures.reads c.args.form input before.logged before.read) in (
+    let says = rw c.in_default.is at (c.in_ok-logged.ensures.reads c.args.form input before.logged before.read) in (
       c.next_event.new.self.lines.ahead,
       answers_last c.args.form c.args.conditions.now input rest before.logged c.last_answer.result says
           (c.last_answer.ensures c.args.conditions.now before.logged before.watching),
@@ -48,9 +43,7 @@ found_answer-requires-clause-known g c =
     let input = g.I.Read.remaining c.args.input.now in
     let rest = left c.next_event.new.self.lines (g.I.Read.remaining c.next_event.new.input) in
     let before = c.loop.invariant in
-    let reads = subst (λ (one : Option OwnLogged). ReadsEvent c.args.form input rest before.logged
-    (Ok one) c.next_event.new.self.log) c.in-Some.is
-    (c.in_ok-logged.ensures.reads c.args.form input before.logged before.read) in
+    let reads = rw c.in-Some.is at (c.in_ok-logged.ensures.reads c.args.form input before.logged before.read) in
     let watched = c.in_ok-take.ensures c.args.conditions.now before.logged before.watching reads.0 in
     watched.1 ∙ c.if-branch.true
 
@@ -59,9 +52,7 @@ found_answer-requires-clause-watched g c =
     let input = g.I.Read.remaining c.args.input.now in
     let rest = left c.next_event.new.self.lines (g.I.Read.remaining c.next_event.new.input) in
     let before = c.loop.invariant in
-    let reads = subst (λ (one : Option OwnLogged). ReadsEvent c.args.form input rest before.logged
-    (Ok one) c.next_event.new.self.log) c.in-Some.is
-    (c.in_ok-logged.ensures.reads c.args.form input before.logged before.read) in
+    let reads = rw c.in-Some.is at (c.in_ok-logged.ensures.reads c.args.form input before.logged before.read) in
     let watched = c.in_ok-take.ensures c.args.conditions.now before.logged before.watching reads.0 in
     watched.0.watched ∙ ap watches (sym watched.0.by)
 
@@ -70,12 +61,9 @@ returns-then-branch g c =
     let input = g.I.Read.remaining c.args.input.now in
     let rest = left c.next_event.new.self.lines (g.I.Read.remaining c.next_event.new.input) in
     let before = c.loop.invariant in
-    let reads = subst (λ (one : Option OwnLogged). ReadsEvent c.args.form input rest before.logged
-    (Ok one) c.next_event.new.self.log) c.in-Some.is
-    (c.in_ok-logged.ensures.reads c.args.form input before.logged before.read) in
+    let reads = rw c.in-Some.is at (c.in_ok-logged.ensures.reads c.args.form input before.logged before.read) in
     let watched = c.in_ok-take.ensures c.args.conditions.now before.logged before.watching reads.0 in
-    let known = subst (λ (b : Bool). WatchesNext c.args.conditions.now before.logged (seen_logged c.in-Some.logged)
-    (Ok b) c.take.new.self) c.if-branch.true watched in (
+    let known = rw c.if-branch.true at watched in (
       c.next_event.new.self.lines.ahead,
       answers_early c.args.form c.args.conditions.now input _ rest c.loop.events.log c.next_event.new.self.log
           c.loop.watcher c.take.new.self c.loop.counter c.in-Some.logged _ _ before reads known
@@ -87,11 +75,8 @@ loop-preserved g c =
     let input = g.I.Read.remaining c.args.input.now in
     let rest = left c.next_event.new.self.lines (g.I.Read.remaining c.next_event.new.input) in
     let before = c.loop.invariant in
-    let reads = subst (λ (one : Option OwnLogged). ReadsEvent c.args.form input rest before.logged
-    (Ok one) c.next_event.new.self.log) c.in-Some.is
-    (c.in_ok-logged.ensures.reads c.args.form input before.logged before.read) in
+    let reads = rw c.in-Some.is at (c.in_ok-logged.ensures.reads c.args.form input before.logged before.read) in
     let watched = c.in_ok-take.ensures c.args.conditions.now before.logged before.watching reads.0 in
-    let unknown = subst (λ (b : Bool). WatchesNext c.args.conditions.now before.logged (seen_logged c.in-Some.logged)
-    (Ok b) c.take.new.self) c.if-branch.false watched in
+    let unknown = rw c.if-branch.false at watched in
     goes_on c.args.form c.args.conditions.now input _ rest c.loop.events.log c.next_event.new.self.log c.loop.watcher
     c.take.new.self c.loop.counter c.in-Some.logged before reads unknown

@@ -1,3 +1,4 @@
+use Rattle.std.proofs.lemmas.Grind.{common_steps}
 use Rattle.wcp_detect.proofs.Words.{ap, arith, Judged}
 use Rattle.wcp_detect.proofs.Silence.{all_log, log_next, silent_at}
 use Rattle.wcp_detect.proofs.detection.first_silent.Goals as goal
@@ -10,9 +11,7 @@ returns-then-judges-place-eq0-clause-first c conditions logged are =
 
 pub loop-place-preserved : goal.loop-place-preserved
 loop-place-preserved c conditions logged are =
-    let is = ap (λ (j : Judged). j.tally.events) c.index-judges-place.is in
-    log_next conditions logged c.args.judges.now c.loop-place.place c.index-judges-place.result are (omega arith)
-    (λ zero. absurd (omega arith)) (c.loop-place.invariant conditions logged are)
+    grind (arith, common_steps, c.index-judges-place.is, log_next, c.loop-place.invariant)
 
 pub returns-clause-first : goal.returns-clause-first
 returns-clause-first c conditions logged are =

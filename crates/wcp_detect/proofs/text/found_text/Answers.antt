@@ -1,4 +1,5 @@
-use Rattle.wcp_detect.proofs.Words.{◌∙◌, ap, arith, host_of}
+use Rattle.std.proofs.lemmas.Grind.{common_steps}
+use Rattle.wcp_detect.proofs.Words.{ap, arith, host_of}
 use Rattle.std.specs.Prelude.{string_bytes}
 use Rattle.wcp_moment.specs.Search.{moment_of}
 use Rattle.wcp_detect.proofs.Printing.{member_more, members_whole}
@@ -13,7 +14,4 @@ loop-place-preserved c =
     cc (said, is, more)
 
 pub returns : goal.returns
-returns c =
-    let whole = members_whole (string_bytes c.loop-place.text) c.args.conditions.now c.loop-place.place
-    (moment_of c.args.search.now) _ (omega arith) c.loop-place.invariant in
-    ap (λ v. v.items) c.into_bytes.ensures.value ∙ whole
+returns c = grind (arith, common_steps, members_whole, c.loop-place.invariant)

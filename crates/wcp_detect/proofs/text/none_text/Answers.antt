@@ -1,4 +1,5 @@
-use Rattle.wcp_detect.proofs.Words.{◌∙◌, ap, arith, host_of, Condition, Judged, count_events}
+use Rattle.std.proofs.lemmas.Grind.{common_steps}
+use Rattle.wcp_detect.proofs.Words.{ap, arith, host_of, Condition, Judged, count_events}
 use Rattle.wcp_detect.proofs.Words.{count_matched, taken_of}
 use Rattle.std.specs.Prelude.{string_bytes}
 use Rattle.wcp_detect.specs.Texts.{count_line}
@@ -20,10 +21,4 @@ loop-place-preserved c logged are =
     cc (said, is, events, matched, knows.events, knows.matched, more)
 
 pub returns : goal.returns
-returns c logged are =
-    let conditions = c.args.conditions.now in
-    let line = λ (condition : Condition). count_line (host_of condition) (count_events (host_of condition) logged)
-    (count_matched (host_of condition) (taken_of conditions logged)) in
-    let whole = lines_whole line (string_bytes c.loop-place.text) conditions c.loop-place.place _ (omega arith)
-    (c.loop-place.invariant logged are) in
-    ap (λ v. v.items) c.into_bytes.ensures.value ∙ whole
+returns c logged are = grind (arith, common_steps, lines_whole, c.loop-place.invariant)
