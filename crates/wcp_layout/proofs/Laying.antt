@@ -41,8 +41,8 @@ module _ {order : List Task} where
       record { send = message.send; receive = message.receive; same_rank = sym message.same_number } in
       delivery_later fit delivery
 
-  pub same_send : {one other received : ℕ} → AreSendAndReceive order one received → AreSendAndReceive order other received
-      → one ≡ other
+  pub same_send : {one other received : ℕ} → AreSendAndReceive order one received
+      → AreSendAndReceive order other received → one ≡ other
   same_send {one} {other} first second =
       let same = same_Some _ _ (sym first.receive ∙ second.receive) in
       let to : first.to ≡ second.to = ap (λ (task : Task). task.p) same in
@@ -214,8 +214,8 @@ module _ {order : List Task} {halves : List Bool} {half : Bool} {floor : ℕ} {s
             let same = same_process (subst (IsEventAt order p) here at_i) event in
             rw (here, same) (next_here one)
         | inr other ↦
-            next_stays is.stand
-            (λ k positive. grind (arith, none_here, there k, cases_eq k place)) at_i (omega (arith, is.laid p i at_i own_i (omega arith))) (is.next p i at_i own_i (omega arith))
+            next_stays is.stand (λ k positive. grind (arith, none_here, there k, cases_eq k place)) at_i
+            (omega (arith, is.laid p i at_i own_i (omega arith))) (is.next p i at_i own_i (omega arith))
       ];
       unlaid = λ i own_i le. grind (arith, is.unlaid i own_i, there i);
       kept = λ i other. grind (arith, is.kept i other, own, other, there i, cases_eq i place);
