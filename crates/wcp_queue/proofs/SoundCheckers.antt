@@ -1,4 +1,4 @@
-use Rattle.wcp_queue.proofs.Words.{IfSome, Option, MatchOption, IsCutOfHeads, Floor, ◌∙◌, get_or, get_or_default, NumberSet, processes, AreSomeWatched, members_of, ap, List, Some, ◌≡◌, ℕ, ◌<◌, ◌≤◌, ltb, arith, ◌+◌, ◌*◌, ◌^◌, false, None, [], length, set, replicate, sum, cond-true, lt-ltb, tests_each, AreStable, waiting_in, common_steps, length-replicate, get_or-replicate, sum_by-le, sum_by-replicate, first_floor, HaveHeads, CheckerState, taken_of, IsSoundChecker}
+use Rattle.wcp_queue.proofs.Words.{IfSome, Option, MatchOption, IsCutOfHeads, Floor, ◌∙◌, true, has_head, ⊎_elim, cases_lt, get_or, get_or_default, NumberSet, processes, AreSomeWatched, members_of, ap, List, Some, ◌≡◌, ℕ, ◌<◌, ◌≤◌, ltb, arith, ◌+◌, ◌*◌, ◌^◌, false, None, [], length, set, replicate, sum, cond-true, lt-ltb, tests_each, AreStable, waiting_in, common_steps, length-replicate, get_or-replicate, sum_by-le, sum_by-replicate, first_floor, HaveHeads, CheckerState, taken_of, IsSoundChecker}
 use Rattle.std.proofs.lemmas.Nat.{mul-le}
 use Rattle.wcp_queue.proofs.WatchedRows.{some_rows, few_rows, member_is_watched}
 
@@ -9,6 +9,14 @@ tests_each-le n = grind arith
 -- and where there are several just as many
 pub tests_each-several : (n : ℕ) → 1 < n → tests_each n ≡ n
 tests_each-several n several = cond-true (ltb 1 n) n 0 (lt-ltb 1 n several)
+
+-- where one process has a head and not each of them, there is room for a snapshot more that waits
+pub room_to_wait : (n p waiting : ℕ) (floor : Floor) → p < n → has_head floor p ≡ true → (HaveHeads n floor → ⊥)
+    → floor.tests + tests_each n * (waiting + 1) < 2 ^ 64 → waiting + 1 < 2 ^ 64
+room_to_wait n p waiting floor within head waits room = ⊎_elim
+    (λ (several : 1 < n). grind (arith, tests_each-several n several))
+    (λ (alone : n ≤ 1). absurd (waits (λ q q_within. ap (has_head floor) (omega (arith, within, alone, q_within)) ∙ head)))
+    (cases_lt 1 n)
 
 -- the cut of the heads has an interval for each row
 pub intervals_of_heads : (found : Option (List ℕ)) (n rows : ℕ) (floor : Floor) (Waits : Type 0)

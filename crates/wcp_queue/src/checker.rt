@@ -12,7 +12,7 @@ ghost use Rattle.wcp_model.specs.Report.{ClocksRise, IsReportByClocks, clocks_ta
 
 use crate::elimination::add_candidate;
 use crate::floor::Floor;
-use crate::queue::Queue;
+use crate::queue::Queues;
 use std::alloc::{AllocError, Global};
 use std::marker::Model;
 use wcp_clock::{Clock, Item, MAX_PROCS, Note, PerProcess};
@@ -25,7 +25,7 @@ pub struct Checker {
     processes: u32,
     watched: Watched,
     members: PerProcess<u32>,
-    queues: Vec<Queue>,
+    queues: Queues,
     floor: Floor,
     taken: [u64; MAX_PROCS],
     closed: [bool; MAX_PROCS],
@@ -66,10 +66,7 @@ impl Checker {
         ensures not_starved { IfOk result (λ checker. checker.starved ≡ false) }
     {
         let members = members_of(n, &watched);
-        let mut queues = Vec::with_capacity(alloc, members.len() as usize)?;
-        for _ in 0..members.len() {
-            queues.push(Queue::new(alloc)?)?;
-        }
+        let queues = Queues::new(alloc, members.len())?;
         Ok(Checker {
             processes: n,
             watched,

@@ -6,14 +6,14 @@ ghost use Rattle.wcp_queue.specs.Elimination.{queue_of, waiting_in, tests_each, 
 ghost use Rattle.wcp_queue.specs.Elimination.{Compares, Eliminates, AddsCandidate};
 
 use crate::floor::Floor;
-use crate::queue::Queue;
+use crate::queue::Queues;
 use std::alloc::AllocError;
 use wcp_clock::{Clock, PerProcess};
 
 /// Adds a snapshot of `p`, one of the watched processes by rising number, and eliminates heads. Finds the cut of the heads
 /// that are left, if every process has one. `Err` where memory runs out.
 pub fn add_candidate(
-    queues: &mut [Queue],
+    queues: &mut Queues,
     p: usize,
     clock: &Clock,
     floor: &mut Floor,
@@ -25,6 +25,7 @@ pub fn add_candidate(
     requires waiting { HaveHeads (length queues.old) floor.old → ⊥ }
     requires none { found.old ≡ None }
     requires room { floor.old.tests + tests_each (length queues.old) * (waiting_in queues.old + 1) < 2 ^ 64 }
+    ensures rows { length queues.new ≡ length queues.old }
     ensures stable { AreStable queues.new floor.new }
     ensures left { OnOk result (AddsCandidate p clock.now queues.old floor.old queues.new floor.new) }
     ensures cut { MatchOption
@@ -38,20 +39,22 @@ pub fn add_candidate(
     ensures not_found { OnErr result (found.new ≡ found.old) }
 {
     if floor.has_head(p) {
-        queues[p].push(clock)?;
+        queues.push(p, clock)?;
         return Ok(());
     }
+    let n = queues.len();
     if compare(queues, p, clock, floor) {
         eliminate(queues, floor);
     }
-    *found = floor.cut(queues.len());
+    *found = floor.cut(n);
     Ok(())
 }
 
 /// Goes on until each process has a head or none of its snapshots waits.
-fn eliminate(queues: &mut [Queue], floor: &mut Floor)
+fn eliminate(queues: &mut Queues, floor: &mut Floor)
     requires few { length queues.old ≤ most_processes }
     requires room { floor.old.tests + tests_each (length queues.old) * waiting_in queues.old < 2 ^ 64 }
+    ensures rows { length queues.new ≡ length queues.old }
     ensures stable { AreStable queues.new floor.new }
     ensures left { Eliminates queues.old floor.old queues.new floor.new }
     ensures tests { floor.new.tests + tests_each (length queues.old) * waiting_in queues.new
@@ -63,15 +66,15 @@ fn eliminate(queues: &mut [Queue], floor: &mut Floor)
 }
 
 /// The first process that has no head while a snapshot of it waits.
-fn first_to_compare(queues: &[Queue], floor: &Floor) -> Option<usize>
+fn first_to_compare(queues: &Queues, floor: &Floor) -> Option<usize>
     requires { length queues.now ≤ most_processes }
     ensures none { IfNone result (AreStable queues.now floor.now) }
     ensures within { IfSome result (λ p. p < length queues.now) }
     ensures no_head { IfSome result (λ p. has_head floor.now p ≡ false) }
     ensures some { IfSome result (λ p. 0 < length (queue_of queues.now p)) }
 {
-    for (p, queue) in queues.iter().enumerate() {
-        if !floor.has_head(p) && !queue.is_empty() {
+    for p in 0..queues.len() {
+        if !floor.has_head(p) && !queues.is_empty(p) {
             return Some(p);
         }
     }
@@ -79,26 +82,25 @@ fn first_to_compare(queues: &[Queue], floor: &Floor) -> Option<usize>
 }
 
 /// Compares the oldest waiting snapshot of `p` with the floor.
-fn compare_next(queues: &mut [Queue], p: usize, floor: &mut Floor)
+fn compare_next(queues: &mut Queues, p: usize, floor: &mut Floor)
     requires few { length queues.old ≤ most_processes }
     requires within { p < length queues.old }
     requires no_head { has_head floor.old p ≡ false }
     requires some { 0 < length (queue_of queues.old p) }
     requires room { floor.old.tests + tests_each (length queues.old) < 2 ^ 64 }
+    ensures rows { length queues.new ≡ length queues.old }
     ensures left { Eliminates queues.old floor.old queues.new floor.new }
     ensures fewer { waiting_in queues.new + 1 ≡ waiting_in queues.old }
     ensures tests { floor.new.tests ≤ floor.old.tests + tests_each (length queues.old) }
 {
-    let Some(clock) = queues[p].pop() else {
-        unreachable!()
-    };
+    let clock = queues.pop(p);
     compare(queues, p, &clock, floor);
 }
 
 /// Compares a snapshot of `p` with the floor: it is dropped, or becomes the head and raises the floor,
-/// which drops the heads that precede it. Answers whether a snapshot then waits of a process without
-/// a head.
-fn compare(queues: &[Queue], p: usize, clock: &Clock, floor: &mut Floor) -> bool
+/// which drops the heads that precede it. Where the answer is false no snapshot waits of a process
+/// without a head then.
+fn compare(queues: &Queues, p: usize, clock: &Clock, floor: &mut Floor) -> bool
     requires few { length queues.now ≤ most_processes }
     requires within { p < length queues.now }
     requires no_head { has_head floor.old p ≡ false }
@@ -107,16 +109,9 @@ fn compare(queues: &[Queue], p: usize, clock: &Clock, floor: &mut Floor) -> bool
     ensures tests { floor.new.tests ≤ floor.old.tests + tests_each (length queues.now) }
     ensures covered { result ≡ false → AreStableBut p queues.now floor.old → AreStable queues.now floor.new }
 {
-    let own = clock.get(p as u32);
-    if floor.is_above(queues.len(), p, own) {
-        return !queues[p].is_empty();
+    let n = queues.len();
+    if floor.is_above(n, p, clock.get(p as u32)) {
+        return !queues.is_empty(p);
     }
-    floor.set_head(p, own);
-    let mut uncovered = false;
-    for q in 0..queues.len() {
-        if q != p && floor.raise(q, clock.get(q as u32), &queues[q]) {
-            uncovered = true;
-        }
-    }
-    uncovered
+    floor.set_head(n, p, clock) && !queues.are_empty()
 }

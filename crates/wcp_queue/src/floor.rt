@@ -1,10 +1,10 @@
-ghost use Rattle.std.specs.Prelude.{◌≡◌, ◌↔◌, ◌+◌, ◌^◌, ◌<◌, ◌≤◌, true, false, length, nat_lt};
+ghost use Rattle.std.specs.Prelude.{◌≡◌, ◌↔◌, ◌+◌, ◌^◌, ◌<◌, ◌≤◌, ◌≢◌, ℕ, true, false, nat_lt, slice_index};
 ghost use Rattle.std.specs.Prelude.{IsTrue, MatchOption, if◌then◌else◌};
 ghost use Rattle.wcp_clock.specs.Limits.{most_processes};
-ghost use Rattle.wcp_queue.specs.Floor.{component, has_head, first_floor, HaveHeads, IsCutOfHeads, IsSameBut, RisesTo};
+ghost use Rattle.wcp_queue.specs.Floor.{component, has_head, first_floor, HaveHeads, IsCutOfHeads, IsSameBut};
+ghost use Rattle.wcp_queue.specs.Floor.{Rises, RisesTo};
 
-use crate::queue::Queue;
-use wcp_clock::{MAX_PROCS, PerProcess};
+use wcp_clock::{Clock, MAX_PROCS, PerProcess};
 
 /// The floor under the heads: the componentwise maximum of every clock that was ever a head. Where a
 /// process has a head, its own component is the floor's.
@@ -67,49 +67,58 @@ impl Floor {
         if n <= 1 {
             return false;
         }
-        let floor = self.components[p];
-        self.is_less(own, floor)
+        self.tests += 1;
+        own < self.components[p]
     }
 
-    /// A snapshot with this component of its own becomes the head of `p`.
-    pub fn set_head(&mut self, p: usize, own: u32)
-        requires { p < most_processes }
+    /// A snapshot of `p`, one of `n` processes, becomes its head, and raises the floor at each other process to what
+    /// its clock knows of that one, if that is greater. The head there then precedes the new one, and is dropped.
+    /// Answers whether any was.
+    pub fn set_head(&mut self, n: usize, p: usize, clock: &Clock) -> bool
+        requires within { p < n }
+        requires few { n ≤ most_processes }
+        requires room { self.old.tests + n ≤ 2 ^ 64 }
         ensures head { has_head self.new p ≡ true }
-        ensures own { component self.new p ≡ own }
-        ensures others { IsSameBut p self.old self.new }
+        ensures own { component self.new p ≡ slice_index clock.now p }
+        ensures rises { Rises p clock.now self.old self.new }
+        ensures kept { result ≡ false → (q : ℕ) → q < most_processes → q ≢ p → has_head self.new q ≡ has_head self.old q }
+        ensures tests { self.new.tests + 1 ≡ self.old.tests + n }
+    {
+        let dropped = self.raise(clock);
+        self.tests += n as u64 - 1;
+        self.components[p] = clock.get(p as u32);
+        self.heads[p] = true;
+        dropped
+    }
+
+    /// Raises the floor to what a clock knows, and drops each head that precedes the clock's. Answers
+    /// whether any was dropped.
+    fn raise(&mut self, clock: &Clock) -> bool
+        ensures rises { (q : ℕ) → q < most_processes → RisesTo q (slice_index clock.now q) self.old self.new }
+        ensures kept { result ≡ false → (q : ℕ) → q < most_processes → has_head self.new q ≡ has_head self.old q }
         ensures tests { self.new.tests ≡ self.old.tests }
     {
-        self.components[p] = own;
-        self.heads[p] = true;
+        let mut dropped = false;
+        for q in 0..MAX_PROCS {
+            dropped = self.raise_at(q, clock.get(q as u32)) || dropped;
+        }
+        dropped
     }
 
-    /// Raises the floor at process `q` to what a new head of another process knows of it, if that is
-    /// greater. The head of `q` then precedes the new one, and is dropped. Answers whether that
-    /// uncovers a snapshot of its queue.
-    pub fn raise(&mut self, q: usize, known: u32, queue: &Queue) -> bool
-        requires within { q < most_processes }
-        requires room { self.old.tests + 1 < 2 ^ 64 }
+    /// Raises the floor at process `q` to what is known of it, if that is greater, and drops its head
+    /// then. Answers whether it dropped one.
+    fn raise_at(&mut self, q: usize, known: u32) -> bool
+        requires { q < most_processes }
         ensures rises { RisesTo q known self.old self.new }
         ensures others { IsSameBut q self.old self.new }
-        ensures covered { result ≡ false → component self.old q < known → length queue.now ≡ 0 }
-        ensures tests { self.new.tests ≡ self.old.tests + 1 }
+        ensures kept { result ≡ false → has_head self.new q ≡ has_head self.old q }
+        ensures tests { self.new.tests ≡ self.old.tests }
     {
         let floor = self.components[q];
-        if !self.is_less(floor, known) {
-            return false;
-        }
-        self.components[q] = known;
-        self.heads[q] = false;
-        !queue.is_empty()
-    }
-
-    /// Whether one component is less than another: one component test, which is counted.
-    fn is_less(&mut self, one: u32, other: u32) -> bool
-        requires room { self.old.tests + 1 < 2 ^ 64 }
-        ensures order { IsTrue result ↔ (one < other) }
-        ensures counted { self.new ≡ record self.old { tests = self.old.tests + 1 } }
-    {
-        self.tests += 1;
-        one < other
+        let had = self.heads[q];
+        let keeps = had && known <= floor;
+        self.components[q] = floor.max(known);
+        self.heads[q] = keeps;
+        had && !keeps
     }
 }

@@ -1,4 +1,6 @@
-ghost use Rattle.std.specs.Prelude.{◌≡◌, ◌==◌, ◌<◌, [], ◌∷◌, ◌++◌, length, drop, slice_get, IfOk, OnOk, OnErr};
+ghost use Rattle.std.specs.Prelude.{◌≡◌, ◌==◌, ◌+◌, ◌^◌, ◌<◌, ◌↔◌, [], ◌∷◌, ◌++◌, length, drop, replicate, slice_get};
+ghost use Rattle.std.specs.Prelude.{slice_set, IfOk, IsTrue, OnOk, OnErr, Some};
+ghost use Rattle.wcp_queue.specs.Elimination.{queue_of, waiting_in};
 
 use circular_buffer::HeapCircularBuffer;
 use std::alloc::{AllocError, Global};
@@ -72,4 +74,85 @@ fn make_room(waiting: &mut HeapCircularBuffer<Clock>) -> Result<(), AllocError>
         waiting.resize(waiting.capacity() * 2)?;
     }
     Ok(())
+}
+
+/// The queues of the watched processes, and how many snapshots wait in all of them.
+///
+/// A contract sees it as the list of the queues.
+#[derive(Debug, Drop)]
+pub struct Queues {
+    queues: Vec<Queue>,
+    waiting: u64,
+}
+
+impl Model for Queues {
+    ghost use Rattle.std.specs.Prelude.{◌≡◌, ℕ, List};
+    ghost use Rattle.wcp_queue.specs.Elimination.{waiting_in};
+
+    ghost Value = { List (List (List ℕ)) };
+
+    ghost view = { λ q. q.queues.items };
+
+    ghost invariant = { λ q. q.waiting ≡ waiting_in q.queues.items };
+}
+
+impl Queues {
+    /// So many empty queues. `Err` where memory runs out.
+    pub fn new(alloc: Global, count: u32) -> Result<Queues, AllocError>
+        ensures { IfOk result (λ queues. queues ≡ replicate count []) }
+    {
+        let mut queues = Vec::with_capacity(alloc, count as usize)?;
+        for _ in 0..count {
+            queues.push(Queue::new(alloc)?)?;
+        }
+        Ok(Queues { queues, waiting: 0 })
+    }
+
+    /// How many queues there are.
+    pub fn len(&self) -> usize
+        ensures { result ≡ length self.now }
+    {
+        self.queues.len()
+    }
+
+    /// Whether no snapshot waits.
+    pub fn are_empty(&self) -> bool
+        ensures { IsTrue result ↔ (waiting_in self.now ≡ 0) }
+    {
+        self.waiting == 0
+    }
+
+    /// Whether no snapshot waits of process `p`.
+    pub fn is_empty(&self, p: usize) -> bool
+        requires { p < length self.now }
+        ensures { result ≡ (length (queue_of self.now p) == 0) }
+    {
+        self.queues[p].is_empty()
+    }
+
+    /// Adds a snapshot at the end of the queue of `p`. `Err` where memory runs out.
+    pub fn push(&mut self, p: usize, clock: &Clock) -> Result<(), AllocError>
+        requires within { p < length self.old }
+        requires room { waiting_in self.old + 1 < 2 ^ 64 }
+        ensures ok { OnOk result (self.new ≡ slice_set self.old p (queue_of self.old p ++ clock.now ∷ [])) }
+        ensures err { OnErr result (self.new ≡ self.old) }
+    {
+        self.queues[p].push(clock)?;
+        self.waiting += 1;
+        Ok(())
+    }
+
+    /// Takes out the oldest snapshot of `p`.
+    pub fn pop(&mut self, p: usize) -> Clock
+        requires within { p < length self.old }
+        requires some { 0 < length (queue_of self.old p) }
+        ensures value { slice_get (queue_of self.old p) 0 ≡ Some result }
+        ensures rest { self.new ≡ slice_set self.old p (drop 1 (queue_of self.old p)) }
+    {
+        let Some(clock) = self.queues[p].pop() else {
+            unreachable!()
+        };
+        self.waiting -= 1;
+        clock
+    }
 }

@@ -1,11 +1,17 @@
-use Rattle.wcp_queue.proofs.Words.{◌++◌, ◌∷◌, [], sym, ◌∙◌, ap, get_or_default, queue_of}
+use Rattle.wcp_queue.proofs.Words.{length, ◌++◌, ◌∷◌, [], refl, sym, ◌∙◌, ap, get_or_default, queue_of, waiting_in}
+use Rattle.wcp_queue.proofs.SoundCheckers.{room_to_wait}
 use Rattle.wcp_queue.proofs.LeftQueues.{AreLeft-gain, LeavesQueue-alone}
 use Rattle.wcp_queue.proofs.elimination.add_candidate.Goals as goal
 use Rattle.wcp_queue.proofs.elimination.add_candidate.Goals.{then-compare, else-compare}
 
+pub push-requires-clause-room : goal.push-requires-clause-room
+push-requires-clause-room c =
+    room_to_wait (length c.args.queues.now) c.args.p (waiting_in c.args.queues.now) c.args.floor.now c.requires.within (sym c.has_head.ensures ∙ c.if-has_head.true) c.requires.waiting c.requires.room
+
 pub returns-then-has_head-clause-left : goal.returns-then-has_head-clause-left
 returns-then-has_head-clause-left c = λ rows longer.
-    AreLeft-gain _ rows longer c.args.queues.now c.args.floor.now c.args.p c.args.clock.now c.index-queues-p.result c.push.new.self c.requires.within c.in_ok-push.ensures.ok
+    rw c.in_ok-push.ensures.ok
+    (AreLeft-gain _ rows longer c.args.queues.now c.args.floor.now c.args.p c.args.clock.now _ (queue_of c.args.queues.now c.args.p ++ c.args.clock.now ∷ []) c.requires.within refl)
 
 pub returns-clause-stable : goal.returns-clause-stable
 returns-clause-stable c =
@@ -26,4 +32,4 @@ returns-clause-left c = λ rows longer gain left.
     ]
 
 pub returns-clause-cut : goal.returns-clause-cut
-returns-clause-cut c = rw c.if-compare.auto.queues at c.cut.ensures
+returns-clause-cut c = rw (sym c.len-n.ensures) c.cut.ensures

@@ -1,4 +1,4 @@
-use Rattle.wcp_queue.proofs.Words.{◌≡◌, length, arith}
+use Rattle.wcp_queue.proofs.Words.{arith}
 use Rattle.wcp_queue.proofs.SoundCheckers.{IsSoundChecker-fresh}
 use Rattle.wcp_queue.proofs.StandingForItems.{StandsForItems-fresh}
 use Rattle.wcp_queue.proofs.checker.Checker.new.Goals as goal
@@ -6,13 +6,11 @@ use Rattle.wcp_queue.proofs.checker.Checker.new.Goals as goal
 pub invariant_of-result : goal.invariant_of-result
 invariant_of-result c =
     let members = c.members_of-members.result in
-    let rows : c.loop.counter ≡ length members = omega (arith, c.len-end.ensures) in
-    rw (c.loop.invariant, c.new-2.ensures, rows)
+    rw (c.in_ok-queues.ensures, c.len.ensures.value, c.new-2.ensures)
     (IsSoundChecker-fresh c.args.n c.args.watched members c.requires.few c.requires.watched c.members_of-members.ensures)
 
 pub returns-clause-empty : goal.returns-clause-empty
 returns-clause-empty c =
     let members = c.members_of-members.result in
-    let rows : c.loop.counter ≡ length members = omega (arith, c.len-end.ensures) in
-    rw (c.loop.invariant, c.new-2.ensures, rows)
-    (StandsForItems-fresh c.args.n c.args.watched members c.requires.few (omega (arith, c.len-end.ensures)))
+    rw (c.in_ok-queues.ensures, c.len.ensures.value, c.new-2.ensures)
+    (StandsForItems-fresh c.args.n c.args.watched members c.requires.few (omega (arith, c.len.ensures.value)))

@@ -1,4 +1,4 @@
-use Rattle.wcp_queue.proofs.Words.{◌<◌, length, refl, ap, arith, with_items_is, checker_state}
+use Rattle.wcp_queue.proofs.Words.{◌<◌, length, refl, arith, checker_state}
 use Rattle.std.proofs.lemmas.Option.{MatchOption-at_none}
 use Rattle.wcp_queue.proofs.SoundCheckers.{room_for_tests, intervals_of_heads, IsSoundChecker-snapshot}
 use Rattle.wcp_queue.proofs.StandingForItems.{StandsForItems-snapshot, StandsForItems-counted}
@@ -7,7 +7,7 @@ use Rattle.wcp_queue.proofs.checker.Checker.take_snapshot.Goals as goal
 use Rattle.wcp_queue.proofs.checker.Checker.take_snapshot.Goals.{in-Some+in_ok-add_candidate, in_default}
 
 pub add_candidate-requires-clause-room : goal.add_candidate-requires-clause-room
-add_candidate-requires-clause-room c = rw c.deref_mut.ensures.value (room_for_tests (checker_state c.self.inside) c.self.invariant)
+add_candidate-requires-clause-room c = room_for_tests (checker_state c.self.inside) c.self.invariant
 
 pub invariant_of-self-2 : goal.invariant_of-self-2
 invariant_of-self-2 c =
@@ -18,13 +18,11 @@ invariant_of-self-2 c =
     let counted : c.args.p < length old.taken = omega (arith, within, sound.few, sound.counts) in
     elim c.match-row_to_search.branch [
       | in-Some+in_ok-add_candidate w ↦
-          let shown = w.deref_mut.ensures.value in
-          let items = with_items_is c.self.inside.queues w.add_candidate.new.queues (omega arith) in
           let added = w.in_ok-add_candidate.ensures in
-          rw (w.self-inside-is, items)
-          (IsSoundChecker-snapshot old sound _ c.args.p counted few refl refl refl (omega (arith, ap length shown))
-          refl refl refl (intervals_of_heads _ _ _ _ _ (rw shown at added.cut) sound.rows)
-          added.stable (λ none. rw shown at (MatchOption-at_none _ _ none added.cut)) (rw shown at added.tests))
+          rw w.self-inside-is
+          (IsSoundChecker-snapshot old sound _ c.args.p counted few refl refl refl added.rows
+          refl refl refl (intervals_of_heads _ _ _ _ _ added.cut sound.rows)
+          added.stable (λ none. MatchOption-at_none _ _ none added.cut) added.tests)
       | in_default w ↦
           rw w.self-inside-is
           (IsSoundChecker-snapshot old sound _ c.args.p counted few refl refl refl refl refl refl refl sound.intervals
@@ -41,17 +39,15 @@ returns-clause-taken c =
     let counted : c.args.p < length old.taken = omega (arith, within, sound.few, sound.counts) in
     elim c.match-row_to_search.branch [
       | in-Some+in_ok-add_candidate w ↦
-          let shown = w.deref_mut.ensures.value in
-          let items = with_items_is c.self.inside.queues w.add_candidate.new.queues (omega arith) in
           let added = w.in_ok-add_candidate.ensures in
           let row_is = rw (← c.self.view_is) at w.in-Some.ensures.row in
           let row_within = rw (← c.self.view_is) at w.in-Some.ensures.within in
-          let known = rw (rw (← c.self.view_is) at w.known-known.ensures) at (rw shown at added.left) in
-          rw (w.self-inside-is, items, ← c.self.view_is) (record {
+          let known = rw (rw (← c.self.view_is) at w.known-known.ensures) at added.left in
+          rw (w.self-inside-is, ← c.self.view_is) (record {
             stands = λ list stands. StandsForItems-snapshot old _ sound list c.args.p c.args.clock.now stands within
-                still_open not_lost counted refl refl refl (omega (arith, ap length shown)) refl refl refl
+                still_open not_lost counted refl refl refl added.rows refl refl refl
                 w.in-Some.row (omega (arith, row_within, sound.rows)) (own_row _ _ _ row_is row_within)
-                (rw (← c.self.view_is) at (w.in-Some.ensures.searching refl)) known (rw shown at added.cut);
+                (rw (← c.self.view_is) at (w.in-Some.ensures.searching refl)) known added.cut;
             starved = refl;
             watched = refl;
           })
