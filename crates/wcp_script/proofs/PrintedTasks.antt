@@ -1,8 +1,9 @@
 -- The line of a task is read as that task.
-use Rattle.wcp_script.proofs.Words.{◌≡◌, ℕ, ◌+◌, ◌≤◌, true, List, [], ◌∷◌, ◌++◌, length, Ok, refl, sym, ap, ◌∙◌, append_assoc, arith, lt-ltb, codes, flat_map, AllByRecursion, decimal, Task, IsWithin, TextLine, line_text, lines_of, action_words, task_words, task_line, is_within, workloads}
+use Rattle.wcp_script.proofs.Words.{◌≡◌, ℕ, ◌+◌, ◌<◌, ◌≤◌, true, List, [], ◌∷◌, ◌++◌, length, Ok, refl, sym, ap, ◌∙◌, append_assoc, arith, lt-ltb, codes, flat_map, AllByRecursion, decimal, Task, IsWithin, TextLine, line_text, lines_of, action_words, task_words, task_line, is_within, workloads}
 use Rattle.wcp_model.specs.declared.workload.Action.{Action}
 use Rattle.wcp_script.specs.WorkloadLines.{form_of, task_in}
-use Rattle.wcp_script.specs.TextFault.{steps_by}
+use Rattle.wcp_script.specs.TextFault.{steps_behind, steps_by}
+use Rattle.wcp_script.proofs.StepLines.{steps_behind_more}
 use Rattle.wcp_script.proofs.LinesOfWords.{IsWord, IsWord-decimal, number_in-decimal, words_of-joined, worded, lines_of-line_text, lines_of_nothing}
 
 pub task_is_words : (n : ℕ) (task : Task) → n ≤ 16 → IsWithin n task → AllByRecursion IsWord (task_words task)
@@ -29,6 +30,13 @@ steps_by-task_lines n last earlier (task ∷ tasks) few within room =
 -- So the first line of a text that begins with the line of a task says that task.
 pub task_is_said : (n : ℕ) (task : Task) (text rest : List ℕ) → text ≡ task_line task ++ rest → IsWithin n task → n ≤ 16 → (line : TextLine) × (lines_of text ≡ line ∷ lines_of rest) × (Ok task ≡ task_in n line)
 task_is_said n task text rest same within few = (worded (task_words task), ap lines_of same ∙ lines_of-task_line n task rest few within, sym (task_in-worded n task few within))
+
+-- And it stands behind the tasks that were read before.
+pub steps_behind_task : (n last : ℕ) (front : List Task) (task : Task) (text rest : List ℕ) → text ≡ task_line task ++ rest → IsWithin n task → n ≤ 16 → length front < 65536
+    → steps_behind workloads n last (front ++ task ∷ []) (lines_of rest) ≡ steps_behind workloads n last front (lines_of text)
+steps_behind_task n last front task text rest same within few room =
+    let (line, cut, said) = task_is_said n task text rest same within few in
+    steps_behind_more workloads n last front line task (lines_of text) (lines_of rest) cut said room
 
 -- ---- the line of a task, from its parts
 

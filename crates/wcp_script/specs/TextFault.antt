@@ -1,5 +1,5 @@
 -- What a text spells, or which fault it has: lines are judged from the top, and the first fault is the text's.
-use Rattle.std.specs.Prelude.{◌≡◌, ℕ, ◌+◌, Bool, List, [], ◌∷◌, nat_lt, Result, Ok, Err}
+use Rattle.std.specs.Prelude.{◌≡◌, ℕ, ◌+◌, Bool, List, [], ◌∷◌, ◌++◌, length, nat_lt, Result, Ok, Err}
 use Rattle.wcp_clock.specs.Limits.{most_steps}
 use Rattle.wcp_model.specs.declared.plan.Plan.{Plan}
 use Rattle.wcp_model.specs.declared.plan.PlanFault.{PlanFault}
@@ -41,6 +41,12 @@ steps_by text_kind n last earlier (line ∷ lines) = do
   step ← at_line (last + earlier + 1) (step_after text_kind n earlier line)
   steps ← steps_by text_kind n last (earlier + 1) lines
   Ok (step ∷ steps)
+
+-- These steps, and behind them those of lines after a head with this last line.
+unfoldable pub steps_behind : {S : Type 0} → TextKind S → ℕ → ℕ → List S → List TextLine → Result (List S) ScriptFault
+steps_behind text_kind n last front lines = do
+  steps ← steps_by text_kind n last (length front) lines
+  Ok (front ++ steps)
 
 -- The text spells these steps under this plan, which has no fault.
 pub record Spells {S : Type 0} (text_kind : TextKind S) (text : List ℕ) (plan : Plan) (steps : List S) : Type 0 where

@@ -1,21 +1,58 @@
 //! The step lines of a workload as they are printed: each byte of them is looked at once.
-ghost use Rattle.std.specs.Prelude.{◌≡◌, ◌+◌, ◌<◌, ◌++◌, [], ◌∷◌, IfSome};
+ghost use Rattle.std.specs.Prelude.{◌≡◌, ℕ, ◌+◌, ◌<◌, ◌≤◌, ◌++◌, [], ◌∷◌, length, vec_len, IfOk, IfSome, OnOk};
+ghost use Rattle.wcp_clock.specs.Limits.{most_processes, most_steps};
 ghost use Rattle.std.specs.Fmt.{decimal};
 ghost use Rattle.wcp_model.specs.WorkloadComputation.{IsWithin};
-ghost use Rattle.wcp_script.specs.Lines.{line_text};
+ghost use Rattle.wcp_script.specs.Lines.{line_text, lines_of};
+ghost use Rattle.wcp_script.specs.TextFault.{workloads, steps_behind};
 ghost use Rattle.wcp_script.specs.WorkloadText.{action_words, task_line};
 
 use crate::task_line::is_within;
+use std::alloc::AllocError;
+use wcp_clock::MAX_STEPS;
 use wcp_model::{Action, Task};
 
+/// How many bytes a printed step line has at most: `p 15 send 15` and its LF.
+const LONGEST_LINE: usize = 13;
+
+/// Adds the tasks of n processes whose lines stand at the front of a text as they are printed, as far
+/// as a text has room for them. Gives the text after them.
+#[inline(never)]
+pub(crate) fn read_printed_tasks<'a>(
+    n: u32,
+    text: &'a [u8],
+    tasks: &mut Vec<Task>,
+) -> Result<&'a [u8], AllocError>
+    requires few { n ≤ most_processes }
+    requires room { vec_len tasks.old ≤ most_steps }
+    ensures room { OnOk result (vec_len tasks.new ≤ most_steps) }
+    ensures read { IfOk result (λ rest. (last : ℕ)
+        → steps_behind workloads n last tasks.new.items (lines_of rest.now)
+        ≡ steps_behind workloads n last tasks.old.items (lines_of text.now)) }
+    ensures rest { IfOk result (λ rest. length rest.now ≤ length text.now) }
+{
+    let mut rest = text;
+    while tasks.len() < MAX_STEPS {
+        let Some((task, after)) = printed_task(n, rest) else {
+            return Ok(rest);
+        };
+        tasks.push(task)?;
+        rest = after;
+    }
+    Ok(rest)
+}
+
 /// The task of the first line of a text, where it is printed as that of a task of n processes, and
-/// the text after it.
+/// the text after it. The last lines are left out, so that most bytes need no look at the length.
 #[tactic(auto, using(crate::proofs::PrintedTasks::task_line_from))]
 #[inline(always)]
-pub(crate) fn printed_task(n: u32, text: &[u8]) -> Option<(Task, &[u8])>
+fn printed_task(n: u32, text: &[u8]) -> Option<(Task, &[u8])>
     ensures line { IfSome result (λ found. text.now ≡ task_line found.0 ++ found.1.now) }
     ensures within { IfSome result (λ found. IsWithin n found.0) }
 {
+    if text.len() < LONGEST_LINE {
+        return None;
+    }
     let (p, rest) = match text {
         [b'p', b' ', rest @ ..] => printed_number(rest)?,
         _ => return None,

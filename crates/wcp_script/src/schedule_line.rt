@@ -9,6 +9,7 @@ use crate::fault::{FaultKind, ask};
 use crate::lines::{Line, Words, next_line, words_of};
 use crate::number::number_in;
 use crate::step_line::StepLine;
+use std::alloc::AllocError;
 use wcp_model::Step;
 
 impl StepLine for Step {
@@ -16,6 +17,14 @@ impl StepLine for Step {
 
     fn is_step_word(word: &[u8]) -> bool {
         is_schedule_word(word)
+    }
+
+    fn read_printed<'a>(
+        _n: u32,
+        text: &'a [u8],
+        _steps: &mut Vec<Step>,
+    ) -> Result<&'a [u8], AllocError> {
+        Ok(text)
     }
 
     fn first(_n: u32, text: &[u8]) -> Option<(Result<Step, FaultKind>, &[u8])> {

@@ -1,12 +1,12 @@
-ghost use Rattle.std.specs.Prelude.{◌≡◌, ℕ, ◌<◌, ◌≤◌, [], ◌∷◌, length, IfSome, MatchOption};
-ghost use Rattle.wcp_clock.specs.Limits.{most_processes};
+ghost use Rattle.std.specs.Prelude.{◌≡◌, ℕ, ◌<◌, ◌≤◌, [], ◌∷◌, length, vec_len, IfOk, IfSome, MatchOption, Ok, OnOk};
+ghost use Rattle.wcp_clock.specs.Limits.{most_processes, most_steps};
 ghost use Rattle.wcp_script.specs.Head.{most_head_lines};
 ghost use Rattle.wcp_script.specs.Lines.{TextLine, lines_of};
-ghost use Rattle.wcp_script.specs.TextFault.{TextKind, step_after, steps_by};
+ghost use Rattle.wcp_script.specs.TextFault.{TextKind, step_after, steps_behind, steps_by};
 ghost use Rattle.wcp_script.specs.ReadAnswers.{Gives};
 
 use crate::fault::{FaultKind, ReadFault, ScriptFault, ask};
-use std::alloc::Global;
+use std::alloc::{AllocError, Global};
 use wcp_clock::MAX_STEPS;
 
 /// What a step line of one kind of text says.
@@ -17,7 +17,23 @@ pub(crate) trait StepLine: Copy {
     fn is_step_word(word: &[u8]) -> bool
         ensures { result ≡ text_kind.is_step_word word.now };
 
-    /// What the first line of a text says under n processes, and the text after it.
+    /// Adds the steps of the lines at the front of a text that are seen at one look to be spelled as
+    /// they are printed, as far as there is room for them. Gives the text after them.
+    fn read_printed<'a>(
+        n: u32,
+        text: &'a [u8],
+        steps: &mut Vec<Self>,
+    ) -> Result<&'a [u8], AllocError>
+        requires few { n ≤ most_processes }
+        requires room { vec_len steps.old ≤ most_steps }
+        ensures room { OnOk result (vec_len steps.new ≤ most_steps) }
+        ensures read { IfOk result (λ rest. (last : ℕ)
+            → steps_behind text_kind n last steps.new.items (lines_of rest.now)
+            ≡ steps_behind text_kind n last steps.old.items (lines_of text.now)) }
+        ensures rest { IfOk result (λ rest. length rest.now ≤ length text.now) };
+
+    /// What the first line of a text says under n processes, judged word by word, and the text after
+    /// it.
     fn first(n: u32, text: &[u8]) -> Option<(Result<Self, FaultKind>, &[u8])>
         requires { n ≤ most_processes }
         ensures line { MatchOption result
@@ -40,7 +56,7 @@ pub(crate) fn read_steps<S: StepLine>(
     ensures { Gives (λ steps. steps.items) result (steps_by S.text_kind n last 0 (lines_of text.now)) }
 {
     let mut steps = Vec::new(alloc);
-    let mut rest = text;
+    let mut rest = S::read_printed(n, text, &mut steps)?;
     while let Some((said, after)) = S::first(n, rest) {
         let step = match step_after(steps.len(), said) {
             Ok(step) => step,
@@ -50,7 +66,7 @@ pub(crate) fn read_steps<S: StepLine>(
             }
         };
         steps.push(step)?;
-        rest = after;
+        rest = S::read_printed(n, after, &mut steps)?;
     }
     Ok(steps)
 }

@@ -9,8 +9,9 @@ ghost use Rattle.wcp_script.specs.Views.{seen_line, seen_form};
 use crate::fault::{FaultKind, ask};
 use crate::lines::{Line, Words, next_line, words_of};
 use crate::number::number_in;
-use crate::printed_line::printed_task;
+use crate::printed_line::read_printed_tasks;
 use crate::step_line::StepLine;
+use std::alloc::AllocError;
 use wcp_model::{Action, Task};
 
 impl StepLine for Task {
@@ -20,26 +21,18 @@ impl StepLine for Task {
         is_task_word(word)
     }
 
-    #[tactic(auto, using(crate::proofs::PrintedTasks::task_is_said))]
-    fn first(n: u32, text: &[u8]) -> Option<(Result<Task, FaultKind>, &[u8])> {
-        match printed_task(n, text) {
-            Some((task, rest)) => Some((Ok(task), rest)),
-            None => first_judged(n, text),
-        }
+    fn read_printed<'a>(
+        n: u32,
+        text: &'a [u8],
+        tasks: &mut Vec<Task>,
+    ) -> Result<&'a [u8], AllocError> {
+        read_printed_tasks(n, text, tasks)
     }
-}
 
-/// What the first line of a text says under n processes, judged word by word, and the text after it.
-#[cold]
-#[inline(never)]
-fn first_judged(n: u32, text: &[u8]) -> Option<(Result<Task, FaultKind>, &[u8])>
-    ensures line { MatchOption result
-        (lines_of text.now ≡ [])
-        (λ next. (line : TextLine) × (lines_of text.now ≡ line ∷ lines_of next.1.now) × (next.0 ≡ task_in n line)) }
-    ensures shorter { IfSome result (λ next. length next.1.now < length text.now) }
-{
-    let (line, rest) = next_line(text)?;
-    Some((task_in(n, line), rest))
+    fn first(n: u32, text: &[u8]) -> Option<(Result<Task, FaultKind>, &[u8])> {
+        let (line, rest) = next_line(text)?;
+        Some((task_in(n, line), rest))
+    }
 }
 
 /// Whether a step line of a workload begins with this word.
