@@ -114,9 +114,34 @@ impl Checker {
         ensures found_needs_none { HasFound self.old → IsOk result }
         ensures starved_needs_none { self.old.starved ≡ true → IsOk result }
     {
-        let p = item.from as usize;
-        let clock = match &item.note {
-            Note::Snap { clock, .. } => clock,
+        match self.take_note(item.from, &item.note) {
+            Ok(()) => Ok(()),
+            Err(error) => Err((error, item)),
+        }
+    }
+
+    /// Takes a note of a process, as `take` takes an item of the two. `Err` where memory runs out:
+    /// nothing has changed.
+    pub fn take_note(&mut self, from: u32, note: &Note) -> Result<(), AllocError>
+        requires { MayTake self.old (record { from = from; note = note.now }) }
+        ensures taken { OnOk result (TakesItem self.old self.new (record { from = from; note = note.now })) }
+        ensures found_stays { KeepsFound self.old self.new }
+        ensures grows_nothing { ¬ IsSearching self.old → GrowsNothing self.old self.new }
+        ensures processes { processes self.new ≡ processes self.old }
+        ensures watched { self.new.watched ≡ self.old.watched }
+
+        // Want of memory.
+        ensures unchanged { OnErr result (self.new ≡ self.old) }
+        ensures last_needs_none { is_last note.now ≡ true → IsOk result }
+        ensures found_needs_none { HasFound self.old → IsOk result }
+        ensures starved_needs_none { self.old.starved ≡ true → IsOk result }
+    {
+        let p = from as usize;
+        let clock = match note {
+            Note::Snap { number, clock } => {
+                let _in_range = *number;
+                clock
+            }
             Note::Close { .. } => {
                 self.closed[p] = true;
                 return Ok(());
@@ -126,10 +151,7 @@ impl Checker {
                 return Ok(());
             }
         };
-        if let Err(error) = self.take_snapshot(p, clock) {
-            return Err((error, item));
-        }
-        Ok(())
+        self.take_snapshot(p, clock)
     }
 
     fn take_snapshot(&mut self, p: usize, clock: &Clock) -> Result<(), AllocError>

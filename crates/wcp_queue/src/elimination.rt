@@ -113,5 +113,6 @@ fn compare(queues: &Queues, p: usize, clock: &Clock, floor: &mut Floor) -> bool
     if floor.is_above(n, p, clock.get(p as u32)) {
         return !queues.is_empty(p);
     }
-    floor.set_head(n, p, clock) && !queues.are_empty()
+    floor.set_head(n, p, clock);
+    !queues.are_empty()
 }

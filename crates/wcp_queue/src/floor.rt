@@ -73,52 +73,43 @@ impl Floor {
 
     /// A snapshot of `p`, one of `n` processes, becomes its head, and raises the floor at each other process to what
     /// its clock knows of that one, if that is greater. The head there then precedes the new one, and is dropped.
-    /// Answers whether any was.
-    pub fn set_head(&mut self, n: usize, p: usize, clock: &Clock) -> bool
+    pub fn set_head(&mut self, n: usize, p: usize, clock: &Clock)
         requires within { p < n }
         requires few { n ≤ most_processes }
         requires room { self.old.tests + n ≤ 2 ^ 64 }
         ensures head { has_head self.new p ≡ true }
         ensures own { component self.new p ≡ slice_index clock.now p }
         ensures rises { Rises p clock.now self.old self.new }
-        ensures kept { result ≡ false → (q : ℕ) → q < most_processes → q ≢ p → has_head self.new q ≡ has_head self.old q }
         ensures tests { self.new.tests + 1 ≡ self.old.tests + n }
     {
-        let dropped = self.raise(clock);
+        self.raise(clock);
         self.tests += n as u64 - 1;
         self.components[p] = clock.get(p as u32);
         self.heads[p] = true;
-        dropped
     }
 
-    /// Raises the floor to what a clock knows, and drops each head that precedes the clock's. Answers
-    /// whether any was dropped.
-    fn raise(&mut self, clock: &Clock) -> bool
+    /// Raises the floor to what a clock knows, and drops each head that precedes the clock's.
+    fn raise(&mut self, clock: &Clock)
         ensures rises { (q : ℕ) → q < most_processes → RisesTo q (slice_index clock.now q) self.old self.new }
-        ensures kept { result ≡ false → (q : ℕ) → q < most_processes → has_head self.new q ≡ has_head self.old q }
         ensures tests { self.new.tests ≡ self.old.tests }
     {
-        let mut dropped = false;
+        let mut risen = *self; // a copy, which no other memory can share
         for q in 0..MAX_PROCS {
-            dropped = self.raise_at(q, clock.get(q as u32)) || dropped;
+            risen.raise_at(q, clock.get(q as u32));
         }
-        dropped
+        *self = risen;
     }
 
     /// Raises the floor at process `q` to what is known of it, if that is greater, and drops its head
-    /// then. Answers whether it dropped one.
-    fn raise_at(&mut self, q: usize, known: u32) -> bool
+    /// then.
+    fn raise_at(&mut self, q: usize, known: u32)
         requires { q < most_processes }
         ensures rises { RisesTo q known self.old self.new }
         ensures others { IsSameBut q self.old self.new }
-        ensures kept { result ≡ false → has_head self.new q ≡ has_head self.old q }
         ensures tests { self.new.tests ≡ self.old.tests }
     {
         let floor = self.components[q];
-        let had = self.heads[q];
-        let keeps = had && known <= floor;
         self.components[q] = floor.max(known);
-        self.heads[q] = keeps;
-        had && !keeps
+        self.heads[q] = self.heads[q] && known <= floor;
     }
 }

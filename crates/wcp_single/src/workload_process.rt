@@ -7,7 +7,7 @@ ghost use Rattle.wcp_queue.specs.Checker.{MayTake, TakesItem, processes};
 ghost use Rattle.wcp_single.specs.WorkloadProcess.{Feeds, IsRunning, IsCaughtUp, MayCommunicate, MayReceive, MakesCall};
 
 use std::alloc::AllocError;
-use wcp_clock::{CLOCK_LIMIT, Item};
+use wcp_clock::CLOCK_LIMIT;
 use wcp_model::ProbeSetup;
 use wcp_probe::{ProbeCore, Stamped};
 use wcp_queue::Checker;
@@ -77,16 +77,9 @@ impl WorkloadProcess {
         let Some(note) = self.probe.pending() else {
             return Ok(());
         };
-        match checker.take(Item {
-            from: self.id,
-            note,
-        }) {
-            Ok(()) => {
-                self.probe.was_put();
-                Ok(())
-            }
-            Err((error, _)) => Err(error),
-        }
+        checker.take_note(self.id, &note)?;
+        self.probe.was_put();
+        Ok(())
     }
 
     /// The process sends a message to another.

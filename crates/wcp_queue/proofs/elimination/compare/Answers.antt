@@ -13,14 +13,8 @@ returns-then-is_above-clause-left c = λ rows before taken left.
     rw c.is_above.ensures.tests (AreLeft-under (length c.args.queues.now) rows before c.args.queues.now c.args.floor.now left c.args.p c.args.clock.now c.requires.within c.requires.no_head taken _
     (omega (arith, (c.is_above.ensures.above.0 c.if-is_above.true).1, c.get.ensures)))
 
-pub returns-then-set_head-clause-left : goal.returns-then-set_head-clause-left
-returns-then-set_head-clause-left c = λ rows before taken left.
-    AreLeft-raised (length c.args.queues.now) rows before c.args.queues.now c.args.floor.now left c.args.p c.args.clock.now c.requires.within c.requires.no_head taken c.set_head.new.self
-    (RaisesFloor-counted _ _ _ _ _ _ c.requires.few (λ several. grind arith) c.set_head.ensures.head c.set_head.ensures.own
-    (rw c.is_above.ensures.tests at c.set_head.ensures.rises))
-
-pub returns-else-set_head-clause-left : goal.returns-else-set_head-clause-left
-returns-else-set_head-clause-left c = λ rows before taken left.
+pub returns-clause-left : goal.returns-clause-left
+returns-clause-left c = λ rows before taken left.
     AreLeft-raised (length c.args.queues.now) rows before c.args.queues.now c.args.floor.now left c.args.p c.args.clock.now c.requires.within c.requires.no_head taken c.set_head.new.self
     (RaisesFloor-counted _ _ _ _ _ _ c.requires.few (λ several. grind arith) c.set_head.ensures.head c.set_head.ensures.own
     (rw c.is_above.ensures.tests at c.set_head.ensures.rises))
