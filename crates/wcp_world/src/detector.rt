@@ -114,8 +114,5 @@ fn hand_over(checker: &mut Checker, item: &Item) -> Result<(), AllocError>
     ensures watched { checker.new.watched ≡ checker.old.watched }
     ensures unchanged { OnErr result (checker.new ≡ checker.old) }
 {
-    match checker.take(*item) {
-        Ok(()) => Ok(()),
-        Err((error, _)) => Err(error),
-    }
+    checker.take_note(item.from, &item.note)
 }
