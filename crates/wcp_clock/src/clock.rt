@@ -1,4 +1,4 @@
-ghost use Rattle.std.specs.Prelude.{◌≡◌, ◌+◌, ◌<◌, ◌≤◌, ◌↔◌, length, replicate, slice_index, slice_set, IsTrue};
+ghost use Rattle.std.specs.Prelude.{◌≡◌, ◌+◌, ◌-◌, ◌++◌, ◌<◌, ◌≤◌, ◌↔◌, length, replicate, slice_index, slice_set, IsTrue};
 ghost use Rattle.std.specs.Prelude.{All, IsNone, IfSome, map, nat_eq};
 ghost use Rattle.std.specs.Cmp.{partial_equiv_from_equiv};
 ghost use Rattle.std.specs.Cmp.Lexicographic.{pointwise, nat_list_eq_equiv};
@@ -41,6 +41,24 @@ impl Clock {
                 values: [0; MAX_PROCS],
             },
         }
+    }
+
+    /// The clock with these components, one for each process.
+    pub fn from_components(components: &[u32]) -> Clock
+        requires some { 0 < length components.now }
+        requires within { length components.now ≤ most_processes }
+        ensures { result ≡ components.now }
+    {
+        Clock {
+            components: PerProcess::new(components),
+        }
+    }
+
+    /// The components, and 0 in each place behind the last.
+    pub fn padded(&self) -> [u32; MAX_PROCS]
+        ensures { result ≡ self.now ++ replicate (most_processes - length self.now) 0 }
+    {
+        self.components.padded()
     }
 
     /// How many processes the clock has components for.

@@ -1,4 +1,4 @@
-ghost use Rattle.std.specs.Prelude.{◌≡◌, ◌<◌, ◌≤◌, length, slice_get, slice_index, slice_index_or, Some, None};
+ghost use Rattle.std.specs.Prelude.{◌≡◌, ◌-◌, ◌++◌, ◌<◌, ◌≤◌, length, replicate, slice_get, slice_index, slice_index_or, Some, None};
 ghost use Rattle.wcp_clock.specs.Limits.{most_processes};
 ghost use Rattle.wcp_clock.specs.Merge.{merged};
 
@@ -118,6 +118,13 @@ impl PerProcess<u32> {
         ensures { result ≡ slice_index self.now p }
     {
         self.values[p as usize]
+    }
+
+    /// The numbers, and 0 in each place behind the last.
+    pub(crate) fn padded(&self) -> [u32; MAX_PROCS]
+        ensures { result ≡ self.now ++ replicate (most_processes - length self.now) 0 }
+    {
+        self.values
     }
 
     /// The greater of two numbers, for each process.

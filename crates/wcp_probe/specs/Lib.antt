@@ -1,3 +1,4 @@
 pub mod Core
 pub mod Seal
 pub mod Refusals
+pub mod Parts

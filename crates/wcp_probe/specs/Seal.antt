@@ -12,6 +12,10 @@ pub record Seal : Type 0 where
 abbrev pub seal_of : {T : Type 0} → Stamped T → Seal
 seal_of message = record { watch = message.watch; from = message.from; to = message.to; clock = message.clock }
 
+-- What a stamp says of a message where it is told without its sender, by which no probe refuses it.
+abbrev pub told_seal : ℕ → ℕ → List ℕ → Seal
+told_seal watch to clock = record { watch = watch; from = 0; to = to; clock = clock }
+
 abbrev pub value_of : {T : Type 0} → Stamped T → T
 value_of message = message.value
 

@@ -6,8 +6,10 @@
 //! the value back.
 #![tactic(auto)]
 
+mod parts;
 mod probe;
 mod stamp;
 
+pub use parts::ProbeParts;
 pub use probe::{ProbeCore, Refusal};
 pub use stamp::Stamped;

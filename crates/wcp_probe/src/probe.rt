@@ -1,15 +1,17 @@
 ghost use Rattle.std.specs.Prelude.{◌≡◌, ℕ, ◌+◌, ◌<◌, ◌≤◌, ◌↔◌, [], List, length, replicate, slice_index, slice_set};
-ghost use Rattle.std.specs.Prelude.{IsTrue, IsSome, IfOk, OnOk, OnErr, IfErr, MatchResult, Option, true, false};
+ghost use Rattle.std.specs.Prelude.{IsTrue, IsSome, IfSome, IfOk, OnOk, OnErr, IfErr, MatchResult, Option, true, false};
 ghost use Rattle.std.specs.Prelude.{if◌then◌else◌};
 ghost use Rattle.wcp_clock.specs.Limits.{most_processes, most_events};
 ghost use Rattle.wcp_clock.specs.declared.note.Note.TheVariants as note;
 ghost use Rattle.wcp_model.specs.ProbeLog.{Call, Observed, Sent, Received, is_up_after_receive};
 ghost use Rattle.wcp_model.specs.ProbeLog.{Closed as closed_call};
-ghost use Rattle.wcp_probe.specs.Core.{Core, StandsForLog, Accepts, IsSameProbe};
-ghost use Rattle.wcp_probe.specs.Seal.{Seal, seal_of, value_of, IsSealed};
+ghost use Rattle.wcp_probe.specs.Core.{Core, StandsForLog, Accepts, IsSameProbe, IsProbe};
+ghost use Rattle.wcp_probe.specs.Seal.{Seal, seal_of, told_seal, value_of, IsSealed};
+ghost use Rattle.wcp_probe.specs.Parts.{core_of_parts};
 ghost use Rattle.wcp_probe.specs.Refusals.{observe_refusal, close_refusal, stamp_refusal, receive_refusal};
 ghost use Rattle.wcp_probe.specs.Refusals.{stamp_mismatch};
 
+use crate::parts::ProbeParts;
 use crate::stamp::Stamped;
 use std::marker::Model;
 use thiserror::Error;
@@ -124,6 +126,47 @@ impl ProbeCore {
         }
     }
 
+    /// The probe that these are the parts of. `None` exactly where they are no probe's.
+    pub fn from_parts(parts: ProbeParts) -> Option<ProbeCore>
+        ensures probe { IfSome result (λ probe. probe ≡ core_of_parts parts) }
+        ensures sound { IsSome result ↔ IsProbe (core_of_parts parts) }
+    {
+        if !parts.are_sound() {
+            return None;
+        }
+        Some(ProbeCore {
+            watch: parts.watch,
+            id: parts.id,
+            watched: parts.watched,
+            flag: parts.flag,
+            limit: parts.limit,
+            clock: parts.clock,
+            flag_up: parts.flag_up,
+            closed: parts.closed,
+            emitted: parts.emitted,
+            pending: parts.pending,
+        })
+    }
+
+    /// The parts of the probe.
+    pub fn parts(&self) -> ProbeParts
+        ensures parts { core_of_parts result ≡ self.now }
+        ensures sound { IsProbe self.now }
+    {
+        ProbeParts {
+            watch: self.watch,
+            id: self.id,
+            watched: self.watched,
+            flag: self.flag,
+            limit: self.limit,
+            clock: self.clock,
+            flag_up: self.flag_up,
+            closed: self.closed,
+            emitted: self.emitted,
+            pending: self.pending,
+        }
+    }
+
     /// The process observes its condition. The answer is whether a snapshot was emitted, which then
     /// is pending: a true observation emits one where the flag isn't up and the process is watched.
     pub fn observe(&mut self, holds: bool) -> Result<bool, Refusal>
@@ -210,14 +253,9 @@ impl ProbeCore {
         ensures value { IfOk result (λ value. value ≡ value_of message) }
         ensures refused { IfErr result (λ back. (back.1 ≡ message) × (self.new ≡ self.old)) }
     {
-        if let Some(why) = self.why_not(&message.clock, message.watch, message.to) {
+        if let Err(why) = self.receive_told(message.watch, message.to, &message.clock) {
             return Err((why, message));
         }
-        let Some(clock) = self.clock.tick(self.id, self.limit) else {
-            return Err((Refusal::ClockEnd, message));
-        };
-        self.clock = clock.merge(&message.clock);
-        self.flag_up = self.flag.is_up_after_receive(self.flag_up);
         let Stamped {
             watch: _,
             from: _,
@@ -226,6 +264,31 @@ impl ProbeCore {
             value,
         } = message;
         Ok(value)
+    }
+
+    /// The process receives a message whose stamp says this: the watch, the receiver, and the sender's
+    /// clock after the send. For stamps that came as bytes; whether a probe made it, nobody knows here.
+    pub fn receive_told(&mut self, watch: u64, to: u32, clock: &Clock) -> Result<(), Refusal>
+        ensures first { MatchResult result (λ _. receive_refusal self.old (told_seal watch to clock.now) ≡ None)
+            (λ why. receive_refusal self.old (told_seal watch to clock.now) ≡ Some why) }
+        ensures accepted { OnOk result (Accepts self.old (Received clock.now) self.new) }
+        ensures same { OnOk result (IsSameProbe self.old self.new) }
+        ensures rest { OnOk result (self.new ≡ record self.old {
+          clock = self.new.clock;
+          flag_up = is_up_after_receive self.old.flag self.old.flag_up;
+        }) }
+        ensures pending { OnOk result (self.new.pending ≡ self.old.pending) }
+        ensures refused { OnErr result (self.new ≡ self.old) }
+    {
+        if let Some(why) = self.why_not(clock, watch, to) {
+            return Err(why);
+        }
+        let Some(ticked) = self.clock.tick(self.id, self.limit) else {
+            return Err(Refusal::ClockEnd);
+        };
+        self.clock = ticked.merge(clock);
+        self.flag_up = self.flag.is_up_after_receive(self.flag_up);
+        Ok(())
     }
 
     /// The note that was emitted last, until its link has taken it.
