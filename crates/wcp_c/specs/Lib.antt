@@ -1,0 +1,4 @@
+pub mod Answers
+pub mod Notes
+pub mod Probes
+pub mod Stamps

@@ -1,0 +1,11 @@
+//! The probe and the checker for programs in C: a static library, whose calls test what they are given.
+#![tactic(auto)]
+
+mod answer;
+mod note;
+mod probe;
+mod stamp;
+
+pub use note::WcpNote;
+pub use probe::WcpProbe;
+pub use stamp::WcpStamp;

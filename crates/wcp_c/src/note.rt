@@ -1,0 +1,109 @@
+//! A note for the checker, in a caller's memory.
+ghost use Rattle.std.specs.Prelude.{◌≡◌, ◌<◌, ◌≤◌, ◌↔◌, IsSome, IfSome, IsTrue, ◌==◌, if◌then◌else◌, nat_eq};
+ghost use Rattle.wcp_clock.specs.Limits.{most_processes};
+ghost use Rattle.wcp_c.specs.Notes.{HoldsNote, IsNoteOf, item_of};
+
+use wcp_clock::{Clock, Item, MAX_PROCS, Note};
+
+/// The first word of a note.
+const NOTE_MAGIC: u32 = 0x5743_4E31;
+
+/// A snapshot.
+const SNAPSHOT: u32 = 1;
+
+/// A close mark.
+const CLOSE_MARK: u32 = 2;
+
+/// The mark of a process that was lost.
+const LOST_MARK: u32 = 3;
+
+/// What a process emits, as it is sent to the checker.
+#[repr(C)]
+#[derive(Clone, Copy)]
+pub struct WcpNote {
+    pub magic: u32,
+    pub processes: u32,
+    pub process: u32,
+    pub kind: u32,
+    pub number: u32,
+    pub reserved: u32,
+    pub clock: [u32; MAX_PROCS],
+}
+
+impl WcpNote {
+    /// The note of a process of so many.
+    pub fn new(processes: u32, process: u32, note: &Note) -> WcpNote
+        requires few { processes ≤ most_processes }
+        requires process { process < processes }
+        requires clock { IsNoteOf processes note.now }
+        ensures holds { HoldsNote result }
+        ensures item { item_of result ≡ record { from = process; note = note.now } }
+        ensures processes { result.processes ≡ processes }
+    {
+        let (kind, number, clock) = match note {
+            Note::Snap { number, clock } => (SNAPSHOT, *number, clock.padded()),
+            Note::Close { count } => (CLOSE_MARK, *count, [0; MAX_PROCS]),
+            Note::Lost { count } => (LOST_MARK, *count, [0; MAX_PROCS]),
+        };
+        WcpNote {
+            magic: NOTE_MAGIC,
+            processes,
+            process,
+            kind,
+            number,
+            reserved: 0,
+            clock,
+        }
+    }
+
+    /// The note and its process, if the memory holds one.
+    pub fn item(&self) -> Option<Item>
+        ensures held { IsSome result ↔ HoldsNote self.now }
+        ensures item { IfSome result (λ item. item ≡ item_of self.now) }
+    {
+        if !self.is_laid_out() {
+            return None;
+        }
+        let note = match self.kind {
+            SNAPSHOT => Note::Snap {
+                number: self.number,
+                clock: Clock::from_components(&self.clock[..self.processes as usize]),
+            },
+            CLOSE_MARK => Note::Close { count: self.number },
+            _ => Note::Lost { count: self.number },
+        };
+        Some(Item {
+            from: self.process,
+            note,
+        })
+    }
+
+    /// Whether the memory is laid out as a note's is.
+    fn is_laid_out(&self) -> bool
+        ensures { IsTrue result ↔ HoldsNote self.now }
+    {
+        if self.magic != NOTE_MAGIC
+            || self.processes as usize > MAX_PROCS
+            || self.process >= self.processes
+        {
+            return false;
+        }
+        if self.kind < SNAPSHOT || self.kind > LOST_MARK || self.reserved != 0 {
+            return false;
+        }
+        self.clock[self.components()..]
+            .iter()
+            .all(|count| *count == 0)
+    }
+
+    /// How many components its clock has: only a snapshot has any.
+    fn components(&self) -> usize
+        ensures { result ≡ (if self.now.kind == 1 then self.now.processes else 0) }
+    {
+        if self.kind == SNAPSHOT {
+            self.processes as usize
+        } else {
+            0
+        }
+    }
+}
