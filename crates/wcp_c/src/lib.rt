@@ -2,7 +2,9 @@
 #![tactic(auto)]
 
 mod answer;
+mod held;
 mod note;
+mod parts;
 mod probe;
 mod stamp;
 

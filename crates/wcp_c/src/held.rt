@@ -1,0 +1,52 @@
+//! The checker that a handle holds, if any, behind a pointer that C may keep.
+ghost use Rattle.std.specs.Prelude.{◌≡◌, Option, Some, None};
+ghost use Rattle.wcp_queue.specs.Checker.{CheckerState};
+ghost use Rattle.wcp_c.specs.Held.{held_owns, held_coded};
+
+use crate::parts::Parts;
+use std::alloc::Global;
+use std::marker::Model;
+use std::ptr::null_mut;
+use wcp_queue::Checker;
+
+/// A checker on the heap, or none.
+#[repr(C)]
+#[derive(Drop)]
+pub struct Held {
+    ptr: *mut Checker,
+    alloc: Global,
+    pub ghost checker: { Option CheckerState } by { held_coded },
+}
+
+impl Model for Held {
+    ghost also_owns = { λ h. held_owns h.alloc h.ptr h.checker };
+}
+
+impl Held {
+    /// None.
+    pub fn none(alloc: Global) -> Held
+        ensures { result.checker ≡ None }
+    {
+        Held {
+            ptr: null_mut(),
+            alloc,
+        }
+    }
+
+    /// The checker with these parts.
+    pub fn of_parts(parts: Parts<Checker, Global>) -> Held
+        ensures { result.checker ≡ Some parts.value }
+    {
+        let Parts { ptr, alloc } = parts;
+        Held { ptr, alloc }
+    }
+
+    /// The parts of the checker.
+    pub fn into_parts(self) -> Parts<Checker, Global>
+        requires { (checker : CheckerState) × (self.checker ≡ Some checker) }
+        ensures { self.checker ≡ Some result.value }
+    {
+        let Held { ptr, alloc } = self;
+        Parts { ptr, alloc }
+    }
+}
