@@ -10,6 +10,16 @@ done = 0
 abbrev pub done_with_note : ℕ
 done_with_note = 1
 
+-- A report: a cut was found; there is none; or neither is known yet.
+abbrev pub found : ℕ
+found = 2
+
+abbrev pub nothing : ℕ
+nothing = 3
+
+abbrev pub undecided : ℕ
+undecided = 4
+
 -- What was passed is no probe, no stamp, no note, no checker; or it names no process or no flag.
 abbrev pub no_probe : ℕ
 no_probe = 16
@@ -25,6 +35,26 @@ no_checker = 19
 
 abbrev pub out_of_range : ℕ
 out_of_range = 20
+
+-- The handle holds a checker already; there is no memory; the process is in no cut that was found.
+abbrev pub in_use : ℕ
+in_use = 21
+
+abbrev pub no_memory : ℕ
+no_memory = 22
+
+abbrev pub not_in_cut : ℕ
+not_in_cut = 23
+
+-- Why a checker refuses a note.
+abbrev pub other_watch : ℕ
+other_watch = 48
+
+abbrev pub ended : ℕ
+ended = 49
+
+abbrev pub out_of_turn : ℕ
+out_of_turn = 50
 
 -- The number of a probe's refusal.
 abbrev pub refusal_number : Refusal → ℕ

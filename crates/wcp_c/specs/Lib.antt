@@ -1,4 +1,5 @@
 pub mod Answers
+pub mod Checkers
 pub mod Held
 pub mod Notes
 pub mod Probes

@@ -25,6 +25,33 @@ pub const NO_CHECKER: u32 = 19;
 /// A number names no process, no flag, or a number of processes that no watch has.
 pub const OUT_OF_RANGE: u32 = 20;
 
+/// The handle holds a checker already.
+pub const IN_USE: u32 = 21;
+
+/// There is no memory.
+pub const NO_MEMORY: u32 = 22;
+
+/// The process is in no cut that was found.
+pub const NOT_IN_CUT: u32 = 23;
+
+/// A cut was found.
+pub const FOUND: u32 = 2;
+
+/// There is no such cut.
+pub const NOTHING: u32 = 3;
+
+/// Neither is known yet.
+pub const UNDECIDED: u32 = 4;
+
+/// The note is of a watch of another number of processes.
+pub const OTHER_WATCH: u32 = 48;
+
+/// The process has ended.
+pub const ENDED: u32 = 49;
+
+/// The note is not the next of its process.
+pub const OUT_OF_TURN: u32 = 50;
+
 /// The number of a probe's refusal.
 pub fn refusal_number(why: Refusal) -> u32
     ensures { result ≡ refusal_number why }

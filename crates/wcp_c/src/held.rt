@@ -13,7 +13,7 @@ use wcp_queue::Checker;
 #[repr(C)]
 #[derive(Drop)]
 pub struct Held {
-    ptr: *mut Checker,
+    ptr: *mut u8,
     alloc: Global,
     pub ghost checker: { Option CheckerState } by { held_coded },
 }
@@ -38,7 +38,10 @@ impl Held {
         ensures { result.checker ≡ Some parts.value }
     {
         let Parts { ptr, alloc } = parts;
-        Held { ptr, alloc }
+        Held {
+            ptr: ptr as *mut u8,
+            alloc,
+        }
     }
 
     /// The parts of the checker.
@@ -47,6 +50,9 @@ impl Held {
         ensures { self.checker ≡ Some result.value }
     {
         let Held { ptr, alloc } = self;
-        Parts { ptr, alloc }
+        Parts {
+            ptr: ptr as *mut Checker,
+            alloc,
+        }
     }
 }

@@ -2,12 +2,15 @@
 #![tactic(auto)]
 
 mod answer;
+mod checker;
+mod handle;
 mod held;
 mod note;
 mod parts;
 mod probe;
 mod stamp;
 
+pub use handle::WcpChecker;
 pub use note::WcpNote;
 pub use probe::WcpProbe;
 pub use stamp::WcpStamp;
