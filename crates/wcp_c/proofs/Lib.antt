@@ -1,3 +1,4 @@
 pub mod AsBox
+pub mod Members
 pub mod Padded
 pub mod Values

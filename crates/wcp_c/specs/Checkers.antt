@@ -1,4 +1,6 @@
-use Rattle.std.specs.Prelude.{◌≡◌, ◌==◌, ◌||◌, ◌⊎◌, ℕ, false, not, Option, Some, [], ◌∷◌, slice_get}
+use Rattle.std.specs.Prelude.{◌≡◌, ◌==◌, ◌||◌, ◌⊎◌, ◌<◌, ℕ, false, not, Option, Some, List, [], ◌∷◌, All, length, nat_eq, slice_get}
+use Rattle.std.specs.FinSet as set
+use Rattle.std.specs.List.{list_any}
 use Rattle.wcp_clock.specs.ProcessNumbers.{NumberSet}
 use Rattle.wcp_clock.specs.Notes.{place_of}
 use Rattle.wcp_model.specs.FirstReason.{first_reason}
@@ -48,3 +50,12 @@ pub record IsNewChecker (checker : CheckerState) (n : ℕ) (members : NumberSet)
   pub watched : checker.watched ≡ members
   pub empty : StandsForItems checker []
   pub not_starved : checker.starved ≡ false
+
+-- The numbers name processes, and one at least.
+pub record NamesProcesses (n : ℕ) (numbers : List ℕ) : Type 0 where
+  pub some : 0 < length numbers
+  pub each : All (λ number. number < n) numbers
+
+-- The set of these numbers.
+abbrev pub IsSetOf : List ℕ → NumberSet → Type 0
+IsSetOf numbers members = (p : ℕ) → set.contains members p ≡ list_any (λ number. nat_eq number p) numbers

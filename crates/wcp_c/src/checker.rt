@@ -1,6 +1,6 @@
 //! The checker, behind a handle in a caller's memory.
 ghost use Rattle.std.specs.Prelude.{◌≡◌, ◌≢◌, ◌<◌, ◌≤◌, ◌↔◌, ◌⊎◌, ℕ, true, false, nat_eq, nat_lt, slice_get, slice_index_or};
-ghost use Rattle.std.specs.Prelude.{Option, Some, None, IsSome, IfSome, IfOk, IsNone, MatchOption, List, [], length, All};
+ghost use Rattle.std.specs.Prelude.{Option, Some, None, IsTrue, IsSome, IfSome, IfOk, IsNone, MatchOption, List, [], length, All};
 ghost use Rattle.std.specs.List.{list_any};
 ghost use Rattle.std.specs.FinSet as set;
 ghost use Rattle.wcp_clock.specs.Limits.{most_processes};
@@ -14,7 +14,7 @@ ghost use Rattle.wcp_queue.specs.Checker.{CheckerState, processes, taken_of, rep
 ghost use Rattle.wcp_queue.specs.Checker.{IsReportOfAnyClocks};
 ghost use Rattle.wcp_c.specs.Answers.{done, found, in_use, no_checker, no_memory, no_note, not_in_cut, nothing, out_of_range};
 ghost use Rattle.wcp_c.specs.Answers.{undecided};
-ghost use Rattle.wcp_c.specs.Checkers.{IsInCut, IsMade, IsNewChecker, IsTaken, checker_in, report_number, take_refusal};
+ghost use Rattle.wcp_c.specs.Checkers.{IsInCut, IsMade, IsNewChecker, IsSetOf, IsTaken, NamesProcesses, checker_in, report_number, take_refusal};
 ghost use Rattle.wcp_c.specs.Notes.{HoldsNote, item_of};
 
 use crate::answer::{
@@ -89,6 +89,69 @@ pub extern "C" fn wcp_checker_new(alloc: Global, checker: &mut WcpChecker, proce
         }
         Err(_) => NO_MEMORY,
     }
+}
+
+/// The same where only these processes are watched, each named by its number.
+#[unsafe(no_mangle)]
+pub extern "C" fn wcp_checker_new_with(
+    alloc: Global,
+    checker: &mut WcpChecker,
+    processes: u32,
+    watched: &[u32],
+) -> u32
+    ensures in_use { result ≡ in_use ↔ IsSome (checker_in checker.old) }
+    ensures range { result ≡ out_of_range
+        → (processes ≤ most_processes) × NamesProcesses processes watched.now → ⊥ }
+    ensures made { result ≡ done → IfSome (checker_in checker.new)
+        (λ made. (members : NumberSet) × IsSetOf watched.now members × IsNewChecker made processes members) }
+    ensures there { result ≡ done → IsSome (checker_in checker.new) }
+    ensures answers { IsMade result }
+    ensures same { result ≢ done → checker_in checker.new ≡ checker_in checker.old }
+{
+    if checker.is_held() {
+        return IN_USE;
+    }
+    if processes as usize > MAX_PROCS || !are_processes(processes, watched) {
+        return OUT_OF_RANGE;
+    }
+    match boxed(alloc, processes, watched_of(processes, watched)) {
+        Ok(made) => {
+            *checker = WcpChecker::of(made);
+            DONE
+        }
+        Err(_) => NO_MEMORY,
+    }
+}
+
+/// Whether each of these, of which there is one at least, is the number of a process.
+fn are_processes(processes: u32, numbers: &[u32]) -> bool
+    ensures { IsTrue result ↔ NamesProcesses processes numbers.now }
+{
+    !numbers.is_empty() && numbers.iter().all(|number| *number < processes)
+}
+
+/// The set of these numbers, which name processes of so many.
+fn watched_of(processes: u32, numbers: &[u32]) -> Watched
+    requires few { processes ≤ most_processes }
+    requires processes { NamesProcesses processes numbers.now }
+    ensures set { IsSetOf numbers.now result }
+    ensures some { AreSomeWatched processes result }
+{
+    set_of(processes, numbers)
+}
+
+/// The set of these numbers.
+#[tactic(auto, using(crate::proofs::Members::members_more))]
+fn set_of(processes: u32, numbers: &[u32]) -> ProcessSet
+    requires few { processes ≤ most_processes }
+    requires processes { NamesProcesses processes numbers.now }
+    ensures { IsSetOf numbers.now result }
+{
+    let mut set = ProcessSet::none();
+    for number in numbers {
+        set = set.with(*number);
+    }
+    set
 }
 
 /// The checker takes a note, if it is the next of its process.
