@@ -46,6 +46,10 @@ no_memory = 22
 abbrev pub not_in_cut : ℕ
 not_in_cut = 23
 
+-- There is no room for the text.
+abbrev pub no_room : ℕ
+no_room = 24
+
 -- Why a checker refuses a note.
 abbrev pub other_watch : ℕ
 other_watch = 48

@@ -3,4 +3,5 @@ pub mod Checkers
 pub mod Held
 pub mod Notes
 pub mod Probes
+pub mod Singles
 pub mod Stamps

@@ -34,6 +34,9 @@ pub const NO_MEMORY: u32 = 22;
 /// The process is in no cut that was found.
 pub const NOT_IN_CUT: u32 = 23;
 
+/// There is no room for the text.
+pub const NO_ROOM: u32 = 24;
+
 /// A cut was found.
 pub const FOUND: u32 = 2;
 

@@ -8,6 +8,7 @@ mod held;
 mod note;
 mod parts;
 mod probe;
+mod single;
 mod stamp;
 
 pub use handle::WcpChecker;

@@ -1,0 +1,104 @@
+/* Makes the calls of `probe_calls` from C, in the same order: `binding WORD CALLS`, where the word is observe,
+ * stamp, receive or note (a stamp, an observation that emits, and the taking of its note).
+ * Build: cc -O2 -o binding bench/binding.c bindings/out/libwullaphi.a */
+#include "../bindings/wullaphi.h"
+
+#include <stdio.h>
+#include <stdlib.h>
+#include <string.h>
+#include <time.h>
+
+#define PROCS 16
+
+static wcp_probe probes[PROCS];
+static uint32_t state = 1;
+
+static uint32_t number(void)
+{
+    state = state * 1664525u + 1013904223u;
+    return state >> 4;
+}
+
+static void pair(uint32_t *process, uint32_t *other)
+{
+    uint32_t drawn = number() >> 8;
+    *process = drawn % PROCS;
+    *other = (*process + 1 + drawn / PROCS % (PROCS - 1)) % PROCS;
+}
+
+static void observe(void)
+{
+    uint32_t process;
+    uint32_t other;
+    pair(&process, &other);
+    (void)wcp_probe_observe(&probes[process], other < process);
+}
+
+static void stamp(void)
+{
+    uint32_t process;
+    uint32_t other;
+    wcp_stamp made;
+    pair(&process, &other);
+    (void)wcp_probe_stamp(&probes[process], other, &made);
+}
+
+static void receive(void)
+{
+    uint32_t process;
+    uint32_t other;
+    wcp_stamp made;
+    pair(&process, &other);
+    if (wcp_probe_stamp(&probes[process], other, &made) == WCP_DONE) {
+        (void)wcp_probe_receive(&probes[other], &made);
+    }
+}
+
+static void note(void)
+{
+    uint32_t process;
+    uint32_t other;
+    wcp_stamp made;
+    wcp_note given;
+    pair(&process, &other);
+    (void)wcp_probe_stamp(&probes[process], other, &made);
+    (void)wcp_probe_observe(&probes[process], 1);
+    (void)wcp_probe_next(&probes[process], &given);
+}
+
+int main(int words, char **word)
+{
+    static const struct {
+        const char *word;
+        void (*call)(void);
+    } calls[] = {{"observe", observe}, {"stamp", stamp}, {"receive", receive}, {"note", note}};
+    unsigned long rounds = words > 2 ? strtoul(word[2], NULL, 10) : 0;
+    unsigned long round;
+    unsigned long long events = 0;
+    unsigned long long emitted = 0;
+    clock_t start;
+    size_t which;
+    uint32_t p;
+    uint32_t q;
+    for (p = 0; p < PROCS; p++) {
+        (void)wcp_probe_init(&probes[p], 0, p, PROCS);
+    }
+    for (which = 0; which < sizeof calls / sizeof *calls; which++) {
+        if (words > 1 && strcmp(word[1], calls[which].word) == 0) {
+            start = clock();
+            for (round = 0; round < rounds; round++) {
+                calls[which].call();
+            }
+            fprintf(stderr, "%.1f ns a call, of the processor's time\n",
+                    (double)(clock() - start) / CLOCKS_PER_SEC * 1e9 / (double)rounds);
+        }
+    }
+    for (p = 0; p < PROCS; p++) {
+        for (q = 0; q < PROCS; q++) {
+            events += probes[p].clock[q];
+        }
+        emitted += probes[p].emitted;
+    }
+    printf("known %llu emitted %llu\n", events, emitted);
+    return 0;
+}

@@ -1,0 +1,339 @@
+"""Wullaphi for Python: the probe of a process, the checker, and the report of a text.
+
+A probe tells a checker, by notes, when the condition of its process holds, and each message between the processes
+goes with a stamp. The checker finds the first moment at which all conditions could have held at once, or that there
+was none. Stamps and notes are `bytes`: send them as you like, between threads, processes or machines of one byte
+order.
+
+One call at a time uses a `Probe` or a `Checker`; which thread makes it is all the same. The module loads
+`libwullaphi.so` from the folder `out` beside its own, or from where the variable `WULLAPHI_LIBRARY` says.
+"""
+
+import ctypes
+import os
+from typing import Dict, NamedTuple, Optional, Sequence, Tuple, Type
+
+__all__ = [
+    "Refused", "NoProbe", "NoStamp", "NoNote", "NoChecker", "OutOfRange", "InUse", "NotInCut", "NoSuch", "Closed",
+    "Backlog", "Stranger", "NotMine", "Ahead", "ClockEnd", "OtherWatch", "Ended", "OutOfTurn",
+    "Probe", "Checker", "Report", "Single", "is_last", "single", "MAX_PROCESSES", "NOTE_SIZE", "STAMP_SIZE",
+]
+
+MAX_PROCESSES = 16
+
+
+class Refused(Exception):
+    """A call was refused, and has changed nothing."""
+
+
+class NoProbe(Refused):
+    """The memory holds no probe, or a damaged one."""
+
+
+class NoStamp(Refused):
+    """The bytes are no stamp, or a damaged one."""
+
+
+class NoNote(Refused):
+    """The bytes are no note, or a damaged one."""
+
+
+class NoChecker(Refused):
+    """The checker was ended."""
+
+
+class OutOfRange(Refused):
+    """A number names no process, or too few or too many processes."""
+
+
+class InUse(Refused):
+    """The handle holds a checker already."""
+
+
+class NotInCut(Refused):
+    """No cut was found, or the process is not watched."""
+
+
+class NoSuch(Refused):
+    """The receiver is no process of the watch, or is the probe's own."""
+
+
+class Closed(Refused):
+    """The probe is closed."""
+
+
+class Backlog(Refused):
+    """A note is pending: take it by `Probe.next` first."""
+
+
+class Stranger(Refused):
+    """The stamp is of another watch."""
+
+
+class NotMine(Refused):
+    """The stamp is addressed to another process."""
+
+
+class Ahead(Refused):
+    """The stamp knows of events of this process that it has not made."""
+
+
+class ClockEnd(Refused):
+    """The process has made as many events as a clock can count."""
+
+
+class OtherWatch(Refused):
+    """The note is of a watch of another number of processes."""
+
+
+class Ended(Refused):
+    """The process was closed, or lost."""
+
+
+class OutOfTurn(Refused):
+    """A note before it has not come, or it was taken already."""
+
+
+_SNAPSHOT = 1
+_DONE_WITH_NOTE = 1
+_FOUND = 2
+_NOTHING = 3
+_NO_PROBE = 16
+_NOT_IN_CUT = 23
+_NO_ROOM = 24
+
+_REFUSALS: Dict[int, Type[Exception]] = {
+    16: NoProbe, 17: NoStamp, 18: NoNote, 19: NoChecker, 20: OutOfRange, 21: InUse, 22: MemoryError, 23: NotInCut,
+    32: NoSuch, 33: Closed, 34: Backlog, 35: Stranger, 36: NotMine, 37: Ahead, 38: ClockEnd,
+    48: OtherWatch, 49: Ended, 50: OutOfTurn,
+}
+
+_Clock = ctypes.c_uint32 * MAX_PROCESSES
+
+
+class _Probe(ctypes.Structure):
+    _fields_ = [(name, ctypes.c_uint32) for name in (
+        "magic", "processes", "process", "watched", "flag", "flag_up", "closed", "pending", "emitted", "reserved",
+    )] + [("watch", ctypes.c_uint64), ("clock", _Clock)]
+
+
+class _Stamp(ctypes.Structure):
+    _fields_ = [(name, ctypes.c_uint32) for name in ("magic", "processes", "sender", "to")] + [
+        ("watch", ctypes.c_uint64), ("clock", _Clock)]
+
+
+class _Note(ctypes.Structure):
+    _fields_ = [(name, ctypes.c_uint32) for name in (
+        "magic", "processes", "process", "kind", "number", "reserved",
+    )] + [("clock", _Clock)]
+
+
+class _Checker(ctypes.Structure):
+    _fields_ = [("held_word", ctypes.c_uint32), ("reserved", ctypes.c_uint32), ("held", ctypes.c_void_p)]
+
+
+STAMP_SIZE = ctypes.sizeof(_Stamp)
+NOTE_SIZE = ctypes.sizeof(_Note)
+
+
+def _load() -> ctypes.CDLL:
+    beside = os.path.join(os.path.dirname(os.path.abspath(__file__)), "..", "out", "libwullaphi.so")
+    library = ctypes.CDLL(os.environ.get("WULLAPHI_LIBRARY", beside))
+    word, many = ctypes.c_uint32, ctypes.c_uint64
+    probe, stamp, note = (ctypes.POINTER(kind) for kind in (_Probe, _Stamp, _Note))
+    checker = ctypes.POINTER(_Checker)
+    calls = {
+        "wcp_probe_init_with": [probe, many, word, word, word, word],
+        "wcp_probe_observe": [probe, word],
+        "wcp_probe_stamp": [probe, word, stamp],
+        "wcp_probe_receive": [probe, stamp],
+        "wcp_probe_next": [probe, note],
+        "wcp_probe_close": [probe],
+        "wcp_checker_new": [checker, word],
+        "wcp_checker_new_with": [checker, word, ctypes.POINTER(word), ctypes.c_size_t],
+        "wcp_checker_take": [checker, note],
+        "wcp_checker_report": [checker],
+        "wcp_checker_cut": [checker, word, ctypes.POINTER(word)],
+        "wcp_checker_taken": [checker, word, ctypes.POINTER(many)],
+        "wcp_checker_end": [checker],
+        "wcp_single": [ctypes.c_char_p, ctypes.c_size_t, ctypes.c_char_p, ctypes.c_size_t, ctypes.POINTER(many)],
+    }
+    for name, arguments in calls.items():
+        call = getattr(library, name)
+        call.argtypes = arguments
+        call.restype = word
+    return library
+
+
+_library = _load()
+
+
+def _answer(number: int) -> int:
+    if number in _REFUSALS:
+        raise _REFUSALS[number]()
+    return number
+
+
+def _number(value: int, most: int) -> int:
+    """A number that C can be told: ctypes would cut it silently."""
+    if not 0 <= value <= most:
+        raise OutOfRange()
+    return value
+
+
+def _word(value: int) -> int:
+    return _number(value, 0xFFFF_FFFF)
+
+
+class Probe:
+    """The probe of process `process` of `processes` of the watch with the number `watch`.
+
+    `watched` says whether the process has a condition, and `flag_of_sends` that only sends reset the probe's flag:
+    fewer notes, and the same reports.
+    """
+
+    def __init__(self, watch: int, process: int, processes: int, watched: bool = True,
+                 flag_of_sends: bool = False) -> None:
+        self._memory = _Probe()
+        self._at = ctypes.pointer(self._memory)
+        self._note = _Note()
+        self._note_at = ctypes.pointer(self._note)
+        self._stamp = _Stamp()
+        self._stamp_at = ctypes.pointer(self._stamp)
+        _answer(_library.wcp_probe_init_with(self._at, _number(watch, 0xFFFF_FFFF_FFFF_FFFF), _word(process),
+                                             _word(processes), int(watched), int(flag_of_sends)))
+
+    def observe(self, holds: bool) -> Optional[bytes]:
+        """The process looks at its condition. The answer is the note to send to the checker, if there is one."""
+        if _answer(_library.wcp_probe_observe(self._at, 1 if holds else 0)) == _DONE_WITH_NOTE:
+            return self.next()
+        return None
+
+    def stamp(self, to: int) -> bytes:
+        """The process sends a message to process `to`: this goes along with it."""
+        _answer(_library.wcp_probe_stamp(self._at, _word(to), self._stamp_at))
+        return bytes(self._stamp)
+
+    def receive(self, stamp: bytes) -> None:
+        """The process receives the message that came with this stamp."""
+        if len(stamp) != STAMP_SIZE:
+            raise NoStamp()
+        _answer(_library.wcp_probe_receive(self._at, ctypes.pointer(_Stamp.from_buffer_copy(stamp))))
+
+    def next(self) -> Optional[bytes]:
+        """The pending note, if there is one; it then is no longer pending. `observe` and `close` give it already."""
+        if _answer(_library.wcp_probe_next(self._at, self._note_at)) == _DONE_WITH_NOTE:
+            return bytes(self._note)
+        return None
+
+    def close(self) -> bytes:
+        """The process ends its part. The answer is its last note."""
+        _answer(_library.wcp_probe_close(self._at))
+        note = self.next()
+        assert note is not None
+        return note
+
+    def to_bytes(self) -> bytes:
+        """The probe as bytes, to go on with elsewhere, by `from_bytes`."""
+        return bytes(self._memory)
+
+    @classmethod
+    def from_bytes(cls, data: bytes) -> "Probe":
+        """The probe that `to_bytes` wrote."""
+        if len(data) != ctypes.sizeof(_Probe):
+            raise NoProbe()
+        if _library.wcp_probe_observe(ctypes.pointer(_Probe.from_buffer_copy(data)), 0) == _NO_PROBE:
+            raise NoProbe()
+        probe = cls(0, 0, 1)
+        ctypes.memmove(probe._at, data, len(data))
+        return probe
+
+
+def is_last(note: bytes) -> bool:
+    """Whether this is the last note of its process: that it is closed, or lost."""
+    if len(note) != NOTE_SIZE:
+        raise NoNote()
+    return _Note.from_buffer_copy(note).kind != _SNAPSHOT
+
+
+class Report(NamedTuple):
+    """What a checker's notes tell: `known` is "found", "nothing" or "undecided". Where a cut was found, `cut` has the
+    interval of each process, `None` for one that is not watched: how many messages it had sent and received then."""
+
+    known: str
+    cut: Optional[Tuple[Optional[int], ...]] = None
+
+
+class Checker:
+    """Takes the notes of `processes` processes, of which those in `watched` have a condition, or all."""
+
+    def __init__(self, processes: int, watched: Optional[Sequence[int]] = None) -> None:
+        self._memory = _Checker()
+        self._at = ctypes.pointer(self._memory)
+        self.processes = processes
+        if watched is None:
+            _answer(_library.wcp_checker_new(self._at, _word(processes)))
+            return
+        numbers = (ctypes.c_uint32 * max(1, len(watched)))(*[_word(number) for number in watched])
+        _answer(_library.wcp_checker_new_with(self._at, _word(processes), numbers, len(watched)))
+
+    def take(self, note: bytes) -> None:
+        """Takes a note, the next of its process; those of different processes may come in any order."""
+        if len(note) != NOTE_SIZE:
+            raise NoNote()
+        _answer(_library.wcp_checker_take(self._at, ctypes.pointer(_Note.from_buffer_copy(note))))
+
+    def report(self) -> Report:
+        """What the notes taken tell."""
+        known = _answer(_library.wcp_checker_report(self._at))
+        if known == _FOUND:
+            return Report("found", tuple(self._interval(process) for process in range(self.processes)))
+        return Report("nothing" if known == _NOTHING else "undecided")
+
+    def _interval(self, process: int) -> Optional[int]:
+        interval = ctypes.c_uint32()
+        answer = _library.wcp_checker_cut(self._at, process, ctypes.byref(interval))
+        if answer == _NOT_IN_CUT:
+            return None
+        _answer(answer)
+        return interval.value
+
+    def taken(self, process: int) -> int:
+        """How many snapshots of the process were taken."""
+        count = ctypes.c_uint64()
+        _answer(_library.wcp_checker_taken(self._at, _word(process), ctypes.byref(count)))
+        return count.value
+
+    def end(self) -> None:
+        """Frees the memory; each later call is refused."""
+        _answer(_library.wcp_checker_end(self._at))
+
+    def __enter__(self) -> "Checker":
+        return self
+
+    def __exit__(self, *_: object) -> None:
+        if self._memory.held:
+            self.end()
+
+    def __del__(self) -> None:
+        if getattr(self, "_memory", None) is not None and self._memory.held:
+            _library.wcp_checker_end(self._at)
+
+
+class Single(NamedTuple):
+    """The status of `wcpwatch single` (0 found, 1 not found, 2 a fault), and what it prints."""
+
+    status: int
+    text: bytes
+
+
+def single(text: bytes) -> Single:
+    """What `wcpwatch single` answers to this text; for a fault, the line that it writes to standard error."""
+    room = 4096
+    while True:
+        out = ctypes.create_string_buffer(room)
+        length = ctypes.c_uint64()
+        status = _library.wcp_single(text, len(text), out, room, ctypes.byref(length))
+        if status != _NO_ROOM:
+            return Single(_answer(status), out.raw[:length.value])
+        room = length.value

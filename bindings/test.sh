@@ -1,0 +1,79 @@
+#!/usr/bin/env bash
+# Builds the library, and runs the tests and the examples of its calls from C and from Python. Each test prints its
+# count; the last line is that of all.
+set -eu
+cd "$(dirname "$0")/.."
+cc=${CC:-cc}
+bindings/build.sh
+made=$(mktemp -d)
+trap 'rm -rf "$made"' EXIT
+passed=0
+failed=0
+
+count() {
+    if [ "$1" = 0 ]; then passed=$((passed + 1)); else failed=$((failed + 1)); fi
+}
+
+# Runs a test, whose last line is its count, and adds that.
+run_test() {
+    name=$1
+    shift
+    status=0
+    line=$("$@" | tail -n 1) || status=$?
+    echo "$name: ${line:-no answer}"
+    case $line in
+    *' passed, '*' failed')
+        passed=$((passed + ${line%% *}))
+        line=${line#* passed, }
+        failed=$((failed + ${line%% *}))
+        ;;
+    *) failed=$((failed + 1)) ;;
+    esac
+    if [ "$status" != 0 ] && [ "${line%% *}" = 0 ]; then failed=$((failed + 1)); fi
+}
+
+# Runs an example, which must write this.
+run_example() {
+    name=$1
+    wanted=$2
+    shift 2
+    written=$(timeout 60 "$@") || written="status $?"
+    if [ "$written" = "$wanted" ]; then
+        echo "$name: as wanted"
+        count 0
+    else
+        printf '%s wrote:\n%s\nand not:\n%s\n' "$name" "$written" "$wanted"
+        count 1
+    fi
+}
+
+compile() {
+    "$cc" -std=c99 -D_POSIX_C_SOURCE=200809L -Wall -Wextra -Werror -O1 -g -fsanitize=address,undefined \
+        -fno-sanitize-recover=all -o "$made/$(basename "$1" .c)" "$1" bindings/out/libwullaphi.a -lpthread
+}
+
+for source in bindings/tests/*.c bindings/examples/*.c; do
+    compile "$source"
+done
+"$cc" -std=c89 -pedantic -Wall -Wextra -Werror -Wno-long-long -fsyntax-only -x c bindings/wullaphi.h
+count $?
+for source in bindings/tests/*.c; do
+    name=$(basename "$source" .c)
+    run_test "$name in C" "$made/$name"
+done
+run_example "the token in C" "the two threads never had the token at once" "$made/token"
+run_example "the token in C, kept" "both threads had the token, thread 0 after 1 of its messages, thread 1 after 1" \
+    "$made/token" keep
+if ! command -v python3 >/dev/null; then
+    echo "there is no python3, so the Python module is not tested"
+    failed=$((failed + 1))
+else
+    for source in bindings/tests/*.py; do
+        run_test "$(basename "$source" .py) in Python" python3 "$source"
+    done
+    run_example "the lock in Python" "no two processes ever held the lock at once" python3 bindings/examples/lock.py
+    run_example "the lock in Python, kept" "processes 0 and 1 held the lock at once, 0 after 2 of its messages and 1 after 2
+processes 1 and 2 held the lock at once, 1 after 2 of its messages and 2 after 1" python3 bindings/examples/lock.py keep
+fi
+echo "$passed passed, $failed failed"
+[ "$failed" = 0 ]

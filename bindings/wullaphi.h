@@ -1,0 +1,179 @@
+/* Wullaphi for programs in C: the probe of a process, the checker, and the report of a text.
+ *
+ * Every call answers a number, tests what it is given and refuses what it cannot use: it then has changed
+ * nothing, but where its comment says otherwise. What is left to the caller:
+ *
+ *   - a pointer is not NULL, is aligned for its type and has room for what is written there, and what two
+ *     pointers of one call name does not overlap;
+ *   - one call at a time has a probe or a handle; which thread makes it is all the same;
+ *   - a handle of a checker starts as WCP_CHECKER_NONE, is changed by calls alone, and is never copied.
+ *
+ * A probe, a stamp and a note are plain memory: they may be copied, kept and sent, to another machine of the
+ * same byte order (one of another order finds no magic word in them). Copies of a probe are the same probe:
+ * go on with one of them. A stamp or a note proves nothing of who made it. */
+#ifndef WULLAPHI_H
+#define WULLAPHI_H
+
+#include <stddef.h>
+#include <stdint.h>
+
+#ifdef __cplusplus
+extern "C" {
+#endif
+
+/* The version of these calls; it is in the magic words of probes, stamps, notes and handles. */
+#define WCP_VERSION 1
+
+/* The most processes of a watch. */
+#define WCP_MAX_PROCESSES 16
+
+/* Answers. Up to WCP_DONE_WITH_NOTE a call of a probe was accepted. */
+#define WCP_DONE 0           /* done */
+#define WCP_DONE_WITH_NOTE 1 /* done, and a note is pending, or was given */
+
+/* Reports. */
+#define WCP_FOUND 2     /* a cut was found, and stays */
+#define WCP_NOTHING 3   /* all processes are closed, and there is no such cut */
+#define WCP_UNDECIDED 4 /* neither is known yet */
+
+/* What was passed cannot be used. */
+#define WCP_NO_PROBE 16     /* the memory holds no probe, or a damaged one */
+#define WCP_NO_STAMP 17     /* the memory holds no stamp, or a damaged one */
+#define WCP_NO_NOTE 18      /* the memory holds no note, or a damaged one */
+#define WCP_NO_CHECKER 19   /* the handle holds no checker */
+#define WCP_OUT_OF_RANGE 20 /* a number names no process, no flag, or too few or too many processes */
+#define WCP_IN_USE 21       /* the handle holds a checker already */
+#define WCP_NO_MEMORY 22    /* there is no memory; nothing has changed */
+#define WCP_NOT_IN_CUT 23   /* no cut was found, or the process is not watched */
+#define WCP_NO_ROOM 24      /* the text has no room where it is to be put */
+
+/* Why a probe refuses a call; where several hold, the first in this order. */
+#define WCP_NO_SUCH 32   /* the receiver is no process of the watch, or is the probe's own */
+#define WCP_CLOSED 33    /* the probe is closed */
+#define WCP_BACKLOG 34   /* a note is pending: take it by wcp_probe_next first */
+#define WCP_STRANGER 35  /* the stamp is of another watch */
+#define WCP_NOT_MINE 36  /* the stamp is addressed to another process */
+#define WCP_AHEAD 37     /* the stamp knows of events of this process that it has not made */
+#define WCP_CLOCK_END 38 /* the process has made as many events as a clock can count: 4,294,967,294 */
+
+/* Why a checker refuses a note; where several hold, the first in this order. */
+#define WCP_OTHER_WATCH 48 /* the note is of a watch of another number of processes */
+#define WCP_ENDED 49       /* the process was closed, or lost */
+#define WCP_OUT_OF_TURN 50 /* a note before it has not come, or it was taken already */
+
+/* What resets the flag of a probe, while which it emits no further note. */
+#define WCP_FLAG_EVENT 0 /* each send and each receive */
+#define WCP_FLAG_SEND 1  /* each send: fewer notes, and the same reports */
+
+/* The probe of one process: 112 bytes. Its fields are the library's. */
+typedef struct wcp_probe {
+    uint32_t magic;
+    uint32_t processes;
+    uint32_t process;
+    uint32_t watched;
+    uint32_t flag;
+    uint32_t flag_up;
+    uint32_t closed;
+    uint32_t pending;
+    uint32_t emitted;
+    uint32_t reserved;
+    uint64_t watch;
+    uint32_t clock[WCP_MAX_PROCESSES];
+} wcp_probe;
+
+/* What goes along with a message: 88 bytes. */
+typedef struct wcp_stamp {
+    uint32_t magic;
+    uint32_t processes;
+    uint32_t from; /* the sender */
+    uint32_t to;   /* the receiver */
+    uint64_t watch;
+    uint32_t clock[WCP_MAX_PROCESSES];
+} wcp_stamp;
+
+/* What a process tells the checker: 88 bytes. Kind 1 is a snapshot, 2 says that the process is closed, and 3
+ * that it was lost; `number` counts the snapshots of the process before it. */
+typedef struct wcp_note {
+    uint32_t magic;
+    uint32_t processes;
+    uint32_t process;
+    uint32_t kind;
+    uint32_t number;
+    uint32_t reserved;
+    uint32_t clock[WCP_MAX_PROCESSES];
+} wcp_note;
+
+/* The handle of a checker: it holds one or none. */
+typedef struct wcp_checker {
+    uint32_t held_word;
+    uint32_t reserved;
+    void *held;
+} wcp_checker;
+
+#define WCP_CHECKER_NONE {0, 0, NULL}
+
+/* Makes the probe of process `process` (0 and up) of `processes` (1 to 16) of a watch, whose number tells its
+ * stamps from those of other watches. Its process has a condition, and each event resets its flag.
+ * WCP_DONE, or WCP_OUT_OF_RANGE. */
+uint32_t wcp_probe_init(wcp_probe *probe, uint64_t watch, uint32_t process, uint32_t processes);
+
+/* The same, where `watched` is 1 if the process has a condition and 0 if it only passes messages on, and
+ * `flag` is WCP_FLAG_EVENT or WCP_FLAG_SEND. */
+uint32_t wcp_probe_init_with(wcp_probe *probe, uint64_t watch, uint32_t process, uint32_t processes,
+                             uint32_t watched, uint32_t flag);
+
+/* The process looks at its condition; any `holds` but 0 says that it holds. WCP_DONE_WITH_NOTE: a note is
+ * pending now. WCP_DONE: there is nothing to send. Else WCP_NO_PROBE or WCP_CLOSED. */
+uint32_t wcp_probe_observe(wcp_probe *probe, uint32_t holds);
+
+/* The process sends a message to process `to`: `stamp` is to go along with it. WCP_DONE, or WCP_NO_PROBE,
+ * WCP_NO_SUCH, WCP_CLOSED, WCP_BACKLOG or WCP_CLOCK_END. */
+uint32_t wcp_probe_stamp(wcp_probe *probe, uint32_t to, wcp_stamp *stamp);
+
+/* The process receives the message that came with `stamp`. WCP_DONE, or WCP_NO_PROBE, WCP_NO_STAMP,
+ * WCP_CLOSED, WCP_BACKLOG, WCP_STRANGER, WCP_NOT_MINE, WCP_AHEAD or WCP_CLOCK_END. */
+uint32_t wcp_probe_receive(wcp_probe *probe, const wcp_stamp *stamp);
+
+/* Gives the pending note, which then is no longer pending; it is to be sent to the checker, in the order in
+ * which the probe gives them. WCP_DONE_WITH_NOTE: here it is. WCP_DONE: none is pending. Else WCP_NO_PROBE. */
+uint32_t wcp_probe_next(wcp_probe *probe, wcp_note *note);
+
+/* The process ends its part: a last note is pending. WCP_DONE_WITH_NOTE, or WCP_NO_PROBE, WCP_CLOSED or
+ * WCP_BACKLOG. */
+uint32_t wcp_probe_close(wcp_probe *probe);
+
+/* Puts into the handle a checker of so many processes, each of them watched. WCP_DONE, or WCP_IN_USE,
+ * WCP_OUT_OF_RANGE or WCP_NO_MEMORY. */
+uint32_t wcp_checker_new(wcp_checker *checker, uint32_t processes);
+
+/* The same where only the processes with these numbers are watched, one at least; `watched` is not NULL. */
+uint32_t wcp_checker_new_with(wcp_checker *checker, uint32_t processes, const uint32_t *watched, size_t count);
+
+/* The checker takes a note, the next of its process; those of different processes may come in any order.
+ * WCP_DONE, or WCP_NO_CHECKER, WCP_NO_NOTE, WCP_OTHER_WATCH, WCP_ENDED, WCP_OUT_OF_TURN or WCP_NO_MEMORY. */
+uint32_t wcp_checker_take(wcp_checker *checker, const wcp_note *note);
+
+/* What the notes taken tell: WCP_FOUND, WCP_NOTHING or WCP_UNDECIDED; or WCP_NO_CHECKER. */
+uint32_t wcp_checker_report(wcp_checker *checker);
+
+/* The interval of process `p` in the cut that was found: how many messages it had sent and received by then.
+ * WCP_DONE, or WCP_NO_CHECKER or WCP_NOT_IN_CUT, where *interval stays. */
+uint32_t wcp_checker_cut(wcp_checker *checker, uint32_t p, uint32_t *interval);
+
+/* How many snapshots of process `p` were taken. WCP_DONE, or WCP_NO_CHECKER or WCP_OUT_OF_RANGE. */
+uint32_t wcp_checker_taken(wcp_checker *checker, uint32_t p, uint64_t *count);
+
+/* Ends the checker and frees its memory; the handle then holds none. WCP_DONE, or WCP_NO_CHECKER. */
+uint32_t wcp_checker_end(wcp_checker *checker);
+
+/* What `wcpwatch single` answers to a text of `length` bytes: its status, 0 where a bad moment was found, 1 where none
+ * was, and 2 where the text has a fault. What is printed, for a fault the line that says which, is put into `out`, which
+ * has room for `room` bytes and is not NULL, and its length into *written. Where it has no room, WCP_NO_ROOM: nothing is
+ * put into `out`, and *written says how much room it wants. Or WCP_NO_MEMORY, where *written stays. */
+uint32_t wcp_single(const uint8_t *text, size_t length, uint8_t *out, size_t room, uint64_t *written);
+
+#ifdef __cplusplus
+}
+#endif
+
+#endif

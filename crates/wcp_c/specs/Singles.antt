@@ -1,0 +1,33 @@
+use Rattle.std.specs.Prelude.{◌≡◌, ◌<◌, ◌≤◌, ◌⊎◌, ℕ, List}
+use Rattle.wcp_model.specs.declared.outcome.Outcome.{Outcome}
+use Rattle.wcp_model.specs.declared.outcome.Report.{Report}
+use Rattle.wcp_model.specs.declared.outcome.Report.TheVariants.{Found, Nothing, Undecided}
+use Rattle.wcp_model.specs.declared.plan.Plan.{Plan}
+use Rattle.wcp_model.specs.declared.workload.Task.{Task}
+use Rattle.wcp_model.specs.Outcome.{IsWorkloadOutcome}
+use Rattle.wcp_model.specs.WorkloadComputation.{CouldBeRead}
+use Rattle.wcp_report.specs.ReportText.{outcome_text}
+use Rattle.wcp_script.specs.TextFault.{workloads, Spells}
+use Rattle.wcp_c.specs.Answers.{no_room}
+
+-- The status after a report: 0 where a bad moment was found.
+abbrev pub status_of : Report → ℕ
+status_of (Found cut) = 0
+status_of Nothing = 1
+status_of Undecided = 1
+
+-- The answer to the text of a workload: its outcome, printed, with the status of the report.
+pub record IsSingleAnswer (text printed : List ℕ) (status : ℕ) : Type 0 where
+  pub plan : Plan
+  pub tasks : List Task
+  pub outcome : Outcome
+  pub spelled : Spells workloads text plan tasks
+  pub could_be_read : CouldBeRead plan.n tasks
+  pub right : IsWorkloadOutcome plan.n plan.watched plan.flag tasks outcome
+  pub print : printed ≡ outcome_text outcome
+  pub status_is : status ≡ status_of outcome.report
+
+-- The answer where a text of so many bytes is to be put into so much room.
+abbrev pub IsAnswered : ℕ → ℕ → ℕ → ℕ → Type 0
+IsAnswered bytes room status answer =
+    ((bytes ≤ room) × (answer ≡ status)) ⊎ ((room < bytes) × (answer ≡ no_room))
