@@ -36,7 +36,10 @@ pub fn match_ends(end: PutterEnd, taker: RingTaker) -> Result<Matched, Unfinishe
 {
     let PutterEnd { mut producer } = end;
     let taken = Snapshot::of(&taker);
-    let RingTaker { mut consumer } = taker;
+    let RingTaker {
+        mut consumer,
+        bell: _,
+    } = taker;
     if consumer.slots_beside(&mut producer) > 0 {
         return Err(Unfinished);
     }

@@ -19,5 +19,9 @@ pub fn ring(alloc: Global, cap: u32) -> Result<(RingPutter, RingTaker), AllocErr
         producer,
         bell: None,
     };
-    Ok((putter, RingTaker { consumer }))
+    let taker = RingTaker {
+        consumer,
+        bell: None,
+    };
+    Ok((putter, taker))
 }

@@ -3,7 +3,13 @@ ghost use Rattle.std.specs.Prelude.{◌≡◌, ◌+◌, ◌<◌, ◌≤◌, [], 
 use crate::sleeper::Bell;
 use rtrb::Producer;
 use std::marker::Model;
+use thiserror::Error;
 use wcp_clock::Note;
+
+/// The end of a ring that takes is gone, so nobody takes what is put. Only a look at the ring makes a value of it.
+#[derive(Clone, Copy, Debug, PartialEq, Eq, Error)]
+#[error("nobody takes from the ring any more")]
+pub struct Gone(());
 
 /// The end of a ring that puts notes. None of its calls takes memory, and none waits.
 #[derive(Drop)]
@@ -48,6 +54,18 @@ impl RingPutter {
         self.producer.push_reserved(note);
         if let Some(bell) = &self.bell {
             bell.ring();
+        }
+        Ok(())
+    }
+
+    /// Whether the end that takes is there. `Err` once it was dropped: what is put from then on, nobody takes.
+    pub fn linked(&mut self) -> Result<(), Gone>
+        ensures ring { self.new.ring ≡ self.old.ring }
+        ensures put { self.new.put ≡ self.old.put }
+        ensures free { self.old.free ≤ self.new.free }
+    {
+        if self.producer.is_abandoned() {
+            return Err(Gone(()));
         }
         Ok(())
     }

@@ -1,5 +1,6 @@
 use crossbeam_utils::sync::{Parker, Unparker};
 use std::alloc::{AllocError, Global};
+use std::marker::Model;
 use std::sync::atomic::AtomicBool;
 use std::sync::atomic::Ordering::SeqCst;
 use std::sync::{Arc, Wait};
@@ -8,12 +9,21 @@ use std::thread;
 /// How often a thread that finds nothing gives way to others before it sleeps.
 const YIELDS: u32 = 2;
 
-/// By this the thread that takes waits while its rings are empty. A bell of it wakes the thread.
+/// By this a thread waits for others: who takes while its rings are empty, and who puts while its ring is full. A bell
+/// of it wakes the thread. Clauses see nothing of it.
 #[derive(Drop)]
 pub struct Sleeper {
     parker: Parker,
     asleep: Arc<AtomicBool, Global>,
     rests: u32,
+}
+
+impl Model for Sleeper {
+    ghost use Rattle.std.specs.Prelude.{⊤};
+
+    ghost Value = { ⊤ };
+
+    ghost view = { λ _. tt };
 }
 
 impl Sleeper {
@@ -34,7 +44,7 @@ impl Sleeper {
         })
     }
 
-    /// Something was taken.
+    /// What it waited for came.
     pub fn stir(&mut self) {
         if self.rests >= YIELDS {
             self.asleep.store(false, SeqCst);
@@ -42,9 +52,9 @@ impl Sleeper {
         self.rests = 0;
     }
 
-    /// All rings were empty. It gives way to other threads some times, then says that it sleeps, and
-    /// sleeps at the next call: the thread looks at its rings between any two calls, so a note that was
-    /// put before the bells knew is seen.
+    /// What it waits for didn't come. It gives way to other threads some times, then says that it sleeps, and
+    /// sleeps at the next call: the thread looks at its rings between any two calls, so what came before the bells
+    /// knew is seen.
     pub fn rest<R: Wait>(&mut self, rt: &R) {
         if self.rests >= YIELDS {
             self.parker.park(rt);
@@ -60,10 +70,18 @@ impl Sleeper {
     }
 }
 
-/// Wakes a thread that sleeps while its rings are empty, and does so once more when it is dropped.
+/// Wakes a thread that sleeps, and does so once more when it is dropped. Clauses see nothing of it.
 pub struct Bell {
     unparker: Unparker,
     asleep: Arc<AtomicBool, Global>,
+}
+
+impl Model for Bell {
+    ghost use Rattle.std.specs.Prelude.{⊤};
+
+    ghost Value = { ⊤ };
+
+    ghost view = { λ _. tt };
 }
 
 impl Bell {

@@ -1,6 +1,7 @@
 ghost use Rattle.std.specs.Prelude.{◌≡◌, ◌<◌, [], ◌∷◌, ◌++◌, length, IsSome, IfSome, IfNone};
 ghost use mathlib.Core.List.{IsPrefix};
 
+use crate::sleeper::Bell;
 use rtrb::Consumer;
 use std::marker::Model;
 use wcp_clock::Note;
@@ -9,6 +10,8 @@ use wcp_clock::Note;
 #[derive(Drop)]
 pub struct RingTaker {
     pub(crate) consumer: Consumer<Note>,
+    // Declared last, so that it rings after the consumer is gone.
+    pub(crate) bell: Option<Bell>,
 }
 
 impl Model for RingTaker {
@@ -20,6 +23,17 @@ impl Model for RingTaker {
 }
 
 impl RingTaker {
+    /// The same end, which from now on rings this bell: after each note that it takes, and when it is dropped.
+    pub fn with_bell(self, bell: Bell) -> RingTaker
+        ensures { result ≡ self }
+    {
+        let RingTaker { consumer, bell: _ } = self;
+        RingTaker {
+            consumer,
+            bell: Some(bell),
+        }
+    }
+
     /// The ring's next note, if it has one.
     pub fn try_take(&mut self) -> Option<Note>
         ensures ring { self.new.ring ≡ self.old.ring }
@@ -28,7 +42,11 @@ impl RingTaker {
         ensures none { IfNone result ((self.new.taken ≡ self.old.taken) × (self.new.seen ≡ [])) }
         ensures gives { 0 < length self.old.seen → IsSome result }
     {
-        self.consumer.pop().ok()
+        let note = self.consumer.pop().ok()?;
+        if let Some(bell) = &self.bell {
+            bell.ring();
+        }
+        Some(note)
     }
 
     /// Whether the other end was dropped, or what was left of it. What it put before is still there: who asks this
