@@ -1,4 +1,5 @@
 mod gone;
 mod rings;
+mod room;
 mod sleeping;
 mod waking;

@@ -14,9 +14,10 @@ use wcp_tree::{Bundle, LiveProbe, Relay, Watch, watch};
 /// How many items the hold of each relay has room for.
 const HOLD: u32 = 64;
 
-/// What each process does: it waits, makes snapshots and closes.
+/// What each process does: it makes snapshots and closes.
 #[derive(Clone, Copy)]
 pub struct Work {
+    /// How long the processes are silent, where they make no snapshot; else how long the root relay is held up.
     pub pause: Duration,
     pub snapshots: u32,
 }
@@ -28,7 +29,7 @@ enum Job {
     Relay(Relay),
 }
 
-/// Waits, makes the snapshots and closes.
+/// Makes the snapshots, or is silent, and closes.
 fn do_work<R: Wait + Clock>(rt: &R, probe: LiveProbe, work: Work) {
     let mut probe = probe;
     if work.snapshots == 0 {
@@ -37,10 +38,20 @@ fn do_work<R: Wait + Clock>(rt: &R, probe: LiveProbe, work: Work) {
     let to = if probe.id() == 0 { 1 } else { 0 };
     for _ in 0..work.snapshots {
         probe.observe(true);
-        probe.flush_waiting(rt);
+        if probe.flush_waiting(rt).is_err() {
+            return;
+        }
         let _ = probe.stamp(to, ());
     }
-    drop(probe.close_waiting(rt));
+    let _ = probe.close_waiting(rt);
+}
+
+/// Runs a relay, the root relay after its pause.
+fn run_relay<R: Wait + Clock>(rt: &R, relay: Relay, work: Work) {
+    if relay.number() == 0 && work.snapshots > 0 {
+        thread::sleep(rt, work.pause);
+    }
+    drop(relay.run(rt));
 }
 
 /// Takes until the lane is cut or so many close marks came.
@@ -100,7 +111,7 @@ fn run<R: Threads + Wait + Clock + Sync>(
                 jobs,
                 &|job: Job| match job {
                     Job::Probe(probe) => do_work(rt, probe, work),
-                    Job::Relay(relay) => drop(relay.run(rt)),
+                    Job::Relay(relay) => run_relay(rt, relay, work),
                 },
             )
         },

@@ -1,7 +1,8 @@
 //! Runs watches of sixteen processes, so that what they cost can be measured: `tree_calls WORD COUNT`.
 //! Each of sixteen threads makes so many snapshots, with a send behind each. `leaf` takes them by one
 //! relay, `tree` by eight leaves under one other, and `bounded` by one bounded channel. At `silent`
-//! the processes of a tree wait so many seconds and close. `flushed` and `bare` make so many snapshots
+//! the processes of a tree wait so many seconds and close. At `held` each makes 1,000 snapshots, and the relay over the
+//! leaves is held up for so many seconds, while all links are full. `flushed` and `bare` make so many snapshots
 //! of one probe in one thread: a live one, or a core that puts into a ring of `rtrb`; `sends` only
 //! sends. These three say how many nanoseconds the calls took.
 #![tactic(auto)]
@@ -20,6 +21,9 @@ use wcp_clock::{Item, Note};
 
 /// How many notes each ring and each lane has room for.
 const ROOM: u32 = 64;
+
+/// How many snapshots each process makes while a relay is held up.
+const SNAPSHOTS_HELD: u32 = 1_000;
 
 /// What was taken, so that nothing is left out: how many notes, and the sum of their numbers.
 #[derive(Clone, Copy)]
@@ -53,14 +57,20 @@ fn sixteen_threads<R: Threads + Wait + Clock + Sync>(
         pause: Duration::from_secs(0),
         snapshots: count,
     };
-    let pause = Work {
-        pause: Duration::from_secs(u64::from(count)),
+    let pause = Duration::from_secs(u64::from(count));
+    let silent = Work {
+        pause,
         snapshots: 0,
+    };
+    let held = Work {
+        pause,
+        snapshots: SNAPSHOTS_HELD,
     };
     match word {
         "leaf" => live::one_leaf(rt, alloc, snapshots),
         "tree" => live::eight_leaves(rt, alloc, snapshots),
-        "silent" => live::eight_leaves(rt, alloc, pause),
+        "silent" => live::eight_leaves(rt, alloc, silent),
+        "held" => live::eight_leaves(rt, alloc, held),
         "bounded" => bounded::one_channel(rt, alloc, count),
         _ => Ok(Taken::nothing()),
     }

@@ -1,4 +1,5 @@
 mod bundles;
+mod full_links;
 mod gaps;
 mod losing;
 mod one_thread;

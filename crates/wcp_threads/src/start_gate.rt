@@ -1,12 +1,21 @@
+use std::marker::Model;
 use std::sync::{Condvar, Mutex, Wait};
 
 /// Where the threads of a run are to wait until all are started. No clause says that they do: what is behind a lock is
-/// known by its type alone.
+/// known by its type alone. Clauses see nothing of it.
 #[derive(Drop)]
 pub struct StartGate {
     /// Whether it was opened, once that is known.
     opened: Mutex<Option<bool>>,
     told: Condvar,
+}
+
+impl Model for StartGate {
+    ghost use Rattle.std.specs.Prelude.{⊤};
+
+    ghost Value = { ⊤ };
+
+    ghost view = { λ _. tt };
 }
 
 impl StartGate {

@@ -1,5 +1,5 @@
 ghost use Rattle.std.specs.Prelude.{◌≡◌, ◌≢◌, ◌+◌, ◌<◌, ◌≤◌, ◌↔◌, true, false, [], ◌∷◌};
-ghost use Rattle.std.specs.Prelude.{◌++◌, List, IsTrue, IsOk, IfOk, OnOk, IfErr};
+ghost use Rattle.std.specs.Prelude.{◌++◌, List, IsTrue, IsOk, IfOk, OnOk, OnErr, IfErr};
 ghost use Rattle.std.specs.Prelude.{IsErr, MatchResult, Option, IsSome, if◌then◌else◌};
 ghost use Rattle.wcp_clock.specs.Limits.{most_processes};
 ghost use Rattle.wcp_clock.specs.declared.note.Note.TheVariants as note;
@@ -13,14 +13,14 @@ ghost use Rattle.wcp_tree.specs.LiveProbe.{fresh_core, emitted_by, snapshots_in,
 
 use std::marker::Model;
 use std::sync::Wait;
-use std::thread::yield_now;
 use wcp_clock::{CLOCK_LIMIT, Note};
 use wcp_model::ProbeSetup;
 use wcp_probe::{ProbeCore, Refusal, Stamped};
-use wcp_ring::{PutterEnd, RingPutter};
+use wcp_ring::{Gone, PutterEnd, RingPutter, Sleeper};
 
 /// The probe of a process that runs: its core, and the end of the ring by which its notes go to its
-/// relay. None of its calls takes memory, and none waits but `flush_waiting` and `close_waiting`.
+/// relay. None of its calls takes memory, and none waits but `flush_waiting` and `close_waiting`, and `flush_in_watch`
+/// and `close_in_watch`.
 ///
 /// A contract sees it as its core and its end of the ring. It always stands for some log, so that the clocks of its
 /// snapshots rise.
@@ -30,6 +30,8 @@ pub struct LiveProbe {
     id: u32,
     core: ProbeCore,
     putter: RingPutter,
+    /// By this it waits while the ring is full.
+    sleeper: Sleeper,
 }
 
 impl Model for LiveProbe {
@@ -52,8 +54,13 @@ impl Model for LiveProbe {
 
 impl LiveProbe {
     /// The probe that is made with this, of a watch of this number, before any call. Its notes go into
-    /// this ring.
-    pub(crate) fn new(watch: u64, made: ProbeSetup, putter: RingPutter) -> LiveProbe
+    /// this ring, whose other end is to ring a bell of this sleeper.
+    pub(crate) fn new(
+        watch: u64,
+        made: ProbeSetup,
+        putter: RingPutter,
+        sleeper: Sleeper,
+    ) -> LiveProbe
         requires process { made.process < made.processes }
         requires processes { made.processes ≤ most_processes }
         requires empty { putter.put ≡ [] }
@@ -65,6 +72,7 @@ impl LiveProbe {
             id: made.process,
             core: ProbeCore::new(watch, made, CLOCK_LIMIT),
             putter,
+            sleeper,
         }
     }
 
@@ -105,6 +113,8 @@ impl LiveProbe {
         ensures whole { emitted_by self.new ≡ emitted_by self.old }
         ensures accepts { 0 < self.old.link.free → IsTrue result }
         ensures full { result ≡ false → self.new.link.free ≡ 0 }
+        ensures kept { result ≡ false
+            → (self.new.core ≡ self.old.core) × (self.new.link.put ≡ self.old.link.put) }
         ensures stands { (log : List Call) → LiveFor self.old log → LiveFor self.new log }
     {
         let Some(note) = self.core.pending() else {
@@ -189,40 +199,102 @@ impl LiveProbe {
         }
     }
 
-    /// Puts what is pending, and gives up its turn while the ring is full. A relay that runs makes room as it gets
-    /// on, also where its own lane is cut. Once it is dropped, or has ended by another fault, a full ring stays full,
-    /// and this never returns: where that may be, call `flush` instead.
-    pub fn flush_waiting<R: Wait>(&mut self, rt: &R)
+    /// Puts what is pending, and sleeps while the ring is full. A relay that runs makes room as it gets on, also where
+    /// its own lane is cut. `Err` where the ring is full and the relay is gone, since it was dropped, or has ended by
+    /// another fault: then what is pending can't be put any more.
+    pub fn flush_waiting<R: Wait>(&mut self, rt: &R) -> Result<(), Gone>
+        ensures put { OnOk result (self.new.core ≡ record self.old.core { pending = None }) }
+        ensures gone { OnErr result (self.new.core ≡ self.old.core) }
+        ensures ring { self.new.link.ring ≡ self.old.link.ring }
+        ensures whole { emitted_by self.new ≡ emitted_by self.old }
+        ensures stands { (log : List Call) → LiveFor self.old log → LiveFor self.new log }
+    {
+        for _ in rt.forever() {
+            if self.flush() {
+                self.sleeper.stir();
+                return Ok(());
+            }
+            self.wait_for_room(rt)?;
+        }
+        unreachable!()
+    }
+
+    /// Puts what is pending, and closes the probe. It sleeps while the ring is full, as `flush_waiting` does. `Err`
+    /// hands the probe back, open, where the ring is full and the relay is gone.
+    pub fn close_waiting<R: Wait>(mut self, rt: &R) -> Result<ProbeEnd, (Gone, LiveProbe)>
+        ensures closed { IfOk result (IsEndOfProbe self) }
+        ensures emitted { IfOk result (λ end. (log : List Call) → LiveFor self log → HasEmitted self log end) }
+        ensures core { IfErr result (λ back. back.1.core ≡ record self.core { pending = back.1.core.pending }) }
+        ensures ring { IfErr result (λ back. back.1.link.ring ≡ self.link.ring) }
+        ensures whole { IfErr result (λ back. emitted_by back.1 ≡ emitted_by self) }
+        ensures stands { IfErr result (λ back. (log : List Call) → LiveFor self log → LiveFor back.1 log) }
+    {
+        if let Err(gone) = self.flush_waiting(rt) {
+            return Err((gone, self));
+        }
+        let mut probe = self;
+        for _ in rt.forever() {
+            match probe.close() {
+                Ok(end) => return Ok(end),
+                Err((_, same)) => probe = same,
+            }
+            if let Err(gone) = probe.wait_for_room(rt) {
+                return Err((gone, probe));
+            }
+        }
+        unreachable!()
+    }
+
+    /// Puts what is pending, and sleeps while the ring is full, for a process whose relay runs until the process has
+    /// ended, as each relay of a whole watch does. Where the relay is gone, this sleeps for good.
+    pub fn flush_in_watch<R: Wait>(&mut self, rt: &R)
         ensures core { self.new.core ≡ record self.old.core { pending = None } }
         ensures ring { self.new.link.ring ≡ self.old.link.ring }
         ensures stands { (log : List Call) → LiveFor self.old log → LiveFor self.new log }
     {
         for _ in rt.forever() {
-            if self.flush() {
-                break;
-            }
-            yield_now();
-        }
-    }
-
-    /// Puts what is pending, and closes the probe. It gives up its turn while the ring is full, and waits for its
-    /// relay as `flush_waiting` does: where the relay may be gone, call `flush` and `close` instead.
-    pub fn close_waiting<R: Wait>(mut self, rt: &R) -> ProbeEnd
-        ensures closed { IsEndOfProbe self result }
-        ensures emitted { (log : List Call) → LiveFor self log → HasEmitted self log result }
-    {
-        self.flush_waiting(rt);
-        let mut probe = self;
-        for _ in rt.forever() {
-            match probe.close() {
-                Ok(end) => return end,
-                Err((_, same)) => {
-                    probe = same;
-                    yield_now();
-                }
+            match self.flush_waiting(rt) {
+                Ok(()) => return,
+                Err(_) => self.sleep(rt),
             }
         }
         unreachable!()
+    }
+
+    /// Puts what is pending, and closes the probe. It waits for its relay as `flush_in_watch` does.
+    pub fn close_in_watch<R: Wait>(self, rt: &R) -> ProbeEnd
+        ensures closed { IsEndOfProbe self result }
+        ensures emitted { (log : List Call) → LiveFor self log → HasEmitted self log result }
+    {
+        let mut probe = self;
+        for _ in rt.forever() {
+            match probe.close_waiting(rt) {
+                Ok(end) => return end,
+                Err((_, same)) => probe = same,
+            }
+            probe.sleep(rt);
+        }
+        unreachable!()
+    }
+
+    /// Lets some time pass, while the ring is full: the relay wakes it once it took a note. `Err` where the relay is
+    /// gone.
+    fn wait_for_room<R: Wait>(&mut self, rt: &R) -> Result<(), Gone>
+        ensures core { self.new.core ≡ self.old.core }
+        ensures ring { self.new.link.ring ≡ self.old.link.ring }
+        ensures put { self.new.link.put ≡ self.old.link.put }
+        ensures stands { (log : List Call) → LiveFor self.old log → LiveFor self.new log }
+    {
+        self.putter.linked()?;
+        self.sleeper.rest(rt);
+        Ok(())
+    }
+
+    /// Lets some time pass.
+    fn sleep<R: Wait>(&mut self, rt: &R)
+        ensures { self.new ≡ self.old }
+    {
+        self.sleeper.rest(rt);
     }
 }
 

@@ -11,7 +11,8 @@ use wcp_model::Plan;
 use wcp_ring::{RingPutter, RingTaker, Sleeper, ring};
 
 /// Opens a ring for each process: its probe puts into it, and wakes the sleeper of its leaf, of which
-/// there is one for each relay. The other ends are for the leaves to take. `Err` where memory runs out.
+/// there is one for each relay. The other ends are for the leaves to take, and wake the probes. `Err` where memory
+/// runs out.
 pub(crate) fn open_rings(
     alloc: Global,
     plan: &Plan,
@@ -26,7 +27,8 @@ pub(crate) fn open_rings(
     for p in 0..plan.n {
         let (putter, taker) = ring(alloc, plan.cap)?;
         let putter = waking(plan, p, sleepers, putter)?;
-        probes.push(LiveProbe::new(watch, plan.probe_setup(p), putter))?;
+        let (taker, sleeper) = waking_probe(alloc, taker)?;
+        probes.push(LiveProbe::new(watch, plan.probe_setup(p), putter, sleeper))?;
         takers.push(Some(taker))?;
     }
     Ok((probes, takers))
@@ -48,6 +50,15 @@ fn waking(
         Some(sleeper) => Ok(putter.with_bell(sleeper.bell()?)),
         None => Ok(putter),
     }
+}
+
+/// The same end of the ring, which wakes the sleeper that is for its probe. `Err` where memory runs out.
+fn waking_probe(alloc: Global, taker: RingTaker) -> Result<(RingTaker, Sleeper), AllocError>
+    ensures { IfOk result (λ waking. waking.0 ≡ taker) }
+{
+    let sleeper = Sleeper::new(alloc)?;
+    let taker = taker.with_bell(sleeper.bell()?);
+    Ok((taker, sleeper))
 }
 
 /// Takes the feeds of a leaf: the ends of its processes' rings. `Err` where memory runs out.

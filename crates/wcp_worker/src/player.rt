@@ -65,7 +65,7 @@ impl Player {
         ensures same { IsSameLive self.old.probe self.new.probe }
     {
         self.probe.observe(holds);
-        self.probe.flush_waiting(rt);
+        self.probe.flush_in_watch(rt);
     }
 
     fn send<R: Wait>(&mut self, rt: &R, to: u32) -> Result<(), WorkerFault>

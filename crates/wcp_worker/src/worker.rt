@@ -22,8 +22,8 @@ impl Worker {
     ghost use Rattle.wcp_worker.specs.Played.{IsFreshPlayer, IsEndOfWorker};
 
     /// Does all its actions, each after the gate has let it pass, closes its probe, and then takes the messages that
-    /// no task of its process receives, so that all that was sent to it is taken. It waits for messages, and gives up
-    /// its turn while its ring is full. Where it gives up, it drops its ends of the lanes, so that its partners meet
+    /// no task of its process receives, so that all that was sent to it is taken. It waits for messages, and sleeps
+    /// while its ring is full. Where it gives up, it drops its ends of the lanes, so that its partners meet
     /// a cut, and closes its probe.
     pub fn run<R: Wait, G: Gate>(self, rt: &R, gate: &G) -> WorkerEnd
         requires { IsFreshPlayer (record { probe = self.probe; mailbox = self.mailbox }) }
@@ -40,7 +40,7 @@ impl Worker {
         if let Err(fault) = played {
             return give_up(rt, fault, probe, mailbox);
         }
-        let probe = probe.close_waiting(rt);
+        let probe = probe.close_in_watch(rt);
         match mailbox.take_rest(rt) {
             Ok(()) => WorkerEnd::Whole { probe, mailbox },
             Err(fault) => WorkerEnd::GaveUp {
@@ -58,6 +58,6 @@ fn give_up<R: Wait>(rt: &R, fault: WorkerFault, probe: LiveProbe, mailbox: Mailb
     drop(mailbox);
     WorkerEnd::GaveUp {
         fault,
-        probe: Some(probe.close_waiting(rt)),
+        probe: Some(probe.close_in_watch(rt)),
     }
 }

@@ -79,13 +79,13 @@ impl<L: Loan> LentProbe<L> {
     }
 
     /// The process observes its condition: the first true observation of an interval emits a snapshot, which is put at
-    /// once. While the link to the relay is full this waits, and gives up its turn.
+    /// once. While the link to the relay is full this sleeps.
     pub fn observe<R: Wait>(&mut self, rt: &R, holds: bool)
         ensures accepted { LiveAccepts self.old (Observed holds) self.new }
         ensures same { setup_of self.new.core ≡ setup_of self.old.core }
     {
         self.probe.observe(holds);
-        self.probe.flush_waiting(rt);
+        self.probe.flush_in_watch(rt);
     }
 
     /// The process sends a message: its stamp goes with it to process `to`. A refusal hands the value back and changes
@@ -126,7 +126,7 @@ impl<L: Loan> LentProbe<L> {
         self.probe.receive(message)
     }
 
-    /// Puts the close mark, and gives up its turn while the link is full.
+    /// Puts the close mark, and sleeps while the link is full.
     pub(crate) fn close<R: Wait>(self, rt: &R) -> ProbeEnd
         ensures watch { result.watch ≡ L.watch }
         ensures id { result.id ≡ L.made.process }
@@ -138,7 +138,7 @@ impl<L: Loan> LentProbe<L> {
             → result.link.put ≡ (state_of_log L.made (log ++ Closed ∷ [])).notes }
     {
         let LentProbe { probe, of: _ } = self;
-        probe.close_waiting(rt)
+        probe.close_in_watch(rt)
     }
 
     /// Drops the probe in place of closing it: its process is lost.

@@ -42,6 +42,18 @@ fn an_end_that_puts_no_more_is_not_gone(rt: HostRuntime) -> Result<(), Fail> {
     Ok(())
 }
 
+#[test]
+fn an_end_that_takes_is_gone_once_it_was_dropped(rt: HostRuntime) -> Result<(), Fail> {
+    let (mut putter, mut taker) = ring(rt.alloc(), 2)?;
+    assert!(rt; putter.linked().is_ok());
+    assert_eq!(rt; putter.try_put(snapshot(0)), Ok(()));
+    assert_eq!(rt; taker.try_take(), Some(snapshot(0)));
+    assert!(rt; putter.linked().is_ok());
+    drop(taker);
+    assert!(rt; putter.linked().is_err());
+    Ok(())
+}
+
 fn put_and_drop(mut putter: RingPutter) {
     for number in 0..NOTES {
         let _ = putter.try_put(snapshot(number));

@@ -11,10 +11,10 @@ use wcp_ring::{RingPutter, RingTaker, Sleeper, ring};
 /// The pause before a note has from none to so many steps.
 const PAUSES: u32 = 2_048;
 
-/// How often the putter looks whether its note was taken before it gives its turn away.
+/// How often a thread looks whether the other made its step before it gives its turn away.
 const LOOKS: u32 = 2_000;
 
-/// After so many looks the taker counts as asleep for good.
+/// After so many looks the other thread counts as asleep for good.
 const PATIENCE: u32 = 20_000_000;
 
 /// For how many milliseconds notes are put.
@@ -22,18 +22,35 @@ const WHILE: u64 = 1_000;
 
 /// What the two threads tell each other.
 #[derive(Drop)]
-struct Progress {
-    /// How many notes were taken.
-    taken: AtomicU32,
+pub struct Progress {
+    /// How many notes were taken, or put.
+    steps: AtomicU32,
     /// Whether the putter puts no more.
     left: AtomicBool,
 }
 
 impl Progress {
-    /// Waits until so many notes were taken: whether they were in time.
-    fn reaches(&self, count: u32) -> bool {
+    pub fn new() -> Progress {
+        Progress {
+            steps: AtomicU32::new(0),
+            left: AtomicBool::new(false),
+        }
+    }
+
+    /// A note was taken, or put.
+    pub fn step(&self) {
+        self.steps.fetch_add(1, SeqCst);
+    }
+
+    /// How many notes were taken, or put.
+    pub fn count(&self) -> u32 {
+        self.steps.load(SeqCst)
+    }
+
+    /// Waits until so many notes were taken, or put: whether they were in time.
+    pub fn reaches(&self, count: u32) -> bool {
         for look in 0..PATIENCE {
-            if self.taken.load(SeqCst) == count {
+            if self.steps.load(SeqCst) == count {
                 return true;
             }
             if look >= LOOKS {
@@ -44,9 +61,9 @@ impl Progress {
     }
 
     /// Lets so many short steps pass.
-    fn pause(&self, steps: u32) {
+    pub fn pause(&self, steps: u32) {
         for _ in 0..steps {
-            let _ = self.taken.load(SeqCst);
+            let _ = self.steps.load(SeqCst);
         }
     }
 }
@@ -79,7 +96,7 @@ fn take_until_left<R: Wait>(
         let left = progress.left.load(SeqCst);
         if taker.try_take().is_some() {
             sleeper.stir();
-            progress.taken.fetch_add(1, SeqCst);
+            progress.step();
         } else if left {
             return;
         } else {
@@ -94,10 +111,7 @@ fn each_note_wakes_the_taker(rt: HostRuntime) -> Result<(), Fail> {
     let (mut putter, mut taker) = ring(rt.alloc(), 1)?;
     let mut sleeper = Sleeper::new(rt.alloc())?;
     putter = putter.with_bell(sleeper.bell()?);
-    let progress = Progress {
-        taken: AtomicU32::new(0),
-        left: AtomicBool::new(false),
-    };
+    let progress = Progress::new();
     let (shared, handle) = (&progress, &rt);
     let (put, ()) = thread::join(
         handle,
@@ -109,6 +123,6 @@ fn each_note_wakes_the_taker(rt: HostRuntime) -> Result<(), Fail> {
         },
         || take_until_left(handle, &mut taker, &mut sleeper, shared),
     );
-    assert_eq!(rt; put, Some(progress.taken.load(SeqCst)));
+    assert_eq!(rt; put, Some(progress.count()));
     Ok(())
 }

@@ -16,13 +16,13 @@ impl RunsWith<Mutex<Book>, ProbeEnd> for Process {
         let Process { mut probe } = self;
         for _ in rt.forever() {
             probe.observe(true);
-            probe.flush_waiting(rt);
+            probe.flush_in_watch(rt);
             if book.lock(rt).found().is_some() {
                 break;
             }
             thread::yield_now();
         }
-        probe.close_waiting(rt)
+        probe.close_in_watch(rt)
     }
 }
 

@@ -108,7 +108,7 @@ impl Play {
             return Ok(());
         };
         twin.probe.observe(true);
-        twin.probe.flush_waiting(rt);
+        twin.probe.flush_in_watch(rt);
         let _ = twin.core.observe(true);
         let Some(note) = twin.core.pending() else {
             return Ok(());
@@ -168,7 +168,7 @@ impl Play {
         let lost = self.lose();
         self.go_on(rt, PROCESSES - 1)?;
         for twin in self.twins {
-            drop(twin.probe.close_waiting(rt));
+            drop(twin.probe.close_in_watch(rt));
         }
         Ok((lost, self.checker.report()))
     }

@@ -117,7 +117,7 @@ fn emit_one(rt: &impl Wait, mut probe: LiveProbe, lost: Option<u32>) {
 /// Emits so many snapshots, with a send behind each, and closes.
 pub fn emit_all(rt: &impl Wait, mut probe: LiveProbe, snapshots: u32) -> ProbeEnd {
     emit(rt, &mut probe, snapshots);
-    probe.close_waiting(rt)
+    probe.close_in_watch(rt)
 }
 
 /// Emits so many snapshots, with a send behind each.
@@ -125,7 +125,7 @@ fn emit(rt: &impl Wait, probe: &mut LiveProbe, snapshots: u32) {
     let to = if probe.id() == 0 { 1 } else { 0 };
     for _ in 0..snapshots {
         probe.observe(true);
-        probe.flush_waiting(rt);
+        probe.flush_in_watch(rt);
         let _ = probe.stamp(to, ());
     }
 }

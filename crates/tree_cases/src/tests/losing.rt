@@ -68,7 +68,7 @@ fn drop_late<R: Wait + Clock>(
     let _ = sleep(rt, Duration::from_millis(ASLEEP));
     drop(lost);
     let first = next_in_time(rt, &mut taker);
-    drop(other.close_waiting(rt));
+    drop(other.close_in_watch(rt));
     take_all(rt, taker, 1);
     match first {
         Some(bundle) => Some(bundle.last_item()),

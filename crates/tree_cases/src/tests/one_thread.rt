@@ -100,11 +100,11 @@ fn two_hops_bring_four_items(rt: HostRuntime) -> Result<(), Fail> {
 /// Process 1 closes, and process 0 emits a snapshot and closes.
 fn close_second_first(rt: &(impl Abort + Wait), mut probes: Vec<LiveProbe>) {
     let second = last_probe(rt, &mut probes);
-    assert_eq!(rt; second.close_waiting(rt).emitted(), 0);
+    assert_eq!(rt; second.close_in_watch(rt).emitted(), 0);
     let mut first = last_probe(rt, &mut probes);
     assert!(rt; first.observe(true));
-    first.flush_waiting(rt);
-    assert_eq!(rt; first.close_waiting(rt).emitted(), 1);
+    first.flush_in_watch(rt);
+    assert_eq!(rt; first.close_in_watch(rt).emitted(), 1);
 }
 
 /// Takes a bundle, which is of just this item.

@@ -29,9 +29,9 @@ fn let_one_through<R: Threads + Wait + Sync>(
 /// Puts what is pending, sends and closes; whether the send was accepted.
 fn flush_and_send(rt: &impl Wait, probe: LiveProbe) -> bool {
     let mut probe = probe;
-    probe.flush_waiting(rt);
+    probe.flush_in_watch(rt);
     let sent = probe.stamp(1, 7).is_ok();
-    drop(probe.close_waiting(rt));
+    drop(probe.close_in_watch(rt));
     sent
 }
 

@@ -43,13 +43,13 @@ pub fn emit_all(rt: &impl Wait, probe: LiveProbe, snapshots: u32, leaving: Leavi
     let to = if probe.id() == 0 { 1 } else { 0 };
     for _ in 0..snapshots {
         probe.observe(true);
-        probe.flush_waiting(rt);
+        probe.flush_in_watch(rt);
         if let Err((refusal, ())) = probe.stamp(to, ()) {
             return Done::Refused(refusal);
         }
     }
     match leaving {
-        Leaving::Closed => Done::Probe(probe.close_waiting(rt).emitted()),
+        Leaving::Closed => Done::Probe(probe.close_in_watch(rt).emitted()),
         Leaving::Lost => Done::Lost,
     }
 }

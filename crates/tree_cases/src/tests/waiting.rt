@@ -141,9 +141,9 @@ pub fn next_in_time(rt: &impl Wait, taker: &mut Taker<Bundle>) -> Option<Bundle>
 fn emit_and_wait(rt: &impl Wait, probe: LiveProbe, mut taker: Taker<Bundle>) -> Option<Item> {
     let mut probe = probe;
     probe.observe(true);
-    probe.flush_waiting(rt);
+    probe.flush_in_watch(rt);
     let first = next_in_time(rt, &mut taker);
-    drop(probe.close_waiting(rt));
+    drop(probe.close_in_watch(rt));
     take_all(rt, taker, 1);
     match first {
         Some(bundle) => Some(bundle.last_item()),

@@ -17,18 +17,19 @@ loop-p-preserved c =
     ap (λ (s : LiveSide). s.link) c.new.ensures.fresh ∙ c.in_ok-putter-2.ensures in
     let more =
     one_ring_more c.args.plan.now c.args.watch c.loop-p.p c.loop-p.probes.items c.loop-p.takers.items c.new.result
-    c.in_ok-putter.taker c.loop-p.invariant
+    c.in_ok-taker.taker c.loop-p.invariant
     (ap (λ (s : LiveSide). s.core) c.new.ensures.fresh
     ∙ ap (fresh_core c.args.watch) c.probe_setup.ensures)
     (ap (λ (s : PutSide). s.put) link ∙ c.in_ok-putter.ensures.putter.0)
     (ap (λ (s : PutSide). s.free) link ∙ c.in_ok-putter.ensures.putter.1)
-    (sym c.in_ok-putter.ensures.one_ring ∙ sym (ap (λ (s : PutSide). s.ring) link))
-    c.in_ok-putter.ensures.taker.0 in
+    (ap (λ (s : TakeSide). s.ring) c.in_ok-taker.ensures
+    ∙ (sym c.in_ok-putter.ensures.one_ring ∙ sym (ap (λ (s : PutSide). s.ring) link)))
+    (ap (λ (s : TakeSide). s.taken) c.in_ok-taker.ensures ∙ c.in_ok-putter.ensures.taker.0) in
     subst
     (λ (takers : List (Option TakeSide)). AreRings c.args.plan.now c.args.watch (c.loop-p.p + 1) c.push.new.self.items takers)
     (sym c.in_ok-push-2.ensures.items)
     (subst
     (λ (probes : List LiveSide). AreRings c.args.plan.now c.args.watch (c.loop-p.p + 1) probes
-    (c.loop-p.takers.items ++ Some c.in_ok-putter.taker ∷ []))
+    (c.loop-p.takers.items ++ Some c.in_ok-taker.taker ∷ []))
     (sym c.in_ok-push.ensures.items)
     more)

@@ -6,7 +6,8 @@ invariant-loop g l =
     record {
       goes_on : (goal.iterator-loop g).can_next l.iterator';
       ends : (goal.iterator-loop g).is_finite l.iterator';
-      core : (record l.self.core { pending = None }) ≡ (record l.initial.self.core { pending = None });
+      core : l.self.core ≡ l.initial.self.core;
       ring : l.self.link.ring ≡ l.initial.self.link.ring;
+      put : l.self.link.put ≡ l.initial.self.link.put;
       stands : (log : List Call) → LiveFor l.initial.self log → LiveFor l.self log;
     }

@@ -8,6 +8,6 @@ returns-in-Ok g c =
     let start : Player = record { probe = c.args.self.probe; mailbox = c.args.self.mailbox } in
     let all = subst (λ (actions : List Action). HasDoneActions start actions done.0 c.play-played.new.self) c.deref.ensures.value done.1 in (
       done.0,
-      all_played c.args.self c.play-played.new.self done.0 c.close_waiting-probe.result c.take_rest.new.self all
-          c.close_waiting-probe.ensures.closed (c.close_waiting-probe.ensures.emitted done.0 done.1.stands) c.in-Ok.ensures.outboxes c.in-Ok.ensures.more,
+      all_played c.args.self c.play-played.new.self done.0 c.close_in_watch-probe.result c.take_rest.new.self all
+          c.close_in_watch-probe.ensures.closed (c.close_in_watch-probe.ensures.emitted done.0 done.1.stands) c.in-Ok.ensures.outboxes c.in-Ok.ensures.more,
     )

@@ -1,0 +1,96 @@
+//! Room that comes at every moment of a putter's falling asleep.
+use super::waking::Progress;
+use std::sync::Wait;
+use std::sync::atomic::Ordering::SeqCst;
+use std::test::Fail;
+use std::thread;
+use std::time::{Clock, Duration, Instant};
+use wcp_clock::Note;
+use wcp_ring::{RingPutter, RingTaker, Sleeper, ring};
+
+/// The pause before a note is taken has from none to so many steps.
+const PAUSES: u32 = 2_048;
+
+/// For how many milliseconds notes are taken.
+const WHILE: u64 = 1_000;
+
+/// For how many milliseconds nothing is taken, so that the putter is asleep after them.
+const ASLEEP: u64 = 30;
+
+/// Takes a note each time that the putter has filled the ring again, after a pause of another length. The answer is how
+/// many were taken, or `None` where the ring was not filled in time.
+fn take_for_a_while<R: Clock>(rt: &R, taker: &mut RingTaker, progress: &Progress) -> Option<u32> {
+    let start = Instant::now(rt).ok()?;
+    for number in 0..u32::MAX {
+        if !progress.reaches(number.wrapping_add(1)) {
+            return None;
+        }
+        if number % 16 == 0 && start.elapsed(rt).ok()? > Duration::from_millis(WHILE) {
+            return Some(number);
+        }
+        progress.pause(number % PAUSES);
+        taker.try_take()?;
+    }
+    None
+}
+
+/// Puts notes, and sleeps where the ring is full, until the other end is gone.
+fn put_until_gone<R: Wait>(
+    rt: &R,
+    putter: &mut RingPutter,
+    sleeper: &mut Sleeper,
+    progress: &Progress,
+) {
+    for _ in rt.forever() {
+        if putter.try_put(Note::Close { count: 0 }).is_ok() {
+            sleeper.stir();
+            progress.step();
+        } else if putter.linked().is_err() {
+            return;
+        } else {
+            sleeper.rest(rt);
+        }
+    }
+}
+
+/// Where the putter sleeps on although there is room, the taker leaves, and its bell wakes the putter all the same.
+#[test]
+fn each_note_taken_wakes_the_putter(rt: HostRuntime) -> Result<(), Fail> {
+    let (mut putter, mut taker) = ring(rt.alloc(), 1)?;
+    let mut sleeper = Sleeper::new(rt.alloc())?;
+    taker = taker.with_bell(sleeper.bell()?);
+    let progress = Progress::new();
+    let (shared, handle) = (&progress, &rt);
+    let (taken, ()) = thread::join(
+        handle,
+        move || {
+            let taken = take_for_a_while(handle, &mut taker, shared);
+            drop(taker);
+            taken
+        },
+        || put_until_gone(handle, &mut putter, &mut sleeper, shared),
+    );
+    assert_eq!(rt; taken, progress.count().checked_sub(1));
+    Ok(())
+}
+
+/// Fills the ring and sleeps: how many notes were put until the other end was gone.
+#[test]
+fn a_putter_that_sleeps_wakes_as_the_taker_goes(rt: HostRuntime) -> Result<(), Fail> {
+    let (mut putter, taker) = ring(rt.alloc(), 2)?;
+    let mut sleeper = Sleeper::new(rt.alloc())?;
+    let taker = taker.with_bell(sleeper.bell()?);
+    let progress = Progress::new();
+    let (shared, handle) = (&progress, &rt);
+    thread::join(
+        handle,
+        move || {
+            let _ = thread::sleep(handle, Duration::from_millis(ASLEEP));
+            drop(taker);
+        },
+        || put_until_gone(handle, &mut putter, &mut sleeper, shared),
+    );
+    assert_eq!(rt; progress.count(), 2);
+    assert!(rt; putter.linked().is_err());
+    Ok(())
+}
