@@ -41,9 +41,9 @@ pub record RisesTo (q known : ℕ) (old new : Floor) : Type 0 where
   pub dropped : component old q < known → has_head new q ≡ false
   pub kept : known ≤ component old q → has_head new q ≡ has_head old q
 
--- The floor rises at each process but p to what a clock knows of that one.
-abbrev pub Rises : ℕ → List ℕ → Floor → Floor → Type 0
-Rises p clock old new = (q : ℕ) → q < most_processes → q ≢ p → RisesTo q (slice_index clock q) old new
+-- The floor rises at each of n processes but p to what a clock knows of that one.
+abbrev pub Rises : ℕ → ℕ → List ℕ → Floor → Floor → Type 0
+Rises n p clock old new = (q : ℕ) → q < n → q ≢ p → RisesTo q (slice_index clock q) old new
 
 -- A snapshot of p becomes its head, and the floor, which was not above it, becomes the greater of what it was and the
 -- snapshot's clock.

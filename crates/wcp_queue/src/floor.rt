@@ -1,4 +1,4 @@
-ghost use Rattle.std.specs.Prelude.{◌≡◌, ◌↔◌, ◌+◌, ◌^◌, ◌<◌, ◌≤◌, ◌≢◌, ℕ, true, false, nat_lt, slice_index};
+ghost use Rattle.std.specs.Prelude.{◌≡◌, ◌↔◌, ◌+◌, ◌^◌, ◌<◌, ◌≤◌, ℕ, true, false, nat_lt, slice_index};
 ghost use Rattle.std.specs.Prelude.{IsTrue, MatchOption, if◌then◌else◌};
 ghost use Rattle.wcp_clock.specs.Limits.{most_processes};
 ghost use Rattle.wcp_queue.specs.Floor.{component, has_head, first_floor, HaveHeads, IsCutOfHeads, IsSameBut};
@@ -79,23 +79,27 @@ impl Floor {
         requires room { self.old.tests + n ≤ 2 ^ 64 }
         ensures head { has_head self.new p ≡ true }
         ensures own { component self.new p ≡ slice_index clock.now p }
-        ensures rises { Rises p clock.now self.old self.new }
+        ensures rises { Rises n p clock.now self.old self.new }
         ensures tests { self.new.tests + 1 ≡ self.old.tests + n }
     {
-        self.raise(clock);
+        self.raise(n, p, clock);
         self.tests += n as u64 - 1;
         self.components[p] = clock.get(p as u32);
         self.heads[p] = true;
     }
 
-    /// Raises the floor to what a clock knows, and drops each head that precedes the clock's.
-    fn raise(&mut self, clock: &Clock)
-        ensures rises { (q : ℕ) → q < most_processes → RisesTo q (slice_index clock.now q) self.old self.new }
+    /// Raises the floor at each of `n` processes but `p` to what a clock knows, and drops each head that precedes the
+    /// clock's. These are the comparisons that are made, one a process.
+    fn raise(&mut self, n: usize, p: usize, clock: &Clock)
+        requires few { n ≤ most_processes }
+        ensures rises { Rises n p clock.now self.old self.new }
         ensures tests { self.new.tests ≡ self.old.tests }
     {
         let mut risen = *self; // a copy, which no other memory can share
-        for q in 0..MAX_PROCS {
-            risen.raise_at(q, clock.get(q as u32));
+        for q in 0..n {
+            if q != p {
+                risen.raise_at(q, clock.get(q as u32));
+            }
         }
         *self = risen;
     }

@@ -16,5 +16,5 @@ returns-then-is_above-clause-left c = λ rows before taken left.
 pub returns-clause-left : goal.returns-clause-left
 returns-clause-left c = λ rows before taken left.
     AreLeft-raised (length c.args.queues.now) rows before c.args.queues.now c.args.floor.now left c.args.p c.args.clock.now c.requires.within c.requires.no_head taken c.set_head.new.self
-    (RaisesFloor-counted _ _ _ _ _ _ c.requires.few (λ several. grind arith) c.set_head.ensures.head c.set_head.ensures.own
-    (rw c.is_above.ensures.tests at c.set_head.ensures.rises))
+    (RaisesFloor-counted _ _ _ _ _ _ (λ several. grind arith) c.set_head.ensures.head c.set_head.ensures.own
+    (rw (c.is_above.ensures.tests, c.len-n.ensures) at c.set_head.ensures.rises))
