@@ -61,6 +61,8 @@ int main(void)
     }
     for (p = 0; p < 2; p++) {
         CHECK(pthread_join(threads[p], NULL) == 0);
+    }
+    for (p = 0; p < 2; p++) { /* only now, since each call on the checker wants it alone */
         CHECK(workers[p].wrong == 0);
         CHECK(wcp_checker_taken(&checker, p, &count) == WCP_DONE && count == ROUNDS);
     }
