@@ -88,9 +88,15 @@ impl Bell {
     /// Wakes the thread, if it has said that it sleeps.
     #[inline(always)]
     pub fn ring(&self) {
-        if self.asleep.load(SeqCst) {
+        if self.is_awaited() {
             self.wake();
         }
+    }
+
+    /// Whether the thread has said that it sleeps.
+    #[inline(always)]
+    pub(crate) fn is_awaited(&self) -> bool {
+        self.asleep.load(SeqCst)
     }
 
     fn wake(&self) {

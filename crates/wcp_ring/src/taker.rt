@@ -23,7 +23,8 @@ impl Model for RingTaker {
 }
 
 impl RingTaker {
-    /// The same end, which from now on rings this bell: after each note that it takes, and when it is dropped.
+    /// The same end, which from now on rings this bell: where a thread sleeps, once half of the room is free, and when
+    /// it is dropped.
     pub fn with_bell(self, bell: Bell) -> RingTaker
         ensures { result ≡ self }
     {
@@ -42,11 +43,35 @@ impl RingTaker {
         ensures none { IfNone result ((self.new.taken ≡ self.old.taken) × (self.new.seen ≡ [])) }
         ensures gives { 0 < length self.old.seen → IsSome result }
     {
-        let note = self.consumer.pop().ok()?;
-        if let Some(bell) = &self.bell {
+        let note = self.take_next()?;
+        self.tell_of_room();
+        Some(note)
+    }
+
+    /// The ring's next note, if it has one, of which the putter is not told.
+    #[inline(always)]
+    fn take_next(&mut self) -> Option<Note>
+        ensures ring { self.new.ring ≡ self.old.ring }
+        ensures some { IfSome result (λ note. self.new.taken ≡ self.old.taken ++ note ∷ []) }
+        ensures next { IfSome result (λ note. IsPrefix self.old.seen (note ∷ self.new.seen)) }
+        ensures none { IfNone result ((self.new.taken ≡ self.old.taken) × (self.new.seen ≡ [])) }
+        ensures gives { 0 < length self.old.seen → IsSome result }
+    {
+        self.consumer.pop().ok()
+    }
+
+    /// Wakes a putter that sleeps once half of the room is free, so that it puts many notes each time that it wakes.
+    fn tell_of_room(&mut self)
+        ensures ring { self.new.ring ≡ self.old.ring }
+        ensures taken { self.new.taken ≡ self.old.taken }
+        ensures seen { IsPrefix self.old.seen self.new.seen }
+    {
+        let Some(bell) = &self.bell else {
+            return;
+        };
+        if bell.is_awaited() && self.consumer.slots() <= self.consumer.capacity() / 2 {
             bell.ring();
         }
-        Some(note)
     }
 
     /// Whether the other end was dropped, or what was left of it. What it put before is still there: who asks this
