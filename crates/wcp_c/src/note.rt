@@ -67,7 +67,7 @@ impl WcpNote {
         let note = match self.kind {
             SNAPSHOT => Note::Snap {
                 number: self.number,
-                clock: Clock::from_components(&self.clock[..self.processes as usize]),
+                clock: Clock::from_padded(&self.clock, self.processes),
             },
             CLOSE_MARK => Note::Close { count: self.number },
             _ => Note::Lost { count: self.number },

@@ -100,7 +100,8 @@ impl WcpProbe {
         }
     }
 
-    /// The probe that the memory holds.
+    /// The probe that the memory holds. Inlined, so that each call copies only what it needs of it.
+    #[inline(always)]
     fn load(&self) -> Option<ProbeCore>
         ensures held { IsSome result ↔ HoldsProbe self.now }
         ensures core { IfSome result (λ core. core ≡ core_of self.now) }
@@ -108,7 +109,7 @@ impl WcpProbe {
         if !self.is_laid_out() {
             return None;
         }
-        let clock = Clock::from_components(&self.clock[..self.processes as usize]);
+        let clock = Clock::from_padded(&self.clock, self.processes);
         ProbeCore::from_parts(ProbeParts {
             watch: self.watch,
             id: self.process,

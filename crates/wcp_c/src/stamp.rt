@@ -33,6 +33,6 @@ impl WcpStamp {
         if self.clock[n..].iter().any(|count| *count != 0) {
             return None;
         }
-        Some(Clock::from_components(&self.clock[..n]))
+        Some(Clock::from_padded(&self.clock, self.processes))
     }
 }

@@ -1,5 +1,5 @@
 ghost use Rattle.std.specs.Prelude.{◌≡◌, ◌+◌, ◌-◌, ◌++◌, ◌<◌, ◌≤◌, ◌↔◌, length, replicate, slice_index, slice_set, IsTrue};
-ghost use Rattle.std.specs.Prelude.{All, IsNone, IfSome, map, nat_eq};
+ghost use Rattle.std.specs.Prelude.{All, IsNone, IfSome, drop, map, nat_eq, take};
 ghost use Rattle.std.specs.Cmp.{partial_equiv_from_equiv};
 ghost use Rattle.std.specs.Cmp.Lexicographic.{pointwise, nat_list_eq_equiv};
 ghost use Rattle.wcp_clock.specs.Limits.{most_processes};
@@ -43,14 +43,18 @@ impl Clock {
         }
     }
 
-    /// The clock with these components, one for each process.
-    pub fn from_components(components: &[u32]) -> Clock
-        requires some { 0 < length components.now }
-        requires within { length components.now ≤ most_processes }
-        ensures { result ≡ components.now }
+    /// The clock with the first `count` of these components; those behind are 0.
+    pub fn from_padded(components: &[u32; MAX_PROCS], count: u32) -> Clock
+        requires some { 0 < count }
+        requires within { count ≤ most_processes }
+        requires behind { All (λ component. component ≡ 0) (drop count components.now) }
+        ensures { result ≡ take count components.now }
     {
         Clock {
-            components: PerProcess::new(components),
+            components: PerProcess {
+                count,
+                values: *components,
+            },
         }
     }
 
