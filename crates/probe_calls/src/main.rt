@@ -1,6 +1,7 @@
 //! Makes many calls of probes, so that their cost can be measured: `probe_calls WORD CALLS`, where the
-//! word is observe, stamp or receive. Each call is of one of sixteen probes, in no regular order. A
-//! receive is a stamp of one probe and its receive by another.
+//! word is observe, stamp, receive or note. Each call is of one of sixteen probes, in no regular order. A
+//! receive is a stamp of one probe and its receive by another; a note is a stamp, an observation that emits,
+//! and the taking of its note.
 #![tactic(auto)]
 
 use std::alloc::{AllocError, Global};
@@ -75,6 +76,17 @@ fn receive(probes: &mut [ProbeCore], numbers: &mut Numbers) {
     }
 }
 
+fn note(probes: &mut [ProbeCore], numbers: &mut Numbers) {
+    let (process, other) = pair(numbers);
+    if let Some(probe) = probes.get_mut(process as usize) {
+        let _ = probe.stamp(other, ());
+        let _ = probe.observe(true);
+        if probe.pending().is_some() {
+            probe.was_put();
+        }
+    }
+}
+
 fn make_calls(word: &str, calls: u32, probes: &mut [ProbeCore]) {
     let mut numbers = Numbers(1);
     for _ in 0..calls {
@@ -82,6 +94,7 @@ fn make_calls(word: &str, calls: u32, probes: &mut [ProbeCore]) {
             "observe" => observe(probes, &mut numbers),
             "stamp" => stamp(probes, &mut numbers),
             "receive" => receive(probes, &mut numbers),
+            "note" => note(probes, &mut numbers),
             _ => {}
         }
     }
