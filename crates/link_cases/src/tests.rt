@@ -1,4 +1,5 @@
 mod gone;
+mod late;
 mod rings;
 mod room;
 mod sleeping;

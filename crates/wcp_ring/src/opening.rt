@@ -17,6 +17,7 @@ pub fn ring(alloc: Global, cap: u32) -> Result<(RingPutter, RingTaker), AllocErr
     let (producer, consumer) = RingBuffer::new(alloc, cap as usize)?;
     let putter = RingPutter {
         producer,
+        until_ring: 0,
         bell: None,
     };
     let taker = RingTaker {

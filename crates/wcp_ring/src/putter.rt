@@ -1,7 +1,8 @@
 ghost use Rattle.std.specs.Prelude.{◌≡◌, ◌+◌, ◌<◌, ◌≤◌, [], ◌∷◌, ◌++◌, IsOk, OnOk, IfErr};
 
-use crate::sleeper::Bell;
+use crate::sleeper::{Bell, Sleeper};
 use rtrb::Producer;
+use std::alloc::{AllocError, Global};
 use std::marker::Model;
 use thiserror::Error;
 use wcp_clock::Note;
@@ -11,10 +12,12 @@ use wcp_clock::Note;
 #[error("nobody takes from the ring any more")]
 pub struct Gone(());
 
-/// The end of a ring that puts notes. None of its calls takes memory, and none waits.
+/// The end of a ring that puts notes. None of its calls takes memory but `new_sleeper`, and none waits.
 #[derive(Drop)]
 pub struct RingPutter {
     pub(crate) producer: Producer<Note>,
+    /// Where it rings late, the number of notes, from now on, after which it rings; else 0.
+    pub(crate) until_ring: usize,
     // Declared last, so that it rings after the producer is gone.
     pub(crate) bell: Option<Bell>,
 }
@@ -33,10 +36,44 @@ impl RingPutter {
     pub fn with_bell(self, bell: Bell) -> RingPutter
         ensures { result ≡ self }
     {
-        let RingPutter { producer, bell: _ } = self;
+        let RingPutter {
+            producer,
+            until_ring,
+            bell: _,
+        } = self;
         RingPutter {
             producer,
+            until_ring,
             bell: Some(bell),
+        }
+    }
+
+    /// The same end, which from now on rings its bell late: not after each note that it puts, but once for each half
+    /// of the room. A taker that sleeps doesn't see the notes between, so whoever puts calls [`RingPutter::tell`]
+    /// before it waits for anything, or waits by a sleeper of [`RingPutter::new_sleeper`].
+    pub fn ringing_late(self) -> RingPutter
+        ensures { result ≡ self }
+    {
+        let RingPutter {
+            producer,
+            until_ring: _,
+            bell,
+        } = self;
+        let until_ring = half_of_room(&producer);
+        RingPutter {
+            producer,
+            until_ring,
+            bell,
+        }
+    }
+
+    /// A sleeper for the thread that puts. Before it says that it sleeps, it rings the bell of this end, if it has
+    /// one. `Err` where memory runs out.
+    pub fn new_sleeper(&self, alloc: Global) -> Result<Sleeper, AllocError> {
+        let sleeper = Sleeper::new(alloc)?;
+        match &self.bell {
+            Some(bell) => Ok(sleeper.with_bell(bell.try_clone()?)),
+            None => Ok(sleeper),
         }
     }
 
@@ -52,10 +89,31 @@ impl RingPutter {
             return Err(note);
         }
         self.producer.push_reserved(note);
+        self.was_put();
+        Ok(())
+    }
+
+    /// A note was put: rings, unless it rings late and half of the room was not yet filled.
+    #[inline(always)]
+    fn was_put(&mut self)
+        ensures { self.new ≡ self.old }
+    {
+        match self.until_ring {
+            0 => self.tell(),
+            1 => {
+                self.until_ring = half_of_room(&self.producer);
+                self.tell();
+            }
+            notes => self.until_ring = notes - 1,
+        }
+    }
+
+    /// Rings its bell now, if it has one, for what was put.
+    #[inline(always)]
+    pub fn tell(&self) {
         if let Some(bell) = &self.bell {
             bell.ring();
         }
-        Ok(())
     }
 
     /// Whether the end that takes is there. `Err` once it was dropped: what is put from then on, nobody takes.
@@ -79,6 +137,11 @@ impl RingPutter {
             producer: self.producer,
         }
     }
+}
+
+/// Half of the slots of a ring, and at least one.
+fn half_of_room(producer: &Producer<Note>) -> usize {
+    (producer.capacity() / 2).max(1)
 }
 
 /// What is left of an end that puts no more.

@@ -16,6 +16,8 @@ pub struct Sleeper {
     parker: Parker,
     asleep: Arc<AtomicBool, Global>,
     rests: u32,
+    /// What it rings before it says that it sleeps.
+    bell: Option<Bell>,
 }
 
 impl Model for Sleeper {
@@ -33,7 +35,18 @@ impl Sleeper {
             parker: Parker::new(alloc)?,
             asleep: Arc::new(alloc, AtomicBool::new(false))?,
             rests: 0,
+            bell: None,
         })
+    }
+
+    /// The same thread, which from now on rings this bell of another before it says that it sleeps.
+    pub(crate) fn with_bell(self, bell: Bell) -> Sleeper {
+        Sleeper {
+            parker: self.parker,
+            asleep: self.asleep,
+            rests: self.rests,
+            bell: Some(bell),
+        }
     }
 
     /// A bell that wakes it. `Err` where memory runs out.
@@ -63,10 +76,18 @@ impl Sleeper {
         }
         self.rests += 1;
         if self.rests == YIELDS {
-            self.asleep.store(true, SeqCst);
+            self.fall_asleep();
         } else {
             thread::yield_now();
         }
+    }
+
+    /// Says that it sleeps, once the other thread was told of what this one put for it.
+    fn fall_asleep(&self) {
+        if let Some(bell) = &self.bell {
+            bell.ring();
+        }
+        self.asleep.store(true, SeqCst);
     }
 }
 
@@ -97,6 +118,14 @@ impl Bell {
     #[inline(always)]
     pub(crate) fn is_awaited(&self) -> bool {
         self.asleep.load(SeqCst)
+    }
+
+    /// A bell that wakes the same thread.
+    pub(crate) fn try_clone(&self) -> Result<Bell, AllocError> {
+        Ok(Bell {
+            unparker: self.unparker.clone()?,
+            asleep: Arc::try_clone(&self.asleep)?,
+        })
     }
 
     fn wake(&self) {

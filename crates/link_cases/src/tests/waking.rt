@@ -47,6 +47,16 @@ impl Progress {
         self.steps.load(SeqCst)
     }
 
+    /// No more notes are put.
+    pub fn leave(&self) {
+        self.left.store(true, SeqCst);
+    }
+
+    /// Whether no more notes are put.
+    pub fn has_left(&self) -> bool {
+        self.left.load(SeqCst)
+    }
+
     /// Waits until so many notes were taken, or put: whether they were in time.
     pub fn reaches(&self, count: u32) -> bool {
         for look in 0..PATIENCE {
@@ -86,14 +96,14 @@ fn put_for_a_while<R: Clock>(rt: &R, putter: &mut RingPutter, progress: &Progres
 }
 
 /// Takes notes, and sleeps where there is none, until the putter has left.
-fn take_until_left<R: Wait>(
+pub fn take_until_left<R: Wait>(
     rt: &R,
     taker: &mut RingTaker,
     sleeper: &mut Sleeper,
     progress: &Progress,
 ) {
     for _ in rt.forever() {
-        let left = progress.left.load(SeqCst);
+        let left = progress.has_left();
         if taker.try_take().is_some() {
             sleeper.stir();
             progress.step();
@@ -117,7 +127,7 @@ fn each_note_wakes_the_taker(rt: HostRuntime) -> Result<(), Fail> {
         handle,
         move || {
             let put = put_for_a_while(handle, &mut putter, shared);
-            shared.left.store(true, SeqCst);
+            shared.leave();
             drop(putter);
             put
         },

@@ -1,0 +1,165 @@
+//! Notes of a putter that rings late, for a taker that sleeps.
+use super::waking::{Progress, take_until_left};
+use std::sync::Wait;
+use std::test::Fail;
+use std::thread::{join, sleep};
+use std::time::{Clock, Duration};
+use wcp_clock::Note;
+use wcp_ring::{Bell, RingPutter, RingTaker, Sleeper, ring};
+
+/// How many notes the rings have room for.
+const ROOM: u32 = 8;
+
+/// For how many milliseconds nothing is put, so that the taker is asleep after them.
+const ASLEEP: u64 = 30;
+
+/// How often the taker is let to fall asleep.
+const TIMES: u32 = 3;
+
+/// How many notes are put by a thread that sleeps after each.
+const NOTES: u32 = 2_000;
+
+/// Puts so many notes once the taker is asleep, and then rings or not: whether the taker took them in time, each time.
+fn put_in_bursts<R: Clock>(
+    rt: &R,
+    putter: &mut RingPutter,
+    notes: u32,
+    tells: bool,
+    progress: &Progress,
+) -> bool {
+    for time in 1..TIMES + 1 {
+        let _ = sleep(rt, Duration::from_millis(ASLEEP));
+        for _ in 0..notes {
+            if putter.try_put(Note::Close { count: time }).is_err() {
+                return false;
+            }
+        }
+        if tells {
+            putter.tell();
+        }
+        if !progress.reaches(time * notes) {
+            return false;
+        }
+    }
+    true
+}
+
+/// Half of the room wakes the taker, and so does a putter that says so.
+#[test]
+fn a_taker_asleep_is_told_late(rt: HostRuntime) -> Result<(), Fail> {
+    for (notes, tells) in [(ROOM / 2, false), (ROOM, false), (1, true), (3, true)] {
+        let (putter, mut taker) = ring(rt.alloc(), ROOM)?;
+        let mut sleeper = Sleeper::new(rt.alloc())?;
+        let mut putter = putter.with_bell(sleeper.bell()?).ringing_late();
+        let progress = Progress::new();
+        let (shared, handle) = (&progress, &rt);
+        let (in_time, ()) = join(
+            handle,
+            move || {
+                let in_time = put_in_bursts(handle, &mut putter, notes, tells, shared);
+                shared.leave();
+                drop(putter);
+                in_time
+            },
+            || take_until_left(handle, &mut taker, &mut sleeper, shared),
+        );
+        assert!(rt; in_time, "{notes} notes");
+    }
+    Ok(())
+}
+
+/// Sleeps until there is a note, and takes it: whether one came before time was up.
+fn take_asleep<R: Wait>(
+    rt: &R,
+    taker: &mut RingTaker,
+    sleeper: &mut Sleeper,
+    progress: &Progress,
+) -> bool {
+    for _ in rt.forever() {
+        if taker.try_take().is_some() {
+            sleeper.stir();
+            return true;
+        }
+        if progress.has_left() {
+            return false;
+        }
+        sleeper.rest(rt);
+    }
+    false
+}
+
+/// One of two threads that hand a note to and fro, each asleep until it has it.
+#[derive(Drop)]
+struct Partner {
+    putter: RingPutter,
+    taker: RingTaker,
+    sleeper: Sleeper,
+}
+
+impl Partner {
+    /// Puts each note, and then waits for the answer.
+    fn ask<R: Wait>(mut self, rt: &R, progress: &Progress) {
+        for number in 0..NOTES {
+            let put = self.putter.try_put(Note::Close { count: number });
+            if put.is_err() || !take_asleep(rt, &mut self.taker, &mut self.sleeper, progress) {
+                return;
+            }
+            progress.step();
+        }
+    }
+
+    /// Waits for each note, and then puts the answer.
+    fn answer<R: Wait>(mut self, rt: &R, progress: &Progress) {
+        for number in 0..NOTES {
+            if !take_asleep(rt, &mut self.taker, &mut self.sleeper, progress) {
+                return;
+            }
+            let _ = self.putter.try_put(Note::Close { count: number });
+        }
+    }
+}
+
+/// Whether all notes come to and fro in time. Where they don't, these bells wake both threads.
+fn come_in_time(progress: &Progress, bells: (Bell, Bell)) -> bool {
+    let in_time = progress.reaches(NOTES);
+    progress.leave();
+    drop(bells);
+    in_time
+}
+
+/// Both ring late, and each tells the other by its sleeper before it sleeps.
+#[test]
+fn a_putter_tells_its_taker_before_it_sleeps(rt: HostRuntime) -> Result<(), Fail> {
+    let (asking, asked) = ring(rt.alloc(), ROOM)?;
+    let (answering, answered) = ring(rt.alloc(), ROOM)?;
+    let answerer = Sleeper::new(rt.alloc())?;
+    let asking = asking.with_bell(answerer.bell()?).ringing_late();
+    let asker = asking.new_sleeper(rt.alloc())?;
+    let bells = (asker.bell()?, answerer.bell()?);
+    let first = Partner {
+        putter: asking,
+        taker: answered,
+        sleeper: asker,
+    };
+    let answering = answering.with_bell(first.sleeper.bell()?);
+    let second = Partner {
+        putter: answering,
+        taker: asked,
+        sleeper: answerer,
+    };
+    let progress = Progress::new();
+    let (shared, handle) = (&progress, &rt);
+    let (in_time, _) = join(
+        handle,
+        || come_in_time(shared, bells),
+        || {
+            join(
+                handle,
+                || first.ask(handle, shared),
+                || second.answer(handle, shared),
+            )
+        },
+    );
+    assert!(rt; in_time);
+    Ok(())
+}
