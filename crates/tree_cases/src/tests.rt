@@ -1,6 +1,7 @@
 mod bundles;
 mod full_links;
 mod gaps;
+mod late;
 mod losing;
 mod one_thread;
 mod racing;

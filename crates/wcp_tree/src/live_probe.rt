@@ -11,6 +11,7 @@ ghost use Rattle.wcp_probe.specs.Refusals.{stamp_refusal, receive_refusal};
 ghost use Rattle.wcp_tree.specs.LiveProbe.{LiveFor, LiveAccepts, HasEmitted, IsEndOfProbe};
 ghost use Rattle.wcp_tree.specs.LiveProbe.{fresh_core, emitted_by, snapshots_in, NotesRise};
 
+use std::alloc::{AllocError, Global};
 use std::marker::Model;
 use std::sync::Wait;
 use wcp_clock::{CLOCK_LIMIT, Note};
@@ -19,8 +20,8 @@ use wcp_probe::{ProbeCore, Refusal, Stamped};
 use wcp_ring::{Gone, PutterEnd, RingPutter, Sleeper};
 
 /// The probe of a process that runs: its core, and the end of the ring by which its notes go to its
-/// relay. None of its calls takes memory, and none waits but `flush_waiting` and `close_waiting`, and `flush_in_watch`
-/// and `close_in_watch`.
+/// relay. None of its calls takes memory but `new_sleeper`, and none waits but `flush_waiting` and `close_waiting`, and
+/// `flush_in_watch` and `close_in_watch`.
 ///
 /// A contract sees it as its core and its end of the ring. It always stands for some log, so that the clocks of its
 /// snapshots rise.
@@ -74,6 +75,32 @@ impl LiveProbe {
             putter,
             sleeper,
         }
+    }
+
+    /// The same probe, which from now on tells its relay late of what it puts: once half of the link's room was filled,
+    /// before it waits for room, and as it closes. A relay that sleeps doesn't see what is put between. So whoever has
+    /// such a probe calls `tell_relay` before the process waits for anything, or waits by a sleeper of `new_sleeper`.
+    pub fn telling_late(self) -> LiveProbe
+        ensures { result ≡ self }
+    {
+        LiveProbe {
+            watch: self.watch,
+            id: self.id,
+            core: self.core,
+            putter: self.putter.ringing_late(),
+            sleeper: self.sleeper,
+        }
+    }
+
+    /// A sleeper for its process. Before it says that it sleeps, it tells the relay of what the probe has put. `Err`
+    /// where memory runs out.
+    pub fn new_sleeper(&self, alloc: Global) -> Result<Sleeper, AllocError> {
+        self.putter.new_sleeper(alloc)
+    }
+
+    /// Wakes its relay, if it sleeps, for what was put.
+    pub fn tell_relay(&self) {
+        self.putter.tell();
     }
 
     /// The number of its process.
@@ -277,8 +304,8 @@ impl LiveProbe {
         unreachable!()
     }
 
-    /// Lets some time pass, while the ring is full: the relay wakes it once it took a note. `Err` where the relay is
-    /// gone.
+    /// Lets some time pass, while the ring is full: the relay wakes it once half of the room is free, and is told before
+    /// that the ring has notes. `Err` where the relay is gone.
     fn wait_for_room<R: Wait>(&mut self, rt: &R) -> Result<(), Gone>
         ensures core { self.new.core ≡ self.old.core }
         ensures ring { self.new.link.ring ≡ self.old.link.ring }
@@ -286,6 +313,7 @@ impl LiveProbe {
         ensures stands { (log : List Call) → LiveFor self.old log → LiveFor self.new log }
     {
         self.putter.linked()?;
+        self.putter.tell();
         self.sleeper.rest(rt);
         Ok(())
     }

@@ -1,0 +1,109 @@
+//! Probes that tell their relay late.
+use super::threads::take_all;
+use super::waiting::next_in_time;
+use super::watches::{last_probe, last_relay, open, run_relay};
+use std::alloc::{AllocError, Global};
+use std::process::Abort;
+use std::sync::Wait;
+use std::sync::atomic::AtomicBool;
+use std::sync::atomic::Ordering::SeqCst;
+use std::test::Fail;
+use std::thread::{Threads, join, sleep, yield_now};
+use std::time::{Clock, Duration};
+use wcp_lane::Taker;
+use wcp_model::Parent;
+use wcp_ring::{Bell, Sleeper};
+use wcp_tree::{Bundle, LiveProbe, Watch};
+
+/// For how many milliseconds a process does nothing, so that its relay is asleep after them.
+const ASLEEP: u64 = 30;
+
+/// What a process does once it has put its one snapshot.
+#[derive(Clone, Copy, Debug, PartialEq, Eq)]
+enum Then {
+    /// It tells its relay, and is busy until the snapshot has come to the root.
+    Tells,
+    /// It sleeps until the snapshot has come to the root.
+    Sleeps,
+    /// It closes.
+    Closes,
+}
+
+/// Puts one snapshot once the relay is asleep.
+fn put_one<R: Wait + Clock>(
+    rt: &R,
+    mut probe: LiveProbe,
+    sleeper: Sleeper,
+    then: Then,
+    came: &AtomicBool,
+) {
+    let _ = sleep(rt, Duration::from_millis(ASLEEP));
+    probe.observe(true);
+    probe.flush_in_watch(rt);
+    if then == Then::Tells {
+        probe.tell_relay();
+    }
+    wait_for(rt, sleeper, then, came);
+    drop(probe.close_in_watch(rt));
+}
+
+/// Waits until this is set, as the process does so.
+fn wait_for(rt: &impl Wait, mut sleeper: Sleeper, then: Then, came: &AtomicBool) {
+    for _ in rt.forever() {
+        if then == Then::Closes || came.load(SeqCst) {
+            break;
+        }
+        match then {
+            Then::Sleeps => sleeper.rest(rt),
+            _ => yield_now(),
+        }
+    }
+}
+
+/// Whether the snapshot comes to the root in time. After that the process is woken.
+fn comes_in_time(rt: &impl Wait, mut taker: Taker<Bundle>, came: &AtomicBool, bell: Bell) -> bool {
+    let in_time = next_in_time(rt, &mut taker).is_some();
+    came.store(true, SeqCst);
+    drop(bell);
+    take_all(rt, taker, 1);
+    in_time
+}
+
+/// Whether the one snapshot of a process comes to the root in time, where its probe tells late.
+fn comes_late<R: Threads + Wait + Clock + Abort + Sync>(
+    rt: &R,
+    alloc: Global,
+    then: Then,
+) -> Result<bool, AllocError> {
+    let Watch {
+        mut probes,
+        mut relays,
+        inbox,
+    } = open(rt, alloc, (1, 8, 4), &[Parent::Root], &[Some(0)])?;
+    let probe = last_probe(rt, &mut probes).telling_late();
+    let sleeper = probe.new_sleeper(alloc)?;
+    let bell = sleeper.bell()?;
+    let (relay, taker) = (last_relay(rt, &mut relays), inbox.into_taker());
+    let came = AtomicBool::new(false);
+    let shared = &came;
+    let (fault, (in_time, ())) = join(
+        rt,
+        || run_relay(rt, relay),
+        || {
+            join(
+                rt,
+                || comes_in_time(rt, taker, shared, bell),
+                || put_one(rt, probe, sleeper, then, shared),
+            )
+        },
+    );
+    Ok(in_time && fault.is_none())
+}
+
+#[test]
+fn a_relay_asleep_is_told_before_a_process_waits(rt: HostRuntime) -> Result<(), Fail> {
+    for then in [Then::Tells, Then::Sleeps, Then::Closes] {
+        assert!(rt; comes_late(&rt, rt.alloc(), then)?, "{then:?}");
+    }
+    Ok(())
+}
