@@ -3,6 +3,7 @@ ghost use Rattle.wcp_clock.specs.Limits.{most_gate_turns};
 
 use std::thread::yield_now;
 use wcp_clock::GATE_TURNS;
+use wcp_tree::LiveProbe;
 
 /// A worker that is held back gives its turn to other threads each time that it has asked so often. On a processor that
 /// has other work to do, each time costs milliseconds.
@@ -13,6 +14,12 @@ pub trait Gate {
     /// Whether the worker of process `p` may make its own step number `step`, from 0. It is asked again for as long
     /// as the answer is false.
     fn pass(&self, p: u32, step: u64) -> bool;
+
+    /// Whether it lets each step pass without delay. Before it asks any other gate, a worker tells its relay of what it
+    /// has put, so that a gate may hold it back until something has come to the checker.
+    fn is_open(&self) -> bool {
+        false
+    }
 }
 
 /// The gate that is always open.
@@ -24,11 +31,19 @@ impl Gate for Open {
     {
         true
     }
+
+    fn is_open(&self) -> bool {
+        true
+    }
 }
 
-/// Asks a gate whether the worker of process `p` may make this step, again and again while its answer is false, and at
+/// Asks a gate whether the worker of this probe may make this step, again and again while its answer is false, and at
 /// most [`GATE_TURNS`] times. What a gate answers no clause knows, so none speaks of this answer.
-pub(crate) fn may_step<G: Gate>(gate: &G, p: u32, step: u64) -> bool {
+pub(crate) fn may_step<G: Gate>(gate: &G, probe: &LiveProbe, step: u64) -> bool {
+    if !gate.is_open() {
+        probe.tell_relay();
+    }
+    let p = probe.id();
     for turn in 0..most_turns() {
         if gate.pass(p, step) {
             return true;

@@ -7,13 +7,15 @@ use crate::lane_ends::{Inbox, Outbox};
 use std::alloc::{AllocError, Global};
 use wcp_lane::{LaneFault, Members, lane};
 use wcp_model::Action;
-use wcp_ring::Sleeper;
+use wcp_tree::LiveProbe;
 
-/// Opens a lane by which process `p` can send this many messages, if it is to send any. `Err` where memory runs out.
+/// Opens a lane by which process `p` can send this many messages to the process of this probe, if it is to send any.
+/// The receiver tells its relay of what its probe has put before it sleeps. `Err` where memory runs out.
 pub(crate) fn new_lane(
     alloc: Global,
     p: u32,
     count: u32,
+    receiver: &LiveProbe,
 ) -> Result<(Option<Outbox>, Option<Inbox>), AllocError>
     requires numbered { p < most_processes }
     requires few { count ≤ most_lane }
@@ -22,7 +24,7 @@ pub(crate) fn new_lane(
     if count == 0 {
         return Ok((None, None));
     }
-    let sleeper = Sleeper::new(alloc)?;
+    let sleeper = receiver.new_sleeper(alloc)?;
     let bell = sleeper.bell()?;
     match lane(alloc, count, &[Members::none().with(p)]) {
         Ok((mut putters, taker)) => match putters.pop() {

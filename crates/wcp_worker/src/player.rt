@@ -33,9 +33,8 @@ impl Player {
         ensures done { OnOk result ((log : List Call) × HasDoneActions self.old actions.now log self.new) }
         ensures same { IsSameLive self.old.probe self.new.probe }
     {
-        let p = self.probe.id();
         for (step, action) in actions.iter().enumerate() {
-            if !may_step(gate, p, step as u64) {
+            if !may_step(gate, &self.probe, step as u64) {
                 return Err(WorkerFault::Held);
             }
             self.perform(rt, *action)?;

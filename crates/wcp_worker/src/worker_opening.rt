@@ -39,7 +39,7 @@ fn idle_workers(alloc: Global, probes: Vec<LiveProbe>) -> Result<Vec<Worker>, Al
     let mut workers = Vec::with_capacity(alloc, probes.len())?;
     for probe in probes {
         workers.push(Worker {
-            probe,
+            probe: probe.telling_late(),
             mailbox: Mailbox {
                 outboxes: Vec::new(alloc),
                 inboxes: Vec::new(alloc),
@@ -95,7 +95,7 @@ fn open_row(
     let mut row = Vec::with_capacity(alloc, workers.len())?;
     for q in 0..workers.len() {
         let count = count_sends(&workers[p].actions, q as u32);
-        let (outbox, inbox) = new_lane(alloc, p as u32, count as u32)?;
+        let (outbox, inbox) = new_lane(alloc, p as u32, count as u32, &workers[q].probe)?;
         row.push(outbox)?;
         workers[q].mailbox.inboxes.push(inbox)?;
     }

@@ -1,4 +1,5 @@
 mod gates;
+mod late;
 mod outcomes;
 mod refused;
 mod two_threads;

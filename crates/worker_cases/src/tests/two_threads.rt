@@ -12,7 +12,7 @@ use std::thread::{Threads, join, sleep};
 use std::time::{Clock, Duration};
 use wcp_model::Workload;
 use wcp_script::read_workload;
-use wcp_tree::{Relay, watch};
+use wcp_tree::{CheckerInbox, Relay, watch};
 use wcp_worker::{Open, Worker, WorkerEnd, WorkerFault, open_workers};
 
 /// Process 0 observes and sends, and process 1 receives and observes; then it sends what nobody receives.
@@ -25,11 +25,11 @@ const ONE_AFTER_ANOTHER: &[u8] =
     b"wcp 1\nprocs 3\ncap 1\nrelay 0 root\nrelay 1 0\nrelay 2 0\nattach 0 1\nattach 1 2\nattach 2 1\n\
 p 1 true\np 0 send 1\np 1 recv 0\np 1 send 2\np 2 recv 1\n";
 
-/// The workers of the last two processes of a workload, and the last relay of its plan.
-fn two_workers(
+/// The workers of the last two processes of a workload, the last relay of its plan and the checker's inbox.
+pub fn two_workers(
     alloc: Global,
     workload: &Workload,
-) -> Result<Option<(Worker, Worker, Relay)>, AllocError>
+) -> Result<Option<(Worker, Worker, Relay, CheckerInbox)>, AllocError>
     requires read { CouldBeRead workload.now.plan.n workload.now.tasks.items }
     requires checked { IsCheckedPlan workload.now.plan }
     ensures { IfOk result (λ found. IfSome found (λ two. IsReadyWorker two.0 × IsReadyWorker two.1)) }
@@ -46,7 +46,7 @@ fn two_workers(
     let Some(relay) = relays.pop() else {
         return Ok(None);
     };
-    Ok(Some((first, second, relay)))
+    Ok(Some((first, second, relay, opened.inbox)))
 }
 
 /// Runs two workers, each in a thread, and sets this once the second has ended.
@@ -132,7 +132,8 @@ fn met_cut(end: &WorkerEnd) -> bool {
 #[test]
 fn two_workers_do_all(rt: HostRuntime) -> Result<(), Fail> {
     let workload = read_workload(rt.alloc(), ONE_MESSAGE)?;
-    let (first, second, relay) = two_workers(rt.alloc(), &workload)?.ok_or("two workers")?;
+    let (first, second, relay, inbox) = two_workers(rt.alloc(), &workload)?.ok_or("two workers")?;
+    drop(inbox);
     let (first, second) = run_before_relay(&rt, first, second, relay).ok_or("in time")?;
     assert_eq!(rt; emitted(&first), Some(1));
     assert_eq!(rt; emitted(&second), Some(1));
@@ -144,7 +145,8 @@ fn two_workers_do_all(rt: HostRuntime) -> Result<(), Fail> {
 #[test]
 fn a_worker_that_gives_up_lets_its_partners_go_first(rt: HostRuntime) -> Result<(), Fail> {
     let workload = read_workload(rt.alloc(), ONE_AFTER_ANOTHER)?;
-    let (first, second, relay) = two_workers(rt.alloc(), &workload)?.ok_or("two workers")?;
+    let (first, second, relay, inbox) = two_workers(rt.alloc(), &workload)?.ok_or("two workers")?;
+    drop(inbox);
     let (first, second) = run_before_relay(&rt, first, second, relay).ok_or("in time")?;
     assert!(rt; met_cut(&first) && met_cut(&second));
     Ok(())
