@@ -1,4 +1,5 @@
-use Rattle.std.specs.Prelude.{◌≡◌, ◌==◌, ◌||◌, ◌⊎◌, ◌<◌, ℕ, false, not, Option, Some, List, [], ◌∷◌, All, length, nat_eq, slice_get}
+use Rattle.std.specs.Prelude.{◌≡◌, ◌==◌, ◌||◌, ◌⊎◌, ◌<◌, ℕ, false, not, Option, Some, List, [], ◌∷◌, All, length}
+use Rattle.std.specs.Prelude.{nat_eq, slice_get}
 use Rattle.std.specs.FinSet as set
 use Rattle.std.specs.List.{list_any}
 use Rattle.wcp_clock.specs.ProcessNumbers.{NumberSet}
@@ -7,7 +8,8 @@ use Rattle.wcp_model.specs.FirstReason.{first_reason}
 use Rattle.wcp_model.specs.declared.outcome.Report.{Report}
 use Rattle.wcp_model.specs.declared.outcome.Report.TheVariants.{Found, Nothing, Undecided}
 use Rattle.wcp_queue.specs.Checker.{CheckerState, processes, taken_of, closed_of, lost_of, StandsForItems}
-use Rattle.wcp_c.specs.Answers.{done, in_use, no_memory, out_of_range, other_watch, ended, out_of_turn, found, nothing, undecided}
+use Rattle.wcp_c.specs.Answers.{done, in_use, no_memory, out_of_range, other_watch, ended, out_of_turn, found, nothing}
+use Rattle.wcp_c.specs.Answers.{undecided}
 use Rattle.wcp_c.specs.Notes.{item_of}
 use Rattle.wcp_c.specs.declared.handle.WcpChecker.{WcpChecker}
 use Rattle.wcp_c.specs.declared.note.WcpNote.{WcpNote}

@@ -1,4 +1,5 @@
-use Rattle.std.specs.Prelude.{◌≡◌, ◌==◌, ◌-◌, ◌<◌, ◌≤◌, ℕ, false, Option, Some, None, if◌then◌else◌, All, List, [], replicate, take, drop}
+use Rattle.std.specs.Prelude.{◌≡◌, ◌==◌, ◌-◌, ◌<◌, ◌≤◌, ℕ, false, Option, Some, None, if◌then◌else◌, All, List, []}
+use Rattle.std.specs.Prelude.{replicate, take, drop}
 use Rattle.wcp_clock.specs.Limits.{most_processes, most_events}
 use Rattle.wcp_clock.specs.declared.note.Note.{Note}
 use Rattle.wcp_clock.specs.declared.note.Note.TheVariants.{Snap, Close}

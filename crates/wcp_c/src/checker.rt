@@ -1,6 +1,8 @@
 //! The checker, behind a handle in a caller's memory.
-ghost use Rattle.std.specs.Prelude.{◌≡◌, ◌≢◌, ◌<◌, ◌≤◌, ◌↔◌, ◌⊎◌, ℕ, true, false, nat_eq, nat_lt, slice_get, slice_index_or};
-ghost use Rattle.std.specs.Prelude.{Option, Some, None, IsTrue, IsSome, IfSome, IfOk, IsNone, MatchOption, List, [], length, All};
+ghost use Rattle.std.specs.Prelude.{◌≡◌, ◌≢◌, ◌<◌, ◌≤◌, ◌↔◌, ◌⊎◌, ℕ, true, false, nat_eq, nat_lt, slice_get};
+ghost use Rattle.std.specs.Prelude.{slice_index_or};
+ghost use Rattle.std.specs.Prelude.{Option, Some, None, IsTrue, IsSome, IfSome, IfOk, IsNone, MatchOption, List, []};
+ghost use Rattle.std.specs.Prelude.{length, All};
 ghost use Rattle.std.specs.List.{list_any};
 ghost use Rattle.std.specs.FinSet as set;
 ghost use Rattle.wcp_clock.specs.Limits.{most_processes};
@@ -12,9 +14,11 @@ ghost use Rattle.wcp_model.specs.declared.outcome.Report.{Report as Reported};
 ghost use Rattle.wcp_model.specs.declared.outcome.Report.TheVariants.{Found};
 ghost use Rattle.wcp_queue.specs.Checker.{CheckerState, processes, taken_of, report_of, StandsForItems, TakesItem};
 ghost use Rattle.wcp_queue.specs.Checker.{IsReportOfAnyClocks};
-ghost use Rattle.wcp_c.specs.Answers.{done, found, in_use, no_checker, no_memory, no_note, not_in_cut, nothing, out_of_range};
+ghost use Rattle.wcp_c.specs.Answers.{done, found, in_use, no_checker, no_memory, no_note, not_in_cut, nothing};
+ghost use Rattle.wcp_c.specs.Answers.{out_of_range};
 ghost use Rattle.wcp_c.specs.Answers.{undecided};
-ghost use Rattle.wcp_c.specs.Checkers.{IsInCut, IsMade, IsNewChecker, IsSetOf, IsTaken, NamesProcesses, checker_in, report_number, take_refusal};
+ghost use Rattle.wcp_c.specs.Checkers.{IsInCut, IsMade, IsNewChecker, IsSetOf, IsTaken, NamesProcesses, checker_in};
+ghost use Rattle.wcp_c.specs.Checkers.{report_number, take_refusal};
 ghost use Rattle.wcp_c.specs.Notes.{HoldsNote, item_of};
 
 use crate::answer::{
@@ -208,7 +212,8 @@ pub extern "C" fn wcp_checker_cut(
     interval: &mut u32,
 ) -> u32
     ensures none { result ≡ no_checker ↔ (checker_in checker.old ≡ None) }
-    ensures member { result ≡ done → IfSome (checker_in checker.old) (λ state. IsInCut (report_of state) p interval.new) }
+    ensures member { result ≡ done
+        → IfSome (checker_in checker.old) (λ state. IsInCut (report_of state) p interval.new) }
     ensures no_member { result ≡ not_in_cut → IfSome (checker_in checker.old)
         (λ state. (k : ℕ) → IsInCut (report_of state) p k → ⊥) }
     ensures answers { IsSome (checker_in checker.old) → (result ≡ done) ⊎ (result ≡ not_in_cut) }

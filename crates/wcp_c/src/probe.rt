@@ -1,5 +1,6 @@
 //! The probe of one process, in a caller's memory.
-ghost use Rattle.std.specs.Prelude.{◌≡◌, ◌≢◌, ◌==◌, ◌+◌, ◌<◌, ◌≤◌, ◌↔◌, ◌||◌, not, ℕ, IsSome, IsTrue, IfSome, MatchOption};
+ghost use Rattle.std.specs.Prelude.{◌≡◌, ◌≢◌, ◌==◌, ◌+◌, ◌<◌, ◌≤◌, ◌↔◌, ◌||◌, not, ℕ, IsSome, IsTrue, IfSome};
+ghost use Rattle.std.specs.Prelude.{MatchOption};
 ghost use Rattle.std.specs.Prelude.{length, replicate, true, false, Some, None, All, take, drop};
 ghost use Rattle.wcp_clock.specs.Limits.{most_processes, most_events};
 ghost use Rattle.wcp_clock.specs.declared.note.Note.{Note};

@@ -1,4 +1,5 @@
-ghost use Rattle.std.specs.Prelude.{◌≡◌, ◌-◌, ◌++◌, ◌<◌, ◌≤◌, length, replicate, slice_get, slice_index, slice_index_or, Some, None};
+ghost use Rattle.std.specs.Prelude.{◌≡◌, ◌-◌, ◌++◌, ◌<◌, ◌≤◌, length, replicate, slice_get, slice_index};
+ghost use Rattle.std.specs.Prelude.{slice_index_or, Some, None};
 ghost use Rattle.wcp_clock.specs.Limits.{most_processes};
 ghost use Rattle.wcp_clock.specs.Merge.{merged};
 

@@ -48,7 +48,8 @@ pub record IsEmittedState (watched : NumberSet) (flag : Flag) (c : Computation) 
       WasReset flag c s.process k s.interval
 
 -- The states of a process that are emitted, by rising interval.
-pub record AreEmittedStates (watched : NumberSet) (flag : Flag) (c : Computation) (p : ℕ) (intervals : List ℕ) : Type 0 where
+pub record AreEmittedStates (watched : NumberSet) (flag : Flag) (c : Computation) (p : ℕ) (intervals : List ℕ)
+    : Type 0 where
   pub rising : IsStrictlyIncreasing intervals
   pub each : (k : ℕ) → Contains intervals k ↔ IsEmittedState watched flag c (record { process = p; interval = k })
 

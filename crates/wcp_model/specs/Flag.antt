@@ -27,8 +27,8 @@ pub record WasReset (flag : Flag) (c : Computation) (p first second : ℕ) : Typ
   pub from : first ≤ interval_at c p place
   pub before : interval_at c p place < second
 
--- The flag of a process is up in a state if the process is watched, this state or an earlier one is true, and since then
--- the flag was not reset.
+-- The flag of a process is up in a state if the process is watched, this state or an earlier one is true, and since
+-- then the flag was not reset.
 pub record IsFlagUp (watched : NumberSet) (flag : Flag) (c : Computation) (s : State) : Type 0 where
   pub watched_process : set.contains watched s.process ≡ true
   pub since : ℕ

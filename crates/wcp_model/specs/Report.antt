@@ -65,8 +65,8 @@ pub record IsNamedCut (n : ℕ) (watched : NumberSet) (c : Computation) (items :
   pub named : (p : ℕ) → IsWatched n watched p → IsNamed items (member cut p)
 
 -- The same read by clocks alone, each named state counted as true: one taken snapshot of each watched process, where
--- none precedes another; it would if its own component were less than the other's there (Mattern 1989; Garg and Waldecker
--- 1994).
+-- none precedes another; it would if its own component were less than the other's there (Mattern 1989; Garg and
+-- Waldecker 1994).
 pub record IsCutByClocks (n : ℕ) (watched : NumberSet) (items : List Item) (cut : Intervals) : Type 0 where
   pub members : NamesWatched n watched cut
   pub clock : ℕ → List ℕ

@@ -54,7 +54,8 @@ stamps_got p actions log = beside (is_receive_from p) actions (map stamp_of log)
 
 -- Logs are of tasks if each follows what its process does, and for each two processes of which the tasks send from one
 -- to the other, the stamps that this gets are a front of those that the first sends.
-pub record AreLogsOfTasks (n : ℕ) (watched : NumberSet) (flag : Flag) (tasks : List Task) (logs : ℕ → List Call) : Type 0 where
+pub record AreLogsOfTasks (n : ℕ) (watched : NumberSet) (flag : Flag) (tasks : List Task) (logs : ℕ → List Call)
+    : Type 0 where
   pub follows : (p : ℕ) → p < n → FollowsActions (actions_of p tasks) (logs p)
   pub in_order : (p q : ℕ) → p < n → q < n → 0 < count_by (sends p q) tasks →
       (in_transit : List (List ℕ)) × (stamps_got p (actions_of q tasks) (logs q) ++ in_transit
@@ -64,6 +65,6 @@ pub record AreLogsOfTasks (n : ℕ) (watched : NumberSet) (flag : Flag) (tasks :
 -- these tasks.
 abbrev pub TaskLogLaw : Type 0
 TaskLogLaw =
-    (n : ℕ) (watched : NumberSet) (flag : Flag) (tasks order : List Task) (logs : ℕ → List Call) → All (IsWithin n) tasks →
-    IsFitOrder tasks order → AreLogsOfTasks n watched flag tasks logs → (p : ℕ) → p < n →
+    (n : ℕ) (watched : NumberSet) (flag : Flag) (tasks order : List Task) (logs : ℕ → List Call) →
+    All (IsWithin n) tasks → IsFitOrder tasks order → AreLogsOfTasks n watched flag tasks logs → (p : ℕ) → p < n →
     IsLogOf n (computation_of n order) p (logs p ++ Closed ∷ [])

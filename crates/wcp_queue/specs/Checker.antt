@@ -1,4 +1,5 @@
-use Rattle.std.specs.Prelude.{◌≡◌, ◌+◌, ◌*◌, ◌^◌, ◌<◌, ◌≤◌, ℕ, Bool, true, false, Option, Some, None, MatchOption, IfSome}
+use Rattle.std.specs.Prelude.{◌≡◌, ◌+◌, ◌*◌, ◌^◌, ◌<◌, ◌≤◌, ℕ, Bool, true, false, Option, Some, None, MatchOption}
+use Rattle.std.specs.Prelude.{IfSome}
 use Rattle.std.specs.Prelude.{List, [], ◌∷◌, ◌++◌, length, take, sum, count_by, All, slice_index, slice_index_or}
 use Rattle.std.specs.List.{list_any, list_all}
 use Rattle.std.specs.Option.{option_map}
@@ -124,8 +125,8 @@ IsReportOfStarved n watched items (Found cut) = IsCutByClocks n watched items cu
 IsReportOfStarved n watched items Nothing = ⊥
 IsReportOfStarved n watched items Undecided = Unit {0}
 
--- What is true of every checker: nothing waits of a watched process without a head, such a process is waited for until a
--- cut is found, and a snapshot costs at most one component test for each watched process, and none where there is one
+-- What is true of every checker: nothing waits of a watched process without a head, such a process is waited for until
+-- a cut is found, and a snapshot costs at most one component test for each watched process, and none where there is one
 -- alone.
 pub record IsSoundChecker (checker : CheckerState) : Type 0 where
   pub few : processes checker ≤ most_processes

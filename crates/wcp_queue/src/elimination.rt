@@ -10,8 +10,8 @@ use crate::queue::Queues;
 use std::alloc::AllocError;
 use wcp_clock::{Clock, PerProcess};
 
-/// Adds a snapshot of `p`, one of the watched processes by rising number, and eliminates heads. Finds the cut of the heads
-/// that are left, if every process has one. `Err` where memory runs out.
+/// Adds a snapshot of `p`, one of the watched processes by rising number, and eliminates heads. Finds the cut of the
+/// heads that are left, if every process has one. `Err` where memory runs out.
 pub fn add_candidate(
     queues: &mut Queues,
     p: usize,

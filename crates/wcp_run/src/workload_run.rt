@@ -31,7 +31,8 @@ pub fn run<R: Threads + Wait + Sync, G: Gate + Sync>(
 ) -> Result<Outcome, RunFault>
     requires read { CouldBeRead workload.now.plan.n workload.now.tasks.items }
     requires checked { IsCheckedPlan workload.now.plan }
-    ensures { IfOk result (IsWorkloadOutcome workload.now.plan.n workload.now.plan.watched workload.now.plan.flag workload.now.tasks.items) }
+    ensures { IfOk result (IsWorkloadOutcome workload.now.plan.n workload.now.plan.watched workload.now.plan.flag
+        workload.now.tasks.items) }
 {
     let Ok(parts) = open_parts(alloc, workload) else {
         return Err(RunFault::Memory);

@@ -209,8 +209,8 @@ pub record IsWithinLimits (head : Head) : Type 0 where
   pub relays : length head.parents ≤ most_relays
   pub next : next_process head.last_attached ≤ head.n
 
--- A head has at most 37 lines: the first two, one for each capacity, one for each relay and each process, one that names
--- the watched, and one that says what resets the flag.
+-- A head has at most 37 lines: the first two, one for each capacity, one for each relay and each process, one that
+-- names the watched, and one that says what resets the flag.
 abbrev pub most_head_lines : ℕ
 most_head_lines = 6 + most_relays + most_processes
 

@@ -6,7 +6,8 @@ ghost use Rattle.wcp_model.specs.WorkloadComputation.{CouldBeRead};
 ghost use Rattle.wcp_script.specs.TextFault.{workloads, Spells};
 ghost use Rattle.wcp_script.specs.WorkloadText.{task_line};
 ghost use Rattle.wcp_script.specs.Lines.{text_of};
-ghost use Rattle.wcp_script.specs.PlanText.{attach_lines, cap_lines, flag_lines, has_one_relay, head_lines, hold_lines, is_first};
+ghost use Rattle.wcp_script.specs.PlanText.{attach_lines, cap_lines, flag_lines, has_one_relay, head_lines, hold_lines};
+ghost use Rattle.wcp_script.specs.PlanText.{is_first};
 ghost use Rattle.wcp_script.specs.PlanText.{are_all_watched, numbered, spaced_word, watch_lines};
 ghost use Rattle.wcp_script.specs.PlanText.{opening_lines, relay_lines, text_of_workload, tree_lines};
 

@@ -49,8 +49,8 @@ pub record HasTaken (n : ℕ) (watched : NumberSet) (items : List Item) (checker
   pub not_starved : checker.starved ≡ false
 
 -- A checker of n processes has taken these items, and with them all that process p emits by this log.
-pub record IsFed (n : ℕ) (watched : NumberSet) (flag : Flag) (p : ℕ) (log : List Call) (items : List Item) (checker : CheckerState)
-    : Type 0 where
+pub record IsFed (n : ℕ) (watched : NumberSet) (flag : Flag) (p : ℕ) (log : List Call) (items : List Item)
+    (checker : CheckerState) : Type 0 where
   pub within : p < n
   pub has_taken : HasTaken n watched items checker
   pub all : notes_taken p items ≡ (state_of_log (setup n watched flag p) log).notes

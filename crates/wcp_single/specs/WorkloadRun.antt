@@ -65,8 +65,8 @@ pub record HasClosed (n : ℕ) (watched : NumberSet) (flag : Flag) (p : ℕ) (lo
 
 -- The run of these tasks ends: so many processes have closed, the others have only done their tasks, and the checker
 -- has taken what they emitted.
-pub record IsEnding (n : ℕ) (watched : NumberSet) (flag : Flag) (tasks : List Task) (ended : ℕ) (processes : List WorkloadProcess)
-    (checker : CheckerState) : Type 0 where
+pub record IsEnding (n : ℕ) (watched : NumberSet) (flag : Flag) (tasks : List Task) (ended : ℕ)
+    (processes : List WorkloadProcess) (checker : CheckerState) : Type 0 where
   pub processes_are : length processes ≡ n
   pub logs : ℕ → List Call
   pub are : AreLogsOfTasks n watched flag tasks logs
@@ -74,6 +74,7 @@ pub record IsEnding (n : ℕ) (watched : NumberSet) (flag : Flag) (tasks : List 
       IsRunning (setup n watched flag p) (logs p) (slice_index_or processes p process)
   pub items : List Item
   pub has_taken : HasTaken n watched items checker
-  pub all_taken : (p : ℕ) → ended ≤ p → p < n → notes_taken p items ≡ (state_of_log (setup n watched flag p) (logs p)).notes
+  pub all_taken : (p : ℕ) → ended ≤ p → p < n →
+      notes_taken p items ≡ (state_of_log (setup n watched flag p) (logs p)).notes
   pub has_closed : (p : ℕ) (process : WorkloadProcess) → p < ended →
       HasClosed n watched flag p (logs p) (notes_taken p items) (slice_index_or processes p process)

@@ -33,7 +33,8 @@ fn outcome(alloc: Global, plan: &Plan, order: &[Task]) -> Result<Outcome, AllocE
 pub fn single(alloc: Global, workload: &Workload) -> Result<Outcome, AllocError>
     requires read { CouldBeRead workload.now.plan.n workload.now.tasks.items }
     requires watched { AreSomeWatched workload.now.plan.n workload.now.plan.watched }
-    ensures { IfOk result (IsWorkloadOutcome workload.now.plan.n workload.now.plan.watched workload.now.plan.flag workload.now.tasks.items) }
+    ensures { IfOk result (IsWorkloadOutcome workload.now.plan.n workload.now.plan.watched workload.now.plan.flag
+        workload.now.tasks.items) }
 {
     match fit_order(alloc, workload.plan.n, &workload.tasks)? {
         FitOrder::AsListed => single_in_order(alloc, workload, &workload.tasks),
@@ -53,7 +54,8 @@ pub fn single_in_order(
     requires read { CouldBeRead workload.now.plan.n workload.now.tasks.items }
     requires watched { AreSomeWatched workload.now.plan.n workload.now.plan.watched }
     requires fit { IsFitOrder workload.now.tasks.items order.now }
-    ensures { IfOk result (IsWorkloadOutcome workload.now.plan.n workload.now.plan.watched workload.now.plan.flag workload.now.tasks.items) }
+    ensures { IfOk result (IsWorkloadOutcome workload.now.plan.n workload.now.plan.watched workload.now.plan.flag
+        workload.now.tasks.items) }
 {
     outcome(alloc, &workload.plan, order)
 }

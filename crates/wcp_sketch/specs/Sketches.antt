@@ -22,10 +22,10 @@ cut_of (Found cut) = Some cut
 cut_of Nothing = None
 cut_of Undecided = None
 
--- The picture of these tasks of processes with these names, of which some are watched, under what resets their flags: of
--- a layout of a fit order of them about the cut of their outcome; and whether there is one.
-pub record IsPictureOf (names : List (List ℕ)) (watched : NumberSet) (flag : Flag) (tasks : List Task) (picture : List ℕ)
-    (found : Bool) : Type 0 where
+-- The picture of these tasks of processes with these names, of which some are watched, under what resets their flags:
+-- of a layout of a fit order of them about the cut of their outcome; and whether there is one.
+pub record IsPictureOf (names : List (List ℕ)) (watched : NumberSet) (flag : Flag) (tasks : List Task)
+    (picture : List ℕ) (found : Bool) : Type 0 where
   pub order : List Task
   pub fit : IsFitOrder tasks order
   pub outcome : Outcome

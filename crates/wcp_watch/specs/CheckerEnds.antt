@@ -73,10 +73,10 @@ first_fault false (Some cut) lost = Some (fault.Cut cut)
 first_fault false None (Some p) = Some (fault.Lost p)
 first_fault false None None = None
 
--- What the loop of a checker leaves for which these are watched: its receipt is of the inbox's lane and was matched with
--- no putter yet; unless the lane was cut each process has ended, and all is drained unless one was lost. The report is
--- that of all that was taken, and never nothing where a process was lost; where the checker was starved it is a cut
--- found among these snapshots, or undecided.
+-- What the loop of a checker leaves for which these are watched: its receipt is of the inbox's lane and was matched
+-- with no putter yet; unless the lane was cut each process has ended, and all is drained unless one was lost. The
+-- report is that of all that was taken, and never nothing where a process was lost; where the checker was starved it
+-- is a cut found among these snapshots, or undecided.
 pub record IsEndOfLoop (inbox : CheckerInbox) (watched : NumberSet) (end : CheckerEnd) : Type 0 where
   pub watch : end.watch ≡ inbox.watch
   pub relays : end.relays ≡ inbox.relays

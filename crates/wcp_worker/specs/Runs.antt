@@ -20,8 +20,8 @@ use Rattle.wcp_worker.specs.Played.{HasPlayed}
 
 -- Process p ran by this log and left this mailbox: its worker, with a probe of process p of n, did all that the process
 -- does in the tasks, and what was taken of p among the items is all that its probe put.
-pub record HasRun (n : ℕ) (watched : NumberSet) (flag : Flag) (tasks : List Task) (items : List Item) (p : ℕ) (log : List Call) (mailbox : Mailbox)
-    : Type 0 where
+pub record HasRun (n : ℕ) (watched : NumberSet) (flag : Flag) (tasks : List Task) (items : List Item) (p : ℕ)
+    (log : List Call) (mailbox : Mailbox) : Type 0 where
   pub worker : Worker
   pub probe : ClosedSide
   pub made : setup_of worker.probe.core ≡ setup n watched flag p
@@ -70,7 +70,8 @@ AreMatched mailboxes = (p q : ℕ) (from to : Mailbox) → slice_get mailboxes p
     slice_get mailboxes q ≡ Some to → clocks_taken_from to p ≡ clocks_sent_to p from q
 
 -- All n processes ran, each by a log of its own, and all messages between them were taken.
-pub record HaveRun (n : ℕ) (watched : NumberSet) (flag : Flag) (tasks : List Task) (items : List Item) (mailboxes : List Mailbox) : Type 0 where
+pub record HaveRun (n : ℕ) (watched : NumberSet) (flag : Flag) (tasks : List Task) (items : List Item)
+    (mailboxes : List Mailbox) : Type 0 where
   pub count : length mailboxes ≡ n
   pub each : (p : ℕ) (mailbox : Mailbox) → slice_get mailboxes p ≡ Some mailbox →
       (log : List Call) × HasRun n watched flag tasks items p log mailbox

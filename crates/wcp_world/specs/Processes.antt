@@ -34,8 +34,8 @@ pending_at app p = option_and_then (λ core. core.pending) (slice_get app.probes
 
 -- A probe stands for the log of its process in a computation; the emissions of that log are those notes that were put,
 -- followed by what is pending.
-pub record IsProbeOf (n : ℕ) (watched : NumberSet) (flag : Flag) (c : Computation) (p : ℕ) (put : List Note) (core : Core)
-    : Type 0 where
+pub record IsProbeOf (n : ℕ) (watched : NumberSet) (flag : Flag) (c : Computation) (p : ℕ) (put : List Note)
+    (core : Core) : Type 0 where
   pub log : List Call
   pub is_log : IsLogOf n c p log
   pub stands : StandsForLog core log
@@ -46,8 +46,8 @@ pub record IsProbeOf (n : ℕ) (watched : NumberSet) (flag : Flag) (c : Computat
 
 -- The probe of a lost process accepts nothing more, and has nothing pending: of the emissions of its log those were
 -- put, and the rest is gone.
-pub record IsLostProbeOf (n : ℕ) (watched : NumberSet) (flag : Flag) (c : Computation) (p : ℕ) (put : List Note) (core : Core)
-    : Type 0 where
+pub record IsLostProbeOf (n : ℕ) (watched : NumberSet) (flag : Flag) (c : Computation) (p : ℕ) (put : List Note)
+    (core : Core) : Type 0 where
   pub log : List Call
   pub is_log : IsLogOf n c p log
   pub emitted : core.emitted ≡ (state_of_log (setup n watched flag p) log).snapshots

@@ -18,11 +18,11 @@ use Rattle.wullaphi.specs.declared.watch_outcome.WatchOutcome.{WatchOutcome}
 abbrev pub tally_of : List Note → Tally
 tally_of notes = record { emitted = snapshots_in notes; taken = snapshots_in notes }
 
--- A watch of this number and plan, of these processes, tells this: each has run with its probe, of this watch, and gave the
--- answer at its place; what the checker took of it are all notes of its probe, each once and in order; the report is
--- the exact one of all that was taken; and the totals are the sums of the tallies.
-pub record IsWatchOutcome {P A : Type 0} (Leaves : P → LiveSide → A → Type 0) (number : ℕ) (plan : Plan) (processes : List P)
-    (told : WatchOutcome A) : Type 0 where
+-- A watch of this number and plan, of these processes, tells this: each has run with its probe, of this watch, and
+-- gave the answer at its place; what the checker took of it are all notes of its probe, each once and in order; the
+-- report is the exact one of all that was taken; and the totals are the sums of the tallies.
+pub record IsWatchOutcome {P A : Type 0} (Leaves : P → LiveSide → A → Type 0) (number : ℕ) (plan : Plan)
+    (processes : List P) (told : WatchOutcome A) : Type 0 where
   pub taken : List Item
   pub processes_are : length processes ≡ plan.n
   pub answers : length told.answers.items ≡ plan.n

@@ -72,8 +72,10 @@ pub static ANSWERED: [Row; 32] = [
     Row {
         name: "two of three watched",
         word: "single",
-        text: "wcp 1\nprocs 3\nwatch 0 2\np 0 true\np 0 send 1\np 1 true\np 1 recv 0\np 1 send 2\np 2 recv 1\np 2 true\n",
-        output: "none\nprocess 0 emitted 1 taken 1\nprocess 1 emitted 0 taken 0\nprocess 2 emitted 1 taken 1\ntotal emitted 2 taken 2\n",
+        text: "wcp 1\nprocs 3\nwatch 0 2\np 0 true\np 0 send 1\np 1 true\np 1 recv 0\np 1 send 2\np 2 recv 1\n\
+            p 2 true\n",
+        output: "none\nprocess 0 emitted 1 taken 1\nprocess 1 emitted 0 taken 0\nprocess 2 emitted 1 taken 1\n\
+            total emitted 2 taken 2\n",
         errors: "",
         status: 1,
     },
@@ -96,8 +98,11 @@ pub static ANSWERED: [Row; 32] = [
     Row {
         name: "a receive leaves the flag up",
         word: "replay",
-        text: "wcp 1\nprocs 2\nflag send\nobserve 0 true\nput 0\nobserve 1 true\nput 1\nsend 1 0\nrecv 0 0\nobserve 0 true\nput 0\nadmit 0 0\nadmit 0 1\nadmit 0 0\npass 0\npass 0\npass 0\ncheck\ncheck\ncheck\n",
-        output: "done\ndone\ndone\ndone\ndone\ndone\ndone\nrefused empty\ndone\ndone\nrefused empty\ndone\ndone\nrefused empty\ntook 0 snap 0 0 0\ntook 1 snap 0 0 0\nrefused empty\nfound 0 0\nprocess 0 emitted 1 taken 1\nprocess 1 emitted 1 taken 1\ntotal emitted 2 taken 2\n",
+        text: "wcp 1\nprocs 2\nflag send\nobserve 0 true\nput 0\nobserve 1 true\nput 1\nsend 1 0\nrecv 0 0\n\
+            observe 0 true\nput 0\nadmit 0 0\nadmit 0 1\nadmit 0 0\npass 0\npass 0\npass 0\ncheck\ncheck\ncheck\n",
+        output: "done\ndone\ndone\ndone\ndone\ndone\ndone\nrefused empty\ndone\ndone\nrefused empty\ndone\ndone\n\
+            refused empty\ntook 0 snap 0 0 0\ntook 1 snap 0 0 0\nrefused empty\nfound 0 0\n\
+            process 0 emitted 1 taken 1\nprocess 1 emitted 1 taken 1\ntotal emitted 2 taken 2\n",
         errors: "",
         status: 0,
     },
