@@ -14,6 +14,7 @@ pub mod Answered
 pub mod HandedOn
 mod PrintedLines
 mod PrintedTasks
+mod PrintedSteps
 mod PrintedHead
 pub mod Printed
 pub mod Ranges

@@ -7,6 +7,7 @@ pub mod Head
 pub mod Named
 pub mod WorkloadLines
 pub mod ScheduleLines
+pub mod ScheduleText
 pub mod TextFault
 pub mod Views
 pub mod ReadAnswers

@@ -16,6 +16,7 @@ mod lines;
 mod number;
 mod opening;
 mod printed_line;
+mod printed_step;
 mod printing;
 mod ring;
 mod schedule;

@@ -91,7 +91,7 @@ fn printed_action(text: &[u8]) -> Option<(Action, &[u8])>
 
 /// The number that a line ends with, and the text after the line.
 #[inline(always)]
-fn printed_partner(text: &[u8]) -> Option<(u32, &[u8])>
+pub(crate) fn printed_partner(text: &[u8]) -> Option<(u32, &[u8])>
     ensures { IfSome result (λ found. text.now ≡ line_text (decimal found.0 ∷ []) ++ found.1.now) }
 {
     let (number, rest) = printed_number(text)?;
@@ -104,7 +104,7 @@ fn printed_partner(text: &[u8]) -> Option<(u32, &[u8])>
 /// The number below 20 that a text begins with, and the text after it.
 #[tactic(auto, using(crate::proofs::Numbers::decimal_unit, crate::proofs::Numbers::decimal_teen))]
 #[inline(always)]
-fn printed_number(text: &[u8]) -> Option<(u32, &[u8])>
+pub(crate) fn printed_number(text: &[u8]) -> Option<(u32, &[u8])>
     ensures { IfSome result (λ found. text.now ≡ decimal found.0 ++ found.1.now) }
 {
     let (first, rest) = printed_digit(text)?;

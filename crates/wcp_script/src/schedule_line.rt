@@ -8,6 +8,7 @@ ghost use Rattle.wcp_script.specs.Views.{seen_line};
 use crate::fault::{FaultKind, ask};
 use crate::lines::{Line, Words, next_line, words_of};
 use crate::number::number_in;
+use crate::printed_step::read_printed_steps;
 use crate::step_line::StepLine;
 use std::alloc::AllocError;
 use wcp_model::Step;
@@ -22,9 +23,9 @@ impl StepLine for Step {
     fn read_printed<'a>(
         _n: u32,
         text: &'a [u8],
-        _steps: &mut Vec<Step>,
+        steps: &mut Vec<Step>,
     ) -> Result<&'a [u8], AllocError> {
-        Ok(text)
+        read_printed_steps(text, steps)
     }
 
     fn first(_n: u32, text: &[u8]) -> Option<(Result<Step, FaultKind>, &[u8])> {
