@@ -15,6 +15,7 @@ pub mod HandedOn
 mod PrintedLines
 mod PrintedTasks
 mod PrintedSteps
+mod FourBytes
 mod PrintedHead
 pub mod Printed
 pub mod Ranges

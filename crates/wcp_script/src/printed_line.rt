@@ -54,13 +54,10 @@ fn printed_task(n: u32, text: &[u8]) -> Option<(Task, &[u8])>
         return None;
     }
     let (p, rest) = match text {
-        [b'p', b' ', rest @ ..] => printed_number(rest)?,
+        [b'p', b' ', rest @ ..] => printed_number(rest, b' ')?,
         _ => return None,
     };
-    let (action, rest) = match rest {
-        [b' ', rest @ ..] => printed_action(rest)?,
-        _ => return None,
-    };
+    let (action, rest) = printed_action(rest)?;
     let task = Task { p, action };
     if is_within(n, &task) {
         Some((task, rest))
@@ -74,18 +71,19 @@ fn printed_task(n: u32, text: &[u8]) -> Option<(Task, &[u8])>
 fn printed_action(text: &[u8]) -> Option<(Action, &[u8])>
     ensures { IfSome result (λ found. text.now ≡ line_text (action_words found.0) ++ found.1.now) }
 {
-    match text {
-        [b't', b'r', b'u', b'e', b'\n', rest @ ..] => Some((Action::Observe(true), rest)),
-        [b'f', b'a', b'l', b's', b'e', b'\n', rest @ ..] => Some((Action::Observe(false), rest)),
-        [b's', b'e', b'n', b'd', b' ', rest @ ..] => {
-            let (to, rest) = printed_partner(rest)?;
-            Some((Action::Send(to), rest))
-        }
-        [b'r', b'e', b'c', b'v', b' ', rest @ ..] => {
-            let (from, rest) = printed_partner(rest)?;
-            Some((Action::Recv(from), rest))
-        }
-        _ => None,
+    if let Some(rest) = after_four(text, b"true") {
+        Some((Action::Observe(true), after_byte(rest, b'\n')?))
+    } else if let Some(rest) = after_four(text, b"fals") {
+        let rest = after_byte(rest, b'e')?;
+        Some((Action::Observe(false), after_byte(rest, b'\n')?))
+    } else if let Some(rest) = after_four(text, b"send") {
+        let (to, rest) = printed_partner(after_byte(rest, b' ')?)?;
+        Some((Action::Send(to), rest))
+    } else if let Some(rest) = after_four(text, b"recv") {
+        let (from, rest) = printed_partner(after_byte(rest, b' ')?)?;
+        Some((Action::Recv(from), rest))
+    } else {
+        None
     }
 }
 
@@ -94,27 +92,23 @@ fn printed_action(text: &[u8]) -> Option<(Action, &[u8])>
 pub(crate) fn printed_partner(text: &[u8]) -> Option<(u32, &[u8])>
     ensures { IfSome result (λ found. text.now ≡ line_text (decimal found.0 ∷ []) ++ found.1.now) }
 {
-    let (number, rest) = printed_number(text)?;
-    match rest {
-        [b'\n', rest @ ..] => Some((number, rest)),
-        _ => None,
-    }
+    printed_number(text, b'\n')
 }
 
-/// The number below 20 that a text begins with, and the text after it.
-#[tactic(auto, using(crate::proofs::Numbers::decimal_unit, crate::proofs::Numbers::decimal_teen))]
+/// The number below 20 that a text begins with, where this byte follows it, and the text after that.
 #[inline(always)]
-pub(crate) fn printed_number(text: &[u8]) -> Option<(u32, &[u8])>
-    ensures { IfSome result (λ found. text.now ≡ decimal found.0 ++ found.1.now) }
+pub(crate) fn printed_number(text: &[u8], end: u8) -> Option<(u32, &[u8])>
+    ensures { IfSome result (λ found. text.now ≡ decimal found.0 ++ end ∷ found.1.now) }
 {
     let (first, rest) = printed_digit(text)?;
-    if first != 1 {
+    if let Some(rest) = after_byte(rest, end) {
         return Some((first, rest));
     }
-    match printed_digit(rest) {
-        Some((unit, rest)) => Some((10 + unit, rest)),
-        None => Some((first, rest)),
+    if first != 1 {
+        return None;
     }
+    let (unit, rest) = printed_digit(rest)?;
+    Some((10 + unit, after_byte(rest, end)?))
 }
 
 /// The digit that a text begins with, and the text after it.
@@ -126,5 +120,29 @@ fn printed_digit(text: &[u8]) -> Option<(u32, &[u8])>
     match text {
         [byte @ b'0'..=b'9', rest @ ..] => Some((u32::from(*byte - b'0'), rest)),
         _ => None,
+    }
+}
+
+/// The text after this byte, where it begins with it.
+#[inline(always)]
+fn after_byte(text: &[u8], first: u8) -> Option<&[u8]>
+    ensures { IfSome result (λ rest. text.now ≡ first ∷ rest.now) }
+{
+    match text {
+        [byte, rest @ ..] if *byte == first => Some(rest),
+        _ => None,
+    }
+}
+
+/// The text after these four bytes, where it begins with them: they are compared as one number.
+#[inline(always)]
+fn after_four<'a>(text: &'a [u8], four: &[u8; 4]) -> Option<&'a [u8]>
+    ensures { IfSome result (λ rest. text.now ≡ four.now ++ rest.now) }
+{
+    let (front, rest) = text.split_first_chunk::<4>()?;
+    if u32::from_le_bytes(*front) == u32::from_le_bytes(*four) {
+        Some(rest)
+    } else {
+        None
     }
 }

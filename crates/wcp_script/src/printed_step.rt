@@ -86,14 +86,9 @@ fn printed_pair(text: &[u8]) -> Option<(u32, u32, &[u8])>
     ensures { IfSome result
         (λ found. text.now ≡ line_text (decimal found.0 ∷ decimal found.1 ∷ []) ++ found.2.now) }
 {
-    let (first, rest) = printed_number(text)?;
-    match rest {
-        [b' ', rest @ ..] => {
-            let (second, rest) = printed_partner(rest)?;
-            Some((first, second, rest))
-        }
-        _ => None,
-    }
+    let (first, rest) = printed_number(text, b' ')?;
+    let (second, rest) = printed_partner(rest)?;
+    Some((first, second, rest))
 }
 
 /// The number and the truth that a line ends with, and the text after the line.
@@ -103,14 +98,9 @@ fn printed_observation(text: &[u8]) -> Option<(u32, bool, &[u8])>
     ensures { IfSome result
         (λ found. text.now ≡ line_text (decimal found.0 ∷ truth_word found.1 ∷ []) ++ found.2.now) }
 {
-    let (p, rest) = printed_number(text)?;
-    match rest {
-        [b' ', rest @ ..] => {
-            let (holds, rest) = printed_truth(rest)?;
-            Some((p, holds, rest))
-        }
-        _ => None,
-    }
+    let (p, rest) = printed_number(text, b' ')?;
+    let (holds, rest) = printed_truth(rest)?;
+    Some((p, holds, rest))
 }
 
 /// The truth that a line ends with, and the text after the line.
