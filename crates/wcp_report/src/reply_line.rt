@@ -1,5 +1,5 @@
 //! The printed line of a reply.
-ghost use Rattle.std.specs.Prelude.{◌≡◌, ◌∷◌, ◌++◌, IfOk, OnOk, string_bytes};
+ghost use Rattle.std.specs.Prelude.{◌≡◌, [], ◌∷◌, ◌++◌, codes, IfOk, OnOk, string_bytes};
 ghost use Rattle.std.specs.Fmt.{decimal};
 ghost use Rattle.std.specs.List.{flat_map};
 ghost use Rattle.wcp_report.specs.ReplyText.{note_words, reply_line, why_word};
@@ -29,10 +29,7 @@ pub fn push_reply(text: &mut String, reply: &Reply) -> Result<(), AllocError>
             push_note(text, &item.note)?;
             text.push_str("\n")
         }
-        Reply::Refused(why) => {
-            let word = word_of(*why);
-            writeln!(text, "refused {word}")
-        }
+        Reply::Refused(why) => text.push_str(refusal_line(*why)),
     }
 }
 
@@ -60,17 +57,17 @@ fn push_components(text: &mut String, clock: &Clock) -> Result<(), AllocError>
     Ok(())
 }
 
-/// The word for why a step was refused.
-fn word_of(why: Why) -> &'static str
-    ensures { result.now ≡ why_word why }
+/// The line for why a step was refused.
+fn refusal_line(why: Why) -> &'static str
+    ensures { result.now ≡ codes "refused " ++ (why_word why ++ 10 ∷ []) }
 {
     match why {
-        Why::NoSuch => "nosuch",
-        Why::Closed => "closed",
-        Why::Backlog => "backlog",
-        Why::Gone => "gone",
-        Why::ClockEnd => "clockend",
-        Why::Empty => "empty",
-        Why::Full => "full",
+        Why::NoSuch => "refused nosuch\n",
+        Why::Closed => "refused closed\n",
+        Why::Backlog => "refused backlog\n",
+        Why::Gone => "refused gone\n",
+        Why::ClockEnd => "refused clockend\n",
+        Why::Empty => "refused empty\n",
+        Why::Full => "refused full\n",
     }
 }
