@@ -7,8 +7,8 @@ use Rattle.std.proofs.lemmas.Bool.Decides.{nat_tests}
 use Rattle.std.proofs.lemmas.Grind.{common_steps}
 use Rattle.wcp_lane.specs.Passes.{Numbers}
 use Rattle.wcp_clock.proofs.Marks.{contains_with}
-use Rattle.wcp_tree.specs.declared.feed.Feed.{Feed}
-use Rattle.wcp_tree.specs.Feeding.{IsNewFeed, processes_of}
+use Rattle.wcp_relay.specs.declared.feed.Feed.{Feed}
+use Rattle.wcp_relay.specs.Feeding.{IsNewFeed, processes_of}
 
 -- one new feed of process 0 serves the set of it
 pub serves_one : (feed : Feed) (feeds : List Feed) (members : Numbers) → feeds ≡ feed ∷ [] → feed.process ≡ 0 → IsNewFeed feed → members ≡ set.insert set.empty 0 →

@@ -10,10 +10,10 @@ use Rattle.wcp_clock.specs.Notes.{place_of, is_last}
 use Rattle.wcp_model.specs.LaneRule.{IsNext}
 use Rattle.wcp_lane.specs.Ends.{LaneName, PutEnd, new_putter}
 use Rattle.wcp_clock.proofs.Marks.{contains_with}
-use Rattle.wcp_tree.specs.Feeding.{items_of}
-use Rattle.wcp_tree.specs.declared.bundle.Bundle.{Bundle}
-use Rattle.wcp_tree.proofs.Accepting.{ItemMayFollow}
-use Rattle.wcp_tree.proofs.Lists.{items_of-append, items_of-own}
+use Rattle.wcp_relay.specs.Feeding.{items_of}
+use Rattle.wcp_relay.specs.declared.bundle.Bundle.{Bundle}
+use Rattle.wcp_relay.proofs.Accepting.{ItemMayFollow}
+use Rattle.wcp_relay.proofs.Lists.{items_of-append, items_of-own}
 use Rattle.tree_cases.specs.BundleLanes.{HasPut}
 
 -- a new putter has put nothing

@@ -3,8 +3,8 @@ use Rattle.std.specs.FinSet as set
 use Rattle.wcp_clock.specs.declared.note.Item.{Item}
 use Rattle.wcp_clock.specs.Notes.{is_last}
 use Rattle.wcp_lane.specs.Ends.{PutEnd}
-use Rattle.wcp_tree.specs.Feeding.{items_of}
-use Rattle.wcp_tree.specs.declared.bundle.Bundle.{Bundle}
+use Rattle.wcp_relay.specs.Feeding.{items_of}
+use Rattle.wcp_relay.specs.declared.bundle.Bundle.{Bundle}
 
 -- A putter of process 0 has put n items of it, all of them snapshots.
 pub record HasPut (n : ℕ) (end : PutEnd Bundle Item) : Type 0 where

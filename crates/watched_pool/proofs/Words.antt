@@ -11,5 +11,5 @@ pub use Rattle.watched_pool.specs.declared.member.Member.{Member}
 pub use Rattle.wcp_model.specs.declared.probe_setup.ProbeSetup.{ProbeSetup}
 pub use Rattle.wcp_model.specs.ProbeLog.{Call, Closed, after_call, state_of_log, setup, Observed, Sent, Received}
 pub use Rattle.wcp_probe.specs.Seal.{Seal, seal_of}
-pub use Rattle.wcp_tree.proofs.Entries.{All-at, mapped_at}
-pub use Rattle.wcp_tree.specs.LiveProbe.{snapshots_in, LiveSide, LiveFor, LiveAccepts}
+pub use Rattle.wcp_relay.proofs.Entries.{All-at, mapped_at}
+pub use Rattle.wcp_relay.specs.LiveProbe.{snapshots_in, LiveSide, LiveFor, LiveAccepts}

@@ -1,7 +1,7 @@
 -- What the members of a pool do, as the logs of their probes: which condition each observes, and when.
 use Rattle.std.specs.Prelude.{◌≡◌, ℕ, ◌+◌, ◌<◌, true, nat_lt, List, [], ◌∷◌, ◌++◌, length}
 use Rattle.wcp_model.specs.ProbeLog.{Call, Observed, Sent, Received}
-use Rattle.wcp_tree.specs.LiveProbe.{LiveSide, LiveFor}
+use Rattle.wcp_relay.specs.LiveProbe.{LiveSide, LiveFor}
 use Rattle.watched_pool.specs.declared.dispatcher.Desk.{Desk}
 use Rattle.watched_pool.specs.declared.dispatcher.Pace.{Pace}
 use Rattle.watched_pool.specs.declared.dispatcher.Pace.TheVariants.{Together, InTurn}

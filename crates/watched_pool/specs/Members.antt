@@ -1,7 +1,7 @@
 -- The members of a pool, and what they leave.
 use Rattle.std.specs.Prelude.{◌≡◌, ℕ, ◌*◌, Bool, true, false, Result, Ok, Err, List, ◌∷◌, length, All, IfOk}
 use Rattle.wcp_model.specs.ProbeLog.{Call}
-use Rattle.wcp_tree.specs.LiveProbe.{LiveFor, LiveSide}
+use Rattle.wcp_relay.specs.LiveProbe.{LiveFor, LiveSide}
 use Rattle.watched_pool.specs.Logs.{IsReplicaLog, IsDispatcherLog, most_unanswered, processes_of}
 use Rattle.watched_pool.specs.declared.dispatcher.Dispatcher.{Dispatcher}
 use Rattle.watched_pool.specs.declared.dispatcher.Pace.{Pace}

@@ -9,7 +9,7 @@ use Rattle.wcp_model.specs.Watched.{AreAllWatched}
 use Rattle.wcp_model.specs.declared.flag.Flag.TheVariants as reset_at
 use Rattle.wcp_model.specs.declared.probe_setup.ProbeSetup.{ProbeSetup}
 use Rattle.wcp_model.specs.Report.{IsDrained, IsReportByClocks, notes_taken}
-use Rattle.wcp_tree.specs.LiveProbe.{snapshots_in}
+use Rattle.wcp_relay.specs.LiveProbe.{snapshots_in}
 use Rattle.watched_pool.specs.declared.dispatcher.Pace.{Pace}
 use Rattle.watched_pool.specs.declared.pool.PoolReport.{PoolReport}
 use Rattle.watched_pool.specs.Logs.{IsReplicaLog, IsDispatcherLog, most_unanswered}

@@ -257,7 +257,7 @@ impl Desk {
 
 impl Dispatcher {
     ghost use Rattle.std.specs.Prelude.{[]};
-    ghost use Rattle.wcp_tree.specs.LiveProbe.{LiveFor};
+    ghost use Rattle.wcp_relay.specs.LiveProbe.{LiveFor};
     ghost use Rattle.watched_pool.specs.Members.{LeavesPart};
     ghost use Rattle.watched_pool.specs.declared.member.Member.TheVariants as member;
 

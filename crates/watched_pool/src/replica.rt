@@ -1,5 +1,5 @@
 ghost use Rattle.std.specs.Prelude.{◌≡◌, [], OnOk};
-ghost use Rattle.wcp_tree.specs.LiveProbe.{LiveFor};
+ghost use Rattle.wcp_relay.specs.LiveProbe.{LiveFor};
 ghost use Rattle.watched_pool.specs.Logs.{AnswersJob};
 ghost use Rattle.watched_pool.specs.Members.{LeavesPart};
 ghost use Rattle.watched_pool.specs.declared.member.Member.TheVariants as member;

@@ -7,7 +7,7 @@ use Rattle.std.proofs.lemmas.List.FromFn.{get_or-range_with_len, length-range_wi
 use Rattle.std.proofs.lemmas.List.Quantifiers.{position-Some}
 use Rattle.std.proofs.lemmas.List.Sums.{fails_before_first}
 use Rattle.wcp_model.specs.FirstReason.{IsFirstReason}
-use Rattle.wcp_tree.proofs.Entries.{earlier_entry}
+use Rattle.wcp_relay.proofs.Entries.{earlier_entry}
 use Rattle.wcp_run.specs.declared.run_fault.RunFault.{RunFault}
 use Rattle.wcp_run.specs.declared.run_fault.RunFault.TheVariants.{Memory, Spawn, Held, Lost, Cut, Unfinished}
 

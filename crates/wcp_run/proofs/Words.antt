@@ -11,7 +11,7 @@ pub use Rattle.wcp_run.specs.PlayedEnds.{probe_left, mailbox_left, AreOfWorkers}
 pub use Rattle.wcp_run.specs.RunFaults.{IsFirstRunFault, IsReasonOf, IsToldWithin, was_held, was_lost, run_reasons}
 pub use Rattle.wcp_run.specs.RunWorkload.{AreEndsOfRun, ArePartsOf}
 pub use Rattle.wcp_run.specs.declared.played_ends.PlayedEnds.{PlayedEnds}
-pub use Rattle.wcp_tree.specs.LiveProbe.{LiveSide, ClosedSide, snapshots_in}
+pub use Rattle.wcp_relay.specs.LiveProbe.{LiveSide, ClosedSide, snapshots_in}
 pub use Rattle.wcp_watch.specs.declared.running.Ends.{Ends}
 pub use Rattle.wcp_worker.specs.Played.{HasPlayed, IsEndOfWorker}
 pub use Rattle.wcp_worker.specs.Runs.{AreOfLane, ends_between, outbox_of, inbox_of, AreMatched, HaveRun}

@@ -1,6 +1,6 @@
 -- What the workers of a run left, taken apart.
 use Rattle.std.specs.Prelude.{◌≡◌, Option, Some, None, List, map}
-use Rattle.wcp_tree.specs.LiveProbe.{ClosedSide}
+use Rattle.wcp_relay.specs.LiveProbe.{ClosedSide}
 use Rattle.wcp_worker.specs.declared.mailbox.Mailbox.{Mailbox}
 use Rattle.wcp_worker.specs.declared.worker_end.WorkerEnd.{WorkerEnd}
 use Rattle.wcp_worker.specs.declared.worker_end.WorkerEnd.TheVariants.{Whole, GaveUp}

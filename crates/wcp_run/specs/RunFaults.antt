@@ -2,10 +2,10 @@
 use Rattle.std.specs.Prelude.{◌≡◌, ℕ, Bool, true, false, ◌||◌, ◌⊎◌, ◌<◌, Option, Some, None}
 use Rattle.std.specs.Prelude.{List, [], ◌∷◌, ◌++◌, length, map, slice_get, IsTrue}
 use Rattle.std.specs.List.{list_any, range_with_len}
-use Rattle.wcp_tree.specs.RelayEnds.{fault_of}
-use Rattle.wcp_tree.specs.declared.relay_end.RelayEnd.{RelayEnd}
-use Rattle.wcp_tree.specs.declared.relay_end.RelayFault.{RelayFault}
-use Rattle.wcp_tree.specs.declared.relay_end.RelayFault.TheVariants as relay_fault
+use Rattle.wcp_relay.specs.RelayEnds.{fault_of}
+use Rattle.wcp_relay.specs.declared.relay_end.RelayEnd.{RelayEnd}
+use Rattle.wcp_relay.specs.declared.relay_end.RelayFault.{RelayFault}
+use Rattle.wcp_relay.specs.declared.relay_end.RelayFault.TheVariants as relay_fault
 use Rattle.wcp_model.specs.FirstReason.{IsFirstReason}
 use Rattle.wcp_worker.specs.declared.worker_end.WorkerEnd.{WorkerEnd}
 use Rattle.wcp_worker.specs.declared.worker_end.WorkerEnd.TheVariants.{GaveUp}

@@ -4,8 +4,8 @@ use Rattle.wcp_model.specs.PlanFault.{IsCheckedPlan}
 use Rattle.wcp_model.specs.WorkloadComputation.{IsWithin}
 use Rattle.wcp_model.specs.declared.plan.Plan.{Plan}
 use Rattle.wcp_model.specs.declared.workload.Task.{Task}
-use Rattle.wcp_tree.specs.declared.parts.Watch.{Watch}
-use Rattle.wcp_tree.specs.Watches.{IsWired}
+use Rattle.wcp_relay.specs.declared.parts.Watch.{Watch}
+use Rattle.wcp_relay.specs.Watches.{IsWired}
 use Rattle.wcp_worker.specs.declared.worker.Worker.{Worker}
 use Rattle.wcp_worker.specs.declared.worker_end.WorkerEnd.{WorkerEnd}
 use Rattle.wcp_worker.specs.Played.{IsEndOfWorker}

@@ -34,16 +34,6 @@ module _ (plan : Plan) (checked : IsCheckedPlan plan) where
   not_met_from_root relay from other at Itself = other refl
   not_met_from_root relay from other at (Above {parent = above} is met) = cc
 
-  -- members pass up: a climb that meets a relay meets its parent
-  pub parent_is_met : (relay parent from : ℕ) → parent_of plan relay ≡ Some (Relay parent) → IsMetFrom plan relay from
-      → IsMetFrom plan parent from
-  parent_is_met relay parent from at Itself = Above at Itself
-  parent_is_met relay parent from at (Above is met) = Above is (parent_is_met relay parent _ at met)
-
-  pub members_pass_up : (relay parent p : ℕ) → parent_of plan relay ≡ Some (Relay parent) → IsBelow plan relay p
-      → IsBelow plan parent p
-  members_pass_up relay parent p at (leaf, is, met) = (leaf, is, parent_is_met relay parent leaf at met)
-
   -- of two relays that one climb meets, one is met from the other
   pub one_is_met : (one other from : ℕ) → IsMetFrom plan one from → IsMetFrom plan other from
       → IsMetFrom plan one other ⊎ IsMetFrom plan other one

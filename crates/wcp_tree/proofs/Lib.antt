@@ -1,22 +1,8 @@
 mod Words
-pub mod Ending
-pub mod Faithful
-pub mod Fed
-pub mod InnerWork
-pub mod LeafWork
 pub mod Linking
-pub mod Lists
-pub mod LiveProbes
-pub mod RisingLogs
-pub mod Ordering
 pub mod Climbs
-pub mod Entries
 pub mod Gathering
 pub mod OpeningRings
-pub mod Passing
 pub mod Seating
 pub mod Serving
 pub mod MemberSets
-pub mod Accepting
-pub mod Bundling
-pub mod FreshProbes

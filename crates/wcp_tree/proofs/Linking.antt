@@ -1,13 +1,9 @@
 -- One relay after another is opened, each after its parent.
-use Rattle.wcp_tree.proofs.Words.{◌≡◌, ◌≢◌, ℕ, ◌<◌, ◌≤◌, List, [], ◌∷◌, ◌++◌, length, Option, Some, refl, sym, ap, subst, ◌∙◌, ⊎_elim, arith, common_steps, slice_get, cases_eq, length_push, All-weaker, slice_get-get_or, Item, Parent, Plan, IsCheckedPlan, leaf_of, parent_of, TakeSide, LaneName, PutEnd, Bundle, Source, Leaf, Inner, AreChildrenSeated, IsRelayOf, IsSource, IsFeed, AreLinked, AreSeatedUnder, IsLinked, lane_below, lane_to, IsSeatOf, parent_below}
+use Rattle.wcp_tree.proofs.Words.{◌≡◌, ◌≢◌, ℕ, ◌<◌, ◌≤◌, List, [], ◌∷◌, ◌++◌, length, Option, Some, refl, sym, ap, subst, ◌∙◌, ⊎_elim, arith, common_steps, slice_get, cases_eq, length_push, All-weaker, slice_get-get_or, Item, Parent, Plan, IsCheckedPlan, leaf_of, parent_of, TakeSide, LaneName, PutEnd, Bundle, Source, Leaf, Inner, AreChildrenSeated, IsRelayOf, IsSource, IsFeed, AreLinked, AreSeatedUnder, IsLinked, lane_below, lane_to, IsSeatOf}
 use Rattle.wcp_model.specs.declared.plan.Parent.TheVariants as parent
-use Rattle.wcp_tree.specs.declared.relay.Relay.{Relay}
-use Rattle.wcp_tree.proofs.Entries.{last_entry, earlier_entry}
-
--- the owner takes from a lane while k relays are open
-abbrev pub IsOpen : ℕ → Parent → Type 0
-IsOpen k parent.Root = Unit {0}
-IsOpen k (parent.Relay above) = above < k
+use Rattle.wcp_relay.specs.declared.relay.Relay.{Relay}
+use Rattle.wcp_relay.proofs.Entries.{last_entry, earlier_entry}
+use Rattle.wcp_relay.proofs.Parents.{IsOpen, owner_is_open}
 
 -- feeds of rings that were here before
 same_source : (plan : Plan) (before now : List (Option TakeSide)) (relay : ℕ) (source : Source)
@@ -59,11 +55,6 @@ module _ (plan : Plan) (watch : ℕ) (root : LaneName Bundle) (before : List (Op
   lane_stays relays relay (parent.Relay above) open' = ap lane_below (earlier_entry relays (relay ∷ []) above open')
 
   module _ (checked : IsCheckedPlan plan) where
-    -- a parent takes from a lane once the lower relays are open
-    pub owner_is_open : (relay : ℕ) (owner : Parent) → parent_of plan relay ≡ Some owner → IsOpen relay owner
-    owner_is_open relay parent.Root at = tt
-    owner_is_open relay (parent.Relay above) at = parent_below plan checked relay above at
-
     open_below : (owner : Parent) (low high : ℕ) → low ≤ high → IsOpen low owner → IsOpen high owner
     open_below parent.Root low high most is = tt
     open_below (parent.Relay above) low high most is = omega (arith, is, most)
@@ -74,7 +65,7 @@ module _ (plan : Plan) (watch : ℕ) (root : LaneName Bundle) (before : List (Op
         → (owner : Parent) × (parent_of plan (length relays) ≡ Some owner) × IsSeated relays seats (length relays) owner
     next_seat relays seats now opened within =
         let at = slice_get-get_or plan.parents.items (length relays) parent.Root within in
-        (_, at, opened.seated (length relays) _ (omega arith) at (owner_is_open (length relays) _ at))
+        (_, at, opened.seated (length relays) _ (omega arith) at (owner_is_open plan checked (length relays) _ at))
 
     module _ (relays : List Relay) (seats new_seats : List (Option (PutEnd Bundle Item))) (now new : List (Option TakeSide))
         (relay : Relay) (opened : AreOpened relays seats now) (within : length relays < length plan.parents.items)
@@ -96,7 +87,7 @@ module _ (plan : Plan) (watch : ℕ) (root : LaneName Bundle) (before : List (Op
             of_plan = old.of_plan;
             above = lane_stays relays relay old.relay.parent
                 (open_below old.relay.parent place (length relays) (omega (arith, below))
-                (owner_is_open place old.relay.parent old.of_plan.parent))
+                (owner_is_open plan checked place old.relay.parent old.of_plan.parent))
                 ∙ old.above;
           }
 
@@ -120,7 +111,7 @@ module _ (plan : Plan) (watch : ℕ) (root : LaneName Bundle) (before : List (Op
             };
             above = subst (λ owner. lane_to root more owner ≡ Some relay.putter.lane)
                 (let both = sym next.1 ∙ is.parent in cc)
-                (lane_stays relays relay next.0 (owner_is_open (length relays) next.0 next.1) ∙ next.2.1
+                (lane_stays relays relay next.0 (owner_is_open plan checked (length relays) next.0 next.1) ∙ next.2.1
                 ∙ ap Some (sym next.2.4.on ∙ ap (λ (p : PutEnd Bundle Item). p.lane) its));
           }
 

@@ -1,7 +1,7 @@
 -- The sets of a lane: they are apart, and together they are the processes below the owner's children.
 use Rattle.wcp_tree.proofs.Words.{◌≡◌, ◌≢◌, ◌⊎◌, ℕ, ◌<◌, true, List, [], ◌∷◌, ◌++◌, length, map, get_or, Some, refl, sym, ap, ◌∙◌, inl, inr, arith, common_steps, nat_cmp, list_any, slice_get, cases_eq, get_or_push, get_or_append_left, length_push, Any-from_list_any, list_any_at, slice_get_within, slice_get-get_or, Parent, Root, Relay, Plan, IsCheckedPlan, parent_of, Item, LaneName, PutEnd, new_putter, AreApart, Numbers, Bundle, IsBelow, IsMemberSetOf, AreMemberSetsOf, AreBelowChildren, IsSeatOf}
 use Rattle.std.specs.FinSet as set
-use Rattle.wcp_tree.proofs.Entries.{mapped_at}
+use Rattle.wcp_relay.proofs.Entries.{mapped_at}
 use Rattle.wcp_tree.proofs.Climbs.{siblings_apart}
 
 -- two owners are one, or they aren't

@@ -1,7 +1,7 @@
 -- One ring after another is opened, and one feed after another is taken.
 use Rattle.wcp_tree.proofs.Words.{setup, ◌≡◌, ◌≢◌, ◌⊎◌, ℕ, ◌+◌, ◌≤◌, false, List, [], ◌∷◌, ◌++◌, length, get_or, All, Option, Some, None, eqb-true, eq-eqb, refl, sym, ap, subst, ◌∙◌, inl, arith, common_steps, gets, slice_get, slice_set, cases_eq, length-set, length_push, All-push, All-weaker, Plan, leaf_of, TakeSide, Feed, LiveSide, fresh_core, IsTakerAt, AreRings, IsFeed, AreFeeds}
 use Rattle.std.proofs.lemmas.List.Quantifiers.{all_pairs_push}
-use Rattle.wcp_tree.proofs.Entries.{taken_out}
+use Rattle.wcp_relay.proofs.Entries.{taken_out}
 
 module _ (plan : Plan) (watch : ℕ) where
   pub one_ring_more : (k : ℕ) (probes : List LiveSide) (takers : List (Option TakeSide)) (probe : LiveSide) (taker : TakeSide)

@@ -1,7 +1,8 @@
 -- Whom a leaf serves, and whom the other relays.
 use Rattle.wcp_tree.proofs.Words.{◌≡◌, ◌≢◌, ◌==◌, ◌↔◌, ℕ, suc, Bool, true, false, true≢false, List, [], ◌∷◌, ◌<◌, ◌||◌, AllPairs, length, get_or, arith, common_steps, Option, Some, refl, sym, ap, ◌∙◌, list_any, slice_get, option_flatten, cases_eq, length-map, get_or-map, All-weaker, Any-from_list_any, slice_get-get_or, Root, Relay, Plan, IsCheckedPlan, is_number, is_leaf, leaf_of, parent_of, Numbers, Itself, IsBelow, AreBelow, TakeSide, Feed, Source, Leaf, Inner, IsNewFeed, Serves, processes_of, IsSource, IsFeed, AreBelowChildren, all_served, attached_exists, has_leaf, is_its_leaf, is_its_number, not_mixed}
 use Rattle.std.specs.FinSet as set
-use Rattle.wcp_tree.proofs.Climbs.{members_pass_up, child_is_met, root_is_reached}
+use Rattle.wcp_relay.proofs.Parents.{members_pass_up}
+use Rattle.wcp_tree.proofs.Climbs.{child_is_met, root_is_reached}
 
 module _ (plan : Plan) (checked : IsCheckedPlan plan) (relay : ℕ) where
   -- a leaf serves some process
@@ -29,7 +30,7 @@ module _ (plan : Plan) (checked : IsCheckedPlan plan) (relay : ℕ) where
   pub below_by_children : is_leaf plan relay ≡ false → (members : Numbers)
       → AreBelowChildren plan (Relay relay) members → AreBelow plan relay members
   below_by_children leaf members are = λ p. (
-    (λ has. let child = (are p).0 has in members_pass_up plan checked child.0 relay p child.1 child.2),
+    (λ has. let child = (are p).0 has in members_pass_up plan child.0 relay p child.1 child.2),
     (λ below. (are p).1 (child_of p below)),
   )
     where

@@ -1,53 +1,38 @@
 -- The words of the proofs of this crate, from one place.
-pub use Rattle.std.proofs.Common.{◌≡◌, ◌≢◌, ℕ, ◌+◌, ◌<◌, ◌≤◌, List, [], ◌∷◌, ◌++◌, length, Option, Some, refl, sym, ap, ◌∙◌, ⊎_elim, arith, None, replicate, subst, append-nil, ◌↔◌, ◌||◌, true, false, true≢false, nat_eq, eq-eqb, ◌⊎◌, inl, inr, append_assoc, zero, suc, Bool, get_or, set, map, length-append, cond, ◌==◌, All, eqb-true, ◌-◌, take, drop, add-one, IsTrue, fold, slice_index, slice_set, AllPairs, rules, lit≤, vec_len, Vec, Global}
-pub use Rattle.std.proofs.Math.Seq.{map-set_same, take-suc}
-pub use Rattle.std.proofs.lemmas.Bool.{cases_eq, cases_Bool, cases_lt, ne_eqb}
+pub use Rattle.std.proofs.Common.{◌≡◌, ◌≢◌, ℕ, ◌+◌, ◌<◌, ◌≤◌, List, [], ◌∷◌, ◌++◌, length, Option, Some, refl, sym, ap, ◌∙◌, ⊎_elim, arith, None, subst, ◌↔◌, ◌||◌, true, false, true≢false, nat_eq, eq-eqb, ◌⊎◌, inl, inr, zero, suc, Bool, get_or, map, ◌==◌, All, eqb-true, IsTrue, slice_set, AllPairs, lit≤, vec_len, Vec, Global}
+pub use Rattle.std.proofs.lemmas.Bool.{cases_eq}
 pub use Rattle.std.proofs.lemmas.Bool.Decides.{nat_tests}
 pub use Rattle.std.proofs.lemmas.Grind.{common_steps}
-pub use Rattle.std.proofs.lemmas.List.{length-set, length_push, length-replicate, length-map, map-append, get_or-map, drop-replicate, get_or-set_same, get_or-set_other, get_or_append_left, get_or_push, nil_from_length, take_more, drop_at, length-take-le, take_more_set, drop-set-lt, with_items_is, take_all}
-pub use Rattle.std.proofs.lemmas.List.Elements.{All-map, All-set, All-push, filter-append, All-weaker, All-nil, All-drop}
-pub use Rattle.std.proofs.lemmas.List.Folds.{list_any_at, list_any-append, Any-from_list_any}
-pub use Rattle.std.proofs.lemmas.Option.{gets, slice_get_within, slice_get-get_or, get_or_from_slice_get, slice_get-map}
-pub use Rattle.std.specs.List.{list_any, last_or}
-pub use Rattle.std.specs.Option.{option_map, option_flatten, is_some}
+pub use Rattle.std.proofs.lemmas.List.{length-set, length_push, length-map, get_or-map, get_or_append_left, get_or_push}
+pub use Rattle.std.proofs.lemmas.List.Elements.{All-push, All-weaker}
+pub use Rattle.std.proofs.lemmas.List.Folds.{list_any_at, Any-from_list_any}
+pub use Rattle.std.proofs.lemmas.Option.{gets, slice_get_within, slice_get-get_or}
+pub use Rattle.std.specs.List.{list_any}
+pub use Rattle.std.specs.Option.{option_flatten}
 pub use Rattle.std.specs.Ordering.{nat_cmp}
-pub use Rattle.std.specs.Prelude.{slice_get, Result, Ok, Err, OnOk, OnErr, IfNone, IfSome, if◌then◌else◌, IfErr, IsErr}
-pub use Rattle.wcp_clock.specs.Limits.{most_relays, most_cap, most_hold, most_lane}
-pub use Rattle.wcp_clock.specs.Notes.{is_last, is_lost, place_of}
+pub use Rattle.std.specs.Prelude.{slice_get}
+pub use Rattle.wcp_clock.specs.Limits.{most_relays, most_cap, most_lane}
 pub use Rattle.wcp_clock.specs.declared.note.Item.{Item}
-pub use Rattle.wcp_clock.specs.declared.note.Note.{Note}
-pub use Rattle.wcp_clock.specs.declared.note.Note.TheVariants.{Snap, Close, Lost}
 pub use Rattle.wcp_hold.specs.Held.{Held}
-pub use Rattle.wcp_lane.proofs.Steps.{AreInSequence-push, All-front, may_follow}
 pub use Rattle.wcp_lane.specs.Ends.{LaneName, PutEnd, TakeEnd, new_putter}
 pub use Rattle.wcp_lane.specs.MemberSets.{AreApart, AreMemberSets, IsFirstLaneFault}
 pub use Rattle.wcp_lane.specs.Passes.{Numbers}
-pub use Rattle.wcp_clock.specs.ProcessNumbers.{AreProcessNumbers}
 pub use Rattle.wcp_model.proofs.CheckedPlans.{parent_below, all_served, attached_exists, has_leaf, is_its_leaf, is_its_number, not_mixed, few_relays, hold_room, some_relays, capacity, is_not_its_number, few_processes}
-pub use Rattle.wcp_model.proofs.NotesInTurn.{snapshot_clocks-append}
-pub use Rattle.wcp_model.specs.LaneRule.{AreInSequence, IsNext}
 pub use Rattle.wcp_model.specs.PlanFault.{IsCheckedPlan}
-pub use Rattle.wcp_model.specs.ProbeLog.{Call, Observed, Sent, Received, Closed, ProbeState, after_call, setup, state_of_log}
-pub use Rattle.wcp_model.specs.Report.{AreRising, clocks_taken, notes_taken, snapshot_clocks}
+pub use Rattle.wcp_model.specs.ProbeLog.{setup}
 pub use Rattle.wcp_model.specs.Tree.{parent_of, leaf_of, is_number, is_leaf}
 pub use Rattle.wcp_model.specs.declared.plan.Parent.{Parent}
 pub use Rattle.wcp_model.specs.declared.plan.Parent.TheVariants.{Root, Relay}
 pub use Rattle.wcp_model.specs.declared.plan.Plan.{Plan}
 pub use Rattle.wcp_ring.specs.Ends.{TakeSide, PutSide}
-pub use Rattle.wcp_tree.specs.Bundles.{most_bundle, Continues, IsRun, IsBundle, MayJoin, IsFirstBundle, filler}
-pub use Rattle.wcp_tree.specs.Feeding.{items_of, fed, given_by, items_by, mark_of_lost, processes_of, IsNextAfterNotes, IsNextOfProcess, IsInOrder, EndsWithLast, MayComeFromRing, CameFromRing, AreFromRings, is_gap_of, source_taken, Serves, IsNewFeed}
-pub use Rattle.wcp_tree.specs.LiveProbe.{HasLog, IsSameLive, LiveAccepts, LiveFor, LiveSide, NotesRise, emitted_by, fresh_core}
-pub use Rattle.wcp_tree.specs.Members.{IsMetFrom, Itself, Above, IsBelow, AreBelow}
-pub use Rattle.wcp_tree.specs.RelayEnds.{IsEndOfSource, taken_in}
-pub use Rattle.wcp_tree.specs.RelayWork.{handed, IsFaithful, IsNextAfter, HasMetGap, IsSound, IsNextItem, IsSameOutlet, IsLeafAtWork, AreTakenNext, IsInnerAtWork, ItemsMayFollow, AreEnded, AreItemsInSequence, IsAtWork, HasEnded, AreSameFeeds, IsSameTaker, IsFromRings, gap_met}
-pub use Rattle.wcp_tree.specs.Relays.{AreChildrenSeated, IsRelayOf, IsSource}
-pub use Rattle.wcp_tree.specs.Rings.{IsTakerAt, AreRings, IsFeed, AreFeeds}
-pub use Rattle.wcp_tree.specs.Watches.{AreLinked, AreSeatedUnder, IsLinked, lane_below, lane_to}
-pub use Rattle.wcp_tree.specs.Wiring.{IsSeatOf, IsMemberSetOf, AreMemberSetsOf, AreBelowChildren}
-pub use Rattle.wcp_tree.specs.declared.bundle.Bundle.{Bundle}
-pub use Rattle.wcp_tree.specs.declared.feed.Feed.{Feed}
-pub use Rattle.wcp_tree.specs.declared.outlet.Outlet.{Outlet}
-pub use Rattle.wcp_tree.specs.declared.source.Source.{Source}
-pub use Rattle.wcp_tree.specs.declared.source.Source.TheVariants.{Leaf, Inner}
-pub use mathlib.Core.List.{IsPrefix}
-pub use Rattle.wcp_model.specs.declared.probe_setup.ProbeSetup.{ProbeSetup}
+pub use Rattle.wcp_relay.specs.Feeding.{processes_of, Serves, IsNewFeed}
+pub use Rattle.wcp_relay.specs.LiveProbe.{LiveSide, fresh_core}
+pub use Rattle.wcp_relay.specs.Members.{IsMetFrom, Itself, Above, IsBelow, AreBelow}
+pub use Rattle.wcp_relay.specs.Relays.{IsRelayOf, IsSource}
+pub use Rattle.wcp_relay.specs.Rings.{IsTakerAt, AreRings, IsFeed, AreFeeds}
+pub use Rattle.wcp_relay.specs.Watches.{AreLinked, IsLinked, lane_below, lane_to}
+pub use Rattle.wcp_tree.specs.Wiring.{IsSeatOf, IsMemberSetOf, AreMemberSetsOf, AreBelowChildren, AreChildrenSeated, AreSeatedUnder}
+pub use Rattle.wcp_relay.specs.declared.bundle.Bundle.{Bundle}
+pub use Rattle.wcp_relay.specs.declared.feed.Feed.{Feed}
+pub use Rattle.wcp_relay.specs.declared.source.Source.{Source}
+pub use Rattle.wcp_relay.specs.declared.source.Source.TheVariants.{Leaf, Inner}

@@ -4,12 +4,12 @@ ghost use Rattle.wcp_model.specs.Tree.{parent_of};
 ghost use Rattle.wcp_lane.specs.Ends.{PutEnd};
 ghost use Rattle.wcp_tree.specs.Wiring.{AreBelowChildren, AreMemberSetsOf, IsSeatOf, IsMemberSetOf};
 
-use crate::bundle::Bundle;
 use crate::members::processes_below;
 use std::alloc::{AllocError, Global};
 use wcp_clock::Item;
 use wcp_lane::{LaneFault, Members, Putter, Taker, lane};
 use wcp_model::{Parent, Plan};
+use wcp_relay::Bundle;
 
 /// Opens the lane by which the root or a relay takes, and gives each of its children the end that puts
 /// for it: the seats are those of all relays, by number. `Err` where memory runs out.

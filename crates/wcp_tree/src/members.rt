@@ -1,6 +1,6 @@
 ghost use Rattle.std.specs.Prelude.{◌≡◌, ◌↔◌, ℕ, IsTrue, true};
 ghost use Rattle.wcp_model.specs.PlanFault.{IsCheckedPlan};
-ghost use Rattle.wcp_tree.specs.Members.{AreBelow, IsBelow, IsMetFrom};
+ghost use Rattle.wcp_relay.specs.Members.{AreBelow, IsBelow, IsMetFrom};
 
 use wcp_lane::Members;
 use wcp_model::{Parent, Plan};

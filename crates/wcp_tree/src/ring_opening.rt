@@ -2,12 +2,11 @@ ghost use Rattle.std.specs.Prelude.{◌≡◌, ◌≢◌, ◌<◌, ℕ, [], Some
 ghost use Rattle.wcp_model.specs.PlanFault.{IsCheckedPlan};
 ghost use Rattle.wcp_model.specs.Tree.{leaf_of};
 ghost use Rattle.wcp_ring.specs.Ends.{TakeSide};
-ghost use Rattle.wcp_tree.specs.Rings.{AreRings, AreFeeds, IsTakerAt};
+ghost use Rattle.wcp_relay.specs.Rings.{AreRings, AreFeeds, IsTakerAt};
 
-use crate::feed::Feed;
-use crate::live_probe::LiveProbe;
 use std::alloc::{AllocError, Global};
 use wcp_model::Plan;
+use wcp_relay::{Feed, LiveProbe};
 use wcp_ring::{RingPutter, RingTaker, Sleeper, ring};
 
 /// Opens a ring for each process: its probe puts into it, and wakes the sleeper of its leaf, of which

@@ -6,26 +6,22 @@ ghost use Rattle.wcp_ring.specs.Ends.{TakeSide};
 ghost use Rattle.wcp_clock.specs.declared.note.Item.{Item};
 ghost use Rattle.wcp_lane.specs.Ends.{LaneName, PutEnd};
 ghost use Rattle.wcp_clock.specs.Limits.{most_hold};
-ghost use Rattle.wcp_tree.specs.declared.source.Source.TheVariants as source;
-ghost use Rattle.wcp_tree.specs.Feeding.{Serves};
-ghost use Rattle.wcp_tree.specs.Members.{AreBelow};
-ghost use Rattle.wcp_tree.specs.Relays.{AreChildrenSeated, IsRelayOf, IsSource};
-ghost use Rattle.wcp_tree.specs.Rings.{IsTakerAt};
-ghost use Rattle.wcp_tree.specs.Watches.{AreLinked, AreSeatedUnder, IsWired};
+ghost use Rattle.wcp_relay.specs.declared.source.Source.TheVariants as source;
+ghost use Rattle.wcp_relay.specs.Feeding.{Serves};
+ghost use Rattle.wcp_relay.specs.Members.{AreBelow};
+ghost use Rattle.wcp_relay.specs.Relays.{IsRelayOf, IsSource};
+ghost use Rattle.wcp_relay.specs.Rings.{IsTakerAt};
+ghost use Rattle.wcp_relay.specs.Watches.{AreLinked, IsWired};
+ghost use Rattle.wcp_tree.specs.Wiring.{AreChildrenSeated, AreSeatedUnder};
 
-use crate::bundle::Bundle;
-use crate::checker_inbox::CheckerInbox;
-use crate::feed::Feed;
 use crate::lane_wiring::open_lane;
-use crate::parts::Watch;
-use crate::relay::Relay;
 use crate::ring_opening::{open_rings, take_feeds};
-use crate::source::Source;
 use std::alloc::{AllocError, Global};
 use wcp_clock::Item;
 use wcp_hold::Hold;
 use wcp_lane::Putter;
 use wcp_model::{Parent, Plan};
+use wcp_relay::{Bundle, CheckerInbox, Feed, Relay, Source, Watch};
 use wcp_ring::{RingTaker, Sleeper};
 
 /// Opens the tree of a plan: a ring for each process, and a lane for the checker and for each relay

@@ -8,7 +8,7 @@ use Rattle.wcp_model.specs.declared.outcome.Report.TheVariants.{Nothing}
 use Rattle.wcp_lane.specs.declared.fault.Cut.{Cut}
 use Rattle.wcp_model.specs.LaneRule.{items_from}
 use Rattle.wcp_queue.proofs.NotesTaken.{MayTake-next, clocks_taken-push_last, taken_kind-own}
-use Rattle.wcp_tree.proofs.Bundling.{same_last}
+use Rattle.wcp_relay.proofs.Bundling.{same_last}
 use Rattle.wcp_watch.specs.declared.checker_end.CheckFault.TheVariants as fault
 
 -- where no close mark is among these notes, they are all snapshots

@@ -3,11 +3,11 @@ use Rattle.wcp_watch.proofs.Words.{◌≡◌, ◌≢◌, ◌==◌, ℕ, zero, su
 use Rattle.std.specs.FinSet as set
 use Rattle.std.proofs.lemmas.Bool.Decides.{nat_tests}
 use Rattle.wcp_model.specs.declared.plan.Parent.TheVariants as parent
-use Rattle.wcp_tree.specs.Members.{IsBelow, Itself}
-use Rattle.wcp_tree.specs.declared.relay.Relay.{Relay}
-use Rattle.wcp_tree.specs.declared.relay_end.Outcome.TheVariants.{Faulted}
-use Rattle.wcp_tree.proofs.Climbs.{members_pass_up}
-use Rattle.wcp_tree.proofs.Ordering.{given_is_taken}
+use Rattle.wcp_relay.specs.Members.{IsBelow, Itself}
+use Rattle.wcp_relay.specs.declared.relay.Relay.{Relay}
+use Rattle.wcp_relay.specs.declared.relay_end.Outcome.TheVariants.{Faulted}
+use Rattle.wcp_relay.proofs.Parents.{members_pass_up}
+use Rattle.wcp_relay.proofs.Ordering.{given_is_taken}
 use Rattle.wcp_watch.proofs.MatchedLinks.{linked, receipts_of}
 
 -- the items of a process, and their notes
@@ -85,7 +85,7 @@ module _ {count : ℕ} {probe_ends : List (Option ClosedSide)} {root : TakenEnd 
           let lower = parent_below there.plan there.checked from above at in
           let next : above < count = omega arith in
           let has = there.relay above next in
-          climb above lower next (members_pass_up there.plan there.checked from above p at is)
+          climb above lower next (members_pass_up there.plan from above p at is)
           (put_is_taken above next ∙ taken has.end has.sits ∙ put)
 
   -- what the checker took of a process is what its probe put

@@ -2,8 +2,8 @@
 use Rattle.wcp_watch.proofs.Words.{◌≡◌, ◌≢◌, ◌↔◌, ◌⊎◌, ℕ, ◌+◌, ◌<◌, ◌≤◌, true, List, [], ◌∷◌, length, length-set, Vec, Global, Option, Some, None, Result, Ok, Err, refl, sym, ap, subst, subst₂, ◌∙◌, inl, ⊎_elim, arith, slice_get, slice_set, All, AllPairs, IsOk, IsErr, AllByRecursion, cases_eq, length-map, get_or-map, All-from_recursion, All-weaker, recursion_from_All, most_relays, Item, Parent, leaf_of, Ring, LaneName, PutEnd, TakenEnd, Numbers, Bundle, Serves, items_of, ClosedSide, AreReceiptsOf, IsReceiptOf, fault_of, relay_taken, whole_end, AreSameFeeds, IsSource, inbox_lane, IsLinked, lane_below, lane_to, Feed, Receipts, Feeds, Lane, RelayEnd, Source, Leaf, Inner, few_relays, set_here, set_elsewhere, AreEndsThere, AreFirstMatched, HasProbe, IsKeptAt, inbox_place, SitsAt, AreLinksMatched, AreTakenFrom, IsLaneMatched, IsRingMatched}
 use Rattle.std.specs.FinSet as set
 use Rattle.wcp_model.specs.declared.plan.Parent.TheVariants as parent
-use Rattle.wcp_tree.specs.Rings.{IsFeed}
-use Rattle.wcp_tree.proofs.Linking.{IsOpen, owner_is_open}
+use Rattle.wcp_relay.specs.Rings.{IsFeed}
+use Rattle.wcp_relay.proofs.Parents.{IsOpen, owner_is_open}
 use Rattle.wcp_watch.proofs.MatchedRings.{sits_alone}
 
 -- what gives an error is no success
@@ -141,7 +141,7 @@ module _ {count : ℕ} {probe_ends : List (Option ClosedSide)} {root : TakenEnd 
       inbox =
           let link = linked k below in
           old.open_inboxes owner put.lane
-          (owner_is_open there.plan there.watch_number put.lane [] there.checked k owner (link.of_plan.parent ∙ ap Some (sym receipts.0)))
+          (owner_is_open there.plan there.checked k owner (link.of_plan.parent ∙ ap Some (sym receipts.0)))
           (ap lane_at receipts.0 ∙ link.above ∙ ap Some (sym receipts.2))
 
       pub has_inbox : (receipt : TakenEnd Bundle Item) × SitsAt inboxes (inbox_place owner) receipt × (receipt.lane ≡ put.lane)

@@ -6,11 +6,11 @@ use Rattle.std.proofs.Crossing.{crosses}
 use Rattle.wcp_clock.proofs.note.Item.TheSendSync.{the_send as item_send}
 use Rattle.wcp_lane.proofs.putter.PutReceipt.TheSendSync.{the_send as put_receipt_send}
 use Rattle.wcp_model.proofs.plan.Parent.TheSendSync.{the_field_send as parent_send}
-use Rattle.wcp_tree.proofs.bundle.Bundle.TheSendSync.{the_send as bundle_send}
-use Rattle.wcp_tree.proofs.relay_end.Receipts.TheSendSync.{the_field_send as receipts_send}
-use Rattle.wcp_tree.proofs.relay_end.RelayFault.TheSendSync.{the_field_send as fault_send}
-use Rattle.wcp_tree.specs.contracts.relay_end.Outcome as outcome
-use Rattle.wcp_tree.specs.contracts.relay_end.RelayEnd as relay_end
+use Rattle.wcp_relay.proofs.bundle.Bundle.TheSendSync.{the_send as bundle_send}
+use Rattle.wcp_relay.proofs.relay_end.Receipts.TheSendSync.{the_field_send as receipts_send}
+use Rattle.wcp_relay.proofs.relay_end.RelayFault.TheSendSync.{the_field_send as fault_send}
+use Rattle.wcp_relay.specs.contracts.relay_end.Outcome as outcome
+use Rattle.wcp_relay.specs.contracts.relay_end.RelayEnd as relay_end
 
 variants_send : EachSend (declared_enum.shape outcome.the_type).variants
 variants_send = (

@@ -4,8 +4,8 @@ use Rattle.std.proofs.lemmas.List.Sums.{sum_by-cons}
 use Rattle.wcp_model.specs.declared.outcome.Tally.{Tally}
 use Rattle.wcp_model.specs.declared.plan.Parent.TheVariants as parent
 use Rattle.wcp_book.specs.Totals.{emitted_of_share, taken_of_share}
-use Rattle.wcp_tree.specs.declared.relay_end.Outcome.TheVariants as outcome
-use Rattle.wcp_tree.proofs.LiveProbes.{taken_rise}
+use Rattle.wcp_relay.specs.declared.relay_end.Outcome.TheVariants as outcome
+use Rattle.wcp_relay.proofs.LiveProbes.{taken_rise}
 use Rattle.wcp_watch.proofs.CheckedItems.{without_fault}
 use Rattle.wcp_watch.proofs.ClimbedLanes.{all_taken}
 use Rattle.wcp_watch.proofs.Seating.{All-from_contains}

@@ -5,8 +5,8 @@ use Rattle.wcp_model.specs.PlanFault.{IsCheckedPlan}
 use Rattle.wcp_model.specs.ProbeLog.{setup}
 use Rattle.wcp_model.specs.declared.plan.Plan.{Plan}
 use Rattle.wcp_probe.specs.Core.{Core, setup_of}
-use Rattle.wcp_tree.specs.declared.parts.Watch.{Watch}
-use Rattle.wcp_tree.proofs.FreshProbes.{probes_fresh}
+use Rattle.wcp_relay.specs.declared.parts.Watch.{Watch}
+use Rattle.wcp_relay.proofs.FreshProbes.{probes_fresh}
 use Rattle.wcp_watch.specs.RunParts.{HaveEnded}
 use Rattle.wcp_threads.specs.Threads.{AreEndsOf}
 use Rattle.wcp_watch.specs.declared.running.Ends.{Ends}

@@ -22,23 +22,23 @@ pub use Rattle.wcp_model.specs.Tree.{is_leaf, parent_of, leaf_of}
 pub use Rattle.wcp_model.specs.declared.plan.Parent.{Parent}
 pub use Rattle.wcp_queue.specs.Checker.{CheckerState, processes, closed_of, lost_of, MayTake, StandsForItems}
 pub use Rattle.wcp_ring.specs.Ends.{Ring, EndedSide}
-pub use Rattle.wcp_tree.proofs.Accepting.{ItemMayFollow, one_may_follow}
-pub use Rattle.wcp_tree.proofs.Entries.{set_elsewhere, set_here}
-pub use Rattle.wcp_tree.specs.Feeding.{Serves, fed, given_by, items_by, items_of, processes_of}
-pub use Rattle.wcp_tree.specs.LiveProbe.{ClosedSide, NotesRise, IsEndOfProbe, LiveSide}
-pub use Rattle.wcp_tree.specs.RelayEnds.{IsLeftOf, IsReceiptOf, outcome_fault, outcome_put, outcome_taken, relay_put, relay_taken, taken_in, fault_of, number_of, watch_of, AreReceiptsOf, whole_end, IsEndOfRelay}
-pub use Rattle.wcp_tree.specs.RelayWork.{AreSameFeeds, IsSameTaker, ItemsMayFollow}
-pub use Rattle.wcp_tree.specs.Relays.{IsSource, inbox_lane}
-pub use Rattle.wcp_tree.specs.Watches.{IsLinked, lane_below, lane_to, IsWired}
-pub use Rattle.wcp_tree.specs.declared.bundle.Bundle.{Bundle}
-pub use Rattle.wcp_tree.specs.declared.feed.Feed.{Feed}
-pub use Rattle.wcp_tree.specs.declared.relay_end.Outcome.{Outcome}
-pub use Rattle.wcp_tree.specs.declared.relay_end.Outcome.TheVariants.{Whole}
-pub use Rattle.wcp_tree.specs.declared.relay_end.Receipts.{Receipts}
-pub use Rattle.wcp_tree.specs.declared.relay_end.Receipts.TheVariants.{Feeds, Lane}
-pub use Rattle.wcp_tree.specs.declared.relay_end.RelayEnd.{RelayEnd}
-pub use Rattle.wcp_tree.specs.declared.source.Source.{Source}
-pub use Rattle.wcp_tree.specs.declared.source.Source.TheVariants.{Leaf, Inner}
+pub use Rattle.wcp_relay.proofs.Accepting.{ItemMayFollow, one_may_follow}
+pub use Rattle.wcp_relay.proofs.Entries.{set_elsewhere, set_here}
+pub use Rattle.wcp_relay.specs.Feeding.{Serves, fed, given_by, items_by, items_of, processes_of}
+pub use Rattle.wcp_relay.specs.LiveProbe.{ClosedSide, NotesRise, IsEndOfProbe, LiveSide}
+pub use Rattle.wcp_relay.specs.RelayEnds.{IsLeftOf, IsReceiptOf, outcome_fault, outcome_put, outcome_taken, relay_put, relay_taken, taken_in, fault_of, number_of, watch_of, AreReceiptsOf, whole_end, IsEndOfRelay}
+pub use Rattle.wcp_relay.specs.RelayWork.{AreSameFeeds, IsSameTaker, ItemsMayFollow}
+pub use Rattle.wcp_relay.specs.Relays.{IsSource, inbox_lane}
+pub use Rattle.wcp_relay.specs.Watches.{IsLinked, lane_below, lane_to, IsWired}
+pub use Rattle.wcp_relay.specs.declared.bundle.Bundle.{Bundle}
+pub use Rattle.wcp_relay.specs.declared.feed.Feed.{Feed}
+pub use Rattle.wcp_relay.specs.declared.relay_end.Outcome.{Outcome}
+pub use Rattle.wcp_relay.specs.declared.relay_end.Outcome.TheVariants.{Whole}
+pub use Rattle.wcp_relay.specs.declared.relay_end.Receipts.{Receipts}
+pub use Rattle.wcp_relay.specs.declared.relay_end.Receipts.TheVariants.{Feeds, Lane}
+pub use Rattle.wcp_relay.specs.declared.relay_end.RelayEnd.{RelayEnd}
+pub use Rattle.wcp_relay.specs.declared.source.Source.{Source}
+pub use Rattle.wcp_relay.specs.declared.source.Source.TheVariants.{Leaf, Inner}
 pub use Rattle.wcp_watch.specs.CheckerEnds.{AreAllEnded, IsEndOfLoop, IsLowestLost, IsSameWatch, HasTakenClose, HasTakenLast, TakesItems, first_fault, KeepsUp}
 pub use Rattle.wcp_watch.specs.Matching.{AreEndsThere, AreFirstMatched, HasProbe, IsKeptAt, inbox_place, KeepInboxes}
 pub use Rattle.wcp_watch.specs.Seats.{AreOfWatch, AreSeats, AreAllSeated, SitsAt, AreAllThere, IsEndAt}

@@ -12,9 +12,9 @@ use Rattle.wcp_lane.specs.Ends.{TakeEnd}
 use Rattle.wcp_lane.specs.declared.fault.Cut.{Cut}
 use Rattle.wcp_queue.specs.Checker.{CheckerState, processes, taken_of, closed_of, StandsForItems}
 use Rattle.wcp_queue.specs.Checker.{IsReportOfAnyClocks, IsReportOfStarved}
-use Rattle.wcp_tree.specs.Feeding.{IsEnded}
-use Rattle.wcp_tree.specs.declared.bundle.Bundle.{Bundle}
-use Rattle.wcp_tree.specs.declared.checker_inbox.CheckerInbox.{CheckerInbox}
+use Rattle.wcp_relay.specs.Feeding.{IsEnded}
+use Rattle.wcp_relay.specs.declared.bundle.Bundle.{Bundle}
+use Rattle.wcp_relay.specs.declared.checker_inbox.CheckerInbox.{CheckerInbox}
 use Rattle.wcp_watch.specs.declared.checker_end.CheckFault.{CheckFault}
 use Rattle.wcp_watch.specs.declared.checker_end.CheckFault.TheVariants as fault
 use Rattle.wcp_watch.specs.declared.checker_end.CheckerEnd.{CheckerEnd}

@@ -7,13 +7,13 @@ use Rattle.wcp_model.specs.declared.plan.Parent.{Parent}
 use Rattle.wcp_model.specs.declared.plan.Parent.TheVariants as parent
 use Rattle.wcp_model.specs.declared.plan.Plan.{Plan}
 use Rattle.wcp_lane.specs.Ends.{TakenEnd}
-use Rattle.wcp_tree.specs.declared.bundle.Bundle.{Bundle}
-use Rattle.wcp_tree.specs.LiveProbe.{ClosedSide}
-use Rattle.wcp_tree.specs.RelayEnds.{fault_of, number_of}
-use Rattle.wcp_tree.specs.Watches.{IsWired}
-use Rattle.wcp_tree.specs.declared.feed.Feed.{Feed}
-use Rattle.wcp_tree.specs.declared.relay_end.RelayEnd.{RelayEnd}
-use Rattle.wcp_tree.specs.declared.parts.Watch.{Watch}
+use Rattle.wcp_relay.specs.declared.bundle.Bundle.{Bundle}
+use Rattle.wcp_relay.specs.LiveProbe.{ClosedSide}
+use Rattle.wcp_relay.specs.RelayEnds.{fault_of, number_of}
+use Rattle.wcp_relay.specs.Watches.{IsWired}
+use Rattle.wcp_relay.specs.declared.feed.Feed.{Feed}
+use Rattle.wcp_relay.specs.declared.relay_end.RelayEnd.{RelayEnd}
+use Rattle.wcp_relay.specs.declared.parts.Watch.{Watch}
 use Rattle.wcp_watch.specs.Seats.{SitsAt}
 use Rattle.wcp_watch.specs.Settling.{AreLinksMatched, IsEndOfSomeProbe, IsEndOfSomeRelay}
 

@@ -1,7 +1,7 @@
 -- The parts of a run, and what they leave.
 use Rattle.std.specs.Prelude.{◌≡◌, [], map, All}
 use Rattle.wcp_threads.specs.Threads.{AreEndsOf}
-use Rattle.wcp_tree.specs.RelayEnds.{IsEndOfRelay}
+use Rattle.wcp_relay.specs.RelayEnds.{IsEndOfRelay}
 use Rattle.wcp_watch.specs.declared.running.Parts.{Parts}
 use Rattle.wcp_watch.specs.declared.running.Ends.{Ends}
 use Rattle.wcp_watch.specs.declared.running.Rooms.{Rooms}

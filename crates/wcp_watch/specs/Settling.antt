@@ -19,19 +19,19 @@ use Rattle.wcp_book.specs.State.{BookState}
 use Rattle.wcp_book.specs.Totals.{AreTotals}
 use Rattle.wcp_lane.specs.Ends.{TakenEnd}
 use Rattle.wcp_queue.specs.Checker.{IsReportOfAnyClocks}
-use Rattle.wcp_tree.specs.declared.bundle.Bundle.{Bundle}
-use Rattle.wcp_tree.specs.Feeding.{items_of}
-use Rattle.wcp_tree.specs.LiveProbe.{LiveSide, ClosedSide, snapshots_in}
-use Rattle.wcp_tree.specs.RelayEnds.{AreReceiptsOf, fault_of, number_of, relay_put, relay_taken, watch_of}
-use Rattle.wcp_tree.specs.Watches.{IsWired}
-use Rattle.wcp_tree.specs.declared.feed.Feed.{Feed}
-use Rattle.wcp_tree.specs.declared.relay.Relay.{Relay}
-use Rattle.wcp_tree.specs.declared.relay_end.Receipts.{Receipts}
-use Rattle.wcp_tree.specs.declared.relay_end.Receipts.TheVariants.{Feeds, Lane}
-use Rattle.wcp_tree.specs.declared.relay_end.RelayEnd.{RelayEnd}
-use Rattle.wcp_tree.specs.declared.relay_end.Outcome.{Outcome}
-use Rattle.wcp_tree.specs.declared.relay_end.Outcome.TheVariants.{Whole, Faulted}
-use Rattle.wcp_tree.specs.declared.parts.Watch.{Watch}
+use Rattle.wcp_relay.specs.declared.bundle.Bundle.{Bundle}
+use Rattle.wcp_relay.specs.Feeding.{items_of}
+use Rattle.wcp_relay.specs.LiveProbe.{LiveSide, ClosedSide, snapshots_in}
+use Rattle.wcp_relay.specs.RelayEnds.{AreReceiptsOf, fault_of, number_of, relay_put, relay_taken, watch_of}
+use Rattle.wcp_relay.specs.Watches.{IsWired}
+use Rattle.wcp_relay.specs.declared.feed.Feed.{Feed}
+use Rattle.wcp_relay.specs.declared.relay.Relay.{Relay}
+use Rattle.wcp_relay.specs.declared.relay_end.Receipts.{Receipts}
+use Rattle.wcp_relay.specs.declared.relay_end.Receipts.TheVariants.{Feeds, Lane}
+use Rattle.wcp_relay.specs.declared.relay_end.RelayEnd.{RelayEnd}
+use Rattle.wcp_relay.specs.declared.relay_end.Outcome.{Outcome}
+use Rattle.wcp_relay.specs.declared.relay_end.Outcome.TheVariants.{Whole, Faulted}
+use Rattle.wcp_relay.specs.declared.parts.Watch.{Watch}
 use Rattle.wcp_watch.specs.CheckerEnds.{IsEndOfLoop}
 use Rattle.wcp_watch.specs.Seats.{AreAllThere, AreOfWatch, IsEndAt}
 use Rattle.wcp_watch.specs.declared.checker_end.CheckerEnd.{CheckerEnd}

@@ -4,7 +4,7 @@ ghost use Rattle.wcp_watch.specs.CheckerEnds as of_loop;
 use thiserror::Error;
 use wcp_lane::{Cut, TakeReceipt};
 use wcp_model::{Report, Watched};
-use wcp_tree::Bundle;
+use wcp_relay::Bundle;
 
 /// Why the report of a checker's loop isn't that of all snapshots: the first reason that applies.
 #[derive(Clone, Copy, Debug, PartialEq, Eq, Error)]

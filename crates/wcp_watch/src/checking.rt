@@ -7,7 +7,7 @@ ghost use Rattle.wcp_model.specs.declared.outcome.Report.TheVariants.{Found};
 ghost use Rattle.wcp_queue.specs.Checker.{processes, closed_of, lost_of, report_of};
 ghost use Rattle.wcp_queue.specs.Checker.{HasFound, MayTake, StandsForItems};
 ghost use Rattle.wcp_lane.specs.Ends.{TakeEnd};
-ghost use Rattle.wcp_tree.specs.RelayWork.{AreTakenNext, IsSameTaker};
+ghost use Rattle.wcp_relay.specs.RelayWork.{AreTakenNext, IsSameTaker};
 ghost use Rattle.wcp_watch.specs.CheckerEnds.{AreAllEnded, IsEndOfLoop, IsFreshFor, IsLowestLost, IsSameWatch};
 ghost use Rattle.wcp_watch.specs.CheckerEnds.{KeepsUp};
 ghost use Rattle.wcp_watch.specs.CheckerEnds.{HasTakenClose, HasTakenLast, TakesItems};
@@ -19,7 +19,7 @@ use wcp_clock::{Item, Note};
 use wcp_lane::{Cut, Taker};
 use wcp_model::{GlobalCut, Report};
 use wcp_queue::Checker;
-use wcp_tree::{Bundle, CheckerInbox};
+use wcp_relay::{Bundle, CheckerInbox};
 
 /// Gives the checker what arrives, until of every process the close mark or the mark that it was lost was taken, or the
 /// lane is cut. As it takes a close mark it posts the share of that process in the book: the count of the mark, and how

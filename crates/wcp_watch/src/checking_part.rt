@@ -3,8 +3,8 @@ use crate::checking::check_loop;
 use std::sync::{Mutex, Wait};
 use wcp_book::Book;
 use wcp_queue::Checker;
+use wcp_relay::CheckerInbox;
 use wcp_threads::{Part, RunsWith};
-use wcp_tree::CheckerInbox;
 
 /// The checker of a watch, and where it takes from.
 #[derive(Drop)]

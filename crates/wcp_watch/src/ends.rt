@@ -1,5 +1,5 @@
 use crate::seats::End;
-use wcp_tree::{ProbeEnd, RelayEnd};
+use wcp_relay::{ProbeEnd, RelayEnd};
 
 impl End for ProbeEnd {
     ghost watch_of = { λ end. end.watch };
@@ -16,7 +16,7 @@ impl End for ProbeEnd {
 }
 
 impl End for RelayEnd {
-    ghost use Rattle.wcp_tree.specs.RelayEnds as relay;
+    ghost use Rattle.wcp_relay.specs.RelayEnds as relay;
 
     ghost watch_of = { relay.watch_of };
 

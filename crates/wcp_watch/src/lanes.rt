@@ -2,7 +2,7 @@ ghost use Rattle.std.specs.Prelude.{◌≡◌, ◌↔◌, ℕ, true, IsOk, OnOk,
 ghost use Rattle.std.specs.FinSet as set;
 ghost use Rattle.wcp_clock.specs.declared.note.Item.{Item};
 ghost use Rattle.wcp_lane.specs.Ends.{TakenEnd};
-ghost use Rattle.wcp_tree.specs.Feeding.{items_of};
+ghost use Rattle.wcp_relay.specs.Feeding.{items_of};
 ghost use Rattle.wcp_watch.specs.Seats.{SitsAt};
 ghost use Rattle.wcp_watch.specs.Matching.{KeepInboxes, inbox_place};
 ghost use Rattle.wcp_watch.specs.declared.settle_fault.SettleFault.TheVariants as settle_fault;
@@ -11,7 +11,7 @@ use crate::settle_fault::SettleFault;
 use wcp_clock::MAX_RELAYS;
 use wcp_lane::{PutReceipt, TakeReceipt, reconcile};
 use wcp_model::Parent;
-use wcp_tree::Bundle;
+use wcp_relay::Bundle;
 
 /// Matches what a relay put with what was taken from the inbox of its parent. The inboxes of the relays
 /// are by their numbers, and the root's is behind them. `Err` where not all that it put was taken.

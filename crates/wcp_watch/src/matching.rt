@@ -1,6 +1,6 @@
 ghost use Rattle.std.specs.Prelude.{◌≡◌, ◌↔◌, ◌<◌, ℕ, None, Some, length, slice_set, IsOk, IfErr};
-ghost use Rattle.wcp_tree.specs.RelayEnds.{fault_of, whole_end};
-ghost use Rattle.wcp_tree.specs.declared.relay_end.RelayEnd.{RelayEnd};
+ghost use Rattle.wcp_relay.specs.RelayEnds.{fault_of, whole_end};
+ghost use Rattle.wcp_relay.specs.declared.relay_end.RelayEnd.{RelayEnd};
 ghost use Rattle.wcp_watch.specs.Seats.{SitsAt};
 ghost use Rattle.wcp_watch.specs.Matching.{AreEndsThere, AreFirstMatched};
 ghost use Rattle.wcp_watch.specs.declared.settle_fault.SettleFault.TheVariants as settle_fault;
@@ -12,7 +12,7 @@ use crate::settle_fault::SettleFault;
 use wcp_clock::MAX_RELAYS;
 use wcp_lane::{PutReceipt, TakeReceipt};
 use wcp_model::Parent;
-use wcp_tree::{Bundle, ProbeEnd, Receipts, RelayEnd};
+use wcp_relay::{Bundle, ProbeEnd, Receipts, RelayEnd};
 
 /// A place for the inbox of each relay, and one for the root's.
 const INBOXES: usize = MAX_RELAYS + 1;

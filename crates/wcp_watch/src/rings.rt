@@ -5,8 +5,8 @@ ghost use Rattle.wcp_watch.specs.Matching.{HasProbe};
 ghost use Rattle.wcp_watch.specs.declared.settle_fault.SettleFault.TheVariants as settle_fault;
 
 use crate::settle_fault::SettleFault;
+use wcp_relay::{Feed, ProbeEnd};
 use wcp_ring::match_ends;
-use wcp_tree::{Feed, ProbeEnd};
 
 /// Matches each feed with the end of the probe of its process, which leaves its seat. `Err` where a process was lost,
 /// or not all that its probe put was taken.

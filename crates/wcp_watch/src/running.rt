@@ -1,7 +1,7 @@
 //! The threads of a run, one for each part.
 ghost use Rattle.std.specs.Prelude.{◌≡◌, [], map, IfOk, IfSome};
 ghost use Rattle.wcp_threads.specs.Threads.{AreEndsOf};
-ghost use Rattle.wcp_tree.specs.RelayEnds.{IsEndOfRelay};
+ghost use Rattle.wcp_relay.specs.RelayEnds.{IsEndOfRelay};
 ghost use Rattle.wcp_watch.specs.RunParts.{AreReady, HaveEnded, AreEmptyRooms, AreThreadsOf};
 
 use crate::checker_end::CheckerEnd;
@@ -11,8 +11,8 @@ use std::sync::{Mutex, Wait};
 use std::thread::{Scope, Threads, scope, scope_env};
 use thiserror::Error;
 use wcp_book::Book;
+use wcp_relay::{Relay, RelayEnd};
 use wcp_threads::{Part, RunsWith, StartGate, Started, join_all, start, start_all};
-use wcp_tree::{Relay, RelayEnd};
 
 /// The parts of a run: the workers of the processes, the relays, and the checker.
 #[derive(Drop)]

@@ -1,5 +1,5 @@
 ghost use Rattle.std.specs.Prelude.{◌≡◌, ◌↔◌, IfOk, Err, None, All, IsTrue};
-ghost use Rattle.wcp_tree.specs.RelayEnds.{fault_of};
+ghost use Rattle.wcp_relay.specs.RelayEnds.{fault_of};
 ghost use Rattle.wcp_watch.specs.declared.settle_fault.SettleFault.{SettleFault};
 ghost use Rattle.wcp_watch.specs.Settling.{ComeFromWatch, IsFirstSettleFault, IsSettled};
 
@@ -11,7 +11,7 @@ use crate::settled::Settled;
 use crate::shares::{is_book_of, tallies};
 use wcp_book::Book;
 use wcp_clock::{MAX_PROCS, MAX_RELAYS};
-use wcp_tree::{ProbeEnd, RelayEnd};
+use wcp_relay::{ProbeEnd, RelayEnd};
 
 /// Proves the report of a run from the ends of its watch: each ring and each lane is matched, on the way
 /// from each process to the checker, the book's shares are compared with what the probes emitted, and the cut in it

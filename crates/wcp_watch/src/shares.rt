@@ -1,14 +1,14 @@
 ghost use Rattle.std.specs.Prelude.{◌≡◌, ◌↔◌, ◌<◌, ◌≤◌, ℕ, Some, length, slice_get, IsTrue};
 ghost use Rattle.std.specs.Option.{option_flatten};
 ghost use Rattle.wcp_clock.specs.Limits.{most_processes};
-ghost use Rattle.wcp_tree.specs.LiveProbe.{ClosedSide, NotesRise};
+ghost use Rattle.wcp_relay.specs.LiveProbe.{ClosedSide, NotesRise};
 ghost use Rattle.wcp_watch.specs.Seats.{SitsAt};
 ghost use Rattle.wcp_watch.specs.Settling.{cut_of, share_of};
 
 use wcp_book::Book;
 use wcp_clock::MAX_PROCS;
 use wcp_model::{GlobalCut, Report, Tallies, Tally};
-use wcp_tree::ProbeEnd;
+use wcp_relay::ProbeEnd;
 
 /// The tallies of the first processes, where all that their probes emitted was taken. Their ends tell that the clocks
 /// rise.

@@ -17,9 +17,9 @@ pub use Rattle.wcp_model.specs.declared.workload.Action.{Action}
 pub use Rattle.wcp_model.specs.declared.workload.Task.{Task}
 pub use Rattle.wcp_probe.specs.Core.{setup_of, Core}
 pub use Rattle.wcp_probe.specs.Seal.{seal_of}
-pub use Rattle.wcp_tree.proofs.Entries.{mapped_at}
-pub use Rattle.wcp_tree.proofs.LiveProbes.{same_live, fresh_stands}
-pub use Rattle.wcp_tree.specs.LiveProbe.{ClosedSide, HasEmitted, IsEndOfProbe, IsSameLive, LiveSide, LiveFor, AreFreshProbes}
+pub use Rattle.wcp_relay.proofs.Entries.{mapped_at}
+pub use Rattle.wcp_relay.proofs.LiveProbes.{same_live, fresh_stands}
+pub use Rattle.wcp_relay.specs.LiveProbe.{ClosedSide, HasEmitted, IsEndOfProbe, IsSameLive, LiveSide, LiveFor, AreFreshProbes}
 pub use Rattle.wcp_worker.specs.Lanes.{IsInboxOf, IsSameInbox, HasTakenMore, IfBoth, messages_taken, clocks_from, IsSameOutbox, messages_from, messages_put, IsNewLane, IsOutboxOf, IsLaneFor}
 pub use Rattle.wcp_worker.specs.Mailboxes.{HasSameLanes, outbox_to, inbox_from, clocks_sent_to, clocks_taken_from}
 pub use Rattle.wcp_worker.specs.Opening.{IsIdle, HasTasks, HaveLanes, IsSameButInboxes, HasRow}

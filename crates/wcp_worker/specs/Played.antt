@@ -6,7 +6,7 @@ use Rattle.wcp_model.specs.ProbeLog.{Call}
 use Rattle.wcp_model.specs.TaskLog.{IsCallFor, FollowsActions, stamp_of, stamps_sent, stamps_got}
 use Rattle.wcp_model.specs.WorkloadComputation.{is_send_to, is_receive_from}
 use Rattle.wcp_probe.specs.Core.{setup_of}
-use Rattle.wcp_tree.specs.LiveProbe.{ClosedSide, HasEmitted, IsEndOfProbe, IsSameLive, LiveFor, LiveAccepts}
+use Rattle.wcp_relay.specs.LiveProbe.{ClosedSide, HasEmitted, IsEndOfProbe, IsSameLive, LiveFor, LiveAccepts}
 use Rattle.wcp_worker.specs.declared.mailbox.Mailbox.{Mailbox}
 use Rattle.wcp_worker.specs.declared.player.Player.{Player}
 use Rattle.wcp_worker.specs.declared.worker.Worker.{Worker}

@@ -9,7 +9,7 @@ use Rattle.wcp_model.specs.ProbeLog.{Call, setup}
 use Rattle.wcp_model.specs.Report.{notes_taken}
 use Rattle.wcp_model.specs.TaskLog.{actions_of}
 use Rattle.wcp_probe.specs.Core.{setup_of}
-use Rattle.wcp_tree.specs.LiveProbe.{ClosedSide}
+use Rattle.wcp_relay.specs.LiveProbe.{ClosedSide}
 use Rattle.wcp_worker.specs.declared.lane_ends.Inbox.{Inbox}
 use Rattle.wcp_worker.specs.declared.lane_ends.Outbox.{Outbox}
 use Rattle.wcp_worker.specs.declared.mailbox.Mailbox.{Mailbox}

@@ -3,7 +3,7 @@ use Rattle.std.specs.Prelude.{◌≡◌, ℕ, Some, List, length, count_by, slic
 use Rattle.wcp_model.specs.declared.workload.Task.{Task}
 use Rattle.wcp_model.specs.TaskLog.{actions_of}
 use Rattle.wcp_model.specs.WorkloadComputation.{is_send_to}
-use Rattle.wcp_tree.specs.LiveProbe.{LiveSide}
+use Rattle.wcp_relay.specs.LiveProbe.{LiveSide}
 use Rattle.wcp_worker.specs.declared.worker.Worker.{Worker}
 use Rattle.wcp_worker.specs.Lanes.{IsLaneFor}
 use Rattle.wcp_worker.specs.Mailboxes.{outbox_to, inbox_from}

@@ -3,7 +3,7 @@ ghost use Rattle.wcp_clock.specs.Limits.{most_gate_turns};
 
 use std::thread::yield_now;
 use wcp_clock::GATE_TURNS;
-use wcp_tree::LiveProbe;
+use wcp_relay::LiveProbe;
 
 /// A worker that is held back gives its turn to other threads each time that it has asked so often. On a processor that
 /// has other work to do, each time costs milliseconds.

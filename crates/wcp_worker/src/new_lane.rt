@@ -7,7 +7,7 @@ use crate::lane_ends::{Inbox, Outbox};
 use std::alloc::{AllocError, Global};
 use wcp_lane::{LaneFault, Members, lane};
 use wcp_model::Action;
-use wcp_tree::LiveProbe;
+use wcp_relay::LiveProbe;
 
 /// Opens a lane by which process `p` can send this many messages to the process of this probe, if it is to send any.
 /// The receiver tells its relay of what its probe has put before it sleeps. `Err` where memory runs out.

@@ -2,14 +2,14 @@ ghost use Rattle.std.specs.Prelude.{List, OnOk};
 ghost use Rattle.wcp_model.specs.declared.workload.Action.TheVariants as action;
 ghost use Rattle.wcp_model.specs.ProbeLog.{Call};
 ghost use Rattle.wcp_model.specs.ProbeLog.{Observed, Sent};
-ghost use Rattle.wcp_tree.specs.LiveProbe.{IsSameLive};
+ghost use Rattle.wcp_relay.specs.LiveProbe.{IsSameLive};
 
 use crate::gate::{Gate, may_step};
 use crate::mailbox::Mailbox;
 use crate::worker_end::WorkerFault;
 use std::sync::Wait;
 use wcp_model::Action;
-use wcp_tree::LiveProbe;
+use wcp_relay::LiveProbe;
 
 /// What a worker works with: its probe, and the lanes to its partners.
 #[derive(Drop)]

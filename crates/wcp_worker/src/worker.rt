@@ -1,5 +1,5 @@
 ghost use Rattle.std.specs.Prelude.{◌≡◌, Some};
-ghost use Rattle.wcp_tree.specs.LiveProbe.{ClosedSide, IsEndOfProbe};
+ghost use Rattle.wcp_relay.specs.LiveProbe.{ClosedSide, IsEndOfProbe};
 
 use crate::gate::Gate;
 use crate::mailbox::Mailbox;
@@ -7,7 +7,7 @@ use crate::player::Player;
 use crate::worker_end::{WorkerEnd, WorkerFault};
 use std::sync::Wait;
 use wcp_model::Action;
-use wcp_tree::LiveProbe;
+use wcp_relay::LiveProbe;
 
 /// Plays a process of a workload in a thread of its own: it has the process's probe, the lanes to its partners, and
 /// what the process does, in order.

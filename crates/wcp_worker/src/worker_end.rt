@@ -2,7 +2,7 @@ use crate::mailbox::Mailbox;
 use thiserror::Error;
 use wcp_lane::Cut;
 use wcp_probe::Refusal;
-use wcp_tree::ProbeEnd;
+use wcp_relay::ProbeEnd;
 
 /// Why a worker gave up.
 #[derive(Clone, Copy, Debug, PartialEq, Eq, Error)]

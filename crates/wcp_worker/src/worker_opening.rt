@@ -1,7 +1,7 @@
 ghost use Rattle.std.specs.Prelude.{◌≡◌, ℕ, ◌<◌, ◌≤◌, [], length, map, slice_index_or, All, IfOk, OnOk};
 ghost use Rattle.wcp_clock.specs.Limits.{most_processes, most_steps};
 ghost use Rattle.wcp_model.specs.WorkloadComputation.{CouldBeRead};
-ghost use Rattle.wcp_tree.specs.LiveProbe.{AreFreshProbes};
+ghost use Rattle.wcp_relay.specs.LiveProbe.{AreFreshProbes};
 ghost use Rattle.wcp_worker.specs.declared.worker.Worker.{Worker};
 ghost use Rattle.wcp_worker.specs.Opening.{IsIdle, HasTasks, HasRow, HaveLanes};
 ghost use Rattle.wcp_worker.specs.Workers.{AreWorkersOf};
@@ -12,7 +12,7 @@ use crate::new_lane::{count_sends, new_lane};
 use crate::worker::Worker;
 use std::alloc::{AllocError, Global};
 use wcp_model::{Task, Workload};
-use wcp_tree::LiveProbe;
+use wcp_relay::LiveProbe;
 
 /// The workers of a workload, by the numbers of its processes: each has the probe of its process, what it does, and
 /// the lanes to those that it sends to and from those that send to it. A lane has room for all that is sent on it.

@@ -18,9 +18,9 @@ use Rattle.wcp_model.specs.declared.probe_setup.ProbeSetup.{ProbeSetup}
 use Rattle.wcp_book.specs.State.{BookState}
 use Rattle.wcp_model.specs.declared.plan.Plan.{Plan}
 use Rattle.wcp_probe.specs.Core.{Core, setup_of}
-use Rattle.wcp_tree.specs.LiveProbe.{ClosedSide, IsEndOfProbe, LiveSide, snapshots_in}
-use Rattle.wcp_tree.proofs.Entries.{All-at, mapped_at}
-use Rattle.wcp_tree.proofs.FreshProbes.{probes_fresh}
+use Rattle.wcp_relay.specs.LiveProbe.{ClosedSide, IsEndOfProbe, LiveSide, snapshots_in}
+use Rattle.wcp_relay.proofs.Entries.{All-at, mapped_at}
+use Rattle.wcp_relay.proofs.FreshProbes.{probes_fresh}
 use Rattle.wcp_watch.proofs.WatchEnds.{IsEndOfProcess, all_processes, come_from_parts, end_of_process}
 use Rattle.wcp_watch.specs.RunParts.{HaveEnded}
 use Rattle.wcp_watch.specs.Settling.{ComeFromWatch, IsEndOfSomeProbe, IsSettled}

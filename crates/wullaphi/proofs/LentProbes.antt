@@ -6,8 +6,8 @@ use Rattle.wcp_model.specs.declared.probe_setup.ProbeSetup.{ProbeSetup}
 use Rattle.wcp_model.specs.ProbeLog.{Call}
 use Rattle.wcp_probe.specs.Core.{Core, IsSameProbe}
 use Rattle.wcp_ring.specs.Ends.{Ring}
-use Rattle.wcp_tree.specs.LiveProbe.{LiveAccepts, LiveSide}
-use Rattle.wcp_tree.proofs.LiveProbes.{HasLog-accepts}
+use Rattle.wcp_relay.specs.LiveProbe.{LiveAccepts, LiveSide}
+use Rattle.wcp_relay.proofs.LiveProbes.{HasLog-accepts}
 use Rattle.wullaphi.specs.Lent.{IsLent}
 
 -- an observation that is put leaves a probe of the same numbers

@@ -8,15 +8,15 @@ use Rattle.wcp_model.specs.declared.plan.Plan.{Plan}
 use Rattle.wcp_probe.specs.Core.{Core}
 use Rattle.wcp_queue.specs.Checker.{CheckerState, StandsForItems, processes}
 use Rattle.wcp_model.specs.ProbeLog.{setup}
-use Rattle.wcp_tree.proofs.FreshProbes.{probes_fresh}
-use Rattle.wcp_tree.proofs.LiveProbes.{fresh_stands}
-use Rattle.wcp_tree.specs.LiveProbe.{ClosedSide, IsEndOfProbe, LiveSide}
-use Rattle.wcp_tree.specs.RelayEnds.{AreReceiptsOf, fault_of, number_of, relay_put, relay_taken}
-use Rattle.wcp_tree.specs.declared.checker_inbox.CheckerInbox.{CheckerInbox}
-use Rattle.wcp_tree.specs.Watches.{IsWired}
-use Rattle.wcp_tree.specs.declared.parts.Watch.{Watch}
-use Rattle.wcp_tree.specs.declared.relay.Relay.{Relay}
-use Rattle.wcp_tree.specs.declared.relay_end.RelayEnd.{RelayEnd}
+use Rattle.wcp_relay.proofs.FreshProbes.{probes_fresh}
+use Rattle.wcp_relay.proofs.LiveProbes.{fresh_stands}
+use Rattle.wcp_relay.specs.LiveProbe.{ClosedSide, IsEndOfProbe, LiveSide}
+use Rattle.wcp_relay.specs.RelayEnds.{AreReceiptsOf, fault_of, number_of, relay_put, relay_taken}
+use Rattle.wcp_relay.specs.declared.checker_inbox.CheckerInbox.{CheckerInbox}
+use Rattle.wcp_relay.specs.Watches.{IsWired}
+use Rattle.wcp_relay.specs.declared.parts.Watch.{Watch}
+use Rattle.wcp_relay.specs.declared.relay.Relay.{Relay}
+use Rattle.wcp_relay.specs.declared.relay_end.RelayEnd.{RelayEnd}
 use Rattle.wcp_watch.proofs.WatchEnds.{all_processes, come_from_watch, where_none}
 use Rattle.wcp_watch.specs.CheckerEnds.{IsEndOfLoop}
 use Rattle.wcp_watch.specs.Settling.{ComeFromWatch, IsSettled}

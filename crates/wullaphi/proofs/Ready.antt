@@ -4,12 +4,12 @@ use Rattle.std.proofs.lemmas.Option.{slice_get-get_or}
 use Rattle.wcp_model.specs.declared.plan.Plan.{Plan}
 use Rattle.wcp_model.specs.ProbeLog.{setup}
 use Rattle.wcp_probe.specs.Core.{Core}
-use Rattle.wcp_tree.proofs.Entries.{mapped_at}
-use Rattle.wcp_tree.proofs.LiveProbes.{fresh_stands}
-use Rattle.wcp_tree.specs.LiveProbe.{LiveSide}
+use Rattle.wcp_relay.proofs.Entries.{mapped_at}
+use Rattle.wcp_relay.proofs.LiveProbes.{fresh_stands}
+use Rattle.wcp_relay.specs.LiveProbe.{LiveSide}
 use Rattle.wcp_watch.specs.RunParts.{AreReady}
 use Rattle.wcp_watch.specs.declared.running.Parts.{Parts}
-use Rattle.wcp_tree.proofs.FreshProbes.{probes_fresh}
+use Rattle.wcp_relay.proofs.FreshProbes.{probes_fresh}
 use Rattle.wullaphi.specs.Seats.{ArePartsOf, IsNewSeat}
 use Rattle.wullaphi.specs.declared.seat.Seat.{Seat}
 

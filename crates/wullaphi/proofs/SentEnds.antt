@@ -3,7 +3,7 @@ use denote.Param.Send.{IsSend, recorded_send_at, recorded_send_of, struct_send_a
 use denote.RattleType.{RattleType}
 use denote.Struct.Declared.{Declared, shape}
 use denote.Struct.Struct.{Struct}
-use Rattle.wcp_tree.specs.contracts.relay_end.RelayEnd as relay_end
+use Rattle.wcp_relay.specs.contracts.relay_end.RelayEnd as relay_end
 use Rattle.wcp_watch.proofs.SentEnds.{relay_end_send}
 use Rattle.wullaphi.specs.contracts.own_ends.WatchRelayEnd.{the_row}
 use Rattle.wullaphi.specs.contracts.own_ends.WatchRelayEnd.TheInside as inside

@@ -5,7 +5,7 @@ use Rattle.wcp_model.specs.declared.probe_setup.ProbeSetup.{ProbeSetup}
 use Rattle.wcp_model.specs.ProbeLog.{Call, Closed, state_of_log}
 use Rattle.wcp_probe.specs.Core.{setup_of}
 use Rattle.wcp_ring.specs.Ends.{Ring}
-use Rattle.wcp_tree.specs.LiveProbe.{HasLog, LiveFor, LiveSide}
+use Rattle.wcp_relay.specs.LiveProbe.{HasLog, LiveFor, LiveSide}
 
 -- A probe is the one of this watch, of this process and of this ring, whatever calls it has made; nothing is pending.
 pub record IsLent (watch : ℕ) (made : ProbeSetup) (ring : Option Ring) (probe : LiveSide) : Type 0 where

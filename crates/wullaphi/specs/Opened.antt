@@ -3,12 +3,12 @@ use Rattle.std.specs.Prelude.{◌≡◌, ℕ, Option, Some, None, IfSome, List, 
 use Rattle.wcp_model.specs.PlanFault.{IsCheckedPlan}
 use Rattle.wcp_model.specs.declared.plan.Plan.{Plan}
 use Rattle.wcp_queue.specs.Checker.{CheckerState}
-use Rattle.wcp_tree.specs.LiveProbe.{ClosedSide, LiveFor, LiveSide}
-use Rattle.wcp_tree.specs.Watches.{IsWired}
-use Rattle.wcp_tree.specs.declared.checker_inbox.CheckerInbox.{CheckerInbox}
-use Rattle.wcp_tree.specs.declared.parts.Watch.{Watch}
-use Rattle.wcp_tree.specs.declared.relay.Relay.{Relay}
-use Rattle.wcp_tree.specs.declared.relay_end.RelayEnd.{RelayEnd}
+use Rattle.wcp_relay.specs.LiveProbe.{ClosedSide, LiveFor, LiveSide}
+use Rattle.wcp_relay.specs.Watches.{IsWired}
+use Rattle.wcp_relay.specs.declared.checker_inbox.CheckerInbox.{CheckerInbox}
+use Rattle.wcp_relay.specs.declared.parts.Watch.{Watch}
+use Rattle.wcp_relay.specs.declared.relay.Relay.{Relay}
+use Rattle.wcp_relay.specs.declared.relay_end.RelayEnd.{RelayEnd}
 use Rattle.wcp_watch.specs.CheckerEnds.{IsEndOfLoop, IsFreshFor}
 use Rattle.wcp_watch.specs.Settling.{IsEndOfSomeProbe, IsEndOfSomeRelay}
 use Rattle.wcp_watch.specs.declared.checker_end.CheckerEnd.{CheckerEnd}

@@ -2,8 +2,8 @@
 use Rattle.std.specs.Prelude.{◌≡◌, Option, Some, None, List}
 use Rattle.wcp_book.specs.State.{BookState}
 use Rattle.wcp_model.specs.declared.outcome.Outcome.{Outcome}
-use Rattle.wcp_tree.specs.LiveProbe.{ClosedSide}
-use Rattle.wcp_tree.specs.declared.relay_end.RelayEnd.{RelayEnd}
+use Rattle.wcp_relay.specs.LiveProbe.{ClosedSide}
+use Rattle.wcp_relay.specs.declared.relay_end.RelayEnd.{RelayEnd}
 use Rattle.wcp_watch.specs.Settling.{IsFirstSettleFault, IsSettled}
 use Rattle.wcp_watch.specs.declared.checker_end.CheckerEnd.{CheckerEnd}
 use Rattle.wcp_watch.specs.declared.settle_fault.SettleFault.{SettleFault}

@@ -2,9 +2,9 @@
 use Rattle.std.specs.Prelude.{◌≡◌, ℕ, Bool, None, IfNone, IfSome, List, [], is_some, map}
 use Rattle.wcp_model.specs.declared.plan.Plan.{Plan}
 use Rattle.wcp_probe.specs.Core.{setup_of}
-use Rattle.wcp_tree.specs.LiveProbe.{IsEndOfProbe, LiveFor, LiveSide}
-use Rattle.wcp_tree.specs.Watches.{IsWired}
-use Rattle.wcp_tree.specs.declared.parts.Watch.{Watch}
+use Rattle.wcp_relay.specs.LiveProbe.{IsEndOfProbe, LiveFor, LiveSide}
+use Rattle.wcp_relay.specs.Watches.{IsWired}
+use Rattle.wcp_relay.specs.declared.parts.Watch.{Watch}
 use Rattle.wcp_watch.specs.CheckerEnds.{IsFreshFor}
 use Rattle.wcp_watch.specs.declared.running.Parts.{Parts}
 use Rattle.wullaphi.specs.Lent.{HasLeft, HasRun}

@@ -10,7 +10,7 @@ use Rattle.wcp_model.specs.declared.outcome.Report.{Report}
 use Rattle.wcp_model.specs.declared.outcome.Report.TheVariants.{Nothing}
 use Rattle.wcp_model.specs.declared.outcome.Tally.{Tally}
 use Rattle.wcp_model.specs.declared.probe_setup.ProbeSetup.{ProbeSetup}
-use Rattle.wcp_tree.specs.LiveProbe.{LiveSide, snapshots_in}
+use Rattle.wcp_relay.specs.LiveProbe.{LiveSide, snapshots_in}
 use Rattle.wullaphi.specs.Lent.{HasLeft, HasRun}
 use Rattle.wullaphi.specs.declared.watch_outcome.WatchOutcome.{WatchOutcome}
 

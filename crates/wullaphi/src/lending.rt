@@ -1,6 +1,6 @@
 ghost use Rattle.std.specs.Prelude.{◌≡◌, [], is_some, IfNone, IfSome, None, Some};
 ghost use Rattle.wcp_probe.specs.Core.{setup_of};
-ghost use Rattle.wcp_tree.specs.LiveProbe.{IsEndOfProbe, LiveFor};
+ghost use Rattle.wcp_relay.specs.LiveProbe.{IsEndOfProbe, LiveFor};
 ghost use Rattle.wullaphi.specs.Lent.{HasLeft, HasRun, IsLent};
 
 use crate::lent_probe::{LentProbe, Loan};

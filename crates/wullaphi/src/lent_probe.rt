@@ -4,7 +4,7 @@ ghost use Rattle.wcp_probe.specs.declared.probe.Refusal.TheVariants as refusal;
 ghost use Rattle.wcp_probe.specs.Core.{setup_of};
 ghost use Rattle.wcp_probe.specs.Refusals.{stamp_refusal, receive_refusal};
 ghost use Rattle.wcp_probe.specs.Seal.{IsSealed, seal_of, value_of};
-ghost use Rattle.wcp_tree.specs.LiveProbe.{HasLog, LiveAccepts, LiveFor};
+ghost use Rattle.wcp_relay.specs.LiveProbe.{HasLog, LiveAccepts, LiveFor};
 
 use std::marker::{Brand, Model, PhantomData};
 use std::sync::Wait;
@@ -47,7 +47,7 @@ pub struct LentProbe<L: Loan> {
 }
 
 impl<L: Loan> Model for LentProbe<L> {
-    ghost use Rattle.wcp_tree.specs.LiveProbe.{LiveSide};
+    ghost use Rattle.wcp_relay.specs.LiveProbe.{LiveSide};
     ghost use Rattle.wullaphi.specs.Lent.{IsLent};
 
     ghost Value = { LiveSide };

@@ -44,7 +44,7 @@ pub struct Watch {
 impl Model for Watch {
     ghost use Rattle.std.specs.Coded.{codes};
     ghost use Rattle.wcp_clock.specs.ProcessNumbers.{numbers_code};
-    ghost use Rattle.wcp_tree.specs.contracts.parts.Watch as of_tree;
+    ghost use Rattle.wcp_relay.specs.contracts.parts.Watch as of_tree;
     ghost use Rattle.wullaphi.specs.Opened.{IsFreshWatch, OpenedWatch};
 
     ghost Value = { OpenedWatch };

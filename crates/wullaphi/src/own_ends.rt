@@ -22,7 +22,7 @@ pub struct WatchProbeEnd<W: Opening> {
 }
 
 impl<W: Opening> Model for WatchProbeEnd<W> {
-    ghost use Rattle.wcp_tree.specs.LiveProbe.{ClosedSide};
+    ghost use Rattle.wcp_relay.specs.LiveProbe.{ClosedSide};
     ghost use Rattle.wullaphi.specs.Opened.{HasOpened, IsProbeEndOf};
 
     ghost Value = { ClosedSide };
@@ -55,8 +55,8 @@ pub struct WatchRelayEnd<W: Opening> {
 }
 
 impl<W: Opening> Model for WatchRelayEnd<W> {
-    ghost use Rattle.wcp_tree.specs.contracts.relay_end.RelayEnd as of_relay_end;
-    ghost use Rattle.wcp_tree.specs.declared.relay_end.RelayEnd.{RelayEnd};
+    ghost use Rattle.wcp_relay.specs.contracts.relay_end.RelayEnd as of_relay_end;
+    ghost use Rattle.wcp_relay.specs.declared.relay_end.RelayEnd.{RelayEnd};
     ghost use Rattle.wullaphi.specs.Opened.{HasOpened, IsRelayEndOf};
 
     ghost Value = { RelayEnd };
@@ -145,7 +145,7 @@ pub struct WatchEnds<W: Opening> {
 
 impl<W: Opening> Model for WatchEnds<W> {
     ghost use Rattle.std.specs.Coded.{codes};
-    ghost use Rattle.wcp_tree.specs.contracts.relay_end.RelayEnd as of_relay_end;
+    ghost use Rattle.wcp_relay.specs.contracts.relay_end.RelayEnd as of_relay_end;
     ghost use Rattle.wcp_watch.specs.contracts.checker_end.CheckerEnd as of_checker_end;
     ghost use Rattle.wullaphi.specs.Opened.{AreEndsOf, EndsOfWatch, HasOpened};
 

@@ -1,8 +1,8 @@
 //! The parts of an opened watch, which know that they are its own.
 ghost use Rattle.std.specs.Prelude.{◌≡◌, is_some, IfNone, IfSome};
 ghost use Rattle.wcp_probe.specs.Core.{setup_of};
-ghost use Rattle.wcp_tree.specs.LiveProbe.{IsEndOfProbe};
-ghost use Rattle.wcp_tree.specs.RelayEnds.{number_of};
+ghost use Rattle.wcp_relay.specs.LiveProbe.{IsEndOfProbe};
+ghost use Rattle.wcp_relay.specs.RelayEnds.{number_of};
 ghost use Rattle.wullaphi.specs.Lent.{HasLeft, HasRun};
 ghost use Rattle.wullaphi.specs.Opened.{HasOpened, IsCheckerOf, IsProbeOf, IsRelayOf};
 
@@ -29,7 +29,7 @@ pub struct WatchProbe<W: Opening> {
 }
 
 impl<W: Opening> Model for WatchProbe<W> {
-    ghost use Rattle.wcp_tree.specs.LiveProbe.{LiveSide};
+    ghost use Rattle.wcp_relay.specs.LiveProbe.{LiveSide};
     ghost use Rattle.wullaphi.specs.Opened.{HasOpened, IsProbeOf};
 
     ghost Value = { LiveSide };

@@ -1,4 +1,4 @@
-ghost use Rattle.wcp_tree.specs.LiveProbe.{LiveFor};
+ghost use Rattle.wcp_relay.specs.LiveProbe.{LiveFor};
 
 use crate::lent_probe::{LentProbe, Loan};
 use std::sync::Wait;
@@ -6,7 +6,7 @@ use std::sync::Wait;
 /// What a process does, in a thread of its own.
 pub trait Process {
     ghost use Rattle.std.specs.Prelude.{⊤, []};
-    ghost use Rattle.wcp_tree.specs.LiveProbe.{LiveSide};
+    ghost use Rattle.wcp_relay.specs.LiveProbe.{LiveSide};
 
     /// What all processes of the watch share.
     type Shared;
@@ -34,7 +34,7 @@ pub trait Process {
 /// Each `Process` is one whose part is done whatever it answers.
 pub trait LosableProcess {
     ghost use Rattle.std.specs.Prelude.{◌≡◌, Bool, ⊤, []};
-    ghost use Rattle.wcp_tree.specs.LiveProbe.{LiveSide};
+    ghost use Rattle.wcp_relay.specs.LiveProbe.{LiveSide};
 
     /// What all processes of the watch share.
     type Shared;

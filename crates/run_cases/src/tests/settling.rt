@@ -1,7 +1,7 @@
 //! Watches whose ends are settled.
 ghost use Rattle.std.specs.Prelude.{◌≡◌, ◌≢◌, [], ◌∷◌, ◌++◌, All, IsTrue, IfOk, IfSome, None, Some, slice_get};
 ghost use Rattle.wcp_model.specs.PlanFault.{IsCheckedPlan};
-ghost use Rattle.wcp_tree.specs.RelayEnds.{fault_of, number_of, watch_of};
+ghost use Rattle.wcp_relay.specs.RelayEnds.{fault_of, number_of, watch_of};
 ghost use Rattle.wcp_watch.specs.Settling.{ComeFromWatch, IsEndOfSomeProbe, IsEndOfSomeRelay};
 
 use super::checking::{ONE, assert_end, two_hops};

@@ -2,7 +2,7 @@
 ghost use Rattle.std.specs.Prelude.{◌≡◌, IfOk};
 ghost use Rattle.wcp_model.specs.PlanFault.{IsCheckedPlan};
 ghost use Rattle.wcp_watch.specs.CheckerEnds.{IsFreshFor};
-ghost use Rattle.wcp_tree.specs.Watches.{IsWired};
+ghost use Rattle.wcp_relay.specs.Watches.{IsWired};
 
 use std::alloc::{AllocError, Global};
 use std::sync::{Mutex, Wait};

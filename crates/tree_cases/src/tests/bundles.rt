@@ -1,6 +1,6 @@
 ghost use Rattle.std.specs.Prelude.{◌≡◌, ◌+◌, false, true, [], ◌∷◌, IfOk, IsTrue};
 ghost use Rattle.wcp_clock.specs.Notes.{place_of, is_last};
-ghost use Rattle.wcp_tree.specs.Bundles.{Continues};
+ghost use Rattle.wcp_relay.specs.Bundles.{Continues};
 ghost use Rattle.tree_cases.specs.BundleLanes.{HasPut};
 
 use std::alloc::Global;

@@ -1,7 +1,7 @@
 //! A note that comes out of its place.
 ghost use Rattle.std.specs.Prelude.{◌≡◌, false, ◌∷◌, [], IfOk, length};
 ghost use Rattle.std.specs.FinSet as set;
-ghost use Rattle.wcp_tree.specs.declared.feed.Feed.{Feed};
+ghost use Rattle.wcp_relay.specs.declared.feed.Feed.{Feed};
 
 use super::watches::run_relay;
 use std::alloc::{AllocError, Global};

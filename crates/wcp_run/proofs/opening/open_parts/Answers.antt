@@ -1,6 +1,6 @@
 use Rattle.std.proofs.Common.{refl}
 use Rattle.wcp_model.proofs.CheckedPlans.{some_watched}
-use Rattle.wcp_tree.proofs.FreshProbes.{probes_fresh}
+use Rattle.wcp_relay.proofs.FreshProbes.{probes_fresh}
 use Rattle.wcp_run.proofs.opening.open_parts.Goals as goal
 
 pub open_workers-requires-clause-probes : goal.open_workers-requires-clause-probes

@@ -1,4 +1,4 @@
-use Rattle.wcp_tree.specs.Members.{IsBelow}
+use Rattle.wcp_relay.specs.Members.{IsBelow}
 use Rattle.wcp_tree.proofs.Gathering.{HasAllBelow}
 use Rattle.wcp_tree.proofs.members.processes_below.Given as goal
 

@@ -1,4 +1,4 @@
-use Rattle.wcp_tree.specs.Rings.{AreRings}
+use Rattle.wcp_relay.specs.Rings.{AreRings}
 use Rattle.wcp_tree.proofs.ring_opening.open_rings.Given as goal
 
 abbrev pub invariant-loop-p : goal.invariant-loop-p

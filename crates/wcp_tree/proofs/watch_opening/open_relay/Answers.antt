@@ -1,5 +1,5 @@
 use Rattle.wcp_tree.proofs.Words.{◌≡◌, Some, length, sym, ap, subst, ◌∙◌, arith, common_steps, gets, slice_get_within, slice_get-get_or, Item, Held, PutEnd, Bundle, Source, AreBelow, AreChildrenSeated, IsSource, hold_room}
-use Rattle.wcp_tree.proofs.Entries.{taken_out}
+use Rattle.wcp_relay.proofs.Entries.{taken_out}
 use Rattle.wcp_tree.proofs.Serving.{source_serves}
 use Rattle.wcp_tree.proofs.watch_opening.open_relay.Goals as goal
 

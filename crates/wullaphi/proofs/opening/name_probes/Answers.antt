@@ -1,7 +1,7 @@
 use Rattle.std.proofs.Common.{◌≡◌, ◌∷◌, [], ◌++◌, All, append_assoc, sym, ap, subst, ◌∙◌}
 use Rattle.std.proofs.lemmas.List.Elements.{All-head, All-tail}
 use Rattle.std.specs.Vec.Iter.{into_iter_items}
-use Rattle.wcp_tree.specs.LiveProbe.{LiveSide}
+use Rattle.wcp_relay.specs.LiveProbe.{LiveSide}
 use Rattle.wullaphi.proofs.OwnWatches.{pushed_more}
 use Rattle.wullaphi.specs.Opened.{HasOpened, IsProbeOf}
 use Rattle.wullaphi.proofs.opening.name_probes.Goals as goal

@@ -2,7 +2,7 @@ use Rattle.std.proofs.Common.{◌≡◌, ◌∷◌, [], ◌++◌, All, append_as
 use Rattle.std.proofs.lemmas.List.Elements.{All-head, All-tail}
 use Rattle.std.proofs.lemmas.List.{map_push}
 use Rattle.std.specs.Vec.Iter.{into_iter_items}
-use Rattle.wcp_tree.specs.declared.relay.Relay.{Relay}
+use Rattle.wcp_relay.specs.declared.relay.Relay.{Relay}
 use Rattle.wullaphi.proofs.OwnWatches.{pushed_more}
 use Rattle.wullaphi.specs.Opened.{HasOpened, IsRelayOf}
 use Rattle.wullaphi.proofs.opening.name_relays.Goals as goal

@@ -1,6 +1,6 @@
 use Rattle.std.proofs.Common.{◌≡◌, All, Some, slice_get, sym, ap, subst, ◌∙◌}
 use Rattle.std.proofs.lemmas.List.Elements.{All-pop, All-push}
-use Rattle.wcp_tree.specs.RelayEnds.{fault_of}
+use Rattle.wcp_relay.specs.RelayEnds.{fault_of}
 use Rattle.wcp_watch.specs.Settling.{IsEndOfSomeRelay}
 use Rattle.wcp_watch.proofs.WatchEnds.{where_none}
 use Rattle.run_cases.proofs.tests.settling.run_all.Goals as goal

@@ -1,8 +1,8 @@
 use Rattle.std.proofs.Common.{◌≡◌, ◌+◌, [], ◌∷◌, ◌++◌, List, sym, ap, ◌∙◌, subst, append_assoc, arith}
 use Rattle.wcp_clock.specs.declared.note.Item.{Item}
 use Rattle.wcp_lane.specs.Ends.{PutEnd}
-use Rattle.wcp_tree.specs.RelayWork.{ItemsMayFollow}
-use Rattle.wcp_tree.specs.declared.bundle.Bundle.{Bundle}
+use Rattle.wcp_relay.specs.RelayWork.{ItemsMayFollow}
+use Rattle.wcp_relay.specs.declared.bundle.Bundle.{Bundle}
 use Rattle.tree_cases.specs.BundleLanes.{HasPut}
 use Rattle.tree_cases.proofs.Pairs.{next_may, more_put}
 use Rattle.tree_cases.proofs.tests.bundles.put_pair.Goals as goal

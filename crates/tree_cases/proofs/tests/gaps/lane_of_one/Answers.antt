@@ -3,7 +3,7 @@ use Rattle.std.specs.FinSet as set
 use Rattle.std.proofs.lemmas.Grind.{common_steps}
 use Rattle.wcp_clock.specs.declared.note.Item.{Item}
 use Rattle.wcp_lane.specs.Ends.{PutEnd, new_putter}
-use Rattle.wcp_tree.specs.declared.bundle.Bundle.{Bundle}
+use Rattle.wcp_relay.specs.declared.bundle.Bundle.{Bundle}
 use Rattle.tree_cases.proofs.tests.gaps.lane_of_one.Goals as goal
 
 pub returns-clause-members : goal.returns-clause-members

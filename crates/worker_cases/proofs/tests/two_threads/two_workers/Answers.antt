@@ -1,9 +1,9 @@
 use Rattle.std.proofs.Common.{◌≡◌, ◌<◌, Some, List, [], ◌∷◌, ◌++◌, length, sym, ap, ◌∙◌, arith}
 use Rattle.std.specs.Prelude.{slice_get}
 use Rattle.std.proofs.lemmas.List.{length-append}
-use Rattle.wcp_tree.proofs.Entries.{last_entry, earlier_entry}
+use Rattle.wcp_relay.proofs.Entries.{last_entry, earlier_entry}
 use Rattle.wcp_worker.specs.declared.worker.Worker.{Worker}
-use Rattle.wcp_tree.proofs.FreshProbes.{probes_fresh}
+use Rattle.wcp_relay.proofs.FreshProbes.{probes_fresh}
 use Rattle.worker_cases.proofs.tests.two_threads.two_workers.Goals as goal
 
 pub open_workers-requires-clause-probes : goal.open_workers-requires-clause-probes

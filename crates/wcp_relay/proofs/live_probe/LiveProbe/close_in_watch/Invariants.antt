@@ -1,0 +1,12 @@
+use Rattle.wcp_relay.proofs.Words.{◌≡◌, List, Call, LiveFor}
+use Rattle.wcp_relay.proofs.live_probe.LiveProbe.close_in_watch.Given as goal
+
+abbrev pub invariant-loop : goal.invariant-loop
+invariant-loop g l =
+    record {
+      goes_on : (goal.iterator-loop g).can_next l.iterator';
+      ends : (goal.iterator-loop g).is_finite l.iterator';
+      core : l.probe.core ≡ (record l.fn.self.core { pending = l.probe.core.pending });
+      ring : l.probe.link.ring ≡ l.fn.self.link.ring;
+      stands : (log : List Call) → LiveFor l.fn.self log → LiveFor l.probe log;
+    }

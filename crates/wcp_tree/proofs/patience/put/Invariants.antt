@@ -1,5 +1,0 @@
-use Rattle.std.proofs.Common.{◌≡◌}
-use Rattle.wcp_tree.proofs.patience.put.Given as goal
-
-abbrev pub invariant-loop : goal.invariant-loop
-invariant-loop g l = (l.putter ≡ l.initial.putter) × (l.bundle ≡ l.initial.bundle)
