@@ -1,9 +1,11 @@
 //! The printed line of a reply.
-ghost use Rattle.std.specs.Prelude.{◌≡◌, [], ◌∷◌, ◌++◌, codes, IfOk, OnOk, string_bytes};
+ghost use Rattle.std.specs.Prelude.{◌≡◌, ◌∷◌, ◌++◌, IfOk, OnOk, string_bytes};
 ghost use Rattle.std.specs.Fmt.{decimal};
 ghost use Rattle.std.specs.List.{flat_map};
-ghost use Rattle.wcp_report.specs.ReplyText.{note_words, reply_line, why_word};
+ghost use Rattle.wcp_report.specs.ReplyText.{note_words, reply_line};
+ghost use Rattle.wcp_model.specs.declared.step.Reply.TheVariants.{Refused};
 
+use itoa::Buffer;
 use std::alloc::{AllocError, Global};
 use wcp_clock::{Clock, Note};
 use wcp_model::{Reply, Why};
@@ -24,12 +26,12 @@ pub fn push_reply(text: &mut String, reply: &Reply) -> Result<(), AllocError>
     match reply {
         Reply::Done => text.push_str("done\n"),
         Reply::Took(item) => {
-            let from = item.from;
-            write!(text, "took {from}")?;
+            text.push_str("took ")?;
+            push_number(text, item.from)?;
             push_note(text, &item.note)?;
             text.push_str("\n")
         }
-        Reply::Refused(why) => text.push_str(refusal_line(*why)),
+        Reply::Refused(why) => push_refusal(text, *why),
     }
 }
 
@@ -38,7 +40,8 @@ fn push_note(text: &mut String, note: &Note) -> Result<(), AllocError>
 {
     match note {
         Note::Snap { number, clock } => {
-            write!(text, " snap {number}")?;
+            text.push_str(" snap ")?;
+            push_number(text, *number)?;
             push_components(text, clock)
         }
         Note::Close { count } => write!(text, " close {count}"),
@@ -51,23 +54,36 @@ fn push_components(text: &mut String, clock: &Clock) -> Result<(), AllocError>
         ≡ string_bytes text.old ++ flat_map (λ component. 32 ∷ decimal component) clock.now) }
 {
     for p in 0..clock.len() {
-        let component = clock.get(p);
-        write!(text, " {component}")?;
+        push_component(text, clock.get(p))?;
     }
     Ok(())
 }
 
-/// The line for why a step was refused.
-fn refusal_line(why: Why) -> &'static str
-    ensures { result.now ≡ codes "refused " ++ (why_word why ++ 10 ∷ []) }
+fn push_component(text: &mut String, component: u32) -> Result<(), AllocError>
+    ensures { OnOk result (string_bytes text.new ≡ string_bytes text.old ++ 32 ∷ decimal component) }
+{
+    text.push_str(" ")?;
+    push_number(text, component)
+}
+
+fn push_number(text: &mut String, number: u32) -> Result<(), AllocError>
+    ensures { OnOk result (string_bytes text.new ≡ string_bytes text.old ++ decimal number) }
+{
+    let mut digits = Buffer::new();
+    text.push_str(digits.format(number))
+}
+
+/// Adds the line for why a step was refused: each in one piece of a known length.
+fn push_refusal(text: &mut String, why: Why) -> Result<(), AllocError>
+    ensures { OnOk result (string_bytes text.new ≡ string_bytes text.old ++ reply_line (Refused why)) }
 {
     match why {
-        Why::NoSuch => "refused nosuch\n",
-        Why::Closed => "refused closed\n",
-        Why::Backlog => "refused backlog\n",
-        Why::Gone => "refused gone\n",
-        Why::ClockEnd => "refused clockend\n",
-        Why::Empty => "refused empty\n",
-        Why::Full => "refused full\n",
+        Why::NoSuch => text.push_str("refused nosuch\n"),
+        Why::Closed => text.push_str("refused closed\n"),
+        Why::Backlog => text.push_str("refused backlog\n"),
+        Why::Gone => text.push_str("refused gone\n"),
+        Why::ClockEnd => text.push_str("refused clockend\n"),
+        Why::Empty => text.push_str("refused empty\n"),
+        Why::Full => text.push_str("refused full\n"),
     }
 }
