@@ -62,6 +62,14 @@ pub feeds_observed : (holds emitted : Bool) (old : WorkloadProcess) (probe : Cor
 feeds_observed holds emitted old probe before after emits is takes count still n watched flag p log items running fed =
     fed_more n watched flag p log old running (Observed holds) probe.pending items before after fed (observed_notes n watched flag p log old running holds emitted probe emits is) takes count still
 
+-- a process that emits nothing feeds the checker nothing
+pub feeds_nothing : (holds : Bool) (old : WorkloadProcess) (probe : Core) (checker : CheckerState)
+    → IsTrue false ↔ (IsTrue holds × (old.probe.watched ≡ true) × (old.probe.flag_up ≡ false)) → probe ≡ old.probe
+    → Feeds old (Observed holds) checker checker
+feeds_nothing holds old probe checker emits is n watched flag p log items running fed =
+    feeds_observed holds false old probe checker checker emits is (rw (is, running.none_pending) refl) refl refl
+    n watched flag p log items running fed
+
 pub feeds_closed : (old : WorkloadProcess) (probe : Core) (before after : CheckerState) → probe ≡ record old.probe { closed = true; pending = Some (note.Close old.probe.emitted) } →
     MatchOption probe.pending (after ≡ before) (λ next. TakesItem before after (record { from = old.id; note = next })) → processes after ≡ processes before → after.watched ≡ before.watched → Feeds old Closed before after
 feeds_closed old probe before after is takes count still n watched flag p log items running fed =

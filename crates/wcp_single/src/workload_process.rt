@@ -42,7 +42,13 @@ impl WorkloadProcess {
         ensures feeds { OnOk result (Feeds self.old (Observed holds) checker.old checker.new) }
     {
         match self.probe.observe(holds) {
-            Ok(_) => self.hand_over(checker),
+            Ok(emitted) => {
+                if emitted {
+                    self.hand_over(checker)
+                } else {
+                    Ok(())
+                }
+            }
             Err(_) => unreachable!(),
         }
     }
@@ -61,6 +67,7 @@ impl WorkloadProcess {
     }
 
     /// The checker takes what is pending, if anything is. `Err` where memory runs out.
+    #[inline(always)]
     fn hand_over(&mut self, checker: &mut Checker) -> Result<(), AllocError>
         requires { MatchOption
             self.old.probe.pending
