@@ -125,7 +125,7 @@ fn printed_digit(text: &[u8]) -> Option<(u32, &[u8])>
 
 /// The text after this byte, where it begins with it.
 #[inline(always)]
-fn after_byte(text: &[u8], first: u8) -> Option<&[u8]>
+pub(crate) fn after_byte(text: &[u8], first: u8) -> Option<&[u8]>
     ensures { IfSome result (λ rest. text.now ≡ first ∷ rest.now) }
 {
     match text {
@@ -136,7 +136,7 @@ fn after_byte(text: &[u8], first: u8) -> Option<&[u8]>
 
 /// The text after these four bytes, where it begins with them: they are compared as one number.
 #[inline(always)]
-fn after_four<'a>(text: &'a [u8], four: &[u8; 4]) -> Option<&'a [u8]>
+pub(crate) fn after_four<'a>(text: &'a [u8], four: &[u8; 4]) -> Option<&'a [u8]>
     ensures { IfSome result (λ rest. text.now ≡ four.now ++ rest.now) }
 {
     let (front, rest) = text.split_first_chunk::<4>()?;

@@ -6,7 +6,7 @@ ghost use Rattle.wcp_script.specs.Lines.{line_text, lines_of};
 ghost use Rattle.wcp_script.specs.ScheduleText.{step_words, truth_word, HasLineNumbers};
 ghost use Rattle.wcp_script.specs.TextFault.{schedules, steps_behind};
 
-use crate::printed_line::{printed_number, printed_partner};
+use crate::printed_line::{after_byte, after_four, printed_number, printed_partner};
 use std::alloc::AllocError;
 use wcp_clock::MAX_STEPS;
 use wcp_model::Step;
@@ -49,33 +49,30 @@ fn printed_step(text: &[u8]) -> Option<(Step, &[u8])>
     if text.len() < LONGEST_LINE {
         return None;
     }
-    match text {
-        [b'o', b'b', b's', b'e', b'r', b'v', b'e', b' ', rest @ ..] => {
-            let (p, holds, rest) = printed_observation(rest)?;
-            Some((Step::Observe(p, holds), rest))
-        }
-        [b's', b'e', b'n', b'd', b' ', rest @ ..] => {
-            let (p, to, rest) = printed_pair(rest)?;
-            Some((Step::Send(p, to), rest))
-        }
-        [b'p', b'u', b't', b' ', rest @ ..] => {
-            let (p, rest) = printed_partner(rest)?;
-            Some((Step::Put(p), rest))
-        }
-        [b'a', b'd', b'm', b'i', b't', b' ', rest @ ..] => {
-            let (relay, p, rest) = printed_pair(rest)?;
-            Some((Step::Admit(relay, p), rest))
-        }
-        [b'p', b'u', b'l', b'l', b' ', rest @ ..] => {
-            let (relay, rest) = printed_partner(rest)?;
-            Some((Step::Pull(relay), rest))
-        }
-        [b'p', b'a', b's', b's', b' ', rest @ ..] => {
-            let (relay, rest) = printed_partner(rest)?;
-            Some((Step::Pass(relay), rest))
-        }
-        [b'c', b'h', b'e', b'c', b'k', b'\n', rest @ ..] => Some((Step::Check, rest)),
-        _ => None,
+    if let Some(rest) = after_four(text, b"obse") {
+        let (p, holds, rest) = printed_observation(after_four(rest, b"rve ")?)?;
+        Some((Step::Observe(p, holds), rest))
+    } else if let Some(rest) = after_four(text, b"send") {
+        let (p, to, rest) = printed_pair(after_byte(rest, b' ')?)?;
+        Some((Step::Send(p, to), rest))
+    } else if let Some(rest) = after_four(text, b"put ") {
+        let (p, rest) = printed_partner(rest)?;
+        Some((Step::Put(p), rest))
+    } else if let Some(rest) = after_four(text, b"admi") {
+        let rest = after_byte(rest, b't')?;
+        let (relay, p, rest) = printed_pair(after_byte(rest, b' ')?)?;
+        Some((Step::Admit(relay, p), rest))
+    } else if let Some(rest) = after_four(text, b"pull") {
+        let (relay, rest) = printed_partner(after_byte(rest, b' ')?)?;
+        Some((Step::Pull(relay), rest))
+    } else if let Some(rest) = after_four(text, b"pass") {
+        let (relay, rest) = printed_partner(after_byte(rest, b' ')?)?;
+        Some((Step::Pass(relay), rest))
+    } else if let Some(rest) = after_four(text, b"chec") {
+        let rest = after_byte(rest, b'k')?;
+        Some((Step::Check, after_byte(rest, b'\n')?))
+    } else {
+        None
     }
 }
 
@@ -108,9 +105,12 @@ fn printed_observation(text: &[u8]) -> Option<(u32, bool, &[u8])>
 fn printed_truth(text: &[u8]) -> Option<(bool, &[u8])>
     ensures { IfSome result (λ found. text.now ≡ line_text (truth_word found.0 ∷ []) ++ found.1.now) }
 {
-    match text {
-        [b't', b'r', b'u', b'e', b'\n', rest @ ..] => Some((true, rest)),
-        [b'f', b'a', b'l', b's', b'e', b'\n', rest @ ..] => Some((false, rest)),
-        _ => None,
+    if let Some(rest) = after_four(text, b"true") {
+        Some((true, after_byte(rest, b'\n')?))
+    } else if let Some(rest) = after_four(text, b"fals") {
+        let rest = after_byte(rest, b'e')?;
+        Some((false, after_byte(rest, b'\n')?))
+    } else {
+        None
     }
 }
