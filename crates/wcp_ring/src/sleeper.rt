@@ -4,10 +4,13 @@ use std::marker::Model;
 use std::sync::atomic::AtomicBool;
 use std::sync::atomic::Ordering::SeqCst;
 use std::sync::{Arc, Wait};
-use std::thread;
+use std::{hint, thread};
 
-/// How often a thread that finds nothing gives way to others before it sleeps.
-const YIELDS: u32 = 2;
+/// The most looks of a thread that finds nothing before it gives way to others.
+const MOST_LOOKS: u32 = 128;
+
+/// After so many sleeps a thread tries anew whether looking on pays.
+const SLEEPS_A_TRY: u32 = 64;
 
 /// By this a thread waits for others: who takes while its rings are empty, and who puts while its ring is full. A bell
 /// of it wakes the thread. Clauses see nothing of it.
@@ -15,7 +18,12 @@ const YIELDS: u32 = 2;
 pub struct Sleeper {
     parker: Parker,
     asleep: Arc<AtomicBool, Global>,
+    /// How often in a row it found nothing.
     rests: u32,
+    /// How often it looks on before it gives way.
+    looks: u32,
+    /// How often it slept.
+    sleeps: u32,
     /// What it rings before it says that it sleeps.
     bell: Option<Bell>,
 }
@@ -35,6 +43,8 @@ impl Sleeper {
             parker: Parker::new(alloc)?,
             asleep: Arc::new(alloc, AtomicBool::new(false))?,
             rests: 0,
+            looks: 0,
+            sleeps: 0,
             bell: None,
         })
     }
@@ -45,6 +55,8 @@ impl Sleeper {
             parker: self.parker,
             asleep: self.asleep,
             rests: self.rests,
+            looks: self.looks,
+            sleeps: self.sleeps,
             bell: Some(bell),
         }
     }
@@ -58,28 +70,47 @@ impl Sleeper {
     }
 
     /// What it waited for came.
+    #[inline(always)]
     pub fn stir(&mut self) {
-        if self.rests >= YIELDS {
+        if self.rests > 0 {
+            self.stirred();
+        }
+    }
+
+    /// What it waited for came after a wait.
+    fn stirred(&mut self) {
+        if self.rests <= self.looks {
+            self.looks = MOST_LOOKS;
+        } else if self.rests - self.looks >= 2 {
             self.asleep.store(false, SeqCst);
         }
         self.rests = 0;
     }
 
-    /// What it waits for didn't come. It gives way to other threads some times, then says that it sleeps, and
-    /// sleeps at the next call: the thread looks at its rings between any two calls, so what came before the bells
-    /// knew is seen.
+    /// What it waits for didn't come. It looks on some times where that paid lately, gives way to other threads, then
+    /// says that it sleeps, and sleeps at the next call: the thread looks at its rings between any two calls, so what
+    /// came before the bells knew is seen.
     pub fn rest<R: Wait>(&mut self, rt: &R) {
-        if self.rests >= YIELDS {
-            self.parker.park(rt);
-            self.stir();
-            return;
+        match self.rests.saturating_sub(self.looks) {
+            0 if self.rests < self.looks => hint::spin_loop(),
+            0 => thread::yield_now(),
+            1 => self.fall_asleep(),
+            _ => return self.sleep(rt),
         }
-        self.rests += 1;
-        if self.rests == YIELDS {
-            self.fall_asleep();
+        self.rests = self.rests.saturating_add(1);
+    }
+
+    /// Sleeps.
+    fn sleep<R: Wait>(&mut self, rt: &R) {
+        self.parker.park(rt);
+        self.asleep.store(false, SeqCst);
+        self.rests = 0;
+        self.sleeps = self.sleeps.wrapping_add(1);
+        self.looks = if self.sleeps % SLEEPS_A_TRY == 0 {
+            MOST_LOOKS
         } else {
-            thread::yield_now();
-        }
+            self.looks / 2
+        };
     }
 
     /// Says that it sleeps, once the other thread was told of what this one put for it.

@@ -17,7 +17,7 @@ const ASLEEP: u64 = 30;
 const TIMES: u32 = 3;
 
 /// How many notes are put by a thread that sleeps after each.
-const NOTES: u32 = 2_000;
+const NOTES: u32 = 200;
 
 /// Puts so many notes once the taker is asleep, and then rings or not: whether the taker took them in time, each time.
 fn put_in_bursts<R: Clock>(
@@ -97,9 +97,10 @@ struct Partner {
 }
 
 impl Partner {
-    /// Puts each note, and then waits for the answer.
-    fn ask<R: Wait>(mut self, rt: &R, progress: &Progress) {
+    /// Puts each note once the other thread is asleep, and then waits for the answer.
+    fn ask<R: Wait + Clock>(mut self, rt: &R, progress: &Progress) {
         for number in 0..NOTES {
+            let _ = sleep(rt, Duration::from_millis(1));
             let put = self.putter.try_put(Note::Close { count: number });
             if put.is_err() || !take_asleep(rt, &mut self.taker, &mut self.sleeper, progress) {
                 return;

@@ -8,9 +8,6 @@ use std::time::{Clock, Duration, Instant};
 use wcp_clock::Note;
 use wcp_ring::{RingPutter, RingTaker, Sleeper, ring};
 
-/// The pause before a note is taken has from none to so many steps.
-const PAUSES: u32 = 2_048;
-
 /// For how many milliseconds notes are taken.
 const WHILE: u64 = 1_000;
 
@@ -28,7 +25,7 @@ fn take_for_a_while<R: Clock>(rt: &R, taker: &mut RingTaker, progress: &Progress
         if number % 16 == 0 && start.elapsed(rt).ok()? > Duration::from_millis(WHILE) {
             return Some(number);
         }
-        progress.pause(number % PAUSES);
+        progress.pause(number);
         taker.try_take()?;
     }
     None

@@ -8,8 +8,11 @@ use std::time::{Clock, Duration, Instant};
 use wcp_clock::Note;
 use wcp_ring::{RingPutter, RingTaker, Sleeper, ring};
 
-/// The pause before a note has from none to so many steps.
-const PAUSES: u32 = 2_048;
+/// The pause before a note has from none to so many steps, and each has so many more than the one before: a thread that
+/// looks on before it falls asleep takes as long as thousands.
+const PAUSES: u32 = 16_384;
+
+const LONGER: u32 = 37;
 
 /// How often a thread looks whether the other made its step before it gives its turn away.
 const LOOKS: u32 = 2_000;
@@ -70,9 +73,9 @@ impl Progress {
         false
     }
 
-    /// Lets so many short steps pass.
-    pub fn pause(&self, steps: u32) {
-        for _ in 0..steps {
+    /// Lets some short steps pass, another number for each of these notes.
+    pub fn pause(&self, number: u32) {
+        for _ in 0..number.wrapping_mul(LONGER) % PAUSES {
             let _ = self.steps.load(SeqCst);
         }
     }
@@ -89,7 +92,7 @@ fn put_for_a_while<R: Clock>(rt: &R, putter: &mut RingPutter, progress: &Progres
         if number % 16 == 0 && start.elapsed(rt).ok()? > Duration::from_millis(WHILE) {
             return Some(number);
         }
-        progress.pause(number % PAUSES);
+        progress.pause(number);
         putter.try_put(Note::Close { count: number }).ok()?;
     }
     None
