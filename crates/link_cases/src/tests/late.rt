@@ -37,7 +37,7 @@ fn put_in_bursts<R: Clock>(
         if tells {
             putter.tell();
         }
-        if !progress.reaches(time * notes) {
+        if !progress.reaches(time.wrapping_mul(notes)) {
             return false;
         }
     }
