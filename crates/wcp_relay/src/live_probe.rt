@@ -299,8 +299,8 @@ impl LiveProbe {
         unreachable!()
     }
 
-    /// Lets some time pass, while the ring is full: the relay wakes it once half of the room is free, and is told
-    /// before that the ring has notes. `Err` where the relay is gone.
+    /// Lets some time pass, while the ring is full: the relay is told of what was put, and wakes it once half of the
+    /// room is free. `Err` where the relay is gone.
     fn wait_for_room<R: Wait>(&mut self, rt: &R) -> Result<(), Gone>
         ensures core { self.new.core ≡ self.old.core }
         ensures ring { self.new.link.ring ≡ self.old.link.ring }

@@ -60,8 +60,8 @@ impl Outbox {
 impl Inbox {
     ghost use Rattle.wcp_worker.specs.Lanes.{IsInboxOf, IsSameInbox, HasTakenMore, clocks_from};
 
-    /// Waits for the next message. It doesn't wait for more than will come. A worker waits by its sleeper: the lane's own
-    /// wait would spin each time, which takes a processor from the workers that have something to do.
+    /// Waits for the next message. It doesn't wait for more than will come. A worker waits by its sleeper: the lane's
+    /// own wait would spin each time, which takes a processor from the workers that have something to do.
     pub(crate) fn take<R: Wait>(&mut self, rt: &R) -> Result<Stamped<()>, WorkerFault>
         ensures same { IsSameInbox self.old self.new }
         ensures taken { IfOk result (λ stamped. (q : ℕ) → IsInboxOf q self.old → clocks_from q self.new.taker.taken
