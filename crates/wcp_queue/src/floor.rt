@@ -82,7 +82,7 @@ impl Floor {
         ensures rises { Rises n p clock.now self.old self.new }
         ensures tests { self.new.tests + 1 ≡ self.old.tests + n }
     {
-        self.raise(n, p, clock);
+        self.raise(n as u32, p as u32, clock);
         self.tests += n as u64 - 1;
         self.components[p] = clock.get(p as u32);
         self.heads[p] = true;
@@ -90,30 +90,30 @@ impl Floor {
 
     /// Raises the floor at each of `n` processes but `p` to what a clock knows, and drops each head that precedes the
     /// clock's. These are the comparisons that are made, one a process.
-    fn raise(&mut self, n: usize, p: usize, clock: &Clock)
+    fn raise(&mut self, n: u32, p: u32, clock: &Clock)
         requires few { n ≤ most_processes }
         ensures rises { Rises n p clock.now self.old self.new }
         ensures tests { self.new.tests ≡ self.old.tests }
     {
         let mut risen = *self; // a copy, which no other memory can share
-        for q in 0..n {
-            if q != p {
-                risen.raise_at(q, clock.get(q as u32));
-            }
+        for q in 0..MAX_PROCS as u32 {
+            risen.raise_unless(q == p || q >= n, q, clock.get(q));
         }
         *self = risen;
     }
 
-    /// Raises the floor at process `q` to what is known of it, if that is greater, and drops its head
-    /// then.
-    fn raise_at(&mut self, q: usize, known: u32)
+    /// Raises the floor at process `q` to what is known of it, if that is greater, and drops its head then; or leaves
+    /// this place out. It writes in either case, so that a pass over all places needs no branch.
+    fn raise_unless(&mut self, left_out: bool, q: u32, known: u32)
         requires { q < most_processes }
-        ensures rises { RisesTo q known self.old self.new }
+        ensures rises { left_out ≡ false → RisesTo q known self.old self.new }
         ensures others { IsSameBut q self.old self.new }
         ensures tests { self.new.tests ≡ self.old.tests }
     {
+        let q = q as usize;
         let floor = self.components[q];
-        self.components[q] = floor.max(known);
-        self.heads[q] = self.heads[q] && known <= floor;
+        let risen = if left_out { floor } else { floor.max(known) };
+        self.components[q] = risen;
+        self.heads[q] = self.heads[q] && risen == floor;
     }
 }
