@@ -20,6 +20,7 @@ fn send_pending(rt: &impl Wait, job: &mut Job) {
     let Some(note) = job.core.pending() else {
         return;
     };
+    let note = *note;
     let _ = job.sender.send(rt, Item { from: job.id, note });
     job.core.was_put();
 }

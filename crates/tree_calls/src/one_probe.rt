@@ -24,7 +24,7 @@ fn flushed(probe: &mut LiveProbe, snapshots: u32) {
 fn put(core: &mut ProbeCore, producer: &mut Producer<Note>) {
     let _ = core.observe(true);
     if let Some(note) = core.pending()
-        && producer.push(note).is_ok()
+        && producer.push(*note).is_ok()
     {
         core.was_put();
     }

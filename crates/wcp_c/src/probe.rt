@@ -334,8 +334,8 @@ pub extern "C" fn wcp_probe_next(probe: &mut WcpProbe, note: &mut WcpNote) -> u3
     let Some(pending) = core.pending() else {
         return DONE;
     };
+    *note = WcpNote::new(probe.processes, probe.process, pending);
     core.was_put();
-    *note = WcpNote::new(probe.processes, probe.process, &pending);
     probe.pending = NOTHING;
     DONE_WITH_NOTE
 }

@@ -1,6 +1,5 @@
 ghost use Rattle.std.specs.Prelude.{◌≡◌, ◌+◌, ◌-◌, ◌++◌, ◌<◌, ◌≤◌, ◌↔◌, length, replicate, slice_index, slice_set};
-ghost use Rattle.std.specs.Prelude.{IsTrue};
-ghost use Rattle.std.specs.Prelude.{All, IsNone, IfSome, drop, map, nat_eq, take};
+ghost use Rattle.std.specs.Prelude.{IsTrue, All, drop, false, map, nat_eq, take};
 ghost use Rattle.std.specs.Cmp.{partial_equiv_from_equiv};
 ghost use Rattle.std.specs.Cmp.Lexicographic.{pointwise, nat_list_eq_equiv};
 ghost use Rattle.wcp_clock.specs.Limits.{most_processes};
@@ -83,19 +82,19 @@ impl Clock {
         self.components.get_or_zero(p)
     }
 
-    /// The clock after one more event of process `p`, of which there may be `limit`.
-    pub fn tick(&self, p: u32, limit: u32) -> Option<Clock>
-        requires { p < length self.now }
-        ensures limit { IsNone result ↔ (limit ≤ slice_index self.now p) }
-        ensures counted { IfSome result (λ c. c ≡ slice_set self.now p (slice_index self.now p + 1)) }
+    /// Counts one more event of process `p`, of which there may be `limit`. The answer is whether it was counted.
+    pub fn tick(&mut self, p: u32, limit: u32) -> bool
+        requires { p < length self.old }
+        ensures limit { IsTrue result ↔ (slice_index self.old p < limit) }
+        ensures counted { IsTrue result → self.new ≡ slice_set self.old p (slice_index self.old p + 1) }
+        ensures unchanged { result ≡ false → self.new ≡ self.old }
     {
-        let mut ticked = *self;
-        let component = &mut ticked.components.values[p as usize];
+        let component = &mut self.components.values[p as usize];
         if *component >= limit {
-            return None;
+            return false;
         }
         *component += 1;
-        Some(ticked)
+        true
     }
 
     /// What two clocks of the same processes know together: the greater component in each place.

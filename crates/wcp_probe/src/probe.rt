@@ -1,5 +1,6 @@
 ghost use Rattle.std.specs.Prelude.{◌≡◌, ℕ, ◌+◌, ◌<◌, ◌≤◌, ◌↔◌, [], List, length, replicate, slice_index, slice_set};
 ghost use Rattle.std.specs.Prelude.{IsTrue, IsSome, IfSome, IfOk, OnOk, OnErr, IfErr, MatchResult, Option, true, false};
+ghost use Rattle.std.specs.Prelude.{option_copied, is_some};
 ghost use Rattle.std.specs.Prelude.{if◌then◌else◌};
 ghost use Rattle.wcp_clock.specs.Limits.{most_processes, most_events};
 ghost use Rattle.wcp_clock.specs.declared.note.Note.TheVariants as note;
@@ -225,11 +226,11 @@ impl ProbeCore {
         if self.pending.is_some() {
             return Err((Refusal::Backlog, value));
         }
-        let Some(clock) = self.clock.tick(self.id, self.limit) else {
+        if !self.clock.tick(self.id, self.limit) {
             return Err((Refusal::ClockEnd, value));
-        };
-        self.clock = clock;
+        }
         self.flag_up = false;
+        let clock = self.clock;
         Ok(Stamped {
             watch: self.watch,
             from: self.id,
@@ -283,19 +284,20 @@ impl ProbeCore {
         if let Some(why) = self.why_not(clock, watch, to) {
             return Err(why);
         }
-        let Some(ticked) = self.clock.tick(self.id, self.limit) else {
+        if !self.clock.tick(self.id, self.limit) {
             return Err(Refusal::ClockEnd);
-        };
-        self.clock = ticked.merge(clock);
+        }
+        self.clock = self.clock.merge(clock);
         self.flag_up = self.flag.is_up_after_receive(self.flag_up);
         Ok(())
     }
 
     /// The note that was emitted last, until its link has taken it.
-    pub fn pending(&self) -> Option<Note>
-        ensures { result ≡ self.now.pending }
+    pub fn pending(&self) -> Option<&Note>
+        ensures value { option_copied result ≡ self.now.pending }
+        ensures variant { is_some result ≡ is_some self.now.pending }
     {
-        self.pending
+        self.pending.as_ref()
     }
 
     /// The link has taken the pending note.

@@ -1,4 +1,4 @@
-ghost use Rattle.std.specs.Prelude.{◌≡◌, ◌<◌, ℕ, true, [], length, All, IfErr, OnOk, OnErr, IfNone, IfSome, Err};
+ghost use Rattle.std.specs.Prelude.{◌≡◌, ◌<◌, ℕ, true, [], length, All, IfErr, OnOk, IfNone, Err};
 ghost use Rattle.wcp_relay.specs.Feeding.{fed, AreFromRings};
 ghost use Rattle.wcp_relay.specs.RelayWork.{IsLeafAtWork, AreSameFeeds, IsSameOutlet, HasMetGap, gap_met};
 ghost use Rattle.wcp_relay.specs.declared.take_fault.TakeFault.TheVariants as fault;

@@ -1,6 +1,6 @@
 ghost use Rattle.std.specs.Prelude.{◌≡◌, ◌≢◌, ◌+◌, ◌<◌, ◌≤◌, ◌↔◌, true, false, [], ◌∷◌};
 ghost use Rattle.std.specs.Prelude.{◌++◌, List, IsTrue, IsOk, IfOk, OnOk, OnErr, IfErr};
-ghost use Rattle.std.specs.Prelude.{IsErr, MatchResult, Option, IsSome, if◌then◌else◌};
+ghost use Rattle.std.specs.Prelude.{MatchResult, IsSome, if◌then◌else◌};
 ghost use Rattle.wcp_clock.specs.Limits.{most_processes};
 ghost use Rattle.wcp_clock.specs.declared.note.Note.TheVariants as note;
 ghost use Rattle.wcp_model.specs.ProbeLog.{Call, Observed, Sent, Received};
@@ -142,7 +142,7 @@ impl LiveProbe {
         let Some(note) = self.core.pending() else {
             return true;
         };
-        match self.putter.try_put(note) {
+        match self.putter.try_put(*note) {
             Ok(()) => {
                 self.core.was_put();
                 true

@@ -84,7 +84,7 @@ impl WorkloadProcess {
         let Some(note) = self.probe.pending() else {
             return Ok(());
         };
-        checker.take_note(self.id, &note)?;
+        checker.take_note(self.id, note)?;
         self.probe.was_put();
         Ok(())
     }

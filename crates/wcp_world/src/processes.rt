@@ -122,7 +122,7 @@ impl Processes {
     pub fn pending(&self, p: u32) -> Option<Note>
         ensures { result ≡ pending_at self.now p }
     {
-        self.probes.get(p as usize)?.pending()
+        self.probes.get(p as usize)?.pending().copied()
     }
 
     /// The link of process `p` has taken its pending note.

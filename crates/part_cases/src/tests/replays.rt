@@ -28,9 +28,8 @@ fn ticked(rt: &impl Abort, clock: Clock, p: u32, events: u32) -> Clock {
     let mut ticked = clock;
     for _ in 0..events {
         assert!(rt; p < ticked.len());
-        match ticked.tick(p, events) {
-            Some(next) => ticked = next,
-            None => panic!(rt; "the clock's end"),
+        if !ticked.tick(p, events) {
+            panic!(rt; "the clock's end");
         }
     }
     ticked

@@ -147,13 +147,16 @@ fn a_probe_emits_once_an_interval(rt: HostRuntime) -> Result<(), Fail> {
     assert_observed(&rt, &mut probe, true, Ok(true));
     assert_observed(&rt, &mut probe, true, Ok(false));
     let clock = probe.clock();
-    assert_eq!(rt; probe.pending(), Some(Note::Snap { number: 0, clock }));
+    assert_eq!(rt;
+        probe.pending().copied(),
+        Some(Note::Snap { number: 0, clock })
+    );
     let kept = String::from_str(rt.alloc(), "kept")?;
     let kept = unstamped(&rt, &mut probe, 1, kept, Refusal::Backlog);
     assert_eq!(rt; kept.as_str(), "kept");
     assert_closed(&rt, &mut probe, Err(Refusal::Backlog));
     put(&rt, &mut probe);
-    assert_eq!(rt; probe.pending(), None);
+    assert_eq!(rt; probe.pending().copied(), None);
     Ok(())
 }
 
@@ -163,7 +166,7 @@ fn a_probe_closes_once(rt: HostRuntime) {
     assert_observed(&rt, &mut probe, true, Ok(true));
     put(&rt, &mut probe);
     assert_closed(&rt, &mut probe, Ok(()));
-    assert_eq!(rt; probe.pending(), Some(Note::Close { count: 1 }));
+    assert_eq!(rt; probe.pending().copied(), Some(Note::Close { count: 1 }));
     assert_eq!(rt; (probe.closed(), probe.emitted()), (true, 1));
     assert_observed(&rt, &mut probe, true, Err(Refusal::Closed));
     assert_closed(&rt, &mut probe, Err(Refusal::Closed));

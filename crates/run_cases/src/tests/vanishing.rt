@@ -110,7 +110,7 @@ impl Play {
         twin.probe.observe(true);
         twin.probe.flush_in_watch(rt);
         let _ = twin.core.observe(true);
-        let Some(note) = twin.core.pending() else {
+        let Some(note) = twin.core.pending().copied() else {
             return Ok(());
         };
         twin.core.was_put();

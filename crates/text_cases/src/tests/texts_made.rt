@@ -133,9 +133,12 @@ fn lines_of_replies(rt: HostRuntime) -> Result<(), Fail> {
 
 /// The clock of process 1 of three after an event of process 2 and then one of its own.
 fn clock_of_three(rt: &impl Abort) -> Option<Clock> {
-    let sent = Clock::new(3).tick(2, 1)?;
-    assert_eq!(rt; sent.len(), 3);
-    sent.tick(1, 1)
+    let mut clock = Clock::new(3);
+    if !clock.tick(2, 1) {
+        return None;
+    }
+    assert_eq!(rt; clock.len(), 3);
+    clock.tick(1, 1).then_some(clock)
 }
 
 #[test]

@@ -21,4 +21,4 @@ returns-clause-answered c =
     let at = slice_get_read c.self.inside.probes.items _ c.args.p core c.self.inside.probes.ok.0 (c.in-Some.ensures.variant.0 refl) c.in-Some.ensures.value in
     rw (← c.self.view_is) (λ n watched flag c' put stands.
     let (none, count, after) = loses n watched flag c' put _ stands c.args.p core at c.lose.new.self (sym c.closed.ensures ∙ c.if-closed.false) c.lose.ensures in
-    (none, rw (c.saturating_sub-put.ensures, c.emitted.ensures, c.from-unput.ensures, c.is_some.ensures, c.pending.ensures, one_if_pending core.pending) count, after))
+    (none, rw (c.saturating_sub-put.ensures, c.emitted.ensures, c.from-unput.ensures, c.is_some.ensures, c.pending.ensures.variant, one_if_pending core.pending) count, after))
