@@ -1,5 +1,5 @@
 ghost use Rattle.std.specs.Prelude.{◌≡◌, ◌≢◌, ℕ, true, false, ◌*◌, ◌^◌, ◌<◌, ◌≤◌, [], List, length, count_by};
-ghost use Rattle.std.specs.Prelude.{◌↔◌, IfOk, IfErr, IfSome, IsNone, IsOk, IsSome, IsTrue, OnOk, OnErr};
+ghost use Rattle.std.specs.Prelude.{◌↔◌, IfOk, IfErr, IfSome, IsNone, IsOk, IsSome, IsTrue, OnOk, OnErr, unwrap_or};
 ghost use Rattle.std.specs.List.{list_all, list_any};
 ghost use Rattle.wcp_clock.specs.Limits.{most_processes};
 ghost use Rattle.wcp_clock.specs.declared.note.Item.{Item};
@@ -169,11 +169,11 @@ impl Checker {
         ensures needs_none { ¬ IsSearching self.old → IsOk result }
     {
         if let Some(row) = self.row_to_search(p as u32) {
-            let known = self.known(clock);
+            let restricted = self.restricted(clock);
             add_candidate(
                 &mut self.queues,
                 row as usize,
-                &known,
+                known(clock, &restricted),
                 &mut self.floor,
                 &mut self.found,
             )?;
@@ -199,14 +199,15 @@ impl Checker {
         }
     }
 
-    /// What a clock says of the watched processes.
-    fn known(&self, clock: &Clock) -> Clock
-        ensures { result ≡ known_of self.now.members clock.now }
+    /// What a clock says of the watched processes, where that isn't the clock itself.
+    #[inline(always)]
+    fn restricted(&self, clock: &Clock) -> Option<Clock>
+        ensures { unwrap_or result clock.now ≡ known_of self.now.members clock.now }
     {
         if self.watches_all() && clock.len() == self.processes {
-            *clock
+            None
         } else {
-            clock.restrict(&self.members)
+            Some(clock.restrict(&self.members))
         }
     }
 
@@ -306,6 +307,16 @@ impl Checker {
             → result ≡ list_any is_lost (notes_taken p items) }
     {
         self.lost[p as usize]
+    }
+}
+
+/// What a clock says of the watched processes: this, or where there is none the clock itself.
+fn known<'a>(clock: &'a Clock, restricted: &'a Option<Clock>) -> &'a Clock
+    ensures { result.now ≡ unwrap_or restricted.now clock.now }
+{
+    match restricted {
+        Some(known) => known,
+        None => clock,
     }
 }
 

@@ -46,8 +46,20 @@ pub fn add_candidate(
     if compare(queues, p, clock, floor) {
         eliminate(queues, floor);
     }
-    *found = floor.cut(n);
+    find_cut(floor, n, found);
     Ok(())
+}
+
+/// Finds the cut of the heads, if each of `n` processes has one.
+fn find_cut(floor: &Floor, n: usize, found: &mut Option<PerProcess<u32>>)
+    requires some { 0 < n }
+    requires few { n ≤ most_processes }
+    requires none { found.old ≡ None }
+    ensures { MatchOption found.new (HaveHeads n floor.now → ⊥) (IsCutOfHeads n floor.now) }
+{
+    if floor.have_heads(n) {
+        *found = Some(floor.cut(n));
+    }
 }
 
 /// Goes on until each process has a head or none of its snapshots waits.

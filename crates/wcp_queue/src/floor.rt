@@ -1,5 +1,5 @@
 ghost use Rattle.std.specs.Prelude.{◌≡◌, ◌↔◌, ◌+◌, ◌^◌, ◌<◌, ◌≤◌, ℕ, true, false, nat_lt, slice_index};
-ghost use Rattle.std.specs.Prelude.{IsTrue, MatchOption, if◌then◌else◌};
+ghost use Rattle.std.specs.Prelude.{IsTrue, if◌then◌else◌};
 ghost use Rattle.wcp_clock.specs.Limits.{most_processes};
 ghost use Rattle.wcp_queue.specs.Floor.{component, has_head, first_floor, HaveHeads, IsCutOfHeads, IsSameBut};
 ghost use Rattle.wcp_queue.specs.Floor.{Rises, RisesTo};
@@ -42,18 +42,27 @@ impl Floor {
         self.tests
     }
 
-    /// The intervals of the heads, if each of `n` processes has one.
-    pub fn cut(&self, n: usize) -> Option<PerProcess<u32>>
-        requires some { 0 < n }
-        requires few { n ≤ most_processes }
-        ensures { MatchOption result (HaveHeads n self.now → ⊥) (IsCutOfHeads n self.now) }
+    /// Whether each of `n` processes has a head.
+    pub fn have_heads(&self, n: usize) -> bool
+        requires { n ≤ most_processes }
+        ensures { IsTrue result ↔ HaveHeads n self.now }
     {
         for p in 0..n {
             if !self.heads[p] {
-                return None;
+                return false;
             }
         }
-        Some(PerProcess::new(&self.components[..n]))
+        true
+    }
+
+    /// The intervals of the heads, of which each of `n` processes has one.
+    pub fn cut(&self, n: usize) -> PerProcess<u32>
+        requires some { 0 < n }
+        requires few { n ≤ most_processes }
+        requires heads { HaveHeads n self.now }
+        ensures { IsCutOfHeads n self.now result }
+    {
+        PerProcess::new(&self.components[..n])
     }
 
     /// Whether a snapshot of `p`, one of `n` processes, with this component of its own lies under the
@@ -82,37 +91,37 @@ impl Floor {
         ensures rises { Rises n p clock.now self.old self.new }
         ensures tests { self.new.tests + 1 ≡ self.old.tests + n }
     {
-        self.raise(n as u32, p as u32, clock);
+        self.raise(p as u32, clock);
         self.tests += n as u64 - 1;
         self.components[p] = clock.get(p as u32);
         self.heads[p] = true;
     }
 
-    /// Raises the floor at each of `n` processes but `p` to what a clock knows, and drops each head that precedes the
-    /// clock's. These are the comparisons that are made, one a process.
-    fn raise(&mut self, n: u32, p: u32, clock: &Clock)
-        requires few { n ≤ most_processes }
-        ensures rises { Rises n p clock.now self.old self.new }
+    /// Raises the floor at each process but `p` to what a clock knows, and drops each head that precedes the clock's.
+    /// These are the comparisons that are made, one for each other component of the clock.
+    fn raise(&mut self, p: u32, clock: &Clock)
+        ensures rises { Rises most_processes p clock.now self.old self.new }
         ensures tests { self.new.tests ≡ self.old.tests }
     {
         let mut risen = *self; // a copy, which no other memory can share
         for q in 0..MAX_PROCS as u32 {
-            risen.raise_unless(q == p || q >= n, q, clock.get(q));
+            let known = clock.get(q);
+            risen.raise_to(q, if q == p { 0 } else { known });
         }
         *self = risen;
     }
 
-    /// Raises the floor at process `q` to what is known of it, if that is greater, and drops its head then; or leaves
-    /// this place out. It writes in either case, so that a pass over all places needs no branch.
-    fn raise_unless(&mut self, left_out: bool, q: u32, known: u32)
+    /// Raises the floor at process `q` to what is known of it, if that is greater, and drops its head then. It writes
+    /// in either case, so that a pass over all places needs no branch.
+    fn raise_to(&mut self, q: u32, known: u32)
         requires { q < most_processes }
-        ensures rises { left_out ≡ false → RisesTo q known self.old self.new }
+        ensures rises { RisesTo q known self.old self.new }
         ensures others { IsSameBut q self.old self.new }
         ensures tests { self.new.tests ≡ self.old.tests }
     {
         let q = q as usize;
         let floor = self.components[q];
-        let risen = if left_out { floor } else { floor.max(known) };
+        let risen = floor.max(known);
         self.components[q] = risen;
         self.heads[q] = self.heads[q] && risen == floor;
     }

@@ -32,4 +32,4 @@ returns-clause-left c = λ rows longer gain left.
     ]
 
 pub returns-clause-cut : goal.returns-clause-cut
-returns-clause-cut c = rw (sym c.len-n.ensures) c.cut.ensures
+returns-clause-cut c = rw (sym c.len-n.ensures) c.find_cut.ensures

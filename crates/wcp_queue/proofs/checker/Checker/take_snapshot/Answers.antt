@@ -1,4 +1,4 @@
-use Rattle.wcp_queue.proofs.Words.{◌<◌, length, refl, arith, checker_state}
+use Rattle.wcp_queue.proofs.Words.{◌<◌, ◌∙◌, length, refl, arith, checker_state}
 use Rattle.std.proofs.lemmas.Option.{MatchOption-at_none}
 use Rattle.wcp_queue.proofs.SoundCheckers.{room_for_tests, intervals_of_heads, IsSoundChecker-snapshot}
 use Rattle.wcp_queue.proofs.StandingForItems.{StandsForItems-snapshot, StandsForItems-counted}
@@ -42,7 +42,7 @@ returns-clause-taken c =
           let added = w.in_ok-add_candidate.ensures in
           let row_is = rw (← c.self.view_is) at w.in-Some.ensures.row in
           let row_within = rw (← c.self.view_is) at w.in-Some.ensures.within in
-          let known = rw (rw (← c.self.view_is) at w.known-known.ensures) at added.left in
+          let known = rw (w.known.ensures ∙ rw (← c.self.view_is) at w.restricted-restricted.ensures) at added.left in
           rw (w.self-inside-is, ← c.self.view_is) (record {
             stands = λ list stands. StandsForItems-snapshot old _ sound list c.args.p c.args.clock.now stands within
                 still_open not_lost counted refl refl refl added.rows refl refl refl

@@ -1,7 +1,7 @@
 use Rattle.wcp_queue.proofs.Words.{sym, ◌∙◌, arith, checker_state}
 use Rattle.wcp_queue.proofs.SoundCheckers.{members_few}
 use Rattle.wcp_queue.proofs.WatchedRows.{known_of_all}
-use Rattle.wcp_queue.proofs.checker.Checker.known.Goals as goal
+use Rattle.wcp_queue.proofs.checker.Checker.restricted.Goals as goal
 
 pub restrict-requires : goal.restrict-requires
 restrict-requires c = members_few (checker_state c.self.inside) c.self.invariant
