@@ -43,7 +43,8 @@ steps_by text_kind n last earlier (line ∷ lines) = do
   Ok (step ∷ steps)
 
 -- These steps, and behind them those of lines after a head with this last line.
-unfoldable pub steps_behind : {S : Type 0} → TextKind S → ℕ → ℕ → List S → List TextLine → Result (List S) ScriptFault
+unfoldable pub steps_behind : {S : Type 0} → TextKind S → ℕ → ℕ → List S → List TextLine
+    → Result (List S) ScriptFault
 steps_behind text_kind n last front lines = do
   steps ← steps_by text_kind n last (length front) lines
   Ok (front ++ steps)
