@@ -59,10 +59,10 @@ module _ {plan : Plan} {tasks : List Task} {ends : Ends WorkerEnd} (run : AreEnd
     here : (p : ℕ) → p < plan.n → HasPlayedAt run.ended.workers left p
     here p below = played_at run.ended.workers left p (omega (arith, workers_count))
 
-    of_process : (p : ℕ) (below : p < plan.n) → IsEndOfProcess run.are.watch plan.n plan.watched plan.flag p (here p below).worker.probe (here p below).probe
+    of_process : (p : ℕ) (below : p < plan.n) → IsEndOfProcess run.are.watch plan.n plan.watched plan.flag p (here p below).worker.player.probe (here p below).probe
     of_process p below =
         let one = here p below in
-        end_of_process run.are.wired p one.worker.probe one.probe (run.are.workers.each p one.worker one.worker_at).probe one.has.closed
+        end_of_process run.are.wired p one.worker.player.probe one.probe (run.are.workers.each p one.worker one.worker_at).probe one.has.closed
 
     pub come : ComeFromWatch played.probes.items ends.relays.items ends.checker
     come = come_from_parts run.are.wired run.checked

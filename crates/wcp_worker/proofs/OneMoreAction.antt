@@ -53,7 +53,7 @@ done_more start old new actions log act call done by same =
 
 -- a player that has done all its worker's actions, and then closed its probe and taken more, has played them
 pub all_played : (worker : Worker) (now : Player) (log : List Call) (probe : ClosedSide) (mailbox : Mailbox)
-    → HasDoneActions (record { probe = worker.probe; mailbox = worker.mailbox }) worker.actions.items log now
+    → HasDoneActions worker.player worker.actions.items log now
     → IsEndOfProbe now.probe probe → HasEmitted now.probe log probe
     → mailbox.outboxes ≡ now.mailbox.outboxes
     → ((q : ℕ) → IfBoth (HasTakenMore q) (inbox_from now.mailbox q) (inbox_from mailbox q))
@@ -68,9 +68,9 @@ all_played worker now log probe mailbox done end emitted outboxes more =
       closed = record { watch = end.watch ∙ same.0.watch; id = end.id ∙ id; ring = end.ring ∙ same.1 };
       emitted = emitted ∙ ap (λ s. (state_of_log s (log ++ Closed ∷ [])).notes) made;
       lanes = record {
-        outboxes = subst (λ o. (q : ℕ) → IfBoth IsSameOutbox (outbox_to worker.mailbox q) (outbox_to (record now.mailbox { outboxes = o }) q)) (sym outboxes) done.lanes.outboxes;
+        outboxes = subst (λ o. (q : ℕ) → IfBoth IsSameOutbox (outbox_to worker.player.mailbox q) (outbox_to (record now.mailbox { outboxes = o }) q)) (sym outboxes) done.lanes.outboxes;
         inboxes = λ q. both_then IsSameInbox (λ x y z one two. (two.0 ∙ one.0, two.1 ∙ one.1))
-            (inbox_from worker.mailbox q) (inbox_from now.mailbox q) (inbox_from mailbox q) (done.lanes.inboxes q)
+            (inbox_from worker.player.mailbox q) (inbox_from now.mailbox q) (inbox_from mailbox q) (done.lanes.inboxes q)
             (entry_same q (inbox_from now.mailbox q) (inbox_from mailbox q) (more q));
       };
       sent = λ q.

@@ -26,7 +26,7 @@ module _
     (same : (j : ℕ) (d : Worker) → j < length olds → IsSameButInboxes (get_or olds j d) (get_or news j d))
     (inboxes : Vec (Option Inbox) Global) where
   now : Worker
-  now = record was { mailbox = record was.mailbox { inboxes = inboxes } }
+  now = record was { player = record was.player { mailbox = record was.player.mailbox { inboxes = inboxes } } }
 
   same_here : (j : ℕ) (d : Worker) → j < length olds → j ≡ q → IsSameButInboxes (get_or olds j d) now
   unfolding now
@@ -34,30 +34,30 @@ module _
       let kept = subst (IsSameButInboxes (get_or olds j d)) (is_entry news q j was d within at is) (same j d below) in
       record { probe = kept.probe; actions = kept.actions; outboxes = kept.outboxes }
 
-  pub same_more : (j : ℕ) (d : Worker) → j < length olds → IsSameButInboxes (get_or olds j d) (get_or (set news q (record was { mailbox = record was.mailbox { inboxes = inboxes } })) j d)
+  pub same_more : (j : ℕ) (d : Worker) → j < length olds → IsSameButInboxes (get_or olds j d) (get_or (set news q (record was { player = record was.player { mailbox = record was.player.mailbox { inboxes = inboxes } } })) j d)
   unfolding now
   same_more j d below = written (IsSameButInboxes (get_or olds j d)) news q j now d within (same_here j d below) (λ apart. same j d below)
 
   module _
-      (rest : (j : ℕ) (d : Worker) → q ≤ j → j < length olds → (get_or news j d).mailbox.inboxes.items ≡ (get_or olds j d).mailbox.inboxes.items) where
+      (rest : (j : ℕ) (d : Worker) → q ≤ j → j < length olds → (get_or news j d).player.mailbox.inboxes.items ≡ (get_or olds j d).player.mailbox.inboxes.items) where
     pub rest_more : (j : ℕ) (d : Worker) → q + 1 ≤ j → j < length olds
-        → (get_or (set news q (record was { mailbox = record was.mailbox { inboxes = inboxes } })) j d).mailbox.inboxes.items ≡ (get_or olds j d).mailbox.inboxes.items
+        → (get_or (set news q (record was { player = record was.player { mailbox = record was.player.mailbox { inboxes = inboxes } } })) j d).player.mailbox.inboxes.items ≡ (get_or olds j d).player.mailbox.inboxes.items
     rest_more j d past below =
-        written (λ (w : Worker). w.mailbox.inboxes.items ≡ (get_or olds j d).mailbox.inboxes.items) news q j _ d within
+        written (λ (w : Worker). w.player.mailbox.inboxes.items ≡ (get_or olds j d).player.mailbox.inboxes.items) news q j _ d within
         (λ is. absurd (omega arith)) (λ apart. rest j d (omega arith) below)
 
     pub given_more : (p : ℕ) (actions : List Action) (row : List (Option Outbox)) (outbox : Option Outbox) (inbox : Option Inbox)
         → ((j : ℕ) (d : Worker) → j < q → HasRow p actions row j (get_or olds j d) (get_or news j d))
-        → length row ≡ q → inboxes.items ≡ was.mailbox.inboxes.items ++ inbox ∷ []
+        → length row ≡ q → inboxes.items ≡ was.player.mailbox.inboxes.items ++ inbox ∷ []
         → IsLaneFor p (count_by (is_send_to q) actions) outbox inbox → (j : ℕ) (d : Worker) → j < q + 1
-        → HasRow p actions (row ++ outbox ∷ []) j (get_or olds j d) (get_or (set news q (record was { mailbox = record was.mailbox { inboxes = inboxes } })) j d)
+        → HasRow p actions (row ++ outbox ∷ []) j (get_or olds j d) (get_or (set news q (record was { player = record was.player { mailbox = record was.player.mailbox { inboxes = inboxes } } })) j d)
     unfolding now
     given_more p actions row outbox inbox given full pushed lane j d below =
         written (HasRow p actions (row ++ outbox ∷ []) j (get_or olds j d)) news q j now d within
         (λ is. record {
           same = same_here j d (omega arith) is;
           inbox = inbox;
-          inboxes = pushed ∙ ap (λ xs. xs ++ inbox ∷ []) (ap (λ (w : Worker). w.mailbox.inboxes.items) (sym (is_entry news q j was d within at is)) ∙ rest j d (omega arith) (omega arith));
+          inboxes = pushed ∙ ap (λ xs. xs ++ inbox ∷ []) (ap (λ (w : Worker). w.player.mailbox.inboxes.items) (sym (is_entry news q j was d within at is)) ∙ rest j d (omega arith) (omega arith));
           lane = lane_along p (ap (λ to. count_by (is_send_to to) actions) (sym is)) (sym (get_or_push row outbox None j (full ∙ sym is))) (λ i. inbox) lane;
         })
         (λ apart.
@@ -76,7 +76,7 @@ module _
     (each : (q : ℕ) (d : Worker) → q < length news → HasRow k (get_or news k d).actions.items row.items q (get_or news q d) (get_or mid q d))
     (within : k < length mid) (at : was ≡ get_or mid k was) where
   abbrev seated : Worker
-  seated = record was { mailbox = record was.mailbox { outboxes = row } }
+  seated = record was { player = record was.player { mailbox = record was.player.mailbox { outboxes = row } } }
 
   abbrev nexts : List Worker
   nexts = set mid k seated
@@ -88,16 +88,16 @@ module _
       (λ is. same ∙ ap f (sym (is_entry mid k q was d within at is))) (λ apart i. f (get_or mid q d))
 
   inboxes_more : (q : ℕ) (d : Worker) (below : q < length news)
-      → (get_or nexts q d).mailbox.inboxes.items ≡ (get_or news q d).mailbox.inboxes.items ++ (each q d below).inbox ∷ []
-  inboxes_more q d below = kept (λ w. w.mailbox.inboxes.items) (λ i. was.mailbox.inboxes.items) q d ∙ (each q d below).inboxes
+      → (get_or nexts q d).player.mailbox.inboxes.items ≡ (get_or news q d).player.mailbox.inboxes.items ++ (each q d below).inbox ∷ []
+  inboxes_more q d below = kept (λ w. w.player.mailbox.inboxes.items) (λ i. was.player.mailbox.inboxes.items) q d ∙ (each q d below).inboxes
 
   actions_more : (q : ℕ) (d : Worker) → q < length news → (get_or nexts q d).actions ≡ (get_or news q d).actions
   actions_more q d below = kept (λ w. w.actions) (λ i. was.actions) q d ∙ (each q d below).same.actions
 
   lane_old : (p q : ℕ) (d : Worker) → p < k → q < length news
-      → IsLaneFor p (count_by (is_send_to q) (get_or nexts p d).actions.items) (outbox_to (get_or nexts p d).mailbox q) (inbox_from (get_or nexts q d).mailbox p)
+      → IsLaneFor p (count_by (is_send_to q) (get_or nexts p d).actions.items) (outbox_to (get_or nexts p d).player.mailbox q) (inbox_from (get_or nexts q d).player.mailbox p)
   lane_old p q d before below =
-      let outboxes = written (λ (w : Worker). w.mailbox.outboxes ≡ (get_or mid p d).mailbox.outboxes) mid k p seated d within (λ is. absurd (omega arith)) (λ apart i. (get_or mid p d).mailbox.outboxes) in
+      let outboxes = written (λ (w : Worker). w.player.mailbox.outboxes ≡ (get_or mid p d).player.mailbox.outboxes) mid k p seated d within (λ is. absurd (omega arith)) (λ apart i. (get_or mid p d).player.mailbox.outboxes) in
       lane_along p
       (ap (λ a. count_by (is_send_to q) a.items) (sym (actions_more p d (omega (arith, have.count)))))
       (ap (λ o. get_or o.items q None) (sym (outboxes ∙ (each p d (omega (arith, have.count))).same.outboxes)))
@@ -105,11 +105,11 @@ module _
       (have.lanes p q d before (omega (arith, have.count)))
 
   lane_new : (q : ℕ) (d : Worker) → q < length news
-      → IsLaneFor k (count_by (is_send_to q) (get_or nexts k d).actions.items) (outbox_to (get_or nexts k d).mailbox q) (inbox_from (get_or nexts q d).mailbox k)
+      → IsLaneFor k (count_by (is_send_to q) (get_or nexts k d).actions.items) (outbox_to (get_or nexts k d).player.mailbox q) (inbox_from (get_or nexts q d).player.mailbox k)
   lane_new q d below =
       lane_along k
       (ap (λ a. count_by (is_send_to q) a.items) (sym (actions_more k d (omega arith))))
-      (sym (ap (λ (w : Worker). get_or w.mailbox.outboxes.items q None) (get_or-set_same mid k seated d within)))
+      (sym (ap (λ (w : Worker). get_or w.player.mailbox.outboxes.items q None) (get_or-set_same mid k seated d within)))
       (sym (ap (λ xs. get_or xs k None) (inboxes_more q d below) ∙ get_or_push _ _ None k (have.columns q d (omega (arith, have.count)))))
       (each q d below).lane
 
@@ -117,7 +117,7 @@ module _
   lanes_more =
       record {
         count = length-set mid k seated ∙ count ∙ have.count;
-        probe = λ q d below. kept (λ w. w.probe) (λ i. was.probe) q d ∙ (each q d (omega (arith, have.count))).same.probe ∙ have.probe q d below;
+        probe = λ q d below. kept (λ w. w.player.probe) (λ i. was.player.probe) q d ∙ (each q d (omega (arith, have.count))).same.probe ∙ have.probe q d below;
         actions = λ q d below. actions_more q d (omega (arith, have.count)) ∙ have.actions q d below;
         rows = λ q d before.
             grind (arith, common_steps, before, within, full, have.count, (λ (apart : q < k). (each q d (omega (arith, apart, within, count))).same.outboxes), have.rows q d, get_or-set_same mid k seated d within, get_or-set_other mid k q seated d, cases_eq q k);
@@ -126,7 +126,7 @@ module _
         lanes = λ p q d before below.
             let here : (p ≡ k) ⊎ (p < k) = grind arith in
             ⊎_elim
-            (λ (is : p ≡ k). subst (λ (r : ℕ). IsLaneFor r (count_by (is_send_to q) (get_or nexts r d).actions.items) (outbox_to (get_or nexts r d).mailbox q) (inbox_from (get_or nexts q d).mailbox r)) (sym is) (lane_new q d (omega (arith, have.count))))
+            (λ (is : p ≡ k). subst (λ (r : ℕ). IsLaneFor r (count_by (is_send_to q) (get_or nexts r d).actions.items) (outbox_to (get_or nexts r d).player.mailbox q) (inbox_from (get_or nexts q d).player.mailbox r)) (sym is) (lane_new q d (omega (arith, have.count))))
             (λ (earlier : p < k). lane_old p q d earlier (omega (arith, have.count)))
             here;
       }

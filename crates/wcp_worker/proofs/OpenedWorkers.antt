@@ -69,47 +69,47 @@ few_given tasks idle given p d none below has =
 
 module _
     (n : ℕ) (watched : NumberSet) (flag : Flag) (tasks : List Task) (probes : List LiveSide) (idle given opened : List Worker)
-    (fresh : AreFreshProbes n watched flag probes) (made : map (λ (w : Worker). w.probe) idle ≡ probes) (none : All IsIdle idle)
+    (fresh : AreFreshProbes n watched flag probes) (made : map (λ (w : Worker). w.player.probe) idle ≡ probes) (none : All IsIdle idle)
     (count : length given ≡ length idle)
     (tasked : (p : ℕ) (d : Worker) → p < length idle → HasTasks p tasks (get_or idle p d) (get_or given p d))
     (have : HaveLanes (length given) given opened) where
   -- the end by which worker p sends to q, and that by which the messages of q come to p
-  outbox_at : (p q : ℕ) (d : Worker) → p < length given → IfSome (outbox_to (get_or opened p d).mailbox q) (IsNewOutbox p)
+  outbox_at : (p q : ℕ) (d : Worker) → p < length given → IfSome (outbox_to (get_or opened p d).player.mailbox q) (IsNewOutbox p)
   outbox_at p q d below =
-      grind (arith, common_steps, (λ (within : q < length given). new_outbox p _ _ _ (have.lanes p q d below within)), have.rows p d below, get_or_past (get_or opened p d).mailbox.outboxes.items q None)
+      grind (arith, common_steps, (λ (within : q < length given). new_outbox p _ _ _ (have.lanes p q d below within)), have.rows p d below, get_or_past (get_or opened p d).player.mailbox.outboxes.items q None)
 
-  inbox_at : (p q : ℕ) (d : Worker) → p < length given → IfSome (inbox_from (get_or opened p d).mailbox q) (IsNewInbox q)
+  inbox_at : (p q : ℕ) (d : Worker) → p < length given → IfSome (inbox_from (get_or opened p d).player.mailbox q) (IsNewInbox q)
   inbox_at p q d below =
-      grind (arith, common_steps, (λ (within : q < length given). new_inbox q _ _ _ (have.lanes q p d within below)), have.columns p d below, get_or_past (get_or opened p d).mailbox.inboxes.items q None)
+      grind (arith, common_steps, (λ (within : q < length given). new_inbox q _ _ _ (have.lanes q p d within below)), have.columns p d below, get_or_past (get_or opened p d).player.mailbox.inboxes.items q None)
 
   pub workers_opened : AreWorkersOf tasks probes opened
   workers_opened =
       record {
-        count = have.count ∙ count ∙ sym (length-map idle (λ w. w.probe)) ∙ ap length made;
+        count = have.count ∙ count ∙ sym (length-map idle (λ w. w.player.probe)) ∙ ap length made;
         each = λ p worker at.
             let within : p < length given = omega (arith, slice_get_within opened p worker at, have.count) in
             let below : p < length idle = omega (arith, within, count) in
             let is : get_or opened p worker ≡ worker = get_or_from_slice_get opened p worker worker at in
-            let probe = ap (λ (w : Worker). w.probe) (sym is) ∙ have.probe p worker within ∙ (tasked p worker below).probe in
-            let there : slice_get probes p ≡ Some worker.probe =
-            ap (λ ps. slice_get ps p) (sym made) ∙ mapped_at (λ (w : Worker). w.probe) idle p _ (slice_get-get_or idle p worker below) ∙ ap (λ s. Some s) (sym probe) in
-            let new = fresh.each p worker.probe there in
+            let probe = ap (λ (w : Worker). w.player.probe) (sym is) ∙ have.probe p worker within ∙ ap (λ (player : Player). player.probe) (tasked p worker below).player in
+            let there : slice_get probes p ≡ Some worker.player.probe =
+            ap (λ ps. slice_get ps p) (sym made) ∙ mapped_at (λ (w : Worker). w.player.probe) idle p _ (slice_get-get_or idle p worker below) ∙ ap (λ s. Some s) (sym probe) in
+            let new = fresh.each p worker.player.probe there in
             record {
               probe = there;
               actions = ap (λ (w : Worker). w.actions.items) (sym is) ∙ ap (λ a. a.items) (have.actions p worker within)
                   ∙ actions_given tasks idle given p worker none below (tasked p worker below);
-              fresh = fresh_player p (record { probe = worker.probe; mailbox = worker.mailbox }) (ap (λ (core : Core). core.id) new.0)
-                  (fresh_stands worker.probe.core.watch (setup n watched flag p) worker.probe new.0 new.1)
-                  (λ q. subst (λ (w : Worker). IfSome (outbox_to w.mailbox q) (IsNewOutbox p)) is (outbox_at p q worker within))
-                  (λ q. subst (λ (w : Worker). IfSome (inbox_from w.mailbox q) (IsNewInbox q)) is (inbox_at p q worker within));
+              fresh = fresh_player p worker.player (ap (λ (core : Core). core.id) new.0)
+                  (fresh_stands worker.player.probe.core.watch (setup n watched flag p) worker.player.probe new.0 new.1)
+                  (λ q. subst (λ (w : Worker). IfSome (outbox_to w.player.mailbox q) (IsNewOutbox p)) is (outbox_at p q worker within))
+                  (λ q. subst (λ (w : Worker). IfSome (inbox_from w.player.mailbox q) (IsNewInbox q)) is (inbox_at p q worker within));
             };
         lanes = λ p q from to at other.
             let sends : get_or opened p from ≡ from = get_or_from_slice_get opened p from from at in
             let gets : get_or opened q from ≡ to = get_or_from_slice_get opened q to from other in
             lane_along p
             (ap (λ (w : Worker). count_by (is_send_to q) w.actions.items) sends)
-            (ap (λ (w : Worker). outbox_to w.mailbox q) sends)
-            (ap (λ (w : Worker). inbox_from w.mailbox p) gets)
+            (ap (λ (w : Worker). outbox_to w.player.mailbox q) sends)
+            (ap (λ (w : Worker). inbox_from w.player.mailbox p) gets)
             (have.lanes p q from
             (omega (arith, slice_get_within opened p from at, have.count))
             (omega (arith, slice_get_within opened q to other, have.count)));

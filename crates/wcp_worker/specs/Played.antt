@@ -47,14 +47,14 @@ IsFreshPlayer player = HasDoneActions player [] [] player
 -- that came from there.
 pub record HasPlayed (worker : Worker) (log : List Call) (probe : ClosedSide) (mailbox : Mailbox) : Type 0 where
   pub follows : FollowsActions worker.actions.items log
-  pub closed : IsEndOfProbe worker.probe probe
-  pub emitted : HasEmitted worker.probe log probe
-  pub lanes : HasSameLanes worker.mailbox mailbox
-  pub sent : (q : ℕ) → clocks_sent_to worker.probe.core.id mailbox q
-      ≡ stamps_sent (setup_of worker.probe.core) q worker.actions.items log
+  pub closed : IsEndOfProbe worker.player.probe probe
+  pub emitted : HasEmitted worker.player.probe log probe
+  pub lanes : HasSameLanes worker.player.mailbox mailbox
+  pub sent : (q : ℕ) → clocks_sent_to worker.player.probe.core.id mailbox q
+      ≡ stamps_sent (setup_of worker.player.probe.core) q worker.actions.items log
   pub taken : (q : ℕ) → IsPrefix (stamps_got q worker.actions.items log) (clocks_taken_from mailbox q)
 
 -- What a worker leaves: all that its actions stand for, or, where it gave up, its closed probe alone.
 abbrev pub IsEndOfWorker : Worker → WorkerEnd → Type 0
 IsEndOfWorker worker (Whole probe mailbox) = (log : List Call) × HasPlayed worker log probe mailbox
-IsEndOfWorker worker (GaveUp fault probe) = IfSome probe (IsEndOfProbe worker.probe) × IsSome probe
+IsEndOfWorker worker (GaveUp fault probe) = IfSome probe (IsEndOfProbe worker.player.probe) × IsSome probe

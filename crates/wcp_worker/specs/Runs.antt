@@ -24,7 +24,7 @@ pub record HasRun (n : ℕ) (watched : NumberSet) (flag : Flag) (tasks : List Ta
     (log : List Call) (mailbox : Mailbox) : Type 0 where
   pub worker : Worker
   pub probe : ClosedSide
-  pub made : setup_of worker.probe.core ≡ setup n watched flag p
+  pub made : setup_of worker.player.probe.core ≡ setup n watched flag p
   pub actions : worker.actions.items ≡ actions_of p tasks
   pub played : HasPlayed worker log probe mailbox
   pub taken : notes_taken p items ≡ probe.link.put

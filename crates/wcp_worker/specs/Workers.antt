@@ -11,13 +11,14 @@ use Rattle.wcp_worker.specs.Played.{IsFreshPlayer}
 
 -- The worker of process p has its probe, and what the tasks say that it does; it has done nothing.
 pub record IsWorkerOf (tasks : List Task) (probes : List LiveSide) (p : ℕ) (worker : Worker) : Type 0 where
-  pub probe : slice_get probes p ≡ Some worker.probe
+  pub probe : slice_get probes p ≡ Some worker.player.probe
   pub actions : worker.actions.items ≡ actions_of p tasks
-  pub fresh : IsFreshPlayer (record { probe = worker.probe; mailbox = worker.mailbox })
+  pub fresh : IsFreshPlayer worker.player
 
 -- A worker for each process, and between each two a lane for what the one sends to the other.
 pub record AreWorkersOf (tasks : List Task) (probes : List LiveSide) (workers : List Worker) : Type 0 where
   pub count : length workers ≡ length probes
   pub each : (p : ℕ) (worker : Worker) → slice_get workers p ≡ Some worker → IsWorkerOf tasks probes p worker
   pub lanes : (p q : ℕ) (from to : Worker) → slice_get workers p ≡ Some from → slice_get workers q ≡ Some to
-      → IsLaneFor p (count_by (is_send_to q) from.actions.items) (outbox_to from.mailbox q) (inbox_from to.mailbox p)
+      → IsLaneFor p (count_by (is_send_to q) from.actions.items)
+      (outbox_to from.player.mailbox q) (inbox_from to.player.mailbox p)

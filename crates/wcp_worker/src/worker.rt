@@ -9,12 +9,11 @@ use std::sync::Wait;
 use wcp_model::Action;
 use wcp_relay::LiveProbe;
 
-/// Plays a process of a workload in a thread of its own: it has the process's probe, the lanes to its partners, and
-/// what the process does, in order.
+/// Plays a process of a workload in a thread of its own: it has the process's player, and what the process does, in
+/// order.
 #[derive(Drop)]
 pub struct Worker {
-    pub(crate) probe: LiveProbe,
-    pub(crate) mailbox: Mailbox,
+    pub(crate) player: Player,
     pub(crate) actions: Vec<Action>,
 }
 
@@ -26,15 +25,13 @@ impl Worker {
     /// while its ring is full. Where it gives up, it drops its ends of the lanes, so that its partners meet
     /// a cut, and closes its probe.
     pub fn run<R: Wait, G: Gate>(self, rt: &R, gate: &G) -> WorkerEnd
-        requires { IsFreshPlayer (record { probe = self.probe; mailbox = self.mailbox }) }
+        requires { IsFreshPlayer self.player }
         ensures { IsEndOfWorker self result }
     {
         let Worker {
-            probe,
-            mailbox,
+            mut player,
             actions,
         } = self;
-        let mut player = Player { probe, mailbox };
         let played = player.play(rt, gate, &actions);
         let Player { probe, mut mailbox } = player;
         if let Err(fault) = played {

@@ -9,6 +9,7 @@ ghost use Rattle.wcp_worker.specs.Workers.{AreWorkersOf};
 use crate::lane_ends::Outbox;
 use crate::mailbox::Mailbox;
 use crate::new_lane::{count_sends, new_lane};
+use crate::player::Player;
 use crate::worker::Worker;
 use std::alloc::{AllocError, Global};
 use wcp_model::{Task, Workload};
@@ -34,20 +35,31 @@ pub fn open_workers(
 
 fn idle_workers(alloc: Global, probes: Vec<LiveProbe>) -> Result<Vec<Worker>, AllocError>
     ensures { IfOk result (λ workers.
-        (map (λ worker. worker.probe) workers.items ≡ probes.items) × All IsIdle workers.items) }
+        (map (λ worker. worker.player.probe) workers.items ≡ probes.items) × All IsIdle workers.items) }
 {
     let mut workers = Vec::with_capacity(alloc, probes.len())?;
     for probe in probes {
         workers.push(Worker {
-            probe: probe.telling_late(),
-            mailbox: Mailbox {
-                outboxes: Vec::new(alloc),
-                inboxes: Vec::new(alloc),
-            },
+            player: new_player(alloc, probe),
             actions: Vec::new(alloc),
         })?;
     }
     Ok(workers)
+}
+
+/// A player without lanes, whose probe tells its relay late.
+fn new_player(alloc: Global, probe: LiveProbe) -> Player
+    ensures probe { result.probe ≡ probe }
+    ensures outboxes { result.mailbox.outboxes.items ≡ [] }
+    ensures inboxes { result.mailbox.inboxes.items ≡ [] }
+{
+    Player {
+        probe: probe.telling_late(),
+        mailbox: Mailbox {
+            outboxes: Vec::new(alloc),
+            inboxes: Vec::new(alloc),
+        },
+    }
 }
 
 /// Gives each task to the worker of its process, in order.
@@ -67,12 +79,12 @@ fn give_tasks(workers: &mut Vec<Worker>, tasks: &[Task]) -> Result<(), AllocErro
 fn open_lanes(alloc: Global, workers: &mut Vec<Worker>) -> Result<(), AllocError>
     requires few { length workers.old.items ≤ most_processes }
     requires few_actions { All (λ worker. length worker.actions.items ≤ most_steps) workers.old.items }
-    requires none { All (λ worker. worker.mailbox.inboxes.items ≡ []) workers.old.items }
+    requires none { All (λ worker. worker.player.mailbox.inboxes.items ≡ []) workers.old.items }
     ensures { OnOk result (HaveLanes (length workers.old.items) workers.old.items workers.new.items) }
 {
     for p in 0..workers.len() {
         let row = open_row(alloc, workers, p)?;
-        workers[p].mailbox.outboxes = row;
+        workers[p].player.mailbox.outboxes = row;
     }
     Ok(())
 }
@@ -95,9 +107,9 @@ fn open_row(
     let mut row = Vec::with_capacity(alloc, workers.len())?;
     for q in 0..workers.len() {
         let count = count_sends(&workers[p].actions, q as u32);
-        let (outbox, inbox) = new_lane(alloc, p as u32, count as u32, &workers[q].probe)?;
+        let (outbox, inbox) = new_lane(alloc, p as u32, count as u32, &workers[q].player.probe)?;
         row.push(outbox)?;
-        workers[q].mailbox.inboxes.push(inbox)?;
+        workers[q].player.mailbox.inboxes.push(inbox)?;
     }
     Ok(row)
 }

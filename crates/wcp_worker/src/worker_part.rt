@@ -8,7 +8,7 @@ use wcp_threads::{Part, RunsWith};
 impl Part<WorkerEnd> for Worker {
     ghost use Rattle.wcp_worker.specs.Played.{IsEndOfWorker, IsFreshPlayer};
 
-    ghost is_ready = { λ worker. IsFreshPlayer (record { probe = worker.probe; mailbox = worker.mailbox }) };
+    ghost is_ready = { λ worker. IsFreshPlayer worker.player };
 
     ghost is_end = { IsEndOfWorker };
 }

@@ -3,4 +3,4 @@ use Rattle.wcp_worker.specs.Played.{IsFreshPlayer}
 
 -- A worker that may run.
 abbrev pub IsReadyWorker : Worker → Type 0
-IsReadyWorker worker = IsFreshPlayer (record { probe = worker.probe; mailbox = worker.mailbox })
+IsReadyWorker worker = IsFreshPlayer worker.player

@@ -11,8 +11,8 @@ loop-probe-preserved c =
     let old = c.loop-probe.invariant in
     let pushed = c.in_ok-push.ensures.items in
     record {
-      probes = ap (map (λ (w : Worker). w.probe)) pushed ∙ map_push (λ (w : Worker). w.probe) c.loop-probe.workers.items _
-          ∙ ap (λ p. map (λ (w : Worker). w.probe) c.loop-probe.workers.items ++ p ∷ []) c.telling_late.ensures
+      probes = ap (map (λ (w : Worker). w.player.probe)) pushed ∙ map_push (λ (w : Worker). w.player.probe) c.loop-probe.workers.items _
+          ∙ ap (λ p. map (λ (w : Worker). w.player.probe) c.loop-probe.workers.items ++ p ∷ []) c.new_player.ensures.probe
           ∙ ap (λ ps. ps ++ c.in-Some.probe ∷ []) old.probes;
-      idle = subst (All IsIdle) (sym pushed) (All-append IsIdle c.loop-probe.workers.items _ old.idle (all_one _ (record { actions = c.new-in-loop-probe-2.ensures.items; outboxes = c.new.ensures.items; inboxes = c.new-in-loop-probe.ensures.items })));
+      idle = subst (All IsIdle) (sym pushed) (All-append IsIdle c.loop-probe.workers.items _ old.idle (all_one _ (record { actions = c.new.ensures.items; outboxes = c.new_player.ensures.outboxes; inboxes = c.new_player.ensures.inboxes })));
     }

@@ -26,7 +26,7 @@ loop-q-preserved c =
       same = same_more q olds news was old.count within at old.same inboxes;
       given = λ j d below.
           subst (λ row. HasRow p (get_or olds p d).actions.items row j (get_or olds j d)
-          (get_or (set news q (record was { mailbox = record was.mailbox { inboxes = inboxes } })) j d)) (sym pushed)
+          (get_or (set news q (record was { player = record was.player { mailbox = record was.player.mailbox { inboxes = inboxes } } })) j d)) (sym pushed)
           (given_more q olds news was old.count within at old.same inboxes old.rest
           p (get_or olds p d).actions.items c.loop-q.row.items c.in_ok-outbox.outbox c.in_ok-outbox.inbox
           (λ i e before. subst (λ (a : List Action). HasRow p a c.loop-q.row.items i (get_or olds i e) (get_or news i e)) (acts d e) (old.given i e before))

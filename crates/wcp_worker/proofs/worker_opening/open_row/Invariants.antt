@@ -12,6 +12,6 @@ invariant-loop-q l =
           → HasRow l.p (slice_index_or l.initial.workers.items l.p d).actions.items l.row.items j
           (slice_index_or l.initial.workers.items j d) (slice_index_or l.workers.items j d);
       rest : (j : ℕ) (d : Worker) → l.q ≤ j → j < length l.initial.workers.items
-          → (slice_index_or l.workers.items j d).mailbox.inboxes.items
-          ≡ (slice_index_or l.initial.workers.items j d).mailbox.inboxes.items;
+          → (slice_index_or l.workers.items j d).player.mailbox.inboxes.items
+          ≡ (slice_index_or l.initial.workers.items j d).player.mailbox.inboxes.items;
     }
