@@ -1,5 +1,5 @@
 -- What the ends of a watch tell together.
-use Rattle.wcp_watch.proofs.Words.{◌≡◌, ◌↔◌, ℕ, ◌<◌, ◌≤◌, false, List, get_or, length, Option, Some, None, Contains, refl, sym, ap, ◌∙◌, ⊎_elim, arith, suc, [], ◌∷◌, slice_get, All, sum_by, option_flatten, cases_lt, Contains-get_or, slice_get_past, slice_get_within, most_processes, most_relays, Item, ClocksRise, notes_taken, BookState, TakenEnd, Bundle, ClosedSide, NotesRise, fault_of, number_of, watch_of, RelayEnd, Outcome, Whole, few_processes, few_relays, some_process, AreEndsThere, AreFirstMatched, AreAllThere, AreOfWatch, AreAllSeated, AreSeats, IsEndAt, SitsAt, AreLinksMatched, ComeFromWatch, IsFreeOf, IsSettled, IsPutMatched, cut_of, share_of, Missing, Faulted, Unfinished, CheckerEnd}
+use Rattle.wcp_watch.proofs.Words.{◌≡◌, ◌↔◌, ℕ, ◌<◌, ◌≤◌, false, List, get_or, length, Option, Some, None, Contains, refl, sym, ap, ◌∙◌, ⊎_elim, arith, zero, suc, [], ◌∷◌, slice_get, All, sum_by, option_flatten, cases_lt, Contains-get_or, slice_get_past, slice_get_within, most_processes, most_relays, Item, ClocksRise, notes_taken, BookState, TakenEnd, Bundle, ClosedSide, number_of, watch_of, RelayEnd, Outcome, Whole, few_processes, few_relays, some_process, AreEndsThere, AreFirstMatched, AreAllThere, AreAllSeated, AreSeats, IsEndAt, AreLinksMatched, ComeFromWatch, IsFirstSettleFault, IsFreeOf, IsSettled, IsPutMatched, cut_of, share_of, Stranger, Missing, Faulted, Unfinished, CheckerEnd, SeatedEnds, AreSeatedAndWhole, AreShares, AllByRecursion}
 use Rattle.std.proofs.lemmas.List.Sums.{sum_by-cons}
 use Rattle.wcp_model.specs.declared.outcome.Tally.{Tally}
 use Rattle.wcp_model.specs.declared.plan.Parent.TheVariants as parent
@@ -7,6 +7,7 @@ use Rattle.wcp_book.specs.Totals.{emitted_of_share, taken_of_share}
 use Rattle.wcp_relay.specs.declared.relay_end.Outcome.TheVariants as outcome
 use Rattle.wcp_relay.proofs.LiveProbes.{taken_rise}
 use Rattle.wcp_watch.proofs.CheckedItems.{without_fault}
+use Rattle.wcp_watch.proofs.FirstFaults.{is_first}
 use Rattle.wcp_watch.proofs.ClimbedLanes.{all_taken}
 use Rattle.wcp_watch.proofs.Seating.{All-from_contains}
 use Rattle.wcp_watch.proofs.WatchEnds.{all_processes}
@@ -53,30 +54,12 @@ module _ (root : TakenEnd Bundle Item) {IsProbe IsOneProbe : ℕ → ClosedSide 
     lane = lane_for_fewer end.outcome matched.lane;
   }
 
--- all these ends are of the checker's watch, and sit each at the place of its number
-pub record HaveSeats (probes : List ClosedSide) (relays : List RelayEnd) (checker : CheckerEnd)
-    (probe_seats : List (Option ClosedSide)) (relay_seats : List (Option RelayEnd)) : Type 0 where
-  pub of_probes : AreOfWatch (λ end. end.watch) (λ end. end.id) checker.watch probes
-  pub of_relays : AreOfWatch watch_of number_of checker.watch relays
-  pub probes_sit : AreSeats (λ end. end.id) probes probe_seats
-  pub relays_sit : AreSeats number_of relays relay_seats
-
-pub have_seats : {probes : List ClosedSide} {relays : List RelayEnd} (checker : CheckerEnd) {probe_seats : List (Option ClosedSide)}
-    {relay_seats : List (Option RelayEnd)} → AreOfWatch (λ end. end.watch) (λ end. end.id) checker.watch probes
-    → AreOfWatch watch_of number_of checker.watch relays → AreSeats (λ end. end.id) probes probe_seats
-    → AreSeats number_of relays relay_seats → HaveSeats probes relays checker probe_seats relay_seats
-have_seats checker of_probes of_relays probes_sit relays_sit = record {
-  of_probes = of_probes;
-  of_relays = of_relays;
-  probes_sit = probes_sit;
-  relays_sit = relays_sit;
-}
-
--- these are the shares of the processes, and the clocks of their snapshots rise
-pub record AreShares (count : ℕ) (probe_seats : List (Option ClosedSide)) (tallies : List Tally) : Type 0 where
-  pub count_is : length tallies ≡ count
-  pub each : (p : ℕ) (probe : ClosedSide) → p < count → SitsAt probe_seats p probe → slice_get tallies p ≡ Some (share_of probe)
-  pub rise : (p : ℕ) (probe : ClosedSide) → p < count → SitsAt probe_seats p probe → NotesRise probe.id probe.link.put
+-- there are as many places as those at which somebody sits
+all_within : {E : Type 0} (count : ℕ) (seats : List (Option E)) → AreAllSeated count seats → count ≤ length seats
+all_within zero seats all = omega arith
+all_within (suc k) seats all =
+    let (end, sits) = all k (omega arith) in
+    omega (arith, slice_get_within seats k (Some end) sits)
 
 module _ {probes : List ClosedSide} {relays : List RelayEnd} {checker : CheckerEnd} (come : ComeFromWatch probes relays checker) where
   pub processes_are : checker.processes ≡ come.plan.n
@@ -105,24 +88,31 @@ module _ {probes : List ClosedSide} {relays : List RelayEnd} {checker : CheckerE
       let is = (rw among.2 at (come.of_relays among.0 end among.1)) same in
       omega (arith, relays_are, slice_get_within come.watch.relays.items (number_of end) is.relay is.is_relay, come.wired.linked.count)
 
-  module _ {probe_seats : List (Option ClosedSide)} {relay_seats : List (Option RelayEnd)}
-      (seats : HaveSeats probes relays checker probe_seats relay_seats) where
-    -- none is missing where somebody sits at each place
-    pub none_missing : (book : BookState)
-        → (AreAllSeated checker.processes probe_seats × AreAllSeated checker.relays relay_seats)
-        ↔ IsFreeOf probes relays checker book Missing
-    none_missing book =
-        let of_probes = all_there (λ (end : ClosedSide). end.id) probes probe_seats checker.processes seats.probes_sit in
-        let of_relays = all_there number_of relays relay_seats checker.relays seats.relays_sit in (
-          λ seated. (of_probes.0 seated.0, of_relays.0 seated.1),
-          λ there. (of_probes.1 there.0, of_relays.1 there.1),
-        )
+  module _ {ends : SeatedEnds} (seats : AreSeatedAndWhole probes relays checker ends) where
+    -- there is a place for each process
+    pub places : checker.processes ≤ length ends.probes
+    places = all_within checker.processes ends.probes seats.all_probes
+
+    -- they are free of what would be told before what they have left behind
+    pub free_before : (book : BookState) → AllByRecursion (IsFreeOf probes relays checker book) (Stranger ∷ Missing ∷ Faulted ∷ [])
+    free_before book = (
+      (seats.of_probes, seats.of_relays),
+      (
+        (
+          (all_there (λ (end : ClosedSide). end.id) probes ends.probes checker.processes seats.probes_sit).0 seats.all_probes,
+          (all_there number_of relays ends.relays checker.relays seats.relays_sit).0 seats.all_relays,
+        ),
+        (seats.whole, tt),
+      ),
+    )
+
+    pub unfinished : (book : BookState) → ¬ IsFreeOf probes relays checker book Unfinished
+        → IsFirstSettleFault probes relays checker book Unfinished
+    unfinished book has = is_first probes relays checker book (Stranger ∷ Missing ∷ Faulted ∷ []) Unfinished [] refl (free_before book) has
 
     -- all ends are there
-    pub ends_there : AreAllSeated checker.processes probe_seats × AreAllSeated checker.relays relay_seats
-        → All (λ end. fault_of end ≡ None) relays
-        → AreEndsThere checker.relays probe_seats checker.receipt relay_seats
-    ends_there seated whole = record {
+    pub ends_there : AreEndsThere checker.relays ends.probes checker.receipt ends.relays
+    ends_there = record {
       plan = come.plan;
       watch_number = checker.watch;
       watch = come.watch;
@@ -130,7 +120,7 @@ module _ {probes : List ClosedSide} {relays : List RelayEnd} {checker : CheckerE
       wired = come.wired;
       all = relays_are;
       probe = λ p below.
-          let (end, sits) = seated.0 p (omega (arith, processes_are)) in
+          let (end, sits) = seats.all_probes p (omega (arith, processes_are)) in
           let (among, id) = seats.probes_sit.own p end sits in
           record {
             end = end;
@@ -139,20 +129,20 @@ module _ {probes : List ClosedSide} {relays : List RelayEnd} {checker : CheckerE
             is_end = (rw among.2 at (come.of_probes among.0 end among.1)) (rw among.2 at (seats.of_probes.same among.0 end among.1));
           };
       relay = λ number below.
-          let (end, sits) = seated.1 number below in
+          let (end, sits) = seats.all_relays number below in
           let (among, own) = seats.relays_sit.own number end sits in
           record {
             end = end;
             sits = sits;
             number_is = own;
-            whole = rw among.2 at (whole among.0 end among.1);
+            whole = rw among.2 at (seats.whole.0 among.0 end among.1);
             is_end = (rw among.2 at (come.of_relays among.0 end among.1)) (rw among.2 at (seats.of_relays.same among.0 end among.1));
           };
       lane = come.of_checker.lane;
     }
 
     -- the links of all ends were matched where those of the ends at their places were
-    pub links_matched : AreFirstMatched checker.relays probe_seats checker.receipt relay_seats
+    pub links_matched : AreFirstMatched checker.relays ends.probes checker.receipt ends.relays
         ↔ All (AreLinksMatched (IsEndAt (λ end. end.id) probes) checker.receipt (IsEndAt number_of relays)) relays
     links_matched = (
       λ each. All-from_contains _ relays (λ end among.
@@ -164,7 +154,7 @@ module _ {probes : List ClosedSide} {relays : List RelayEnd} {checker : CheckerE
           matched_for_fewer checker.receipt seats.probes_sit.own seats.relays_sit.own relay (rw among.2 at (all among.0 relay among.1)),
     )
 
-    module _ {tallies : List Tally} (are : AreShares checker.processes probe_seats tallies) (book : BookState) where
+    module _ {tallies : List Tally} (are : AreShares checker.processes ends.probes tallies) (book : BookState) where
       -- just these tallies are in the book, and just the cut of the checker's report
       abbrev pub IsPosted : Type 0
       IsPosted = ((p : ℕ) → option_flatten (slice_get book.shares p) ≡ slice_get tallies p) × (book.found ≡ cut_of checker.report)
@@ -176,7 +166,7 @@ module _ {probes : List ClosedSide} {relays : List RelayEnd} {checker : CheckerE
       share_at end among = are.each end.id end (within end among) (seats.probes_sit.seated end.id end (among, refl))
 
       -- the book has just the tallies where it has just the shares of the processes
-      pub book_finished : IsPosted → AreFirstMatched checker.relays probe_seats checker.receipt relay_seats
+      pub book_finished : IsPosted → AreFirstMatched checker.relays ends.probes checker.receipt ends.relays
           → IsFreeOf probes relays checker book Unfinished
       book_finished posted each = record {
         links = links_matched.0 each;
@@ -185,11 +175,11 @@ module _ {probes : List ClosedSide} {relays : List RelayEnd} {checker : CheckerE
         found = posted.1;
       }
 
-      pub book_posted : AreAllSeated checker.processes probe_seats → IsFreeOf probes relays checker book Unfinished → IsPosted
-      book_posted there finished = (
+      pub book_posted : IsFreeOf probes relays checker book Unfinished → IsPosted
+      book_posted finished = (
         λ p. ⊎_elim
             (λ (below : p < checker.processes).
-            let (end, sits) = there p below in
+            let (end, sits) = seats.all_probes p below in
             let (among, id) = seats.probes_sit.own p end sits in
             let share = rw among.2 at (finished.shares among.0 end among.1) in
             rw (← id) (share ∙ sym (share_at end among)))
@@ -200,13 +190,11 @@ module _ {probes : List ClosedSide} {relays : List RelayEnd} {checker : CheckerE
       )
 
       -- what a run's ends tell
-      pub all_settled : AreAllSeated checker.processes probe_seats × AreAllSeated checker.relays relay_seats
-          → IsFreeOf probes relays checker book Faulted
-          → IsPosted → AreFirstMatched checker.relays probe_seats checker.receipt relay_seats
+      pub all_settled : IsPosted → AreFirstMatched checker.relays ends.probes checker.receipt ends.relays
           → IsSettled probes checker book (record { report = checker.report; tallies = tallies })
       unfolding ends_there
-      all_settled seated whole posted each = record {
-        all = ((none_missing book).0 seated).0;
+      all_settled posted each = record {
+        all = (free_before book).1.0.0;
         whole = All-from_contains _ probes whole_of;
         any_clocks = come.of_checker.any_clocks clean.0;
         exact = come.of_checker.exact clean.0 clocks_rise;
@@ -224,15 +212,15 @@ module _ {probes : List ClosedSide} {relays : List RelayEnd} {checker : CheckerE
       }
         where
           clean : (come.of_checker.starved ≡ false) × (checker.cut ≡ None) × (checker.lost ≡ None)
-          clean = without_fault come.of_checker.starved checker.cut checker.lost (sym come.of_checker.fault ∙ whole.1)
+          clean = without_fault come.of_checker.starved checker.cut checker.lost (sym come.of_checker.fault ∙ seats.whole.1)
 
           whole_of : (end : ClosedSide) → Contains probes end → notes_taken end.id checker.receipt.taken ≡ end.link.put
           whole_of end among =
-              all_taken (ends_there seated whole.0) each end.id end (seats.probes_sit.seated end.id end (among, refl))
+              all_taken ends_there each end.id end (seats.probes_sit.seated end.id end (among, refl))
               (omega (arith, within end among, processes_are))
 
           clocks_rise : ClocksRise checker.processes checker.receipt.taken
           clocks_rise p below =
-              let (end, sits) = seated.0 p below in
+              let (end, sits) = seats.all_probes p below in
               let (among, id) = seats.probes_sit.own p end sits in
               rw (← id) (taken_rise end.id end.link.put checker.receipt.taken (are.rise p end below sits) (whole_of end among))

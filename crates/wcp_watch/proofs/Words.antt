@@ -8,7 +8,7 @@ pub use Rattle.std.proofs.lemmas.List.Folds.{list_any-append}
 pub use Rattle.std.proofs.lemmas.Option.{gets, get_or_from_slice_get, slice_get-get_or, slice_get_past, slice_get_within}
 pub use Rattle.std.specs.List.{list_any, AllByRecursion, sum_by}
 pub use Rattle.std.specs.Option.{option_flatten}
-pub use Rattle.std.specs.Prelude.{slice_set, slice_index_or, is_some, AllPairs, IsErr, IsOk, IfNone, IfSome, OnOk}
+pub use Rattle.std.specs.Prelude.{slice_set, slice_index_or, is_some, AllPairs, IsErr, IfErr, IsOk, IfNone, IfSome, OnOk}
 pub use Rattle.std.specs.Result.{IsErrAnd, result_err}
 pub use Rattle.wcp_book.specs.State.{BookState}
 pub use Rattle.wcp_clock.specs.Limits.{most_processes, most_relays}
@@ -42,6 +42,8 @@ pub use Rattle.wcp_relay.specs.declared.source.Source.TheVariants.{Leaf, Inner}
 pub use Rattle.wcp_watch.specs.CheckerEnds.{AreAllEnded, IsEndOfLoop, IsLowestLost, IsSameWatch, HasTakenClose, HasTakenLast, TakesItems, first_fault, KeepsUp}
 pub use Rattle.wcp_watch.specs.Matching.{AreEndsThere, AreFirstMatched, HasProbe, IsKeptAt, inbox_place, KeepInboxes}
 pub use Rattle.wcp_watch.specs.Seats.{AreOfWatch, AreSeats, AreAllSeated, SitsAt, AreAllThere, IsEndAt}
+pub use Rattle.wcp_watch.specs.SeatedEnds.{AreSeatedAndWhole, AreShares}
+pub use Rattle.wcp_watch.specs.declared.seated_ends.SeatedEnds.{SeatedEnds}
 pub use Rattle.wcp_watch.specs.Settling.{AreTakenFrom, IsPutMatched, IsRingMatched, feeds_in, feeds_left_by, IsFirstSettleFault, IsFreeOf, settle_faults, AreLinksMatched, ComeFromWatch, IsSettled, cut_of, share_of, IsLaneMatched, IsEndOfSomeProbe, IsEndOfSomeRelay}
 pub use Rattle.wcp_watch.specs.declared.checker_end.CheckerEnd.{CheckerEnd}
 pub use Rattle.wcp_watch.specs.declared.settle_fault.SettleFault.TheVariants.{Stranger, Missing, Faulted, Unfinished}

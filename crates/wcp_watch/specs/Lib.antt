@@ -2,4 +2,5 @@ pub mod CheckerEnds
 pub mod Matching
 pub mod Seats
 pub mod Settling
+pub mod SeatedEnds
 pub mod RunParts

@@ -22,6 +22,7 @@ mod lanes;
 mod matching;
 mod rings;
 mod running;
+mod seated_ends;
 mod seats;
 mod settle_fault;
 mod settled;

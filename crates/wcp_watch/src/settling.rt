@@ -1,16 +1,14 @@
-ghost use Rattle.std.specs.Prelude.{◌≡◌, ◌↔◌, IfOk, Err, None, All, IsTrue};
-ghost use Rattle.wcp_relay.specs.RelayEnds.{fault_of};
+ghost use Rattle.std.specs.Prelude.{◌≡◌, ◌↔◌, IfOk, Err};
 ghost use Rattle.wcp_watch.specs.declared.settle_fault.SettleFault.{SettleFault};
 ghost use Rattle.wcp_watch.specs.Settling.{ComeFromWatch, IsFirstSettleFault, IsSettled};
 
 use crate::checker_end::CheckerEnd;
 use crate::matching::match_links;
-use crate::seats::{are_seated, empty, seat};
+use crate::seated_ends::seat_ends;
 use crate::settle_fault::SettleFault;
 use crate::settled::Settled;
 use crate::shares::{is_book_of, tallies};
 use wcp_book::Book;
-use wcp_clock::{MAX_PROCS, MAX_RELAYS};
 use wcp_relay::{ProbeEnd, RelayEnd};
 
 /// Proves the report of a run from the ends of its watch: each ring and each lane is matched, on the way
@@ -28,36 +26,19 @@ pub fn settle(
     ensures first { (first : SettleFault) → (result ≡ Err first)
         ↔ IsFirstSettleFault probes.items relays.items checker book first }
 {
-    let whole = are_whole(&relays, &checker);
-    let mut probe_ends: [Option<ProbeEnd>; MAX_PROCS] = empty();
-    seat(checker.watch, probes, &mut probe_ends)?;
-    let mut relay_ends: [Option<RelayEnd>; MAX_RELAYS] = empty();
-    seat(checker.watch, relays, &mut relay_ends)?;
-    if !are_seated(&probe_ends, checker.processes) || !are_seated(&relay_ends, checker.relays) {
-        return Err(SettleFault::Missing);
-    }
-    if !whole {
-        return Err(SettleFault::Faulted);
-    }
-    let tallies = tallies(&probe_ends, checker.processes);
+    let mut seated = seat_ends(probes, relays, &checker)?;
+    let tallies = tallies(&seated.probes, checker.processes);
     if !is_book_of(&tallies, checker.report, &book) {
         return Err(SettleFault::Unfinished);
     }
     match_links(
         checker.relays,
-        &mut probe_ends,
+        &mut seated.probes,
         checker.receipt,
-        &mut relay_ends,
+        &mut seated.relays,
     )?;
     Ok(Settled {
         report: checker.report,
         tallies,
     })
-}
-
-/// Whether no end has a fault.
-fn are_whole(relays: &[RelayEnd], checker: &CheckerEnd) -> bool
-    ensures { IsTrue result ↔ (All (λ end. fault_of end ≡ None) relays.now × (checker.now.fault ≡ None)) }
-{
-    checker.fault.is_none() && relays.iter().all(|end| end.fault().is_none())
 }

@@ -2,6 +2,7 @@ ghost use Rattle.std.specs.Prelude.{◌≡◌, ◌↔◌, ◌<◌, ◌≤◌, �
 ghost use Rattle.std.specs.Option.{option_flatten};
 ghost use Rattle.wcp_clock.specs.Limits.{most_processes};
 ghost use Rattle.wcp_relay.specs.LiveProbe.{ClosedSide, NotesRise};
+ghost use Rattle.wcp_watch.specs.SeatedEnds.{AreShares};
 ghost use Rattle.wcp_watch.specs.Seats.{SitsAt};
 ghost use Rattle.wcp_watch.specs.Settling.{cut_of, share_of};
 
@@ -16,11 +17,7 @@ pub(crate) fn tallies(probes: &[Option<ProbeEnd>], count: u32) -> Tallies
     requires some { 0 < count }
     requires few { count ≤ most_processes }
     requires there { count ≤ length probes.now }
-    ensures count { length result ≡ count }
-    ensures shares { (p : ℕ) (probe : ClosedSide) → p < count → SitsAt probes.now p probe
-        → slice_get result p ≡ Some (share_of probe) }
-    ensures rise { (p : ℕ) (probe : ClosedSide) → p < count → SitsAt probes.now p probe
-        → NotesRise probe.id probe.link.put }
+    ensures { AreShares count probes.now result }
 {
     let mut tallies = [Tally {
         emitted: 0,

@@ -10,7 +10,12 @@ loop-p-preserved c =
       rise = λ q probe below sits. grind (arith, common_steps, cases_eq q c.loop-p.p, old.rise q probe, c.tally_at-tally.ensures.rise probe);
     }
 
-pub returns-clause-shares : goal.returns-clause-shares
-returns-clause-shares c = λ p probe below sits.
-    let share : slice_get c.loop-p.tallies p ≡ Some (share_of probe) = c.loop-p.invariant.shares p probe (omega (arith, c.loop-p-test.false)) sits in
-    grind (arith, common_steps, gets, share)
+pub returns : goal.returns
+returns c = record {
+  count_is = grind (arith, common_steps);
+  each = λ p probe below sits.
+      let share : slice_get c.loop-p.tallies p ≡ Some (share_of probe) =
+      c.loop-p.invariant.shares p probe (omega (arith, c.loop-p-test.false)) sits in
+      grind (arith, common_steps, gets, share);
+  rise = λ p probe below sits. c.loop-p.invariant.rise p probe (omega (arith, c.loop-p-test.false)) sits;
+}
