@@ -67,10 +67,10 @@ impl RingPutter {
         }
     }
 
-    /// A sleeper for the thread that puts. Before it says that it sleeps, it rings the bell of this end, if it has
-    /// one. `Err` where memory runs out.
+    /// A sleeper for the thread that puts, by which it waits for the answers of others. It looks on for them while that
+    /// pays, and rings the bell of this end, if it has one, before it says that it sleeps. `Err` where memory runs out.
     pub fn new_sleeper(&self, alloc: Global) -> Result<Sleeper, AllocError> {
-        let sleeper = Sleeper::new(alloc)?;
+        let sleeper = Sleeper::new(alloc)?.looking_on();
         match &self.bell {
             Some(bell) => Ok(sleeper.with_bell(bell.try_clone()?)),
             None => Ok(sleeper),

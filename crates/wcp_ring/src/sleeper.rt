@@ -20,6 +20,8 @@ pub struct Sleeper {
     asleep: Arc<AtomicBool, Global>,
     /// How often in a row it found nothing.
     rests: u32,
+    /// How often it may look on before it gives way: 0 where it never looks on.
+    most_looks: u32,
     /// How often it looks on before it gives way.
     looks: u32,
     /// How often it slept.
@@ -37,27 +39,32 @@ impl Model for Sleeper {
 }
 
 impl Sleeper {
-    /// A thread that is awake. `Err` where memory runs out.
+    /// A thread that is awake, and doesn't look on before it gives way. `Err` where memory runs out.
     pub fn new(alloc: Global) -> Result<Sleeper, AllocError> {
         Ok(Sleeper {
             parker: Parker::new(alloc)?,
             asleep: Arc::new(alloc, AtomicBool::new(false))?,
             rests: 0,
+            most_looks: 0,
             looks: 0,
             sleeps: 0,
             bell: None,
         })
     }
 
+    /// The same thread, which from now on looks on where that paid lately.
+    pub(crate) fn looking_on(self) -> Sleeper {
+        Sleeper {
+            most_looks: MOST_LOOKS,
+            ..self
+        }
+    }
+
     /// The same thread, which from now on rings this bell of another before it says that it sleeps.
     pub(crate) fn with_bell(self, bell: Bell) -> Sleeper {
         Sleeper {
-            parker: self.parker,
-            asleep: self.asleep,
-            rests: self.rests,
-            looks: self.looks,
-            sleeps: self.sleeps,
             bell: Some(bell),
+            ..self
         }
     }
 
@@ -80,7 +87,7 @@ impl Sleeper {
     /// What it waited for came after a wait.
     fn stirred(&mut self) {
         if self.rests <= self.looks {
-            self.looks = MOST_LOOKS;
+            self.looks = self.most_looks;
         } else if self.rests - self.looks >= 2 {
             self.asleep.store(false, SeqCst);
         }
@@ -107,7 +114,7 @@ impl Sleeper {
         self.rests = 0;
         self.sleeps = self.sleeps.wrapping_add(1);
         self.looks = if self.sleeps % SLEEPS_A_TRY == 0 {
-            MOST_LOOKS
+            self.most_looks
         } else {
             self.looks / 2
         };
