@@ -1,7 +1,7 @@
 //! What is printed for each worked text.
 
-use super::refusals::REFUSED;
-use super::rows::{ANSWERED, Row};
+use super::refusals::refused_texts;
+use super::rows::{Row, answered};
 use super::runs::{answer_of, gives};
 use std::process::Abort;
 use std::sync::Wait;
@@ -26,7 +26,7 @@ fn are_answered<R: AllocGlobal + Threads + Wait + Sync + Abort>(rt: &R, rows: &[
 
 #[test]
 fn texts_are_answered(rt: HostRuntime) {
-    are_answered(&rt, ANSWERED.as_slice());
+    are_answered(&rt, answered());
 }
 
 /// How often a text is run in threads: each time they may get on in another order.
@@ -50,7 +50,7 @@ fn all_runs_agree<R: AllocGlobal + Threads + Wait + Sync + Abort>(rt: &R, rows: 
 
 #[test]
 fn workloads_are_run_in_threads_to_the_same_answer(rt: HostRuntime) {
-    all_runs_agree(&rt, ANSWERED.as_slice());
+    all_runs_agree(&rt, answered());
 }
 
 /// Each text is refused as its row says, and a workload also where it is run in threads.
@@ -65,5 +65,5 @@ fn are_refused<R: AllocGlobal + Threads + Wait + Sync + Abort>(rt: &R, rows: &[R
 
 #[test]
 fn other_texts_are_refused(rt: HostRuntime) {
-    are_refused(&rt, REFUSED.as_slice());
+    are_refused(&rt, refused_texts());
 }

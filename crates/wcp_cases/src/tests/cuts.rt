@@ -5,8 +5,8 @@
 //! where the line begins a step, and else the fault of a line without its LF, which its number tells.
 
 use super::fronts::{Front, Fronts, OF_REFUSED, WORKED};
-use super::refusals::REFUSED;
-use super::rows::{ANSWERED, Row};
+use super::refusals::refused_texts;
+use super::rows::{Row, answered};
 use super::runs::{Answer, gives, refused};
 use std::alloc::{AllocError, Global};
 use std::process::Abort;
@@ -205,15 +205,15 @@ fn cut_named<R: AllocGlobal + Threads + Wait + Sync + Abort>(
 
 #[test]
 fn worked_texts_are_cut_at_each_byte(rt: HostRuntime) -> Result<(), Fail> {
-    let count = cut_named(&rt, ANSWERED.as_slice(), WORKED.as_slice())?;
+    let count = cut_named(&rt, answered(), WORKED.as_slice())?;
     assert_eq!(rt; count, WORKED.len());
     Ok(())
 }
 
 #[test]
 fn refused_texts_are_cut_at_each_byte(rt: HostRuntime) -> Result<(), Fail> {
-    let count = cut_named(&rt, REFUSED.as_slice(), OF_REFUSED.as_slice())?;
-    assert_eq!(rt; count, REFUSED.len());
+    let count = cut_named(&rt, refused_texts(), OF_REFUSED.as_slice())?;
+    assert_eq!(rt; count, refused_texts().len());
     Ok(())
 }
 

@@ -1,7 +1,7 @@
 //! Input that comes in pieces, that fails, or that is too large.
 
-use super::refusals::REFUSED;
-use super::rows::{ANSWERED, Row};
+use super::refusals::refused_texts;
+use super::rows::{Row, answered};
 use super::runs::{Answer, answer_of, gives, refused};
 use super::streams::{Source, Trouble};
 use std::io::{self, ErrorKind, Read};
@@ -41,8 +41,8 @@ fn same_by_bytes<R: AllocGlobal + Threads + Wait + Sync + Abort>(rt: &R, rows: &
 
 #[test]
 fn one_byte_at_a_time_is_the_same(rt: HostRuntime) {
-    same_by_bytes(&rt, ANSWERED.as_slice());
-    same_by_bytes(&rt, REFUSED.as_slice());
+    same_by_bytes(&rt, answered());
+    same_by_bytes(&rt, refused_texts());
 }
 
 /// Lets each read of a row's text fail in turn, that at its end too.
@@ -62,8 +62,8 @@ fn each_read_of_each<R: AllocGlobal + Threads + Wait + Sync + Abort>(rt: &R, row
 
 #[test]
 fn each_read_may_fail(rt: HostRuntime) {
-    each_read_of_each(&rt, ANSWERED.as_slice());
-    each_read_of_each(&rt, REFUSED.as_slice());
+    each_read_of_each(&rt, answered());
+    each_read_of_each(&rt, refused_texts());
 }
 
 /// The words that read their input.

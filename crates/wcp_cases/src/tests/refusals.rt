@@ -3,7 +3,11 @@
 use super::rows::Row;
 
 /// Texts that are refused.
-pub static REFUSED: [Row; 24] = [
+pub fn refused_texts() -> &'static [Row] {
+    REFUSED.as_slice()
+}
+
+static REFUSED: [Row; 24] = [
     Row {
         name: "an empty text",
         word: "single",

@@ -1,7 +1,7 @@
 //! Output that is taken in pieces, or not taken.
 
-use super::refusals::REFUSED;
-use super::rows::{ANSWERED, Row};
+use super::refusals::refused_texts;
+use super::rows::{Row, answered};
 use super::streams::{Sink, Trouble};
 use std::io::ErrorKind;
 use std::process::Abort;
@@ -67,7 +67,7 @@ fn each_by_bytes<R: AllocGlobal + Threads + Wait + Sync + Abort>(rt: &R, rows: &
 /// A write that is interrupted is made again.
 #[test]
 fn one_byte_at_a_time_is_the_same(rt: HostRuntime) {
-    each_by_bytes(&rt, ANSWERED.as_slice());
+    each_by_bytes(&rt, answered());
 }
 
 /// Lets each write of a row's output fail in turn.
@@ -89,7 +89,7 @@ fn each_write_of_each<R: AllocGlobal + Threads + Wait + Sync + Abort>(rt: &R, ro
 
 #[test]
 fn each_write_may_fail(rt: HostRuntime) {
-    each_write_of_each(&rt, ANSWERED.as_slice());
+    each_write_of_each(&rt, answered());
 }
 
 /// Lets the flush of each output fail.
@@ -104,7 +104,7 @@ fn each_flush<R: AllocGlobal + Threads + Wait + Sync + Abort>(rt: &R, rows: &[Ro
 
 #[test]
 fn the_flush_may_fail(rt: HostRuntime) {
-    each_flush(&rt, ANSWERED.as_slice());
+    each_flush(&rt, answered());
 }
 
 /// Takes nothing of the output, with this trouble of the errors, and compares what is said.
@@ -129,7 +129,7 @@ fn each_takes_nothing<R: AllocGlobal + Threads + Wait + Sync + Abort>(rt: &R, ro
 /// The status stays where the errors aren't taken either.
 #[test]
 fn a_write_of_nothing_fails(rt: HostRuntime) {
-    each_takes_nothing(&rt, ANSWERED.as_slice());
+    each_takes_nothing(&rt, answered());
 }
 
 /// Lets each write of the line that says why a text is refused fail in turn.
@@ -152,5 +152,5 @@ fn each_write_of_all_errors<R: AllocGlobal + Threads + Wait + Sync + Abort>(rt: 
 /// The status stays, and a front of the line was taken.
 #[test]
 fn each_write_of_errors_may_fail(rt: HostRuntime) {
-    each_write_of_all_errors(&rt, REFUSED.as_slice());
+    each_write_of_all_errors(&rt, refused_texts());
 }
