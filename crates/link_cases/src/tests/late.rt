@@ -1,5 +1,7 @@
 //! Notes of a putter that rings late, for a taker that sleeps.
 use super::waking::{Progress, take_until_left};
+use std::alloc::Global;
+use std::process::Abort;
 use std::sync::Wait;
 use std::test::Fail;
 use std::thread::{join, sleep};
@@ -128,26 +130,36 @@ fn come_in_time(progress: &Progress, bells: (Bell, Bell)) -> bool {
     in_time
 }
 
-/// Both ring late, and each tells the other by its sleeper before it sleeps.
-#[test]
-fn a_putter_tells_its_taker_before_it_sleeps(rt: HostRuntime) -> Result<(), Fail> {
-    let (asking, asked) = ring(rt.alloc(), ROOM)?;
-    let (answering, answered) = ring(rt.alloc(), ROOM)?;
-    let answerer = Sleeper::new(rt.alloc())?;
-    let asking = asking.with_bell(answerer.bell()?).ringing_late();
-    let asker = asking.new_sleeper(rt.alloc())?;
-    let bells = (asker.bell()?, answerer.bell()?);
+/// Who asks and who answers. The one who asks rings late.
+fn partners(rt: &impl Abort, alloc: Global) -> (Partner, Partner) {
+    let (asking, asked) = ring(alloc, ROOM).expect(rt, "memory");
+    let (answering, answered) = ring(alloc, ROOM).expect(rt, "memory");
+    let answerer = Sleeper::new(alloc).expect(rt, "memory");
+    let asking = asking.with_bell(bell_of(rt, &answerer)).ringing_late();
+    let asker = asking.new_sleeper(alloc).expect(rt, "memory");
+    let answering = answering.with_bell(bell_of(rt, &asker));
     let first = Partner {
         putter: asking,
         taker: answered,
         sleeper: asker,
     };
-    let answering = answering.with_bell(first.sleeper.bell()?);
     let second = Partner {
         putter: answering,
         taker: asked,
         sleeper: answerer,
     };
+    (first, second)
+}
+
+fn bell_of(rt: &impl Abort, sleeper: &Sleeper) -> Bell {
+    sleeper.bell().expect(rt, "memory")
+}
+
+/// Who rings late tells the other by its sleeper before it sleeps.
+#[test]
+fn a_putter_tells_its_taker_before_it_sleeps(rt: HostRuntime) {
+    let (first, second) = partners(&rt, rt.alloc());
+    let bells = (bell_of(&rt, &first.sleeper), bell_of(&rt, &second.sleeper));
     let progress = Progress::new();
     let (shared, handle) = (&progress, &rt);
     let (in_time, _) = join(
@@ -162,5 +174,4 @@ fn a_putter_tells_its_taker_before_it_sleeps(rt: HostRuntime) -> Result<(), Fail
         },
     );
     assert!(rt; in_time);
-    Ok(())
 }

@@ -6,8 +6,8 @@ use std::alloc::{AllocError, Global};
 use std::process::Abort;
 use std::test::Fail;
 use wcp_clock::{CLOCK_LIMIT, Clock, Item, Note};
-use wcp_model::{Action, Flag, GlobalCut, ProbeSetup, Report, Watched};
-use wcp_probe::ProbeCore;
+use wcp_model::{Action, Flag, GlobalCut, ProbeSetup, Report, Task, Watched};
+use wcp_probe::{ProbeCore, Stamped};
 use wcp_queue::Checker;
 use wcp_script::ring_workload;
 
@@ -133,55 +133,68 @@ fn observe(rt: &impl Abort, probe: &mut ProbeCore, checker: &mut Checker, from: 
     }
 }
 
+/// The probes of `n` processes, all of them watched.
+fn new_probes(rt: &impl Abort, alloc: Global, n: u32) -> Vec<ProbeCore>
+    requires { n ≤ most_processes }
+{
+    let mut probes = Vec::new(alloc);
+    for id in 0..n {
+        let setup = ProbeSetup {
+            processes: n,
+            process: id,
+            watched: true,
+            flag: Flag::Event,
+        };
+        assert!(rt; probes.push(ProbeCore::new(0, setup, CLOCK_LIMIT)).is_ok());
+    }
+    probes
+}
+
+/// The process of this probe does its task, of a workload with at most one message on its way.
+fn perform(
+    rt: &impl Abort,
+    probe: &mut ProbeCore,
+    checker: &mut Checker,
+    task: &Task,
+    message: &mut Option<Stamped<()>>,
+) {
+    match task.action {
+        Action::Observe(holds) => observe(rt, probe, checker, task.p, holds),
+        Action::Send(to) => *message = probe.stamp(to, ()).ok(),
+        Action::Recv(_) => {
+            let sent = message.take().expect(rt, "a message");
+            assert!(rt; probe.receive(sent).is_ok());
+        }
+    }
+}
+
 /// The component tests that a checker of `n` processes makes of the snapshots of a ring, of which
 /// there is one for each process in each round.
-fn tests_of_ring(rt: &impl Abort, alloc: Global, n: u32, rounds: u32) -> Result<u64, Fail>
+fn tests_of_ring(rt: &impl Abort, alloc: Global, n: u32, rounds: u32) -> u64
     requires several { 2 ≤ n }
     requires few { n ≤ most_processes }
     requires some_rounds { 1 ≤ rounds }
     requires few_rounds { rounds ≤ most_rounds }
 {
-    let ring = ring_workload(alloc, n, rounds, false)?;
-    let mut checker = Checker::new(alloc, n, Watched::all(n))?;
-    let mut probes = Vec::new(alloc);
-    for id in 0..n {
-        probes.push(ProbeCore::new(
-            0,
-            ProbeSetup {
-                processes: n,
-                process: id,
-                watched: true,
-                flag: Flag::Event,
-            },
-            CLOCK_LIMIT,
-        ))?;
-    }
+    let ring = ring_workload(alloc, n, rounds, false).expect(rt, "memory");
+    let mut checker = Checker::new(alloc, n, Watched::all(n)).expect(rt, "memory");
+    let mut probes = new_probes(rt, alloc, n);
     let mut message = None;
     for task in &ring.tasks {
-        let probe = probes.get_mut(task.p as usize).ok_or("no such process")?;
-        match task.action {
-            Action::Observe(holds) => observe(rt, probe, &mut checker, task.p, holds),
-            Action::Send(to) => message = probe.stamp(to, ()).ok(),
-            Action::Recv(_) => {
-                let sent = message.take().ok_or("no message")?;
-                assert!(rt; probe.receive(sent).is_ok());
-            }
-        }
+        let probe = probes.get_mut(task.p as usize).expect(rt, "a process");
+        perform(rt, probe, &mut checker, task, &mut message);
     }
     assert_eq!(rt; checker.report(), Report::Undecided);
     assert_eq!(rt; checker.processes(), n);
     assert_eq!(rt; checker.taken(n - 1), u64::from(rounds));
-    Ok(checker.tests())
+    checker.tests()
 }
 
 /// A snapshot costs at most as many component tests as there are processes.
 #[test]
-fn a_ring_costs_few_tests(rt: HostRuntime) -> Result<(), Fail> {
-    let small = tests_of_ring(&rt, rt.alloc(), 4, 100)?;
-    assert_eq!(rt; small, 1_600);
-    let large = tests_of_ring(&rt, rt.alloc(), 16, 1_000)?;
-    assert_eq!(rt; large, 256_000);
-    Ok(())
+fn a_ring_costs_few_tests(rt: HostRuntime) {
+    assert_eq!(rt; tests_of_ring(&rt, rt.alloc(), 4, 100), 1_600);
+    assert_eq!(rt; tests_of_ring(&rt, rt.alloc(), 16, 1_000), 256_000);
 }
 
 /// Asks the checker once to take the close mark of a process that emitted one snapshot.
