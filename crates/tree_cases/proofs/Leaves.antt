@@ -1,5 +1,6 @@
 -- What a leaf of one process serves.
-use Rattle.std.proofs.Common.{◌≡◌, ◌≢◌, ◌==◌, ℕ, ◌<◌, ◌||◌, nat_cmp, true, false, List, [], ◌∷◌, length, sym, ap, ◌∙◌, subst, arith}
+use Rattle.std.proofs.Common.{◌≡◌, ◌≢◌, ◌==◌, ℕ, ◌<◌, ◌||◌, nat_cmp, true, false, List, [], ◌∷◌, length, sym, ap, ◌∙◌}
+use Rattle.std.proofs.Common.{subst, arith}
 use Rattle.std.specs.Prelude.{All, AllPairs, nat_eq}
 use Rattle.std.specs.List.{list_any}
 use Rattle.std.specs.FinSet as set
@@ -11,8 +12,10 @@ use Rattle.wcp_relay.specs.declared.feed.Feed.{Feed}
 use Rattle.wcp_relay.specs.Feeding.{IsNewFeed, processes_of}
 
 -- one new feed of process 0 serves the set of it
-pub serves_one : (feed : Feed) (feeds : List Feed) (members : Numbers) → feeds ≡ feed ∷ [] → feed.process ≡ 0 → IsNewFeed feed → members ≡ set.insert set.empty 0 →
-    All IsNewFeed feeds × AllPairs (λ p q. p ≢ q) (processes_of feeds) × ((p : ℕ) → set.contains members p ≡ list_any (λ q. q == p) (processes_of feeds))
+pub serves_one : (feed : Feed) (feeds : List Feed) (members : Numbers) → feeds ≡ feed ∷ [] → feed.process ≡ 0
+    → IsNewFeed feed → members ≡ set.insert set.empty 0 →
+    All IsNewFeed feeds × AllPairs (λ p q. p ≢ q) (processes_of feeds)
+    × ((p : ℕ) → set.contains members p ≡ list_any (λ q. q == p) (processes_of feeds))
 serves_one feed feeds members is own new only = rw (is, only) (
   (λ k d below. grind (arith, common_steps)),
   (λ i j d before below. absurd (omega arith)),

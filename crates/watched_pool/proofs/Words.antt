@@ -1,9 +1,12 @@
 -- The words of the proofs of this crate, from one place.
-pub use Rattle.std.proofs.Common.{◌≡◌, ℕ, ◌+◌, not, List, [], ◌∷◌, ◌++◌, if◌then◌else◌, refl, ap, ◌∙◌, arith, None, length, subst, append_assoc, zero, suc, Some, slice_get, sym, ◌<◌, ◌≤◌, Result, Ok, Err, map, ◌%◌, ◌^◌, take, get_or, All, ◌*◌, true, ◌-◌, nat_lt}
+pub use Rattle.std.proofs.Common.{◌≡◌, ℕ, ◌+◌, not, List, [], ◌∷◌, ◌++◌, if◌then◌else◌, refl, ap, ◌∙◌, arith, None}
+pub use Rattle.std.proofs.Common.{length, subst, append_assoc, zero, suc, Some, slice_get, sym, ◌<◌, ◌≤◌, Result, Ok}
+pub use Rattle.std.proofs.Common.{Err, map, ◌%◌, ◌^◌, take, get_or, All, ◌*◌, true, ◌-◌, nat_lt}
 pub use Rattle.std.proofs.lemmas.List.{length-map, length-append}
 pub use Rattle.std.proofs.lemmas.List.Sums.{fold-append, sum_by-append, sum_by_more}
 pub use Rattle.std.specs.Prelude.{IsSomeAnd, sum}
-pub use Rattle.watched_pool.specs.Logs.{IsReplicaLog, NoJob, OneMore, calls_for, NothingYet, GaveOut, processes_of, IsDispatching, most_unanswered, IsDispatcherLog, WasAnswered, IsAnswering}
+pub use Rattle.watched_pool.specs.Logs.{IsReplicaLog, NoJob, OneMore, calls_for, NothingYet, GaveOut, processes_of}
+pub use Rattle.watched_pool.specs.Logs.{IsDispatching, most_unanswered, IsDispatcherLog, WasAnswered, IsAnswering}
 pub use Rattle.watched_pool.specs.Members.{IsLogOfPart, IsPool, IsReplica, jobs_of, DidPart, LeavesPart}
 pub use Rattle.watched_pool.specs.Pools.{IsLogAt, jobs_at, IsLogTaken, IsPoolReport, IsToldAt, snapshots_at}
 pub use Rattle.watched_pool.specs.declared.dispatcher.Pace.{Pace}

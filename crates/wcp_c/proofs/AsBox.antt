@@ -12,7 +12,11 @@ use Rattle.wcp_c.specs.contracts.parts.Parts as Parts
 use Rattle.wcp_c.specs.contracts.held.Held as Held
 
 abbrev pub E : Bx
-E = record { row = Checker.the_row; laws = checker.the_row_laws; al = record { row = Heap.the_row; laws = heap.the_row_laws; g = ghosts; d = dict; drops = impl [] tnil dnil } }
+E = record {
+  row = Checker.the_row;
+  laws = checker.the_row_laws;
+  al = record { row = Heap.the_row; laws = heap.the_row_laws; g = ghosts; d = dict; drops = impl [] tnil dnil };
+}
 
 abbrev pub FromParts : Slot 0
 FromParts = plain (λ _. Parts.the_row Checker.the_row Heap.the_row ghosts)

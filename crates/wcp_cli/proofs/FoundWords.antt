@@ -1,4 +1,6 @@
-use Rattle.wcp_cli.proofs.Imports.{◌≡◌, ◌∙◌, ◌⊎◌, List, [], ◌∷◌, codes, ap, Some, None, Option, refl, inl, inr, option_map, Text, Row, subcommand_of, subcommand_name_of, subcommand_rows, subcommand_rows_of, AskForSingle, IsAlone, IsReader, program}
+use Rattle.wcp_cli.proofs.Imports.{◌≡◌, ◌∙◌, ◌⊎◌, List, [], ◌∷◌, codes, ap, Some, None, Option, refl, inl, inr}
+use Rattle.wcp_cli.proofs.Imports.{option_map, Text, Row, subcommand_of, subcommand_name_of, subcommand_rows}
+use Rattle.wcp_cli.proofs.Imports.{subcommand_rows_of, AskForSingle, IsAlone, IsReader, program}
 use Rattle.clap.proofs.OnLiterals.{clap_on_literals}
 use Rattle.clap.specs.declared.parser.matches.ArgMatches.{ArgMatches}
 use Rattle.clap.specs.declared.parser.matches.ArgMatches.TheViews.{out-ArgMatches, out-SubCommand}
@@ -10,7 +12,8 @@ use Rattle.wcp_cli.proofs.RingWords.{found_by}
 abbrev pub name_of : Option (Text × List Row) → Option Text
 name_of = option_map (λ p. p.0)
 
-name_of_rows : {Z : Type 0} (sub : Option (Box SubCommand Z)) → option_map (λ b. (out-SubCommand (box_value b)).name.now) sub ≡ name_of (subcommand_rows sub)
+name_of_rows : {Z : Type 0} (sub : Option (Box SubCommand Z))
+    → option_map (λ b. (out-SubCommand (box_value b)).name.now) sub ≡ name_of (subcommand_rows sub)
 name_of_rows None = refl
 name_of_rows (Some sub) = refl
 
@@ -28,7 +31,8 @@ reader_found word (inl is) = rw is refl
 reader_found word (inr (inl is)) = rw is refl
 reader_found word (inr (inr is)) = rw is refl
 
-pub reader-found : (word : Text) (words : List Text) → IsReader word → IsAlone word words → name_of (subcommand_of program words) ≡ Some word
+pub reader-found : (word : Text) (words : List Text) → IsReader word → IsAlone word words
+    → name_of (subcommand_of program words) ≡ Some word
 reader-found word words is alone = ap (λ ws. name_of (found_by ws)) alone ∙ reader_found word is
 
 pub single-found : (words : List Text) → AskForSingle words

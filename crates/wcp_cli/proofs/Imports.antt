@@ -7,10 +7,17 @@ pub use Rattle.clap.specs.Kinds.{or_else}
 pub use Rattle.clap.specs.Lexer.{strip_byte}
 pub use Rattle.clap.specs.Simple.{names_of, entered, new_shape}
 pub use Rattle.clap.specs.Values.{bool_text}
-pub use Rattle.clap.specs.Walk.{Held, nothing_held, walk_from, finished, settled, stop_after, walk, walked, Names, Rule, Walk}
-pub use Rattle.clap.specs.Words.{Text, built, fault_of, IsAmong, Kinds, is_simple, is_simple_and_free, Shape, Row, subcommand_of, subcommand_name_of, subcommand_rows, subcommand_rows_of, App, HasKind, app_of, kind_of, found_of, ReadsOne, shape_of, with_subcommand}
+pub use Rattle.clap.specs.Walk.{Held, nothing_held, walk_from, finished, settled, stop_after, walk, walked, Names, Rule}
+pub use Rattle.clap.specs.Walk.{Walk}
+pub use Rattle.clap.specs.Words.{Text, built, fault_of, IsAmong, Kinds, is_simple, is_simple_and_free, Shape, Row}
+pub use Rattle.clap.specs.Words.{subcommand_of, subcommand_name_of, subcommand_rows, subcommand_rows_of, App, HasKind}
+pub use Rattle.clap.specs.Words.{app_of, kind_of, found_of, ReadsOne, shape_of, with_subcommand}
 pub use Rattle.clap.specs.declared.error.kind.ErrorKind.{ErrorKind}
-pub use Rattle.std.proofs.Common.{◌≡◌, ◌∙◌, ◌<◌, ◌^◌, ℕ, Bool, true, false, List, [], ◌∷◌, codes, ap, None, refl, decimal, drop, inl, inr, ◌==◌, ◌&&◌, ◌≤◌, ◌⊎◌, length, pos, subst, arith, nat_le, nat_lt, lt-ltb, le-leb, leb-true, ne_eqb, ◌≢◌, sym, true≢false, IsErr, Result, Ok, Err, ap₂, Some, Option, get_or, if◌then◌else◌, zero, suc, ◌++◌, replicate, append-nil, eq-eqb, fold, append_assoc, option_map, vec_len, map, ⊎_elim, IfOk, rules}
+pub use Rattle.std.proofs.Common.{◌≡◌, ◌∙◌, ◌<◌, ◌^◌, ℕ, Bool, true, false, List, [], ◌∷◌, codes, ap, None, refl}
+pub use Rattle.std.proofs.Common.{decimal, drop, inl, inr, ◌==◌, ◌&&◌, ◌≤◌, ◌⊎◌, length, pos, subst, arith, nat_le}
+pub use Rattle.std.proofs.Common.{nat_lt, lt-ltb, le-leb, leb-true, ne_eqb, ◌≢◌, sym, true≢false, IsErr, Result, Ok}
+pub use Rattle.std.proofs.Common.{Err, ap₂, Some, Option, get_or, if◌then◌else◌, zero, suc, ◌++◌, replicate, append-nil}
+pub use Rattle.std.proofs.Common.{eq-eqb, fold, append_assoc, option_map, vec_len, map, ⊎_elim, IfOk, rules}
 pub use Rattle.std.proofs.KnownBytes.{Keeps-refl}
 pub use Rattle.std.proofs.lemmas.Bool.{and_parts, cases_Bool, false_from_ne_true}
 pub use Rattle.std.proofs.lemmas.Fmt.{decimal_is_IsNumeral, parse-decimal}
@@ -19,12 +26,16 @@ pub use Rattle.std.proofs.lemmas.Result.{IfOk-from_err, IfOk-weaker}
 pub use Rattle.std.specs.Io.KnownBytes.{Keeps, Appends}
 pub use Rattle.std.specs.List.{list_all, flat_map}
 pub use Rattle.std.specs.Str.{bytes_eq}
-pub use Rattle.std.specs.Str.Parse.{AllDigits, IsNumeral, digits_value, ParsesUnsigned, ExplainsUnsignedError, HasUnsignedDigitsIfOk}
+pub use Rattle.std.specs.Str.Parse.{AllDigits, IsNumeral, digits_value, ParsesUnsigned, ExplainsUnsignedError}
+pub use Rattle.std.specs.Str.Parse.{HasUnsignedDigitsIfOk}
 pub use Rattle.wcp_input.specs.Input.{Known}
 pub use Rattle.wcp_output.specs.Fronts.{AppendsFront}
 pub use Rattle.wcp_cli.specs.Edge.{status_after, Quiet, Front, Whole}
 pub use Rattle.wcp_cli.specs.RequestAnswers.{Reads, ring_text}
 pub use Rattle.wcp_cli.specs.RingOptions.{AsksForRing, HasOptions}
-pub use Rattle.wcp_cli.specs.Words.{AskForNoRing, IsRing, NoNumber, OnlyProcs, OnlyRounds, OutOfRange, flag_words, program, AskForSingle, AskForHelp, AskForVersion, AskForUnknown, IsAlone, IsReader, IsUnknown, UnknownWord, Further, NoRing, is_flag, IsSameRequest, AskForRing, ring_shape, AskFor, MayHelp, named}
+pub use Rattle.wcp_cli.specs.Words.{AskForNoRing, IsRing, NoNumber, OnlyProcs, OnlyRounds, OutOfRange, flag_words}
+pub use Rattle.wcp_cli.specs.Words.{program, AskForSingle, AskForHelp, AskForVersion, AskForUnknown, IsAlone, IsReader}
+pub use Rattle.wcp_cli.specs.Words.{IsUnknown, UnknownWord, Further, NoRing, is_flag, IsSameRequest, AskForRing}
+pub use Rattle.wcp_cli.specs.Words.{ring_shape, AskFor, MayHelp, named}
 pub use Rattle.wcp_cli.specs.declared.words.Request.{Request}
 pub use Rattle.wcp_cli.specs.declared.words.Request.TheVariants.{Single, Run, Replay, Help, Unknown}

@@ -1,4 +1,7 @@
-use Rattle.wcp_cli.proofs.Imports.{◌≡◌, ◌∙◌, ◌<◌, ◌^◌, ℕ, Bool, true, false, List, [], ◌∷◌, codes, ap, None, refl, decimal, drop, inl, inr, Text, built, fault_of, built_fault, Held, nothing_held, AskForNoRing, IsRing, NoNumber, OnlyProcs, OnlyRounds, OutOfRange, flag_words, program}
+use Rattle.wcp_cli.proofs.Imports.{◌≡◌, ◌∙◌, ◌<◌, ◌^◌, ℕ, Bool, true, false, List, [], ◌∷◌, codes, ap, None, refl}
+use Rattle.wcp_cli.proofs.Imports.{decimal, drop, inl, inr, Text, built, fault_of, built_fault, Held, nothing_held}
+use Rattle.wcp_cli.proofs.Imports.{AskForNoRing, IsRing, NoNumber, OnlyProcs, OnlyRounds, OutOfRange, flag_words}
+use Rattle.wcp_cli.proofs.Imports.{program}
 use Rattle.clap.proofs.OnLiterals.{clap_on_literals}
 use Rattle.clap.specs.Kinds.{Kinds}
 use Rattle.clap.specs.declared.error.kind.ErrorKind.TheVariants as kind
@@ -16,17 +19,21 @@ held_with_flag id number = record { rows = number_row id number ∷ flag_row tru
 
 -- ---- a number is left out
 
-only_procs : (procs : Text) (fault inside : Bool) → IsNumberIn 2 16 inside procs → wrong (codes "--procs" ∷ procs ∷ flag_words fault) ≡ alone inside
+only_procs : (procs : Text) (fault inside : Bool) → IsNumberIn 2 16 inside procs
+    → wrong (codes "--procs" ∷ procs ∷ flag_words fault) ≡ alone inside
 unfolding clap_on_literals
-only_procs procs true true p = wrong_at_end (codes "--procs" ∷ procs ∷ flag_words true) (held_with_flag (codes "procs") procs) (alone true)
+only_procs procs true true p =
+    wrong_at_end (codes "--procs" ∷ procs ∷ flag_words true) (held_with_flag (codes "procs") procs) (alone true)
     (simp (p.no_hyphen, p.no_end, p.tested) refl) (simp (p.no_hyphen, p.no_end) refl) refl
 only_procs procs true false p = simp (p.no_hyphen, p.no_end, p.tested) refl
 only_procs procs false true p = simp (p.no_hyphen, p.no_end, p.tested) refl
 only_procs procs false false p = simp (p.no_hyphen, p.no_end, p.tested) refl
 
-only_rounds : (rounds : Text) (fault inside : Bool) → IsNumberIn 1 1000 inside rounds → wrong (codes "--rounds" ∷ rounds ∷ flag_words fault) ≡ alone inside
+only_rounds : (rounds : Text) (fault inside : Bool) → IsNumberIn 1 1000 inside rounds
+    → wrong (codes "--rounds" ∷ rounds ∷ flag_words fault) ≡ alone inside
 unfolding clap_on_literals
-only_rounds rounds true true r = wrong_at_end (codes "--rounds" ∷ rounds ∷ flag_words true) (held_with_flag (codes "rounds") rounds) (alone true)
+only_rounds rounds true true r =
+    wrong_at_end (codes "--rounds" ∷ rounds ∷ flag_words true) (held_with_flag (codes "rounds") rounds) (alone true)
     (simp (r.no_hyphen, r.no_end, r.tested) refl) (simp (r.no_hyphen, r.no_end) refl) refl
 only_rounds rounds true false r = simp (r.no_hyphen, r.no_end, r.tested) refl
 only_rounds rounds false true r = simp (r.no_hyphen, r.no_end, r.tested) refl
@@ -55,14 +62,17 @@ out_of_range n rounds fault n_small rounds_small no_ring = elim (decimal-cases 2
 ]
 
 -- what `ring` finds wrong, the program finds wrong
-from_top : (words after : List Text) → drop 1 words ≡ codes "ring" ∷ after → (inside : Bool) × (wrong after ≡ alone inside) → (inside : Bool) × (fault_of program words ≡ alone inside)
-from_top words after asked found = (found.0, ap (built_fault (built program) nothing_held) asked ∙ top_fault after _ found.1)
+from_top : (words after : List Text) → drop 1 words ≡ codes "ring" ∷ after
+    → (inside : Bool) × (wrong after ≡ alone inside) → (inside : Bool) × (fault_of program words ≡ alone inside)
+from_top words after asked found =
+    (found.0, ap (built_fault (built program) nothing_held) asked ∙ top_fault after _ found.1)
 
 -- words that ask for no ring have a number that is out of its range, or want for one
 pub no_ring-fails : (words : List Text) → AskForNoRing words → (inside : Bool) × (fault_of program words ≡ alone inside)
 no_ring-fails words (OutOfRange n rounds fault n_small rounds_small no_ring asked) =
     from_top words _ asked (false, out_of_range n rounds fault n_small rounds_small no_ring)
-no_ring-fails words (OnlyProcs n fault small asked) = from_top words _ asked (is_in 2 16 n, only_procs (decimal n) fault _ (decimal_in 2 16 n small))
+no_ring-fails words (OnlyProcs n fault small asked) =
+    from_top words _ asked (is_in 2 16 n, only_procs (decimal n) fault _ (decimal_in 2 16 n small))
 no_ring-fails words (OnlyRounds rounds fault small asked) =
     from_top words _ asked (is_in 1 1000 rounds, only_rounds (decimal rounds) fault _ (decimal_in 1 1000 rounds small))
 no_ring-fails words (NoNumber fault asked) = from_top words _ asked (true, no_number fault)

@@ -1,4 +1,5 @@
-use Rattle.wcp_cli.proofs.Imports.{◌≡◌, ℕ, refl, sym, true≢false, IsErr, Result, Ok, Err, Keeps, Request, Single, Run, Replay, Help, Known, Reads, status_after, IsSameRequest}
+use Rattle.wcp_cli.proofs.Imports.{◌≡◌, ℕ, refl, sym, true≢false, IsErr, Result, Ok, Err, Keeps, Request, Single, Run}
+use Rattle.wcp_cli.proofs.Imports.{Replay, Help, Known, Reads, status_after, IsSameRequest}
 use Rattle.wcp_cli.specs.declared.fault.Fault.{Fault}
 
 -- where nothing is read, no request has read too much

@@ -1,4 +1,5 @@
-use Rattle.wcp_cli.proofs.Imports.{◌≡◌, ℕ, zero, suc, Bool, true, List, ◌++◌, replicate, Option, Some, refl, ap₂, ◌∙◌, append-nil, eq-eqb, flat_map, list_all, length-replicate, ring_text}
+use Rattle.wcp_cli.proofs.Imports.{◌≡◌, ℕ, zero, suc, Bool, true, List, ◌++◌, replicate, Option, Some, refl, ap₂, ◌∙◌}
+use Rattle.wcp_cli.proofs.Imports.{append-nil, eq-eqb, flat_map, list_all, length-replicate, ring_text}
 use Rattle.wcp_model.specs.declared.plan.Plan.{Plan}
 use Rattle.wcp_model.specs.declared.workload.Task.{Task}
 use Rattle.wcp_script.specs.Lines.{Word, text_of}
@@ -8,7 +9,8 @@ use Rattle.std.specs.Prelude.{nat_lt}
 use Rattle.std.proofs.Common.{◌+◌, ◌<◌, ◌≤◌, ap, arith}
 use Rattle.std.proofs.Math.Nat.{min-eq_left}
 use Rattle.std.proofs.lemmas.Bool.{lt-ltb}
-use Rattle.wcp_script.specs.PlanText.{are_all_watched, has_one_relay, head_lines, is_first, opening_lines, text_of_workload}
+use Rattle.wcp_script.specs.PlanText.{are_all_watched, has_one_relay, head_lines, is_first, opening_lines}
+use Rattle.wcp_script.specs.PlanText.{text_of_workload}
 use Rattle.wcp_script.specs.Ring.{IsRingPlan, ring_tasks}
 use Rattle.wcp_script.specs.WorkloadText.{task_line}
 use Rattle.wcp_script.proofs.Printed.{text_of-head_and_tasks}
@@ -20,7 +22,9 @@ all_served (suc n) = all_served n
 
 -- the plan of a ring has one relay, which serves every process
 has_one : (n : ℕ) (plan : Plan) → IsRingPlan n plan → has_one_relay plan ≡ true
-has_one n plan ring = rw (ring.tree, ring.attached, ring.processes, length-replicate {A = Option ℕ} n (Some 0), eq-eqb n n refl) (all_served n)
+has_one n plan ring =
+    rw (ring.tree, ring.attached, ring.processes, length-replicate {A = Option ℕ} n (Some 0), eq-eqb n n refl)
+    (all_served n)
 
 -- what is so of each number of a range is so of all
 all_in : (test : ℕ → Bool) (a m : ℕ) → ((p : ℕ) → p < a + m → test p ≡ true) → list_all test (range_with_len a m) ≡ true
@@ -39,7 +43,9 @@ short_head n plan few ring =
     rw (has_one n plan ring, ring.processes, all_watched n plan few ring, ring.flag, ring.links, ring.holds)
     (append-nil (opening_lines n))
 
-pub ring_is_printed : (n rounds : ℕ) (fault : Bool) (plan : Plan) (tasks : List Task) → n ≤ 16 → IsRingPlan n plan → tasks ≡ ring_tasks n rounds fault
+pub ring_is_printed : (n rounds : ℕ) (fault : Bool) (plan : Plan) (tasks : List Task) → n ≤ 16 → IsRingPlan n plan
+    → tasks ≡ ring_tasks n rounds fault
     → text_of_workload plan tasks ≡ ring_text n rounds fault
 ring_is_printed n rounds fault plan tasks few ring are =
-    text_of-head_and_tasks plan tasks ∙ ap₂ (λ (head : List (List Word)) (ts : List Task). text_of head ++ flat_map task_line ts) (short_head n plan few ring) are
+    text_of-head_and_tasks plan tasks ∙ ap₂ (λ (head : List (List Word)) (ts : List Task). text_of head ++ flat_map
+    task_line ts) (short_head n plan few ring) are

@@ -1,4 +1,9 @@
-use Rattle.wcp_cli.proofs.Imports.{◌≡◌, ◌≢◌, Bool, true, false, List, [], ◌∷◌, codes, ap, ◌∙◌, sym, subst, refl, None, inl, inr, IsAmong, Kinds, Text, fault_of, is_simple, is_simple_and_free, built, built_fault, strip_byte, names_of, nothing_held, walk_from, stopped_fault, false_from_ne_true, ErrorKind, bytes_eq, AskForSingle, AskForHelp, AskForVersion, AskForUnknown, IsAlone, IsReader, IsUnknown, UnknownWord, Further, NoRing, is_flag, program}
+use Rattle.wcp_cli.proofs.Imports.{◌≡◌, ◌≢◌, Bool, true, false, List, [], ◌∷◌, codes, ap, ◌∙◌, sym, subst, refl, None}
+use Rattle.wcp_cli.proofs.Imports.{inl, inr, IsAmong, Kinds, Text, fault_of, is_simple, is_simple_and_free, built}
+use Rattle.wcp_cli.proofs.Imports.{built_fault, strip_byte, names_of, nothing_held, walk_from, stopped_fault}
+use Rattle.wcp_cli.proofs.Imports.{false_from_ne_true, ErrorKind, bytes_eq, AskForSingle, AskForHelp, AskForVersion}
+use Rattle.wcp_cli.proofs.Imports.{AskForUnknown, IsAlone, IsReader, IsUnknown, UnknownWord, Further, NoRing, is_flag}
+use Rattle.wcp_cli.proofs.Imports.{program}
 use Rattle.clap.proofs.OnLiterals.{clap_on_literals}
 use Rattle.std.proofs.lemmas.Slice.Eq.{bytes_eq-Decides}
 use Rattle.clap.specs.declared.error.kind.ErrorKind.TheVariants as kind
@@ -40,15 +45,18 @@ help-fails words (inr (inl e)) passes = let bad = sym (ap (built_fault (built pr
 help-fails words (inr (inr e)) passes = let bad = sym (ap (built_fault (built program) nothing_held) e) ∙ passes in cc
 
 -- and not as a wish for the version
-pub help-is_no_version : (words : List Text) → AskForHelp words → IsAmong kind.DisplayVersion (fault_of program words) → ⊥
+pub help-is_no_version : (words : List Text) → AskForHelp words → IsAmong kind.DisplayVersion (fault_of program words)
+    → ⊥
 unfolding clap_on_literals
 help-is_no_version words (inl e) among =
     elim (subst (IsAmong kind.DisplayVersion) (ap (built_fault (built program) nothing_held) e) among)
     [ inl bad ↦ cc | inr rest ↦ elim rest [ inl bad ↦ cc | inr none ↦ none ] ]
 help-is_no_version words (inr (inl e)) among =
-    elim (subst (IsAmong kind.DisplayVersion) (ap (built_fault (built program) nothing_held) e) among) [ inl bad ↦ cc | inr none ↦ none ]
+    elim (subst (IsAmong kind.DisplayVersion) (ap (built_fault (built program) nothing_held) e) among)
+    [ inl bad ↦ cc | inr none ↦ none ]
 help-is_no_version words (inr (inr e)) among =
-    elim (subst (IsAmong kind.DisplayVersion) (ap (built_fault (built program) nothing_held) e) among) [ inl bad ↦ cc | inr none ↦ none ]
+    elim (subst (IsAmong kind.DisplayVersion) (ap (built_fault (built program) nothing_held) e) among)
+    [ inl bad ↦ cc | inr none ↦ none ]
 
 -- the words that ask for the version make a parse fail, and only as a wish for it
 pub version-fails : (words : List Text) → AskForVersion words → fault_of program words ≡ kind.DisplayVersion ∷ []
@@ -67,10 +75,12 @@ not_end_of_flags [] no_flag = refl
 not_end_of_flags (byte ∷ bytes) no_flag = rw no_flag refl
 
 not_equal : (name word : Text) → (word ≡ name → ⊥) → bytes_eq name word ≡ false
-not_equal name word differs = false_from_ne_true (bytes_eq name word) (λ same. differs (sym ((bytes_eq-Decides name word).0 same)))
+not_equal name word differs =
+    false_from_ne_true (bytes_eq name word) (λ same. differs (sym ((bytes_eq-Decides name word).0 same)))
 
 -- the first word is unknown
-unknown_first : (word : Text) (rest : List Text) → IsUnknown word → built_fault (built program) nothing_held (word ∷ rest) ≡ kind.UnknownArgument ∷ kind.InvalidSubcommand ∷ []
+unknown_first : (word : Text) (rest : List Text) → IsUnknown word
+    → built_fault (built program) nothing_held (word ∷ rest) ≡ kind.UnknownArgument ∷ kind.InvalidSubcommand ∷ []
 unfolding clap_on_literals
 unknown_first word rest unknown =
     simp (
@@ -90,8 +100,10 @@ unfolding clap_on_literals
 further_word reader word rest is not_flag =
     let no_flag = no_hyphen word not_flag in
     let not_end = not_end_of_flags word not_flag in
-    let stops = λ (name : Text). stays_stopped (built program).top.rules (names_of (built program)) (walk_from nothing_held) name (word ∷ []) rest in
-    let passes = λ (name : Text). stopped_fault (built program).top (names_of (built program)) (walk_from nothing_held) (name, word ∷ []) rest in
+    let stops = λ (name : Text). stays_stopped (built program).top.rules (names_of (built program))
+    (walk_from nothing_held) name (word ∷ []) rest in
+    let passes = λ (name : Text). stopped_fault (built program).top (names_of (built program)) (walk_from nothing_held)
+    (name, word ∷ []) rest in
     elim is [
       | inl single ↦ rw single (simp (stops (codes "single"), passes (codes "single"), not_end, no_flag) refl)
       | inr (inl run) ↦ rw run (simp (stops (codes "run"), passes (codes "run"), not_end, no_flag) refl)
@@ -128,7 +140,8 @@ pub unknown-fails : (words : List Text) → AskForUnknown words → FailsPlainly
 unknown-fails words (UnknownWord word rest is unknown) =
     rw (ap (built_fault (built program) nothing_held) is ∙ unknown_first word rest unknown) fails_by_word
 unknown-fails words (Further reader word rest is reads no_flag) =
-    rw (ap (built_fault (built program) nothing_held) is ∙ further_word reader word rest reads no_flag) (fails_by kind.UnknownArgument (λ same. cc) (λ same. cc))
+    rw (ap (built_fault (built program) nothing_held) is ∙ further_word reader word rest reads no_flag)
+    (fails_by kind.UnknownArgument (λ same. cc) (λ same. cc))
 unknown-fails words (NoRing asked) =
     let fails = no_ring-fails words asked in
     rw fails.1 (fails_alone fails.0)

@@ -12,12 +12,15 @@ use Rattle.std.specs.FinSet as sets
 use Rattle.std.specs.FinMap.{nat_cmp-IsAntisymmetric}
 
 -- the numbers of a set of so many marks are those of processes
-pub process_numbers : (marks : List Bool) (numbers : sets.FinSet nat_cmp) → length marks ≡ most_processes → set_of marks ≡ numbers → AreProcessNumbers numbers
+pub process_numbers : (marks : List Bool) (numbers : sets.FinSet nat_cmp) → length marks ≡ most_processes
+    → set_of marks ≡ numbers → AreProcessNumbers numbers
 process_numbers marks numbers full is q member = grind (arith, contains-marks, get_or_past)
 
 -- what a set contains once p is added
-pub contains_with : (numbers : sets.FinSet nat_cmp) (p q : ℕ) → sets.contains (sets.insert numbers p) q ≡ (nat_eq q p || sets.contains numbers q)
-contains_with numbers p q = sets.contains-insert nat_cmp_total numbers p q ∙ ap (λ b. b || sets.contains numbers q) (unsigned_tied q p)
+pub contains_with : (numbers : sets.FinSet nat_cmp) (p q : ℕ)
+    → sets.contains (sets.insert numbers p) q ≡ (nat_eq q p || sets.contains numbers q)
+contains_with numbers p q = sets.contains-insert nat_cmp_total numbers p q
+    ∙ ap (λ b. b || sets.contains numbers q) (unsigned_tied q p)
 
 -- none is below 0
 pub none_below : (q : ℕ) → sets.contains (sets.empty {R = nat_cmp}) q ≡ nat_lt q 0
@@ -36,18 +39,28 @@ alone p = sets.insert sets.empty p
 pub alone_has : (p : ℕ) → sets.contains (alone p) p ≡ true
 alone_has p = grind (arith, nat_tests, contains_with)
 
-marks_with : (marks : List Bool) (p q : ℕ) → p < length marks → get_or (set marks p true) q false ≡ (nat_eq q p || get_or marks q false)
+marks_with : (marks : List Bool) (p q : ℕ) → p < length marks
+    → get_or (set marks p true) q false ≡ (nat_eq q p || get_or marks q false)
 marks_with marks p q within = grind (arith, nat_tests, get_or-set_same, get_or-set_other)
 
 -- a mark more is a number more
-pub set_of-set : (marks : List Bool) (p : ℕ) → p < length marks → set_of (set marks p true) ≡ sets.insert (set_of marks) p
+pub set_of-set : (marks : List Bool) (p : ℕ) → p < length marks
+    → set_of (set marks p true) ≡ sets.insert (set_of marks) p
 set_of-set marks p within =
-    sets.same_set nat_cmp_total nat_cmp-IsAntisymmetric _ _ (λ q. rw (contains_with, contains-marks (set marks p true) q, contains-marks marks q) (marks_with marks p q within))
+    sets.same_set nat_cmp_total nat_cmp-IsAntisymmetric _ _ (λ q.
+    rw (contains_with, contains-marks (set marks p true) q, contains-marks marks q) (marks_with marks p q within))
 
 -- the marks of either set are the marks of their union
-pub set_of-either : (marks mine theirs : List Bool) → ((p : ℕ) → get_or marks p false ≡ (get_or mine p false || get_or theirs p false)) → set_of marks ≡ sets.union (set_of mine) (set_of theirs)
+pub set_of-either : (marks mine theirs : List Bool)
+    → ((p : ℕ) → get_or marks p false ≡ (get_or mine p false || get_or theirs p false))
+    → set_of marks ≡ sets.union (set_of mine) (set_of theirs)
 set_of-either marks mine theirs each =
-    sets.same_set nat_cmp_total nat_cmp-IsAntisymmetric _ _ (λ q. rw (sets.contains-union nat_cmp_total, contains-marks marks q, contains-marks mine q, contains-marks theirs q) (each q))
+    sets.same_set nat_cmp_total nat_cmp-IsAntisymmetric _ _ (λ q. rw (
+      sets.contains-union nat_cmp_total,
+      contains-marks marks q,
+      contains-marks mine q,
+      contains-marks theirs q,
+    ) (each q))
 
 -- a number past the marks isn't in the set
 pub past_is_out : (marks : List Bool) (p : ℕ) → length marks ≤ p → sets.contains (set_of marks) p ≡ false

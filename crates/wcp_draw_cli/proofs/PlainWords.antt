@@ -25,7 +25,8 @@ not_end_of_flags [] plain = refl
 not_end_of_flags (byte ∷ bytes) plain = rw plain refl
 
 list_found : (plain : Plain) → IsPlain plain
-    → first_of (codes "names") (finished top.rules (walk top.rules (names_of (built program)) nothing_held (words_of plain)).held)
+    → first_of (codes "names")
+    (finished top.rules (walk top.rules (names_of (built program)) nothing_held (words_of plain)).held)
     ≡ list_of plain
 unfolding clap_on_literals
 list_found Bare plain = refl
@@ -46,7 +47,8 @@ none_refused (NamesSvg list) plain = simp (not_end_of_flags list plain, no_hyphe
 asks_plainly : (words : List Text) (request : Request) → IsRequestOf words request → (plain : Plain)
     → drop 1 words ≡ words_of plain → IsPlain plain → IsPictureGiven plain request
 asks_plainly words request (Passed passes found) plain are is =
-    let rows_are : matches_of program words ≡ finished top.rules (walk top.rules (names_of (built program)) nothing_held (words_of plain)).held =
+    let rows_are : matches_of program words ≡ finished top.rules
+    (walk top.rules (names_of (built program)) nothing_held (words_of plain)).held =
     ap (λ (ws : List Text). finished top.rules (walk top.rules (names_of (built program)) nothing_held ws).held) are in
     subst (λ given. IsPictureWith given request) (ap (first_of (codes "names")) rows_are ∙ list_found plain is) found
 asks_plainly words request (Refused why among refused) plain are is =

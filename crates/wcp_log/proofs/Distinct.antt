@@ -7,14 +7,16 @@ use Rattle.std.specs.List.{IsDistinct}
 use Rattle.std.proofs.lemmas.Map.Made.{AllPairs-from_IsDistinct, IsDistinct-from_AllPairs}
 use Rattle.json.specs.Strict.{keys, AreDistinct, HasUniqueKeys, ItemsHaveUniqueKeys, MembersHaveUniqueKeys}
 
-none_equal : (name : List ℕ) (names : List (List ℕ)) → AllByRecursion (λ y. bytes_eq name y ≡ false) names → list_any (bytes_eq name) names ≡ false
+none_equal : (name : List ℕ) (names : List (List ℕ)) → AllByRecursion (λ y. bytes_eq name y ≡ false) names
+    → list_any (bytes_eq name) names ≡ false
 none_equal name [] differ = refl
 none_equal name (other ∷ others) differ =
     let rest = none_equal name others differ.1 in
     let first : bytes_eq name other ≡ false = differ.0 in
     grind arith
 
-all_differ : (name : List ℕ) (names : List (List ℕ)) → list_any (bytes_eq name) names ≡ false → AllByRecursion (λ y. bytes_eq name y ≡ false) names
+all_differ : (name : List ℕ) (names : List (List ℕ)) → list_any (bytes_eq name) names ≡ false
+    → AllByRecursion (λ y. bytes_eq name y ≡ false) names
 all_differ name [] none = search rules
 all_differ name (other ∷ others) none =
     let first : bytes_eq name other ≡ false = grind arith in

@@ -9,19 +9,22 @@ own : IsNumeralModel (λ ds. all_ascii_digits ds ≡ true) (digits_value 10)
 own = numerals_by_value _ tells_all_ascii_digits
 
 -- What a parse gives of a text without a plus.
-pub small_number : (text : List ℕ) (n : ℕ) → get_or text 0 0 ≢ 43 → ParsesUnsigned {E = ℕ} 32 10 text (Ok n) → n ≤ most_number → Some n ≡ number_spelled text
+pub small_number : (text : List ℕ) (n : ℕ) → get_or text 0 0 ≢ 43 → ParsesUnsigned {E = ℕ} 32 10 text (Ok n)
+    → n ≤ most_number → Some n ≡ number_spelled text
 unfolding number_spelled
 small_number text n plain parsed small =
     let is = parse_plain own {E = ℕ} 32 text (Ok n) parsed plain in
     grind arith
 
-pub large_number : (text : List ℕ) (n : ℕ) → get_or text 0 0 ≢ 43 → ParsesUnsigned {E = ℕ} 32 10 text (Ok n) → most_number < n → None ≡ number_spelled text
+pub large_number : (text : List ℕ) (n : ℕ) → get_or text 0 0 ≢ 43 → ParsesUnsigned {E = ℕ} 32 10 text (Ok n)
+    → most_number < n → None ≡ number_spelled text
 unfolding number_spelled
 large_number text n plain parsed large =
     let is = parse_plain own {E = ℕ} 32 text (Ok n) parsed plain in
     grind arith
 
-pub no_number : (text : List ℕ) (e : ℕ) → get_or text 0 0 ≢ 43 → ParsesUnsigned {E = ℕ} 32 10 text (Err e) → None ≡ number_spelled text
+pub no_number : (text : List ℕ) (e : ℕ) → get_or text 0 0 ≢ 43 → ParsesUnsigned {E = ℕ} 32 10 text (Err e)
+    → None ≡ number_spelled text
 unfolding number_spelled
 no_number text e plain parsed =
     let not = parse_plain own {E = ℕ} 32 text (Err e) parsed plain in

@@ -14,7 +14,9 @@ pub not_utf8 : (line : List ℕ) → (IsUtf8 line → ⊥) → is_utf8 line ≡ 
 not_utf8 line none = false_from_ne_true (is_utf8 line) (λ passes. none (IsUtf8-from_is_utf8 line passes))
 
 parts_at : (text : List ℕ) (r : Option (Bor (List ℕ) × Bor (List ℕ)))
-    → MatchOption r (position_or_len (λ b. eqb b 32) text ≡ length text) (λ x. (position_or_len (λ b. eqb b 32) text < length text) × (x.0.now ≡ before_first (λ b. eqb b 32) text) × (x.1.now ≡ after_first (λ b. eqb b 32) text))
+    → MatchOption r (position_or_len (λ b. eqb b 32) text ≡ length text)
+    (λ x. (position_or_len (λ b. eqb b 32) text < length text) × (x.0.now ≡ before_first (λ b. eqb b 32) text)
+    × (x.1.now ≡ after_first (λ b. eqb b 32) text))
     → MatchOption r (cut_in text ≡ Err Text) (λ parts. cut_in text ≡ Ok (parts.0.now, parts.1.now))
 unfolding cut_in
 parts_at text None nowhere = grind arith
@@ -25,5 +27,6 @@ parts_at text (Some parts) found =
     grind arith
 
 -- A text is cut at its first space.
-pub cut_once : (text : List ℕ) (r : Option (Bor (List ℕ) × Bor (List ℕ))) → IsSplitOnceResult 32 text r → MatchOption r (cut_in text ≡ Err Text) (λ parts. cut_in text ≡ Ok (parts.0.now, parts.1.now))
+pub cut_once : (text : List ℕ) (r : Option (Bor (List ℕ) × Bor (List ℕ))) → IsSplitOnceResult 32 text r
+    → MatchOption r (cut_in text ≡ Err Text) (λ parts. cut_in text ≡ Ok (parts.0.now, parts.1.now))
 cut_once text r split = parts_at text r (split_once_first 32 text r split (omega arith))

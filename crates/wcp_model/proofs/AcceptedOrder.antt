@@ -1,4 +1,7 @@
-use Rattle.wcp_model.proofs.Words.{◌≡◌, ℕ, ◌+◌, List, All, length, take, slice_get, Some, refl, sym, ◌∙◌, subst, inl, inr, eq-eqb, arith, cases_lt, take_all, take-take, length-take, slice_get_within, get_or_from_slice_get, same_Some, Close, Task, message_at, IsAccepted, is_task_of, computation_of, IsFitOrder}
+use Rattle.wcp_model.proofs.Words.{◌≡◌, ℕ, ◌+◌, List, All, length, take, slice_get, Some, refl, sym, ◌∙◌, subst, inl}
+use Rattle.wcp_model.proofs.Words.{inr, eq-eqb, arith, cases_lt, take_all, take-take, length-take, slice_get_within}
+use Rattle.wcp_model.proofs.Words.{get_or_from_slice_get, same_Some, Close, Task, message_at, IsAccepted, is_task_of}
+use Rattle.wcp_model.proofs.Words.{computation_of, IsFitOrder}
 use Rattle.wcp_model.proofs.SamePlace.{element_within, same_place}
 use Rattle.wcp_model.proofs.StepsOfOrder.{step_at, closes_behind, receive_task}
 use Rattle.wcp_model.proofs.MessagesOfOrder.{send_of_receive, delivery_step, message_sent_before}
@@ -8,12 +11,14 @@ pub IsFitOrder-itself : (tasks order : List Task) → IsFitOrder tasks order →
 IsFitOrder-itself tasks order fit = record { same_tasks = λ p. refl; sent_first = fit.sent_first }
 
 -- and so is each front of it
-pub IsFitOrder-take : (place : ℕ) (order : List Task) → IsFitOrder order order → IsFitOrder (take place order) (take place order)
+pub IsFitOrder-take : (place : ℕ) (order : List Task) → IsFitOrder order order
+    → IsFitOrder (take place order) (take place order)
 IsFitOrder-take place order fit = record {
   same_tasks = λ p. refl;
   sent_first = λ k p q.
       elim (cases_lt place k) [
-        | inl past ↦ rw (take_all k (take place order) (omega (arith, length-take place order))) (fit.sent_first place p q)
+        | inl past ↦ rw (take_all k (take place order) (omega (arith, length-take place order)))
+            (fit.sent_first place p q)
         | inr le ↦ rw (take-take k place order le) (fit.sent_first k p q)
       ];
 }
@@ -22,8 +27,10 @@ IsFitOrder-take place order fit = record {
 pub All-fit_order : (P : Task → Type 0) (tasks order : List Task) → IsFitOrder tasks order → All P tasks → All P order
 All-fit_order P tasks order fit all i d inside =
     let (task, at) = element_within order i inside in
-    let there = same_place (is_task_of task.p) order tasks i task (fit.same_tasks task.p) at (eq-eqb task.p task.p refl) in
-    rw (get_or_from_slice_get order i task d at) (subst P (get_or_from_slice_get tasks there.other task task there.found) (all there.other task (slice_get_within tasks there.other task there.found)))
+    let there =
+    same_place (is_task_of task.p) order tasks i task (fit.same_tasks task.p) at (eq-eqb task.p task.p refl) in
+    rw (get_or_from_slice_get order i task d at) (subst P (get_or_from_slice_get tasks there.other task task
+    there.found) (all there.other task (slice_get_within tasks there.other task there.found)))
 
 module _ (n : ℕ) (order : List Task) where
   -- a process closes behind the tasks, at the place of its number

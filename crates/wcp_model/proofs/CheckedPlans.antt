@@ -1,5 +1,9 @@
 -- What a checked plan keeps.
-use Rattle.wcp_model.proofs.Words.{AreSomeWatched, cases_lt, cases_Bool, inl, ◌≡◌, ◌≢◌, ℕ, true, false, ◌<◌, ◌≤◌, length, take, get_or, slice_get, Option, Some, None, inr, refl, sym, ap, ◌∙◌, eqb-true, eq-eqb, arith, list_any, list_any_at, slice_get-get_or, slice_get_within, get_or_from_slice_get, most_processes, most_cap, most_hold, most_relays, Relay, Plan, IsCheckedPlan, is_number, is_leaf, leaf_of, parent_of}
+use Rattle.wcp_model.proofs.Words.{AreSomeWatched, cases_lt, cases_Bool, inl, ◌≡◌, ◌≢◌, ℕ, true, false, ◌<◌, ◌≤◌}
+use Rattle.wcp_model.proofs.Words.{length, take, get_or, slice_get, Option, Some, None, inr, refl, sym, ap, ◌∙◌}
+use Rattle.wcp_model.proofs.Words.{eqb-true, eq-eqb, arith, list_any, list_any_at, slice_get-get_or, slice_get_within}
+use Rattle.wcp_model.proofs.Words.{get_or_from_slice_get, most_processes, most_cap, most_hold, most_relays, Relay, Plan}
+use Rattle.wcp_model.proofs.Words.{IsCheckedPlan, is_number, is_leaf, leaf_of, parent_of}
 use Rattle.std.specs.FinSet as set
 use Rattle.std.specs.Option.{option_flatten}
 use Rattle.wcp_model.proofs.Decided.{Decided, some_below_decided, agree_decided}
@@ -81,7 +85,8 @@ module _ (plan : Plan) (checked : IsCheckedPlan plan) where
       let entry = entry_of p relay is in
       let within = slice_get_within plan.attach.items p (Some relay) entry in
       let read = get_or_from_slice_get plan.attach.items p (Some relay) (Some relay) entry in
-      let named = λ (none : length plan.parents.items ≤ relay). checked fault.Unattached (inr (p, Some relay, within, read, none)) in
+      let named = λ (none : length plan.parents.items ≤ relay). checked fault.Unattached
+      (inr (p, Some relay, within, read, none)) in
       grind (arith, attached_all)
 
   -- each of the n processes has a leaf
@@ -102,7 +107,8 @@ module _ (plan : Plan) (checked : IsCheckedPlan plan) where
       let within = slice_get_within plan.attach.items p (Some relay) entry in
       let read = get_or_from_slice_get plan.attach.items p (Some relay) None entry in
       ap (list_any (is_number relay)) all_served
-      ∙ list_any_at (is_number relay) plan.attach.items p None within (ap (is_number relay) read ∙ eq-eqb relay relay refl)
+      ∙ list_any_at (is_number relay) plan.attach.items p None within
+      (ap (is_number relay) read ∙ eq-eqb relay relay refl)
 
   -- a relay that serves a process serves no relay
   pub not_mixed : (relay child p : ℕ) → leaf_of plan p ≡ Some relay → parent_of plan child ≡ Some (Relay relay) → ⊥

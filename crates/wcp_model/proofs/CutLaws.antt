@@ -1,5 +1,6 @@
 use Rattle.wcp_model.proofs.Words.{◌≡◌, ◌≢◌, ℕ, suc, zero, ◌<◌, ◌≤◌, min, Bool, true, false, true≢false, cond, ◌&&◌}
-use Rattle.wcp_model.proofs.Words.{List, [], ◌∷◌, length, map, refl, sym, ap, ap₂, ◌∙◌, subst, inl, inr, arith, ◌+◌, ◌-◌}
+use Rattle.wcp_model.proofs.Words.{List, [], ◌∷◌, length, map, refl, sym, ap, ap₂, ◌∙◌, subst, inl, inr, arith, ◌+◌}
+use Rattle.wcp_model.proofs.Words.{◌-◌}
 use Rattle.wcp_model.proofs.Words.{sum, ⊎_elim, slice_index_or, Option, Some, None, is_some, unwrap_or, cases_lt}
 use Rattle.wcp_model.proofs.Words.{State, Computation, communications, HappenedBefore, NumberSet, IsWatched, Intervals}
 use Rattle.wcp_model.proofs.Words.{NamesWatched, interval_of, lesser, member, minimum, IsSatisfyingCut}
@@ -10,7 +11,8 @@ use Rattle.wcp_model.proofs.Reached.{true_state_exists}
 use Rattle.wcp_model.proofs.Decided.{Decided, decided_from, some_below_decided}
 
 -- what happened before a state happened before each later state of its process
-pub happened_before_later : (c : Computation) (s : State) (q k l : ℕ) → k ≤ l → l ≤ communications c q → HappenedBefore c s (local_state q k) → HappenedBefore c s (local_state q l)
+pub happened_before_later : (c : Computation) (s : State) (q k l : ℕ) → k ≤ l → l ≤ communications c q
+    → HappenedBefore c s (local_state q k) → HappenedBefore c s (local_state q l)
 happened_before_later c s q k l order within before = grind (arith, cases_lt, before_trans, local_state, before_later)
 
 -- the minimum of two cuts names what both name, and of that the lesser
@@ -59,7 +61,8 @@ pub nothing_before_below : (n : ℕ) (watched : NumberSet) (c : Computation) (cu
 nothing_before_below n watched c cut lower p q satisfying p_is q_is apart same order before =
     let later : HappenedBefore c (member lower p) (member cut q) =
     grind (arith, happened_before_later, true_state_exists) in
-    satisfying.consistent p q p_is q_is apart (subst (λ k. HappenedBefore c (local_state p k) (member cut q)) same later)
+    satisfying.consistent p q p_is q_is apart
+    (subst (λ k. HappenedBefore c (local_state p k) (member cut q)) same later)
 
 pub minimum_is_satisfying : MinimumLaw
 minimum_is_satisfying n watched c one other left right = record {
@@ -83,19 +86,27 @@ sum-cons : (k : ℕ) (ks : List ℕ) → sum (k ∷ ks) ≡ k + sum ks
 sum-cons k ks = sum_by-cons (λ x. x) k ks
 
 -- whether such a list has a property that is decided can be found out
-pub smaller_decided : (n limit : ℕ) (P : List ℕ → Type 0) → ((list : List ℕ) → Decided (P list)) → Decided (Smaller P n limit)
+pub smaller_decided : (n limit : ℕ) (P : List ℕ → Type 0) → ((list : List ℕ) → Decided (P list))
+    → Decided (Smaller P n limit)
 smaller_decided zero limit P decide = elim (cases_lt 0 limit) [
-  | inl positive ↦ decided_from (λ holds. record { list = []; members = refl; less = positive; holds = holds }) (λ s. subst P (nil_from_length s.list s.members) s.holds) (decide [])
+  | inl positive ↦ decided_from (λ holds. record { list = []; members = refl; less = positive; holds = holds })
+      (λ s. subst P (nil_from_length s.list s.members) s.holds) (decide [])
   | inr none ↦ inr (λ s. absurd (omega arith))
 ]
 smaller_decided (suc n) limit P decide = ⊎_elim
     (grind (arith, sum-cons))
     (λ none. inr (λ s. none (first_of_it s.list s.members s.less s.holds)))
-    (some_below_decided (λ k. Smaller (λ rest. P (k ∷ rest)) n (limit - k)) limit (λ k k_below. smaller_decided n (limit - k) (λ rest. P (k ∷ rest)) (λ rest. decide (k ∷ rest))))
+    (some_below_decided (λ k. Smaller (λ rest. P (k ∷ rest)) n (limit - k)) limit
+    (λ k k_below. smaller_decided n (limit - k) (λ rest. P (k ∷ rest)) (λ rest. decide (k ∷ rest))))
   where
-    first_of_it : (list : List ℕ) → length list ≡ suc n → sum list < limit → P list → (k : ℕ) × (k < limit) × Smaller (λ rest. P (k ∷ rest)) n (limit - k)
+    first_of_it : (list : List ℕ) → length list ≡ suc n → sum list < limit → P list
+        → (k : ℕ) × (k < limit) × Smaller (λ rest. P (k ∷ rest)) n (limit - k)
     first_of_it [] members less holds = absurd (omega arith)
-    first_of_it (k ∷ ks) members less holds = (k, omega (arith, sum-cons k ks), record { list = ks; members = omega arith; less = omega (arith, sum-cons k ks); holds = holds })
+    first_of_it (k ∷ ks) members less holds = (
+      k,
+      omega (arith, sum-cons k ks),
+      record { list = ks; members = omega arith; less = omega (arith, sum-cons k ks); holds = holds },
+    )
 
 -- the intervals of a cut, with 0 where it names none
 abbrev pub or_zero : Option ℕ → ℕ
@@ -180,7 +191,8 @@ least_by_sum n watched c cut satisfying none = record {
           list = map or_zero (minimum cut other);
           members = length-map (minimum cut other) or_zero ∙ both.members.processes;
           less = total-minimum_lt cut other p less;
-          holds = subst (IsSatisfyingCut n watched c) (sym (marked_back n watched (minimum cut other) both.members)) both;
+          holds =
+              subst (IsSatisfyingCut n watched c) (sym (marked_back n watched (minimum cut other) both.members)) both;
         }
 
 -- where satisfying is decided, the search among the cuts of lesser sum ends at the least one

@@ -14,7 +14,8 @@ pub not_decided : {P : Type 0} → Decided P → Decided (P → ⊥)
 not_decided decided = grind arith
 
 -- what is decided of each number below n is decided of some of them
-pub some_below_decided : (P : ℕ → Type 0) (n : ℕ) → ((k : ℕ) → k < n → Decided (P k)) → Decided ((k : ℕ) × (k < n) × P k)
+pub some_below_decided : (P : ℕ → Type 0) (n : ℕ) → ((k : ℕ) → k < n → Decided (P k))
+    → Decided ((k : ℕ) × (k < n) × P k)
 some_below_decided P zero decided = inr (λ some. omega (arith, some.1))
 some_below_decided P (suc n) decided = elim (decided n (omega arith)) [
   | inl here ↦ inl (n, omega arith, here)

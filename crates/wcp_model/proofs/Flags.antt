@@ -1,7 +1,8 @@
 -- What the flag of a process is at, one more step on.
 use Rattle.wcp_model.proofs.Words.{NumberSet, ◌≡◌, ℕ, ◌+◌, ◌<◌, ◌≤◌, ◌⊎◌, true, false, true≢false, [], ◌∷◌, ◌++◌, gets}
 use Rattle.wcp_model.proofs.Words.{length, slice_get, count_by, Some, refl, sym, ap, inl, inr, arith, cases_lt}
-use Rattle.wcp_model.proofs.Words.{cases_Bool, eq-eqb, cond, sum_by_push, take_at, slice_get_within, slice_get_cases, common_steps}
+use Rattle.wcp_model.proofs.Words.{cases_Bool, eq-eqb, cond, sum_by_push, take_at, slice_get_within, slice_get_cases}
+use Rattle.wcp_model.proofs.Words.{common_steps}
 use Rattle.wcp_model.proofs.Words.{State, Step, Observe, Send, Computation, IsTrueState}
 use Rattle.wcp_model.proofs.Words.{is_communication_of, communications, interval_at}
 use Rattle.wcp_model.proofs.Words.{Flag, resets, WasReset, IsFlagUp}
@@ -10,7 +11,8 @@ use Rattle.wcp_model.proofs.Decided.{Decided, decided_from, some_below_decided}
 use Rattle.wcp_model.proofs.EventPlaces.{IsEventOf, event_below}
 use Rattle.wcp_model.proofs.Predecessors.{local_state}
 use Rattle.wcp_model.proofs.Reached.{true_state_exists}
-use Rattle.wcp_model.proofs.Growth.{get_front, get_behind, count_front, in_front, at_grows, interval_grows, true_state_grows, true_state_of_front}
+use Rattle.wcp_model.proofs.Growth.{get_front, get_behind, count_front, in_front, at_grows, interval_grows}
+use Rattle.wcp_model.proofs.Growth.{true_state_grows, true_state_of_front}
 
 -- what resets a flag is a communication event of its process, and each send of it resets it
 pub resets_event : (flag : Flag) (p : ℕ) (x : Step) → resets flag p x ≡ true → is_communication_of p x ≡ true
@@ -140,7 +142,8 @@ module _ (watched : NumberSet) (flag : Flag) (c : Computation) (x : Step) (p : �
               since = up.since;
               order = order;
               true_state = old;
-              still_up = λ reset. up.still_up (wider (reset_grows flag p up.since (communications c p) c (x ∷ []) reset));
+              still_up =
+                  λ reset. up.still_up (wider (reset_grows flag p up.since (communications c p) c (x ∷ []) reset));
             },
           )
         ]

@@ -1,4 +1,6 @@
-use Rattle.wcp_model.proofs.Words.{NumberSet, Flag, Intervals, IsAtOrBelow, ◌≡◌, ℕ, List, ◌++◌, ap, ◌∙◌, arith, flat_map-append, filter-append, Computation, member, minimum, IsSatisfyingCut, IsAccepted, Answered, accepted, is_event, computation}
+use Rattle.wcp_model.proofs.Words.{NumberSet, Flag, Intervals, IsAtOrBelow, ◌≡◌, ℕ, List, ◌++◌, ap, ◌∙◌, arith}
+use Rattle.wcp_model.proofs.Words.{flat_map-append, filter-append, Computation, member, minimum, IsSatisfyingCut}
+use Rattle.wcp_model.proofs.Words.{IsAccepted, Answered, accepted, is_event, computation}
 use Rattle.wcp_model.specs.Growth.{GrowsInto, GrowthLaw, EarlyFindLaw}
 use Rattle.wcp_model.proofs.AcceptedReplies.{replies_accepted}
 use Rattle.wcp_model.proofs.CutLaws.{interval_of-minimum, minimum_is_satisfying}
@@ -12,12 +14,15 @@ pub accepted_grows : (n : ℕ) (watched : NumberSet) (flag : Flag) (c e : Comput
 accepted_grows n watched flag c e accepted = search (emissions_grow, before_grows, before_shrinks, arith)
 
 -- the computation of a longer history is that of its front and more
-pub computation_append : (history more : List Answered) → computation (accepted (history ++ more)) ≡ computation (accepted history) ++ computation (accepted more)
-computation_append history more = ap computation (flat_map-append _ history more) ∙ filter-append is_event (accepted history) (accepted more)
+pub computation_append : (history more : List Answered)
+    → computation (accepted (history ++ more)) ≡ computation (accepted history) ++ computation (accepted more)
+computation_append history more = ap computation (flat_map-append _ history more)
+    ∙ filter-append is_event (accepted history) (accepted more)
 
 -- the growth law
 pub growth_holds : GrowthLaw
-growth_holds plan history more are = search (arith, replies_accepted plan (history ++ more) are, accepted_grows, computation_append)
+growth_holds plan history more are =
+    search (arith, replies_accepted plan (history ++ more) are, accepted_grows, computation_append)
 
 -- a satisfying cut stays one
 pub satisfying_grows : (n : ℕ) (watched : NumberSet) (c e : Computation) (cut : Intervals)

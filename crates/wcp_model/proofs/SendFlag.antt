@@ -3,7 +3,8 @@ use Rattle.wcp_model.proofs.Words.{NumberSet, Flag, Intervals, NamesWatched, IsW
 use Rattle.wcp_model.proofs.Words.{◌<◌, ◌≤◌, ◌⊎◌, Some, None, unwrap_or, slice_get, slice_index_or, slice_set}
 use Rattle.wcp_model.proofs.Words.{refl, sym, ap, ◌∙◌, subst, inl, inr, ⊎_elim, arith, cases_lt, cases_eq}
 use Rattle.wcp_model.proofs.Words.{length-set, get_or-set_same, get_or-set_other, State, Send, Computation, IsTrueState}
-use Rattle.wcp_model.proofs.Words.{interval_at, member, IsSatisfyingCut, IsLeastCut, IsEmittedState, WasReset, EventFlagLaw, SendFlagLaw}
+use Rattle.wcp_model.proofs.Words.{interval_at, member, IsSatisfyingCut, IsLeastCut, IsEmittedState, WasReset}
+use Rattle.wcp_model.proofs.Words.{EventFlagLaw, SendFlagLaw}
 use Rattle.wcp_model.proofs.Words.{HappenedBefore, Direct, Chain, DirectlyPrecedes, Next, Message}
 use Rattle.wcp_model.proofs.CutLaws.{happened_before_later, least_from_decider}
 use Rattle.wcp_model.proofs.EventPlaces.{event_of}
@@ -84,7 +85,8 @@ module _ (n : ℕ) (watched : NumberSet) (cut : Intervals) (names : NamesWatched
   pub moved_names : NamesWatched n watched moved
   moved_names = grind (arith, length-set, cases_eq, moved, moved_here, moved_elsewhere)
 
--- An earlier true state of a member's process, since which nothing resets the flag, may stand for the member: so a least
+-- An earlier true state of a member's process, since which nothing resets the flag, may stand for the member: so a
+-- least
 -- cut has none.
 module _ (n : ℕ) (watched : NumberSet) (flag : Flag) (c : Computation) (cut : Intervals)
     (satisfying : IsSatisfyingCut n watched c cut) (p i : ℕ) (is : IsWatched n watched p)
@@ -137,7 +139,8 @@ module _ (n : ℕ) (watched : NumberSet) (flag : Flag) (c : Computation) (cut : 
     true_states = λ q q_is. elim (cases_eq p q) [
       | inl same ↦ subst (λ o. IsTrueState c (member lower o)) same
           (subst (λ k. IsTrueState c (local_state p k)) (sym here) true_state)
-      | inr other ↦ subst (λ k. IsTrueState c (local_state q k)) (sym (elsewhere q other)) (satisfying.true_states q q_is)
+      | inr other ↦ subst (λ k. IsTrueState c (local_state q k)) (sym (elsewhere q other))
+          (satisfying.true_states q q_is)
     ];
   }
 

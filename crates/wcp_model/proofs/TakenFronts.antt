@@ -1,4 +1,10 @@
-use Rattle.wcp_model.proofs.Words.{NumberSet, Flag, Intervals, IsWatched, interval_of, IsEmittedState, ◌≡◌, ℕ, ◌<◌, ◌≤◌, List, [], ◌++◌, length, slice_index, get_or, Contains, refl, sym, ap, ◌∙◌, subst, arith, length-append, append_assoc, get_or_append_left, get_or_default, Contains-get_or, Item, Computation, IsTrueState, member, IsLeastCut, IsLeastOf, IsReportOf, notes_taken, snapshot_clocks, clocks_taken, IsDrained, IsNamed, IsNamedCut, IsCutByClocks, IsReportOfTaken, IsReportByClocks, AreFrontsOfEmissions, IsStateClock}
+use Rattle.wcp_model.proofs.Words.{NumberSet, Flag, Intervals, IsWatched, interval_of, IsEmittedState, ◌≡◌, ℕ, ◌<◌, ◌≤◌}
+use Rattle.wcp_model.proofs.Words.{List, [], ◌++◌, length, slice_index, get_or, Contains, refl, sym, ap, ◌∙◌, subst}
+use Rattle.wcp_model.proofs.Words.{arith, length-append, append_assoc, get_or_append_left, get_or_default}
+use Rattle.wcp_model.proofs.Words.{Contains-get_or, Item, Computation, IsTrueState, member, IsLeastCut, IsLeastOf}
+use Rattle.wcp_model.proofs.Words.{IsReportOf, notes_taken, snapshot_clocks, clocks_taken, IsDrained, IsNamed}
+use Rattle.wcp_model.proofs.Words.{IsNamedCut, IsCutByClocks, IsReportOfTaken, IsReportByClocks, AreFrontsOfEmissions}
+use Rattle.wcp_model.proofs.Words.{IsStateClock}
 use Rattle.wcp_model.specs.declared.outcome.Report.{Report}
 use Rattle.wcp_model.specs.declared.outcome.Report.TheVariants.{Found, Nothing, Undecided}
 use Rattle.wcp_model.proofs.WatchedProcesses.{choice_of_watched}
@@ -15,19 +21,29 @@ module _ (n : ℕ) (watched : NumberSet) (flag : Flag) (c : Computation) (items 
     pub clock_is : IsStateClock n c (local_state p interval) clock
     pub true_state : IsTrueState c (local_state p interval)
 
-  all_clocks : (p : ℕ) (within : p < n) → clocks_taken p items ++ snapshot_clocks (fronts p within).0 ≡ (fronts p within).1.clocks
+  all_clocks : (p : ℕ) (within : p < n)
+      → clocks_taken p items ++ snapshot_clocks (fronts p within).0 ≡ (fronts p within).1.clocks
   all_clocks p within =
       let (rest, emitted) = fronts p within in
-      sym (snapshot_clocks-append (notes_taken p items) rest) ∙ emitted_clocks n watched flag c p (notes_taken p items ++ rest) emitted
+      sym (snapshot_clocks-append (notes_taken p items) rest)
+      ∙ emitted_clocks n watched flag c p (notes_taken p items ++ rest) emitted
 
   fewer : (p : ℕ) (within : p < n) → length (clocks_taken p items) ≤ length (fronts p within).1.intervals
-  fewer p within = omega (arith, length-append (clocks_taken p items) (snapshot_clocks (fronts p within).0), ap length (all_clocks p within), (fronts p within).1.same_length)
+  fewer p within = omega (
+    arith,
+    length-append (clocks_taken p items) (snapshot_clocks (fronts p within).0),
+    ap length (all_clocks p within),
+    (fronts p within).1.same_length,
+  )
 
-  state_at : (p i : ℕ) (within : p < n) → i < length (clocks_taken p items) → IsOfState p (get_or (clocks_taken p items) i []) (slice_index (fronts p within).1.intervals i)
+  state_at : (p i : ℕ) (within : p < n) → i < length (clocks_taken p items)
+      → IsOfState p (get_or (clocks_taken p items) i []) (slice_index (fronts p within).1.intervals i)
   state_at p i within below = search (arith, all_clocks p within, Contains-get_or, fewer, get_or_append_left)
 
   -- the place of the snapshot that names a state
-  named_at : (p k : ℕ) (within : p < n) (named : IsNamed items (local_state p k)) → (i : ℕ) × (i < length (clocks_taken p items)) × (slice_index (fronts p within).1.intervals i ≡ k) × (get_or (clocks_taken p items) i [] ≡ named.clock)
+  named_at : (p k : ℕ) (within : p < n) (named : IsNamed items (local_state p k))
+      → (i : ℕ) × (i < length (clocks_taken p items)) × (slice_index (fronts p within).1.intervals i ≡ k)
+      × (get_or (clocks_taken p items) i [] ≡ named.clock)
   named_at p k within named = grind (arith, named, get_or_default, state_at)
 
   named_state : (p k : ℕ) → p < n → (named : IsNamed items (local_state p k)) → IsOfState p named.clock k
@@ -69,11 +85,13 @@ module _ (n : ℕ) (watched : NumberSet) (flag : Flag) (c : Computation) (items 
             (grind (arith, named_state q (interval_of cut q) q_is.below other));
       }
 
-  least_by_states : (cut : Intervals) → IsLeastOf n watched (IsCutByClocks n watched items) cut → IsLeastOf n watched (IsNamedCut n watched c items) cut
+  least_by_states : (cut : Intervals) → IsLeastOf n watched (IsCutByClocks n watched items) cut
+      → IsLeastOf n watched (IsNamedCut n watched c items) cut
   least_by_states cut least = grind (arith, cut_by_states, least, cut_by_clocks)
 
   -- the report by clocks is the report of what was taken
-  pub report_of_taken : (report : Report) → IsReportByClocks n watched items report → IsReportOfTaken n watched c items report
+  pub report_of_taken : (report : Report) → IsReportByClocks n watched items report
+      → IsReportOfTaken n watched c items report
   report_of_taken report least = grind (arith, cut_by_clocks, least_by_states)
 
   -- an emitted state has a place among the snapshots, and is named once that one is taken
@@ -81,7 +99,8 @@ module _ (n : ℕ) (watched : NumberSet) (flag : Flag) (c : Computation) (items 
       → (i : ℕ) × (i < length (fronts p within).1.intervals) × (slice_index (fronts p within).1.intervals i ≡ k)
   place_of p k within emitted = grind (arith, ((fronts p within).1.states.each k).1 emitted, get_or_default)
 
-  named_by : (p k i : ℕ) (within : p < n) → slice_index (fronts p within).1.intervals i ≡ k → i < length (clocks_taken p items) → IsNamed items (local_state p k)
+  named_by : (p k i : ℕ) (within : p < n) → slice_index (fronts p within).1.intervals i ≡ k
+      → i < length (clocks_taken p items) → IsNamed items (local_state p k)
   named_by p k i within here taken = grind (arith, Contains-get_or, state_at)
 
   -- so each emitted state below a named one is named
@@ -111,12 +130,20 @@ module _ (n : ℕ) (watched : NumberSet) (flag : Flag) (c : Computation) (items 
   nothing_left drained p within =
       let (rest, emitted) = fronts p within in
       let (count, before, is) = drained p within in
-      nothing_follows before rest count (rw (is, append_assoc) at (emissions_in_turn n watched flag c p (notes_taken p items ++ rest) emitted))
+      nothing_follows before rest count
+      (rw (is, append_assoc) at (emissions_in_turn n watched flag c p (notes_taken p items ++ rest) emitted))
 
   -- a process's emitted states are as many as its snapshots taken
-  pub all_states_taken : IsDrained n items → (p : ℕ) (within : p < n) → length (fronts p within).1.intervals ≡ length (clocks_taken p items)
+  pub all_states_taken : IsDrained n items → (p : ℕ) (within : p < n)
+      → length (fronts p within).1.intervals ≡ length (clocks_taken p items)
   all_states_taken drained p within =
-      omega (arith, (fronts p within).1.same_length, ap length (all_clocks p within), length-append (clocks_taken p items) (snapshot_clocks (fronts p within).0), ap (λ notes. length (snapshot_clocks notes)) (nothing_left drained p within))
+      omega (
+        arith,
+        (fronts p within).1.same_length,
+        ap length (all_clocks p within),
+        length-append (clocks_taken p items) (snapshot_clocks (fronts p within).0),
+        ap (λ notes. length (snapshot_clocks notes)) (nothing_left drained p within),
+      )
 
   named_when_drained : IsDrained n items → (p k : ℕ) (within : p < n) → IsEmittedState watched flag c (local_state p k)
       → IsNamed items (local_state p k)
@@ -124,7 +151,8 @@ module _ (n : ℕ) (watched : NumberSet) (flag : Flag) (c : Computation) (items 
       grind (arith, place_of p k within emitted, named_by, all_states_taken drained p within)
 
   -- and the report is that of the whole computation
-  pub report_when_drained : IsDrained n items → (report : Report) → IsReportByClocks n watched items report → IsReportOf n watched c report
+  pub report_when_drained : IsDrained n items → (report : Report) → IsReportByClocks n watched items report
+      → IsReportOf n watched c report
   report_when_drained drained (Found cut) found = found_is_least cut found
   report_when_drained drained Nothing none = (
     λ cut satisfying.

@@ -1,5 +1,9 @@
 -- What is found where no process can go on.
-use Rattle.wcp_order.proofs.Words.{count_before-mono, take_all, ◌≡◌, ℕ, ◌+◌, ◌<◌, ◌≤◌, cond, List, [], ◌∷◌, length, take, count_by, Some, refl, ◌∙◌, ap, arith, slice_get, slice_index, filter, All, cases_lt, All-head, All-tail, length-filter, sum_by-take-le, Task, is_task_of, IsWithin, IsFitOrder, element_within, count_before-yes, same_count, IsFirstStuck, IsProgress, IsBlocked, IsFirstLeft, common_steps, gets}
+use Rattle.wcp_order.proofs.Words.{count_before-mono, take_all, ◌≡◌, ℕ, ◌+◌, ◌<◌, ◌≤◌, cond, List, [], ◌∷◌, length}
+use Rattle.wcp_order.proofs.Words.{take, count_by, Some, refl, ◌∙◌, ap, arith, slice_get, slice_index, filter, All}
+use Rattle.wcp_order.proofs.Words.{cases_lt, All-head, All-tail, length-filter, sum_by-take-le, Task, is_task_of}
+use Rattle.wcp_order.proofs.Words.{IsWithin, IsFitOrder, element_within, count_before-yes, same_count, IsFirstStuck}
+use Rattle.wcp_order.proofs.Words.{IsProgress, IsBlocked, IsFirstLeft, common_steps, gets}
 use Rattle.wcp_model.proofs.AcceptedOrder.{IsFitOrder-itself}
 use Rattle.wcp_order.proofs.Doable.{can_if_done, done_if_can}
 use Rattle.wcp_order.proofs.Fronts.{begins_itself, no_more_than_all}
@@ -8,11 +12,13 @@ use Rattle.wcp_order.proofs.Tasks.{at_place, is_task_of_itself}
 
 -- of two lists of histories that are the same the progress is
 pub IsProgress_same : (n : ℕ) (history other : ℕ → List Task) (order : List Task) (done in_transit : List ℕ)
-    → ((p : ℕ) → p < n → history p ≡ other p) → IsProgress n history order done in_transit → IsProgress n other order done in_transit
+    → ((p : ℕ) → p < n → history p ≡ other p) → IsProgress n history order done in_transit
+    → IsProgress n other order done in_transit
 IsProgress_same n history other order done in_transit same progress = grind arith
 
 -- where none are left to count down of the process of a task, it is the first that is left
-pub IsFirstLeft_at : (tasks : List Task) (done left : List ℕ) (place : ℕ) → place < length tasks → All (λ task. task.p < length done) tasks
+pub IsFirstLeft_at : (tasks : List Task) (done left : List ℕ) (place : ℕ) → place < length tasks
+    → All (λ task. task.p < length done) tasks
     → ((p : ℕ) → p < length done → slice_index left p + count_by (is_task_of p) (take place tasks) ≡ slice_index done p)
     → ((task : Task) → slice_get tasks place ≡ Some task → slice_index left task.p ≡ 0) → IsFirstLeft tasks done place
 IsFirstLeft_at tasks done left place inside within counted none = record {
@@ -30,7 +36,8 @@ filter_outside n p [] within outside = refl
 filter_outside n p (task ∷ tasks) within outside =
     grind (arith, All-head, filter_outside n p tasks (All-tail (IsWithin n) task tasks within) outside, All-tail)
 
-module _ (n : ℕ) (tasks order : List Task) (done in_transit : List ℕ) (within : All (IsWithin n) tasks) (progress : IsProgress n (λ p. filter (is_task_of p) tasks) order done in_transit) where
+module _ (n : ℕ) (tasks order : List Task) (done in_transit : List ℕ) (within : All (IsWithin n) tasks)
+    (progress : IsProgress n (λ p. filter (is_task_of p) tasks) order done in_transit) where
   -- no more tasks are done than there are
   pub length_order-le : length order ≤ length tasks
   length_order-le = length_tasks-le n order tasks (λ k d below. (progress.is_done.within k d below).0)
@@ -44,7 +51,8 @@ module _ (n : ℕ) (tasks order : List Task) (done in_transit : List ℕ) (withi
   }
 
   -- where no process can go on, the first task that is left is the first stuck one
-  pub IsFirstStuck_left : ((p : ℕ) → p < n → IsBlocked n (filter (is_task_of p) tasks) done in_transit p) → (place : ℕ) → IsFirstLeft tasks done place → IsFirstStuck tasks place
+  pub IsFirstStuck_left : ((p : ℕ) → p < n → IsBlocked n (filter (is_task_of p) tasks) done in_transit p) → (place : ℕ)
+      → IsFirstLeft tasks done place → IsFirstStuck tasks place
   IsFirstStuck_left blocked place first = record {
     inside = first.inside;
     stuck = λ can.
@@ -60,7 +68,8 @@ module _ (n : ℕ) (tasks order : List Task) (done in_transit : List ℕ) (withi
   }
 
 -- a task that can't be done leaves no fit order
-pub no_fit_order : (n : ℕ) (tasks : List Task) (place : ℕ) → All (IsWithin n) tasks → IsFirstStuck tasks place → (order : List Task) → IsFitOrder tasks order → ⊥
+pub no_fit_order : (n : ℕ) (tasks : List Task) (place : ℕ) → All (IsWithin n) tasks → IsFirstStuck tasks place
+    → (order : List Task) → IsFitOrder tasks order → ⊥
 no_fit_order n tasks place within first order fit =
     let (task, at) = element_within tasks place first.inside in
     let p : ℕ = task.p in

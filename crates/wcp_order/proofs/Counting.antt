@@ -1,19 +1,29 @@
 -- The messages that are in transit after tasks in a fit order.
-use Rattle.wcp_order.proofs.Words.{add-one, suc, count_before-no, count_before-past, element_within, cases_Bool, ◌≡◌, ℕ, ◌+◌, ◌*◌, ◌<◌, ◌≤◌, Bool, true, false, List, [], ◌∷◌, ◌++◌, length, take, count_by, replicate, Some, refl, ◌∙◌, ap, arith, inl, inr, set, get_or-set_same, get_or-set_other, All, slice_index, slice_get, cases_eq, cases_lt, common_steps, length-set, length-replicate, get_or-replicate, length_push, take-append-le, take_all, All-push, All-nil, sum_by_push, Action, Task, sends, receives, IsWithin, IsFitOrder, sends_yes, receives_yes, count_before-yes, element_after, IsDone, IsReady, in_transit_after, gets}
+use Rattle.wcp_order.proofs.Words.{add-one, suc, count_before-no, count_before-past, element_within, cases_Bool, ◌≡◌, ℕ}
+use Rattle.wcp_order.proofs.Words.{◌+◌, ◌*◌, ◌<◌, ◌≤◌, Bool, true, false, List, [], ◌∷◌, ◌++◌, length, take, count_by}
+use Rattle.wcp_order.proofs.Words.{replicate, Some, refl, ◌∙◌, ap, arith, inl, inr, set, get_or-set_same}
+use Rattle.wcp_order.proofs.Words.{get_or-set_other, All, slice_index, slice_get, cases_eq, cases_lt, common_steps}
+use Rattle.wcp_order.proofs.Words.{length-set, length-replicate, get_or-replicate, length_push, take-append-le}
+use Rattle.wcp_order.proofs.Words.{take_all, All-push, All-nil, sum_by_push, Action, Task, sends, receives, IsWithin}
+use Rattle.wcp_order.proofs.Words.{IsFitOrder, sends_yes, receives_yes, count_before-yes, element_after, IsDone}
+use Rattle.wcp_order.proofs.Words.{IsReady, in_transit_after, gets}
 use Rattle.std.proofs.lemmas.Nat.{mul-add-lt, same_from_place}
 use Rattle.wcp_model.specs.declared.workload.Action.TheVariants as action
 use Rattle.wcp_order.proofs.Tasks.{at_place, receives_is, receive_is_no_send, sends_ends, receives_ends}
 
-pub count_by_push_passing : {X : Type 0} (f : X → Bool) (xs : List X) (x : X) → f x ≡ true → count_by f (xs ++ x ∷ []) ≡ count_by f xs + 1
+pub count_by_push_passing : {X : Type 0} (f : X → Bool) (xs : List X) (x : X) → f x ≡ true
+    → count_by f (xs ++ x ∷ []) ≡ count_by f xs + 1
 count_by_push_passing f xs x passes = grind (arith, sum_by_push)
 
-pub count_by_push_failing : {X : Type 0} (f : X → Bool) (xs : List X) (x : X) → f x ≡ false → count_by f (xs ++ x ∷ []) ≡ count_by f xs
+pub count_by_push_failing : {X : Type 0} (f : X → Bool) (xs : List X) (x : X) → f x ≡ false
+    → count_by f (xs ++ x ∷ []) ≡ count_by f xs
 count_by_push_failing f xs x fails = grind (arith, sum_by_push)
 
 -- on each channel of n processes, what was received and what is in transit was sent
 abbrev IsCounted : ℕ → List Task → List ℕ → Type 0
 IsCounted n order in_transit =
-    (p q : ℕ) → p < n → q < n → count_by (receives p q) order + slice_index in_transit (p * n + q) ≡ count_by (sends p q) order
+    (p q : ℕ) → p < n → q < n
+    → count_by (receives p q) order + slice_index in_transit (p * n + q) ≡ count_by (sends p q) order
 
 -- an order of tasks within the limits has no more receives on a channel than sends
 sent_at_end : (n : ℕ) (order : List Task) (in_transit : List ℕ) → All (IsWithin n) order → IsCounted n order in_transit
@@ -37,13 +47,14 @@ module _ (n : ℕ) (order : List Task) (in_transit : List ℕ) (done : IsDone n 
       → ((p q : ℕ) → ((p ≡ a) → (q ≡ b) → ⊥) → (sends p q task ≡ false) × (receives p q task ≡ false))
       → count_by (receives a b) (order ++ task ∷ []) + value ≡ count_by (sends a b) (order ++ task ∷ [])
       → IsCounted n (order ++ task ∷ []) (set in_transit (a * n + b) value)
-  counted_set task a b value a_within b_within elsewhere here p q p_within q_within = elim (cases_eq (p * n + q) (a * n + b)) [
-    | inl same ↦
-        let inside = mul-add-lt a n b n a_within b_within in
-        let placed = get_or-set_same in_transit (a * n + b) value 0 (omega (arith, inside, done.channels)) in
-        grind (arith, placed, same_from_place p q a b n q_within b_within same)
-    | inr other ↦ grind (arith, count_by_push_failing, get_or-set_other, done.counted)
-  ]
+  counted_set task a b value a_within b_within elsewhere here p q p_within q_within =
+      elim (cases_eq (p * n + q) (a * n + b)) [
+        | inl same ↦
+            let inside = mul-add-lt a n b n a_within b_within in
+            let placed = get_or-set_same in_transit (a * n + b) value 0 (omega (arith, inside, done.channels)) in
+            grind (arith, placed, same_from_place p q a b n q_within b_within same)
+        | inr other ↦ grind (arith, count_by_push_failing, get_or-set_other, done.counted)
+      ]
 
   counted_more : (a : ℕ) (act : Action) → IsWithin n (record { p = a; action = act }) → IsReady n in_transit a act
       → IsCounted n (order ++ record { p = a; action = act } ∷ []) (in_transit_after n in_transit a act)
@@ -51,7 +62,15 @@ module _ (n : ℕ) (order : List Task) (in_transit : List ℕ) (done : IsDone n 
   counted_more a (action.Send b) task_within ready =
       grind (arith, count_by_push_failing, count_by_push_passing, counted_set, sends_ends, sends_yes, done.counted)
   counted_more a (action.Recv b) task_within ready =
-      grind (arith, count_by_push_failing, count_by_push_passing, counted_set, receives_ends, receives_yes, done.counted)
+      grind (
+        arith,
+        count_by_push_failing,
+        count_by_push_passing,
+        counted_set,
+        receives_ends,
+        receives_yes,
+        done.counted,
+      )
 
   -- a task that is ready is done
   pub done_more : (a : ℕ) (act : Action) → IsWithin n (record { p = a; action = act }) → IsReady n in_transit a act
@@ -67,7 +86,16 @@ module _ (n : ℕ) (order : List Task) (in_transit : List ℕ) (done : IsDone n 
         fit = record {
           same_tasks = λ p. refl;
           sent_first = λ place p q.
-              grind (arith, take_all, take-append-le, length_push, sent_at_end n (order ++ task ∷ []) after within counted p q, done.fit.sent_first place p q, cases_lt (length order) place);
+              grind (
+                arith,
+                take_all,
+                take-append-le,
+                length_push,
+                sent_at_end n (order
+                    ++ task ∷ []) after within counted p q,
+                done.fit.sent_first place p q,
+                cases_lt (length order) place,
+              );
         };
         counted = counted;
       }

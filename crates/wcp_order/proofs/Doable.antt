@@ -1,9 +1,15 @@
 -- Which tasks can be done, by the tasks that were done in a fit order.
-use Rattle.wcp_order.proofs.Words.{count_before-mono, ◌≡◌, ℕ, zero, suc, ◌+◌, ◌<◌, ◌*◌, cond, List, length, take, filter, count_by, Some, sym, ◌∙◌, ap, arith, inl, inr, eqb-true, slice_get, slice_index, All, cases_lt, take_all, length-filter, sum_by-take-le, Action, Task, is_task_of, sends, receives, IsFitOrder, IsWithin, sends_yes, receives_yes, count_before-yes, element_after, slice_get-filter, AreSendAndReceive, IsEarlier, CanBeDone, IsProgress, IsBlocked, IsReady}
+use Rattle.wcp_order.proofs.Words.{count_before-mono, ◌≡◌, ℕ, zero, suc, ◌+◌, ◌<◌, ◌*◌, cond, List, length, take}
+use Rattle.wcp_order.proofs.Words.{filter, count_by, Some, sym, ◌∙◌, ap, arith, inl, inr, eqb-true, slice_get}
+use Rattle.wcp_order.proofs.Words.{slice_index, All, cases_lt, take_all, length-filter, sum_by-take-le, Action, Task}
+use Rattle.wcp_order.proofs.Words.{is_task_of, sends, receives, IsFitOrder, IsWithin, sends_yes, receives_yes}
+use Rattle.wcp_order.proofs.Words.{count_before-yes, element_after, slice_get-filter, AreSendAndReceive, IsEarlier}
+use Rattle.wcp_order.proofs.Words.{CanBeDone, IsProgress, IsBlocked, IsReady}
 use Rattle.wcp_model.specs.declared.workload.Action.TheVariants as action
 use Rattle.wcp_order.specs.Stuck.CanBeDone.{Observing, Sending, Receiving}
 use Rattle.wcp_order.proofs.Counting.{sent_before}
-use Rattle.wcp_order.proofs.Fronts.{Begins, begins_take, no_more_than_all, among_by_stricter, among_by_test, as_many_pass}
+use Rattle.wcp_order.proofs.Fronts.{Begins, begins_take, no_more_than_all, among_by_stricter, among_by_test}
+use Rattle.wcp_order.proofs.Fronts.{as_many_pass}
 use Rattle.wcp_order.proofs.Tasks.{at_place, count_by-take_one, is_task_of_itself, sends_by, receives_by, sends_is}
 
 -- how many tasks of the process stand before a place
@@ -18,7 +24,8 @@ module _ (n : ℕ) (tasks order : List Task) (within : All (IsWithin n) tasks) (
     (begins : (p : ℕ) → p < n → Begins (is_task_of p) order tasks) where
   -- the task was done among the first `bound` ones of the order
   abbrev CanBelow : ℕ → Type 0
-  CanBelow bound = (i p : ℕ) (act : Action) → slice_get tasks i ≡ Some (record { p = p; action = act }) → rank tasks p i < rank order p bound → CanBeDone tasks i
+  CanBelow bound = (i p : ℕ) (act : Action) → slice_get tasks i ≡ Some (record { p = p; action = act })
+      → rank tasks p i < rank order p bound → CanBeDone tasks i
 
   earlier_can : (bound : ℕ) → CanBelow bound → (i p : ℕ) → rank tasks p i < rank order p (suc bound)
       → (j : ℕ) → IsEarlier tasks p j i → CanBeDone tasks j
@@ -26,9 +33,11 @@ module _ (n : ℕ) (tasks order : List Task) (within : All (IsWithin n) tasks) (
       let passes = is_task_of_itself (record { p = p; action = earlier.act }) in
       let before = count_before-yes (is_task_of p) tasks j _ earlier.same_process passes in
       let behind = count_before-mono (is_task_of p) tasks (j + 1) i (omega (arith, earlier.before)) in
-      can j p earlier.act earlier.same_process (omega (arith, more, before, behind, count_by-take_one (is_task_of p) order bound))
+      can j p earlier.act earlier.same_process
+      (omega (arith, more, before, behind, count_by-take_one (is_task_of p) order bound))
 
-  received_can : (bound : ℕ) → CanBelow bound → (i p from : ℕ) → slice_get tasks i ≡ Some (record { p = p; action = action.Recv from })
+  received_can : (bound : ℕ) → CanBelow bound → (i p from : ℕ)
+      → slice_get tasks i ≡ Some (record { p = p; action = action.Recv from })
       → rank tasks p i < rank order p (suc bound) → CanBeDone tasks i
   received_can bound can i p from at more =
       let here = at_place (IsWithin n) tasks i _ within at in
@@ -50,7 +59,8 @@ module _ (n : ℕ) (tasks order : List Task) (within : All (IsWithin n) tasks) (
 
   can_below : (bound : ℕ) → CanBelow bound
   can_below zero i p act at more = absurd (omega (arith, more))
-  can_below (suc bound) i p (action.Observe holds) at more = Observing i p holds at (earlier_can bound (can_below bound) i p more)
+  can_below (suc bound) i p (action.Observe holds) at more =
+      Observing i p holds at (earlier_can bound (can_below bound) i p more)
   can_below (suc bound) i p (action.Send to) at more = Sending i p to at (earlier_can bound (can_below bound) i p more)
   can_below (suc bound) i p (action.Recv from) at more = received_can bound (can_below bound) i p from at more
 
@@ -61,12 +71,16 @@ module _ (n : ℕ) (tasks order : List Task) (within : All (IsWithin n) tasks) (
       can_below (length order) i task.p task.action at (rw (take_all (length order) order (omega arith)) more)
 
 -- where each process is blocked, what can be done is done
-module _ (n : ℕ) (tasks order : List Task) (done in_transit : List ℕ) (within : All (IsWithin n) tasks) (progress : IsProgress n (λ p. filter (is_task_of p) tasks) order done in_transit) (blocked : (p : ℕ) → p < n → IsBlocked n (filter (is_task_of p) tasks) done in_transit p) where
+module _ (n : ℕ) (tasks order : List Task) (done in_transit : List ℕ) (within : All (IsWithin n) tasks)
+    (progress : IsProgress n (λ p. filter (is_task_of p) tasks) order done in_transit)
+    (blocked : (p : ℕ) → p < n → IsBlocked n (filter (is_task_of p) tasks) done in_transit p) where
   abbrev IsAmongDone : ℕ → Type 0
-  IsAmongDone i = (task : Task) → slice_get tasks i ≡ Some task → rank tasks task.p i < count_by (is_task_of task.p) order
+  IsAmongDone i = (task : Task) → slice_get tasks i ≡ Some task
+      → rank tasks task.p i < count_by (is_task_of task.p) order
 
   -- the first task of a process that isn't done is not ready
-  no_front : (i p : ℕ) (act : Action) → slice_get tasks i ≡ Some (record { p = p; action = act }) → IsReady n in_transit p act
+  no_front : (i p : ℕ) (act : Action) → slice_get tasks i ≡ Some (record { p = p; action = act })
+      → IsReady n in_transit p act
       → rank tasks p i ≡ count_by (is_task_of p) order → ⊥
   no_front i p act at ready here =
       let task : Task = record { p = p; action = act } in
@@ -94,7 +108,8 @@ module _ (n : ℕ) (tasks order : List Task) (done in_transit : List ℕ) (withi
 
   -- the first receive that isn't done is ready if its send is done
   received : (i sent : ℕ) (message : AreSendAndReceive tasks sent i) → IsAmongDone sent
-      → rank tasks message.to i ≡ count_by (is_task_of message.to) order → 0 < slice_index in_transit (message.from * n + message.to)
+      → rank tasks message.to i ≡ count_by (is_task_of message.to) order
+      → 0 < slice_index in_transit (message.from * n + message.to)
   received i sent message sent_done here =
       let from : ℕ = message.from in
       let to : ℕ = message.to in
@@ -113,5 +128,11 @@ module _ (n : ℕ) (tasks order : List Task) (done in_transit : List ℕ) (withi
       grind (arith, at, there, unless_front i p (λ j before. done_if_can (earlier j before)) (no_front i p _ at tt))
   done_if_can (Receiving i sent message sent_can earlier) task there =
       let ready = received i sent message (done_if_can sent_can) in
-      let elsewhere = λ (here : rank tasks message.to i ≡ count_by (is_task_of message.to) order). no_front i message.to _ message.receive (ready here) here in
-      grind (arith, message.receive, there, unless_front i message.to (λ j before. done_if_can (earlier j before)) elsewhere)
+      let elsewhere = λ (here : rank tasks message.to i ≡ count_by (is_task_of message.to) order). no_front i message.to
+      _ message.receive (ready here) here in
+      grind (
+        arith,
+        message.receive,
+        there,
+        unless_front i message.to (λ j before. done_if_can (earlier j before)) elsewhere,
+      )

@@ -1,5 +1,7 @@
 -- Lists whose elements that pass a test are the first ones of another list that do.
-use Rattle.wcp_order.proofs.Words.{count_before-mono, ◌≡◌, ℕ, ◌+◌, ◌<◌, ◌≤◌, Bool, true, List, [], ◌∷◌, take, filter, count_by, Some, refl, sym, arith, slice_get, cases_Bool, length-filter, take-take, take_all, sum_by-take-le, filter_front, count_by_yes, count_by_no, count_before-yes}
+use Rattle.wcp_order.proofs.Words.{count_before-mono, ◌≡◌, ℕ, ◌+◌, ◌<◌, ◌≤◌, Bool, true, List, [], ◌∷◌, take, filter}
+use Rattle.wcp_order.proofs.Words.{count_by, Some, refl, sym, arith, slice_get, cases_Bool, length-filter, take-take}
+use Rattle.wcp_order.proofs.Words.{take_all, sum_by-take-le, filter_front, count_by_yes, count_by_no, count_before-yes}
 
 -- what passes of the one list is the first of what passes of the other
 abbrev pub Begins : {X : Type 0} → (X → Bool) → List X → List X → Type 0

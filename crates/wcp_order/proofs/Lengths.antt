@@ -1,5 +1,7 @@
 -- Lists with as many tasks of each process are as long.
-use Rattle.wcp_order.proofs.Words.{get_or, ◌≡◌, ℕ, suc, zero, ◌<◌, ◌≤◌, List, [], ◌∷◌, length, Bool, true, not, count_by, refl, arith, filter, All, All-filter, filter_passes, length-filter, Task, is_task_of, IsWithin, same_count}
+use Rattle.wcp_order.proofs.Words.{get_or, ◌≡◌, ℕ, suc, zero, ◌<◌, ◌≤◌, List, [], ◌∷◌, length, Bool, true, not}
+use Rattle.wcp_order.proofs.Words.{count_by, refl, arith, filter, All, All-filter, filter_passes, length-filter, Task}
+use Rattle.wcp_order.proofs.Words.{is_task_of, IsWithin, same_count}
 use Rattle.std.proofs.lemmas.List.Filters.{length-filter_both}
 use Rattle.wcp_order.proofs.Fronts.{count_by-filter}
 

@@ -1,4 +1,13 @@
-use Rattle.wcp_queue.proofs.Words.{NumberSet, Intervals, interval_of, IsWatched, members_of, row_of, known_of, rows_of, cut_of, get_or-map, length-map, common_steps, ◌≡◌, ℕ, ◌<◌, ◌≤◌, Bool, true, false, List, [], length, get_or, slice_index, sym, ◌∙◌, ap, arith, Option, None, Some, MatchOption, ◌∷◌, ◌++◌, take, subst, append-nil, get_or_default, get_or-take, length-take-le, Contains-get_or, All-from_get_or, Item, clocks_taken, IsCutByClocks, ClocksRise, notes_taken, IsDrained, AreInTurn, GrowTo, IsSatisfyingChoice, AreInOrder, choice_from_each, Floor, HaveHeads, IsCutOfHeads, AreStable, AreLeft, IsFoundAmong, GainCandidate, list_all, both_ways, AllPass-from_list_all, list_all-from_AllPass, Close, nothing_follows, CheckerState, processes, StandsForItems, IsSoundChecker}
+use Rattle.wcp_queue.proofs.Words.{NumberSet, Intervals, interval_of, IsWatched, members_of, row_of, known_of, rows_of}
+use Rattle.wcp_queue.proofs.Words.{cut_of, get_or-map, length-map, common_steps, ◌≡◌, ℕ, ◌<◌, ◌≤◌, Bool, true, false}
+use Rattle.wcp_queue.proofs.Words.{List, [], length, get_or, slice_index, sym, ◌∙◌, ap, arith, Option, None, Some}
+use Rattle.wcp_queue.proofs.Words.{MatchOption, ◌∷◌, ◌++◌, take, subst, append-nil, get_or_default, get_or-take}
+use Rattle.wcp_queue.proofs.Words.{length-take-le, Contains-get_or, All-from_get_or, Item, clocks_taken, IsCutByClocks}
+use Rattle.wcp_queue.proofs.Words.{ClocksRise, notes_taken, IsDrained, AreInTurn, GrowTo, IsSatisfyingChoice}
+use Rattle.wcp_queue.proofs.Words.{AreInOrder, choice_from_each, Floor, HaveHeads, IsCutOfHeads, AreStable, AreLeft}
+use Rattle.wcp_queue.proofs.Words.{IsFoundAmong, GainCandidate, list_all, both_ways, AllPass-from_list_all}
+use Rattle.wcp_queue.proofs.Words.{list_all-from_AllPass, Close, nothing_follows, CheckerState, processes}
+use Rattle.wcp_queue.proofs.Words.{StandsForItems, IsSoundChecker}
 use Rattle.std.proofs.Common.{ap₂, subst₂}
 use Rattle.wcp_model.specs.Cut.{IsLeastOf, IsAtOrBelow}
 use Rattle.wcp_queue.proofs.WatchedRows.{known_at, row_of_watched, member_is_watched, apart_rows}
@@ -8,18 +17,25 @@ use Rattle.wcp_queue.proofs.LeftQueues.{GrowTo-gain}
 use Rattle.wcp_queue.proofs.NotesTaken.{close_mark_in, close_mark_taken}
 
 -- where each process has a head, their cut is found
-pub IsFoundAmong-heads : (n : ℕ) (rows : ℕ → List (List ℕ)) (queues : List (List (List ℕ))) (floor : Floor) (cut : List ℕ) → AreLeft n rows queues floor → IsCutOfHeads n floor cut → IsFoundAmong n rows cut
+pub IsFoundAmong-heads : (n : ℕ) (rows : ℕ → List (List ℕ)) (queues : List (List (List ℕ))) (floor : Floor)
+    (cut : List ℕ) → AreLeft n rows queues floor → IsCutOfHeads n floor cut → IsFoundAmong n rows cut
 IsFoundAmong-heads n rows queues floor cut left is = grind arith
 
 -- a cut that was found stays so as more is taken
-pub IsFoundAmong-grown : (n : ℕ) (rows longer : ℕ → List (List ℕ)) (cut : List ℕ) → GrowTo n rows longer → IsFoundAmong n rows cut → IsFoundAmong n longer cut
-IsFoundAmong-grown n rows longer cut grow found = grind (arith, IsEliminatedBelow-grown, IsSatisfyingChoice-grown, get_or-grown)
+pub IsFoundAmong-grown : (n : ℕ) (rows longer : ℕ → List (List ℕ)) (cut : List ℕ) → GrowTo n rows longer
+    → IsFoundAmong n rows cut → IsFoundAmong n longer cut
+IsFoundAmong-grown n rows longer cut grow found =
+    grind (arith, IsEliminatedBelow-grown, IsSatisfyingChoice-grown, get_or-grown)
 
-pub IsFoundAmong-gain : (n p : ℕ) (rows longer : ℕ → List (List ℕ)) (clock cut : List ℕ) → GainCandidate n p clock rows longer → IsFoundAmong n rows cut → IsFoundAmong n longer cut
-IsFoundAmong-gain n p rows longer clock cut gain = IsFoundAmong-grown n rows longer cut (GrowTo-gain n p clock rows longer gain)
+pub IsFoundAmong-gain : (n p : ℕ) (rows longer : ℕ → List (List ℕ)) (clock cut : List ℕ)
+    → GainCandidate n p clock rows longer → IsFoundAmong n rows cut → IsFoundAmong n longer cut
+IsFoundAmong-gain n p rows longer clock cut gain =
+    IsFoundAmong-grown n rows longer cut (GrowTo-gain n p clock rows longer gain)
 
-pub IsFoundAmong-same : (n : ℕ) (rows others : ℕ → List (List ℕ)) (cut : List ℕ) → ((p : ℕ) → p < n → others p ≡ rows p) → IsFoundAmong n rows cut → IsFoundAmong n others cut
-IsFoundAmong-same n rows others cut same = IsFoundAmong-grown n rows others cut (λ p p_within. ([], same p p_within ∙ sym (append-nil (rows p))))
+pub IsFoundAmong-same : (n : ℕ) (rows others : ℕ → List (List ℕ)) (cut : List ℕ) → ((p : ℕ) → p < n → others p ≡ rows p)
+    → IsFoundAmong n rows cut → IsFoundAmong n others cut
+IsFoundAmong-same n rows others cut same =
+    IsFoundAmong-grown n rows others cut (λ p p_within. ([], same p p_within ∙ sym (append-nil (rows p))))
 
 module _ (n : ℕ) (watched : NumberSet) (items : List Item) where
   abbrev members : List ℕ
@@ -37,10 +53,12 @@ module _ (n : ℕ) (watched : NumberSet) (items : List Item) where
 
   -- a candidate says of the process of a row what its clock says
   candidate_knows : (row i other : ℕ) → i < length (rows row) → other < length members
-      → slice_index (get_or (rows row) i []) other ≡ slice_index (clock_at (slice_index members row) i) (slice_index members other)
+      → slice_index (get_or (rows row) i []) other ≡ slice_index (clock_at (slice_index members row) i)
+      (slice_index members other)
   candidate_knows row i other below within =
       ap (λ (clock : List ℕ). slice_index clock other)
-      (get_or-map (known_of members) (clocks_taken (slice_index members row) items) i [] [] (omega (arith, length-row row)))
+      (get_or-map (known_of members) (clocks_taken (slice_index members row) items) i [] []
+      (omega (arith, length-row row)))
       ∙ known_at members (clock_at (slice_index members row) i) other within
 
   -- a cut that was found is one of taken snapshots, of which none precedes another
@@ -180,23 +198,32 @@ module _ (n : ℕ) (watched : NumberSet) (items : List Item) where
       not_false : (b : Bool) → (b ≡ false → ⊥) → b ≡ true
       not_false b never = grind arith
 
-module _ (checker : CheckerState) (sound : IsSoundChecker checker) (items : List Item) (stands : StandsForItems checker items) where
+module _ (checker : CheckerState) (sound : IsSoundChecker checker) (items : List Item)
+    (stands : StandsForItems checker items) where
   -- the marks tell whether all is drained
-  pub IsDrained-marks : list_all (λ closed. closed) (take (processes checker) checker.closed) ≡ true → IsDrained (processes checker) items
+  pub IsDrained-marks : list_all (λ closed. closed) (take (processes checker) checker.closed) ≡ true
+      → IsDrained (processes checker) items
   IsDrained-marks all = λ p p_within.
-      let front : length (take (processes checker) checker.closed) ≡ processes checker = length-take-le (processes checker) checker.closed (omega (arith, sound.few, sound.marks)) in
-      let here : get_or (take (processes checker) checker.closed) p false ≡ true = AllPass-from_list_all (λ closed. closed) (take (processes checker) checker.closed) all p false (omega arith) in
-      let (count, before, after, is) = close_mark_in (notes_taken p items) (sym (stands.closed p p_within) ∙ sym (get_or-take (processes checker) checker.closed p false p_within) ∙ here) in
+      let front : length (take (processes checker) checker.closed) ≡ processes checker =
+      length-take-le (processes checker) checker.closed (omega (arith, sound.few, sound.marks)) in
+      let here : get_or (take (processes checker) checker.closed) p false ≡ true = AllPass-from_list_all
+      (λ closed. closed) (take (processes checker) checker.closed) all p false (omega arith) in
+      let (count, before, after, is) = close_mark_in (notes_taken p items) (sym (stands.closed p p_within)
+      ∙ sym (get_or-take (processes checker) checker.closed p false p_within) ∙ here) in
       let last : after ≡ [] = nothing_follows before after count (subst AreInTurn is (stands.in_turn p p_within)) in
       (count, before, subst (λ rest. notes_taken p items ≡ before ++ Close count ∷ rest) last is)
 
-  pub marks-not_all : list_all (λ closed. closed) (take (processes checker) checker.closed) ≡ false → IsDrained (processes checker) items → ⊥
+  pub marks-not_all : list_all (λ closed. closed) (take (processes checker) checker.closed) ≡ false
+      → IsDrained (processes checker) items → ⊥
   marks-not_all some drained = both_ways (list_all (λ mark. mark) (take (processes checker) checker.closed)) some
       (list_all-from_AllPass (λ mark. mark) (take (processes checker) checker.closed)
       (All-from_get_or (λ mark. mark ≡ true) (take (processes checker) checker.closed) false
       (λ p p_listed.
-      let front : length (take (processes checker) checker.closed) ≡ processes checker = length-take-le (processes checker) checker.closed (omega (arith, sound.few, sound.marks)) in
-      get_or-take (processes checker) checker.closed p false (omega arith) ∙ stands.closed p (omega arith) ∙ (let (count, before, is) = drained p (omega arith) in close_mark_taken (notes_taken p items) before count is))))
+      let front : length (take (processes checker) checker.closed) ≡ processes checker =
+      length-take-le (processes checker) checker.closed (omega (arith, sound.few, sound.marks)) in
+      get_or-take (processes checker) checker.closed p false (omega arith) ∙ stands.closed p (omega arith)
+      ∙ (let (count, before, is) = drained p (omega arith) in
+      close_mark_taken (notes_taken p items) before count is))))
 
   abbrev Candidates : List ℕ → ℕ → Option (List ℕ) → Type 0
   Candidates members count found = MatchOption found
@@ -222,7 +249,8 @@ module _ (checker : CheckerState) (sound : IsSoundChecker checker) (items : List
   pub IsCutByClocks-report : (intervals : List ℕ) → checker.found ≡ Some intervals
       → IsCutByClocks (processes checker) checker.watched items (cut_found intervals)
   IsCutByClocks-report intervals is =
-      subst (λ members. IsCutByClocks (processes checker) checker.watched items (cut_of checker.count members intervals))
+      subst
+      (λ members. IsCutByClocks (processes checker) checker.watched items (cut_of checker.count members intervals))
       (sym sound.members)
       (IsCutByClocks-found (processes checker) checker.watched items intervals (found intervals is))
 

@@ -1,4 +1,9 @@
-use Rattle.wcp_queue.proofs.Words.{IfSome, Option, MatchOption, IsCutOfHeads, Floor, ◌∙◌, true, has_head, ⊎_elim, cases_lt, get_or, get_or_default, NumberSet, processes, AreSomeWatched, members_of, ap, List, Some, ◌≡◌, ℕ, ◌<◌, ◌≤◌, ltb, arith, ◌+◌, ◌*◌, ◌^◌, false, None, [], length, set, replicate, sum, cond-true, lt-ltb, tests_each, AreStable, waiting_in, common_steps, length-replicate, get_or-replicate, sum_by-le, sum_by-replicate, first_floor, HaveHeads, CheckerState, taken_of, IsSoundChecker}
+use Rattle.wcp_queue.proofs.Words.{IfSome, Option, MatchOption, IsCutOfHeads, Floor, ◌∙◌, true, has_head, ⊎_elim}
+use Rattle.wcp_queue.proofs.Words.{cases_lt, get_or, get_or_default, NumberSet, processes, AreSomeWatched, members_of}
+use Rattle.wcp_queue.proofs.Words.{ap, List, Some, ◌≡◌, ℕ, ◌<◌, ◌≤◌, ltb, arith, ◌+◌, ◌*◌, ◌^◌, false, None, [], length}
+use Rattle.wcp_queue.proofs.Words.{set, replicate, sum, cond-true, lt-ltb, tests_each, AreStable, waiting_in}
+use Rattle.wcp_queue.proofs.Words.{common_steps, length-replicate, get_or-replicate, sum_by-le, sum_by-replicate}
+use Rattle.wcp_queue.proofs.Words.{first_floor, HaveHeads, CheckerState, taken_of, IsSoundChecker}
 use Rattle.std.proofs.lemmas.Nat.{mul-le}
 use Rattle.wcp_queue.proofs.WatchedRows.{some_rows, few_rows, member_is_watched}
 
@@ -15,7 +20,8 @@ pub room_to_wait : (n p waiting : ℕ) (floor : Floor) → p < n → has_head fl
     → floor.tests + tests_each n * (waiting + 1) < 2 ^ 64 → waiting + 1 < 2 ^ 64
 room_to_wait n p waiting floor within head waits room = ⊎_elim
     (λ (several : 1 < n). grind (arith, tests_each-several n several))
-    (λ (alone : n ≤ 1). absurd (waits (λ q q_within. ap (has_head floor) (omega (arith, within, alone, q_within)) ∙ head)))
+    (λ (alone : n ≤ 1). absurd
+    (waits (λ q q_within. ap (has_head floor) (omega (arith, within, alone, q_within)) ∙ head)))
     (cases_lt 1 n)
 
 -- the cut of the heads has an interval for each row
@@ -48,7 +54,12 @@ IsSoundChecker-fresh n watched members few are is =
 
 module _ (old : CheckerState) (sound : IsSoundChecker old) where
   few_in_all : sum old.taken ≤ 16 * 2 ^ 32
-  few_in_all = omega (arith, sound.counts, sum_by-le (λ x. x) (2 ^ 32) old.taken sound.few_taken, mul-le (length old.taken) (2 ^ 32) 16 (2 ^ 32) (omega (arith, sound.counts)) (omega arith))
+  few_in_all = omega (
+    arith,
+    sound.counts,
+    sum_by-le (λ x. x) (2 ^ 32) old.taken sound.few_taken,
+    mul-le (length old.taken) (2 ^ 32) 16 (2 ^ 32) (omega (arith, sound.counts)) (omega arith),
+  )
 
   -- there are at most 16 rows
   pub few_queues : length old.queues ≤ 16
@@ -76,9 +87,13 @@ module _ (old : CheckerState) (sound : IsSoundChecker old) where
   room_for_tests = grind (arith, few_in_all, few_queues, tests_each-le)
 
   -- a snapshot more
-  pub IsSoundChecker-snapshot : (new : CheckerState) (p : ℕ) → p < length old.taken → taken_of old p < 4294967296 → new.taken ≡ set old.taken p (taken_of old p + 1) → new.closed ≡ old.closed → new.lost ≡ old.lost → length new.queues ≡ length old.queues → new.count ≡ old.count → new.watched ≡ old.watched → new.members ≡ old.members → IfSome new.found (λ intervals. length intervals ≡ length old.members) →
+  pub IsSoundChecker-snapshot : (new : CheckerState) (p : ℕ) → p < length old.taken → taken_of old p < 4294967296
+      → new.taken ≡ set old.taken p (taken_of old p + 1) → new.closed ≡ old.closed → new.lost ≡ old.lost
+      → length new.queues ≡ length old.queues → new.count ≡ old.count → new.watched ≡ old.watched
+      → new.members ≡ old.members → IfSome new.found (λ intervals. length intervals ≡ length old.members) →
       AreStable new.queues new.floor → (new.found ≡ None → HaveHeads (length old.queues) new.floor → ⊥) →
-      new.floor.tests + tests_each (length old.queues) * waiting_in new.queues ≤ old.floor.tests + tests_each (length old.queues) * (waiting_in old.queues + 1) → IsSoundChecker new
+      new.floor.tests + tests_each (length old.queues) * waiting_in new.queues ≤ old.floor.tests + tests_each
+      (length old.queues) * (waiting_in old.queues + 1) → IsSoundChecker new
   IsSoundChecker-snapshot new p within few taken closed lost rows count watched members intervals stable waiting tests =
       grind (arith, common_steps)
 
@@ -88,4 +103,8 @@ module _ (old : CheckerState) (sound : IsSoundChecker old) where
       let rows : length old.queues ≤ processes old =
       omega (arith, sound.rows, ap length sound.members, few_rows old.count old.watched) in
       let each : tests_each (length old.queues) ≤ processes old = omega (arith, tests_each-le (length old.queues)) in
-      omega (arith, sound.bound, mul-le (tests_each (length old.queues)) (sum old.taken) (processes old) count each (omega arith))
+      omega (
+        arith,
+        sound.bound,
+        mul-le (tests_each (length old.queues)) (sum old.taken) (processes old) count each (omega arith),
+      )

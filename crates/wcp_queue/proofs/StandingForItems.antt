@@ -1,13 +1,23 @@
-use Rattle.wcp_queue.proofs.Words.{NumberSet, IsWatched, row_of, known_of, rows_of, map, map_push, inl, inr, ◌≢◌, IsSoundChecker, ◌≡◌, ℕ, ◌+◌, ◌<◌, ◌≤◌, Bool, true, false, Option, Some, None, MatchOption, List, [], ◌∷◌, ◌++◌, length, get_or, set, replicate, sum, cond, slice_index, refl, sym, ◌∙◌, ap, subst, arith, true≢false, length-append, get_or-set_same, get_or-set_other, get_or-replicate, length-replicate, sum_by-set, sum_by_push, Item, Snap, Close, Lost, is_close, is_last, is_lost, list_any, cases_eq, notes_taken, clocks_taken, AreInTurn-none, HaveHeads, IsCutOfHeads, AreLeft, AddsCandidate, IsFoundAmong, GainCandidate, CheckerState, processes, taken_of, closed_of, lost_of, is_snapshot, IsSearching, MayTake, StandsForItems}
+use Rattle.wcp_queue.proofs.Words.{NumberSet, IsWatched, row_of, known_of, rows_of, map, map_push, inl, inr, ◌≢◌}
+use Rattle.wcp_queue.proofs.Words.{IsSoundChecker, ◌≡◌, ℕ, ◌+◌, ◌<◌, ◌≤◌, Bool, true, false, Option, Some, None}
+use Rattle.wcp_queue.proofs.Words.{MatchOption, List, [], ◌∷◌, ◌++◌, length, get_or, set, replicate, sum, cond}
+use Rattle.wcp_queue.proofs.Words.{slice_index, refl, sym, ◌∙◌, ap, subst, arith, true≢false, length-append}
+use Rattle.wcp_queue.proofs.Words.{get_or-set_same, get_or-set_other, get_or-replicate, length-replicate, sum_by-set}
+use Rattle.wcp_queue.proofs.Words.{sum_by_push, Item, Snap, Close, Lost, is_close, is_last, is_lost, list_any, cases_eq}
+use Rattle.wcp_queue.proofs.Words.{notes_taken, clocks_taken, AreInTurn-none, HaveHeads, IsCutOfHeads, AreLeft}
+use Rattle.wcp_queue.proofs.Words.{AddsCandidate, IsFoundAmong, GainCandidate, CheckerState, processes, taken_of}
+use Rattle.wcp_queue.proofs.Words.{closed_of, lost_of, is_snapshot, IsSearching, MayTake, StandsForItems}
 use Rattle.wcp_clock.specs.declared.note.Note.{Note}
 use Rattle.wcp_queue.proofs.FoundCuts.{IsFoundAmong-heads, IsFoundAmong-gain, IsFoundAmong-same}
 use Rattle.wcp_queue.proofs.LeftQueues.{AreLeft-start, AreLeft-rows}
 use Rattle.wcp_queue.proofs.SoundCheckers.{fresh_checker}
 use Rattle.wcp_queue.proofs.WatchedRows.{member_is_watched, apart_rows, row_cases}
-use Rattle.wcp_queue.proofs.NotesTaken.{in_turn-push, next_where_MayTake, GainCandidate-snapshot, clocks_taken-push_last, taken_kind-own, taken_kind-other, taken_kind-unlike}
+use Rattle.wcp_queue.proofs.NotesTaken.{in_turn-push, next_where_MayTake, GainCandidate-snapshot}
+use Rattle.wcp_queue.proofs.NotesTaken.{clocks_taken-push_last, taken_kind-own, taken_kind-other, taken_kind-unlike}
 
 -- a snapshot more of process p is counted
-pub taken_of-set_same : (taken : List ℕ) (p : ℕ) → p < length taken → slice_index (set taken p (slice_index taken p + 1)) p ≡ slice_index taken p + 1
+pub taken_of-set_same : (taken : List ℕ) (p : ℕ) → p < length taken
+    → slice_index (set taken p (slice_index taken p + 1)) p ≡ slice_index taken p + 1
 taken_of-set_same taken p within = get_or-set_same taken p (slice_index taken p + 1) 0 within
 
 pub sum-set : (taken : List ℕ) (p : ℕ) → p < length taken → sum (set taken p (slice_index taken p + 1)) ≡ sum taken + 1
@@ -23,7 +33,8 @@ module _ (old new : CheckerState) (sound : IsSoundChecker old) (items : List Ite
     (stands : StandsForItems old items) (p_within : p < processes old) (still_open : closed_of old p ≡ false)
     (not_lost : lost_of old p ≡ false) (within : p < length old.taken)
     (taken : new.taken ≡ set old.taken p (taken_of old p + 1)) (closed : new.closed ≡ old.closed)
-    (lost : new.lost ≡ old.lost) (same_rows : length new.queues ≡ length old.queues) (starved : new.starved ≡ old.starved)
+    (lost : new.lost ≡ old.lost) (same_rows : length new.queues ≡ length old.queues)
+    (starved : new.starved ≡ old.starved)
     (count : new.count ≡ old.count) (members : new.members ≡ old.members) where
   abbrev longer : List Item
   longer = items ++ record { from = p; note = Snap (taken_of old p) clock } ∷ []
@@ -37,9 +48,11 @@ module _ (old new : CheckerState) (sound : IsSoundChecker old) (items : List Ite
 
   -- the row of the process gains what the clock says of the watched
   gain_row : (row : ℕ) → row < length old.queues → slice_index old.members row ≡ p
-      → GainCandidate (length old.queues) row (known_of old.members clock) (rows_of old.members items) (rows_of old.members longer)
+      → GainCandidate (length old.queues) row (known_of old.members clock) (rows_of old.members items)
+      (rows_of old.members longer)
   gain_row row below own = record {
-    gained = rw own (ap (map (known_of old.members)) gain.gained ∙ map_push (known_of old.members) (clocks_taken p items) clock);
+    gained = rw own
+        (ap (map (known_of old.members)) gain.gained ∙ map_push (known_of old.members) (clocks_taken p items) clock);
     others = λ other other_below apart. ap (map (known_of old.members))
         (gain.others (slice_index old.members other) (is_watched other other_below).below
         (λ same. distinct other other_below apart (same ∙ sym own)));
@@ -48,7 +61,8 @@ module _ (old new : CheckerState) (sound : IsSoundChecker old) (items : List Ite
       distinct : (other : ℕ) → other < length old.queues → other ≢ row
           → slice_index old.members other ≢ slice_index old.members row
       distinct other other_below apart = rw sound.members (apart_rows old.count old.watched other row
-          (omega (arith, sound.rows, ap length sound.members)) (omega (arith, sound.rows, ap length sound.members)) apart)
+          (omega (arith, sound.rows, ap length sound.members))
+          (omega (arith, sound.rows, ap length sound.members)) apart)
 
   -- of a process that isn't watched no row gains
   no_gain : row_of old.members p ≡ length old.members → (row : ℕ) → row < length old.queues
@@ -63,12 +77,20 @@ module _ (old new : CheckerState) (sound : IsSoundChecker old) (items : List Ite
   counted : HasCandidates new (rows_of old.members longer) new.found → StandsForItems new longer
   counted candidates =
       let item : Item = record { from = p; note = Snap (taken_of old p) clock } in
-      let next = next_where_MayTake old items item stands (record { from = p_within; place = refl; still_open = still_open; not_lost = not_lost }) in
+      let next = next_where_MayTake old items item stands
+      (record { from = p_within; place = refl; still_open = still_open; not_lost = not_lost }) in
       record {
         taken = λ q q_within. grind (arith, gain, get_or-set_other, length-append, taken_of-set_same);
-        snapshots = ap sum taken ∙ omega (arith, sum-set old.taken p within, stands.snapshots, sum_by_push (λ x. cond (is_snapshot x) 1 0) items item);
-        closed = λ q q_within. ap (λ (marks : List Bool). get_or marks q false) closed ∙ stands.closed q (omega arith) ∙ sym (taken_kind-unlike is_close items p q item.note refl);
-        lost = λ q q_within. ap (λ (marks : List Bool). get_or marks q false) lost ∙ stands.lost q (omega arith) ∙ sym (taken_kind-unlike is_lost items p q item.note refl);
+        snapshots = ap sum taken ∙ omega (
+          arith,
+          sum-set old.taken p within,
+          stands.snapshots,
+          sum_by_push (λ x. cond (is_snapshot x) 1 0) items item,
+        );
+        closed = λ q q_within. ap (λ (marks : List Bool). get_or marks q false) closed ∙ stands.closed q (omega arith)
+            ∙ sym (taken_kind-unlike is_close items p q item.note refl);
+        lost = λ q q_within. ap (λ (marks : List Bool). get_or marks q false) lost ∙ stands.lost q (omega arith)
+            ∙ sym (taken_kind-unlike is_lost items p q item.note refl);
         in_turn = λ q q_within. in_turn-push items item q next (stands.in_turn q (omega arith));
         candidates = rw members candidates;
       }
@@ -83,7 +105,8 @@ module _ (old new : CheckerState) (sound : IsSoundChecker old) (items : List Ite
       now_left : AreLeft (length new.queues) (rows_of old.members longer) new.queues new.floor
       now_left = subst (λ n. AreLeft n (rows_of old.members longer) new.queues new.floor) (sym same_rows)
           (left (rows_of old.members items) (rows_of old.members longer) (gain_row row below own)
-          (subst (HasCandidates old (rows_of old.members items)) searching.none_found stands.candidates searching.not_starved))
+          (subst (HasCandidates old (rows_of old.members items)) searching.none_found stands.candidates
+          searching.not_starved))
 
       candidates : (found : Option (List ℕ))
           → MatchOption found (HaveHeads (length old.queues) new.floor → ⊥) (IsCutOfHeads (length old.queues) new.floor)
@@ -115,7 +138,8 @@ module _ (old new : CheckerState) (sound : IsSoundChecker old) (items : List Ite
       ])
 
 -- a starved checker stands for the same items
-pub StandsForItems-starved : (checker : CheckerState) (items : List Item) → StandsForItems checker items → StandsForItems (record checker { starved = true }) items
+pub StandsForItems-starved : (checker : CheckerState) (items : List Item) → StandsForItems checker items
+    → StandsForItems (record checker { starved = true }) items
 StandsForItems-starved checker items stands = record {
   taken = stands.taken;
   snapshots = stands.snapshots;
@@ -131,20 +155,30 @@ StandsForItems-starved checker items stands = record {
     candidates (Some cut) is = is
 
 -- a last note is noted, and all else stays
-module _ (old new : CheckerState) (items : List Item) (p : ℕ) (note : Note) (last : is_last note ≡ true) (stands : StandsForItems old items) (may : MayTake old (record { from = p; note = note }))
-    (queues : new.queues ≡ old.queues) (floor : new.floor ≡ old.floor) (taken : new.taken ≡ old.taken) (found : new.found ≡ old.found) (starved : new.starved ≡ old.starved)
+module _ (old new : CheckerState) (items : List Item) (p : ℕ) (note : Note) (last : is_last note ≡ true)
+    (stands : StandsForItems old items) (may : MayTake old (record { from = p; note = note }))
+    (queues : new.queues ≡ old.queues) (floor : new.floor ≡ old.floor) (taken : new.taken ≡ old.taken)
+    (found : new.found ≡ old.found) (starved : new.starved ≡ old.starved)
     (count : new.count ≡ old.count) (members : new.members ≡ old.members) where
   abbrev ending : List Item
   ending = items ++ record { from = p; note = note } ∷ []
 
-  StandsForItems-last : ((q : ℕ) → q < processes old → closed_of new q ≡ list_any is_close (notes_taken q ending)) → ((q : ℕ) → q < processes old → lost_of new q ≡ list_any is_lost (notes_taken q ending))
+  StandsForItems-last : ((q : ℕ) → q < processes old → closed_of new q ≡ list_any is_close (notes_taken q ending))
+      → ((q : ℕ) → q < processes old → lost_of new q ≡ list_any is_lost (notes_taken q ending))
       → StandsForItems new ending
   StandsForItems-last closed lost = record {
-    taken = λ q q_within. ap (λ (counts : List ℕ). slice_index counts q) taken ∙ stands.taken q (omega (arith, count)) ∙ ap length (sym (clocks_taken-push_last items p q note last));
-    snapshots = ap sum taken ∙ omega (arith, stands.snapshots, ap {B = ℕ} (λ b. cond b 1 0) (last_is_none note last), sum_by_push (λ item. cond (is_snapshot item) 1 0) items (record { from = p; note = note }));
+    taken = λ q q_within. ap (λ (counts : List ℕ). slice_index counts q) taken ∙ stands.taken q (omega (arith, count))
+        ∙ ap length (sym (clocks_taken-push_last items p q note last));
+    snapshots = ap sum taken ∙ omega (
+      arith,
+      stands.snapshots,
+      ap {B = ℕ} (λ b. cond b 1 0) (last_is_none note last),
+      sum_by_push (λ item. cond (is_snapshot item) 1 0) items (record { from = p; note = note }),
+    );
     closed = λ q q_within. closed q (omega (arith, count));
     lost = λ q q_within. lost q (omega (arith, count));
-    in_turn = λ q q_within. in_turn-push items (record { from = p; note = note }) q (next_where_MayTake old items (record { from = p; note = note }) stands may) (stands.in_turn q (omega (arith, count)));
+    in_turn = λ q q_within. in_turn-push items (record { from = p; note = note }) q (next_where_MayTake old items
+        (record { from = p; note = note }) stands may) (stands.in_turn q (omega (arith, count)));
     candidates = rw (queues, floor, found, starved, members) (candidates old.found stands.candidates);
   }
     where
@@ -161,19 +195,41 @@ module _ (old new : CheckerState) (items : List Item) (p : ℕ) (note : Note) (l
           → HasCandidates old (rows_of old.members ending) cut
       candidates cut is = grind (arith, AreLeft-rows, same, IsFoundAmong-same)
 
-pub StandsForItems-close : (old new : CheckerState) (items : List Item) (p count : ℕ) → StandsForItems old items → MayTake old (record { from = p; note = Close count }) → p < length old.closed → new ≡ record old { closed = set old.closed p true }
+pub StandsForItems-close : (old new : CheckerState) (items : List Item) (p count : ℕ) → StandsForItems old items
+    → MayTake old (record { from = p; note = Close count }) → p < length old.closed
+    → new ≡ record old { closed = set old.closed p true }
     → StandsForItems new (items ++ record { from = p; note = Close count } ∷ [])
 StandsForItems-close old new items p count stands may within is = rw is
-    (StandsForItems-last old (record old { closed = set old.closed p true }) items p (Close count) refl stands may refl refl refl refl refl refl refl
-    (λ q q_within. grind (arith, stands.closed q q_within, taken_kind-own, taken_kind-other, get_or-set_other, get_or-set_same, cases_eq q p))
+    (StandsForItems-last old (record old { closed = set old.closed p true }) items p
+    (Close count) refl stands may refl refl refl refl refl refl refl
+    (λ q q_within. grind (
+      arith,
+      stands.closed q q_within,
+      taken_kind-own,
+      taken_kind-other,
+      get_or-set_other,
+      get_or-set_same,
+      cases_eq q p,
+    ))
     (λ q q_within. stands.lost q q_within ∙ sym (taken_kind-unlike is_lost items p q (Close count) refl)))
 
-pub StandsForItems-lost : (old new : CheckerState) (items : List Item) (p count : ℕ) → StandsForItems old items → MayTake old (record { from = p; note = Lost count }) → p < length old.lost → new ≡ record old { lost = set old.lost p true }
+pub StandsForItems-lost : (old new : CheckerState) (items : List Item) (p count : ℕ) → StandsForItems old items
+    → MayTake old (record { from = p; note = Lost count }) → p < length old.lost
+    → new ≡ record old { lost = set old.lost p true }
     → StandsForItems new (items ++ record { from = p; note = Lost count } ∷ [])
 StandsForItems-lost old new items p count stands may within is = rw is
-    (StandsForItems-last old (record old { lost = set old.lost p true }) items p (Lost count) refl stands may refl refl refl refl refl refl refl
+    (StandsForItems-last old (record old { lost = set old.lost p true }) items p
+    (Lost count) refl stands may refl refl refl refl refl refl refl
     (λ q q_within. stands.closed q q_within ∙ sym (taken_kind-unlike is_close items p q (Lost count) refl))
-    (λ q q_within. grind (arith, stands.lost q q_within, taken_kind-own, taken_kind-other, get_or-set_other, get_or-set_same, cases_eq q p)))
+    (λ q q_within. grind (
+      arith,
+      stands.lost q q_within,
+      taken_kind-own,
+      taken_kind-other,
+      get_or-set_other,
+      get_or-set_same,
+      cases_eq q p,
+    )))
 
 -- a checker that has taken nothing stands for the empty list
 pub StandsForItems-fresh : (n : ℕ) (watched : NumberSet) (members : List ℕ) → n ≤ 16 → length members ≤ 16

@@ -1,9 +1,12 @@
 -- The watched processes by rising number, and the rows that a checker has of them.
 use Rattle.wcp_queue.proofs.Words.{◌≡◌, ◌≢◌, ℕ, zero, suc, ◌+◌, ◌<◌, ◌≤◌, ◌⊎◌, Bool, true, false, cond, Option, Some}
-use Rattle.wcp_queue.proofs.Words.{None, List, [], ◌∷◌, ◌++◌, length, get_or, slice_get, slice_index, slice_index_or, filter}
-use Rattle.wcp_queue.proofs.Words.{refl, sym, ◌∙◌, ap, subst, inl, inr, arith, is_some, unwrap_or, cases_Bool, cases_eq, cases_lt}
+use Rattle.wcp_queue.proofs.Words.{None, List, [], ◌∷◌, ◌++◌, length, get_or, slice_get, slice_index, slice_index_or}
+use Rattle.wcp_queue.proofs.Words.{filter}
+use Rattle.wcp_queue.proofs.Words.{refl, sym, ◌∙◌, ap, subst, inl, inr, arith, is_some, unwrap_or, cases_Bool, cases_eq}
+use Rattle.wcp_queue.proofs.Words.{cases_lt}
 use Rattle.wcp_queue.proofs.Words.{eqb, eq-eqb, ne_eqb, get_or-map, slice_get-get_or, slice_get_past}
-use Rattle.wcp_queue.proofs.Words.{length-map-range_with_len, get_or-map-range_with_len, range_with_len, NumberSet, IsWatched}
+use Rattle.wcp_queue.proofs.Words.{length-map-range_with_len, get_or-map-range_with_len, range_with_len, NumberSet}
+use Rattle.wcp_queue.proofs.Words.{IsWatched}
 use Rattle.wcp_queue.proofs.Words.{filter-append}
 use Rattle.wcp_queue.proofs.Words.{NamesWatched, interval_of, AreSomeWatched, members_of, row_of, known_of, cut_of}
 use Rattle.wcp_queue.proofs.Words.{set as list_set, take, append-nil, length-set, get_or-set_same, get_or-set_other}
@@ -31,7 +34,8 @@ module _ (test : ℕ → Bool) where
       later : {x : ℕ} → IsKept (a + 1) n x → IsKept a (suc n) x
       later rest = record { from = omega (arith, rest.from); below = omega (arith, rest.below); passes = rest.passes }
 
-      first : test a ≡ true → ((i : ℕ) → i < length (kept (a + 1) n) → IsKept (a + 1) n (slice_index (kept (a + 1) n) i))
+      first : test a ≡ true
+          → ((i : ℕ) → i < length (kept (a + 1) n) → IsKept (a + 1) n (slice_index (kept (a + 1) n) i))
           → (i : ℕ) → i < length (a ∷ kept (a + 1) n) → IsKept a (suc n) (slice_index (a ∷ kept (a + 1) n) i)
       first passes rest zero below = record { from = omega arith; below = omega arith; passes = passes }
       first passes rest (suc i) below = later (rest i (omega arith))
@@ -43,7 +47,8 @@ module _ (test : ℕ → Bool) where
         let passes : test a ≡ true = ap test same ∙ is.passes in
         rw passes (0, omega arith, same)
     | inr apart ↦
-        let (i, below, here) = kept_at (a + 1) n x (record { from = after apart; below = omega (arith, is.below); passes = is.passes }) in
+        let (i, below, here) =
+        kept_at (a + 1) n x (record { from = after apart; below = omega (arith, is.below); passes = is.passes }) in
         elim (cases_Bool (test a)) [
           | inl passes ↦ rw passes (suc i, omega arith, here)
           | inr out ↦ rw out (i, below, here)
@@ -124,7 +129,8 @@ module _ (n : ℕ) (watched : NumberSet) where
       record { below = omega (arith, is.below); member = is.passes }
 
   -- no two rows are of one process
-  pub apart_rows : (i j : ℕ) → i < length members → j < length members → i ≢ j → slice_index members i ≢ slice_index members j
+  pub apart_rows : (i j : ℕ) → i < length members → j < length members → i ≢ j
+      → slice_index members i ≢ slice_index members j
   apart_rows i j i_below j_below apart same = elim (cases_lt i j) [
     | inl less ↦ omega (arith, kept_rises (set.contains watched) 0 n i j less j_below)
     | inr more ↦ elim (cases_lt j i) [
@@ -165,7 +171,8 @@ module _ (n : ℕ) (watched : NumberSet) where
 
   -- the cut that names these intervals names a state of each watched process, and of no other
   module _ (intervals : List ℕ) (each : length intervals ≡ length members) where
-    at_process : (p : ℕ) → p < n → slice_index_or (cut_of n members intervals) p None ≡ slice_get intervals (row_of members p)
+    at_process : (p : ℕ) → p < n
+        → slice_index_or (cut_of n members intervals) p None ≡ slice_get intervals (row_of members p)
     at_process p below =
         let at : 0 + p ≡ p = omega arith in
         get_or-map-range_with_len (λ q. slice_get intervals (row_of members q)) 0 n p p None below at
@@ -275,7 +282,8 @@ module _ (numbers : List ℕ) (count n : ℕ) (watched : NumberSet) (are : AreLi
   pub listed_without : set.contains watched n ≡ false → AreListed numbers count (n + 1) watched
   listed_without out =
       let same : members_of (n + 1) watched ≡ members_of n watched =
-      members_more n watched ∙ ap (λ b. members_of n watched ++ cond b (n ∷ []) []) out ∙ append-nil (members_of n watched) in
+      members_more n watched ∙ ap (λ b. members_of n watched ++ cond b (n ∷ []) []) out
+      ∙ append-nil (members_of n watched) in
       record {
         long = are.long;
         counted = are.counted ∙ sym (ap length same);
@@ -295,7 +303,8 @@ pub record AreEntries (entries : List (Option ℕ)) (n : ℕ) (members intervals
   pub done : (k : ℕ) → k < n → get_or entries k None ≡ slice_get intervals (row_of members k)
   pub later : (k : ℕ) → n ≤ k → get_or entries k None ≡ None
 
-module _ (entries : List (Option ℕ)) (n : ℕ) (members intervals : List ℕ) (are : AreEntries entries n members intervals) where
+module _ (entries : List (Option ℕ)) (n : ℕ) (members intervals : List ℕ)
+    (are : AreEntries entries n members intervals) where
   pub entries_with : (interval : ℕ) → n < 16 → slice_get intervals (row_of members n) ≡ Some interval
       → AreEntries (list_set entries n (Some interval)) (n + 1) members intervals
   entries_with interval room at = record {
@@ -330,7 +339,8 @@ module _ (entries : List (Option ℕ)) (n : ℕ) (members intervals : List ℕ) 
   cut_entries room =
       let entry = λ (p : ℕ). slice_get intervals (row_of members p) in
       let size = length-take-le n entries (omega (arith, are.long)) in
-      ext_get_or None (take n entries) (cut_of n members intervals) (size ∙ sym (length-map-range_with_len entry 0 n)) (λ k below.
+      ext_get_or None (take n entries) (cut_of n members intervals) (size ∙ sym (length-map-range_with_len entry 0 n))
+      (λ k below.
       let at : 0 + k ≡ k = omega arith in
       get_or-take n entries k None (omega (arith, size))
       ∙ are.done k (omega (arith, size))
@@ -347,13 +357,15 @@ row_in_range a (suc n) (suc k) below =
 
 known_in_range : (n : ℕ) (clock : List ℕ) → length clock ≡ n → known_of (range_with_len 0 n) clock ≡ clock
 known_in_range n clock long =
-    ext_get_or 0 (known_of (range_with_len 0 n) clock) clock (length-map-range_with_len (slice_index clock) 0 n ∙ sym long)
+    ext_get_or 0 (known_of (range_with_len 0 n) clock) clock
+    (length-map-range_with_len (slice_index clock) 0 n ∙ sym long)
     (λ k below.
     let within : k < n = omega (arith, length-map-range_with_len (slice_index clock) 0 n) in
     let at : 0 + k ≡ k = omega arith in
     get_or-map-range_with_len (slice_index clock) 0 n k k 0 within at)
 
-module _ (n : ℕ) (watched : NumberSet) (members : List ℕ) (is : members ≡ members_of n watched) (all : length members ≡ n) where
+module _ (n : ℕ) (watched : NumberSet) (members : List ℕ) (is : members ≡ members_of n watched)
+    (all : length members ≡ n) where
   all_members : members ≡ range_with_len 0 n
   all_members = is ∙ kept_all (set.contains watched) 0 n (ap length (sym is) ∙ all)
 

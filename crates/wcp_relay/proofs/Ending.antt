@@ -1,5 +1,11 @@
 -- How a relay begins and ends.
-use Rattle.wcp_relay.proofs.Words.{◌≡◌, ℕ, suc, ◌<◌, true, true≢false, List, [], ◌∷◌, ◌++◌, length, get_or, sym, refl, ap, ◌∙◌, subst, append_assoc, arith, All, IfNone, IfErr, Result, Ok, Err, OnOk, append-nil, nil_from_length, All-nil, IsPrefix, Item, place_of, is_last, Feed, Outlet, Source, Leaf, Inner, fed, items_by, items_of, source_taken, Serves, IsNewFeed, IsInOrder, handed, AreItemsInSequence, IsSound, IsFaithful, IsLeafAtWork, IsAtWork, AreEnded, HasMetGap, HasEnded, IsEndOfSource, taken_in, Option, None, Some, Parent, PutEnd, Bundle, AreFromRings, IsFromRings, gap_met}
+use Rattle.wcp_relay.proofs.Words.{◌≡◌, ℕ, suc, ◌<◌, true, true≢false, List, [], ◌∷◌, ◌++◌, length, get_or, sym, refl}
+use Rattle.wcp_relay.proofs.Words.{ap, ◌∙◌, subst, append_assoc, arith, All, IfNone, IfErr, Result, Ok, Err, OnOk}
+use Rattle.wcp_relay.proofs.Words.{append-nil, nil_from_length, All-nil, IsPrefix, Item, place_of, is_last, Feed}
+use Rattle.wcp_relay.proofs.Words.{Outlet, Source, Leaf, Inner, fed, items_by, items_of, source_taken, Serves}
+use Rattle.wcp_relay.proofs.Words.{IsNewFeed, IsInOrder, handed, AreItemsInSequence, IsSound, IsFaithful, IsLeafAtWork}
+use Rattle.wcp_relay.proofs.Words.{IsAtWork, AreEnded, HasMetGap, HasEnded, IsEndOfSource, taken_in, Option, None, Some}
+use Rattle.wcp_relay.proofs.Words.{Parent, PutEnd, Bundle, AreFromRings, IsFromRings, gap_met}
 use Rattle.wcp_lane.specs.declared.fault.Cut.{Cut}
 use Rattle.wcp_relay.specs.RelayEnds.{IsOutcomeFromRings, first_met}
 use Rattle.wcp_relay.specs.declared.relay_end.Outcome.TheVariants.{Whole}
@@ -39,17 +45,22 @@ fed_new (f ∷ fs) new p =
     let rest = fed_new fs (λ k d below. new (suc k) d (omega arith)) p in
     grind arith
 
-faithful_new : (taken : ℕ → List Item) (outlet : Outlet) → ((p : ℕ) → taken p ≡ []) → handed outlet ≡ [] → IsFaithful taken outlet
+faithful_new : (taken : ℕ → List Item) (outlet : Outlet) → ((p : ℕ) → taken p ≡ []) → handed outlet ≡ []
+    → IsFaithful taken outlet
 faithful_new taken outlet none all =
     let same : (p : ℕ) → items_of p (handed outlet) ≡ taken p = λ p. ap (items_of p) all ∙ sym (none p) in
-    record { whole = only_none _ outlet.cut (λ _. same); front = λ p. prefix_same (items_of p (handed outlet)) (taken p) (same p) }
+    record {
+      whole = only_none _ outlet.cut (λ _. same);
+      front = λ p. prefix_same (items_of p (handed outlet)) (taken p) (same p);
+    }
 
 -- the source is a leaf with these feeds
 abbrev IsLeafOf : Source → List Feed → Type 0
 IsLeafOf (Leaf own sleeper) feeds = feeds ≡ own.items
 IsLeafOf (Inner taker) feeds = ⊥
 
-pub starts : (source : Source) (outlet : Outlet) → Serves source outlet.putter.members → 0 < outlet.hold.room → length outlet.hold.items ≡ 0 → length outlet.putter.put ≡ 0
+pub starts : (source : Source) (outlet : Outlet) → Serves source outlet.putter.members → 0 < outlet.hold.room
+    → length outlet.hold.items ≡ 0 → length outlet.putter.put ≡ 0
     → IsAtWork source outlet
 starts (Leaf feeds sleeper) outlet serves room held put =
     let held_none = nil_from_length outlet.hold.items held in
@@ -67,46 +78,58 @@ starts (Inner taker) outlet serves room held put =
     record {
       among = serves.1;
       sound = sound_new outlet room held_none all;
-      faithful = faithful_new (λ p. items_of p taker.taken) outlet (λ p. ap (items_of p) (nil_from_length taker.taken serves.0)) all;
+      faithful = faithful_new (λ p. items_of p taker.taken) outlet
+          (λ p. ap (items_of p) (nil_from_length taker.taken serves.0)) all;
     }
 
 -- a front of what was handed over is what was put
-pub put_front : (outlet : Outlet) (taken : List Item) (p : ℕ) → IsPrefix (items_of p (handed outlet)) taken → IsPrefix (items_of p outlet.putter.put) taken
+pub put_front : (outlet : Outlet) (taken : List Item) (p : ℕ) → IsPrefix (items_of p (handed outlet)) taken
+    → IsPrefix (items_of p outlet.putter.put) taken
 put_front outlet taken p front =
     let split = items_of-append p outlet.putter.put outlet.hold.items in (
       items_of p outlet.hold.items ++ front.0,
-      sym (append_assoc (items_of p outlet.putter.put) (items_of p outlet.hold.items) front.0) ∙ ap (λ xs. xs ++ front.0) (sym split) ∙ front.1,
+      sym (append_assoc (items_of p outlet.putter.put) (items_of p outlet.hold.items) front.0)
+          ∙ ap (λ xs. xs ++ front.0) (sym split) ∙ front.1,
     )
 
 -- where nil_from_length is held, all was put
-pub all_put : (taken : ℕ → List Item) (outlet : Outlet) → IsFaithful taken outlet → IfNone outlet.cut (outlet.hold.items ≡ [])
+pub all_put : (taken : ℕ → List Item) (outlet : Outlet) → IsFaithful taken outlet
+    → IfNone outlet.cut (outlet.hold.items ≡ [])
     → IfNone outlet.cut ((p : ℕ) → items_of p outlet.putter.put ≡ taken p)
 all_put taken outlet faithful empty =
     only_none _ outlet.cut (λ none p.
-    ap (items_of p) (sym (ap (λ xs. outlet.putter.put ++ xs) (if_none _ outlet.cut none empty) ∙ append-nil outlet.putter.put))
+    ap (items_of p)
+    (sym (ap (λ xs. outlet.putter.put ++ xs) (if_none _ outlet.cut none empty) ∙ append-nil outlet.putter.put))
     ∙ if_none _ outlet.cut none faithful.whole p)
 
-pub leaf_all_ended : (feeds : List Feed) (outlet : Outlet) → IsLeafAtWork feeds outlet → All (λ (f : Feed). f.ended ≡ true) feeds → AreEnded outlet.putter.members (fed feeds)
+pub leaf_all_ended : (feeds : List Feed) (outlet : Outlet) → IsLeafAtWork feeds outlet
+    → All (λ (f : Feed). f.ended ≡ true) feeds → AreEnded outlet.putter.members (fed feeds)
 leaf_all_ended feeds outlet work closed p own = all_ended feeds closed work.in_order p (sym (work.served p) ∙ own)
 
 -- a leaf took the close marks of all its processes, or met a gap
-pub leaf_ended : (r : Result (Unit {0}) TakeFault) (source : Source) (feeds : List Feed) (outlet : Outlet) → IsLeafOf source feeds → OnOk r (IsLeafAtWork feeds outlet) → OnOk r (All (λ (f : Feed). f.ended ≡ true) feeds)
+pub leaf_ended : (r : Result (Unit {0}) TakeFault) (source : Source) (feeds : List Feed) (outlet : Outlet)
+    → IsLeafOf source feeds → OnOk r (IsLeafAtWork feeds outlet) → OnOk r (All (λ (f : Feed). f.ended ≡ true) feeds)
     → IfErr r (λ met. (p : ℕ) × (met ≡ fault.Gap p) × HasMetGap p (fed feeds) outlet) → HasEnded source outlet r
-leaf_ended (Ok done) (Leaf own sleeper) feeds outlet is work closed gap = subst (λ fs. AreEnded outlet.putter.members (fed fs) × IsFaithful (fed fs) outlet) is (leaf_all_ended feeds outlet work closed, work.faithful)
-leaf_ended (Err met) (Leaf own sleeper) feeds outlet is work closed gap = subst (λ m. HasEnded (Leaf own sleeper) outlet (Err m)) (sym gap.1) (subst (λ fs. HasMetGap gap.0 (fed fs) outlet) is gap.2)
+leaf_ended (Ok done) (Leaf own sleeper) feeds outlet is work closed gap = subst (λ fs. AreEnded outlet.putter.members
+    (fed fs) × IsFaithful (fed fs) outlet) is (leaf_all_ended feeds outlet work closed, work.faithful)
+leaf_ended (Err met) (Leaf own sleeper) feeds outlet is work closed gap = subst (λ m. HasEnded (Leaf own sleeper) outlet
+    (Err m)) (sym gap.1) (subst (λ fs. HasMetGap gap.0 (fed fs) outlet) is gap.2)
 leaf_ended r (Inner taker) feeds outlet is work closed gap = absurd is
 
 -- however a relay ended, its outlet was handed a front of what it took
-pub ended_front : (source : Source) (outlet : Outlet) (r : Result (Unit {0}) TakeFault) → HasEnded source outlet r → (p : ℕ) → IsPrefix (items_of p (handed outlet)) (source_taken source p)
+pub ended_front : (source : Source) (outlet : Outlet) (r : Result (Unit {0}) TakeFault) → HasEnded source outlet r
+    → (p : ℕ) → IsPrefix (items_of p (handed outlet)) (source_taken source p)
 ended_front source outlet (Ok all) ended p = ended.1.front p
 ended_front (Leaf feeds sleeper) outlet (Err (fault.Gap q)) ended p =
-    subst (IsPrefix (items_of p (handed outlet))) (sym (ended.latest p)) (prefix_more (items_of p (handed outlet)) (ended.before p) (items_of p (ended.item ∷ [])) (ended.faithful.front p))
+    subst (IsPrefix (items_of p (handed outlet))) (sym (ended.latest p)) (prefix_more (items_of p (handed outlet))
+    (ended.before p) (items_of p (ended.item ∷ [])) (ended.faithful.front p))
 ended_front (Inner taker) outlet (Err (fault.Cut cut)) ended p = ended.front p
 ended_front (Leaf feeds sleeper) outlet (Err (fault.Cut cut)) ended p = absurd ended
 ended_front (Inner taker) outlet (Err (fault.Gap q)) ended p = absurd ended
 
 -- what is left of a source took what it took
-pub end_taken : (source : Source) (left : Receipts) → IsEndOfSource source left → (p : ℕ) → taken_in left p ≡ source_taken source p
+pub end_taken : (source : Source) (left : Receipts) → IsEndOfSource source left → (p : ℕ)
+    → taken_in left p ≡ source_taken source p
 end_taken (Leaf feeds sleeper) (Feeds left) is p = λ j. fed (is j).items p
 end_taken (Inner taker) (Lane receipt) is p = ap (items_of p) is.3
 end_taken (Leaf feeds sleeper) (Lane receipt) is p = absurd is

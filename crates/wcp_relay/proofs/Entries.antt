@@ -1,5 +1,7 @@
 -- The entries of a list.
-use Rattle.wcp_relay.proofs.Words.{◌≡◌, ◌≢◌, ℕ, ◌<◌, List, [], ◌∷◌, ◌++◌, length, map, get_or, All, Option, Some, ap, ◌∙◌, subst, arith, common_steps, gets, slice_get, slice_set, option_map, get_or_from_slice_get, slice_get-map, slice_get_within}
+use Rattle.wcp_relay.proofs.Words.{◌≡◌, ◌≢◌, ℕ, ◌<◌, List, [], ◌∷◌, ◌++◌, length, map, get_or, All, Option, Some, ap}
+use Rattle.wcp_relay.proofs.Words.{◌∙◌, subst, arith, common_steps, gets, slice_get, slice_set, option_map}
+use Rattle.wcp_relay.proofs.Words.{get_or_from_slice_get, slice_get-map, slice_get_within}
 
 module _ {X : Type 0} where
   -- what was written is there
@@ -18,7 +20,8 @@ module _ {X : Type 0} where
   earlier_entry xs ys i within = grind (arith, common_steps, gets)
 
 -- an entry of a mapped list
-pub mapped_at : {X Y : Type 0} (f : X → Y) (xs : List X) (k : ℕ) (x : X) → slice_get xs k ≡ Some x → slice_get (map f xs) k ≡ Some (f x)
+pub mapped_at : {X Y : Type 0} (f : X → Y) (xs : List X) (k : ℕ) (x : X) → slice_get xs k ≡ Some x
+    → slice_get (map f xs) k ≡ Some (f x)
 mapped_at f xs k x at = slice_get-map f xs k ∙ ap (option_map f) at
 
 -- what holds of all holds of the one at a place

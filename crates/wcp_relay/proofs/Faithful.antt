@@ -1,5 +1,7 @@
 -- An outlet stays faithful to what is taken.
-use Rattle.wcp_relay.proofs.Words.{◌≡◌, ◌⊎◌, ℕ, Option, None, Some, List, [], ◌∷◌, ◌++◌, sym, refl, ap, ◌∙◌, subst, inl, inr, ⊎_elim, append_assoc, IfNone, IfSome, append-nil, IsPrefix, Item, Outlet, items_of, handed, IsFaithful}
+use Rattle.wcp_relay.proofs.Words.{◌≡◌, ◌⊎◌, ℕ, Option, None, Some, List, [], ◌∷◌, ◌++◌, sym, refl, ap, ◌∙◌, subst, inl}
+use Rattle.wcp_relay.proofs.Words.{inr, ⊎_elim, append_assoc, IfNone, IfSome, append-nil, IsPrefix, Item, Outlet}
+use Rattle.wcp_relay.proofs.Words.{items_of, handed, IsFaithful}
 use Rattle.wcp_lane.specs.declared.fault.Cut.{Cut}
 use Rattle.wcp_relay.proofs.Lists.{items_of-append}
 use Rattle.wcp_relay.proofs.Passing.{if_none}
@@ -28,7 +30,8 @@ faithful_more taken more old new item faithful one passed let_go =
     let whole : new.cut ≡ None → (p : ℕ) → items_of p (handed new) ≡ more p =
     λ none p.
     let step = if_none _ new.cut none passed in
-    ap (items_of p) step.1 ∙ items_of-append p (handed old) (item ∷ []) ∙ ap (λ xs. xs ++ items_of p (item ∷ [])) (if_none _ old.cut step.0 faithful.whole p) ∙ sym (one p) in
+    ap (items_of p) step.1 ∙ items_of-append p (handed old) (item ∷ [])
+    ∙ ap (λ xs. xs ++ items_of p (item ∷ [])) (if_none _ old.cut step.0 faithful.whole p) ∙ sym (one p) in
     record {
       whole = only_none _ new.cut whole;
       front = λ p. ⊎_elim
@@ -36,15 +39,19 @@ faithful_more taken more old new item faithful one passed let_go =
           (λ (some : (cut : Cut) × (new.cut ≡ Some cut)).
           let same = subst (λ o. IfSome o (λ cut. handed new ≡ handed old)) some.1 let_go in
           subst (λ xs. IsPrefix (items_of p xs) (more p)) (sym same)
-          (subst (IsPrefix (items_of p (handed old))) (sym (one p)) (prefix_more (items_of p (handed old)) (taken p) (items_of p (item ∷ [])) (faithful.front p))))
+          (subst (IsPrefix (items_of p (handed old))) (sym (one p))
+          (prefix_more (items_of p (handed old)) (taken p) (items_of p (item ∷ [])) (faithful.front p))))
           (none_or new.cut);
     }
 
 -- nothing was taken, and the outlet passed on what it holds
-pub faithful_same : (taken more : ℕ → List Item) (old new : Outlet) → IsFaithful taken old → ((p : ℕ) → more p ≡ taken p) → handed new ≡ handed old
+pub faithful_same : (taken more : ℕ → List Item) (old new : Outlet) → IsFaithful taken old
+    → ((p : ℕ) → more p ≡ taken p) → handed new ≡ handed old
     → (new.cut ≡ None → old.cut ≡ None) → IsFaithful more new
 faithful_same taken more old new faithful one same uncut =
     record {
-      whole = only_none _ new.cut (λ none p. ap (items_of p) same ∙ if_none _ old.cut (uncut none) faithful.whole p ∙ sym (one p));
-      front = λ p. subst (λ xs. IsPrefix (items_of p xs) (more p)) (sym same) (subst (IsPrefix (items_of p (handed old))) (sym (one p)) (faithful.front p));
+      whole = only_none _ new.cut
+          (λ none p. ap (items_of p) same ∙ if_none _ old.cut (uncut none) faithful.whole p ∙ sym (one p));
+      front = λ p. subst (λ xs. IsPrefix (items_of p xs) (more p)) (sym same)
+          (subst (IsPrefix (items_of p (handed old))) (sym (one p)) (faithful.front p));
     }

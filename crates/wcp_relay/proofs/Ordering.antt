@@ -1,5 +1,8 @@
 -- A feed stays in order as it gives the next note of its process.
-use Rattle.wcp_relay.proofs.Words.{◌≡◌, ◌+◌, true, false, true≢false, [], ◌∷◌, ◌++◌, length, length-append, append-nil, sym, refl, ap, ◌∙◌, subst, arith, All, All-push, get_or_push, length_push, TakeSide, Note, Lost, AreInSequence, place_of, is_last, AreInSequence-push, Feed, given_by, mark_of_lost, IsInOrder, IsNextAfterNotes, MayComeFromRing, CameFromRing}
+use Rattle.wcp_relay.proofs.Words.{◌≡◌, ◌+◌, true, false, true≢false, [], ◌∷◌, ◌++◌, length, length-append, append-nil}
+use Rattle.wcp_relay.proofs.Words.{sym, refl, ap, ◌∙◌, subst, arith, All, All-push, get_or_push, length_push, TakeSide}
+use Rattle.wcp_relay.proofs.Words.{Note, Lost, AreInSequence, place_of, is_last, AreInSequence-push, Feed, given_by}
+use Rattle.wcp_relay.proofs.Words.{mark_of_lost, IsInOrder, IsNextAfterNotes, MayComeFromRing, CameFromRing}
 
 -- a feed of a process that was not lost gave what it took
 pub given_is_taken : (feed : Feed) → feed.lost ≡ false → given_by feed ≡ feed.taker.taken
@@ -41,7 +44,8 @@ in_order_snap feed more note order not_ended place may_come snap taken next not_
     let counted = order.counted not_ended in
     record {
       run = subst (AreInSequence place_of is_last) (sym (given_more feed more note counted.0 not_lost taken))
-          (AreInSequence-push place_of is_last (given_by feed) note order.run (next_note feed note order not_ended place));
+          (AreInSequence-push place_of is_last (given_by feed) note order.run
+          (next_note feed note order not_ended place));
       from_ring = rw taken (All-push MayComeFromRing feed.taker.taken note order.from_ring may_come);
       counted = λ _. (
         not_lost,
@@ -58,7 +62,8 @@ pub in_order_last : (feed more : Feed) (note : Note) → IsInOrder feed → feed
 in_order_last feed more note order not_ended place last given from_ring ended =
     record {
       run = subst (AreInSequence place_of is_last) (sym given)
-          (AreInSequence-push place_of is_last (given_by feed) note order.run (next_note feed note order not_ended place));
+          (AreInSequence-push place_of is_last (given_by feed) note order.run
+          (next_note feed note order not_ended place));
       from_ring = from_ring;
       counted = λ still. absurd (true≢false (sym ended ∙ still));
       ended = λ _. (given_by feed, note, given, last);
@@ -76,7 +81,8 @@ in_order_same feed taker order same =
     }
 
 -- the mark of a lost process is given
-pub in_order_lost : (feed : Feed) (taker : TakeSide) → IsInOrder feed → feed.ended ≡ false → taker.taken ≡ feed.taker.taken
+pub in_order_lost : (feed : Feed) (taker : TakeSide) → IsInOrder feed → feed.ended ≡ false
+    → taker.taken ≡ feed.taker.taken
     → IsInOrder (record feed { ended = true; lost = true; taker = taker })
 in_order_lost feed taker order not_ended same =
     let more : Feed = record feed { ended = true; lost = true; taker = taker } in
@@ -90,7 +96,8 @@ pub out_of_turn : (feed : Feed) (note : Note) → IsInOrder feed → feed.ended 
 out_of_turn feed note order ended next =
     let (before, last, is, marked) = order.ended ended in
     let open_before = subst (All (λ n. is_last n ≡ false)) is next.unended in
-    true≢false (sym marked ∙ ap is_last (sym (get_or_push before last last (length before) refl)) ∙ open_before (length before) last
+    true≢false (sym marked ∙ ap is_last (sym (get_or_push before last last (length before) refl))
+    ∙ open_before (length before) last
     (omega (arith, length_push before last)))
 
 -- the place of a note that may come next

@@ -1,5 +1,8 @@
 -- What the ends of a workload's run tell of it.
-use Rattle.wcp_run.proofs.Words.{◌≡◌, ℕ, ◌<◌, ◌≤◌, Some, List, [], ◌∷◌, length, slice_get, sym, refl, ap, subst, ◌∙◌, arith, slice_get_within, get_or_from_slice_get, Plan, Task, count_by_no, count_by_yes, ClosedSide, snapshots_in, WorkerEnd, AreMatched, AreOfLane, HaveRun, ends_between, PlayedEnds, Ends, AreOfWorkers, AreEndsOfRun, IsToldWithin}
+use Rattle.wcp_run.proofs.Words.{◌≡◌, ℕ, ◌<◌, ◌≤◌, Some, List, [], ◌∷◌, length, slice_get, sym, refl, ap, subst, ◌∙◌}
+use Rattle.wcp_run.proofs.Words.{arith, slice_get_within, get_or_from_slice_get, Plan, Task, count_by_no, count_by_yes}
+use Rattle.wcp_run.proofs.Words.{ClosedSide, snapshots_in, WorkerEnd, AreMatched, AreOfLane, HaveRun, ends_between}
+use Rattle.wcp_run.proofs.Words.{PlayedEnds, Ends, AreOfWorkers, AreEndsOfRun, IsToldWithin}
 use Rattle.std.proofs.lemmas.List.Elements.{All-contains}
 use Rattle.wcp_clock.specs.Limits.{most_processes}
 use Rattle.wcp_clock.specs.Notes.{is_snapshot}
@@ -44,7 +47,8 @@ module _ {plan : Plan} {tasks : List Task} {ends : Ends WorkerEnd} (run : AreEnd
   pub told_within : IsToldWithin ends
   told_within p told =
       let is = run.ended.checker in
-      let lost : ends.checker.lost ≡ Some p = lost_told is.starved ends.checker.cut ends.checker.lost p (sym is.fault ∙ told) in
+      let lost : ends.checker.lost ≡ Some p =
+      lost_told is.starved ends.checker.cut ends.checker.lost p (sym is.fault ∙ told) in
       let lowest = rw lost at is.lost in
       omega (arith, lowest.0, n_is, run.ended.workers.count, workers_count)
 
@@ -59,26 +63,35 @@ module _ {plan : Plan} {tasks : List Task} {ends : Ends WorkerEnd} (run : AreEnd
     here : (p : ℕ) → p < plan.n → HasPlayedAt run.ended.workers left p
     here p below = played_at run.ended.workers left p (omega (arith, workers_count))
 
-    of_process : (p : ℕ) (below : p < plan.n) → IsEndOfProcess run.are.watch plan.n plan.watched plan.flag p (here p below).worker.player.probe (here p below).probe
+    of_process : (p : ℕ) (below : p < plan.n) → IsEndOfProcess run.are.watch plan.n plan.watched plan.flag p
+        (here p below).worker.player.probe (here p below).probe
     of_process p below =
         let one = here p below in
-        end_of_process run.are.wired p one.worker.player.probe one.probe (run.are.workers.each p one.worker one.worker_at).probe one.has.closed
+        end_of_process run.are.wired p one.worker.player.probe one.probe
+        (run.are.workers.each p one.worker one.worker_at).probe one.has.closed
 
     pub come : ComeFromWatch played.probes.items ends.relays.items ends.checker
     come = come_from_parts run.are.wired run.checked
         (λ k d within.
         let below : k < plan.n = omega (arith, as_many run.ended.workers left, workers_count) in
         subst (IsEndOfSomeProbe run.are.watch.probes.items)
-        (sym (get_or_from_slice_get played.probes.items k (here k below).probe d (here k below).probe_at)) (of_process k below).is_end)
+        (sym (get_or_from_slice_get played.probes.items k (here k below).probe d (here k below).probe_at))
+        (of_process k below).is_end)
         run.ended run.are.relays run.are.inbox run.are.watched
 
-    module _ (matched : AreMatched played.mailboxes.items) {book : BookState} {settled : Settled} (is : IsSettled played.probes.items ends.checker book settled) where
+    module _ (matched : AreMatched played.mailboxes.items) {book : BookState} {settled : Settled}
+        (is : IsSettled played.probes.items ends.checker book settled) where
       have_run : HaveRun plan.n plan.watched plan.flag tasks ends.checker.receipt.taken played.mailboxes.items
       have_run = record {
         count = (as_many run.ended.workers left).1 ∙ workers_count;
         each = λ p mailbox at.
             let below : p < plan.n =
-            omega (arith, slice_get_within played.mailboxes.items p mailbox at, as_many run.ended.workers left, workers_count) in
+            omega (
+              arith,
+              slice_get_within played.mailboxes.items p mailbox at,
+              as_many run.ended.workers left,
+              workers_count,
+            ) in
             let one = here p below in
             let of = of_process p below in
             let same : one.mailbox ≡ mailbox = let both = sym one.mailbox_at ∙ at in cc in (
@@ -106,19 +119,25 @@ module _ {plan : Plan} {tasks : List Task} {ends : Ends WorkerEnd} (run : AreEnd
         taken = snapshots_in (notes_taken end.id ends.checker.receipt.taken);
       }
 
-      tally_at : (p : ℕ) (tally : Tally) → slice_get settled.tallies p ≡ Some tally → (tally.emitted ≡ counted p) × (tally.taken ≡ counted p)
+      tally_at : (p : ℕ) (tally : Tally) → slice_get settled.tallies p ≡ Some tally
+          → (tally.emitted ≡ counted p) × (tally.taken ≡ counted p)
       tally_at p tally at =
-          let (end, (among, id)) = is.all p (omega (arith, slice_get_within settled.tallies p tally at, is.processes)) in
-          let its = All-contains (λ (e : ClosedSide). slice_get settled.tallies e.id ≡ Some (told e)) played.probes.items end is.tallies among in
-          let whole = All-contains (λ (e : ClosedSide). notes_taken e.id ends.checker.receipt.taken ≡ e.link.put) played.probes.items end is.whole among in
+          let (end, (among, id)) =
+          is.all p (omega (arith, slice_get_within settled.tallies p tally at, is.processes)) in
+          let its = All-contains (λ (e : ClosedSide). slice_get settled.tallies e.id ≡ Some (told e))
+          played.probes.items end is.tallies among in
+          let whole = All-contains (λ (e : ClosedSide). notes_taken e.id ends.checker.receipt.taken ≡ e.link.put)
+          played.probes.items end is.whole among in
           let one : tally ≡ told end = let both = sym at ∙ ap (slice_get settled.tallies) (sym id) ∙ its in cc in
           let count = snapshots_counted (notes_taken p ends.checker.receipt.taken) in
           ((cc), (cc))
 
-      pub outcome_of_run : IsWorkloadOutcome plan.n plan.watched plan.flag tasks (record { report = settled.report; tallies = settled.tallies })
-      outcome_of_run = IsWorkloadOutcome-run plan.n plan.watched plan.flag tasks ends.checker.receipt.taken played.mailboxes.items have_run _ run.within (record {
-        exact = λ rising. rw (n_is, watched_is) at is.exact;
-        processes = is.processes ∙ n_is;
-        emitted = λ p tally at. (tally_at p tally at).0;
-        taken = λ p tally at. (tally_at p tally at).1;
-      })
+      pub outcome_of_run : IsWorkloadOutcome plan.n plan.watched plan.flag tasks
+          (record { report = settled.report; tallies = settled.tallies })
+      outcome_of_run = IsWorkloadOutcome-run plan.n plan.watched plan.flag tasks ends.checker.receipt.taken
+          played.mailboxes.items have_run _ run.within (record {
+            exact = λ rising. rw (n_is, watched_is) at is.exact;
+            processes = is.processes ∙ n_is;
+            emitted = λ p tally at. (tally_at p tally at).0;
+            taken = λ p tally at. (tally_at p tally at).1;
+          })

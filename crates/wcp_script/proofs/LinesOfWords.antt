@@ -1,5 +1,9 @@
 -- Lines of words that are written as a text are cut into these lines and words again.
-use Rattle.wcp_script.proofs.Words.{◌≡◌, ℕ, ◌^◌, ◌<◌, true, false, eqb, not, ◌&&◌, Bool, List, [], ◌∷◌, ◌++◌, All, Ok, refl, ◌∙◌, append_assoc, arith, join_with_byte, list_all, AllByRecursion, decimal, and_parts, ne_eqb, not-true, digits_decimal, get_or_default, All-append, All-cons, All-nil, slice_split_at, slice_split_none, AllPass-from_list_all, not_in_digits, TextLine, Word, line_text, number_in}
+use Rattle.wcp_script.proofs.Words.{◌≡◌, ℕ, ◌^◌, ◌<◌, true, false, eqb, not, ◌&&◌, Bool, List, [], ◌∷◌, ◌++◌, All, Ok}
+use Rattle.wcp_script.proofs.Words.{refl, ◌∙◌, append_assoc, arith, join_with_byte, list_all, AllByRecursion, decimal}
+use Rattle.wcp_script.proofs.Words.{and_parts, ne_eqb, not-true, digits_decimal, get_or_default, All-append, All-cons}
+use Rattle.wcp_script.proofs.Words.{All-nil, slice_split_at, slice_split_none, AllPass-from_list_all, not_in_digits}
+use Rattle.wcp_script.proofs.Words.{TextLine, Word, line_text, number_in}
 use Rattle.std.specs.Int.{IsInRange}
 use Rattle.wcp_script.specs.Lines.{lines_of, words_of}
 use Rattle.wcp_script.proofs.Cuts.{lines_after}
@@ -16,9 +20,11 @@ pub IsWord-literal : (word : Word) → list_all is_inner word ≡ true → IsWor
 IsWord-literal word each = AllPass-from_list_all is_inner word each
 
 -- A byte that is no digit isn't in a number.
-pub lacks-decimal : (byte n : ℕ) → n < 2 ^ 32 → (IsInRange 48 57 byte → ⊥) → All (λ other. eqb other byte ≡ false) (decimal n)
+pub lacks-decimal : (byte n : ℕ) → n < 2 ^ 32 → (IsInRange 48 57 byte → ⊥)
+    → All (λ other. eqb other byte ≡ false) (decimal n)
 lacks-decimal byte n small out = λ k d lt.
-    ne_eqb _ byte (λ e. not_in_digits own (decimal n) byte (digits_decimal own n (omega arith)) out k lt (get_or_default (decimal n) k 0 d lt ∙ e))
+    ne_eqb _ byte (λ e. not_in_digits own (decimal n) byte (digits_decimal own n (omega arith)) out k lt
+    (get_or_default (decimal n) k 0 d lt ∙ e))
 
 pub IsWord-decimal : (n : ℕ) → n < 2 ^ 32 → IsWord (decimal n)
 IsWord-decimal n small = grind (arith, lacks-decimal)
@@ -34,7 +40,8 @@ lacks_feed word is = λ k d lt. not-true _ (and_parts _ _ (is k d lt)).1
 
 -- ---- words
 
-pub words_of-joined : (word : Word) (words : List Word) → AllByRecursion IsWord (word ∷ words) → words_of (join_with_byte 32 (word ∷ words)) ≡ word ∷ words
+pub words_of-joined : (word : Word) (words : List Word) → AllByRecursion IsWord (word ∷ words)
+    → words_of (join_with_byte 32 (word ∷ words)) ≡ word ∷ words
 unfolding words_of
 words_of-joined word [] each = slice_split_none (λ byte. eqb byte 32) word (lacks_space word each.0)
 words_of-joined word (next ∷ words) each =
@@ -52,14 +59,16 @@ line_text-joined (word ∷ []) rest = append_assoc word (10 ∷ []) rest
 line_text-joined (word ∷ next ∷ words) rest =
     grind (arith, append_assoc, line_text-joined (next ∷ words) rest)
 
-joined_lacks_feed : (words : List Word) → AllByRecursion IsWord words → All (λ byte. eqb byte 10 ≡ false) (join_with_byte 32 words)
+joined_lacks_feed : (words : List Word) → AllByRecursion IsWord words
+    → All (λ byte. eqb byte 10 ≡ false) (join_with_byte 32 words)
 joined_lacks_feed [] each = All-nil (λ byte. eqb byte 10 ≡ false)
 joined_lacks_feed (word ∷ []) each = lacks_feed word each.0
 joined_lacks_feed (word ∷ next ∷ words) each =
     search (arith, lacks_feed word each.0, joined_lacks_feed (next ∷ words) each.1, All-append, All-cons, lacks_feed)
 
 -- A text that begins with a line of words is cut behind it.
-pub lines_of-line_text : (words : List Word) (rest : List ℕ) → AllByRecursion IsWord words → lines_of (line_text words ++ rest) ≡ worded words ∷ lines_of rest
+pub lines_of-line_text : (words : List Word) (rest : List ℕ) → AllByRecursion IsWord words
+    → lines_of (line_text words ++ rest) ≡ worded words ∷ lines_of rest
 lines_of-line_text words rest each = grind (arith, joined_lacks_feed, line_text-joined, lines_after, slice_split_at)
 
 pub lines_of_nothing : lines_of [] ≡ []

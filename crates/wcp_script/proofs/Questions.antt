@@ -1,7 +1,8 @@
 -- What it takes that no question found a fault.
 use Rattle.wcp_script.proofs.Words.{◌≡◌, ℕ, Bool, true, Result, Ok, arith, FaultKind, ◌>>=◌, ask, at_line}
 
-pub bind_ok : {A B E : Type 0} (r : Result A E) (f : A → Result B E) (y : B) → (r >>= f) ≡ Ok y → (x : A) × (r ≡ Ok x) × (f x ≡ Ok y)
+pub bind_ok : {A B E : Type 0} (r : Result A E) (f : A → Result B E) (y : B) → (r >>= f) ≡ Ok y
+    → (x : A) × (r ≡ Ok x) × (f x ≡ Ok y)
 bind_ok r f y e = grind arith
 
 abbrev done : {A E : Type 0} → A → Result A E

@@ -1,5 +1,9 @@
 -- What the numbers of a watch line say, and how such a line is printed and read back.
-use Rattle.wcp_script.proofs.Words.{◌≡◌, ℕ, zero, suc, ◌+◌, ◌<◌, ◌≤◌, Bool, true, false, cond, ◌&&◌, eqb, List, [], ◌∷◌, ◌++◌, length, Option, Some, None, Result, Ok, Err, refl, sym, ap, ◌∙◌, append-nil, append_assoc, arith, lt-ltb, ne_eqb, inl, inr, flat_map, range_with_len, list_all, AllByRecursion, and_parts, cases_eq, HeadLine, FaultKind, Word, is_after, number_in, ask, ◌>>=◌}
+use Rattle.wcp_script.proofs.Words.{◌≡◌, ℕ, zero, suc, ◌+◌, ◌<◌, ◌≤◌, Bool, true, false, cond, ◌&&◌, eqb, List, [], ◌∷◌}
+use Rattle.wcp_script.proofs.Words.{◌++◌, length, Option, Some, None, Result, Ok, Err, refl, sym, ap, ◌∙◌, append-nil}
+use Rattle.wcp_script.proofs.Words.{append_assoc, arith, lt-ltb, ne_eqb, inl, inr, flat_map, range_with_len, list_all}
+use Rattle.wcp_script.proofs.Words.{AllByRecursion, and_parts, cases_eq, HeadLine, FaultKind, Word, is_after, number_in}
+use Rattle.wcp_script.proofs.Words.{ask, ◌>>=◌}
 use Rattle.std.specs.FinSet as set
 use Rattle.std.specs.Borrow.{Bor}
 use Rattle.std.specs.Prelude.{is_some}
@@ -29,40 +33,50 @@ and_assoc false b c = refl
 
 -- ---- all numbers at once
 
-rise_is : (n : ℕ) (named : Named) (ps : List ℕ) → (with_numbers n named ps).rise ≡ (named.rise && rise_behind named.last ps)
+rise_is : (n : ℕ) (named : Named) (ps : List ℕ)
+    → (with_numbers n named ps).rise ≡ (named.rise && rise_behind named.last ps)
 rise_is n named [] = and_true named.rise
-rise_is n named (p ∷ ps) = rise_is n (with_number n named p) ps ∙ and_assoc named.rise (is_after named.last p) (rise_behind (Some p) ps)
+rise_is n named (p ∷ ps) = rise_is n (with_number n named p) ps
+    ∙ and_assoc named.rise (is_after named.last p) (rise_behind (Some p) ps)
 
-within_is : (n : ℕ) (named : Named) (ps : List ℕ) → (with_numbers n named ps).within ≡ (named.within && list_all (λ p. nat_lt p n) ps)
+within_is : (n : ℕ) (named : Named) (ps : List ℕ)
+    → (with_numbers n named ps).within ≡ (named.within && list_all (λ p. nat_lt p n) ps)
 within_is n named [] = and_true named.within
-within_is n named (p ∷ ps) = within_is n (with_number n named p) ps ∙ and_assoc named.within (nat_lt p n) (list_all (λ q. nat_lt q n) ps)
+within_is n named (p ∷ ps) = within_is n (with_number n named p) ps
+    ∙ and_assoc named.within (nat_lt p n) (list_all (λ q. nat_lt q n) ps)
 
-watched_is : (n : ℕ) (named : Named) (done ps : List ℕ) → named.watched ≡ set.from_list done → list_all (λ p. nat_lt p n) ps ≡ true → (with_numbers n named ps).watched ≡ set.from_list (done ++ ps)
+watched_is : (n : ℕ) (named : Named) (done ps : List ℕ) → named.watched ≡ set.from_list done
+    → list_all (λ p. nat_lt p n) ps ≡ true → (with_numbers n named ps).watched ≡ set.from_list (done ++ ps)
 watched_is n named done [] so_far all = so_far ∙ ap set.from_list (sym (append-nil done))
 watched_is n named done (p ∷ ps) so_far all =
     let parts = and_parts (nat_lt p n) (list_all (λ q. nat_lt q n) ps) all in
     let one : (with_number n named p).watched ≡ set.from_list (done ++ p ∷ []) =
     ap (λ b. cond b (set.insert named.watched p) named.watched) parts.0 ∙ ap (λ numbers. set.insert numbers p) so_far
     ∙ sym (set.from_list_push nat_cmp_total set.nat_cmp-IsAntisymmetric done p) in
-    watched_is n (with_number n named p) (done ++ p ∷ []) ps one parts.1 ∙ ap set.from_list (append_assoc done (p ∷ []) ps)
+    watched_is n (with_number n named p) (done ++ p ∷ []) ps one parts.1
+    ∙ ap set.from_list (append_assoc done (p ∷ []) ps)
 
 -- What a line says whose numbers say this.
 abbrev said_by : Result Named FaultKind → Result HeadLine FaultKind
-said_by given = given >>= λ named. ask named.rise kind.Line >>= λ _. ask named.within kind.Process >>= λ _. Ok (Watch named.watched)
+said_by given =
+    given >>= λ named. ask named.rise kind.Line >>= λ _. ask named.within kind.Process >>= λ _. Ok (Watch named.watched)
 
 judged : (n : ℕ) (ps : List ℕ) (within : Bool) → list_all (λ p. nat_lt p n) ps ≡ within
-    → (ask (rise_behind None ps) kind.Line >>= λ _. ask within kind.Process >>= λ _. Ok (Watch (set.from_list ps))) ≡ said_by (Ok (with_numbers n nobody ps))
+    → (ask (rise_behind None ps) kind.Line >>= λ _. ask within kind.Process >>= λ _. Ok (Watch (set.from_list ps)))
+    ≡ said_by (Ok (with_numbers n nobody ps))
 judged n ps true is =
     rw (rise_is n nobody ps, within_is n nobody ps, is, watched_is n nobody [] ps refl is) refl
 judged n ps false is = rw (rise_is n nobody ps, within_is n nobody ps, is) refl
 
 judged_by : (n : ℕ) (numbers : Result (List ℕ) FaultKind)
-    → (numbers >>= λ ps. ask (rise_behind None ps) kind.Line >>= λ _. ask (list_all (λ p. nat_lt p n) ps) kind.Process >>= λ _. Ok (Watch (set.from_list ps))) ≡ said_by (named_by n nobody numbers)
+    → (numbers >>= λ ps. ask (rise_behind None ps) kind.Line >>= λ _. ask (list_all (λ p. nat_lt p n) ps) kind.Process
+    >>= λ _. Ok (Watch (set.from_list ps))) ≡ said_by (named_by n nobody numbers)
 judged_by n (Ok ps) = judged n ps (list_all (λ p. nat_lt p n) ps) refl
 judged_by n (Err fault) = refl
 
 -- A watch line of some words says what its numbers do.
-watch_line_named : (n : ℕ) (words : List Word) → 0 < length words → watch_line n words ≡ said_by (named_by n nobody (numbers_in words))
+watch_line_named : (n : ℕ) (words : List Word) → 0 < length words
+    → watch_line n words ≡ said_by (named_by n nobody (numbers_in words))
 watch_line_named n [] some = absurd (omega arith)
 watch_line_named n (word ∷ words) some = judged_by n (numbers_in (word ∷ words))
 
@@ -70,17 +84,20 @@ some_words : (line : List ℕ) → 0 < length (words_of line)
 unfolding words_of
 some_words line = omega (arith, length-slice_split (λ byte. eqb byte 32) line)
 
-pub watch_line_behind : (n : ℕ) (words : Option (Bor (List ℕ))) → is_some words ≡ true → watch_line n (words_behind words) ≡ said_by (named_by n nobody (numbers_in (words_behind words)))
+pub watch_line_behind : (n : ℕ) (words : Option (Bor (List ℕ))) → is_some words ≡ true
+    → watch_line n (words_behind words) ≡ said_by (named_by n nobody (numbers_in (words_behind words)))
 watch_line_behind n None some = absurd (false≢true some)
 watch_line_behind n (Some words) some = watch_line_named n (words_of words.now) (some_words words.now)
 
 -- ---- one number after the other
 
-more_named : (n : ℕ) (named : Named) (p : ℕ) (numbers : Result (List ℕ) FaultKind) → named_by n named (numbers >>= λ ps. Ok (p ∷ ps)) ≡ named_by n (with_number n named p) numbers
+more_named : (n : ℕ) (named : Named) (p : ℕ) (numbers : Result (List ℕ) FaultKind)
+    → named_by n named (numbers >>= λ ps. Ok (p ∷ ps)) ≡ named_by n (with_number n named p) numbers
 more_named n named p (Ok ps) = refl
 more_named n named p (Err fault) = refl
 
-pub named_more : (n : ℕ) (named : Named) (word : Word) (words : List Word) (p : ℕ) → number_in word ≡ Ok p → named_by n named (numbers_in (word ∷ words)) ≡ named_by n (with_number n named p) (numbers_in words)
+pub named_more : (n : ℕ) (named : Named) (word : Word) (words : List Word) (p : ℕ) → number_in word ≡ Ok p
+    → named_by n named (numbers_in (word ∷ words)) ≡ named_by n (with_number n named p) (numbers_in words)
 named_more n named word words p is = rw is (more_named n named p (numbers_in words))
 
 -- ---- a line that is printed
@@ -111,11 +128,13 @@ module _ (watched : NumberSet) where
         | inr out ↦ rw (out) rest
       ]
 
-  printed_rise : (before : Option ℕ) (k m : ℕ) → ((p : ℕ) → k ≤ p → is_after before p ≡ true) → rise_behind before (watched_from watched k m) ≡ true
+  printed_rise : (before : Option ℕ) (k m : ℕ) → ((p : ℕ) → k ≤ p → is_after before p ≡ true)
+      → rise_behind before (watched_from watched k m) ≡ true
   printed_rise before k zero low = refl
   printed_rise before k (suc m) low = elim (cases_Bool (set.contains watched k)) [
     | inl has_it ↦
-        rw (has_it, low k (omega arith)) (printed_rise (Some k) (k + 1) m (λ p above. lt-ltb k p (omega (arith, above))))
+        rw (has_it, low k (omega arith))
+        (printed_rise (Some k) (k + 1) m (λ p above. lt-ltb k p (omega (arith, above))))
     | inr out ↦ rw (out) (printed_rise before (k + 1) m (λ p above. low p (omega (arith, above))))
   ]
 
@@ -138,7 +157,8 @@ module _ (watched : NumberSet) where
         | inr out ↦ rw (out) rest
       ]
 
-  pub printed_has : (k m q : ℕ) → k ≤ q → q < k + m → list_any (λ p. nat_eq p q) (watched_from watched k m) ≡ set.contains watched q
+  pub printed_has : (k m q : ℕ) → k ≤ q → q < k + m
+      → list_any (λ p. nat_eq p q) (watched_from watched k m) ≡ set.contains watched q
   printed_has k zero q low high = absurd (omega (arith, low, high))
   printed_has k (suc m) q low high = elim (cases_eq k q) [
     | inl same ↦ elim (cases_Bool (set.contains watched k)) [
@@ -175,7 +195,8 @@ module _ (watched : NumberSet) where
   ]
 
 -- The line of the watched is read as them.
-pub watch_line-printed : (n : ℕ) (watched : NumberSet) (q : ℕ) → n ≤ 16 → q < n → set.contains watched q ≡ true → watch_line n (words_from watched 0 n) ≡ Ok (Watch (set.from_list (watched_from watched 0 n)))
+pub watch_line-printed : (n : ℕ) (watched : NumberSet) (q : ℕ) → n ≤ 16 → q < n → set.contains watched q ≡ true
+    → watch_line n (words_from watched 0 n) ≡ Ok (Watch (set.from_list (watched_from watched 0 n)))
 watch_line-printed n watched q few below has =
     rw (
       watch_line_named n (words_from watched 0 n) (printed_some watched 0 n q (omega arith) (omega (arith, below)) has),

@@ -1,5 +1,8 @@
 -- The climbs from relays to the root.
-use Rattle.wcp_tree.proofs.Words.{◌≡◌, ◌≢◌, ℕ, zero, suc, length, get_or, ◌<◌, ◌≤◌, ◌⊎◌, ◌↔◌, IsTrue, nat_eq, eqb-true, eq-eqb, Some, refl, sym, ap, subst, ◌∙◌, inl, inr, ⊎_elim, arith, cases_eq, slice_get-get_or, Parent, Root, Relay, Plan, IsCheckedPlan, parent_of, IsMetFrom, Itself, Above, IsBelow, parent_below}
+use Rattle.wcp_tree.proofs.Words.{◌≡◌, ◌≢◌, ℕ, zero, suc, length, get_or, ◌<◌, ◌≤◌, ◌⊎◌, ◌↔◌, IsTrue, nat_eq, eqb-true}
+use Rattle.wcp_tree.proofs.Words.{eq-eqb, Some, refl, sym, ap, subst, ◌∙◌, inl, inr, ⊎_elim, arith, cases_eq}
+use Rattle.wcp_tree.proofs.Words.{slice_get-get_or, Parent, Root, Relay, Plan, IsCheckedPlan, parent_of, IsMetFrom}
+use Rattle.wcp_tree.proofs.Words.{Itself, Above, IsBelow, parent_below}
 
 module _ (plan : Plan) (checked : IsCheckedPlan plan) where
   -- a climb goes down in number
@@ -30,7 +33,8 @@ module _ (plan : Plan) (checked : IsCheckedPlan plan) where
   )
 
   -- a climb from below the root's children goes on
-  pub not_met_from_root : (relay from : ℕ) → relay ≢ from → parent_of plan from ≡ Some Root → IsMetFrom plan relay from → ⊥
+  pub not_met_from_root : (relay from : ℕ) → relay ≢ from → parent_of plan from ≡ Some Root → IsMetFrom plan relay from
+      → ⊥
   not_met_from_root relay from other at Itself = other refl
   not_met_from_root relay from other at (Above {parent = above} is met) = cc
 
@@ -56,7 +60,13 @@ module _ (plan : Plan) (checked : IsCheckedPlan plan) where
       → parent_of plan other ≡ Some owner → one ≢ other → IsBelow plan one p → IsBelow plan other p → ⊥
   siblings_apart one other p owner at at' apart (leaf, is, met) (leaf', is', met') =
       let same : leaf' ≡ leaf = cc in
-      grind (arith, one_is_met one other leaf met (subst (IsMetFrom plan other) same met'), apart, apart_from one other owner at at', apart_from other one owner at' at)
+      grind (
+        arith,
+        one_is_met one other leaf met (subst (IsMetFrom plan other) same met'),
+        apart,
+        apart_from one other owner at at',
+        apart_from other one owner at' at,
+      )
 
   -- a relay that is met from another is the parent of one on the way
   pub child_is_met : (relay from : ℕ) → relay ≢ from → IsMetFrom plan relay from
@@ -73,10 +83,12 @@ module _ (plan : Plan) (checked : IsCheckedPlan plan) where
       → (child : ℕ) × (parent_of plan child ≡ Some Root) × IsMetFrom plan child from
   root_is_reached zero from below within = absurd (omega (arith, below))
   root_is_reached (suc bound) from below within =
-      by_owner (λ parent lower. root_is_reached bound parent (omega (arith, lower, below)) (omega (arith, lower, within)))
+      by_owner
+      (λ parent lower. root_is_reached bound parent (omega (arith, lower, below)) (omega (arith, lower, within)))
       (get_or plan.parents.items from Root) (slice_get-get_or plan.parents.items from Root within)
     where
-      by_owner : ((parent : ℕ) → parent < from → (child : ℕ) × (parent_of plan child ≡ Some Root) × IsMetFrom plan child parent)
+      by_owner : ((parent : ℕ) → parent < from → (child : ℕ) × (parent_of plan child ≡ Some Root)
+          × IsMetFrom plan child parent)
           → (owner : Parent) → parent_of plan from ≡ Some owner
           → (child : ℕ) × (parent_of plan child ≡ Some Root) × IsMetFrom plan child from
       by_owner above Root at = (from, at, Itself)

@@ -1,5 +1,6 @@
 -- A set to which one number after another is added where it passes.
-use Rattle.wcp_tree.proofs.Words.{◌≡◌, ◌↔◌, ℕ, ◌+◌, ◌<◌, true, true≢false, sym, ◌∙◌, arith, nat_cmp, cases_eq, nat_tests, Numbers}
+use Rattle.wcp_tree.proofs.Words.{◌≡◌, ◌↔◌, ℕ, ◌+◌, ◌<◌, true, true≢false, sym, ◌∙◌, arith, nat_cmp, cases_eq}
+use Rattle.wcp_tree.proofs.Words.{nat_tests, Numbers}
 use Rattle.std.specs.FinSet as set
 use Rattle.wcp_clock.proofs.Marks.{contains_with}
 

@@ -1,5 +1,9 @@
 -- One relay after another is opened, each after its parent.
-use Rattle.wcp_tree.proofs.Words.{◌≡◌, ◌≢◌, ℕ, ◌<◌, ◌≤◌, List, [], ◌∷◌, ◌++◌, length, Option, Some, refl, sym, ap, subst, ◌∙◌, ⊎_elim, arith, common_steps, slice_get, cases_eq, length_push, All-weaker, slice_get-get_or, Item, Parent, Plan, IsCheckedPlan, leaf_of, parent_of, TakeSide, LaneName, PutEnd, Bundle, Source, Leaf, Inner, AreChildrenSeated, IsRelayOf, IsSource, IsFeed, AreLinked, AreSeatedUnder, IsLinked, lane_below, lane_to, IsSeatOf}
+use Rattle.wcp_tree.proofs.Words.{◌≡◌, ◌≢◌, ℕ, ◌<◌, ◌≤◌, List, [], ◌∷◌, ◌++◌, length, Option, Some, refl, sym, ap}
+use Rattle.wcp_tree.proofs.Words.{subst, ◌∙◌, ⊎_elim, arith, common_steps, slice_get, cases_eq, length_push, All-weaker}
+use Rattle.wcp_tree.proofs.Words.{slice_get-get_or, Item, Parent, Plan, IsCheckedPlan, leaf_of, parent_of, TakeSide}
+use Rattle.wcp_tree.proofs.Words.{LaneName, PutEnd, Bundle, Source, Leaf, Inner, AreChildrenSeated, IsRelayOf, IsSource}
+use Rattle.wcp_tree.proofs.Words.{IsFeed, AreLinked, AreSeatedUnder, IsLinked, lane_below, lane_to, IsSeatOf}
 use Rattle.wcp_model.specs.declared.plan.Parent.TheVariants as parent
 use Rattle.wcp_relay.specs.declared.relay.Relay.{Relay}
 use Rattle.wcp_relay.proofs.Entries.{last_entry, earlier_entry}
@@ -30,13 +34,15 @@ module _ (plan : Plan) (watch : ℕ) (root : LaneName Bundle) (before : List (Op
 
   -- these relays are open, the relays after them whose parents take from a lane are seated, and the feeds of leaves
   -- after them are here
-  pub record AreOpened (relays : List Relay) (seats : List (Option (PutEnd Bundle Item))) (now : List (Option TakeSide)) : Type 0 where
+  pub record AreOpened (relays : List Relay) (seats : List (Option (PutEnd Bundle Item)))
+      (now : List (Option TakeSide)) : Type 0 where
     pub each : (place : ℕ) → place < length relays → IsLinked plan watch root before relays place
     pub seated : (relay : ℕ) (owner : Parent) → length relays ≤ relay → parent_of plan relay ≡ Some owner
         → IsOpen (length relays) owner → IsSeated relays seats relay owner
     pub here : (p leaf : ℕ) → leaf_of plan p ≡ Some leaf → length relays ≤ leaf → slice_get now p ≡ slice_get before p
 
-  pub none_open : (seats : List (Option (PutEnd Bundle Item))) → AreSeatedUnder plan root seats → AreOpened [] seats before
+  pub none_open : (seats : List (Option (PutEnd Bundle Item))) → AreSeatedUnder plan root seats
+      → AreOpened [] seats before
   none_open seats under = record {
     each = λ place below. absurd (omega (arith, below));
     seated = first;
@@ -67,7 +73,8 @@ module _ (plan : Plan) (watch : ℕ) (root : LaneName Bundle) (before : List (Op
         let at = slice_get-get_or plan.parents.items (length relays) parent.Root within in
         (_, at, opened.seated (length relays) _ (omega arith) at (owner_is_open plan checked (length relays) _ at))
 
-    module _ (relays : List Relay) (seats new_seats : List (Option (PutEnd Bundle Item))) (now new : List (Option TakeSide))
+    module _ (relays : List Relay) (seats new_seats : List (Option (PutEnd Bundle Item)))
+        (now new : List (Option TakeSide))
         (relay : Relay) (opened : AreOpened relays seats now) (within : length relays < length plan.parents.items)
         (is : IsRelayOf plan watch now (length relays) relay)
         (seat : slice_get seats (length relays) ≡ Some (Some relay.putter))
@@ -119,12 +126,22 @@ module _ (plan : Plan) (watch : ℕ) (root : LaneName Bundle) (before : List (Op
           → IsOpen (length more) owner → IsSeated more new_seats other owner
       seated_after other parent.Root past at open' =
           let later : length relays < other = omega (arith, past, length_push relays relay) in
-          let old = opened.seated other parent.Root (omega (arith, later)) at tt in
-          (old.0, old.1, old.2, other_seats other (λ e. omega (arith, e, later)) (λ e. let both = sym at ∙ e in cc) ∙ old.3, old.4)
+          let old = opened.seated other parent.Root (omega (arith, later)) at tt in (
+            old.0,
+            old.1,
+            old.2,
+            other_seats other (λ e. omega (arith, e, later)) (λ e. let both = sym at ∙ e in cc) ∙ old.3,
+            old.4,
+          )
       seated_after other (parent.Relay above) past at open' = ⊎_elim
           (λ (same : above ≡ length relays).
-          let child = children other (at ∙ ap (λ n. Some (parent.Relay n)) same) in
-          (child.0, ap lane_below (ap (slice_get more) same ∙ last_entry relays relay) ∙ child.1, child.2, child.3, child.4))
+          let child = children other (at ∙ ap (λ n. Some (parent.Relay n)) same) in (
+            child.0,
+            ap lane_below (ap (slice_get more) same ∙ last_entry relays relay) ∙ child.1,
+            child.2,
+            child.3,
+            child.4,
+          ))
           (λ (apart : above ≢ length relays).
           let low : above < length relays = omega (arith, open', apart, length_push relays relay) in
           let old = opened.seated other (parent.Relay above) (omega (arith, past, length_push relays relay)) at low in (
@@ -142,7 +159,8 @@ module _ (plan : Plan) (watch : ℕ) (root : LaneName Bundle) (before : List (Op
       one_opened = record {
         each = λ place below. ⊎_elim
             (λ (same : place ≡ length relays). subst (IsLinked plan watch root before more) (sym same) linked_here)
-            (λ (apart : place ≢ length relays). linked_before place (omega (arith, below, apart, length_push relays relay)))
+            (λ (apart : place ≢ length relays). linked_before place
+            (omega (arith, below, apart, length_push relays relay)))
             (cases_eq place (length relays));
         seated = seated_after;
         here = λ p leaf at past.

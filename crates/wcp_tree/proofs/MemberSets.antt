@@ -1,5 +1,10 @@
 -- The sets of a lane: they are apart, and together they are the processes below the owner's children.
-use Rattle.wcp_tree.proofs.Words.{◌≡◌, ◌≢◌, ◌⊎◌, ℕ, ◌<◌, true, List, [], ◌∷◌, ◌++◌, length, map, get_or, Some, refl, sym, ap, ◌∙◌, inl, inr, arith, common_steps, nat_cmp, list_any, slice_get, cases_eq, get_or_push, get_or_append_left, length_push, Any-from_list_any, list_any_at, slice_get_within, slice_get-get_or, Parent, Root, Relay, Plan, IsCheckedPlan, parent_of, Item, LaneName, PutEnd, new_putter, AreApart, Numbers, Bundle, IsBelow, IsMemberSetOf, AreMemberSetsOf, AreBelowChildren, IsSeatOf}
+use Rattle.wcp_tree.proofs.Words.{◌≡◌, ◌≢◌, ◌⊎◌, ℕ, ◌<◌, true, List, [], ◌∷◌, ◌++◌, length, map, get_or, Some, refl}
+use Rattle.wcp_tree.proofs.Words.{sym, ap, ◌∙◌, inl, inr, arith, common_steps, nat_cmp, list_any, slice_get, cases_eq}
+use Rattle.wcp_tree.proofs.Words.{get_or_push, get_or_append_left, length_push, Any-from_list_any, list_any_at}
+use Rattle.wcp_tree.proofs.Words.{slice_get_within, slice_get-get_or, Parent, Root, Relay, Plan, IsCheckedPlan}
+use Rattle.wcp_tree.proofs.Words.{parent_of, Item, LaneName, PutEnd, new_putter, AreApart, Numbers, Bundle, IsBelow}
+use Rattle.wcp_tree.proofs.Words.{IsMemberSetOf, AreMemberSetsOf, AreBelowChildren, IsSeatOf}
 use Rattle.std.specs.FinSet as set
 use Rattle.wcp_relay.proofs.Entries.{mapped_at}
 use Rattle.wcp_tree.proofs.Climbs.{siblings_apart}
@@ -13,9 +18,21 @@ same_or_other (Relay r) (Relay s) = grind (arith, cases_eq r s)
 
 module _ (plan : Plan) (owner : Parent) where
   pub one_member_set_more : (sets : List Numbers) (relay : ℕ) (member_set : Numbers) → length sets ≡ relay
-      → AreMemberSetsOf plan owner sets → IsMemberSetOf plan owner relay member_set → AreMemberSetsOf plan owner (sets ++ member_set ∷ [])
+      → AreMemberSetsOf plan owner sets → IsMemberSetOf plan owner relay member_set
+      → AreMemberSetsOf plan owner (sets ++ member_set ∷ [])
   one_member_set_more sets relay member_set count each here = λ k d below.
-      grind (arith, common_steps, count, below, here, each k d, get_or_push sets member_set d k, get_or_append_left sets (member_set ∷ []) d k, length_push sets member_set, cases_eq k (length sets))
+      grind (
+        arith,
+        common_steps,
+        count,
+        below,
+        here,
+        each k d,
+        get_or_push sets member_set d k,
+        get_or_append_left sets (member_set ∷ []) d k,
+        length_push sets member_set,
+        cases_eq k (length sets),
+      )
 
   module _ (checked : IsCheckedPlan plan) (sets : List Numbers) (count : length sets ≡ length plan.parents.items)
       (each : AreMemberSetsOf plan owner sets) where
@@ -26,10 +43,21 @@ module _ (plan : Plan) (owner : Parent) where
     of_child relay d p within has =
         let at : parent_of plan relay ≡ Some (get_or plan.parents.items relay Root) =
         slice_get-get_or plan.parents.items relay Root (omega (arith, count, within)) in
-        grind (arith, common_steps, at, has, set.contains-empty nat_cmp p, (each relay d within).child, (each relay d within).other, same_or_other (get_or plan.parents.items relay Root) owner)
+        grind (
+          arith,
+          common_steps,
+          at,
+          has,
+          set.contains-empty nat_cmp p,
+          (each relay d within).child,
+          (each relay d
+              within).other,
+          same_or_other (get_or plan.parents.items relay Root) owner,
+        )
 
     -- the ends of such a lane are the children's seats
-    pub seats_of_member_sets : (lane : LaneName Bundle) (ends : List (PutEnd Bundle Item)) → ends ≡ map (new_putter lane) sets
+    pub seats_of_member_sets : (lane : LaneName Bundle) (ends : List (PutEnd Bundle Item))
+        → ends ≡ map (new_putter lane) sets
         → (relay : ℕ) → parent_of plan relay ≡ Some owner
         → (putter : PutEnd Bundle Item) × (slice_get ends relay ≡ Some putter) × IsSeatOf plan relay lane putter
     seats_of_member_sets lane ends are relay child =

@@ -1,18 +1,37 @@
 -- One ring after another is opened, and one feed after another is taken.
-use Rattle.wcp_tree.proofs.Words.{setup, ◌≡◌, ◌≢◌, ◌⊎◌, ℕ, ◌+◌, ◌≤◌, false, List, [], ◌∷◌, ◌++◌, length, get_or, All, Option, Some, None, eqb-true, eq-eqb, refl, sym, ap, subst, ◌∙◌, inl, arith, common_steps, gets, slice_get, slice_set, cases_eq, length-set, length_push, All-push, All-weaker, Plan, leaf_of, TakeSide, Feed, LiveSide, fresh_core, IsTakerAt, AreRings, IsFeed, AreFeeds}
+use Rattle.wcp_tree.proofs.Words.{setup, ◌≡◌, ◌≢◌, ◌⊎◌, ℕ, ◌+◌, ◌≤◌, false, List, [], ◌∷◌, ◌++◌, length, get_or, All}
+use Rattle.wcp_tree.proofs.Words.{Option, Some, None, eqb-true, eq-eqb, refl, sym, ap, subst, ◌∙◌, inl, arith}
+use Rattle.wcp_tree.proofs.Words.{common_steps, gets, slice_get, slice_set, cases_eq, length-set, length_push, All-push}
+use Rattle.wcp_tree.proofs.Words.{All-weaker, Plan, leaf_of, TakeSide, Feed, LiveSide, fresh_core, IsTakerAt, AreRings}
+use Rattle.wcp_tree.proofs.Words.{IsFeed, AreFeeds}
 use Rattle.std.proofs.lemmas.List.Quantifiers.{all_pairs_push}
 use Rattle.wcp_relay.proofs.Entries.{taken_out}
 
 module _ (plan : Plan) (watch : ℕ) where
-  pub one_ring_more : (k : ℕ) (probes : List LiveSide) (takers : List (Option TakeSide)) (probe : LiveSide) (taker : TakeSide)
-      → AreRings plan watch k probes takers → probe.core ≡ fresh_core watch (setup plan.n plan.watched plan.flag k) → probe.link.put ≡ [] → probe.link.free ≡ plan.cap
+  pub one_ring_more : (k : ℕ) (probes : List LiveSide) (takers : List (Option TakeSide)) (probe : LiveSide)
+      (taker : TakeSide)
+      → AreRings plan watch k probes takers → probe.core ≡ fresh_core watch (setup plan.n plan.watched plan.flag k)
+      → probe.link.put ≡ [] → probe.link.free ≡ plan.cap
       → taker.ring ≡ probe.link.ring → taker.taken ≡ []
       → AreRings plan watch (k + 1) (probes ++ probe ∷ []) (takers ++ Some taker ∷ [])
   one_ring_more k probes takers probe taker rings fresh empty room one_ring none = record {
     probes_count = length_push probes probe ∙ ap (λ n. n + 1) rings.probes_count;
     takers_count = length_push takers (Some taker) ∙ ap (λ n. n + 1) rings.takers_count;
     each = λ p below.
-        grind (arith, common_steps, gets, rings.each p, rings.probes_count, rings.takers_count, fresh, empty, room, one_ring, none, cases_eq p k);
+        grind (
+          arith,
+          common_steps,
+          gets,
+          rings.each p,
+          rings.probes_count,
+          rings.takers_count,
+          fresh,
+          empty,
+          room,
+          one_ring,
+          none,
+          cases_eq p k,
+        );
   }
 
 module _ (plan : Plan) (leaf : ℕ) (before : List (Option TakeSide)) where
@@ -33,7 +52,8 @@ module _ (plan : Plan) (leaf : ℕ) (before : List (Option TakeSide)) where
     here = λ p left. refl;
   }
 
-  more_within : (k : ℕ) (feeds : List Feed) → All (IsFeed plan leaf before k) feeds → All (IsFeed plan leaf before (k + 1)) feeds
+  more_within : (k : ℕ) (feeds : List Feed) → All (IsFeed plan leaf before k) feeds
+      → All (IsFeed plan leaf before (k + 1)) feeds
   more_within k feeds each =
       All-weaker (IsFeed plan leaf before k) (IsFeed plan leaf before (k + 1))
       (λ feed is. record {
@@ -86,7 +106,17 @@ module _ (plan : Plan) (leaf : ℕ) (before : List (Option TakeSide)) where
       });
       processes = λ p. (
         (λ is. grind (arith, common_steps, is, (taken.feeds_of.processes p).0, own, is_k, eqb-true feed.process p)),
-        (λ h. grind (arith, common_steps, h, (taken.feeds_of.processes p).1, own, is_k, eq-eqb feed.process p, cases_eq p k)),
+        (λ h. grind (
+          arith,
+          common_steps,
+          h,
+          (taken.feeds_of.processes
+              p).1,
+          own,
+          is_k,
+          eq-eqb feed.process p,
+          cases_eq p k,
+        )),
       );
       apart = all_pairs_push (λ (a b : Feed). a.process ≢ b.process) feeds feed taken.feeds_of.apart
           (λ i d below same.

@@ -1,5 +1,7 @@
 -- The children of an owner take their seats, from the last relay to the first.
-use Rattle.wcp_tree.proofs.Words.{◌≡◌, ◌≢◌, ℕ, ◌+◌, ◌<◌, ◌≤◌, List, [], ◌∷◌, ◌++◌, length, Option, Some, sym, ap, ◌∙◌, arith, common_steps, gets, slice_get, slice_set, cases_eq, length-set, length_push, Parent, Plan, parent_of}
+use Rattle.wcp_tree.proofs.Words.{◌≡◌, ◌≢◌, ℕ, ◌+◌, ◌<◌, ◌≤◌, List, [], ◌∷◌, ◌++◌, length, Option, Some, sym, ap, ◌∙◌}
+use Rattle.wcp_tree.proofs.Words.{arith, common_steps, gets, slice_get, slice_set, cases_eq, length-set, length_push}
+use Rattle.wcp_tree.proofs.Words.{Parent, Plan, parent_of}
 
 module _ {X : Type 0} (plan : Plan) (owner : Parent) (ends : List X) (before : List (Option X)) where
   -- these ends are left to be given, and the children from the next one on are seated
@@ -12,7 +14,8 @@ module _ {X : Type 0} (plan : Plan) (owner : Parent) (ends : List X) (before : L
         → slice_get ends relay ≡ Some end → slice_get now relay ≡ Some (Some end)
     pub others : (relay : ℕ) → parent_of plan relay ≢ Some owner → slice_get now relay ≡ slice_get before relay
 
-  module _ (now : List (Option X)) (left rest : List X) (end : X) (seats : AreSeated now left) (is : left ≡ rest ++ end ∷ []) where
+  module _ (now : List (Option X)) (left rest : List X) (end : X) (seats : AreSeated now left)
+      (is : left ≡ rest ++ end ∷ []) where
     one_fewer : length left ≡ length rest + 1
     one_fewer = ap length is ∙ length_push rest end
 
@@ -29,8 +32,23 @@ module _ {X : Type 0} (plan : Plan) (owner : Parent) (ends : List X) (before : L
       all = length-set now (length rest) (Some end) ∙ seats.all;
       kept = kept_rest;
       seated = λ relay other past at is_end.
-          grind (arith, common_steps, gets, one_fewer, its_end, past, at, is_end, seats.within, seats.room, seats.all, seats.seated relay other, cases_eq relay (length rest));
-      others = λ relay other. grind (arith, common_steps, gets, child, seats.others relay, cases_eq relay (length rest));
+          grind (
+            arith,
+            common_steps,
+            gets,
+            one_fewer,
+            its_end,
+            past,
+            at,
+            is_end,
+            seats.within,
+            seats.room,
+            seats.all,
+            seats.seated relay other,
+            cases_eq relay (length rest),
+          );
+      others =
+          λ relay other. grind (arith, common_steps, gets, child, seats.others relay, cases_eq relay (length rest));
     }
 
     -- the relay of the last end is a child, and takes its seat
@@ -46,6 +64,17 @@ module _ {X : Type 0} (plan : Plan) (owner : Parent) (ends : List X) (before : L
       all = seats.all;
       kept = kept_rest;
       seated = λ relay other past at is_end.
-          grind (arith, common_steps, one_fewer, past, at, is_end, is_last, no_child, seats.seated relay other, cases_eq relay (length rest));
+          grind (
+            arith,
+            common_steps,
+            one_fewer,
+            past,
+            at,
+            is_end,
+            is_last,
+            no_child,
+            seats.seated relay other,
+            cases_eq relay (length rest),
+          );
       others = seats.others;
     }

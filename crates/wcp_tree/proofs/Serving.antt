@@ -1,5 +1,12 @@
 -- Whom a leaf serves, and whom the other relays.
-use Rattle.wcp_tree.proofs.Words.{◌≡◌, ◌≢◌, ◌==◌, ◌↔◌, ℕ, suc, Bool, true, false, true≢false, List, [], ◌∷◌, ◌<◌, ◌||◌, AllPairs, length, get_or, arith, common_steps, Option, Some, refl, sym, ap, ◌∙◌, list_any, slice_get, option_flatten, cases_eq, length-map, get_or-map, All-weaker, Any-from_list_any, slice_get-get_or, Root, Relay, Plan, IsCheckedPlan, is_number, is_leaf, leaf_of, parent_of, Numbers, Itself, IsBelow, AreBelow, TakeSide, Feed, Source, Leaf, Inner, IsNewFeed, Serves, processes_of, IsSource, IsFeed, AreBelowChildren, all_served, attached_exists, has_leaf, is_its_leaf, is_its_number, not_mixed}
+use Rattle.wcp_tree.proofs.Words.{◌≡◌, ◌≢◌, ◌==◌, ◌↔◌, ℕ, suc, Bool, true, false, true≢false, List, [], ◌∷◌, ◌<◌, ◌||◌}
+use Rattle.wcp_tree.proofs.Words.{AllPairs, length, get_or, arith, common_steps, Option, Some, refl, sym, ap, ◌∙◌}
+use Rattle.wcp_tree.proofs.Words.{list_any, slice_get, option_flatten, cases_eq, length-map, get_or-map, All-weaker}
+use Rattle.wcp_tree.proofs.Words.{Any-from_list_any, slice_get-get_or, Root, Relay, Plan, IsCheckedPlan, is_number}
+use Rattle.wcp_tree.proofs.Words.{is_leaf, leaf_of, parent_of, Numbers, Itself, IsBelow, AreBelow, TakeSide, Feed}
+use Rattle.wcp_tree.proofs.Words.{Source, Leaf, Inner, IsNewFeed, Serves, processes_of, IsSource, IsFeed}
+use Rattle.wcp_tree.proofs.Words.{AreBelowChildren, all_served, attached_exists, has_leaf, is_its_leaf, is_its_number}
+use Rattle.wcp_tree.proofs.Words.{not_mixed}
 use Rattle.std.specs.FinSet as set
 use Rattle.wcp_relay.proofs.Parents.{members_pass_up}
 use Rattle.wcp_tree.proofs.Climbs.{child_is_met, root_is_reached}
@@ -24,7 +31,15 @@ module _ (plan : Plan) (checked : IsCheckedPlan plan) (relay : ℕ) where
   -- a leaf serves its own alone
   pub own_alone : is_leaf plan relay ≡ true → (p : ℕ) → IsBelow plan relay p → leaf_of plan p ≡ Some relay
   own_alone leaf p below =
-      grind (arith, common_steps, below.1, (λ (apart : relay ≢ below.0). child_is_met plan checked relay below.0 apart below.2), no_children leaf, cases_eq relay below.0)
+      grind (
+        arith,
+        common_steps,
+        below.1,
+        (λ (apart : relay ≢ below.0). child_is_met plan checked relay below.0 apart
+            below.2),
+        no_children leaf,
+        cases_eq relay below.0,
+      )
 
   -- below a relay that is no leaf are the processes below its children
   pub below_by_children : is_leaf plan relay ≡ false → (members : Numbers)
@@ -49,7 +64,8 @@ same_test false true both = both.1 refl
 same_test false false both = refl
 
 -- feeds of different processes
-processes_apart : (feeds : List Feed) → AllPairs (λ a b. a.process ≢ b.process) feeds → AllPairs (λ p q. p ≢ q) (processes_of feeds)
+processes_apart : (feeds : List Feed) → AllPairs (λ a b. a.process ≢ b.process) feeds
+    → AllPairs (λ p q. p ≢ q) (processes_of feeds)
 processes_apart [] apart i j d less within = absurd (omega arith)
 processes_apart (feed ∷ feeds) apart i j d less within =
     let all = feed ∷ feeds in
@@ -58,7 +74,8 @@ processes_apart (feed ∷ feeds) apart i j d less within =
     let other = get_or-map (λ (f : Feed). f.process) all j feed d few in
     λ same. apart i j feed less few (sym one ∙ same ∙ other)
 
-feeds_any : (feeds : List Feed) (p : ℕ) → list_any (λ q. q == p) (processes_of feeds) ≡ list_any (λ (feed : Feed). feed.process == p) feeds
+feeds_any : (feeds : List Feed) (p : ℕ)
+    → list_any (λ q. q == p) (processes_of feeds) ≡ list_any (λ (feed : Feed). feed.process == p) feeds
 feeds_any [] p = refl
 feeds_any (feed ∷ feeds) p = ap (λ any. (feed.process == p) || any) (feeds_any feeds p)
 

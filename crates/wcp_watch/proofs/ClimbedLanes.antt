@@ -1,5 +1,13 @@
 -- The climb of what a probe put, from lane to lane up to the checker.
-use Rattle.wcp_watch.proofs.Words.{◌≡◌, ◌≢◌, ◌==◌, ℕ, zero, suc, ◌<◌, true, false, List, [], ◌∷◌, map, Option, Some, None, refl, sym, ap, ◌∙◌, ⊎_elim, arith, slice_get, get_or, All, list_any, cases_eq, Item, Note, notes_taken, is_leaf, parent_of, Parent, attached_exists, has_leaf, is_its_leaf, parent_below, TakenEnd, Numbers, Bundle, Serves, fed, given_by, items_by, items_of, processes_of, ClosedSide, IsLeftOf, IsReceiptOf, outcome_fault, outcome_put, outcome_taken, relay_put, relay_taken, taken_in, IsSource, Feed, Receipts, Feeds, Lane, RelayEnd, Outcome, Whole, Source, Leaf, Inner, AreEndsThere, AreFirstMatched, SitsAt, AreTakenFrom, IsPutMatched, IsRingMatched, feeds_in, feeds_left_by}
+use Rattle.wcp_watch.proofs.Words.{◌≡◌, ◌≢◌, ◌==◌, ℕ, zero, suc, ◌<◌, true, false, List, [], ◌∷◌, map, Option, Some}
+use Rattle.wcp_watch.proofs.Words.{None, refl, sym, ap, ◌∙◌, ⊎_elim, arith, slice_get, get_or, All, list_any, cases_eq}
+use Rattle.wcp_watch.proofs.Words.{Item, Note, notes_taken, is_leaf, parent_of, Parent, attached_exists, has_leaf}
+use Rattle.wcp_watch.proofs.Words.{is_its_leaf, parent_below, TakenEnd, Numbers, Bundle, Serves, fed, given_by}
+use Rattle.wcp_watch.proofs.Words.{items_by, items_of, processes_of, ClosedSide, IsLeftOf, IsReceiptOf, outcome_fault}
+use Rattle.wcp_watch.proofs.Words.{outcome_put, outcome_taken, relay_put, relay_taken, taken_in, IsSource, Feed}
+use Rattle.wcp_watch.proofs.Words.{Receipts, Feeds, Lane, RelayEnd, Outcome, Whole, Source, Leaf, Inner, AreEndsThere}
+use Rattle.wcp_watch.proofs.Words.{AreFirstMatched, SitsAt, AreTakenFrom, IsPutMatched, IsRingMatched, feeds_in}
+use Rattle.wcp_watch.proofs.Words.{feeds_left_by}
 use Rattle.std.specs.FinSet as set
 use Rattle.std.proofs.lemmas.Bool.Decides.{nat_tests}
 use Rattle.wcp_model.specs.declared.plan.Parent.TheVariants as parent
@@ -29,20 +37,23 @@ fed_all p notes (feed ∷ feeds) served all = ⊎_elim
     (cases_eq feed.process p)
 
 -- what a lane was matched for
-lane_taken : (root : TakenEnd Bundle Item) (IsRelay : ℕ → RelayEnd → Type 0) (relay : Relay) (end : Outcome) (p : ℕ) → outcome_fault end ≡ None
+lane_taken : (root : TakenEnd Bundle Item) (IsRelay : ℕ → RelayEnd → Type 0) (relay : Relay) (end : Outcome) (p : ℕ)
+    → outcome_fault end ≡ None
     → IsLeftOf relay end → set.contains relay.putter.members p ≡ true → IsPutMatched root IsRelay end
     → AreTakenFrom root IsRelay relay.parent p (outcome_put end p)
 lane_taken root IsRelay relay (Whole owner taken put) p none receipts has matched =
     rw receipts.0 at (matched p (rw receipts.3 has))
 lane_taken root IsRelay relay (Faulted fault source outlet met) p none receipts has matched = absurd (cc)
 
-module _ {count : ℕ} {probe_ends : List (Option ClosedSide)} {root : TakenEnd Bundle Item} {relay_ends : List (Option RelayEnd)}
+module _ {count : ℕ} {probe_ends : List (Option ClosedSide)} {root : TakenEnd Bundle Item}
+    {relay_ends : List (Option RelayEnd)}
     (there : AreEndsThere count probe_ends root relay_ends) (matched : AreFirstMatched count probe_ends root relay_ends)
     (p : ℕ) (probe : ClosedSide) (sits : SitsAt probe_ends p probe) (within : p < there.plan.n) where
   abbrev emitted : List Item
   emitted = items_by p probe.link.put
 
-  put_is_taken : (k : ℕ) (below : k < count) → relay_put (there.relay k below).end p ≡ relay_taken (there.relay k below).end p
+  put_is_taken : (k : ℕ) (below : k < count)
+      → relay_put (there.relay k below).end p ≡ relay_taken (there.relay k below).end p
   put_is_taken k below = let has = there.relay k below in rw has.whole at has.is_end.whole p
 
   -- the feed of a process took what its probe put
@@ -58,7 +69,8 @@ module _ {count : ℕ} {probe_ends : List (Option ClosedSide)} {root : TakenEnd 
   feed_took leaf at (Inner taker) members taken is serves has left rings = absurd (cc (at, is.0))
 
   leaf_took : (leaf : ℕ) → is_leaf there.plan leaf ≡ true → (relay : Relay) (end : Outcome) → outcome_fault end ≡ None
-      → IsLeftOf relay end → IsSource there.plan there.wired.takers leaf relay.source → set.contains relay.putter.members p ≡ true
+      → IsLeftOf relay end → IsSource there.plan there.wired.takers leaf relay.source
+      → set.contains relay.putter.members p ≡ true
       → All (IsRingMatched (SitsAt probe_ends)) (feeds_left_by end) → outcome_taken end p ≡ emitted
   leaf_took leaf at relay (Whole owner taken put) none receipts is has rings =
       feed_took leaf at relay.source relay.putter.members taken is relay.serves has receipts.1 rings
@@ -72,7 +84,8 @@ module _ {count : ℕ} {probe_ends : List (Option ClosedSide)} {root : TakenEnd 
       let has = there.relay from below in
       let link = linked there from below in
       by_owner (λ above lower. climbs bound above (omega (arith, lower, less))) link.relay.parent link.of_plan.parent
-      (lane_taken root (SitsAt relay_ends) link.relay has.end.outcome p has.whole (receipts_of there from below has.end has.sits)
+      (lane_taken root (SitsAt relay_ends) link.relay has.end.outcome p has.whole
+      (receipts_of there from below has.end has.sits)
       ((link.of_plan.members p).1 is) (matched from has.end below has.sits).lane)
     where
       by_owner : ((above : ℕ) → above < from → (next : above < count) → IsBelow there.plan above p
@@ -98,6 +111,7 @@ module _ {count : ℕ} {probe_ends : List (Option ClosedSide)} {root : TakenEnd 
       ap (map (λ (item : Item). item.note)) (climbs (suc leaf) leaf (omega arith) below (leaf, at, Itself)
       (put_is_taken leaf below
       ∙ leaf_took leaf (is_its_leaf there.plan there.checked p leaf at) link.relay has.end.outcome has.whole
-      (receipts_of there leaf below has.end has.sits) link.of_plan.source ((link.of_plan.members p).1 (leaf, at, Itself))
+      (receipts_of there leaf below has.end has.sits) link.of_plan.source
+      ((link.of_plan.members p).1 (leaf, at, Itself))
       (matched leaf has.end below has.sits).rings))
       ∙ notes_back p probe.link.put

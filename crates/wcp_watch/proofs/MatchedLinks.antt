@@ -1,5 +1,14 @@
 -- The links of one relay after another are matched.
-use Rattle.wcp_watch.proofs.Words.{◌≡◌, ◌≢◌, ◌↔◌, ◌⊎◌, ℕ, ◌+◌, ◌<◌, ◌≤◌, true, List, [], ◌∷◌, length, length-set, Vec, Global, Option, Some, None, Result, Ok, Err, refl, sym, ap, subst, subst₂, ◌∙◌, inl, ⊎_elim, arith, slice_get, slice_set, All, AllPairs, IsOk, IsErr, AllByRecursion, cases_eq, length-map, get_or-map, All-from_recursion, All-weaker, recursion_from_All, most_relays, Item, Parent, leaf_of, Ring, LaneName, PutEnd, TakenEnd, Numbers, Bundle, Serves, items_of, ClosedSide, AreReceiptsOf, IsReceiptOf, fault_of, relay_taken, whole_end, AreSameFeeds, IsSource, inbox_lane, IsLinked, lane_below, lane_to, Feed, Receipts, Feeds, Lane, RelayEnd, Source, Leaf, Inner, few_relays, set_here, set_elsewhere, AreEndsThere, AreFirstMatched, HasProbe, IsKeptAt, inbox_place, SitsAt, AreLinksMatched, AreTakenFrom, IsLaneMatched, IsRingMatched}
+use Rattle.wcp_watch.proofs.Words.{◌≡◌, ◌≢◌, ◌↔◌, ◌⊎◌, ℕ, ◌+◌, ◌<◌, ◌≤◌, true, List, [], ◌∷◌, length, length-set, Vec}
+use Rattle.wcp_watch.proofs.Words.{Global, Option, Some, None, Result, Ok, Err, refl, sym, ap, subst, subst₂, ◌∙◌, inl}
+use Rattle.wcp_watch.proofs.Words.{⊎_elim, arith, slice_get, slice_set, All, AllPairs, IsOk, IsErr, AllByRecursion}
+use Rattle.wcp_watch.proofs.Words.{cases_eq, length-map, get_or-map, All-from_recursion, All-weaker, recursion_from_All}
+use Rattle.wcp_watch.proofs.Words.{most_relays, Item, Parent, leaf_of, Ring, LaneName, PutEnd, TakenEnd, Numbers}
+use Rattle.wcp_watch.proofs.Words.{Bundle, Serves, items_of, ClosedSide, AreReceiptsOf, IsReceiptOf, fault_of}
+use Rattle.wcp_watch.proofs.Words.{relay_taken, whole_end, AreSameFeeds, IsSource, inbox_lane, IsLinked, lane_below}
+use Rattle.wcp_watch.proofs.Words.{lane_to, Feed, Receipts, Feeds, Lane, RelayEnd, Source, Leaf, Inner, few_relays}
+use Rattle.wcp_watch.proofs.Words.{set_here, set_elsewhere, AreEndsThere, AreFirstMatched, HasProbe, IsKeptAt}
+use Rattle.wcp_watch.proofs.Words.{inbox_place, SitsAt, AreLinksMatched, AreTakenFrom, IsLaneMatched, IsRingMatched}
 use Rattle.std.specs.FinSet as set
 use Rattle.wcp_model.specs.declared.plan.Parent.TheVariants as parent
 use Rattle.wcp_relay.specs.Rings.{IsFeed}
@@ -19,17 +28,20 @@ open_cases k few (parent.Relay above) is = grind (arith, is, cases_eq above k)
 
 -- what holds of the process and the ring of each feed holds of each of the same feeds
 same_hold : (P : ℕ → Ring → Type 0) (old new : List Feed) → AreSameFeeds old new
-    → AllByRecursion (λ feed. P feed.process feed.taker.ring) old → AllByRecursion (λ feed. P feed.process feed.taker.ring) new
+    → AllByRecursion (λ feed. P feed.process feed.taker.ring) old
+    → AllByRecursion (λ feed. P feed.process feed.taker.ring) new
 same_hold P [] [] same all = tt
 same_hold P [] (feed ∷ new) same all = absurd (cc same.0)
 same_hold P (feed ∷ old) [] same all = absurd (cc same.0)
 same_hold P (feed ∷ old) (other ∷ new) (processes, rings) all = (
-  let process : other.process ≡ feed.process = cc in let ring : other.taker.ring ≡ feed.taker.ring = cc in rw (process, ring) all.0,
+  let process : other.process ≡ feed.process = cc in let ring : other.taker.ring ≡ feed.taker.ring = cc in
+      rw (process, ring) all.0,
   same_hold P old new ((cc), (cc)) all.1,
 )
 
 -- a source with a lane leaves its receipt
-lane_left : (source : Source) (receipt : TakenEnd Bundle Item) (lane : LaneName Bundle) → IsReceiptOf source (Lane receipt)
+lane_left : (source : Source) (receipt : TakenEnd Bundle Item) (lane : LaneName Bundle)
+    → IsReceiptOf source (Lane receipt)
     → inbox_lane source ≡ Some lane → receipt.lane ≡ lane
 lane_left (Leaf feeds parker) receipt lane left is = absurd left
 lane_left (Inner taker) receipt lane left is = cc
@@ -40,14 +52,16 @@ no_lane : (source : Source) (feeds : Vec Feed Global) (lane : LaneName Bundle) �
 no_lane (Leaf old parker) feeds lane left is = cc
 no_lane (Inner taker) feeds lane left is = left
 
-module _ {count : ℕ} {probe_ends : List (Option ClosedSide)} {root : TakenEnd Bundle Item} {relay_ends : List (Option RelayEnd)}
+module _ {count : ℕ} {probe_ends : List (Option ClosedSide)} {root : TakenEnd Bundle Item}
+    {relay_ends : List (Option RelayEnd)}
     (there : AreEndsThere count probe_ends root relay_ends) where
   -- the lane that an owner takes from
   abbrev lane_at : Parent → Option (LaneName Bundle)
   lane_at owner = lane_to there.watch.inbox.taker.lane there.watch.relays.items owner
 
   -- the receipt of the lane that an owner takes from is here, with what was taken
-  pub record HasInbox (inboxes : List (Option (TakenEnd Bundle Item))) (owner : Parent) (lane : LaneName Bundle) : Type 0 where
+  pub record HasInbox (inboxes : List (Option (TakenEnd Bundle Item))) (owner : Parent)
+      (lane : LaneName Bundle) : Type 0 where
     pub receipt : TakenEnd Bundle Item
     pub sits : SitsAt inboxes (inbox_place owner) receipt
     pub is_lane : receipt.lane ≡ lane
@@ -59,14 +73,16 @@ module _ {count : ℕ} {probe_ends : List (Option ClosedSide)} {root : TakenEnd 
       (inboxes : List (Option (TakenEnd Bundle Item))) : Type 0 where
     pub ahead : (j : ℕ) → k ≤ j → slice_get relays j ≡ slice_get relay_ends j
     pub unfed : (p leaf : ℕ) → leaf_of there.plan p ≡ Some leaf → k ≤ leaf → slice_get probes p ≡ slice_get probe_ends p
-    pub open_inboxes : (owner : Parent) (lane : LaneName Bundle) → IsOpen k owner → lane_at owner ≡ Some lane → HasInbox inboxes owner lane
+    pub open_inboxes : (owner : Parent) (lane : LaneName Bundle) → IsOpen k owner → lane_at owner ≡ Some lane
+        → HasInbox inboxes owner lane
     pub matched : AreFirstMatched k probe_ends root relay_ends
     pub size : length inboxes ≡ most_relays + 1
 
   pub few : count ≤ most_relays
   few = omega (arith, there.all, few_relays there.plan there.checked)
 
-  pub none_matched : (inboxes : List (Option (TakenEnd Bundle Item))) → length inboxes ≡ most_relays + 1 → SitsAt inboxes most_relays root
+  pub none_matched : (inboxes : List (Option (TakenEnd Bundle Item))) → length inboxes ≡ most_relays + 1
+      → SitsAt inboxes most_relays root
       → HaveMatched 0 relay_ends probe_ends inboxes
   none_matched inboxes size sits = record {
     ahead = λ j past. refl;
@@ -76,17 +92,25 @@ module _ {count : ℕ} {probe_ends : List (Option ClosedSide)} {root : TakenEnd 
     size = size;
   }
     where
-      first : (owner : Parent) (lane : LaneName Bundle) → IsOpen 0 owner → lane_at owner ≡ Some lane → HasInbox inboxes owner lane
+      first : (owner : Parent) (lane : LaneName Bundle) → IsOpen 0 owner → lane_at owner ≡ Some lane
+          → HasInbox inboxes owner lane
       first parent.Root lane open' is =
-          record { receipt = root; sits = sits; is_lane = cc there.lane; taken = λ p items. (λ same. same, λ same. same) }
+          record {
+            receipt = root;
+            sits = sits;
+            is_lane = cc there.lane;
+            taken = λ p items. (λ same. same, λ same. same);
+          }
       first (parent.Relay above) lane open' is = absurd (omega arith)
 
   -- the relay of the plan whose end sits at its place
   pub linked : (k : ℕ) → k < count
-      → IsLinked there.plan there.watch_number there.watch.inbox.taker.lane there.wired.takers there.watch.relays.items k
+      → IsLinked there.plan there.watch_number there.watch.inbox.taker.lane there.wired.takers there.watch.relays.items
+      k
   linked k below = there.wired.linked.each k (omega (arith, there.all, there.wired.linked.count))
 
-  pub receipts_of : (k : ℕ) (below : k < count) (end : RelayEnd) → SitsAt relay_ends k end → AreReceiptsOf (linked k below).relay end
+  pub receipts_of : (k : ℕ) (below : k < count) (end : RelayEnd) → SitsAt relay_ends k end
+      → AreReceiptsOf (linked k below).relay end
   receipts_of k below end sits =
       let has = there.relay k below in
       let link = linked k below in
@@ -96,23 +120,28 @@ module _ {count : ℕ} {probe_ends : List (Option ClosedSide)} {root : TakenEnd 
 
   -- a process of relay k with its ring: the end of its probe sits there
   abbrev IsServed : ℕ → ℕ → Ring → Type 0
-  IsServed k p ring = (leaf_of there.plan p ≡ Some k) × (end : ClosedSide) × SitsAt probe_ends p end × (end.link.ring ≡ ring)
+  IsServed k p ring =
+      (leaf_of there.plan p ≡ Some k) × (end : ClosedSide) × SitsAt probe_ends p end × (end.link.ring ≡ ring)
 
-  served : (k : ℕ) (feed : Feed) → IsFeed there.plan k there.wired.takers there.plan.n feed → IsServed k feed.process feed.taker.ring
+  served : (k : ℕ) (feed : Feed) → IsFeed there.plan k there.wired.takers there.plan.n feed
+      → IsServed k feed.process feed.taker.ring
   served k feed is =
       let has = there.probe feed.process is.within in
       let ring = there.wired.rings.each feed.process is.within in
       (is.served, has.end, has.sits, (cc))
 
   -- the feeds that a leaf left
-  feeds_left : (k : ℕ) (source : Source) (members : Numbers) (feeds : Vec Feed Global) → IsSource there.plan there.wired.takers k source
+  feeds_left : (k : ℕ) (source : Source) (members : Numbers) (feeds : Vec Feed Global)
+      → IsSource there.plan there.wired.takers k source
       → Serves source members → IsReceiptOf source (Feeds feeds)
-      → All (λ feed. IsServed k feed.process feed.taker.ring) feeds.items × AllPairs (λ one other. one.process ≢ other.process) feeds.items
+      → All (λ feed. IsServed k feed.process feed.taker.ring) feeds.items
+      × AllPairs (λ one other. one.process ≢ other.process) feeds.items
   feeds_left k (Leaf old parker) members feeds is serves left = (
     All-from_recursion _ feeds.items (same_hold (IsServed k) old.items feeds.items left
         (recursion_from_All _ old.items (All-weaker _ _ (served k) old.items is.1.each))),
     λ i j d less within same.
-        subst (AllPairs (λ p q. p ≢ q)) (sym left.0) serves.1 i j d.process less (omega (arith, length-map feeds.items (λ (f : Feed). f.process)))
+        subst (AllPairs (λ p q. p ≢ q)) (sym left.0) serves.1 i j d.process less
+        (omega (arith, length-map feeds.items (λ (f : Feed). f.process)))
         (get_or-map (λ (f : Feed). f.process) feeds.items i d d.process (omega arith) ∙ same
         ∙ sym (get_or-map (λ (f : Feed). f.process) feeds.items j d d.process within)),
   )
@@ -144,7 +173,8 @@ module _ {count : ℕ} {probe_ends : List (Option ClosedSide)} {root : TakenEnd 
           (owner_is_open there.plan there.checked k owner (link.of_plan.parent ∙ ap Some (sym receipts.0)))
           (ap lane_at receipts.0 ∙ link.above ∙ ap Some (sym receipts.2))
 
-      pub has_inbox : (receipt : TakenEnd Bundle Item) × SitsAt inboxes (inbox_place owner) receipt × (receipt.lane ≡ put.lane)
+      pub has_inbox : (receipt : TakenEnd Bundle Item) × SitsAt inboxes (inbox_place owner) receipt
+          × (receipt.lane ≡ put.lane)
       has_inbox = (inbox.receipt, inbox.sits, inbox.is_lane)
 
       -- its lane was matched where what was taken from that inbox is what it put
@@ -163,8 +193,10 @@ module _ {count : ℕ} {probe_ends : List (Option ClosedSide)} {root : TakenEnd 
 
       -- the next relay
       next : {more : List (Option (TakenEnd Bundle Item))} {fed : List (Option ClosedSide)}
-          → ((place : ℕ) (receipt : TakenEnd Bundle Item) → place ≢ k → SitsAt inboxes place receipt → IsKeptAt more place receipt)
-          → ((lane : LaneName Bundle) → inbox_lane (linked k below).relay.source ≡ Some lane → HasInbox more (parent.Relay k) lane)
+          → ((place : ℕ) (receipt : TakenEnd Bundle Item) → place ≢ k → SitsAt inboxes place receipt
+          → IsKeptAt more place receipt)
+          → ((lane : LaneName Bundle) → inbox_lane (linked k below).relay.source ≡ Some lane
+          → HasInbox more (parent.Relay k) lane)
           → length more ≡ most_relays + 1
           → ((p leaf : ℕ) → leaf_of there.plan p ≡ Some leaf → k + 1 ≤ leaf → slice_get fed p ≡ slice_get probes p)
           → AreLinksMatched (SitsAt probe_ends) root (SitsAt relay_ends) end
@@ -192,10 +224,12 @@ module _ {count : ℕ} {probe_ends : List (Option ClosedSide)} {root : TakenEnd 
 
     module _ {number watch : ℕ} {owner : Parent} {put : PutEnd Bundle Item} {feeds : Vec Feed Global}
         (sits : SitsAt relays k (whole_end number watch owner (Feeds feeds) put)) where
-      left : All (λ feed. IsServed k feed.process feed.taker.ring) feeds.items × AllPairs (λ one other. one.process ≢ other.process) feeds.items
+      left : All (λ feed. IsServed k feed.process feed.taker.ring) feeds.items
+          × AllPairs (λ one other. one.process ≢ other.process) feeds.items
       left =
           let link = linked k below in
-          feeds_left k link.relay.source link.relay.putter.members feeds link.of_plan.source link.relay.serves (receipts sits).1
+          feeds_left k link.relay.source link.relay.putter.members feeds link.of_plan.source link.relay.serves
+          (receipts sits).1
 
       -- the probes of its processes sit as they did
       as_before : All (λ feed. slice_get probes feed.process ≡ slice_get probe_ends feed.process) feeds.items
@@ -208,7 +242,8 @@ module _ {count : ℕ} {probe_ends : List (Option ClosedSide)} {root : TakenEnd 
       pub feeds_apart : AllPairs (λ one other. one.process ≢ other.process) feeds.items
       feeds_apart = left.1
 
-      pub rings_exact : All (IsRingMatched (SitsAt probes)) feeds.items ↔ All (IsRingMatched (SitsAt probe_ends)) feeds.items
+      pub rings_exact : All (IsRingMatched (SitsAt probes)) feeds.items
+          ↔ All (IsRingMatched (SitsAt probe_ends)) feeds.items
       rings_exact = (
         λ matched i d within.
             let own = matched i d within in (own.0, λ probe at. own.1 probe (as_before i d within ∙ at)),
@@ -218,7 +253,8 @@ module _ {count : ℕ} {probe_ends : List (Option ClosedSide)} {root : TakenEnd 
 
       pub leaf_matched : {more : List (Option (TakenEnd Bundle Item))} {fed : List (Option ClosedSide)}
           → ((place : ℕ) (receipt : TakenEnd Bundle Item) → SitsAt inboxes place receipt → IsKeptAt more place receipt)
-          → length more ≡ most_relays + 1 → IsLaneMatched root (SitsAt relay_ends) (whole_end number watch owner (Feeds feeds) put)
+          → length more ≡ most_relays + 1
+          → IsLaneMatched root (SitsAt relay_ends) (whole_end number watch owner (Feeds feeds) put)
           → All (IsRingMatched (SitsAt probes)) feeds.items
           → ((p : ℕ) → All (λ feed. feed.process ≢ p) feeds.items → slice_get fed p ≡ slice_get probes p)
           → HaveMatched (k + 1) (slice_set relays k None) fed more
@@ -235,7 +271,8 @@ module _ {count : ℕ} {probe_ends : List (Option ClosedSide)} {root : TakenEnd 
         (sits : SitsAt relays k (whole_end number watch owner (Lane receipt) put)) where
       pub inner_matched : {more : List (Option (TakenEnd Bundle Item))}
           → ((place : ℕ) (receipt : TakenEnd Bundle Item) → SitsAt inboxes place receipt → IsKeptAt more place receipt)
-          → length more ≡ most_relays + 1 → IsLaneMatched root (SitsAt relay_ends) (whole_end number watch owner (Lane receipt) put)
+          → length more ≡ most_relays + 1
+          → IsLaneMatched root (SitsAt relay_ends) (whole_end number watch owner (Lane receipt) put)
           → HaveMatched (k + 1) (slice_set relays k None) probes (slice_set more k (Some receipt))
       inner_matched {more} keep size lane = next sits
           (λ place other apart at.
@@ -251,7 +288,8 @@ module _ {count : ℕ} {probe_ends : List (Option ClosedSide)} {root : TakenEnd 
             is_lane = lane_left (linked k below).relay.source receipt lane (receipts sits).1 is;
             taken = λ p items. (
               λ same relay at.
-                  subst (λ r. relay_taken r p ≡ items) (sits_alone relay_ends k (whole_end number watch owner (Lane receipt) put) relay (sat sits) at) same,
+                  subst (λ r. relay_taken r p ≡ items) (sits_alone relay_ends k
+                  (whole_end number watch owner (Lane receipt) put) relay (sat sits) at) same,
               λ taken. taken (whole_end number watch owner (Lane receipt) put) (sat sits),
             );
           })

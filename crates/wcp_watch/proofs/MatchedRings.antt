@@ -1,5 +1,8 @@
 -- One ring after another is matched.
-use Rattle.wcp_watch.proofs.Words.{◌≡◌, ◌≢◌, ℕ, true, true≢false, false, List, [], ◌∷◌, ◌++◌, Option, None, Contains, refl, sym, ◌∙◌, slice_get, slice_set, All, AllPairs, append-nil, All-contains, All-cons, All-nil, All-head, All-tail, ClosedSide, Feed, set_elsewhere, HasProbe, SitsAt, IsRingMatched}
+use Rattle.wcp_watch.proofs.Words.{◌≡◌, ◌≢◌, ℕ, true, true≢false, false, List, [], ◌∷◌, ◌++◌, Option, None, Contains}
+use Rattle.wcp_watch.proofs.Words.{refl, sym, ◌∙◌, slice_get, slice_set, All, AllPairs, append-nil, All-contains}
+use Rattle.wcp_watch.proofs.Words.{All-cons, All-nil, All-head, All-tail, ClosedSide, Feed, set_elsewhere, HasProbe}
+use Rattle.wcp_watch.proofs.Words.{SitsAt, IsRingMatched}
 use Rattle.wcp_watch.proofs.Seating.{All-from_contains, among, pair_after, popped}
 
 -- one end alone sits at a place
@@ -16,7 +19,12 @@ module _ (seats : List (Option ClosedSide)) (all : List Feed) where
     pub others : (p : ℕ) → All (λ feed. feed.process ≢ p) done → slice_get probes p ≡ slice_get seats p
 
   pub none_matched : AreMatching all seats
-  none_matched = record { done = []; is = sym (append-nil all); matched = All-nil (IsRingMatched (SitsAt seats)); others = λ p apart. refl }
+  none_matched = record {
+    done = [];
+    is = sym (append-nil all);
+    matched = All-nil (IsRingMatched (SitsAt seats));
+    others = λ p apart. refl;
+  }
 
 module _ {seats : List (Option ClosedSide)} {all : List Feed} (seated : All (HasProbe seats) all)
     (apart : AllPairs (λ one other. one.process ≢ other.process) all) (left : List Feed) {now : List Feed} (feed : Feed)
@@ -40,7 +48,8 @@ module _ {seats : List (Option ClosedSide)} {all : List Feed} (seated : All (Has
   sits_still =
       old.others feed.process
       (All-from_contains (λ (other : Feed). other.process ≢ feed.process) old.done (λ other at same.
-      pair_after (λ (one other : Feed). one.process ≢ other.process) left feed old.done other (rw before at apart) at (sym same)))
+      pair_after (λ (one other : Feed). one.process ≢ other.process) left feed old.done other
+      (rw before at apart) at (sym same)))
       ∙ its.sits
 
   module _ {probe : ClosedSide} (at : SitsAt probes feed.process probe) where
@@ -69,4 +78,5 @@ module _ {seats : List (Option ClosedSide)} {all : List Feed} (seated : All (Has
 
     pub unmatched : feed.taker.taken ≢ probe.link.put → All (IsRingMatched (SitsAt seats)) all → ⊥
     unmatched other matched =
-        other (cc ((All-contains (IsRingMatched (SitsAt seats)) all feed matched is_among).1 its.probe its.sits, is_its))
+        other
+        (cc ((All-contains (IsRingMatched (SitsAt seats)) all feed matched is_among).1 its.probe its.sits, is_its))

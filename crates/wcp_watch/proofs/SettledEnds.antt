@@ -1,5 +1,13 @@
 -- What the ends of a watch tell together.
-use Rattle.wcp_watch.proofs.Words.{◌≡◌, ◌↔◌, ℕ, ◌<◌, ◌≤◌, false, List, get_or, length, Option, Some, None, Contains, refl, sym, ap, ◌∙◌, ⊎_elim, arith, zero, suc, [], ◌∷◌, slice_get, All, sum_by, option_flatten, cases_lt, Contains-get_or, slice_get_past, slice_get_within, most_processes, most_relays, Item, ClocksRise, notes_taken, BookState, TakenEnd, Bundle, ClosedSide, number_of, watch_of, RelayEnd, Outcome, Whole, few_processes, few_relays, some_process, AreEndsThere, AreFirstMatched, AreAllThere, AreAllSeated, AreSeats, IsEndAt, AreLinksMatched, ComeFromWatch, IsFirstSettleFault, IsFreeOf, IsSettled, IsPutMatched, cut_of, share_of, Stranger, Missing, Faulted, Unfinished, CheckerEnd, SeatedEnds, AreSeatedAndWhole, AreShares, AllByRecursion}
+use Rattle.wcp_watch.proofs.Words.{◌≡◌, ◌↔◌, ℕ, ◌<◌, ◌≤◌, false, List, get_or, length, Option, Some, None, Contains}
+use Rattle.wcp_watch.proofs.Words.{refl, sym, ap, ◌∙◌, ⊎_elim, arith, zero, suc, [], ◌∷◌, slice_get, All, sum_by}
+use Rattle.wcp_watch.proofs.Words.{option_flatten, cases_lt, Contains-get_or, slice_get_past, slice_get_within}
+use Rattle.wcp_watch.proofs.Words.{most_processes, most_relays, Item, ClocksRise, notes_taken, BookState, TakenEnd}
+use Rattle.wcp_watch.proofs.Words.{Bundle, ClosedSide, number_of, watch_of, RelayEnd, Outcome, Whole, few_processes}
+use Rattle.wcp_watch.proofs.Words.{few_relays, some_process, AreEndsThere, AreFirstMatched, AreAllThere, AreAllSeated}
+use Rattle.wcp_watch.proofs.Words.{AreSeats, IsEndAt, AreLinksMatched, ComeFromWatch, IsFirstSettleFault, IsFreeOf}
+use Rattle.wcp_watch.proofs.Words.{IsSettled, IsPutMatched, cut_of, share_of, Stranger, Missing, Faulted, Unfinished}
+use Rattle.wcp_watch.proofs.Words.{CheckerEnd, SeatedEnds, AreSeatedAndWhole, AreShares, AllByRecursion}
 use Rattle.std.proofs.lemmas.List.Sums.{sum_by-cons}
 use Rattle.wcp_model.specs.declared.outcome.Tally.{Tally}
 use Rattle.wcp_model.specs.declared.plan.Parent.TheVariants as parent
@@ -15,11 +23,18 @@ use Rattle.wcp_watch.proofs.WatchEnds.{all_processes}
 -- shares that are just the tallies have their sum
 shares_sum : (of_tally : Tally → ℕ) (of_share : Option Tally → ℕ) → of_share None ≡ 0
     → ((tally : Tally) → of_share (Some tally) ≡ of_tally tally) → (shares : List (Option Tally)) (tallies : List Tally)
-    → ((p : ℕ) → option_flatten (slice_get shares p) ≡ slice_get tallies p) → sum_by of_share shares ≡ sum_by of_tally tallies
+    → ((p : ℕ) → option_flatten (slice_get shares p) ≡ slice_get tallies p)
+    → sum_by of_share shares ≡ sum_by of_tally tallies
 shares_sum of_tally of_share none some [] [] same = refl
 shares_sum of_tally of_share none some [] (tally ∷ tallies) same = cc (same 0)
 shares_sum of_tally of_share none some (share ∷ shares) [] same =
-    omega (arith, none, ap of_share (same 0), sum_by-cons of_share share shares, shares_sum of_tally of_share none some shares [] (λ p. same (suc p)))
+    omega (
+      arith,
+      none,
+      ap of_share (same 0),
+      sum_by-cons of_share share shares,
+      shares_sum of_tally of_share none some shares [] (λ p. same (suc p)),
+    )
 shares_sum of_tally of_share none some (share ∷ shares) (tally ∷ tallies) same =
     omega (
       arith,
@@ -31,7 +46,8 @@ shares_sum of_tally of_share none some (share ∷ shares) (tally ∷ tallies) sa
     )
 
 -- all are there where somebody sits at each of the first places
-pub all_there : {E : Type 0} (place_of : E → ℕ) (ends : List E) (seats : List (Option E)) (count : ℕ) → AreSeats place_of ends seats
+pub all_there : {E : Type 0} (place_of : E → ℕ) (ends : List E) (seats : List (Option E)) (count : ℕ)
+    → AreSeats place_of ends seats
     → AreAllSeated count seats ↔ AreAllThere place_of count ends
 all_there place_of ends seats count are = (
   (λ seated place below. let one = seated place below in (one.0, are.own place one.0 one.1)),
@@ -39,15 +55,18 @@ all_there place_of ends seats count are = (
 )
 
 -- links that were matched for more ends were matched for fewer
-module _ (root : TakenEnd Bundle Item) {IsProbe IsOneProbe : ℕ → ClosedSide → Type 0} {IsRelay IsOneRelay : ℕ → RelayEnd → Type 0}
+module _ (root : TakenEnd Bundle Item) {IsProbe IsOneProbe : ℕ → ClosedSide → Type 0}
+    {IsRelay IsOneRelay : ℕ → RelayEnd → Type 0}
     (probe_is : (p : ℕ) (end : ClosedSide) → IsOneProbe p end → IsProbe p end)
     (relay_is : (k : ℕ) (end : RelayEnd) → IsOneRelay k end → IsRelay k end) where
   lane_for_fewer : (end : Outcome) → IsPutMatched root IsRelay end → IsPutMatched root IsOneRelay end
   lane_for_fewer (Whole parent.Root taken put) matched = matched
-  lane_for_fewer (Whole (parent.Relay above) taken put) matched = λ p has relay is. matched p has relay (relay_is above relay is)
+  lane_for_fewer (Whole (parent.Relay above) taken put) matched =
+      λ p has relay is. matched p has relay (relay_is above relay is)
   lane_for_fewer (outcome.Faulted fault source outlet met) matched = tt
 
-  matched_for_fewer : (end : RelayEnd) → AreLinksMatched IsProbe root IsRelay end → AreLinksMatched IsOneProbe root IsOneRelay end
+  matched_for_fewer : (end : RelayEnd) → AreLinksMatched IsProbe root IsRelay end
+      → AreLinksMatched IsOneProbe root IsOneRelay end
   matched_for_fewer end matched = record {
     rings = λ i d within.
         let own = matched.rings i d within in (own.0, λ probe is. own.1 probe (probe_is _ probe is));
@@ -61,7 +80,8 @@ all_within (suc k) seats all =
     let (end, sits) = all k (omega arith) in
     omega (arith, slice_get_within seats k (Some end) sits)
 
-module _ {probes : List ClosedSide} {relays : List RelayEnd} {checker : CheckerEnd} (come : ComeFromWatch probes relays checker) where
+module _ {probes : List ClosedSide} {relays : List RelayEnd} {checker : CheckerEnd}
+    (come : ComeFromWatch probes relays checker) where
   pub processes_are : checker.processes ≡ come.plan.n
   processes_are = all_processes come.wired come.of_checker
 
@@ -81,12 +101,23 @@ module _ {probes : List ClosedSide} {relays : List RelayEnd} {checker : CheckerE
   pub probe_within : (end : ClosedSide) → Contains probes end → end.watch ≡ checker.watch → end.id < checker.processes
   probe_within end among same =
       let is = (rw among.2 at (come.of_probes among.0 end among.1)) same in
-      omega (arith, processes_are, slice_get_within come.watch.probes.items end.id is.probe is.is_probe, come.wired.rings.probes_count)
+      omega (
+        arith,
+        processes_are,
+        slice_get_within come.watch.probes.items end.id is.probe is.is_probe,
+        come.wired.rings.probes_count,
+      )
 
-  pub relay_within : (end : RelayEnd) → Contains relays end → watch_of end ≡ checker.watch → number_of end < checker.relays
+  pub relay_within : (end : RelayEnd) → Contains relays end → watch_of end ≡ checker.watch
+      → number_of end < checker.relays
   relay_within end among same =
       let is = (rw among.2 at (come.of_relays among.0 end among.1)) same in
-      omega (arith, relays_are, slice_get_within come.watch.relays.items (number_of end) is.relay is.is_relay, come.wired.linked.count)
+      omega (
+        arith,
+        relays_are,
+        slice_get_within come.watch.relays.items (number_of end) is.relay is.is_relay,
+        come.wired.linked.count,
+      )
 
   module _ {ends : SeatedEnds} (seats : AreSeatedAndWhole probes relays checker ends) where
     -- there is a place for each process
@@ -94,12 +125,14 @@ module _ {probes : List ClosedSide} {relays : List RelayEnd} {checker : CheckerE
     places = all_within checker.processes ends.probes seats.all_probes
 
     -- they are free of what would be told before what they have left behind
-    pub free_before : (book : BookState) → AllByRecursion (IsFreeOf probes relays checker book) (Stranger ∷ Missing ∷ Faulted ∷ [])
+    pub free_before : (book : BookState)
+        → AllByRecursion (IsFreeOf probes relays checker book) (Stranger ∷ Missing ∷ Faulted ∷ [])
     free_before book = (
       (seats.of_probes, seats.of_relays),
       (
         (
-          (all_there (λ (end : ClosedSide). end.id) probes ends.probes checker.processes seats.probes_sit).0 seats.all_probes,
+          (all_there (λ (end : ClosedSide). end.id) probes ends.probes checker.processes seats.probes_sit).0
+              seats.all_probes,
           (all_there number_of relays ends.relays checker.relays seats.relays_sit).0 seats.all_relays,
         ),
         (seats.whole, tt),
@@ -108,7 +141,9 @@ module _ {probes : List ClosedSide} {relays : List RelayEnd} {checker : CheckerE
 
     pub unfinished : (book : BookState) → ¬ IsFreeOf probes relays checker book Unfinished
         → IsFirstSettleFault probes relays checker book Unfinished
-    unfinished book has = is_first probes relays checker book (Stranger ∷ Missing ∷ Faulted ∷ []) Unfinished [] refl (free_before book) has
+    unfinished book has =
+        is_first probes relays checker book (Stranger ∷ Missing ∷ Faulted ∷ []) Unfinished [] refl
+        (free_before book) has
 
     -- all ends are there
     pub ends_there : AreEndsThere checker.relays ends.probes checker.receipt ends.relays
@@ -126,7 +161,8 @@ module _ {probes : List ClosedSide} {relays : List RelayEnd} {checker : CheckerE
             end = end;
             sits = sits;
             id = id;
-            is_end = (rw among.2 at (come.of_probes among.0 end among.1)) (rw among.2 at (seats.of_probes.same among.0 end among.1));
+            is_end = (rw among.2 at (come.of_probes among.0 end among.1))
+                (rw among.2 at (seats.of_probes.same among.0 end among.1));
           };
       relay = λ number below.
           let (end, sits) = seats.all_relays number below in
@@ -136,7 +172,8 @@ module _ {probes : List ClosedSide} {relays : List RelayEnd} {checker : CheckerE
             sits = sits;
             number_is = own;
             whole = rw among.2 at (seats.whole.0 among.0 end among.1);
-            is_end = (rw among.2 at (come.of_relays among.0 end among.1)) (rw among.2 at (seats.of_relays.same among.0 end among.1));
+            is_end = (rw among.2 at (come.of_relays among.0 end among.1))
+                (rw among.2 at (seats.of_relays.same among.0 end among.1));
           };
       lane = come.of_checker.lane;
     }
@@ -151,13 +188,15 @@ module _ {probes : List ClosedSide} {relays : List RelayEnd} {checker : CheckerE
           (seats.relays_sit.seated (number_of end) end (among, refl)))),
       λ all number relay below sits.
           let (among, own) = seats.relays_sit.own number relay sits in
-          matched_for_fewer checker.receipt seats.probes_sit.own seats.relays_sit.own relay (rw among.2 at (all among.0 relay among.1)),
+          matched_for_fewer checker.receipt seats.probes_sit.own seats.relays_sit.own relay
+          (rw among.2 at (all among.0 relay among.1)),
     )
 
     module _ {tallies : List Tally} (are : AreShares checker.processes ends.probes tallies) (book : BookState) where
       -- just these tallies are in the book, and just the cut of the checker's report
       abbrev pub IsPosted : Type 0
-      IsPosted = ((p : ℕ) → option_flatten (slice_get book.shares p) ≡ slice_get tallies p) × (book.found ≡ cut_of checker.report)
+      IsPosted = ((p : ℕ) → option_flatten (slice_get book.shares p) ≡ slice_get tallies p)
+          × (book.found ≡ cut_of checker.report)
 
       within : (end : ClosedSide) → Contains probes end → end.id < checker.processes
       within end among = probe_within end among (rw among.2 at (seats.of_probes.same among.0 end among.1))
@@ -206,13 +245,16 @@ module _ {probes : List ClosedSide} {relays : List RelayEnd} {checker : CheckerE
         shares = posted.0;
         found = posted.1;
         totals = λ totals sums. (
-          sums.emitted ∙ shares_sum (λ tally. tally.emitted) emitted_of_share refl (λ tally. refl) book.shares tallies posted.0,
-          sums.taken ∙ shares_sum (λ tally. tally.taken) taken_of_share refl (λ tally. refl) book.shares tallies posted.0,
+          sums.emitted
+              ∙ shares_sum (λ tally. tally.emitted) emitted_of_share refl (λ tally. refl) book.shares tallies posted.0,
+          sums.taken
+              ∙ shares_sum (λ tally. tally.taken) taken_of_share refl (λ tally. refl) book.shares tallies posted.0,
         );
       }
         where
           clean : (come.of_checker.starved ≡ false) × (checker.cut ≡ None) × (checker.lost ≡ None)
-          clean = without_fault come.of_checker.starved checker.cut checker.lost (sym come.of_checker.fault ∙ seats.whole.1)
+          clean =
+              without_fault come.of_checker.starved checker.cut checker.lost (sym come.of_checker.fault ∙ seats.whole.1)
 
           whole_of : (end : ClosedSide) → Contains probes end → notes_taken end.id checker.receipt.taken ≡ end.link.put
           whole_of end among =
@@ -223,4 +265,5 @@ module _ {probes : List ClosedSide} {relays : List RelayEnd} {checker : CheckerE
           clocks_rise p below =
               let (end, sits) = seats.all_probes p below in
               let (among, id) = seats.probes_sit.own p end sits in
-              rw (← id) (taken_rise end.id end.link.put checker.receipt.taken (are.rise p end below sits) (whole_of end among))
+              rw (← id) (taken_rise end.id end.link.put checker.receipt.taken (are.rise p end below sits)
+              (whole_of end among))

@@ -1,5 +1,8 @@
 -- The ends of the parts of a watch come from it.
-use Rattle.wcp_watch.proofs.Words.{NumberSet, Flag, ◌≡◌, ◌↔◌, ℕ, ◌<◌, true, Option, None, Some, List, get_or, All, sym, ap, subst, ◌∙◌, arith, IfNone, slice_get, length-replicate, slice_get-get_or, ClosedSide, IsEndOfProbe, LiveSide, IsEndOfRelay, fault_of, IsWired, RelayEnd, IsEndOfLoop, ComeFromWatch, IsEndOfSomeProbe, IsEndOfSomeRelay, CheckerEnd}
+use Rattle.wcp_watch.proofs.Words.{NumberSet, Flag, ◌≡◌, ◌↔◌, ℕ, ◌<◌, true, Option, None, Some, List, get_or, All, sym}
+use Rattle.wcp_watch.proofs.Words.{ap, subst, ◌∙◌, arith, IfNone, slice_get, length-replicate, slice_get-get_or}
+use Rattle.wcp_watch.proofs.Words.{ClosedSide, IsEndOfProbe, LiveSide, IsEndOfRelay, fault_of, IsWired, RelayEnd}
+use Rattle.wcp_watch.proofs.Words.{IsEndOfLoop, ComeFromWatch, IsEndOfSomeProbe, IsEndOfSomeRelay, CheckerEnd}
 use Rattle.std.specs.FinSet as set
 use Rattle.wcp_model.specs.PlanFault.{IsCheckedPlan}
 use Rattle.wcp_model.specs.ProbeLog.{setup}
@@ -18,19 +21,23 @@ where_none None holds = holds
 where_none (Some x) holds = tt
 
 -- a probe was made for process p of n, and its end carries that number
-pub record IsEndOfProcess (watch : Watch) (n : ℕ) (watched : NumberSet) (flag : Flag) (p : ℕ) (probe : LiveSide) (end : ClosedSide) : Type 0 where
+pub record IsEndOfProcess (watch : Watch) (n : ℕ) (watched : NumberSet) (flag : Flag) (p : ℕ) (probe : LiveSide)
+    (end : ClosedSide) : Type 0 where
   pub id : end.id ≡ p
   pub made : setup_of probe.core ≡ setup n watched flag p
   pub is_end : IsEndOfSomeProbe watch.probes.items end
 
 module _ {plan : Plan} {number : ℕ} {watch : Watch} (wired : IsWired plan number watch) where
   -- the loop was of just its processes
-  pub all_processes : {watched : NumberSet} {checker : CheckerEnd} → IsEndOfLoop watch.inbox watched checker → checker.processes ≡ plan.n
+  pub all_processes : {watched : NumberSet} {checker : CheckerEnd} → IsEndOfLoop watch.inbox watched checker
+      → checker.processes ≡ plan.n
   all_processes {watched} {checker} is =
-      let members : (p : ℕ) → (set.contains checker.receipt.members p ≡ true) ↔ (p < plan.n) = rw is.members wired.members in
+      let members : (p : ℕ)
+      → (set.contains checker.receipt.members p ≡ true) ↔ (p < plan.n) = rw is.members wired.members in
       grind (arith, members checker.processes, members plan.n, is.processes checker.processes, is.processes plan.n)
 
-  pub end_of_process : (p : ℕ) (probe : LiveSide) (end : ClosedSide) → slice_get watch.probes.items p ≡ Some probe → IsEndOfProbe probe end
+  pub end_of_process : (p : ℕ) (probe : LiveSide) (end : ClosedSide) → slice_get watch.probes.items p ≡ Some probe
+      → IsEndOfProbe probe end
       → IsEndOfProcess watch plan.n plan.watched plan.flag p probe end
   end_of_process p probe end at closed =
       let core = ((probes_fresh plan number watch wired).each p probe at).0 in
@@ -42,7 +49,8 @@ module _ {plan : Plan} {number : ℕ} {watch : Watch} (wired : IsWired plan numb
       }
 
   -- the ends of its relays, each at the place of its relay
-  pub relay_ends : {ends : List RelayEnd} → AreEndsOf IsEndOfRelay watch.relays.items ends → All (IsEndOfSomeRelay watch.relays.items) ends
+  pub relay_ends : {ends : List RelayEnd} → AreEndsOf IsEndOfRelay watch.relays.items ends
+      → All (IsEndOfSomeRelay watch.relays.items) ends
   relay_ends {ends} are k d within =
       let link = wired.linked.each k (omega (arith, are.count)) in
       let is = are.each k link.relay (get_or ends k d) link.is_relay (slice_get-get_or ends k d within) in
@@ -53,8 +61,10 @@ module _ {plan : Plan} {number : ℕ} {watch : Watch} (wired : IsWired plan numb
         whole = is.whole;
       }
 
-  module _ (checked : IsCheckedPlan plan) {probes : List ClosedSide} (of_probes : All (IsEndOfSomeProbe watch.probes.items) probes) where
-    pub come_from_watch : {relays : List RelayEnd} {checker : CheckerEnd} → All (IsEndOfSomeRelay watch.relays.items) relays
+  module _ (checked : IsCheckedPlan plan) {probes : List ClosedSide}
+      (of_probes : All (IsEndOfSomeProbe watch.probes.items) probes) where
+    pub come_from_watch : {relays : List RelayEnd} {checker : CheckerEnd}
+        → All (IsEndOfSomeRelay watch.relays.items) relays
         → IsEndOfLoop watch.inbox plan.watched checker → ComeFromWatch probes relays checker
     come_from_watch of_relays of_checker = record {
       plan = plan;
@@ -67,7 +77,8 @@ module _ {plan : Plan} {number : ℕ} {watch : Watch} (wired : IsWired plan numb
     }
 
     -- so do the ends of parts that have its relays and its inbox
-    pub come_from_parts : {W E : Type 0} {IsEnd : W → E → Type 0} {parts : Parts W} {ends : Ends E} → HaveEnded IsEnd parts ends
+    pub come_from_parts : {W E : Type 0} {IsEnd : W → E → Type 0} {parts : Parts W} {ends : Ends E}
+        → HaveEnded IsEnd parts ends
         → parts.relays.items ≡ watch.relays.items → parts.checking.inbox ≡ watch.inbox
         → parts.checking.checker.watched ≡ plan.watched
         → ComeFromWatch probes ends.relays.items ends.checker

@@ -1,5 +1,7 @@
 -- A lane that was just made for the messages of one process.
-use Rattle.wcp_worker.proofs.Words.{◌≡◌, ℕ, true, false, ◌||◌, [], ◌∷◌, length, refl, sym, ap, ◌∙◌, subst, arith, nat_eq, list_any, Numbers, PutEnd, TakeEnd, new_putter, alone, alone_has, contains_with, Message, IsNewLane, messages_from}
+use Rattle.wcp_worker.proofs.Words.{◌≡◌, ℕ, true, false, ◌||◌, [], ◌∷◌, length, refl, sym, ap, ◌∙◌, subst, arith}
+use Rattle.wcp_worker.proofs.Words.{nat_eq, list_any, Numbers, PutEnd, TakeEnd, new_putter, alone, alone_has}
+use Rattle.wcp_worker.proofs.Words.{contains_with, Message, IsNewLane, messages_from}
 use Rattle.std.specs.Ordering.{nat_cmp}
 use Rattle.std.specs.FinSet as set
 use Rattle.std.proofs.lemmas.Bool.Decides.{nat_tests}
@@ -13,7 +15,8 @@ has_no_other p q has =
     ap (λ b. nat_eq q p || b) (sym (set.contains-empty nat_cmp q)) ∙ sym (contains_with set.empty p q) ∙ has in
     grind (arith, nat_tests)
 
-pub new_ends : (p count : ℕ) (putter : PutEnd Message Message) (taker : TakeEnd Message Message) (bell : Bell) (sleeper : Sleeper) → putter ≡ new_putter taker.lane (alone p)
+pub new_ends : (p count : ℕ) (putter : PutEnd Message Message) (taker : TakeEnd Message Message) (bell : Bell)
+    (sleeper : Sleeper) → putter ≡ new_putter taker.lane (alone p)
     → ((q : ℕ) → set.contains taker.members q ≡ list_any (λ (numbers : Numbers). set.contains numbers q) (alone p ∷ []))
     → taker.taken ≡ []
     → IsNewLane p count (record { putter = putter; sent = 0; room = count; bell = bell })

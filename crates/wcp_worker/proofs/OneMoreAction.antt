@@ -1,6 +1,13 @@
 -- What a player has done, with one more action, and once it is closed.
-use Rattle.wcp_worker.proofs.Words.{◌≡◌, ℕ, Bool, true, false, List, [], ◌∷◌, ◌++◌, cond, sym, refl, ap, ◌∙◌, subst, append-nil, Action, Call, Closed, ProbeSetup, state_of_log, FollowsActions, stamp_of, stamps_sent, stamps_got, is_send_to, is_receive_from, setup_of, ClosedSide, HasEmitted, IsEndOfProbe, IsSameLive, same_live, Mailbox, Player, Worker, IfBoth, HasTakenMore, IsSameOutbox, IsSameInbox, HasSameLanes, outbox_to, inbox_from, clocks_sent_to, clocks_taken_from, DoesAction, HasDoneActions, HasPlayed}
-use Rattle.wcp_model.proofs.TaskLogs.{FollowsActions-push, stamps_sent-push, stamps_sent-push_other, stamps_got-push, stamps_got-push_other}
+use Rattle.wcp_worker.proofs.Words.{◌≡◌, ℕ, Bool, true, false, List, [], ◌∷◌, ◌++◌, cond, sym, refl, ap, ◌∙◌, subst}
+use Rattle.wcp_worker.proofs.Words.{append-nil, Action, Call, Closed, ProbeSetup, state_of_log, FollowsActions}
+use Rattle.wcp_worker.proofs.Words.{stamp_of, stamps_sent, stamps_got, is_send_to, is_receive_from, setup_of}
+use Rattle.wcp_worker.proofs.Words.{ClosedSide, HasEmitted, IsEndOfProbe, IsSameLive, same_live, Mailbox, Player}
+use Rattle.wcp_worker.proofs.Words.{Worker, IfBoth, HasTakenMore, IsSameOutbox, IsSameInbox, HasSameLanes, outbox_to}
+use Rattle.wcp_worker.proofs.Words.{inbox_from, clocks_sent_to, clocks_taken_from, DoesAction, HasDoneActions}
+use Rattle.wcp_worker.proofs.Words.{HasPlayed}
+use Rattle.wcp_model.proofs.TaskLogs.{FollowsActions-push, stamps_sent-push, stamps_sent-push_other, stamps_got-push}
+use Rattle.wcp_model.proofs.TaskLogs.{stamps_got-push_other}
 use Rattle.wcp_worker.proofs.TakenMore.{both_then, entry_same, entry_front}
 
 same_lanes : (a b c : Mailbox) → HasSameLanes a b → HasSameLanes b c → HasSameLanes a c
@@ -13,7 +20,8 @@ same_lanes a b c first then =
     }
 
 -- one more call of a log that follows actions, with what it adds to the stamps
-module _ (actions : List Action) (log : List Call) (act : Action) (call : Call) (follows : FollowsActions actions log) (q : ℕ) where
+module _ (actions : List Action) (log : List Call) (act : Action) (call : Call) (follows : FollowsActions actions log)
+    (q : ℕ) where
   sent_more : (made : ProbeSetup) (passes : Bool) → is_send_to q act ≡ passes
       → stamps_sent made q actions log ++ cond passes ((state_of_log made (log ++ call ∷ [])).clock ∷ []) []
       ≡ stamps_sent made q (actions ++ act ∷ []) (log ++ call ∷ [])
@@ -42,7 +50,8 @@ done_more start old new actions log act call done by same =
       own = by.own;
       sent = λ q.
           by.sent q
-          ∙ (λ i. (ap (λ p. clocks_sent_to p old.mailbox q) id ∙ done.sent q ∙ ap (λ s. stamps_sent s q actions log) (sym made)) i
+          ∙ (λ i. (ap (λ p. clocks_sent_to p old.mailbox q) id ∙ done.sent q
+          ∙ ap (λ s. stamps_sent s q actions log) (sym made)) i
           ++ cond (is_send_to q act) (stands.core.clock i ∷ []) [])
           ∙ sent_more actions log act call done.follows q (setup_of new.probe.core) (is_send_to q act) refl;
       taken = λ q.
@@ -68,9 +77,11 @@ all_played worker now log probe mailbox done end emitted outboxes more =
       closed = record { watch = end.watch ∙ same.0.watch; id = end.id ∙ id; ring = end.ring ∙ same.1 };
       emitted = emitted ∙ ap (λ s. (state_of_log s (log ++ Closed ∷ [])).notes) made;
       lanes = record {
-        outboxes = subst (λ o. (q : ℕ) → IfBoth IsSameOutbox (outbox_to worker.player.mailbox q) (outbox_to (record now.mailbox { outboxes = o }) q)) (sym outboxes) done.lanes.outboxes;
+        outboxes = subst (λ o. (q : ℕ) → IfBoth IsSameOutbox (outbox_to worker.player.mailbox q)
+            (outbox_to (record now.mailbox { outboxes = o }) q)) (sym outboxes) done.lanes.outboxes;
         inboxes = λ q. both_then IsSameInbox (λ x y z one two. (two.0 ∙ one.0, two.1 ∙ one.1))
-            (inbox_from worker.player.mailbox q) (inbox_from now.mailbox q) (inbox_from mailbox q) (done.lanes.inboxes q)
+            (inbox_from worker.player.mailbox q) (inbox_from now.mailbox q) (inbox_from mailbox q)
+            (done.lanes.inboxes q)
             (entry_same q (inbox_from now.mailbox q) (inbox_from mailbox q) (more q));
       };
       sent = λ q.

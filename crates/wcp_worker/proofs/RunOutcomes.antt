@@ -1,5 +1,8 @@
 -- The outcome of a run in threads, from what its workers and its checker left.
-use Rattle.wcp_worker.proofs.Words.{NumberSet, Flag, ◌≡◌, ℕ, ◌<◌, List, [], ◌∷◌, ◌++◌, All, Some, slice_get, sym, ap, subst, ◌∙◌, arith, Task, Call, Closed, ProbeSetup, setup, state_of_log, actions_of, FollowsActions, stamps_sent, stamps_got, AreLogsOfTasks, IsWithin, Mailbox, clocks_sent_to, clocks_taken_from, HasRun, HaveRun}
+use Rattle.wcp_worker.proofs.Words.{NumberSet, Flag, ◌≡◌, ℕ, ◌<◌, List, [], ◌∷◌, ◌++◌, All, Some, slice_get, sym, ap}
+use Rattle.wcp_worker.proofs.Words.{subst, ◌∙◌, arith, Task, Call, Closed, ProbeSetup, setup, state_of_log, actions_of}
+use Rattle.wcp_worker.proofs.Words.{FollowsActions, stamps_sent, stamps_got, AreLogsOfTasks, IsWithin, Mailbox}
+use Rattle.wcp_worker.proofs.Words.{clocks_sent_to, clocks_taken_from, HasRun, HaveRun}
 use Rattle.wcp_clock.specs.declared.note.Item.{Item}
 use Rattle.wcp_model.specs.declared.outcome.Outcome.{Outcome}
 use Rattle.wcp_model.specs.Outcome.{IsWorkloadOutcome}
@@ -9,7 +12,8 @@ use Rattle.wcp_model.proofs.SamePlace.{element_within}
 use Rattle.wcp_model.proofs.TakenOutcomes.{IsOutcomeOfItems, IsWorkloadOutcome-taken}
 
 -- what one process that ran tells of its log
-module _ (n : ℕ) (watched : NumberSet) (flag : Flag) (tasks : List Task) (items : List Item) (p : ℕ) (log : List Call) (mailbox : Mailbox) (run : HasRun n watched flag tasks items p log mailbox) where
+module _ (n : ℕ) (watched : NumberSet) (flag : Flag) (tasks : List Task) (items : List Item) (p : ℕ) (log : List Call)
+    (mailbox : Mailbox) (run : HasRun n watched flag tasks items p log mailbox) where
   run_follows : FollowsActions (actions_of p tasks) log
   run_follows = subst (λ actions. FollowsActions actions log) run.actions run.played.follows
 
@@ -22,13 +26,17 @@ module _ (n : ℕ) (watched : NumberSet) (flag : Flag) (tasks : List Task) (item
       ∙ run.played.sent q
       ∙ (λ i. stamps_sent (run.made i) q (run.actions i) log)
 
-  run_got : (q : ℕ) → (rest : List (List ℕ)) × (stamps_got q (actions_of p tasks) log ++ rest ≡ clocks_taken_from mailbox q)
-  run_got q = subst (λ actions. (rest : List (List ℕ)) × (stamps_got q actions log ++ rest ≡ clocks_taken_from mailbox q)) run.actions (run.played.taken q)
+  run_got : (q : ℕ)
+      → (rest : List (List ℕ)) × (stamps_got q (actions_of p tasks) log ++ rest ≡ clocks_taken_from mailbox q)
+  run_got q = subst (λ actions. (rest : List (List ℕ))
+      × (stamps_got q actions log ++ rest ≡ clocks_taken_from mailbox q)) run.actions (run.played.taken q)
 
 -- where all ran, their logs are those of the tasks, and the outcome of what was taken is that of the workload
-module _ (n : ℕ) (watched : NumberSet) (flag : Flag) (tasks : List Task) (items : List Item) (mailboxes : List Mailbox) (all : HaveRun n watched flag tasks items mailboxes) where
+module _ (n : ℕ) (watched : NumberSet) (flag : Flag) (tasks : List Task) (items : List Item) (mailboxes : List Mailbox)
+    (all : HaveRun n watched flag tasks items mailboxes) where
   abbrev HasLog : ℕ → List Call → Type 0
-  HasLog p log = (mailbox : Mailbox) × (slice_get mailboxes p ≡ Some mailbox) × HasRun n watched flag tasks items p log mailbox
+  HasLog p log =
+      (mailbox : Mailbox) × (slice_get mailboxes p ≡ Some mailbox) × HasRun n watched flag tasks items p log mailbox
 
   has_log : (p : ℕ) → p < n → (log : List Call) × HasLog p log
   has_log p below =
@@ -51,11 +59,16 @@ module _ (n : ℕ) (watched : NumberSet) (flag : Flag) (tasks : List Task) (item
     in_order = λ p q p_below q_below some.
         let (from, from_at, from_run) = chosen.1 p p_below in
         let (to, to_at, to_run) = chosen.1 q q_below in
-        let (rest, together) = run_got n watched flag tasks items q (logs q) to to_run p in
-        (rest, together ∙ all.matched p q from to from_at to_at ∙ run_sent n watched flag tasks items p (logs p) from from_run q);
+        let (rest, together) = run_got n watched flag tasks items q (logs q) to to_run p in (
+          rest,
+          together ∙ all.matched p q from to from_at to_at ∙ run_sent n watched flag tasks items p (logs
+              p) from from_run q,
+        );
   }
 
-  pub IsWorkloadOutcome-run : (outcome : Outcome) → All (IsWithin n) tasks → IsOutcomeOfItems n watched items outcome → IsWorkloadOutcome n watched flag tasks outcome
+  pub IsWorkloadOutcome-run : (outcome : Outcome) → All (IsWithin n) tasks → IsOutcomeOfItems n watched items outcome
+      → IsWorkloadOutcome n watched flag tasks outcome
   IsWorkloadOutcome-run outcome within is =
       IsWorkloadOutcome-taken n watched flag tasks logs items outcome within are_logs
-      (λ p below. let (mailbox, at, run) = chosen.1 p below in run_emits n watched flag tasks items p (logs p) mailbox run) is
+      (λ p below. let (mailbox, at, run) = chosen.1 p below in
+      run_emits n watched flag tasks items p (logs p) mailbox run) is

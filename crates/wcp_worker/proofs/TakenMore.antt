@@ -1,5 +1,7 @@
 -- What came by an end, as more of it comes.
-use Rattle.wcp_worker.proofs.Words.{◌≡◌, ℕ, zero, suc, true, Option, Some, None, List, [], ◌∷◌, ◌++◌, sym, refl, ap, ◌∙◌, subst, append_assoc, slice_set, slice_index_or, IfSome, append-nil, Numbers, Inbox, IsInboxOf, IsSameInbox, HasTakenMore, IfBoth, messages_taken, clocks_from}
+use Rattle.wcp_worker.proofs.Words.{◌≡◌, ℕ, zero, suc, true, Option, Some, None, List, [], ◌∷◌, ◌++◌, sym, refl, ap}
+use Rattle.wcp_worker.proofs.Words.{◌∙◌, subst, append_assoc, slice_set, slice_index_or, IfSome, append-nil, Numbers}
+use Rattle.wcp_worker.proofs.Words.{Inbox, IsInboxOf, IsSameInbox, HasTakenMore, IfBoth, messages_taken, clocks_from}
 use Rattle.std.specs.FinSet as set
 use mathlib.Core.List.{IsPrefix}
 
@@ -31,7 +33,8 @@ module _ (q : ℕ) where
         same = (then.same.0 ∙ first.same.0, then.same.1 ∙ first.same.1);
         front = λ is.
             let one = first.front is in
-            let two = then.front (subst (λ (members : Numbers). (p : ℕ) → set.contains members p ≡ true → p ≡ q) (sym first.same.1) is) in
+            let two = then.front
+            (subst (λ (members : Numbers). (p : ℕ) → set.contains members p ≡ true → p ≡ q) (sym first.same.1) is) in
             (one.0 ++ two.0, sym (append_assoc _ one.0 two.0) ∙ ap (λ clocks. clocks ++ two.0) one.1 ∙ two.1);
       }
 

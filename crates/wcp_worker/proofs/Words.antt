@@ -1,8 +1,13 @@
 -- The words of the proofs of this crate, from one place.
-pub use Rattle.std.proofs.Common.{◌≡◌, ℕ, zero, suc, true, Option, Some, None, List, [], ◌∷◌, ◌++◌, sym, refl, ap, ◌∙◌, subst, append_assoc, Bool, false, cond, arith, ◌≢◌, ◌↔◌, Result, Ok, Err, length, slice_get, slice_set, get_or, inl, inr, true≢false, ◌<◌, subst₂, ◌||◌, ◌⊎◌, ◌≤◌, map, filter, All, ⊎_elim, ◌+◌, set, Vec, Global, rules, take, slice_index_or, count_by}
+pub use Rattle.std.proofs.Common.{◌≡◌, ℕ, zero, suc, true, Option, Some, None, List, [], ◌∷◌, ◌++◌, sym, refl, ap, ◌∙◌}
+pub use Rattle.std.proofs.Common.{subst, append_assoc, Bool, false, cond, arith, ◌≢◌, ◌↔◌, Result, Ok, Err, length}
+pub use Rattle.std.proofs.Common.{slice_get, slice_set, get_or, inl, inr, true≢false, ◌<◌, subst₂, ◌||◌, ◌⊎◌, ◌≤◌, map}
+pub use Rattle.std.proofs.Common.{filter, All, ⊎_elim, ◌+◌, set, Vec, Global, rules, take, slice_index_or, count_by}
 pub use Rattle.std.proofs.lemmas.Bool.{cases_eq}
 pub use Rattle.std.proofs.lemmas.Grind.{common_steps}
-pub use Rattle.std.proofs.lemmas.List.{append-nil, length-map, length-set, get_or_past, get_or-set_same, get_or-set_other, get_or_default, get_or_push, get_or_append_left, length-append, map_push, take_more}
+pub use Rattle.std.proofs.lemmas.List.{append-nil, length-map, length-set, get_or_past, get_or-set_same}
+pub use Rattle.std.proofs.lemmas.List.{get_or-set_other, get_or_default, get_or_push, get_or_append_left, length-append}
+pub use Rattle.std.proofs.lemmas.List.{map_push, take_more}
 pub use Rattle.std.proofs.lemmas.Option.{gets, slice_get_within, slice_get-get_or, get_or_from_slice_get}
 pub use Rattle.std.specs.List.{list_any}
 pub use Rattle.std.specs.Prelude.{IfSome, IsOk, OnOk, nat_eq}
@@ -19,12 +24,15 @@ pub use Rattle.wcp_probe.specs.Core.{setup_of, Core}
 pub use Rattle.wcp_probe.specs.Seal.{seal_of}
 pub use Rattle.wcp_relay.proofs.Entries.{mapped_at}
 pub use Rattle.wcp_relay.proofs.LiveProbes.{same_live, fresh_stands}
-pub use Rattle.wcp_relay.specs.LiveProbe.{ClosedSide, HasEmitted, IsEndOfProbe, IsSameLive, LiveSide, LiveFor, AreFreshProbes}
-pub use Rattle.wcp_worker.specs.Lanes.{IsInboxOf, IsSameInbox, HasTakenMore, IfBoth, messages_taken, clocks_from, IsSameOutbox, messages_from, messages_put, IsNewLane, IsOutboxOf, IsLaneFor}
+pub use Rattle.wcp_relay.specs.LiveProbe.{ClosedSide, HasEmitted, IsEndOfProbe, IsSameLive, LiveSide, LiveFor}
+pub use Rattle.wcp_relay.specs.LiveProbe.{AreFreshProbes}
+pub use Rattle.wcp_worker.specs.Lanes.{IsInboxOf, IsSameInbox, HasTakenMore, IfBoth, messages_taken, clocks_from}
+pub use Rattle.wcp_worker.specs.Lanes.{IsSameOutbox, messages_from, messages_put, IsNewLane, IsOutboxOf, IsLaneFor}
 pub use Rattle.wcp_worker.specs.Mailboxes.{HasSameLanes, outbox_to, inbox_from, clocks_sent_to, clocks_taken_from}
 pub use Rattle.wcp_worker.specs.Opening.{IsIdle, HasTasks, HaveLanes, IsSameButInboxes, HasRow}
 pub use Rattle.wcp_worker.specs.Played.{DoesAction, HasDoneActions, HasPlayed, IsFreshPlayer}
-pub use Rattle.wcp_worker.specs.Runs.{outbox_of, inbox_of, ends_between, AreAllTaken, AreMatched, AreOfLane, IsAllTaken, IsLaneOf, HasRun, HaveRun}
+pub use Rattle.wcp_worker.specs.Runs.{outbox_of, inbox_of, ends_between, AreAllTaken, AreMatched, AreOfLane, IsAllTaken}
+pub use Rattle.wcp_worker.specs.Runs.{IsLaneOf, HasRun, HaveRun}
 pub use Rattle.wcp_worker.specs.Workers.{AreWorkersOf}
 pub use Rattle.wcp_worker.specs.declared.lane_ends.Inbox.{Inbox}
 pub use Rattle.wcp_worker.specs.declared.lane_ends.Outbox.{Outbox}

@@ -1,5 +1,6 @@
 -- What the ends of a watch of processes tell.
-use Rattle.std.proofs.Common.{◌≡◌, ◌≢◌, ◌<◌, ◌≤◌, ℕ, Bool, true, false, Option, Some, None, List, [], ◌∷◌, ◌++◌, length, map, slice_get, get_or, take, All, IfNone, IfSome, refl, sym, ap, subst, ◌∙◌, arith}
+use Rattle.std.proofs.Common.{◌≡◌, ◌≢◌, ◌<◌, ◌≤◌, ℕ, Bool, true, false, Option, Some, None, List, [], ◌∷◌, ◌++◌, length}
+use Rattle.std.proofs.Common.{map, slice_get, get_or, take, All, IfNone, IfSome, refl, sym, ap, subst, ◌∙◌, arith}
 use Rattle.std.specs.Prelude.{IsSome, IsSomeAnd, is_some}
 use Rattle.std.specs.List.{sum_by}
 use Rattle.std.proofs.lemmas.List.{length-map, length-replicate}
@@ -38,12 +39,14 @@ use Rattle.wullaphi.specs.declared.watch_fault.WatchFault.TheVariants as fault
 use Rattle.wullaphi.specs.declared.watch_outcome.WatchOutcome.{WatchOutcome}
 
 -- what holds where something is there
-some_of : {X : Type 0} (found : Option X) {Holds : X → Type 0} → IsSomeAnd found Holds → (x : X) × (found ≡ Some x) × Holds x
+some_of : {X : Type 0} (found : Option X) {Holds : X → Type 0} → IsSomeAnd found Holds
+    → (x : X) × (found ≡ Some x) × Holds x
 some_of (Some x) holds = (x, refl, holds)
 some_of None holds = absurd holds
 
 -- what is told of a process that was lost, where more follows
-pub lost_as : (told : WatchFault) {Holds More : ℕ → Report → Type 0} → ((p : ℕ) (report : Report) → Holds p report → More p report)
+pub lost_as : (told : WatchFault) {Holds More : ℕ → Report → Type 0}
+    → ((p : ℕ) (report : Report) → Holds p report → More p report)
     → IfLost told Holds → IfLost told More
 lost_as (fault.Plan first) then lost = tt
 lost_as fault.Count then lost = tt
@@ -53,23 +56,35 @@ lost_as (fault.Lost process report) then lost = then process report lost
 lost_as (fault.Settle refused) then lost = tt
 
 -- what holds of the probe that there is
-closed_of : {closed : Option ClosedSide} {probe : ClosedSide} (Holds : ClosedSide → Type 0) → closed ≡ Some probe → IfSome closed Holds → Holds probe
+closed_of : {closed : Option ClosedSide} {probe : ClosedSide} (Holds : ClosedSide → Type 0) → closed ≡ Some probe
+    → IfSome closed Holds → Holds probe
 closed_of Holds same holds = rw same at holds
 
 -- a process has run, whether its probe was closed or not
-left_of : {P A : Type 0} {Leaves : P → LiveSide → A → Type 0} {watch : ℕ} {made : ProbeSetup} {process : P} {answer : A} (closed : Option ClosedSide)
-    → IfSome closed (λ probe. HasRun Leaves watch made process answer probe.link.put) → IfNone closed (HasLeft Leaves watch made process answer)
+left_of : {P A : Type 0} {Leaves : P → LiveSide → A → Type 0} {watch : ℕ} {made : ProbeSetup} {process : P} {answer : A}
+    (closed : Option ClosedSide)
+    → IfSome closed (λ probe. HasRun Leaves watch made process answer probe.link.put)
+    → IfNone closed (HasLeft Leaves watch made process answer)
     → HasLeft Leaves watch made process answer
 left_of (Some probe) ran lost =
-    record { probe = ran.probe; of_watch = ran.of_watch; of_process = ran.of_process; leaves = ran.leaves; some_log = ran.some_log }
+    record {
+      probe = ran.probe;
+      of_watch = ran.of_watch;
+      of_process = ran.of_process;
+      leaves = ran.leaves;
+      some_log = ran.some_log;
+    }
 left_of None ran lost = lost
 
-module _ {P A : Type 0} (Leaves : P → LiveSide → A → Type 0) (done : A → Bool) {plan : Plan} {number : ℕ} {processes : List P} {parts : Parts (Seat P)} {ends : Ends (SeatEnd A)}
-    (checked : IsCheckedPlan plan) (are : ArePartsOf plan number processes parts) (ended : HaveEnded (IsEndOfSeat Leaves done) parts ends) where
+module _ {P A : Type 0} (Leaves : P → LiveSide → A → Type 0) (done : A → Bool) {plan : Plan} {number : ℕ}
+    {processes : List P} {parts : Parts (Seat P)} {ends : Ends (SeatEnd A)}
+    (checked : IsCheckedPlan plan) (are : ArePartsOf plan number processes parts)
+    (ended : HaveEnded (IsEndOfSeat Leaves done) parts ends) where
   -- a probe that was made for a process is of this watch
   number_is : (k : ℕ) (probe : LiveSide) → slice_get are.watch.probes.items k ≡ Some probe → probe.core.watch ≡ number
   number_is k probe at =
-      let ring = are.wired.rings.each k (omega (arith, slice_get_within are.watch.probes.items k probe at, are.wired.rings.probes_count)) in
+      let ring = are.wired.rings.each k
+      (omega (arith, slice_get_within are.watch.probes.items k probe at, are.wired.rings.probes_count)) in
       let two : Some ring.probe ≡ Some probe = sym ring.is_probe ∙ at in
       let is : ring.probe ≡ probe = cc in
       ap (λ (s : LiveSide). s.core.watch) (sym is) ∙ ap (λ (c : Core). c.watch) ring.fresh
@@ -85,10 +100,12 @@ module _ {P A : Type 0} (Leaves : P → LiveSide → A → Type 0) (done : A →
 
   end_at : (k : ℕ) (end : SeatEnd A) → slice_get ends.workers.items k ≡ Some end → HasEnd k end
   end_at k end at =
-      let (seat, seat_at) = element_within parts.workers.items k (omega (arith, slice_get_within ends.workers.items k end at, ended.workers.count)) in
+      let (seat, seat_at) = element_within parts.workers.items k
+      (omega (arith, slice_get_within ends.workers.items k end at, ended.workers.count)) in
       let is_end = ended.workers.each k seat end seat_at at in
       let there : slice_get are.watch.probes.items k ≡ Some seat.probe =
-      ap (λ (probes : List LiveSide). slice_get probes k) (sym are.probes) ∙ mapped_at (λ (s : Seat P). s.probe) parts.workers.items k seat seat_at in
+      ap (λ (probes : List LiveSide). slice_get probes k) (sym are.probes)
+      ∙ mapped_at (λ (s : Seat P). s.probe) parts.workers.items k seat seat_at in
       let fresh = (probes_fresh plan number are.watch are.wired).each k seat.probe there in
       record {
         seat = seat;
@@ -100,23 +117,33 @@ module _ {P A : Type 0} (Leaves : P → LiveSide → A → Type 0) (done : A →
       }
 
   pub count : length ends.workers.items ≡ plan.n
-  count = omega (arith, ended.workers.count, sym (length-map parts.workers.items (λ (s : Seat P). s.probe)) ∙ ap length are.probes, are.wired.rings.probes_count)
+  count = omega (
+    arith,
+    ended.workers.count,
+    sym (length-map parts.workers.items
+        (λ (s : Seat P). s.probe)) ∙ ap length are.probes,
+    are.wired.rings.probes_count,
+  )
 
   pub few_ends : length ends.workers.items ≤ most_processes
   few_ends = rw count (few_processes plan checked)
 
   processes_count : length processes ≡ plan.n
-  processes_count = sym (ap length are.processes_are) ∙ length-map parts.workers.items (λ (s : Seat P). s.process) ∙ sym ended.workers.count ∙ count
+  processes_count = sym (ap length are.processes_are) ∙ length-map parts.workers.items (λ (s : Seat P). s.process)
+      ∙ sym ended.workers.count ∙ count
 
   -- the process of an end is that at its place
-  process_is : (k : ℕ) (end : SeatEnd A) (process : P) (of : HasEnd k end) → slice_get processes k ≡ Some process → of.seat.process ≡ process
+  process_is : (k : ℕ) (end : SeatEnd A) (process : P) (of : HasEnd k end) → slice_get processes k ≡ Some process
+      → of.seat.process ≡ process
   process_is k end process of process_at =
       let two : Some of.seat.process ≡ Some process =
-      sym (mapped_at (λ (s : Seat P). s.process) parts.workers.items k of.seat of.seat_at) ∙ ap (λ (xs : List P). slice_get xs k) are.processes_are ∙ process_at in
+      sym (mapped_at (λ (s : Seat P). s.process) parts.workers.items k of.seat of.seat_at)
+      ∙ ap (λ (xs : List P). slice_get xs k) are.processes_are ∙ process_at in
       cc
 
   -- what a process answered, and whether its part is done by that
-  answered_at : (k : ℕ) (end : SeatEnd A) (process : P) (is : Bool) → slice_get ends.workers.items k ≡ Some end → slice_get processes k ≡ Some process
+  answered_at : (k : ℕ) (end : SeatEnd A) (process : P) (is : Bool) → slice_get ends.workers.items k ≡ Some end
+      → slice_get processes k ≡ Some process
       → is_some end.probe ≡ is → HasAnswered Leaves done number (setup plan.n plan.watched plan.flag k) process is
   answered_at k end process is at process_at closed =
       let of = end_at k end at in
@@ -127,14 +154,16 @@ module _ {P A : Type 0} (Leaves : P → LiveSide → A → Type 0) (done : A →
           probe = left.probe;
           of_watch = left.of_watch ∙ of.of_watch;
           of_process = left.of_process ∙ of.made;
-          leaves = subst (λ (x : P). Leaves x left.probe end.answer) (process_is k end process of process_at) left.leaves;
+          leaves =
+              subst (λ (x : P). Leaves x left.probe end.answer) (process_is k end process of process_at) left.leaves;
           some_log = left.some_log;
         };
         done_is = sym of.is_end.done_is ∙ closed;
       }
 
   pub is_lost : (p : ℕ) (report : Report) → IsSomeAnd (slice_get ends.workers.items p) (λ end. end.probe ≡ None)
-      → All (λ end. IsSome end.probe) (take p ends.workers.items) → report ≢ Nothing → IsLost Leaves done number plan processes p report
+      → All (λ end. IsSome end.probe) (take p ends.workers.items) → report ≢ Nothing
+      → IsLost Leaves done number plan processes p report
   is_lost p report lost before some =
       let (end, at, none) = some_of (slice_get ends.workers.items p) lost in
       let within : p < plan.n = rw count at (slice_get_within ends.workers.items p end at) in
@@ -145,7 +174,8 @@ module _ {P A : Type 0} (Leaves : P → LiveSide → A → Type 0) (done : A →
         lost = answered_at p end process false at process_at (ap is_some none);
         before = λ q other below other_at.
             let (one, one_at) = element_within ends.workers.items q (omega (arith, below, within, count)) in
-            let closed = All-at (λ (e : SeatEnd A). IsSome e.probe) (take p ends.workers.items) q one before (slice_get-take p ends.workers.items q below ∙ one_at) in
+            let closed = All-at (λ (e : SeatEnd A). IsSome e.probe) (take p ends.workers.items) q one before
+            (slice_get-take p ends.workers.items q below ∙ one_at) in
             answered_at q one other true one_at other_at closed;
         some_report = some;
       }
@@ -153,9 +183,11 @@ module _ {P A : Type 0} (Leaves : P → LiveSide → A → Type 0) (done : A →
   abbrev IsOfWatch : ClosedSide → Type 0
   IsOfWatch probe = IsEndOfSomeProbe are.watch.probes.items probe
 
-  module _ (probes : List ClosedSide) (apart : map (λ (end : SeatEnd A). end.probe) ends.workers.items ≡ map Some probes) where
+  module _ (probes : List ClosedSide)
+      (apart : map (λ (end : SeatEnd A). end.probe) ends.workers.items ≡ map Some probes) where
     probes_count : length probes ≡ length ends.workers.items
-    probes_count = sym (length-map probes Some) ∙ sym (ap length apart) ∙ length-map ends.workers.items (λ (e : SeatEnd A). e.probe)
+    probes_count = sym (length-map probes Some) ∙ sym (ap length apart)
+        ∙ length-map ends.workers.items (λ (e : SeatEnd A). e.probe)
 
     -- the closed probe of the end at a place
     record HasProbe (k : ℕ) (end : SeatEnd A) : Type 0 where
@@ -168,16 +200,19 @@ module _ {P A : Type 0} (Leaves : P → LiveSide → A → Type 0) (done : A →
     has_probe : (k : ℕ) (end : SeatEnd A) → slice_get ends.workers.items k ≡ Some end → HasProbe k end
     has_probe k end at =
         let of = end_at k end at in
-        let (probe, there) = element_within probes k (omega (arith, slice_get_within ends.workers.items k end at, probes_count)) in
+        let (probe, there) =
+        element_within probes k (omega (arith, slice_get_within ends.workers.items k end at, probes_count)) in
         let two : Some end.probe ≡ Some (Some probe) =
-        sym (mapped_at (λ (e : SeatEnd A). e.probe) ends.workers.items k end at) ∙ ap (λ (ps : List (Option ClosedSide)). slice_get ps k) apart ∙ mapped_at Some probes k probe there in
+        sym (mapped_at (λ (e : SeatEnd A). e.probe) ends.workers.items k end at)
+        ∙ ap (λ (ps : List (Option ClosedSide)). slice_get ps k) apart ∙ mapped_at Some probes k probe there in
         let same : end.probe ≡ Some probe = cc in
         record {
           probe = probe;
           probe_at = there;
           same = same;
           of = of;
-          of_process = end_of_process are.wired k of.seat.probe probe of.probe_at (closed_of (IsEndOfProbe of.seat.probe) same of.is_end.closed);
+          of_process = end_of_process are.wired k of.seat.probe probe of.probe_at
+              (closed_of (IsEndOfProbe of.seat.probe) same of.is_end.closed);
         }
 
     of_probes : All IsOfWatch probes
@@ -192,7 +227,8 @@ module _ {P A : Type 0} (Leaves : P → LiveSide → A → Type 0) (done : A →
     come = come_from_parts are.wired checked of_probes ended are.relays are.inbox are.watched
 
     -- each did its part, by its answer
-    pub all_done : (answers : List A) → map (λ (end : SeatEnd A). end.answer) ends.workers.items ≡ answers → All (λ answer. done answer ≡ true) answers
+    pub all_done : (answers : List A) → map (λ (end : SeatEnd A). end.answer) ends.workers.items ≡ answers
+        → All (λ answer. done answer ≡ true) answers
     all_done answers answered k d within =
         let answers_count = ap length (sym answered) ∙ length-map ends.workers.items (λ (e : SeatEnd A). e.answer) in
         let (end, at) = element_within ends.workers.items k (omega (arith, within, answers_count)) in
@@ -205,8 +241,10 @@ module _ {P A : Type 0} (Leaves : P → LiveSide → A → Type 0) (done : A →
         subst (λ (a : A). done a ≡ true) same (sym has.of.is_end.done_is ∙ ap is_some has.same)
 
     module _ (answers : List A) (answered : map (λ (end : SeatEnd A). end.answer) ends.workers.items ≡ answers)
-        {book : BookState} {settled : Settled} (is : IsSettled probes ends.checker book settled) (watched : WatchOutcome A)
-        (totals : AreTotals book.shares watched.totals) (answers_are : watched.answers.items ≡ answers) (report_is : watched.outcome.report ≡ settled.report) (tallies_are : watched.outcome.tallies ≡ settled.tallies) where
+        {book : BookState} {settled : Settled} (is : IsSettled probes ends.checker book settled)
+        (watched : WatchOutcome A)
+        (totals : AreTotals book.shares watched.totals) (answers_are : watched.answers.items ≡ answers) (report_is :
+        watched.outcome.report ≡ settled.report) (tallies_are : watched.outcome.tallies ≡ settled.tallies) where
       n_is : ends.checker.processes ≡ plan.n
       n_is = all_processes are.wired (rw are.inbox at ended.checker)
 
@@ -214,52 +252,67 @@ module _ {P A : Type 0} (Leaves : P → LiveSide → A → Type 0) (done : A →
       watched_is = ended.checker.same_watched ∙ are.watched
 
       -- what was taken of a process are all notes of its probe
-      taken_at : (p : ℕ) (end : SeatEnd A) (has : HasProbe p end) → notes_taken p ends.checker.receipt.taken ≡ has.probe.link.put
+      taken_at : (p : ℕ) (end : SeatEnd A) (has : HasProbe p end)
+          → notes_taken p ends.checker.receipt.taken ≡ has.probe.link.put
       taken_at p end has =
           ap (λ q. notes_taken q ends.checker.receipt.taken) (sym has.of_process.id)
-          ∙ All-at (λ (e : ClosedSide). notes_taken e.id ends.checker.receipt.taken ≡ e.link.put) probes p has.probe is.whole has.probe_at
+          ∙ All-at (λ (e : ClosedSide). notes_taken e.id ends.checker.receipt.taken ≡ e.link.put) probes p has.probe
+          is.whole has.probe_at
 
       answers_count : length watched.answers.items ≡ plan.n
-      answers_count = ap length answers_are ∙ sym (ap length answered) ∙ length-map ends.workers.items (λ (e : SeatEnd A). e.answer) ∙ count
+      answers_count = ap length answers_are ∙ sym (ap length answered)
+          ∙ length-map ends.workers.items (λ (e : SeatEnd A). e.answer) ∙ count
 
-      answer_is : (p : ℕ) (end : SeatEnd A) (answer : A) → slice_get ends.workers.items p ≡ Some end → slice_get watched.answers.items p ≡ Some answer
+      answer_is : (p : ℕ) (end : SeatEnd A) (answer : A) → slice_get ends.workers.items p ≡ Some end
+          → slice_get watched.answers.items p ≡ Some answer
           → end.answer ≡ answer
       answer_is p end answer at answer_at =
           let two : Some end.answer ≡ Some answer =
-          sym (mapped_at (λ (e : SeatEnd A). e.answer) ends.workers.items p end at) ∙ ap (λ (xs : List A). slice_get xs p) (answered ∙ sym answers_are) ∙ answer_at in
+          sym (mapped_at (λ (e : SeatEnd A). e.answer) ends.workers.items p end at)
+          ∙ ap (λ (xs : List A). slice_get xs p) (answered ∙ sym answers_are) ∙ answer_at in
           cc
 
-      ran : (p : ℕ) (process : P) (answer : A) → slice_get processes p ≡ Some process → slice_get watched.answers.items p ≡ Some answer
-          → HasRun Leaves number (setup plan.n plan.watched plan.flag p) process answer (notes_taken p ends.checker.receipt.taken)
+      ran : (p : ℕ) (process : P) (answer : A) → slice_get processes p ≡ Some process
+          → slice_get watched.answers.items p ≡ Some answer
+          → HasRun Leaves number (setup plan.n plan.watched plan.flag p) process answer
+          (notes_taken p ends.checker.receipt.taken)
       ran p process answer process_at answer_at =
-          let (end, at) = element_within ends.workers.items p (omega (arith, slice_get_within watched.answers.items p answer answer_at, answers_count, count)) in
+          let (end, at) = element_within ends.workers.items p
+          (omega (arith, slice_get_within watched.answers.items p answer answer_at, answers_count, count)) in
           let has = has_probe p end at in
           let seat = has.of.seat in
           let has_run =
-          closed_of (λ probe. HasRun Leaves seat.probe.core.watch (setup_of seat.probe.core) seat.process end.answer probe.link.put) has.same has.of.is_end.ran in
+          closed_of (λ probe. HasRun Leaves seat.probe.core.watch
+          (setup_of seat.probe.core) seat.process end.answer probe.link.put) has.same has.of.is_end.ran in
           record {
             probe = has_run.probe;
             of_watch = has_run.of_watch ∙ has.of.of_watch;
             of_process = has_run.of_process ∙ has.of.made;
             leaves = subst (λ (x : P). Leaves x has_run.probe answer) (process_is p end process has.of process_at)
-                (subst (λ (a : A). Leaves seat.process has_run.probe a) (answer_is p end answer at answer_at) has_run.leaves);
+                (subst (λ (a : A). Leaves seat.process has_run.probe a)
+                (answer_is p end answer at answer_at) has_run.leaves);
             some_log = has_run.some_log;
-            emitted = λ log live. taken_at p end has ∙ has_run.emitted log live ∙ ap (λ made. (state_of_log made (log ++ Closed ∷ [])).notes) has.of.made;
+            emitted = λ log live. taken_at p end has ∙ has_run.emitted log live
+                ∙ ap (λ made. (state_of_log made (log ++ Closed ∷ [])).notes) has.of.made;
           }
 
-      tallies : (p : ℕ) → p < plan.n → slice_get watched.outcome.tallies p ≡ Some (tally_of (notes_taken p ends.checker.receipt.taken))
+      tallies : (p : ℕ) → p < plan.n
+          → slice_get watched.outcome.tallies p ≡ Some (tally_of (notes_taken p ends.checker.receipt.taken))
       tallies p below =
           let (end, at) = element_within ends.workers.items p (omega (arith, below, count)) in
           let has = has_probe p end at in
           let tally : ℕ → ℕ → Tally = λ e t. record { emitted = e; taken = t } in
           let there = All-at
-          (λ (e : ClosedSide). slice_get settled.tallies e.id ≡ Some (tally (snapshots_in e.link.put) (snapshots_in (notes_taken e.id ends.checker.receipt.taken))))
+          (λ (e : ClosedSide). slice_get settled.tallies e.id ≡ Some
+          (tally (snapshots_in e.link.put) (snapshots_in (notes_taken e.id ends.checker.receipt.taken))))
           probes p has.probe is.tallies has.probe_at in
           ap (λ (ts : List Tally). slice_get ts p) tallies_are
           ∙ ap (slice_get settled.tallies) (sym has.of_process.id)
           ∙ there
-          ∙ ap (λ notes. Some (tally (snapshots_in notes) (snapshots_in (notes_taken has.probe.id ends.checker.receipt.taken)))) (sym (taken_at p end has))
-          ∙ ap (λ q. Some (tally (snapshots_in (notes_taken p ends.checker.receipt.taken)) (snapshots_in (notes_taken q ends.checker.receipt.taken)))) has.of_process.id
+          ∙ ap (λ notes. Some (tally (snapshots_in notes)
+          (snapshots_in (notes_taken has.probe.id ends.checker.receipt.taken)))) (sym (taken_at p end has))
+          ∙ ap (λ q. Some (tally (snapshots_in (notes_taken p ends.checker.receipt.taken))
+          (snapshots_in (notes_taken q ends.checker.receipt.taken)))) has.of_process.id
 
       pub is_watched : IsWatchOutcome Leaves number plan processes watched
       is_watched = record {
@@ -271,6 +324,8 @@ module _ {P A : Type 0} (Leaves : P → LiveSide → A → Type 0) (done : A →
         exact = rw report_is (rw (n_is, watched_is) at is.exact);
         all_tallies = ap length tallies_are ∙ is.processes ∙ n_is;
         tallies = tallies;
-        emitted_in_all = (is.totals watched.totals totals).0 ∙ ap (sum_by (λ (tally : Tally). tally.emitted)) (sym tallies_are);
-        taken_in_all = (is.totals watched.totals totals).1 ∙ ap (sum_by (λ (tally : Tally). tally.taken)) (sym tallies_are);
+        emitted_in_all = (is.totals watched.totals totals).0
+            ∙ ap (sum_by (λ (tally : Tally). tally.emitted)) (sym tallies_are);
+        taken_in_all = (is.totals watched.totals totals).1
+            ∙ ap (sum_by (λ (tally : Tally). tally.taken)) (sym tallies_are);
       }

@@ -1,5 +1,6 @@
 -- The parts of an opened watch and their ends are its own.
-use Rattle.std.proofs.Common.{◌≡◌, ℕ, false, Option, Some, IfNone, IfSome, List, [], ◌∷◌, ◌++◌, get_or, slice_get, All, refl, sym, ap, subst, ◌∙◌}
+use Rattle.std.proofs.Common.{◌≡◌, ℕ, false, Option, Some, IfNone, IfSome, List, [], ◌∷◌, ◌++◌, get_or, slice_get, All}
+use Rattle.std.proofs.Common.{refl, sym, ap, subst, ◌∙◌}
 use Rattle.std.proofs.lemmas.List.Elements.{All-append, All-cons, All-nil}
 use Rattle.std.proofs.lemmas.Option.{slice_get-get_or}
 use Rattle.wcp_book.specs.State.{BookState}
@@ -22,7 +23,8 @@ use Rattle.wcp_watch.specs.CheckerEnds.{IsEndOfLoop}
 use Rattle.wcp_watch.specs.Settling.{ComeFromWatch, IsSettled}
 use Rattle.wcp_watch.specs.declared.checker_end.CheckerEnd.{CheckerEnd}
 use Rattle.wcp_watch.specs.declared.settled.Settled.{Settled}
-use Rattle.wullaphi.specs.Opened.{AreEndsOf, EndsOfWatch, HasOpened, IsCheckerEndOf, IsCheckerOf, IsFreshWatch, IsOpen, IsProbeEndOf, IsProbeOf, IsRelayEndOf, IsRelayOf, OpenedWatch, no_ends}
+use Rattle.wullaphi.specs.Opened.{AreEndsOf, EndsOfWatch, HasOpened, IsCheckerEndOf, IsCheckerOf, IsFreshWatch, IsOpen}
+use Rattle.wullaphi.specs.Opened.{IsProbeEndOf, IsProbeOf, IsRelayEndOf, IsRelayOf, OpenedWatch, no_ends}
 use Rattle.wullaphi.specs.OwnEnds.{AreSettled}
 
 -- a list with one more at its end
@@ -37,7 +39,8 @@ pushed_more {old = old} {given = given} pushed is same =
 
 -- a watch that was opened with a new checker
 pub fresh_watch : {plan : Plan} {number : ℕ} {tree : Watch} {checker : CheckerState} → IsCheckedPlan plan
-    → IsWired plan number tree → processes checker ≡ plan.n → checker.watched ≡ plan.watched → StandsForItems checker [] → checker.starved ≡ false
+    → IsWired plan number tree → processes checker ≡ plan.n → checker.watched ≡ plan.watched → StandsForItems checker []
+    → checker.starved ≡ false
     → IsFreshWatch (record { plan = plan; tree = tree }) plan.n checker
 fresh_watch {plan} {tree = tree} checked wired count watched empty not_starved = record {
   is_open = record { checked = checked; wired = subst (λ number. IsWired plan number tree) (sym wired.number) wired };
@@ -81,7 +84,8 @@ module _ {opening : Option OpenedWatch} where
   })
 
   pub probe_end_of : {probe : LiveSide} {closed : Option ClosedSide} {end : ClosedSide} → closed ≡ Some end
-      → IfSome closed (λ end. IsEndOfProbe probe end) → HasOpened (IsProbeOf probe) opening → HasOpened (IsProbeEndOf end) opening
+      → IfSome closed (λ end. IsEndOfProbe probe end) → HasOpened (IsProbeOf probe) opening
+      → HasOpened (IsProbeEndOf end) opening
   probe_end_of same closed = probe_end (rw same at closed)
 
   pub relay_end : {relay : Relay} {end : RelayEnd} → number_of end ≡ relay.number → AreReceiptsOf relay end
@@ -94,7 +98,8 @@ module _ {opening : Option OpenedWatch} where
     whole = whole;
   })
 
-  pub checker_end : {inbox : CheckerInbox} {checker : CheckerState} {end : CheckerEnd} → IsEndOfLoop inbox checker.watched end
+  pub checker_end : {inbox : CheckerInbox} {checker : CheckerState} {end : CheckerEnd}
+      → IsEndOfLoop inbox checker.watched end
       → HasOpened (IsCheckerOf inbox checker) opening → HasOpened (IsCheckerEndOf end) opening
   checker_end {end = end} ended =
       follows (λ opened is. rw (is.is_inbox, is.watched) at ended)

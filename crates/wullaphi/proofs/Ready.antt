@@ -13,16 +13,22 @@ use Rattle.wcp_relay.proofs.FreshProbes.{probes_fresh}
 use Rattle.wullaphi.specs.Seats.{ArePartsOf, IsNewSeat}
 use Rattle.wullaphi.specs.declared.seat.Seat.{Seat}
 
-module _ {P : Type 0} {plan : Plan} {number : ℕ} {processes : List P} {parts : Parts (Seat P)} (are : ArePartsOf plan number processes parts) where
+module _ {P : Type 0} {plan : Plan} {number : ℕ} {processes : List P} {parts : Parts (Seat P)}
+    (are : ArePartsOf plan number processes parts) where
   seat_ready : (k : ℕ) (seat : Seat P) → slice_get parts.workers.items k ≡ Some seat → IsNewSeat seat
   seat_ready k seat at =
       let there : slice_get are.watch.probes.items k ≡ Some seat.probe =
-      ap (λ (probes : List LiveSide). slice_get probes k) (sym are.probes) ∙ mapped_at (λ (s : Seat P). s.probe) parts.workers.items k seat at in
+      ap (λ (probes : List LiveSide). slice_get probes k) (sym are.probes)
+      ∙ mapped_at (λ (s : Seat P). s.probe) parts.workers.items k seat at in
       let fresh = (probes_fresh plan number are.watch are.wired).each k seat.probe there in
-      record { fresh = fresh_stands _ (setup plan.n plan.watched plan.flag k) seat.probe fresh.0 fresh.1; put = ap (λ (core : Core). core.pending) fresh.0 }
+      record {
+        fresh = fresh_stands _ (setup plan.n plan.watched plan.flag k) seat.probe fresh.0 fresh.1;
+        put = ap (λ (core : Core). core.pending) fresh.0;
+      }
 
   pub all_ready : AreReady IsNewSeat parts
   all_ready = record {
-    workers = λ k d within. seat_ready k (get_or parts.workers.items k d) (slice_get-get_or parts.workers.items k d within);
+    workers =
+        λ k d within. seat_ready k (get_or parts.workers.items k d) (slice_get-get_or parts.workers.items k d within);
     checking = are.fresh;
   }

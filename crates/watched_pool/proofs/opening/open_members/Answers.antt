@@ -1,4 +1,5 @@
-use Rattle.watched_pool.proofs.Words.{zero, suc, ◌+◌, ◌∷◌, [], All, length, refl, sym, ap, ◌∙◌, subst, arith, length-append, Member, IsReplica}
+use Rattle.watched_pool.proofs.Words.{zero, suc, ◌+◌, ◌∷◌, [], All, length, refl, sym, ap, ◌∙◌, subst, arith}
+use Rattle.watched_pool.proofs.Words.{length-append, Member, IsReplica}
 use Rattle.std.proofs.lemmas.List.Elements.{All-append}
 use Rattle.watched_pool.proofs.opening.open_members.Goals as goal
 
@@ -10,10 +11,13 @@ pub loop-place-preserved : goal.loop-place-preserved
 loop-place-preserved c =
     let old = c.loop-place.invariant in
     record {
-      partners = ap length c.in_ok-push.ensures.items ∙ length-append c.loop-place.partners.items _ ∙ ap (λ k. k + 1) old.partners;
-      members = ap length c.in_ok-push-2.ensures.items ∙ length-append c.loop-place.members.items _ ∙ ap (λ k. k + 1) old.members;
+      partners = ap length c.in_ok-push.ensures.items ∙ length-append c.loop-place.partners.items _
+          ∙ ap (λ k. k + 1) old.partners;
+      members = ap length c.in_ok-push-2.ensures.items ∙ length-append c.loop-place.members.items _
+          ∙ ap (λ k. k + 1) old.members;
       replicas = subst (All (IsReplica c.args.rounds)) (sym c.in_ok-push-2.ensures.items)
-          (All-append (IsReplica c.args.rounds) c.loop-place.members.items _ old.replicas (all_one (IsReplica c.args.rounds) _ refl));
+          (All-append (IsReplica c.args.rounds) c.loop-place.members.items _ old.replicas
+          (all_one (IsReplica c.args.rounds) _ refl));
     }
 
 pub returns : goal.returns

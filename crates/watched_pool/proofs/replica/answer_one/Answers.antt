@@ -8,7 +8,8 @@ returns-in-Ok-send g c =
     record {
       stamp = stamp;
       whole = whole_stamp c.args.probe.now.core (seal_of c.args.stamped) c.in-Ok.ensures.first;
-      same = ap (λ (made : ProbeSetup). made.processes) (c.in-Ok-stamp.ensures.same ∙ c.observe.ensures.same ∙ c.in-Ok.ensures.same);
+      same = ap (λ (made : ProbeSetup). made.processes)
+          (c.in-Ok-stamp.ensures.same ∙ c.observe.ensures.same ∙ c.in-Ok.ensures.same);
       stands = third_call _ _ _ (Received stamp) (Observed true) Sent
           (two_calls _ _ _ (Received stamp) (Observed true) c.in-Ok.ensures.accepted c.observe.ensures.accepted)
           c.in-Ok-stamp.ensures.accepted;

@@ -8,11 +8,16 @@ use Rattle.wcp_c.proofs.checker.wcp_checker_report.Goals as goal
 pub returns-clause-exact : goal.returns-clause-exact
 returns-clause-exact c =
     let teller = c.deref.result.now in
-    rw c.in-Some.ensures.some (subst (λ (s : CheckerState). s.starved ≡ false → (items : List Item) → StandsForItems s items → ClocksRise (processes s) items → IsReportByClocks (processes s) s.watched items (report_of s)) c.deref.ensures
-    (λ unstarved items stands rising. subst (λ (r : Report). IsReportByClocks (processes teller) teller.watched items r) c.report.ensures.value (c.report.ensures.exact unstarved items stands rising)))
+    rw c.in-Some.ensures.some
+    (subst (λ (s : CheckerState). s.starved ≡ false → (items : List Item) → StandsForItems s items
+    → ClocksRise (processes s) items → IsReportByClocks (processes s) s.watched items (report_of s)) c.deref.ensures
+    (λ unstarved items stands rising. subst (λ (r : Report). IsReportByClocks (processes teller) teller.watched items r)
+    c.report.ensures.value (c.report.ensures.exact unstarved items stands rising)))
 
 pub returns-clause-any_clocks : goal.returns-clause-any_clocks
 returns-clause-any_clocks c =
     let teller = c.deref.result.now in
-    rw c.in-Some.ensures.some (subst (λ (s : CheckerState). s.starved ≡ false → (items : List Item) → StandsForItems s items → IsReportOfAnyClocks (processes s) s.watched items (report_of s)) c.deref.ensures
-    (λ unstarved items stands. subst (λ (r : Report). IsReportOfAnyClocks (processes teller) teller.watched items r) c.report.ensures.value (c.report.ensures.any_clocks unstarved items stands)))
+    rw c.in-Some.ensures.some (subst (λ (s : CheckerState). s.starved ≡ false → (items : List Item)
+    → StandsForItems s items → IsReportOfAnyClocks (processes s) s.watched items (report_of s)) c.deref.ensures
+    (λ unstarved items stands. subst (λ (r : Report). IsReportOfAnyClocks (processes teller) teller.watched items r)
+    c.report.ensures.value (c.report.ensures.any_clocks unstarved items stands)))

@@ -13,7 +13,9 @@ returns-clause-answer c =
       replies = played.replies.items;
       outcome = record { report = played.report; tallies = played.tallies };
       spelled = c.in_ok-schedule.ensures.spelled;
-      played = subst (λ steps. IsPlayed schedule.plan steps played.replies.items played.report played.tallies) c.as_slice.ensures.value c.in_ok-played.ensures;
-      print = c.in_ok-replay_text.ensures ∙ ap (λ replies. replay_text replies (record { report = played.report; tallies = played.tallies })) c.as_slice-2.ensures.value;
+      played = subst (λ steps. IsPlayed schedule.plan steps played.replies.items played.report played.tallies)
+          c.as_slice.ensures.value c.in_ok-played.ensures;
+      print = c.in_ok-replay_text.ensures ∙ ap (λ replies. replay_text replies
+          (record { report = played.report; tallies = played.tallies })) c.as_slice-2.ensures.value;
       status_is = c.status_of.ensures.value;
     }

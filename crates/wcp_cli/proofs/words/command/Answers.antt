@@ -1,4 +1,5 @@
-use Rattle.wcp_cli.proofs.Imports.{rules, ◌≡◌, ◌∙◌, ap₂, codes, IfOk-weaker, app_of, shape_of, with_subcommand, new_shape, named}
+use Rattle.wcp_cli.proofs.Imports.{rules, ◌≡◌, ◌∙◌, ap₂, codes, IfOk-weaker, app_of, shape_of, with_subcommand}
+use Rattle.wcp_cli.proofs.Imports.{new_shape, named}
 use Rattle.wcp_cli.proofs.words.command.Goals as goal
 
 pub returns : goal.returns
@@ -10,4 +11,5 @@ returns c =
     let first = c.in_ok-subcommand.ensures.shape (search rules) ∙ ap₂ with_subcommand start_is single_is in
     let second = c.in_ok-subcommand-2.ensures.shape (search rules) ∙ ap₂ with_subcommand first run_is in
     let third = c.in_ok-subcommand-3.ensures.shape (search rules) ∙ ap₂ with_subcommand second replay_is in
-    IfOk-weaker c.subcommand-4.result _ _ (λ r adds. adds.shape (search rules) ∙ ap₂ with_subcommand third c.in_ok-ring.ensures.shape) c.subcommand-4.ensures
+    IfOk-weaker c.subcommand-4.result _ _ (λ r adds. adds.shape (search rules)
+    ∙ ap₂ with_subcommand third c.in_ok-ring.ensures.shape) c.subcommand-4.ensures

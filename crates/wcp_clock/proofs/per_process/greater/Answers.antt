@@ -9,9 +9,11 @@ loop-place-preserved c = record {
   done = below_more _ _
       (λ k h. let ne : k ≢ c.loop-place.place = omega arith in rw get_or-set_other (c.loop-place.invariant.done k h))
       (let lt : c.loop-place.place < length c.loop-place.greater = omega arith in
-      let kept : get_or c.loop-place.greater c.loop-place.place 0 ≡ get_or c.args.mine.now c.loop-place.place 0 = c.loop-place.invariant.left c.loop-place.place (omega arith) in
+      let kept : get_or c.loop-place.greater c.loop-place.place 0 ≡ get_or c.args.mine.now c.loop-place.place 0 =
+      c.loop-place.invariant.left c.loop-place.place (omega arith) in
       rw get_or-set_same (cc c.max.ensures));
-  left = λ k h. let ne : k ≢ c.loop-place.place = omega arith in rw get_or-set_other (c.loop-place.invariant.left k (omega arith));
+  left = λ k h. let ne : k ≢ c.loop-place.place = omega arith in
+      rw get_or-set_other (c.loop-place.invariant.left k (omega arith));
 }
 
 pub returns : goal.returns

@@ -1,4 +1,6 @@
-use Rattle.wcp_lane.proofs.Words.{◌≡◌, ◌+◌, not, ◌||◌, take, map, List, sym, ap, ◌∙◌, arith, [], ◌∷◌, ◌++◌, nat_cmp_total, flat_map, common_steps, take_all, map-append, list_any_more, Numbers, lane_of, unowned_by, put_by, new_putter, PutEnd}
+use Rattle.wcp_lane.proofs.Words.{◌≡◌, ◌+◌, not, ◌||◌, take, map, List, sym, ap, ◌∙◌, arith, [], ◌∷◌, ◌++◌}
+use Rattle.wcp_lane.proofs.Words.{nat_cmp_total, flat_map, common_steps, take_all, map-append, list_any_more, Numbers}
+use Rattle.wcp_lane.proofs.Words.{lane_of, unowned_by, put_by, new_putter, PutEnd}
 use Rattle.std.specs.FinSet as set
 use Rattle.wcp_lane.proofs.Counting.{counts_of_none}
 use Rattle.wcp_lane.proofs.Sets.{any_has, none_before, within_read, rest_of}
@@ -20,7 +22,8 @@ loop-numbers-init g c =
 
 pub give-own-requires-clause-among : goal.give-own-requires-clause-among
 give-own-requires-clause-among g c = λ p below member.
-    c.loop-numbers.invariant.rest p below ∙ ap not (none_before _ _ _ c.requires.apart c.loop-numbers-test.true c.numbers-item.is p member)
+    c.loop-numbers.invariant.rest p below
+    ∙ ap not (none_before _ _ _ c.requires.apart c.loop-numbers-test.true c.numbers-item.is p member)
 
 pub invariant_of-push : goal.invariant_of-push
 invariant_of-push g c =
@@ -41,7 +44,8 @@ loop-numbers-preserved g c =
     let left = c.give-own.ensures.taker in
     let given = c.give-own.ensures.putter in
     let more : take (k + 1) member_sets ≡ take k member_sets ++ numbers ∷ [] = grind (arith, common_steps) in
-    let new : List Numbers → List (PutEnd g.row.M.Denot g.row.M-Item.Denot) = map (new_putter (lane_of c.give-own.new.pass)) in
+    let new : List Numbers
+    → List (PutEnd g.row.M.Denot g.row.M-Item.Denot) = map (new_putter (lane_of c.give-own.new.pass)) in
     record {
       seat = seat;
       knows = rw left;
@@ -49,11 +53,18 @@ loop-numbers-preserved g c =
           ap (λ v. set.contains (unowned_by v) p) left
           ∙ set.contains-difference nat_cmp_total _ numbers p
           ∙ rest_of _ _ (set.contains numbers p) (old.rest p below)
-          ∙ ap not (sym (list_any_more (λ (s : Numbers). set.contains s p) member_sets k numbers c.loop-numbers-test.true ∙ (λ i. any_has p (take k member_sets) || set.contains (sym c.numbers-item.is i) p)));
+          ∙ ap not
+          (sym (list_any_more (λ (s : Numbers). set.contains s p) member_sets k numbers c.loop-numbers-test.true
+          ∙ (λ i. any_has p (take k member_sets) || set.contains (sym c.numbers-item.is i) p)));
       made =
           c.in_ok-push.ensures.items
-          ∙ (λ i. (old.made ∙ (λ j. map (new_putter ((old.seat.0 ∙ sym seat.0) j, (old.seat.1 ∙ sym seat.1) j)) (take k member_sets))) i
-          ++ record { lane = ((own.0 ∙ sym seat.0) i, (own.1 ∙ sym seat.1) i); members = numbers; put = flat_map g.M.Origin.items (put_by (given i)) } ∷ [])
+          ∙ (λ i. (old.made ∙ (λ j. map (new_putter ((old.seat.0 ∙ sym seat.0) j, (old.seat.1 ∙ sym seat.1) j))
+          (take k member_sets))) i
+          ++ record {
+            lane = ((own.0 ∙ sym seat.0) i, (own.1 ∙ sym seat.1) i);
+            members = numbers;
+            put = flat_map g.M.Origin.items (put_by (given i));
+          } ∷ [])
           ∙ sym (ap new more ∙ map-append _ (take k member_sets) (numbers ∷ []));
     }
 
@@ -62,6 +73,7 @@ invariant_of-taker g c =
     let old = c.loop-numbers.invariant in (
       rw (c.in_ok-sender.ensures.0) old.seat,
       rw old.knows,
-      λ p below. old.rest p below ∙ ap not (ap (any_has p) (take_all _ _ c.loop-numbers-test.false) ∙ sym (c.requires.all p)),
+      λ p below. old.rest p below
+          ∙ ap not (ap (any_has p) (take_all _ _ c.loop-numbers-test.false) ∙ sym (c.requires.all p)),
       counts_of_none g.M.Origin.origin _ (rw old.knows),
     )

@@ -10,8 +10,12 @@ pub loop-member-preserved : goal.loop-member-preserved
 loop-member-preserved c = elim c.if-eq.branch [
   | then-eq w ↦
       w.number-is ∙ w.max-number.ensures
-      ∙ number_same c.args.host.now c.args.clock.now c.loop-member.member-index c.member-item.result c.as_str.result.now c.loop-member.number c.loop-member-test.true c.member-item.is c.as_str.ensures.value (sym w.if-eq.true ∙ c.eq.ensures) c.loop-member.invariant
+      ∙ number_same c.args.host.now c.args.clock.now c.loop-member.member-index c.member-item.result c.as_str.result.now
+      c.loop-member.number c.loop-member-test.true c.member-item.is c.as_str.ensures.value
+      (sym w.if-eq.true ∙ c.eq.ensures) c.loop-member.invariant
   | else-eq w ↦
       w.number-is
-      ∙ number_other c.args.host.now c.args.clock.now c.loop-member.member-index c.member-item.result c.as_str.result.now c.loop-member.number c.loop-member-test.true c.member-item.is c.as_str.ensures.value (sym w.if-eq.false ∙ c.eq.ensures) c.loop-member.invariant
+      ∙ number_other c.args.host.now c.args.clock.now c.loop-member.member-index c.member-item.result
+      c.as_str.result.now c.loop-member.number c.loop-member-test.true c.member-item.is c.as_str.ensures.value
+      (sym w.if-eq.false ∙ c.eq.ensures) c.loop-member.invariant
 ]

@@ -1,4 +1,5 @@
-use Rattle.wcp_order.proofs.Words.{false, get_or, arith, refl, subst, both_ways, false≢true, take_all, take_more, slice_get-get_or, Observe, Task, IsFitOrder}
+use Rattle.wcp_order.proofs.Words.{false, get_or, arith, refl, subst, both_ways, false≢true, take_all, take_more}
+use Rattle.wcp_order.proofs.Words.{slice_get-get_or, Observe, Task, IsFitOrder}
 use Rattle.wcp_order.proofs.Counting.{none_done, done_more, ready_if_fit}
 use Rattle.wcp_order.proofs.listing.follows.Goals as goal
 
@@ -17,7 +18,8 @@ returns-then-not-is_ready c =
     let at = slice_get-get_or tasks place none c.loop-task-test.true in (
       λ holds. absurd (false≢true holds),
       λ fit. absurd (both_ways c.is_ready.result c.if-not-is_ready.true (c.is_ready.ensures.1
-          (ready_if_fit c.args.n tasks place c.loop-task.in_transit c.requires.within c.loop-task.invariant fit task.p task.action at))),
+          (ready_if_fit c.args.n tasks place c.loop-task.in_transit c.requires.within c.loop-task.invariant fit task.p
+          task.action at))),
     )
 
 pub loop-task-preserved : goal.loop-task-preserved

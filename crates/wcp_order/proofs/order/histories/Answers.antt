@@ -9,6 +9,8 @@ loop-task-preserved c =
     let inside = c.loop-task-test.true in
     record {
       processes = length-set c.loop-task.histories.items _ c.push-in-loop-task.new.self ∙ before.processes;
-      tasks = one_more_listed c.args.n c.args.tasks.now c.loop-task.task-index none inside c.loop-task.histories.items before.processes before.tasks
-          c.index_mut.result.now c.push-in-loop-task.new.self (c.requires c.loop-task.task-index none inside).0 c.index_mut.ensures.value c.in_ok-push-2.ensures.items;
+      tasks = one_more_listed c.args.n c.args.tasks.now c.loop-task.task-index none inside c.loop-task.histories.items
+          before.processes before.tasks
+          c.index_mut.result.now c.push-in-loop-task.new.self
+          (c.requires c.loop-task.task-index none inside).0 c.index_mut.ensures.value c.in_ok-push-2.ensures.items;
     }

@@ -17,12 +17,19 @@ loop-progress-init c =
 
 pub round-requires-clause-histories : goal.round-requires-clause-histories
 round-requires-clause-histories c = λ p below.
-    rw (c.deref.ensures.value, c.in_ok-histories.ensures.tasks p below) (IsHistory_filter c.args.n p c.args.tasks.now c.requires.within)
+    rw (c.deref.ensures.value, c.in_ok-histories.ensures.tasks p below)
+    (IsHistory_filter c.args.n p c.args.tasks.now c.requires.within)
 
 pub loop-progress-smaller : goal.loop-progress-smaller
 loop-progress-smaller c =
-    let grown : HasGrown c.loop-progress.progress c.round.new.self = rw c.if-branch.true at c.in_ok-round.ensures.grown in
-    omega (arith, grown, length_order-le c.args.n c.args.tasks.now _ _ _ c.requires.within (sound (goal.at.loop-progress-smaller c).In_ok-round))
+    let grown : HasGrown c.loop-progress.progress c.round.new.self =
+    rw c.if-branch.true at c.in_ok-round.ensures.grown in
+    omega (
+      arith,
+      grown,
+      length_order-le c.args.n c.args.tasks.now _ _ _ c.requires.within (sound
+          (goal.at.loop-progress-smaller c).In_ok-round),
+    )
 
 pub conclude-requires-clause-sound : goal.conclude-requires-clause-sound
 conclude-requires-clause-sound c = sound (goal.at.conclude-requires-clause-sound c).In_ok-round

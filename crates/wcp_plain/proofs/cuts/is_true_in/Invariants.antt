@@ -5,5 +5,6 @@ abbrev pub invariant-loop-step : goal.invariant-loop-step
 invariant-loop-step l =
     record {
       current : l.current ≡ interval_at l.steps l.process l.step-index;
-      none : (place : ℕ) → place < l.step-index → IsTrueAt l.steps (record { process = l.process; interval = l.interval }) place → ⊥;
+      none : (place : ℕ) → place < l.step-index
+          → IsTrueAt l.steps (record { process = l.process; interval = l.interval }) place → ⊥;
     }

@@ -51,17 +51,20 @@ loop-preserved-then-last g c =
     let kept = c.in_ok-bundle.ensures.same in
     let items = c.in-Some-2.bundle in
     let got = if_some _ _ _ c.in-Some-2.is c.in_ok-bundle.ensures.some in
-    let more = ended_more c.loop.ended c.loop.taker c.next_bundle.new.taker items c.last_item-end.ensures.0 c.last_item-end.result old.ended got.0 got.1 c.last_item-end.ensures.1 (sym c.last.ensures ∙ c.if-last.true) in
+    let more = ended_more c.loop.ended c.loop.taker c.next_bundle.new.taker items c.last_item-end.ensures.0
+    c.last_item-end.result old.ended got.0 got.1 c.last_item-end.ensures.1 (sym c.last.ensures ∙ c.if-last.true) in
     record {
       goes_on = tt;
       ends = tt;
-      work = inner_taken c.loop.taker c.next_bundle.new.taker c.loop.outlet c.accept_all.new.self items old.work got.1 same
+      work =
+          inner_taken c.loop.taker c.next_bundle.new.taker c.loop.outlet c.accept_all.new.self items old.work got.1 same
           c.accept_all.ensures.sound c.accept_all.ensures.faithful;
       taker = (kept.0 ∙ old.taker.0, kept.1 ∙ old.taker.1);
       outlet = (same.0 ∙ old.outlet.0, same.1 ∙ old.outlet.1);
       below = old.below ∙ sym same.1;
       within = old.within;
-      ended = subst (λ (s : Numbers). AreEnded s (λ p. items_of p c.next_bundle.new.taker.taken)) (sym c.with-ended.ensures) more;
+      ended = subst (λ (s : Numbers). AreEnded s (λ p. items_of p c.next_bundle.new.taker.taken))
+          (sym c.with-ended.ensures) more;
       finished = c.are_among-finished-then-last.ensures.among.0;
     }
 
@@ -75,7 +78,8 @@ loop-preserved g c =
     record {
       goes_on = tt;
       ends = tt;
-      work = inner_taken c.loop.taker c.next_bundle.new.taker c.loop.outlet c.accept_all.new.self items old.work got.1 same
+      work =
+          inner_taken c.loop.taker c.next_bundle.new.taker c.loop.outlet c.accept_all.new.self items old.work got.1 same
           c.accept_all.ensures.sound c.accept_all.ensures.faithful;
       taker = (kept.0 ∙ old.taker.0, kept.1 ∙ old.taker.1);
       outlet = (same.0 ∙ old.outlet.0, same.1 ∙ old.outlet.1);
@@ -96,5 +100,7 @@ with-ended-requires g c =
     let old = c.loop.invariant in
     let end = c.last_item-end in
     let got = if_some _ _ _ c.in-Some-2.is c.in_ok-bundle.ensures.some in
-    let own = follow_owned c.loop.taker.members c.loop.taker.taken c.in-Some-2.bundle end.ensures.0 end.result got.0 end.ensures.1 in
-    old.within end.result.from (ap (λ (s : Numbers). set.contains s end.result.from) old.below ∙ old.work.among end.result.from own)
+    let own = follow_owned c.loop.taker.members c.loop.taker.taken c.in-Some-2.bundle end.ensures.0 end.result got.0
+    end.ensures.1 in
+    old.within end.result.from
+    (ap (λ (s : Numbers). set.contains s end.result.from) old.below ∙ old.work.among end.result.from own)

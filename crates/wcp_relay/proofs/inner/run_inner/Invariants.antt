@@ -1,4 +1,5 @@
-use Rattle.wcp_relay.proofs.Words.{◌≡◌, ℕ, true, AreProcessNumbers, items_of, IsInnerAtWork, IsSameOutlet, IsSameTaker, AreEnded}
+use Rattle.wcp_relay.proofs.Words.{◌≡◌, ℕ, true, AreProcessNumbers, items_of, IsInnerAtWork, IsSameOutlet, IsSameTaker}
+use Rattle.wcp_relay.proofs.Words.{AreEnded}
 use Rattle.std.specs.FinSet as set
 use Rattle.wcp_relay.proofs.inner.run_inner.Given as goal
 

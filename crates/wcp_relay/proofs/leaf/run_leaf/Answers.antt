@@ -33,8 +33,10 @@ pub returns-clause-work : goal.returns-clause-work
 returns-clause-work g c =
     let work : IsLeafAtWork c.match-next.feeds c.match-next.outlet =
     elim c.match-next.branch [
-      | in-None w ↦ subst (λ (v : List Feed × Outlet). IsLeafAtWork v.0 v.1) (λ i. (sym w.feeds-is i, sym w.outlet-is i)) c.loop.invariant.work
-      | in-Some+in_ok-any+then-all w ↦ subst (λ (v : List Feed × Outlet). IsLeafAtWork v.0 v.1) (λ i. (sym w.feeds-is i, sym w.outlet-is i)) w.in_ok-any.ensures.work
+      | in-None w ↦ subst (λ (v : List Feed × Outlet). IsLeafAtWork v.0 v.1)
+          (λ i. (sym w.feeds-is i, sym w.outlet-is i)) c.loop.invariant.work
+      | in-Some+in_ok-any+then-all w ↦ subst (λ (v : List Feed × Outlet). IsLeafAtWork v.0 v.1)
+          (λ i. (sym w.feeds-is i, sym w.outlet-is i)) w.in_ok-any.ensures.work
     ] in
     leaf_passed c.match-next.feeds c.match-next.outlet c.pass_on-2.new.self work
     c.pass_on-2.ensures.same c.pass_on-2.ensures.sound c.pass_on-2.ensures.handed

@@ -4,5 +4,6 @@ use Rattle.wcp_report.proofs.report_lines.push_processes.Goals as goal
 
 pub loop-p-preserved : goal.loop-p-preserved
 loop-p-preserved c =
-    line_more (string_bytes c.loop-p.text) (string_bytes c.writeln.new.self) _ c.args.tallies.now c.loop-p.p-counter c.get-tally.result
+    line_more (string_bytes c.loop-p.text)
+    (string_bytes c.writeln.new.self) _ c.args.tallies.now c.loop-p.p-counter c.get-tally.result
     c.get-tally.ensures.there c.in_ok-writeln.ensures.bytes c.loop-p.invariant

@@ -4,7 +4,8 @@ use Rattle.wcp_relay.proofs.FreshProbes.{probes_fresh}
 use Rattle.wcp_run.proofs.opening.open_parts.Goals as goal
 
 pub open_workers-requires-clause-probes : goal.open_workers-requires-clause-probes
-open_workers-requires-clause-probes c = probes_fresh c.args.workload.now.plan 0 c.in_ok-probes.field-0 c.in_ok-probes.ensures
+open_workers-requires-clause-probes c =
+    probes_fresh c.args.workload.now.plan 0 c.in_ok-probes.field-0 c.in_ok-probes.ensures
 
 pub new-requires-clause-watched : goal.new-requires-clause-watched
 new-requires-clause-watched c = some_watched c.args.workload.now.plan c.requires.checked

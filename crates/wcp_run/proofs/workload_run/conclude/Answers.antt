@@ -24,4 +24,5 @@ returns-in-Ok-clause-outcome c = λ plan tasks run.
 
 pub returns-in-Some-clause-first : goal.returns-in-Some-clause-first
 returns-in-Some-clause-first c = λ first is.
-    ap Err (first_unique (IsReasonOf c.args.ends) (run_reasons (length c.args.ends.workers.items)) c.in-Some.fault first c.in-Some.ensures.first is)
+    ap Err (first_unique (IsReasonOf c.args.ends)
+    (run_reasons (length c.args.ends.workers.items)) c.in-Some.fault first c.in-Some.ensures.first is)

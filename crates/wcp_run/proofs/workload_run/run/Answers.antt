@@ -1,4 +1,5 @@
-use Rattle.wcp_run.proofs.Words.{List, get_or, slice_get-get_or, Plan, Task, Worker, WorkerEnd, IsEndOfWorker, Ends, AreEndsOfRun, ArePartsOf}
+use Rattle.wcp_run.proofs.Words.{List, get_or, slice_get-get_or, Plan, Task, Worker, WorkerEnd, IsEndOfWorker, Ends}
+use Rattle.wcp_run.proofs.Words.{AreEndsOfRun, ArePartsOf}
 use Rattle.std.proofs.lemmas.Result.{IfOk-weaker}
 use Rattle.wcp_model.specs.PlanFault.{IsCheckedPlan}
 use Rattle.wcp_model.specs.WorkloadComputation.{CouldBeRead}
@@ -7,7 +8,8 @@ use Rattle.wcp_watch.specs.RunParts.{HaveEnded}
 use Rattle.wcp_run.proofs.workload_run.run.Goals as goal
 
 -- the ends of opened parts are those of the run
-ends_of_run : {plan : Plan} {tasks : List Task} {parts : Parts Worker} {ends : Ends WorkerEnd} → CouldBeRead plan.n tasks → IsCheckedPlan plan
+ends_of_run : {plan : Plan} {tasks : List Task} {parts : Parts Worker} {ends : Ends WorkerEnd}
+    → CouldBeRead plan.n tasks → IsCheckedPlan plan
     → ArePartsOf plan tasks parts → HaveEnded IsEndOfWorker parts ends → AreEndsOfRun plan tasks ends
 ends_of_run {parts = parts} read checked are ended =
     record { checked = checked; within = read.within; parts = parts; are = are; ended = ended }

@@ -3,4 +3,5 @@ use Rattle.wcp_script.proofs.number.value.Given as goal
 
 abbrev pub invariant-loop-byte : goal.invariant-loop-byte
 invariant-loop-byte l =
-    AllDigits 10 (take l.byte-index l.digits) × (l.value ≡ digits_value 10 (take l.byte-index l.digits)) × (l.value < 2 ^ 32)
+    AllDigits 10 (take l.byte-index l.digits) × (l.value ≡ digits_value 10 (take l.byte-index l.digits))
+    × (l.value < 2 ^ 32)

@@ -9,7 +9,8 @@ loop-rest-preserved c =
     record {
       few = omega (arith, c.len.ensures, c.loop-rest-test.true, pushed.len);
       so_far = λ last. rw pushed.items
-          (steps_behind_task c.args.n last c.loop-rest.tasks.items c.in-Some.task c.loop-rest.rest.now c.in-Some.after.now found.line found.within c.requires.few
+          (steps_behind_task c.args.n last c.loop-rest.tasks.items c.in-Some.task c.loop-rest.rest.now
+          c.in-Some.after.now found.line found.within c.requires.few
           (omega (arith, c.len.ensures, c.loop-rest-test.true))
           ∙ c.loop-rest.invariant.so_far last);
       shorter = grind (arith, length-append);

@@ -6,4 +6,5 @@ use Rattle.wcp_script.proofs.schedule_line.step_in.Goals as goal
 
 pub returns-in-Three : goal.returns-in-Three
 returns-in-Three c =
-    step_in_is (seen_line c.args.line) _ c.step_of_two.result (ask_ok c.args.line.ended kind.Line tt (sym c.in_ok-ask.ensures)) c.in-Three.ensures c.step_of_two.ensures
+    step_in_is (seen_line c.args.line) _ c.step_of_two.result
+    (ask_ok c.args.line.ended kind.Line tt (sym c.in_ok-ask.ensures)) c.in-Three.ensures c.step_of_two.ensures

@@ -12,7 +12,8 @@ lay_out-requires c =
       few_tasks = order_few n tasks order c.requires.read c.requires.fit;
       within = order_within n tasks order c.requires.read c.requires.fit;
       fit = order_fit n tasks order c.requires.read c.requires.fit;
-      cut = rw c.cut_of-cut.ensures (may_split n c.args.workload.now.plan.watched order c.in_ok-outcome.outcome.report report);
+      cut = rw c.cut_of-cut.ensures
+          (may_split n c.args.workload.now.plan.watched order c.in_ok-outcome.outcome.report report);
     }
 
 pub draw-requires : goal.draw-requires

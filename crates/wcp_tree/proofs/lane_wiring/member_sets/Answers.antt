@@ -7,7 +7,8 @@ overflow_cast-relay c = omega (arith, few_relays c.args.plan.now c.requires)
 
 pub loop-relay-preserved : goal.loop-relay-preserved
 loop-relay-preserved c =
-    let more = one_member_set_more c.args.plan.now c.args.owner c.loop-relay.member_sets.items c.loop-relay.relay c.member_set.result
+    let more = one_member_set_more c.args.plan.now c.args.owner c.loop-relay.member_sets.items c.loop-relay.relay
+    c.member_set.result
     c.loop-relay.invariant.count c.loop-relay.invariant.each c.member_set.ensures in
     record {
       count = ap length c.in_ok-push.ensures.items

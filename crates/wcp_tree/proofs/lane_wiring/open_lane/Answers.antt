@@ -1,4 +1,5 @@
-use Rattle.wcp_tree.proofs.Words.{◌≡◌, ◌≤◌, List, map, sym, ap, subst, ◌∙◌, lit≤, arith, list_any, most_cap, most_lane, new_putter, AreMemberSets, IsFirstLaneFault, Numbers, some_relays, capacity}
+use Rattle.wcp_tree.proofs.Words.{◌≡◌, ◌≤◌, List, map, sym, ap, subst, ◌∙◌, lit≤, arith, list_any, most_cap, most_lane}
+use Rattle.wcp_tree.proofs.Words.{new_putter, AreMemberSets, IsFirstLaneFault, Numbers, some_relays, capacity}
 use Rattle.std.specs.FinSet as set
 use Rattle.wcp_lane.specs.declared.fault.LaneFault.{LaneFault}
 use Rattle.wcp_lane.specs.declared.fault.LaneFault.TheVariants.{Cap, MemberSets}
@@ -8,10 +9,12 @@ use Rattle.wcp_tree.proofs.lane_wiring.open_lane.Goals as goal
 pub returns-in-Ok-clause-seated : goal.returns-in-Ok-clause-seated
 returns-in-Ok-clause-seated c = λ relay child.
     let ends : c.in-Ok.putters.items ≡ map (new_putter c.in-Ok.taker.lane) c.in_ok-member_sets.member_sets.items =
-    c.in-Ok.ensures.putters ∙ ap (λ (sets : List Numbers). map (new_putter c.in-Ok.taker.lane) sets) c.deref.ensures.value in
+    c.in-Ok.ensures.putters
+    ∙ ap (λ (sets : List Numbers). map (new_putter c.in-Ok.taker.lane) sets) c.deref.ensures.value in
     let seat =
     seats_of_member_sets c.args.plan.now c.args.owner c.requires.checked c.in_ok-member_sets.member_sets.items
-    c.in_ok-member_sets.ensures.all c.in_ok-member_sets.ensures.sets c.in-Ok.taker.lane c.in-Ok.putters.items ends relay child in
+    c.in_ok-member_sets.ensures.all c.in_ok-member_sets.ensures.sets c.in-Ok.taker.lane c.in-Ok.putters.items ends relay
+    child in
     (seat.0, c.seat.ensures.seated relay seat.0 child seat.1, seat.2)
 
 pub returns-in-Ok-clause-members : goal.returns-in-Ok-clause-members
@@ -40,5 +43,6 @@ unreachable-requires-in-Err-MemberSets c =
     let apart =
     member_sets_apart c.args.plan.now c.args.owner c.requires.checked c.in_ok-member_sets.member_sets.items
     c.in_ok-member_sets.ensures.all c.in_ok-member_sets.ensures.sets in
-    let are : AreMemberSets c.in_ok-member_sets.member_sets.items = (omega (arith, some, c.in_ok-member_sets.ensures.all), apart) in
+    let are : AreMemberSets c.in_ok-member_sets.member_sets.items =
+    (omega (arith, some, c.in_ok-member_sets.ensures.all), apart) in
     none.holds (subst (λ (sets : List Numbers). AreMemberSets sets) (sym c.deref.ensures.value) are)

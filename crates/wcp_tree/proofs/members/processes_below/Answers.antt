@@ -1,4 +1,5 @@
-use Rattle.wcp_tree.proofs.Words.{◌+◌, ◌<◌, true≢false, sym, subst, ◌∙◌, arith, Numbers, IsBelow, few_processes, attached_exists}
+use Rattle.wcp_tree.proofs.Words.{◌+◌, ◌<◌, true≢false, sym, subst, ◌∙◌, arith, Numbers, IsBelow, few_processes}
+use Rattle.wcp_tree.proofs.Words.{attached_exists}
 use Rattle.wcp_tree.proofs.Gathering.{HasAllBelow, none_below, one_more, no_more}
 use Rattle.wcp_tree.proofs.members.processes_below.Goals.{then-is_below, else-is_below}
 use Rattle.wcp_tree.proofs.members.processes_below.Goals as goal

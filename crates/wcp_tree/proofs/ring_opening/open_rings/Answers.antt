@@ -1,4 +1,5 @@
-use Rattle.wcp_tree.proofs.Words.{fresh_core, ◌≡◌, ◌+◌, ◌++◌, ◌∷◌, [], List, Option, Some, sym, ap, subst, ◌∙◌, PutSide, TakeSide, LiveSide, AreRings, capacity, few_processes}
+use Rattle.wcp_tree.proofs.Words.{fresh_core, ◌≡◌, ◌+◌, ◌++◌, ◌∷◌, [], List, Option, Some, sym, ap, subst, ◌∙◌, PutSide}
+use Rattle.wcp_tree.proofs.Words.{TakeSide, LiveSide, AreRings, capacity, few_processes}
 use Rattle.wcp_tree.proofs.OpeningRings.{one_ring_more}
 use Rattle.wcp_tree.proofs.ring_opening.open_rings.Goals as goal
 
@@ -26,7 +27,8 @@ loop-p-preserved c =
     ∙ (sym c.in_ok-putter.ensures.one_ring ∙ sym (ap (λ (s : PutSide). s.ring) link)))
     (ap (λ (s : TakeSide). s.taken) c.in_ok-taker.ensures ∙ c.in_ok-putter.ensures.taker.0) in
     subst
-    (λ (takers : List (Option TakeSide)). AreRings c.args.plan.now c.args.watch (c.loop-p.p + 1) c.push.new.self.items takers)
+    (λ (takers : List (Option TakeSide)). AreRings c.args.plan.now c.args.watch
+    (c.loop-p.p + 1) c.push.new.self.items takers)
     (sym c.in_ok-push-2.ensures.items)
     (subst
     (λ (probes : List LiveSide). AreRings c.args.plan.now c.args.watch (c.loop-p.p + 1) probes

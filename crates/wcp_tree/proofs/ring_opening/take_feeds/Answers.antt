@@ -1,4 +1,5 @@
-use Rattle.wcp_tree.proofs.Words.{◌≡◌, ◌≢◌, ◌++◌, ◌∷◌, [], Option, Some, None, Vec, Global, sym, ap, subst, ◌∙◌, slice_set, leaf_of, TakeSide, Feed, IsTakerAt, is_its_number, is_not_its_number}
+use Rattle.wcp_tree.proofs.Words.{◌≡◌, ◌≢◌, ◌++◌, ◌∷◌, [], Option, Some, None, Vec, Global, sym, ap, subst, ◌∙◌}
+use Rattle.wcp_tree.proofs.Words.{slice_set, leaf_of, TakeSide, Feed, IsTakerAt, is_its_number, is_not_its_number}
 use Rattle.wcp_tree.proofs.OpeningRings.{its_taker, not_taken, one_taken}
 use Rattle.wcp_tree.proofs.ring_opening.take_feeds.Goals.{then-is_attached+in-Some+in_ok-push-in-Some, else-is_attached}
 use Rattle.wcp_tree.proofs.ring_opening.take_feeds.Goals as goal

@@ -1,4 +1,6 @@
-use Rattle.wcp_tree.proofs.Words.{◌≡◌, Some, length, sym, ap, subst, ◌∙◌, arith, common_steps, gets, slice_get_within, slice_get-get_or, Item, Held, PutEnd, Bundle, Source, AreBelow, AreChildrenSeated, IsSource, hold_room}
+use Rattle.wcp_tree.proofs.Words.{◌≡◌, Some, length, sym, ap, subst, ◌∙◌, arith, common_steps, gets, slice_get_within}
+use Rattle.wcp_tree.proofs.Words.{slice_get-get_or, Item, Held, PutEnd, Bundle, Source, AreBelow, AreChildrenSeated}
+use Rattle.wcp_tree.proofs.Words.{IsSource, hold_room}
 use Rattle.wcp_relay.proofs.Entries.{taken_out}
 use Rattle.wcp_tree.proofs.Serving.{source_serves}
 use Rattle.wcp_tree.proofs.watch_opening.open_relay.Goals as goal
@@ -40,7 +42,8 @@ returns-clause-relay c =
           ∙ ap Some (sym c.index-parent.ensures ∙ sym c.new-2.ensures.parent);
       source = subst (λ (s : Source). IsSource c.args.plan.now c.args.takers.now.items c.args.relay s)
           (sym c.new-2.ensures.source) c.in_ok-source.ensures.source;
-      members = subst (λ (p : PutEnd Bundle Item). AreBelow c.args.plan.now c.args.relay p.members) its c.requires.seat.2;
+      members =
+          subst (λ (p : PutEnd Bundle Item). AreBelow c.args.plan.now c.args.relay p.members) its c.requires.seat.2;
       none_put = ap (λ (p : PutEnd Bundle Item). p.put) (sym its) ∙ c.requires.seat.3;
       none_held = ap (λ (h : Held). h.items) c.new-2.ensures.hold ∙ c.in_ok-hold.ensures.items;
       room = ap (λ (h : Held). h.room) c.new-2.ensures.hold ∙ c.in_ok-hold.ensures.room;

@@ -1,4 +1,5 @@
-use Rattle.wcp_tree.proofs.Words.{◌≡◌, ◌<◌, ◌≤◌, length, vec_len, eqb-true, sym, ap, ◌∙◌, lit≤, arith, length_push, most_relays, attached_exists, few_relays}
+use Rattle.wcp_tree.proofs.Words.{◌≡◌, ◌<◌, ◌≤◌, length, vec_len, eqb-true, sym, ap, ◌∙◌, lit≤, arith, length_push}
+use Rattle.wcp_tree.proofs.Words.{most_relays, attached_exists, few_relays}
 use Rattle.wcp_tree.proofs.Linking.{all_opened, next_seat, none_open, one_opened}
 use Rattle.wcp_tree.proofs.watch_opening.open_relays.Goals as goal
 
@@ -24,7 +25,8 @@ open_relay-requires-clause-seat c =
     omega (arith, c.loop-alloc.invariant.count, c.remove-sleeper.ensures.len) in
     let next =
     next_seat c.args.plan.now c.args.watch root c.args.takers.items c.requires.checked c.loop-alloc.relays.items
-    c.loop-alloc.seats.items c.loop-alloc.takers.items (c.loop-alloc.invariant.opened root c.requires.seated.1) within in
+    c.loop-alloc.seats.items c.loop-alloc.takers.items
+    (c.loop-alloc.invariant.opened root c.requires.seated.1) within in
     let number : c.len-number.result ≡ length c.loop-alloc.relays.items = omega arith in
     rw number (next.2.2, next.2.3, next.2.4.members, next.2.4.empty)
 
@@ -63,4 +65,8 @@ pub returns : goal.returns
 returns c = λ root under.
     all_opened c.args.plan.now c.args.watch root c.args.takers.items c.loop-alloc.relays.items c.loop-alloc.seats.items
     c.loop-alloc.takers.items (c.loop-alloc.invariant.opened root under)
-    (omega (arith, c.loop-alloc.invariant.count, eqb-true (vec_len c.loop-alloc.sleepers) 0 (sym c.is_empty.ensures ∙ c.loop-alloc-test.false)))
+    (omega (
+      arith,
+      c.loop-alloc.invariant.count,
+      eqb-true (vec_len c.loop-alloc.sleepers) 0 (sym c.is_empty.ensures ∙ c.loop-alloc-test.false),
+    ))

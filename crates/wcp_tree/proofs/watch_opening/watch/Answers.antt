@@ -1,4 +1,5 @@
-use Rattle.wcp_tree.proofs.Words.{◌≡◌, ◌≤◌, ◌↔◌, ◌<◌, ℕ, true, sym, ap, subst, ◌∙◌, lit≤, arith, most_relays, Item, TakeEnd, Bundle, AreLinked, few_relays}
+use Rattle.wcp_tree.proofs.Words.{◌≡◌, ◌≤◌, ◌↔◌, ◌<◌, ℕ, true, sym, ap, subst, ◌∙◌, lit≤, arith, most_relays, Item}
+use Rattle.wcp_tree.proofs.Words.{TakeEnd, Bundle, AreLinked, few_relays}
 use Rattle.std.specs.FinSet as set
 use Rattle.wcp_tree.proofs.Serving.{all_below_root}
 use Rattle.wcp_tree.proofs.watch_opening.watch.Goals as goal
@@ -24,7 +25,8 @@ returns c =
       takers = c.in_ok-probes.takers.items;
       rings = c.in_ok-probes.ensures;
       linked = subst
-          (λ (t : TakeEnd Bundle Item). AreLinked c.args.plan.now c.args.watch_number t.lane c.in_ok-probes.takers.items c.in_ok-relays.relays.items)
+          (λ (t : TakeEnd Bundle Item). AreLinked c.args.plan.now c.args.watch_number t.lane c.in_ok-probes.takers.items
+          c.in_ok-relays.relays.items)
           same linked;
       number = c.new-inbox.ensures.watch;
       relays = c.new-inbox.ensures.relays ∙ omega (arith, linked.count);

@@ -12,10 +12,12 @@ returns g c =
     let watched = c.watched.ensures in
     let taken = c.end.ensures.taken in
     let met = c.err-cut.ensures.value in
-    let members = c.end.ensures.members ∙ same.0.1 ∙ ap (λ (t : TakeEnd Bundle Item). t.members) c.into_taker-taker.ensures in
+    let members = c.end.ensures.members ∙ same.0.1
+    ∙ ap (λ (t : TakeEnd Bundle Item). t.members) c.into_taker-taker.ensures in
     let lost = c.lowest_lost-lost.result in
     let lowest = c.lowest_lost-lost.ensures taker.taken stands in
-    let ended : IfNone c.err-cut.result (AreAllEnded (processes checker) taker.taken) = rw met (without_cut _ c.take_all.result c.take_all.ensures.ended) in
+    let ended : IfNone c.err-cut.result (AreAllEnded (processes checker) taker.taken) =
+    rw met (without_cut _ c.take_all.result c.take_all.ensures.ended) in
     record {
       watch = c.watch-watch.ensures;
       relays = c.relays-relays.ensures;
@@ -28,7 +30,8 @@ returns g c =
       lost = rw (count, taken) lowest;
       drained = rw (count, taken) (all_drained c.err-cut.result lost (processes checker) taker.taken ended lowest);
       starved = checker.starved;
-      fault = c.first_fault.ensures ∙ ap (λ (starved : Bool). first_fault starved c.err-cut.result lost) c.is_starved.ensures;
+      fault = c.first_fault.ensures
+          ∙ ap (λ (starved : Bool). first_fault starved c.err-cut.result lost) c.is_starved.ensures;
       never_none = never_none checker taker.taken lost c.report.result stands lowest c.report.ensures.lost;
       any_clocks = λ fed. rw (count, watched, taken) (c.report.ensures.any_clocks fed taker.taken stands);
       exact = λ fed. rw (count, watched, taken) (c.report.ensures.exact fed taker.taken stands);

@@ -1,4 +1,5 @@
-use Rattle.wcp_watch.proofs.Words.{◌≡◌, ◌<◌, [], ◌∷◌, ◌++◌, ◌↔◌, true, List, take, get_or, sym, ◌∙◌, subst, Item, TakesItems, ItemsMayFollow, ItemMayFollow, one_may_follow}
+use Rattle.wcp_watch.proofs.Words.{◌≡◌, ◌<◌, [], ◌∷◌, ◌++◌, ◌↔◌, true, List, take, get_or, sym, ◌∙◌, subst, Item}
+use Rattle.wcp_watch.proofs.Words.{TakesItems, ItemsMayFollow, ItemMayFollow, one_may_follow}
 use Rattle.std.specs.FinSet as set
 use Rattle.wcp_watch.proofs.CheckedItems.{may_take, more_taken, last_taken}
 use Rattle.wcp_watch.proofs.checking.give_all.Goals as goal
@@ -15,7 +16,8 @@ give-requires c =
     let one = one_may_follow taker.members taker.taken items i item c.loop-item-test.true follow in
     may_take (taker.taken ++ take i items) taker.members c.loop-item.checker item
     (λ p. subst (λ n. (set.contains taker.members p ≡ true) ↔ (p < n)) (sym old.same.processes) (keeps.members p))
-    (old.taken taker.taken keeps.stands) (subst (ItemMayFollow taker.members (taker.taken ++ take i items)) (sym c.item-item.is) one)
+    (old.taken taker.taken keeps.stands)
+    (subst (ItemMayFollow taker.members (taker.taken ++ take i items)) (sym c.item-item.is) one)
 
 pub loop-item-preserved : goal.loop-item-preserved
 loop-item-preserved c =
@@ -39,5 +41,6 @@ loop-item-preserved c =
         watched = c.give.ensures.same.watched ∙ old.same.watched;
       };
       taken = more_taken c.args.checker.now now new items i item c.loop-item-test.true old.taken step;
-      last = last_taken now new taker.taken items i item c.loop-item-test.true c.give.ensures.same.processes (old.taken taker.taken keeps.stands) may step;
+      last = last_taken now new taker.taken items i item c.loop-item-test.true c.give.ensures.same.processes
+          (old.taken taker.taken keeps.stands) may step;
     }

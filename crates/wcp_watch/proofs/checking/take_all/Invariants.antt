@@ -1,4 +1,5 @@
-use Rattle.wcp_watch.proofs.Words.{◌≡◌, ℕ, ◌<◌, true, ◌||◌, processes, IsSameWatch, closed_of, lost_of, IsSameTaker, KeepsUp}
+use Rattle.wcp_watch.proofs.Words.{◌≡◌, ℕ, ◌<◌, true, ◌||◌, processes, IsSameWatch, closed_of, lost_of, IsSameTaker}
+use Rattle.wcp_watch.proofs.Words.{KeepsUp}
 use Rattle.wcp_watch.proofs.checking.take_all.Given as goal
 
 abbrev pub invariant-loop : goal.invariant-loop
@@ -9,5 +10,6 @@ invariant-loop g l =
       taker : IsSameTaker l.initial.taker l.taker;
       same : IsSameWatch l.initial.checker l.checker;
       keeps_up : KeepsUp l.taker l.checker;
-      finished : l.finished ≡ true → (p : ℕ) → p < processes l.checker → (closed_of l.checker p || lost_of l.checker p) ≡ true;
+      finished : l.finished ≡ true → (p : ℕ) → p < processes l.checker
+          → (closed_of l.checker p || lost_of l.checker p) ≡ true;
     }

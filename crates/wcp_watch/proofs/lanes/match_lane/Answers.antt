@@ -1,9 +1,12 @@
-use Rattle.wcp_watch.proofs.Words.{arith, ◌≡◌, ◌⊎◌, ℕ, ◌<◌, true≢false, List, length, Option, Some, refl, sym, ap, ⊎_elim, slice_set, cases_eq, common_steps, gets, Item, TakenEnd, Bundle, KeepInboxes, SitsAt}
+use Rattle.wcp_watch.proofs.Words.{arith, ◌≡◌, ◌⊎◌, ℕ, ◌<◌, true≢false, List, length, Option, Some, refl, sym, ap}
+use Rattle.wcp_watch.proofs.Words.{⊎_elim, slice_set, cases_eq, common_steps, gets, Item, TakenEnd, Bundle, KeepInboxes}
+use Rattle.wcp_watch.proofs.Words.{SitsAt}
 use Rattle.wcp_watch.proofs.MatchedRings.{sits_alone}
 use Rattle.wcp_watch.proofs.lanes.match_lane.Goals as goal
 
 -- an inbox that was matched with a putter keeps what was taken
-one_kept : (inboxes : List (Option (TakenEnd Bundle Item))) (place : ℕ) (seat : Option (TakenEnd Bundle Item)) (old new : TakenEnd Bundle Item)
+one_kept : (inboxes : List (Option (TakenEnd Bundle Item))) (place : ℕ) (seat : Option (TakenEnd Bundle Item))
+    (old new : TakenEnd Bundle Item)
     → place < length inboxes → SitsAt inboxes place old → new.lane ≡ old.lane → new.taken ≡ old.taken
     → KeepInboxes inboxes (slice_set (slice_set inboxes place seat) place (Some new))
 one_kept inboxes place seat old new within sits lane taken other receipt there =
@@ -18,7 +21,8 @@ one_kept inboxes place seat old new within sits lane taken other receipt there =
 pub returns-in-Ok-clause-kept : goal.returns-in-Ok-clause-kept
 returns-in-Ok-clause-kept c =
     let sits : SitsAt c.args.inboxes.now c.place_of_inbox-place.result c.in-Some.receipt = grind (arith, gets) in
-    one_kept c.args.inboxes.now c.place_of_inbox-place.result c.take.new.self c.in-Some.receipt c.in-Ok.receipt c.if-prove.false sits
+    one_kept c.args.inboxes.now c.place_of_inbox-place.result c.take.new.self c.in-Some.receipt c.in-Ok.receipt
+    c.if-prove.false sits
     (cc c.in-Ok.ensures.receipt) (cc c.in-Ok.ensures.receipt)
 
 pub returns-in-Err-clause-exact : goal.returns-in-Err-clause-exact

@@ -1,11 +1,14 @@
-use Rattle.wcp_watch.proofs.Words.{◌≡◌, ◌+◌, Some, length, length-set, refl, ◌∙◌, arith, slice_set, most_relays, set_here}
-use Rattle.wcp_watch.proofs.MatchedLinks.{few, feeds_apart, feeds_seated, has_inbox, inner_matched, is_refused, its_links, lane_exact, leaf_matched, none_matched, rings_exact, whole_next}
+use Rattle.wcp_watch.proofs.Words.{◌≡◌, ◌+◌, Some, length, length-set, refl, ◌∙◌, arith, slice_set, most_relays}
+use Rattle.wcp_watch.proofs.Words.{set_here}
+use Rattle.wcp_watch.proofs.MatchedLinks.{few, feeds_apart, feeds_seated, has_inbox, inner_matched, is_refused}
+use Rattle.wcp_watch.proofs.MatchedLinks.{its_links, lane_exact, leaf_matched, none_matched, rings_exact, whole_next}
 use Rattle.wcp_watch.proofs.matching.match_links.Goals as goal
 use Rattle.wcp_watch.proofs.matching.match_links.Goals.{in-Feeds+in_ok-match_rings-in-Feeds, in-Lane}
 
 pub loop-number-init : goal.loop-number-init
 loop-number-init c there =
-    none_matched there (slice_set c.empty-inboxes.result 15 (Some c.args.root)) (simp length-set c.empty-inboxes.ensures.all)
+    none_matched there (slice_set c.empty-inboxes.result 15 (Some c.args.root))
+    (simp length-set c.empty-inboxes.ensures.all)
     (set_here c.empty-inboxes.result 15 (Some c.args.root) (omega arith))
 
 pub take_end-parent-requires : goal.take_end-parent-requires
@@ -21,15 +24,18 @@ returns-in_err-match_lane-clause-exact c =
     let below = c.loop-number-test.true in
     let sat = c.take_end-parent.ensures.sat.2 in
     is_refused c.from_residual.result c.from_residual.ensures.0
-    (λ all. cc ((lane_exact c.requires below old sat c.in_err-match_lane.ensures.exact).1 (its_links c.requires below old sat all).lane))
+    (λ all. cc ((lane_exact c.requires below old sat c.in_err-match_lane.ensures.exact).1
+    (its_links c.requires below old sat all).lane))
 
 pub match_rings-requires-clause-seated : goal.match_rings-requires-clause-seated
 match_rings-requires-clause-seated c =
-    feeds_seated c.requires c.loop-number-test.true (c.loop-number.invariant c.requires) (rw c.in-Feeds.is at c.take_end-parent.ensures.sat.2)
+    feeds_seated c.requires c.loop-number-test.true (c.loop-number.invariant c.requires)
+    (rw c.in-Feeds.is at c.take_end-parent.ensures.sat.2)
 
 pub match_rings-requires-clause-apart : goal.match_rings-requires-clause-apart
 match_rings-requires-clause-apart c =
-    feeds_apart c.requires c.loop-number-test.true (c.loop-number.invariant c.requires) (rw c.in-Feeds.is at c.take_end-parent.ensures.sat.2)
+    feeds_apart c.requires c.loop-number-test.true (c.loop-number.invariant c.requires)
+    (rw c.in-Feeds.is at c.take_end-parent.ensures.sat.2)
 
 pub returns-in_err-match_rings-in-Feeds-clause-exact : goal.returns-in_err-match_rings-in-Feeds-clause-exact
 returns-in_err-match_rings-in-Feeds-clause-exact c =

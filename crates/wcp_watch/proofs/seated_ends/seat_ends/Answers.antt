@@ -1,8 +1,10 @@
-use Rattle.wcp_watch.proofs.Words.{[], ◌∷◌, true≢false, get_or, refl, sym, subst, ◌∙◌, arith, ClosedSide, number_of, Contains-get_or, IsFreeOf, Stranger, Missing, Faulted, Unfinished}
+use Rattle.wcp_watch.proofs.Words.{[], ◌∷◌, true≢false, get_or, refl, sym, subst, ◌∙◌, arith, ClosedSide, number_of}
+use Rattle.wcp_watch.proofs.Words.{Contains-get_or, IsFreeOf, Stranger, Missing, Faulted, Unfinished}
 use Rattle.wcp_watch.proofs.FirstFaults.{handed_on, is_first}
 use Rattle.wcp_watch.proofs.SettledEnds.{all_there, few, few_ends, probe_within, relay_within}
 use Rattle.wcp_watch.proofs.seated_ends.seat_ends.Goals as goal
-use Rattle.wcp_watch.proofs.seated_ends.seat_ends.Goals.{then-not-are_seated-via-then-not-are_seated, then-not-are_seated-via-else-not-are_seated+then-not-are_seated-2}
+use Rattle.wcp_watch.proofs.seated_ends.seat_ends.Goals.{then-not-are_seated-via-then-not-are_seated}
+use Rattle.wcp_watch.proofs.seated_ends.seat_ends.Goals.{then-not-are_seated-via-else-not-are_seated+then-not-are_seated-2}
 
 pub seat-requires-clause-within : goal.seat-requires-clause-within
 seat-requires-clause-within c = λ k d within same.
@@ -15,9 +17,11 @@ seat-requires-clause-within c = λ k d within same.
 
 pub returns-in_err-seat-clause-first : goal.returns-in_err-seat-clause-first
 returns-in_err-seat-clause-first c =
-    handed_on _ c.from_residual.result c.in_err-seat.field-0.0 Stranger c.from_residual.ensures c.in_err-seat.ensures.fault
+    handed_on _ c.from_residual.result c.in_err-seat.field-0.0 Stranger c.from_residual.ensures
+    c.in_err-seat.ensures.fault
     (λ book.
-    is_first c.args.probes.items c.args.relays.items c.args.checker.now book [] Stranger (Missing ∷ Faulted ∷ Unfinished ∷ []) refl tt
+    is_first c.args.probes.items c.args.relays.items c.args.checker.now book [] Stranger
+    (Missing ∷ Faulted ∷ Unfinished ∷ []) refl tt
     (λ of. true≢false (sym (c.in_err-seat.ensures.exact.1 of.0))))
 
 pub seat-requires-2-clause-within : goal.seat-requires-2-clause-within
@@ -34,18 +38,21 @@ returns-in_err-seat-2-clause-first c =
     handed_on _ c.from_residual-in_err-seat-2.result c.in_err-seat-2.field-0.0 Stranger
     c.from_residual-in_err-seat-2.ensures c.in_err-seat-2.ensures.fault
     (λ book.
-    is_first c.args.probes.items c.args.relays.items c.args.checker.now book [] Stranger (Missing ∷ Faulted ∷ Unfinished ∷ []) refl tt
+    is_first c.args.probes.items c.args.relays.items c.args.checker.now book [] Stranger
+    (Missing ∷ Faulted ∷ Unfinished ∷ []) refl tt
     (λ of. true≢false (sym (c.in_err-seat-2.ensures.exact.1 of.1))))
 
 pub are_seated-requires : goal.are_seated-requires
 are_seated-requires c = omega (arith, few c.requires, c.seat.auto.seats, c.empty-probe_ends.ensures.all)
 
 pub are_seated-requires-else-not-are_seated : goal.are_seated-requires-else-not-are_seated
-are_seated-requires-else-not-are_seated c = omega (arith, few_ends c.requires, c.seat-2.auto.seats, c.empty-relay_ends.ensures.all)
+are_seated-requires-else-not-are_seated c =
+    omega (arith, few_ends c.requires, c.seat-2.auto.seats, c.empty-relay_ends.ensures.all)
 
 pub returns-then-not-are_seated-clause-first : goal.returns-then-not-are_seated-clause-first
 returns-then-not-are_seated-clause-first c = λ book.
-    is_first c.args.probes.items c.args.relays.items c.args.checker.now book (Stranger ∷ []) Missing (Faulted ∷ Unfinished ∷ []) refl
+    is_first c.args.probes.items c.args.relays.items c.args.checker.now book (Stranger ∷ []) Missing
+    (Faulted ∷ Unfinished ∷ []) refl
     ((c.in_ok-seat.ensures.exact.0 refl, c.in_ok-seat-2.ensures.exact.0 refl), tt)
     (λ there.
     elim c.then-not-are_seated.branch [
@@ -61,7 +68,8 @@ pub returns-then-not-whole-clause-first : goal.returns-then-not-whole-clause-fir
 returns-then-not-whole-clause-first c = λ book.
     let probes = all_there (λ (end : ClosedSide). end.id) _ _ _ c.in_ok-seat.ensures.seats in
     let relays = all_there number_of _ _ _ c.in_ok-seat-2.ensures.seats in
-    is_first c.args.probes.items c.args.relays.items c.args.checker.now book (Stranger ∷ Missing ∷ []) Faulted (Unfinished ∷ []) refl (
+    is_first c.args.probes.items c.args.relays.items c.args.checker.now book (Stranger ∷ Missing ∷ []) Faulted
+    (Unfinished ∷ []) refl (
       (c.in_ok-seat.ensures.exact.0 refl, c.in_ok-seat-2.ensures.exact.0 refl),
       (
         (
@@ -72,7 +80,8 @@ returns-then-not-whole-clause-first c = λ book.
       ),
     )
     (λ whole. true≢false (sym (c.are_whole-whole.ensures.1
-    (subst (λ ends. IsFreeOf c.args.probes.items ends c.args.checker.now book Faulted) (sym c.deref.ensures.value) whole)) ∙ c.if-not-whole.true))
+    (subst (λ ends. IsFreeOf c.args.probes.items ends c.args.checker.now book Faulted)
+    (sym c.deref.ensures.value) whole)) ∙ c.if-not-whole.true))
 
 pub returns-clause-seated : goal.returns-clause-seated
 returns-clause-seated c = record {

@@ -4,7 +4,8 @@ use Rattle.wcp_watch.proofs.seats.seat.Goals as goal
 
 pub loop-end-init : goal.loop-end-init
 loop-end-init g c =
-    none_seated g.E.End.watch_of g.E.End.place_of c.args.watch (length c.args.seats.now) c.args.ends.items c.args.seats.now
+    none_seated g.E.End.watch_of g.E.End.place_of c.args.watch
+    (length c.args.seats.now) c.args.ends.items c.args.seats.now
     refl c.requires.free
 
 pub returns-then-watch_number-watch-clause-exact : goal.returns-then-watch_number-watch-clause-exact
@@ -18,13 +19,19 @@ pub prove-unreachable-requires : goal.prove-unreachable-requires
 prove-unreachable-requires g c =
     let among = was_left c.pop.new.self.items c.in-Some.end c.loop-end.invariant c.in-Some.ensures.items in
     let within = rw among.2 at (c.requires.within among.0 c.in-Some.end among.1) in
-    omega (arith, within (sym c.watch_number.ensures ∙ c.if-watch_number-watch.false), c.place-place.ensures, c.loop-end.invariant.count)
+    omega (
+      arith,
+      within (sym c.watch_number.ensures ∙ c.if-watch_number-watch.false),
+      c.place-place.ensures,
+      c.loop-end.invariant.count,
+    )
 
 pub returns-then-is_some-clause-exact : goal.returns-then-is_some-clause-exact
 returns-then-is_some-clause-exact g c = (
   λ is. absurd (true≢false (sym is)),
   λ of.
-      let there = is_taken c.loop-end.seats c.place-place.result c.index-seats-place.result (omega arith) c.index-seats-place.is
+      let there =
+      is_taken c.loop-end.seats c.place-place.result c.index-seats-place.result (omega arith) c.index-seats-place.is
       (ap is_some c.index-seats-place.is ∙ sym c.if-is_some.ensures) in
       absurd (came_before c.pop.new.self.items c.in-Some.end c.loop-end.invariant c.in-Some.ensures.items
       there.0 (ap (slice_get c.loop-end.seats) (sym c.place-place.ensures) ∙ there.1) of),
@@ -37,4 +44,5 @@ loop-end-preserved g c =
     (omega (arith, c.place-place.ensures, c.loop-end.invariant.count))
     (λ other at.
     is_free c.loop-end.seats c.place-place.result c.index-seats-place.result (omega arith) c.index-seats-place.is
-    (ap is_some c.index-seats-place.is ∙ sym c.if-is_some.ensures) other (ap (slice_get c.loop-end.seats) c.place-place.ensures ∙ at)))
+    (ap is_some c.index-seats-place.is ∙ sym c.if-is_some.ensures) other
+    (ap (slice_get c.loop-end.seats) c.place-place.ensures ∙ at)))

@@ -1,11 +1,13 @@
 use Rattle.wcp_watch.proofs.Words.{true≢false, Err, refl, sym, ap, ◌∙◌, Unfinished}
 use Rattle.wcp_watch.proofs.FirstFaults.{answered, handed, no_fault}
-use Rattle.wcp_watch.proofs.SettledEnds.{all_settled, book_finished, book_posted, ends_there, few, free_before, links_matched, places, some, unfinished}
+use Rattle.wcp_watch.proofs.SettledEnds.{all_settled, book_finished, book_posted, ends_there, few, free_before}
+use Rattle.wcp_watch.proofs.SettledEnds.{links_matched, places, some, unfinished}
 use Rattle.wcp_watch.proofs.settling.settle.Goals as goal
 
 pub returns-in_err-seated-clause-first : goal.returns-in_err-seated-clause-first
 returns-in_err-seated-clause-first c =
-    answered c.args.probes.items c.args.relays.items c.args.checker c.args.book c.from_residual.result c.in_err-seated.field-0.0
+    answered c.args.probes.items c.args.relays.items c.args.checker c.args.book c.from_residual.result
+    c.in_err-seated.field-0.0
     (handed c.from_residual.result c.in_err-seated.field-0.0 c.from_residual.ensures)
     (c.in_err-seated.ensures.first c.args.book)
 
@@ -23,7 +25,8 @@ returns-then-not-is_book_of-clause-first c =
     let seats = c.in_ok-seated.ensures.seated in
     answered c.args.probes.items c.args.relays.items c.args.checker c.args.book (Err Unfinished) Unfinished refl
     (unfinished c.requires seats c.args.book (λ finished.
-    true≢false (sym (c.is_book_of.ensures.1 (book_posted c.requires seats c.tallies-tallies.ensures c.args.book finished)) ∙ c.if-not-is_book_of.true)))
+    true≢false (sym (c.is_book_of.ensures.1
+    (book_posted c.requires seats c.tallies-tallies.ensures c.args.book finished)) ∙ c.if-not-is_book_of.true)))
 
 pub match_links-requires : goal.match_links-requires
 match_links-requires c = ends_there c.requires c.in_ok-seated.ensures.seated
@@ -31,8 +34,10 @@ match_links-requires c = ends_there c.requires c.in_ok-seated.ensures.seated
 pub returns-in_err-match_links-clause-first : goal.returns-in_err-match_links-clause-first
 returns-in_err-match_links-clause-first c =
     let seats = c.in_ok-seated.ensures.seated in
-    answered c.args.probes.items c.args.relays.items c.args.checker c.args.book c.from_residual-in_err-match_links.result Unfinished
-    (handed c.from_residual-in_err-match_links.result c.in_err-match_links.field-0.0 c.from_residual-in_err-match_links.ensures
+    answered c.args.probes.items c.args.relays.items c.args.checker c.args.book
+    c.from_residual-in_err-match_links.result Unfinished
+    (handed c.from_residual-in_err-match_links.result c.in_err-match_links.field-0.0
+    c.from_residual-in_err-match_links.ensures
     ∙ ap Err c.in_err-match_links.ensures.fault)
     (unfinished c.requires seats c.args.book (λ finished.
     true≢false (sym (c.in_err-match_links.ensures.exact.1 ((links_matched c.requires seats).1 finished.links)))))
@@ -47,7 +52,8 @@ returns-clause-first c =
     let seats = c.in_ok-seated.ensures.seated in
     let posted = c.is_book_of.ensures.0 c.if-not-is_book_of.false in
     let finished =
-    book_finished c.requires seats c.tallies-tallies.ensures c.args.book posted (c.in_ok-match_links.ensures.exact.0 refl) in
+    book_finished c.requires seats c.tallies-tallies.ensures c.args.book posted
+    (c.in_ok-match_links.ensures.exact.0 refl) in
     let before = free_before c.requires seats c.args.book in
     λ first. (
       λ same. absurd (cc),

@@ -6,8 +6,17 @@ loop-p-preserved c =
     let old = c.loop-p.invariant in
     record {
       count = grind (arith, common_steps, old.count);
-      shares = λ q probe below sits. grind (arith, common_steps, gets, cases_eq q c.loop-p.p, old.count, old.shares q probe, c.tally_at-tally.ensures.share probe);
-      rise = λ q probe below sits. grind (arith, common_steps, cases_eq q c.loop-p.p, old.rise q probe, c.tally_at-tally.ensures.rise probe);
+      shares = λ q probe below sits. grind (
+        arith,
+        common_steps,
+        gets,
+        cases_eq q c.loop-p.p,
+        old.count,
+        old.shares q probe,
+        c.tally_at-tally.ensures.share probe,
+      );
+      rise = λ q probe below sits.
+          grind (arith, common_steps, cases_eq q c.loop-p.p, old.rise q probe, c.tally_at-tally.ensures.rise probe);
     }
 
 pub returns : goal.returns

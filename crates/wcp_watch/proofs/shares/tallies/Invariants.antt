@@ -1,4 +1,5 @@
-use Rattle.wcp_watch.proofs.Words.{◌≡◌, ◌<◌, ℕ, Some, length, slice_get, most_processes, ClosedSide, NotesRise, SitsAt, share_of}
+use Rattle.wcp_watch.proofs.Words.{◌≡◌, ◌<◌, ℕ, Some, length, slice_get, most_processes, ClosedSide, NotesRise, SitsAt}
+use Rattle.wcp_watch.proofs.Words.{share_of}
 use Rattle.wcp_watch.proofs.shares.tallies.Given as goal
 
 abbrev pub invariant-loop-p : goal.invariant-loop-p

@@ -1,4 +1,5 @@
-use Rattle.wcp_worker.proofs.Words.{◌≡◌, true, false, length, map, refl, sym, ap, ◌∙◌, rules, seal_of, PutEnd, Message, messages_from}
+use Rattle.wcp_worker.proofs.Words.{◌≡◌, true, false, length, map, refl, sym, ap, ◌∙◌, rules, seal_of, PutEnd, Message}
+use Rattle.wcp_worker.proofs.Words.{messages_from}
 use Rattle.std.specs.FinSet as set
 use Rattle.wcp_worker.proofs.lane_matching.match_lane.Goals as goal
 
@@ -17,7 +18,8 @@ pub returns-clause-exact : goal.returns-clause-exact
 returns-clause-exact c = (
   λ is p member.
       ap (λ taken. length (messages_from p taken)) (sym c.end.ensures.taken)
-      ∙ ap length (c.in_ok-_receipt.ensures.all p (ap (λ (e : PutEnd Message Message). set.contains e.members p) c.end-2.ensures ∙ member))
+      ∙ ap length (c.in_ok-_receipt.ensures.all p
+      (ap (λ (e : PutEnd Message Message). set.contains e.members p) c.end-2.ensures ∙ member))
       ∙ ap (λ (e : PutEnd Message Message). length (messages_from p e.put)) c.end-2.ensures,
   λ all. refl,
 )
@@ -26,5 +28,6 @@ pub returns-clause-matched : goal.returns-clause-matched
 returns-clause-matched c = λ p member.
     ap (map (λ (m : Message). (seal_of m.stamped).clock))
     (ap (messages_from p) (sym c.end.ensures.taken)
-    ∙ c.in_ok-_receipt.ensures.all p (ap (λ (e : PutEnd Message Message). set.contains e.members p) c.end-2.ensures ∙ member)
+    ∙ c.in_ok-_receipt.ensures.all p
+    (ap (λ (e : PutEnd Message Message). set.contains e.members p) c.end-2.ensures ∙ member)
     ∙ ap (λ (e : PutEnd Message Message). messages_from p e.put) c.end-2.ensures)

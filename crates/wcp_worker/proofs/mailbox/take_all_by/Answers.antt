@@ -3,5 +3,6 @@ use Rattle.wcp_worker.proofs.mailbox.take_all_by.Goals as goal
 
 pub returns-in-Some : goal.returns-in-Some
 returns-in-Some g c =
-    subst (λ (old : Option Inbox). OnOk c.take_rest.result ((q : ℕ) → IfBoth (HasTakenMore q) old (Some c.take_rest.new.self)))
+    subst (λ (old : Option Inbox). OnOk c.take_rest.result
+    ((q : ℕ) → IfBoth (HasTakenMore q) old (Some c.take_rest.new.self)))
     (sym c.in-Some.is) c.take_rest.ensures

@@ -1,4 +1,5 @@
-use Rattle.wcp_worker.proofs.Words.{All, map, [], ◌∷◌, ◌++◌, sym, ap, ◌∙◌, subst, zero, suc, arith, map_push, Worker, IsIdle}
+use Rattle.wcp_worker.proofs.Words.{All, map, [], ◌∷◌, ◌++◌, sym, ap, ◌∙◌, subst, zero, suc, arith, map_push, Worker}
+use Rattle.wcp_worker.proofs.Words.{IsIdle}
 use Rattle.std.proofs.lemmas.List.Elements.{All-append}
 use Rattle.wcp_worker.proofs.worker_opening.idle_workers.Goals as goal
 
@@ -11,8 +12,15 @@ loop-probe-preserved c =
     let old = c.loop-probe.invariant in
     let pushed = c.in_ok-push.ensures.items in
     record {
-      probes = ap (map (λ (w : Worker). w.player.probe)) pushed ∙ map_push (λ (w : Worker). w.player.probe) c.loop-probe.workers.items _
-          ∙ ap (λ p. map (λ (w : Worker). w.player.probe) c.loop-probe.workers.items ++ p ∷ []) c.new_player.ensures.probe
+      probes = ap (map (λ (w : Worker). w.player.probe)) pushed
+          ∙ map_push (λ (w : Worker). w.player.probe) c.loop-probe.workers.items _
+          ∙ ap (λ p. map (λ (w : Worker). w.player.probe) c.loop-probe.workers.items ++ p ∷ [])
+          c.new_player.ensures.probe
           ∙ ap (λ ps. ps ++ c.in-Some.probe ∷ []) old.probes;
-      idle = subst (All IsIdle) (sym pushed) (All-append IsIdle c.loop-probe.workers.items _ old.idle (all_one _ (record { actions = c.new.ensures.items; outboxes = c.new_player.ensures.outboxes; inboxes = c.new_player.ensures.inboxes })));
+      idle = subst (All IsIdle) (sym pushed)
+          (All-append IsIdle c.loop-probe.workers.items _ old.idle (all_one _ (record {
+            actions = c.new.ensures.items;
+            outboxes = c.new_player.ensures.outboxes;
+            inboxes = c.new_player.ensures.inboxes;
+          })));
     }

@@ -6,4 +6,5 @@ pub loop-p-preserved : goal.loop-p-preserved
 loop-p-preserved c =
     let done = c.in_ok-row.ensures in
     lanes_more c.loop-p.p c.args.workers.now.items c.loop-p.workers.items c.open_row.new.workers.items c.in_ok-row.row
-    c.index_mut.result.now c.loop-p.invariant done.count done.row done.each (omega (arith, done.count)) c.index_mut.ensures.value
+    c.index_mut.result.now c.loop-p.invariant done.count done.row done.each
+    (omega (arith, done.count)) c.index_mut.ensures.value

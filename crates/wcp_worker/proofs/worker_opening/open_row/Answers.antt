@@ -1,4 +1,5 @@
-use Rattle.wcp_worker.proofs.Words.{◌≡◌, ◌+◌, ◌<◌, List, length, count_by, get_or, set, sym, ap, ◌∙◌, subst, arith, length-append, length-set, get_or_default, Action, is_send_to, Worker, HasRow}
+use Rattle.wcp_worker.proofs.Words.{◌≡◌, ◌+◌, ◌<◌, List, length, count_by, get_or, set, sym, ap, ◌∙◌, subst, arith}
+use Rattle.wcp_worker.proofs.Words.{length-append, length-set, get_or_default, Action, is_send_to, Worker, HasRow}
 use Rattle.wcp_worker.proofs.OpenedRows.{same_more, given_more, rest_more, lane_along}
 use Rattle.wcp_worker.proofs.worker_opening.open_row.Goals as goal
 
@@ -26,11 +27,16 @@ loop-q-preserved c =
       same = same_more q olds news was old.count within at old.same inboxes;
       given = λ j d below.
           subst (λ row. HasRow p (get_or olds p d).actions.items row j (get_or olds j d)
-          (get_or (set news q (record was { player = record was.player { mailbox = record was.player.mailbox { inboxes = inboxes } } })) j d)) (sym pushed)
+          (get_or (set news q (record was {
+            player = record was.player
+                { mailbox = record was.player.mailbox { inboxes = inboxes } };
+          })) j d)) (sym pushed)
           (given_more q olds news was old.count within at old.same inboxes old.rest
           p (get_or olds p d).actions.items c.loop-q.row.items c.in_ok-outbox.outbox c.in_ok-outbox.inbox
-          (λ i e before. subst (λ (a : List Action). HasRow p a c.loop-q.row.items i (get_or olds i e) (get_or news i e)) (acts d e) (old.given i e before))
+          (λ i e before. subst (λ (a : List Action). HasRow p a c.loop-q.row.items i (get_or olds i e)
+          (get_or news i e)) (acts d e) (old.given i e before))
           old.row c.in_ok-push-2.ensures.items
-          (lane_along p (counted d) (λ i. c.in_ok-outbox.outbox) (λ i. c.in_ok-outbox.inbox) c.in_ok-outbox.ensures) j d below);
+          (lane_along p (counted d) (λ i. c.in_ok-outbox.outbox) (λ i. c.in_ok-outbox.inbox) c.in_ok-outbox.ensures) j d
+          below);
       rest = rest_more q olds news was old.count within at old.same inboxes old.rest;
     }

@@ -13,7 +13,8 @@ begin_anew-requires-clause-within g c = few_processes c.args.plan.now c.requires
 pub first_lost-requires : goal.first_lost-requires
 first_lost-requires g c = record {
   few = rw c.deref.ensures.value
-      (few_ends g.P.LosableProcess.leaves g.P.LosableProcess.done c.requires.checked c.in_ok-parts.ensures.parts c.in_ok-workers.ensures);
+      (few_ends g.P.LosableProcess.leaves g.P.LosableProcess.done c.requires.checked c.in_ok-parts.ensures.parts
+      c.in_ok-workers.ensures);
 }
 
 pub returns-in-Some-clause-lost : goal.returns-in-Some-clause-lost
@@ -30,7 +31,8 @@ returns-in-Some-clause-lost g c =
     (rw c.deref.ensures.value at c.in-Some.ensures.lost)
     (rw c.deref.ensures.value at c.in-Some.ensures.before)
     is.1 in
-    subst (λ q. IsLost g.P.LosableProcess.leaves g.P.LosableProcess.done c.args.number c.args.plan.now c.args.processes.items q report) (sym is.0) lost)
+    subst (λ q. IsLost g.P.LosableProcess.leaves g.P.LosableProcess.done c.args.number c.args.plan.now
+    c.args.processes.items q report) (sym is.0) lost)
     c.fault_of_lost.ensures.lost
 
 pub take_apart-requires : goal.take_apart-requires

@@ -5,5 +5,7 @@ use Rattle.lane_cases.proofs.tests.lanes.lane_of_two.Goals as goal
 
 pub returns-clause-new : goal.returns-clause-new
 returns-clause-new c =
-    let lane = c.in_ok-putters.taker.lane in
-    (new_HasPut c.in-Some-pop.first lane 0 (grind (arith, common_steps)), new_HasPut c.in-Some.second lane 1 (grind (arith, common_steps)))
+    let lane = c.in_ok-putters.taker.lane in (
+      new_HasPut c.in-Some-pop.first lane 0 (grind (arith, common_steps)),
+      new_HasPut c.in-Some.second lane 1 (grind (arith, common_steps)),
+    )

@@ -3,4 +3,5 @@ use Rattle.run_cases.proofs.tests.settling.run_watch.Goals as goal
 
 pub returns : goal.returns
 returns g c =
-    come_from_watch c.in_ok-watch.ensures.wired c.in_ok-plan.ensures c.in_ok-probes.ensures c.in_ok-relays.ensures (rw c.in_ok-watch.ensures.watched at c.check_loop-checker.ensures)
+    come_from_watch c.in_ok-watch.ensures.wired c.in_ok-plan.ensures c.in_ok-probes.ensures c.in_ok-relays.ensures
+    (rw c.in_ok-watch.ensures.watched at c.check_loop-checker.ensures)

@@ -6,4 +6,5 @@ use Rattle.run_cases.proofs.tests.settling.with_a_stranger.Goals as goal
 pub returns : goal.returns
 returns c =
     subst (λ probes. ComeFromWatch probes c.args.ends.relays.items c.args.ends.checker) (sym c.in_ok-push.ensures.items)
-    (with_stranger c.args.ends.probes.items c.args.ends.relays.items c.args.stranger c.args.ends.checker c.requires.come c.requires.other)
+    (with_stranger c.args.ends.probes.items c.args.ends.relays.items c.args.stranger c.args.ends.checker c.requires.come
+    c.requires.other)

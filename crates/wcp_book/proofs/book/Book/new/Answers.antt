@@ -7,5 +7,6 @@ use Rattle.wcp_book.proofs.book.Book.new.Goals as goal
 -- src/book.rt:52:5
 pub returns : goal.returns
 returns c =
-    ap (λ (shares : List (Option Tally)). let book : BookState = record { shares = shares; found = None; ended = false } in book)
+    ap (λ (shares : List (Option Tally)). let book : BookState =
+    record { shares = shares; found = None; ended = false } in book)
     (take-replicate c.args.n 16 None c.requires.within)

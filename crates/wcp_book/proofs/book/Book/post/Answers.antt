@@ -1,4 +1,5 @@
-use Rattle.std.proofs.Common.{arith, Bool, ◌≡◌, ℕ, List, Option, take, set, slice_get, slice_index_or, Some, None, sym, ◌∙◌, ap, refl, subst, All}
+use Rattle.std.proofs.Common.{arith, Bool, ◌≡◌, ℕ, List, Option, take, set, slice_get, slice_index_or, Some, None, sym}
+use Rattle.std.proofs.Common.{◌∙◌, ap, refl, subst, All}
 use Rattle.std.proofs.lemmas.List.{length-take-le, length-set, get_or-take}
 use Rattle.std.proofs.lemmas.List.Elements.{All-set}
 use Rattle.std.proofs.lemmas.Option.{slice_get-get_or}
@@ -19,20 +20,37 @@ module _ (c : goal.After-self-2-1) where
   none : slice_index_or c.self.inside.shares c.args.p None ≡ None
   none = no_share (slice_index_or c.self.inside.shares c.args.p None) (sym c.is_some.ensures ∙ c.if-is_some.false)
 
-  replaced : take c.self.inside.processes (set c.self.inside.shares c.args.p (Some share)) ≡ set (take c.self.inside.processes c.self.inside.shares) c.args.p (Some share)
+  replaced : take c.self.inside.processes (set c.self.inside.shares c.args.p (Some share)) ≡ set
+      (take c.self.inside.processes c.self.inside.shares) c.args.p (Some share)
   replaced = take-set-lt c.self.inside.processes c.self.inside.shares c.args.p (Some share) c.if-p-self.false
 
 -- src/book.rt:84:9
 pub overflow_add-self : goal.overflow_add-self
 overflow_add-self c =
-    let few = few_totals (take c.self.inside.processes c.self.inside.shares) c.self.inside.totals c.self.invariant.3 c.self.invariant.4 in
-    omega (arith, few.0, c.requires.few_emitted, c.self.invariant.1, c.self.invariant.2, length-take-le c.self.inside.processes c.self.inside.shares)
+    let few = few_totals
+    (take c.self.inside.processes c.self.inside.shares) c.self.inside.totals c.self.invariant.3 c.self.invariant.4 in
+    omega (
+      arith,
+      few.0,
+      c.requires.few_emitted,
+      c.self.invariant.1,
+      c.self.invariant.2,
+      length-take-le c.self.inside.processes c.self.inside.shares,
+    )
 
 -- src/book.rt:85:9
 pub overflow_add-self-2 : goal.overflow_add-self-2
 overflow_add-self-2 c =
-    let few = few_totals (take c.self.inside.processes c.self.inside.shares) c.self.inside.totals c.self.invariant.3 c.self.invariant.4 in
-    omega (arith, few.1, c.requires.few_taken, c.self.invariant.1, c.self.invariant.2, length-take-le c.self.inside.processes c.self.inside.shares)
+    let few = few_totals
+    (take c.self.inside.processes c.self.inside.shares) c.self.inside.totals c.self.invariant.3 c.self.invariant.4 in
+    omega (
+      arith,
+      few.1,
+      c.requires.few_taken,
+      c.self.invariant.1,
+      c.self.invariant.2,
+      length-take-le c.self.inside.processes c.self.inside.shares,
+    )
 
 -- src/book.rt:68:5
 pub invariant_of-self : goal.invariant_of-self
@@ -41,7 +59,8 @@ invariant_of-self c = (
   c.self.invariant.1,
   length-set c.self.inside.shares c.args.p (Some (share c)) ∙ c.self.invariant.2,
   subst (All HasFewSnapshots) (sym (replaced c))
-      (All-set HasFewSnapshots (take c.self.inside.processes c.self.inside.shares) c.args.p (Some (share c)) (c.requires.few_emitted, c.requires.few_taken) c.self.invariant.3),
+      (All-set HasFewSnapshots (take c.self.inside.processes c.self.inside.shares) c.args.p (Some (share c))
+      (c.requires.few_emitted, c.requires.few_taken) c.self.invariant.3),
   posted_totals c.self.inside.processes c.args.p c.self.inside.shares c.self.inside.totals (share c) c.if-p-self.false
       (omega (arith, c.self.invariant.1, c.self.invariant.2)) (none c) c.self.invariant.4,
   c.self.invariant.5,
@@ -51,10 +70,12 @@ invariant_of-self c = (
 -- src/book.rt:68:5
 pub returns-clause-ok : goal.returns-clause-ok
 returns-clause-ok c =
-    let full = length-take-le c.self.inside.processes c.self.inside.shares (omega (arith, c.self.invariant.1, c.self.invariant.2)) in
+    let full = length-take-le c.self.inside.processes c.self.inside.shares
+    (omega (arith, c.self.invariant.1, c.self.invariant.2)) in
     let here : slice_get c.args.self.now.shares c.args.p ≡ Some None =
     ap (λ (book : BookState). slice_get book.shares c.args.p) (sym c.self.view_is)
-    ∙ slice_get-get_or (take c.self.inside.processes c.self.inside.shares) c.args.p None (omega (arith, full, c.if-p-self.false))
+    ∙ slice_get-get_or (take c.self.inside.processes c.self.inside.shares) c.args.p None
+    (omega (arith, full, c.if-p-self.false))
     ∙ ap Some (get_or-take c.self.inside.processes c.self.inside.shares c.args.p None c.if-p-self.false ∙ none c) in
     ((λ _. here), (λ _. refl))
 
@@ -62,4 +83,5 @@ returns-clause-ok c =
 pub returns-clause-posted : goal.returns-clause-posted
 returns-clause-posted c =
     ap (λ shares. book_of shares c.self.inside.found c.self.inside.ended) (replaced c)
-    ∙ ap (λ (book : BookState). book_of (set book.shares c.args.p (Some (share c))) book.found book.ended) c.self.view_is
+    ∙ ap
+    (λ (book : BookState). book_of (set book.shares c.args.p (Some (share c))) book.found book.ended) c.self.view_is

@@ -5,7 +5,8 @@ use Rattle.wcp_clock.proofs.per_process.PerProcess+u32.merge.Goals as goal
 
 pub invariant_of-result : goal.invariant_of-result
 invariant_of-result c =
-    let same : c.other.inside.count ≡ c.self.inside.count = same_front _ _ c.self.inside.values c.other.inside.values (omega arith) (omega arith) (rw (c.self.view_is, c.other.view_is) c.requires) in
+    let same : c.other.inside.count ≡ c.self.inside.count = same_front _ _ c.self.inside.values c.other.inside.values
+    (omega arith) (omega arith) (rw (c.self.view_is, c.other.view_is) c.requires) in
     let long : length c.self.inside.values ≡ length c.other.inside.values = omega arith in
     rw c.greater.ensures (
       c.self.invariant.0,
@@ -16,6 +17,8 @@ invariant_of-result c =
 
 pub returns : goal.returns
 returns c =
-    let same : c.other.inside.count ≡ c.self.inside.count = same_front _ _ c.self.inside.values c.other.inside.values (omega arith) (omega arith) (rw (c.self.view_is, c.other.view_is) c.requires) in
+    let same : c.other.inside.count ≡ c.self.inside.count = same_front _ _ c.self.inside.values c.other.inside.values
+    (omega arith) (omega arith) (rw (c.self.view_is, c.other.view_is) c.requires) in
     let long : length c.self.inside.values ≡ length c.other.inside.values = omega arith in
-    rw (c.greater.ensures, take-merged c.self.inside.count _ _ long, c.self.view_is) (ap (merged c.args.self.now) (rw same at c.other.view_is))
+    rw (c.greater.ensures, take-merged c.self.inside.count _ _ long, c.self.view_is)
+    (ap (merged c.args.self.now) (rw same at c.other.view_is))

@@ -5,7 +5,8 @@ use Rattle.wcp_lane.proofs.Steps.{takes}
 use Rattle.wcp_lane.proofs.taker.Taker.try_take.Goals as goal
 
 pub try_recv_as-requires-clause-rule : goal.try_recv_as-requires-clause-rule
-try_recv_as-requires-clause-rule g c = (takes _ _ _ _ _ _ (ap (λ (v : Hand _). v.takes) c.self.invariant.1), λ items ends h at. tt)
+try_recv_as-requires-clause-rule g c =
+    (takes _ _ _ _ _ _ (ap (λ (v : Hand _). v.takes) c.self.invariant.1), λ items ends h at. tt)
 
 pub count_up-requires : goal.count_up-requires
 count_up-requires g c = span_below _ _ _ _ c.of.ensures (c.in-Ok.ensures.rule.1 _ _ c.self.invariant.1).numbered
@@ -13,8 +14,12 @@ count_up-requires g c = span_below _ _ _ _ c.of.ensures (c.in-Ok.ensures.rule.1 
 pub invariant_of-self : goal.invariant_of-self
 invariant_of-self g c =
     let may = (c.in-Ok.ensures.rule.1 _ _ c.self.invariant.1).follows _ c.self.invariant.2 in
-    let (is, rest, counted) = take_more _ _ _ _ _ _ _ c.self.invariant.1 c.self.invariant.2 c.in-Ok.ensures.rule.0 (c.count_up.ensures _ _ _ c.of.ensures c.self.invariant.3 may) in
+    let (is, rest, counted) = take_more _ _ _ _ _ _ _ c.self.invariant.1 c.self.invariant.2 c.in-Ok.ensures.rule.0
+    (c.count_up.ensures _ _ _ c.of.ensures c.self.invariant.3 may) in
     (c.try_recv_as.ensures.channel.0, is, rest, counted)
 
 pub returns-in-Ok-clause-some : goal.returns-in-Ok-clause-some
-returns-in-Ok-clause-some g c = (rw (← c.self.view_is) ((c.in-Ok.ensures.rule.1 _ _ c.self.invariant.1).follows _ c.self.invariant.2), grind (arith, common_steps))
+returns-in-Ok-clause-some g c = (
+  rw (← c.self.view_is) ((c.in-Ok.ensures.rule.1 _ _ c.self.invariant.1).follows _ c.self.invariant.2),
+  grind (arith, common_steps),
+)

@@ -10,4 +10,5 @@ returns-in-Ok-clause-reads c = λ form so_far read.
 pub returns-in-Err-clause-reads : goal.returns-in-Err-clause-reads
 returns-in-Err-clause-reads c = λ form so_far read.
     let said = rw (c.take-half.ensures.value, c.in-Err.is) at (c.turn-half.ensures so_far.events read.keeps) in
-    rw c.fault_at.ensures (reads_fault c.in-Err.fault form so_far c.args.self.now _ c.args.line.now read (omega arith) said.0 said.1 said.2 refl refl)
+    rw c.fault_at.ensures (reads_fault c.in-Err.fault form so_far c.args.self.now _ c.args.line.now read
+    (omega arith) said.0 said.1 said.2 refl refl)

@@ -16,4 +16,5 @@ returns-then-has_fault-clause-err c =
     })
 
 pub returns-clause-ok : goal.returns-clause-ok
-returns-clause-ok c = (λ _. none_listed c.args.self.now (λ k fault below. c.loop-fault.invariant k fault (omega arith)), λ _. refl)
+returns-clause-ok c =
+    (λ _. none_listed c.args.self.now (λ k fault below. c.loop-fault.invariant k fault (omega arith)), λ _. refl)

@@ -2,4 +2,5 @@ use Rattle.wcp_model.proofs.Words.{◌≡◌, ℕ, ◌<◌, Some, slice_get, Pla
 use Rattle.wcp_model.proofs.plan.Plan.check.Given as goal
 
 abbrev pub invariant-loop-fault : goal.invariant-loop-fault
-invariant-loop-fault l = (k : ℕ) (fault : PlanFault) → k < l.fault-index → slice_get plan_faults k ≡ Some fault → ¬ HasFault l.self fault
+invariant-loop-fault l = (k : ℕ) (fault : PlanFault) → k < l.fault-index → slice_get plan_faults k ≡ Some fault
+    → ¬ HasFault l.self fault

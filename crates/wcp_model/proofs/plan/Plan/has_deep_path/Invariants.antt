@@ -2,4 +2,5 @@ use Rattle.wcp_model.proofs.Words.{ℕ, ◌<◌, ◌≤◌, List, ◌∷◌, len
 use Rattle.wcp_model.proofs.plan.Plan.has_deep_path.Given as goal
 
 abbrev pub invariant-loop-relay : goal.invariant-loop-relay
-invariant-loop-relay l = (relay : ℕ) (path : List ℕ) → relay < l.relay → IsPath l.self.parents.items (relay ∷ path) → length (relay ∷ path) ≤ 8
+invariant-loop-relay l = (relay : ℕ) (path : List ℕ) → relay < l.relay → IsPath l.self.parents.items (relay ∷ path)
+    → length (relay ∷ path) ≤ 8

@@ -7,7 +7,8 @@ pub invariant_of-result : goal.invariant_of-result
 invariant_of-result c =
     let members = c.members_of-members.result in
     rw (c.in_ok-queues.ensures, c.len.ensures.value, c.new-2.ensures)
-    (IsSoundChecker-fresh c.args.n c.args.watched members c.requires.few c.requires.watched c.members_of-members.ensures)
+    (IsSoundChecker-fresh c.args.n c.args.watched members c.requires.few c.requires.watched
+    c.members_of-members.ensures)
 
 pub returns-clause-empty : goal.returns-clause-empty
 returns-clause-empty c =

@@ -1,4 +1,5 @@
-use Rattle.wcp_queue.proofs.Words.{◌++◌, ◌∷◌, [], slice_set, true, sym, refl, subst, arith, StandsForItems, checker_state}
+use Rattle.wcp_queue.proofs.Words.{◌++◌, ◌∷◌, [], slice_set, true, sym, refl, subst, arith, StandsForItems}
+use Rattle.wcp_queue.proofs.Words.{checker_state}
 use Rattle.wcp_queue.proofs.StandingForItems.{StandsForItems-close, StandsForItems-lost}
 use Rattle.wcp_queue.proofs.checker.Checker.take_note.Goals as goal
 

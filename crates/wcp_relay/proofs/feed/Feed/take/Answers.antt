@@ -1,7 +1,10 @@
-use Rattle.wcp_relay.proofs.Words.{◌≡◌, Bool, false, true, true≢false, ap, ◌∙◌, sym, refl, subst, Feed, IsInOrder, MayComeFromRing, All-push}
-use Rattle.wcp_relay.proofs.Ordering.{given_more, in_order_snap, in_order_last, in_order_lost, in_order_same, out_of_turn, place_in_turn}
+use Rattle.wcp_relay.proofs.Words.{◌≡◌, Bool, false, true, true≢false, ap, ◌∙◌, sym, refl, subst, Feed, IsInOrder}
+use Rattle.wcp_relay.proofs.Words.{MayComeFromRing, All-push}
+use Rattle.wcp_relay.proofs.Ordering.{given_more, in_order_snap, in_order_last, in_order_lost, in_order_same}
+use Rattle.wcp_relay.proofs.Ordering.{out_of_turn, place_in_turn}
 use Rattle.wcp_relay.proofs.feed.Feed.take.Goals as goal
-use Rattle.wcp_relay.proofs.feed.Feed.take.Goals.{then-is_last, else-is_last, then-self-2-via-then-self-2, then-self-2-via-else-self-2+then-not-may_come}
+use Rattle.wcp_relay.proofs.feed.Feed.take.Goals.{then-is_last, else-is_last, then-self-2-via-then-self-2}
+use Rattle.wcp_relay.proofs.feed.Feed.take.Goals.{then-self-2-via-else-self-2+then-not-may_come}
 
 pub returns-in-Err-ForGood-clause-in_order : goal.returns-in-Err-ForGood-clause-in_order
 returns-in-Err-ForGood-clause-in_order c = by_end c.args.self.now.ended refl
@@ -48,7 +51,8 @@ returns-clause-in_order c =
           (rw taken (All-push MayComeFromRing feed.taker.taken note c.requires.from_ring may_come))
           (ap (λ (f : Feed). f.ended) w.self-is)
       | else-is_last w ↦
-          in_order_snap feed more note c.requires c.if-self-2.false place may_come (sym c.is_last.ensures ∙ w.if-is_last.false)
+          in_order_snap feed more note c.requires c.if-self-2.false place may_come
+          (sym c.is_last.ensures ∙ w.if-is_last.false)
           (ap (λ (f : Feed). f.taker.taken) w.self-is ∙ c.in-Ok.ensures.note)
           (ap (λ (f : Feed). f.next) w.self-is)
           (ap (λ (f : Feed). f.lost) w.self-is ∙ c.if-self.false)

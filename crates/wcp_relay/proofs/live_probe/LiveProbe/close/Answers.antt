@@ -5,7 +5,11 @@ use Rattle.wcp_relay.proofs.live_probe.LiveProbe.close.Goals as goal
 pub invariant_of-result : goal.invariant_of-result
 invariant_of-result c =
     let probe : LiveSide = record { core = c.self.inside.core; link = c.self.inside.putter } in
-    grind (arith, common_steps, closed_rises probe c.end.result.put c.self.inside.core.emitted c.self.invariant.within c.self.invariant.logged)
+    grind (
+      arith,
+      common_steps,
+      closed_rises probe c.end.result.put c.self.inside.core.emitted c.self.invariant.within c.self.invariant.logged,
+    )
 
 pub invariant_of-self : goal.invariant_of-self
 invariant_of-self c =

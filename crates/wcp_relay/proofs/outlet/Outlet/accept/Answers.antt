@@ -1,4 +1,5 @@
-use Rattle.wcp_relay.proofs.Words.{◌≡◌, ◌++◌, true, None, [], sym, ap, ◌∙◌, refl, subst, arith, length, Item, Held, handed, IsNextItem}
+use Rattle.wcp_relay.proofs.Words.{◌≡◌, ◌++◌, true, None, [], sym, ap, ◌∙◌, refl, subst, arith, length, Item, Held}
+use Rattle.wcp_relay.proofs.Words.{handed, IsNextItem}
 use Rattle.std.specs.FinSet as set
 use Rattle.wcp_relay.proofs.Passing.{sound_same, sound_taken, is_none, if_none, unless_err}
 use Rattle.wcp_relay.proofs.outlet.Outlet.accept.Goals as goal
@@ -28,6 +29,7 @@ returns-then-is_none-clause-sound g c =
     subst (λ (i : Item). IsNextItem (handed c.pass_on.new.self) i) same
     (subst (λ xs. IsNextItem xs c.args.item) (sym whole) (if_none _ _ none c.requires.next)) in
     let put = unless_err _ c.push-then-is_none.result
-    (λ err. let full = c.push-then-is_none.ensures.full.0 err in absurd (omega (arith, ap length empty, full, passed.sound.room)))
+    (λ err. let full = c.push-then-is_none.ensures.full.0 err in
+    absurd (omega (arith, ap length empty, full, passed.sound.room)))
     c.push-then-is_none.ensures.ok in
     sound_taken c.pass_on.new.self _ c.in-Err.item passed.sound own next refl put

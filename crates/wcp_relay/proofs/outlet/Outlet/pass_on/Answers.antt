@@ -1,20 +1,24 @@
 use Rattle.wcp_relay.proofs.Words.{sym, ap, ◌∙◌, refl, rules, drop, Held}
 use Rattle.wcp_relay.proofs.LeafWork.{if_some}
-use Rattle.wcp_relay.proofs.Passing.{first_follow, handed_passed, sound_passed, sound_same, held_fewer, is_none, if_none}
+use Rattle.wcp_relay.proofs.Passing.{first_follow, handed_passed, sound_passed, sound_same, held_fewer, is_none}
+use Rattle.wcp_relay.proofs.Passing.{if_none}
 use Rattle.wcp_relay.proofs.outlet.Outlet.pass_on.Goals as goal
 
 pub put-requires : goal.put-requires
 put-requires g c =
-    first_follow c.loop-bundle.self c.in-Some.bundle c.loop-bundle.invariant.sound (if_some _ _ _ c.in-Some.is c.first_bundle.ensures.some)
+    first_follow c.loop-bundle.self c.in-Some.bundle c.loop-bundle.invariant.sound
+    (if_some _ _ _ c.in-Some.is c.first_bundle.ensures.some)
 
 pub returns-in-Err-clause-sound : goal.returns-in-Err-clause-sound
-returns-in-Err-clause-sound g c = sound_same c.loop-bundle.self _ c.loop-bundle.invariant.sound c.in-Err.ensures.err.1 refl
+returns-in-Err-clause-sound g c =
+    sound_same c.loop-bundle.self _ c.loop-bundle.invariant.sound c.in-Err.ensures.err.1 refl
 
 pub loop-bundle-smaller : goal.loop-bundle-smaller
 loop-bundle-smaller g c =
     let first = if_some _ _ _ c.in-Some.is c.first_bundle.ensures.some in
     let held = c.loop-bundle.self.hold in
-    let rest = c.let_go.ensures ∙ ap (λ n. let h : Held = record held { items = drop n held.items } in h) c.len-count.ensures.count in
+    let rest = c.let_go.ensures
+    ∙ ap (λ n. let h : Held = record held { items = drop n held.items } in h) c.len-count.ensures.count in
     held_fewer held c.let_go.new.hold c.in-Some.bundle first c.len-count.ensures.bundle.some rest
 
 pub loop-bundle-preserved : goal.loop-bundle-preserved
@@ -23,11 +27,13 @@ loop-bundle-preserved g c =
     let old = c.loop-bundle.invariant in
     let held = c.loop-bundle.self.hold in
     let put = c.in_default-put.ensures.ok in
-    let rest = c.let_go.ensures ∙ ap (λ n. let h : Held = record held { items = drop n held.items } in h) c.len-count.ensures.count in
+    let rest = c.let_go.ensures
+    ∙ ap (λ n. let h : Held = record held { items = drop n held.items } in h) c.len-count.ensures.count in
     record {
       same = search rules;
       sound = sound_passed c.loop-bundle.self _ c.in-Some.bundle old.sound first put rest;
-      handed = handed_passed c.loop-bundle.self (record c.loop-bundle.self { putter = c.put.new.putter; hold = c.let_go.new.hold }) c.in-Some.bundle first put rest ∙ old.handed;
+      handed = handed_passed c.loop-bundle.self (record c.loop-bundle.self
+          { putter = c.put.new.putter; hold = c.let_go.new.hold }) c.in-Some.bundle first put rest ∙ old.handed;
       uncut = old.uncut;
     }
 

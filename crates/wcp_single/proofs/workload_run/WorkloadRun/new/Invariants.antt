@@ -6,4 +6,5 @@ abbrev pub invariant-loop-id : goal.invariant-loop-id
 invariant-loop-id l = AreNew l.plan.n l.plan.watched l.plan.flag l.id l.processes.items
 
 abbrev pub invariant-loop : goal.invariant-loop
-invariant-loop l = AreNew l.fn.plan.n l.fn.plan.watched l.fn.plan.flag l.fn.plan.n l.processes.items × (l.in_transit.items ≡ replicate l.counter [])
+invariant-loop l = AreNew l.fn.plan.n l.fn.plan.watched l.fn.plan.flag l.fn.plan.n l.processes.items
+    × (l.in_transit.items ≡ replicate l.counter [])

@@ -13,8 +13,10 @@ loop-from-preserved g c =
     let is : c.index_mut.result.now ≡ inbox_from c.loop-from.self k = grind (arith, common_steps) in
     record {
       count = search rules;
-      more = each_entry (λ q entry. IfBoth (HasTakenMore q) (inbox_from c.args.self.now q) entry) c.loop-from.self.inboxes.items k c.take_all_by.new.inbox old.more
-          (both_then (HasTakenMore k) (more_more k) (inbox_from c.args.self.now k) (inbox_from c.loop-from.self k) c.take_all_by.new.inbox (old.more k)
+      more = each_entry (λ q entry. IfBoth (HasTakenMore q) (inbox_from c.args.self.now q) entry)
+          c.loop-from.self.inboxes.items k c.take_all_by.new.inbox old.more
+          (both_then (HasTakenMore k) (more_more k) (inbox_from c.args.self.now k)
+          (inbox_from c.loop-from.self k) c.take_all_by.new.inbox (old.more k)
           (subst (λ entry. IfBoth (HasTakenMore k) entry c.take_all_by.new.inbox) is (c.in_ok-take_all_by.ensures k)));
       outboxes = old.outboxes;
     }

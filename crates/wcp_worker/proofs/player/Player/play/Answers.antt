@@ -8,7 +8,9 @@ loop-step-preserved g c =
     let more = c.in_ok-perform.ensures.done in
     let old = c.loop-step.invariant in (
       old.0 ++ more.0 ∷ [],
-      subst (λ (actions : List Action). HasDoneActions c.args.self.now actions (old.0 ++ more.0 ∷ []) c.perform.new.self)
+      subst
+          (λ (actions : List Action). HasDoneActions c.args.self.now actions (old.0 ++ more.0 ∷ []) c.perform.new.self)
           (sym (take_more c.args.actions.now c.loop-step.step (action.Observe false) (omega arith)))
-          (done_more c.args.self.now c.loop-step.self c.perform.new.self _ old.0 _ more.0 old.1 more.1 c.in_ok-perform.ensures.same),
+          (done_more c.args.self.now c.loop-step.self c.perform.new.self _ old.0 _ more.0 old.1 more.1
+          c.in_ok-perform.ensures.same),
     )

@@ -7,10 +7,15 @@ use Rattle.wcp_world.proofs.processes.Processes.observe.Goals.{in-Ok, in-Err}
 pub returns-clause-answered : goal.returns-clause-answered
 returns-clause-answered c =
     let core = c.in-Some.probe.now in
-    let at = slice_get_read c.self.inside.probes.items _ c.args.p core c.self.inside.probes.ok.0 (c.in-Some.ensures.variant.0 refl) c.in-Some.ensures.value in
+    let at = slice_get_read c.self.inside.probes.items _ c.args.p core c.self.inside.probes.ok.0
+    (c.in-Some.ensures.variant.0 refl) c.in-Some.ensures.value in
     rw (← c.self.view_is) (λ n watched flag c' put stands. elim c.match-observe.branch [
       | in-Ok w ↦ rw w.result-is
-          (observes n watched flag c' put _ stands c.args.p core at c.observe.new.self c.args.holds w.in-Ok.field-0 w.in-Ok.ensures.first w.in-Ok.ensures.accepted w.in-Ok.ensures.emits w.in-Ok.ensures.spared w.in-Ok.ensures.pending)
+          (observes n watched flag c' put _ stands c.args.p core at c.observe.new.self c.args.holds w.in-Ok.field-0
+          w.in-Ok.ensures.first w.in-Ok.ensures.accepted w.in-Ok.ensures.emits w.in-Ok.ensures.spared
+          w.in-Ok.ensures.pending)
       | in-Err w ↦ rw w.result-is
-          (refuses_as n watched flag c' put _ stands c.args.p core at c.observe.new.self (step.Observe c.args.p c.args.holds) _ w.in-Err.refusal _ _ w.in-Err.ensures.refused refl (observe_reasons n watched flag c' put _ stands c.args.p core at c.args.holds) w.in-Err.ensures.first w.why_of.ensures)
+          (refuses_as n watched flag c' put _ stands c.args.p core at c.observe.new.self
+          (step.Observe c.args.p c.args.holds) _ w.in-Err.refusal _ _ w.in-Err.ensures.refused refl (observe_reasons
+          n watched flag c' put _ stands c.args.p core at c.args.holds) w.in-Err.ensures.first w.why_of.ensures)
     ])

@@ -7,7 +7,8 @@ use Rattle.wcp_relay.proofs.FreshProbes.{probes_fresh}
 use Rattle.worker_cases.proofs.tests.two_threads.two_workers.Goals as goal
 
 pub open_workers-requires-clause-probes : goal.open_workers-requires-clause-probes
-open_workers-requires-clause-probes c = probes_fresh c.args.workload.now.plan 7 c.in_ok-opened.opened c.in_ok-opened.ensures
+open_workers-requires-clause-probes c =
+    probes_fresh c.args.workload.now.plan 7 c.in_ok-opened.opened c.in_ok-opened.ensures
 
 pub returns : goal.returns
 returns c =
@@ -17,7 +18,8 @@ returns c =
     let front = c.pop-2.new.self.items in
     let one : rest ≡ front ++ c.in-Some-pop.first ∷ [] = c.in-Some-pop.ensures.items in
     let two : workers ≡ rest ++ c.in-Some.second ∷ [] = c.in-Some.ensures.items in
-    let within : length front < length rest = omega (arith, ap length one ∙ length-append front (c.in-Some-pop.first ∷ [])) in
+    let within : length front < length rest =
+    omega (arith, ap length one ∙ length-append front (c.in-Some-pop.first ∷ [])) in
     let first : slice_get workers (length front) ≡ Some c.in-Some-pop.first =
     ap (λ ws. slice_get ws (length front)) two ∙ earlier_entry rest (c.in-Some.second ∷ []) (length front) within
     ∙ ap (λ ws. slice_get ws (length front)) one ∙ last_entry front c.in-Some-pop.first in
