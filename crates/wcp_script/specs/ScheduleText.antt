@@ -1,9 +1,9 @@
 -- The lines of the steps of a schedule.
-use Rattle.std.specs.Prelude.{◌<◌, Bool, true, false, List, [], ◌∷◌, codes}
+use Rattle.std.specs.Prelude.{◌≡◌, ℕ, ◌<◌, Bool, true, false, List, [], ◌∷◌, ◌++◌, codes}
 use Rattle.std.specs.Fmt.{decimal}
 use Rattle.wcp_model.specs.declared.step.Step.{Step}
 use Rattle.wcp_model.specs.declared.step.Step.TheVariants as step
-use Rattle.wcp_script.specs.Lines.{Word}
+use Rattle.wcp_script.specs.Lines.{Word, line_text}
 
 -- The word for whether a condition holds.
 abbrev pub truth_word : Bool → Word
@@ -35,3 +35,8 @@ HasLineNumbers (step.Admit relay p) = (relay < 4294967296) × (p < 4294967296)
 HasLineNumbers (step.Pull relay) = relay < 4294967296
 HasLineNumbers (step.Pass relay) = relay < 4294967296
 HasLineNumbers step.Check = Unit {0}
+
+-- A text begins with the line of a step, which has the numbers that a line may have, and this is behind that line.
+pub record BeginsWithStep (text : List ℕ) (does : Step) (rest : List ℕ) : Type 0 where
+  pub line : text ≡ line_text (step_words does) ++ rest
+  pub numbers : HasLineNumbers does

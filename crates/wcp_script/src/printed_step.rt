@@ -1,9 +1,9 @@
 //! The step lines of a schedule, read at one look at each byte.
-ghost use Rattle.std.specs.Prelude.{◌≡◌, ℕ, ◌≤◌, ◌++◌, [], ◌∷◌, length, vec_len, IfOk, IfSome, OnOk};
+ghost use Rattle.std.specs.Prelude.{◌≡◌, ℕ, ◌≤◌, ◌++◌, [], ◌∷◌, length, vec_len, codes, IfOk, IfSome, OnOk};
 ghost use Rattle.std.specs.Fmt.{decimal};
 ghost use Rattle.wcp_clock.specs.Limits.{most_steps};
 ghost use Rattle.wcp_script.specs.Lines.{line_text, lines_of};
-ghost use Rattle.wcp_script.specs.ScheduleText.{step_words, truth_word, HasLineNumbers};
+ghost use Rattle.wcp_script.specs.ScheduleText.{truth_word, BeginsWithStep};
 ghost use Rattle.wcp_script.specs.TextFault.{schedules, steps_behind};
 
 use crate::printed_line::{after_byte, after_four, printed_number, printed_partner};
@@ -43,37 +43,92 @@ pub(crate) fn read_printed_steps<'a>(
 /// most bytes need no look at the length.
 #[inline(always)]
 fn printed_step(text: &[u8]) -> Option<(Step, &[u8])>
-    ensures line { IfSome result (λ found. text.now ≡ line_text (step_words found.0) ++ found.1.now) }
-    ensures numbers { IfSome result (λ found. HasLineNumbers found.0) }
+    ensures { IfSome result (λ found. BeginsWithStep text.now found.0 found.1.now) }
 {
     if text.len() < LONGEST_LINE {
         return None;
     }
     if let Some(rest) = after_four(text, b"obse") {
-        let (p, holds, rest) = printed_observation(after_four(rest, b"rve ")?)?;
-        Some((Step::Observe(p, holds), rest))
+        observe_line(rest)
     } else if let Some(rest) = after_four(text, b"send") {
-        let (p, to, rest) = printed_pair(after_byte(rest, b' ')?)?;
-        Some((Step::Send(p, to), rest))
+        send_line(rest)
     } else if let Some(rest) = after_four(text, b"put ") {
-        let (p, rest) = printed_partner(rest)?;
-        Some((Step::Put(p), rest))
+        put_line(rest)
     } else if let Some(rest) = after_four(text, b"admi") {
-        let rest = after_byte(rest, b't')?;
-        let (relay, p, rest) = printed_pair(after_byte(rest, b' ')?)?;
-        Some((Step::Admit(relay, p), rest))
+        admit_line(rest)
     } else if let Some(rest) = after_four(text, b"pull") {
-        let (relay, rest) = printed_partner(after_byte(rest, b' ')?)?;
-        Some((Step::Pull(relay), rest))
+        pull_line(rest)
     } else if let Some(rest) = after_four(text, b"pass") {
-        let (relay, rest) = printed_partner(after_byte(rest, b' ')?)?;
-        Some((Step::Pass(relay), rest))
+        pass_line(rest)
     } else if let Some(rest) = after_four(text, b"chec") {
-        let rest = after_byte(rest, b'k')?;
-        Some((Step::Check, after_byte(rest, b'\n')?))
+        check_line(rest)
     } else {
         None
     }
+}
+
+/// What a process observes, by the text after `obse`.
+#[inline(always)]
+fn observe_line(text: &[u8]) -> Option<(Step, &[u8])>
+    ensures { IfSome result (λ found. BeginsWithStep (codes "obse" ++ text.now) found.0 found.1.now) }
+{
+    let (p, holds, rest) = printed_observation(after_four(text, b"rve ")?)?;
+    Some((Step::Observe(p, holds), rest))
+}
+
+/// A send, by the text after `send`.
+#[inline(always)]
+fn send_line(text: &[u8]) -> Option<(Step, &[u8])>
+    ensures { IfSome result (λ found. BeginsWithStep (codes "send" ++ text.now) found.0 found.1.now) }
+{
+    let (p, to, rest) = printed_pair(after_byte(text, b' ')?)?;
+    Some((Step::Send(p, to), rest))
+}
+
+/// A put, by the text after `put` and its space.
+#[inline(always)]
+fn put_line(text: &[u8]) -> Option<(Step, &[u8])>
+    ensures { IfSome result (λ found. BeginsWithStep (codes "put " ++ text.now) found.0 found.1.now) }
+{
+    let (p, rest) = printed_partner(text)?;
+    Some((Step::Put(p), rest))
+}
+
+/// What a relay admits, by the text after `admi`.
+#[inline(always)]
+fn admit_line(text: &[u8]) -> Option<(Step, &[u8])>
+    ensures { IfSome result (λ found. BeginsWithStep (codes "admi" ++ text.now) found.0 found.1.now) }
+{
+    let rest = after_byte(text, b't')?;
+    let (relay, p, rest) = printed_pair(after_byte(rest, b' ')?)?;
+    Some((Step::Admit(relay, p), rest))
+}
+
+/// What a relay pulls, by the text after `pull`.
+#[inline(always)]
+fn pull_line(text: &[u8]) -> Option<(Step, &[u8])>
+    ensures { IfSome result (λ found. BeginsWithStep (codes "pull" ++ text.now) found.0 found.1.now) }
+{
+    let (relay, rest) = printed_partner(after_byte(text, b' ')?)?;
+    Some((Step::Pull(relay), rest))
+}
+
+/// What a relay passes on, by the text after `pass`.
+#[inline(always)]
+fn pass_line(text: &[u8]) -> Option<(Step, &[u8])>
+    ensures { IfSome result (λ found. BeginsWithStep (codes "pass" ++ text.now) found.0 found.1.now) }
+{
+    let (relay, rest) = printed_partner(after_byte(text, b' ')?)?;
+    Some((Step::Pass(relay), rest))
+}
+
+/// A check, by the text after `chec`.
+#[inline(always)]
+fn check_line(text: &[u8]) -> Option<(Step, &[u8])>
+    ensures { IfSome result (λ found. BeginsWithStep (codes "chec" ++ text.now) found.0 found.1.now) }
+{
+    let rest = after_byte(text, b'k')?;
+    Some((Step::Check, after_byte(rest, b'\n')?))
 }
 
 /// The two numbers that a line ends with, and the text after the line.
