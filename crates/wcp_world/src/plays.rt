@@ -27,15 +27,26 @@ pub fn play(alloc: Global, plan: &Plan, steps: &[Step]) -> Result<Played, AllocE
 {
     let mut world = World::new(alloc, plan)?;
     let mut replies = Vec::with_capacity(alloc, steps.len())?;
-    for step in steps {
-        answer(&mut world, *step, &mut replies)?;
-    }
+    answer_all(&mut world, steps, &mut replies)?;
     let tallies = tallies(alloc, &world)?;
     Ok(Played {
         replies,
         report: world.report(),
         tallies,
     })
+}
+
+/// Makes these steps one after another, and notes their replies.
+fn answer_all(world: &mut World, steps: &[Step], replies: &mut Vec<Reply>) -> Result<(), AllocError>
+    ensures { OnOk result
+        ((plan : Plan)
+        → HasAnswered plan [] replies.old.items world.old
+        → HasAnswered plan steps.now replies.new.items world.new) }
+{
+    for step in steps {
+        answer(world, *step, replies)?;
+    }
+    Ok(())
 }
 
 /// Makes the next step, and notes its reply.
