@@ -1,10 +1,9 @@
 -- Detection, from the first event to the answer.
 use Rattle.std.proofs.lemmas.Grind.{common_steps}
-use Rattle.wcp_detect.proofs.Words.{◌≡◌, ◌∙◌, ◌+◌, ◌-◌, ◌^◌, ◌<◌, ℕ, Bool, true, false, List, [], ◌∷◌, ◌++◌}
-use Rattle.wcp_detect.proofs.Words.{Option, Some, Result, Ok, Err, length, length-append, length-map, refl}
-use Rattle.wcp_detect.proofs.Words.{ap, subst, arith, Logged, Taken, Watch, HasTaken, watched_by, is_known}
-use Rattle.wcp_detect.proofs.Words.{Condition, Watcher, taken_of, IsWatching, CanTake, WatchesNext}
-use Rattle.wcp_detect.proofs.Words.{host_of, slice_index_or}
+use Rattle.wcp_detect.proofs.Words.{◌≡◌, ◌∙◌, ◌+◌, ◌-◌, ◌^◌, ◌<◌, ℕ, Bool, true, false, List, [], ◌∷◌, ◌++◌, Option}
+use Rattle.wcp_detect.proofs.Words.{Some, Result, Ok, Err, length, length-append, length-map, refl, ap, subst, arith}
+use Rattle.wcp_detect.proofs.Words.{Logged, Taken, Watch, HasTaken, watched_by, is_known, Condition, Watcher, taken_of}
+use Rattle.wcp_detect.proofs.Words.{IsWatching, CanTake, WatchesNext, host_of, slice_index_or}
 use Rattle.std.proofs.lemmas.List.{get_or_default}
 use Rattle.std.specs.Prelude.{MatchBool}
 use Rattle.std.specs.Result.{IsErr, IsErrAnd}

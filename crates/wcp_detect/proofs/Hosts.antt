@@ -1,8 +1,8 @@
 -- The hosts of conditions are distinct.
 use Rattle.std.proofs.lemmas.Grind.{common_steps}
-use Rattle.wcp_detect.proofs.Words.{◌≡◌, ◌∙◌, ◌<◌, ℕ, Bool, false, List, [], ◌∷◌, Some}
-use Rattle.wcp_detect.proofs.Words.{None, length, map, refl, sym, arith, length-map, slice_index_or, bytes_eq}
-use Rattle.wcp_detect.proofs.Words.{Condition, host_of, HaveHosts, condition_at, get_or-map, inl, inr}
+use Rattle.wcp_detect.proofs.Words.{◌≡◌, ◌∙◌, ◌<◌, ℕ, Bool, false, List, [], ◌∷◌, Some, None, length, map, refl, sym}
+use Rattle.wcp_detect.proofs.Words.{arith, length-map, slice_index_or, bytes_eq, Condition, host_of, HaveHosts}
+use Rattle.wcp_detect.proofs.Words.{condition_at, get_or-map, inl, inr}
 use Rattle.std.proofs.lemmas.Slice.Eq.{bytes_eq-Decides}
 use Rattle.std.proofs.lemmas.Bool.Decides.{leb_tells}
 use Rattle.std.proofs.Common.{suc, zero, true≢false}

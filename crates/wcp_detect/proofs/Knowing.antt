@@ -3,8 +3,7 @@ use Rattle.wcp_detect.proofs.Words.{◌≡◌, ◌∙◌, ◌+◌, ℕ, Bool, tr
 use Rattle.wcp_detect.proofs.Words.{length, map, option_map, refl, sym, ap, subst, append-nil, length-append}
 use Rattle.wcp_detect.proofs.Words.{map-append, filter-append, filter, option_to_list, if◌then◌else◌, ◌&&◌, bytes_eq}
 use Rattle.wcp_detect.proofs.Words.{Logged, Taken, Condition, host_of, rule_of, holds_at_last, Judged, events_at}
-use Rattle.wcp_detect.proofs.Words.{texts_at, condition_at, taken_after, taken_of, count_matched}
-use Rattle.wcp_detect.proofs.Words.{JudgesNext, Knows}
+use Rattle.wcp_detect.proofs.Words.{texts_at, condition_at, taken_after, taken_of, count_matched, JudgesNext, Knows}
 use Rattle.std.proofs.lemmas.Slice.Eq.{bytes_eq-Decides}
 use Rattle.wcp_condition.specs.Judging.{HasJudged}
 use Rattle.wcp_detect.proofs.Taking.{taken_more}

@@ -1,6 +1,6 @@
 -- A text that grows line by line.
-use Rattle.wcp_detect.proofs.Words.{◌≡◌, ◌∙◌, ◌+◌, ◌<◌, ◌≤◌, ℕ, List, ◌∷◌, ◌++◌, length, drop, sym, ap}
-use Rattle.wcp_detect.proofs.Words.{append_assoc, append-nil, slice_index_or, Logged, Condition, host_of}
+use Rattle.wcp_detect.proofs.Words.{◌≡◌, ◌∙◌, ◌+◌, ◌<◌, ◌≤◌, ℕ, List, ◌∷◌, ◌++◌, length, drop, sym, ap, append_assoc}
+use Rattle.wcp_detect.proofs.Words.{append-nil, slice_index_or, Logged, Condition, host_of}
 use Rattle.std.proofs.Common.{add-one, drop-cons}
 use Rattle.std.proofs.Math.ListN.{drop_of_length-le}
 use Rattle.std.specs.List.{flat_map}

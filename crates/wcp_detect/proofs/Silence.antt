@@ -1,7 +1,7 @@
 -- The first host that logs nothing.
 use Rattle.std.proofs.lemmas.Grind.{common_steps}
-use Rattle.wcp_detect.proofs.Words.{◌≡◌, ◌∙◌, ◌+◌, ◌<◌, ◌≤◌, ℕ, List, [], length, take, sym, ap}
-use Rattle.wcp_detect.proofs.Words.{arith, slice_index_or, Logged, Condition, Judged, host_of, events_at, AreJudges}
+use Rattle.wcp_detect.proofs.Words.{◌≡◌, ◌∙◌, ◌+◌, ◌<◌, ◌≤◌, ℕ, List, [], length, take, sym, ap, arith, slice_index_or}
+use Rattle.wcp_detect.proofs.Words.{Logged, Condition, Judged, host_of, events_at, AreJudges}
 use Rattle.std.proofs.lemmas.List.{take_all}
 use Rattle.std.proofs.lemmas.List.Elements.{All-more}
 use Rattle.wcp_detect.specs.Detection.{AllLog, IsFirstSilent, IsSilent}

@@ -1,8 +1,7 @@
 -- What a search takes of one event more, and the clock that the last one taken of a host has.
-use Rattle.wcp_detect.proofs.Words.{◌≡◌, ◌∙◌, ℕ, Bool, true, false, cond, List, [], ◌∷◌, ◌++◌, Option, Some, None}
-use Rattle.wcp_detect.proofs.Words.{refl, sym, ap, append_assoc, append-nil, option_to_list}
-use Rattle.wcp_detect.proofs.Words.{bytes_eq, Member, Logged, clock_after, Condition, taken_from}
-use Rattle.wcp_detect.proofs.Words.{taken_after, condition_at}
+use Rattle.wcp_detect.proofs.Words.{◌≡◌, ◌∙◌, ℕ, Bool, true, false, cond, List, [], ◌∷◌, ◌++◌, Option, Some, None, refl}
+use Rattle.wcp_detect.proofs.Words.{sym, ap, append_assoc, append-nil, option_to_list, bytes_eq, Member, Logged}
+use Rattle.wcp_detect.proofs.Words.{clock_after, Condition, taken_from, taken_after, condition_at}
 use Rattle.wcp_events.specs.Events.{events_of}
 use Rattle.wcp_moment.specs.Moment.{events_of as events_taken}
 use Rattle.std.proofs.lemmas.Slice.Eq.{bytes_eq-Decides}

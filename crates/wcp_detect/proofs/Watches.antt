@@ -1,15 +1,13 @@
 -- What a watcher knows, with one event of the log more.
 use Rattle.std.proofs.lemmas.Grind.{common_steps}
-use Rattle.wcp_detect.proofs.Words.{◌≡◌, ◌∙◌, ◌+◌, ◌-◌, ◌^◌, ◌<◌, ◌≤◌, ℕ, Bool, true, false, cond, filter}
-use Rattle.wcp_detect.proofs.Words.{HasRoomAt, List, [], ◌∷◌, ◌++◌, Some, None, Result, Ok, Err}
-use Rattle.wcp_detect.proofs.Words.{length, length-set, length-map, refl, sym, ap, subst, arith, append-nil}
-use Rattle.wcp_detect.proofs.Words.{option_to_list, option_map, get_or-map, get_or-set_same, get_or-set_other}
-use Rattle.wcp_detect.proofs.Words.{slice_index_or, inl, inr, bytes_eq, Logged}
+use Rattle.wcp_detect.proofs.Words.{◌≡◌, ◌∙◌, ◌+◌, ◌-◌, ◌^◌, ◌<◌, ◌≤◌, ℕ, Bool, true, false, cond, filter, HasRoomAt}
+use Rattle.wcp_detect.proofs.Words.{List, [], ◌∷◌, ◌++◌, Some, None, Result, Ok, Err, length, length-set, length-map}
+use Rattle.wcp_detect.proofs.Words.{refl, sym, ap, subst, arith, append-nil, option_to_list, option_map, get_or-map}
+use Rattle.wcp_detect.proofs.Words.{get_or-set_same, get_or-set_other, slice_index_or, inl, inr, bytes_eq, Logged}
 use Rattle.wcp_detect.proofs.Words.{FollowsIn, Taken, Watch, watch_at, MayFollow, IsNextAt, HaveDistinctHosts, HasTaken}
-use Rattle.wcp_detect.proofs.Words.{watched_by, TakesNext, Condition, host_of, rule_of, HaveHosts}
-use Rattle.wcp_detect.proofs.Words.{holds_at_last, Judged, Watcher, watch_of, watches, texts_at, condition_at}
-use Rattle.wcp_detect.proofs.Words.{taken_of, taken_from, Knows, AreJudges, JudgesOneAt}
-use Rattle.wcp_detect.proofs.Words.{IsWatching, IsPlace, WatchesNext}
+use Rattle.wcp_detect.proofs.Words.{watched_by, TakesNext, Condition, host_of, rule_of, HaveHosts, holds_at_last}
+use Rattle.wcp_detect.proofs.Words.{Judged, Watcher, watch_of, watches, texts_at, condition_at, taken_of, taken_from}
+use Rattle.wcp_detect.proofs.Words.{Knows, AreJudges, JudgesOneAt, IsWatching, IsPlace, WatchesNext}
 use Rattle.std.proofs.lemmas.List.{get_or_default}
 use Rattle.std.proofs.Math.ListN.{get_or-append}
 use Rattle.std.proofs.Math.Seq.{get_or-append_seam}

@@ -1,17 +1,15 @@
 -- The words of the proofs of this crate, from one place.
-pub use Rattle.std.proofs.Common.{◌≡◌, ◌≢◌, ◌∙◌, ◌+◌, ◌-◌, ◌^◌, ◌<◌, ◌≤◌, ℕ, Bool, true, false, cond, List, [], ◌∷◌}
-pub use Rattle.std.proofs.Common.{◌++◌, Option, Some, None, Result, Ok, Err, length, length-set, drop, take, map, inl}
-pub use Rattle.std.proofs.Common.{inr, option_map, refl, sym, ap, subst, arith, append_assoc, append-nil, length-append}
+pub use Rattle.std.proofs.Common.{◌≡◌, ◌∙◌, ◌+◌, ◌-◌, ◌^◌, ◌<◌, ◌≤◌, ℕ, Bool, true, false, cond, List, [], ◌∷◌, ◌++◌}
+pub use Rattle.std.proofs.Common.{Option, Some, None, Result, Ok, Err, length, length-set, drop, take, map, inl, inr}
+pub use Rattle.std.proofs.Common.{option_map, refl, sym, ap, subst, arith, append_assoc, append-nil, length-append}
 pub use Rattle.std.proofs.lemmas.List.{map-append, length-map, get_or-map, get_or-set_same, get_or-set_other}
 pub use Rattle.std.proofs.lemmas.List.Elements.{filter-append}
 pub use Rattle.std.specs.Option.{option_to_list}
-pub use Rattle.std.specs.Prelude.{filter, find, slice_index_or, slice_set, if◌then◌else◌, ◌&&◌}
+pub use Rattle.std.specs.Prelude.{filter, slice_index_or, if◌then◌else◌, ◌&&◌}
 pub use Rattle.std.specs.Str.{bytes_eq}
 pub use Rattle.wcp_log.specs.Clock.{Member}
-pub use Rattle.wcp_log.specs.Event.{Event}
 pub use Rattle.wcp_log.specs.Log.{Logged}
 unfoldable pub use Rattle.wcp_log.specs.Order.{clock_after}
-pub use Rattle.wcp_log.specs.Order.{last_clock, follows}
 pub use Rattle.wcp_events.specs.Events.{FollowsIn}
 pub use Rattle.wcp_moment.specs.Moment.{Taken, Watch, watch_at, MayFollow, IsNextAt, HaveDistinctHosts}
 pub use Rattle.wcp_moment.specs.Search.{HasTaken, watched_by, is_known, TakesNext}

@@ -1,6 +1,6 @@
 -- What is detected in an input, and what is answered.
-use Rattle.std.specs.Prelude.{◌≡◌, ℕ, ◌<◌, List, [], take, All, Option, Result, Ok, Err, length}
-use Rattle.std.specs.Prelude.{slice_index_or, string_bytes}
+use Rattle.std.specs.Prelude.{◌≡◌, ℕ, ◌<◌, List, [], take, All, Option, Result, Ok, Err, length, slice_index_or}
+use Rattle.std.specs.Prelude.{string_bytes}
 use Rattle.std.specs.Io.KnownBytes.{prepend_known}
 use Rattle.wcp_log.specs.declared.turn.Form.{Form}
 use Rattle.wcp_log.specs.Log.{Logged}

@@ -1,5 +1,5 @@
 //! Detection while the log comes in.
-ghost use Rattle.std.specs.Prelude.{◌≡◌, true, ◌<◌, IfOk, IfSome, MatchOption, length};
+ghost use Rattle.std.specs.Prelude.{◌≡◌, true, ◌<◌, [], IfOk, IfSome, MatchOption, length};
 ghost use Rattle.wcp_moment.specs.Search.{is_known, moment_of, watched_by};
 ghost use Rattle.wcp_condition.specs.Conditions.{HaveHosts};
 ghost use Rattle.wcp_detect.specs.Detection.{AllLog, AnswersLast, Detects, IsFirstSilent};
@@ -36,14 +36,27 @@ pub fn detect<I: Read>(
     requires { HaveHosts conditions.now }
     ensures { Detects form conditions.now (I.remaining input.old) (I.remaining input.new) result }
 {
-    let mut events = EventReader::new(alloc, form)?;
     let mut watcher = Watcher::new(alloc, conditions)?;
+    watch_events(alloc, form, &mut watcher, input)
+}
+
+/// Reads a log of this form until this watcher, which has taken no event yet, knows the moment, or to its end.
+fn watch_events<I: Read>(
+    alloc: Global,
+    form: Form,
+    watcher: &mut Watcher<'_>,
+    input: &mut I,
+) -> Result<Answer, DetectFault>
+    requires { IsWatching watcher.old.conditions.now [] watcher.old }
+    ensures { Detects form watcher.old.conditions.now (I.remaining input.old) (I.remaining input.new) result }
+{
+    let mut events = EventReader::new(alloc, form)?;
     for _ in 0..u64::MAX {
         let Some(logged) = events.next_event(input)? else {
             return last_answer(alloc, watcher);
         };
         if watcher.take(logged)? {
-            return Ok(found_answer(alloc, &watcher)?);
+            return Ok(found_answer(alloc, watcher)?);
         }
     }
     Err(DetectFault::Read)
@@ -64,14 +77,14 @@ fn found_answer(alloc: Global, watcher: &Watcher<'_>) -> Result<Answer, AllocErr
 }
 
 /// The answer at the end of the log.
-fn last_answer(alloc: Global, mut watcher: Watcher<'_>) -> Result<Answer, DetectFault>
-    requires as_many { length watcher.judges.items ≡ length watcher.conditions.now }
-    requires watched { watched_by watcher.search ≡ watches watcher.conditions.now }
-    ensures { (conditions : _) (logged : _) → IsWatching conditions logged watcher.entry →
+fn last_answer(alloc: Global, watcher: &mut Watcher<'_>) -> Result<Answer, DetectFault>
+    requires as_many { length watcher.old.judges.items ≡ length watcher.old.conditions.now }
+    requires watched { watched_by watcher.old.search ≡ watches watcher.old.conditions.now }
+    ensures { (conditions : _) (logged : _) → IsWatching conditions logged watcher.old →
         AnswersLast conditions logged result }
 {
     if watcher.search.end() {
-        return Ok(found_answer(alloc, &watcher)?);
+        return Ok(found_answer(alloc, watcher)?);
     }
     if let Some(place) = first_silent(&watcher.judges) {
         let host = String::from_str(alloc, watcher.conditions[place].host.as_str())?;

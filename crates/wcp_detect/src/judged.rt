@@ -3,7 +3,8 @@ ghost use Rattle.std.specs.Prelude.{◌≡◌, ℕ, ◌+◌, ◌-◌, ◌^◌, �
 ghost use Rattle.wcp_condition.specs.Conditions.{rule_of};
 ghost use Rattle.wcp_condition.specs.Holding.{holds_at_last};
 ghost use Rattle.wcp_condition.specs.Judging.{HasJudged};
-ghost use Rattle.wcp_detect.specs.Watcher.{JudgesNext, AreNew, HasRoomAt, JudgesOneAt};
+ghost use Rattle.wcp_condition.specs.declared.condition.Condition.{Condition};
+ghost use Rattle.wcp_detect.specs.Watcher.{JudgesNext, AreNew, HasRoomAt, JudgesOneAt, Knows};
 
 use crate::tally::Tally;
 use std::alloc::{AllocError, Global};
@@ -37,11 +38,18 @@ pub(crate) fn judges_of(
 {
     let mut judges = Vec::with_capacity(alloc, conditions.len())?;
     for condition in conditions {
-        let judge = condition.judge(alloc)?;
-        let tally = Tally::zero();
-        judges.push(Judged { judge, tally })?;
+        judges.push(fresh_judge(alloc, condition)?)?;
     }
     Ok(judges)
+}
+
+/// A judge of this condition, before the first event.
+fn fresh_judge(alloc: Global, condition: &Condition) -> Result<Judged<'_>, AllocError>
+    ensures { IfOk result (λ judge. (conditions : List Condition) → Knows conditions [] condition.now judge) }
+{
+    let judge = condition.judge(alloc)?;
+    let tally = Tally::zero();
+    Ok(Judged { judge, tally })
 }
 
 /// Whether the condition at this place holds at its host's next event, which has this text. It is counted.

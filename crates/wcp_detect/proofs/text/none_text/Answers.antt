@@ -1,6 +1,5 @@
 use Rattle.std.proofs.lemmas.Grind.{common_steps}
-use Rattle.wcp_detect.proofs.Words.{ap, arith, host_of, Condition, Judged, count_events}
-use Rattle.wcp_detect.proofs.Words.{count_matched, taken_of}
+use Rattle.wcp_detect.proofs.Words.{ap, arith, host_of, Condition, Judged, count_events, count_matched, taken_of}
 use Rattle.std.specs.Prelude.{string_bytes}
 use Rattle.wcp_detect.specs.Texts.{count_line}
 use Rattle.wcp_detect.proofs.Printing.{line_more, lines_whole}

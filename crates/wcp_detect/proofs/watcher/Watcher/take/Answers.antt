@@ -1,5 +1,5 @@
-use Rattle.wcp_detect.proofs.Words.{◌≡◌, ◌∙◌, ℕ, List, None, length, refl, ap, subst, arith, length-set}
-use Rattle.wcp_detect.proofs.Words.{condition_at, Condition, Judged, IsPlace, JudgesOneAt}
+use Rattle.wcp_detect.proofs.Words.{◌≡◌, ◌∙◌, ℕ, List, None, length, refl, ap, subst, arith, length-set, condition_at}
+use Rattle.wcp_detect.proofs.Words.{Condition, Judged, IsPlace, JudgesOneAt}
 use Rattle.std.specs.Prelude.{string_bytes}
 use Rattle.std.proofs.lemmas.List.{with_items_is}
 use Rattle.wcp_log.specs.Turns.{seen_logged}

@@ -1,13 +1,13 @@
 use Rattle.wcp_detect.proofs.Words.{◌∙◌, sym, ap, watches}
 use Rattle.wcp_lines.specs.Reader.{left}
 use Rattle.wcp_detect.proofs.Detecting.{answers_early, answers_last, event_fault, goes_on, hands_on, starts}
-use Rattle.wcp_detect.proofs.detection.detect.Goals as goal
+use Rattle.wcp_detect.proofs.detection.watch_events.Goals as goal
 
 pub loop-init : goal.loop-init
 loop-init g c =
     let remaining = g.I.Read.remaining in
-    starts c.args.form c.args.conditions.now (remaining c.args.input.now) _ c.in_ok-events.events.log
-    c.in_ok-watcher.watcher (c.in_ok-events.ensures (remaining c.args.input.now)) c.in_ok-watcher.ensures
+    starts c.args.form c.args.watcher.now.conditions.now (remaining c.args.input.now) _ c.in_ok-events.events.log
+    c.args.watcher.now (c.in_ok-events.ensures (remaining c.args.input.now)) c.requires
 
 pub returns-in_err-logged : goal.returns-in_err-logged
 returns-in_err-logged g c =
@@ -15,8 +15,8 @@ returns-in_err-logged g c =
     let before = c.loop.invariant in
     let reads = c.in_err-logged.ensures.reads c.args.form input before.logged before.read in (
       c.next_event.new.self.lines.ahead,
-      hands_on c.args.form c.args.conditions.now input _ _ _ c.from_residual-in_err-logged.ensures
-          (event_fault c.args.form c.args.conditions.now input _ before.logged c.next_event.new.self.log
+      hands_on c.args.form c.args.watcher.now.conditions.now input _ _ _ c.from_residual-in_err-logged.ensures
+          (event_fault c.args.form c.args.watcher.now.conditions.now input _ before.logged c.next_event.new.self.log
           c.in_err-logged.field-0.0 reads),
     )
 
@@ -27,14 +27,14 @@ returns-in_default g c =
     let before = c.loop.invariant in
     let says = rw c.in_default.is at (c.in_ok-logged.ensures.reads c.args.form input before.logged before.read) in (
       c.next_event.new.self.lines.ahead,
-      answers_last c.args.form c.args.conditions.now input rest before.logged c.last_answer.result says
-          (c.last_answer.ensures c.args.conditions.now before.logged before.watching),
+      answers_last c.args.form c.args.watcher.now.conditions.now input rest before.logged c.last_answer.result says
+          (c.last_answer.ensures c.args.watcher.now.conditions.now before.logged before.watching),
     )
 
 pub returns-in_err-take : goal.returns-in_err-take
 returns-in_err-take g c = (
   c.next_event.new.self.lines.ahead,
-  hands_on c.args.form c.args.conditions.now
+  hands_on c.args.form c.args.watcher.now.conditions.now
       (g.I.Read.remaining c.args.input.now) _ _ _ c.from_residual-in_err-take.ensures tt,
 )
 
@@ -44,7 +44,7 @@ found_answer-requires-clause-known g c =
     let rest = left c.next_event.new.self.lines (g.I.Read.remaining c.next_event.new.input) in
     let before = c.loop.invariant in
     let reads = rw c.in-Some.is at (c.in_ok-logged.ensures.reads c.args.form input before.logged before.read) in
-    let watched = c.in_ok-take.ensures c.args.conditions.now before.logged before.watching reads.0 in
+    let watched = c.in_ok-take.ensures c.args.watcher.now.conditions.now before.logged before.watching reads.0 in
     watched.1 ∙ c.if-branch.true
 
 pub found_answer-requires-clause-watched : goal.found_answer-requires-clause-watched
@@ -53,7 +53,7 @@ found_answer-requires-clause-watched g c =
     let rest = left c.next_event.new.self.lines (g.I.Read.remaining c.next_event.new.input) in
     let before = c.loop.invariant in
     let reads = rw c.in-Some.is at (c.in_ok-logged.ensures.reads c.args.form input before.logged before.read) in
-    let watched = c.in_ok-take.ensures c.args.conditions.now before.logged before.watching reads.0 in
+    let watched = c.in_ok-take.ensures c.args.watcher.now.conditions.now before.logged before.watching reads.0 in
     watched.0.watched ∙ ap watches (sym watched.0.by)
 
 pub returns-then-branch : goal.returns-then-branch
@@ -62,10 +62,10 @@ returns-then-branch g c =
     let rest = left c.next_event.new.self.lines (g.I.Read.remaining c.next_event.new.input) in
     let before = c.loop.invariant in
     let reads = rw c.in-Some.is at (c.in_ok-logged.ensures.reads c.args.form input before.logged before.read) in
-    let watched = c.in_ok-take.ensures c.args.conditions.now before.logged before.watching reads.0 in
+    let watched = c.in_ok-take.ensures c.args.watcher.now.conditions.now before.logged before.watching reads.0 in
     let known = rw c.if-branch.true at watched in (
       c.next_event.new.self.lines.ahead,
-      answers_early c.args.form c.args.conditions.now input _ rest c.loop.events.log c.next_event.new.self.log
+      answers_early c.args.form c.args.watcher.now.conditions.now input _ rest c.loop.events.log c.next_event.new.self.log
           c.loop.watcher c.take.new.self c.loop.counter c.in-Some.logged _ _ before reads known
           c.in_ok-found_answer.ensures.text c.in_ok-found_answer.ensures.status,
     )
@@ -76,7 +76,8 @@ loop-preserved g c =
     let rest = left c.next_event.new.self.lines (g.I.Read.remaining c.next_event.new.input) in
     let before = c.loop.invariant in
     let reads = rw c.in-Some.is at (c.in_ok-logged.ensures.reads c.args.form input before.logged before.read) in
-    let watched = c.in_ok-take.ensures c.args.conditions.now before.logged before.watching reads.0 in
+    let watched = c.in_ok-take.ensures c.args.watcher.now.conditions.now before.logged before.watching reads.0 in
     let unknown = rw c.if-branch.false at watched in
-    goes_on c.args.form c.args.conditions.now input _ rest c.loop.events.log c.next_event.new.self.log c.loop.watcher
+    goes_on c.args.form c.args.watcher.now.conditions.now input _ rest c.loop.events.log c.next_event.new.self.log
+    c.loop.watcher
     c.take.new.self c.loop.counter c.in-Some.logged before reads unknown
