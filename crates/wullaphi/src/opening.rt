@@ -98,6 +98,7 @@ impl Watch {
         ensures checker { IfOk result (λ parts. parts.checker ≡ self.tree.inbox.watch) }
         ensures ends { IfOk result (λ parts. parts.ends ≡ no_ends) }
     {
+        let ends = WatchEnds::new(alloc, self.tree.probes.len(), self.tree.relays.len())?;
         let Watch {
             plan: _,
             processes: _,
@@ -109,11 +110,13 @@ impl Watch {
             relays,
             inbox,
         } = tree;
-        let ends = WatchEnds::new(alloc, probes.len(), relays.len())?;
+        let checker = WatchChecker::new(inbox, checker);
+        let probes = name_probes(alloc, probes)?;
+        let relays = name_relays(alloc, relays)?;
         Ok(WatchParts {
-            probes: name_probes(alloc, probes)?,
-            relays: name_relays(alloc, relays)?,
-            checker: WatchChecker::new(inbox, checker),
+            probes,
+            relays,
+            checker,
             ends,
         })
     }

@@ -150,7 +150,7 @@ fn new_probes(rt: &impl Abort, alloc: Global, n: u32) -> Vec<ProbeCore>
     probes
 }
 
-/// The process of this probe does its task, of a workload with at most one message on its way.
+/// The process of this probe does its task.
 fn perform(
     rt: &impl Abort,
     probe: &mut ProbeCore,
@@ -168,6 +168,15 @@ fn perform(
     }
 }
 
+/// The processes of these probes do their tasks, of a workload with at most one message on its way.
+fn perform_all(rt: &impl Abort, probes: &mut [ProbeCore], checker: &mut Checker, tasks: &[Task]) {
+    let mut message = None;
+    for task in tasks {
+        let probe = probes.get_mut(task.p as usize).expect(rt, "a process");
+        perform(rt, probe, checker, task, &mut message);
+    }
+}
+
 /// The component tests that a checker of `n` processes makes of the snapshots of a ring, of which
 /// there is one for each process in each round.
 fn tests_of_ring(rt: &impl Abort, alloc: Global, n: u32, rounds: u32) -> u64
@@ -179,12 +188,8 @@ fn tests_of_ring(rt: &impl Abort, alloc: Global, n: u32, rounds: u32) -> u64
     let ring = ring_workload(alloc, n, rounds, false).expect(rt, "memory");
     let mut checker = Checker::new(alloc, n, Watched::all(n)).expect(rt, "memory");
     let mut probes = new_probes(rt, alloc, n);
-    let mut message = None;
-    for task in &ring.tasks {
-        let probe = probes.get_mut(task.p as usize).expect(rt, "a process");
-        perform(rt, probe, &mut checker, task, &mut message);
-    }
-    assert_eq!(rt; checker.report(), Report::Undecided);
+    perform_all(rt, &mut probes, &mut checker, &ring.tasks);
+    assert_report(rt, &checker, Report::Undecided);
     assert_eq!(rt; checker.processes(), n);
     assert_eq!(rt; checker.taken(n - 1), u64::from(rounds));
     checker.tests()

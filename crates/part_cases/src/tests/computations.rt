@@ -34,37 +34,68 @@ fn tried_states(alloc: Global, processes: u32) -> Result<Vec<(u32, u64)>, AllocE
     Ok(states)
 }
 
+/// Asks whether a state is true.
+fn check_state(rt: &impl Abort, example: &Example<'_>, of: (u32, u64)) {
+    let is_true = example.true_states.contains(&of);
+    let answer = is_true_state(example.steps, state(of));
+    assert_eq!(rt; answer, is_true, "{}: {of:?}", example.name);
+}
+
+/// Asks whether a state happened before another.
+fn check_pair(
+    rt: &impl Abort,
+    alloc: Global,
+    example: &Example<'_>,
+    from: (u32, u64),
+    to: (u32, u64),
+) -> Result<(), AllocError> {
+    let is_before = example.before.contains(&(from, to));
+    let answer = happened_before(alloc, example.steps, state(from), state(to))?;
+    assert_eq!(rt; answer, is_before, "{}: {from:?} {to:?}", example.name);
+    Ok(())
+}
+
+/// Asks of each state whether it is true, and which others it happened before.
 fn check_states(rt: &impl Abort, alloc: Global, example: &Example<'_>) -> Result<(), AllocError> {
-    let name = example.name;
     let states = tried_states(alloc, example.processes)?;
     for from in &states {
-        let is_true = example.true_states.contains(from);
-        assert_eq!(rt;
-            is_true_state(example.steps, state(*from)),
-            is_true,
-            "{name}: {from:?}"
-        );
+        check_state(rt, example, *from);
         for to in &states {
-            let is_before = example.before.contains(&(*from, *to));
-            let answer = happened_before(alloc, example.steps, state(*from), state(*to))?;
-            assert_eq!(rt; answer, is_before, "{name}: {from:?} {to:?}");
+            check_pair(rt, alloc, example, *from, *to)?;
         }
     }
     Ok(())
 }
 
+/// Whether a cut is named as a satisfying one.
+fn is_named(example: &Example<'_>, cut: &[u64]) -> bool {
+    for satisfying in example.satisfying {
+        if *satisfying == cut {
+            return true;
+        }
+    }
+    false
+}
+
+/// Asks whether a cut of three processes, or of the first of them, is a satisfying one.
+fn check_cut(
+    rt: &impl Abort,
+    alloc: Global,
+    example: &Example<'_>,
+    intervals: [u64; 3],
+) -> Result<(), AllocError> {
+    let count = example.processes.min(3) as usize;
+    let is_satisfying = is_named(example, &intervals[..count]);
+    let cut = intervals.map(Some);
+    let answer = is_satisfying_cut(alloc, example.steps, &cut[..count])?;
+    assert_eq!(rt; answer, is_satisfying, "{}: {intervals:?}", example.name);
+    Ok(())
+}
+
 fn check_cuts(rt: &impl Abort, alloc: Global, example: &Example<'_>) -> Result<(), AllocError> {
-    let name = example.name;
     for code in 0..TRIED * TRIED * TRIED {
         let intervals = [code % TRIED, code / TRIED % TRIED, code / TRIED / TRIED];
-        let cut = &intervals[..example.processes.min(3) as usize];
-        let mut is_satisfying = false;
-        for satisfying in example.satisfying {
-            is_satisfying |= *satisfying == cut;
-        }
-        let named = [Some(intervals[0]), Some(intervals[1]), Some(intervals[2])];
-        let answer = is_satisfying_cut(alloc, example.steps, &named[..cut.len()])?;
-        assert_eq!(rt; answer, is_satisfying, "{name}: {cut:?}");
+        check_cut(rt, alloc, example, intervals)?;
     }
     Ok(())
 }

@@ -2,7 +2,7 @@ use std::alloc::{AllocError, Global};
 use std::process::Abort;
 use wcp_clock::{Clock, Item, Note};
 use wcp_model::{Plan, Reply, Report, Step, Tallies, Tally, Why, plain_plan};
-use wcp_world::{World, play};
+use wcp_world::{Played, World, play};
 
 /// What a step is answered, as worked out by hand.
 #[derive(Drop)]
@@ -86,20 +86,31 @@ fn assert_replies(rt: &impl Abort, replies: &[Reply], replay: &Replay) {
     }
 }
 
+/// Compares how many snapshots of a process were emitted and taken.
+fn assert_tally(rt: &impl Abort, tally: Tally, (emitted, taken): (u64, u64), name: &str) {
+    assert_eq!(rt; tally, Tally { emitted, taken }, "{name}");
+}
+
 /// Compares how many snapshots of each process were emitted and taken.
 fn assert_tallies(rt: &impl Abort, tallies: &Tallies, replay: &Replay) {
     let name = replay.name;
     assert_eq!(rt; tallies.len() as usize, replay.tallies.len(), "{name}");
     for (p, counts) in replay.tallies.iter().enumerate() {
-        let p = p as u32;
-        let (emitted, taken) = *counts;
-        assert!(rt; p < tallies.len());
-        assert_eq!(rt; tallies.get(p), Tally { emitted, taken }, "{name}");
+        assert!(rt; (p as u32) < tallies.len());
+        assert_tally(rt, tallies.get(p as u32), *counts, name);
     }
 }
 
-/// Plays the steps under a plan, and compares each reply, the report and the tallies. Where memory runs out, asking
-/// again plays them.
+/// Plays these steps under a plan. Where memory runs out, asking again plays them.
+fn played(rt: &impl Abort, alloc: Global, plan: &Plan, steps: &[Step]) -> Played {
+    assert!(rt; plan.check().is_ok());
+    match play(alloc, plan, steps) {
+        Ok(played) => played,
+        Err(_) => play(alloc, plan, steps).expect(rt, "memory"),
+    }
+}
+
+/// Plays the steps under a plan, and compares each reply, the report and the tallies.
 pub fn assert_played(
     rt: &impl Abort,
     alloc: Global,
@@ -107,12 +118,11 @@ pub fn assert_played(
     replay: &Replay,
     report: Report,
 ) -> Result<(), AllocError> {
-    assert!(rt; plan.check().is_ok());
-    let steps = steps_of(alloc, replay).or_else(|_| steps_of(alloc, replay))?;
-    let played = match play(alloc, plan, &steps) {
-        Ok(played) => played,
-        Err(_) => play(alloc, plan, &steps)?,
+    let steps = match steps_of(alloc, replay) {
+        Ok(steps) => steps,
+        Err(_) => steps_of(alloc, replay)?,
     };
+    let played = played(rt, alloc, plan, &steps);
     assert_replies(rt, played.replies.as_slice(), replay);
     assert_eq!(rt; played.report, report, "{}", replay.name);
     assert_tallies(rt, &played.tallies, replay);
@@ -173,14 +183,13 @@ fn assert_steps(rt: &impl Abort, world: &mut World, replay: &Replay) -> Result<(
     Ok(())
 }
 
-/// Compares how many snapshots of each process are emitted and taken in a world.
-fn assert_world_tallies(rt: &impl Abort, world: &World, tallies: &[(u64, u64)]) {
+/// Compares how many snapshots of each process are emitted and taken in a world, and its report.
+fn assert_world(rt: &impl Abort, world: &World, tallies: &[(u64, u64)], report: Report) {
+    assert_eq!(rt; world.report(), report);
     assert_eq!(rt; world.processes() as usize, tallies.len());
     for (p, counts) in tallies.iter().enumerate() {
-        let p = p as u32;
-        let (emitted, taken) = *counts;
-        assert!(rt; p < world.processes());
-        assert_eq!(rt; world.tally(p), Tally { emitted, taken }, "process {p}");
+        assert!(rt; (p as u32) < world.processes());
+        assert_tally(rt, world.tally(p as u32), *counts, "a world");
     }
 }
 
@@ -194,10 +203,8 @@ pub fn assert_made_one_by_one(
     report: Report,
 ) -> Result<(), AllocError> {
     let mut world = world_of(rt, alloc, plan)?;
-    assert_eq!(rt; world.report(), Report::Undecided);
-    assert_world_tallies(rt, &world, &[(0, 0), (0, 0)]);
+    assert_world(rt, &world, &[(0, 0), (0, 0)], Report::Undecided);
     assert_steps(rt, &mut world, replay)?;
-    assert_eq!(rt; world.report(), report);
-    assert_world_tallies(rt, &world, replay.tallies);
+    assert_world(rt, &world, replay.tallies, report);
     Ok(())
 }

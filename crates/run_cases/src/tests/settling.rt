@@ -90,9 +90,9 @@ fn run_watch(rt: &(impl Abort + Wait), alloc: Global, lost: Option<u32>) -> Resu
         relays,
         inbox,
     } = watch;
-    let book = Mutex::new(Book::new(2));
     let probes = close_all(alloc, probes, lost)?;
     let relays = run_all(rt, alloc, relays)?;
+    let book = Mutex::new(Book::new(2));
     let checker = check_loop(rt, inbox, checker, &book);
     let book = book.into_inner();
     Ok(Ends {

@@ -9,7 +9,6 @@ use std::process::Abort;
 use std::sync::atomic::AtomicU32;
 use std::sync::atomic::Ordering::SeqCst;
 use std::sync::{Mutex, Wait};
-use std::test::Fail;
 use std::thread::Threads;
 use wcp_book::Book;
 use wcp_model::{Plan, plain_plan};
@@ -171,8 +170,8 @@ fn assert_begun(rt: &impl Abort, shared: &Shared, begun: u32) {
 
 /// Threads can be made, since those of one process run; of those of sixteen one can't, and then none runs.
 #[test]
-fn nothing_runs_where_a_thread_is_refused(rt: HostRuntime) -> Result<(), Fail> {
-    let parts = few_and_many(rt.alloc())?;
+fn nothing_runs_where_a_thread_is_refused(rt: HostRuntime) {
+    let parts = few_and_many(rt.alloc()).expect(&rt, "memory");
     let of_few = Shared {
         begun: AtomicU32::new(0),
         book: Mutex::new(Book::new(1)),
@@ -181,10 +180,9 @@ fn nothing_runs_where_a_thread_is_refused(rt: HostRuntime) -> Result<(), Fail> {
         begun: AtomicU32::new(0),
         book: Mutex::new(Book::new(16)),
     };
-    let blocks = take_up_but_gap(rt.alloc())?;
+    let blocks = take_up_but_gap(rt.alloc()).expect(&rt, "memory");
     run_both(&rt, parts, blocks, &of_few, &of_many, rt.alloc());
     assert_begun(&rt, &of_few, 1);
     assert_begun(&rt, &of_many, 0);
     assert_eq!(rt; of_many.book.into_inner().totals().taken, 0);
-    Ok(())
 }

@@ -41,19 +41,20 @@ const ROWS: &[Row<'static>] = &[
     ),
 ];
 
+/// The plan of a row, all of whose processes are watched.
+fn plan_of(alloc: Global, row: &Row) -> Result<Plan, AllocError> {
+    let (n, cap, hold) = row.0;
+    let parents = Vec::from_slice(alloc, row.1)?;
+    let attach = Vec::from_slice(alloc, row.2)?;
+    let watched = Watched::all(n.min(16));
+    Ok(Plan::new(n, cap, hold, parents, attach, watched))
+}
+
 /// Makes the plan of each row, and compares its first fault.
 fn assert_first_faults(rt: &impl Abort, alloc: Global, rows: &[Row]) -> Result<(), AllocError> {
-    for (numbers, parents, attach, expected) in rows {
-        let (n, cap, hold) = *numbers;
-        let plan = Plan::new(
-            n,
-            cap,
-            hold,
-            Vec::from_slice(alloc, parents)?,
-            Vec::from_slice(alloc, attach)?,
-            Watched::all(n.min(16)),
-        );
-        assert_eq!(rt; plan.check(), *expected);
+    for row in rows {
+        let plan = plan_of(alloc, row)?;
+        assert_eq!(rt; plan.check(), row.3);
     }
     Ok(())
 }

@@ -2,12 +2,11 @@
 use super::threads::take_all;
 use super::waiting::next_in_time;
 use super::watches::{last_probe, last_relay, open, run_relay};
-use std::alloc::{AllocError, Global};
+use std::alloc::Global;
 use std::process::Abort;
 use std::sync::Wait;
 use std::sync::atomic::AtomicBool;
 use std::sync::atomic::Ordering::SeqCst;
-use std::test::Fail;
 use std::thread::{Threads, join, sleep, yield_now};
 use std::time::{Clock, Duration};
 use wcp_lane::Taker;
@@ -70,19 +69,15 @@ fn comes_in_time(rt: &impl Wait, mut taker: Taker<Bundle>, came: &AtomicBool, be
 }
 
 /// Whether the one snapshot of a process comes to the root in time, where its probe tells late.
-fn comes_late<R: Threads + Wait + Clock + Abort + Sync>(
-    rt: &R,
-    alloc: Global,
-    then: Then,
-) -> Result<bool, AllocError> {
+fn comes_late<R: Threads + Wait + Clock + Abort + Sync>(rt: &R, alloc: Global, then: Then) -> bool {
     let Watch {
         mut probes,
         mut relays,
         inbox,
-    } = open(rt, alloc, (1, 8, 4), &[Parent::Root], &[Some(0)])?;
+    } = open(rt, alloc, (1, 8, 4), &[Parent::Root], &[Some(0)]).expect(rt, "memory");
     let probe = last_probe(rt, &mut probes).telling_late();
-    let sleeper = probe.new_sleeper(alloc)?;
-    let bell = sleeper.bell()?;
+    let sleeper = probe.new_sleeper(alloc).expect(rt, "memory");
+    let bell = sleeper.bell().expect(rt, "memory");
     let (relay, taker) = (last_relay(rt, &mut relays), inbox.into_taker());
     let came = AtomicBool::new(false);
     let shared = &came;
@@ -97,13 +92,12 @@ fn comes_late<R: Threads + Wait + Clock + Abort + Sync>(
             )
         },
     );
-    Ok(in_time && fault.is_none())
+    in_time && fault.is_none()
 }
 
 #[test]
-fn a_relay_asleep_is_told_before_a_process_waits(rt: HostRuntime) -> Result<(), Fail> {
+fn a_relay_asleep_is_told_before_a_process_waits(rt: HostRuntime) {
     for then in [Then::Tells, Then::Sleeps, Then::Closes] {
-        assert!(rt; comes_late(&rt, rt.alloc(), then)?, "{then:?}");
+        assert!(rt; comes_late(&rt, rt.alloc(), then), "{then:?}");
     }
-    Ok(())
 }

@@ -46,15 +46,19 @@ pub fn gives<R: AllocGlobal + Threads + Wait + Sync + Abort, I: Read>(
     let mut output = Vec::new(rt.alloc());
     let mut errors = Vec::new(rt.alloc());
     let status = drive(rt, words, input, &mut output, &mut errors);
-    assert_eq!(rt;
-        errors.as_slice(),
-        answer.errors,
-        "{words:?}, {case}, {place}"
-    );
-    assert_eq!(rt;
-        output.as_slice(),
-        answer.output,
-        "{words:?}, {case}, {place}"
-    );
+    assert_bytes(rt, &errors, answer.errors, words, case, place);
+    assert_bytes(rt, &output, answer.output, words, case, place);
     assert_eq!(rt; status, answer.status, "{words:?}, {case}, {place}");
+}
+
+/// Compares what the program wrote or said.
+fn assert_bytes(
+    rt: &impl Abort,
+    found: &[u8],
+    expected: &[u8],
+    words: &[&str],
+    case: &str,
+    place: usize,
+) {
+    assert_eq!(rt; found, expected, "{words:?}, {case}, {place}");
 }
