@@ -1,7 +1,6 @@
 -- What a leaf of one process serves.
-use Rattle.std.proofs.Common.{◌≡◌, ◌≢◌, ◌==◌, ℕ, ◌<◌, ◌||◌, nat_cmp, true, false, List, [], ◌∷◌, length, sym, ap, ◌∙◌}
-use Rattle.std.proofs.Common.{subst, arith}
-use Rattle.std.specs.Prelude.{All, AllPairs, nat_eq}
+use Rattle.std.proofs.Common.{◌≡◌, ◌≢◌, ◌==◌, ℕ, nat_cmp, List, [], ◌∷◌, arith}
+use Rattle.std.specs.Prelude.{All, AllPairs}
 use Rattle.std.specs.List.{list_any}
 use Rattle.std.specs.FinSet as set
 use Rattle.std.proofs.lemmas.Bool.Decides.{nat_tests}

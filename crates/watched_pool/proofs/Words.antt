@@ -1,7 +1,7 @@
 -- The words of the proofs of this crate, from one place.
-pub use Rattle.std.proofs.Common.{◌≡◌, ℕ, ◌+◌, not, List, [], ◌∷◌, ◌++◌, if◌then◌else◌, refl, ap, ◌∙◌, arith, None}
-pub use Rattle.std.proofs.Common.{length, subst, append_assoc, zero, suc, Some, slice_get, sym, ◌<◌, ◌≤◌, Result, Ok}
-pub use Rattle.std.proofs.Common.{Err, map, ◌%◌, ◌^◌, take, get_or, All, ◌*◌, true, ◌-◌, nat_lt}
+pub use Rattle.std.proofs.Common.{◌≡◌, ℕ, ◌+◌, List, [], ◌∷◌, ◌++◌, if◌then◌else◌, refl, ap, ◌∙◌, arith, None, length}
+pub use Rattle.std.proofs.Common.{subst, append_assoc, zero, suc, Some, slice_get, sym, ◌≤◌, Result, Ok, map, ◌%◌, ◌^◌}
+pub use Rattle.std.proofs.Common.{take, get_or, All, ◌*◌, true, ◌-◌, nat_lt}
 pub use Rattle.std.proofs.lemmas.List.{length-map, length-append}
 pub use Rattle.std.proofs.lemmas.List.Sums.{fold-append, sum_by-append, sum_by_more}
 pub use Rattle.std.specs.Prelude.{IsSomeAnd, sum}

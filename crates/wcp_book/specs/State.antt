@@ -1,4 +1,4 @@
-use Rattle.std.specs.Prelude.{ℕ, Bool, ◌||◌, is_some, Option, List}
+use Rattle.std.specs.Prelude.{Bool, ◌||◌, is_some, Option, List}
 use Rattle.wcp_model.specs.Cut.{Intervals}
 use Rattle.wcp_model.specs.declared.outcome.Tally.{Tally}
 use Rattle.wcp_book.specs.declared.news.News.{News}

@@ -1,14 +1,12 @@
 -- Conditions that were read, and the first that wasn't.
 use Rattle.std.proofs.lemmas.Grind.{common_steps}
-use Rattle.wcp_condition.proofs.Words.{◌≡◌, ℕ, ◌<◌, ◌≤◌, ◌+◌, ◌&&◌, Bool, true, false, cond, List, [], ◌∷◌}
-use Rattle.wcp_condition.proofs.Words.{◌++◌, map, length, get_or, take, drop, Option, Some, None, Result, IfOk}
-use Rattle.wcp_condition.proofs.Words.{ap, sym, ◌∙◌, subst, add-one, arith, rules, drop-cons, All, AllByRecursion}
-use Rattle.wcp_condition.proofs.Words.{list_any, bytes_eq, length-map, map-append, map_more, take-append-drop, map-map}
-use Rattle.wcp_condition.proofs.Words.{ConditionFault, Usage, Expression, NoMemory, FromUntil, ◌>>=◌, Asked}
-use Rattle.wcp_condition.proofs.Words.{Text, Word, Saying, are_fit, most_hosts}
-use Rattle.wcp_condition.proofs.Words.{seen_saying, said_by, IsReadExpression}
-use Rattle.wcp_condition.proofs.Words.{IsRead, CanBeRead, RefusesExpression, RefusesSaying, RefusesSayings}
-use Rattle.wcp_condition.proofs.Words.{ReadsSayings, HaveHosts}
+use Rattle.wcp_condition.proofs.Words.{◌≡◌, ℕ, ◌<◌, ◌≤◌, ◌+◌, ◌&&◌, Bool, true, false, cond, List, [], ◌∷◌, ◌++◌, map}
+use Rattle.wcp_condition.proofs.Words.{length, get_or, take, drop, Option, Some, None, Result, IfOk, ap, sym, ◌∙◌}
+use Rattle.wcp_condition.proofs.Words.{subst, add-one, arith, rules, drop-cons, All, AllByRecursion, list_any, bytes_eq}
+use Rattle.wcp_condition.proofs.Words.{length-map, map-append, map_more, take-append-drop, map-map, ConditionFault}
+use Rattle.wcp_condition.proofs.Words.{Usage, Expression, NoMemory, FromUntil, ◌>>=◌, Asked, Text, Word, Saying}
+use Rattle.wcp_condition.proofs.Words.{are_fit, most_hosts, seen_saying, said_by, IsReadExpression, IsRead, CanBeRead}
+use Rattle.wcp_condition.proofs.Words.{RefusesExpression, RefusesSaying, RefusesSayings, ReadsSayings, HaveHosts}
 use Rattle.std.specs.List.{IsDistinct}
 use Rattle.std.specs.declared.vec.Vec.{Vec}
 use Rattle.std.proofs.lemmas.List.Elements.{All-map, All-push}
@@ -24,8 +22,7 @@ use Rattle.regex.specs.declared.string.regex.Regex.{Regex}
 use Rattle.wcp_condition.specs.declared.rule.Rule.{Rule}
 use Rattle.wcp_condition.specs.declared.saying.Saying.{Saying as OwnSaying}
 use Rattle.wcp_condition.specs.declared.condition.Condition.{Condition}
-use Rattle.wcp_condition.specs.Asked.{are_distinct}
-use Rattle.wcp_condition.specs.Asked.{conditions_of}
+use Rattle.wcp_condition.specs.Asked.{are_distinct, conditions_of}
 use Rattle.wcp_condition.specs.Rules.{map_rule, EachOf}
 
 -- The grammar reads the text of an expression that was read.

@@ -1,6 +1,6 @@
 -- The conditions that the words of a command line say.
-use Rattle.std.specs.Prelude.{ℕ, ◌==◌, ◌&&◌, Bool, true, not, List, [], ◌∷◌, ◌++◌, length, map, nat_lt, nat_le}
-use Rattle.std.specs.Prelude.{Option, Some, None, find, option_map, if◌then◌else◌}
+use Rattle.std.specs.Prelude.{ℕ, ◌==◌, ◌&&◌, Bool, true, not, List, [], ◌∷◌, ◌++◌, length, map, nat_lt, nat_le, Option}
+use Rattle.std.specs.Prelude.{Some, None, find, option_map, if◌then◌else◌}
 use Rattle.std.specs.List.{list_any, position_or_len, before_first, after_first}
 use Rattle.std.specs.Str.{bytes_eq}
 use Rattle.wcp_condition.specs.declared.rule.Rule.{Rule}

@@ -1,5 +1,5 @@
-use Rattle.std.specs.Prelude.{◌≡◌, ℕ, ◌+◌, ◌-◌, ◌*◌, ◌<◌, ◌≤◌, ◌&&◌, min, Bool, List, nat_lt, slice_index, Option}
-use Rattle.std.specs.Prelude.{None, Some}
+use Rattle.std.specs.Prelude.{◌≡◌, ℕ, ◌+◌, ◌-◌, ◌*◌, ◌<◌, ◌≤◌, ◌&&◌, min, Bool, List, nat_lt, slice_index, Option, None}
+use Rattle.std.specs.Prelude.{Some}
 use Rattle.wcp_model.specs.Cut.{Intervals}
 use Rattle.wcp_draw.specs.declared.frame.Frame.{Frame}
 

@@ -1,11 +1,11 @@
 -- The words of the proofs of this crate, from one place.
-pub use Rattle.std.proofs.Common.{◌≡◌, ◌∙◌, ◌+◌, ◌-◌, ◌<◌, ◌≤◌, ℕ, Bool, true, false, cond, List, [], ◌∷◌, ◌++◌, Option}
-pub use Rattle.std.proofs.Common.{Some, None, Result, Ok, Err, length, map, refl, sym, ap, subst, arith, append_assoc}
-pub use Rattle.std.proofs.Common.{append-nil, length-append}
-pub use Rattle.std.proofs.KnownBytes.{Consumes-nil, Consumes-trans, Consumes-kept}
+pub use Rattle.std.proofs.Common.{◌≡◌, ◌∙◌, ◌+◌, ◌<◌, ℕ, Bool, true, false, cond, List, [], ◌∷◌, ◌++◌, Option, Some}
+pub use Rattle.std.proofs.Common.{None, Result, Ok, Err, length, refl, sym, ap, subst, arith, append_assoc, append-nil}
+pub use Rattle.std.proofs.Common.{length-append}
+pub use Rattle.std.proofs.KnownBytes.{Consumes-trans, Consumes-kept}
 pub use Rattle.std.specs.Io.KnownBytes.{Consumes, IsAtEnd, Keeps}
 pub use Rattle.std.specs.Option.{option_to_list}
-pub use Rattle.std.specs.Prelude.{IfSome, nat_lt, nat_le, if◌then◌else◌}
+pub use Rattle.std.specs.Prelude.{IfSome, nat_lt, if◌then◌else◌}
 pub use Rattle.wcp_lines.specs.Reader.{Gives, IsFirst, Whole, Front, left}
 unfoldable pub use Rattle.wcp_lines.specs.Lines.{lines_of}
 pub use Rattle.wcp_log.specs.declared.fault.FaultKind.{FaultKind}
@@ -20,11 +20,11 @@ pub use Rattle.wcp_log.specs.Event.{Event, Stamp, text_in, most_bytes}
 unfoldable pub use Rattle.wcp_log.specs.Event.{event_in, stamp_in}
 pub use Rattle.wcp_log.specs.Judgement.{◌>>=◌, at_line}
 pub use Rattle.wcp_log.specs.Log.{Half, stamped, texted, Logged, SoFar, Turn, after, end_of, event_after, stamp_after}
-pub use Rattle.wcp_log.specs.Log.{whole, first_turn, turn_of, next_turn, no_lines, with_event, most_lines}
+pub use Rattle.wcp_log.specs.Log.{whole, turn_of, next_turn, no_lines, with_event, most_lines}
 unfoldable pub use Rattle.wcp_log.specs.Log.{log_from}
 pub use Rattle.wcp_log.specs.Order.{last_clock, follows}
-pub use Rattle.wcp_log.specs.State.{HasRead, IsTurn, ReadsLine, lines_left}
+pub use Rattle.wcp_log.specs.State.{HasRead, IsTurn, lines_left}
 pub use Rattle.wcp_log.specs.Turns.{seen_logged}
 pub use Rattle.wcp_events.specs.Events.{event_and_later, whole_log, events_of, FollowsIn}
 unfoldable pub use Rattle.wcp_events.specs.Events.{logged_from}
-pub use Rattle.wcp_events.specs.Reading.{Says, SaysWhole, HasFault, HalfFollows, HasReadEvents, ReadsEvent}
+pub use Rattle.wcp_events.specs.Reading.{SaysWhole, HasFault, HalfFollows, HasReadEvents, ReadsEvent}

@@ -1,9 +1,8 @@
 -- The two halves, one after the other.
 use Rattle.std.proofs.lemmas.Grind.{common_steps}
 use Rattle.wcp_layout.proofs.Words.{◌≡◌, ◌∙◌, ℕ, ◌+◌, ◌<◌, ◌≤◌, ◌⊎◌, Bool, true, false, List, length, slice_index}
-use Rattle.wcp_layout.proofs.Words.{slice_index_or, sym, inl, inr, arith, cases_Bool, false≢true}
-use Rattle.wcp_layout.proofs.Words.{slice_get_within, Task, IsFitOrder, IsEventAt, IsOfHalf, IsClosed, MayStand, IsLaid}
-use Rattle.wcp_layout.proofs.Words.{AreColumns}
+use Rattle.wcp_layout.proofs.Words.{slice_index_or, sym, inl, inr, arith, cases_Bool, false≢true, slice_get_within}
+use Rattle.wcp_layout.proofs.Words.{Task, IsFitOrder, IsEventAt, IsOfHalf, IsClosed, MayStand, IsLaid, AreColumns}
 use Rattle.wcp_layout.proofs.Laying.{next_stays, send_event, receive_event}
 
 -- the first half, where nothing stands in a column

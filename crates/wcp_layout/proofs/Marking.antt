@@ -1,11 +1,10 @@
 -- One more place is marked.
-use Rattle.wcp_layout.proofs.Words.{◌≡◌, ◌∙◌, ℕ, ◌+◌, ◌<◌, ◌⊎◌, ◌↔◌, true, false, Bool, List, Some, length, refl}
-use Rattle.wcp_layout.proofs.Words.{sym, ap, subst, inl, inr, arith, cases_eq, cases_lt, cases_Bool, set, length-set}
+use Rattle.wcp_layout.proofs.Words.{◌≡◌, ◌∙◌, ℕ, ◌+◌, ◌<◌, ◌⊎◌, ◌↔◌, true, false, Bool, List, Some, length, refl, sym}
+use Rattle.wcp_layout.proofs.Words.{ap, subst, inl, inr, arith, cases_eq, cases_lt, cases_Bool, set, length-set}
 use Rattle.wcp_layout.proofs.Words.{get_or-set_same, get_or-set_other, slice_get, slice_index, slice_index_or}
 use Rattle.wcp_layout.proofs.Words.{slice_get_within, count_by, count_before-no, replicate, length-replicate}
-use Rattle.wcp_layout.proofs.Words.{get_or_past, same_Some, take_all, at_place, Action}
-use Rattle.wcp_layout.proofs.Words.{Task, IsWithin, AreSendAndReceive, IsEventAt, is_event, is_event_of, IsOfHalf}
-use Rattle.wcp_layout.proofs.Words.{IsSendOf}
+use Rattle.wcp_layout.proofs.Words.{get_or_past, same_Some, take_all, at_place, Action, Task, IsWithin}
+use Rattle.wcp_layout.proofs.Words.{AreSendAndReceive, IsEventAt, is_event, is_event_of, IsOfHalf, IsSendOf}
 use Rattle.std.proofs.lemmas.Grind.{common_steps}
 use Rattle.wcp_model.specs.declared.workload.Action.TheVariants as action
 use Rattle.wcp_model.specs.Computation.{interval_at}

@@ -1,7 +1,7 @@
 -- The past of a satisfying cut.
-use Rattle.wcp_layout.proofs.Words.{◌≡◌, ◌∙◌, ℕ, ◌+◌, ◌<◌, ◌⊎◌, ◌↔◌, List, Some, None, refl, sym, ap, subst}
-use Rattle.wcp_layout.proofs.Words.{inl, inr, ⊎_elim, arith, cases_eq, cases_lt, eq-eqb, and_from, get_or_past}
-use Rattle.wcp_layout.proofs.Words.{slice_get, same_Some, count_before-yes, count_before-mono, count_before-place, Task}
+use Rattle.wcp_layout.proofs.Words.{◌≡◌, ◌∙◌, ℕ, ◌+◌, ◌<◌, ◌⊎◌, ◌↔◌, List, Some, None, refl, sym, ap, subst, inl, inr}
+use Rattle.wcp_layout.proofs.Words.{⊎_elim, arith, cases_eq, cases_lt, eq-eqb, and_from, get_or_past, slice_get}
+use Rattle.wcp_layout.proofs.Words.{same_Some, count_before-yes, count_before-mono, count_before-place, Task}
 use Rattle.wcp_layout.proofs.Words.{IsFitOrder, IsDelivery, AreSendAndReceive, IsEventAt, is_event_of}
 use Rattle.wcp_model.specs.declared.workload.Action.TheVariants as action
 use Rattle.std.specs.Prelude.{is_some, unwrap_or}

@@ -2,13 +2,12 @@
 use Rattle.wcp_layout.proofs.Words.{◌≡◌, ℕ, ◌+◌, ◌*◌, ◌<◌, false, List, [], ◌∷◌, ◌++◌, length, set, slice_get}
 use Rattle.wcp_layout.proofs.Words.{slice_index, Some, ap, ◌∙◌, inl, inr, arith, get_or, get_or_default}
 use Rattle.wcp_layout.proofs.Words.{get_or-set_same, get_or-set_other, cases_eq, cases_lt, length-set, length-replicate}
-use Rattle.wcp_layout.proofs.Words.{get_or-replicate, length_push, mul-add-lt}
-use Rattle.wcp_layout.proofs.Words.{same_from_place, replicate, sym, sends_yes, receives_yes, count_before-yes}
-use Rattle.wcp_layout.proofs.Words.{count_before-no, sends, receives, Action, Task, at_place, sends_ends, receives_ends}
-use Rattle.wcp_layout.proofs.Words.{send_is_no_receive, receive_is_no_send, AreSendAndReceive, AreInTransit, IsQueue}
+use Rattle.wcp_layout.proofs.Words.{get_or-replicate, length_push, mul-add-lt, same_from_place, replicate, sym}
+use Rattle.wcp_layout.proofs.Words.{sends_yes, receives_yes, count_before-yes, count_before-no, sends, receives, Action}
+use Rattle.wcp_layout.proofs.Words.{Task, at_place, sends_ends, receives_ends, send_is_no_receive, receive_is_no_send}
+use Rattle.wcp_layout.proofs.Words.{AreSendAndReceive, AreInTransit, IsQueue, IsNext, IsSendOf, IsWithin, queue_at}
+use Rattle.wcp_layout.proofs.Words.{add-one, suc, sent_before, AreSends, element_within, slice_get_within}
 use Rattle.std.proofs.lemmas.Grind.{common_steps}
-use Rattle.wcp_layout.proofs.Words.{IsNext, IsSendOf, IsWithin, queue_at, add-one, suc, sent_before, AreSends}
-use Rattle.wcp_layout.proofs.Words.{element_within, slice_get_within}
 use Rattle.wcp_model.specs.declared.workload.Action.TheVariants as action
 
 -- nothing is in transit before the first task

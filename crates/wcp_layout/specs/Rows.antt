@@ -1,6 +1,5 @@
 use Rattle.std.specs.Prelude.{◌≡◌, ℕ, ◌-◌, ◌<◌, ◌≤◌, ◌⊎◌, ◌↔◌, Bool, true, false, List, [], length, slice_get}
-use Rattle.std.specs.Prelude.{slice_index, take, count_by}
-use Rattle.std.specs.Prelude.{Contains, Some}
+use Rattle.std.specs.Prelude.{slice_index, take, count_by, Contains, Some}
 use Rattle.std.specs.List.{slice_index_or}
 use Rattle.std.specs.List.Sorted.{IsStrictlyIncreasing}
 use Rattle.wcp_model.specs.declared.workload.Action.{Action}

@@ -1,13 +1,12 @@
 -- The clocks of a log: which JSON values are clocks, and what they say.
-use Rattle.std.specs.Prelude.{ℕ, ◌&&◌, Bool, true, not, List, [], ◌∷◌, length, max, nat_lt, nat_le}
-use Rattle.std.specs.Prelude.{Option, Some, None, Result, Ok}
-use Rattle.std.specs.Prelude.{option_and_then, if◌then◌else◌}
+use Rattle.std.specs.Prelude.{ℕ, ◌&&◌, Bool, true, not, List, [], ◌∷◌, length, max, nat_lt, nat_le, Option, Some, None}
+use Rattle.std.specs.Prelude.{Result, Ok, option_and_then, if◌then◌else◌}
 use Rattle.std.specs.List.{list_any}
 use Rattle.std.specs.Option.{ok_or}
 use Rattle.std.specs.Str.{bytes_eq, all_ascii_digits}
 use Rattle.std.specs.Str.Parse.{digits_value}
-use Rattle.json.specs.Json.{Json, null, boolean, number, string, array, object}
-use Rattle.json.specs.Json.{Items, no_items, item, Members, no_members, member}
+use Rattle.json.specs.Json.{Json, null, boolean, number, string, array, object, Items, no_items, item, Members}
+use Rattle.json.specs.Json.{no_members, member}
 use Rattle.json.specs.Find.{as_number}
 use Rattle.json.specs.Strict.{keys}
 use Rattle.wcp_log.specs.declared.fault.FaultKind.{FaultKind}

@@ -1,6 +1,6 @@
 -- The events of a log, and which lines spell them.
-use Rattle.std.specs.Prelude.{ℕ, ◌==◌, Bool, List, length, nat_lt, nat_le, Option, Some, option_and_then}
-use Rattle.std.specs.Prelude.{Result, Ok, codes}
+use Rattle.std.specs.Prelude.{ℕ, ◌==◌, Bool, List, length, nat_lt, nat_le, Option, Some, option_and_then, Result, Ok}
+use Rattle.std.specs.Prelude.{codes}
 use Rattle.std.specs.List.{position_or_len, before_first, after_first}
 use Rattle.std.specs.Option.{ok_or}
 use Rattle.std.specs.Str.{is_utf8}

@@ -1,6 +1,6 @@
 -- What a log says, line after line: the events, or the first fault.
-use Rattle.std.specs.Prelude.{ℕ, ◌+◌, ◌-◌, ◌^◌, List, [], ◌∷◌, ◌++◌, nat_lt, if◌then◌else◌}
-use Rattle.std.specs.Prelude.{Option, Some, None, is_none, Result, Ok, Err}
+use Rattle.std.specs.Prelude.{ℕ, ◌+◌, ◌-◌, ◌^◌, List, [], ◌∷◌, ◌++◌, nat_lt, if◌then◌else◌, Option, Some, None, is_none}
+use Rattle.std.specs.Prelude.{Result, Ok, Err}
 use Rattle.wcp_log.specs.declared.fault.FaultKind.{FaultKind}
 use Rattle.wcp_log.specs.declared.fault.FaultKind.TheVariants as kind
 use Rattle.wcp_log.specs.declared.fault.LogFault.{LogFault}

@@ -1,10 +1,9 @@
 use Rattle.wcp_model.proofs.Words.{◌≡◌, ◌≢◌, ℕ, suc, zero, ◌<◌, ◌≤◌, min, Bool, true, false, true≢false, cond, ◌&&◌}
 use Rattle.wcp_model.proofs.Words.{List, [], ◌∷◌, length, map, refl, sym, ap, ap₂, ◌∙◌, subst, inl, inr, arith, ◌+◌}
-use Rattle.wcp_model.proofs.Words.{◌-◌}
-use Rattle.wcp_model.proofs.Words.{sum, ⊎_elim, slice_index_or, Option, Some, None, is_some, unwrap_or, cases_lt}
+use Rattle.wcp_model.proofs.Words.{◌-◌, sum, ⊎_elim, slice_index_or, Option, Some, None, is_some, unwrap_or, cases_lt}
 use Rattle.wcp_model.proofs.Words.{State, Computation, communications, HappenedBefore, NumberSet, IsWatched, Intervals}
-use Rattle.wcp_model.proofs.Words.{NamesWatched, interval_of, lesser, member, minimum, IsSatisfyingCut}
-use Rattle.wcp_model.proofs.Words.{MinimumLaw, IsLeastCut, LeastCutLaw, nil_from_length, length-map, sum_by-cons}
+use Rattle.wcp_model.proofs.Words.{NamesWatched, interval_of, lesser, member, minimum, IsSatisfyingCut, MinimumLaw}
+use Rattle.wcp_model.proofs.Words.{IsLeastCut, LeastCutLaw, nil_from_length, length-map, sum_by-cons}
 use Rattle.std.specs.FinSet as set
 use Rattle.wcp_model.proofs.Predecessors.{local_state, before_later, before_trans}
 use Rattle.wcp_model.proofs.Reached.{true_state_exists}

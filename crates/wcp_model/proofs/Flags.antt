@@ -2,10 +2,8 @@
 use Rattle.wcp_model.proofs.Words.{NumberSet, ◌≡◌, ℕ, ◌+◌, ◌<◌, ◌≤◌, ◌⊎◌, true, false, true≢false, [], ◌∷◌, ◌++◌, gets}
 use Rattle.wcp_model.proofs.Words.{length, slice_get, count_by, Some, refl, sym, ap, inl, inr, arith, cases_lt}
 use Rattle.wcp_model.proofs.Words.{cases_Bool, eq-eqb, cond, sum_by_push, take_at, slice_get_within, slice_get_cases}
-use Rattle.wcp_model.proofs.Words.{common_steps}
-use Rattle.wcp_model.proofs.Words.{State, Step, Observe, Send, Computation, IsTrueState}
-use Rattle.wcp_model.proofs.Words.{is_communication_of, communications, interval_at}
-use Rattle.wcp_model.proofs.Words.{Flag, resets, WasReset, IsFlagUp}
+use Rattle.wcp_model.proofs.Words.{common_steps, State, Step, Observe, Send, Computation, IsTrueState}
+use Rattle.wcp_model.proofs.Words.{is_communication_of, communications, interval_at, Flag, resets, WasReset, IsFlagUp}
 use Rattle.wcp_model.specs.declared.flag.Flag.TheVariants as reset_at
 use Rattle.wcp_model.proofs.Decided.{Decided, decided_from, some_below_decided}
 use Rattle.wcp_model.proofs.EventPlaces.{IsEventOf, event_below}

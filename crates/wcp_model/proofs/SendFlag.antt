@@ -1,10 +1,9 @@
 -- Why each member of a least cut is emitted.
-use Rattle.wcp_model.proofs.Words.{NumberSet, Flag, Intervals, NamesWatched, IsWatched, interval_of, ◌≡◌, ◌≢◌, ℕ}
-use Rattle.wcp_model.proofs.Words.{◌<◌, ◌≤◌, ◌⊎◌, Some, None, unwrap_or, slice_get, slice_index_or, slice_set}
-use Rattle.wcp_model.proofs.Words.{refl, sym, ap, ◌∙◌, subst, inl, inr, ⊎_elim, arith, cases_lt, cases_eq}
-use Rattle.wcp_model.proofs.Words.{length-set, get_or-set_same, get_or-set_other, State, Send, Computation, IsTrueState}
-use Rattle.wcp_model.proofs.Words.{interval_at, member, IsSatisfyingCut, IsLeastCut, IsEmittedState, WasReset}
-use Rattle.wcp_model.proofs.Words.{EventFlagLaw, SendFlagLaw}
+use Rattle.wcp_model.proofs.Words.{NumberSet, Flag, Intervals, NamesWatched, IsWatched, interval_of, ◌≡◌, ◌≢◌, ℕ, ◌<◌}
+use Rattle.wcp_model.proofs.Words.{◌≤◌, ◌⊎◌, Some, None, unwrap_or, slice_get, slice_index_or, slice_set, refl, sym, ap}
+use Rattle.wcp_model.proofs.Words.{◌∙◌, subst, inl, inr, ⊎_elim, arith, cases_lt, cases_eq, length-set, get_or-set_same}
+use Rattle.wcp_model.proofs.Words.{get_or-set_other, State, Send, Computation, IsTrueState, interval_at, member}
+use Rattle.wcp_model.proofs.Words.{IsSatisfyingCut, IsLeastCut, IsEmittedState, WasReset, EventFlagLaw, SendFlagLaw}
 use Rattle.wcp_model.proofs.Words.{HappenedBefore, Direct, Chain, DirectlyPrecedes, Next, Message}
 use Rattle.wcp_model.proofs.CutLaws.{happened_before_later, least_from_decider}
 use Rattle.wcp_model.proofs.EventPlaces.{event_of}

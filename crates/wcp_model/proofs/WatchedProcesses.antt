@@ -1,7 +1,6 @@
 -- What is known of each watched process.
 use Rattle.std.proofs.Common.{arith}
-use Rattle.wcp_model.proofs.Words.{ℕ, ◌<◌, true≢false, sym, ◌∙◌, inl, inr}
-use Rattle.wcp_model.proofs.Words.{cases_Bool, NumberSet, IsWatched}
+use Rattle.wcp_model.proofs.Words.{ℕ, ◌<◌, true≢false, sym, ◌∙◌, inl, inr, cases_Bool, NumberSet, IsWatched}
 use Rattle.std.specs.FinSet as set
 use Rattle.wcp_model.proofs.Choosing.{choice_from_each}
 use Rattle.wcp_model.proofs.Decided.{Decided, decided_from, all_below_decided}

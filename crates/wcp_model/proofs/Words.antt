@@ -4,7 +4,7 @@ pub use Rattle.std.proofs.Common.{filter, slice_index, slice_set, count_by, Some
 pub use Rattle.std.proofs.Common.{⊎_elim, append_assoc, append-nil, eq-eqb, le_refl, arith, ◌≤◌, get_or, slice_get, ◌≢◌}
 pub use Rattle.std.proofs.Common.{zero, suc, ◌⊎◌, ◌==◌, ◌-◌, ◌&&◌, Bool, map, take, drop, All, ap₂, subst₂, ◌↔◌, max}
 pub use Rattle.std.proofs.Common.{replicate, None, add-one, Contains, IsTrue, slice_index_or, length-append, Option}
-pub use Rattle.std.proofs.Common.{eqb-true, min, sum, Result, Err, lit<, rules}
+pub use Rattle.std.proofs.Common.{eqb-true, min, sum, Result, Err, lit<}
 pub use Rattle.std.proofs.lemmas.Bool.{cases_Bool, false_from_ne_true, cases_lt, cases_eq, cases_order, and_parts}
 pub use Rattle.std.proofs.lemmas.Bool.{ne_eqb, cond_both, and_from, false≢true, iff_false}
 pub use Rattle.std.proofs.lemmas.Grind.{common_steps, flat_map-append}
@@ -36,14 +36,14 @@ pub use Rattle.wcp_model.specs.Cut.{Intervals, NamesWatched, interval_of, lesser
 pub use Rattle.wcp_model.specs.Cut.{IsSatisfyingCut, minimum, IsLeastCut, IsLeastOf, MinimumLaw, LeastCutLaw}
 pub use Rattle.wcp_model.specs.Emission.{is_close_of, is_closed, snapshots_from, AreEmissions, IsEmittedState}
 pub use Rattle.wcp_model.specs.Emission.{AreEmittedStates}
-pub use Rattle.wcp_model.specs.Flag.{is_send_of, resets, WasReset, IsFlagUp}
+pub use Rattle.wcp_model.specs.Flag.{resets, WasReset, IsFlagUp}
 pub use Rattle.wcp_model.specs.FlagLaws.{EventFlagLaw, SendFlagLaw}
 pub use Rattle.wcp_model.specs.declared.flag.Flag.{Flag}
 pub use Rattle.wcp_model.specs.FirstReason.{first_reason, IsFirstReason, FirstReasonLaw}
 pub use Rattle.wcp_model.specs.Order.{IsMessage, DirectlyPrecedes, Next, Message, HappenedBefore, Direct, Chain}
 pub use Rattle.wcp_model.specs.Outcome.{IsReportOf, IsOutcomeOf, IsWorkloadOutcome}
-pub use Rattle.wcp_model.specs.PlanFault.{HasWrongParent, IsPath, IsCheckedPlan, HasFault, IsFirstFault, tree_faults}
-pub use Rattle.wcp_model.specs.PlanFault.{plan_faults, ServesRelay}
+pub use Rattle.wcp_model.specs.PlanFault.{IsPath, IsCheckedPlan, HasFault, IsFirstFault, tree_faults, plan_faults}
+pub use Rattle.wcp_model.specs.PlanFault.{ServesRelay}
 pub use Rattle.wcp_model.specs.declared.probe_setup.ProbeSetup.{ProbeSetup}
 pub use Rattle.wcp_model.specs.ProbeLog.{Call, Observed, Sent, Received, Closed, ProbeState, after_call}
 pub use Rattle.wcp_model.specs.ProbeLog.{is_up_after_receive, setup, state_of_log, is_step_of, IsStampOf, IsCallOf}
@@ -57,7 +57,7 @@ pub use Rattle.wcp_model.specs.StateClock.{IsStateClock, CountsBefore, StatesHav
 pub use Rattle.wcp_model.specs.TaskLog.{actions_of, IsCallFor, FollowsActions, stamps_got, AreLogsOfTasks, TaskLogLaw}
 pub use Rattle.wcp_model.specs.TaskLog.{beside, clocks_after, stamp_of, stamps_sent}
 pub use Rattle.wcp_model.specs.Tree.{is_number, plain_attach, IsPlainPlan, is_leaf, leaf_of, parent_of}
-pub use Rattle.wcp_model.specs.Watched.{IsWatched, AreAllWatched, AreSomeWatched}
+pub use Rattle.wcp_model.specs.Watched.{IsWatched, AreSomeWatched}
 pub use Rattle.wcp_model.specs.WorkloadComputation.{is_task_of, is_send_to, is_receive_from, sends, receives}
 pub use Rattle.wcp_model.specs.WorkloadComputation.{message_number, step_of, steps_from, computation_of, IsWithin}
 pub use Rattle.wcp_model.specs.WorkloadComputation.{IsFitOrder, is_any_send, FitOrderLaw, place_after}

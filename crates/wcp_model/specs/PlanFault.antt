@@ -1,6 +1,5 @@
 use Rattle.std.specs.Prelude.{◌≡◌, ◌≢◌, ℕ, ◌<◌, ◌≤◌, ◌⊎◌, true, false, List, [], ◌∷◌, ◌++◌, length, slice_get, Some}
-use Rattle.std.specs.Prelude.{Any, Contains}
-use Rattle.std.specs.Prelude.{MatchOption, IsTrue}
+use Rattle.std.specs.Prelude.{Any, Contains, MatchOption, IsTrue}
 use Rattle.std.specs.FinSet as set
 use Rattle.wcp_clock.specs.Limits.{most_processes, most_cap, most_hold, most_relays, most_path}
 use Rattle.wcp_model.specs.FirstReason.{IsFirstReason}

@@ -1,6 +1,5 @@
 use Rattle.std.specs.Prelude.{◌≡◌, ◌==◌, ℕ, ◌+◌, ◌<◌, ◌↔◌, ◌||◌, not, Bool, true, false, IsTrue, List, [], ◌∷◌, ◌++◌}
-use Rattle.std.specs.Prelude.{fold}
-use Rattle.std.specs.Prelude.{filter, replicate, slice_get, slice_index, slice_set, Some, if◌then◌else◌}
+use Rattle.std.specs.Prelude.{fold, filter, replicate, slice_get, slice_index, slice_set, Some, if◌then◌else◌}
 use Rattle.std.specs.FinSet as set
 use Rattle.wcp_clock.specs.Merge.{merged}
 use Rattle.wcp_clock.specs.ProcessNumbers.{NumberSet}

@@ -1,6 +1,5 @@
 use Rattle.std.specs.Prelude.{◌≡◌, ◌==◌, ◌||◌, ℕ, ◌<◌, Bool, true, false, not, nat_lt, nat_le, Option, Some, None}
-use Rattle.std.specs.Prelude.{MatchOption, List, [], ◌∷◌, ◌++◌, filter, flat_map, take, slice_get}
-use Rattle.std.specs.Prelude.{if◌then◌else◌}
+use Rattle.std.specs.Prelude.{MatchOption, List, [], ◌∷◌, ◌++◌, filter, flat_map, take, slice_get, if◌then◌else◌}
 use Rattle.std.specs.List.{list_any}
 use Rattle.std.specs.Option.{option_map_or}
 use Rattle.wcp_clock.specs.Limits.{most_events}

@@ -6,8 +6,7 @@ use Rattle.wcp_model.specs.declared.workload.Action.TheVariants as action
 use Rattle.wcp_model.specs.declared.workload.Task.{Task}
 use Rattle.wcp_model.specs.declared.flag.Flag.{Flag}
 use Rattle.wcp_model.specs.declared.probe_setup.ProbeSetup.{ProbeSetup}
-use Rattle.wcp_model.specs.ProbeLog.{Call, Observed, Sent, Received, Closed, setup, after_call}
-use Rattle.wcp_model.specs.ProbeLog.{state_of_log, IsLogOf}
+use Rattle.wcp_model.specs.ProbeLog.{Call, Observed, Sent, Received, Closed, setup, after_call, state_of_log, IsLogOf}
 use Rattle.wcp_model.specs.WorkloadComputation.{is_task_of, is_send_to, is_receive_from, sends, computation_of}
 use Rattle.wcp_model.specs.WorkloadComputation.{IsWithin, IsFitOrder}
 

@@ -1,6 +1,5 @@
 use Rattle.std.specs.Prelude.{◌≡◌, ◌==◌, ℕ, min, Bool, false, nat_lt, Option, Some, None, List, [], ◌∷◌, length}
-use Rattle.std.specs.Prelude.{replicate}
-use Rattle.std.specs.Prelude.{slice_get, take}
+use Rattle.std.specs.Prelude.{replicate, slice_get, take}
 use Rattle.std.specs.List.{list_any}
 use Rattle.std.specs.Option.{option_flatten}
 use Rattle.wcp_clock.specs.Limits.{most_processes}

@@ -1,12 +1,10 @@
 -- The clocks of what is taken, one after another.
 use Rattle.std.proofs.lemmas.Grind.{common_steps}
-use Rattle.wcp_moment.proofs.Words.{◌≡◌, ℕ, ◌<◌, ◌≤◌, false, cond, max, Ok, List, [], ◌∷◌, ◌++◌, refl}
-use Rattle.wcp_moment.proofs.Words.{◌∙◌, ap, subst, arith, ◌⊎◌, ⊎_elim, lt-ltb, map-append}
-use Rattle.wcp_moment.proofs.Words.{Contains, Contains-append_left, bytes_eq, bytes_eq-Decides}
-use Rattle.wcp_moment.proofs.Words.{clock_after-push, Member, last_clock, falls, follows, Taken, own}
-use Rattle.wcp_moment.proofs.Words.{events_of, MayFollow, Follow, KnowsNoMore, ComesBefore, LastKnowsAll}
+use Rattle.wcp_moment.proofs.Words.{◌≡◌, ℕ, ◌<◌, ◌≤◌, false, cond, max, Ok, List, [], ◌∷◌, ◌++◌, refl, ◌∙◌, ap, subst}
+use Rattle.wcp_moment.proofs.Words.{arith, ◌⊎◌, ⊎_elim, lt-ltb, map-append, Contains, Contains-append_left, bytes_eq}
+use Rattle.wcp_moment.proofs.Words.{bytes_eq-Decides, clock_after-push, Member, last_clock, falls, follows, Taken, own}
+use Rattle.wcp_moment.proofs.Words.{events_of, MayFollow, Follow, KnowsNoMore, ComesBefore, LastKnowsAll, ◌≢◌}
 use Rattle.wcp_log.specs.Clock.{number_of}
-use Rattle.wcp_moment.proofs.Words.{◌≢◌}
 use Rattle.std.proofs.lemmas.Bool.{cases_Bool}
 
 -- A clock with a member more knows no less.

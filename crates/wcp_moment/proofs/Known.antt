@@ -1,21 +1,20 @@
 -- Which moments are known: the first candidates are the earliest moment where none of them is over.
 use Rattle.std.proofs.lemmas.Grind.{common_steps}
-use Rattle.wcp_moment.proofs.Words.{◌≡◌, ◌≢◌, ℕ, ◌+◌, ◌<◌, ◌≤◌, true, false}
-use Rattle.wcp_moment.proofs.Words.{is_some, Option, Some, None, List, [], ◌∷◌, ◌++◌, length, set}
-use Rattle.wcp_moment.proofs.Words.{slice_index, refl, sym, ◌∙◌, ap, subst, arith, inl, inr, ◌⊎◌, ⊎_elim, append-nil}
-use Rattle.wcp_moment.proofs.Words.{cases_eq, length-set, length-map, Contains, Contains-append_left}
-use Rattle.wcp_moment.proofs.Words.{Contains-append_cases, Contains-push, All-head, All, number_of, Event, Logged}
-use Rattle.wcp_moment.proofs.Words.{Watch, Taken, own, IsOver, IsMoment, IsEarliest, IsKnown}
-use Rattle.wcp_moment.proofs.Words.{Follow, Lasting, While, At, Candidate, Queue, queue_at, watched_by}
-use Rattle.wcp_moment.proofs.Words.{first_among, first_of, waiting, front_clock, is_passed_among, stands}
-use Rattle.wcp_moment.proofs.Words.{lasts_to_floor, LastKnowsAll, HasEnded, GoesOn, AreLeft}
-use Rattle.wcp_moment.proofs.Words.{AreUnderFloors, ArePassedByNone, AllStand, OneDoesNotStand, RiseTo}
+use Rattle.wcp_moment.proofs.Words.{◌≡◌, ◌≢◌, ℕ, ◌+◌, ◌<◌, ◌≤◌, true, false, is_some, Option, Some, None, List, [], ◌∷◌}
+use Rattle.wcp_moment.proofs.Words.{◌++◌, length, set, slice_index, refl, sym, ◌∙◌, ap, subst, arith, inl, inr, ◌⊎◌}
+use Rattle.wcp_moment.proofs.Words.{⊎_elim, append-nil, cases_eq, length-set, length-map, Contains}
+use Rattle.wcp_moment.proofs.Words.{Contains-append_left, Contains-append_cases, Contains-push, All-head, All}
+use Rattle.wcp_moment.proofs.Words.{number_of, Event, Logged, Watch, Taken, own, IsOver, IsMoment, IsEarliest, IsKnown}
+use Rattle.wcp_moment.proofs.Words.{Follow, Lasting, While, At, Candidate, Queue, queue_at, watched_by, first_among}
+use Rattle.wcp_moment.proofs.Words.{first_of, waiting, front_clock, is_passed_among, stands, lasts_to_floor}
+use Rattle.wcp_moment.proofs.Words.{LastKnowsAll, HasEnded, GoesOn, AreLeft, AreUnderFloors, ArePassedByNone, AllStand}
+use Rattle.wcp_moment.proofs.Words.{OneDoesNotStand, RiseTo}
 use Rattle.wcp_moment.specs.Queues.{HaveFirsts}
 use Rattle.wcp_moment.specs.Standing.{moment_among, NoneIsKnown, HasNoMoment}
 use Rattle.wcp_moment.proofs.Clocks.{ComesBefore-more, may_follow, number_of-cons, number_of-itself}
 use Rattle.wcp_moment.proofs.OneQueue.{none_after, first_is_candidate, first_or_after, waiting_none}
-use Rattle.wcp_moment.proofs.Left.{seen, IsMomentOf-from_moment, IsMoment-from_queues, IsSameHost}
-use Rattle.wcp_moment.proofs.Left.{queue_at-other, host-set}
+use Rattle.wcp_moment.proofs.Left.{seen, IsMomentOf-from_moment, IsMoment-from_queues, IsSameHost, queue_at-other}
+use Rattle.wcp_moment.proofs.Left.{host-set}
 
 -- The floors once those of the other hosts rose to the front of one.
 module _ (queues : List Queue) (place : ℕ) (queue : Queue) (is : IsSameHost queues place queue)

@@ -1,15 +1,13 @@
 -- What elimination leaves, with an event more, under higher floors, and without a candidate that is over.
 use Rattle.std.proofs.lemmas.Grind.{common_steps}
-use Rattle.wcp_moment.proofs.Words.{◌≡◌, ◌≢◌, ℕ, ◌<◌, ◌≤◌, true, false, List, [], ◌∷◌, ◌++◌, length}
-use Rattle.wcp_moment.proofs.Words.{set, drop, slice_index, refl, sym, ◌∙◌, ap, subst, arith, suc, inl}
-use Rattle.wcp_moment.proofs.Words.{inr, ◌⊎◌, ⊎_elim, append_assoc, cases_eq, get_or-set_same}
-use Rattle.wcp_moment.proofs.Words.{get_or-set_other, length-set, length-map, Contains, Contains-append_left}
-use Rattle.wcp_moment.proofs.Words.{Contains-push, All-head, All-tail, number_of, Logged, Watch, Taken, watch_at}
-use Rattle.wcp_moment.proofs.Words.{HaveDistinctHosts, IsOver, IsMoment, Lasting, While, Candidate}
-use Rattle.wcp_moment.proofs.Words.{Queue, empty_queue, queue_at, watched_by, waiting}
-use Rattle.wcp_moment.proofs.Words.{is_passed_among, is_passed, with_event, LastKnowsAll, HasEnded}
-use Rattle.wcp_moment.proofs.Words.{IsQueueOf, IsKnownElsewhere, IsAmong, AreLeft, RiseTo, IsNextAt, IsCandidate}
-use Rattle.wcp_moment.proofs.Words.{false≢true, Event}
+use Rattle.wcp_moment.proofs.Words.{◌≡◌, ◌≢◌, ℕ, ◌<◌, ◌≤◌, true, false, List, [], ◌∷◌, ◌++◌, length, set, drop}
+use Rattle.wcp_moment.proofs.Words.{slice_index, refl, sym, ◌∙◌, ap, subst, arith, suc, inl, inr, ◌⊎◌, ⊎_elim}
+use Rattle.wcp_moment.proofs.Words.{append_assoc, cases_eq, get_or-set_same, get_or-set_other, length-set, length-map}
+use Rattle.wcp_moment.proofs.Words.{Contains, Contains-append_left, Contains-push, All-head, All-tail, number_of}
+use Rattle.wcp_moment.proofs.Words.{Logged, Watch, Taken, watch_at, HaveDistinctHosts, IsOver, IsMoment, Lasting, While}
+use Rattle.wcp_moment.proofs.Words.{Candidate, Queue, empty_queue, queue_at, watched_by, waiting, is_passed_among}
+use Rattle.wcp_moment.proofs.Words.{is_passed, with_event, LastKnowsAll, HasEnded, IsQueueOf, IsKnownElsewhere, IsAmong}
+use Rattle.wcp_moment.proofs.Words.{AreLeft, RiseTo, IsNextAt, IsCandidate, false≢true, Event}
 use Rattle.std.proofs.Math.Seq.{map-set_same}
 use Rattle.std.proofs.lemmas.Bool.{cases_lt}
 use Rattle.wcp_moment.proofs.Clocks.{comes_next, first_or_later}

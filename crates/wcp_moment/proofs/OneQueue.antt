@@ -1,13 +1,12 @@
 -- One queue, with one event more, and what its first candidate says of the moments.
 use Rattle.std.proofs.lemmas.Grind.{common_steps}
-use Rattle.wcp_moment.proofs.Words.{◌≡◌, ◌≢◌, ℕ, ◌<◌, ◌≤◌, Bool, true, false, cond, Option, Some, None}
-use Rattle.wcp_moment.proofs.Words.{is_some, List, [], ◌∷◌, ◌++◌, length, map, get_or, refl, sym, ◌∙◌, ap, subst}
-use Rattle.wcp_moment.proofs.Words.{arith, zero, suc, inl, inr, ◌⊎◌, ⊎_elim, append-nil, map-append, Contains}
-use Rattle.wcp_moment.proofs.Words.{Contains-append_left, Contains-push, Contains-push_cases, All, All-contains}
-use Rattle.wcp_moment.proofs.Words.{All-append, All-push, AllPairs, all_pairs_push, option_to_list}
-use Rattle.wcp_moment.proofs.Words.{number_of, Event, Logged, Member, last_clock, Taken, own}
-use Rattle.wcp_moment.proofs.Words.{events_of, IsLater, Follow, Lasting, While, At, Candidate, Queue}
-use Rattle.wcp_moment.proofs.Words.{first_among, first_of, begin_with, waiting, clock_of, front_clock, begun}
+use Rattle.wcp_moment.proofs.Words.{◌≡◌, ◌≢◌, ℕ, ◌<◌, ◌≤◌, Bool, true, false, cond, Option, Some, None, is_some, List}
+use Rattle.wcp_moment.proofs.Words.{[], ◌∷◌, ◌++◌, length, map, get_or, refl, sym, ◌∙◌, ap, subst, arith, zero, suc}
+use Rattle.wcp_moment.proofs.Words.{inl, inr, ◌⊎◌, ⊎_elim, append-nil, map-append, Contains, Contains-append_left}
+use Rattle.wcp_moment.proofs.Words.{Contains-push, Contains-push_cases, All, All-contains, All-append, All-push}
+use Rattle.wcp_moment.proofs.Words.{AllPairs, all_pairs_push, option_to_list, number_of, Event, Logged, Member}
+use Rattle.wcp_moment.proofs.Words.{last_clock, Taken, own, events_of, IsLater, Follow, Lasting, While, At, Candidate}
+use Rattle.wcp_moment.proofs.Words.{Queue, first_among, first_of, begin_with, waiting, clock_of, front_clock, begun}
 use Rattle.wcp_moment.proofs.Words.{ended_by, ending, going_on, with_event, KnowsNoMore, ComesBefore, LastKnowsAll}
 use Rattle.wcp_moment.proofs.Words.{IsCandidate, HasEnded, GoesOn, IsQueueOf}
 use Rattle.std.proofs.lemmas.Bool.{cases_Bool}

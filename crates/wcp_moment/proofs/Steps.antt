@@ -1,13 +1,12 @@
 -- What the steps of a search do to the queues and the floors.
 use Rattle.std.proofs.lemmas.Grind.{common_steps}
-use Rattle.wcp_moment.proofs.Words.{◌≡◌, zero, suc, inr, map, IsQueueOf, get_or-map, length-map, ℕ}
-use Rattle.wcp_moment.proofs.Words.{◌<◌, Bool, true, false, Option, is_some, List, [], ◌∷◌, ◌++◌}
-use Rattle.wcp_moment.proofs.Words.{length, get_or, set, drop, slice_index, refl, sym, ◌∙◌, ap, subst, arith}
-use Rattle.wcp_moment.proofs.Words.{get_or_default, length-set, MatchBool, append_assoc, append-nil, Logged, Watch}
-use Rattle.wcp_moment.proofs.Words.{Taken, HaveDistinctHosts, IsNextAt, IsKnown, IsEarliest, While, Queue}
-use Rattle.wcp_moment.proofs.Words.{empty_queue, queue_at, watched_by, first_of, front_clock, MayFollow, with_event}
-use Rattle.wcp_moment.proofs.Words.{is_passed, LastKnowsAll, AreLeft, AreUnderFloors, ArePassedByNone, AllStand}
-use Rattle.wcp_moment.proofs.Words.{OneDoesNotStand, RiseTo}
+use Rattle.wcp_moment.proofs.Words.{◌≡◌, zero, suc, inr, map, IsQueueOf, get_or-map, length-map, ℕ, ◌<◌, Bool, true}
+use Rattle.wcp_moment.proofs.Words.{false, Option, is_some, List, [], ◌∷◌, ◌++◌, length, get_or, set, drop, slice_index}
+use Rattle.wcp_moment.proofs.Words.{refl, sym, ◌∙◌, ap, subst, arith, get_or_default, length-set, MatchBool}
+use Rattle.wcp_moment.proofs.Words.{append_assoc, append-nil, Logged, Watch, Taken, HaveDistinctHosts, IsNextAt}
+use Rattle.wcp_moment.proofs.Words.{IsKnown, IsEarliest, While, Queue, empty_queue, queue_at, watched_by, first_of}
+use Rattle.wcp_moment.proofs.Words.{front_clock, MayFollow, with_event, is_passed, LastKnowsAll, AreLeft}
+use Rattle.wcp_moment.proofs.Words.{AreUnderFloors, ArePassedByNone, AllStand, OneDoesNotStand, RiseTo}
 use Rattle.std.proofs.Common.{string_bytes}
 use Rattle.std.specs.Borrow.{Bor}
 use Rattle.std.specs.Option.{option_copied}
@@ -19,8 +18,8 @@ use Rattle.wcp_moment.specs.Queues.{HaveFirsts, OneHasNone}
 use Rattle.wcp_moment.specs.Standing.{moment_among, IsSearching, StandFor, HasNoMoment}
 use Rattle.wcp_moment.proofs.Clocks.{comes_next, LastKnowsAll-push, knows-from_falls}
 use Rattle.wcp_moment.proofs.OneQueue.{front_clock-event}
-use Rattle.wcp_moment.proofs.Left.{IsSameHost, watched_by-set, of_host, AreLeft-event, AreLeft-raised}
-use Rattle.wcp_moment.proofs.Left.{AreLeft-dropped, IsMomentOf-from_moment}
+use Rattle.wcp_moment.proofs.Left.{IsSameHost, watched_by-set, of_host, AreLeft-event, AreLeft-raised, AreLeft-dropped}
+use Rattle.wcp_moment.proofs.Left.{IsMomentOf-from_moment}
 use Rattle.wcp_moment.proofs.Known.{AreUnderFloors-raised, AreUnderFloors-same, IsKnown-stands, NoneIsKnown-waits}
 use Rattle.wcp_moment.proofs.Known.{IsEarliest-end, HasNoMoment-end}
 

@@ -1,19 +1,17 @@
 -- The words of the proofs of this crate, from one place.
-pub use Rattle.std.proofs.Common.{◌≡◌, ◌≢◌, ℕ, ◌+◌, ◌-◌, ◌<◌, ◌≤◌, Bool, true, false, cond, max, not, Option, Some}
-pub use Rattle.std.proofs.Common.{None, is_some, Result, Ok, Err, List, [], ◌∷◌, ◌++◌, length, map, get_or, set, drop}
-pub use Rattle.std.proofs.Common.{slice_index, refl, sym, ◌∙◌, ap, subst, arith, rules, zero, suc, inl, inr, ◌⊎◌}
-pub use Rattle.std.proofs.Common.{⊎_elim, ltb, leb, append_assoc, append-nil, MatchBool, length-append}
-pub use Rattle.std.proofs.lemmas.Bool.{lt-ltb, leb-true, leb-false, false≢true, true≢false, cases_eq}
-pub use Rattle.std.proofs.lemmas.Grind.{common_steps}
+pub use Rattle.std.proofs.Common.{◌≡◌, ◌≢◌, ℕ, ◌+◌, ◌<◌, ◌≤◌, Bool, true, false, cond, max, Option, Some, None, is_some}
+pub use Rattle.std.proofs.Common.{Ok, List, [], ◌∷◌, ◌++◌, length, map, get_or, set, drop, slice_index, refl, sym, ◌∙◌}
+pub use Rattle.std.proofs.Common.{ap, subst, arith, zero, suc, inl, inr, ◌⊎◌, ⊎_elim, append_assoc, append-nil}
+pub use Rattle.std.proofs.Common.{MatchBool}
+pub use Rattle.std.proofs.lemmas.Bool.{lt-ltb, false≢true, cases_eq}
 pub use Rattle.std.proofs.lemmas.List.{map-append, get_or-map, get_or-set_same, get_or-set_other, length-set}
-pub use Rattle.std.proofs.lemmas.List.{length-map, map-set, get_or_default}
-pub use Rattle.std.proofs.lemmas.List.Elements.{Contains-append_left, Contains-append_right, Contains-append_cases}
-pub use Rattle.std.proofs.lemmas.List.Elements.{Contains-push, Contains-push_cases, All-contains, All-append}
-pub use Rattle.std.proofs.lemmas.List.Elements.{All-push, All-drop, All-weaker, All-map, All-get_or, All-from_get_or}
-pub use Rattle.std.proofs.lemmas.List.Elements.{All-head, All-tail, Contains-get_or}
+pub use Rattle.std.proofs.lemmas.List.{length-map, get_or_default}
+pub use Rattle.std.proofs.lemmas.List.Elements.{Contains-append_left, Contains-append_cases, Contains-push}
+pub use Rattle.std.proofs.lemmas.List.Elements.{Contains-push_cases, All-contains, All-append, All-push, All-head}
+pub use Rattle.std.proofs.lemmas.List.Elements.{All-tail}
 pub use Rattle.std.proofs.lemmas.List.Quantifiers.{all_pairs_push}
 pub use Rattle.std.proofs.lemmas.Slice.Eq.{bytes_eq-Decides}
-pub use Rattle.std.specs.List.{All, AllPairs, Contains, list_any}
+pub use Rattle.std.specs.List.{All, AllPairs, Contains}
 pub use Rattle.std.specs.Option.{option_to_list}
 pub use Rattle.std.specs.Str.{bytes_eq}
 pub use Rattle.wcp_log.proofs.Falls.{clock_after-push}
@@ -27,7 +25,7 @@ pub use Rattle.wcp_moment.specs.Queues.{Candidate, Queue, empty_queue, queue_at,
 pub use Rattle.wcp_moment.specs.Queues.{begin_with, waiting, clock_of, front_clock, is_passed_among, is_passed}
 pub use Rattle.wcp_moment.specs.Queues.{lasts_to_floor, stands, begun, ended_by, ending, going_on, with_event}
 pub use Rattle.wcp_moment.specs.Elimination.{KnowsNoMore, ComesBefore, LastKnowsAll, IsCandidate, HasEnded, GoesOn}
-pub use Rattle.wcp_moment.specs.Elimination.{IsQueueOf, IsKnownElsewhere, IsAmong, AreLeft, IsUnderFloors}
-pub use Rattle.wcp_moment.specs.Elimination.{AreUnderFloors, ArePassedByNone, RiseTo, AllStand, OneDoesNotStand}
+pub use Rattle.wcp_moment.specs.Elimination.{IsQueueOf, IsKnownElsewhere, IsAmong, AreLeft, AreUnderFloors}
+pub use Rattle.wcp_moment.specs.Elimination.{ArePassedByNone, RiseTo, AllStand, OneDoesNotStand}
 pub use Rattle.wcp_moment.specs.declared.watched.Lasting.{Lasting}
 pub use Rattle.wcp_moment.specs.declared.watched.Lasting.TheVariants.{While, At}

@@ -11,8 +11,8 @@ use Rattle.clap.proofs.OnLiterals.{clap_on_literals}
 use Rattle.clap.specs.Faults.{built_fault, defaults_fault, settle_fault, turn_fault, walk_fault}
 use Rattle.clap.specs.Lexer.{strip_byte}
 use Rattle.clap.specs.Simple.{names_of}
-use Rattle.clap.specs.Walk.{Names, Waiting, Walk, finished, idle, more_values, nothing_held, option, settled_rows}
-use Rattle.clap.specs.Walk.{walk, walk_from, walked, with_default, with_values}
+use Rattle.clap.specs.Walk.{Names, Waiting, Walk, finished, idle, more_values, nothing_held, option, settled_rows, walk}
+use Rattle.clap.specs.Walk.{walk_from, walked, with_default, with_values}
 use Rattle.clap.specs.declared.builder.value_parser.Reading.{Reading}
 use Rattle.clap.specs.declared.parser.matches.ValueSource.{ValueSource}
 

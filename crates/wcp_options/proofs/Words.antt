@@ -1,5 +1,4 @@
 -- The words of the proofs of this crate, from one place.
-pub use Rattle.clap.proofs.OnLiterals.{clap_on_literals}
 pub use Rattle.clap.specs.Words.{IsAmong, Row, Text, all_of, fault_of, first_of, first_value, is_simple}
 pub use Rattle.clap.specs.Words.{is_simple_and_free, matched_of, raw_values, rows_of, Shape, built, matches_of}
 pub use Rattle.clap.specs.Words.{found_of, app_of, with_rule, App, HasKind, kind_of}

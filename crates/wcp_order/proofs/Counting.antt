@@ -2,11 +2,10 @@
 use Rattle.wcp_order.proofs.Words.{add-one, suc, count_before-no, count_before-past, element_within, cases_Bool, ◌≡◌, ℕ}
 use Rattle.wcp_order.proofs.Words.{◌+◌, ◌*◌, ◌<◌, ◌≤◌, Bool, true, false, List, [], ◌∷◌, ◌++◌, length, take, count_by}
 use Rattle.wcp_order.proofs.Words.{replicate, Some, refl, ◌∙◌, ap, arith, inl, inr, set, get_or-set_same}
-use Rattle.wcp_order.proofs.Words.{get_or-set_other, All, slice_index, slice_get, cases_eq, cases_lt, common_steps}
-use Rattle.wcp_order.proofs.Words.{length-set, length-replicate, get_or-replicate, length_push, take-append-le}
-use Rattle.wcp_order.proofs.Words.{take_all, All-push, All-nil, sum_by_push, Action, Task, sends, receives, IsWithin}
-use Rattle.wcp_order.proofs.Words.{IsFitOrder, sends_yes, receives_yes, count_before-yes, element_after, IsDone}
-use Rattle.wcp_order.proofs.Words.{IsReady, in_transit_after, gets}
+use Rattle.wcp_order.proofs.Words.{get_or-set_other, All, slice_index, slice_get, cases_eq, cases_lt, length-set}
+use Rattle.wcp_order.proofs.Words.{length-replicate, get_or-replicate, length_push, take-append-le, take_all, All-push}
+use Rattle.wcp_order.proofs.Words.{All-nil, sum_by_push, Action, Task, sends, receives, IsWithin, IsFitOrder, sends_yes}
+use Rattle.wcp_order.proofs.Words.{receives_yes, count_before-yes, element_after, IsDone, IsReady, in_transit_after}
 use Rattle.std.proofs.lemmas.Nat.{mul-add-lt, same_from_place}
 use Rattle.wcp_model.specs.declared.workload.Action.TheVariants as action
 use Rattle.wcp_order.proofs.Tasks.{at_place, receives_is, receive_is_no_send, sends_ends, receives_ends}

@@ -3,8 +3,7 @@ pub use Rattle.std.proofs.Common.{not, ◌≡◌, ℕ, ◌≤◌, Bool, true, fa
 pub use Rattle.std.proofs.Common.{count_by, Some, refl, eq-eqb, arith, ◌<◌, length, sym, ◌*◌, ◌++◌, replicate, ◌∙◌, ap}
 pub use Rattle.std.proofs.Common.{inl, inr, set, get_or-set_same, get_or-set_other, filter, eqb-true, map, get_or}
 pub use Rattle.std.proofs.Common.{subst, mul-le-mul, slice_index, ◌-◌, ◌⊎◌, slice_get, add-one}
-pub use Rattle.std.proofs.lemmas.Bool.{cases_Bool, and_parts, and_right, cases_eq, cases_lt, ne_eqb, both_ways}
-pub use Rattle.std.proofs.lemmas.Bool.{false≢true}
+pub use Rattle.std.proofs.lemmas.Bool.{cases_Bool, cases_eq, cases_lt, ne_eqb, both_ways, false≢true}
 pub use Rattle.std.proofs.lemmas.Grind.{common_steps}
 pub use Rattle.std.proofs.lemmas.List.{take-take, length-set, length-replicate, get_or-replicate, length_push}
 pub use Rattle.std.proofs.lemmas.List.{take-append-le, take_all, append-nil, get_or-map, map-set, length-map, take_more}
@@ -18,8 +17,7 @@ pub use Rattle.wcp_model.proofs.MessagesOfOrder.{sends_yes, receives_yes}
 pub use Rattle.wcp_model.proofs.Places.{count_before-yes, count_before-no, count_before-past, count_before-mono}
 pub use Rattle.wcp_model.proofs.SamePlace.{count_by_yes, count_by_no, same_count, element_after, slice_get-filter}
 pub use Rattle.wcp_model.proofs.SamePlace.{element_within, filter_front}
-pub use Rattle.wcp_model.specs.WorkloadComputation.{is_task_of, is_send_to, is_receive_from, sends, receives, IsWithin}
-pub use Rattle.wcp_model.specs.WorkloadComputation.{IsFitOrder}
+pub use Rattle.wcp_model.specs.WorkloadComputation.{is_task_of, sends, receives, IsWithin, IsFitOrder}
 pub use Rattle.wcp_model.specs.declared.workload.Action.{Action}
 pub use Rattle.wcp_model.specs.declared.workload.Action.TheVariants.{Observe}
 pub use Rattle.wcp_model.specs.declared.workload.Task.{Task}

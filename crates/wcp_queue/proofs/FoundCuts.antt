@@ -10,8 +10,8 @@ use Rattle.wcp_queue.proofs.Words.{list_all-from_AllPass, Close, nothing_follows
 use Rattle.wcp_queue.proofs.Words.{StandsForItems, IsSoundChecker}
 use Rattle.std.proofs.Common.{ap₂, subst₂}
 use Rattle.wcp_model.specs.Cut.{IsLeastOf, IsAtOrBelow}
-use Rattle.wcp_queue.proofs.WatchedRows.{known_at, row_of_watched, member_is_watched, apart_rows}
-use Rattle.wcp_queue.proofs.WatchedRows.{interval_of-cut, NamesWatched-cut}
+use Rattle.wcp_queue.proofs.WatchedRows.{known_at, row_of_watched, member_is_watched, apart_rows, interval_of-cut}
+use Rattle.wcp_queue.proofs.WatchedRows.{NamesWatched-cut}
 use Rattle.wcp_queue.proofs.Choices.{GrowTo-same, get_or-grown, IsSatisfyingChoice-grown, IsEliminatedBelow-grown}
 use Rattle.wcp_queue.proofs.LeftQueues.{GrowTo-gain}
 use Rattle.wcp_queue.proofs.NotesTaken.{close_mark_in, close_mark_taken}

@@ -1,16 +1,12 @@
 -- The watched processes by rising number, and the rows that a checker has of them.
 use Rattle.wcp_queue.proofs.Words.{◌≡◌, ◌≢◌, ℕ, zero, suc, ◌+◌, ◌<◌, ◌≤◌, ◌⊎◌, Bool, true, false, cond, Option, Some}
 use Rattle.wcp_queue.proofs.Words.{None, List, [], ◌∷◌, ◌++◌, length, get_or, slice_get, slice_index, slice_index_or}
-use Rattle.wcp_queue.proofs.Words.{filter}
-use Rattle.wcp_queue.proofs.Words.{refl, sym, ◌∙◌, ap, subst, inl, inr, arith, is_some, unwrap_or, cases_Bool, cases_eq}
-use Rattle.wcp_queue.proofs.Words.{cases_lt}
-use Rattle.wcp_queue.proofs.Words.{eqb, eq-eqb, ne_eqb, get_or-map, slice_get-get_or, slice_get_past}
-use Rattle.wcp_queue.proofs.Words.{length-map-range_with_len, get_or-map-range_with_len, range_with_len, NumberSet}
-use Rattle.wcp_queue.proofs.Words.{IsWatched}
-use Rattle.wcp_queue.proofs.Words.{filter-append}
-use Rattle.wcp_queue.proofs.Words.{NamesWatched, interval_of, AreSomeWatched, members_of, row_of, known_of, cut_of}
-use Rattle.wcp_queue.proofs.Words.{set as list_set, take, append-nil, length-set, get_or-set_same, get_or-set_other}
-use Rattle.wcp_queue.proofs.Words.{get_or_append_left, get_or-take, length-take-le}
+use Rattle.wcp_queue.proofs.Words.{filter, refl, sym, ◌∙◌, ap, subst, inl, inr, arith, is_some, unwrap_or, cases_Bool}
+use Rattle.wcp_queue.proofs.Words.{cases_eq, cases_lt, eqb, eq-eqb, ne_eqb, get_or-map, slice_get-get_or}
+use Rattle.wcp_queue.proofs.Words.{slice_get_past, length-map-range_with_len, get_or-map-range_with_len, range_with_len}
+use Rattle.wcp_queue.proofs.Words.{NumberSet, IsWatched, filter-append, NamesWatched, interval_of, AreSomeWatched}
+use Rattle.wcp_queue.proofs.Words.{members_of, row_of, known_of, cut_of, set as list_set, take, append-nil, length-set}
+use Rattle.wcp_queue.proofs.Words.{get_or-set_same, get_or-set_other, get_or_append_left, get_or-take, length-take-le}
 use Rattle.std.proofs.lemmas.List.{ext_get_or, get_or_push, length_push}
 use Rattle.std.specs.FinSet as set
 

@@ -3,13 +3,13 @@ pub use Rattle.std.proofs.Common.{◌≡◌, ◌||◌, ℕ, ◌+◌, ◌<◌, �
 pub use Rattle.std.proofs.Common.{is_some, List, [], ◌∷◌, ◌++◌, length, get_or, set, replicate, sum, cond, slice_index}
 pub use Rattle.std.proofs.Common.{refl, sym, ◌∙◌, ap, subst, arith, ◌≢◌, ⊎_elim, take, ltb, ◌*◌, ◌^◌, drop, eqb}
 pub use Rattle.std.proofs.Common.{slice_get, ◌↔◌, slice_set, zero, suc, ◌⊎◌, slice_index_or, map, filter, inl, inr}
-pub use Rattle.std.proofs.lemmas.Bool.{true≢false, cases_eq, cases_Bool, cases_lt, eqb-true, false≢true, both_ways}
-pub use Rattle.std.proofs.lemmas.Bool.{cond-true, lt-ltb, eq-eqb, ne_eqb, cond-false}
+pub use Rattle.std.proofs.lemmas.Bool.{true≢false, cases_eq, cases_Bool, cases_lt, false≢true, both_ways, cond-true}
+pub use Rattle.std.proofs.lemmas.Bool.{lt-ltb, eq-eqb, ne_eqb, cond-false}
 pub use Rattle.std.proofs.lemmas.Grind.{common_steps}
 pub use Rattle.std.proofs.lemmas.List.{length-append, get_or-set_same, get_or-set_other, get_or-replicate}
 pub use Rattle.std.proofs.lemmas.List.{length-replicate, map-append, append-nil, get_or_default, get_or-take}
 pub use Rattle.std.proofs.lemmas.List.{length-take-le, drop-append-le, length-drop, drop-drop, append_assoc}
-pub use Rattle.std.proofs.lemmas.List.{get_or_append_left, with_items_is, length-set, get_or-map, length-map, map_push}
+pub use Rattle.std.proofs.lemmas.List.{get_or_append_left, length-set, get_or-map, length-map, map_push}
 pub use Rattle.std.proofs.lemmas.List.Elements.{filter-append, Contains-get_or, All-from_get_or}
 pub use Rattle.std.proofs.lemmas.List.Folds.{list_any-append, sum_by-replicate}
 pub use Rattle.std.proofs.lemmas.List.Sums.{sum_by-set, sum_by_push, AllPass-from_list_all, list_all-from_AllPass}
@@ -19,7 +19,7 @@ pub use Rattle.std.proofs.lemmas.Option.{slice_get-get_or, slice_get_past}
 pub use Rattle.std.specs.List.{list_any, list_all, range_with_len}
 pub use Rattle.std.specs.Prelude.{unwrap_or, IfSome, count_by}
 pub use Rattle.wcp_clock.specs.ProcessNumbers.{NumberSet}
-pub use Rattle.wcp_clock.specs.Notes.{is_close, is_last, is_lost, place_of}
+pub use Rattle.wcp_clock.specs.Notes.{is_close, is_last, is_lost}
 pub use Rattle.wcp_clock.specs.declared.note.Item.{Item}
 pub use Rattle.wcp_clock.specs.declared.note.Note.TheVariants.{Snap, Close, Lost}
 pub use Rattle.wcp_model.proofs.Choosing.{choice_from_each}
@@ -36,6 +36,5 @@ pub use Rattle.wcp_queue.specs.Choices.{GrowTo, IsSatisfyingChoice, AreInOrder, 
 pub use Rattle.wcp_queue.specs.Elimination.{AreLeft, AddsCandidate, IsFoundAmong, GainCandidate, AreStable, tests_each}
 pub use Rattle.wcp_queue.specs.Elimination.{waiting_in, queue_of, candidate, HasHead, WasRaised, LeavesQueue}
 pub use Rattle.wcp_queue.specs.Elimination.{Eliminates}
-pub use Rattle.wcp_queue.specs.Floor.{first_floor, HaveHeads, IsCutOfHeads, component, has_head, IsSameBut, RisesTo}
-pub use Rattle.wcp_queue.specs.Floor.{RaisesFloor}
+pub use Rattle.wcp_queue.specs.Floor.{first_floor, HaveHeads, IsCutOfHeads, component, has_head, RisesTo, RaisesFloor}
 pub use Rattle.wcp_queue.specs.declared.floor.Floor.{Floor}

@@ -1,5 +1,5 @@
-use Rattle.std.specs.Prelude.{◌≡◌, ◌≢◌, ℕ, ◌<◌, ◌≤◌, max, Bool, true, false}
-use Rattle.std.specs.Prelude.{List, length, replicate, slice_index, slice_index_or}
+use Rattle.std.specs.Prelude.{◌≡◌, ◌≢◌, ℕ, ◌<◌, ◌≤◌, max, Bool, true, false, List, length, replicate, slice_index}
+use Rattle.std.specs.Prelude.{slice_index_or}
 use Rattle.wcp_clock.specs.Limits.{most_processes}
 use Rattle.wcp_queue.specs.declared.floor.Floor.{Floor}
 

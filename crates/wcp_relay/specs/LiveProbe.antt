@@ -1,6 +1,6 @@
 -- What a live probe has, and the log of calls that it stands for.
-use Rattle.std.specs.Prelude.{◌≡◌, ℕ, false, Option, Some, None}
-use Rattle.std.specs.Prelude.{List, [], ◌∷◌, ◌++◌, count_by, length, replicate, slice_get}
+use Rattle.std.specs.Prelude.{◌≡◌, ℕ, false, Option, Some, None, List, [], ◌∷◌, ◌++◌, count_by, length, replicate}
+use Rattle.std.specs.Prelude.{slice_get}
 use Rattle.wcp_clock.specs.Limits.{most_events}
 use Rattle.wcp_clock.specs.declared.note.Note.{Note}
 use Rattle.wcp_clock.specs.ProcessNumbers.{NumberSet}

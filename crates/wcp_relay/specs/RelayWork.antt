@@ -1,6 +1,6 @@
 -- A relay at work.
-use Rattle.std.specs.Prelude.{◌≡◌, ◌≢◌, ◌==◌, ℕ, ◌<◌, true, List, [], ◌∷◌, ◌++◌, map, All, AllPairs, IfNone}
-use Rattle.std.specs.Prelude.{Result, Ok, Err, Option, Some, None}
+use Rattle.std.specs.Prelude.{◌≡◌, ◌≢◌, ◌==◌, ℕ, ◌<◌, true, List, [], ◌∷◌, ◌++◌, map, All, AllPairs, IfNone, Result, Ok}
+use Rattle.std.specs.Prelude.{Err, Option, Some, None}
 use mathlib.Core.List.{IsPrefix}
 use Rattle.std.specs.List.{list_any}
 use Rattle.std.specs.FinSet as set
@@ -17,8 +17,8 @@ use Rattle.wcp_relay.specs.declared.source.Source.{Source}
 use Rattle.wcp_relay.specs.declared.source.Source.TheVariants.{Leaf, Inner}
 use Rattle.wcp_relay.specs.declared.take_fault.TakeFault.{TakeFault}
 use Rattle.wcp_relay.specs.declared.take_fault.TakeFault.TheVariants as take_fault
-use Rattle.wcp_relay.specs.Feeding.{items_of, processes_of, fed, source_taken, IsInOrder, EndsWithLast}
-use Rattle.wcp_relay.specs.Feeding.{MayComeFromRing, AreFromRings}
+use Rattle.wcp_relay.specs.Feeding.{items_of, processes_of, fed, source_taken, IsInOrder, EndsWithLast, MayComeFromRing}
+use Rattle.wcp_relay.specs.Feeding.{AreFromRings}
 
 -- What was handed to an outlet: what it put, and then what it holds.
 abbrev pub handed : Outlet → List Item

@@ -1,6 +1,6 @@
 -- The rings of a watch, and the feeds of its leaves, before anything runs.
-use Rattle.std.specs.Prelude.{◌≡◌, ◌≢◌, ◌==◌, ◌↔◌, ℕ, ◌<◌, false, true}
-use Rattle.std.specs.Prelude.{Option, Some, List, [], length, slice_get, All, AllPairs}
+use Rattle.std.specs.Prelude.{◌≡◌, ◌≢◌, ◌==◌, ◌↔◌, ℕ, ◌<◌, false, true, Option, Some, List, [], length, slice_get, All}
+use Rattle.std.specs.Prelude.{AllPairs}
 use Rattle.std.specs.List.{list_any}
 use Rattle.wcp_model.specs.declared.plan.Plan.{Plan}
 use Rattle.wcp_model.specs.ProbeLog.{setup}

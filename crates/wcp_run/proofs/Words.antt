@@ -1,7 +1,7 @@
 -- The words of the proofs of this crate, from one place.
 pub use Rattle.std.proofs.Common.{◌≡◌, ℕ, ◌<◌, Option, Some, None, List, length, map, slice_get, sym, ap, subst₂, ◌∙◌}
-pub use Rattle.std.proofs.Common.{arith, zero, suc, Bool, true, [], ◌∷◌, ◌++◌, refl, zero-add, ◌≤◌, not, subst, Err}
-pub use Rattle.std.proofs.Common.{get_or, true≢false, inl, inr, ⊎_elim}
+pub use Rattle.std.proofs.Common.{arith, zero, suc, Bool, true, [], ◌∷◌, ◌++◌, refl, zero-add, ◌≤◌, subst, Err, get_or}
+pub use Rattle.std.proofs.Common.{true≢false, inl, inr, ⊎_elim}
 pub use Rattle.std.proofs.lemmas.Bool.{cases_lt}
 pub use Rattle.std.proofs.lemmas.List.{length-map}
 pub use Rattle.std.proofs.lemmas.Option.{slice_get-map, slice_get-get_or, slice_get_within, get_or_from_slice_get}
@@ -19,4 +19,3 @@ pub use Rattle.wcp_worker.specs.Played.{HasPlayed, IsEndOfWorker}
 pub use Rattle.wcp_worker.specs.Runs.{AreOfLane, ends_between, outbox_of, inbox_of, AreMatched, HaveRun}
 pub use Rattle.wcp_worker.specs.declared.worker.Worker.{Worker}
 pub use Rattle.wcp_worker.specs.declared.worker_end.WorkerEnd.{WorkerEnd}
-pub use Rattle.wcp_clock.specs.ProcessNumbers.{NumberSet}

@@ -1,6 +1,6 @@
 -- Why a run gives no outcome, as the ends of its parts tell.
-use Rattle.std.specs.Prelude.{◌≡◌, ℕ, Bool, true, false, ◌||◌, ◌⊎◌, ◌<◌, Option, Some, None}
-use Rattle.std.specs.Prelude.{List, [], ◌∷◌, ◌++◌, length, map, slice_get, IsTrue}
+use Rattle.std.specs.Prelude.{◌≡◌, ℕ, Bool, true, false, ◌||◌, ◌⊎◌, ◌<◌, Option, Some, None, List, [], ◌∷◌, ◌++◌}
+use Rattle.std.specs.Prelude.{length, map, slice_get, IsTrue}
 use Rattle.std.specs.List.{list_any, range_with_len}
 use Rattle.wcp_relay.specs.RelayEnds.{fault_of}
 use Rattle.wcp_relay.specs.declared.relay_end.RelayEnd.{RelayEnd}

@@ -7,12 +7,13 @@ use Rattle.wcp_script.proofs.Words.{Root, Relay, Plan, Task, IsCheckedPlan, IsOu
 use Rattle.wcp_script.proofs.Words.{line_text, text_of, lines_of, action_words, task_line, cap_lines, hold_lines}
 use Rattle.wcp_script.proofs.Words.{relay_lines, attach_lines, numbered, is_first, is_root_alone, has_one_relay}
 use Rattle.wcp_script.proofs.Words.{tree_lines, head_lines, is_task_word, Head, HeadRead, first_head, IsPlanOf}
-use Rattle.wcp_script.proofs.Words.{workloads, steps_by, Spells}
+use Rattle.wcp_script.proofs.Words.{workloads, steps_by, Spells, lt-ltb, false_from_ne_true, some_watched, watch_lines}
+use Rattle.wcp_script.proofs.Words.{are_all_watched, watched_words, range_with_len, is_watched_by}
 use Rattle.std.proofs.lemmas.List.Folds.{flat_map-map}
 use Rattle.std.proofs.lemmas.Option.{slice_get_within, get_or_from_slice_get}
 use Rattle.std.specs.Option.{unwrap_or}
 use Rattle.wcp_model.specs.declared.plan.PlanFault.TheVariants as fault
-use Rattle.wcp_script.specs.PlanText.{text_of_workload}
+use Rattle.wcp_script.specs.PlanText.{text_of_workload, flag_lines}
 use Rattle.wcp_script.specs.Head.{processes_in, processes_by, head_by, head_of}
 use Rattle.wcp_script.proofs.LinesOfWords.{IsWord, IsWord-literal, IsWord-decimal, number_in-decimal, words_of-joined}
 use Rattle.wcp_script.proofs.LinesOfWords.{worded, lines_of-line_text, lines_of_nothing}
@@ -20,12 +21,9 @@ use Rattle.wcp_script.proofs.PrintedTasks.{task_is_words, lines_of-task_line, st
 use Rattle.std.specs.FinSet as set
 use Rattle.wcp_model.specs.declared.flag.Flag.{Flag}
 use Rattle.wcp_model.specs.declared.flag.Flag.TheVariants as reset_at
-use Rattle.wcp_script.specs.PlanText.{flag_lines}
 use Rattle.wcp_model.specs.Watched.{AreSomeWatched}
 use Rattle.wcp_script.specs.declared.head_line.HeadLine.TheVariants as said
 use Rattle.std.proofs.lemmas.Bool.{le-ltb}
-use Rattle.wcp_script.proofs.Words.{lt-ltb, false_from_ne_true, some_watched, watch_lines, are_all_watched}
-use Rattle.wcp_script.proofs.Words.{watched_words, range_with_len, is_watched_by}
 use Rattle.wcp_script.proofs.WatchLines.{watched_from, watch_line-printed, printed_words, printed_has, printed_past}
 use Rattle.wcp_script.proofs.Ranges.{all_from_range}
 use Rattle.wcp_script.proofs.PrintedHead.{Makes, Makes-append, made_is_read, said_unless, unwrap_or-said_unless}

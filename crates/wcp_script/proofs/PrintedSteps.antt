@@ -7,8 +7,8 @@ use Rattle.wcp_script.specs.ScheduleLines.{step_in}
 use Rattle.wcp_script.specs.ScheduleText.{step_words, HasLineNumbers}
 use Rattle.wcp_script.specs.TextFault.{steps_behind}
 use Rattle.wcp_script.proofs.StepLines.{steps_behind_more}
-use Rattle.wcp_script.proofs.LinesOfWords.{IsWord, IsWord-decimal, number_in-decimal, words_of-joined}
-use Rattle.wcp_script.proofs.LinesOfWords.{worded, lines_of-line_text}
+use Rattle.wcp_script.proofs.LinesOfWords.{IsWord, IsWord-decimal, number_in-decimal, words_of-joined, worded}
+use Rattle.wcp_script.proofs.LinesOfWords.{lines_of-line_text}
 
 step_is_words : (does : Step) → HasLineNumbers does → AllByRecursion IsWord (step_words does)
 step_is_words (step.Observe p true) small = grind (arith, IsWord-decimal)

@@ -3,14 +3,12 @@ use Rattle.wcp_script.proofs.Words.{◌≡◌, ℕ, zero, suc, ◌+◌, ◌<◌,
 use Rattle.wcp_script.proofs.Words.{◌++◌, length, Option, Some, None, Result, Ok, Err, refl, sym, ap, ◌∙◌, append-nil}
 use Rattle.wcp_script.proofs.Words.{append_assoc, arith, lt-ltb, ne_eqb, inl, inr, flat_map, range_with_len, list_all}
 use Rattle.wcp_script.proofs.Words.{AllByRecursion, and_parts, cases_eq, HeadLine, FaultKind, Word, is_after, number_in}
-use Rattle.wcp_script.proofs.Words.{ask, ◌>>=◌}
+use Rattle.wcp_script.proofs.Words.{ask, ◌>>=◌, length-slice_split, false≢true}
 use Rattle.std.specs.FinSet as set
 use Rattle.std.specs.Borrow.{Bor}
-use Rattle.std.specs.Prelude.{is_some}
+use Rattle.std.specs.Prelude.{is_some, nat_lt, nat_eq}
 use Rattle.wcp_script.specs.Lines.{words_of}
 use Rattle.wcp_script.specs.Views.{words_behind}
-use Rattle.wcp_script.proofs.Words.{length-slice_split, false≢true}
-use Rattle.std.specs.Prelude.{nat_lt, nat_eq}
 use Rattle.std.specs.List.{list_any}
 use Rattle.std.specs.Cmp.{nat_cmp_total}
 use Rattle.std.proofs.lemmas.Bool.{cases_Bool, eq-eqb}

@@ -34,24 +34,22 @@ pub use Rattle.wcp_model.specs.declared.plan.Plan.{Plan}
 pub use Rattle.wcp_model.specs.declared.step.Step.{Step}
 pub use Rattle.wcp_model.specs.declared.workload.Task.{Task}
 pub use Rattle.wcp_order.specs.Stuck.{IsStuckAt, IfOrder, IfStuck, IsFirstStuck}
-pub use Rattle.wcp_script.specs.Head.{HeadRead, head_of, IsPlanOf, Head, first_head, processes_in, processes_by}
-pub use Rattle.wcp_script.specs.Head.{head_by, head_line, with_line, first_word, head_words, is_watched_by, parent_in}
-pub use Rattle.wcp_script.specs.Head.{is_above, is_after, IsWithinLimits, line_count}
+pub use Rattle.wcp_script.specs.Head.{HeadRead, head_of, IsPlanOf, Head, first_head, head_by, head_line, with_line}
+pub use Rattle.wcp_script.specs.Head.{first_word, head_words, is_watched_by, parent_in, is_above, is_after}
+pub use Rattle.wcp_script.specs.Head.{IsWithinLimits, line_count}
 pub use Rattle.wcp_script.specs.Judgement.{number_in, ◌>>=◌, at_line, ask}
-pub use Rattle.wcp_script.specs.Lines.{Word, text_of, TextLine, line_text, lines_of, words_of, number_spelled}
-pub use Rattle.wcp_script.specs.Lines.{lines_among}
+pub use Rattle.wcp_script.specs.Lines.{Word, text_of, TextLine, line_text, lines_of, words_of, lines_among}
 pub use Rattle.wcp_script.specs.PlanText.{cap_lines, hold_lines, relay_lines, attach_lines, numbered, is_first}
 pub use Rattle.wcp_script.specs.PlanText.{is_root_alone, has_one_relay, tree_lines, watch_lines, flag_lines}
-pub use Rattle.wcp_script.specs.PlanText.{are_all_watched, watched_words, head_lines, text_of_workload, parent_word}
-pub use Rattle.wcp_script.specs.PlanText.{opening_lines}
+pub use Rattle.wcp_script.specs.PlanText.{are_all_watched, watched_words, head_lines, parent_word, opening_lines}
 pub use Rattle.wcp_script.specs.ReadAnswers.{IsReadAs, IsRefusedFor, IsFaultOf, ReadsSchedule, ReadsWorkload, Fails}
 pub use Rattle.wcp_script.specs.ReadAnswers.{ReadsText, ReadsInOrder}
-pub use Rattle.wcp_script.specs.Ring.{before, finds_both, received, sent, ring_turn, ring_round, ring_fault, ring_tasks}
+pub use Rattle.wcp_script.specs.Ring.{before, finds_both, received, sent, ring_turn, ring_round, ring_fault}
 pub use Rattle.wcp_script.specs.Ring.{ring_length}
 pub use Rattle.wcp_script.specs.TextFault.{TextKind, workloads, schedules, steps_by, Spells, HasTextFault, InHead}
 pub use Rattle.wcp_script.specs.TextFault.{OfPlan, InStep, HasWorkloadFault, InText, AtEnd, step_after}
 pub use Rattle.wcp_script.specs.Views.{GoesOn, seen_read, seen_line, seen_head}
-pub use Rattle.wcp_script.specs.WorkloadLines.{is_task_word, task_in, form_of, is_within}
+pub use Rattle.wcp_script.specs.WorkloadLines.{is_task_word, is_within}
 pub use Rattle.wcp_script.specs.WorkloadText.{action_words, task_line, task_words}
 pub use Rattle.wcp_script.specs.declared.fault.FaultKind.{FaultKind}
 pub use Rattle.wcp_script.specs.declared.fault.ReadFault.{ReadFault}

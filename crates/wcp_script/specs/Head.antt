@@ -1,10 +1,10 @@
 -- The head of a text, line by line, and the plan that it describes.
 use Rattle.std.specs.Prelude.{◌≡◌, ◌==◌, ◌&&◌, ℕ, ◌+◌, ◌<◌, ◌≤◌, Bool, true, not, drop, List, [], ◌∷◌, ◌++◌, length}
-use Rattle.std.specs.Prelude.{replicate, slice_set, nat_lt, nat_le, Option, Some, None, is_none, Result, Ok, Err}
+use Rattle.std.specs.Prelude.{replicate, slice_set, nat_lt, nat_le, Option, Some, None, is_none, Result, Ok, Err, codes}
+use Rattle.std.specs.Prelude.{if◌then◌else◌}
 use Rattle.std.specs.FinSet as set
 use Rattle.std.specs.List.{list_all}
 use Rattle.wcp_clock.specs.ProcessNumbers.{NumberSet}
-use Rattle.std.specs.Prelude.{codes, if◌then◌else◌}
 use Rattle.std.specs.Str.{bytes_eq}
 use Rattle.std.specs.Option.{ok_or, unwrap_or}
 use Rattle.wcp_clock.specs.Limits.{most_processes, most_cap, most_hold, most_relays}

@@ -1,6 +1,6 @@
 -- The step lines of a workload.
-use Rattle.std.specs.Prelude.{◌==◌, ◌&&◌, ℕ, Bool, true, false, not, List, [], ◌∷◌, nat_lt, Option, Some, None}
-use Rattle.std.specs.Prelude.{Result, Ok, codes, if◌then◌else◌}
+use Rattle.std.specs.Prelude.{◌==◌, ◌&&◌, ℕ, Bool, true, false, not, List, [], ◌∷◌, nat_lt, Option, Some, None, Result}
+use Rattle.std.specs.Prelude.{Ok, codes, if◌then◌else◌}
 use Rattle.std.specs.Str.{bytes_eq}
 use Rattle.std.specs.Option.{ok_or}
 use Rattle.wcp_model.specs.declared.workload.Action.{Action}

@@ -1,7 +1,7 @@
 -- The words of the proofs of this crate, from one place.
 pub use Rattle.std.proofs.Common.{◌≡◌, ◌≢◌, ◌==◌, ◌&&◌, ℕ, ◌+◌, ◌*◌, ◌<◌, Bool, true, false, cond, List, [], ◌∷◌, ◌++◌}
-pub use Rattle.std.proofs.Common.{length, map, take, drop, set, get_or, count_by, All, refl, sym, ap, ◌∙◌, subst, inl}
-pub use Rattle.std.proofs.Common.{inr, append-nil, append_assoc, arith, eq-eqb, get_or-set_same, get_or-set_other, ◌↔◌}
+pub use Rattle.std.proofs.Common.{length, map, take, set, get_or, count_by, All, refl, sym, ap, ◌∙◌, subst, inl, inr}
+pub use Rattle.std.proofs.Common.{append-nil, append_assoc, arith, eq-eqb, get_or-set_same, get_or-set_other, ◌↔◌}
 pub use Rattle.std.proofs.Common.{IsTrue, Option, Some, None, MatchOption, replicate, slice_get, subst₂}
 pub use Rattle.std.proofs.lemmas.Bool.{cases_eq, ne_eqb, false_from_ne_true}
 pub use Rattle.std.proofs.lemmas.Grind.{common_steps}
@@ -9,7 +9,7 @@ pub use Rattle.std.proofs.lemmas.List.{take_all, take_at, length-append, length-
 pub use Rattle.std.proofs.lemmas.List.{length-replicate, get_or-replicate, get_or_append_left, get_or_push}
 pub use Rattle.std.proofs.lemmas.List.{get_or_read_under, take_more}
 pub use Rattle.std.proofs.lemmas.Nat.{mul-add-lt, same_from_place}
-pub use Rattle.std.proofs.lemmas.Result.{IfOk-weaker, on_ok_weaker}
+pub use Rattle.std.proofs.lemmas.Result.{IfOk-weaker}
 pub use Rattle.wcp_clock.specs.declared.note.Item.{Item}
 pub use Rattle.wcp_model.proofs.AcceptedOrder.{IsFitOrder-take, IsFitOrder-itself, All-fit_order}
 pub use Rattle.wcp_model.proofs.LogsOfTasks.{count_actions, few_events, got_not_ahead}

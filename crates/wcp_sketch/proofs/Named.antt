@@ -1,7 +1,6 @@
 -- What names give a picture.
 use Rattle.std.proofs.Common.{◌≡◌, ◌∙◌, ℕ, zero, suc, List, [], ◌∷◌, ◌++◌, codes, decimal, length, Option, Some, None}
-use Rattle.std.proofs.Common.{ap, refl}
-use Rattle.std.proofs.Common.{arith}
+use Rattle.std.proofs.Common.{ap, refl, arith}
 use Rattle.std.proofs.lemmas.List.{length-append, length-map}
 use Rattle.wcp_model.specs.declared.plan.Plan.{Plan}
 use Rattle.wcp_model.specs.declared.workload.Task.{Task}

@@ -1,7 +1,6 @@
 -- What a run of `split` finds.
 use Rattle.std.proofs.Common.{◌≡◌, ◌≢◌, ◌<◌, ℕ, suc, Bool, true, false, List, [], ◌∷◌, length, Option, IfSome, All}
-use Rattle.std.proofs.Common.{MatchBool}
-use Rattle.std.proofs.Common.{sym, true≢false, arith}
+use Rattle.std.proofs.Common.{MatchBool, sym, true≢false, arith}
 use Rattle.std.proofs.lemmas.List.Elements.{All-from_recursion, All-from_all_within, recursion_from_All}
 use Rattle.std.specs.Borrow.{Bor}
 use Rattle.std.specs.Iterator.Runs.{Run, YieldsRun}

@@ -2,7 +2,7 @@
 pub use Rattle.std.proofs.Common.{◌≡◌, ◌≢◌, ℕ, zero, suc, ◌<◌, List, [], ◌∷◌, ◌++◌, length, length-set, Option, Some}
 pub use Rattle.std.proofs.Common.{Contains, get_or, true, false, ◌+◌, refl, sym, ap, subst, ◌∙◌, inl, inr, ◌⊎◌, arith}
 pub use Rattle.std.proofs.Common.{◌==◌, map, None, ⊎_elim, ◌↔◌, Result, Ok, Err, ◌≤◌, Vec, Global, subst₂, All, Bool}
-pub use Rattle.std.proofs.Common.{take, append_assoc, vec_len, true≢false, slice_get, rules, ◌||◌}
+pub use Rattle.std.proofs.Common.{take, append_assoc, true≢false, slice_get, ◌||◌}
 pub use Rattle.std.proofs.lemmas.Bool.{cases_eq, cases_lt}
 pub use Rattle.std.proofs.lemmas.Grind.{common_steps}
 pub use Rattle.std.proofs.lemmas.List.{append-nil, get_or_append_left, length-append, length-map, get_or-map}
@@ -62,6 +62,5 @@ pub use Rattle.wcp_watch.specs.Settling.{IsFirstSettleFault, IsFreeOf, settle_fa
 pub use Rattle.wcp_watch.specs.Settling.{IsSettled, cut_of, share_of, IsLaneMatched, IsEndOfSomeProbe, IsEndOfSomeRelay}
 pub use Rattle.wcp_watch.specs.declared.checker_end.CheckerEnd.{CheckerEnd}
 pub use Rattle.wcp_watch.specs.declared.settle_fault.SettleFault.TheVariants.{Stranger, Missing, Faulted, Unfinished}
-pub use denote.Param.Send.{IsSend, EachSend, enum_send, recorded_send, struct_send, sendable}
 pub use Rattle.wcp_clock.specs.ProcessNumbers.{NumberSet}
 pub use Rattle.wcp_model.specs.declared.flag.Flag.{Flag}

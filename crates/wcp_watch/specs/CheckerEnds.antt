@@ -1,6 +1,6 @@
 -- What the loop of a checker leaves.
-use Rattle.std.specs.Prelude.{◌≡◌, ◌≢◌, ℕ, ◌<◌, ◌↔◌, Bool, true, false, Option, Some, None, IfNone, IfSome}
-use Rattle.std.specs.Prelude.{List, [], ◌∷◌, ◌++◌}
+use Rattle.std.specs.Prelude.{◌≡◌, ◌≢◌, ℕ, ◌<◌, ◌↔◌, Bool, true, false, Option, Some, None, IfNone, IfSome, List, []}
+use Rattle.std.specs.Prelude.{◌∷◌, ◌++◌}
 use Rattle.std.specs.FinSet as set
 use Rattle.std.specs.List.{list_any}
 use Rattle.wcp_clock.specs.ProcessNumbers.{NumberSet}
@@ -10,8 +10,8 @@ use Rattle.wcp_model.specs.Report.{ClocksRise, IsReportByClocks, IsDrained, note
 use Rattle.wcp_model.specs.declared.outcome.Report.TheVariants.{Nothing}
 use Rattle.wcp_lane.specs.Ends.{TakeEnd}
 use Rattle.wcp_lane.specs.declared.fault.Cut.{Cut}
-use Rattle.wcp_queue.specs.Checker.{CheckerState, processes, taken_of, closed_of, StandsForItems}
-use Rattle.wcp_queue.specs.Checker.{IsReportOfAnyClocks, IsReportOfStarved}
+use Rattle.wcp_queue.specs.Checker.{CheckerState, processes, taken_of, closed_of, StandsForItems, IsReportOfAnyClocks}
+use Rattle.wcp_queue.specs.Checker.{IsReportOfStarved}
 use Rattle.wcp_relay.specs.Feeding.{IsEnded}
 use Rattle.wcp_relay.specs.declared.bundle.Bundle.{Bundle}
 use Rattle.wcp_relay.specs.declared.checker_inbox.CheckerInbox.{CheckerInbox}

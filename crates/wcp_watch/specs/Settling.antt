@@ -1,6 +1,6 @@
 -- The settling of a watch: what its ends have in common, and what they tell together.
-use Rattle.std.specs.Prelude.{◌≡◌, ◌≤◌, ℕ, true, false, Option, Some, None, IfNone}
-use Rattle.std.specs.Prelude.{List, [], ◌∷◌, length, slice_get, All}
+use Rattle.std.specs.Prelude.{◌≡◌, ◌≤◌, ℕ, true, false, Option, Some, None, IfNone, List, [], ◌∷◌, length, slice_get}
+use Rattle.std.specs.Prelude.{All}
 use Rattle.wcp_model.specs.Cut.{Intervals}
 use Rattle.std.specs.FinSet as set
 use Rattle.std.specs.List.{sum_by}

@@ -1,8 +1,8 @@
 -- The words of the proofs of this crate, from one place.
 pub use Rattle.std.proofs.Common.{◌≡◌, ℕ, zero, suc, true, Option, Some, None, List, [], ◌∷◌, ◌++◌, sym, refl, ap, ◌∙◌}
 pub use Rattle.std.proofs.Common.{subst, append_assoc, Bool, false, cond, arith, ◌≢◌, ◌↔◌, Result, Ok, Err, length}
-pub use Rattle.std.proofs.Common.{slice_get, slice_set, get_or, inl, inr, true≢false, ◌<◌, subst₂, ◌||◌, ◌⊎◌, ◌≤◌, map}
-pub use Rattle.std.proofs.Common.{filter, All, ⊎_elim, ◌+◌, set, Vec, Global, rules, take, slice_index_or, count_by}
+pub use Rattle.std.proofs.Common.{slice_get, slice_set, get_or, true≢false, ◌<◌, subst₂, ◌||◌, ◌⊎◌, ◌≤◌, map, filter}
+pub use Rattle.std.proofs.Common.{All, ⊎_elim, ◌+◌, set, Vec, Global, rules, take, slice_index_or, count_by}
 pub use Rattle.std.proofs.lemmas.Bool.{cases_eq}
 pub use Rattle.std.proofs.lemmas.Grind.{common_steps}
 pub use Rattle.std.proofs.lemmas.List.{append-nil, length-map, length-set, get_or_past, get_or-set_same}

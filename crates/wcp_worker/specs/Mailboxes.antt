@@ -3,8 +3,8 @@ use Rattle.std.specs.Prelude.{ℕ, Option, None, List, slice_index_or, IfSome}
 use Rattle.wcp_worker.specs.declared.lane_ends.Outbox.{Outbox}
 use Rattle.wcp_worker.specs.declared.lane_ends.Inbox.{Inbox}
 use Rattle.wcp_worker.specs.declared.mailbox.Mailbox.{Mailbox}
-use Rattle.wcp_worker.specs.Lanes.{IsOutboxOf, IsInboxOf, IsSameOutbox, IsSameInbox}
-use Rattle.wcp_worker.specs.Lanes.{IfBoth, messages_put, messages_taken, clocks_from}
+use Rattle.wcp_worker.specs.Lanes.{IsOutboxOf, IsInboxOf, IsSameOutbox, IsSameInbox, IfBoth, messages_put}
+use Rattle.wcp_worker.specs.Lanes.{messages_taken, clocks_from}
 
 -- The end by which it sends to q, and the end by which the messages of q come, where they are there.
 abbrev pub outbox_to : Mailbox → ℕ → Option Outbox

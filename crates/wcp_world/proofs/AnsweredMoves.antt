@@ -12,10 +12,9 @@ use Rattle.wcp_world.proofs.Words.{held_at, IsTransportOf, IsNextAtRoot, IsMoveB
 use Rattle.wcp_world.proofs.Words.{notes_along, IsShift, shift_reasons, KeepsIfRefused, Reply, Why, accepted_by}
 use Rattle.wcp_world.proofs.Words.{first_reason, Vanished, Dropped, is_dropped, is_drop_of, marks_in, given, size_of}
 use Rattle.wcp_world.proofs.Words.{room_of, count_by, cases_lt, or-false, inl, inr, ◌≤◌, take_at, cases_eq, ne_eqb}
-use Rattle.wcp_world.proofs.Words.{puts_into, gets}
+use Rattle.wcp_world.proofs.Words.{puts_into, gets, Result, Ok, Err, ◌↔◌}
 use Rattle.std.specs.List.{list_any}
 use Rattle.std.specs.Prelude.{IsErr, OnOk}
-use Rattle.wcp_world.proofs.Words.{Result, Ok, Err, ◌↔◌}
 use Rattle.std.proofs.lemmas.List.Sums.{sum_by-cons}
 use Rattle.wcp_clock.specs.declared.note.Note.TheVariants as note
 use Rattle.wcp_model.specs.declared.step.Step.TheVariants as step

@@ -1,6 +1,5 @@
-use Rattle.std.specs.Prelude.{◌≡◌, ℕ, ◌<◌, true, false, IsTrue, is_some, Option, Some, None, MatchOption}
-use Rattle.std.specs.Prelude.{Result, MatchResult, [], ◌∷◌}
-use Rattle.std.specs.Prelude.{List, ◌++◌, length, map, slice_get}
+use Rattle.std.specs.Prelude.{◌≡◌, ℕ, ◌<◌, true, false, IsTrue, is_some, Option, Some, None, MatchOption, Result}
+use Rattle.std.specs.Prelude.{MatchResult, [], ◌∷◌, List, ◌++◌, length, map, slice_get}
 use Rattle.std.specs.Option.{option_and_then, option_to_list}
 use Rattle.wcp_clock.specs.Limits.{most_events}
 use Rattle.wcp_clock.specs.ProcessNumbers.{NumberSet}

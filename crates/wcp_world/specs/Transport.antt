@@ -1,6 +1,5 @@
-use Rattle.std.specs.Prelude.{◌≡◌, ◌≢◌, ◌==◌, ℕ, ◌+◌, ◌<◌, ◌≤◌, Bool, true, false, if◌then◌else◌}
-use Rattle.std.specs.Prelude.{Option, Some, MatchOption}
-use Rattle.std.specs.Prelude.{List, [], ◌∷◌, ◌++◌, length, count_by, slice_get, slice_set, slice_index_or}
+use Rattle.std.specs.Prelude.{◌≡◌, ◌≢◌, ◌==◌, ℕ, ◌+◌, ◌<◌, ◌≤◌, Bool, true, false, if◌then◌else◌, Option, Some}
+use Rattle.std.specs.Prelude.{MatchOption, List, [], ◌∷◌, ◌++◌, length, count_by, slice_get, slice_set, slice_index_or}
 use Rattle.wcp_clock.specs.declared.note.Item.{Item}
 use Rattle.wcp_clock.specs.declared.note.Note.{Note}
 use Rattle.wcp_clock.specs.declared.note.Note.TheVariants as note
@@ -15,8 +14,8 @@ use Rattle.wcp_model.specs.declared.step.Why.TheVariants.{Empty, Full}
 use Rattle.wcp_model.specs.Emission.{is_dropped}
 use Rattle.wcp_model.specs.PlanFault.{IsCheckedPlan}
 use Rattle.wcp_model.specs.Tree.{IsSamePlan}
-use Rattle.wcp_model.specs.Occupancy.{Place, Pending, Link, HoldOf, InboxOf}
-use Rattle.wcp_model.specs.Occupancy.{next_place, source, puts_into, taken_from, notes_in, room_of, IsEntry}
+use Rattle.wcp_model.specs.Occupancy.{Place, Pending, Link, HoldOf, InboxOf, next_place, source, puts_into, taken_from}
+use Rattle.wcp_model.specs.Occupancy.{notes_in, room_of, IsEntry}
 use Rattle.wcp_model.specs.Replies.{accepted_by, names_nothing, reasons}
 use Rattle.wcp_model.specs.Report.{notes_taken}
 use Rattle.wcp_hold.specs.Held.{Held}

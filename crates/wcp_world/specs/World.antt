@@ -6,11 +6,10 @@ use Rattle.wcp_model.specs.declared.plan.Plan.{Plan}
 use Rattle.wcp_model.specs.declared.step.Step.{Step}
 use Rattle.wcp_model.specs.declared.step.Step.TheVariants as step
 use Rattle.wcp_model.specs.declared.step.Reply.{Reply}
-use Rattle.wcp_model.specs.Replies.{Answered, accepted_by, taken_by, accepted, items_taken, computation}
-use Rattle.wcp_model.specs.Replies.{IsReply, AreReplies}
+use Rattle.wcp_model.specs.Replies.{Answered, accepted_by, taken_by, accepted, items_taken, computation, IsReply}
+use Rattle.wcp_model.specs.Replies.{AreReplies}
 use Rattle.wcp_model.specs.Report.{AreFrontsOfEmissions}
-use Rattle.wcp_queue.specs.Checker.{CheckerState}
-use Rattle.wcp_queue.specs.Checker.{processes as processes_of_checker, StandsForItems}
+use Rattle.wcp_queue.specs.Checker.{CheckerState, processes as processes_of_checker, StandsForItems}
 use Rattle.wcp_world.specs.Processes.{ProcessesState, AreProcessesOf}
 use Rattle.wcp_world.specs.Transport.{TransportState, IsTransportOf}
 

@@ -11,7 +11,7 @@ use Rattle.wcp_model.proofs.CheckedPlans.{few_processes}
 use Rattle.wcp_model.proofs.SamePlace.{element_within, slice_get-take}
 use Rattle.wcp_model.specs.PlanFault.{IsCheckedPlan}
 use Rattle.wcp_model.specs.ProbeLog.{Closed, setup, state_of_log}
-use Rattle.wcp_model.specs.Report.{IsDrained, IsReportByClocks, notes_taken}
+use Rattle.wcp_model.specs.Report.{IsDrained, notes_taken}
 use Rattle.wcp_model.specs.declared.outcome.Report.{Report}
 use Rattle.wcp_model.specs.declared.outcome.Report.TheVariants.{Nothing}
 use Rattle.wcp_model.specs.declared.outcome.Tally.{Tally}

@@ -1,5 +1,4 @@
-use Rattle.wcp_layout.proofs.Words.{◌∙◌, false, false≢true, get_or, sym, arith, slice_get-get_or}
-use Rattle.wcp_layout.proofs.Words.{Task}
+use Rattle.wcp_layout.proofs.Words.{◌∙◌, false, false≢true, get_or, sym, arith, slice_get-get_or, Task}
 use Rattle.wcp_model.specs.declared.workload.Action.TheVariants.{Observe}
 use Rattle.wcp_model.proofs.StepsOfOrder.{interval_at_is}
 use Rattle.wcp_layout.proofs.Listing.{rows_empty, rows_stay, rows_written, truths_stay, truths_more, truths_below}

@@ -1,5 +1,4 @@
-use Rattle.wcp_layout.proofs.Words.{◌≡◌, ℕ, common_steps, slice_index, arith, get_or_past}
-use Rattle.wcp_layout.proofs.Words.{cases_lt, replicate, length}
+use Rattle.wcp_layout.proofs.Words.{◌≡◌, ℕ, common_steps, slice_index, arith, get_or_past, cases_lt, replicate, length}
 use Rattle.wcp_layout.proofs.Halves.{may_first, may_second, second_starts, both_laid}
 use Rattle.wcp_layout.proofs.standing.lay_halves.Goals as goal
 

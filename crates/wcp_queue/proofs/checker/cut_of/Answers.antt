@@ -1,5 +1,4 @@
-use Rattle.wcp_queue.proofs.Words.{◌≡◌, ◌≤◌, refl, ◌∙◌, subst, length, arith, Some, slice_get}
-use Rattle.wcp_queue.proofs.Words.{slice_get_past, row_of}
+use Rattle.wcp_queue.proofs.Words.{◌≡◌, ◌≤◌, refl, ◌∙◌, subst, length, arith, Some, slice_get, slice_get_past, row_of}
 use Rattle.wcp_queue.proofs.WatchedRows.{AreEntries, entries_with, entries_without, cut_entries}
 use Rattle.wcp_queue.proofs.checker.cut_of.Goals as goal
 use Rattle.wcp_queue.proofs.checker.cut_of.Goals.{in-Some, in_default}

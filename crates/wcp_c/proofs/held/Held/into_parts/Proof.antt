@@ -1,6 +1,5 @@
 -- `into_parts` moves two fields, and what they own goes with them.
-use mathlib.Core.Path.{refl, sym, subst}
-use mathlib.Core.Path.{◌≡◌}
+use mathlib.Core.Path.{refl, sym, subst, ◌≡◌}
 use mathlib.Core.List.{List, [], ◌∷◌, ◌++◌}
 use Rattle.std.specs.Prelude.{Option, Some}
 use Rattle.wcp_queue.specs.Checker.{CheckerState}

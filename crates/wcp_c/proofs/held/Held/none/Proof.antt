@@ -3,9 +3,8 @@ use mathlib.Core.Path.{refl, sym, subst}
 use mathlib.Core.List.{List, [], ◌∷◌, ◌++◌}
 use Rattle.std.specs.Prelude.{None}
 use lib.Dec.{lit<}
-use mir.Val.{vnull, vstruct, vnil, vcons, has_ty}
+use mir.Val.{vnull, vstruct, vnil, vcons, has_ty, Val}
 use seplogic.Ra.Ura.{Ura}
-use mir.Val.{Val}
 use base.Logic.{SProp, ent, emp, id⊢}
 use base.Fml.{ftrue, fsep}
 use prog.Memory.{Memory}
@@ -21,14 +20,13 @@ use types.Part.{agg}
 use types.Run.{no_more, and_then, lit, returns, enter}
 use types.ByLocal.{alloc_all, pass_all, free_all, look_at, get, sets}
 use denote.Exit.{yes}
-use denote.Signature.{type_at}
+use denote.Signature.{type_at, Slot, plain}
 use denote.Steps.{nothing}
 use denote.Triple.Spec.{triple_of}
 use denote.Triple.Table.{entered}
 use denote.Triple.Walked.{says, Stays, stay_dropped, walk_of, ends_at, Goes-dropped, walk_Meets}
 use denote.RattleType.{Valss}
 use denote.RawPtr.{RawPtr, null_ptr}
-use denote.Signature.{Slot, plain}
 use denote.Struct.Owning.{shape, to}
 use denote.Struct.Struct.{within}
 use Rattle.core.proofs.alloc.Calls.{α, handle_tells}

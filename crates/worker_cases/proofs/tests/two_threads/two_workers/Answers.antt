@@ -1,8 +1,7 @@
-use Rattle.std.proofs.Common.{◌≡◌, ◌<◌, Some, List, [], ◌∷◌, ◌++◌, length, sym, ap, ◌∙◌, arith}
+use Rattle.std.proofs.Common.{◌≡◌, ◌<◌, Some, [], ◌∷◌, ◌++◌, length, ap, ◌∙◌, arith}
 use Rattle.std.specs.Prelude.{slice_get}
 use Rattle.std.proofs.lemmas.List.{length-append}
 use Rattle.wcp_relay.proofs.Entries.{last_entry, earlier_entry}
-use Rattle.wcp_worker.specs.declared.worker.Worker.{Worker}
 use Rattle.wcp_relay.proofs.FreshProbes.{probes_fresh}
 use Rattle.worker_cases.proofs.tests.two_threads.two_workers.Goals as goal
 
