@@ -87,8 +87,8 @@ impl LiveProbe {
         }
     }
 
-    /// A sleeper for its process. Before it says that it sleeps, it tells the relay of what the probe has put. `Err`
-    /// where memory runs out.
+    /// A sleeper for its process. It looks on for what it waits for while that pays, and tells the relay of what the
+    /// probe has put before it says that it sleeps. `Err` where memory runs out.
     pub fn new_sleeper(&self, alloc: Global) -> Result<Sleeper, AllocError> {
         self.putter.new_sleeper(alloc)
     }
