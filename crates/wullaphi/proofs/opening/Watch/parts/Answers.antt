@@ -11,7 +11,7 @@ name_probes-requires g c = own_probes (c.requires ∙ ap Some (sym c.self.view_i
 pub name_relays-requires : goal.name_relays-requires
 name_relays-requires g c = own_relays (c.requires ∙ ap Some (sym c.self.view_is)) c.self.invariant.is_open
 
-pub new-requires-2 : goal.new-requires-2
-new-requires-2 g c =
+pub new-checker-requires : goal.new-checker-requires
+new-checker-requires g c =
     its (c.requires ∙ ap Some (sym c.self.view_is)) c.self.invariant.is_open
     (record { is_inbox = refl; watched = c.self.invariant.watched; fresh = c.self.invariant.fresh })
