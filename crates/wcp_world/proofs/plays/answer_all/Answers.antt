@@ -1,5 +1,6 @@
-use Rattle.wcp_world.proofs.Words.{List, take, false, sym, subst, arith, take_more, take_all, Step, Observe}
+use Rattle.wcp_world.proofs.Words.{List, take, false, sym, subst, arith, take_all, Step, Observe}
 use Rattle.wcp_world.proofs.Words.{HasAnswered}
+use Rattle.std.proofs.lemmas.List.{take_more}
 use Rattle.wcp_world.proofs.plays.answer_all.Goals as goal
 
 pub loop-step-preserved : goal.loop-step-preserved
