@@ -65,9 +65,9 @@ returns-then-branch g c =
     let watched = c.in_ok-take.ensures c.args.watcher.now.conditions.now before.logged before.watching reads.0 in
     let known = rw c.if-branch.true at watched in (
       c.next_event.new.self.lines.ahead,
-      answers_early c.args.form c.args.watcher.now.conditions.now input _ rest c.loop.events.log c.next_event.new.self.log
-          c.loop.watcher c.take.new.self c.loop.counter c.in-Some.logged _ _ before reads known
-          c.in_ok-found_answer.ensures.text c.in_ok-found_answer.ensures.status,
+      answers_early c.args.form c.args.watcher.now.conditions.now input _ rest c.loop.events.log
+          c.next_event.new.self.log c.loop.watcher c.take.new.self c.loop.counter c.in-Some.logged _ _ before reads
+          known c.in_ok-found_answer.ensures.text c.in_ok-found_answer.ensures.status,
     )
 
 pub loop-preserved : goal.loop-preserved

@@ -2,9 +2,6 @@ use Rattle.wcp_plain.proofs.Words.{◌+◌, ◌<◌, true, length, below_more, s
 use Rattle.wcp_plain.proofs.Words.{slice_get-get_or, slice_get_within, same_Some, Observe, interval_at-event}
 use Rattle.wcp_plain.proofs.Words.{interval_at-other}
 use Rattle.wcp_plain.proofs.cuts.is_true_in.Goals as goal
-use Rattle.wcp_plain.proofs.cuts.is_true_in.Goals.{else-current-interval-via-then-current-interval+else-is_true_observation_of}
-use Rattle.wcp_plain.proofs.cuts.is_true_in.Goals.{else-current-interval-via-else-current-interval}
-use Rattle.wcp_plain.proofs.cuts.is_true_in.Goals.{then-is_communication_of, else-is_communication_of}
 
 pub loop-step-preserved : goal.loop-step-preserved
 loop-step-preserved c =
@@ -13,10 +10,10 @@ loop-step-preserved c =
     record {
       current =
           elim c.if-is_communication_of.branch [
-            | then-is_communication_of w ↦ w.current-is ∙ ap (λ k. k + 1) was.current
+            | goal.then-is_communication_of w ↦ w.current-is ∙ ap (λ k. k + 1) was.current
                 ∙ sym (interval_at-event c.args.steps.now c.args.process c.loop-step.step-index _ here
                 (sym c.is_communication_of.ensures ∙ w.if-is_communication_of.true))
-            | else-is_communication_of w ↦ w.current-is ∙ was.current
+            | goal.else-is_communication_of w ↦ w.current-is ∙ was.current
                 ∙ sym (interval_at-other c.args.steps.now c.args.process c.loop-step.step-index _ here
                 (sym c.is_communication_of.ensures ∙ w.if-is_communication_of.false))
           ];
@@ -24,10 +21,10 @@ loop-step-preserved c =
           below_more _ _ was.none
           (λ true_here.
           elim c.else-current-interval.branch [
-            | else-current-interval-via-then-current-interval+else-is_true_observation_of w ↦ false≢true
+            | goal.else-current-interval-via-then-current-interval+else-is_true_observation_of w ↦ false≢true
                 (sym w.if-is_true_observation_of.false
                 ∙ w.is_true_observation_of.ensures.observed.1 (same_Some _ _ (sym here ∙ true_here.0)))
-            | else-current-interval-via-else-current-interval w ↦ w.if-current-interval.false
+            | goal.else-current-interval-via-else-current-interval w ↦ w.if-current-interval.false
                 (was.current ∙ true_here.1)
           ]);
     }

@@ -3,8 +3,6 @@ use Rattle.wcp_watch.proofs.Words.{Contains-get_or, IsFreeOf, Stranger, Missing,
 use Rattle.wcp_watch.proofs.FirstFaults.{handed_on, is_first}
 use Rattle.wcp_watch.proofs.SettledEnds.{all_there, few, few_ends, probe_within, relay_within}
 use Rattle.wcp_watch.proofs.seated_ends.seat_ends.Goals as goal
-use Rattle.wcp_watch.proofs.seated_ends.seat_ends.Goals.{then-not-are_seated-via-then-not-are_seated}
-use Rattle.wcp_watch.proofs.seated_ends.seat_ends.Goals.{then-not-are_seated-via-else-not-are_seated+then-not-are_seated-2}
 
 pub seat-requires-clause-within : goal.seat-requires-clause-within
 seat-requires-clause-within c = λ k d within same.
@@ -56,10 +54,10 @@ returns-then-not-are_seated-clause-first c = λ book.
     ((c.in_ok-seat.ensures.exact.0 refl, c.in_ok-seat-2.ensures.exact.0 refl), tt)
     (λ there.
     elim c.then-not-are_seated.branch [
-      | then-not-are_seated-via-then-not-are_seated w ↦
+      | goal.then-not-are_seated-via-then-not-are_seated w ↦
           let seated = (all_there (λ (end : ClosedSide). end.id) _ _ _ c.in_ok-seat.ensures.seats).1 there.0 in
           true≢false (sym (c.are_seated.ensures.1 seated) ∙ w.if-not-are_seated.true)
-      | then-not-are_seated-via-else-not-are_seated+then-not-are_seated-2 w ↦
+      | goal.then-not-are_seated-via-else-not-are_seated+then-not-are_seated-2 w ↦
           let seated = (all_there number_of _ _ _ c.in_ok-seat-2.ensures.seats).1 there.1 in
           true≢false (sym (w.are_seated-else-not-are_seated.ensures.1 seated) ∙ w.if-not-are_seated-2.true)
     ])
