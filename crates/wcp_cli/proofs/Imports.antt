@@ -11,7 +11,7 @@ pub use Rattle.clap.specs.Walk.{Held, nothing_held, walk_from, finished, settled
 pub use Rattle.clap.specs.Walk.{Walk}
 pub use Rattle.clap.specs.Words.{Text, built, fault_of, IsAmong, Kinds, is_simple, is_simple_and_free, Shape, Row}
 pub use Rattle.clap.specs.Words.{subcommand_of, subcommand_name_of, subcommand_rows, subcommand_rows_of, App, HasKind}
-pub use Rattle.clap.specs.Words.{app_of, kind_of, found_of, ReadsOne, shape_of, with_subcommand}
+pub use Rattle.clap.specs.Words.{app_of, kind_of, found_of, new_app, ReadsOne, shape_of, with_rule, with_subcommand}
 pub use Rattle.clap.specs.declared.error.kind.ErrorKind.{ErrorKind}
 pub use Rattle.std.proofs.Common.{◌≡◌, ◌∙◌, ◌<◌, ◌^◌, ℕ, Bool, true, false, List, [], ◌∷◌, codes, ap, None, refl}
 pub use Rattle.std.proofs.Common.{decimal, drop, inl, inr, ◌==◌, ◌&&◌, ◌≤◌, ◌⊎◌, length, pos, subst, arith, nat_le}

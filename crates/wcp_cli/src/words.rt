@@ -2,7 +2,9 @@
 ghost use Rattle.std.specs.Prelude.{◌≡◌, ◌≢◌, ◌⊎◌, ◌<◌, ◌^◌, ℕ, Bool, Some, None, false, map, codes};
 ghost use Rattle.std.specs.Prelude.{IfOk, IfSome, IsErr};
 ghost use Rattle.std.specs.Fmt.{decimal};
+ghost use Rattle.clap.specs.Simple.{new_shape};
 ghost use Rattle.clap.specs.Words.{app_of, found_of, kind_of, rows_of, rule_of, subcommand_name_of, subcommand_rows_of};
+ghost use Rattle.clap.specs.Words.{with_subcommand};
 ghost use Rattle.clap.specs.Values.{bool_text};
 ghost use Rattle.clap.specs.Walk.{one_of};
 ghost use Rattle.clap.specs.declared.builder.command.Command.TheViews.{out-Command as fields_of};
@@ -156,18 +158,34 @@ fn request_without_matches(alloc: Global, error: &Error) -> Result<Request, Allo
 fn command<'a>(alloc: Global) -> Result<Command<'a>, AllocError>
     ensures { IfOk result (λ command. app_of command ≡ program) }
 {
-    let single = Command::new(alloc, "single").about(help::SINGLE);
-    let run = Command::new(alloc, "run").about(help::RUN);
-    let replay = Command::new(alloc, "replay").about(help::REPLAY);
-    let ring = ring_command(alloc)?;
-    Command::new(alloc, "wcpwatch")
+    let named = Command::new(alloc, "wcpwatch")
         .about(help::ABOUT)
         .version(help::VERSION)
-        .after_help(help::MORE)
-        .subcommand(single)?
-        .subcommand(run)?
-        .subcommand(replay)?
-        .subcommand(ring)
+        .after_help(help::MORE);
+    let with_single = with_reader(alloc, named, "single", help::SINGLE)?;
+    let with_run = with_reader(alloc, with_single, "run", help::RUN)?;
+    let with_replay = with_reader(alloc, with_run, "replay", help::REPLAY)?;
+    with_ring(alloc, with_replay)
+}
+
+/// This command line with one more word, which takes no option.
+fn with_reader<'a>(
+    alloc: Global,
+    command: Command<'a>,
+    word: &'a str,
+    about: &'a str,
+) -> Result<Command<'a>, AllocError>
+    ensures { IfOk result (λ more. app_of more ≡ with_subcommand (app_of command.entry) (new_shape word.entry.now)) }
+{
+    command.subcommand(Command::new(alloc, word).about(about))
+}
+
+/// This command line with the word `ring`.
+fn with_ring<'a>(alloc: Global, command: Command<'a>) -> Result<Command<'a>, AllocError>
+    ensures { IfOk result (λ more. app_of more ≡ with_subcommand (app_of command.entry) ring_shape) }
+{
+    let ring = ring_command(alloc)?;
+    command.subcommand(ring)
 }
 
 /// The word `ring`.
