@@ -3,7 +3,7 @@ ghost use Rattle.std.specs.Prelude.{◌≡◌, true, ◌<◌, [], IfOk, IfSome, 
 ghost use Rattle.wcp_moment.specs.Search.{is_known, moment_of, watched_by};
 ghost use Rattle.wcp_condition.specs.Conditions.{HaveHosts};
 ghost use Rattle.wcp_detect.specs.Detection.{AllLog, AnswersLast, Detects, IsFirstSilent};
-ghost use Rattle.wcp_detect.specs.Texts.{found_text};
+ghost use Rattle.wcp_detect.specs.Texts.{found_text, none_text};
 ghost use Rattle.wcp_detect.specs.Watcher.{AreJudges, IsWatching};
 ghost use Rattle.wcp_detect.specs.Watching.{watches};
 
@@ -90,6 +90,16 @@ fn last_answer(alloc: Global, watcher: &mut Watcher<'_>) -> Result<Answer, Detec
         let host = String::from_str(alloc, watcher.conditions[place].host.as_str())?;
         return Err(DetectFault::NoHost(host));
     }
+    Ok(none_answer(alloc, watcher)?)
+}
+
+/// The answer where there is no moment.
+fn none_answer(alloc: Global, watcher: &Watcher<'_>) -> Result<Answer, AllocError>
+    requires { length watcher.now.judges.items ≡ length watcher.now.conditions.now }
+    ensures text { (logged : _) → AreJudges watcher.now.conditions.now logged watcher.now.judges.items →
+        IfOk result (λ answer. answer.text.items ≡ none_text watcher.now.conditions.now logged) }
+    ensures status { IfOk result (λ answer. answer.status ≡ 1) }
+{
     Ok(Answer {
         text: none_text(alloc, watcher.conditions, &watcher.judges)?,
         status: NONE,
