@@ -3,13 +3,14 @@ ghost use Rattle.std.specs.Prelude.{◌≡◌, Some};
 
 use std::alloc::Global;
 use std::marker::Brand;
+use std::process::Abort;
 use std::sync::{Mutex, Wait};
 use std::test::Fail;
 use std::thread::{Threads, join};
 use wullaphi::{
     Book, GlobalCut, LentProbe, Loan, Opening, Outcome, Plan, Process, Report, SettleFault,
-    Tallies, Tally, Watch, WatchChecker, WatchCheckerEnd, WatchFault, WatchParts, WatchProbe,
-    WatchProbeEnd, WatchRelay, WatchRelayEnd, plain_plan, watch_processes,
+    Tallies, Tally, Watch, WatchChecker, WatchCheckerEnd, WatchEnds, WatchFault, WatchParts,
+    WatchProbe, WatchProbeEnd, WatchRelay, WatchRelayEnd, plain_plan, watch_processes,
 };
 
 /// A process that is true once.
@@ -72,8 +73,25 @@ fn run_all<W: Opening + Send + Sync, R: Threads + Wait + Sync>(
     }
 }
 
+/// Settles what is left of a watch, with the end of the second process or without.
+fn settled<W: Opening, R: Abort>(
+    rt: &R,
+    mut ends: WatchEnds<W>,
+    left: Left<W>,
+    book: Book,
+    with_second: bool,
+) -> Result<Outcome, SettleFault> {
+    ends.add_checker(left.checker);
+    ends.add_relay(left.relay).expect(rt, "memory");
+    ends.add_probe(left.first).expect(rt, "memory");
+    if with_second {
+        ends.add_probe(left.second).expect(rt, "memory");
+    }
+    ends.settle(book)
+}
+
 /// Runs a watch of two processes, and settles it, with the end of the second process or without.
-fn watched<W: Opening + Send + Sync, R: Threads + Wait + Sync>(
+fn watched<W: Opening + Send + Sync, R: Threads + Wait + Sync + Abort>(
     rt: &R,
     alloc: Global,
     watch: Watch,
@@ -86,28 +104,17 @@ fn watched<W: Opening + Send + Sync, R: Threads + Wait + Sync>(
         mut probes,
         mut relays,
         checker,
-        mut ends,
+        ends,
     } = watch.parts::<W>(alloc)?;
-    let (Some(second), Some(first), Some(relay)) = (probes.pop(), probes.pop(), relays.pop()) else {
-        return Err(WatchFault::Count);
-    };
-    let Left {
-        first,
-        second,
-        relay,
-        checker,
-    } = run_all(rt, first, second, relay, checker, &book);
-    ends.add_probe(first)?;
-    if with_second {
-        ends.add_probe(second)?;
-    }
-    ends.add_relay(relay)?;
-    ends.add_checker(checker);
-    Ok(ends.settle(book.into_inner())?)
+    let second = probes.pop().expect(rt, "the probe of process 1");
+    let first = probes.pop().expect(rt, "the probe of process 0");
+    let relay = relays.pop().expect(rt, "a relay");
+    let left = run_all(rt, first, second, relay, checker, &book);
+    Ok(settled(rt, ends, left, book.into_inner(), with_second)?)
 }
 
 /// Opens a watch of this plan, and runs it here.
-fn opened<R: Threads + Wait + Sync>(
+fn opened<R: Threads + Wait + Sync + Abort>(
     rt: &R,
     alloc: Global,
     plan: &Plan,

@@ -9,8 +9,9 @@ use std::sync::{Mutex, Wait};
 use std::test::Fail;
 use std::thread::{Threads, join};
 use wullaphi::{
-    GlobalCut, Opening, Plan, Report, SettleFault, Watch, WatchFault, WatchParts, WatchProbe,
-    WatchProbeEnd, plain_plan,
+    Book, GlobalCut, Opening, Plan, Report, SettleFault, Watch, WatchChecker, WatchCheckerEnd,
+    WatchEnds, WatchFault, WatchParts, WatchProbe, WatchProbeEnd, WatchRelay, WatchRelayEnd,
+    plain_plan,
 };
 
 /// What the checker's end tells, and why the ends aren't settled.
@@ -31,8 +32,71 @@ fn run_member<W: Opening, R: Wait>(
     end
 }
 
+/// What is left of a watch of two processes, of which the first may have no end.
+#[derive(Drop)]
+struct Left<W: Opening> {
+    first: Option<WatchProbeEnd<W>>,
+    second: Option<WatchProbeEnd<W>>,
+    relay: WatchRelayEnd<W>,
+    checker: WatchCheckerEnd<W>,
+}
+
+/// Runs this member as process 0, a whole one as process 1, the relay and the checker, in threads.
+fn run_all<W: Opening + Send + Sync, R: Threads + Wait + Sync>(
+    rt: &R,
+    probes: (WatchProbe<W>, WatchProbe<W>),
+    member: Option<Member>,
+    relay: WatchRelay<W>,
+    checker: WatchChecker<W>,
+    book: &Mutex<Book>,
+) -> Left<W> {
+    let (first, second) = probes;
+    let (checker, (relay, (first, second))) = join(
+        rt,
+        move || checker.run(rt, book),
+        move || {
+            relay.run_beside(rt, move || {
+                join(
+                    rt,
+                    move || run_member(rt, first, member),
+                    move || run_member(rt, second, Some(Member::Whole)),
+                )
+            })
+        },
+    );
+    Left {
+        first,
+        second,
+        relay,
+        checker,
+    }
+}
+
+/// Settles what is left of a watch, and gives what its checker's end tells with that.
+fn settled<W: Opening, R: Abort>(
+    rt: &R,
+    mut ends: WatchEnds<W>,
+    left: Left<W>,
+    book: Book,
+) -> Told {
+    let (report, lost) = (left.checker.report(), left.checker.lost());
+    ends.add_checker(left.checker);
+    ends.add_relay(left.relay).expect(rt, "memory");
+    for end in [left.first, left.second] {
+        if let Some(end) = end {
+            ends.add_probe(end).expect(rt, "memory");
+        }
+    }
+    let fault = ends.settle(book).err();
+    Told {
+        report,
+        lost,
+        fault,
+    }
+}
+
 /// Runs a watch of two processes in threads: this member is process 0, and process 1 does its part.
-fn watched<W: Opening + Send + Sync, R: Threads + Wait + Sync>(
+fn watched<W: Opening + Send + Sync, R: Threads + Wait + Sync + Abort>(
     rt: &R,
     alloc: Global,
     watch: Watch,
@@ -45,42 +109,17 @@ fn watched<W: Opening + Send + Sync, R: Threads + Wait + Sync>(
         mut probes,
         mut relays,
         checker,
-        mut ends,
+        ends,
     } = watch.parts::<W>(alloc)?;
-    let (Some(second), Some(first), Some(relay)) = (probes.pop(), probes.pop(), relays.pop()) else {
-        return Err(WatchFault::Count);
-    };
-    let (checker, (relay, (first, second))) = join(
-        rt,
-        || checker.run(rt, &book),
-        move || {
-            relay.run_beside(rt, move || {
-                join(
-                    rt,
-                    move || run_member(rt, first, member),
-                    move || run_member(rt, second, Some(Member::Whole)),
-                )
-            })
-        },
-    );
-    for end in [first, second] {
-        if let Some(end) = end {
-            ends.add_probe(end)?;
-        }
-    }
-    ends.add_relay(relay)?;
-    let (report, lost) = (checker.report(), checker.lost());
-    ends.add_checker(checker);
-    let fault = ends.settle(book.into_inner()).err();
-    Ok(Told {
-        report,
-        lost,
-        fault,
-    })
+    let second = probes.pop().expect(rt, "the probe of process 1");
+    let first = probes.pop().expect(rt, "the probe of process 0");
+    let relay = relays.pop().expect(rt, "a relay");
+    let left = run_all(rt, (first, second), member, relay, checker, &book);
+    Ok(settled(rt, ends, left, book.into_inner()))
 }
 
 /// Opens a watch of this plan, and runs it here.
-fn opened<R: Threads + Wait + Sync>(
+fn opened<R: Threads + Wait + Sync + Abort>(
     rt: &R,
     alloc: Global,
     plan: &Plan,
