@@ -90,8 +90,8 @@ fn run_watch(rt: &(impl Abort + Wait), alloc: Global, lost: Option<u32>) -> Resu
         relays,
         inbox,
     } = watch;
-    let probes = close_all(alloc, probes, lost)?;
-    let relays = run_all(rt, alloc, relays)?;
+    let probes = close_all(alloc, probes, lost).expect(rt, "memory");
+    let relays = run_all(rt, alloc, relays).expect(rt, "memory");
     let book = Mutex::new(Book::new(2));
     let checker = check_loop(rt, inbox, checker, &book);
     let book = book.into_inner();
@@ -150,20 +150,17 @@ fn is_fault_of_same(faulted: &RelayEnd, last: &RelayEnd, watch: u64) -> bool
 
 /// The ends, and behind them this one, a second one of the relay that ran last. `None` where it met no fault, or is of
 /// another relay.
-fn with_a_second_end(mut ends: Ends, faulted: RelayEnd) -> Result<Option<Ends>, AllocError>
+fn with_a_second_end(rt: &impl Abort, mut ends: Ends, faulted: RelayEnd) -> Option<Ends>
     requires { ComeFromWatch ends.probes.items ends.relays.items ends.checker }
-    ensures { IfOk result (λ some. IfSome some (λ ends.
-        ComeFromWatch ends.probes.items ends.relays.items ends.checker)) }
+    ensures { IfSome result (λ ends. ComeFromWatch ends.probes.items ends.relays.items ends.checker) }
 {
-    let Some(last) = last_relay(&mut ends.relays) else {
-        return Ok(None);
-    };
-    if is_fault_of_same(&faulted, &last, ends.checker.watch()) {
-        ends.relays.push(last)?;
-        ends.relays.push(faulted)?;
-        return Ok(Some(ends));
+    let last = last_relay(&mut ends.relays)?;
+    if !is_fault_of_same(&faulted, &last, ends.checker.watch()) {
+        return None;
     }
-    Ok(None)
+    ends.relays.push(last).expect(rt, "memory");
+    ends.relays.push(faulted).expect(rt, "memory");
+    Some(ends)
 }
 
 /// Each process emits one snapshot and closes.
@@ -357,7 +354,7 @@ fn each_probe_of_another_watch_is_a_stranger(rt: HostRuntime) -> Result<(), Fail
 fn a_relay_that_was_cut_is_faulted(rt: HostRuntime) -> Result<(), Fail> {
     let ends = run_watch(&rt, rt.alloc(), None)?;
     let faulted = cut_relay(&rt, rt.alloc())?.expect(&rt, "a relay");
-    let ends = with_a_second_end(ends, faulted)?.expect(&rt, "a fault of the first relay");
+    let ends = with_a_second_end(&rt, ends, faulted).expect(&rt, "a fault of the first relay");
     let ends = without_relay(ends, 0).expect(&rt, "the first relay's other end");
     assert_eq!(rt; ends.relays.len(), 2);
     is_not_settled(&rt, ends, SettleFault::Faulted, 0);
@@ -370,7 +367,7 @@ fn two_ends_of_a_relay_are_strangers(rt: HostRuntime) -> Result<(), Fail> {
     let ends = run_watch(&rt, rt.alloc(), None)?;
     let second = cut_relay(&rt, rt.alloc())?.expect(&rt, "a relay");
     let ends = without_relay(ends, 1).expect(&rt, "a relay");
-    let ends = with_a_second_end(ends, second)?.expect(&rt, "a fault of the first relay");
+    let ends = with_a_second_end(&rt, ends, second).expect(&rt, "a fault of the first relay");
     assert_eq!(rt; ends.relays.len(), 2);
     is_not_settled(&rt, ends, SettleFault::Stranger, 0);
     Ok(())
