@@ -1,41 +1,22 @@
-ghost use Rattle.std.specs.Prelude.{◌≡◌};
-
 use super::lanes::{lane_of_one, lane_of_two, put_snap, snap, try_put_snap};
-use std::process::Abort;
-use std::sync::Wait;
 use std::test::Fail;
 use wcp_clock::Item;
-use wcp_lane::{LaneFault, Members, TakeReceipt, Taker, Unfinished, lane, reconcile};
-
-/// The next item is this one.
-fn takes<R: Wait + Abort>(rt: &R, taker: &mut Taker<Item>, item: Item)
-    ensures { taker.new.lane ≡ taker.old.lane }
-{
-    assert_eq!(rt; taker.take(rt), Ok(item));
-}
-
-/// These of the processes 0, 1 and 2 are matched.
-fn are_matched(rt: &impl Abort, taken: &TakeReceipt<Item>, matched: [bool; 3]) {
-    assert_eq!(rt;
-        [taken.matched(0), taken.matched(1), taken.matched(2)],
-        matched
-    );
-}
+use wcp_lane::{LaneFault, Members, Unfinished, lane, reconcile};
 
 #[test]
 fn two_items_come_in_their_order(rt: HostRuntime) -> Result<(), Fail> {
     let (mut first, mut second, mut taker) = lane_of_two(rt.alloc(), 2)?;
     put_snap(&rt, &mut first, 0, 0)?;
     put_snap(&rt, &mut second, 1, 0)?;
-    takes(&rt, &mut taker, snap(0, 0));
-    takes(&rt, &mut taker, snap(1, 0));
+    assert_eq!(rt; taker.take(&rt), Ok(snap(0, 0)));
+    assert_eq!(rt; taker.take(&rt), Ok(snap(1, 0)));
     assert_eq!(rt; taker.try_take(&rt), Ok(None));
     let taken = taker.end();
-    are_matched(&rt, &taken, [false, false, false]);
+    assert!(rt; !taken.matched(0) && !taken.matched(1));
     let taken = reconcile(taken, second.end())?;
-    are_matched(&rt, &taken, [false, true, false]);
+    assert!(rt; !taken.matched(0) && taken.matched(1));
     let taken = reconcile(taken, first.end())?;
-    are_matched(&rt, &taken, [true, true, false]);
+    assert!(rt; taken.matched(0) && taken.matched(1) && !taken.matched(2));
     Ok(())
 }
 
@@ -64,9 +45,9 @@ fn a_full_lane_has_room_once_an_item_was_taken(rt: HostRuntime) -> Result<(), Fa
     let (mut putter, mut taker) = lane_of_one(rt.alloc(), 1)?;
     assert_eq!(rt; try_put_snap(&rt, &mut putter, 0, 0), Ok(true));
     assert_eq!(rt; try_put_snap(&rt, &mut putter, 0, 1), Ok(false));
-    takes(&rt, &mut taker, snap(0, 0));
+    assert_eq!(rt; taker.take(&rt), Ok(snap(0, 0)));
     assert_eq!(rt; try_put_snap(&rt, &mut putter, 0, 1), Ok(true));
-    takes(&rt, &mut taker, snap(0, 1));
+    assert_eq!(rt; taker.take(&rt), Ok(snap(0, 1)));
     drop(taker);
     assert!(rt; try_put_snap(&rt, &mut putter, 0, 2).is_err());
     Ok(())
