@@ -1,3 +1,4 @@
+mod ends;
 mod gone;
 mod late;
 mod rings;

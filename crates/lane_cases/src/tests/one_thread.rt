@@ -1,48 +1,48 @@
 use super::lanes::{lane_of_one, lane_of_two, put_snap, snap, try_put_snap};
-use std::test::Fail;
 use wcp_clock::Item;
 use wcp_lane::{LaneFault, Members, Unfinished, lane, reconcile};
 
 #[test]
-fn two_items_come_in_their_order(rt: HostRuntime) -> Result<(), Fail> {
-    let (mut first, mut second, mut taker) = lane_of_two(rt.alloc(), 2)?;
-    put_snap(&rt, &mut first, 0, 0)?;
-    put_snap(&rt, &mut second, 1, 0)?;
+fn two_items_come_in_their_order(rt: HostRuntime) {
+    let (mut first, mut second, mut taker) = lane_of_two(rt.alloc(), 2).expect(&rt, "memory");
+    put_snap(&rt, &mut first, 0, 0).expect(&rt, "room");
+    put_snap(&rt, &mut second, 1, 0).expect(&rt, "room");
     assert_eq!(rt; taker.take(&rt), Ok(snap(0, 0)));
     assert_eq!(rt; taker.take(&rt), Ok(snap(1, 0)));
     assert_eq!(rt; taker.try_take(&rt), Ok(None));
     let taken = taker.end();
     assert!(rt; !taken.matched(0) && !taken.matched(1));
-    let taken = reconcile(taken, second.end())?;
+    let taken = reconcile(taken, second.end()).expect(&rt, "all was taken");
     assert!(rt; !taken.matched(0) && taken.matched(1));
-    let taken = reconcile(taken, first.end())?;
+    let taken = reconcile(taken, first.end()).expect(&rt, "all was taken");
     assert!(rt; taken.matched(0) && taken.matched(1) && !taken.matched(2));
-    Ok(())
 }
 
 #[test]
-fn an_item_that_was_left_is_not_reconciled(rt: HostRuntime) -> Result<(), Fail> {
-    let (mut first, second, mut taker) = lane_of_two(rt.alloc(), 2)?;
-    put_snap(&rt, &mut first, 0, 0)?;
-    put_snap(&rt, &mut first, 0, 1)?;
+fn an_item_that_was_left_is_not_reconciled(rt: HostRuntime) {
+    let (mut first, second, mut taker) = lane_of_two(rt.alloc(), 2).expect(&rt, "memory");
+    put_snap(&rt, &mut first, 0, 0).expect(&rt, "room");
+    put_snap(&rt, &mut first, 0, 1).expect(&rt, "room");
     assert_eq!(rt; taker.try_take(&rt), Ok(Some(snap(0, 0))));
-    let taken = reconcile(taker.end(), second.end())?;
+    let taken = reconcile(taker.end(), second.end()).expect(&rt, "all was taken");
     assert_eq!(rt; reconcile(taken, first.end()).err(), Some(Unfinished));
-    Ok(())
 }
 
 #[test]
-fn a_put_after_the_end_of_the_taker_is_cut(rt: HostRuntime) -> Result<(), Fail> {
-    let (mut putter, taker) = lane_of_one(rt.alloc(), 2)?;
+fn a_put_after_the_end_of_the_taker_is_cut(rt: HostRuntime) {
+    let (mut putter, taker) = lane_of_one(rt.alloc(), 2).expect(&rt, "memory");
     let taken = taker.end();
     assert_eq!(rt; put_snap(&rt, &mut putter, 0, 0), Err(snap(0, 0)));
-    assert!(rt; reconcile(taken, putter.end())?.matched(0));
-    Ok(())
+    assert!(rt;
+        reconcile(taken, putter.end())
+            .expect(&rt, "all was taken")
+            .matched(0)
+    );
 }
 
 #[test]
-fn a_full_lane_has_room_once_an_item_was_taken(rt: HostRuntime) -> Result<(), Fail> {
-    let (mut putter, mut taker) = lane_of_one(rt.alloc(), 1)?;
+fn a_full_lane_has_room_once_an_item_was_taken(rt: HostRuntime) {
+    let (mut putter, mut taker) = lane_of_one(rt.alloc(), 1).expect(&rt, "memory");
     assert_eq!(rt; try_put_snap(&rt, &mut putter, 0, 0), Ok(true));
     assert_eq!(rt; try_put_snap(&rt, &mut putter, 0, 1), Ok(false));
     assert_eq!(rt; taker.take(&rt), Ok(snap(0, 0)));
@@ -50,18 +50,16 @@ fn a_full_lane_has_room_once_an_item_was_taken(rt: HostRuntime) -> Result<(), Fa
     assert_eq!(rt; taker.take(&rt), Ok(snap(0, 1)));
     drop(taker);
     assert!(rt; try_put_snap(&rt, &mut putter, 0, 2).is_err());
-    Ok(())
 }
 
 #[test]
-fn a_take_without_a_putter_is_cut(rt: HostRuntime) -> Result<(), Fail> {
-    let (mut putter, mut taker) = lane_of_one(rt.alloc(), 2)?;
-    put_snap(&rt, &mut putter, 0, 0)?;
+fn a_take_without_a_putter_is_cut(rt: HostRuntime) {
+    let (mut putter, mut taker) = lane_of_one(rt.alloc(), 2).expect(&rt, "memory");
+    put_snap(&rt, &mut putter, 0, 0).expect(&rt, "room");
     drop(putter);
     assert_eq!(rt; taker.take(&rt), Ok(snap(0, 0)));
     assert!(rt; taker.take(&rt).is_err());
     assert!(rt; taker.try_take(&rt).is_err());
-    Ok(())
 }
 
 #[test]
@@ -89,8 +87,8 @@ fn the_first_fault_is_answered(rt: HostRuntime) {
 }
 
 #[test]
-fn each_end_knows_its_numbers(rt: HostRuntime) -> Result<(), Fail> {
-    let (first, second, taker) = lane_of_two(rt.alloc(), 1)?;
+fn each_end_knows_its_numbers(rt: HostRuntime) {
+    let (first, second, taker) = lane_of_two(rt.alloc(), 1).expect(&rt, "memory");
     for p in 0..3 {
         assert_eq!(rt; first.members().has(p), p == 0);
         assert_eq!(rt; second.members().has(p), p == 1);
@@ -98,5 +96,4 @@ fn each_end_knows_its_numbers(rt: HostRuntime) -> Result<(), Fail> {
     }
     assert!(rt; first.end().members().has(0));
     assert!(rt; taker.end().members().has(1));
-    Ok(())
 }

@@ -1,5 +1,4 @@
 use std::sync::Wait;
-use std::test::Fail;
 use std::thread;
 use std::thread::Threads;
 use wcp_clock::{Clock, Note};
@@ -19,8 +18,8 @@ fn snapshot(number: u32) -> Note {
 }
 
 #[test]
-fn an_end_is_gone_once_it_was_dropped(rt: HostRuntime) -> Result<(), Fail> {
-    let (mut putter, mut taker) = ring(rt.alloc(), 2)?;
+fn an_end_is_gone_once_it_was_dropped(rt: HostRuntime) {
+    let (mut putter, mut taker) = ring(rt.alloc(), 2).expect(&rt, "memory");
     assert!(rt; !taker.gone());
     assert_eq!(rt; putter.try_put(snapshot(0)), Ok(()));
     assert!(rt; !taker.gone());
@@ -29,29 +28,26 @@ fn an_end_is_gone_once_it_was_dropped(rt: HostRuntime) -> Result<(), Fail> {
     assert_eq!(rt; taker.try_take(), Some(snapshot(0)));
     assert_eq!(rt; taker.try_take(), None);
     assert!(rt; taker.gone());
-    Ok(())
 }
 
 #[test]
-fn an_end_that_puts_no_more_is_not_gone(rt: HostRuntime) -> Result<(), Fail> {
-    let (putter, mut taker) = ring(rt.alloc(), 2)?;
+fn an_end_that_puts_no_more_is_not_gone(rt: HostRuntime) {
+    let (putter, mut taker) = ring(rt.alloc(), 2).expect(&rt, "memory");
     let end = putter.end();
     assert!(rt; !taker.gone());
     drop(end);
     assert!(rt; taker.gone());
-    Ok(())
 }
 
 #[test]
-fn an_end_that_takes_is_gone_once_it_was_dropped(rt: HostRuntime) -> Result<(), Fail> {
-    let (mut putter, mut taker) = ring(rt.alloc(), 2)?;
+fn an_end_that_takes_is_gone_once_it_was_dropped(rt: HostRuntime) {
+    let (mut putter, mut taker) = ring(rt.alloc(), 2).expect(&rt, "memory");
     assert!(rt; putter.linked().is_ok());
     assert_eq!(rt; putter.try_put(snapshot(0)), Ok(()));
     assert_eq!(rt; taker.try_take(), Some(snapshot(0)));
     assert!(rt; putter.linked().is_ok());
     drop(taker);
     assert!(rt; putter.linked().is_err());
-    Ok(())
 }
 
 fn put_and_drop(mut putter: RingPutter) {
@@ -75,9 +71,9 @@ fn take_until_gone(rt: &impl Wait, mut taker: RingTaker) -> u32 {
 }
 
 #[test]
-fn nothing_is_left_in_a_ring_that_is_gone_and_then_empty(rt: HostRuntime) -> Result<(), Fail> {
+fn nothing_is_left_in_a_ring_that_is_gone_and_then_empty(rt: HostRuntime) {
     for _ in 0..ROUNDS {
-        let (putter, taker) = ring(rt.alloc(), NOTES)?;
+        let (putter, taker) = ring(rt.alloc(), NOTES).expect(&rt, "memory");
         let ((), came) = thread::join(
             &rt,
             move || put_and_drop(putter),
@@ -85,5 +81,4 @@ fn nothing_is_left_in_a_ring_that_is_gone_and_then_empty(rt: HostRuntime) -> Res
         );
         assert_eq!(rt; came, NOTES);
     }
-    Ok(())
 }

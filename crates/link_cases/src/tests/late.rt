@@ -1,9 +1,9 @@
 //! Notes of a putter that rings late, for a taker that sleeps.
+use super::ends::{Ends, bell_of, for_a_taker_that_sleeps};
 use super::waking::{Progress, take_until_left};
 use std::alloc::Global;
 use std::process::Abort;
 use std::sync::Wait;
-use std::test::Fail;
 use std::thread::{join, sleep};
 use std::time::{Clock, Duration};
 use wcp_clock::Note;
@@ -48,11 +48,14 @@ fn put_in_bursts<R: Clock>(
 
 /// Half of the room wakes the taker, and so does a putter that says so.
 #[test]
-fn a_taker_asleep_is_told_late(rt: HostRuntime) -> Result<(), Fail> {
+fn a_taker_asleep_is_told_late(rt: HostRuntime) {
     for (notes, tells) in [(ROOM / 2, false), (ROOM, false), (1, true), (3, true)] {
-        let (putter, mut taker) = ring(rt.alloc(), ROOM)?;
-        let mut sleeper = Sleeper::new(rt.alloc())?;
-        let mut putter = putter.with_bell(sleeper.bell()?).ringing_late();
+        let Ends {
+            putter,
+            mut taker,
+            mut sleeper,
+        } = for_a_taker_that_sleeps(&rt, rt.alloc(), ROOM);
+        let mut putter = putter.ringing_late();
         let progress = Progress::new();
         let (shared, handle) = (&progress, &rt);
         let (in_time, ()) = join(
@@ -67,7 +70,6 @@ fn a_taker_asleep_is_told_late(rt: HostRuntime) -> Result<(), Fail> {
         );
         assert!(rt; in_time, "{notes} notes");
     }
-    Ok(())
 }
 
 /// Sleeps until there is a note, and takes it: whether one came before time was up.
@@ -149,10 +151,6 @@ fn partners(rt: &impl Abort, alloc: Global) -> (Partner, Partner) {
         sleeper: answerer,
     };
     (first, second)
-}
-
-fn bell_of(rt: &impl Abort, sleeper: &Sleeper) -> Bell {
-    sleeper.bell().expect(rt, "memory")
 }
 
 /// Who rings late tells the other by its sleeper before it sleeps.

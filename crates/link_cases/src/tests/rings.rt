@@ -31,25 +31,23 @@ fn ring_of(alloc: Global, cap: u32) -> Result<(RingPutter, RingTaker), AllocErro
 }
 
 #[test]
-fn one_note_through_a_ring_of_one(rt: HostRuntime) -> Result<(), Fail> {
-    let (mut putter, mut taker) = ring_of(rt.alloc(), 1)?;
+fn one_note_through_a_ring_of_one(rt: HostRuntime) {
+    let (mut putter, mut taker) = ring_of(rt.alloc(), 1).expect(&rt, "memory");
     assert_eq!(rt; taker.try_take(), None);
     assert_eq!(rt; putter.try_put(snapshot(0)), Ok(()));
     assert_eq!(rt; putter.try_put(snapshot(1)), Err(snapshot(1)));
     assert_eq!(rt; taker.try_take(), Some(snapshot(0)));
     assert_eq!(rt; taker.try_take(), None);
     assert!(rt; match_ends(putter.end(), taker).is_ok());
-    Ok(())
 }
 
 #[test]
-fn a_note_left_in_a_ring(rt: HostRuntime) -> Result<(), Fail> {
-    let (mut putter, mut taker) = ring_of(rt.alloc(), 1024)?;
+fn a_note_left_in_a_ring(rt: HostRuntime) {
+    let (mut putter, mut taker) = ring_of(rt.alloc(), 1024).expect(&rt, "memory");
     assert_eq!(rt; putter.try_put(snapshot(0)), Ok(()));
     assert_eq!(rt; putter.try_put(Note::Close { count: 1 }), Ok(()));
     assert_eq!(rt; taker.try_take(), Some(snapshot(0)));
     assert!(rt; match_ends(putter.end(), taker).is_err());
-    Ok(())
 }
 
 fn put_waiting(rt: &impl Wait, putter: &mut RingPutter, note: Note)

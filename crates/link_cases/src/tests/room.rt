@@ -1,12 +1,12 @@
 //! Room that comes at every moment of a putter's falling asleep.
+use super::ends::{Ends, for_a_putter_that_sleeps};
 use super::waking::Progress;
 use std::sync::Wait;
 use std::sync::atomic::Ordering::SeqCst;
-use std::test::Fail;
 use std::thread;
 use std::time::{Clock, Duration, Instant};
 use wcp_clock::Note;
-use wcp_ring::{RingPutter, RingTaker, Sleeper, ring};
+use wcp_ring::{RingPutter, RingTaker, Sleeper};
 
 /// For how many milliseconds notes are taken.
 const WHILE: u64 = 1_000;
@@ -52,10 +52,12 @@ fn put_until_gone<R: Wait>(
 
 /// Where the putter sleeps on although there is room, the taker leaves, and its bell wakes the putter all the same.
 #[test]
-fn each_note_taken_wakes_the_putter(rt: HostRuntime) -> Result<(), Fail> {
-    let (mut putter, mut taker) = ring(rt.alloc(), 1)?;
-    let mut sleeper = Sleeper::new(rt.alloc())?;
-    taker = taker.with_bell(sleeper.bell()?);
+fn each_note_taken_wakes_the_putter(rt: HostRuntime) {
+    let Ends {
+        mut putter,
+        mut taker,
+        mut sleeper,
+    } = for_a_putter_that_sleeps(&rt, rt.alloc(), 1);
     let progress = Progress::new();
     let (shared, handle) = (&progress, &rt);
     let (taken, ()) = thread::join(
@@ -68,15 +70,16 @@ fn each_note_taken_wakes_the_putter(rt: HostRuntime) -> Result<(), Fail> {
         || put_until_gone(handle, &mut putter, &mut sleeper, shared),
     );
     assert_eq!(rt; taken, progress.count().checked_sub(1));
-    Ok(())
 }
 
 /// Fills the ring and sleeps: how many notes were put until the other end was gone.
 #[test]
-fn a_putter_that_sleeps_wakes_as_the_taker_goes(rt: HostRuntime) -> Result<(), Fail> {
-    let (mut putter, taker) = ring(rt.alloc(), 2)?;
-    let mut sleeper = Sleeper::new(rt.alloc())?;
-    let taker = taker.with_bell(sleeper.bell()?);
+fn a_putter_that_sleeps_wakes_as_the_taker_goes(rt: HostRuntime) {
+    let Ends {
+        mut putter,
+        taker,
+        mut sleeper,
+    } = for_a_putter_that_sleeps(&rt, rt.alloc(), 2);
     let progress = Progress::new();
     let (shared, handle) = (&progress, &rt);
     thread::join(
@@ -89,5 +92,4 @@ fn a_putter_that_sleeps_wakes_as_the_taker_goes(rt: HostRuntime) -> Result<(), F
     );
     assert_eq!(rt; progress.count(), 2);
     assert!(rt; putter.linked().is_err());
-    Ok(())
 }

@@ -1,13 +1,14 @@
-use std::alloc::{AllocError, Global};
+use super::ends::{Ends, for_a_taker_that_sleeps};
+use std::alloc::Global;
+use std::process::Abort;
 use std::sync::Wait;
 use std::sync::atomic::AtomicU64;
 use std::sync::atomic::Ordering::SeqCst;
-use std::test::Fail;
 use std::thread;
 use std::thread::Threads;
 use std::time::{Clock, Duration};
 use wcp_clock::Note;
-use wcp_ring::{RingPutter, RingTaker, Sleeper, ring};
+use wcp_ring::{RingPutter, RingTaker, Sleeper};
 
 /// How the putter leaves after its note.
 #[derive(Clone, Copy, Debug)]
@@ -67,14 +68,16 @@ fn take_asleep<R: Wait>(
     taken
 }
 
-fn taken_asleep<R: Threads + Wait + Clock + Sync>(
+fn taken_asleep<R: Threads + Wait + Clock + Sync + Abort>(
     rt: &R,
     alloc: Global,
     leaving: Leaving,
-) -> Result<Option<Note>, AllocError> {
-    let (putter, taker) = ring(alloc, 4)?;
-    let sleeper = Sleeper::new(alloc)?;
-    let putter = putter.with_bell(sleeper.bell()?);
+) -> Option<Note> {
+    let Ends {
+        putter,
+        taker,
+        sleeper,
+    } = for_a_taker_that_sleeps(rt, alloc, 4);
     let step = AtomicU64::new(0);
     let shared = &step;
     let (_, taken) = thread::join(
@@ -82,14 +85,13 @@ fn taken_asleep<R: Threads + Wait + Clock + Sync>(
         move || put_late(rt, putter, leaving, shared),
         move || take_asleep(rt, sleeper, taker, shared),
     );
-    Ok(taken)
+    taken
 }
 
 #[test]
-fn a_taker_that_sleeps_wakes(rt: HostRuntime) -> Result<(), Fail> {
+fn a_taker_that_sleeps_wakes(rt: HostRuntime) {
     for leaving in [Leaving::Ended, Leaving::Dropped] {
-        let taken = taken_asleep(&rt, rt.alloc(), leaving)?;
+        let taken = taken_asleep(&rt, rt.alloc(), leaving);
         assert_eq!(rt; taken, Some(Note::Close { count: 7 }), "{leaving:?}");
     }
-    Ok(())
 }

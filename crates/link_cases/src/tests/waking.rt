@@ -1,12 +1,12 @@
 //! Notes that come at every moment of a taker's falling asleep.
+use super::ends::{Ends, for_a_taker_that_sleeps};
 use std::sync::Wait;
 use std::sync::atomic::Ordering::SeqCst;
 use std::sync::atomic::{AtomicBool, AtomicU32};
-use std::test::Fail;
 use std::thread;
 use std::time::{Clock, Duration, Instant};
 use wcp_clock::Note;
-use wcp_ring::{RingPutter, RingTaker, Sleeper, ring};
+use wcp_ring::{RingPutter, RingTaker, Sleeper};
 
 /// The pause before a note has from none to so many steps, and each has so many more than the one before: a thread that
 /// looks on before it falls asleep takes as long as thousands.
@@ -120,10 +120,12 @@ pub fn take_until_left<R: Wait>(
 
 /// Where the taker sleeps on although there is a note, the putter leaves, and its bell wakes the taker all the same.
 #[test]
-fn each_note_wakes_the_taker(rt: HostRuntime) -> Result<(), Fail> {
-    let (mut putter, mut taker) = ring(rt.alloc(), 1)?;
-    let mut sleeper = Sleeper::new(rt.alloc())?;
-    putter = putter.with_bell(sleeper.bell()?);
+fn each_note_wakes_the_taker(rt: HostRuntime) {
+    let Ends {
+        mut putter,
+        mut taker,
+        mut sleeper,
+    } = for_a_taker_that_sleeps(&rt, rt.alloc(), 1);
     let progress = Progress::new();
     let (shared, handle) = (&progress, &rt);
     let (put, ()) = thread::join(
@@ -137,5 +139,4 @@ fn each_note_wakes_the_taker(rt: HostRuntime) -> Result<(), Fail> {
         || take_until_left(handle, &mut taker, &mut sleeper, shared),
     );
     assert_eq!(rt; put, Some(progress.count()));
-    Ok(())
 }
