@@ -1,2 +1,7 @@
+mod answers;
+mod failures;
+mod faults;
 mod pictures;
+mod runs;
 mod sketches;
+mod streams;

@@ -1,4 +1,4 @@
-//! Tests of the links between threads, over examples that were worked by hand.
+//! Tests of rings and lanes between threads, over examples that were worked by hand.
 #![tactic(auto)]
 
 #[cfg(test)]

@@ -1,5 +1,8 @@
 mod ends;
 mod gone;
+mod lanes;
+mod lanes_in_one_thread;
+mod lanes_in_threads;
 mod late;
 mod rings;
 mod room;

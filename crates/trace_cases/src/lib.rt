@@ -1,4 +1,5 @@
-//! Tests of the program that watches a log: answers, each fault, logs that are cut, inputs in pieces, and failures.
+//! Tests of the program that watches a log: its words, answers, each fault, logs that are cut, inputs in pieces, failures,
+//! and what it tells of an input that is read.
 #![tactic(auto)]
 
 #[cfg(test)]

@@ -1,3 +1,4 @@
+//! What is told of an input that is read.
 use std::cell::Cell;
 use std::io::{Read, Result};
 use std::test::Fail;

@@ -1,5 +1,5 @@
 use Rattle.std.proofs.Common.{◌≡◌}
-use Rattle.lane_cases.proofs.tests.threads.take_all.Given as goal
+use Rattle.link_cases.proofs.tests.lanes_in_threads.take_all.Given as goal
 
 abbrev pub invariant-loop : goal.invariant-loop
 invariant-loop g l = l.taker.lane ≡ l.initial.taker.lane

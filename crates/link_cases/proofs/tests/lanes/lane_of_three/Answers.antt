@@ -1,7 +1,7 @@
 use Rattle.std.proofs.Common.{arith}
 use Rattle.std.proofs.lemmas.Grind.{common_steps}
 use Rattle.wcp_lane.proofs.NewPutters.{new_HasPut}
-use Rattle.lane_cases.proofs.tests.lanes.lane_of_three.Goals as goal
+use Rattle.link_cases.proofs.tests.lanes.lane_of_three.Goals as goal
 
 pub returns-clause-new : goal.returns-clause-new
 returns-clause-new c =

@@ -1,3 +1,4 @@
+//! The words of the program: what they ask for.
 use std::alloc::{AllocError, Global};
 use std::fmt::Write;
 use std::test::Fail;

@@ -1,5 +1,0 @@
-//! Tests of the program that draws: answers, each fault, and reads and writes that fail.
-#![tactic(auto)]
-
-#[cfg(test)]
-mod tests;

@@ -1,5 +1,0 @@
-mod answers;
-mod failures;
-mod faults;
-mod runs;
-mod streams;

@@ -1,3 +1,0 @@
-mod lanes;
-mod one_thread;
-mod threads;

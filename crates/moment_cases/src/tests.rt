@@ -1,3 +1,0 @@
-mod answering;
-mod locks;
-mod orders;
