@@ -1,4 +1,7 @@
 mod answers;
+mod condition_events;
+mod condition_words;
+mod conditions;
 mod failures;
 mod faults;
 mod many;

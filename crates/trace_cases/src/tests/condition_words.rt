@@ -1,4 +1,4 @@
-use crate::tests::reading::{Row, ats, between, shown, whiles, words};
+use super::conditions::{Row, ats, between, shown, whiles, words};
 use std::test::Fail;
 use wcp_condition::ConditionWords;
 

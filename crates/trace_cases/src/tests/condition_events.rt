@@ -1,4 +1,4 @@
-use crate::tests::reading::{Row, marks, whiles, words};
+use super::conditions::{Row, marks, whiles, words};
 use std::test::Fail;
 
 /// The texts of a client of a lock.

@@ -1,3 +1,0 @@
-mod holding;
-mod reading;
-mod words;
