@@ -1,10 +1,10 @@
 #!/usr/bin/env bash
 # Builds the library, and runs the tests and the examples of its calls from C and from Python. Each test prints its
-# count; the last line is that of all.
+# count; the last line is that of all. Words are those of `bindings/build.sh`.
 set -eu
 cd "$(dirname "$0")/.."
 cc=${CC:-cc}
-bindings/build.sh
+bindings/build.sh "$@"
 made=$(mktemp -d)
 trap 'rm -rf "$made"' EXIT
 passed=0
