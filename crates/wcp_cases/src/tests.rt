@@ -1,12 +1,6 @@
-mod answers;
-mod cuts;
 mod faults;
-mod fronts;
-mod help;
 mod reads;
-mod refusals;
 mod refused;
-mod rings;
 mod rows;
 mod runs;
 mod streams;

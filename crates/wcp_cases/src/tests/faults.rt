@@ -1,5 +1,6 @@
 //! The line that says why there is no answer.
 
+use super::runs::{same_bytes, same_number};
 use std::alloc::AllocError;
 use std::process::Abort;
 use wcp_cli::{Fault, refuse};
@@ -11,45 +12,57 @@ const STUCK: ScriptFault = ScriptFault {
     kind: FaultKind::Stuck,
 };
 
+/// Each fault, and its line.
+static LINES: [(Fault, &str); 12] = [
+    (Fault::Usage, "wcpwatch: usage\n"),
+    (Fault::Read, "wcpwatch: read\n"),
+    (Fault::TooLarge, "wcpwatch: toolarge\n"),
+    (Fault::Script(STUCK), "wcpwatch: line 3: stuck\n"),
+    (Fault::Memory, "wcpwatch: memory\n"),
+    (Fault::Write, "wcpwatch: write\n"),
+    (Fault::Run(RunFault::Memory), "wcpwatch: run memory\n"),
+    (Fault::Run(RunFault::Spawn), "wcpwatch: run spawn\n"),
+    (Fault::Run(RunFault::Held(0)), "wcpwatch: run held 0\n"),
+    (Fault::Run(RunFault::Lost(15)), "wcpwatch: run lost 15\n"),
+    (Fault::Run(RunFault::Cut), "wcpwatch: run cut\n"),
+    (
+        Fault::Run(RunFault::Unfinished),
+        "wcpwatch: run unfinished\n",
+    ),
+];
+
 /// The program refuses with this fault by this line.
 fn says<R: AllocGlobal + Abort>(rt: &R, fault: Fault, line: &str) {
     let mut errors = Vec::new(rt.alloc());
     let status = refuse(&mut errors, fault);
-    assert_eq!(rt; errors.as_slice(), line.as_bytes());
-    assert_eq!(rt; status, 2);
+    same_bytes(rt, &errors, line.as_bytes(), line, 0);
+    same_number(rt, usize::from(status), 2, line, 0);
 }
 
 #[test]
 fn each_fault_has_its_line(rt: HostRuntime) {
-    for (fault, line) in [
-        (Fault::Usage, "wcpwatch: usage\n"),
-        (Fault::Read, "wcpwatch: read\n"),
-        (Fault::TooLarge, "wcpwatch: toolarge\n"),
-        (Fault::Script(STUCK), "wcpwatch: line 3: stuck\n"),
-        (Fault::Memory, "wcpwatch: memory\n"),
-        (Fault::Write, "wcpwatch: write\n"),
-    ] {
-        says(&rt, fault, line);
+    for (fault, line) in LINES.iter() {
+        says(&rt, *fault, line);
     }
 }
 
-#[test]
-fn each_fault_of_a_run_has_its_line(rt: HostRuntime) {
-    for (fault, line) in [
-        (RunFault::Memory, "wcpwatch: run memory\n"),
-        (RunFault::Spawn, "wcpwatch: run spawn\n"),
-        (RunFault::Held(0), "wcpwatch: run held 0\n"),
-        (RunFault::Lost(15), "wcpwatch: run lost 15\n"),
-        (RunFault::Cut, "wcpwatch: run cut\n"),
-        (RunFault::Unfinished, "wcpwatch: run unfinished\n"),
-    ] {
-        says(&rt, Fault::from(fault), line);
-    }
+/// Compares two faults.
+fn same_fault(rt: &impl Abort, found: Fault, expected: Fault) {
+    assert!(rt; found == expected);
 }
 
 #[test]
 fn each_cause_is_its_fault(rt: HostRuntime) {
-    assert!(rt; Fault::from(AllocError) == Fault::Memory);
-    assert!(rt; Fault::from(ReadFault::NoMemory) == Fault::Memory);
-    assert!(rt; Fault::from(ReadFault::Script(STUCK)) == Fault::Script(STUCK));
+    same_fault(&rt, Fault::from(AllocError), Fault::Memory);
+    same_fault(&rt, Fault::from(ReadFault::NoMemory), Fault::Memory);
+    same_fault(
+        &rt,
+        Fault::from(ReadFault::Script(STUCK)),
+        Fault::Script(STUCK),
+    );
+    same_fault(
+        &rt,
+        Fault::from(RunFault::Lost(15)),
+        Fault::Run(RunFault::Lost(15)),
+    );
 }

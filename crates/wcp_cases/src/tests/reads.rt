@@ -1,9 +1,8 @@
 //! Input that comes in pieces, that fails, or that is too large.
 
-use super::refusals::refused_texts;
-use super::rows::{Row, answered};
-use super::runs::{Answer, answer_of, gives, refused};
-use super::streams::{Source, Trouble};
+use super::rows::{Row, answered, refused_texts};
+use super::runs::{Answer, answer_of, gives, refused, same_number};
+use super::streams::{Sinks, Source, Trouble};
 use std::io::{self, ErrorKind, Read};
 use std::process::Abort;
 use std::sync::Wait;
@@ -20,14 +19,11 @@ fn by_bytes<R: AllocGlobal + Threads + Wait + Sync + Abort>(
     answer: Answer,
     place: usize,
 ) {
-    let mut input = Source {
-        rest: row.text.as_bytes(),
-        most: 1,
-        trouble,
-        reads: 0,
-    };
-    let words = ["wcpwatch", row.word];
-    gives(rt, words.as_slice(), &mut input, answer, row.name, place);
+    let mut input = Source::of(row.text.as_bytes(), trouble);
+    let mut sinks = Sinks::new(rt.alloc(), Trouble::No, Trouble::No);
+    gives(
+        rt, row.word, &mut input, &mut sinks, answer, row.name, place,
+    );
 }
 
 /// Gives each text byte by byte, without a trouble, and with reads that are interrupted: each of them is made again.
@@ -66,45 +62,57 @@ fn each_read_may_fail(rt: HostRuntime) {
     each_read_of_each(&rt, refused_texts());
 }
 
-/// The words that read their input.
-const READING: [&str; 3] = ["single", "run", "replay"];
-
 #[test]
 fn reads_are_tried_so_often(rt: HostRuntime) {
-    let mut input = Source {
-        rest: b"",
-        most: 1,
-        trouble: Trouble::Always(ErrorKind::Interrupted),
-        reads: 0,
-    };
-    let words = ["wcpwatch", "single"];
-    let answer = refused(UNREAD);
-    gives(&rt, words.as_slice(), &mut input, answer, "interrupted", 0);
-    assert_eq!(rt; input.reads, 4_194_304);
+    let mut input = Source::of(b"", Trouble::Always(ErrorKind::Interrupted));
+    let mut sinks = Sinks::new(rt.alloc(), Trouble::No, Trouble::No);
+    gives(
+        &rt,
+        "single",
+        &mut input,
+        &mut sinks,
+        refused(UNREAD),
+        "interrupted",
+        0,
+    );
+    same_number(&rt, input.reads, 4_194_304, "interrupted", 0);
 }
+
+/// Gives the program a text that stands in no row.
+fn reads<R: AllocGlobal + Threads + Wait + Sync + Abort, I: Read>(
+    rt: &R,
+    word: &str,
+    input: &mut I,
+    fault: &str,
+    case: &str,
+) {
+    let mut sinks = Sinks::new(rt.alloc(), Trouble::No, Trouble::No);
+    gives(rt, word, input, &mut sinks, refused(fault), case, 0);
+}
+
+/// What is said of a text that is too large.
+const TOO_LARGE: &str = "wcpwatch: toolarge\n";
 
 /// A text that is a byte too large is refused before another read, which would fail, and so is a text without an end.
 /// The largest text is read.
-fn large_texts<R: AllocGlobal + Threads + Wait + Sync + Abort>(rt: &R, words: &[&str]) {
-    let mut broken = Source {
-        rest: b"",
-        most: 1,
-        trouble: Trouble::Always(ErrorKind::Other),
-        reads: 0,
-    };
+fn large_texts<R: AllocGlobal + Threads + Wait + Sync + Abort>(rt: &R, word: &str) {
+    let mut broken = Source::of(b"", Trouble::Always(ErrorKind::Other));
     let mut large = io::repeat(b'x').take(2_097_153).chain(&mut broken);
-    let too_large = refused("wcpwatch: toolarge\n");
-    gives(rt, words, &mut large, too_large, "a byte too much", 0);
-    let mut endless = io::repeat(b'x');
-    gives(rt, words, &mut endless, too_large, "without an end", 0);
+    reads(rt, word, &mut large, TOO_LARGE, "a byte too much");
+    reads(rt, word, &mut io::repeat(b'x'), TOO_LARGE, "without an end");
     let mut full = io::repeat(b'x').take(2_097_152);
-    let header = refused("wcpwatch: line 1: header\n");
-    gives(rt, words, &mut full, header, "the largest text", 0);
+    reads(
+        rt,
+        word,
+        &mut full,
+        "wcpwatch: line 1: header\n",
+        "the largest text",
+    );
 }
 
 #[test]
 fn one_byte_too_much_is_refused_at_once(rt: HostRuntime) {
-    for word in READING {
-        large_texts(&rt, ["wcpwatch", word].as_slice());
+    for word in ["single", "run", "replay"] {
+        large_texts(&rt, word);
     }
 }

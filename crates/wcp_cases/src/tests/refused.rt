@@ -1,9 +1,10 @@
 //! A run that the system gives no threads for. All address space of the process is taken but for a little, and each
 //! thread needs some for its stack.
 
-use std::alloc::{AllocError, Global};
-use std::test::Fail;
-use wcp_cli::drive;
+use super::runs::{is_given, refused, run};
+use super::streams::{Sinks, Trouble};
+use std::alloc::Global;
+use std::process::Abort;
 
 /// The largest blocks that are asked for have so many bytes, which is half of an address space.
 const LARGEST: usize = 1 << 46;
@@ -33,31 +34,34 @@ fn take_blocks(alloc: Global, size: usize, blocks: &mut Vec<Vec<u8>>) {
 }
 
 /// Takes all that the process can have but so many bytes, the largest blocks first.
-fn take_all_but(alloc: Global, room: usize) -> Result<Vec<Vec<u8>>, AllocError> {
-    let mut blocks = Vec::with_capacity(alloc, 2 * MOST_BLOCKS)?;
-    blocks.push(Vec::with_capacity(alloc, room)?)?;
+fn take_all_but<R: AllocGlobal + Abort>(rt: &R, room: usize) -> Vec<Vec<u8>> {
+    let kept = Vec::with_capacity(rt.alloc(), room).expect(rt, "memory");
+    let mut blocks = Vec::with_capacity(rt.alloc(), 2 * MOST_BLOCKS).expect(rt, "memory");
+    blocks.push(kept).expect(rt, "memory");
     let mut size = LARGEST;
     for _ in 0..SIZES {
-        take_blocks(alloc, size, &mut blocks);
+        take_blocks(rt.alloc(), size, &mut blocks);
         size /= 2;
     }
     if let Some(kept) = blocks.first_mut() {
-        *kept = Vec::new(alloc);
+        *kept = Vec::new(rt.alloc());
     }
-    Ok(blocks)
+    blocks
 }
 
 #[test]
-fn a_run_without_threads_has_its_line(rt: HostRuntime) -> Result<(), Fail> {
+fn a_run_without_threads_has_its_line(rt: HostRuntime) {
     let mut input = SMALL;
-    let mut output = Vec::new(rt.alloc());
-    let mut errors = Vec::new(rt.alloc());
-    let words = ["wcpwatch", "run"];
-    let blocks = take_all_but(rt.alloc(), FOR_LISTS)?;
-    let status = drive(&rt, words.as_slice(), &mut input, &mut output, &mut errors);
+    let mut sinks = Sinks::new(rt.alloc(), Trouble::No, Trouble::No);
+    let blocks = take_all_but(&rt, FOR_LISTS);
+    let status = run(&rt, "run", &mut input, &mut sinks);
     drop(blocks);
-    assert_eq!(rt; errors.as_slice(), b"wcpwatch: run spawn\n".as_slice());
-    assert!(rt; output.is_empty());
-    assert_eq!(rt; status, 2);
-    Ok(())
+    is_given(
+        &rt,
+        status,
+        &sinks,
+        refused("wcpwatch: run spawn\n"),
+        "no threads",
+        0,
+    );
 }

@@ -1,6 +1,7 @@
 //! Runs of the program, of which all that it gives is compared.
 
 use super::rows::Row;
+use super::streams::Sinks;
 use std::io::Read;
 use std::process::Abort;
 use std::sync::Wait;
@@ -33,32 +34,64 @@ pub fn refused(fault: &str) -> Answer {
     }
 }
 
-/// Runs the program with these words on a reader, and compares all that it gives. Where that differs, the case and the
-/// place in it are told.
+/// Runs the program with this word, and gives its status.
+pub fn run<R: AllocGlobal + Threads + Wait + Sync, I: Read>(
+    rt: &R,
+    word: &str,
+    input: &mut I,
+    sinks: &mut Sinks,
+) -> u8 {
+    let words = ["wcpwatch", word];
+    drive(
+        rt,
+        words.as_slice(),
+        input,
+        &mut sinks.output,
+        &mut sinks.errors,
+    )
+}
+
+/// Runs the program with this word, and compares all that it gives. Where that differs, the case and the place in it
+/// are told.
 pub fn gives<R: AllocGlobal + Threads + Wait + Sync + Abort, I: Read>(
     rt: &R,
-    words: &[&str],
+    word: &str,
     input: &mut I,
+    sinks: &mut Sinks,
     answer: Answer,
     case: &str,
     place: usize,
 ) {
-    let mut output = Vec::new(rt.alloc());
-    let mut errors = Vec::new(rt.alloc());
-    let status = drive(rt, words, input, &mut output, &mut errors);
-    assert_bytes(rt, &errors, answer.errors, words, case, place);
-    assert_bytes(rt, &output, answer.output, words, case, place);
-    assert_eq!(rt; status, answer.status, "{words:?}, {case}, {place}");
+    let status = run(rt, word, input, sinks);
+    is_given(rt, status, sinks, answer, case, place);
 }
 
-/// Compares what the program wrote or said.
-fn assert_bytes(
+/// Compares all that the program gave.
+pub fn is_given(
     rt: &impl Abort,
-    found: &[u8],
-    expected: &[u8],
-    words: &[&str],
+    status: u8,
+    sinks: &Sinks,
+    answer: Answer,
     case: &str,
     place: usize,
 ) {
-    assert_eq!(rt; found, expected, "{words:?}, {case}, {place}");
+    same_bytes(rt, &sinks.errors.taken, answer.errors, case, place);
+    same_bytes(rt, &sinks.output.taken, answer.output, case, place);
+    same_number(
+        rt,
+        usize::from(status),
+        usize::from(answer.status),
+        case,
+        place,
+    );
+}
+
+/// Compares what the program wrote or said.
+pub fn same_bytes(rt: &impl Abort, found: &[u8], expected: &[u8], case: &str, place: usize) {
+    assert_eq!(rt; found, expected, "{case}, {place}");
+}
+
+/// Compares a status, or how often something was done.
+pub fn same_number(rt: &impl Abort, found: usize, expected: usize, case: &str, place: usize) {
+    assert_eq!(rt; found, expected, "{case}, {place}");
 }

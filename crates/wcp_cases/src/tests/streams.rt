@@ -1,5 +1,6 @@
 //! Readers and writers that give or take little at a time, or fail.
 
+use std::alloc::Global;
 use std::io::{Error, ErrorKind, Read, Result, Write};
 
 /// Which calls of a stream fail, and how. Calls are numbered from 0.
@@ -23,15 +24,24 @@ impl Trouble {
     }
 }
 
-/// A reader over a text.
+/// A reader of a text, byte by byte.
 #[derive(Drop)]
 pub struct Source<'a> {
     pub rest: &'a [u8],
-    /// The most bytes that a read gives.
-    pub most: usize,
     pub trouble: Trouble,
     /// How many reads there were.
     pub reads: usize,
+}
+
+impl Source<'_> {
+    /// A reader of the whole text.
+    pub fn of(text: &[u8], trouble: Trouble) -> Source {
+        Source {
+            rest: text,
+            trouble,
+            reads: 0,
+        }
+    }
 }
 
 impl Read for Source<'_> {
@@ -39,7 +49,7 @@ impl Read for Source<'_> {
         let read = self.reads;
         self.reads = read.saturating_add(1);
         self.trouble.at(read)?;
-        let most = self.most.min(buf.len());
+        let most = buf.len().min(1);
         self.rest.read(&mut buf[..most])
     }
 }
@@ -59,6 +69,20 @@ pub struct Sink {
     pub flushes: usize,
 }
 
+impl Sink {
+    /// A writer of a byte at a time, with this trouble.
+    fn new(alloc: Global, trouble: Trouble) -> Sink {
+        Sink {
+            taken: Vec::new(alloc),
+            most: 1,
+            trouble,
+            writes: 0,
+            flush_trouble: Trouble::No,
+            flushes: 0,
+        }
+    }
+}
+
 impl Write for Sink {
     fn write(&mut self, buf: &[u8]) -> Result<usize> {
         let write = self.writes;
@@ -72,5 +96,22 @@ impl Write for Sink {
         let flush = self.flushes;
         self.flushes = flush.saturating_add(1);
         self.flush_trouble.at(flush)
+    }
+}
+
+/// Where the program writes, and where it says why there is no answer.
+#[derive(Drop)]
+pub struct Sinks {
+    pub output: Sink,
+    pub errors: Sink,
+}
+
+impl Sinks {
+    /// Writers of a byte at a time, with these troubles.
+    pub fn new(alloc: Global, output: Trouble, errors: Trouble) -> Sinks {
+        Sinks {
+            output: Sink::new(alloc, output),
+            errors: Sink::new(alloc, errors),
+        }
     }
 }

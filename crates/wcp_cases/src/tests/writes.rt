@@ -1,47 +1,44 @@
 //! Output that is taken in pieces, or not taken.
 
-use super::refusals::refused_texts;
-use super::rows::{Row, answered};
-use super::streams::{Sink, Trouble};
+use super::rows::{Row, answered, refused_texts};
+use super::runs::{Answer, answer_of, gives, same_number};
+use super::streams::{Sinks, Trouble};
 use std::io::ErrorKind;
 use std::process::Abort;
 use std::sync::Wait;
 use std::thread::Threads;
-use wcp_cli::drive;
 
-/// What is said where the output isn't taken.
-const UNWRITTEN: &[u8] = b"wcpwatch: write\n";
+/// Runs the program on the row's text with these writers, compares all that it gives, and tells how often it flushed.
+fn agrees<R: AllocGlobal + Threads + Wait + Sync + Abort>(
+    rt: &R,
+    row: &Row,
+    mut sinks: Sinks,
+    answer: Answer,
+    place: usize,
+) -> usize {
+    let mut input = row.text.as_bytes();
+    gives(
+        rt, row.word, &mut input, &mut sinks, answer, row.name, place,
+    );
+    sinks.output.flushes
+}
 
-/// A writer of so many bytes at a time.
-fn taking(alloc: std::alloc::Global, most: usize, trouble: Trouble) -> Sink {
-    Sink {
-        taken: Vec::new(alloc),
-        most,
-        trouble,
-        writes: 0,
-        flush_trouble: Trouble::No,
-        flushes: 0,
+/// The answer where no more than this is taken of the output.
+fn unwritten(front: &[u8]) -> Answer {
+    Answer {
+        output: front,
+        errors: b"wcpwatch: write\n",
+        status: 2,
     }
 }
 
-/// Runs the program on the row's text, with a trouble of its errors, and compares what it writes and says and its
-/// status.
-fn gives<R: AllocGlobal + Threads + Wait + Sync + Abort>(
-    rt: &R,
-    row: &Row,
-    output: &mut Sink,
-    trouble: Trouble,
-    written: &[u8],
-    said: &[u8],
-    status: u8,
-) {
-    let mut input = row.text.as_bytes();
-    let mut errors = taking(rt.alloc(), 1, trouble);
-    let words = ["wcpwatch", row.word];
-    let given = drive(rt, words.as_slice(), &mut input, output, &mut errors);
-    assert_eq!(rt; output.taken.as_slice(), written);
-    assert_eq!(rt; errors.taken.as_slice(), said);
-    assert_eq!(rt; given, status);
+/// The answer where no more than this is taken of the errors.
+fn unsaid(front: &[u8]) -> Answer {
+    Answer {
+        output: b"",
+        errors: front,
+        status: 2,
+    }
 }
 
 /// Takes the output byte by byte, with this trouble: it is whole, and flushed once.
@@ -50,10 +47,9 @@ fn same_by_bytes<R: AllocGlobal + Threads + Wait + Sync + Abort>(
     row: &Row,
     trouble: Trouble,
 ) {
-    let whole = row.output.as_bytes();
-    let mut output = taking(rt.alloc(), 1, trouble);
-    gives(rt, row, &mut output, Trouble::No, whole, b"", row.status);
-    assert_eq!(rt; output.flushes, 1);
+    let sinks = Sinks::new(rt.alloc(), trouble, Trouble::No);
+    let flushes = agrees(rt, row, sinks, answer_of(row), 0);
+    same_number(rt, flushes, 1, row.name, 0);
 }
 
 /// Takes the output of each text byte by byte.
@@ -74,9 +70,12 @@ fn one_byte_at_a_time_is_the_same(rt: HostRuntime) {
 fn each_write_of<R: AllocGlobal + Threads + Wait + Sync + Abort>(rt: &R, row: &Row) {
     let whole = row.output.as_bytes();
     for write in 0..whole.len() {
-        let mut output = taking(rt.alloc(), 1, Trouble::At(write, ErrorKind::Other));
-        let front = &whole[..write];
-        gives(rt, row, &mut output, Trouble::No, front, UNWRITTEN, 2);
+        let sinks = Sinks::new(
+            rt.alloc(),
+            Trouble::At(write, ErrorKind::Other),
+            Trouble::No,
+        );
+        agrees(rt, row, sinks, unwritten(&whole[..write]), write);
     }
 }
 
@@ -95,10 +94,9 @@ fn each_write_may_fail(rt: HostRuntime) {
 /// Lets the flush of each output fail.
 fn each_flush<R: AllocGlobal + Threads + Wait + Sync + Abort>(rt: &R, rows: &[Row]) {
     for row in rows {
-        let mut output = taking(rt.alloc(), 1, Trouble::No);
-        output.flush_trouble = Trouble::At(0, ErrorKind::Other);
-        let whole = row.output.as_bytes();
-        gives(rt, row, &mut output, Trouble::No, whole, UNWRITTEN, 2);
+        let mut sinks = Sinks::new(rt.alloc(), Trouble::No, Trouble::No);
+        sinks.output.flush_trouble = Trouble::At(0, ErrorKind::Other);
+        agrees(rt, row, sinks, unwritten(row.output.as_bytes()), 0);
     }
 }
 
@@ -112,17 +110,18 @@ fn takes_nothing<R: AllocGlobal + Threads + Wait + Sync + Abort>(
     rt: &R,
     row: &Row,
     trouble: Trouble,
-    said: &[u8],
+    answer: Answer,
 ) {
-    let mut output = taking(rt.alloc(), 0, Trouble::No);
-    gives(rt, row, &mut output, trouble, b"", said, 2);
+    let mut sinks = Sinks::new(rt.alloc(), Trouble::No, trouble);
+    sinks.output.most = 0;
+    agrees(rt, row, sinks, answer, 0);
 }
 
 /// Takes nothing of each output, where the errors are taken and where they aren't.
 fn each_takes_nothing<R: AllocGlobal + Threads + Wait + Sync + Abort>(rt: &R, rows: &[Row]) {
     for row in rows {
-        takes_nothing(rt, row, Trouble::No, UNWRITTEN);
-        takes_nothing(rt, row, Trouble::Always(ErrorKind::Other), b"");
+        takes_nothing(rt, row, Trouble::No, unwritten(b""));
+        takes_nothing(rt, row, Trouble::Always(ErrorKind::Other), unsaid(b""));
     }
 }
 
@@ -136,9 +135,12 @@ fn a_write_of_nothing_fails(rt: HostRuntime) {
 fn each_write_of_errors<R: AllocGlobal + Threads + Wait + Sync + Abort>(rt: &R, row: &Row) {
     let whole = row.errors.as_bytes();
     for write in 0..whole.len() {
-        let mut output = taking(rt.alloc(), 1, Trouble::No);
-        let trouble = Trouble::At(write, ErrorKind::Other);
-        gives(rt, row, &mut output, trouble, b"", &whole[..write], 2);
+        let sinks = Sinks::new(
+            rt.alloc(),
+            Trouble::No,
+            Trouble::At(write, ErrorKind::Other),
+        );
+        agrees(rt, row, sinks, unsaid(&whole[..write]), write);
     }
 }
 
