@@ -1,0 +1,29 @@
+//! Makes many calls, so that what they cost can be measured: `many_calls PART WORD..`. The part is `probe`, `ring`,
+//! `lane`, `tree` or `run`; the words behind it are those of the module that is named so.
+#![tactic(auto)]
+
+mod lane;
+mod probe;
+mod ring;
+mod run;
+mod tree;
+mod words;
+
+use anyhow::{Result, bail};
+use std::env;
+
+fn main(rt: HostRuntime) -> Result<()> {
+    let words: Vec<String> = env::args(&rt)?.collect(rt.alloc())?;
+    let [_, part, words @ ..] = words.as_slice() else {
+        bail!("no part");
+    };
+    match part.as_str() {
+        "probe" => probe::make_calls(&rt, words)?,
+        "ring" => ring::make_calls(&rt, words)?,
+        "lane" => lane::make_calls(&rt, words)?,
+        "tree" => tree::make_calls(&rt, words)?,
+        "run" => run::make_calls(&rt, words)?,
+        _ => bail!("no such part"),
+    }
+    Ok(())
+}
