@@ -10,7 +10,6 @@ mod ruled;
 
 use crate::words::{number_at, word_at};
 use std::alloc::{AllocError, Global};
-use std::io;
 use std::sync::Wait;
 use std::thread::Threads;
 use wcp_clock::{Clock, Item, MAX_PROCS, Note};
@@ -62,7 +61,7 @@ fn sum_of<F: FnMut() -> Option<Item>>(items: u32, mut next: F) -> Sum
     for _ in 0..items {
         match next() {
             Some(item) => sum = sum.with(&item),
-            None => return sum,
+            None => break,
         }
     }
     sum
@@ -89,7 +88,8 @@ fn hops<R: Threads + Wait + Sync>(
 pub fn make_calls<R: Threads + Wait + Print + AllocGlobal + Sync>(
     rt: &R,
     words: &[String],
-) -> io::Result<()> {
+) -> anyhow::Result<()> {
     let Sum(sum) = hops(rt, rt.alloc(), word_at(words, 0), number_at(words, 1))?;
-    println!(rt; "sum {sum}")
+    println!(rt; "sum {sum}")?;
+    Ok(())
 }

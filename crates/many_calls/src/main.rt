@@ -11,19 +11,30 @@ mod words;
 
 use anyhow::{Result, bail};
 use std::env;
+use std::rt::Files;
+use std::sync::Wait;
+use std::thread::Threads;
+use std::time::Clock;
 
-fn main(rt: HostRuntime) -> Result<()> {
-    let words: Vec<String> = env::args(&rt)?.collect(rt.alloc())?;
-    let [_, part, words @ ..] = words.as_slice() else {
+/// Makes the calls that the words behind the program's name ask for.
+fn make_calls<R: Threads + Wait + Clock + Files + Print + AllocGlobal + Sync>(
+    rt: &R,
+    words: &[String],
+) -> Result<()> {
+    let [_, part, words @ ..] = words else {
         bail!("no part");
     };
     match part.as_str() {
-        "probe" => probe::make_calls(&rt, words)?,
-        "ring" => ring::make_calls(&rt, words)?,
-        "lane" => lane::make_calls(&rt, words)?,
-        "tree" => tree::make_calls(&rt, words)?,
-        "run" => run::make_calls(&rt, words)?,
+        "probe" => probe::make_calls(rt, words),
+        "ring" => ring::make_calls(rt, words),
+        "lane" => lane::make_calls(rt, words),
+        "tree" => tree::make_calls(rt, words),
+        "run" => run::make_calls(rt, words),
         _ => bail!("no such part"),
     }
-    Ok(())
+}
+
+fn main(rt: HostRuntime) -> Result<()> {
+    let words: Vec<String> = env::args(&rt)?.collect(rt.alloc())?;
+    make_calls(&rt, words.as_slice())
 }

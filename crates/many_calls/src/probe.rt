@@ -4,7 +4,6 @@
 
 use crate::words::{number_at, word_at};
 use std::alloc::{AllocError, Global};
-use std::io;
 use wcp_clock::CLOCK_LIMIT;
 use wcp_model::{Flag, ProbeSetup};
 use wcp_probe::ProbeCore;
@@ -119,9 +118,10 @@ fn known_by(probes: &[ProbeCore]) -> Known {
 }
 
 /// Makes the calls that the words ask for, and prints what the probes know then.
-pub fn make_calls<R: Print + AllocGlobal>(rt: &R, words: &[String]) -> io::Result<()> {
+pub fn make_calls<R: Print + AllocGlobal>(rt: &R, words: &[String]) -> anyhow::Result<()> {
     let mut probes = probes(rt.alloc())?;
     call_often(word_at(words, 0), number_at(words, 1), &mut probes);
     let Known { events, emitted } = known_by(&probes);
-    println!(rt; "known {events} emitted {emitted}")
+    println!(rt; "known {events} emitted {emitted}")?;
+    Ok(())
 }

@@ -9,8 +9,7 @@ use ends::{PutsNotes, TakesNotes};
 use rtrb::RingBuffer;
 use std::alloc::{AllocError, Global};
 use std::sync::Wait;
-use std::thread::Threads;
-use std::{io, thread};
+use std::thread::{self, Threads};
 use wcp_clock::{Clock, Note};
 use wcp_ring::{Sleeper, ring};
 
@@ -134,38 +133,50 @@ fn calls<R: Threads + Wait + Sync>(
     }
 }
 
-fn take_notes<R: Threads + Wait + Sync>(
+fn bare<R: Threads + Wait + Sync>(
     rt: &R,
     alloc: Global,
-    word: &str,
     threads: u32,
     notes: u32,
 ) -> Result<Taken, AllocError> {
-    match word {
-        "bare" => {
-            let (producer, consumer) = RingBuffer::new(alloc, ROOM as usize)?;
-            Ok(calls(rt, producer, consumer, threads, notes))
-        }
-        "waking" => {
-            let (putter, taker) = ring(alloc, ROOM)?;
-            let sleeper = Sleeper::new(alloc)?;
-            let putter = putter.with_bell(sleeper.bell()?);
-            Ok(calls(rt, putter, taker, threads, notes))
-        }
-        _ => {
-            let (putter, taker) = ring(alloc, ROOM)?;
-            Ok(calls(rt, putter, taker, threads, notes))
-        }
-    }
+    let (producer, consumer) = RingBuffer::new(alloc, ROOM as usize)?;
+    Ok(calls(rt, producer, consumer, threads, notes))
+}
+
+fn waking<R: Threads + Wait + Sync>(
+    rt: &R,
+    alloc: Global,
+    threads: u32,
+    notes: u32,
+) -> Result<Taken, AllocError> {
+    let sleeper = Sleeper::new(alloc)?;
+    let bell = sleeper.bell()?;
+    let (putter, taker) = ring(alloc, ROOM)?;
+    Ok(calls(rt, putter.with_bell(bell), taker, threads, notes))
+}
+
+fn plain<R: Threads + Wait + Sync>(
+    rt: &R,
+    alloc: Global,
+    threads: u32,
+    notes: u32,
+) -> Result<Taken, AllocError> {
+    let (putter, taker) = ring(alloc, ROOM)?;
+    Ok(calls(rt, putter, taker, threads, notes))
 }
 
 /// Puts and takes the notes that the words ask for, and prints what was taken.
 pub fn make_calls<R: Threads + Wait + Print + AllocGlobal + Sync>(
     rt: &R,
     words: &[String],
-) -> io::Result<()> {
+) -> anyhow::Result<()> {
     let threads = number_at(words, 1);
     let notes = number_at(words, 2);
-    let taken = take_notes(rt, rt.alloc(), word_at(words, 0), threads, notes)?;
-    println!(rt; "taken {} sum {}", taken.notes, taken.sum)
+    let taken = match word_at(words, 0) {
+        "bare" => bare(rt, rt.alloc(), threads, notes),
+        "waking" => waking(rt, rt.alloc(), threads, notes),
+        _ => plain(rt, rt.alloc(), threads, notes),
+    }?;
+    println!(rt; "taken {} sum {}", taken.notes, taken.sum)?;
+    Ok(())
 }

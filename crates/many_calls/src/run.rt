@@ -2,6 +2,10 @@
 //! outcome is that of one thread, to see that every run ends. `many_calls run times COUNT FILE` runs the workload of a
 //! file so often in threads and in one thread, in turn, and says what the runs took and the last outcome.
 
+ghost use Rattle.wcp_model.specs.PlanFault.{IsCheckedPlan};
+ghost use Rattle.wcp_model.specs.Watched.{AreSomeWatched};
+ghost use Rattle.wcp_model.specs.WorkloadComputation.{CouldBeRead};
+
 mod times;
 
 use anyhow::{Context, bail};
@@ -11,7 +15,8 @@ use std::rt::Files;
 use std::sync::Wait;
 use std::thread::Threads;
 use std::time::{Clock, Instant};
-use times::Times;
+use times::BothTimes;
+use wcp_model::{Outcome, Workload};
 use wcp_report::report_text;
 use wcp_run::run;
 use wcp_script::{read_workload, single};
@@ -40,26 +45,52 @@ fn agreeing_runs<R: Threads + Wait + Sync>(
     Ok(agreeing)
 }
 
-/// Runs the workload of a text so often in threads and in one thread, and prints the times and the last outcome.
+/// Runs a workload in threads and in one thread, and adds what each took.
+fn run_both<R: Threads + Wait + Sync + Clock>(
+    rt: &R,
+    alloc: Global,
+    workload: &Workload,
+    times: &mut BothTimes,
+) -> anyhow::Result<Outcome>
+    requires read { CouldBeRead workload.now.plan.n workload.now.tasks.items }
+    requires checked { IsCheckedPlan workload.now.plan }
+    requires watched { AreSomeWatched workload.now.plan.n workload.now.plan.watched }
+{
+    let start = Instant::now(rt)?;
+    let outcome = run(rt, alloc, workload, &Open)?;
+    times.in_threads.add(start.elapsed(rt)?)?;
+    let start = Instant::now(rt)?;
+    let _ = single(alloc, workload)?;
+    times.in_one.add(start.elapsed(rt)?)?;
+    Ok(outcome)
+}
+
+/// Runs the workload of a text so often in threads and in one thread, in turn, and returns the last outcome.
+fn time_runs<R: Threads + Wait + Sync + Clock>(
+    rt: &R,
+    alloc: Global,
+    text: &[u8],
+    count: u32,
+    times: &mut BothTimes,
+) -> anyhow::Result<Outcome> {
+    let workload = read_workload(alloc, text)?;
+    let mut outcome = single(alloc, &workload)?;
+    for _ in 0..count {
+        outcome = run_both(rt, alloc, &workload, times)?;
+    }
+    Ok(outcome)
+}
+
+/// Runs the workload of a text so often, and prints the times and the last outcome.
 fn print_times<R: Threads + Wait + Sync + Clock + Print>(
     rt: &R,
     alloc: Global,
     text: &[u8],
     count: u32,
 ) -> anyhow::Result<()> {
-    let workload = read_workload(alloc, text)?;
-    let mut outcome = single(alloc, &workload)?;
-    let (mut in_threads, mut in_one) = (Times::new(alloc), Times::new(alloc));
-    for _ in 0..count {
-        let start = Instant::now(rt)?;
-        outcome = run(rt, alloc, &workload, &Open)?;
-        in_threads.add(start.elapsed(rt)?)?;
-        let start = Instant::now(rt)?;
-        let _ = single(alloc, &workload)?;
-        in_one.add(start.elapsed(rt)?)?;
-    }
-    in_threads.print(rt, "run")?;
-    in_one.print(rt, "single")?;
+    let mut times = BothTimes::new(alloc);
+    let outcome = time_runs(rt, alloc, text, count, &mut times)?;
+    times.print(rt)?;
     let report = String::from_utf8(report_text(alloc, &outcome)?)?;
     print!(rt; "{report}")?;
     Ok(())

@@ -79,12 +79,14 @@ fn sixteen_threads<R: Threads + Wait + Clock + Sync>(
 pub fn make_calls<R: Threads + Wait + Clock + Print + AllocGlobal + Sync>(
     rt: &R,
     words: &[String],
-) -> io::Result<()> {
+) -> anyhow::Result<()> {
     let word = word_at(words, 0);
     let count = number_at(words, 1);
     if let Some(nanos) = one_probe::nanos(rt, rt.alloc(), word, count)? {
-        return println!(rt; "nanoseconds {nanos}");
+        println!(rt; "nanoseconds {nanos}")?;
+        return Ok(());
     }
     let taken = sixteen_threads(rt, rt.alloc(), word, count)?;
-    println!(rt; "taken {} sum {}", taken.notes, taken.sum)
+    println!(rt; "taken {} sum {}", taken.notes, taken.sum)?;
+    Ok(())
 }

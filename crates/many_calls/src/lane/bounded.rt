@@ -11,11 +11,11 @@ pub fn one_thread<R: Wait>(rt: &R, alloc: Global, items: u32) -> Result<Sum, All
     let mut sum = Sum(0);
     for number in 0..items {
         if sender.send(rt, snap(0, number)).is_err() {
-            return Ok(sum);
+            break;
         }
         match receiver.recv(rt) {
             Ok(item) => sum = sum.with(&item),
-            Err(_) => return Ok(sum),
+            Err(_) => break,
         }
     }
     Ok(sum)
@@ -24,7 +24,7 @@ pub fn one_thread<R: Wait>(rt: &R, alloc: Global, items: u32) -> Result<Sum, All
 fn send_all<R: Wait>(rt: &R, sender: Sender<Item>, items: u32) {
     for number in 0..items {
         if sender.send(rt, snap(0, number)).is_err() {
-            return;
+            break;
         }
     }
 }

@@ -36,11 +36,11 @@ pub fn one_thread<R: Wait>(rt: &R, alloc: Global, items: u32) -> Result<Sum, All
     let mut sum = Sum(0);
     for number in 0..items {
         if put(rt, &mut putter, 0, number).is_err() {
-            return Ok(sum);
+            break;
         }
         match taker.take(rt) {
             Ok(item) => sum = sum.with(&item),
-            Err(_) => return Ok(sum),
+            Err(_) => break,
         }
     }
     Ok(sum)
@@ -51,7 +51,7 @@ fn put_all<R: Wait>(rt: &R, mut putter: Putter<Item>, items: u32)
 {
     for number in 0..items {
         if put(rt, &mut putter, 0, number).is_err() {
-            return;
+            break;
         }
     }
 }

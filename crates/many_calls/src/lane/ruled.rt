@@ -28,11 +28,11 @@ pub fn one_thread<R: Wait>(rt: &R, alloc: Global, items: u32) -> Result<Sum, All
             .send_as::<Free, R>(rt, &mut pass, snap(0, number))
             .is_err()
         {
-            return Ok(sum);
+            break;
         }
         match receiver.recv_as::<Free, R>(rt, &mut pass) {
             Ok(item) => sum = sum.with(&item),
-            Err(_) => return Ok(sum),
+            Err(_) => break,
         }
     }
     Ok(sum)
@@ -46,7 +46,7 @@ fn send_all<R: Wait>(rt: &R, sender: Sender, mut pass: Both, items: u32)
             .send_as::<Free, R>(rt, &mut pass, snap(0, number))
             .is_err()
         {
-            return;
+            break;
         }
     }
 }
@@ -58,7 +58,7 @@ fn receive_all<R: Wait>(rt: &R, receiver: Receiver, mut pass: Both, items: u32) 
     for _ in 0..items {
         match receiver.recv_as::<Free, R>(rt, &mut pass) {
             Ok(item) => sum = sum.with(&item),
-            Err(_) => return sum,
+            Err(_) => break,
         }
     }
     sum

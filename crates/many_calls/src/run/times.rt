@@ -9,7 +9,7 @@ pub struct Times {
 }
 
 impl Times {
-    pub fn new(alloc: Global) -> Times {
+    fn new(alloc: Global) -> Times {
         Times {
             spans: Vec::new(alloc),
         }
@@ -20,7 +20,7 @@ impl Times {
     }
 
     /// Prints the best and the median time, in microseconds, if there is any.
-    pub fn print<R: Print>(mut self, rt: &R, name: &str) -> io::Result<()> {
+    fn print<R: Print>(&mut self, rt: &R, name: &str) -> io::Result<()> {
         self.spans.sort_unstable();
         let median = self.spans.get(self.spans.len() / 2);
         if let (Some(best), Some(median)) = (self.spans.first(), median) {
@@ -31,5 +31,27 @@ impl Times {
             )?;
         }
         Ok(())
+    }
+}
+
+/// How long the runs of a workload took in threads, and in one thread.
+#[derive(Drop)]
+pub struct BothTimes {
+    pub in_threads: Times,
+    pub in_one: Times,
+}
+
+impl BothTimes {
+    pub fn new(alloc: Global) -> BothTimes {
+        BothTimes {
+            in_threads: Times::new(alloc),
+            in_one: Times::new(alloc),
+        }
+    }
+
+    /// Prints the times of each, in two lines.
+    pub fn print<R: Print>(&mut self, rt: &R) -> io::Result<()> {
+        self.in_threads.print(rt, "run")?;
+        self.in_one.print(rt, "single")
     }
 }

@@ -49,20 +49,15 @@ fn receive_all(rt: &impl Wait, receiver: Receiver<Item>) -> Taken {
 fn jobs(alloc: Global, sender: &Sender<Item>) -> Result<Vec<Job>, AllocError> {
     let mut jobs = Vec::new(alloc);
     for id in 0..16 {
-        jobs.push(Job {
-            id,
-            core: ProbeCore::new(
-                0,
-                ProbeSetup {
-                    processes: 16,
-                    process: id,
-                    watched: true,
-                    flag: Flag::Event,
-                },
-                CLOCK_LIMIT,
-            ),
-            sender: sender.clone()?,
-        })?;
+        let sender = sender.clone()?;
+        let setup = ProbeSetup {
+            processes: 16,
+            process: id,
+            watched: true,
+            flag: Flag::Event,
+        };
+        let core = ProbeCore::new(0, setup, CLOCK_LIMIT);
+        jobs.push(Job { id, core, sender })?;
     }
     Ok(jobs)
 }

@@ -9,6 +9,7 @@ use std::time::{Clock, Duration};
 use std::{io, thread};
 use wcp_lane::Taker;
 use wcp_model::{Parent, Plan, Watched, plain_plan};
+use wcp_ring::Gone;
 use wcp_tree::{Bundle, LiveProbe, Relay, Watch, watch};
 
 /// How many items the hold of each relay has room for.
@@ -29,21 +30,25 @@ enum Job {
     Relay(Relay),
 }
 
+/// Makes the snapshots, until the link is cut.
+fn make_snapshots<R: Wait>(rt: &R, probe: &mut LiveProbe, snapshots: u32) -> Result<(), Gone> {
+    let to = if probe.id() == 0 { 1 } else { 0 };
+    for _ in 0..snapshots {
+        probe.observe(true);
+        probe.flush_waiting(rt)?;
+        let _ = probe.stamp(to, ());
+    }
+    Ok(())
+}
+
 /// Makes the snapshots, or is silent, and closes.
-fn do_work<R: Wait + Clock>(rt: &R, probe: LiveProbe, work: Work) {
-    let mut probe = probe;
+fn do_work<R: Wait + Clock>(rt: &R, mut probe: LiveProbe, work: Work) {
     if work.snapshots == 0 {
         thread::sleep(rt, work.pause);
     }
-    let to = if probe.id() == 0 { 1 } else { 0 };
-    for _ in 0..work.snapshots {
-        probe.observe(true);
-        if probe.flush_waiting(rt).is_err() {
-            return;
-        }
-        let _ = probe.stamp(to, ());
+    if make_snapshots(rt, &mut probe, work.snapshots).is_ok() {
+        let _ = probe.close_waiting(rt);
     }
-    let _ = probe.close_waiting(rt);
 }
 
 /// Runs a relay, the root relay after its pause.
@@ -77,14 +82,12 @@ fn jobs_of(
     probes: Vec<LiveProbe>,
     relays: Vec<Relay>,
 ) -> Result<Vec<Job>, AllocError> {
-    let mut jobs = Vec::new(alloc);
-    for probe in probes {
-        jobs.push(Job::Probe(probe))?;
-    }
-    for relay in relays {
-        jobs.push(Job::Relay(relay))?;
-    }
-    Ok(jobs)
+    let relays = relays.into_iter().map(Job::Relay);
+    probes
+        .into_iter()
+        .map(Job::Probe)
+        .chain(relays)
+        .collect(alloc)
 }
 
 /// Runs each probe and each relay of the plan in a thread of its own.
@@ -131,12 +134,7 @@ pub fn one_leaf<R: Threads + Wait + Clock + Sync>(
     Ok(run(rt, alloc, &plan, work)?)
 }
 
-/// Sixteen processes, two under each of eight leaves, which are under one other relay.
-pub fn eight_leaves<R: Threads + Wait + Clock + Sync>(
-    rt: &R,
-    alloc: Global,
-    work: Work,
-) -> io::Result<Taken> {
+fn plan_of_eight_leaves(alloc: Global) -> Result<Plan, AllocError> {
     let mut parents = vec![in alloc; Parent::Root]?;
     let mut attach = Vec::new(alloc);
     for leaf in 1..9 {
@@ -144,7 +142,16 @@ pub fn eight_leaves<R: Threads + Wait + Clock + Sync>(
         attach.push(Some(leaf))?;
         attach.push(Some(leaf))?;
     }
-    let plan = Plan::new(16, ROOM, HOLD, parents, attach, Watched::all(16));
+    Ok(Plan::new(16, ROOM, HOLD, parents, attach, Watched::all(16)))
+}
+
+/// Sixteen processes, two under each of eight leaves, which are under one other relay.
+pub fn eight_leaves<R: Threads + Wait + Clock + Sync>(
+    rt: &R,
+    alloc: Global,
+    work: Work,
+) -> io::Result<Taken> {
+    let plan = plan_of_eight_leaves(alloc)?;
     if plan.check().is_err() {
         return Ok(Taken::nothing());
     }

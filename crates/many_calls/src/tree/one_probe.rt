@@ -45,18 +45,46 @@ fn sends(core: &mut ProbeCore, snapshots: u32) {
     }
 }
 
-/// How long the calls of one ring took.
-fn one_ring<R: Clock>(rt: &R, alloc: Global, word: &str, snapshots: u32) -> io::Result<Duration> {
-    if word == "flushed" {
-        let plan = plain_plan(alloc, 16, MAX_CAP, 1)?;
-        let mut watch = watch(alloc, &plan, 0)?;
-        let Some(mut probe) = watch.probes.pop() else {
-            return Ok(Duration::ZERO);
-        };
-        let start = Instant::now(rt)?;
-        flushed(&mut probe, snapshots);
-        return start.elapsed(rt);
+/// How long the calls of the last of these probes took.
+fn time_of_flushed<R: Clock>(
+    rt: &R,
+    probes: &mut [LiveProbe],
+    snapshots: u32,
+) -> io::Result<Duration> {
+    let Some(probe) = probes.last_mut() else {
+        return Ok(Duration::ZERO);
+    };
+    let start = Instant::now(rt)?;
+    flushed(probe, snapshots);
+    start.elapsed(rt)
+}
+
+/// How long the calls of a core took.
+fn time_of_core<R: Clock>(
+    rt: &R,
+    core: &mut ProbeCore,
+    producer: &mut Producer<Note>,
+    word: &str,
+    snapshots: u32,
+) -> io::Result<Duration> {
+    let start = Instant::now(rt)?;
+    if word == "bare" {
+        bare(core, producer, snapshots);
+    } else {
+        sends(core, snapshots);
     }
+    start.elapsed(rt)
+}
+
+/// How long the calls of one live probe took.
+fn one_link<R: Clock>(rt: &R, alloc: Global, snapshots: u32) -> io::Result<Duration> {
+    let plan = plain_plan(alloc, 16, MAX_CAP, 1)?;
+    let mut watch = watch(alloc, &plan, 0)?;
+    time_of_flushed(rt, &mut watch.probes, snapshots)
+}
+
+/// How long the calls of one core took, beside a ring.
+fn one_ring<R: Clock>(rt: &R, alloc: Global, word: &str, snapshots: u32) -> io::Result<Duration> {
     let (mut producer, _consumer) = RingBuffer::new(alloc, MAX_CAP as usize)?;
     let mut core = ProbeCore::new(
         0,
@@ -68,13 +96,7 @@ fn one_ring<R: Clock>(rt: &R, alloc: Global, word: &str, snapshots: u32) -> io::
         },
         CLOCK_LIMIT,
     );
-    let start = Instant::now(rt)?;
-    if word == "bare" {
-        bare(&mut core, &mut producer, snapshots);
-    } else {
-        sends(&mut core, snapshots);
-    }
-    start.elapsed(rt)
+    time_of_core(rt, &mut core, &mut producer, word, snapshots)
 }
 
 /// How many nanoseconds the calls took, where the word is one of these: a hundred rings are opened, and
@@ -90,7 +112,12 @@ pub fn nanos<R: Clock>(
     }
     let mut nanos = 0u128;
     for _ in 0..RINGS {
-        nanos = nanos.wrapping_add(one_ring(rt, alloc, word, snapshots)?.as_nanos());
+        let took = if word == "flushed" {
+            one_link(rt, alloc, snapshots)?
+        } else {
+            one_ring(rt, alloc, word, snapshots)?
+        };
+        nanos = nanos.wrapping_add(took.as_nanos());
     }
     Ok(Some(nanos))
 }
