@@ -1,6 +1,6 @@
 //! Notes that are put into a ring and taken out: `many_calls ring RING THREADS NOTES`. The ring is `ring`; `waking`,
-//! which rings a bell at each note; or `bare`, a ring of `rtrb` without the calls of `wcp_ring`. In one thread the notes
-//! go in and out in bursts; in two threads one puts and the other takes.
+//! which rings a bell at each note; or `bare`, a ring of `rtrb` without the calls of `wcp_ring`. In one thread the
+//! notes go in and out in bursts; in two threads one puts and the other takes.
 
 mod ends;
 
@@ -133,6 +133,7 @@ fn calls<R: Threads + Wait + Sync>(
     }
 }
 
+/// Puts and takes over a ring of `rtrb`.
 fn bare<R: Threads + Wait + Sync>(
     rt: &R,
     alloc: Global,
@@ -143,6 +144,7 @@ fn bare<R: Threads + Wait + Sync>(
     Ok(calls(rt, producer, consumer, threads, notes))
 }
 
+/// Puts and takes over a ring with a bell, whose sleeper never sleeps.
 fn waking<R: Threads + Wait + Sync>(
     rt: &R,
     alloc: Global,
@@ -155,6 +157,7 @@ fn waking<R: Threads + Wait + Sync>(
     Ok(calls(rt, putter.with_bell(bell), taker, threads, notes))
 }
 
+/// Puts and takes over a ring without a bell.
 fn plain<R: Threads + Wait + Sync>(
     rt: &R,
     alloc: Global,

@@ -1,9 +1,9 @@
 //! Watches of sixteen processes: `many_calls tree WORD COUNT`. Each of sixteen threads makes so many snapshots, with a
-//! send behind each. `leaf` takes them by one relay, `tree` by eight leaves under one other, and `bounded` by one bounded
-//! channel. At `silent` the processes of a tree wait so many seconds and close. At `held` each makes 1,000 snapshots, and
-//! the relay over the leaves is held up for so many seconds, while all links are full. `flushed` and `bare` make so many
-//! snapshots of one probe in one thread: a live one, or a core that puts into a ring of `rtrb`; `sends` only sends. These
-//! three say how many nanoseconds the calls took.
+//! send behind each. `leaf` takes them by one relay, `tree` by eight leaves under one other, and `bounded` by one
+//! bounded channel. At `silent` the processes of a tree wait so many seconds and close. At `held` each makes 1,000
+//! snapshots, and the relay over the leaves is held up for so many seconds, while all links are full. `flushed` and
+//! `bare` make so many snapshots of one probe in one thread: a live one, or a core that puts into a ring of `rtrb`;
+//! `sends` only sends. These three say how many nanoseconds the calls took.
 
 mod bounded;
 mod live;
