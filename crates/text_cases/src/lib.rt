@@ -1,5 +1,5 @@
-//! Tests of texts: what the readers make of them, each fault, the texts that are printed, and calls that are asked
-//! again.
+//! Tests of texts: what the readers make of them, the texts that are printed, the first fault of a plan, and calls that
+//! are asked again.
 #![tactic(auto)]
 
 #[cfg(test)]

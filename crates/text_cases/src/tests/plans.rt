@@ -1,9 +1,8 @@
 use Parent::{Relay, Root};
 use PlanFault::{Cap, Childless, Depth, Hold, Mixed, Procs, Unattached};
-use std::alloc::{AllocError, Global};
+use std::alloc::Global;
 use std::process::Abort;
-use std::test::Fail;
-use wcp_model::{Parent, Plan, PlanFault, Watched, plain_plan};
+use wcp_model::{Parent, Plan, PlanFault, Watched};
 
 /// The numbers of a plan, its parents and attachments, and its first fault.
 type Row<'a> = (
@@ -42,26 +41,24 @@ const ROWS: &[Row<'static>] = &[
 ];
 
 /// The plan of a row, all of whose processes are watched.
-fn plan_of(alloc: Global, row: &Row) -> Result<Plan, AllocError> {
+fn plan_of(rt: &impl Abort, alloc: Global, row: &Row) -> Plan {
     let (n, cap, hold) = row.0;
-    let parents = Vec::from_slice(alloc, row.1)?;
-    let attach = Vec::from_slice(alloc, row.2)?;
-    let watched = Watched::all(n.min(16));
-    Ok(Plan::new(n, cap, hold, parents, attach, watched))
+    let parents = Vec::from_slice(alloc, row.1).expect(rt, "memory");
+    let attach = Vec::from_slice(alloc, row.2).expect(rt, "memory");
+    Plan::new(n, cap, hold, parents, attach, Watched::all(n.min(16)))
 }
 
 /// Makes the plan of each row, and compares its first fault.
-fn assert_first_faults(rt: &impl Abort, alloc: Global, rows: &[Row]) -> Result<(), AllocError> {
+fn assert_first_faults(rt: &impl Abort, alloc: Global, rows: &[Row]) {
     for row in rows {
-        let plan = plan_of(alloc, row)?;
-        assert_eq!(rt; plan.check(), row.3);
+        let found = plan_of(rt, alloc, row).check();
+        assert_eq!(rt; found, row.3);
     }
-    Ok(())
 }
 
 #[test]
-fn the_first_fault_of_a_plan(rt: HostRuntime) -> Result<(), Fail> {
-    assert_first_faults(&rt, rt.alloc(), ROWS)?;
+fn the_first_fault_of_a_plan(rt: HostRuntime) {
+    assert_first_faults(&rt, rt.alloc(), ROWS);
     let long = (
         (1, 8, 4),
         CHAIN.as_slice(),
@@ -69,27 +66,5 @@ fn the_first_fault_of_a_plan(rt: HostRuntime) -> Result<(), Fail> {
         Err(Depth),
     );
     let longest = ((1, 8, 4), &CHAIN[..8], [Some(7)].as_slice(), Ok(()));
-    assert_first_faults(&rt, rt.alloc(), &[long, longest])?;
-    Ok(())
-}
-
-/// Compares all that a plan says.
-pub fn assert_plan(
-    rt: &impl Abort,
-    plan: &Plan,
-    numbers: (u32, u32, u32),
-    parents: &[Parent],
-    attach: &[Option<u32>],
-) {
-    assert_eq!(rt; (plan.n, plan.cap, plan.hold), numbers);
-    assert_eq!(rt; plan.parents.as_slice(), parents);
-    assert_eq!(rt; plan.attach.as_slice(), attach);
-}
-
-#[test]
-fn one_relay_serves_both_processes(rt: HostRuntime) -> Result<(), Fail> {
-    let plan = plain_plan(rt.alloc(), 2, 8, 4)?;
-    assert_plan(&rt, &plan, (2, 8, 4), &[Root], &[Some(0), Some(0)]);
-    assert_eq!(rt; plan.check(), Ok(()));
-    Ok(())
+    assert_first_faults(&rt, rt.alloc(), &[long, longest]);
 }

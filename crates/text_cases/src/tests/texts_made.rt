@@ -1,3 +1,4 @@
+use super::texts::{TREE, assert_text};
 use std::alloc::{AllocError, Global};
 use std::process::Abort;
 use std::test::Fail;
@@ -6,49 +7,8 @@ use wcp_model::{
     Action, Flag, GlobalCut, Outcome, Parent, Plan, Reply, Report, Tallies, Tally, Task, Watched,
     Why, Workload,
 };
-use wcp_report::{push_reply, push_report, reply_text, report_text};
-use wcp_script::{ring_workload, workload_text};
-
-/// The text of a workload of a ring of two processes and one round.
-fn ring_text(alloc: Global, fault: bool) -> Result<Vec<u8>, AllocError> {
-    let workload = ring_workload(alloc, 2, 1, fault)?;
-    workload_text(alloc, &workload)
-}
-
-/// Compares the text of a ring of two processes and one round.
-fn assert_ring_text(
-    rt: &impl Abort,
-    alloc: Global,
-    fault: bool,
-    text: &[u8],
-) -> Result<(), AllocError> {
-    assert_eq!(rt; ring_text(alloc, fault)?.as_slice(), text);
-    Ok(())
-}
-
-/// The text of a ring of two processes and one round.
-pub const RING: &[u8] =
-    b"wcp 1\nprocs 2\np 0 true\np 0 false\np 0 send 1\np 1 recv 0\np 1 true\np 1 false\n";
-
-/// The same with a bad moment.
-pub const RING_WITH_FAULT: &[u8] =
-    b"wcp 1\nprocs 2\np 1 true\np 1 false\np 0 true\np 0 false\np 0 send 1\n\
-p 1 recv 0\np 1 true\np 1 false\n";
-
-#[test]
-fn a_ring_of_two(rt: HostRuntime) -> Result<(), Fail> {
-    assert_ring_text(&rt, rt.alloc(), false, RING)?;
-    assert_ring_text(&rt, rt.alloc(), true, RING_WITH_FAULT)?;
-    Ok(())
-}
-
-/// The longest ring's number of tasks.
-#[test]
-fn the_longest_ring(rt: HostRuntime) -> Result<(), Fail> {
-    let workload = ring_workload(rt.alloc(), 16, 1000, true)?;
-    assert_eq!(rt; workload.tasks.len(), 64_028);
-    Ok(())
-}
+use wcp_report::{push_reply, push_report, reply_text};
+use wcp_script::{FaultKind, ReadFault, ScriptFault, workload_text};
 
 /// A leaf for each of three processes, of which two are watched, and a relay above the leaves; sends alone reset the
 /// flags.
@@ -66,6 +26,7 @@ fn three_leaves(alloc: Global) -> Result<Plan, AllocError> {
     Ok(plan)
 }
 
+/// The tasks of the workload under this tree.
 const TASKS: &[Task] = &[
     Task {
         p: 0,
@@ -85,18 +46,13 @@ const TASKS: &[Task] = &[
     },
 ];
 
-/// The text of these tasks under the plan of three leaves.
-const TREE: &[u8] =
-    b"wcp 1\nprocs 3\ncap 1024\nhold 1\nrelay 0 root\nrelay 1 0\nrelay 2 0\nrelay 3 0\n\
-attach 0 1\nattach 1 2\nattach 2 3\nwatch 0 2\nflag send\np 0 true\np 0 send 2\np 2 recv 0\np 1 false\n";
-
 #[test]
 fn a_workload_with_a_tree_of_relays(rt: HostRuntime) -> Result<(), Fail> {
     let alloc = rt.alloc();
     let plan = three_leaves(alloc)?;
     let tasks = Vec::from_slice(alloc, TASKS)?;
     let text = workload_text(alloc, &Workload { plan, tasks })?;
-    assert_eq!(rt; text.as_slice(), TREE);
+    assert_text(&rt, &text, TREE);
     Ok(())
 }
 
@@ -107,7 +63,7 @@ fn assert_line(
     reply: &Reply,
     line: &[u8],
 ) -> Result<(), AllocError> {
-    assert_eq!(rt; reply_text(alloc, reply)?.as_slice(), line);
+    assert_text(rt, &reply_text(alloc, reply)?, line);
     Ok(())
 }
 
@@ -184,15 +140,6 @@ pub const FOUND: &str =
     "found 1 1\nprocess 0 emitted 2 taken 2\nprocess 1 emitted 1 taken 0\ntotal emitted 3 taken 2\n";
 
 #[test]
-fn a_report_of_two_processes(rt: HostRuntime) -> Result<(), Fail> {
-    assert_eq!(rt;
-        report_text(rt.alloc(), &found())?.as_slice(),
-        FOUND.as_bytes()
-    );
-    Ok(())
-}
-
-#[test]
 fn replies_and_a_report_after_them(rt: HostRuntime) -> Result<(), Fail> {
     let mut text = String::new(rt.alloc());
     push_reply(&mut text, &Reply::Done)?;
@@ -201,4 +148,20 @@ fn replies_and_a_report_after_them(rt: HostRuntime) -> Result<(), Fail> {
     let both = format!(in rt.alloc(); "done\nrefused full\n{FOUND}")?;
     assert_eq!(rt; text.as_str(), both.as_str());
     Ok(())
+}
+
+/// Compares what is displayed of why a text wasn't read.
+fn assert_displayed(rt: &impl Abort, alloc: Global, fault: ReadFault, text: &str) {
+    let displayed = format!(in alloc; "{fault}").expect(rt, "memory");
+    assert_eq!(rt; displayed.as_str(), text);
+}
+
+#[test]
+fn why_a_text_was_not_read(rt: HostRuntime) {
+    let fault = ScriptFault {
+        line: 7,
+        kind: FaultKind::Header,
+    };
+    assert_displayed(&rt, rt.alloc(), ReadFault::Script(fault), "line 7: header");
+    assert_displayed(&rt, rt.alloc(), ReadFault::NoMemory, "memory");
 }
