@@ -1,5 +1,5 @@
-//! Tests of pictures: two worked texts, names that are escaped, and why there is no picture; and of the program that draws
-//! them: answers, each fault, and reads and writes that fail.
+//! Tests of pictures: one with a cut and one with none, and why there is no picture; and of the program that draws
+//! them: reads and writes that fail.
 #![tactic(auto)]
 
 #[cfg(test)]

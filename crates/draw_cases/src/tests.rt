@@ -1,7 +1,5 @@
-mod answers;
 mod failures;
 mod faults;
-mod pictures;
 mod runs;
 mod sketches;
 mod streams;

@@ -1,35 +1,58 @@
-use super::runs::{FOUND, TWO, answer, push};
-use super::streams::{Sink, Source, Trouble};
-use std::alloc::{AllocError, Global};
+use super::runs::{Answer, FOUND, TWO, answer_to, assert_drawn, assert_refused, assert_text};
+use super::streams::{Endless, Sink, Source, Trouble};
+use std::alloc::Global;
 use std::io::ErrorKind;
-use std::test::Fail;
+use std::process::Abort;
 use wcp_draw_cli::drive;
 
-/// The answer where this read fails, of reads of sixteen bytes.
-fn failing_read(alloc: Global, read: usize) -> Result<String, AllocError> {
+/// What the program answers where reads give so many bytes at most, and have this trouble.
+fn troubled(alloc: Global, most: usize, trouble: Trouble) -> Answer {
     let mut input = Source {
         rest: FOUND.as_bytes(),
-        most: 16,
-        trouble: Trouble::At(read, ErrorKind::Other),
+        most,
+        trouble,
         reads: 0,
     };
-    answer(alloc, TWO, &mut input)
+    answer_to(alloc, &mut input)
+}
+
+/// What the program answers where this read fails, of reads of sixteen bytes.
+fn failing_read(alloc: Global, read: usize) -> Answer {
+    troubled(alloc, 16, Trouble::At(read, ErrorKind::Other))
+}
+
+/// Where this read fails, the program says so.
+fn assert_failing_read(rt: &impl Abort, alloc: Global, read: usize) {
+    assert_refused(rt, &failing_read(alloc, read), b"wcpdraw: read\n");
 }
 
 /// The text has four reads of sixteen bytes or less, and a fifth tells its end.
 #[test]
-fn each_read_may_fail(rt: HostRuntime) -> Result<(), Fail> {
+fn each_read_may_fail(rt: HostRuntime) {
     for read in 0..5usize {
-        let told = failing_read(rt.alloc(), read)?;
-        assert_eq!(rt; told.as_str(), "2 wcpdraw: read\n");
+        assert_failing_read(&rt, rt.alloc(), read);
     }
-    let told = failing_read(rt.alloc(), 5)?;
-    assert!(rt; told.as_str().starts_with("0 <svg "));
-    Ok(())
+    assert_drawn(&rt, &failing_read(rt.alloc(), 5));
 }
 
-/// The status, the line of errors and what was written where this write fails, of writes of 256 bytes.
-fn failing_write(alloc: Global, write: usize) -> Result<String, AllocError> {
+#[test]
+fn one_byte_a_read_is_the_same(rt: HostRuntime) {
+    let whole = answer_to(rt.alloc(), &mut FOUND.as_bytes());
+    assert_drawn(&rt, &whole);
+    let trouble = Trouble::EveryOther(ErrorKind::Interrupted);
+    let parts = troubled(rt.alloc(), 1, trouble);
+    assert_drawn(&rt, &parts);
+    assert_text(&rt, &parts.output, &whole.output);
+}
+
+#[test]
+fn a_text_that_never_ends(rt: HostRuntime) {
+    let answer = answer_to(rt.alloc(), &mut Endless);
+    assert_refused(&rt, &answer, b"wcpdraw: toolarge\n");
+}
+
+/// Where this write fails, of writes of 256 bytes, those before it are all that was written.
+fn assert_failing_write(rt: &impl Abort, alloc: Global, write: usize) {
     let mut output = Sink {
         taken: Vec::new(alloc),
         most: 256,
@@ -38,21 +61,13 @@ fn failing_write(alloc: Global, write: usize) -> Result<String, AllocError> {
     };
     let mut errors: Vec<u8> = Vec::new(alloc);
     let status = drive(alloc, TWO, &mut FOUND.as_bytes(), &mut output, &mut errors);
-    let mut told = String::new(alloc);
-    write!(told, "{status} ")?;
-    push(&mut told, &errors)?;
-    push(&mut told, &output.taken)?;
-    Ok(told)
+    assert!(rt; status == 2 && output.taken.len() == write.saturating_mul(256));
+    assert_text(rt, &errors, b"wcpdraw: write\n");
 }
 
 #[test]
-fn each_write_may_fail(rt: HostRuntime) -> Result<(), Fail> {
-    let told = "2 wcpdraw: write\n";
+fn each_write_may_fail(rt: HostRuntime) {
     for write in 0..6usize {
-        let failed = failing_write(rt.alloc(), write)?;
-        assert!(rt; failed.as_str().starts_with(told));
-        let written = write.saturating_mul(256);
-        assert_eq!(rt; failed.len(), told.len().saturating_add(written));
+        assert_failing_write(&rt, rt.alloc(), write);
     }
-    Ok(())
 }

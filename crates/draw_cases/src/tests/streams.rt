@@ -5,7 +5,6 @@ use std::io::{Error, ErrorKind, Read, Result, Write};
 /// Which calls of a stream fail, and how. Calls are numbered from 0.
 #[derive(Clone, Copy)]
 pub enum Trouble {
-    No,
     At(usize, ErrorKind),
     /// The first call, the third, and so on.
     EveryOther(ErrorKind),
