@@ -127,7 +127,7 @@ fn a_workload_is_read_and_run(rt: HostRuntime) {
 
 #[test]
 fn a_report_is_printed(rt: HostRuntime) {
-    assert_report(&rt, rt.alloc(), &found(), FOUND.as_bytes());
+    assert_report(&rt, rt.alloc(), &found(), FOUND);
 }
 
 /// The line of a reply.
