@@ -1,0 +1,429 @@
+#!/usr/bin/env python3
+"""What the program `wcptrace` answers to words and a log, as each compiler built it: answers, faults, logs that are cut
+or come byte by byte, what words ask for, and the events at which conditions hold. The last line is the count."""
+import json
+import os
+import socket
+import subprocess
+from dataclasses import dataclass
+from functools import partial
+
+from programs import SECONDS, Cases, called
+
+
+@dataclass(frozen=True)
+class Answer:
+    """The exit status, and what stands on standard output and on standard error."""
+
+    status: int
+    output: str = ""
+    errors: str = ""
+
+
+@dataclass(frozen=True)
+class Row:
+    """The words of a call, the log that it reads, and its answer."""
+
+    words: list[str]
+    log: str
+    answer: Answer
+
+
+def found(*events):
+    """The answer with the events of the earliest moment."""
+    return Answer(0, "".join(line + "\n" for line in ("found", *events)))
+
+
+def none(*hosts):
+    """The answer without a moment, with the counts of each host."""
+    return Answer(1, "".join(line + "\n" for line in ("none", *hosts)))
+
+
+def fault(line):
+    """Where there is no answer, the line that says why."""
+    return Answer(2, "", f"wcptrace: {line}\n")
+
+
+def first_lines(log, count):
+    """The first lines of a log."""
+    return "".join(log.splitlines(keepends=True)[:count])
+
+
+USAGE = fault("usage")
+
+# The words of the two who want the lease.
+BOTH = ["--while", "ann=holds", "--while", "ben=holds"]
+
+# The lease of ann runs out while she still holds it, and ben gets it.
+RUNS_OUT = """\
+keeper {"keeper":1}
+opens
+ann {"ann":1}
+asks for the lease
+keeper {"keeper":2, "ann":1}
+gives the lease to ann
+ann {"ann":2, "keeper":2}
+holds the lease
+ben {"ben":1}
+asks for the lease
+keeper {"keeper":3, "ann":1, "ben":1}
+the lease of ann has run out, gives it to ben
+ben {"ben":2, "keeper":3, "ann":1}
+holds the lease
+ann {"ann":3, "keeper":2}
+gives the lease back
+"""
+
+# The keeper waits until ann has given the lease back.
+WAITED_FOR = """\
+ann {"ann":1}
+holds the lease
+ann {"ann":2}
+gives the lease back
+keeper {"keeper":1, "ann":2}
+gives the lease to ben
+ben {"ben":1, "keeper":1, "ann":2}
+holds the lease
+ben {"ben":2, "keeper":1, "ann":2}
+gives the lease back
+"""
+
+# Ben takes the lease though he knows that ann has it.
+KNOWS = """\
+ann {"ann":1}
+holds the lease
+ben {"ben":1, "ann":1}
+holds the lease
+ann {"ann":2}
+gives the lease back
+"""
+
+# The same in one JSON object for each event.
+IN_LINES = """\
+{"host":"ann","clock":{"ann":1},"event":"holds"}
+{"event":"holds too","host":"ben","level":3,"clock":{"ann":1,"ben":1}}
+"""
+
+ANSWERS = [
+    Row(BOTH, RUNS_OUT, found("ann line 8 holds the lease", "ben line 14 holds the lease")),
+    Row(BOTH, WAITED_FOR, none("ann events 2 matched 1", "ben events 2 matched 1")),
+    Row(BOTH, KNOWS, found("ann line 2 holds the lease", "ben line 4 holds the lease")),
+    # At the events alone the same log has none.
+    Row(["--at", "ann=holds", "--at", "ben=holds"], KNOWS, none("ann events 2 matched 1", "ben events 1 matched 1")),
+    # The other order of the hosts, and a host with a span.
+    Row(
+        ["--from", "ann=holds", "--until", "ann=gives", "--while", "ben=holds"],
+        RUNS_OUT,
+        found("ben line 14 holds the lease", "ann line 8 holds the lease"),
+    ),
+    Row(["--form", "lines", *BOTH], IN_LINES, found("ann line 1 holds", "ben line 2 holds too")),
+    Row(["--form", "shiviz-reversed", "--while", "ann=holds"], 'holds\nann {"ann":1}', found("ann line 1 holds")),
+    # A last line without LF is a line.
+    Row(["--while", "ann=holds"], 'ann {"ann":1}\nholds', found("ann line 2 holds")),
+]
+
+# Logs that end with the line by which the moment is known.
+EARLY = [
+    Row(BOTH, first_lines(RUNS_OUT, 14), found("ann line 8 holds the lease", "ben line 14 holds the lease")),
+    Row(BOTH, first_lines(KNOWS, 4), found("ann line 2 holds the lease", "ben line 4 holds the lease")),
+    Row(["--form", "lines", *BOTH], IN_LINES, found("ann line 1 holds", "ben line 2 holds too")),
+]
+
+FAULTS = [
+    Row([], "", USAGE),
+    Row(["--while", "ann"], "", USAGE),
+    Row(["--form", "csv", "--while", "ann=x"], "", USAGE),
+    Row(["--while", "ann=x", "--at", "ann=y"], "", USAGE),
+    Row(BOTH, "", fault("nohost ann")),
+    Row(BOTH, 'ann {"ann":1}\nholds\n', fault("nohost ben")),
+    Row(BOTH, 'ann {"ann":1}\n', fault("line 1: text")),
+    Row(BOTH, "ann\nholds\n", fault("line 1: text")),
+    Row(BOTH, 'ann {"ann":-1}\nholds\n', fault("line 1: clock")),
+    Row(BOTH, 'ann {"ben":1}\nholds\n', fault("line 1: own")),
+    Row(BOTH, 'ann {"ann":1}\nholds\nann {"ann":1}\nholds\n', fault("line 3: order")),
+    Row(BOTH, 'ann {"ann":1, "ben":2}\nholds\nann {"ann":2}\nholds\n', fault("line 3: falls")),
+    Row(
+        ["--while", "ann=holds", "--while", "ben=("],
+        RUNS_OUT,
+        fault("expression ben: regex parse error at 0..1: unclosed group"),
+    ),
+    # Of a line that is too long no more than its fault is told.
+    Row(BOTH, "x" * 200_000, fault("line 1: long")),
+]
+
+# Words that the program doesn't know.
+UNKNOWN = [
+    ["--form", "json"],
+    ["--form", ""],
+    ["--form", "lines", "--form", "lines"],
+    ["--while"],
+    ["--while", "--at"],
+    ["--while", "--at=x"],
+    ["--while", "-a=x"],
+    ["--wait", "a=x"],
+    ["a=x"],
+    ["--while", "a=x", "b=x"],
+    ["help", "me"],
+]
+
+# Words that it knows, and that say no conditions.
+NO_CONDITIONS = [
+    [],
+    ["--while", "alice"],
+    ["--while", "=holds"],
+    ["--while", "="],
+    ["--while", ""],
+    ["--while", "alice=holds", "--while", "bob"],
+    ["--while", "alice=holds", "--while", "alice=asks"],
+    ["--while", "alice=holds", "--at", "alice=holds"],
+    ["--while", "alice=holds", "--from", "alice=holds", "--until", "alice=gives"],
+    ["--from", "alice=holds", "--until", "alice=gives", "--at", "alice=x"],
+    ["--from", "alice=holds"],
+    ["--until", "alice=gives"],
+    ["--while", "bob=x", "--until", "alice=gives"],
+    ["--from", "alice=holds", "--until", "bob=gives"],
+    ["--from", "alice=holds", "--until", "alice=gives", "--until", "alice=dies"],
+    ["--from", "alice=holds", "--from", "alice=asks", "--until", "alice=gives"],
+    ["--from", "alice=holds", "--from", "alice=asks", "--until", "alice=gives", "--until", "alice=dies"],
+    ["--from", "alice=holds", "--from", "bob=holds", "--until", "alice=gives", "--until", "carol=gives"],
+    ["--from", "alice", "--until", "alice=gives"],
+    ["--from", "alice=holds", "--until", "alice"],
+    ["--while", "alice=holds", "--at", "=x"],
+    # All words are looked at before the first expression is read.
+    ["--while", "alice=(", "--while", "bob"],
+    ["--while", "alice=(", "--until", "bob=x"],
+]
+
+# Words of which an expression is none, and the fault of the first such.
+EXPRESSIONS = [
+    (["--while", "alice=("], "alice: regex parse error at 0..1: unclosed group"),
+    (
+        ["--while", "alice=x", "--while", "bob=a{2", "--while", "carol=("],
+        "bob: regex parse error at 1..3: unclosed counted repetition",
+    ),
+    (
+        ["--from", "alice=x", "--until", "alice=["],
+        "alice: regex parse error at 0..1: unclosed character class",
+    ),
+    (
+        ["--from", "alice=*", "--until", "alice=["],
+        "alice: regex parse error at 0..0: repetition operator missing expression",
+    ),
+    (
+        ["--while", "dave=x", "--from", "bob=(", "--until", "bob=[", "--at", "carol=*"],
+        "bob: regex parse error at 0..1: unclosed group",
+    ),
+    (
+        ["--while", "dave=+", "--from", "bob=(", "--until", "bob=[", "--at", "carol=*"],
+        "dave: regex parse error at 0..0: repetition operator missing expression",
+    ),
+]
+
+# Words that ask for a trace, a log that shows what they ask for, and the answer.
+ASKED = [
+    Row(["--while", "a=x"], 'a {"a":1}\nx\n', found("a line 2 x")),
+    # A host ends at the first `=`.
+    Row(["--while=a=x=y"], 'a {"a":1}\nx\na {"a":2}\nx=y\n', found("a line 4 x=y")),
+    # Those of --while come first, in their order, then those of --from and those of --at.
+    Row(
+        ["--at", "d=x", "--while", "b=", "--until", "c=y", "--from", "c=x", "--while", "a=x"],
+        'c {"c":1}\nx\nd {"d":1}\nx\na {"a":1}\nx\nb {"b":1}\nno more\n',
+        found("b line 8 no more", "a line 6 x", "c line 2 x", "d line 4 x"),
+    ),
+    # The same with a c whose span is over.
+    Row(
+        ["--at", "d=x", "--while", "b=", "--until", "c=y", "--from", "c=x", "--while", "a=x"],
+        'c {"c":1}\nx\nc {"c":2}\ny\nd {"c":2,"d":1}\nx\na {"a":1}\nx\nb {"b":1}\nno more\n',
+        none("b events 1 matched 1", "a events 1 matched 1", "c events 2 matched 1", "d events 1 matched 1"),
+    ),
+    # Each until goes with the from of its host.
+    Row(
+        ["--while", "bob=x", "--while", "alice=x", "--from", "dave=x", "--from", "carol=y"]
+        + ["--until", "carol=x", "--until", "dave=y", "--at", "erin=x"],
+        'erin {"erin":1}\ny\n'
+        'carol {"carol":1}\ny\ncarol {"carol":2}\ny\ncarol {"carol":3}\nx\n'
+        'dave {"dave":1}\nx\ndave {"dave":2}\nx\ndave {"dave":3}\ny\n'
+        'alice {"alice":1}\nx\nbob {"bob":1}\nx\n',
+        none(
+            "bob events 1 matched 1",
+            "alice events 1 matched 1",
+            "dave events 3 matched 2",
+            "carol events 3 matched 2",
+            "erin events 1 matched 0",
+        ),
+    ),
+    Row(["--while", "a=x", "--form", "lines"], '{"host":"a","clock":{"a":1},"event":"x"}\n', found("a line 1 x")),
+    Row(["--form", "shiviz", "--at", "a=x"], 'a {"a":1}\nx\n', found("a line 2 x")),
+    Row(["--form=shiviz-reversed", "--at", "a=x"], 'x\na {"a":1}\n', found("a line 1 x")),
+]
+
+VERSION = "wcptrace 0.1.0\nrattle-kit-13f logic dac8208d650f15bf\n"
+
+# The texts of a client of a lock, who is alice.
+CLIENT = [
+    "asks for the lock",
+    "holds the lock",
+    "writes",
+    "gives the lock back",
+    "asks for the lock",
+    "holds the lock, gives the lock back",
+    "",
+]
+
+# Words, and a `+` for each event of the client at which the condition that they say holds, and a `-` where it doesn't.
+MARKS = [
+    (["--while", "alice=holds the lock"], "-+---+-"),
+    (["--at", "alice=holds the lock"], "-+---+-"),
+    (["--while", "alice=^holds the lock$"], "-+-----"),
+    (["--while", "alice=lock"], "++-+++-"),
+    (["--while", "alice="], "+++++++"),
+    (["--while", "alice=^$"], "------+"),
+    (["--while", "alice=x=y"], "-------"),
+    (["--from", "alice=holds", "--until", "alice=gives"], "-++--++"),
+    # A text that matches both turns the condition round.
+    (["--from", "alice=lock", "--until", "alice=lock"], "+--+-++"),
+    (["--from", "alice=^$", "--until", "alice="], "------+"),
+    # Before the first event it doesn't hold, and an until alone begins nothing.
+    (["--from", "alice=never", "--until", "alice=gives"], "-------"),
+]
+
+
+def add(cases, table, rows):
+    """The rows of a table."""
+    for number, row in enumerate(rows):
+        answer = row.answer
+        cases.answers(f"{table}, {number}", row.words, row.log, answer.status, answer.output, answer.errors)
+
+
+def judged(row, status, output, errors):
+    """True where this is the answer of the row, and otherwise what it is."""
+    answer = Answer(status, output.decode(), errors.decode())
+    return answer == row.answer or answer
+
+
+def byte_by_byte(row, file):
+    """Judges the answer where each read gives one byte: of a socket with packets a read gives one packet."""
+    ours, its = socket.socketpair(socket.AF_UNIX, socket.SOCK_SEQPACKET)
+    ours.settimeout(SECONDS)
+    with its:
+        program = subprocess.Popen([file, *row.words], stdin=its, stdout=subprocess.PIPE, stderr=subprocess.PIPE)
+    with program:
+        try:
+            with ours:
+                send_each(ours, row.log.encode())
+            output, errors = program.communicate(timeout=SECONDS)
+        finally:
+            program.kill()
+    return judged(row, program.returncode, output, errors)
+
+
+def send_each(ours, log):
+    """Sends each byte of a log as a packet, until all are sent or the program, which may answer before, has ended."""
+    try:
+        for byte in log:
+            ours.send(bytes([byte]))
+    except (BrokenPipeError, ConnectionResetError):
+        pass
+
+
+def before_the_end(row, file):
+    """Judges the answer that comes, and after which the program ends, while the writer still holds the pipe."""
+    reader, writer = os.pipe()
+    with open(reader, "rb") as log, open(writer, "wb") as held:
+        held.write(row.log.encode())
+        held.flush()
+        ran = subprocess.run([file, *row.words], stdin=log, capture_output=True, timeout=SECONDS)
+    return judged(row, ran.returncode, ran.stdout, ran.stderr)
+
+
+def cut_answer(log):
+    """The answer to what is left where the log of the lease that runs out is cut."""
+    lines = log.splitlines()
+    if len(lines) >= 14 and "holds" in lines[13]:
+        return found(f"ann line 8 {lines[7]}", f"ben line 14 {lines[13]}")
+    if len(lines) % 2 == 1:
+        # A line that is cut has no space, or no whole clock behind it; a whole one has no text below it.
+        is_cut_in_clock = " " in lines[-1] and not lines[-1].endswith("}")
+        return fault(f"line {len(lines)}: {'clock' if is_cut_in_clock else 'text'}")
+    texts = {"ann": [], "ben": [], "keeper": []}
+    for head, text in zip(lines[::2], lines[1::2]):
+        texts[head.split()[0]].append(text)
+    for host in "ann", "ben":
+        if not texts[host]:
+            return fault(f"nohost {host}")
+    return none(*(f"{host} events {len(texts[host])} matched {count_holding(texts[host])}" for host in ("ann", "ben")))
+
+
+def count_holding(texts):
+    """How many events hold the lease."""
+    return sum("holds" in text for text in texts)
+
+
+def cuts():
+    """The log of the lease that runs out, cut at each byte."""
+    logs = [RUNS_OUT[:length] for length in range(len(RUNS_OUT))]
+    return [Row(BOTH, log, cut_answer(log)) for log in logs]
+
+
+def many_hosts():
+    """Forty hosts with an event each, of which sixteen are watched, and seventeen, which are too many."""
+    log = "".join(f'h{number} {{"h{number}":1}}\nholds\n' for number in range(10, 50))
+    sixteen = found(*(f"h{number} line {2 * number - 18} holds" for number in range(10, 26)))
+    rows = []
+    for options in ["--while"], ["--at"], ["--from", "--until"]:
+        rows.append(Row(watching(options, range(10, 26)), log, sixteen))
+        rows.append(Row(watching(options, range(10, 27)), log, USAGE))
+    mixed = watching(["--while"], range(10, 18)) + watching(["--from", "--until"], range(18, 27))
+    return [*rows, Row(mixed, log, USAGE)]
+
+
+def watching(options, numbers):
+    """The words that name each of these hosts by each of these options."""
+    return [word for number in numbers for option in options for word in (option, f"h{number}=holds")]
+
+
+def marked(words, texts, marks):
+    """The client's log, cut after each event: an event at which the condition holds is one more that has matched."""
+    rows = []
+    log = '{"host":"zed","clock":{"zed":1},"event":"waits"}\n'
+    for count, text in enumerate(texts, 1):
+        log += json.dumps({"host": "alice", "clock": {"alice": count}, "event": text}) + "\n"
+        answer = none(f"alice events {count} matched {marks[:count].count('+')}", "zed events 1 matched 0")
+        rows.append(Row([*words, "--at", "zed=never", "--form", "lines"], log, answer))
+    return rows
+
+
+def helps(word, file):
+    """Whether this word gets the help, which names each option."""
+    status, output, errors = called(file, [word], b"")
+    names = b"--while", b"--from", b"--until", b"--at", b"--form", b"HOST=REGEX"
+    return status == 0 and errors == b"" and all(name in output for name in names)
+
+
+def main():
+    cases = Cases("wcptrace")
+    add(cases, "answers", ANSWERS)
+    for row in ANSWERS:
+        cases.holds(f"byte by byte: {row}", partial(byte_by_byte, row))
+    for row in EARLY:
+        cases.holds(f"before the log ends: {row}", partial(before_the_end, row))
+    add(cases, "faults", FAULTS)
+    add(cases, "cuts", cuts())
+    add(cases, "many hosts", many_hosts())
+    add(cases, "unknown words", [Row(words, "", USAGE) for words in UNKNOWN])
+    add(cases, "unknown words beside a condition", [Row(["--while", "ann=x", *words], "", USAGE) for words in UNKNOWN])
+    add(cases, "no conditions", [Row(words, "", USAGE) for words in NO_CONDITIONS])
+    add(cases, "no expression", [Row(words, "", fault(f"expression {why}")) for words, why in EXPRESSIONS])
+    add(cases, "what words ask for", ASKED)
+    add(cases, "version", [Row([word], "", Answer(0, VERSION)) for word in ("-V", "--version")])
+    for word in "help", "-h", "--help":
+        cases.holds(f"the help by {word}", partial(helps, word))
+    for words, marks in MARKS:
+        add(cases, "events of alice", marked(words, CLIENT, marks))
+    states = ["state=leader", "leader", "state=follower"]
+    add(cases, "an equals sign", marked(["--while", "alice=state=leader"], states, "+--"))
+    cases.finish()
+
+
+if __name__ == "__main__":
+    main()
