@@ -1,10 +1,5 @@
-mod answers;
-mod condition_events;
-mod condition_words;
 mod conditions;
 mod failures;
-mod faults;
-mod many;
 mod options;
 mod progress;
 mod runs;

@@ -1,67 +1,76 @@
-use super::runs::{BOTH, FOUND, RUNS_OUT, answer, push};
+//! Reads and writes that fail, and reads of one byte.
+use super::runs::{ANSWER, FOUND, RUNS_OUT, answer};
 use super::streams::{Sink, Source, Trouble};
-use std::alloc::{AllocError, Global};
+use std::alloc::Global;
 use std::io::ErrorKind;
-use std::test::Fail;
-use wcp_trace::drive;
+use std::process::Abort;
 
-/// The answer where this read fails, of reads of sixteen bytes.
-fn failing_read(alloc: Global, read: usize) -> Result<String, AllocError> {
+/// The answer where reads give so many bytes at most, and have this trouble.
+fn reading(rt: &impl Abort, alloc: Global, most: usize, trouble: Trouble) -> String {
     let mut input = Source {
         rest: RUNS_OUT.as_bytes(),
-        most: 16,
-        trouble: Trouble::At(read, ErrorKind::Other),
+        most,
+        trouble,
         reads: 0,
     };
-    answer(alloc, BOTH, &mut input)
+    let mut output = Sink {
+        taken: Vec::new(alloc),
+        most: 8,
+        trouble: Trouble::No,
+        writes: 0,
+    };
+    answer(rt, alloc, &mut input, &mut output)
 }
 
-#[test]
-fn each_read_may_fail(rt: HostRuntime) -> Result<(), Fail> {
-    for read in 0..21usize {
-        let told = failing_read(rt.alloc(), read)?;
-        assert_eq!(rt; told.as_str(), "2 wcptrace: read\n");
-    }
-    Ok(())
-}
-
-/// The status and what was written where this write fails, of writes of eight bytes.
-fn failing_write(alloc: Global, write: usize) -> Result<String, AllocError> {
+/// The answer where this write fails, of writes of eight bytes.
+fn failing_write(rt: &impl Abort, alloc: Global, write: usize) -> String {
+    let mut input = Source {
+        rest: RUNS_OUT.as_bytes(),
+        most: RUNS_OUT.len(),
+        trouble: Trouble::No,
+        reads: 0,
+    };
     let mut output = Sink {
         taken: Vec::new(alloc),
         most: 8,
         trouble: Trouble::At(write, ErrorKind::Other),
         writes: 0,
     };
-    let mut errors: Vec<u8> = Vec::new(alloc);
-    let status = drive(
-        alloc,
-        BOTH,
-        &mut RUNS_OUT.as_bytes(),
-        &mut output,
-        &mut errors,
-    );
-    let mut told = String::new(alloc);
-    write!(told, "{status} ")?;
-    push(&mut told, &errors)?;
-    push(&mut told, &output.taken)?;
-    Ok(told)
+    answer(rt, alloc, &mut input, &mut output)
 }
 
 #[test]
-fn each_write_may_fail(rt: HostRuntime) -> Result<(), Fail> {
-    for write in 0..8usize {
-        let told = failing_write(rt.alloc(), write)?;
-        let whole = told.as_str();
-        assert!(rt; whole.starts_with("2 wcptrace: write\n"));
-        assert_eq!(rt;
-            whole.len(),
-            "2 wcptrace: write\n"
-                .len()
-                .saturating_add(write.saturating_mul(8))
-        );
-    }
-    let told = failing_write(rt.alloc(), 8)?;
+fn one_byte_a_read_is_the_same(rt: HostRuntime) {
+    let interrupted = Trouble::EveryOther(ErrorKind::Interrupted);
+    let told = reading(&rt, rt.alloc(), 1, interrupted);
     assert_eq!(rt; told.as_str(), FOUND);
-    Ok(())
+}
+
+/// The moment is known with line 14 of the log, after 21 reads of sixteen bytes, and then nothing more is read.
+#[test]
+fn each_read_may_fail(rt: HostRuntime) {
+    for read in 0..21usize {
+        let told = reading(&rt, rt.alloc(), 16, Trouble::At(read, ErrorKind::Other));
+        assert_eq!(rt; told.as_str(), "2 wcptrace: read\n");
+    }
+    let told = reading(&rt, rt.alloc(), 16, Trouble::At(21, ErrorKind::Other));
+    assert_eq!(rt; told.as_str(), FOUND);
+}
+
+/// Whether the fault is told, and no more than so many writes of the answer came before it.
+fn is_cut(told: &str, writes: usize) -> bool {
+    let Some(answer) = told.strip_prefix("2 wcptrace: write\n") else {
+        return false;
+    };
+    ANSWER.starts_with(answer) && answer.len() == writes.saturating_mul(8)
+}
+
+#[test]
+fn each_write_may_fail(rt: HostRuntime) {
+    for write in 0..8usize {
+        let told = failing_write(&rt, rt.alloc(), write);
+        assert!(rt; is_cut(told.as_str(), write));
+    }
+    let told = failing_write(&rt, rt.alloc(), 8);
+    assert_eq!(rt; told.as_str(), FOUND);
 }

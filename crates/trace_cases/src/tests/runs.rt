@@ -1,10 +1,11 @@
-use std::alloc::{AllocError, Global};
-use std::io::Read;
+use super::streams::{Sink, Source};
+use std::alloc::Global;
+use std::process::Abort;
 use std::str;
 use wcp_trace::drive;
 
 /// The words of the two who want the lease.
-pub const BOTH: &[&str] = &["wcptrace", "--while", "ann=holds", "--while", "ben=holds"];
+const BOTH: &[&str] = &["wcptrace", "--while", "ann=holds", "--while", "ben=holds"];
 
 /// The lease of ann runs out while she still holds it, and ben gets it.
 pub const RUNS_OUT: &str = "keeper {\"keeper\":1}\nopens\n\
@@ -17,24 +18,20 @@ ben {\"ben\":2, \"keeper\":3, \"ann\":1}\nholds the lease\n\
 ann {\"ann\":3, \"keeper\":2}\ngives the lease back\n";
 
 /// What is found in it.
+pub const ANSWER: &str = "found\nann line 8 holds the lease\nben line 14 holds the lease\n";
+
+/// The same with its status.
 pub const FOUND: &str = "0 found\nann line 8 holds the lease\nben line 14 holds the lease\n";
 
-/// The status, what was printed, and the line of errors.
-pub fn answer<I: Read>(alloc: Global, words: &[&str], input: &mut I) -> Result<String, AllocError> {
-    let mut output: Vec<u8> = Vec::new(alloc);
+/// The status, the line of errors, and what was written.
+pub fn answer(rt: &impl Abort, alloc: Global, input: &mut Source<'_>, output: &mut Sink) -> String {
     let mut errors: Vec<u8> = Vec::new(alloc);
-    let status = drive(alloc, words, input, &mut output, &mut errors);
-    let mut told = String::new(alloc);
-    write!(told, "{status} ")?;
-    push(&mut told, &output)?;
-    push(&mut told, &errors)?;
-    Ok(told)
+    let status = drive(alloc, BOTH, input, output, &mut errors);
+    told(rt, alloc, status, &errors, &output.taken)
 }
 
-/// Adds bytes that are a text.
-pub fn push(told: &mut String, bytes: &[u8]) -> Result<(), AllocError> {
-    match str::from_utf8(bytes) {
-        Ok(text) => told.push_str(text),
-        Err(_) => told.push_str("(no text)"),
-    }
+fn told(rt: &impl Abort, alloc: Global, status: u8, errors: &[u8], output: &[u8]) -> String {
+    let errors = str::from_utf8(errors).expect(rt, "a text");
+    let output = str::from_utf8(output).expect(rt, "a text");
+    format!(in alloc; "{status} {errors}{output}").expect(rt, "memory")
 }

@@ -9,8 +9,6 @@ pub enum Trouble {
     At(usize, ErrorKind),
     /// The first call, the third, and so on.
     EveryOther(ErrorKind),
-    /// This call and each one after it.
-    From(usize, ErrorKind),
 }
 
 impl Trouble {
@@ -18,7 +16,6 @@ impl Trouble {
         match self {
             Trouble::At(failing, kind) if call == failing => Err(Error::from(kind)),
             Trouble::EveryOther(kind) if call % 2 == 0 => Err(Error::from(kind)),
-            Trouble::From(failing, kind) if call >= failing => Err(Error::from(kind)),
             _ => Ok(()),
         }
     }
