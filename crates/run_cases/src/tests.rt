@@ -1,6 +1,7 @@
 mod checking;
 mod losing;
 mod news;
+mod plans;
 mod reading;
 mod settling;
 mod starting;

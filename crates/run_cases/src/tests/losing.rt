@@ -1,42 +1,33 @@
 //! Watches of which process 0 is lost: its probe is dropped before it closes.
-use super::checking::{ONE, assert_end, assert_found, assert_shares, two_hops};
-use super::watches::{Checked, run_in_one_thread};
-use std::test::Fail;
+use super::plans::two_hops;
+use super::watches::{Course, ONCE, ONE, assert_left, found, run_in_one_thread};
+use std::alloc::Global;
+use std::process::Abort;
+use std::sync::Wait;
 use wcp_book::Book;
-use wcp_model::{GlobalCut, Report};
+use wcp_model::Report;
 use wcp_watch::CheckFault;
 
-#[test]
-fn a_process_that_is_lost_at_once_leaves_all_undecided(rt: HostRuntime) -> Result<(), Fail> {
-    let plan = two_hops(&rt, rt.alloc())?;
-    let Checked { end, book } = run_in_one_thread(
-        &rt,
-        rt.alloc(),
-        &plan,
-        Some(0),
-        2,
-        Book::new(2),
-    )?;
-    assert_end(&rt, &end, Report::Undecided, Some(CheckFault::Lost(0)));
-    assert_eq!(rt; end.lost(), Some(0));
-    assert_shares(&rt, &book, None, Some(ONE));
-    assert!(rt; book.has_ended() && end.cut().is_none());
-    Ok(())
+/// Where process 0 of a watch of two hops is lost after so many snapshots, the loop ends with this report, and says so.
+fn assert_lost_after(rt: &(impl Abort + Wait), alloc: Global, snapshots: u32, report: Report) {
+    let lost = Course {
+        snapshots,
+        closes: false,
+    };
+    let left = run_in_one_thread(rt, alloc, two_hops(rt, alloc), lost, ONCE, 2, Book::new(2));
+    assert_left(rt, &left, report, None, Some(ONE));
+    assert_eq!(rt;
+        (left.end.fault(), left.end.lost()),
+        (Some(CheckFault::Lost(0)), Some(0))
+    );
 }
 
 #[test]
-fn what_a_lost_process_put_counts(rt: HostRuntime) -> Result<(), Fail> {
-    let plan = two_hops(&rt, rt.alloc())?;
-    let Checked { end, book } = run_in_one_thread(
-        &rt,
-        rt.alloc(),
-        &plan,
-        Some(1),
-        2,
-        Book::new(2),
-    )?;
-    let cut = GlobalCut::new(&[Some(0), Some(0)]);
-    assert_end(&rt, &end, Report::Found(cut), Some(CheckFault::Lost(0)));
-    assert_found(&rt, &book, Some(cut));
-    Ok(())
+fn a_process_that_is_lost_at_once_leaves_all_undecided(rt: HostRuntime) {
+    assert_lost_after(&rt, rt.alloc(), 0, Report::Undecided);
+}
+
+#[test]
+fn what_a_lost_process_put_counts(rt: HostRuntime) {
+    assert_lost_after(&rt, rt.alloc(), 1, found());
 }

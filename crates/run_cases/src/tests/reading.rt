@@ -1,54 +1,33 @@
+//! A reader of the book, beside a watch that runs in threads.
 ghost use Rattle.wcp_watch.specs.CheckerEnds.{IsFreshFor};
 
-use super::watches::{Opened, emit_all, open, run_relay};
-use std::alloc::{AllocError, Global};
+use super::starting::{Process, processes};
+use super::watches::emit_all;
+use std::alloc::Global;
+use std::process::Abort;
 use std::sync::atomic::{AtomicBool, Ordering};
 use std::sync::{Mutex, Wait};
-use std::test::Fail;
 use std::thread;
-use std::thread::{Threads, join, map_vec};
+use std::thread::{Threads, join};
 use wcp_book::Book;
-use wcp_model::{Tally, plain_plan};
-use wcp_queue::Checker;
-use wcp_tree::{CheckerInbox, LiveProbe, Relay, Watch};
-use wcp_watch::{CheckerEnd, check_loop};
+use wcp_model::Tally;
+use wcp_threads::RunsWith;
+use wcp_tree::ProbeEnd;
+use wcp_watch::{Ends, Parts, run_parts};
 
 /// The snapshots of each process.
 const SNAPSHOTS: u32 = 100;
 
-/// What runs in a thread of its own.
+/// How many snapshots each process emits.
 #[derive(Drop)]
-enum Job {
-    Probe(LiveProbe),
-    Relay(Relay),
+struct Course {
+    snapshots: u32,
 }
 
-/// The probes and the relays, each as a job.
-fn jobs_of(
-    alloc: Global,
-    probes: Vec<LiveProbe>,
-    relays: Vec<Relay>,
-) -> Result<Vec<Job>, AllocError> {
-    let mut jobs = Vec::new(alloc);
-    for probe in probes {
-        jobs.push(Job::Probe(probe))?;
+impl RunsWith<Course, ProbeEnd> for Process {
+    fn run_with<R: Wait>(self, rt: &R, course: &Course) -> ProbeEnd {
+        emit_all(rt, self.probe, course.snapshots)
     }
-    for relay in relays {
-        jobs.push(Job::Relay(relay))?;
-    }
-    Ok(jobs)
-}
-
-/// Runs each job in a thread of its own. Whether it was well for all.
-fn run_all<R: Threads + Wait + Sync>(rt: &R, jobs: Vec<Job>) -> Result<Vec<bool>, AllocError> {
-    map_vec(
-        rt,
-        jobs,
-        &|job: Job| match job {
-            Job::Probe(probe) => emit_all(rt, probe, SNAPSHOTS).emitted() == SNAPSHOTS,
-            Job::Relay(relay) => run_relay(rt, relay).is_none(),
-        },
-    )
 }
 
 /// Reads the totals until the loop has ended. Whether they never fell, and only whole shares were in them.
@@ -73,95 +52,60 @@ fn rises(rt: &impl Wait, book: &Mutex<Book>, ended: &AtomicBool) -> bool {
     unreachable!()
 }
 
-/// What the checker's loop leaves, and whether the totals never fell meanwhile.
-#[derive(Drop)]
-struct Read {
-    end: CheckerEnd,
-    rose: bool,
+/// Each process emitted all, and neither a relay nor the checker's loop met a fault.
+fn assert_whole(rt: &impl Abort, ends: &Ends<ProbeEnd>) {
+    assert!(rt; ends.workers.iter().all(|end| end.emitted() == SNAPSHOTS));
+    assert!(rt; ends.relays.iter().all(|end| end.fault().is_none()));
+    assert_eq!(rt; ends.checker.fault(), None);
 }
 
-/// The checker's loop, and beside it a reader of the book.
-fn check_and_read<R: Threads + Wait + Sync>(
-    rt: &R,
-    inbox: CheckerInbox,
-    checker: Checker,
-    book: &Mutex<Book>,
-) -> Read
-    requires { IsFreshFor inbox checker }
-{
-    let ended = AtomicBool::new(false);
-    let (end, rose) = join(
-        rt,
-        || -> CheckerEnd
-            requires { IsFreshFor inbox checker }
-        {
-            let end = check_loop(rt, inbox, checker, book);
-            ended.store(true, Ordering::SeqCst);
-            end
-        },
-        || rises(rt, book, &ended),
-    );
-    Read { end, rose }
-}
-
-/// What is left of the jobs, the checker's loop and the reader.
-#[derive(Drop)]
-struct Run {
-    done: Vec<bool>,
-    read: Read,
-}
-
-/// The jobs, the checker's loop and the reader, in threads.
-fn run_and_read<R: Threads + Wait + Sync>(
-    rt: &R,
-    jobs: Vec<Job>,
-    inbox: CheckerInbox,
-    checker: Checker,
-    book: &Mutex<Book>,
-) -> Result<Run, AllocError>
-    requires { IsFreshFor inbox checker }
-{
-    let (done, read) = join(
-        rt,
-        || run_all(rt, jobs),
-        || -> Read
-            requires { IsFreshFor inbox checker }
-        { check_and_read(rt, inbox, checker, book) },
-    );
-    Ok(Run { done: done?, read })
-}
-
-/// A watch of sixteen processes runs, with this book.
-fn run_sixteen<R: Threads + Wait + Sync>(
+/// Runs the parts, says that they have ended, and looks at the ends.
+fn run_and_say<R: Threads + Wait + Sync + Abort>(
     rt: &R,
     alloc: Global,
+    parts: Parts<Process>,
     book: &Mutex<Book>,
-) -> Result<Run, AllocError> {
-    let plan = plain_plan(alloc, 16, 8, 4)?;
-    let Opened { watch, checker } = open(alloc, &plan)?;
-    let Watch {
-        probes,
-        relays,
-        inbox,
-    } = watch;
-    let jobs = jobs_of(alloc, probes, relays)?;
-    run_and_read(rt, jobs, inbox, checker, book)
+    ended: &AtomicBool,
+)
+    requires { IsFreshFor parts.checking.inbox parts.checking.checker }
+{
+    let course = Course {
+        snapshots: SNAPSHOTS,
+    };
+    let ends = run_parts(rt, alloc, parts, &course, book);
+    ended.store(true, Ordering::SeqCst);
+    assert_whole(rt, &ends.expect(rt, "threads"));
+}
+
+/// Runs the parts with this book, and reads in it meanwhile.
+fn run_and_read<R: Threads + Wait + Sync + Abort>(
+    rt: &R,
+    alloc: Global,
+    parts: Parts<Process>,
+    book: &Mutex<Book>,
+)
+    requires { IsFreshFor parts.checking.inbox parts.checking.checker }
+{
+    let ended = AtomicBool::new(false);
+    let ((), rose) = join(
+        rt,
+        || -> ()
+            requires { IsFreshFor parts.checking.inbox parts.checking.checker }
+        { run_and_say(rt, alloc, parts, book, &ended) },
+        || rises(rt, book, &ended),
+    );
+    assert!(rt; rose);
 }
 
 #[test]
-fn totals_never_fall_while_sixteen_probes_run(rt: HostRuntime) -> Result<(), Fail> {
+fn totals_never_fall_while_sixteen_probes_run(rt: HostRuntime) {
     let book = Mutex::new(Book::new(16));
-    let Run { done, read } = run_sixteen(&rt, rt.alloc(), &book)?;
-    assert!(rt; done.iter().all(|whole| *whole));
-    assert_eq!(rt; read.end.fault(), None);
-    assert!(rt; read.rose);
+    let parts = processes(&rt, rt.alloc(), 16);
+    run_and_read(&rt, rt.alloc(), parts, &book);
     let all = 16 * u64::from(SNAPSHOTS);
-    assert_eq!(rt;
-        book.into_inner().totals(),
-        Tally {
-            emitted: all,
-            taken: all
-        }
-    );
-    Ok(())
+    let whole = Tally {
+        emitted: all,
+        taken: all,
+    };
+    assert_eq!(rt; book.into_inner().totals(), whole);
 }

@@ -1,6 +1,6 @@
 //! A run whose threads can't all be made, since the address space has no room left for their stacks.
-ghost use Rattle.std.specs.Prelude.{IfOk};
-ghost use Rattle.wcp_model.specs.PlanFault.{IsCheckedPlan};
+ghost use Rattle.std.specs.Prelude.{◌<◌, ◌≤◌};
+ghost use Rattle.wcp_clock.specs.Limits.{most_processes};
 ghost use Rattle.wcp_watch.specs.CheckerEnds.{IsFreshFor};
 
 use super::watches::{Opened, emit_all, open};
@@ -11,7 +11,7 @@ use std::sync::atomic::Ordering::SeqCst;
 use std::sync::{Mutex, Wait};
 use std::thread::Threads;
 use wcp_book::Book;
-use wcp_model::{Plan, plain_plan};
+use wcp_model::plain_plan;
 use wcp_threads::{Part, RunsWith};
 use wcp_tree::{LiveProbe, ProbeEnd, Watch};
 use wcp_watch::{Checking, Parts, StartFault, run_parts};
@@ -67,20 +67,24 @@ impl RunsWith<AtomicU32, ProbeEnd> for Process {
     }
 }
 
-/// The parts of a watch of sixteen processes.
-pub fn sixteen_processes(alloc: Global) -> Result<Parts<Process>, AllocError>
-    ensures { IfOk result (λ parts. IsFreshFor parts.checking.inbox parts.checking.checker) }
+/// The parts of a watch of so many processes.
+pub fn processes(rt: &impl Abort, alloc: Global, n: u32) -> Parts<Process>
+    requires some { 1 ≤ n }
+    requires within { n ≤ most_processes }
+    ensures { IsFreshFor result.checking.inbox result.checking.checker }
 {
-    let plan = plain_plan(alloc, 16, 8, 4)?;
-    processes_of(alloc, &plan)
-}
-
-/// The parts of a watch of one process.
-fn one_process(alloc: Global) -> Result<Parts<Process>, AllocError>
-    ensures { IfOk result (λ parts. IsFreshFor parts.checking.inbox parts.checking.checker) }
-{
-    let plan = plain_plan(alloc, 1, 8, 4)?;
-    processes_of(alloc, &plan)
+    let plan = plain_plan(alloc, n, 8, 4).expect(rt, "memory");
+    let Opened { watch, checker } = open(rt, alloc, &plan);
+    let Watch {
+        probes,
+        relays,
+        inbox,
+    } = watch;
+    Parts {
+        workers: workers_of(alloc, probes).expect(rt, "memory"),
+        relays,
+        checking: Checking { inbox, checker },
+    }
 }
 
 fn workers_of(alloc: Global, probes: Vec<LiveProbe>) -> Result<Vec<Process>, AllocError> {
@@ -89,41 +93,6 @@ fn workers_of(alloc: Global, probes: Vec<LiveProbe>) -> Result<Vec<Process>, All
         workers.push(Process { probe })?;
     }
     Ok(workers)
-}
-
-fn processes_of(alloc: Global, plan: &Plan) -> Result<Parts<Process>, AllocError>
-    requires { IsCheckedPlan plan.now }
-    ensures { IfOk result (λ parts. IsFreshFor parts.checking.inbox parts.checking.checker) }
-{
-    let Opened { watch, checker } = open(alloc, plan)?;
-    let Watch {
-        probes,
-        relays,
-        inbox,
-    } = watch;
-    let workers = workers_of(alloc, probes)?;
-    Ok(Parts {
-        workers,
-        relays,
-        checking: Checking { inbox, checker },
-    })
-}
-
-/// The parts of a watch of one process, and those of one of sixteen.
-#[derive(Drop)]
-struct FewAndMany {
-    few: Parts<Process>,
-    many: Parts<Process>,
-}
-
-/// Both, before the address space is taken up.
-fn few_and_many(alloc: Global) -> Result<FewAndMany, AllocError>
-    ensures few { IfOk result (λ both. IsFreshFor both.few.checking.inbox both.few.checking.checker) }
-    ensures many { IfOk result (λ both. IsFreshFor both.many.checking.inbox both.many.checking.checker) }
-{
-    let few = one_process(alloc)?;
-    let many = sixteen_processes(alloc)?;
-    Ok(FewAndMany { few, many })
 }
 
 /// Takes up what is left of the address space but for the gap and what is spare.
@@ -143,24 +112,27 @@ struct Shared {
     book: Mutex<Book>,
 }
 
-/// Runs the few and then the many, gives the blocks back, and compares how both ended.
-fn run_both<R: Threads + Wait + Sync + Abort>(
+/// Runs these parts: how that was refused.
+fn refusal<R: Threads + Wait + Sync>(
     rt: &R,
-    parts: FewAndMany,
-    blocks: Vec<Vec<u8>>,
-    of_few: &Shared,
-    of_many: &Shared,
     alloc: Global,
-)
-    requires few { IsFreshFor parts.few.checking.inbox parts.few.checking.checker }
-    requires many { IsFreshFor parts.many.checking.inbox parts.many.checking.checker }
+    parts: Parts<Process>,
+    shared: &Shared,
+) -> Option<StartFault>
+    requires { IsFreshFor parts.checking.inbox parts.checking.checker }
 {
-    let FewAndMany { few, many } = parts;
-    let few_ended = run_parts(rt, alloc, few, &of_few.begun, &of_few.book);
-    let ended = run_parts(rt, alloc, many, &of_many.begun, &of_many.book);
-    drop(blocks);
-    assert_eq!(rt; few_ended.err(), None);
-    assert_eq!(rt; ended.err(), Some(StartFault::Spawn));
+    run_parts(rt, alloc, parts, &shared.begun, &shared.book).err()
+}
+
+/// What so many processes of a run share.
+fn shared_by(n: u32) -> Shared
+    requires some { 0 < n }
+    requires within { n ≤ most_processes }
+{
+    Shared {
+        begun: AtomicU32::new(0),
+        book: Mutex::new(Book::new(n)),
+    }
 }
 
 /// So many processes had begun.
@@ -171,17 +143,14 @@ fn assert_begun(rt: &impl Abort, shared: &Shared, begun: u32) {
 /// Threads can be made, since those of one process run; of those of sixteen one can't, and then none runs.
 #[test]
 fn nothing_runs_where_a_thread_is_refused(rt: HostRuntime) {
-    let parts = few_and_many(rt.alloc()).expect(&rt, "memory");
-    let of_few = Shared {
-        begun: AtomicU32::new(0),
-        book: Mutex::new(Book::new(1)),
-    };
-    let of_many = Shared {
-        begun: AtomicU32::new(0),
-        book: Mutex::new(Book::new(16)),
-    };
+    let (of_few, of_many) = (shared_by(1), shared_by(16));
+    let few = processes(&rt, rt.alloc(), 1);
+    let many = processes(&rt, rt.alloc(), 16);
     let blocks = take_up_but_gap(rt.alloc()).expect(&rt, "memory");
-    run_both(&rt, parts, blocks, &of_few, &of_many, rt.alloc());
+    let few = refusal(&rt, rt.alloc(), few, &of_few);
+    let many = refusal(&rt, rt.alloc(), many, &of_many);
+    drop(blocks);
+    assert_eq!(rt; (few, many), (None, Some(StartFault::Spawn)));
     assert_begun(&rt, &of_few, 1);
     assert_begun(&rt, &of_many, 0);
     assert_eq!(rt; of_many.book.into_inner().totals().taken, 0);

@@ -1,21 +1,21 @@
 //! Runs in each of which some process is lost somewhere. The report is that of a checker that took the notes that were
 //! put, which is a cut or undecided.
-ghost use Rattle.std.specs.Prelude.{◌<◌, IfOk};
+ghost use Rattle.std.specs.Prelude.{◌<◌};
 ghost use Rattle.wcp_model.specs.PlanFault.{IsCheckedPlan};
 ghost use Rattle.wcp_watch.specs.CheckerEnds.{IsFreshFor};
 
-use super::watches::{Opened, open, run_relay};
-use std::alloc::{AllocError, Global};
+use super::plans::plan_of;
+use super::watches::{Opened, open, run_whole};
+use std::alloc::Global;
 use std::process::Abort;
 use std::sync::{Mutex, Wait};
-use std::test::Fail;
 use std::thread::{Threads, join, map_vec};
 use wcp_book::Book;
 use wcp_clock::{CLOCK_LIMIT, Item, Note};
 use wcp_model::{Flag, Parent, Plan, ProbeSetup, Report, Watched};
 use wcp_probe::ProbeCore;
 use wcp_queue::Checker;
-use wcp_tree::{CheckerInbox, LiveProbe, Relay, RelayFault, Watch};
+use wcp_tree::{CheckerInbox, LiveProbe, Relay, Watch};
 use wcp_watch::{CheckFault, CheckerEnd, check_loop};
 
 /// How many runs there are.
@@ -63,58 +63,55 @@ struct Play {
 }
 
 /// Gives the checker the next note of a process.
-fn give(rt: &impl Abort, checker: &mut Checker, from: u32, note: Note) -> Result<(), AllocError> {
+fn give(rt: &impl Abort, checker: &mut Checker, from: u32, note: Note) {
     assert!(rt; from < checker.processes());
     assert!(rt; !checker.closed(from) && !checker.lost(from));
-    let place = note.place();
-    assert_eq!(rt; u64::from(place), checker.taken(from));
-    match checker.take(Item { from, note }) {
-        Ok(()) => Ok(()),
-        Err((error, _)) => Err(error),
-    }
+    assert_eq!(rt; u64::from(note.place()), checker.taken(from));
+    assert!(rt; checker.take(Item { from, note }).is_ok());
+}
+
+/// The probe, and beside it a core of the same process.
+fn twin_of(rt: &impl Abort, probe: LiveProbe) -> Twin {
+    let process = probe.id();
+    assert!(rt; process < PROCESSES);
+    let setup = ProbeSetup {
+        processes: PROCESSES,
+        process,
+        watched: true,
+        flag: Flag::Event,
+    };
+    let core = ProbeCore::new(7, setup, CLOCK_LIMIT);
+    Twin { probe, core }
 }
 
 impl Play {
     /// The run of this number, with these probes.
-    fn new(
-        rt: &impl Abort,
-        alloc: Global,
-        number: u64,
-        probes: Vec<LiveProbe>,
-    ) -> Result<Play, AllocError> {
+    fn new(rt: &impl Abort, alloc: Global, number: u64, probes: Vec<LiveProbe>) -> Play {
         let mut twins = Vec::new(alloc);
         for probe in probes {
-            let process = probe.id();
-            assert!(rt; process < PROCESSES);
-            let setup = ProbeSetup {
-                processes: PROCESSES,
-                process,
-                watched: true,
-                flag: Flag::Event,
-            };
-            let core = ProbeCore::new(7, setup, CLOCK_LIMIT);
-            twins.push(Twin { probe, core })?;
+            twins.push(twin_of(rt, probe)).expect(rt, "memory");
         }
-        Ok(Play {
+        let checker = Checker::new(alloc, PROCESSES, Watched::all(PROCESSES));
+        Play {
             draws: Draws { state: number },
             twins,
-            checker: Checker::new(alloc, PROCESSES, Watched::all(PROCESSES))?,
-        })
+            checker: checker.expect(rt, "memory"),
+        }
     }
 
     /// The process at this place observes that its condition holds.
-    fn observe(&mut self, rt: &(impl Abort + Wait), place: usize) -> Result<(), AllocError> {
+    fn observe(&mut self, rt: &(impl Abort + Wait), place: usize) {
         let Some(twin) = self.twins.get_mut(place) else {
-            return Ok(());
+            return;
         };
         twin.probe.observe(true);
         twin.probe.flush_in_watch(rt);
         let _ = twin.core.observe(true);
         let Some(note) = twin.core.pending().copied() else {
-            return Ok(());
+            return;
         };
         twin.core.was_put();
-        give(rt, &mut self.checker, twin.probe.id(), note)
+        give(rt, &mut self.checker, twin.probe.id(), note);
     }
 
     /// The process at one place sends a message, which that at another receives. `None` where one of them refuses it.
@@ -129,27 +126,25 @@ impl Play {
     }
 
     /// One of so many processes makes a call.
-    fn call(&mut self, rt: &(impl Abort + Wait), processes: u32) -> Result<(), AllocError>
+    fn call(&mut self, rt: &(impl Abort + Wait), processes: u32)
         requires { 0 < processes }
     {
         let place = self.draws.below(processes) as usize;
         if self.draws.below(3) == 0 {
-            return self.observe(rt, place);
+            self.observe(rt, place);
+        } else {
+            let to = self.draws.below(processes) as usize;
+            let _ = self.send(place, to);
         }
-        let to = self.draws.below(processes) as usize;
-        let _ = self.send(place, to);
-        Ok(())
     }
 
     /// So many processes make some calls.
-    fn go_on(&mut self, rt: &(impl Abort + Wait), processes: u32) -> Result<(), AllocError>
+    fn go_on(&mut self, rt: &(impl Abort + Wait), processes: u32)
         requires { 0 < processes }
     {
-        let calls = self.draws.below(CALLS);
-        for _ in 0..calls {
-            self.call(rt, processes)?;
+        for _ in 0..self.draws.below(CALLS) {
+            self.call(rt, processes);
         }
-        Ok(())
     }
 
     /// Some process is lost: its number.
@@ -163,53 +158,51 @@ impl Play {
     }
 
     /// The whole run: which process was lost, and what the notes tell that were put.
-    fn run(mut self, rt: &(impl Abort + Wait)) -> Result<(Option<u32>, Report), AllocError> {
-        self.go_on(rt, PROCESSES)?;
+    fn run(mut self, rt: &(impl Abort + Wait)) -> Played {
+        self.go_on(rt, PROCESSES);
         let lost = self.lose();
-        self.go_on(rt, PROCESSES - 1)?;
+        self.go_on(rt, PROCESSES - 1);
         for twin in self.twins {
             drop(twin.probe.close_in_watch(rt));
         }
-        Ok((lost, self.checker.report()))
+        Played {
+            lost,
+            told: self.checker.report(),
+        }
     }
 }
 
-/// Three processes under two leaves, which are under another relay.
-fn two_leaves(rt: &impl Abort, alloc: Global) -> Result<Plan, AllocError>
-    ensures { IfOk result IsCheckedPlan }
-{
-    let parents = vec![in alloc; Parent::Root, Parent::Relay(0), Parent::Relay(0)]?;
-    let attach = vec![in alloc; Some(1), Some(1), Some(2)]?;
-    let plan = Plan::new(PROCESSES, 32, 4, parents, attach, Watched::all(PROCESSES));
-    assert!(rt; plan.check().is_ok());
-    Ok(plan)
-}
-
-/// What is left of the relays and the processes of a run.
-#[derive(Drop)]
+/// What is left of the processes of a run.
+#[derive(Clone, Copy)]
 struct Played {
-    relays: Vec<Option<RelayFault>>,
     lost: Option<u32>,
     told: Report,
 }
 
+/// Three processes under two leaves, which are under another relay.
+fn two_leaves(rt: &impl Abort, alloc: Global) -> Plan
+    ensures { IsCheckedPlan result }
+{
+    let parents = [Parent::Root, Parent::Relay(0), Parent::Relay(0)];
+    plan_of(
+        rt,
+        alloc,
+        PROCESSES,
+        32,
+        &parents,
+        &[Some(1), Some(1), Some(2)],
+    )
+}
+
 /// The processes run in one thread, and each relay in one of its own.
-fn run_beside<R: Threads + Wait + Abort + Sync>(
-    rt: &R,
-    relays: Vec<Relay>,
-    play: Play,
-) -> Result<Played, AllocError> {
+fn run_beside<R: Threads + Wait + Abort + Sync>(rt: &R, relays: Vec<Relay>, play: Play) -> Played {
     let (relays, played) = join(
         rt,
-        || map_vec(rt, relays, &|relay: Relay| run_relay(rt, relay)),
+        || map_vec(rt, relays, &|relay: Relay| run_whole(rt, relay)),
         || play.run(rt),
     );
-    let (lost, told) = played?;
-    Ok(Played {
-        relays: relays?,
-        lost,
-        told,
-    })
+    drop(relays.expect(rt, "memory"));
+    played
 }
 
 /// What is left of a run.
@@ -226,7 +219,7 @@ fn run_checked<R: Threads + Wait + Abort + Sync>(
     checker: Checker,
     relays: Vec<Relay>,
     play: Play,
-) -> Result<Left, AllocError>
+) -> Left
     requires { IsFreshFor inbox checker }
 {
     let book = Mutex::new(Book::new(PROCESSES));
@@ -237,57 +230,42 @@ fn run_checked<R: Threads + Wait + Abort + Sync>(
         { check_loop(rt, inbox, checker, &book) },
         || run_beside(rt, relays, play),
     );
-    Ok(Left {
-        checker,
-        played: played?,
-    })
+    Left { checker, played }
 }
 
 /// The run of this number: the processes in one thread, and each relay and the checker's loop in one of its own.
-fn run_drawn<R: Threads + Wait + Abort + Sync>(
-    rt: &R,
-    alloc: Global,
-    number: u64,
-) -> Result<Left, AllocError> {
-    let plan = two_leaves(rt, alloc)?;
-    let Opened { watch, checker } = open(alloc, &plan)?;
+fn run_drawn<R: Threads + Wait + Abort + Sync>(rt: &R, alloc: Global, number: u64) -> Left {
+    let plan = two_leaves(rt, alloc);
+    let Opened { watch, checker } = open(rt, alloc, &plan);
     let Watch {
         probes,
         relays,
         inbox,
     } = watch;
-    let play = Play::new(rt, alloc, number, probes)?;
+    let play = Play::new(rt, alloc, number, probes);
     run_checked(rt, inbox, checker, relays, play)
 }
 
-/// The checker tells in this run what the notes tell that were put, and which process was lost. No relay met a fault.
-fn assert_told(rt: &impl Abort, number: u64, checker: &CheckerEnd, played: &Played) {
-    let lost = played.lost.map(CheckFault::Lost);
+/// The checker tells in this run what the notes tell that were put, and which process was lost.
+fn assert_told(rt: &impl Abort, number: u64, left: &Left) {
+    let Played { lost, told } = left.played;
     assert_eq!(rt;
-        (checker.report(), checker.fault()),
-        (played.told, lost),
+        (left.checker.report(), left.checker.fault()),
+        (told, lost.map(CheckFault::Lost)),
         "run {number}"
     );
-    assert!(rt;
-        played.told != Report::Nothing && lost.is_some(),
-        "run {number}"
-    );
-    assert!(rt;
-        played.relays.iter().all(|fault| fault.is_none()),
-        "run {number}"
-    );
+    assert!(rt; told != Report::Nothing && lost.is_some(), "run {number}");
 }
 
 #[test]
-fn each_run_of_a_thousand_ends_where_a_process_is_lost(rt: HostRuntime) -> Result<(), Fail> {
+fn each_run_of_a_thousand_ends_where_a_process_is_lost(rt: HostRuntime) {
     let mut found = 0u64;
     for number in 0..RUNS {
-        let left = run_drawn(&rt, rt.alloc(), number)?;
-        assert_told(&rt, number, &left.checker, &left.played);
+        let left = run_drawn(&rt, rt.alloc(), number);
+        assert_told(&rt, number, &left);
         if left.played.told != Report::Undecided {
             found = found.wrapping_add(1);
         }
     }
     assert!(rt; (100..RUNS - 100).contains(&found), "{found} cuts");
-    Ok(())
 }

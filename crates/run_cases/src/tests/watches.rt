@@ -5,11 +5,12 @@ ghost use Rattle.wcp_watch.specs.CheckerEnds.{IsFreshFor};
 ghost use Rattle.wcp_relay.specs.Watches.{IsWired};
 
 use std::alloc::{AllocError, Global};
+use std::process::Abort;
 use std::sync::{Mutex, Wait};
 use wcp_book::Book;
-use wcp_model::Plan;
+use wcp_model::{GlobalCut, Plan, Report, Tally};
 use wcp_queue::Checker;
-use wcp_tree::{CheckerInbox, LiveProbe, ProbeEnd, Relay, RelayFault, Watch, watch};
+use wcp_tree::{CheckerInbox, LiveProbe, ProbeEnd, Relay, Watch, watch};
 use wcp_watch::{CheckerEnd, check_loop};
 
 /// A watch, and a checker for its inbox.
@@ -20,15 +21,15 @@ pub struct Opened {
 }
 
 /// The watch of a plan, and a checker for its inbox. Where memory runs out, asking again makes them.
-pub fn open(alloc: Global, plan: &Plan) -> Result<Opened, AllocError>
+pub fn open(rt: &impl Abort, alloc: Global, plan: &Plan) -> Opened
     requires { IsCheckedPlan plan.now }
-    ensures fresh { IfOk result (λ opened. IsFreshFor opened.watch.inbox opened.checker) }
-    ensures wired { IfOk result (λ opened. IsWired plan.now 7 opened.watch) }
-    ensures watched { IfOk result (λ opened. opened.checker.watched ≡ plan.now.watched) }
+    ensures fresh { IsFreshFor result.watch.inbox result.checker }
+    ensures wired { IsWired plan.now 7 result.watch }
+    ensures watched { result.checker.watched ≡ plan.now.watched }
 {
     match open_once(alloc, plan) {
-        Ok(opened) => Ok(opened),
-        Err(_) => open_once(alloc, plan),
+        Ok(opened) => opened,
+        Err(_) => open_once(alloc, plan).expect(rt, "memory"),
     }
 }
 
@@ -51,7 +52,7 @@ pub struct Checked {
 }
 
 /// The checker's loop, which posts in this book.
-pub fn check(rt: &impl Wait, inbox: CheckerInbox, checker: Checker, book: Book) -> Checked
+fn check(rt: &impl Wait, inbox: CheckerInbox, checker: Checker, book: Book) -> Checked
     requires { IsFreshFor inbox checker }
 {
     let book = Mutex::new(book);
@@ -62,55 +63,72 @@ pub fn check(rt: &impl Wait, inbox: CheckerInbox, checker: Checker, book: Book) 
     }
 }
 
-/// Runs a relay: the fault that it meets.
-pub fn run_relay(rt: &impl Wait, relay: Relay) -> Option<RelayFault> {
-    relay.run(rt).fault()
+/// What a process does in a watch that runs in one thread: it emits so many snapshots, and then it closes or is lost.
+#[derive(Clone, Copy)]
+pub struct Course {
+    pub snapshots: u32,
+    pub closes: bool,
 }
 
-/// The first `count` relays run, the highest number first. The others are gone.
-fn run_first(rt: &impl Wait, mut relays: Vec<Relay>, count: usize) {
-    relays.truncate(count);
-    for relay in relays.into_iter().rev() {
-        let _ = run_relay(rt, relay);
-    }
-}
+/// It emits one snapshot, and closes.
+pub const ONCE: Course = Course {
+    snapshots: 1,
+    closes: true,
+};
 
-/// A watch that runs in one thread: each process emits one snapshot and closes, but for process 0 where `lost` says
-/// after how many it is lost. Then the first `count` relays run, the highest number first, and then the checker's loop,
-/// which posts in this book. The other relays are gone.
+/// The share of a process that emitted one snapshot.
+pub const ONE: Tally = Tally {
+    emitted: 1,
+    taken: 1,
+};
+
+/// A watch that runs in one thread: process 0 and then each of the others runs its course. Then the first `count`
+/// relays run, the highest number first, and meet no fault, and then the checker's loop, which posts in this book. The
+/// other relays are gone.
 pub fn run_in_one_thread(
-    rt: &impl Wait,
+    rt: &(impl Abort + Wait),
     alloc: Global,
-    plan: &Plan,
-    lost: Option<u32>,
+    plan: Plan,
+    first: Course,
+    others: Course,
     count: usize,
     book: Book,
-) -> Result<Checked, AllocError>
-    requires { IsCheckedPlan plan.now }
+) -> Checked
+    requires { IsCheckedPlan plan }
 {
-    let Opened { watch, checker } = open(alloc, plan)?;
+    let Opened { watch, checker } = open(rt, alloc, &plan);
     let Watch {
         probes,
         relays,
         inbox,
     } = watch;
-    emit_of_each(rt, probes, lost);
+    for probe in probes {
+        run_course(rt, probe, first, others);
+    }
     run_first(rt, relays, count);
-    Ok(check(rt, inbox, checker, book))
+    check(rt, inbox, checker, book)
 }
 
-/// Each process emits one snapshot and closes, but for process 0, which may be lost.
-fn emit_of_each(rt: &impl Wait, probes: Vec<LiveProbe>, lost: Option<u32>) {
-    for probe in probes {
-        emit_one(rt, probe, lost);
+/// The first `count` relays run, the highest number first. The others are gone.
+fn run_first(rt: &(impl Abort + Wait), mut relays: Vec<Relay>, count: usize) {
+    relays.truncate(count);
+    for relay in relays.into_iter().rev() {
+        run_whole(rt, relay);
     }
 }
 
-/// Emits one snapshot and closes, or is lost as process 0 after so many.
-fn emit_one(rt: &impl Wait, mut probe: LiveProbe, lost: Option<u32>) {
-    match lost {
-        Some(snapshots) if probe.id() == 0 => emit(rt, &mut probe, snapshots),
-        _ => drop(emit_all(rt, probe, 1)),
+/// Runs a relay, which meets no fault.
+pub fn run_whole(rt: &(impl Abort + Wait), relay: Relay) {
+    assert_eq!(rt; relay.run(rt).fault(), None);
+}
+
+/// The process of this probe runs its course: the first, or that of the others.
+fn run_course(rt: &impl Wait, probe: LiveProbe, first: Course, others: Course) {
+    let course = if probe.id() == 0 { first } else { others };
+    if course.closes {
+        drop(emit_all(rt, probe, course.snapshots));
+    } else {
+        emit_and_drop(rt, probe, course.snapshots);
     }
 }
 
@@ -118,6 +136,11 @@ fn emit_one(rt: &impl Wait, mut probe: LiveProbe, lost: Option<u32>) {
 pub fn emit_all(rt: &impl Wait, mut probe: LiveProbe, snapshots: u32) -> ProbeEnd {
     emit(rt, &mut probe, snapshots);
     probe.close_in_watch(rt)
+}
+
+/// Emits so many snapshots, with a send behind each, and is lost.
+fn emit_and_drop(rt: &impl Wait, mut probe: LiveProbe, snapshots: u32) {
+    emit(rt, &mut probe, snapshots);
 }
 
 /// Emits so many snapshots, with a send behind each.
@@ -128,4 +151,28 @@ fn emit(rt: &impl Wait, probe: &mut LiveProbe, snapshots: u32) {
         probe.flush_in_watch(rt);
         let _ = probe.stamp(to, ());
     }
+}
+
+/// The report of two processes that have sent and received nothing.
+pub fn found() -> Report {
+    Report::Found(GlobalCut::new(&[Some(0), Some(0)]))
+}
+
+/// The loop left this report; its book tells a cut just where that is one, has these shares of processes 0 and 1, and
+/// has ended.
+pub fn assert_left(
+    rt: &impl Abort,
+    left: &Checked,
+    report: Report,
+    first: Option<Tally>,
+    second: Option<Tally>,
+) {
+    let told = match left.book.found() {
+        Some(cut) => Report::Found(cut),
+        None => Report::Undecided,
+    };
+    assert_eq!(rt; left.end.report(), report);
+    assert_eq!(rt; told, report);
+    assert_eq!(rt; (left.book.share(0), left.book.share(1)), (first, second));
+    assert!(rt; left.book.has_ended());
 }
