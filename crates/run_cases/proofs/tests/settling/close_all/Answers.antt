@@ -10,10 +10,10 @@ loop-probe-preserved-in-Continue-branch-2 c =
     (Some c.in-Some.probe) c.in-Some.ensures.items c.loop-probe.invariant.0 in (
       split.0,
       subst (All (IsEndOfSomeProbe all)) (sym c.in_ok-push.ensures.items) (All-push
-          (IsEndOfSomeProbe all) c.loop-probe.ends.items c.in-Some-emit_one.end c.loop-probe.invariant.1 (record {
+          (IsEndOfSomeProbe all) c.loop-probe.ends.items c.in-Some-emit_or_lose.end c.loop-probe.invariant.1 (record {
             probe = c.in-Some.probe;
-            is_probe = ap (slice_get all) c.in-Some-emit_one.ensures.0 ∙ split.1;
-            one_ring = c.in-Some-emit_one.ensures.1;
+            is_probe = ap (slice_get all) c.in-Some-emit_or_lose.ensures.0 ∙ split.1;
+            one_ring = c.in-Some-emit_or_lose.ensures.1;
           })),
     )
 
