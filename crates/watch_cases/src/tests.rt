@@ -1,5 +1,4 @@
 mod asked_again;
 mod lost;
 mod opened;
-mod opened_lost;
 mod waiting;

@@ -1,7 +1,7 @@
 //! A watch that is asked again where it was refused memory or a thread.
 use std::alloc::Global;
+use std::process::Abort;
 use std::sync::{Mutex, Wait};
-use std::test::Fail;
 use std::thread::Threads;
 use wullaphi::{
     Book, LentProbe, Loan, Outcome, Plan, Process, Report, Tallies, Tally, WatchFault,
@@ -59,12 +59,14 @@ fn watch_again<R: Threads + Wait + Sync>(
     }
 }
 
-#[test]
-fn a_watch_that_was_refused_can_be_asked_again(rt: HostRuntime) -> Result<(), Fail> {
-    let alloc = rt.alloc();
-    let plan = plain_plan(alloc, 2, 8, 4).or_else(|_| plain_plan(alloc, 2, 8, 4))?;
-    let book = Mutex::new(Book::new(2));
-    let watched = watch_again(&rt, alloc, &plan, &book)?;
+/// A plan of two processes. Where memory runs out, asking again makes it.
+fn plan_of_two(rt: &impl Abort, alloc: Global) -> Plan {
+    let plan = plain_plan(alloc, 2, 8, 4).or_else(|_| plain_plan(alloc, 2, 8, 4));
+    plan.expect(rt, "memory")
+}
+
+/// The outcome of such a watch: all that the first process put was taken, and there is no cut.
+fn assert_told(rt: &impl Abort, watched: &WatchOutcome<u32>) {
     let snapshots = u64::from(OFTEN);
     let often = Tally {
         emitted: snapshots,
@@ -78,8 +80,14 @@ fn a_watch_that_was_refused_can_be_asked_again(rt: HostRuntime) -> Result<(), Fa
         report: Report::Nothing,
         tallies: Tallies::new(&[often, never]),
     };
-    assert_eq!(rt; watched.outcome, outcome);
-    assert_eq!(rt; watched.totals, often);
+    assert_eq!(rt; (watched.outcome, watched.totals), (outcome, often));
     assert_eq!(rt; watched.answers.as_slice(), [OFTEN, 0].as_slice());
-    Ok(())
+}
+
+#[test]
+fn a_watch_that_was_refused_can_be_asked_again(rt: HostRuntime) {
+    let plan = plan_of_two(&rt, rt.alloc());
+    let book = Mutex::new(Book::new(2));
+    let watched = watch_again(&rt, rt.alloc(), &plan, &book).expect(&rt, "a watch");
+    assert_told(&rt, &watched);
 }

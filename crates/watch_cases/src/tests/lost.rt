@@ -1,5 +1,6 @@
 //! Watches of processes of which some are lost.
 use std::alloc::Global;
+use std::process::Abort;
 use std::sync::{Mutex, Wait};
 use std::test::Fail;
 use std::thread::Threads;
@@ -46,15 +47,26 @@ impl LosableProcess for Member {
 }
 
 /// Watches three such processes.
-fn watch<R: Threads + Wait + Sync>(
+fn watch<R: Threads + Wait + Sync + Abort>(
     rt: &R,
     alloc: Global,
     members: [Member; 3],
 ) -> Result<WatchOutcome<bool>, WatchFault> {
-    let members = members.to_vec(alloc)?;
-    let plan = plain_plan(alloc, 3, 8, 4)?;
+    let plan = plain_plan(alloc, 3, 8, 4).expect(rt, "memory");
+    let members = members.to_vec(alloc).expect(rt, "memory");
     let book = Mutex::new(Book::new(3));
     watch_processes(rt, alloc, &plan, 1, members, &(), &book)
+}
+
+/// What the watch of these tells: a report, or a fault.
+fn assert_told<R: Threads + Wait + Sync + Abort>(
+    rt: &R,
+    alloc: Global,
+    members: [Member; 3],
+    told: Result<Report, WatchFault>,
+) {
+    let watched = watch(rt, alloc, members).map(|watched| watched.outcome.report);
+    assert_eq!(rt; watched, told, "{members:?}");
 }
 
 /// The cut of three processes that have sent and received nothing.
@@ -63,29 +75,32 @@ fn found() -> Report {
 }
 
 #[test]
-fn processes_that_are_done_are_told_as_ever(rt: HostRuntime) -> Result<(), Fail> {
-    let watched = watch(&rt, rt.alloc(), [Member::Whole; 3])?;
-    assert_eq!(rt; watched.outcome.report, found());
-    Ok(())
+fn processes_that_are_done_are_told_as_ever(rt: HostRuntime) {
+    assert_told(&rt, rt.alloc(), [Member::Whole; 3], Ok(found()));
+}
+
+/// This process is lost, and the report is this one.
+fn lost(process: u32, report: Report) -> Result<Report, WatchFault> {
+    Err(WatchFault::Lost { process, report })
 }
 
 /// What a lost process put counts. Whether there is a cut with what it went on to isn't known.
 #[test]
-fn the_lowest_lost_process_is_told_with_what_is_known(rt: HostRuntime) -> Result<(), Fail> {
-    let [whole, lost, absent] = [Member::Whole, Member::Lost, Member::Absent];
-    for (members, process, report) in [
-        ([whole, lost, whole], 1, found()),
-        ([whole, whole, absent], 2, Report::Undecided),
-        ([whole, lost, absent], 1, Report::Undecided),
-    ] {
-        let fault = watch(&rt, rt.alloc(), members).err();
-        assert_eq!(rt;
-            fault,
-            Some(WatchFault::Lost { process, report }),
-            "{members:?}"
-        );
-    }
-    Ok(())
+fn the_lowest_lost_process_is_told_with_what_is_known(rt: HostRuntime) {
+    let [whole, other, absent] = [Member::Whole, Member::Lost, Member::Absent];
+    assert_told(&rt, rt.alloc(), [whole, other, whole], lost(1, found()));
+    assert_told(
+        &rt,
+        rt.alloc(),
+        [whole, whole, absent],
+        lost(2, Report::Undecided),
+    );
+    assert_told(
+        &rt,
+        rt.alloc(),
+        [whole, other, absent],
+        lost(1, Report::Undecided),
+    );
 }
 
 #[test]

@@ -1,23 +1,23 @@
-//! Watches whose threads are run here, and whose ends settle by themselves.
+//! Watches whose threads are run here, and whose ends settle by themselves, unless process 0 is lost.
 ghost use Rattle.std.specs.Prelude.{◌≡◌, Some};
 
+use super::lost::Member;
 use std::alloc::Global;
 use std::marker::Brand;
 use std::process::Abort;
 use std::sync::{Mutex, Wait};
-use std::test::Fail;
 use std::thread::{Threads, join};
 use wullaphi::{
     Book, GlobalCut, LentProbe, Loan, Opening, Outcome, Plan, Process, Report, SettleFault,
-    Tallies, Tally, Watch, WatchChecker, WatchCheckerEnd, WatchEnds, WatchFault, WatchParts,
-    WatchProbe, WatchProbeEnd, WatchRelay, WatchRelayEnd, plain_plan, watch_processes,
+    Tallies, Tally, Watch, WatchChecker, WatchCheckerEnd, WatchEnds, WatchParts, WatchProbe,
+    WatchProbeEnd, WatchRelay, WatchRelayEnd, plain_plan, watch_processes,
 };
 
 /// A process that is true once.
 #[derive(Drop)]
-struct Member;
+struct True;
 
-impl Process for Member {
+impl Process for True {
     type Shared = ();
 
     type Answer = ();
@@ -27,26 +27,45 @@ impl Process for Member {
     }
 }
 
-/// What is left of a watch of two processes.
+/// What the checker's end tells, and what the ends are settled to.
+#[derive(Clone, Copy, Debug, PartialEq, Eq)]
+struct Told {
+    report: Report,
+    lost: Option<u32>,
+    settled: Result<Outcome, SettleFault>,
+}
+
+/// What is left of a watch of two processes, of which the first may have no end.
 #[derive(Drop)]
 struct Left<W: Opening> {
-    first: WatchProbeEnd<W>,
+    first: Option<WatchProbeEnd<W>>,
     second: WatchProbeEnd<W>,
     relay: WatchRelayEnd<W>,
     checker: WatchCheckerEnd<W>,
 }
 
-/// Runs a member with this probe.
-fn run_member<W: Opening, R: Wait>(rt: &R, probe: WatchProbe<W>) -> WatchProbeEnd<W> {
-    let ((), end) = probe.run(rt, Member, &());
+/// Runs a member with this probe, or drops the probe in place of that.
+fn run_first<W: Opening, R: Wait>(
+    rt: &R,
+    probe: WatchProbe<W>,
+    member: Option<Member>,
+) -> Option<WatchProbeEnd<W>> {
+    let (_, end) = probe.run_or_lose(rt, member?, &());
     end
 }
 
-/// Runs two members, the relay and the checker, in four threads. Where one can't be made its part is run after those
-/// that it waits for: the links have room for all that the members emit.
+/// Runs a process that is true once with this probe.
+fn run_second<W: Opening, R: Wait>(rt: &R, probe: WatchProbe<W>) -> WatchProbeEnd<W> {
+    let ((), end) = probe.run(rt, True, &());
+    end
+}
+
+/// Runs this member as process 0, another as process 1, the relay and the checker, in four threads. Where one can't be
+/// made its part is run after those that it waits for: the links have room for all that the members emit.
 fn run_all<W: Opening + Send + Sync, R: Threads + Wait + Sync>(
     rt: &R,
     first: WatchProbe<W>,
+    member: Option<Member>,
     second: WatchProbe<W>,
     relay: WatchRelay<W>,
     checker: WatchChecker<W>,
@@ -59,8 +78,8 @@ fn run_all<W: Opening + Send + Sync, R: Threads + Wait + Sync>(
             relay.run_beside(rt, move || {
                 join(
                     rt,
-                    move || run_member(rt, first),
-                    move || run_member(rt, second),
+                    move || run_first(rt, first, member),
+                    move || run_second(rt, second),
                 )
             })
         },
@@ -73,30 +92,34 @@ fn run_all<W: Opening + Send + Sync, R: Threads + Wait + Sync>(
     }
 }
 
-/// Settles what is left of a watch, with the end of the second process or without.
+/// Settles what is left of a watch, and gives what its checker's end tells with that.
 fn settled<W: Opening, R: Abort>(
     rt: &R,
     mut ends: WatchEnds<W>,
     left: Left<W>,
     book: Book,
-    with_second: bool,
-) -> Result<Outcome, SettleFault> {
+) -> Told {
+    let (report, lost) = (left.checker.report(), left.checker.lost());
     ends.add_checker(left.checker);
     ends.add_relay(left.relay).expect(rt, "memory");
-    ends.add_probe(left.first).expect(rt, "memory");
-    if with_second {
-        ends.add_probe(left.second).expect(rt, "memory");
+    ends.add_probe(left.second).expect(rt, "memory");
+    if let Some(first) = left.first {
+        ends.add_probe(first).expect(rt, "memory");
     }
-    ends.settle(book)
+    Told {
+        report,
+        lost,
+        settled: ends.settle(book),
+    }
 }
 
-/// Runs a watch of two processes, and settles it, with the end of the second process or without.
+/// Runs a watch of two processes, of which this member is the first, and settles it.
 fn watched<W: Opening + Send + Sync, R: Threads + Wait + Sync + Abort>(
     rt: &R,
     alloc: Global,
     watch: Watch,
-    with_second: bool,
-) -> Result<Outcome, WatchFault>
+    member: Option<Member>,
+) -> Told
     requires { W.opened ≡ Some watch }
 {
     let book = Mutex::new(watch.book());
@@ -105,46 +128,77 @@ fn watched<W: Opening + Send + Sync, R: Threads + Wait + Sync + Abort>(
         mut relays,
         checker,
         ends,
-    } = watch.parts::<W>(alloc)?;
+    } = watch.parts::<W>(alloc).expect(rt, "memory");
     let second = probes.pop().expect(rt, "the probe of process 1");
     let first = probes.pop().expect(rt, "the probe of process 0");
     let relay = relays.pop().expect(rt, "a relay");
-    let left = run_all(rt, first, second, relay, checker, &book);
-    Ok(settled(rt, ends, left, book.into_inner(), with_second)?)
+    let left = run_all(rt, first, member, second, relay, checker, &book);
+    settled(rt, ends, left, book.into_inner())
 }
 
-/// Opens a watch of this plan, and runs it here.
-fn opened<R: Threads + Wait + Sync + Abort>(
-    rt: &R,
-    alloc: Global,
-    plan: &Plan,
-    with_second: bool,
-) -> Result<Outcome, WatchFault> {
-    let watch = Watch::open(alloc, plan, 1)?;
-    watched::<Brand, R>(rt, alloc, watch, with_second)
+/// A plan of two processes.
+fn plan_of_two(rt: &impl Abort, alloc: Global) -> Plan {
+    plain_plan(alloc, 2, 8, 4).expect(rt, "memory")
+}
+
+/// Opens a watch of two processes, and runs it here.
+fn opened<R: Threads + Wait + Sync + Abort>(rt: &R, alloc: Global, member: Option<Member>) -> Told {
+    let plan = plan_of_two(rt, alloc);
+    let watch = Watch::open(alloc, &plan, 1).expect(rt, "memory");
+    watched::<Brand, R>(rt, alloc, watch, member)
+}
+
+/// What `watch_processes` tells of two processes that are true once.
+fn called<R: Threads + Wait + Sync + Abort>(rt: &R, alloc: Global) -> Outcome {
+    let plan = plan_of_two(rt, alloc);
+    let book = Mutex::new(Book::new(2));
+    let both = vec![in alloc; True, True].expect(rt, "memory");
+    let watched = watch_processes(rt, alloc, &plan, 1, both, &(), &book);
+    watched.expect(rt, "a watch").outcome
+}
+
+/// The cut of two processes that have sent and received nothing.
+fn found() -> Report {
+    Report::Found(GlobalCut::new(&[Some(0), Some(0)]))
 }
 
 #[test]
-fn threads_of_ones_own_tell_what_the_call_tells_unless_an_end_is_left_out(
-    rt: HostRuntime,
-) -> Result<(), Fail> {
-    let alloc = rt.alloc();
-    let plan = plain_plan(alloc, 2, 8, 4)?;
-    let own = opened(&rt, alloc, &plan, true)?;
+fn threads_of_ones_own_tell_what_the_call_tells(rt: HostRuntime) {
     let once = Tally {
         emitted: 1,
         taken: 1,
     };
     let outcome = Outcome {
-        report: Report::Found(GlobalCut::new(&[Some(0), Some(0)])),
+        report: found(),
         tallies: Tallies::new(&[once, once]),
     };
-    assert_eq!(rt; own, outcome);
-    let book = Mutex::new(Book::new(2));
-    let members = vec![in alloc; Member, Member]?;
-    let watched = watch_processes(&rt, alloc, &plan, 1, members, &(), &book)?;
-    assert_eq!(rt; watched.outcome, own);
-    let without = opened(&rt, alloc, &plan, false).err();
-    assert_eq!(rt; without, Some(WatchFault::Settle(SettleFault::Missing)));
-    Ok(())
+    let told = Told {
+        report: found(),
+        lost: None,
+        settled: Ok(outcome),
+    };
+    assert_eq!(rt; opened(&rt, rt.alloc(), Some(Member::Whole)), told);
+    assert_eq!(rt; called(&rt, rt.alloc()), outcome);
+}
+
+/// Where this member is process 0, it is lost, the report is this one, and the ends lack its own.
+fn assert_lost<R: Threads + Wait + Sync + Abort>(
+    rt: &R,
+    alloc: Global,
+    member: Option<Member>,
+    report: Report,
+) {
+    let told = Told {
+        report,
+        lost: Some(0),
+        settled: Err(SettleFault::Missing),
+    };
+    assert_eq!(rt; opened(rt, alloc, member), told, "{member:?}");
+}
+
+#[test]
+fn a_lost_process_of_threads_of_ones_own_has_no_end(rt: HostRuntime) {
+    assert_lost(&rt, rt.alloc(), Some(Member::Lost), found());
+    assert_lost(&rt, rt.alloc(), Some(Member::Absent), Report::Undecided);
+    assert_lost(&rt, rt.alloc(), None, Report::Undecided);
 }

@@ -1,15 +1,15 @@
 //! Threads that sleep until the cut of a watch is told, or the watch has ended.
 use std::alloc::{AllocError, Global};
+use std::process::Abort;
 use std::sync::{Mutex, Wait};
-use std::test::Fail;
 use std::thread::{Threads, join};
 use wullaphi::{
-    Book, GlobalCut, LentProbe, Loan, Process, Report, WatchFault, WatchOutcome, plain_plan,
+    Book, GlobalCut, LentProbe, Loan, Plan, Process, Report, WatchFault, WatchOutcome, plain_plan,
     wait_for_cut, watch_processes,
 };
 
 /// A process of a watch whose cut is waited for.
-#[derive(Drop)]
+#[derive(Clone, Copy)]
 enum Member {
     /// It is true, and goes on until it has learnt of the cut, which it answers.
     Eager(Global),
@@ -48,31 +48,50 @@ fn cut_of<R: Wait>(
     }
 }
 
-/// Watches these members as two processes, and beside them waits for the cut in a thread of its own.
-fn watch_and_wait<R: Threads + Wait + Sync>(
-    rt: &R,
-    alloc: Global,
-    members: Vec<Member>,
-    book: &Mutex<Book>,
-) -> Result<(WatchOutcome<Option<GlobalCut>>, Option<GlobalCut>), WatchFault> {
-    let plan = plain_plan(alloc, 2, 8, 4)?;
-    let (watched, told) = join(
-        rt,
-        || watch_processes(rt, alloc, &plan, 1, members, book, book),
-        || cut_of(rt, alloc, book),
-    );
-    Ok((watched?, told?))
+/// Waits for the cut, and compares it.
+fn assert_cut<R: Wait + Abort>(rt: &R, alloc: Global, book: &Mutex<Book>, cut: Option<GlobalCut>) {
+    assert_eq!(rt; cut_of(rt, alloc, book), Ok(cut));
 }
 
-/// The report of such a watch, and what the thread beside it was told.
-fn told_by<R: Threads + Wait + Sync>(
+/// A plan of two processes.
+fn two(rt: &impl Abort, alloc: Global) -> Plan {
+    plain_plan(alloc, 2, 8, 4).expect(rt, "memory")
+}
+
+/// Watches so many of this member as two processes.
+fn watch<R: Threads + Wait + Sync + Abort>(
     rt: &R,
     alloc: Global,
-    members: Vec<Member>,
+    member: Member,
+    count: usize,
     book: &Mutex<Book>,
-) -> Result<(Report, Option<GlobalCut>), WatchFault> {
-    let (watched, told) = watch_and_wait(rt, alloc, members, book)?;
-    Ok((watched.outcome.report, told))
+) -> Result<WatchOutcome<Option<GlobalCut>>, WatchFault> {
+    let plan = two(rt, alloc);
+    let members = vec![in alloc; member; count].expect(rt, "memory");
+    watch_processes(rt, alloc, &plan, 1, members, book, book)
+}
+
+/// Watches two of this member, and beside them waits for the cut in a thread of its own. What the members answer and
+/// that thread is told is this cut, if it is one, and the report is that of it.
+fn assert_told<R: Threads + Wait + Sync + Abort>(
+    rt: &R,
+    alloc: Global,
+    member: Member,
+    book: &Mutex<Book>,
+    cut: Option<GlobalCut>,
+) {
+    let (watched, ()) = join(
+        rt,
+        || watch(rt, alloc, member, 2, book).expect(rt, "a watch"),
+        || assert_cut(rt, alloc, book, cut),
+    );
+    assert_eq!(rt;
+        watched.outcome.report,
+        cut.map_or(Report::Nothing, Report::Found)
+    );
+    let again = cut;
+    assert_eq!(rt; watched.answers.as_slice(), [cut, again].as_slice());
+    assert!(rt; book.lock(rt).has_ended());
 }
 
 /// The cut of two processes that have sent and received nothing.
@@ -81,49 +100,38 @@ fn first_cut() -> GlobalCut {
 }
 
 #[test]
-fn processes_and_another_thread_learn_of_the_cut(rt: HostRuntime) -> Result<(), Fail> {
-    let alloc = rt.alloc();
+fn processes_and_another_thread_learn_of_the_cut(rt: HostRuntime) {
     let book = Mutex::new(Book::new(2));
-    let eager = vec![in alloc; Member::Eager(alloc), Member::Eager(alloc)]?;
-    let (watched, told) = watch_and_wait(&rt, alloc, eager, &book)?;
-    let cut = first_cut();
-    assert_eq!(rt; watched.outcome.report, Report::Found(cut));
-    assert_eq!(rt;
-        watched.answers.as_slice(),
-        [Some(cut), Some(cut)].as_slice()
+    assert_told(
+        &rt,
+        rt.alloc(),
+        Member::Eager(rt.alloc()),
+        &book,
+        Some(first_cut()),
     );
-    assert_eq!(rt; told, Some(cut));
-    assert!(rt; book.into_inner().has_ended());
-    Ok(())
 }
 
 #[test]
-fn a_watch_over_the_same_book_is_waited_for_anew(rt: HostRuntime) -> Result<(), Fail> {
-    let alloc = rt.alloc();
+fn a_watch_over_the_same_book_is_waited_for_anew(rt: HostRuntime) {
     let book = Mutex::new(Book::new(2));
-    let idle = vec![in alloc; Member::Idle, Member::Idle]?;
-    assert_eq!(rt; told_by(&rt, alloc, idle, &book)?, (Report::Nothing, None));
-    assert_eq!(rt; cut_of(&rt, alloc, &book)?, None);
+    assert_told(&rt, rt.alloc(), Member::Idle, &book, None);
+    assert_cut(&rt, rt.alloc(), &book, None);
     book.lock(&rt).begin(2);
-    let eager = vec![in alloc; Member::Eager(alloc), Member::Eager(alloc)]?;
-    let cut = first_cut();
-    assert_eq!(rt;
-        told_by(&rt, alloc, eager, &book)?,
-        (Report::Found(cut), Some(cut))
+    assert_told(
+        &rt,
+        rt.alloc(),
+        Member::Eager(rt.alloc()),
+        &book,
+        Some(first_cut()),
     );
-    Ok(())
 }
 
 /// A plan of two processes, with one process.
 #[test]
-fn a_watch_that_does_not_begin_ends_the_book(rt: HostRuntime) -> Result<(), Fail> {
-    let alloc = rt.alloc();
-    let plan = plain_plan(alloc, 2, 8, 4)?;
+fn a_watch_that_does_not_begin_ends_the_book(rt: HostRuntime) {
     let book = Mutex::new(Book::new(2));
-    let one = vec![in alloc; Member::Idle]?;
-    let refused = watch_processes(&rt, alloc, &plan, 1, one, &book, &book);
+    let refused = watch(&rt, rt.alloc(), Member::Idle, 1, &book);
     assert_eq!(rt; refused.err(), Some(WatchFault::Count));
     assert!(rt; book.lock(&rt).has_ended());
-    assert_eq!(rt; cut_of(&rt, alloc, &book)?, None);
-    Ok(())
+    assert_cut(&rt, rt.alloc(), &book, None);
 }
