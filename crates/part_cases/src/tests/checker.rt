@@ -2,9 +2,9 @@ ghost use Rattle.std.specs.Prelude.{◌≤◌};
 ghost use Rattle.wcp_clock.specs.Limits.{most_processes};
 ghost use Rattle.wcp_script.specs.Ring.{most_rounds};
 
-use std::alloc::{AllocError, Global};
+use Given::{Close, First, Lost, Starved};
+use std::alloc::Global;
 use std::process::Abort;
-use std::test::Fail;
 use wcp_clock::{CLOCK_LIMIT, Clock, Item, Note};
 use wcp_model::{Action, Flag, GlobalCut, ProbeSetup, Report, Task, Watched};
 use wcp_probe::{ProbeCore, Stamped};
@@ -12,10 +12,10 @@ use wcp_queue::Checker;
 use wcp_script::ring_workload;
 
 /// A checker of two processes. Where memory runs out, asking again makes it.
-fn checker_of_two(alloc: Global) -> Result<Checker, AllocError> {
+fn checker_of_two(rt: &impl Abort, alloc: Global) -> Checker {
     match Checker::new(alloc, 2, Watched::all(2)) {
-        Ok(checker) => Ok(checker),
-        Err(_) => Checker::new(alloc, 2, Watched::all(2)),
+        Ok(checker) => checker,
+        Err(_) => Checker::new(alloc, 2, Watched::all(2)).expect(rt, "memory"),
     }
 }
 
@@ -36,39 +36,46 @@ fn takes(rt: &impl Abort, checker: &mut Checker, item: &Item) -> bool {
     }
 }
 
-/// Takes a snapshot. Where memory runs out, asking again takes it.
-fn take(rt: &impl Abort, checker: &mut Checker, from: u32, number: u32, clock: Clock) {
-    let item = Item {
+/// Takes an item. Where memory runs out, asking again takes it.
+fn take(rt: &impl Abort, checker: &mut Checker, item: &Item) {
+    if !takes(rt, checker, item) {
+        assert!(rt; takes(rt, checker, item));
+    }
+}
+
+fn snapshot(from: u32, number: u32, clock: Clock) -> Item {
+    Item {
         from,
         note: Note::Snap { number, clock },
-    };
-    if !takes(rt, checker, &item) {
-        assert!(rt; takes(rt, checker, &item));
+    }
+}
+
+/// A snapshot before any event.
+fn first_snapshot() -> Note {
+    Note::Snap {
+        number: 0,
+        clock: Clock::new(2),
     }
 }
 
 /// Takes a snapshot of process 0 before and after each of its sends; its clock after the last.
-fn take_sends(rt: &impl Abort, checker: &mut Checker, sends: u32) -> Option<Clock> {
+fn take_sends(rt: &impl Abort, checker: &mut Checker, sends: u32) -> Clock {
     let mut sent = Clock::new(2);
     for number in 0..sends {
-        take(rt, checker, 0, number, sent);
+        take(rt, checker, &snapshot(0, number, sent));
         assert_eq!(rt; sent.len(), 2);
-        if !sent.tick(0, sends) {
-            return None;
-        }
+        assert!(rt; sent.tick(0, sends));
     }
-    take(rt, checker, 0, sends, sent);
-    Some(sent)
+    take(rt, checker, &snapshot(0, sends, sent));
+    sent
 }
 
 /// The clock of process 1 after it received a message with this one.
-fn received(rt: &impl Abort, sent: &Clock) -> Option<Clock> {
+fn received(rt: &impl Abort, sent: &Clock) -> Clock {
     let mut first = Clock::new(2);
-    if !first.tick(1, 1) {
-        return None;
-    }
+    assert!(rt; first.tick(1, 1));
     assert!(rt; first.len() == 2 && sent.len() == 2);
-    Some(first.merge(sent))
+    first.merge(sent)
 }
 
 /// Compares the report of a checker.
@@ -76,35 +83,21 @@ fn assert_report(rt: &impl Abort, checker: &Checker, report: Report) {
     assert_eq!(rt; checker.report(), report);
 }
 
-/// A checker is of two processes, of which it took so many snapshots.
-fn assert_taken(rt: &impl Abort, checker: &Checker, first: u64, second: u64) {
-    assert_eq!(rt; checker.processes(), 2);
-    assert_eq!(rt; (checker.taken(0), checker.taken(1)), (first, second));
-}
-
-/// Takes the snapshots of so many sends of process 0, and then that of process 1 after it received the last message.
-fn take_both(rt: &impl Abort, checker: &mut Checker, sends: u32) -> Option<()> {
-    let sent = take_sends(rt, checker, sends)?;
-    let clock = received(rt, &sent)?;
-    take(rt, checker, 1, 0, clock);
-    Some(())
-}
-
 /// Process 0 takes a snapshot before and after each of its sends, and process 1 one after it
 /// received the last. Each head of process 0 but the last precedes that of process 1.
+fn check_sends(rt: &impl Abort, alloc: Global, sends: u32) {
+    let mut checker = checker_of_two(rt, alloc);
+    let sent = take_sends(rt, &mut checker, sends);
+    assert_report(rt, &checker, Report::Undecided);
+    take(rt, &mut checker, &snapshot(1, 0, received(rt, &sent)));
+    let cut = GlobalCut::new(&[Some(sends), Some(1)]);
+    assert_report(rt, &checker, Report::Found(cut));
+}
+
 #[test]
-fn a_head_that_precedes_another_is_dropped(rt: HostRuntime) -> Result<(), Fail> {
-    for sends in [1, 20] {
-        let mut checker = checker_of_two(rt.alloc())?;
-        assert_taken(&rt, &checker, 0, 0);
-        assert_report(&rt, &checker, Report::Undecided);
-        take_both(&rt, &mut checker, sends).ok_or("the clock's end")?;
-        let cut = GlobalCut::new(&[Some(sends), Some(1)]);
-        assert_report(&rt, &checker, Report::Found(cut));
-        assert!(rt; (1..=2 * (u64::from(sends) + 2)).contains(&checker.tests()));
-        assert_taken(&rt, &checker, u64::from(sends) + 1, 1);
-    }
-    Ok(())
+fn a_head_that_precedes_another_is_dropped(rt: HostRuntime) {
+    check_sends(&rt, rt.alloc(), 1);
+    check_sends(&rt, rt.alloc(), 20);
 }
 
 /// How many snapshots of one process wait for the other, which has none.
@@ -113,14 +106,11 @@ const WAITING: u32 = 32_768;
 /// All snapshots of one process wait: the first is its head, which costs a component test for each process, and the
 /// others are compared with nothing.
 #[test]
-fn a_process_waits_for_long(rt: HostRuntime) -> Result<(), Fail> {
-    let mut checker = checker_of_two(rt.alloc())?;
-    assert_taken(&rt, &checker, 0, 0);
-    assert!(rt; take_sends(&rt, &mut checker, WAITING - 1).is_some());
-    assert_taken(&rt, &checker, u64::from(WAITING), 0);
+fn a_process_waits_for_long(rt: HostRuntime) {
+    let mut checker = checker_of_two(&rt, rt.alloc());
+    let _ = take_sends(&rt, &mut checker, WAITING - 1);
     assert_report(&rt, &checker, Report::Undecided);
     assert_eq!(rt; checker.tests(), 2);
-    Ok(())
 }
 
 /// A process observes its condition. The checker takes the snapshot that it emits, if it emits one.
@@ -129,7 +119,7 @@ fn observe(rt: &impl Abort, probe: &mut ProbeCore, checker: &mut Checker, from: 
     if let Ok(true) = probe.observe(holds) {
         assert!(rt; probe.pending().is_some());
         probe.was_put();
-        take(rt, checker, from, number, probe.clock());
+        take(rt, checker, &snapshot(from, number, probe.clock()));
     }
 }
 
@@ -202,114 +192,76 @@ fn a_ring_costs_few_tests(rt: HostRuntime) {
     assert_eq!(rt; tests_of_ring(&rt, rt.alloc(), 16, 1_000), 256_000);
 }
 
-/// Asks the checker once to take the close mark of a process that emitted one snapshot.
-fn takes_close(rt: &impl Abort, checker: &mut Checker, from: u32) -> bool {
-    let item = Item {
-        from,
-        note: Note::Close { count: 1 },
+/// What a checker of two processes is given.
+#[derive(Drop)]
+enum Given {
+    /// The first snapshot of a process, before any event.
+    First(u32),
+    /// The close mark of a process that emitted so many snapshots.
+    Close(u32, u32),
+    /// The mark that a process was lost after so many snapshots.
+    Lost(u32, u32),
+    /// It gets no more memory.
+    Starved,
+}
+
+/// What a checker is given, and whether it then has a cut. Else it is undecided.
+#[derive(Drop)]
+struct Ending<'a> {
+    given: &'a [Given],
+    has_cut: bool,
+}
+
+static ENDINGS: [Ending<'static>; 4] = [
+    Ending {
+        given: &[First(0), Starved, First(1), Close(0, 1), Close(1, 1)],
+        has_cut: false,
+    },
+    Ending {
+        given: &[First(0), First(1), Starved, Close(0, 1)],
+        has_cut: true,
+    },
+    Ending {
+        given: &[First(0), Lost(0, 1), Close(1, 0)],
+        has_cut: false,
+    },
+    Ending {
+        given: &[First(0), Lost(0, 1), First(1)],
+        has_cut: true,
+    },
+];
+
+/// Gives it to the checker. Where memory runs out, asking again does.
+fn give(rt: &impl Abort, checker: &mut Checker, given: &Given) {
+    let (from, note) = match given {
+        First(from) => (*from, first_snapshot()),
+        Close(from, count) => (*from, Note::Close { count: *count }),
+        Lost(from, count) => (*from, Note::Lost { count: *count }),
+        Starved => return checker.starve(),
     };
-    takes(rt, checker, &item)
+    take(rt, checker, &Item { from, note });
 }
 
-/// Asks the checker once to take the mark that a process was lost after one snapshot.
-fn takes_lost(rt: &impl Abort, checker: &mut Checker, from: u32) -> bool {
-    let item = Item {
-        from,
-        note: Note::Lost { count: 1 },
-    };
-    takes(rt, checker, &item)
-}
-
-/// Asks for the first snapshot of a process of two, before any event.
-fn takes_first(rt: &impl Abort, checker: &mut Checker, from: u32) -> bool {
-    let item = Item {
-        from,
-        note: Note::Snap {
-            number: 0,
-            clock: Clock::new(2),
-        },
-    };
-    takes(rt, checker, &item)
-}
-
-/// A checker is of two processes, of which process 0 is closed or not, and so is process 1.
-fn assert_ended(rt: &impl Abort, checker: &Checker, first: bool, second: bool) {
-    assert_eq!(rt; checker.processes(), 2);
-    assert_eq!(rt; (checker.closed(0), checker.closed(1)), (first, second));
-}
-
-/// A starved checker takes each item at once, and finds nothing, also where all is closed.
-#[test]
-fn a_starved_checker_stays_undecided(rt: HostRuntime) -> Result<(), Fail> {
-    let mut checker = checker_of_two(rt.alloc())?;
-    assert!(rt; takes_first(&rt, &mut checker, 0));
-    assert!(rt; !checker.is_starved());
-    checker.starve();
-    assert!(rt; checker.is_starved());
-    assert!(rt; takes_first(&rt, &mut checker, 1));
-    assert_report(&rt, &checker, Report::Undecided);
-    assert_taken(&rt, &checker, 1, 1);
-    for from in 0..2 {
-        assert!(rt; takes_close(&rt, &mut checker, from));
+/// Gives all to a checker, and compares its report.
+fn check_ending(rt: &impl Abort, alloc: Global, ending: &Ending) {
+    let mut checker = checker_of_two(rt, alloc);
+    for given in ending.given {
+        give(rt, &mut checker, given);
     }
-    assert_ended(&rt, &checker, true, true);
-    assert_report(&rt, &checker, Report::Undecided);
-    Ok(())
-}
-
-#[test]
-fn a_starved_checker_keeps_the_cut_that_it_found(rt: HostRuntime) -> Result<(), Fail> {
-    let mut checker = checker_of_two(rt.alloc())?;
-    for from in 0..2 {
-        assert!(rt; takes_first(&rt, &mut checker, from));
-    }
-    checker.starve();
     let cut = GlobalCut::new(&[Some(0), Some(0)]);
-    assert_report(&rt, &checker, Report::Found(cut));
-    assert!(rt; takes_close(&rt, &mut checker, 0));
-    assert_report(&rt, &checker, Report::Found(cut));
-    Ok(())
-}
-
-/// Takes the first snapshot of a process of two. Where memory runs out, asking again takes it.
-fn take_first(rt: &impl Abort, checker: &mut Checker, from: u32) {
-    assert!(rt; takes_first(rt, checker, from) || takes_first(rt, checker, from));
-}
-
-/// A checker of two processes took the mark that process 0 was lost.
-fn assert_lost(rt: &impl Abort, checker: &Checker) {
-    assert_eq!(rt; checker.processes(), 2);
-    assert_eq!(rt; (checker.lost(0), checker.closed(0)), (true, false));
-}
-
-/// A checker without a cut that took the mark of a lost process is undecided, also where all others are closed.
-#[test]
-fn a_checker_of_a_lost_process_stays_undecided(rt: HostRuntime) -> Result<(), Fail> {
-    let mut checker = checker_of_two(rt.alloc())?;
-    take_first(&rt, &mut checker, 0);
-    assert!(rt; takes_lost(&rt, &mut checker, 0));
-    assert_lost(&rt, &checker);
-    let close = Item {
-        from: 1,
-        note: Note::Close { count: 0 },
+    let report = if ending.has_cut {
+        Report::Found(cut)
+    } else {
+        Report::Undecided
     };
-    assert!(rt; takes(&rt, &mut checker, &close));
-    assert_report(&rt, &checker, Report::Undecided);
-    assert_taken(&rt, &checker, 1, 0);
-    Ok(())
+    assert_report(rt, &checker, report);
 }
 
-/// It goes on searching: a snapshot of another process completes the cut.
+/// A checker that was starved keeps the cut that it had found before and finds none, and one that took the mark of a
+/// lost process goes on searching. Each is undecided without a cut, also where all others are closed.
 #[test]
-fn a_checker_of_a_lost_process_finds_a_cut(rt: HostRuntime) -> Result<(), Fail> {
-    let mut checker = checker_of_two(rt.alloc())?;
-    take_first(&rt, &mut checker, 0);
-    assert!(rt; takes_lost(&rt, &mut checker, 0));
-    take_first(&rt, &mut checker, 1);
-    assert_report(
-        &rt,
-        &checker,
-        Report::Found(GlobalCut::new(&[Some(0), Some(0)])),
-    );
-    Ok(())
+fn a_starved_checker_or_one_of_a_lost_process_tells_a_cut_alone(rt: HostRuntime) {
+    for ending in &ENDINGS {
+        check_ending(&rt, rt.alloc(), ending);
+    }
 }
