@@ -1,9 +1,6 @@
 use crate::tests::replays::Expected::{Made, Refused, TookClose, TookSnap};
-use crate::tests::replays::{
-    Replay, assert_made_one_by_one, assert_played_by_one_relay, one_relay,
-};
+use crate::tests::replays::{Replay, assert_played_by_one_relay};
 use std::process::Abort;
-use std::test::Fail;
 use wcp_model::Step::{Admit, Check, Close, Observe, Pass, Put, Recv, Send};
 use wcp_model::{GlobalCut, Report, Why};
 
@@ -32,6 +29,7 @@ static CLOSE_GOES_THE_SAME_WAY: Replay<'static> = Replay {
         (Put(0), Made),
         (Close(0), Made),
         (Observe(0, true), Refused(Why::Closed)),
+        (Close(0), Refused(Why::Closed)),
         (Put(0), Made),
         (Admit(0, 0), Made),
         (Admit(0, 0), Made),
@@ -117,43 +115,23 @@ fn beginning<'a>(
 }
 
 #[test]
-fn items_are_taken_in_the_order_of_their_emission(rt: HostRuntime) -> Result<(), Fail> {
+fn items_are_taken_in_the_order_of_their_emission(rt: HostRuntime) {
     let first = Report::Found(GlobalCut::new(&[Some(0)]));
-    let alloc = rt.alloc();
-    assert_played_by_one_relay(
-        &rt,
-        alloc,
-        &CLOCK_TAKES_EVERY_COMPONENT,
-        8,
-        Report::Undecided,
-    )?;
-    assert_played_by_one_relay(&rt, alloc, &CLOSE_GOES_THE_SAME_WAY, 8, first)?;
-    assert_played_by_one_relay(&rt, alloc, &MESSAGES_OVERTAKE, 8, Report::Nothing)?;
-    Ok(())
+    for (replay, report) in [
+        (&CLOCK_TAKES_EVERY_COMPONENT, Report::Undecided),
+        (&CLOSE_GOES_THE_SAME_WAY, first),
+        (&MESSAGES_OVERTAKE, Report::Nothing),
+    ] {
+        assert_played_by_one_relay(&rt, rt.alloc(), replay, 8, &report);
+    }
 }
 
 #[test]
-fn the_least_cut_is_found_once_all_is_taken(rt: HostRuntime) -> Result<(), Fail> {
-    let alloc = rt.alloc();
+fn the_least_cut_is_found_once_all_is_taken(rt: HostRuntime) {
     let both = Report::Found(GlobalCut::new(&[Some(0), Some(0)]));
     let whole = &NEWEST_FIRST_HOLD_LOSES_CUT;
-    assert_played_by_one_relay(&rt, alloc, whole, 8, both)?;
-    let first = beginning(
-        &rt,
-        "undecided_before_all_taken",
-        whole,
-        15,
-        &[(2, 1), (1, 0)],
-    );
-    assert_played_by_one_relay(&rt, alloc, &first, 8, Report::Undecided)?;
-    Ok(())
-}
-
-#[test]
-fn a_step_asked_again_is_answered_as_with_ample_memory(rt: HostRuntime) -> Result<(), Fail> {
-    let both = Report::Found(GlobalCut::new(&[Some(0), Some(0)]));
-    let whole = &NEWEST_FIRST_HOLD_LOSES_CUT;
-    let plan = one_relay(&rt, rt.alloc(), whole, 8)?;
-    assert_made_one_by_one(&rt, rt.alloc(), &plan, whole, both)?;
-    Ok(())
+    assert_played_by_one_relay(&rt, rt.alloc(), whole, 8, &both);
+    let name = "undecided_before_all_taken";
+    let first = beginning(&rt, name, whole, 15, &[(2, 1), (1, 0)]);
+    assert_played_by_one_relay(&rt, rt.alloc(), &first, 8, &Report::Undecided);
 }

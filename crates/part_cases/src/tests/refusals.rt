@@ -1,14 +1,15 @@
 use crate::tests::replays::Expected::{Made, Refused};
 use crate::tests::replays::{Replay, assert_played_by_one_relay};
-use std::test::Fail;
-use wcp_model::Step::{Admit, Check, Observe, Pass, Pull, Put, Recv, Send};
+use wcp_model::Step::{Admit, Check, Close, Observe, Pass, Pull, Put, Recv, Send};
 use wcp_model::{Report, Why};
 
 static BACKLOG_REFUSES_SEND: Replay<'static> = Replay {
     name: "backlog_refuses_send",
     steps: &[
         (Observe(0, true), Made),
+        (Observe(0, true), Made),
         (Send(0, 1), Refused(Why::Backlog)),
+        (Close(0), Refused(Why::Backlog)),
         (Put(0), Made),
         (Send(0, 1), Made),
     ],
@@ -50,9 +51,12 @@ static EACH_REFUSAL: Replay<'static> = Replay {
 };
 
 #[test]
-fn refused_steps_change_nothing(rt: HostRuntime) -> Result<(), Fail> {
-    assert_played_by_one_relay(&rt, rt.alloc(), &BACKLOG_REFUSES_SEND, 8, Report::Undecided)?;
-    assert_played_by_one_relay(&rt, rt.alloc(), &FULL_LINK, 1, Report::Undecided)?;
-    assert_played_by_one_relay(&rt, rt.alloc(), &EACH_REFUSAL, 8, Report::Undecided)?;
-    Ok(())
+fn refused_steps_change_nothing(rt: HostRuntime) {
+    for (replay, cap) in [
+        (&BACKLOG_REFUSES_SEND, 8),
+        (&FULL_LINK, 1),
+        (&EACH_REFUSAL, 8),
+    ] {
+        assert_played_by_one_relay(&rt, rt.alloc(), replay, cap, &Report::Undecided);
+    }
 }

@@ -1,4 +1,4 @@
-use std::alloc::{AllocError, Global};
+use std::alloc::Global;
 use std::process::Abort;
 use wcp_clock::{Clock, Item, Note};
 use wcp_model::{Plan, Reply, Report, Step, Tallies, Tally, Why, plain_plan};
@@ -70,20 +70,65 @@ fn assert_reply(rt: &impl Abort, step: Step, reply: Reply, expected: &Expected) 
     assert_eq!(rt; reply, expected, "{step:?}");
 }
 
-fn steps_of(alloc: Global, replay: &Replay) -> Result<Vec<Step>, AllocError> {
-    let mut steps = Vec::with_capacity(alloc, replay.steps.len())?;
+/// The steps of a replay. Where memory runs out, asking again makes their list.
+fn steps_of(rt: &impl Abort, alloc: Global, replay: &Replay) -> Vec<Step> {
+    let count = replay.steps.len();
+    let mut steps = match Vec::with_capacity(alloc, count) {
+        Ok(steps) => steps,
+        Err(_) => Vec::with_capacity(alloc, count).expect(rt, "memory"),
+    };
     for row in replay.steps {
-        steps.push(row.0)?;
+        assert!(rt; steps.push(row.0).is_ok());
     }
-    Ok(steps)
+    steps
+}
+
+/// Plays these steps under a plan. Where memory runs out, asking again plays them.
+fn played(rt: &impl Abort, alloc: Global, plan: &Plan, steps: &[Step]) -> Played {
+    assert!(rt; plan.check().is_ok());
+    match play(alloc, plan, steps) {
+        Ok(played) => played,
+        Err(_) => play(alloc, plan, steps).expect(rt, "memory"),
+    }
 }
 
 /// Compares the reply to each step.
 fn assert_replies(rt: &impl Abort, replies: &[Reply], replay: &Replay) {
     assert_eq!(rt; replies.len(), replay.steps.len(), "{}", replay.name);
-    for (reply, row) in replies.iter().zip(replay.steps) {
+    for (at, row) in replay.steps.iter().enumerate() {
+        let reply = replies.get(at).expect(rt, "a reply");
         assert_reply(rt, row.0, *reply, &row.1);
     }
+}
+
+/// The world of a plan, before any step. Where memory runs out, asking again makes it.
+fn world_of(rt: &impl Abort, alloc: Global, plan: &Plan) -> World {
+    assert!(rt; plan.check().is_ok());
+    match World::new(alloc, plan) {
+        Ok(world) => world,
+        Err(_) => World::new(alloc, plan).expect(rt, "memory"),
+    }
+}
+
+/// Makes a step. Where memory runs out, asking again makes it.
+fn step(rt: &impl Abort, world: &mut World, step: Step) -> Reply {
+    match world.step(step) {
+        Ok(reply) => reply,
+        Err(_) => world.step(step).expect(rt, "memory"),
+    }
+}
+
+/// Makes each step, and compares its whole reply.
+fn assert_steps(rt: &impl Abort, world: &mut World, replay: &Replay) {
+    for row in replay.steps {
+        let reply = step(rt, world, row.0);
+        assert_reply(rt, row.0, reply, &row.1);
+    }
+}
+
+/// Compares a report.
+fn assert_report(rt: &impl Abort, found: &Report, report: &Report, name: &str) {
+    assert_eq!(rt; *found, *report, "{name}");
 }
 
 /// Compares how many snapshots of a process were emitted and taken.
@@ -101,47 +146,53 @@ fn assert_tallies(rt: &impl Abort, tallies: &Tallies, replay: &Replay) {
     }
 }
 
-/// Plays these steps under a plan. Where memory runs out, asking again plays them.
-fn played(rt: &impl Abort, alloc: Global, plan: &Plan, steps: &[Step]) -> Played {
-    assert!(rt; plan.check().is_ok());
-    match play(alloc, plan, steps) {
-        Ok(played) => played,
-        Err(_) => play(alloc, plan, steps).expect(rt, "memory"),
+/// Compares how many snapshots of each process are emitted and taken in a world.
+fn assert_world(rt: &impl Abort, world: &World, replay: &Replay) {
+    assert_eq!(rt; world.processes() as usize, replay.tallies.len());
+    for (p, counts) in replay.tallies.iter().enumerate() {
+        assert!(rt; (p as u32) < world.processes());
+        assert_tally(rt, world.tally(p as u32), *counts, replay.name);
     }
 }
 
-/// Plays the steps under a plan, and compares each reply, the report and the tallies.
+/// Makes the steps of a replay one by one in the world of a plan, and compares each reply, the report and the tallies.
+fn assert_made_one_by_one(
+    rt: &impl Abort,
+    alloc: Global,
+    plan: &Plan,
+    replay: &Replay,
+    report: &Report,
+) {
+    let mut world = world_of(rt, alloc, plan);
+    assert_steps(rt, &mut world, replay);
+    assert_report(rt, &world.report(), report, replay.name);
+    assert_world(rt, &world, replay);
+}
+
+/// Plays the steps under a plan, also one by one, and compares each reply, the report and the tallies.
 pub fn assert_played(
     rt: &impl Abort,
     alloc: Global,
     plan: &Plan,
     replay: &Replay,
-    report: Report,
-) -> Result<(), AllocError> {
-    let steps = match steps_of(alloc, replay) {
-        Ok(steps) => steps,
-        Err(_) => steps_of(alloc, replay)?,
-    };
+    report: &Report,
+) {
+    let steps = steps_of(rt, alloc, replay);
     let played = played(rt, alloc, plan, &steps);
-    assert_replies(rt, played.replies.as_slice(), replay);
-    assert_eq!(rt; played.report, report, "{}", replay.name);
+    assert_replies(rt, &played.replies, replay);
+    assert_report(rt, &played.report, report, replay.name);
     assert_tallies(rt, &played.tallies, replay);
-    Ok(())
+    assert_made_one_by_one(rt, alloc, plan, replay, report);
 }
 
 /// The plan of one relay for the processes of a replay, with room for so many notes in a link. Where memory runs out,
 /// asking again makes it.
-pub fn one_relay(
-    rt: &impl Abort,
-    alloc: Global,
-    replay: &Replay,
-    cap: u32,
-) -> Result<Plan, AllocError> {
+fn one_relay(rt: &impl Abort, alloc: Global, replay: &Replay, cap: u32) -> Plan {
     let n = replay.tallies.len();
     assert!(rt; 0 < n && n <= 16);
     match plain_plan(alloc, n as u32, cap, 4) {
-        Ok(plan) => Ok(plan),
-        Err(_) => plain_plan(alloc, n as u32, cap, 4),
+        Ok(plan) => plan,
+        Err(_) => plain_plan(alloc, n as u32, cap, 4).expect(rt, "memory"),
     }
 }
 
@@ -151,60 +202,8 @@ pub fn assert_played_by_one_relay(
     alloc: Global,
     replay: &Replay,
     cap: u32,
-    report: Report,
-) -> Result<(), AllocError> {
-    let plan = one_relay(rt, alloc, replay, cap)?;
-    assert_played(rt, alloc, &plan, replay, report)
-}
-
-/// The world of a plan, before any step. Where memory runs out, asking again makes it.
-fn world_of(rt: &impl Abort, alloc: Global, plan: &Plan) -> Result<World, AllocError> {
-    assert!(rt; plan.check().is_ok());
-    match World::new(alloc, plan) {
-        Ok(world) => Ok(world),
-        Err(_) => World::new(alloc, plan),
-    }
-}
-
-/// Makes a step. Where memory runs out, asking again makes it.
-fn step(world: &mut World, step: Step) -> Result<Reply, AllocError> {
-    match world.step(step) {
-        Ok(reply) => Ok(reply),
-        Err(_) => world.step(step),
-    }
-}
-
-/// Makes each step, and compares its whole reply.
-fn assert_steps(rt: &impl Abort, world: &mut World, replay: &Replay) -> Result<(), AllocError> {
-    for row in replay.steps {
-        let reply = step(world, row.0)?;
-        assert_reply(rt, row.0, reply, &row.1);
-    }
-    Ok(())
-}
-
-/// Compares how many snapshots of each process are emitted and taken in a world, and its report.
-fn assert_world(rt: &impl Abort, world: &World, tallies: &[(u64, u64)], report: Report) {
-    assert_eq!(rt; world.report(), report);
-    assert_eq!(rt; world.processes() as usize, tallies.len());
-    for (p, counts) in tallies.iter().enumerate() {
-        assert!(rt; (p as u32) < world.processes());
-        assert_tally(rt, world.tally(p as u32), *counts, "a world");
-    }
-}
-
-/// Makes the steps of a replay of two processes one by one in the world of a plan, and compares each reply, and the
-/// report and the tallies before and after them.
-pub fn assert_made_one_by_one(
-    rt: &impl Abort,
-    alloc: Global,
-    plan: &Plan,
-    replay: &Replay,
-    report: Report,
-) -> Result<(), AllocError> {
-    let mut world = world_of(rt, alloc, plan)?;
-    assert_world(rt, &world, &[(0, 0), (0, 0)], Report::Undecided);
-    assert_steps(rt, &mut world, replay)?;
-    assert_world(rt, &world, replay.tallies, report);
-    Ok(())
+    report: &Report,
+) {
+    let plan = one_relay(rt, alloc, replay, cap);
+    assert_played(rt, alloc, &plan, replay, report);
 }

@@ -1,24 +1,24 @@
-ghost use Rattle.std.specs.Prelude.{◌<◌};
+ghost use Rattle.std.specs.Prelude.{◌<◌, ◌≤◌};
+ghost use Rattle.wcp_clock.specs.Limits.{most_events};
 
+use std::alloc::Global;
 use std::process::Abort;
-use std::test::Fail;
-use wcp_clock::{CLOCK_LIMIT, Clock, Note};
+use wcp_clock::{CLOCK_LIMIT, Clock};
 use wcp_model::{Flag, ProbeSetup};
 use wcp_probe::{ProbeCore, Refusal, Stamped};
 
-fn core(watch: u64, id: u32) -> ProbeCore
-    requires { id < 2 }
+/// The probe of one of two processes, whose clock ends at this limit.
+fn core(watch: u64, id: u32, limit: u32) -> ProbeCore
+    requires id { id < 2 }
+    requires limit { limit ≤ most_events }
 {
-    ProbeCore::new(
-        watch,
-        ProbeSetup {
-            processes: 2,
-            process: id,
-            watched: true,
-            flag: Flag::Event,
-        },
-        CLOCK_LIMIT,
-    )
+    let setup = ProbeSetup {
+        processes: 2,
+        process: id,
+        watched: true,
+        flag: Flag::Event,
+    };
+    ProbeCore::new(watch, setup, limit)
 }
 
 fn components(clock: &Clock) -> [u32; 3] {
@@ -51,16 +51,7 @@ fn refused<T: Drop>(
 
 /// A message that must be received.
 fn received<T: Drop>(rt: &impl Abort, probe: &mut ProbeCore, message: Stamped<T>) -> T {
-    match probe.receive(message) {
-        Ok(value) => value,
-        Err((why, _)) => panic!(rt; "refused: {why:?}"),
-    }
-}
-
-/// The link takes the pending note.
-fn put(rt: &impl Abort, probe: &mut ProbeCore) {
-    assert!(rt; probe.pending().is_some());
-    probe.was_put();
+    probe.receive(message).ok().expect(rt, "a receive")
 }
 
 /// A stamp that must be refused for this reason: the value comes back.
@@ -81,31 +72,26 @@ fn unstamped<T: Drop>(
 }
 
 #[test]
-fn a_clock_ends_at_its_limit(rt: HostRuntime) -> Result<(), Fail> {
-    let mut probe = ProbeCore::new(
-        7,
-        ProbeSetup {
-            processes: 2,
-            process: 0,
-            watched: true,
-            flag: Flag::Event,
-        },
-        2,
-    );
+fn a_clock_ends_at_its_limit(rt: HostRuntime) {
+    let mut probe = core(7, 0, 2);
     for _ in 0..2 {
         let message = stamped(&rt, &mut probe, 1, true);
         assert_eq!(rt; (message.from(), message.to()), (0, 1));
     }
-    assert!(rt; unstamped(&rt, &mut probe, 1, true, Refusal::ClockEnd));
-    assert!(rt; unstamped(&rt, &mut probe, 0, true, Refusal::NoSuch));
-    assert!(rt; unstamped(&rt, &mut probe, 2, true, Refusal::NoSuch));
+    for (to, reason) in [
+        (1, Refusal::ClockEnd),
+        (0, Refusal::NoSuch),
+        (2, Refusal::NoSuch),
+    ] {
+        assert!(rt; unstamped(&rt, &mut probe, to, true, reason));
+    }
     assert_eq!(rt; components(&probe.clock()), [2, 0, 0]);
-    Ok(())
 }
 
 /// Only the receiver takes a message, unless it is behind: all others refuse it, and each gets it back.
 fn send_past_others(rt: &impl Abort, a: &mut ProbeCore, b: &mut ProbeCore, text: String) -> String {
-    let (mut behind, mut stranger) = (core(7, 1), core(8, 1));
+    let mut behind = core(7, 1, CLOCK_LIMIT);
+    let mut stranger = core(8, 1, CLOCK_LIMIT);
     let message = stamped(rt, a, 1, text);
     let message = refused(rt, &mut behind, message, Refusal::Ahead);
     let message = refused(rt, &mut stranger, message, Refusal::Stranger);
@@ -113,61 +99,17 @@ fn send_past_others(rt: &impl Abort, a: &mut ProbeCore, b: &mut ProbeCore, text:
     received(rt, b, message)
 }
 
+/// A text of its own.
+fn text(rt: &impl Abort, alloc: Global, text: &str) -> String {
+    String::from_str(alloc, text).expect(rt, "memory")
+}
+
 #[test]
-fn a_stamp_is_for_one_receiver_that_is_not_behind(rt: HostRuntime) -> Result<(), Fail> {
-    let (mut a, mut b) = (core(7, 0), core(7, 1));
-    let first = stamped(&rt, &mut b, 0, String::from_str(rt.alloc(), "first")?);
+fn a_stamp_is_for_one_receiver_that_is_not_behind(rt: HostRuntime) {
+    let (mut a, mut b) = (core(7, 0, CLOCK_LIMIT), core(7, 1, CLOCK_LIMIT));
+    let first = stamped(&rt, &mut b, 0, text(&rt, rt.alloc(), "first"));
     let first = received(&rt, &mut a, first);
-    let second = String::from_str(rt.alloc(), "second")?;
-    let second = send_past_others(&rt, &mut a, &mut b, second);
+    let second = send_past_others(&rt, &mut a, &mut b, text(&rt, rt.alloc(), "second"));
     assert_eq!(rt; (first.as_str(), second.as_str()), ("first", "second"));
     assert_eq!(rt; components(&b.clock()), [2, 2, 0]);
-    Ok(())
-}
-
-/// Compares what an observation answers.
-fn assert_observed(
-    rt: &impl Abort,
-    probe: &mut ProbeCore,
-    holds: bool,
-    answer: Result<bool, Refusal>,
-) {
-    assert_eq!(rt; probe.observe(holds), answer);
-}
-
-/// Compares what a close answers.
-fn assert_closed(rt: &impl Abort, probe: &mut ProbeCore, answer: Result<(), Refusal>) {
-    assert_eq!(rt; probe.close(), answer);
-}
-
-#[test]
-fn a_probe_emits_once_an_interval(rt: HostRuntime) -> Result<(), Fail> {
-    let mut probe = core(7, 0);
-    assert_observed(&rt, &mut probe, false, Ok(false));
-    assert_observed(&rt, &mut probe, true, Ok(true));
-    assert_observed(&rt, &mut probe, true, Ok(false));
-    let clock = probe.clock();
-    assert_eq!(rt;
-        probe.pending().copied(),
-        Some(Note::Snap { number: 0, clock })
-    );
-    let kept = String::from_str(rt.alloc(), "kept")?;
-    let kept = unstamped(&rt, &mut probe, 1, kept, Refusal::Backlog);
-    assert_eq!(rt; kept.as_str(), "kept");
-    assert_closed(&rt, &mut probe, Err(Refusal::Backlog));
-    put(&rt, &mut probe);
-    assert_eq!(rt; probe.pending().copied(), None);
-    Ok(())
-}
-
-#[test]
-fn a_probe_closes_once(rt: HostRuntime) {
-    let mut probe = core(7, 0);
-    assert_observed(&rt, &mut probe, true, Ok(true));
-    put(&rt, &mut probe);
-    assert_closed(&rt, &mut probe, Ok(()));
-    assert_eq!(rt; probe.pending().copied(), Some(Note::Close { count: 1 }));
-    assert_eq!(rt; (probe.closed(), probe.emitted()), (true, 1));
-    assert_observed(&rt, &mut probe, true, Err(Refusal::Closed));
-    assert_closed(&rt, &mut probe, Err(Refusal::Closed));
 }

@@ -1,21 +1,24 @@
 use crate::tests::replays::Expected::{Made, Refused, TookClose, TookSnap};
-use crate::tests::replays::{Replay, assert_made_one_by_one, assert_played};
-use std::alloc::{AllocError, Global};
-use std::test::Fail;
+use crate::tests::replays::{Replay, assert_played};
+use std::alloc::Global;
+use std::process::Abort;
 use wcp_model::Step::{Admit, Check, Close, Observe, Pass, Pull, Put, Recv, Send};
 use wcp_model::{GlobalCut, Parent, Plan, Report, Watched, Why};
 
+/// A list of these. Where memory runs out, asking again makes it.
+fn listed<T: Copy>(rt: &impl Abort, alloc: Global, items: &[T]) -> Vec<T> {
+    match Vec::from_slice(alloc, items) {
+        Ok(list) => list,
+        Err(_) => Vec::from_slice(alloc, items).expect(rt, "memory"),
+    }
+}
+
 /// Two processes, each with a leaf relay of its own, and an inner relay above both leaves.
-fn tree(alloc: Global, cap: u32, hold: u32) -> Result<Plan, AllocError> {
+fn tree(rt: &impl Abort, alloc: Global, cap: u32, hold: u32) -> Plan {
     let parents = [Parent::Root, Parent::Relay(0), Parent::Relay(0)];
-    Ok(Plan::new(
-        2,
-        cap,
-        hold,
-        Vec::from_slice(alloc, &parents)?,
-        Vec::from_slice(alloc, &[Some(1), Some(2)])?,
-        Watched::all(2),
-    ))
+    let parents = listed(rt, alloc, &parents);
+    let attach = listed(rt, alloc, &[Some(1), Some(2)]);
+    Plan::new(2, cap, hold, parents, attach, Watched::all(2))
 }
 
 /// The true states are 0, 1 and 2 of process 0 and 1 and 2 of process 1. State 0 of process 0
@@ -168,22 +171,17 @@ static EACH_MOVE_REFUSED: Replay<'static> = Replay {
 };
 
 #[test]
-fn items_go_through_a_tree_of_relays(rt: HostRuntime) -> Result<(), Fail> {
-    let alloc = rt.alloc();
+fn items_go_through_a_tree_of_relays(rt: HostRuntime) {
     let least = Report::Found(GlobalCut::new(&[Some(1), Some(1)]));
-    let wide = tree(alloc, 8, 4).or_else(|_| tree(alloc, 8, 4))?;
-    let narrow = tree(alloc, 1, 1).or_else(|_| tree(alloc, 1, 1))?;
-    assert_played(&rt, alloc, &wide, &LEAST_CUT, least)?;
-    assert_played(&rt, alloc, &wide, &ORDERED_PAIR, Report::Nothing)?;
-    assert_played(&rt, alloc, &narrow, &EACH_MOVE_REFUSED, Report::Undecided)?;
-    Ok(())
-}
-
-#[test]
-fn a_tree_is_drained_step_by_step(rt: HostRuntime) -> Result<(), Fail> {
-    let alloc = rt.alloc();
-    let least = Report::Found(GlobalCut::new(&[Some(1), Some(1)]));
-    let plan = tree(alloc, 8, 4).or_else(|_| tree(alloc, 8, 4))?;
-    assert_made_one_by_one(&rt, alloc, &plan, &LEAST_CUT, least)?;
-    Ok(())
+    let wide = tree(&rt, rt.alloc(), 8, 4);
+    assert_played(&rt, rt.alloc(), &wide, &LEAST_CUT, &least);
+    assert_played(&rt, rt.alloc(), &wide, &ORDERED_PAIR, &Report::Nothing);
+    let narrow = tree(&rt, rt.alloc(), 1, 1);
+    assert_played(
+        &rt,
+        rt.alloc(),
+        &narrow,
+        &EACH_MOVE_REFUSED,
+        &Report::Undecided,
+    );
 }
