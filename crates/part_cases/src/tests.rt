@@ -4,7 +4,6 @@ mod clocks;
 mod computations;
 mod holds;
 mod orders;
-mod outcomes;
 mod refusals;
 mod replays;
 mod stamps;

@@ -1,5 +1,4 @@
 use std::process::Abort;
-use std::test::Fail;
 use wcp_clock::{Clock, Item, Note};
 use wcp_hold::Hold;
 
@@ -39,8 +38,8 @@ fn assert_oldest(rt: &impl Abort, hold: &mut Hold, len: usize, oldest: Option<It
 }
 
 #[test]
-fn a_hold_of_two_gives_the_oldest_item_first(rt: HostRuntime) -> Result<(), Fail> {
-    let mut hold = Hold::new(rt.alloc(), 2)?;
+fn a_hold_of_two_gives_the_oldest_item_first(rt: HostRuntime) {
+    let mut hold = Hold::new(rt.alloc(), 2).expect(&rt, "memory");
     assert_oldest(&rt, &mut hold, 0, None);
     assert_pushed(&rt, &mut hold, first_snapshot(0), true);
     assert_pushed(&rt, &mut hold, first_snapshot(1), true);
@@ -48,5 +47,4 @@ fn a_hold_of_two_gives_the_oldest_item_first(rt: HostRuntime) -> Result<(), Fail
     assert_oldest(&rt, &mut hold, 2, Some(first_snapshot(0)));
     assert_oldest(&rt, &mut hold, 1, Some(first_snapshot(1)));
     assert_oldest(&rt, &mut hold, 0, None);
-    Ok(())
 }
