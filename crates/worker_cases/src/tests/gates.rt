@@ -1,13 +1,11 @@
 //! Gates that tell whether each worker runs in a thread of its own.
-use super::outcomes::{comes_to, fault_of, found};
+use super::outcomes::{assert_comes_to, fault_of, found, workload_of};
 use crossbeam_utils::CachePadded;
 use std::sync::atomic::Ordering::SeqCst;
 use std::sync::atomic::{AtomicBool, AtomicU32};
-use std::test::Fail;
 use std::thread::yield_now;
 use wcp_clock::GATE_TURNS;
 use wcp_run::RunFault;
-use wcp_script::read_workload;
 use wcp_worker::Gate;
 
 /// Each process is true once, and neither sends.
@@ -82,12 +80,12 @@ impl Gate for Meeting {
 }
 
 #[test]
-fn two_workers_are_at_their_gates_at_once(rt: HostRuntime) -> Result<(), Fail> {
+fn two_workers_are_at_their_gates_at_once(rt: HostRuntime) {
     let gate = Meeting::new();
     let outcome = found([0, 0], [1, 1]);
-    assert!(rt; comes_to(&rt, rt.alloc(), TWO_CONCURRENT, &gate, &outcome)?);
+    let workload = workload_of(&rt, rt.alloc(), TWO_CONCURRENT);
+    assert_comes_to(&rt, rt.alloc(), &workload, &gate, &outcome);
     assert!(rt; gate.first.load(SeqCst) && gate.second.load(SeqCst));
-    Ok(())
 }
 
 /// Holds the sender back before its send until the receiver is at its receive, and for many answers more. It notes
@@ -143,13 +141,13 @@ impl Gate for Latch {
 }
 
 #[test]
-fn a_receiver_waits_for_a_sender_that_is_held_back(rt: HostRuntime) -> Result<(), Fail> {
+fn a_receiver_waits_for_a_sender_that_is_held_back(rt: HostRuntime) {
     let gate = Latch::new();
     let outcome = found([1, 1], [2, 1]);
-    assert!(rt; comes_to(&rt, rt.alloc(), TRUE_AGAIN_AFTER_SEND, &gate, &outcome)?);
+    let workload = workload_of(&rt, rt.alloc(), TRUE_AGAIN_AFTER_SEND);
+    assert_comes_to(&rt, rt.alloc(), &workload, &gate, &outcome);
     assert_eq!(rt; gate.asked.load(SeqCst), REFUSALS + 1);
     assert!(rt; !gate.receiver_went_on.load(SeqCst));
-    Ok(())
 }
 
 /// Holds the receiver back before its first receive until the sender has made both sends. It notes where it did so in
@@ -173,15 +171,15 @@ impl Gate for SendsFirst {
 }
 
 #[test]
-fn a_sender_waits_for_no_receiver(rt: HostRuntime) -> Result<(), Fail> {
+fn a_sender_waits_for_no_receiver(rt: HostRuntime) {
     let gate = SendsFirst {
         has_sent: AtomicBool::new(false),
         waited_in_vain: AtomicBool::new(false),
     };
     let outcome = found([2, 2], [1, 1]);
-    assert!(rt; comes_to(&rt, rt.alloc(), TWO_MESSAGES, &gate, &outcome)?);
+    let workload = workload_of(&rt, rt.alloc(), TWO_MESSAGES);
+    assert_comes_to(&rt, rt.alloc(), &workload, &gate, &outcome);
     assert!(rt; !gate.waited_in_vain.load(SeqCst));
-    Ok(())
 }
 
 /// Lets process 0 make its step at the last of a gate's turns, and the others never. It counts what each asks, apart
@@ -217,11 +215,10 @@ impl Gate for LastTurn {
 /// The worker that passes at its last turn goes on, and of the two that are held back the lower one is told, also where
 /// the first meets a cut since the second is gone.
 #[test]
-fn a_worker_is_held_back_for_all_turns(rt: HostRuntime) -> Result<(), Fail> {
+fn a_worker_is_held_back_for_all_turns(rt: HostRuntime) {
     let gate = LastTurn::new();
-    let workload = read_workload(rt.alloc(), ONE_STEP_EACH)?;
+    let workload = workload_of(&rt, rt.alloc(), ONE_STEP_EACH);
     let fault = fault_of(&rt, rt.alloc(), &workload, &gate);
     assert_eq!(rt; fault, Some(RunFault::Held(1)));
     assert_eq!(rt; gate.asked(), [GATE_TURNS; 3]);
-    Ok(())
 }

@@ -1,16 +1,16 @@
 //! Snapshots that come to the checker while their worker waits.
 ghost use Rattle.worker_cases.specs.Ready.{IsReadyWorker};
 
-use super::two_threads::two_workers;
+use super::two_threads::{Ended, Parts, parts_of, run_both};
+use std::alloc::Global;
+use std::process::Abort;
 use std::sync::Wait;
 use std::sync::atomic::AtomicBool;
 use std::sync::atomic::Ordering::SeqCst;
-use std::test::Fail;
-use std::thread::{Threads, join, sleep};
-use std::time::{Clock, Duration};
-use wcp_script::read_workload;
+use std::thread::{Threads, join};
+use std::time::Clock;
 use wcp_tree::{CheckerInbox, Relay};
-use wcp_worker::{Gate, Worker, WorkerEnd};
+use wcp_worker::Gate;
 
 /// For how many milliseconds the second worker does nothing, so that the relay is asleep after them.
 const ASLEEP: u64 = 30;
@@ -45,34 +45,6 @@ impl Gate for AfterArrival {
     }
 }
 
-/// Runs both workers, each in a thread, the second once the relay is asleep: whether both did all.
-fn run_workers<R: Threads + Wait + Clock + Sync>(
-    rt: &R,
-    first: Worker,
-    second: Worker,
-    gate: &AfterArrival,
-) -> bool
-    requires { IsReadyWorker first × IsReadyWorker second }
-{
-    let (first, second) = join(
-        rt,
-        move || -> WorkerEnd
-            requires { IsReadyWorker first }
-        { first.run(rt, gate) },
-        move || -> WorkerEnd
-            requires { IsReadyWorker second }
-        {
-            let _ = sleep(rt, Duration::from_millis(ASLEEP));
-            second.run(rt, gate)
-        },
-    );
-    did_all(&first) && did_all(&second)
-}
-
-fn did_all(end: &WorkerEnd) -> bool {
-    matches!(end, WorkerEnd::Whole { .. })
-}
-
 /// Takes what comes to the checker, and opens the gate for what process 1 has put.
 fn take_all(rt: &impl Wait, inbox: CheckerInbox, gate: &AfterArrival) {
     let mut taker = inbox.into_taker();
@@ -86,45 +58,51 @@ fn take_all(rt: &impl Wait, inbox: CheckerInbox, gate: &AfterArrival) {
     }
 }
 
-/// Whether both workers do all, where this gate holds one back until the snapshot of process 1 has come.
-fn do_all<R: Threads + Wait + Clock + Sync>(
+/// Runs a relay, and takes what comes to the checker.
+fn take_beside<R: Threads + Wait + Sync>(
     rt: &R,
-    first: Worker,
-    second: Worker,
     relay: Relay,
     inbox: CheckerInbox,
     gate: &AfterArrival,
-) -> bool
-    requires { IsReadyWorker first × IsReadyWorker second }
-{
-    let (done, _) = join(
+) {
+    join(
         rt,
-        move || -> bool
-            requires { IsReadyWorker first × IsReadyWorker second }
-        { run_workers(rt, first, second, gate) },
-        move || {
-            join(
-                rt,
-                move || drop(relay.run(rt)),
-                move || take_all(rt, inbox, gate),
-            )
-        },
+        move || drop(relay.run(rt)),
+        move || take_all(rt, inbox, gate),
     );
-    done
+}
+
+/// Both workers do all, where this gate holds one back until the snapshot of process 1 has come.
+fn assert_comes<R: Threads + Wait + Clock + Sync + Abort>(
+    rt: &R,
+    alloc: Global,
+    text: &[u8],
+    gate: &AfterArrival,
+) {
+    let Parts {
+        first,
+        second,
+        relay,
+        inbox,
+    } = parts_of(rt, alloc, text);
+    let second_ended = AtomicBool::new(false);
+    let shared = &second_ended;
+    let ((first, second), _) = join(
+        rt,
+        move || -> (Ended, Ended)
+            requires { IsReadyWorker first × IsReadyWorker second }
+        { run_both(rt, first, second, gate, ASLEEP, shared) },
+        move || take_beside(rt, relay, inbox, gate),
+    );
+    assert!(rt; first.emitted.is_some() && second.emitted.is_some());
 }
 
 #[test]
-fn what_a_worker_put_comes_while_its_gate_holds_it_back(rt: HostRuntime) -> Result<(), Fail> {
-    let workload = read_workload(rt.alloc(), TWO_STEPS)?;
-    let (first, second, relay, inbox) = two_workers(rt.alloc(), &workload)?.ok_or("two workers")?;
-    assert!(rt; do_all(&rt, first, second, relay, inbox, &AfterArrival::new(1, 1)));
-    Ok(())
+fn what_a_worker_put_comes_while_its_gate_holds_it_back(rt: HostRuntime) {
+    assert_comes(&rt, rt.alloc(), TWO_STEPS, &AfterArrival::new(1, 1));
 }
 
 #[test]
-fn what_a_worker_put_comes_while_it_waits_for_a_message(rt: HostRuntime) -> Result<(), Fail> {
-    let workload = read_workload(rt.alloc(), ONE_MESSAGE)?;
-    let (first, second, relay, inbox) = two_workers(rt.alloc(), &workload)?.ok_or("two workers")?;
-    assert!(rt; do_all(&rt, first, second, relay, inbox, &AfterArrival::new(0, 0)));
-    Ok(())
+fn what_a_worker_put_comes_while_it_waits_for_a_message(rt: HostRuntime) {
+    assert_comes(&rt, rt.alloc(), ONE_MESSAGE, &AfterArrival::new(0, 0));
 }

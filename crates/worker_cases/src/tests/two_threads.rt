@@ -1,19 +1,15 @@
-ghost use Rattle.std.specs.Prelude.{IfOk, IfSome};
-ghost use Rattle.wcp_model.specs.PlanFault.{IsCheckedPlan};
-ghost use Rattle.wcp_model.specs.WorkloadComputation.{CouldBeRead};
 ghost use Rattle.worker_cases.specs.Ready.{IsReadyWorker};
 
-use std::alloc::{AllocError, Global};
+use super::outcomes::workload_of;
+use std::alloc::Global;
+use std::process::Abort;
 use std::sync::Wait;
 use std::sync::atomic::AtomicBool;
 use std::sync::atomic::Ordering::SeqCst;
-use std::test::Fail;
 use std::thread::{Threads, join, sleep};
 use std::time::{Clock, Duration};
-use wcp_model::Workload;
-use wcp_script::read_workload;
 use wcp_tree::{CheckerInbox, Relay, watch};
-use wcp_worker::{Open, Worker, WorkerEnd, WorkerFault, open_workers};
+use wcp_worker::{Gate, Open, Worker, WorkerEnd, WorkerFault, open_workers};
 
 /// Process 0 observes and sends, and process 1 receives and observes; then it sends what nobody receives.
 const ONE_MESSAGE: &[u8] =
@@ -25,48 +21,82 @@ const ONE_AFTER_ANOTHER: &[u8] =
     b"wcp 1\nprocs 3\ncap 1\nrelay 0 root\nrelay 1 0\nrelay 2 0\nattach 0 1\nattach 1 2\nattach 2 1\n\
 p 1 true\np 0 send 1\np 1 recv 0\np 1 send 2\np 2 recv 1\n";
 
-/// The workers of the last two processes of a workload, the last relay of its plan and the checker's inbox.
-pub fn two_workers(
-    alloc: Global,
-    workload: &Workload,
-) -> Result<Option<(Worker, Worker, Relay, CheckerInbox)>, AllocError>
-    requires read { CouldBeRead workload.now.plan.n workload.now.tasks.items }
-    requires checked { IsCheckedPlan workload.now.plan }
-    ensures { IfOk result (λ found. IfSome found (λ two. IsReadyWorker two.0 × IsReadyWorker two.1)) }
-{
-    let opened = watch(alloc, &workload.plan, 7)?;
-    let mut workers = open_workers(alloc, workload, opened.probes)?;
-    let mut relays = opened.relays;
-    let Some(second) = workers.pop() else {
-        return Ok(None);
-    };
-    let Some(first) = workers.pop() else {
-        return Ok(None);
-    };
-    let Some(relay) = relays.pop() else {
-        return Ok(None);
-    };
-    Ok(Some((first, second, relay, opened.inbox)))
+/// The workers of the last two processes of a watch, its last relay and the checker's inbox.
+#[derive(Drop)]
+pub struct Parts {
+    pub first: Worker,
+    pub second: Worker,
+    pub relay: Relay,
+    pub inbox: CheckerInbox,
 }
 
-/// Runs two workers, each in a thread, and sets this once the second has ended.
-fn run_both<R: Threads + Wait + Sync>(
+/// The parts of the watch of a text.
+pub fn parts_of(rt: &impl Abort, alloc: Global, text: &[u8]) -> Parts
+    ensures { IsReadyWorker result.first × IsReadyWorker result.second }
+{
+    let workload = workload_of(rt, alloc, text);
+    let opened = watch(alloc, &workload.plan, 7).expect(rt, "memory");
+    let mut workers = open_workers(alloc, &workload, opened.probes).expect(rt, "memory");
+    let mut relays = opened.relays;
+    let second = workers.pop().expect(rt, "two workers");
+    let first = workers.pop().expect(rt, "two workers");
+    Parts {
+        first,
+        second,
+        relay: relays.pop().expect(rt, "a relay"),
+        inbox: opened.inbox,
+    }
+}
+
+/// How a worker ended: how many snapshots it emitted where it did all, and whether it gave up since a lane was cut.
+#[derive(Clone, Copy)]
+pub struct Ended {
+    pub emitted: Option<u32>,
+    met_cut: bool,
+}
+
+fn end_of(end: &WorkerEnd) -> Ended {
+    match end {
+        WorkerEnd::Whole { probe, .. } => Ended {
+            emitted: Some(probe.emitted()),
+            met_cut: false,
+        },
+        WorkerEnd::GaveUp { fault, .. } => Ended {
+            emitted: None,
+            met_cut: matches!(fault, WorkerFault::Cut(_)),
+        },
+    }
+}
+
+/// Runs a worker.
+fn run_worker<R: Wait, G: Gate>(rt: &R, worker: Worker, gate: &G) -> Ended
+    requires { IsReadyWorker worker }
+{
+    end_of(&worker.run(rt, gate))
+}
+
+/// Runs two workers, each in a thread, the second once so many milliseconds have passed, and sets this once the second
+/// has ended.
+pub fn run_both<R: Threads + Wait + Clock + Sync, G: Gate + Sync>(
     rt: &R,
     first: Worker,
     second: Worker,
+    gate: &G,
+    delay: u64,
     second_ended: &AtomicBool,
-) -> (WorkerEnd, WorkerEnd)
+) -> (Ended, Ended)
     requires { IsReadyWorker first × IsReadyWorker second }
 {
     join(
         rt,
-        move || -> WorkerEnd
+        move || -> Ended
             requires { IsReadyWorker first }
-        { first.run(rt, &Open) },
-        move || -> WorkerEnd
+        { run_worker(rt, first, gate) },
+        move || -> Ended
             requires { IsReadyWorker second }
         {
-            let end = second.run(rt, &Open);
+            let _ = sleep(rt, Duration::from_millis(delay));
+            let end = run_worker(rt, second, gate);
             second_ended.store(true, SeqCst);
             end
         },
@@ -84,70 +114,47 @@ fn is_set_in_time<R: Clock>(rt: &R, flag: &AtomicBool) -> bool {
     false
 }
 
-/// Runs two workers, and once the second has ended their relay. Where the second doesn't end in time, the relay runs
-/// all the same, and there is no answer.
-fn run_before_relay<R: Threads + Wait + Clock + Sync>(
+/// Runs both workers, and once the second has ended their relay, without a checker. Where the second doesn't end in
+/// time, the relay runs all the same, and the test fails.
+fn run_before_relay<R: Threads + Wait + Clock + Sync + Abort>(
     rt: &R,
-    first: Worker,
-    second: Worker,
-    relay: Relay,
-) -> Option<(WorkerEnd, WorkerEnd)>
-    requires { IsReadyWorker first × IsReadyWorker second }
-{
+    alloc: Global,
+    text: &[u8],
+) -> (Ended, Ended) {
+    let Parts {
+        first,
+        second,
+        relay,
+        inbox,
+    } = parts_of(rt, alloc, text);
+    drop(inbox);
     let second_ended = AtomicBool::new(false);
     let shared = &second_ended;
     let (ends, in_time) = join(
         rt,
-        move || -> (WorkerEnd, WorkerEnd)
+        move || -> (Ended, Ended)
             requires { IsReadyWorker first × IsReadyWorker second }
-        { run_both(rt, first, second, shared) },
+        { run_both(rt, first, second, &Open, 0, shared) },
         move || {
             let in_time = is_set_in_time(rt, shared);
             drop(relay.run(rt));
             in_time
         },
     );
-    in_time.then_some(ends)
-}
-
-/// How many snapshots a worker that did all has emitted.
-fn emitted(end: &WorkerEnd) -> Option<u32> {
-    match end {
-        WorkerEnd::Whole { probe, .. } => Some(probe.emitted()),
-        WorkerEnd::GaveUp { .. } => None,
-    }
-}
-
-/// Whether a worker gave up since a lane was cut.
-fn met_cut(end: &WorkerEnd) -> bool {
-    matches!(
-        end,
-        WorkerEnd::GaveUp {
-            fault: WorkerFault::Cut(_),
-            ..
-        }
-    )
+    assert!(rt; in_time);
+    ends
 }
 
 #[test]
-fn two_workers_do_all(rt: HostRuntime) -> Result<(), Fail> {
-    let workload = read_workload(rt.alloc(), ONE_MESSAGE)?;
-    let (first, second, relay, inbox) = two_workers(rt.alloc(), &workload)?.ok_or("two workers")?;
-    drop(inbox);
-    let (first, second) = run_before_relay(&rt, first, second, relay).ok_or("in time")?;
-    assert_eq!(rt; emitted(&first), Some(1));
-    assert_eq!(rt; emitted(&second), Some(1));
-    Ok(())
+fn two_workers_do_all(rt: HostRuntime) {
+    let (first, second) = run_before_relay(&rt, rt.alloc(), ONE_MESSAGE);
+    assert_eq!(rt; (first.emitted, second.emitted), (Some(1), Some(1)));
 }
 
 /// The worker of process 0 is gone, so that of process 1 gives up. It can't close its probe before its relay runs, and
 /// lets go the worker of process 2 before.
 #[test]
-fn a_worker_that_gives_up_lets_its_partners_go_first(rt: HostRuntime) -> Result<(), Fail> {
-    let workload = read_workload(rt.alloc(), ONE_AFTER_ANOTHER)?;
-    let (first, second, relay, inbox) = two_workers(rt.alloc(), &workload)?.ok_or("two workers")?;
-    drop(inbox);
-    let (first, second) = run_before_relay(&rt, first, second, relay).ok_or("in time")?;
-    assert!(rt; met_cut(&first) && met_cut(&second));
-    Ok(())
+fn a_worker_that_gives_up_lets_its_partners_go_first(rt: HostRuntime) {
+    let (first, second) = run_before_relay(&rt, rt.alloc(), ONE_AFTER_ANOTHER);
+    assert!(rt; first.met_cut && second.met_cut);
 }

@@ -1,10 +1,9 @@
-use super::outcomes::{comes_to, found};
+use super::outcomes::{assert_comes_to, found, workload_of};
 use std::alloc::Global;
+use std::process::Abort;
 use std::sync::Wait;
-use std::test::Fail;
 use std::thread::Threads;
-use wcp_run::run;
-use wcp_script::{read_workload, single};
+use wcp_script::single;
 use wcp_worker::Open;
 
 /// Eight relays in a chain, each with room for one.
@@ -29,23 +28,22 @@ const IN_TURN: &[u8] =
 p 2 true\np 2 send 0\np 0 recv 2\np 0 true\n";
 
 /// The threads come to the outcome that one thread gives.
-fn agrees<R: Threads + Wait + Sync>(rt: &R, alloc: Global, text: &[u8]) -> Result<bool, Fail> {
-    let workload = read_workload(alloc, text)?;
-    let ran = run(rt, alloc, &workload, &Open)?;
-    Ok(ran == single(alloc, &workload)?)
+fn assert_agrees<R: Threads + Wait + Sync + Abort>(rt: &R, alloc: Global, text: &[u8]) {
+    let workload = workload_of(rt, alloc, text);
+    let outcome = single(alloc, &workload).expect(rt, "memory");
+    assert_comes_to(rt, alloc, &workload, &Open, &outcome);
 }
 
 #[test]
-fn runs_agree_with_one_thread(rt: HostRuntime) -> Result<(), Fail> {
+fn runs_agree_with_one_thread(rt: HostRuntime) {
     for text in [CHAIN, THREE_LEAVES, TWO_CUTS, NEVER_RECEIVED, IN_TURN] {
-        assert!(rt; agrees(&rt, rt.alloc(), text)?);
+        assert_agrees(&rt, rt.alloc(), text);
     }
-    Ok(())
 }
 
 #[test]
-fn a_run_takes_all_after_its_first_cut(rt: HostRuntime) -> Result<(), Fail> {
+fn a_run_takes_all_after_its_first_cut(rt: HostRuntime) {
+    let workload = workload_of(&rt, rt.alloc(), TWO_CUTS);
     let outcome = found([0, 0], [2, 1]);
-    assert!(rt; comes_to(&rt, rt.alloc(), TWO_CUTS, &Open, &outcome)?);
-    Ok(())
+    assert_comes_to(&rt, rt.alloc(), &workload, &Open, &outcome);
 }
