@@ -6,7 +6,6 @@ mod losing;
 mod one_thread;
 mod racing;
 mod running;
-mod stamps;
 mod threads;
 mod waiting;
 mod watches;

@@ -6,23 +6,24 @@ ghost use Rattle.wcp_relay.specs.declared.feed.Feed.{Feed};
 use super::watches::run_relay;
 use std::alloc::{AllocError, Global};
 use std::process::Abort;
-use std::test::Fail;
 use wcp_clock::{Clock, Note};
-use wcp_lane::{LaneFault, Members, Putter, Taker, lane};
+use wcp_lane::{Members, Putter, Taker, lane};
 use wcp_model::Parent;
 use wcp_ring::{RingPutter, Sleeper, ring};
 use wcp_tree::{Bundle, Feed, Relay, RelayFault, leaf_relay};
 
 /// A lane of bundles with one putter, of just process 0.
-fn lane_of_one(alloc: Global) -> Result<(Putter<Bundle>, Taker<Bundle>), LaneFault>
-    ensures members { IfOk result (λ ends. ends.0.members ≡ set.insert set.empty 0) }
-    ensures none_put { IfOk result (λ ends. ends.0.put ≡ []) }
+fn lane_of_one(rt: &impl Abort, alloc: Global) -> (Putter<Bundle>, Taker<Bundle>)
+    ensures members { result.0.members ≡ set.insert set.empty 0 }
+    ensures none_put { result.0.put ≡ [] }
 {
-    let (mut putters, taker) = lane(alloc, 8, &[Members::none().with(0)])?;
-    let Some(putter) = putters.pop() else {
-        return Err(LaneFault::MemberSets);
+    let Ok((mut putters, taker)) = lane(alloc, 8, &[Members::none().with(0)]) else {
+        panic!(rt; "no lane");
     };
-    Ok((putter, taker))
+    let Some(putter) = putters.pop() else {
+        panic!(rt; "no putter");
+    };
+    (putter, taker)
 }
 
 /// The end of a new ring that puts, and the feed of process 0 over it.
@@ -44,14 +45,19 @@ struct Leaf {
 }
 
 /// The leaf of process 0, over a new ring, that puts into a lane of its own.
-fn leaf_of_one(alloc: Global, putter: Putter<Bundle>) -> Result<Leaf, AllocError>
+fn leaf_of_one(rt: &impl Abort, alloc: Global, putter: Putter<Bundle>) -> Leaf
     requires members { putter.members ≡ set.insert set.empty 0 }
     requires none_put { putter.put ≡ [] }
 {
-    let (ring, feeds) = feed_of_one(alloc)?;
-    let sleeper = Sleeper::new(alloc)?;
-    let relay = leaf_relay(alloc, 0, 7, Parent::Root, 4, feeds, sleeper, putter)?;
-    Ok(Leaf { ring, relay })
+    let Ok((ring, feeds)) = feed_of_one(alloc) else {
+        panic!(rt; "no ring");
+    };
+    let sleeper = Sleeper::new(alloc).expect(rt, "memory");
+    let relay = leaf_relay(alloc, 0, 7, Parent::Root, 4, feeds, sleeper, putter);
+    Leaf {
+        ring,
+        relay: relay.expect(rt, "memory"),
+    }
 }
 
 /// Puts a second snapshot of a process of which no first one was put.
@@ -61,11 +67,10 @@ fn put_second(rt: &impl Abort, ring: &mut RingPutter) {
 }
 
 #[test]
-fn a_snapshot_out_of_its_place_is_a_gap(rt: HostRuntime) -> Result<(), Fail> {
-    let (putter, taker) = lane_of_one(rt.alloc())?;
-    let Leaf { mut ring, relay } = leaf_of_one(rt.alloc(), putter)?;
+fn a_snapshot_out_of_its_place_is_a_gap(rt: HostRuntime) {
+    let (putter, taker) = lane_of_one(&rt, rt.alloc());
+    let Leaf { mut ring, relay } = leaf_of_one(&rt, rt.alloc(), putter);
     put_second(&rt, &mut ring);
     assert_eq!(rt; run_relay(&rt, relay), Some(RelayFault::Gap(0)));
     drop(taker);
-    Ok(())
 }

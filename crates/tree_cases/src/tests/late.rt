@@ -1,7 +1,7 @@
 //! Probes that tell their relay late.
 use super::threads::take_all;
 use super::waiting::next_in_time;
-use super::watches::{last_probe, last_relay, open, run_relay};
+use super::watches::{UnderOneRelay, only_probe, open_under_one_relay, run_relay};
 use std::alloc::Global;
 use std::process::Abort;
 use std::sync::Wait;
@@ -10,15 +10,14 @@ use std::sync::atomic::Ordering::SeqCst;
 use std::thread::{Threads, join, sleep, yield_now};
 use std::time::{Clock, Duration};
 use wcp_lane::Taker;
-use wcp_model::Parent;
 use wcp_ring::{Bell, Sleeper};
-use wcp_tree::{Bundle, LiveProbe, Watch};
+use wcp_tree::{Bundle, LiveProbe};
 
 /// For how many milliseconds a process does nothing, so that its relay is asleep after them.
 const ASLEEP: u64 = 30;
 
 /// What a process does once it has put its one snapshot.
-#[derive(Clone, Copy, Debug, PartialEq, Eq)]
+#[derive(Clone, Copy)]
 enum Then {
     /// It tells its relay, and is busy until the snapshot has come to the root.
     Tells,
@@ -39,7 +38,7 @@ fn put_one<R: Wait + Clock>(
     let _ = sleep(rt, Duration::from_millis(ASLEEP));
     probe.observe(true);
     probe.flush_in_watch(rt);
-    if then == Then::Tells {
+    if matches!(then, Then::Tells) {
         probe.tell_relay();
     }
     wait_for(rt, sleeper, then, came);
@@ -49,7 +48,7 @@ fn put_one<R: Wait + Clock>(
 /// Waits until this is set, as the process does so.
 fn wait_for(rt: &impl Wait, mut sleeper: Sleeper, then: Then, came: &AtomicBool) {
     for _ in rt.forever() {
-        if then == Then::Closes || came.load(SeqCst) {
+        if matches!(then, Then::Closes) || came.load(SeqCst) {
             break;
         }
         match then {
@@ -70,15 +69,14 @@ fn comes_in_time(rt: &impl Wait, mut taker: Taker<Bundle>, came: &AtomicBool, be
 
 /// Whether the one snapshot of a process comes to the root in time, where its probe tells late.
 fn comes_late<R: Threads + Wait + Clock + Abort + Sync>(rt: &R, alloc: Global, then: Then) -> bool {
-    let Watch {
-        mut probes,
-        mut relays,
-        inbox,
-    } = open(rt, alloc, (1, 8, 4), &[Parent::Root], &[Some(0)]).expect(rt, "memory");
-    let probe = last_probe(rt, &mut probes).telling_late();
+    let UnderOneRelay {
+        probes,
+        relay,
+        taker,
+    } = open_under_one_relay(rt, alloc, 1, 8, 4);
+    let probe = only_probe(rt, probes).telling_late();
     let sleeper = probe.new_sleeper(alloc).expect(rt, "memory");
     let bell = sleeper.bell().expect(rt, "memory");
-    let (relay, taker) = (last_relay(rt, &mut relays), inbox.into_taker());
     let came = AtomicBool::new(false);
     let shared = &came;
     let (fault, (in_time, ())) = join(
@@ -97,7 +95,7 @@ fn comes_late<R: Threads + Wait + Clock + Abort + Sync>(rt: &R, alloc: Global, t
 
 #[test]
 fn a_relay_asleep_is_told_before_a_process_waits(rt: HostRuntime) {
-    for then in [Then::Tells, Then::Sleeps, Then::Closes] {
-        assert!(rt; comes_late(&rt, rt.alloc(), then), "{then:?}");
-    }
+    assert!(rt; comes_late(&rt, rt.alloc(), Then::Tells));
+    assert!(rt; comes_late(&rt, rt.alloc(), Then::Sleeps));
+    assert!(rt; comes_late(&rt, rt.alloc(), Then::Closes));
 }

@@ -1,18 +1,18 @@
 //! Probes that put a note and are dropped between two looks of their leaf at their rings.
 use super::threads::{Arrival, take_all};
-use super::watches::run_relay;
-use std::alloc::{AllocError, Global};
+use super::watches::{UnderOneRelay, open_under_one_relay, run_relay};
+use std::alloc::Global;
+use std::process::Abort;
 use std::sync::Wait;
 use std::test::Fail;
-use std::thread::{Threads, join, map_vec};
+use std::thread::{Threads, join, map_indices};
 use std::time::{Clock, Duration, Instant};
 use wcp_lane::Taker;
-use wcp_model::plain_plan;
-use wcp_tree::{Bundle, LiveProbe, Relay, Watch, watch};
+use wcp_tree::{Bundle, LiveProbe};
 
 /// How many watches race at once, each in two threads: more than there are processors, so that now and then a leaf is
 /// stopped between its looks at a ring.
-const WATCHES: u32 = 4;
+const WATCHES: usize = 4;
 
 /// For how many milliseconds they race, again and again.
 const WHILE: u64 = 1_000;
@@ -66,23 +66,20 @@ fn emit_and_drop(
     taker
 }
 
-/// Whether of each process but process 0 its snapshot came, and then the mark that it was lost.
-fn all_come<R: Threads + Wait + Sync>(rt: &R, watch: Watch) -> bool {
-    let Watch {
+/// Whether of each process of a watch but process 0 its snapshot came, and then the mark that it was lost.
+fn all_come<R: Threads + Wait + Abort + Sync>(rt: &R, alloc: Global) -> bool {
+    let UnderOneRelay {
         probes,
-        mut relays,
-        inbox,
-    } = watch;
-    let Some(leaf) = relays.pop() else {
-        return false;
-    };
-    let taker = inbox.into_taker();
+        relay,
+        taker,
+    } = open_under_one_relay(rt, alloc, PROCESSES, 128, 64);
     let (fault, taker) = join(
         rt,
-        || run_relay(rt, leaf),
+        || run_relay(rt, relay),
         || emit_and_drop(rt, probes, taker),
     );
-    fault.is_none() && others_come(rt, taker)
+    let came = others_come(rt, taker);
+    came && fault.is_none()
 }
 
 /// Whether of each process but process 0 its snapshot comes, and then the mark that it was lost.
@@ -93,37 +90,22 @@ fn others_come(rt: &impl Wait, taker: Taker<Bundle>) -> bool {
         .all(|arrival| *arrival == Arrival::Lost(1))
 }
 
-fn open_watches(alloc: Global) -> Result<Vec<Watch>, AllocError> {
-    let plan = plain_plan(alloc, PROCESSES, 128, 64)?;
-    let mut watches = Vec::new(alloc);
-    for _ in 0..WATCHES {
-        watches.push(watch(alloc, &plan, 7)?)?;
-    }
-    Ok(watches)
-}
-
-/// Lets all watches race once: how many of them failed.
-fn race<R: Threads + Wait + Sync>(rt: &R, alloc: Global) -> Result<u32, AllocError> {
-    let watches = open_watches(alloc)?;
-    let mut failed = 0u32;
-    for came in map_vec(rt, watches, &|watch: Watch| all_come(rt, watch))? {
-        if !came {
-            failed = failed.wrapping_add(1);
-        }
-    }
-    Ok(failed)
+/// Lets all watches race once: whether all came in each of them.
+fn race<R: Threads + Wait + Abort + Sync>(rt: &R, alloc: Global) -> bool {
+    map_indices(rt, alloc, WATCHES, &|_| all_come(rt, alloc))
+        .expect(rt, "memory")
+        .iter()
+        .all(|came| *came)
 }
 
 #[test]
 fn what_a_process_puts_before_it_is_lost_comes(rt: HostRuntime) -> Result<(), Fail> {
     let start = Instant::now(&rt)?;
-    let mut failed = 0u32;
     for _ in 0..ROUNDS {
-        failed = failed.wrapping_add(race(&rt, rt.alloc())?);
+        assert!(rt; race(&rt, rt.alloc()));
         if start.elapsed(&rt)? > Duration::from_millis(WHILE) {
             break;
         }
     }
-    assert_eq!(rt; failed, 0);
     Ok(())
 }

@@ -1,35 +1,14 @@
 //! Watches whose probes and relays run in threads of their own.
 use super::watches::run_relay;
-use std::alloc::{AllocError, Global};
+use std::process::Abort;
 use std::sync::Wait;
-use std::thread::{Threads, map_vec};
+use std::thread::{Threads, join, map_vec};
 use wcp_clock::{MAX_PROCS, Note};
 use wcp_lane::Taker;
-use wcp_probe::Refusal;
-use wcp_tree::{Bundle, LiveProbe, Relay, RelayFault};
-
-/// What runs in a thread.
-#[derive(Drop)]
-pub enum Job {
-    Probe(LiveProbe),
-    Relay(Relay),
-}
-
-/// How it ended.
-#[derive(Clone, Copy, Debug, PartialEq, Eq)]
-pub enum Done {
-    /// A probe that emitted so many snapshots, and is closed.
-    Probe(u32),
-    /// A probe that was dropped.
-    Lost,
-    /// A relay, with its fault.
-    Relay(Option<RelayFault>),
-    /// A probe whose send was refused.
-    Refused(Refusal),
-}
+use wcp_tree::{Bundle, LiveProbe, Relay, RelayFault, Watch};
 
 /// How a process leaves.
-#[derive(Clone, Copy, Debug, PartialEq, Eq)]
+#[derive(Clone, Copy)]
 pub enum Leaving {
     /// Its probe is closed.
     Closed,
@@ -37,54 +16,90 @@ pub enum Leaving {
     Lost,
 }
 
-/// Emits so many snapshots, with a send behind each, and leaves.
-pub fn emit_all(rt: &impl Wait, probe: LiveProbe, snapshots: u32, leaving: Leaving) -> Done {
-    let mut probe = probe;
+/// Emits so many snapshots, with a send behind each, and leaves: how many it emitted, where it closed.
+fn emit_all(
+    rt: &(impl Abort + Wait),
+    mut probe: LiveProbe,
+    snapshots: u32,
+    leaving: Leaving,
+) -> Option<u32> {
     let to = if probe.id() == 0 { 1 } else { 0 };
     for _ in 0..snapshots {
         probe.observe(true);
         probe.flush_in_watch(rt);
-        if let Err((refusal, ())) = probe.stamp(to, ()) {
-            return Done::Refused(refusal);
-        }
+        assert!(rt; probe.stamp(to, ()).is_ok());
     }
     match leaving {
-        Leaving::Closed => Done::Probe(probe.close_in_watch(rt).emitted()),
-        Leaving::Lost => Done::Lost,
+        Leaving::Closed => Some(probe.close_in_watch(rt).emitted()),
+        Leaving::Lost => None,
     }
 }
 
-/// Runs each in a thread of its own; each probe emits so many snapshots.
-pub fn run_all<R: Threads + Wait + Sync>(
+/// Runs probes, each in a thread of its own, of which each emits so many snapshots: how many those emitted that closed.
+fn run_probes<R: Threads + Wait + Abort + Sync>(
     rt: &R,
-    jobs: Vec<Job>,
+    probes: Vec<LiveProbe>,
     snapshots: u32,
     leaving: Leaving,
-) -> Result<Vec<Done>, AllocError> {
+) -> Vec<Option<u32>> {
     map_vec(
         rt,
-        jobs,
-        &|job: Job| match job {
-            Job::Probe(probe) => emit_all(rt, probe, snapshots, leaving),
-            Job::Relay(relay) => Done::Relay(run_relay(rt, relay)),
-        },
+        probes,
+        &|probe: LiveProbe| emit_all(rt, probe, snapshots, leaving),
     )
+    .expect(rt, "memory")
 }
 
-/// The probes and the relays of a watch, each as a job.
-pub fn jobs_of(
-    alloc: Global,
-    probes: Vec<LiveProbe>,
+/// Runs relays, each in a thread of its own: the faults that they meet.
+pub fn run_relays<R: Threads + Wait + Abort + Sync>(
+    rt: &R,
     relays: Vec<Relay>,
-) -> Result<Vec<Job>, AllocError> {
-    let mut jobs = Vec::new(alloc);
-    for probe in probes {
-        jobs.push(Job::Probe(probe))?;
+) -> Vec<Option<RelayFault>> {
+    map_vec(rt, relays, &|relay: Relay| run_relay(rt, relay)).expect(rt, "memory")
+}
+
+/// What became of a watch that ran.
+#[derive(Drop)]
+pub struct Ran {
+    /// How many snapshots each process emitted, where it closed.
+    pub emitted: Vec<Option<u32>>,
+    /// The fault of each relay.
+    pub faults: Vec<Option<RelayFault>>,
+    /// What arrived of each process.
+    pub arrivals: [Arrival; MAX_PROCS],
+}
+
+/// The probes and relays run, each in a thread of its own, and the inbox is emptied.
+pub fn run_and_take<R: Threads + Wait + Abort + Sync>(
+    rt: &R,
+    watch: Watch,
+    processes: u32,
+    snapshots: u32,
+    leaving: Leaving,
+) -> Ran {
+    let Watch {
+        probes,
+        relays,
+        inbox,
+    } = watch;
+    let taker = inbox.into_taker();
+    let (emitted, rest) = join(
+        rt,
+        || run_probes(rt, probes, snapshots, leaving),
+        || {
+            join(
+                rt,
+                || run_relays(rt, relays),
+                || take_all(rt, taker, processes),
+            )
+        },
+    );
+    let (faults, arrivals) = rest;
+    Ran {
+        emitted,
+        faults,
+        arrivals,
     }
-    for relay in relays {
-        jobs.push(Job::Relay(relay))?;
-    }
-    Ok(jobs)
 }
 
 /// What arrived of a process.

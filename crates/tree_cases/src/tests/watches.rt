@@ -1,21 +1,24 @@
-//! Watches of plans that are checked, and the runs of their relays.
+//! Watches of plans that are checked, their parts, and the runs of their relays.
 use std::alloc::{AllocError, Global};
 use std::process::Abort;
 use std::sync::Wait;
-use wcp_model::{Parent, Plan, Watched};
-use wcp_tree::{LiveProbe, Relay, RelayFault, Watch, watch};
+use wcp_lane::Taker;
+use wcp_model::{Parent, Plan, Watched, plain_plan};
+use wcp_tree::{Bundle, LiveProbe, Relay, RelayFault, Watch, watch};
 
-/// A plan of these numbers, parents and attachments. Where memory runs out, asking again makes it.
-fn plan_of(
+/// Watch 7 of a plan of these numbers, parents and attachments. `Err` where memory runs out.
+fn open_once(
+    rt: &impl Abort,
     alloc: Global,
     (n, cap, hold): (u32, u32, u32),
     parents: &[Parent],
     attach: &[Option<u32>],
-) -> Result<Plan, AllocError> {
-    let parents = Vec::from_slice(alloc, parents).or_else(|_| Vec::from_slice(alloc, parents))?;
-    let attach = Vec::from_slice(alloc, attach).or_else(|_| Vec::from_slice(alloc, attach))?;
-    let watched = Watched::all(n.min(16));
-    Ok(Plan::new(n, cap, hold, parents, attach, watched))
+) -> Result<Watch, AllocError> {
+    let parents = Vec::from_slice(alloc, parents)?;
+    let attach = Vec::from_slice(alloc, attach)?;
+    let plan = Plan::new(n, cap, hold, parents, attach, Watched::all(n.min(16)));
+    assert!(rt; plan.check().is_ok());
+    watch(alloc, &plan, 7)
 }
 
 /// Watch 7 of a plan of these numbers, parents and attachments. Where memory runs out, asking again makes it.
@@ -25,10 +28,67 @@ pub fn open(
     numbers: (u32, u32, u32),
     parents: &[Parent],
     attach: &[Option<u32>],
-) -> Result<Watch, AllocError> {
-    let plan = plan_of(alloc, numbers, parents, attach)?;
+) -> Watch {
+    match open_once(rt, alloc, numbers, parents, attach) {
+        Ok(opened) => opened,
+        Err(_) => open_once(rt, alloc, numbers, parents, attach).expect(rt, "memory"),
+    }
+}
+
+/// The parts of a watch with one relay.
+#[derive(Drop)]
+pub struct UnderOneRelay {
+    pub probes: Vec<LiveProbe>,
+    pub relay: Relay,
+    pub taker: Taker<Bundle>,
+}
+
+/// The parts of watch 7 of so many processes under one relay, with this room in links, inboxes and holds.
+pub fn open_under_one_relay(
+    rt: &impl Abort,
+    alloc: Global,
+    processes: u32,
+    cap: u32,
+    hold: u32,
+) -> UnderOneRelay {
+    let plan = plain_plan(alloc, processes, cap, hold).expect(rt, "memory");
     assert!(rt; plan.check().is_ok());
-    watch(alloc, &plan, 7).or_else(|_| watch(alloc, &plan, 7))
+    let Watch {
+        probes,
+        relays,
+        inbox,
+    } = watch(alloc, &plan, 7).expect(rt, "memory");
+    UnderOneRelay {
+        probes,
+        relay: only_relay(rt, relays),
+        taker: inbox.into_taker(),
+    }
+}
+
+/// The one of these relays.
+fn only_relay(rt: &impl Abort, mut relays: Vec<Relay>) -> Relay {
+    let relay = relays.pop().expect(rt, "a relay");
+    assert_eq!(rt; relay.number(), 0);
+    relay
+}
+
+/// The one of these probes.
+pub fn only_probe(rt: &impl Abort, mut probes: Vec<LiveProbe>) -> LiveProbe {
+    probes.pop().expect(rt, "a probe")
+}
+
+/// The probes of two processes.
+#[derive(Drop)]
+pub struct Pair {
+    pub first: LiveProbe,
+    pub second: LiveProbe,
+}
+
+/// The two of these probes.
+pub fn pair_of(rt: &impl Abort, mut probes: Vec<LiveProbe>) -> Pair {
+    let second = probes.pop().expect(rt, "a probe");
+    let first = only_probe(rt, probes);
+    Pair { first, second }
 }
 
 /// Runs a relay: the fault that it meets.
@@ -41,22 +101,13 @@ pub fn run_well(rt: &(impl Abort + Wait), relay: Relay) {
     assert!(rt; run_relay(rt, relay).is_none());
 }
 
-/// The last of these probes, which is there.
-pub fn last_probe(rt: &impl Abort, probes: &mut Vec<LiveProbe>) -> LiveProbe {
-    probes.pop().expect(rt, "a probe")
-}
-
-/// The last of these relays, which is there.
-pub fn last_relay(rt: &impl Abort, relays: &mut Vec<Relay>) -> Relay {
-    relays.pop().expect(rt, "a relay")
-}
-
-/// The process emits a snapshot, for which its ring has room.
-pub fn emit(rt: &impl Abort, probe: &mut LiveProbe) {
+/// The process emits a snapshot, for which its link has room, and sends.
+pub fn emit_and_send(rt: &impl Abort, probe: &mut LiveProbe) {
     assert!(rt; probe.observe(true) && probe.flush());
+    assert!(rt; probe.stamp(1, ()).is_ok());
 }
 
-/// The process closes: its ring has room for the mark.
+/// The process closes: its link has room for the mark.
 pub fn close(rt: &impl Abort, probe: LiveProbe) {
     assert!(rt; probe.close().is_ok());
 }

@@ -7,15 +7,15 @@ use Rattle.wcp_relay.specs.declared.bundle.Bundle.{Bundle}
 use Rattle.tree_cases.proofs.tests.gaps.lane_of_one.Goals as goal
 
 pub returns-clause-members : goal.returns-clause-members
-returns-clause-members c =
-    let name = c.in_ok-putters.taker.lane in
+returns-clause-members g c =
+    let name = c.in-Ok.taker.lane in
     let is : c.in-Some.putter ≡ new_putter name (set.insert set.empty 0) =
     first_of (search rules, grind (arith, common_steps)) in
     ap (λ (end : PutEnd Bundle Item). end.members) is
 
 pub returns-clause-none_put : goal.returns-clause-none_put
-returns-clause-none_put c =
-    let name = c.in_ok-putters.taker.lane in
+returns-clause-none_put g c =
+    let name = c.in-Ok.taker.lane in
     let is : c.in-Some.putter ≡ new_putter name (set.insert set.empty 0) =
     first_of (search rules, grind (arith, common_steps)) in
     ap (λ (end : PutEnd Bundle Item). end.put) is
