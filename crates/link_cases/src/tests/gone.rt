@@ -1,7 +1,6 @@
+use super::rings::{assert_puts, assert_takes, snapshot};
 use std::sync::Wait;
 use std::thread;
-use std::thread::Threads;
-use wcp_clock::{Clock, Note};
 use wcp_ring::{RingPutter, RingTaker, ring};
 
 /// How many rings are filled, each by a thread that drops its end while another takes.
@@ -10,32 +9,17 @@ const ROUNDS: u32 = 2_000;
 /// How many notes are put into each.
 const NOTES: u32 = 3;
 
-fn snapshot(number: u32) -> Note {
-    Note::Snap {
-        number,
-        clock: Clock::new(2),
-    }
-}
-
 #[test]
-fn an_end_is_gone_once_it_was_dropped(rt: HostRuntime) {
+fn an_end_is_gone_once_what_is_left_of_it_was_dropped(rt: HostRuntime) {
     let (mut putter, mut taker) = ring(rt.alloc(), 2).expect(&rt, "memory");
     assert!(rt; !taker.gone());
-    assert_eq!(rt; putter.try_put(snapshot(0)), Ok(()));
-    assert!(rt; !taker.gone());
-    drop(putter);
-    assert!(rt; taker.gone());
-    assert_eq!(rt; taker.try_take(), Some(snapshot(0)));
-    assert_eq!(rt; taker.try_take(), None);
-    assert!(rt; taker.gone());
-}
-
-#[test]
-fn an_end_that_puts_no_more_is_not_gone(rt: HostRuntime) {
-    let (putter, mut taker) = ring(rt.alloc(), 2).expect(&rt, "memory");
+    assert_puts(&rt, &mut putter, snapshot(0));
     let end = putter.end();
     assert!(rt; !taker.gone());
     drop(end);
+    assert!(rt; taker.gone());
+    assert_takes(&rt, &mut taker, Some(snapshot(0)));
+    assert_takes(&rt, &mut taker, None);
     assert!(rt; taker.gone());
 }
 
@@ -43,8 +27,8 @@ fn an_end_that_puts_no_more_is_not_gone(rt: HostRuntime) {
 fn an_end_that_takes_is_gone_once_it_was_dropped(rt: HostRuntime) {
     let (mut putter, mut taker) = ring(rt.alloc(), 2).expect(&rt, "memory");
     assert!(rt; putter.linked().is_ok());
-    assert_eq!(rt; putter.try_put(snapshot(0)), Ok(()));
-    assert_eq!(rt; taker.try_take(), Some(snapshot(0)));
+    assert_puts(&rt, &mut putter, snapshot(0));
+    assert_takes(&rt, &mut taker, Some(snapshot(0)));
     assert!(rt; putter.linked().is_ok());
     drop(taker);
     assert!(rt; putter.linked().is_err());
@@ -63,11 +47,11 @@ fn take_until_gone(rt: &impl Wait, mut taker: RingTaker) -> u32 {
         let gone = taker.gone();
         match taker.try_take() {
             Some(_) => came = came.wrapping_add(1),
-            None if gone => return came,
+            None if gone => break,
             None => thread::yield_now(),
         }
     }
-    unreachable!()
+    came
 }
 
 #[test]

@@ -1,10 +1,11 @@
 //! Lanes of snapshots, for the tests.
-ghost use Rattle.std.specs.Prelude.{◌≡◌, ◌+◌, true, false, map, IfOk, OnOk};
+ghost use Rattle.std.specs.Prelude.{◌≡◌, ◌+◌, true, false, map, IfOk, OnOk, OnErr};
 ghost use Rattle.wcp_clock.specs.Notes.{place_of, is_last};
 ghost use Rattle.wcp_lane.specs.Ends.{new_putter};
 ghost use Rattle.wcp_lane.specs.Snapshots.{HasPut};
 
 use std::alloc::Global;
+use std::process::Abort;
 use std::sync::Wait;
 use wcp_clock::{Clock, Item, Note};
 use wcp_lane::{Cut, LaneFault, Members, Putter, Taker, lane};
@@ -51,6 +52,7 @@ pub fn try_put_snap<R: Wait>(
     requires { HasPut from number putter.old }
     ensures put { IfOk result (λ was_put. was_put ≡ true → HasPut from (number + 1) putter.new) }
     ensures full { IfOk result (λ was_put. was_put ≡ false → HasPut from number putter.new) }
+    ensures cut { OnErr result (HasPut from number putter.new) }
 {
     match putter.try_put(rt, snap(from, number)) {
         Ok(back) => Ok(back.is_none()),
@@ -72,56 +74,57 @@ fn lane_of(
     }
 }
 
-/// A lane with a putter of process 0 alone.
-pub fn lane_of_one(alloc: Global, cap: u32) -> Result<(Putter<Item>, Taker<Item>), LaneFault>
-    ensures lane { IfOk result (λ ends. ends.0.lane ≡ ends.1.lane) }
-    ensures new { IfOk result (λ ends. HasPut 0 0 ends.0) }
+/// The ends of a lane with a putter of process 0 alone.
+#[derive(Drop)]
+pub struct One {
+    pub putter: Putter<Item>,
+    pub taker: Taker<Item>,
+}
+
+pub fn lane_of_one(rt: &impl Abort, alloc: Global, cap: u32) -> One
+    ensures { HasPut 0 0 result.putter }
 {
-    let (mut putters, taker) = lane_of(alloc, cap, &[Members::none().with(0)])?;
+    let Ok((mut putters, taker)) = lane_of(alloc, cap, &[Members::none().with(0)]) else {
+        panic!(rt; "no lane");
+    };
     let Some(putter) = putters.pop() else {
-        return Err(LaneFault::MemberSets);
+        panic!(rt; "no putter");
     };
-    Ok((putter, taker))
+    One { putter, taker }
 }
 
-/// A lane with a putter of process 0 and one of process 1.
-pub fn lane_of_two(
-    alloc: Global,
-    cap: u32,
-) -> Result<(Putter<Item>, Putter<Item>, Taker<Item>), LaneFault>
-    ensures lane { IfOk result (λ ends. (ends.0.lane ≡ ends.2.lane) × (ends.1.lane ≡ ends.2.lane)) }
-    ensures new { IfOk result (λ ends. HasPut 0 0 ends.0 × HasPut 1 0 ends.1) }
-{
-    let member_sets = [Members::none().with(0), Members::none().with(1)];
-    let (mut putters, taker) = lane_of(alloc, cap, &member_sets)?;
-    let Some(second) = putters.pop() else {
-        return Err(LaneFault::MemberSets);
-    };
-    let Some(first) = putters.pop() else {
-        return Err(LaneFault::MemberSets);
-    };
-    Ok((first, second, taker))
+/// The ends of a lane with a putter of each of the processes 0, 1 and 2.
+#[derive(Drop)]
+pub struct Three {
+    pub first: Putter<Item>,
+    pub second: Putter<Item>,
+    pub third: Putter<Item>,
+    pub taker: Taker<Item>,
 }
 
-/// A lane with a putter of each of the processes 0, 1 and 2.
-pub fn lane_of_three(
-    alloc: Global,
-    cap: u32,
-) -> Result<(Putter<Item>, Putter<Item>, Putter<Item>, Taker<Item>), LaneFault>
-    ensures lane { IfOk result (λ ends. (ends.0.lane ≡ ends.3.lane) × (ends.1.lane ≡ ends.3.lane)
-        × (ends.2.lane ≡ ends.3.lane)) }
-    ensures new { IfOk result (λ ends. HasPut 0 0 ends.0 × HasPut 1 0 ends.1 × HasPut 2 0 ends.2) }
+pub fn lane_of_three(rt: &impl Abort, alloc: Global, cap: u32) -> Three
+    ensures lane { (result.first.lane ≡ result.taker.lane) × (result.second.lane ≡ result.taker.lane)
+        × (result.third.lane ≡ result.taker.lane) }
+    ensures new { HasPut 0 0 result.first × HasPut 1 0 result.second × HasPut 2 0 result.third }
 {
     let none = Members::none();
-    let (mut putters, taker) = lane_of(alloc, cap, &[none.with(0), none.with(1), none.with(2)])?;
+    let Ok((mut putters, taker)) = lane_of(alloc, cap, &[none.with(0), none.with(1), none.with(2)])
+    else {
+        panic!(rt; "no lane");
+    };
     let Some(third) = putters.pop() else {
-        return Err(LaneFault::MemberSets);
+        panic!(rt; "no putter");
     };
     let Some(second) = putters.pop() else {
-        return Err(LaneFault::MemberSets);
+        panic!(rt; "no putter");
     };
     let Some(first) = putters.pop() else {
-        return Err(LaneFault::MemberSets);
+        panic!(rt; "no putter");
     };
-    Ok((first, second, third, taker))
+    Three {
+        first,
+        second,
+        third,
+        taker,
+    }
 }

@@ -4,7 +4,7 @@ use super::waking::{Progress, take_until_left};
 use std::alloc::Global;
 use std::process::Abort;
 use std::sync::Wait;
-use std::thread::{join, sleep};
+use std::thread::{Threads, join, sleep};
 use std::time::{Clock, Duration};
 use wcp_clock::Note;
 use wcp_ring::{Bell, RingPutter, RingTaker, Sleeper, ring};
@@ -46,28 +46,39 @@ fn put_in_bursts<R: Clock>(
     true
 }
 
+/// Whether a taker asleep takes so many notes in time, each time that they are put and the putter then rings or not.
+fn is_told_in_time<R: Threads + Wait + Clock + Abort + Sync>(
+    rt: &R,
+    alloc: Global,
+    notes: u32,
+    tells: bool,
+) -> bool {
+    let Ends {
+        putter,
+        taker,
+        sleeper,
+    } = for_a_taker_that_sleeps(rt, alloc, ROOM);
+    let mut putter = putter.ringing_late();
+    let progress = Progress::new();
+    let shared = &progress;
+    let (in_time, ()) = join(
+        rt,
+        move || {
+            let in_time = put_in_bursts(rt, &mut putter, notes, tells, shared);
+            shared.leave();
+            drop(putter);
+            in_time
+        },
+        move || take_until_left(rt, taker, sleeper, shared),
+    );
+    in_time
+}
+
 /// Half of the room wakes the taker, and so does a putter that says so.
 #[test]
 fn a_taker_asleep_is_told_late(rt: HostRuntime) {
     for (notes, tells) in [(ROOM / 2, false), (ROOM, false), (1, true), (3, true)] {
-        let Ends {
-            putter,
-            mut taker,
-            mut sleeper,
-        } = for_a_taker_that_sleeps(&rt, rt.alloc(), ROOM);
-        let mut putter = putter.ringing_late();
-        let progress = Progress::new();
-        let (shared, handle) = (&progress, &rt);
-        let (in_time, ()) = join(
-            handle,
-            move || {
-                let in_time = put_in_bursts(handle, &mut putter, notes, tells, shared);
-                shared.leave();
-                drop(putter);
-                in_time
-            },
-            || take_until_left(handle, &mut taker, &mut sleeper, shared),
-        );
+        let in_time = is_told_in_time(&rt, rt.alloc(), notes, tells);
         assert!(rt; in_time, "{notes} notes");
     }
 }
@@ -107,7 +118,7 @@ impl Partner {
             let _ = sleep(rt, Duration::from_millis(1));
             let put = self.putter.try_put(Note::Close { count: number });
             if put.is_err() || !take_asleep(rt, &mut self.taker, &mut self.sleeper, progress) {
-                return;
+                break;
             }
             progress.step();
         }
@@ -117,7 +128,7 @@ impl Partner {
     fn answer<R: Wait>(mut self, rt: &R, progress: &Progress) {
         for number in 0..NOTES {
             if !take_asleep(rt, &mut self.taker, &mut self.sleeper, progress) {
-                return;
+                break;
             }
             let _ = self.putter.try_put(Note::Close { count: number });
         }

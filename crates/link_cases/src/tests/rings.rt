@@ -1,53 +1,58 @@
-ghost use Rattle.std.specs.Prelude.{◌≡◌, ◌<◌, ◌≤◌, IfOk};
+ghost use Rattle.std.specs.Prelude.{◌≡◌, ◌<◌, ◌≤◌};
 
-use std::alloc::{AllocError, Global};
+use std::alloc::Global;
+use std::process::Abort;
 use std::sync::Wait;
-use std::test::Fail;
 use std::thread;
 use std::thread::Threads;
 use wcp_clock::{Clock, Note};
-use wcp_ring::{Matched, PutterEnd, RingPutter, RingTaker, Unfinished, match_ends, ring};
+use wcp_ring::{PutterEnd, RingPutter, RingTaker, match_ends, ring};
 
 /// The notes that one thread puts and another takes.
 const NOTES: u32 = 100_000;
 
-fn snapshot(number: u32) -> Note {
+pub fn snapshot(number: u32) -> Note {
     Note::Snap {
         number,
         clock: Clock::new(2),
     }
 }
 
+/// The ring has room for the note.
+pub fn assert_puts(rt: &impl Abort, putter: &mut RingPutter, note: Note)
+    ensures { putter.new.ring ≡ putter.old.ring }
+{
+    assert!(rt; putter.try_put(note).is_ok());
+}
+
+/// This is the ring's next note, or it has none.
+pub fn assert_takes(rt: &impl Abort, taker: &mut RingTaker, note: Option<Note>)
+    ensures { taker.new.ring ≡ taker.old.ring }
+{
+    assert_eq!(rt; taker.try_take(), note);
+}
+
 /// A ring. Where memory runs out, asking again makes it.
-fn ring_of(alloc: Global, cap: u32) -> Result<(RingPutter, RingTaker), AllocError>
+fn ring_of(rt: &impl Abort, alloc: Global, cap: u32) -> (RingPutter, RingTaker)
     requires some { 0 < cap }
     requires within { cap ≤ 1024 }
-    ensures { IfOk result (λ ends. ends.0.ring ≡ ends.1.ring) }
+    ensures { result.0.ring ≡ result.1.ring }
 {
     match ring(alloc, cap) {
-        Ok(ends) => Ok(ends),
-        Err(_) => ring(alloc, cap),
+        Ok(ends) => ends,
+        Err(_) => ring(alloc, cap).expect(rt, "memory"),
     }
 }
 
 #[test]
 fn one_note_through_a_ring_of_one(rt: HostRuntime) {
-    let (mut putter, mut taker) = ring_of(rt.alloc(), 1).expect(&rt, "memory");
-    assert_eq!(rt; taker.try_take(), None);
-    assert_eq!(rt; putter.try_put(snapshot(0)), Ok(()));
+    let (mut putter, mut taker) = ring_of(&rt, rt.alloc(), 1);
+    assert_takes(&rt, &mut taker, None);
+    assert_puts(&rt, &mut putter, snapshot(0));
     assert_eq!(rt; putter.try_put(snapshot(1)), Err(snapshot(1)));
-    assert_eq!(rt; taker.try_take(), Some(snapshot(0)));
-    assert_eq!(rt; taker.try_take(), None);
+    assert_takes(&rt, &mut taker, Some(snapshot(0)));
+    assert_takes(&rt, &mut taker, None);
     assert!(rt; match_ends(putter.end(), taker).is_ok());
-}
-
-#[test]
-fn a_note_left_in_a_ring(rt: HostRuntime) {
-    let (mut putter, mut taker) = ring_of(rt.alloc(), 1024).expect(&rt, "memory");
-    assert_eq!(rt; putter.try_put(snapshot(0)), Ok(()));
-    assert_eq!(rt; putter.try_put(Note::Close { count: 1 }), Ok(()));
-    assert_eq!(rt; taker.try_take(), Some(snapshot(0)));
-    assert!(rt; match_ends(putter.end(), taker).is_err());
 }
 
 fn put_waiting(rt: &impl Wait, putter: &mut RingPutter, note: Note)
@@ -100,16 +105,12 @@ fn take_all(rt: &impl Wait, taker: RingTaker) -> (RingTaker, u32)
     (taker, in_place)
 }
 
-/// One thread puts all notes and another takes them: how many came at their place, and whether the ends match.
-fn across<R: Threads + Wait + Sync>(
-    rt: &R,
-    alloc: Global,
-    cap: u32,
-) -> Result<(u32, Result<Matched, Unfinished>), AllocError>
+/// One thread puts all notes and another takes them: how many came at their place. What was put is what was taken.
+fn across<R: Threads + Wait + Abort + Sync>(rt: &R, alloc: Global, cap: u32) -> u32
     requires some { 0 < cap }
     requires within { cap ≤ 1024 }
 {
-    let (putter, taker) = ring_of(alloc, cap)?;
+    let (putter, taker) = ring_of(rt, alloc, cap);
     let (end, (taker, in_place)) = thread::join(
         rt,
         move || -> PutterEnd
@@ -119,13 +120,11 @@ fn across<R: Threads + Wait + Sync>(
             ensures { result.0.ring ≡ taker.ring }
         { take_all(rt, taker) },
     );
-    Ok((in_place, match_ends(end, taker)))
+    assert!(rt; match_ends(end, taker).is_ok());
+    in_place
 }
 
 #[test]
-fn all_notes_between_two_threads(rt: HostRuntime) -> Result<(), Fail> {
-    let (in_place, matched) = across(&rt, rt.alloc(), 4)?;
-    assert_eq!(rt; in_place, NOTES);
-    assert!(rt; matched.is_ok());
-    Ok(())
+fn all_notes_between_two_threads(rt: HostRuntime) {
+    assert_eq!(rt; across(&rt, rt.alloc(), 4), NOTES);
 }

