@@ -6,6 +6,7 @@ mod losing;
 mod one_thread;
 mod racing;
 mod running;
+mod stamps;
 mod threads;
 mod waiting;
 mod watches;

@@ -1,9 +1,21 @@
+ghost use Rattle.std.specs.Prelude.{◌≡◌, ◌+◌, false, true, [], ◌∷◌, IfOk, IsTrue};
+ghost use Rattle.wcp_clock.specs.Notes.{place_of, is_last};
+ghost use Rattle.wcp_relay.specs.Bundles.{Continues};
+ghost use Rattle.tree_cases.specs.BundleLanes.{HasPut};
+
+use std::alloc::Global;
 use std::process::Abort;
+use std::sync::Wait;
+use std::test::Fail;
 use wcp_clock::{Clock, Item, Note};
+use wcp_lane::{LaneFault, Members, Putter, Taker, lane, reconcile};
 use wcp_tree::Bundle;
 
 /// The close mark of process 0, which emitted so many snapshots.
-fn close_mark(count: u32) -> Item {
+fn close_mark(count: u32) -> Item
+    ensures from { result.from ≡ 0 }
+    ensures place { place_of result.note ≡ count }
+{
     Item {
         from: 0,
         note: Note::Close { count },
@@ -11,7 +23,11 @@ fn close_mark(count: u32) -> Item {
 }
 
 /// Snapshot `number` of process `from`.
-fn snap(from: u32, number: u32) -> Item {
+fn snap(from: u32, number: u32) -> Item
+    ensures from { result.from ≡ from }
+    ensures place { place_of result.note ≡ number }
+    ensures unended { is_last result.note ≡ false }
+{
     let clock = Clock::new(2);
     Item {
         from,
@@ -19,36 +35,121 @@ fn snap(from: u32, number: u32) -> Item {
     }
 }
 
-/// Whether the item joins the bundle. Where it doesn't, it comes back.
-fn joins(rt: &impl Abort, bundle: &mut Bundle, item: &Item) -> bool {
-    match bundle.add(*item) {
-        Ok(()) => true,
-        Err(back) => {
-            assert_eq!(rt; back, *item);
-            false
-        }
-    }
+/// The item joins the bundle.
+fn joins(rt: &impl Abort, bundle: &mut Bundle, item: Item) {
+    assert!(rt; bundle.add(item).is_ok());
 }
 
-/// Which of these items join the bundle, one after another.
-fn assert_joins(rt: &impl Abort, bundle: &mut Bundle, items: &[(Item, bool)]) {
-    for (place, (item, expected)) in items.iter().enumerate() {
-        assert_eq!(rt; joins(rt, bundle, item), *expected, "item {place}");
+/// The item doesn't join the bundle, and comes back.
+fn stays_out(rt: &impl Abort, bundle: &mut Bundle, item: &Item) {
+    assert_eq!(rt; bundle.add(*item).err(), Some(*item));
+}
+
+#[test]
+fn who_may_join_a_bundle(rt: HostRuntime) -> Result<(), Fail> {
+    let mut bundle = Bundle::one(snap(0, 3));
+    joins(&rt, &mut bundle, snap(0, 4));
+    stays_out(&rt, &mut bundle, &snap(1, 5));
+    stays_out(&rt, &mut bundle, &snap(0, 6));
+    joins(&rt, &mut bundle, close_mark(5));
+    stays_out(&rt, &mut bundle, &snap(0, 5));
+    assert_eq!(rt; bundle.len(), 3);
+    assert_eq!(rt; bundle.get(2), Some(close_mark(5)));
+    assert_eq!(rt; bundle.get(3), None);
+    Ok(())
+}
+
+/// The mark that process 0 was lost after so many snapshots.
+fn lost_mark(count: u32) -> Item {
+    Item {
+        from: 0,
+        note: Note::Lost { count },
     }
 }
 
 #[test]
-fn who_may_join_a_bundle(rt: HostRuntime) {
+fn nothing_joins_a_bundle_behind_the_mark_of_a_lost_process(rt: HostRuntime) -> Result<(), Fail> {
     let mut bundle = Bundle::one(snap(0, 3));
-    let items = [
-        (snap(0, 4), true),
-        (snap(1, 5), false),
-        (snap(0, 6), false),
-        (close_mark(5), true),
-        (snap(0, 5), false),
-    ];
-    assert_joins(&rt, &mut bundle, &items);
-    assert_eq!(rt; bundle.len(), 3);
-    assert_eq!(rt; bundle.get(2), Some(close_mark(5)));
-    assert_eq!(rt; bundle.get(3), None);
+    stays_out(&rt, &mut bundle, &lost_mark(3));
+    joins(&rt, &mut bundle, lost_mark(4));
+    stays_out(&rt, &mut bundle, &close_mark(5));
+    stays_out(&rt, &mut bundle, &snap(0, 5));
+    assert_eq!(rt; bundle.len(), 2);
+    Ok(())
+}
+
+#[test]
+fn a_bundle_has_room_for_eight(rt: HostRuntime) -> Result<(), Fail> {
+    let mut bundle = Bundle::one(snap(1, 0));
+    for number in 1..8 {
+        joins(&rt, &mut bundle, snap(1, number));
+    }
+    stays_out(&rt, &mut bundle, &snap(1, 8));
+    assert_eq!(rt; bundle.len(), 8);
+    Ok(())
+}
+
+/// A lane of bundles with one putter, of process 0.
+fn lane_of_bundles(alloc: Global) -> Result<(Putter<Bundle>, Taker<Bundle>), LaneFault>
+    ensures lane { IfOk result (λ ends. ends.0.lane ≡ ends.1.lane) }
+    ensures new { IfOk result (λ ends. HasPut 0 ends.0) }
+{
+    let (mut putters, taker) = lane(alloc, 1, &[Members::none().with(0)])?;
+    let Some(putter) = putters.pop() else {
+        return Err(LaneFault::MemberSets);
+    };
+    Ok((putter, taker))
+}
+
+/// A bundle of two items.
+fn pair(first: Item, second: Item) -> Bundle
+    requires { Continues first second }
+    ensures { result ≡ first ∷ second ∷ [] }
+{
+    let mut pair = Bundle::one(first);
+    match pair.add(second) {
+        Ok(()) => pair,
+        Err(_) => unreachable!(),
+    }
+}
+
+/// Puts snapshot `number` of process 0 and its next item as one bundle: whether the lane took it.
+fn put_pair<R: Wait>(rt: &R, putter: &mut Putter<Bundle>, number: u32, second: Item) -> bool
+    requires put { HasPut number putter.old }
+    requires from { second.from ≡ 0 }
+    requires place { place_of second.note ≡ number + 1 }
+    ensures lane { putter.new.lane ≡ putter.old.lane }
+    ensures put { IsTrue result → is_last second.note ≡ false → HasPut (number + 2) putter.new }
+{
+    match putter.put(rt, pair(snap(0, number), second)) {
+        Ok(()) => true,
+        Err(_) => false,
+    }
+}
+
+/// Takes a bundle, which is of just these items.
+fn assert_takes(
+    rt: &(impl Abort + Wait),
+    taker: &mut Taker<Bundle>,
+    items: &[Item],
+) -> Result<(), Fail>
+    ensures { taker.new.lane ≡ taker.old.lane }
+{
+    let taken = taker.take(rt)?;
+    assert_eq!(rt; taken.items(), items);
+    Ok(())
+}
+
+#[test]
+fn two_bundles_over_a_lane_for_one(rt: HostRuntime) -> Result<(), Fail> {
+    let (mut putter, mut taker) = lane_of_bundles(rt.alloc())?;
+    let put = put_pair(&rt, &mut putter, 0, snap(0, 1));
+    assert!(rt; put);
+    assert_takes(&rt, &mut taker, [snap(0, 0), snap(0, 1)].as_slice())?;
+    let put = put_pair(&rt, &mut putter, 2, close_mark(3));
+    assert!(rt; put);
+    assert_takes(&rt, &mut taker, [snap(0, 2), close_mark(3)].as_slice())?;
+    let receipt = reconcile(taker.end(), putter.end())?;
+    assert!(rt; receipt.matched(0));
+    Ok(())
 }
