@@ -1,4 +1,8 @@
 use super::lanes::{One, lane_of_one, lane_of_three, put_snap, snap, try_put_snap};
+use std::alloc::Global;
+use std::process::Abort;
+use wcp_clock::Item;
+use wcp_lane::{LaneFault, Members, lane};
 
 #[test]
 fn items_of_two_putters_come_in_their_order(rt: HostRuntime) {
@@ -49,4 +53,29 @@ fn each_end_knows_its_numbers(rt: HostRuntime) {
     assert!(rt; taker.members().has(0) && !taker.members().has(1));
     assert!(rt; putter.end().members().has(0));
     assert!(rt; taker.end().members().has(0));
+}
+
+/// There is no lane with this room and a putter for each of these sets, for this reason.
+fn assert_refused(
+    rt: &impl Abort,
+    alloc: Global,
+    cap: u32,
+    member_sets: &[Members],
+    fault: LaneFault,
+) {
+    assert_eq!(rt;
+        lane::<Item>(alloc, cap, member_sets).err(),
+        Some(fault),
+        "at {cap}"
+    );
+}
+
+#[test]
+fn the_first_fault_is_answered(rt: HostRuntime) {
+    let first = Members::none().with(0);
+    let both = first.with(1);
+    assert_refused(&rt, rt.alloc(), 0, &[both, both], LaneFault::Cap);
+    assert_refused(&rt, rt.alloc(), 65_537, &[first], LaneFault::Cap);
+    assert_refused(&rt, rt.alloc(), 2, &[first, both], LaneFault::MemberSets);
+    assert_refused(&rt, rt.alloc(), 1, &[], LaneFault::MemberSets);
 }

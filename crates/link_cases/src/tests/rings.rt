@@ -55,6 +55,13 @@ fn one_note_through_a_ring_of_one(rt: HostRuntime) {
     assert!(rt; match_ends(putter.end(), taker).is_ok());
 }
 
+#[test]
+fn a_note_left_in_a_ring(rt: HostRuntime) {
+    let (mut putter, taker) = ring_of(&rt, rt.alloc(), 1);
+    assert_puts(&rt, &mut putter, snapshot(0));
+    assert!(rt; match_ends(putter.end(), taker).is_err());
+}
+
 fn put_waiting(rt: &impl Wait, putter: &mut RingPutter, note: Note)
     ensures { putter.new.ring ≡ putter.old.ring }
 {
