@@ -6,6 +6,7 @@ fn what_is_posted_or_told_first_stays(rt: HostRuntime) {
     let mut book = Book::new(2);
     assert!(rt; book.post(0, 2, 2).is_ok());
     assert_eq!(rt; book.post(0, 1, 1), Err(BookFault::Twice));
+    assert_eq!(rt; book.post(2, 1, 1), Err(BookFault::NoSuch));
     let share = Tally {
         emitted: 2,
         taken: 2,

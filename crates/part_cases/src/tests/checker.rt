@@ -83,6 +83,15 @@ fn assert_report(rt: &impl Abort, checker: &Checker, report: Report) {
     assert_eq!(rt; checker.report(), report);
 }
 
+/// A checker took a snapshot of process 0 before and after each of so many sends, and one of process 1, and compared
+/// components for them.
+fn assert_taken(rt: &impl Abort, checker: &Checker, sends: u32) {
+    assert_eq!(rt; checker.processes(), 2);
+    let sends = u64::from(sends);
+    assert_eq!(rt; (checker.taken(0), checker.taken(1)), (sends + 1, 1));
+    assert!(rt; (1..=2 * (sends + 2)).contains(&checker.tests()));
+}
+
 /// Process 0 takes a snapshot before and after each of its sends, and process 1 one after it
 /// received the last. Each head of process 0 but the last precedes that of process 1.
 fn check_sends(rt: &impl Abort, alloc: Global, sends: u32) {
@@ -92,6 +101,7 @@ fn check_sends(rt: &impl Abort, alloc: Global, sends: u32) {
     take(rt, &mut checker, &snapshot(1, 0, received(rt, &sent)));
     let cut = GlobalCut::new(&[Some(sends), Some(1)]);
     assert_report(rt, &checker, Report::Found(cut));
+    assert_taken(rt, &checker, sends);
 }
 
 #[test]
