@@ -7,7 +7,7 @@ pub use Rattle.clap.specs.Kinds.{or_else}
 pub use Rattle.clap.specs.Lexer.{strip_byte}
 pub use Rattle.clap.specs.Simple.{names_of, entered, new_shape}
 pub use Rattle.clap.specs.Values.{bool_text}
-pub use Rattle.clap.specs.Walk.{Held, nothing_held, walk_from, finished, settled, stop_after, walk, walked, Names, Rule}
+pub use Rattle.clap.specs.Walk.{Held, nothing_held, walk_from, finished, settled, stop_after, walked, Names, Rule}
 pub use Rattle.clap.specs.Walk.{Walk}
 pub use Rattle.clap.specs.Words.{Text, built, fault_of, IsAmong, Kinds, is_simple, is_simple_and_free, Shape, Row}
 pub use Rattle.clap.specs.Words.{subcommand_of, subcommand_name_of, subcommand_rows, subcommand_rows_of, App, HasKind}
@@ -16,7 +16,7 @@ pub use Rattle.clap.specs.declared.error.kind.ErrorKind.{ErrorKind}
 pub use Rattle.std.proofs.Common.{◌≡◌, ◌∙◌, ◌<◌, ◌^◌, ℕ, Bool, true, false, List, [], ◌∷◌, codes, ap, None, refl}
 pub use Rattle.std.proofs.Common.{decimal, drop, inl, inr, ◌==◌, ◌&&◌, ◌≤◌, ◌⊎◌, length, pos, subst, arith, nat_le}
 pub use Rattle.std.proofs.Common.{nat_lt, lt-ltb, le-leb, leb-true, ne_eqb, ◌≢◌, sym, true≢false, IsErr, Result, Ok}
-pub use Rattle.std.proofs.Common.{Err, ap₂, Some, Option, get_or, if◌then◌else◌, zero, suc, ◌++◌, replicate, append-nil}
+pub use Rattle.std.proofs.Common.{Err, ap₂, Some, Option, zero, suc, ◌++◌, replicate, append-nil}
 pub use Rattle.std.proofs.Common.{eq-eqb, fold, append_assoc, option_map, vec_len, map, ⊎_elim, IfOk, rules}
 pub use Rattle.std.proofs.KnownBytes.{Keeps-refl}
 pub use Rattle.std.proofs.lemmas.Bool.{and_parts, cases_Bool, false_from_ne_true}

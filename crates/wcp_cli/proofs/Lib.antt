@@ -4,6 +4,7 @@ mod NoRingWords
 mod NumberWords
 mod Requests
 mod RingText
+mod RingWalk
 mod RingWords
 mod StoppedWalk
 mod WordLemmas

@@ -1,55 +1,36 @@
 use Rattle.wcp_cli.proofs.Imports.{◌≡◌, ◌∙◌, ◌<◌, ◌^◌, ℕ, Bool, true, false, List, [], ◌∷◌, codes, ap, None, refl}
-use Rattle.wcp_cli.proofs.Imports.{decimal, drop, inl, inr, Text, built, fault_of, built_fault, Held, nothing_held}
+use Rattle.wcp_cli.proofs.Imports.{decimal, drop, inl, inr, Text, built, fault_of, built_fault, nothing_held, program}
 use Rattle.wcp_cli.proofs.Imports.{AskForNoRing, IsRing, NoNumber, OnlyProcs, OnlyRounds, OutOfRange, flag_words}
-use Rattle.wcp_cli.proofs.Imports.{program}
-use Rattle.clap.proofs.OnLiterals.{clap_on_literals}
 use Rattle.clap.specs.Kinds.{Kinds}
 use Rattle.clap.specs.declared.error.kind.ErrorKind.TheVariants as kind
-use Rattle.wcp_cli.proofs.NumberWords.{IsNumberIn, decimal-cases, decimal_in, is_in}
-use Rattle.wcp_cli.proofs.RingWords.{both_numbers, flag_row, number_row, top_fault, wrong, wrong_at_end}
+use Rattle.wcp_cli.proofs.NumberWords.{decimal-cases, decimal_in, is_in}
+use Rattle.wcp_cli.proofs.RingWalk.{IsNumberOf, Number, Procs, Rounds, flag_of, no_number, number_alone, number_taken}
+use Rattle.wcp_cli.proofs.RingWalk.{between, number_pending, refused_at_end, refused_at_number, wrong}
+use Rattle.wcp_cli.proofs.RingWalk.{wrong_from}
+use Rattle.wcp_cli.proofs.RingWords.{both_numbers, top_fault}
 
 -- one number is there: it is refused where it is out of its range, and else the other is wanted
 abbrev pub alone : Bool → Kinds
 alone true = kind.MissingRequiredArgument ∷ []
 alone false = kind.ValueValidation ∷ []
 
--- what is held after one number and the flag
-abbrev held_with_flag : Text → Text → Held
-held_with_flag id number = record { rows = number_row id number ∷ flag_row true ∷ []; pending = None; skip = 0 }
+-- a number is left out
+one_of_two : (number : Number) (word : Text) (fault inside : Bool) → IsNumberOf number inside word
+    → wrong_from (between [] (number_pending number word)) (flag_words fault) ≡ alone inside
+one_of_two number word fault true n = number_alone number word fault n
+one_of_two number word fault false n = refused_at_end number [] word fault refl n
 
--- ---- a number is left out
+only_one : (number : Number) (word : Text) (fault inside : Bool) → IsNumberOf number inside word
+    → wrong (flag_of number ∷ word ∷ flag_words fault) ≡ alone inside
+only_one number word fault inside n =
+    number_taken number [] None word inside (flag_words fault) n refl ∙ one_of_two number word fault inside n
 
-only_procs : (procs : Text) (fault inside : Bool) → IsNumberIn 2 16 inside procs
-    → wrong (codes "--procs" ∷ procs ∷ flag_words fault) ≡ alone inside
-unfolding clap_on_literals
-only_procs procs true true p =
-    wrong_at_end (codes "--procs" ∷ procs ∷ flag_words true) (held_with_flag (codes "procs") procs) (alone true)
-    (simp (p.no_hyphen, p.no_end, p.tested) refl) (simp (p.no_hyphen, p.no_end) refl) refl
-only_procs procs true false p = simp (p.no_hyphen, p.no_end, p.tested) refl
-only_procs procs false true p = simp (p.no_hyphen, p.no_end, p.tested) refl
-only_procs procs false false p = simp (p.no_hyphen, p.no_end, p.tested) refl
-
-only_rounds : (rounds : Text) (fault inside : Bool) → IsNumberIn 1 1000 inside rounds
-    → wrong (codes "--rounds" ∷ rounds ∷ flag_words fault) ≡ alone inside
-unfolding clap_on_literals
-only_rounds rounds true true r =
-    wrong_at_end (codes "--rounds" ∷ rounds ∷ flag_words true) (held_with_flag (codes "rounds") rounds) (alone true)
-    (simp (r.no_hyphen, r.no_end, r.tested) refl) (simp (r.no_hyphen, r.no_end) refl) refl
-only_rounds rounds true false r = simp (r.no_hyphen, r.no_end, r.tested) refl
-only_rounds rounds false true r = simp (r.no_hyphen, r.no_end, r.tested) refl
-only_rounds rounds false false r = simp (r.no_hyphen, r.no_end, r.tested) refl
-
-no_number : (fault : Bool) → wrong (flag_words fault) ≡ alone true
-unfolding clap_on_literals
-no_number true = refl
-no_number false = refl
-
--- ---- both numbers are there, and one is out of its range
-
-wrong_procs : (procs rounds : Text) (rest : List Text) → IsNumberIn 2 16 false procs
+-- both numbers are there, and one is out of its range
+wrong_procs : (procs rounds : Text) (rest : List Text) → IsNumberOf Procs false procs
     → wrong (codes "--procs" ∷ procs ∷ codes "--rounds" ∷ rounds ∷ rest) ≡ alone false
-unfolding clap_on_literals
-wrong_procs procs rounds rest p = simp (p.no_hyphen, p.no_end, p.tested) refl
+wrong_procs procs rounds rest p =
+    number_taken Procs [] None procs false (codes "--rounds" ∷ rounds ∷ rest) p refl
+    ∙ refused_at_number Procs Rounds [] procs (rounds ∷ rest) refl p
 
 out_of_range : (n rounds : ℕ) (fault : Bool) → n < 2 ^ 64 → rounds < 2 ^ 64 → (IsRing n rounds → ⊥)
     → wrong (codes "--procs" ∷ decimal n ∷ codes "--rounds" ∷ decimal rounds ∷ flag_words fault) ≡ alone false
@@ -72,7 +53,8 @@ pub no_ring-fails : (words : List Text) → AskForNoRing words → (inside : Boo
 no_ring-fails words (OutOfRange n rounds fault n_small rounds_small no_ring asked) =
     from_top words _ asked (false, out_of_range n rounds fault n_small rounds_small no_ring)
 no_ring-fails words (OnlyProcs n fault small asked) =
-    from_top words _ asked (is_in 2 16 n, only_procs (decimal n) fault _ (decimal_in 2 16 n small))
+    from_top words _ asked (is_in 2 16 n, only_one Procs (decimal n) fault _ (decimal_in 2 16 n small))
 no_ring-fails words (OnlyRounds rounds fault small asked) =
-    from_top words _ asked (is_in 1 1000 rounds, only_rounds (decimal rounds) fault _ (decimal_in 1 1000 rounds small))
+    from_top words _ asked
+    (is_in 1 1000 rounds, only_one Rounds (decimal rounds) fault _ (decimal_in 1 1000 rounds small))
 no_ring-fails words (NoNumber fault asked) = from_top words _ asked (true, no_number fault)
