@@ -1,4 +1,4 @@
-use Rattle.wcp_cli.proofs.Imports.{rules, ◌≡◌, ◌∙◌, ap₂, codes, refl, IfOk-weaker, app_of, with_subcommand, named}
+use Rattle.wcp_cli.proofs.Imports.{rules, ◌≡◌, ◌∙◌, ap₂, refl, IfOk-weaker, app_of, with_subcommand, named}
 use Rattle.wcp_cli.proofs.words.command.Goals as goal
 
 pub returns : goal.returns
