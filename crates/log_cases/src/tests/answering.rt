@@ -1,57 +1,82 @@
-ghost use Rattle.std.specs.Prelude.{◌≡◌, [], ◌∷◌, codes, length, map, IfOk};
+ghost use Rattle.std.specs.Prelude.{◌≡◌, [], ◌∷◌, codes, length, map};
 ghost use Rattle.wcp_moment.specs.Views.{seen_watch};
 ghost use Rattle.wcp_moment.specs.Search.{watched_by};
 
 use std::alloc::{AllocError, Global};
 use std::fmt::Write;
+use std::process::Abort;
 use wcp_log::{Form, Log, Logged, ReadFault};
 use wcp_moment::{Lasting, Search, Watched};
 
+/// Compares when the moment of alice and bob holding the lock was known, and their events with their lines.
+pub fn assert_answer(
+    rt: &impl Abort,
+    alloc: Global,
+    lasting: Lasting,
+    bytes: &[u8],
+    expected: &str,
+) {
+    let answer = answer(rt, alloc, lasting, bytes);
+    assert_eq!(rt; answer.as_str(), expected);
+}
+
 /// When the moment of alice and bob holding the lock was known, and their events with their lines.
-pub fn answer(alloc: Global, lasting: Lasting, bytes: &[u8]) -> Result<String, AllocError> {
-    let mut search = alice_and_bob(alloc, lasting)?;
+pub fn answer(rt: &impl Abort, alloc: Global, lasting: Lasting, bytes: &[u8]) -> String {
+    let mut search = alice_and_bob(rt, alloc, lasting);
+    let mut text = String::new(alloc);
+    match known_at(alloc, &mut search, bytes).expect(rt, "memory") {
+        Some(line) => write!(text, "line {line}:").expect(rt, "memory"),
+        None => push_end(rt, &mut text, &mut search),
+    }
+    push_moment(rt, &mut text, &search);
+    text
+}
+
+fn alice_and_bob(rt: &impl Abort, alloc: Global, lasting: Lasting) -> Search
+    ensures { length (watched_by result) ≡ 2 }
+{
+    let watched = two(rt, alloc, lasting);
+    Search::new(alloc, watched).expect(rt, "memory")
+}
+
+fn two(rt: &impl Abort, alloc: Global, lasting: Lasting) -> Vec<Watched>
+    ensures { map seen_watch result.items
+        ≡ record { host = codes "alice"; lasting = lasting } ∷ record { host = codes "bob"; lasting = lasting } ∷ [] }
+{
+    let mut watched = Vec::with_capacity(alloc, 2).expect(rt, "memory");
+    let host = String::from_str(alloc, "alice").expect(rt, "memory");
+    watched.push(Watched { host, lasting }).expect(rt, "memory");
+    let host = String::from_str(alloc, "bob").expect(rt, "memory");
+    watched.push(Watched { host, lasting }).expect(rt, "memory");
+    watched
+}
+
+/// The line at which the moment was known, if it was before the log's end.
+fn known_at(alloc: Global, search: &mut Search, bytes: &[u8]) -> Result<Option<u64>, AllocError>
+    requires { length (watched_by search.old) ≡ 2 }
+    ensures { length (watched_by search.new) ≡ 2 }
+{
     let mut log = Log::new(alloc, Form::Shiviz);
     let mut line: u64 = 0;
     for row in bytes.split(|byte| *byte == b'\n') {
         line = line.saturating_add(1);
-        let logged = match log.read(row) {
-            Ok(Some(logged)) => logged,
-            Err(ReadFault::NoMemory) => return Err(AllocError),
-            Ok(None) | Err(ReadFault::Log(_)) => continue,
-        };
-        if take(&mut search, logged)? {
-            let mut text = format!(in alloc; "line {line}:")?;
-            push_moment(&mut text, &search)?;
-            return Ok(text);
+        if read_on(&mut log, search, row)? {
+            return Ok(Some(line));
         }
     }
-    let mut text = String::new(alloc);
-    if search.end() {
-        text.push_str("end:")?;
-        push_moment(&mut text, &search)?;
-    } else {
-        text.push_str("none")?;
+    Ok(None)
+}
+
+/// Reads a line: whether the moment is known.
+fn read_on(log: &mut Log, search: &mut Search, row: &[u8]) -> Result<bool, AllocError>
+    requires { length (watched_by search.old) ≡ 2 }
+    ensures { watched_by search.new ≡ watched_by search.old }
+{
+    match log.read(row) {
+        Ok(Some(logged)) => take(search, logged),
+        Ok(None) | Err(ReadFault::Log(_)) => Ok(false),
+        Err(ReadFault::NoMemory) => Err(AllocError),
     }
-    Ok(text)
-}
-
-fn alice_and_bob(alloc: Global, lasting: Lasting) -> Result<Search, AllocError>
-    ensures { IfOk result (λ search. length (watched_by search) ≡ 2) }
-{
-    let watched = two(alloc, lasting)?;
-    Search::new(alloc, watched)
-}
-
-fn two(alloc: Global, lasting: Lasting) -> Result<Vec<Watched>, AllocError>
-    ensures { IfOk result (λ watched. map seen_watch watched.items
-        ≡ record { host = codes "alice"; lasting = lasting } ∷ record { host = codes "bob"; lasting = lasting } ∷ []) }
-{
-    let mut watched = Vec::with_capacity(alloc, 2)?;
-    let host = String::from_str(alloc, "alice")?;
-    watched.push(Watched { host, lasting })?;
-    let host = String::from_str(alloc, "bob")?;
-    watched.push(Watched { host, lasting })?;
-    Ok(watched)
 }
 
 /// Takes an event, if it's one of a watched host.
@@ -69,14 +94,26 @@ fn take(search: &mut Search, logged: Logged) -> Result<bool, AllocError>
     search.take(place, logged, holds)
 }
 
-fn push_moment(text: &mut String, search: &Search) -> Result<(), AllocError>
+/// Says whether the moment is known at the log's end.
+fn push_end(rt: &impl Abort, text: &mut String, search: &mut Search)
+    ensures { watched_by search.new ≡ watched_by search.old }
+{
+    let said = if search.end() { "end:" } else { "none" };
+    text.push_str(said).expect(rt, "memory");
+}
+
+/// Says the events of the moment, where it is known.
+fn push_moment(rt: &impl Abort, text: &mut String, search: &Search)
     requires { length (watched_by search.now) ≡ 2 }
 {
     for place in 0..2 {
         if let Some(logged) = search.event(place) {
-            let event = &logged.event;
-            write!(text, " {} {} {}", event.host, logged.line, event.text)?;
+            push_event(rt, text, logged);
         }
     }
-    Ok(())
+}
+
+fn push_event(rt: &impl Abort, text: &mut String, logged: &Logged) {
+    let event = &logged.event;
+    write!(text, " {} {} {}", event.host, logged.line, event.text).expect(rt, "memory");
 }

@@ -1,6 +1,7 @@
-use crate::tests::reading::read_log;
+use crate::tests::reading::assert_fault;
 use FaultKind::{Clock, Falls, Order, Own, Text};
-use std::test::Fail;
+use std::alloc::Global;
+use std::process::Abort;
 use wcp_log::{FaultKind, Form, LogFault};
 
 type Row = (&'static [u8], u64, FaultKind);
@@ -108,48 +109,40 @@ const PAIRS: &[Row] = &[
     (b"a {\"a\":1,\"b\":2}\nx\na {\"a\":2,\"b\":1}\nx", 3, Falls),
 ];
 
-#[test]
-fn each_fault_with_its_line(rt: HostRuntime) -> Result<(), Fail> {
-    for (form, rows) in [(Form::Lines, LINES), (Form::Shiviz, PAIRS)] {
-        for (bytes, line, kind) in rows {
-            let found = read_log(rt.alloc(), form, bytes)?;
-            let fault = LogFault {
-                line: *line,
-                kind: *kind,
-            };
-            assert!(rt; found.fault == Some(fault), "{line} {kind}");
-        }
+/// Logs of the form with the second line of each event first, and the fault of each.
+const REVERSED_PAIRS: &[Row] = &[
+    (b"x\n\xff", 2, Text),
+    (b"x", 1, Text),
+    (b"\xff\na {\"a\":1}", 1, Text),
+    (b"x\na {\"a\":1}\nx\na {\"a\":1}", 4, Order),
+];
+
+/// Reads each log, and compares its fault.
+fn assert_faults(rt: &impl Abort, alloc: Global, form: Form, rows: &[Row]) {
+    for (bytes, line, kind) in rows {
+        let fault = LogFault {
+            line: *line,
+            kind: *kind,
+        };
+        assert_fault(rt, alloc, form, bytes, Some(fault));
     }
-    Ok(())
 }
 
 #[test]
-fn faults_of_the_reverse(rt: HostRuntime) -> Result<(), Fail> {
-    for (bytes, line, kind) in [
-        (b"x\n\xff".as_slice(), 2, Text),
-        (b"x".as_slice(), 1, Text),
-        (b"\xff\na {\"a\":1}".as_slice(), 1, Text),
-        (b"x\na {\"a\":1}\nx\na {\"a\":1}".as_slice(), 4, Order),
-    ] {
-        let found = read_log(rt.alloc(), Form::ShivizReversed, bytes)?;
-        assert!(rt;
-            found.fault == Some(LogFault { line, kind }),
-            "{line} {kind}"
-        );
-    }
-    Ok(())
+fn each_fault_with_its_line(rt: HostRuntime) {
+    assert_faults(&rt, rt.alloc(), Form::Lines, LINES);
+    assert_faults(&rt, rt.alloc(), Form::Shiviz, PAIRS);
+    assert_faults(&rt, rt.alloc(), Form::ShivizReversed, REVERSED_PAIRS);
 }
 
 #[test]
-fn what_is_no_fault(rt: HostRuntime) -> Result<(), Fail> {
+fn what_is_no_fault(rt: HostRuntime) {
     for bytes in [
         // a number of 0 may go missing, and numbers may be left out
         b"a {\"a\":1,\"b\":0}\nx\na {\"a\":7}\ny".as_slice(),
         // hosts in any order, names in any order
         b"a {\"a\":1,\"b\":2}\nx\nb {\"b\":1}\nx\na {\"b\":2,\"a\":2}\nx\nb {\"c\":5,\"b\":9}\nx".as_slice(),
     ] {
-        let found = read_log(rt.alloc(), Form::Shiviz, bytes)?;
-        assert!(rt; found.fault.is_none());
+        assert_fault(&rt, rt.alloc(), Form::Shiviz, bytes, None);
     }
-    Ok(())
 }

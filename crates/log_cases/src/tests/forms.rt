@@ -1,5 +1,6 @@
 use crate::tests::reading::read_log;
-use std::test::Fail;
+use std::alloc::Global;
+use std::process::Abort;
 use wcp_log::Form;
 
 const LINES: &[u8] = b"{\"host\":\"alice\",\"clock\":{\"alice\":1},\"event\":\"asks\"}\n\
@@ -28,17 +29,21 @@ const NAMES: &[u8] =
 
 const NAMES_READ: &str = "1 \u{e9}t\u{e9} 1 \u{e9}t\u{e9} 1=1 \u{1f600}=0: a\tb \"c\"\n";
 
+/// Reads a log without a fault, and compares its events.
+fn assert_read(rt: &impl Abort, alloc: Global, form: Form, bytes: &[u8], read: &str) {
+    let found = read_log(rt, alloc, form, bytes);
+    assert_eq!(rt; found.text.as_str(), read);
+    assert!(rt; found.fault.is_none());
+}
+
 #[test]
-fn worked_logs_of_each_form(rt: HostRuntime) -> Result<(), Fail> {
+fn worked_logs_of_each_form(rt: HostRuntime) {
     for (form, bytes, read) in [
         (Form::Lines, LINES, LINES_READ),
         (Form::Shiviz, SHIVIZ, SHIVIZ_READ),
         (Form::ShivizReversed, REVERSED, REVERSED_READ),
         (Form::Lines, NAMES, NAMES_READ),
     ] {
-        let found = read_log(rt.alloc(), form, bytes)?;
-        assert_eq!(rt; found.text.as_str(), read);
-        assert!(rt; found.fault.is_none());
+        assert_read(&rt, rt.alloc(), form, bytes, read);
     }
-    Ok(())
 }

@@ -1,5 +1,4 @@
-use crate::tests::answering::answer;
-use std::test::Fail;
+use crate::tests::answering::assert_answer;
 use wcp_moment::Lasting;
 
 /// The lease of alice runs out, and bob gets the lock while she still writes.
@@ -63,40 +62,28 @@ bob {\"bob\":1,\"alice\":2}\nasks\nbob {\"bob\":2,\"alice\":2}\nholds it\n",
 ];
 
 #[test]
-fn two_hold_the_lock(rt: HostRuntime) -> Result<(), Fail> {
-    let found = answer(rt.alloc(), Lasting::While, LEASE_RUNS_OUT)?;
-    assert_eq!(rt;
-        found.as_str(),
-        "line 18: alice 8 holds the lock bob 18 holds the lock"
-    );
-    let found = answer(rt.alloc(), Lasting::At, LEASE_RUNS_OUT)?;
-    assert_eq!(rt;
-        found.as_str(),
-        "line 18: alice 8 holds the lock bob 18 holds the lock"
-    );
-    let found = answer(rt.alloc(), Lasting::While, LEASE_IS_WAITED_FOR)?;
-    assert_eq!(rt; found.as_str(), "none");
-    Ok(())
+fn two_hold_the_lock(rt: HostRuntime) {
+    let held = "line 18: alice 8 holds the lock bob 18 holds the lock";
+    for (lasting, bytes, expected) in [
+        (Lasting::While, LEASE_RUNS_OUT, held),
+        (Lasting::At, LEASE_RUNS_OUT, held),
+        (Lasting::While, LEASE_IS_WAITED_FOR, "none"),
+    ] {
+        assert_answer(&rt, rt.alloc(), lasting, bytes, expected);
+    }
 }
 
 /// At the events alone there is no moment, since one happened before the other.
 #[test]
-fn a_false_none_under_at(rt: HostRuntime) -> Result<(), Fail> {
-    let found = answer(rt.alloc(), Lasting::While, BOB_KNOWS)?;
-    assert_eq!(rt;
-        found.as_str(),
-        "line 4: alice 2 holds the lock bob 4 holds the lock"
-    );
-    let found = answer(rt.alloc(), Lasting::At, BOB_KNOWS)?;
-    assert_eq!(rt; found.as_str(), "none");
-    Ok(())
+fn a_false_none_under_at(rt: HostRuntime) {
+    let held = "line 4: alice 2 holds the lock bob 4 holds the lock";
+    assert_answer(&rt, rt.alloc(), Lasting::While, BOB_KNOWS, held);
+    assert_answer(&rt, rt.alloc(), Lasting::At, BOB_KNOWS, "none");
 }
 
 #[test]
-fn events_left_out(rt: HostRuntime) -> Result<(), Fail> {
+fn events_left_out(rt: HostRuntime) {
     for (bytes, expected) in LEFT_OUT {
-        let found = answer(rt.alloc(), Lasting::While, bytes)?;
-        assert_eq!(rt; found.as_str(), *expected);
+        assert_answer(&rt, rt.alloc(), Lasting::While, bytes, expected);
     }
-    Ok(())
 }

@@ -1,9 +1,21 @@
-use crate::tests::reading::read_log;
-use std::test::Fail;
+use crate::tests::reading::assert_fault;
+use std::alloc::Global;
+use std::process::Abort;
 use wcp_log::{FaultKind, Form, Log, LogFault, MAX_LINE, ReadFault};
 
+/// Asks whether a clock may have this number.
+fn check_number(rt: &impl Abort, alloc: Global, number: &str, is_whole: bool) {
+    let line = format!(in alloc; "a {{\"a\":1,\"b\":{number}}}\nx").expect(rt, "memory");
+    let fault = LogFault {
+        line: 1,
+        kind: FaultKind::Clock,
+    };
+    let wanted = if is_whole { None } else { Some(fault) };
+    assert_fault(rt, alloc, Form::Shiviz, line.as_bytes(), wanted);
+}
+
 #[test]
-fn whole_numbers_alone(rt: HostRuntime) -> Result<(), Fail> {
+fn whole_numbers_alone(rt: HostRuntime) {
     for (number, is_whole) in [
         ("1", true),
         ("4294967294", true),
@@ -20,55 +32,57 @@ fn whole_numbers_alone(rt: HostRuntime) -> Result<(), Fail> {
         ("\"1\"", false),
         ("[1]", false),
     ] {
-        let line = format!(in rt.alloc(); "a {{\"a\":1,\"b\":{number}}}\nx")?;
-        let found = read_log(rt.alloc(), Form::Shiviz, line.as_bytes())?;
-        let fault = LogFault {
-            line: 1,
-            kind: FaultKind::Clock,
-        };
-        let wanted = if is_whole { None } else { Some(fault) };
-        assert!(rt; found.fault == wanted, "{number}");
+        check_number(&rt, rt.alloc(), number, is_whole);
     }
-    Ok(())
+}
+
+/// An event with a member of lists within lists, so many.
+fn deep_line(rt: &impl Abort, alloc: Global, depth: u32) -> String {
+    let start = "{\"host\":\"a\",\"clock\":{\"a\":1},\"event\":\"x\",\"more\":";
+    let mut line = String::from_str(alloc, start).expect(rt, "memory");
+    for _ in 0..depth {
+        line.push('[').expect(rt, "memory");
+    }
+    for _ in 0..depth {
+        line.push(']').expect(rt, "memory");
+    }
+    line.push('}').expect(rt, "memory");
+    line
+}
+
+/// Asks whether a line with so many lists within lists is read.
+fn check_depth(rt: &impl Abort, alloc: Global, depth: u32, is_read: bool) {
+    let line = deep_line(rt, alloc, depth);
+    let mut log = Log::new(alloc, Form::Lines);
+    let read = log.read(line.as_bytes());
+    assert!(rt; read.is_ok() == is_read, "{depth}");
 }
 
 #[test]
-fn deep_values_are_passed_over(rt: HostRuntime) -> Result<(), Fail> {
-    for (depth, is_read) in [(100u32, true), (200, false)] {
-        let mut line = String::from_str(
-            rt.alloc(),
-            "{\"host\":\"a\",\"clock\":{\"a\":1},\"event\":\"x\",\"more\":",
-        )?;
-        for _ in 0..depth {
-            line.push('[')?;
-        }
-        for _ in 0..depth {
-            line.push(']')?;
-        }
-        line.push('}')?;
-        let mut log = Log::new(rt.alloc(), Form::Lines);
-        let read = log.read(line.as_bytes());
-        assert!(rt; read.is_ok() == is_read, "{depth}");
-    }
-    Ok(())
+fn deep_values_are_passed_over(rt: HostRuntime) {
+    check_depth(&rt, rt.alloc(), 100, true);
+    check_depth(&rt, rt.alloc(), 200, false);
 }
 
-#[test]
-fn a_line_is_no_longer_than_the_most(rt: HostRuntime) -> Result<(), Fail> {
-    let mut log = Log::new(rt.alloc(), Form::ShivizReversed);
-    let mut line = vec![in rt.alloc(); b'x'; MAX_LINE]?;
-    assert!(rt; matches!(log.read(&line), Ok(None)));
-    line.push(b'x')?;
-    let fault = match log.read(&line) {
+/// The fault of a line, where it has one.
+fn fault_of(log: &mut Log, line: &[u8]) -> Option<LogFault> {
+    match log.read(line) {
         Err(ReadFault::Log(fault)) => Some(fault),
         _ => None,
-    };
+    }
+}
+
+#[test]
+fn a_line_is_no_longer_than_the_most(rt: HostRuntime) {
+    let mut log = Log::new(rt.alloc(), Form::ShivizReversed);
+    let mut line = vec![in rt.alloc(); b'x'; MAX_LINE].expect(&rt, "memory");
+    assert!(rt; matches!(log.read(&line), Ok(None)));
+    line.push(b'x').expect(&rt, "memory");
     let long = LogFault {
         line: 2,
         kind: FaultKind::Long,
     };
-    assert!(rt; fault == Some(long));
+    assert!(rt; fault_of(&mut log, &line) == Some(long));
     // the log is as before
     assert!(rt; matches!(log.read(b"a {\"a\":1}"), Ok(Some(_))));
-    Ok(())
 }

@@ -1,6 +1,6 @@
 use crate::tests::answering::answer;
-use std::alloc::{AllocError, Global};
-use std::test::Fail;
+use std::alloc::Global;
+use std::process::Abort;
 use wcp_moment::Lasting;
 
 /// Each piece is an event, and its text has its host's number.
@@ -19,7 +19,7 @@ const BOB: &[&str] = &[
 ];
 
 /// The events of alice and bob, merged: a bit of 1 takes the next one of alice.
-fn merged(alloc: Global, order: u32) -> Result<String, AllocError> {
+fn merged(rt: &impl Abort, alloc: Global, order: u32) -> String {
     let mut text = String::new(alloc);
     let mut alice = ALICE.iter();
     let mut bob = BOB.iter();
@@ -30,26 +30,30 @@ fn merged(alloc: Global, order: u32) -> Result<String, AllocError> {
             bob.next()
         };
         if let Some(piece) = next {
-            text.push_str(piece)?;
+            text.push_str(piece).expect(rt, "memory");
         }
     }
     for piece in alice {
-        text.push_str(piece)?;
+        text.push_str(piece).expect(rt, "memory");
     }
     for piece in bob {
-        text.push_str(piece)?;
+        text.push_str(piece).expect(rt, "memory");
     }
-    Ok(text)
+    text
+}
+
+/// The events of alice and bob, in this order, make the same moment as in each other.
+fn assert_third(rt: &impl Abort, alloc: Global, order: u32) {
+    let log = merged(rt, alloc, order);
+    let found = answer(rt, alloc, Lasting::While, log.as_bytes());
+    assert!(rt; found.contains("holds 3 bob"), "{order} {found}");
+    assert!(rt; found.ends_with("holds 3"), "{order} {found}");
 }
 
 /// The lines of different hosts come in any order: the moment has the same events.
 #[test]
-fn lines_in_any_order(rt: HostRuntime) -> Result<(), Fail> {
+fn lines_in_any_order(rt: HostRuntime) {
     for order in 0..256 {
-        let log = merged(rt.alloc(), order)?;
-        let found = answer(rt.alloc(), Lasting::While, log.as_bytes())?;
-        assert!(rt; found.contains("holds 3 bob"), "{order} {found}");
-        assert!(rt; found.ends_with("holds 3"), "{order} {found}");
+        assert_third(&rt, rt.alloc(), order);
     }
-    Ok(())
 }
