@@ -37,7 +37,7 @@ class Cases:
         self.asked = []
 
     def answers(self, case, words, given, status, output, errors=b""):
-        """Each build of the program, called so, ends with this status, writes this and says this. Texts may be strings."""
+        """Each build of the program, called so, ends with this status, writes this and says this: bytes, or strings."""
         given, output, errors = (it.encode() if isinstance(it, str) else it for it in (given, output, errors))
         for file in self.builds:
             call = self.pool.submit(called, file, words, given)

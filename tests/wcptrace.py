@@ -1,4 +1,3 @@
-#!/usr/bin/env python3
 """What the program `wcptrace` answers to words and a log, as each compiler built it: answers, faults, logs that are cut
 or come byte by byte, what words ask for, and the events at which conditions hold. The last line is the count."""
 import json

@@ -223,7 +223,8 @@ no_number false = refl
 
 -- both numbers are enough
 pub numbers_pass : (procs rounds : Text) (fault : Bool) → IsNumberOf Rounds true rounds
-    → wrong_from (between (number_row (codes "procs") procs ∷ []) (number_pending Rounds rounds)) (flag_words fault) ≡ []
+    → wrong_from (between (number_row (codes "procs") procs ∷ []) (number_pending Rounds rounds)) (flag_words fault)
+    ≡ []
 unfolding clap_on_literals
 numbers_pass procs rounds true r =
     flag_passes (number_row (codes "procs") procs ∷ [])

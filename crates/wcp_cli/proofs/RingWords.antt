@@ -10,7 +10,8 @@ use Rattle.clap.specs.Kinds.{Kinds}
 use Rattle.wcp_cli.proofs.StoppedWalk.{stays_as_stopped}
 use Rattle.wcp_cli.proofs.NumberWords.{IsNumberIn, decimal-taken}
 use Rattle.wcp_cli.proofs.RingWalk.{Procs, Rounds, between, flag_row, number_pending, number_row}
-use Rattle.wcp_cli.proofs.RingWalk.{number_taken, number_tested, number_walked, numbers_pass, refused_at_end, ring_built}
+use Rattle.wcp_cli.proofs.RingWalk.{number_taken, number_tested, number_walked, numbers_pass, refused_at_end}
+use Rattle.wcp_cli.proofs.RingWalk.{ring_built}
 use Rattle.wcp_cli.proofs.RingWalk.{walk_on, wrong, wrong_from, refused}
 
 -- the subcommand that clap finds by the words after the program's name

@@ -93,8 +93,8 @@ fn a_probe_asleep_at_a_full_link_wakes_for_room(rt: HostRuntime) {
     assert_eq!(rt; arrivals[0], Arrival::Closed(11));
 }
 
-/// At a full link whose relay is gone a probe is told that its note can't be put, and then that it can't close. It comes
-/// back open, with its note.
+/// At a full link whose relay is gone a probe is told that its note can't be put, and then that it can't close. It
+/// comes back open, with its note.
 fn assert_told(rt: &(impl Abort + Wait), mut probe: LiveProbe) {
     assert!(rt; probe.flush_waiting(rt).is_err());
     let (_, mut same) = probe.close_waiting(rt).err().expect(rt, "a probe");
