@@ -3,7 +3,7 @@ ghost use Rattle.wcp_model.specs.declared.plan.Plan.{Plan};
 ghost use Rattle.wcp_model.specs.declared.step.Step.{Step};
 ghost use Rattle.wcp_model.specs.PlanFault.{IsCheckedPlan};
 ghost use Rattle.wcp_world.specs.Plays.{AreTalliesOf, HasAnswered, IsPlayed};
-ghost use Rattle.wcp_world.specs.World.{process_count};
+ghost use Rattle.wcp_world.specs.World.{IsWorldOf, process_count};
 
 use crate::world::World;
 use std::alloc::{AllocError, Global};
@@ -26,9 +26,17 @@ pub fn play(alloc: Global, plan: &Plan, steps: &[Step]) -> Result<Played, AllocE
     ensures { IfOk result (λ played. IsPlayed plan.now steps.now played.replies.items played.report played.tallies) }
 {
     let mut world = World::new(alloc, plan)?;
+    play_in(alloc, &mut world, steps)
+}
+
+/// Makes these steps one after another in a new world, which stays with the caller.
+fn play_in(alloc: Global, world: &mut World, steps: &[Step]) -> Result<Played, AllocError>
+    ensures { (plan : Plan) → IsWorldOf plan [] world.old →
+        IfOk result (λ played. IsPlayed plan steps.now played.replies.items played.report played.tallies) }
+{
     let mut replies = Vec::with_capacity(alloc, steps.len())?;
-    answer_all(&mut world, steps, &mut replies)?;
-    let tallies = tallies(alloc, &world)?;
+    answer_all(world, steps, &mut replies)?;
+    let tallies = tallies(alloc, world)?;
     Ok(Played {
         replies,
         report: world.report(),
