@@ -2,4 +2,5 @@ mod Ends
 pub mod LentProbes
 mod OwnWatches
 mod Ready
+mod Seating
 pub mod SentEnds

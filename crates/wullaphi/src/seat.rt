@@ -46,15 +46,18 @@ impl<S, A: Send + Drop, P: LosableProcess<Shared = S, Answer = A> + Send + Drop>
 pub(crate) fn seat_all<P: Drop>(
     alloc: Global,
     probes: Vec<LiveProbe>,
-    mut processes: Vec<P>,
+    processes: Vec<P>,
 ) -> Result<Vec<Seat<P>>, AllocError>
     requires { length processes.items ≡ length probes.items }
     ensures probes { IfOk result (λ seats. map (λ seat. seat.probe) seats.items ≡ probes.items) }
     ensures processes { IfOk result (λ seats. map (λ seat. seat.process) seats.items ≡ processes.items) }
 {
+    let mut left = processes.into_iter();
     let mut seats = Vec::with_capacity(alloc, probes.len())?;
     for probe in probes {
-        let process = processes.remove(0);
+        let Some(process) = left.next() else {
+            unreachable!()
+        };
         seats.push(Seat { probe, process })?;
     }
     Ok(seats)
