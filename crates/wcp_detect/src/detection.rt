@@ -1,5 +1,7 @@
 //! Detection while the log comes in.
 ghost use Rattle.std.specs.Prelude.{◌≡◌, true, ◌<◌, [], IfOk, IfSome, MatchOption, length};
+ghost use Rattle.wcp_lines.specs.Reader.{left};
+ghost use Rattle.wcp_events.specs.Reading.{HasReadEvents};
 ghost use Rattle.wcp_moment.specs.Search.{is_known, moment_of, watched_by};
 ghost use Rattle.wcp_condition.specs.Conditions.{HaveHosts};
 ghost use Rattle.wcp_detect.specs.Detection.{AllLog, AnswersLast, Detects, IsFirstSilent};
@@ -51,6 +53,22 @@ fn watch_events<I: Read>(
     ensures { Detects form watcher.old.conditions.now (I.remaining input.old) (I.remaining input.new) result }
 {
     let mut events = EventReader::new(alloc, form)?;
+    watch_on(alloc, &mut events, watcher, input)
+}
+
+/// Reads event by event until this watcher knows the moment, or to the end of the log. No event was read yet.
+fn watch_on<I: Read>(
+    alloc: Global,
+    events: &mut EventReader,
+    watcher: &mut Watcher<'_>,
+    input: &mut I,
+) -> Result<Answer, DetectFault>
+    requires watching { IsWatching watcher.old.conditions.now [] watcher.old }
+    requires read { HasReadEvents events.old.log.form (I.remaining input.old)
+        (left events.old.lines (I.remaining input.old)) [] events.old.log }
+    ensures { Detects events.old.log.form watcher.old.conditions.now
+        (I.remaining input.old) (I.remaining input.new) result }
+{
     for _ in 0..u64::MAX {
         let Some(logged) = events.next_event(input)? else {
             return last_answer(alloc, watcher);

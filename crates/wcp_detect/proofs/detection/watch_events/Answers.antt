@@ -1,83 +1,18 @@
-use Rattle.wcp_detect.proofs.Words.{◌∙◌, sym, ap, watches}
+use Rattle.wcp_detect.proofs.Words.{sym, subst, []}
 use Rattle.wcp_lines.specs.Reader.{left}
-use Rattle.wcp_detect.proofs.Detecting.{answers_early, answers_last, event_fault, goes_on, hands_on, starts}
+use Rattle.wcp_events.specs.Reading.{HasReadEvents}
+use Rattle.wcp_detect.specs.Detection.{Detects}
 use Rattle.wcp_detect.proofs.detection.watch_events.Goals as goal
 
-pub loop-init : goal.loop-init
-loop-init g c =
-    let remaining = g.I.Read.remaining in
-    starts c.args.form c.args.watcher.now.conditions.now (remaining c.args.input.now) _ c.in_ok-events.events.log
-    c.args.watcher.now (c.in_ok-events.ensures (remaining c.args.input.now)) c.requires
-
-pub returns-in_err-logged : goal.returns-in_err-logged
-returns-in_err-logged g c =
+pub watch_on-requires-clause-read : goal.watch_on-requires-clause-read
+watch_on-requires-clause-read g c =
     let input = g.I.Read.remaining c.args.input.now in
-    let before = c.loop.invariant in
-    let reads = c.in_err-logged.ensures.reads c.args.form input before.logged before.read in (
-      c.next_event.new.self.lines.ahead,
-      hands_on c.args.form c.args.watcher.now.conditions.now input _ _ _ c.from_residual-in_err-logged.ensures
-          (event_fault c.args.form c.args.watcher.now.conditions.now input _ before.logged c.next_event.new.self.log
-          c.in_err-logged.field-0.0 reads),
-    )
+    let events = c.in_ok-events.events in
+    let read = c.in_ok-events.ensures input in
+    subst (λ form. HasReadEvents form input (left events.lines input) [] events.log) (sym read.read.form_is) read
 
-pub returns-in_default : goal.returns-in_default
-returns-in_default g c =
+pub returns : goal.returns
+returns g c =
     let input = g.I.Read.remaining c.args.input.now in
-    let rest = left c.next_event.new.self.lines (g.I.Read.remaining c.next_event.new.input) in
-    let before = c.loop.invariant in
-    let says = rw c.in_default.is at (c.in_ok-logged.ensures.reads c.args.form input before.logged before.read) in (
-      c.next_event.new.self.lines.ahead,
-      answers_last c.args.form c.args.watcher.now.conditions.now input rest before.logged c.last_answer.result says
-          (c.last_answer.ensures c.args.watcher.now.conditions.now before.logged before.watching),
-    )
-
-pub returns-in_err-take : goal.returns-in_err-take
-returns-in_err-take g c = (
-  c.next_event.new.self.lines.ahead,
-  hands_on c.args.form c.args.watcher.now.conditions.now
-      (g.I.Read.remaining c.args.input.now) _ _ _ c.from_residual-in_err-take.ensures tt,
-)
-
-pub found_answer-requires-clause-known : goal.found_answer-requires-clause-known
-found_answer-requires-clause-known g c =
-    let input = g.I.Read.remaining c.args.input.now in
-    let rest = left c.next_event.new.self.lines (g.I.Read.remaining c.next_event.new.input) in
-    let before = c.loop.invariant in
-    let reads = rw c.in-Some.is at (c.in_ok-logged.ensures.reads c.args.form input before.logged before.read) in
-    let watched = c.in_ok-take.ensures c.args.watcher.now.conditions.now before.logged before.watching reads.0 in
-    watched.1 ∙ c.if-branch.true
-
-pub found_answer-requires-clause-watched : goal.found_answer-requires-clause-watched
-found_answer-requires-clause-watched g c =
-    let input = g.I.Read.remaining c.args.input.now in
-    let rest = left c.next_event.new.self.lines (g.I.Read.remaining c.next_event.new.input) in
-    let before = c.loop.invariant in
-    let reads = rw c.in-Some.is at (c.in_ok-logged.ensures.reads c.args.form input before.logged before.read) in
-    let watched = c.in_ok-take.ensures c.args.watcher.now.conditions.now before.logged before.watching reads.0 in
-    watched.0.watched ∙ ap watches (sym watched.0.by)
-
-pub returns-then-branch : goal.returns-then-branch
-returns-then-branch g c =
-    let input = g.I.Read.remaining c.args.input.now in
-    let rest = left c.next_event.new.self.lines (g.I.Read.remaining c.next_event.new.input) in
-    let before = c.loop.invariant in
-    let reads = rw c.in-Some.is at (c.in_ok-logged.ensures.reads c.args.form input before.logged before.read) in
-    let watched = c.in_ok-take.ensures c.args.watcher.now.conditions.now before.logged before.watching reads.0 in
-    let known = rw c.if-branch.true at watched in (
-      c.next_event.new.self.lines.ahead,
-      answers_early c.args.form c.args.watcher.now.conditions.now input _ rest c.loop.events.log
-          c.next_event.new.self.log c.loop.watcher c.take.new.self c.loop.counter c.in-Some.logged _ _ before reads
-          known c.in_ok-found_answer.ensures.text c.in_ok-found_answer.ensures.status,
-    )
-
-pub loop-preserved : goal.loop-preserved
-loop-preserved g c =
-    let input = g.I.Read.remaining c.args.input.now in
-    let rest = left c.next_event.new.self.lines (g.I.Read.remaining c.next_event.new.input) in
-    let before = c.loop.invariant in
-    let reads = rw c.in-Some.is at (c.in_ok-logged.ensures.reads c.args.form input before.logged before.read) in
-    let watched = c.in_ok-take.ensures c.args.watcher.now.conditions.now before.logged before.watching reads.0 in
-    let unknown = rw c.if-branch.false at watched in
-    goes_on c.args.form c.args.watcher.now.conditions.now input _ rest c.loop.events.log c.next_event.new.self.log
-    c.loop.watcher
-    c.take.new.self c.loop.counter c.in-Some.logged before reads unknown
+    subst (λ form. Detects form c.args.watcher.now.conditions.now input (g.I.Read.remaining c.watch_on.new.input)
+    c.watch_on.result) (c.in_ok-events.ensures input).read.form_is c.watch_on.ensures
