@@ -35,6 +35,12 @@ pub record AreJudges (conditions : List Condition) (logged : List Logged) (judge
 abbrev pub AreNew : List Condition → List Judged → Type 0
 AreNew conditions judges = AreJudges conditions [] judges
 
+-- A judge of this condition came to these, before its first event.
+pub record HasNewJudge (condition : Condition) (old new : List Judged) : Type 0 where
+  pub judge : Judged
+  pub added : new ≡ old ++ judge ∷ []
+  pub knows : (conditions : List Condition) → Knows conditions [] condition judge
+
 -- A judge can count one event more.
 abbrev pub HasRoomAt : ℕ → List Judged → Type 0
 HasRoomAt place judges = (judge : Judged) → (slice_index_or judges place judge).tally.events < 2 ^ 64 - 1

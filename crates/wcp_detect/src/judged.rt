@@ -1,10 +1,9 @@
 //! What is known of each watched host: whether its condition holds, and how often it did.
-ghost use Rattle.std.specs.Prelude.{◌≡◌, ℕ, ◌+◌, ◌-◌, ◌^◌, ◌<◌, ◌≤◌, [], ◌∷◌, ◌++◌, List, IfOk, length, if◌then◌else◌};
+ghost use Rattle.std.specs.Prelude.{◌≡◌, ℕ, ◌+◌, ◌-◌, ◌^◌, ◌<◌, ◌≤◌, ◌∷◌, ◌++◌, IfOk, OnOk, length, if◌then◌else◌};
 ghost use Rattle.wcp_condition.specs.Conditions.{rule_of};
 ghost use Rattle.wcp_condition.specs.Holding.{holds_at_last};
 ghost use Rattle.wcp_condition.specs.Judging.{HasJudged};
-ghost use Rattle.wcp_condition.specs.declared.condition.Condition.{Condition};
-ghost use Rattle.wcp_detect.specs.Watcher.{JudgesNext, AreNew, HasRoomAt, JudgesOneAt, Knows};
+ghost use Rattle.wcp_detect.specs.Watcher.{JudgesNext, AreNew, HasNewJudge, HasRoomAt, JudgesOneAt};
 
 use crate::tally::Tally;
 use std::alloc::{AllocError, Global};
@@ -38,18 +37,23 @@ pub(crate) fn judges_of(
 {
     let mut judges = Vec::with_capacity(alloc, conditions.len())?;
     for condition in conditions {
-        judges.push(fresh_judge(alloc, condition)?)?;
+        add_judge(alloc, condition, &mut judges)?;
     }
     Ok(judges)
 }
 
-/// A judge of this condition, before the first event.
-fn fresh_judge(alloc: Global, condition: &Condition) -> Result<Judged<'_>, AllocError>
-    ensures { IfOk result (λ judge. (conditions : List Condition) → Knows conditions [] condition.now judge) }
+/// Adds a judge of this condition, before the first event.
+fn add_judge<'c>(
+    alloc: Global,
+    condition: &'c Condition,
+    judges: &mut Vec<Judged<'c>>,
+) -> Result<(), AllocError>
+    ensures { OnOk result (HasNewJudge condition.now judges.old.items judges.new.items) }
 {
     let judge = condition.judge(alloc)?;
     let tally = Tally::zero();
-    Ok(Judged { judge, tally })
+    judges.push(Judged { judge, tally })?;
+    Ok(())
 }
 
 /// Whether the condition at this place holds at its host's next event, which has this text. It is counted.
