@@ -1,4 +1,5 @@
 mod bundles;
+mod comparing;
 mod full_links;
 mod gaps;
 mod late;

@@ -3,6 +3,7 @@ ghost use Rattle.wcp_clock.specs.Notes.{place_of, is_last};
 ghost use Rattle.wcp_relay.specs.Bundles.{Continues};
 ghost use Rattle.tree_cases.specs.BundleLanes.{HasPut};
 
+use super::comparing::assert_same;
 use std::alloc::Global;
 use std::process::Abort;
 use std::sync::Wait;
@@ -42,7 +43,7 @@ fn joins(rt: &impl Abort, bundle: &mut Bundle, item: Item) {
 
 /// The item doesn't join the bundle, and comes back.
 fn stays_out(rt: &impl Abort, bundle: &mut Bundle, item: &Item) {
-    assert_eq!(rt; bundle.add(*item).err(), Some(*item));
+    assert_same(rt, bundle.add(*item).err(), Some(*item));
 }
 
 #[test]
@@ -53,9 +54,9 @@ fn who_may_join_a_bundle(rt: HostRuntime) -> Result<(), Fail> {
     stays_out(&rt, &mut bundle, &snap(0, 6));
     joins(&rt, &mut bundle, close_mark(5));
     stays_out(&rt, &mut bundle, &snap(0, 5));
-    assert_eq!(rt; bundle.len(), 3);
-    assert_eq!(rt; bundle.get(2), Some(close_mark(5)));
-    assert_eq!(rt; bundle.get(3), None);
+    assert_same(&rt, bundle.len(), 3);
+    assert_same(&rt, bundle.get(2), Some(close_mark(5)));
+    assert_same(&rt, bundle.get(3), None);
     Ok(())
 }
 
@@ -74,7 +75,7 @@ fn nothing_joins_a_bundle_behind_the_mark_of_a_lost_process(rt: HostRuntime) -> 
     joins(&rt, &mut bundle, lost_mark(4));
     stays_out(&rt, &mut bundle, &close_mark(5));
     stays_out(&rt, &mut bundle, &snap(0, 5));
-    assert_eq!(rt; bundle.len(), 2);
+    assert_same(&rt, bundle.len(), 2);
     Ok(())
 }
 
@@ -85,7 +86,7 @@ fn a_bundle_has_room_for_eight(rt: HostRuntime) -> Result<(), Fail> {
         joins(&rt, &mut bundle, snap(1, number));
     }
     stays_out(&rt, &mut bundle, &snap(1, 8));
-    assert_eq!(rt; bundle.len(), 8);
+    assert_same(&rt, bundle.len(), 8);
     Ok(())
 }
 

@@ -1,4 +1,5 @@
 //! Probes whose link is full: they sleep at it, or are lost.
+use super::comparing::assert_same;
 use super::threads::{Arrival, take_all};
 use super::watches::{
     Pair, UnderOneRelay, emit_and_send, open_under_one_relay, pair_of, run_relay,
@@ -31,7 +32,7 @@ fn fill_link(rt: &impl Abort, probe: &mut LiveProbe) {
         emit_and_send(rt, probe);
     }
     assert!(rt; probe.observe(true) && !probe.flush());
-    assert_eq!(rt; probe.stamp(1, 6).err(), Some((Refusal::Backlog, 6)));
+    assert_same(rt, probe.stamp(1, 6).err(), Some((Refusal::Backlog, 6)));
 }
 
 /// Of two processes the second one is lost, and the first one, which is handed out, has a full link.
@@ -89,8 +90,8 @@ fn a_probe_asleep_at_a_full_link_wakes_for_room(rt: HostRuntime) {
         || fill_again(handle, probe),
         || run_late(handle, relay, taker),
     );
-    assert_eq!(rt; (emitted, fault), (11, None));
-    assert_eq!(rt; arrivals[0], Arrival::Closed(11));
+    assert_same(&rt, (emitted, fault), (11, None));
+    assert_same(&rt, arrivals[0], Arrival::Closed(11));
 }
 
 /// At a full link whose relay is gone a probe is told that its note can't be put, and then that it can't close. It
@@ -98,7 +99,7 @@ fn a_probe_asleep_at_a_full_link_wakes_for_room(rt: HostRuntime) {
 fn assert_told(rt: &(impl Abort + Wait), mut probe: LiveProbe) {
     assert!(rt; probe.flush_waiting(rt).is_err());
     let (_, mut same) = probe.close_waiting(rt).err().expect(rt, "a probe");
-    assert_eq!(rt; same.id(), 0);
+    assert_same(rt, same.id(), 0);
     assert!(rt; !same.flush() && same.stamp(1, ()).is_err());
 }
 

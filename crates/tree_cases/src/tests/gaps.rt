@@ -3,6 +3,7 @@ ghost use Rattle.std.specs.Prelude.{◌≡◌, false, ◌∷◌, [], IfOk, lengt
 ghost use Rattle.std.specs.FinSet as set;
 ghost use Rattle.wcp_relay.specs.declared.feed.Feed.{Feed};
 
+use super::comparing::assert_same;
 use super::watches::run_relay;
 use std::alloc::{AllocError, Global};
 use std::process::Abort;
@@ -71,6 +72,6 @@ fn a_snapshot_out_of_its_place_is_a_gap(rt: HostRuntime) {
     let (putter, taker) = lane_of_one(&rt, rt.alloc());
     let Leaf { mut ring, relay } = leaf_of_one(&rt, rt.alloc(), putter);
     put_second(&rt, &mut ring);
-    assert_eq!(rt; run_relay(&rt, relay), Some(RelayFault::Gap(0)));
+    assert_same(&rt, run_relay(&rt, relay), Some(RelayFault::Gap(0)));
     drop(taker);
 }

@@ -1,4 +1,5 @@
 //! Processes that are lost: their probes are dropped before they close.
+use super::comparing::assert_same;
 use super::full_links::{FullLink, full_link};
 use super::threads::{Arrival, take_all};
 use super::waiting::comes_before_close;
@@ -24,9 +25,10 @@ fn what_a_lost_process_put_into_a_full_link_comes(rt: HostRuntime) {
     drop(probe);
     run_well(&rt, relay);
     let arrivals = take_all(&rt, taker, 2);
-    assert_eq!(rt;
+    assert_same(
+        &rt,
         (arrivals[0], arrivals[1]),
-        (Arrival::Lost(2), Arrival::Lost(0))
+        (Arrival::Lost(2), Arrival::Lost(0)),
     );
 }
 
@@ -61,5 +63,9 @@ fn a_leaf_that_sleeps_wakes_where_a_probe_is_dropped(rt: HostRuntime) {
         from: 0,
         note: Note::Lost { count: 0 },
     };
-    assert_eq!(rt; run_and_drop(&rt, relay, pair, taker), (None, Some(mark)));
+    assert_same(
+        &rt,
+        run_and_drop(&rt, relay, pair, taker),
+        (None, Some(mark)),
+    );
 }

@@ -1,4 +1,5 @@
 //! A tree of relays that run one after another, in one thread.
+use super::comparing::assert_same;
 use super::watches::{Pair, open, pair_of, run_well};
 use std::process::Abort;
 use std::sync::Wait;
@@ -36,10 +37,10 @@ fn run_from_last(rt: &(impl Abort + Wait), relays: Vec<Relay>) {
 /// Process 1 closes, and process 0 emits a snapshot and closes.
 fn close_second_first(rt: &(impl Abort + Wait), pair: Pair) {
     let Pair { mut first, second } = pair;
-    assert_eq!(rt; second.close_in_watch(rt).emitted(), 0);
+    assert_same(rt, second.close_in_watch(rt).emitted(), 0);
     assert!(rt; first.observe(true));
     first.flush_in_watch(rt);
-    assert_eq!(rt; first.close_in_watch(rt).emitted(), 1);
+    assert_same(rt, first.close_in_watch(rt).emitted(), 1);
 }
 
 /// Takes a bundle, which is of just this item.

@@ -1,4 +1,5 @@
 //! Watches that run in threads, whole or with a relay that is gone.
+use super::comparing::assert_same;
 use super::threads::{Arrival, Leaving, Ran, run_and_take};
 use super::watches::open;
 use std::alloc::Global;
@@ -59,10 +60,10 @@ fn assert_ran(
     is_first_cut: bool,
     arrival: Arrival,
 ) {
-    assert_eq!(rt; (ran.emitted.len(), ran.faults.len()), numbers);
+    assert_same(rt, (ran.emitted.len(), ran.faults.len()), numbers);
     assert_emitted(rt, ran.emitted.as_slice(), leaving);
     assert_faults(rt, ran.faults.as_slice(), is_first_cut);
-    assert_eq!(rt; ran.arrivals, [arrival; MAX_PROCS]);
+    assert_same(rt, ran.arrivals, [arrival; MAX_PROCS]);
 }
 
 /// Sixteen processes under three levels of relays.

@@ -1,4 +1,5 @@
 //! What a relay does as it waits, and how much goes into a lane of a watch.
+use super::comparing::assert_same;
 use super::threads::{run_relays, take_all};
 use super::watches::{
     Pair, UnderOneRelay, close, emit_and_send, only_probe, open, open_under_one_relay, pair_of,
@@ -34,11 +35,12 @@ fn put_five(rt: &impl Abort, pair: Pair) {
 
 /// These are the three snapshots and the close mark of process 0.
 fn assert_four(rt: &impl Abort, bundle: &Bundle) {
-    assert_eq!(rt; bundle.len(), 4);
+    assert_same(rt, bundle.len(), 4);
     for (place, item) in bundle.items().iter().enumerate() {
-        assert_eq!(rt;
+        assert_same(
+            rt,
             (item.from, item.place(), item.last()),
-            (0, place as u64, place == 3)
+            (0, place as u64, place == 3),
         );
     }
 }
@@ -121,7 +123,7 @@ fn run_and_take_late<R: Threads + Wait + Sync>(
 fn an_inbox_has_the_room_of_the_plan(rt: HostRuntime) {
     two_find_room(&rt, rt.alloc());
     let closed = closed_watch(&rt, rt.alloc(), 3);
-    assert_eq!(rt; run_and_take_late(&rt, closed), (None, false));
+    assert_same(&rt, run_and_take_late(&rt, closed), (None, false));
 }
 
 /// Takes the next bundle of the lane, and looks for it so many times.

@@ -1,4 +1,5 @@
 //! Watches of plans that are checked, their parts, and the runs of their relays.
+use super::comparing::assert_same;
 use std::alloc::{AllocError, Global};
 use std::process::Abort;
 use std::sync::Wait;
@@ -68,7 +69,7 @@ pub fn open_under_one_relay(
 /// The one of these relays.
 fn only_relay(rt: &impl Abort, mut relays: Vec<Relay>) -> Relay {
     let relay = relays.pop().expect(rt, "a relay");
-    assert_eq!(rt; relay.number(), 0);
+    assert_same(rt, relay.number(), 0);
     relay
 }
 
