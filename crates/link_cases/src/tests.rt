@@ -1,3 +1,4 @@
+mod comparing;
 mod ends;
 mod gone;
 mod lanes;

@@ -1,3 +1,4 @@
+use super::comparing::assert_same;
 use super::rings::{assert_puts, assert_takes, snapshot};
 use std::sync::Wait;
 use std::thread;
@@ -63,6 +64,6 @@ fn nothing_is_left_in_a_ring_that_is_gone_and_then_empty(rt: HostRuntime) {
             move || put_and_drop(putter),
             move || take_until_gone(&rt, taker),
         );
-        assert_eq!(rt; came, NOTES);
+        assert_same(&rt, came, NOTES);
     }
 }

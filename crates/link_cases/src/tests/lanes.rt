@@ -4,6 +4,7 @@ ghost use Rattle.wcp_clock.specs.Notes.{place_of, is_last};
 ghost use Rattle.wcp_lane.specs.Ends.{new_putter};
 ghost use Rattle.wcp_lane.specs.Snapshots.{HasPut};
 
+use super::comparing::assert_same;
 use std::alloc::Global;
 use std::process::Abort;
 use std::sync::Wait;
@@ -58,6 +59,41 @@ pub fn try_put_snap<R: Wait>(
         Ok(back) => Ok(back.is_none()),
         Err((cut, _)) => Err(cut),
     }
+}
+
+/// The lane takes the next snapshot of a process.
+pub fn assert_puts<R: Wait + Abort>(rt: &R, putter: &mut Putter<Item>, from: u32, number: u32)
+    requires { HasPut from number putter.old }
+    ensures lane { putter.new.lane ≡ putter.old.lane }
+    ensures put { HasPut from (number + 1) putter.new }
+{
+    put_snap(rt, putter, from, number).expect(rt, "a taker");
+}
+
+/// The lane has room for the next snapshot of a process, and takes it.
+pub fn assert_room<R: Wait + Abort>(rt: &R, putter: &mut Putter<Item>, from: u32, number: u32)
+    requires { HasPut from number putter.old }
+    ensures { HasPut from (number + 1) putter.new }
+{
+    assert_eq!(rt; try_put_snap(rt, putter, from, number), Ok(true));
+}
+
+/// The lane has no room for the next snapshot of a process.
+pub fn assert_full<R: Wait + Abort>(rt: &R, putter: &mut Putter<Item>, from: u32, number: u32)
+    requires { HasPut from number putter.old }
+    ensures { HasPut from number putter.new }
+{
+    assert_eq!(rt; try_put_snap(rt, putter, from, number), Ok(false));
+}
+
+/// The next item of the lane is this snapshot.
+pub fn assert_takes<R: Wait + Abort>(rt: &R, taker: &mut Taker<Item>, from: u32, number: u32) {
+    assert_same(rt, taker.take(rt), Ok(snap(from, number)));
+}
+
+/// What the lane has at once is this item, or nothing.
+pub fn assert_has<R: Wait + Abort>(rt: &R, taker: &mut Taker<Item>, item: Option<Item>) {
+    assert_same(rt, taker.try_take(rt), Ok(item));
 }
 
 /// A lane with a putter for each of these sets. Where memory runs out, asking again makes it.

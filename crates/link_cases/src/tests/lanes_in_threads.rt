@@ -1,7 +1,7 @@
 ghost use Rattle.std.specs.Prelude.{◌≡◌};
 ghost use Rattle.wcp_lane.specs.Snapshots.{HasPut};
 
-use super::lanes::{Three, lane_of_three, put_snap};
+use super::lanes::{Three, assert_puts, lane_of_three};
 use std::process::Abort;
 use std::sync::Wait;
 use std::thread::{Threads, join};
@@ -17,7 +17,7 @@ fn put_all<R: Wait + Abort>(rt: &R, mut putter: Putter<Item>, from: u32) -> PutR
     ensures { result.lane ≡ putter.lane }
 {
     for number in 0..COUNT {
-        put_snap(rt, &mut putter, from, number).expect(rt, "a taker");
+        assert_puts(rt, &mut putter, from, number);
     }
     putter.end()
 }

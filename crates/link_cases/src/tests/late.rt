@@ -21,6 +21,16 @@ const TIMES: u32 = 3;
 /// How many notes are put by a thread that sleeps after each.
 const NOTES: u32 = 200;
 
+/// Puts so many notes: whether there was room for them.
+fn put_burst(putter: &mut RingPutter, notes: u32, time: u32) -> bool {
+    for _ in 0..notes {
+        if putter.try_put(Note::Close { count: time }).is_err() {
+            return false;
+        }
+    }
+    true
+}
+
 /// Puts so many notes once the taker is asleep, and then rings or not: whether the taker took them in time, each time.
 fn put_in_bursts<R: Clock>(
     rt: &R,
@@ -31,10 +41,8 @@ fn put_in_bursts<R: Clock>(
 ) -> bool {
     for time in 1..TIMES + 1 {
         let _ = sleep(rt, Duration::from_millis(ASLEEP));
-        for _ in 0..notes {
-            if putter.try_put(Note::Close { count: time }).is_err() {
-                return false;
-            }
+        if !put_burst(putter, notes, time) {
+            return false;
         }
         if tells {
             putter.tell();

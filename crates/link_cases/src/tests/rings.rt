@@ -1,5 +1,6 @@
 ghost use Rattle.std.specs.Prelude.{◌≡◌, ◌<◌, ◌≤◌};
 
+use super::comparing::assert_same;
 use std::alloc::Global;
 use std::process::Abort;
 use std::sync::Wait;
@@ -29,7 +30,7 @@ pub fn assert_puts(rt: &impl Abort, putter: &mut RingPutter, note: Note)
 pub fn assert_takes(rt: &impl Abort, taker: &mut RingTaker, note: Option<Note>)
     ensures { taker.new.ring ≡ taker.old.ring }
 {
-    assert_eq!(rt; taker.try_take(), note);
+    assert_same(rt, taker.try_take(), note);
 }
 
 /// A ring. Where memory runs out, asking again makes it.
@@ -44,22 +45,29 @@ fn ring_of(rt: &impl Abort, alloc: Global, cap: u32) -> (RingPutter, RingTaker)
     }
 }
 
+/// Ends both ends of a ring: whether all that was put was taken.
+fn end_and_match(putter: RingPutter, taker: RingTaker) -> bool
+    requires { putter.ring ≡ taker.ring }
+{
+    match_ends(putter.end(), taker).is_ok()
+}
+
 #[test]
 fn one_note_through_a_ring_of_one(rt: HostRuntime) {
     let (mut putter, mut taker) = ring_of(&rt, rt.alloc(), 1);
     assert_takes(&rt, &mut taker, None);
     assert_puts(&rt, &mut putter, snapshot(0));
-    assert_eq!(rt; putter.try_put(snapshot(1)), Err(snapshot(1)));
+    assert_same(&rt, putter.try_put(snapshot(1)), Err(snapshot(1)));
     assert_takes(&rt, &mut taker, Some(snapshot(0)));
     assert_takes(&rt, &mut taker, None);
-    assert!(rt; match_ends(putter.end(), taker).is_ok());
+    assert!(rt; end_and_match(putter, taker));
 }
 
 #[test]
 fn a_note_left_in_a_ring(rt: HostRuntime) {
     let (mut putter, taker) = ring_of(&rt, rt.alloc(), 1);
     assert_puts(&rt, &mut putter, snapshot(0));
-    assert!(rt; match_ends(putter.end(), taker).is_err());
+    assert!(rt; !end_and_match(putter, taker));
 }
 
 fn put_waiting(rt: &impl Wait, putter: &mut RingPutter, note: Note)
@@ -133,5 +141,5 @@ fn across<R: Threads + Wait + Abort + Sync>(rt: &R, alloc: Global, cap: u32) -> 
 
 #[test]
 fn all_notes_between_two_threads(rt: HostRuntime) {
-    assert_eq!(rt; across(&rt, rt.alloc(), 4), NOTES);
+    assert_same(&rt, across(&rt, rt.alloc(), 4), NOTES);
 }

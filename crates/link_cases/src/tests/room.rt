@@ -1,4 +1,5 @@
 //! Room that comes at every moment of a putter's falling asleep.
+use super::comparing::assert_same;
 use super::ends::{Ends, for_a_putter_that_sleeps};
 use super::waking::Progress;
 use std::sync::Wait;
@@ -69,7 +70,7 @@ fn each_note_taken_wakes_the_putter(rt: HostRuntime) {
         },
         move || put_until_gone(handle, putter, sleeper, shared),
     );
-    assert_eq!(rt; taken, progress.count().checked_sub(1));
+    assert_same(&rt, taken, progress.count().checked_sub(1));
 }
 
 /// The putter fills the ring and sleeps, and ends only once it is told that the other end is gone.
@@ -90,5 +91,5 @@ fn a_putter_that_sleeps_wakes_as_the_taker_goes(rt: HostRuntime) {
         },
         move || put_until_gone(handle, putter, sleeper, shared),
     );
-    assert_eq!(rt; progress.count(), 2);
+    assert_same(&rt, progress.count(), 2);
 }

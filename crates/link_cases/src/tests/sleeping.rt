@@ -26,23 +26,33 @@ fn wait_a_while<R: Clock>(rt: &R) {
     let _ = thread::sleep(rt, Duration::from_millis(30));
 }
 
-/// Puts a note and leaves, each late.
-fn put_late<R: Wait + Clock>(rt: &R, putter: RingPutter, leaving: Leaving, step: &AtomicU64) {
-    let mut putter = putter;
-    wait_a_while(rt);
-    let _ = putter.try_put(Note::Close { count: 7 });
+/// Waits until the other thread has taken the note.
+fn wait_until_taken(rt: &impl Wait, step: &AtomicU64) {
     for _ in rt.forever() {
         if step.load(SeqCst) == TAKEN {
             break;
         }
         thread::yield_now();
     }
-    wait_a_while(rt);
-    step.store(LEFT, SeqCst);
+}
+
+/// The putter leaves so.
+fn leave(putter: RingPutter, leaving: Leaving) {
     match leaving {
         Leaving::Ended => drop(putter.end()),
         Leaving::Dropped => drop(putter),
     }
+}
+
+/// Puts a note and leaves, each late.
+fn put_late<R: Wait + Clock>(rt: &R, putter: RingPutter, leaving: Leaving, step: &AtomicU64) {
+    let mut putter = putter;
+    wait_a_while(rt);
+    let _ = putter.try_put(Note::Close { count: 7 });
+    wait_until_taken(rt, step);
+    wait_a_while(rt);
+    step.store(LEFT, SeqCst);
+    leave(putter, leaving);
 }
 
 /// Takes what is there and sleeps, until the putter has left.

@@ -1,4 +1,5 @@
 //! Notes that come at every moment of a taker's falling asleep.
+use super::comparing::assert_same;
 use super::ends::{Ends, for_a_taker_that_sleeps};
 use std::sync::Wait;
 use std::sync::atomic::Ordering::SeqCst;
@@ -138,5 +139,5 @@ fn each_note_wakes_the_taker(rt: HostRuntime) {
         },
         move || take_until_left(handle, taker, sleeper, shared),
     );
-    assert_eq!(rt; put, Some(progress.count()));
+    assert_same(&rt, put, Some(progress.count()));
 }
