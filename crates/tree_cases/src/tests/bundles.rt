@@ -137,7 +137,7 @@ fn assert_takes(
     ensures { taker.new.lane ≡ taker.old.lane }
 {
     let taken = taker.take(rt)?;
-    assert_eq!(rt; taken.items(), items);
+    assert_same(rt, taken.items(), items);
     Ok(())
 }
 

@@ -46,7 +46,7 @@ fn close_second_first(rt: &(impl Abort + Wait), pair: Pair) {
 /// Takes a bundle, which is of just this item.
 fn assert_takes(rt: &(impl Abort + Wait), taker: &mut Taker<Bundle>, item: Item) {
     let bundle = taker.take(rt).expect(rt, "a bundle");
-    assert_eq!(rt; bundle.items(), [item].as_slice());
+    assert_same(rt, bundle.items(), [item].as_slice());
 }
 
 /// Takes these items, each as a bundle of its own. Then nothing comes any more, since the lane is cut.

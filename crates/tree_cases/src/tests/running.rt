@@ -1,5 +1,5 @@
 //! Watches that run in threads, whole or with a relay that is gone.
-use super::comparing::assert_same;
+use super::comparing::{assert_same, assert_same_at};
 use super::threads::{Arrival, Leaving, Ran, run_and_take};
 use super::watches::open;
 use std::alloc::Global;
@@ -33,7 +33,7 @@ fn whole_arrival(leaving: Leaving) -> Arrival {
 fn assert_emitted(rt: &impl Abort, emitted: &[Option<u32>], leaving: Leaving) {
     let expected = emitted_by(leaving);
     for (process, emitted) in emitted.iter().enumerate() {
-        assert_eq!(rt; *emitted, expected, "process {process}");
+        assert_same_at(rt, *emitted, expected, "process", process);
     }
 }
 
@@ -42,10 +42,12 @@ fn assert_faults(rt: &impl Abort, faults: &[Option<RelayFault>], is_first_cut: b
     for (relay, fault) in faults.iter().enumerate() {
         let is_cut = matches!(fault, Some(RelayFault::Cut(_)));
         let expected = is_first_cut && relay == 0;
-        assert_eq!(rt;
+        assert_same_at(
+            rt,
             (is_cut, fault.is_some()),
             (expected, expected),
-            "relay {relay}"
+            "relay",
+            relay,
         );
     }
 }

@@ -1,5 +1,5 @@
 //! What a relay does as it waits, and how much goes into a lane of a watch.
-use super::comparing::assert_same;
+use super::comparing::{assert_same, assert_same_at};
 use super::threads::{run_relays, take_all};
 use super::watches::{
     Pair, UnderOneRelay, close, emit_and_send, only_probe, open, open_under_one_relay, pair_of,
@@ -201,6 +201,6 @@ fn an_item_comes_to_the_root_while_all_else_is_silent(rt: HostRuntime) {
     for leaf in 0..2 {
         let relays = &parents[..leaf + 1];
         let came = comes_in_silence(&rt, rt.alloc(), relays, leaf as u32);
-        assert_eq!(rt; came, Some(first_snap()), "leaf {leaf}");
+        assert_same_at(&rt, came, Some(first_snap()), "leaf", leaf);
     }
 }
