@@ -1,4 +1,4 @@
-//! A comparison that all tests share, so that none of them spells it out.
+//! How tests compare where no proof rests on it: in a function that they share, which is proved once.
 use std::fmt::Debug;
 use std::process::Abort;
 

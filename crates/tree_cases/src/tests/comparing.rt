@@ -1,4 +1,4 @@
-//! Comparisons that all tests share, so that none of them spells one out.
+//! How tests compare where no proof rests on it: in functions that they share, each of which is proved once.
 use std::fmt::Debug;
 use std::process::Abort;
 
