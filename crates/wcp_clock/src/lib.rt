@@ -1,8 +1,8 @@
 //! Vector clocks, what comes of a process (snapshots, and a mark that it closed or was lost), and the limits of the
 //! product.
 //!
-//! What is proved. `Clock` is the list of its components: `tick`, `merge` and `precedes` are exact; `tick` gives
-//! nothing exactly where the component is at least the limit.
+//! What is proved. `Clock` is the list of its components: `tick`, `merge` and `precedes` are exact; `tick` answers
+//! false, and counts nothing, exactly where the component is at least the limit.
 #![tactic(auto)]
 
 mod clock;

@@ -19,7 +19,7 @@ use Rattle.wcp_model.specs.Replies.{Answered, accepted, items_taken, computation
 --   every conjunct holds       the state of each watched process is true; another has no condition (IsSatisfyingCut)
 --   each step, answered        the reply that the definitions give from the steps and replies before it (AreReplies)
 --   what the checker has taken the notes of the items in its replies, in order (items_taken, notes_taken)
---   what a process emitted     the snapshots of its true states, with their clocks, and its close mark (AreEmissions)
+--   what a process emitted     the snapshots of its emitted states with their clocks, and its close mark (AreEmissions)
 --   a prefix, once, in order   what was taken, followed by some list, is what was emitted (AreFrontsOfEmissions)
 --   none after its close       behind a close mark nothing was taken
 --   drained                    what was taken of each process ends with its close mark (IsDrained)
