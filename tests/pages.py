@@ -1,0 +1,71 @@
+"""Runs the commands that the pages show, and compares what they print with what the pages say.
+
+A command is a line of a block of `sh`, or an indented line behind `$`, that begins with a program of this repository. What it
+prints is the block of `text` right behind it, or the indented lines below it. The programs must have been built, as the
+gate does. The last line is the count."""
+import concurrent.futures
+import os
+import pathlib
+import re
+import subprocess
+import sys
+import tempfile
+
+TOP = pathlib.Path(__file__).resolve().parent.parent
+PROGRAMS = ("wcpwatch", "wcptrace", "wcpdraw")
+FENCED = re.compile(r"^```sh\n(.*?)^```\n(?:\n```text\n(.*?)^```\n)?", re.M | re.S)
+INDENTED = re.compile(r"^    \$ (.*)\n((?:    (?!\$ ).*\n)*)", re.M)
+SECONDS = 60
+
+
+def is_ours(line):
+    """Whether each command of the line is a program of this repository, which reads no input of the terminal."""
+    return all(part.strip().startswith(tuple(f"./{name} " for name in PROGRAMS)) for part in line.split("|")) \
+        and ("<" in line or line.startswith("./wcpwatch ring ")) and "--prove" not in line
+
+
+def commands(page):
+    """Each command of a page, with what it prints where the page says so."""
+    for block, printed in FENCED.findall(page):
+        lines = [re.sub(r"\s+#.*", "", line) for line in block.splitlines()]
+        for line in lines:
+            if is_ours(line):
+                yield line, printed if printed and len(lines) == 1 else None
+    for line, printed in INDENTED.findall(page):
+        if is_ours(line):
+            yield line, re.sub(r"^    ", "", printed, flags=re.M) or None
+
+
+def answer(line):
+    """The status and the output of a command, in a folder of its own with the programs and the examples."""
+    with tempfile.TemporaryDirectory() as room:
+        for name in (*PROGRAMS, "examples"):
+            os.symlink(TOP / name, f"{room}/{name}")
+        ran = subprocess.run(["bash", "-c", line], cwd=room, capture_output=True, text=True, timeout=SECONDS, check=False)
+        return ran.returncode, ran.stdout, ran.stderr
+
+
+def fault(page, line, printed):
+    """What is wrong with a command of a page, or nothing."""
+    status, output, errors = answer(line)
+    where = f"{page.relative_to(TOP)}: {line}"
+    if status not in (0, 1) or errors:
+        return f"{where}: status {status}, and says {errors!r}"
+    if printed is not None and printed != output:
+        return f"{where}: prints {output!r} and not {printed!r}"
+    return None
+
+
+def main():
+    pages = [TOP / "README.md", TOP / "examples" / "README.md", *sorted((TOP / "docs").glob("*.md"))]
+    asked = [(page, line, printed) for page in pages for line, printed in commands(page.read_text())]
+    with concurrent.futures.ThreadPoolExecutor(os.cpu_count()) as pool:
+        faults = [it for it in pool.map(lambda it: fault(*it), asked) if it]
+    for it in faults:
+        print(it)
+    print(f"{len(asked) - len(faults)} passed, {len(faults)} failed")
+    return 1 if faults or not asked else 0
+
+
+if __name__ == "__main__":
+    sys.exit(main())
