@@ -1,12 +1,14 @@
-# Runs a program of this repository. `wcpwatch` and `wcptrace` read this file: it wants the program's `name`, the words that
-# the call has, and `reads_input`, which says whether the program reads its input with these words.
+# Runs a program of this repository. `wcpwatch`, `wcptrace` and `wcpdraw` read this file. It wants the words that the call has
+# and, of the program:
+#   name           its name
+#   asks_for       prints what the words ask for: `help`, `version` or `usage`, which are answered without a build; `input`, where
+#                  the program reads its input; or `other`. `usage` are only words to which the program itself answers so
+#   most           how many bytes of input a build without proofs takes
+#   refuse_longer  what is done where there are more: it may end the call, or hand on one byte more than these
 top=$(dirname -- "$(readlink -f -- "$0")")
 folder=$top/crates/$name
 program=$folder/out/$name
 toolchain='rattle-kit-13f logic dac8208d650f15bf'
-
-# More bytes of input than the program reads, and fewer than `rt try` hands on.
-most=16777216
 
 say() {
     echo "$name: $*" >&2
@@ -54,18 +56,43 @@ look_for_toolchain() {
     esac
 }
 
+# Answers what needs no build: the help and the version are the stored ones.
+answer_at_once() {
+    case $1 in
+        usage) say usage; exit 2 ;;
+        *) cat "$folder/runs/$1" 2>/dev/null || { say write; exit 2; } ;;
+    esac
+    exit 0
+}
+
+# Keeps the input to its end, or one byte more than is taken of it. `rt try` hands on whole what is less than 64 MiB.
+keep_input() {
+    head -c "$((most + 1))" >"$room/input" 2>/dev/null || { say read; exit 2; }
+    [ "$(wc -c <"$room/input")" -le "$most" ] || refuse_longer
+}
+
+# Makes ready for a build without proofs: keeps the input, where the program reads it, and says what is done.
+prepare() {
+    build="building it without proofs for this call, in about a minute (./$name --prove proves it and keeps it)"
+    if [ "$2" != input ]; then
+        : >"$room/input"
+        say "$1: $build"
+    elif [ -f /dev/stdin ]; then
+        keep_input
+        say "$1: $build"
+    else
+        say "$1: waiting for the end of standard input, and then $build"
+        keep_input
+    fi
+}
+
 # Answers by a build without proofs, of which nothing is kept. `rt try` runs the program for this call alone, and what the program
 # wrote comes with lines of its own on standard error: first the program's, then its own, of which the last has the status.
 answer_unproved() {
     look_for_toolchain
-    say "$1: building it without proofs for this call, in about a minute (./$name --prove proves it and keeps it)"
-    shift
     make_room
-    if reads_input "$@"; then
-        head -c "$most" >"$room/input" 2>/dev/null || { say read; exit 2; }
-    else
-        : >"$room/input"
-    fi
+    prepare "$1" "$2"
+    shift 2
     (cd "$folder" && rt try --seconds 600 -- "$@") <"$room/input" >"$room/output" 2>"$room/errors"
     status=$(sed -n '$s/^run=ended status=\([0-9]*\) .*proved=no$/\1/p' "$room/errors")
     if [ -z "$status" ]; then
@@ -134,10 +161,21 @@ is_built() {
     [ -x "$program" ] && newer=$(newer_source) && [ -z "$newer" ]
 }
 
+# Answers at once where that is possible, and else by a build without proofs.
+answer() {
+    asked=$(asks_for "$@")
+    case $asked in
+        help | version | usage) answer_at_once "$asked" ;;
+    esac
+    if [ -n "${newer-}" ]; then
+        answer_unproved "$newer is newer than the proved program" "$asked" "$@"
+    fi
+    answer_unproved "the program isn't proved yet" "$asked" "$@"
+}
+
 case $#:${1-} in
     1:--prove) if is_built; then echo "$program"; else prove; fi ;;
     *:--prove) say "--prove stands alone"; exit 2 ;;
     *) if is_built; then exec "$program" "$@"; fi
-        if [ -n "${newer-}" ]; then answer_unproved "$newer is newer than the proved program" "$@"; fi
-        answer_unproved "the program isn't proved yet" "$@" ;;
+        answer "$@" ;;
 esac

@@ -7,7 +7,7 @@ import subprocess
 from dataclasses import dataclass
 from functools import partial
 
-from programs import SECONDS, Cases, called
+from programs import SECONDS, TOP, Cases, called
 
 
 @dataclass(frozen=True)
@@ -103,6 +103,13 @@ IN_LINES = """\
 {"event":"holds too","host":"ben","level":3,"clock":{"ann":1,"ben":1}}
 """
 
+# Two are leaders at once, each over several events.
+with open(os.path.join(TOP, "examples", "two_leaders.log"), encoding="utf-8") as file:
+    TWO_LEADERS = file.read()
+
+# The texts of ann and ben stand apart from their hosts.
+APART = 'ann {"ann":1}\nben {"ben":1}\ncid {"cid":1}\nholds\nasks\ngives\n'
+
 ANSWERS = [
     Row(BOTH, RUNS_OUT, found("ann line 8 holds the lease", "ben line 14 holds the lease")),
     Row(BOTH, WAITED_FOR, none("ann events 2 matched 1", "ben events 2 matched 1")),
@@ -119,6 +126,28 @@ ANSWERS = [
     Row(["--form", "shiviz-reversed", "--while", "ann=holds"], 'holds\nann {"ann":1}', found("ann line 1 holds")),
     # A last line without LF is a line.
     Row(["--while", "ann=holds"], 'ann {"ann":1}\nholds', found("ann line 2 holds")),
+    # A leader that sends is leader still, and no longer in the state of the event before.
+    Row(
+        ["--from", "n1=leader", "--until", "n1=steps down", "--from", "n2=leader", "--until", "n2=steps down"],
+        TWO_LEADERS,
+        found("n1 line 12 sends a heartbeat to n3", "n2 line 24 becomes leader"),
+    ),
+    Row(
+        ["--while", "n1=leader", "--while", "n2=leader"],
+        TWO_LEADERS,
+        none("n1 events 6 matched 1", "n2 events 4 matched 1"),
+    ),
+    # A line of another host between the two of an event: the text is taken for that of a third.
+    Row(["--while", "cid=holds"], APART, found("cid line 4 holds")),
+    Row(["--while", "cid=never"], APART, fault("line 5: text")),
+    # A CR is part of a text, and not of the JSON around one.
+    Row(["--while", "ann=holds$"], 'ann {"ann":1}\r\nholds\r\n', none("ann events 1 matched 0")),
+    Row(["--while", r"ann=holds\r?$"], 'ann {"ann":1}\r\nholds\r\n', found("ann line 2 holds\r")),
+    Row(
+        ["--form", "lines", "--while", "ann=holds$"],
+        '{"host":"ann","clock":{"ann":1},"event":"holds"}\r\n',
+        found("ann line 1 holds"),
+    ),
 ]
 
 # Logs that end with the line by which the moment is known.
@@ -127,6 +156,9 @@ EARLY = [
     Row(BOTH, first_lines(KNOWS, 4), found("ann line 2 holds the lease", "ben line 4 holds the lease")),
     Row(["--form", "lines", *BOTH], IN_LINES, found("ann line 1 holds", "ben line 2 holds too")),
 ]
+
+# The words for a log in JSON.
+IN_JSON = ["--form", "lines", "--while", "ann=holds"]
 
 FAULTS = [
     Row([], "", USAGE),
@@ -146,6 +178,11 @@ FAULTS = [
         RUNS_OUT,
         fault("expression ben: regex parse error at 0..1: unclosed group"),
     ),
+    # Of two members of one name the last counts, and a line with two has a fault in any case.
+    Row(IN_JSON, '{"host":"ann","clock":{"ann":1},"event":{"n":1},"event":"holds"}\n', fault("line 1: clock")),
+    Row(IN_JSON, '{"host":"ann","clock":{"ann":1},"event":"holds","event":{"n":1}}\n', fault("line 1: text")),
+    Row(IN_JSON, '{"host":"ann","clock":{"ann":1},"event":"holds","event":"holds"}\n', fault("line 1: clock")),
+    Row(IN_JSON, '{"host":"ann","host":"ann","clock":{"ann":1},"event":"holds"}\n', fault("line 1: clock")),
     # Of a line that is too long no more than its fault is told.
     Row(BOTH, "x" * 200_000, fault("line 1: long")),
 ]
