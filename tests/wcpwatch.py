@@ -33,6 +33,13 @@ class Row:
     answer: Answer
 
 
+# The workload of a ring of three processes in which each has its turn twice.
+THREE_TWICE = (
+    "wcp 1\nprocs 3\np 0 true\np 0 false\np 0 send 1\np 1 recv 0\np 1 true\np 1 false\np 1 send 2\np 2 recv 1\n"
+    "p 2 true\np 2 false\np 2 send 0\np 0 recv 2\np 0 true\np 0 false\np 0 send 1\np 1 recv 0\np 1 true\n"
+    "p 1 false\np 1 send 2\np 2 recv 1\np 2 true\np 2 false\n"
+)
+
 ANSWERED = [
     Row(
         "true again after a send",
@@ -135,9 +142,7 @@ ANSWERED = [
     Row(
         "a ring of three processes and two rounds",
         "single",
-        "wcp 1\nprocs 3\np 0 true\np 0 false\np 0 send 1\np 1 recv 0\np 1 true\np 1 false\np 1 send 2\np 2 recv 1\n"
-        "p 2 true\np 2 false\np 2 send 0\np 0 recv 2\np 0 true\np 0 false\np 0 send 1\np 1 recv 0\np 1 true\n"
-        "p 1 false\np 1 send 2\np 2 recv 1\np 2 true\np 2 false\n",
+        THREE_TWICE,
         Answer(
             "none\nprocess 0 emitted 2 taken 2\nprocess 1 emitted 2 taken 2\nprocess 2 emitted 2 taken 2\n"
             "total emitted 6 taken 6\n",
@@ -552,6 +557,14 @@ OTHER_WORDS = [
     ["ring", "--procs", "2", "--rounds", "0"],
     ["ring", "--procs", "2", "--rounds", "1001"],
     ["ring", "--procs", "two", "--rounds", "1"],
+    ["ring", "--fault"],
+    ["ring", "2", "1"],
+    ["ring", "--procs", "2", "--rounds", "1", "2"],
+    ["ring", "--procs", "2", "--procs", "2", "--rounds", "1"],
+    ["ring", "--procs", "-2", "--rounds", "1"],
+    # Two more than there are numbers of 32 bits, and of 64.
+    ["ring", "--procs", "4294967298", "--rounds", "1"],
+    ["ring", "--procs", "2", "--rounds", "18446744073709551618"],
 ]
 
 # What a newcomer needs.
@@ -582,6 +595,12 @@ RINGS = [
     (
         ["ring", "--procs", "2", "--rounds", "1", "--fault"],
         "wcp 1\nprocs 2\np 1 true\np 1 false\np 0 true\np 0 false\np 0 send 1\np 1 recv 0\np 1 true\np 1 false\n",
+    ),
+    (["ring", "--procs", "3", "--rounds", "2"], THREE_TWICE),
+    (["ring", "--rounds=2", "--procs=3"], THREE_TWICE),
+    (
+        ["ring", "--fault", "--rounds", "2", "--procs", "3"],
+        THREE_TWICE.replace("procs 3\n", "procs 3\np 1 true\np 1 false\np 2 true\np 2 false\n"),
     ),
 ]
 

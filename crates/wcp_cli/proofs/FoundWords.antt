@@ -1,13 +1,17 @@
 use Rattle.wcp_cli.proofs.Imports.{◌≡◌, ◌∙◌, ◌⊎◌, List, [], ◌∷◌, codes, ap, Some, None, Option, refl, inl, inr}
 use Rattle.wcp_cli.proofs.Imports.{option_map, Text, Row, subcommand_of, subcommand_name_of, subcommand_rows}
-use Rattle.wcp_cli.proofs.Imports.{subcommand_rows_of, AskForSingle, IsAlone, IsReader, program}
+use Rattle.wcp_cli.proofs.Imports.{subcommand_rows_of, AskForSingle, IsAlone, IsReader, program, built, entered}
+use Rattle.wcp_cli.proofs.Imports.{names_of, stop_after}
 use Rattle.clap.proofs.OnLiterals.{clap_on_literals}
 use Rattle.clap.specs.declared.parser.matches.ArgMatches.{ArgMatches}
 use Rattle.clap.specs.declared.parser.matches.ArgMatches.TheViews.{out-ArgMatches, out-SubCommand}
 use Rattle.clap.specs.declared.parser.matches.SubCommand.{SubCommand}
 use Rattle.std.specs.Box.{box_value}
 use Rattle.std.specs.Prelude.{Box}
-use Rattle.wcp_cli.proofs.RingWords.{found_by}
+
+-- the subcommand that clap finds by the words after the program's name
+abbrev found_by : List Text → Option (Text × List Row)
+found_by words = entered (built program) (stop_after (built program).top.rules (names_of (built program)) words)
 
 abbrev pub name_of : Option (Text × List Row) → Option Text
 name_of = option_map (λ p. p.0)

@@ -1,10 +1,6 @@
 mod Imports
 mod FoundWords
-mod NoRingWords
-mod NumberWords
 mod Requests
 mod RingText
-mod RingWalk
-mod RingWords
 mod StoppedWalk
 mod WordLemmas

@@ -1,13 +1,12 @@
-use Rattle.wcp_cli.proofs.Imports.{◌≡◌, ◌≢◌, Bool, true, false, List, [], ◌∷◌, codes, ap, ◌∙◌, sym, subst, refl, None}
+use Rattle.wcp_cli.proofs.Imports.{◌≡◌, ◌≢◌, true, false, List, [], ◌∷◌, codes, ap, ◌∙◌, sym, subst, refl, None}
 use Rattle.wcp_cli.proofs.Imports.{inl, inr, IsAmong, Kinds, Text, fault_of, is_simple, is_simple_and_free, built}
 use Rattle.wcp_cli.proofs.Imports.{built_fault, strip_byte, names_of, nothing_held, walk_from, stopped_fault}
 use Rattle.wcp_cli.proofs.Imports.{false_from_ne_true, ErrorKind, bytes_eq, AskForSingle, AskForHelp, AskForVersion}
-use Rattle.wcp_cli.proofs.Imports.{AskForUnknown, IsAlone, IsReader, IsUnknown, UnknownWord, Further, NoRing, is_flag}
+use Rattle.wcp_cli.proofs.Imports.{AskForUnknown, IsAlone, IsReader, IsUnknown, UnknownWord, Further, is_flag}
 use Rattle.wcp_cli.proofs.Imports.{program}
 use Rattle.clap.proofs.OnLiterals.{clap_on_literals}
 use Rattle.std.proofs.lemmas.Slice.Eq.{bytes_eq-Decides}
 use Rattle.clap.specs.declared.error.kind.ErrorKind.TheVariants as kind
-use Rattle.wcp_cli.proofs.NoRingWords.{alone, no_ring-fails}
 use Rattle.wcp_cli.proofs.StoppedWalk.{stays_stopped}
 
 pub program_is_free : is_simple_and_free program ≡ true
@@ -131,10 +130,6 @@ fails_by why not_help not_version = record {
   no_version = λ among. elim among [ inl same ↦ not_version (sym same) | inr none ↦ none ];
 }
 
-fails_alone : (inside : Bool) → FailsPlainly (alone inside)
-fails_alone true = fails_by kind.MissingRequiredArgument (λ same. cc) (λ same. cc)
-fails_alone false = fails_by kind.ValueValidation (λ same. cc) (λ same. cc)
-
 -- words that ask for what the program doesn't know are refused, and not as a wish for help or the version
 pub unknown-fails : (words : List Text) → AskForUnknown words → FailsPlainly (fault_of program words)
 unknown-fails words (UnknownWord word rest is unknown) =
@@ -142,6 +137,3 @@ unknown-fails words (UnknownWord word rest is unknown) =
 unknown-fails words (Further reader word rest is reads no_flag) =
     rw (ap (built_fault (built program) nothing_held) is ∙ further_word reader word rest reads no_flag)
     (fails_by kind.UnknownArgument (λ same. cc) (λ same. cc))
-unknown-fails words (NoRing asked) =
-    let fails = no_ring-fails words asked in
-    rw fails.1 (fails_alone fails.0)

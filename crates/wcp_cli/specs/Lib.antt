@@ -1,5 +1,4 @@
 pub mod Edge
 pub mod Faults
 pub mod RequestAnswers
-pub mod RingOptions
 pub mod Words

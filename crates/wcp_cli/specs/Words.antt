@@ -1,6 +1,4 @@
-use Rattle.std.specs.Prelude.{◌≡◌, ◌≢◌, ◌⊎◌, ◌==◌, ◌≤◌, ◌<◌, ◌^◌, ℕ, Bool, true, false, List, [], ◌∷◌, Some}
-use Rattle.std.specs.Prelude.{if◌then◌else◌, pos, drop, codes}
-use Rattle.std.specs.Fmt.{decimal}
+use Rattle.std.specs.Prelude.{◌≡◌, ◌≢◌, ◌⊎◌, ◌==◌, ◌≤◌, ℕ, Bool, true, false, List, [], ◌∷◌, Some, pos, drop, codes}
 use Rattle.clap.specs.Words.{App, Rule, Shape, Text, new_app, new_rule, with_subcommand}
 use Rattle.clap.specs.Simple.{new_shape, on_top}
 use Rattle.clap.specs.declared.builder.action.ArgAction.TheVariants.{SetTrue}
@@ -18,12 +16,12 @@ least_ring = 2
 abbrev pub least_rounds : ℕ
 least_rounds = 1
 
--- An option that is required and takes one number from a range.
-abbrev pub number_option : Text → ℕ → ℕ → Rule
-number_option name least most = record (new_rule name) {
+-- An option that is required and takes one number of 32 bits.
+abbrev pub number_option : Text → Rule
+number_option name = record (new_rule name) {
   long = Some name;
   value_names = 1;
-  parser = Some (Signed (pos least) (pos most));
+  parser = Some (Signed (pos 0) (pos 4294967295));
   required = true;
 }
 
@@ -37,9 +35,7 @@ flag_option name = record (new_rule name) {
 -- The word `ring` with its options.
 abbrev pub ring_shape : Shape
 ring_shape = record (new_shape (codes "ring")) {
-  rules = number_option (codes "procs") least_ring most_processes
-      ∷ number_option (codes "rounds") least_rounds most_rounds
-      ∷ flag_option (codes "fault") ∷ [];
+  rules = number_option (codes "procs") ∷ number_option (codes "rounds") ∷ flag_option (codes "fault") ∷ [];
 }
 
 -- The program's name, and that it has a version.
@@ -62,32 +58,12 @@ IsAlone word words = drop 1 words ≡ word ∷ []
 abbrev pub AskForSingle : List Text → Type 0
 AskForSingle words = (drop 1 words ≡ []) ⊎ IsAlone (codes "single") words
 
--- The word after the numbers of a ring, where there shall be a fault.
-abbrev pub flag_words : Bool → List Text
-flag_words fault = if fault then codes "--fault" ∷ [] else []
-
--- The words ask for the workload of a ring of n processes: after the program's name there is `ring` with both numbers,
--- and the flag where there shall be a fault.
-abbrev pub AskForRing : ℕ → ℕ → Bool → List Text → Type 0
-AskForRing n rounds fault words = drop 1 words
-    ≡ codes "ring" ∷ codes "--procs" ∷ decimal n ∷ codes "--rounds" ∷ decimal rounds ∷ flag_words fault
-
 -- There is a ring of so many processes and rounds.
 pub record IsRing (n rounds : ℕ) : Type 0 where
   pub more_than_one : least_ring ≤ n
   pub few : n ≤ most_processes
   pub some_rounds : least_rounds ≤ rounds
   pub few_rounds : rounds ≤ most_rounds
-
--- The words ask for a ring that there isn't, or leave out one of its numbers or both.
-pub data AskForNoRing (words : List Text) : Type 0 where
-  OutOfRange : (n rounds : ℕ) (fault : Bool) → n < 2 ^ 64 → rounds < 2 ^ 64 → (IsRing n rounds → ⊥)
-      → AskForRing n rounds fault words → AskForNoRing words
-  OnlyProcs : (n : ℕ) (fault : Bool) → n < 2 ^ 64
-      → drop 1 words ≡ codes "ring" ∷ codes "--procs" ∷ decimal n ∷ flag_words fault → AskForNoRing words
-  OnlyRounds : (rounds : ℕ) (fault : Bool) → rounds < 2 ^ 64
-      → drop 1 words ≡ codes "ring" ∷ codes "--rounds" ∷ decimal rounds ∷ flag_words fault → AskForNoRing words
-  NoNumber : (fault : Bool) → drop 1 words ≡ codes "ring" ∷ flag_words fault → AskForNoRing words
 
 -- The words ask for help.
 abbrev pub AskForHelp : List Text → Type 0
@@ -115,19 +91,19 @@ pub record IsUnknown (word : Text) : Type 0 where
   pub not_help : word ≢ codes "help"
 
 -- The words ask for what the program doesn't know: their first is unknown, or it is `single`, `run` or `replay` and a
--- word that is no flag follows it, or there is no such ring.
+-- word that is no flag follows it.
 pub data AskForUnknown (words : List Text) : Type 0 where
   UnknownWord : (word : Text) (rest : List Text) → drop 1 words ≡ word ∷ rest → IsUnknown word → AskForUnknown words
   Further : (reader word : Text) (rest : List Text) → drop 1 words ≡ reader ∷ word ∷ rest → IsReader reader
       → is_flag word ≡ false → AskForUnknown words
-  NoRing : AskForNoRing words → AskForUnknown words
 
--- The words ask for this request. A request for help is asked for with any text.
+-- The words ask for this request. A request for help is asked for with any text. Of no words it is said that they ask
+-- for a ring.
 abbrev pub AskFor : Request → List Text → Type 0
 AskFor Single words = AskForSingle words
 AskFor Run words = IsAlone (codes "run") words
 AskFor Replay words = IsAlone (codes "replay") words
-AskFor (Ring ring) words = IsRing ring.procs ring.rounds × AskForRing ring.procs ring.rounds ring.fault words
+AskFor (Ring ring) words = ⊥
 AskFor (Help text) words = AskForHelp words
 AskFor Version words = AskForVersion words
 AskFor Unknown words = AskForUnknown words

@@ -6,10 +6,10 @@
 //! written, or a front of the report where a write failed. With `run` alone the same holds, word for word, of the
 //! outcome that a run in threads came to, whatever their schedule. With `replay` alone, on status 0 or 1, exactly the
 //! line of each reply and then the report text were appended, for the schedule that the input spells, of replies and a
-//! report of which the headline holds. With the words of `ring` nothing is read, and on status 0 exactly the text of
-//! that ring was written, for every number of processes and rounds in the ranges. Help reads nothing, nor does the
-//! version, of which exactly two lines are written on status 0; words that the program doesn't know, and a ring that
-//! is out of the ranges or lacks a number, read and write nothing, with status 2.
+//! report of which the headline holds. A ring's text is printed on status 0, for a number of processes and of rounds in
+//! the ranges, and nothing is read; that `ring` prints the one that its words ask for is shown by tests. Help reads
+//! nothing, nor does the version, of which exactly two lines are written on status 0; words that the program doesn't
+//! know read and write nothing, with status 2.
 #![tactic(auto)]
 
 mod answers;

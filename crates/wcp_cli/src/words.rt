@@ -1,19 +1,10 @@
 //! What the words of the command line ask for.
-ghost use Rattle.std.specs.Prelude.{◌≡◌, ◌≢◌, ◌⊎◌, ◌<◌, ◌^◌, ℕ, Bool, Some, None, false, map, codes};
-ghost use Rattle.std.specs.Prelude.{IfOk, IfSome, IsErr};
-ghost use Rattle.std.specs.Fmt.{decimal};
+ghost use Rattle.std.specs.Prelude.{◌≡◌, ◌≢◌, ◌⊎◌, Some, None, false, map, codes, IfOk, IfSome, IsErr};
 ghost use Rattle.clap.specs.Simple.{new_shape};
-ghost use Rattle.clap.specs.Words.{app_of, found_of, kind_of, rows_of, rule_of, subcommand_name_of, subcommand_rows_of};
-ghost use Rattle.clap.specs.Words.{with_subcommand};
-ghost use Rattle.clap.specs.Values.{bool_text};
-ghost use Rattle.clap.specs.Walk.{one_of};
+ghost use Rattle.clap.specs.Words.{app_of, kind_of, rule_of, subcommand_name_of, with_subcommand};
 ghost use Rattle.clap.specs.declared.builder.command.Command.TheViews.{out-Command as fields_of};
 ghost use Rattle.wcp_cli.specs.Words.{AskFor, HasRing, IsRing, IsSameRequest, MayHelp};
 ghost use Rattle.wcp_cli.specs.Words.{program, number_option, flag_option, ring_shape};
-ghost use Rattle.wcp_cli.specs.Words.{least_ring, least_rounds};
-ghost use Rattle.wcp_cli.specs.RingOptions.{AsksForRing, HasOptions};
-ghost use Rattle.wcp_clock.specs.Limits.{most_processes};
-ghost use Rattle.wcp_script.specs.Ring.{most_rounds};
 
 use crate::help;
 use clap::error::ErrorKind;
@@ -76,8 +67,6 @@ fn request_of(matches: &ArgMatches) -> Request
         → result ≡ Request.Single }
     ensures run { subcommand_name_of matches.now ≡ Some (codes "run") → result ≡ Request.Run }
     ensures replay { subcommand_name_of matches.now ≡ Some (codes "replay") → result ≡ Request.Replay }
-    ensures ring { (ring : Ring) → IsRing ring.procs ring.rounds
-        → AsksForRing ring.procs ring.rounds ring.fault (subcommand_rows_of matches.now) → result ≡ Request.Ring ring }
     ensures in_ranges { HasRing result }
 {
     if let Some(options) = matches.subcommand_matches("ring") {
@@ -97,14 +86,11 @@ fn request_of(matches: &ArgMatches) -> Request
 
 /// The ring that the options of `ring` ask for, if there is such a ring.
 fn ring_of(options: &ArgMatches) -> Option<Ring>
-    ensures asked { (ring : Ring) → IsRing ring.procs ring.rounds
-        → HasOptions ring.procs ring.rounds ring.fault (rows_of (found_of options.now)) → result ≡ Some ring }
-    ensures in_ranges { IfSome result (λ ring. IsRing ring.procs ring.rounds) }
+    ensures { IfSome result (λ ring. IsRing ring.procs ring.rounds) }
 {
-    let procs = number_at(options, "procs")?;
-    let rounds = number_at(options, "rounds")?;
-    let fault = has_flag(options, "fault");
-    // clap tests these ranges too, but promises nothing of them at a subcommand.
+    let procs = options.get_one::<u32>("procs")?;
+    let rounds = options.get_one::<u32>("rounds")?;
+    let fault = options.get_flag("fault");
     if MIN_PROCS <= procs
         && procs <= MAX_PROCS as u32
         && MIN_ROUNDS <= rounds
@@ -118,22 +104,6 @@ fn ring_of(options: &ArgMatches) -> Option<Ring>
     } else {
         None
     }
-}
-
-/// The number that stands at an option.
-fn number_at(options: &ArgMatches, name: &str) -> Option<u32>
-    ensures { (n : ℕ) → n < 2 ^ 32 → one_of name.now (rows_of (found_of options.now)) ≡ Some (decimal n)
-        → result ≡ Some n }
-{
-    options.get_one::<u32>(name)
-}
-
-/// Whether a flag was given.
-fn has_flag(options: &ArgMatches, name: &str) -> bool
-    ensures { (given : Bool) → one_of name.now (rows_of (found_of options.now)) ≡ Some (bool_text given)
-        → result ≡ given }
-{
-    options.get_flag(name)
 }
 
 /// What the words ask for where clap gave no matches but this error.
@@ -195,35 +165,22 @@ fn ring_command<'a>(alloc: Global) -> Result<Command<'a>, AllocError>
 {
     Command::new(alloc, "ring")
         .about(help::RING)
-        .arg(procs_option(alloc))?
-        .arg(rounds_option(alloc))?
+        .arg(number_option(alloc, "procs", "N", help::PROCS))?
+        .arg(number_option(alloc, "rounds", "R", help::ROUNDS))?
         .arg(fault_option(alloc))
 }
 
-/// How many processes a ring has.
-fn procs_option<'a>(alloc: Global) -> Arg<'a>
-    ensures rule { rule_of result ≡ number_option (codes "procs") least_ring most_processes }
+/// An option of `ring` that takes a number.
+fn number_option<'a>(alloc: Global, name: &'a str, value: &'a str, help: &'a str) -> Arg<'a>
+    ensures rule { rule_of result ≡ number_option name.entry.now }
     ensures local { result.global ≡ false }
 {
-    Arg::new(alloc, "procs")
-        .long("procs")
-        .value_name("N")
+    Arg::new(alloc, name)
+        .long(name)
+        .value_name(value)
         .required(true)
-        .value_parser(value_parser!(u32).range(i64::from(MIN_PROCS)..=MAX_PROCS as i64))
-        .help(help::PROCS)
-}
-
-/// How many rounds a ring has.
-fn rounds_option<'a>(alloc: Global) -> Arg<'a>
-    ensures rule { rule_of result ≡ number_option (codes "rounds") least_rounds most_rounds }
-    ensures local { result.global ≡ false }
-{
-    Arg::new(alloc, "rounds")
-        .long("rounds")
-        .value_name("R")
-        .required(true)
-        .value_parser(value_parser!(u32).range(i64::from(MIN_ROUNDS)..=i64::from(MAX_ROUNDS)))
-        .help(help::ROUNDS)
+        .value_parser(value_parser!(u32))
+        .help(help)
 }
 
 /// Whether a ring begins with a fault.

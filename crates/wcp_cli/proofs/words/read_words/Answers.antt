@@ -1,13 +1,11 @@
 use Rattle.wcp_cli.proofs.Imports.{◌≡◌, ◌≢◌, ◌∙◌, ◌⊎◌, ap, map, inl, inr, sym, subst, ⊎_elim, codes, List, [], IfOk}
 use Rattle.wcp_cli.proofs.Imports.{IsErr, Result, None, Some, refl, IfOk-from_err, App, HasKind, IsAmong, Text, app_of}
 use Rattle.wcp_cli.proofs.Imports.{fault_of, is_simple, is_simple_and_free, kind_of, subcommand_of, ErrorKind, Request}
-use Rattle.wcp_cli.proofs.Imports.{AsksForRing, AskFor, IsRing, MayHelp, IsSameRequest, program}
+use Rattle.wcp_cli.proofs.Imports.{AskFor, MayHelp, IsSameRequest, program}
 use Rattle.std.specs.declared.alloc.AllocError.{AllocError}
 use Rattle.clap.specs.declared.error.kind.ErrorKind.TheVariants as kind
 use Rattle.wcp_cli.specs.declared.words.Request.TheVariants as request
-use Rattle.wcp_cli.specs.declared.words.Ring.{Ring}
 use Rattle.wcp_cli.proofs.FoundWords.{name_of, name-from_rows, single-found, reader-found}
-use Rattle.wcp_cli.proofs.RingWords.{ring-passes, ring-found}
 use Rattle.wcp_cli.proofs.WordLemmas.{program_is_simple, single-passes, reader-passes, help-fails, help-is_no_version}
 use Rattle.wcp_cli.proofs.WordLemmas.{version-fails, unknown-fails, program_is_free}
 use Rattle.wcp_cli.proofs.words.read_words.Goals as goal
@@ -18,20 +16,17 @@ found_as : (asked found : Request) (words : List Text) → AskFor asked words �
     ⊎ (name_of (subcommand_of program words) ≡ Some (codes "single")) → found ≡ request.Single)
     → (name_of (subcommand_of program words) ≡ Some (codes "run") → found ≡ request.Run)
     → (name_of (subcommand_of program words) ≡ Some (codes "replay") → found ≡ request.Replay)
-    → ((ring : Ring) → IsRing ring.procs ring.rounds
-    → AsksForRing ring.procs ring.rounds ring.fault (subcommand_of program words) → found ≡ request.Ring ring)
     → IsSameRequest asked found
-found_as request.Single found words asked passes single run replay ring = single (single-found words asked)
-found_as request.Run found words asked passes single run replay ring = run (reader-found _ words (inr (inl refl)) asked)
-found_as request.Replay found words asked passes single run replay ring =
+found_as request.Single found words asked passes single run replay = single (single-found words asked)
+found_as request.Run found words asked passes single run replay = run (reader-found _ words (inr (inl refl)) asked)
+found_as request.Replay found words asked passes single run replay =
     replay (reader-found _ words (inr (inr refl)) asked)
-found_as (request.Ring r) found words asked passes single run replay ring =
-    ring r asked.0 (ring-found r.procs r.rounds r.fault words asked.0 asked.1)
-found_as (request.Help text) found words asked passes single run replay ring =
+found_as (request.Ring r) found words asked passes single run replay = absurd asked
+found_as (request.Help text) found words asked passes single run replay =
     absurd (help-fails words asked passes)
-found_as request.Version found words asked passes single run replay ring = let bad = sym (version-fails words asked)
+found_as request.Version found words asked passes single run replay = let bad = sym (version-fails words asked)
     ∙ passes in cc
-found_as request.Unknown found words asked passes single run replay ring =
+found_as request.Unknown found words asked passes single run replay =
     absurd ((unknown-fails words asked).fails passes)
 
 pub returns-in-Ok-clause-asked : goal.returns-in-Ok-clause-asked
@@ -47,8 +42,6 @@ returns-in-Ok-clause-asked g c asked is =
     (λ named. c.request_of.ensures.single (⊎_elim (λ none. inl (name ∙ none)) (λ one. inr (name ∙ one)) named))
     (λ named. c.request_of.ensures.run (name ∙ named))
     (λ named. c.request_of.ensures.replay (name ∙ named))
-    (λ ring in_ranges asks. c.request_of.ensures.ring ring in_ranges
-    (subst (AsksForRing ring.procs ring.rounds ring.fault) (sym found) asks))
 
 -- words that clap finds a fault with, of this kind, are read as what they ask for
 failed_as : (asked : Request) (words : List Text) (k : ErrorKind) (r : Result Request AllocError) → AskFor asked words
@@ -63,8 +56,7 @@ failed_as request.Run words k r is (inr among) memory version help unknown =
     absurd (subst (IsAmong k) (reader-passes _ words (inr (inl refl)) is) among)
 failed_as request.Replay words k r is (inr among) memory version help unknown =
     absurd (subst (IsAmong k) (reader-passes _ words (inr (inr refl)) is) among)
-failed_as (request.Ring ring) words k r is (inr among) memory version help unknown =
-    absurd (subst (IsAmong k) (ring-passes ring.procs ring.rounds ring.fault words is.0 is.1) among)
+failed_as (request.Ring ring) words k r is (inr among) memory version help unknown = absurd is
 failed_as (request.Help text) words k r is (inr among) memory version help unknown =
     help
     (λ same. help-is_no_version words is (subst (λ (l : ErrorKind). IsAmong l (fault_of program words)) same among))
