@@ -1,4 +1,2 @@
 mod Words
 pub mod Found
-pub mod PlainWords
-pub mod PlainRequests

@@ -7,8 +7,6 @@ use Rattle.clap.specs.declared.error.kind.ErrorKind.TheVariants as kind
 use Rattle.wcp_options.specs.declared.options.Request.{Request}
 use Rattle.wcp_options.specs.declared.options.Request.TheVariants.{Trace, Help, Version, Unknown}
 use Rattle.wcp_options.specs.declared.options.Options.{Options}
-use Rattle.wcp_log.specs.declared.turn.Form.TheVariants.{Shiviz}
-use Rattle.wcp_options.specs.Plain.{Given, values_given}
 use Rattle.wcp_options.specs.Options.{program, seen_texts, values_at, form_at}
 
 -- The options are what was found.
@@ -47,18 +45,3 @@ asks_by_word _ = false
 -- The words, with `--help` in the place of the word `help`.
 abbrev pub spelled : List Text → List Text
 spelled words = if asks_by_word words then codes "wcptrace" ∷ codes "--help" ∷ [] else words
-
--- The options are those given, and the form is that of ShiViz.
-pub record AreGiven (given : List Given) (options : Options) : Type 0 where
-  pub whiles : seen_texts options.whiles.items ≡ values_given (codes "while") given
-  pub froms : seen_texts options.froms.items ≡ values_given (codes "from") given
-  pub untils : seen_texts options.untils.items ≡ values_given (codes "until") given
-  pub ats : seen_texts options.ats.items ≡ values_given (codes "at") given
-  pub form : options.form ≡ Shiviz
-
--- A trace by the options given.
-abbrev pub IsTraceGiven : List Given → Request → Type 0
-IsTraceGiven given (Trace options) = AreGiven given options
-IsTraceGiven given (Help text) = ⊥
-IsTraceGiven given Version = ⊥
-IsTraceGiven given Unknown = ⊥

@@ -1,9 +1,8 @@
-ghost use Rattle.std.specs.Prelude.{◌≡◌, false, List, drop, map, IfOk};
+ghost use Rattle.std.specs.Prelude.{◌≡◌, false, map, IfOk};
 ghost use Rattle.clap.specs.Words.{app_of, found_of, kind_of, rows_of, rule_of};
 ghost use Rattle.wcp_options.specs.Options.{program, condition_option, form_option};
 ghost use Rattle.wcp_options.specs.Options.{form_named, form_at, values_at, seen_texts};
-ghost use Rattle.wcp_options.specs.Requests.{IsRequestOf, IsTraceOf, IsRefusalOf, IsTraceGiven, asks_by_word, spelled};
-ghost use Rattle.wcp_options.specs.Plain.{Given, ArePlain, words_of};
+ghost use Rattle.wcp_options.specs.Requests.{IsRequestOf, IsTraceOf, IsRefusalOf, asks_by_word, spelled};
 
 use crate::help;
 use clap::error::ErrorKind;
@@ -37,9 +36,7 @@ pub struct Options<'a> {
 
 /// What the words ask for, of which the first is the program's name.
 pub fn read_options<'a, S: AsStr>(alloc: Global, words: &'a [S]) -> Result<Request<'a>, AllocError>
-    ensures asked { IfOk result (IsRequestOf (spelled (map S.text words.entry.now))) }
-    ensures plain { (given : List Given) → drop 1 (map S.text words.entry.now) ≡ words_of given → ArePlain given →
-        IfOk result (IsTraceGiven given) }
+    ensures { IfOk result (IsRequestOf (spelled (map S.text words.entry.now))) }
 {
     if asks_by_word(words) {
         request_of(alloc, HELP_WORDS)

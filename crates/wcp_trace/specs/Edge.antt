@@ -1,10 +1,9 @@
 -- What the program does at its edge.
-use Rattle.std.specs.Prelude.{◌≡◌, ℕ, List, Result, Ok, Err, drop}
+use Rattle.std.specs.Prelude.{◌≡◌, ℕ, List, Result, Ok, Err}
 use Rattle.std.specs.Io.KnownBytes.{Appends, Keeps}
 use Rattle.wcp_output.specs.Fronts.{AppendsFront}
 use Rattle.wcp_options.specs.declared.options.Request.{Request}
-use Rattle.wcp_options.specs.Plain.{Given, ArePlain, words_of}
-use Rattle.wcp_options.specs.Requests.{IsRequestOf, IsTraceGiven, spelled}
+use Rattle.wcp_options.specs.Requests.{IsRequestOf, spelled}
 use Rattle.wcp_trace.specs.declared.fault.Fault.{Fault}
 use Rattle.wcp_trace.specs.Requested.{AnswersRequest, Known}
 
@@ -24,11 +23,9 @@ edge_of input input_after output output_after = record {
   output_after = output_after;
 }
 
--- The words, of which the first is the program's name, ask for this request: what `clap` finds in them; and where
--- options with plain values stand there, a trace by these.
-pub record AskFor (words : List (List ℕ)) (request : Request) : Type 0 where
-  pub found : IsRequestOf (spelled words) request
-  pub plain : (given : List Given) → drop 1 words ≡ words_of given → ArePlain given → IsTraceGiven given request
+-- The words, of which the first is the program's name, ask for this request: what `clap` finds in them.
+abbrev pub AskFor : List (List ℕ) → Request → Type 0
+AskFor words request = IsRequestOf (spelled words) request
 
 -- The program answers what the words ask for, with this status: it writes the answer whole; or, where a write failed, a
 -- front of it, with status 2; or, where there is no answer, nothing, with status 2.
