@@ -1,10 +1,10 @@
-# Runs a program of this repository. `wcpwatch`, `wcptrace` and `wcpdraw` read this file. It wants the words that the call has
-# and, of the program:
+# Runs a program of this repository. `wcpwatch`, `wcptrace` and `wcpdraw` read this file. It wants the words that the call
+# has and, of the program:
 #   name           its name
-#   asks_for       prints what the words ask for: `help`, `version` or `usage`, which are answered without a build; `input`, where
-#                  the program reads its input; or `other`. `usage` are only words to which the program itself answers so
+#   asks_for       prints what the words ask for: `help`, `version` or `usage`, which are answered without a build;
+#                  `input`, where the program reads its input; or `other`. `usage` only where the program answers so
 #   most           how many bytes of input a build without proofs takes
-#   refuse_longer  what is done where there are more: it may end the call, or hand on one byte more than these
+#   refuse_longer  what is done where there are more: it ends the call, or lets these and one more be handed on
 top=$(dirname -- "$(readlink -f -- "$0")")
 folder=$top/crates/$name
 program=$folder/out/$name
@@ -86,8 +86,9 @@ prepare() {
     fi
 }
 
-# Answers by a build without proofs, of which nothing is kept. `rt try` runs the program for this call alone, and what the program
-# wrote comes with lines of its own on standard error: first the program's, then its own, of which the last has the status.
+# Answers by a build without proofs, of which nothing is kept. `rt try` runs the program for this call alone, and what the
+# program wrote comes with lines of its own on standard error: first the program's, then its own, of which the last has the
+# status.
 answer_unproved() {
     look_for_toolchain
     make_room

@@ -128,7 +128,7 @@ ANSWERS = [
     Row(["--while", "ann=holds"], 'ann {"ann":1}\nholds', found("ann line 2 holds")),
     # A leader that sends is leader still, and no longer in the state of the event before.
     Row(
-        ["--from", "n1=leader", "--until", "n1=steps down", "--from", "n2=leader", "--until", "n2=steps down"],
+        ["--from", "n1=leader", "--until", "n1=steps", "--from", "n2=leader", "--until", "n2=steps"],
         TWO_LEADERS,
         found("n1 line 12 sends a heartbeat to n3", "n2 line 24 becomes leader"),
     ),
