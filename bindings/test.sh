@@ -47,6 +47,7 @@ run_example() {
     fi
 }
 
+# The compiler's checks of addresses are in the tests and examples alone: the library has none compiled in.
 compile() {
     "$cc" -std=c99 -D_POSIX_C_SOURCE=200809L -Wall -Wextra -Werror -O1 -g -fsanitize=address,undefined \
         -fno-sanitize-recover=all -o "$made/$(basename "$1" .c)" "$1" bindings/out/libwullaphi.a -lpthread
@@ -68,6 +69,13 @@ if ! command -v python3 >/dev/null; then
     echo "there is no python3, so the Python module is not tested"
     failed=$((failed + 1))
 else
+    if mypy --version >/dev/null 2>&1; then
+        status=0
+        mypy --strict --cache-dir="$made/mypy" bindings/python/wullaphi.py || status=$?
+        count "$status"
+    else
+        echo "there is no mypy, so the types of the Python module are not checked"
+    fi
     for source in bindings/tests/*.py; do
         run_test "$(basename "$source" .py) in Python" python3 "$source"
     done

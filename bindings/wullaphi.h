@@ -143,10 +143,16 @@ uint32_t wcp_probe_next(wcp_probe *probe, wcp_note *note);
 uint32_t wcp_probe_close(wcp_probe *probe);
 
 /* Puts into the handle a checker of so many processes, each of them watched. WCP_DONE, or WCP_IN_USE,
- * WCP_OUT_OF_RANGE or WCP_NO_MEMORY. */
+ * WCP_OUT_OF_RANGE or WCP_NO_MEMORY.
+ *
+ * Two mistakes here give a wrong report, and no call refuses them. Each process that the checker watches must have a
+ * probe with a condition: one that was made with `watched` 0 never gives a snapshot, whatever its process observes,
+ * and the report is then WCP_NOTHING although there may be a cut. And a checker takes the notes of one watch only: a
+ * note does not say which watch it is of, so those of another watch, or of an earlier run, are taken like its own. */
 uint32_t wcp_checker_new(wcp_checker *checker, uint32_t processes);
 
-/* The same where only the processes with these numbers are watched, one at least; `watched` is not NULL. */
+/* The same where only the processes with these numbers are watched, one at least; `watched` is not NULL. Name here no
+ * process whose probe has no condition. */
 uint32_t wcp_checker_new_with(wcp_checker *checker, uint32_t processes, const uint32_t *watched, size_t count);
 
 /* The checker takes a note, the next of its process; those of different processes may come in any order.
@@ -167,9 +173,10 @@ uint32_t wcp_checker_taken(wcp_checker *checker, uint32_t p, uint64_t *count);
 uint32_t wcp_checker_end(wcp_checker *checker);
 
 /* What `wcpwatch single` answers to a text of `length` bytes: its status, 0 where a bad moment was found, 1 where none
- * was, and 2 where the text has a fault. What is printed, for a fault the line that says which, is put into `out`, which
- * has room for `room` bytes and is not NULL, and its length into *written. Where it has no room, WCP_NO_ROOM: nothing is
- * put into `out`, and *written says how much room it wants. Or WCP_NO_MEMORY, where *written stays. */
+ * was, and 2 where the text has a fault, as one of more than 2,097,152 bytes has, whose line is `wcpwatch: toolarge`.
+ * What is printed, for a fault the line that says which, is put into `out`, which has room for `room` bytes and is not
+ * NULL, and its length into *written. Where it has no room, WCP_NO_ROOM: nothing is put into `out`, and *written says
+ * how much room it wants. Or WCP_NO_MEMORY, where *written stays. */
 uint32_t wcp_single(const uint8_t *text, size_t length, uint8_t *out, size_t room, uint64_t *written);
 
 #ifdef __cplusplus

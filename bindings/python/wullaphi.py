@@ -5,12 +5,18 @@ goes with a stamp. The checker finds the first moment at which all conditions co
 was none. Stamps and notes are `bytes`: send them as you like, between threads, processes or machines of one byte
 order.
 
-One call at a time uses a `Probe` or a `Checker`; which thread makes it is all the same. The module loads
-`libwullaphi.so` from the folder `out` beside its own, or from where the variable `WULLAPHI_LIBRARY` says.
+Threads may call one `Probe` or one `Checker` at once: one call is made after another. Threads that share a probe must
+still bring its notes to the checker in the order in which it gives them, so they hold a lock of their own from
+`observe` or `close` until the note is on its way. Other threads wait while a call runs, except for `single`. In an
+interpreter that was built without its global lock, take a lock of your own for the calls of a checker.
+
+The module loads `libwullaphi.so` from the folder `out` beside its own, or from where the variable `WULLAPHI_LIBRARY`
+says.
 """
 
 import ctypes
 import os
+import threading
 from typing import Dict, NamedTuple, Optional, Sequence, Tuple, Type
 
 __all__ = [
@@ -24,6 +30,9 @@ MAX_PROCESSES = 16
 
 class Refused(Exception):
     """A call was refused, and has changed nothing."""
+
+    def __str__(self) -> str:
+        return super().__str__() or self.__doc__ or type(self).__name__
 
 
 class NoProbe(Refused):
@@ -136,9 +145,9 @@ STAMP_SIZE = ctypes.sizeof(_Stamp)
 NOTE_SIZE = ctypes.sizeof(_Note)
 
 
-def _load() -> ctypes.CDLL:
+def _load(kind: Type[ctypes.CDLL]) -> ctypes.CDLL:
     beside = os.path.join(os.path.dirname(os.path.abspath(__file__)), "..", "out", "libwullaphi.so")
-    library = ctypes.CDLL(os.environ.get("WULLAPHI_LIBRARY", beside))
+    library = kind(os.environ.get("WULLAPHI_LIBRARY", beside))
     word, many = ctypes.c_uint32, ctypes.c_uint64
     probe, stamp, note = (ctypes.POINTER(kind) for kind in (_Probe, _Stamp, _Note))
     checker = ctypes.POINTER(_Checker)
@@ -165,7 +174,10 @@ def _load() -> ctypes.CDLL:
     return library
 
 
-_library = _load()
+# A call keeps the interpreter's lock, so that no other thread uses the same memory meanwhile; except for `wcp_single`,
+# which may take long and shares nothing.
+_library = _load(ctypes.PyDLL)
+_unlocked = _load(ctypes.CDLL)
 
 
 def _answer(number: int) -> int:
@@ -194,6 +206,7 @@ class Probe:
 
     def __init__(self, watch: int, process: int, processes: int, watched: bool = True,
                  flag_of_sends: bool = False) -> None:
+        self._lock = threading.RLock()  # since a method may make two calls
         self._memory = _Probe()
         self._at = ctypes.pointer(self._memory)
         self._note = _Note()
@@ -205,37 +218,43 @@ class Probe:
 
     def observe(self, holds: bool) -> Optional[bytes]:
         """The process looks at its condition. The answer is the note to send to the checker, if there is one."""
-        if _answer(_library.wcp_probe_observe(self._at, 1 if holds else 0)) == _DONE_WITH_NOTE:
-            return self.next()
-        return None
+        with self._lock:
+            if _answer(_library.wcp_probe_observe(self._at, 1 if holds else 0)) == _DONE_WITH_NOTE:
+                return self.next()
+            return None
 
     def stamp(self, to: int) -> bytes:
         """The process sends a message to process `to`: this goes along with it."""
-        _answer(_library.wcp_probe_stamp(self._at, _word(to), self._stamp_at))
-        return bytes(self._stamp)
+        with self._lock:
+            _answer(_library.wcp_probe_stamp(self._at, _word(to), self._stamp_at))
+            return bytes(self._stamp)
 
     def receive(self, stamp: bytes) -> None:
         """The process receives the message that came with this stamp."""
         if len(stamp) != STAMP_SIZE:
             raise NoStamp()
-        _answer(_library.wcp_probe_receive(self._at, ctypes.pointer(_Stamp.from_buffer_copy(stamp))))
+        with self._lock:
+            _answer(_library.wcp_probe_receive(self._at, ctypes.pointer(_Stamp.from_buffer_copy(stamp))))
 
     def next(self) -> Optional[bytes]:
         """The pending note, if there is one; it then is no longer pending. `observe` and `close` give it already."""
-        if _answer(_library.wcp_probe_next(self._at, self._note_at)) == _DONE_WITH_NOTE:
-            return bytes(self._note)
-        return None
+        with self._lock:
+            if _answer(_library.wcp_probe_next(self._at, self._note_at)) == _DONE_WITH_NOTE:
+                return bytes(self._note)
+            return None
 
     def close(self) -> bytes:
         """The process ends its part. The answer is its last note."""
-        _answer(_library.wcp_probe_close(self._at))
-        note = self.next()
-        assert note is not None
-        return note
+        with self._lock:
+            _answer(_library.wcp_probe_close(self._at))
+            note = self.next()
+            assert note is not None
+            return note
 
     def to_bytes(self) -> bytes:
         """The probe as bytes, to go on with elsewhere, by `from_bytes`."""
-        return bytes(self._memory)
+        with self._lock:
+            return bytes(self._memory)
 
     @classmethod
     def from_bytes(cls, data: bytes) -> "Probe":
@@ -253,7 +272,8 @@ def is_last(note: bytes) -> bool:
     """Whether this is the last note of its process: that it is closed, or lost."""
     if len(note) != NOTE_SIZE:
         raise NoNote()
-    return _Note.from_buffer_copy(note).kind != _SNAPSHOT
+    kind: int = _Note.from_buffer_copy(note).kind
+    return kind != _SNAPSHOT
 
 
 class Report(NamedTuple):
@@ -265,7 +285,14 @@ class Report(NamedTuple):
 
 
 class Checker:
-    """Takes the notes of `processes` processes, of which those in `watched` have a condition, or all."""
+    """Takes the notes of `processes` processes, of which those in `watched` have a condition, or all.
+
+    Two mistakes here give a wrong report, and no call refuses them. Each process that the checker watches must have a
+    probe with a condition: one that was made with `watched=False` never gives a snapshot, whatever its process
+    observes, and the report is then "nothing" although there may be a cut. And a checker takes the notes of one watch
+    only: a note doesn't say which watch it is of, so those of another watch, or of an earlier run, are taken like its
+    own.
+    """
 
     def __init__(self, processes: int, watched: Optional[Sequence[int]] = None) -> None:
         self._memory = _Checker()
@@ -328,12 +355,15 @@ class Single(NamedTuple):
 
 
 def single(text: bytes) -> Single:
-    """What `wcpwatch single` answers to this text; for a fault, the line that it writes to standard error."""
+    """What `wcpwatch single` answers to this text; for a fault, the line that it writes to standard error.
+
+    A text of more than 2,097,152 bytes has the fault `toolarge`.
+    """
     room = 4096
     while True:
         out = ctypes.create_string_buffer(room)
         length = ctypes.c_uint64()
-        status = _library.wcp_single(text, len(text), out, room, ctypes.byref(length))
+        status = _unlocked.wcp_single(text, len(text), out, room, ctypes.byref(length))
         if status != _NO_ROOM:
             return Single(_answer(status), out.raw[:length.value])
         room = length.value

@@ -2,7 +2,10 @@
 #include "../wullaphi.h"
 #include "checks.h"
 
+#include <stdlib.h>
 #include <string.h>
+
+#define MOST_BYTES 2097152
 
 static wcp_probe probe_of(uint32_t process, uint32_t processes)
 {
@@ -310,9 +313,37 @@ static void texts(void)
     CHECK(written == sizeof fault - 1 && memcmp(out, fault, sizeof fault - 1) == 0);
 }
 
+/* A text as long as `wcpwatch` reads, whose last line has no end, and one that is a byte longer. */
+static void long_texts(void)
+{
+    static const char head[] = "wcp 1\nprocs 2\n";
+    static const char line[] = "wcpwatch: line 3: line\n";
+    static const char wanted[] = "wcpwatch: toolarge\n";
+    uint8_t *text = malloc(MOST_BYTES + 1);
+    uint8_t out[64];
+    uint64_t written = 0;
+    CHECK(text != NULL);
+    if (text == NULL) {
+        return;
+    }
+    memset(text, 'x', MOST_BYTES + 1);
+    memcpy(text, head, sizeof head - 1);
+    memset(out, 7, sizeof out);
+    CHECK(wcp_single(text, MOST_BYTES, out, sizeof out, &written) == 2);
+    CHECK(written == sizeof line - 1 && memcmp(out, line, sizeof line - 1) == 0);
+    memset(out, 7, sizeof out);
+    CHECK(wcp_single(text, MOST_BYTES + 1, out, sizeof wanted - 2, &written) == WCP_NO_ROOM);
+    CHECK(written == sizeof wanted - 1 && out[0] == 7);
+    CHECK(wcp_single(text, MOST_BYTES + 1, out, sizeof wanted - 1, &written) == 2);
+    CHECK(written == sizeof wanted - 1 && memcmp(out, wanted, sizeof wanted - 1) == 0);
+    CHECK(out[sizeof wanted - 1] == 7);
+    free(text);
+}
+
 int main(void)
 {
     texts();
+    long_texts();
     sizes();
     init();
     observe();

@@ -1,13 +1,18 @@
 """Every call of the module and every refusal, once each; the last line is 'N passed, M failed'."""
 
 import os
+import re
 import sys
 import threading
 
-sys.path.insert(0, os.path.join(os.path.dirname(os.path.abspath(__file__)), "..", "python"))
+HERE = os.path.dirname(os.path.abspath(__file__))
+sys.path.insert(0, os.path.join(HERE, "..", "python"))
 
 import wullaphi  # noqa: E402
 from wullaphi import Checker, Probe  # noqa: E402
+
+FIRST_REFUSAL = 16
+MOST_BYTES = 2097152
 
 passed = 0
 failed = 0
@@ -146,6 +151,16 @@ def nothing():
         check(checker.report() == wullaphi.Report("nothing"), "nothing")
 
 
+def long_texts():
+    """Texts as long as `wcpwatch` reads, each with what it answers; and the same, a byte longer."""
+    head, true = b"wcp 1\nprocs 2\n", b"p 0 true\n"
+    room = MOST_BYTES - len(head)
+    for rest, answer in ((b"x" * room, b"line 3: line"), (true * room, b"line 65539: toolong")):
+        text = head + rest[:room]
+        check(wullaphi.single(text) == (2, b"wcpwatch: " + answer + b"\n"), "a text as long as is read")
+        check(wullaphi.single(text + b"p") == (2, b"wcpwatch: toolarge\n"), "a text that is a byte too long")
+
+
 def two_threads():
     notes = {}
 
@@ -168,6 +183,26 @@ def two_threads():
                 checker.take(note)
         check(checker.taken(0) == 20000 and checker.taken(1) == 20000, "all notes are taken")
         check(checker.report() == wullaphi.Report("found", (0, 0)), "found in two threads")
+
+
+def refusal_words():
+    """Each refusal that the header numbers has a class of its name, and says what its docstring says."""
+    with open(os.path.join(HERE, "..", "wullaphi.h"), encoding="utf-8") as header:
+        numbered = {int(number): "".join(word.title() for word in name.split("_"))
+                    for name, number in re.findall(r"^#define WCP_([A-Z_]+) ([0-9]+) +/[*]", header.read(), re.M)
+                    if int(number) >= FIRST_REFUSAL}
+    names = {number: refusal.__name__ for number, refusal in wullaphi._REFUSALS.items()}
+    check({**names, 22: "NoMemory", 24: "NoRoom"} == numbered, "each refusal of the header has a class")
+    texts = set()
+    for number, refusal in wullaphi._REFUSALS.items():
+        try:
+            wullaphi._answer(number)
+        except refusal as raised:
+            texts.add(str(raised))
+            check(str(raised) == refusal.__doc__ or refusal is MemoryError, f"the text of {refusal.__name__}")
+    check(len(texts) == len(wullaphi._REFUSALS), "no two refusals have the same text")
+    check(str(wullaphi.Refused()) == wullaphi.Refused.__doc__, "the text of a refusal of no kind")
+    check(str(wullaphi.OutOfRange("17")) == "17", "a text of the caller's own")
 
 
 def damaged_bytes():
@@ -199,6 +234,8 @@ clock_end()
 checkers()
 some_watched()
 nothing()
+refusal_words()
+long_texts()
 two_threads()
 damaged_bytes()
 print(f"{passed} passed, {failed} failed")
