@@ -1,4 +1,4 @@
-use Rattle.std.specs.Prelude.{◌≡◌, ◌<◌, ◌≤◌, ◌⊎◌, ℕ, List}
+use Rattle.std.specs.Prelude.{◌≡◌, ◌<◌, ◌≤◌, ◌⊎◌, ℕ, List, [], ◌∷◌, ◌++◌, codes}
 use Rattle.wcp_model.specs.declared.outcome.Outcome.{Outcome}
 use Rattle.wcp_model.specs.declared.outcome.Report.{Report}
 use Rattle.wcp_model.specs.declared.outcome.Report.TheVariants.{Found, Nothing, Undecided}
@@ -7,6 +7,7 @@ use Rattle.wcp_model.specs.declared.workload.Task.{Task}
 use Rattle.wcp_model.specs.Outcome.{IsWorkloadOutcome}
 use Rattle.wcp_model.specs.WorkloadComputation.{CouldBeRead}
 use Rattle.wcp_report.specs.ReportText.{outcome_text}
+use Rattle.wcp_script.specs.Lines.{line_feed}
 use Rattle.wcp_script.specs.TextFault.{workloads, Spells}
 use Rattle.wcp_c.specs.Answers.{no_room}
 
@@ -31,3 +32,7 @@ pub record IsSingleAnswer (text printed : List ℕ) (status : ℕ) : Type 0 wher
 abbrev pub IsAnswered : ℕ → ℕ → ℕ → ℕ → Type 0
 IsAnswered bytes room status answer =
     ((bytes ≤ room) × (answer ≡ status)) ⊎ ((room < bytes) × (answer ≡ no_room))
+
+-- The line that says that a text is longer than the program reads.
+abbrev pub too_large_line : List ℕ
+too_large_line = codes "wcpwatch: toolarge" ++ line_feed ∷ []

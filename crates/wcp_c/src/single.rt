@@ -1,14 +1,16 @@
 //! The report of a text, as the program `wcpwatch` prints it.
 ghost use Rattle.std.specs.Prelude.{◌≡◌, ◌≢◌, ◌<◌, ◌≤◌, ◌⊎◌, ℕ, List, IfOk, IfErr, length, take, drop};
+ghost use Rattle.wcp_clock.specs.Limits.{most_bytes};
 ghost use Rattle.wcp_model.specs.declared.outcome.Report.{Report as Reported};
 ghost use Rattle.wcp_script.specs.ReadAnswers.{IsFaultOf};
 ghost use Rattle.wcp_script.specs.TextFault.{HasWorkloadFault};
 ghost use Rattle.wcp_script.specs.declared.fault.ScriptFault.{ScriptFault as TextFault};
 ghost use Rattle.wcp_c.specs.Answers.{no_memory, no_room};
-ghost use Rattle.wcp_c.specs.Singles.{IsAnswered, IsSingleAnswer, status_of};
+ghost use Rattle.wcp_c.specs.Singles.{IsAnswered, IsSingleAnswer, status_of, too_large_line};
 
 use crate::answer::{NO_MEMORY, NO_ROOM};
 use std::alloc::{AllocError, Global};
+use wcp_clock::MAX_BYTES;
 use wcp_model::Report;
 use wcp_report::report_text;
 use wcp_script::{ReadFault, ScriptFault, read_ordered, single_in_order};
@@ -22,6 +24,9 @@ const NOT_FOUND: u32 = 1;
 /// The status where the text has a fault.
 const FAULT: u32 = 2;
 
+/// The line that says that a text is longer than the program reads.
+const TOO_LARGE: &[u8] = b"wcpwatch: toolarge\n";
+
 /// What is printed, and the status.
 #[derive(Drop)]
 struct Answer {
@@ -30,17 +35,25 @@ struct Answer {
 }
 
 /// Puts what `wcpwatch single` prints for a text into `out`, and into `written` how many bytes that is;
-/// where they have no room, none is put.
+/// where they have no room, none is put. A text that is longer than the program reads is refused by its
+/// length alone.
 #[unsafe(no_mangle)]
 pub extern "C" fn wcp_single(alloc: Global, text: &[u8], out: &mut [u8], written: &mut u64) -> u32
     ensures answers { (result ≤ 2) ⊎ (result ≡ no_room) ⊎ (result ≡ no_memory) }
     ensures answer { result ≤ 1 → IsSingleAnswer text.now (take written.new out.new) result }
-    ensures fault { result ≡ 2 → (fault : TextFault) × HasWorkloadFault text.now fault }
+    ensures fault { result ≡ 2 → length text.now ≤ most_bytes
+        → (fault : TextFault) × HasWorkloadFault text.now fault }
+    ensures too_large { most_bytes < length text.now → IsAnswered (length too_large_line) (length out.old) 2 result }
+    ensures too_large_written { most_bytes < length text.now → written.new ≡ length too_large_line }
+    ensures too_large_line { result ≡ 2 → most_bytes < length text.now → take written.new out.new ≡ too_large_line }
     ensures room { result ≤ 2 → written.new ≤ length out.new }
     ensures behind { drop written.new out.new ≡ drop written.new out.old }
     ensures no_room { result ≡ no_room → (length out.old < written.new) × (out.new ≡ out.old) }
     ensures no_memory { result ≡ no_memory → (out.new ≡ out.old) × (written.new ≡ written.old) }
 {
+    if text.len() > MAX_BYTES {
+        return put(TOO_LARGE, FAULT, out, written);
+    }
     match answer_to(alloc, text) {
         Ok(answer) => put(answer.text.as_slice(), answer.status, out, written),
         Err(ReadFault::Script(fault)) => match fault_line(alloc, fault) {

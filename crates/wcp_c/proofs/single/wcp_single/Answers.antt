@@ -5,7 +5,7 @@ use Rattle.wcp_script.specs.declared.fault.ReadFault.{ReadFault}
 use Rattle.wcp_c.proofs.single.wcp_single.Goals as goal
 
 pub returns-in-Ok-fault_line-clause-fault : goal.returns-in-Ok-fault_line-clause-fault
-returns-in-Ok-fault_line-clause-fault c = λ is_fault. (
+returns-in-Ok-fault_line-clause-fault c = λ is_fault within. (
   c.in-Err-Script.fault,
   subst (λ (fault : ReadFault). IsFaultOf
       (HasWorkloadFault c.args.text.now) fault) c.in-Err-Script.field-0-is c.in-Err-Script.ensures.fault,
