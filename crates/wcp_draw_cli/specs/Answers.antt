@@ -1,6 +1,7 @@
--- The answer to what the words ask for, and why there is none.
-use Rattle.std.specs.Prelude.{◌≡◌, ◌<◌, ℕ, Bool, List, [], ◌∷◌, ◌++◌, length, Option, IfSome, codes, string_bytes}
+-- The answer to a request, and why there is none.
+use Rattle.std.specs.Prelude.{◌≡◌, ◌<◌, ℕ, Bool, List, [], ◌∷◌, ◌++◌, length, Option, option_map, IfSome, codes, string_bytes}
 use Rattle.std.specs.Prelude.{if◌then◌else◌}
+use Rattle.std.specs.Borrow.{Bor}
 use Rattle.std.specs.Io.KnownBytes.{Keeps}
 use Rattle.wcp_clock.specs.Limits.{most_bytes}
 use Rattle.wcp_input.specs.Input.{IsInput, Known}
@@ -12,7 +13,10 @@ use Rattle.wcp_draw_cli.specs.declared.fault.Fault.{Fault}
 use Rattle.wcp_draw_cli.specs.declared.fault.Fault.TheVariants as fault
 use Rattle.wcp_draw_cli.specs.declared.words.Request.{Request}
 use Rattle.wcp_draw_cli.specs.declared.words.Request.TheVariants.{Picture, Help, Version, Unknown}
-use Rattle.wcp_draw_cli.specs.Requests.{AskFor, seen_list}
+
+-- A list of names that is borrowed, where there is one.
+abbrev pub seen_list : Option (Bor (List ℕ)) → Option (List ℕ)
+seen_list list = option_map (λ text. text.now) list
 
 -- The exit status with a picture: 0 where it shows a cut.
 abbrev pub status_of : Bool → ℕ
@@ -64,9 +68,8 @@ IsWhyNoAnswer (Help text) bytes bytes_after given = ⊥
 IsWhyNoAnswer Version bytes bytes_after given = given ≡ fault.Memory
 IsWhyNoAnswer Unknown bytes bytes_after given = given ≡ fault.Usage
 
--- A fault is why there is no answer to what the words ask for; or memory ran out, or a write failed.
-abbrev pub IsWhyRefused : List (List ℕ) → Known → Known → Fault → Type 0
-IsWhyRefused words bytes bytes_after fault.Memory = Unit {0}
-IsWhyRefused words bytes bytes_after fault.Write = Unit {0}
-IsWhyRefused words bytes bytes_after given =
-    (request : Request) × AskFor words request × IsWhyNoAnswer request bytes bytes_after given
+-- A fault is why a request has no answer; or memory ran out, or a write failed.
+abbrev pub IsWhyRefused : Request → Known → Known → Fault → Type 0
+IsWhyRefused request bytes bytes_after fault.Memory = Unit {0}
+IsWhyRefused request bytes bytes_after fault.Write = Unit {0}
+IsWhyRefused request bytes bytes_after given = IsWhyNoAnswer request bytes bytes_after given

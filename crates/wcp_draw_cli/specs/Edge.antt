@@ -6,7 +6,6 @@ use Rattle.wcp_output.specs.Fronts.{AppendsFront}
 use Rattle.wcp_draw_cli.specs.declared.fault.Fault.{Fault}
 use Rattle.wcp_draw_cli.specs.declared.words.Request.{Request}
 use Rattle.wcp_draw_cli.specs.Answers.{AnswersRequest}
-use Rattle.wcp_draw_cli.specs.Requests.{AskFor}
 
 -- The input and the output of the program, each before and after.
 pub record Edge : Type 0 where
@@ -24,16 +23,14 @@ edge_of input input_after output output_after = record {
   output_after = output_after;
 }
 
--- The program answers what the words ask for, with this status: it writes the answer whole; or, where a write failed, a
--- front of it, with status 2; or, where there is no answer, nothing, with status 2.
-pub data DoesAsked (words : List (List ℕ)) (edge : Edge) (status : ℕ) : Type 0 where
-  Whole : (request : Request) (printed : List ℕ) → AskFor words request
-      → AnswersRequest request edge.input edge.input_after printed status
-      → Appends edge.output edge.output_after printed → DoesAsked words edge status
-  Front : (request : Request) (printed : List ℕ) (wanted : ℕ) → AskFor words request
-      → AnswersRequest request edge.input edge.input_after printed wanted
-      → AppendsFront edge.output edge.output_after printed → status ≡ 2 → DoesAsked words edge status
-  Quiet : Keeps edge.output edge.output_after → status ≡ 2 → DoesAsked words edge status
+-- The program answers a request, with this status: it writes the answer whole; or, where a write failed, a front of it,
+-- with status 2; or, where there is no answer, nothing, with status 2.
+pub data DoesAsked (request : Request) (edge : Edge) (status : ℕ) : Type 0 where
+  Whole : (printed : List ℕ) → AnswersRequest request edge.input edge.input_after printed status
+      → Appends edge.output edge.output_after printed → DoesAsked request edge status
+  Front : (printed : List ℕ) (wanted : ℕ) → AnswersRequest request edge.input edge.input_after printed wanted
+      → AppendsFront edge.output edge.output_after printed → status ≡ 2 → DoesAsked request edge status
+  Quiet : Keeps edge.output edge.output_after → status ≡ 2 → DoesAsked request edge status
 
 -- The exit status: that of the answer, or 2 where there is none.
 abbrev pub status_after : Result ℕ Fault → ℕ

@@ -1,10 +1,10 @@
 //! The program, over any reader and writers.
-ghost use Rattle.std.specs.Prelude.{◌≡◌, ◌≤◌, map, string_bytes, IfOk, IfErr};
+ghost use Rattle.std.specs.Prelude.{◌≡◌, ◌≤◌, string_bytes, IfOk, IfErr};
 ghost use Rattle.std.specs.Io.KnownBytes.{Keeps};
 ghost use Rattle.wcp_draw_cli.specs.Answers.{AnswersPicture, AnswersRequest, status_of};
-ghost use Rattle.wcp_draw_cli.specs.Answers.{IsWhyNoAnswer, IsWhyNoPicture, IsWhyRefused};
+ghost use Rattle.wcp_draw_cli.specs.Answers.{seen_list, IsWhyNoAnswer, IsWhyNoPicture, IsWhyRefused};
 ghost use Rattle.wcp_draw_cli.specs.Edge.{DoesAsked, edge_of, status_after};
-ghost use Rattle.wcp_draw_cli.specs.Requests.{seen_list};
+ghost use Rattle.wcp_draw_cli.specs.declared.words.Request.{Request};
 
 use crate::fault::Fault;
 use crate::help::VERSION;
@@ -45,10 +45,13 @@ pub fn drive<S: AsStr, I: Read, O: Write, E: Write>(
 ) -> u8
     ensures status { result ≤ 2 }
     ensures quiet { result ≤ 1 → Keeps (E.contents errors.old) (E.contents errors.new) }
-    ensures does { DoesAsked (map S.text words.now) (edge_of (I.remaining input.old) (I.remaining input.new)
+    ensures does { (request : Request) × DoesAsked request (edge_of (I.remaining input.old) (I.remaining input.new)
         (O.contents output.old) (O.contents output.new)) result }
 {
-    match obey(alloc, words, input, output) {
+    let Ok(request) = read_words(alloc, words) else {
+        return refuse(errors, Fault::Memory);
+    };
+    match obey(alloc, request, input, output) {
         Ok(status) => status,
         Err(fault) => refuse(errors, fault),
     }
@@ -63,20 +66,18 @@ pub fn refuse<E: Write>(errors: &mut E, fault: Fault) -> u8
     REFUSED
 }
 
-/// Does what the words ask for, and gives the status.
-fn obey<S: AsStr, I: Read, O: Write>(
+/// Does what a request asks for, and gives the status.
+fn obey<I: Read, O: Write>(
     alloc: Global,
-    words: &[S],
+    request: Request<'_>,
     input: &mut I,
     output: &mut O,
 ) -> Result<u8, Fault>
     ensures status { IfOk result (λ status. status ≤ 1) }
-    ensures does { DoesAsked (map S.text words.now) (edge_of (I.remaining input.old) (I.remaining input.new)
+    ensures does { DoesAsked request.entry (edge_of (I.remaining input.old) (I.remaining input.new)
         (O.contents output.old) (O.contents output.new)) (status_after result) }
-    ensures fault { IfErr result (IsWhyRefused (map S.text words.now)
-        (I.remaining input.old) (I.remaining input.new)) }
+    ensures fault { IfErr result (IsWhyRefused request.entry (I.remaining input.old) (I.remaining input.new)) }
 {
-    let request = read_words(alloc, words)?;
     let answer = answer_to(alloc, request, input)?;
     write_whole(output, answer.text.as_bytes())?;
     Ok(answer.status)

@@ -1,10 +1,12 @@
 //! From the text of a workload to the text of its picture.
 //!
-//! What is proved. `sketch`: a picture is that of the workload that the text spells, in one of its fit orders, as a
-//! layout about its least cut says, or about none where no satisfying cut exists, and whether there is one is told
-//! beside it; its processes have the names of a list, or are numbered where there is no list; and a text is refused
-//! for the fault that it has, and a list where it has an empty name, or another number of names than the workload
-//! that the text spells has processes.
+//! What is proved. `sketch`: a picture is that of the workload that the text spells, in one of its fit orders, of a
+//! layout about its least cut, or about none where no satisfying cut exists. It tells this cut, or that there is none,
+//! and whether there is one is told beside it. A text is refused for the fault that it has, and a list of names where
+//! it has an empty name, or another number of names than the workload that the text spells has processes; else there is
+//! a picture, unless memory runs out.
+//!
+//! Tested: how the layout is drawn, as `wcp_draw` says, and that each process has its own name, of a list or by number.
 #![tactic(auto)]
 
 mod naming;

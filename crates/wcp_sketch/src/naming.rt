@@ -1,7 +1,7 @@
 //! How processes are named.
-ghost use Rattle.std.specs.Prelude.{◌≡◌, ◌≢◌, true, false, [], All, Contains, Some, option_map, IfOk, IfErr};
+ghost use Rattle.std.specs.Prelude.{◌≡◌, ◌≢◌, true, false, [], length, All, Contains, Some, option_map, IfOk, IfErr};
 ghost use Rattle.wcp_sketch.specs.Faults.{IsNamesFault};
-ghost use Rattle.wcp_sketch.specs.Names.{AreNames, AreParts, IsMisnamed, escaped_all, numbered, seen};
+ghost use Rattle.wcp_sketch.specs.Names.{AreParts, IsMisnamed, IsNamed, seen};
 
 use crate::sketch_fault::SketchFault;
 use std::alloc::{AllocError, Global};
@@ -9,7 +9,8 @@ use wcp_draw::Name;
 
 /// The names of `n` processes: those between the commas of a list, or `process 0` and so on where there is no list.
 pub(crate) fn names_of(alloc: Global, list: Option<&str>, n: u32) -> Result<Vec<Name>, SketchFault>
-    ensures names { IfOk result (λ names. AreNames (option_map (λ text. text.now) list.entry) n names.items) }
+    ensures named { IfOk result (λ names. IsNamed (option_map (λ text. text.now) list.entry) n) }
+    ensures count { IfOk result (λ names. length names.items ≡ n) }
     ensures fault { IfErr result (IsNamesFault (IsMisnamed (option_map (λ text. text.now) list.entry) n)) }
 {
     match list {
@@ -20,7 +21,7 @@ pub(crate) fn names_of(alloc: Global, list: Option<&str>, n: u32) -> Result<Vec<
 
 /// The names `process 0` and so on.
 fn numbered(alloc: Global, n: u32) -> Result<Vec<Name>, AllocError>
-    ensures { IfOk result (λ names. names.items ≡ numbered n) }
+    ensures { IfOk result (λ names. length names.items ≡ n) }
 {
     let mut names = Vec::with_capacity(alloc, n as usize)?;
     for p in 0..n {
@@ -32,7 +33,8 @@ fn numbered(alloc: Global, n: u32) -> Result<Vec<Name>, AllocError>
 
 /// The `n` names that stand between the commas of a list.
 fn listed(alloc: Global, list: &str, n: u32) -> Result<Vec<Name>, SketchFault>
-    ensures names { IfOk result (λ names. AreNames (Some list.now) n names.items) }
+    ensures named { IfOk result (λ names. IsNamed (Some list.now) n) }
+    ensures count { IfOk result (λ names. length names.items ≡ n) }
     ensures fault { IfErr result (IsNamesFault (IsMisnamed (Some list.now) n)) }
 {
     let parts = parts_of(alloc, list)?;
@@ -59,7 +61,7 @@ fn has_empty(texts: &[&str]) -> bool
 
 /// The names with these texts.
 fn names_from(alloc: Global, texts: &[&str]) -> Result<Vec<Name>, AllocError>
-    ensures { IfOk result (λ names. names.items ≡ escaped_all (seen texts.now)) }
+    ensures { IfOk result (λ names. length names.items ≡ length texts.now) }
 {
     let mut names = Vec::with_capacity(alloc, texts.len())?;
     for text in texts {

@@ -35,8 +35,8 @@ fn sketch_in_order(
     requires watched { AreSomeWatched workload.now.plan.n workload.now.plan.watched }
     requires fit { IsFitOrder workload.now.tasks.items order.now }
     requires names { length names.now ≡ workload.now.plan.n }
-    ensures { IfOk result (λ picture. IsPictureOf names.now workload.now.plan.watched workload.now.plan.flag
-        workload.now.tasks.items (string_bytes picture.text) picture.found) }
+    ensures { IfOk result (λ picture. IsPictureOf workload.now.plan.n workload.now.plan.watched
+        workload.now.plan.flag workload.now.tasks.items (string_bytes picture.text) picture.found) }
 {
     let outcome = single_in_order(alloc, workload, order)?;
     let cut = cut_of(outcome.report);
@@ -52,7 +52,6 @@ fn sketch_in_order(
 ///
 /// Its processes have the names that stand between the commas of a list, or `process 0` and so on where there is no
 /// list. `Err` says why there is no picture. A text is refused before its names are looked at.
-#[tactic(auto, using(crate::proofs::Named::names_length))]
 pub fn sketch(alloc: Global, names: Option<&str>, text: &[u8]) -> Result<Picture, SketchFault>
     ensures picture { IfOk result (λ picture. IsSketchOf (option_map (λ list. list.now) names.entry) text.now
         (string_bytes picture.text) picture.found) }

@@ -1,8 +1,11 @@
+use Rattle.std.proofs.Common.{◌++◌, rules, append_assoc, codes, string_bytes}
+use Rattle.std.proofs.lemmas.Result.{IfOk-weaker}
 use Rattle.wcp_draw.proofs.picture.draw.Goals as goal
 
 pub returns : goal.returns
-returns c = (
-  c.frame_about-frame.result,
-  rw c.deref.ensures.value at c.frame_about-frame.ensures,
-  rw c.new-text.ensures.bytes at c.in_ok-push_picture.ensures,
-)
+returns c = IfOk-weaker c.format.result _ _ (λ text is. record {
+  is_layout = c.requires.layout;
+  before = string_bytes c.in_ok-head.head;
+  behind = string_bytes c.in_ok-shapes.shapes ++ codes "</svg>\n";
+  told = rw (← c.in_ok-found.ensures) is;
+}) c.format.ensures.ok

@@ -18,7 +18,6 @@ returns-clause-picture c =
       plan = read.workload.plan;
       tasks = read.workload.tasks.items;
       spells = c.in_ok-read.ensures.exact.spells;
-      names = c.in_ok-names.names.items;
-      are_names = c.in_ok-names.ensures.names;
+      named = c.in_ok-names.ensures.named;
       is_picture = rw c.deref.ensures.value at c.in_ok-sketch_in_order.ensures;
     }

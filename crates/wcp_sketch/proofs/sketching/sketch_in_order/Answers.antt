@@ -36,9 +36,8 @@ returns c = record {
   order = c.args.order.now;
   fit = c.requires.fit;
   outcome = c.in_ok-outcome.outcome;
-  is_outcome = rw c.requires.names c.in_ok-outcome.ensures;
+  is_outcome = c.in_ok-outcome.ensures;
   layout = c.in_ok-layout.layout;
-  is_layout = rw c.requires.names (rw c.cut_of-cut.ensures at c.in_ok-layout.ensures);
-  drawn = rw c.cut_of-cut.ensures at c.in_ok-text.ensures;
+  is_picture = rw (← c.requires.names) (rw c.cut_of-cut.ensures at c.in_ok-text.ensures);
   found_is = rw c.cut_of-cut.ensures at c.is_some.ensures;
 }
