@@ -19,5 +19,5 @@ returns-clause-picture c =
       tasks = read.workload.tasks.items;
       spells = c.in_ok-read.ensures.exact.spells;
       named = c.in_ok-names.ensures.named;
-      is_picture = rw c.deref.ensures.value at c.in_ok-sketch_in_order.ensures;
+      is_picture = c.in_ok-sketch_in_order.ensures;
     }
