@@ -8,7 +8,7 @@ use Rattle.wcp_draw_cli.proofs.program.obey.Goals as goal
 
 pub returns-in_err-answer-clause-fault : goal.returns-in_err-answer-clause-fault
 returns-in_err-answer-clause-fault g c =
-    let handed = err_from_is_err_and c.from_residual-in_err-answer.result c.from_residual-in_err-answer.ensures.1 in
+    let handed = err_from_is_err_and c.from_residual.result c.from_residual.ensures.1 in
     rw (handed.1, handed.2)
     (why_refused c.args.request _ _ c.in_err-answer.field-0.0 c.in_err-answer.ensures.fault)
 
