@@ -1,4 +1,4 @@
-use Rattle.std.proofs.Common.{◌++◌, rules, append_assoc, codes, string_bytes}
+use Rattle.std.proofs.Common.{◌++◌, codes, string_bytes}
 use Rattle.std.proofs.lemmas.Result.{IfOk-weaker}
 use Rattle.wcp_draw.proofs.picture.draw.Goals as goal
 
