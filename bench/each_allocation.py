@@ -1,12 +1,16 @@
 #!/usr/bin/env python3
-"""Refuses each allocation of a built program in turn, and then each of its threads: each_allocation.py PROGRAM [WORD..]
+"""Refuses each allocation of a built program in turn, and then each of its threads: each_allocation.py PROGRAM [WORD..], or
+each_allocation.py WCPWATCH [WORD TEXT..]
 
-`wcpwatch` goes through worked cases of every word; another program runs with these words. Each answer must be that of an
+`wcpwatch` takes a word and a file, which it reads, and the next word and file; with none it goes through worked cases of every
+word. Another program runs with these words. Each answer must be that of an
 undisturbed run, or a fault line that says memory, or spawn for a thread that couldn't be made: of `wcpwatch` with status 2 and no
 output, of another program with a status that is no answer's and at most the beginning of its output. A run that doesn't end within
-a minute is another answer. It goes on until none is left to refuse, and then the answer must be the undisturbed one.
+a minute is another answer. It goes on until none is left to refuse, and then the answer must be the undisturbed one. A case passes
+where each answer is such a one, and one at least says memory. The last line is the count of cases.
 """
 import os
+import pathlib
 import re
 import subprocess
 import sys
@@ -39,6 +43,9 @@ def cases():
     """Each case: its name, the words, and the text that it reads."""
     if name != "wcpwatch":
         return [(" ".join(sys.argv[2:]) or "without a word", sys.argv[2:], b"")]
+    if sys.argv[2:]:
+        return [(f"{word} {os.path.basename(file)}", [word], pathlib.Path(file).read_bytes())
+                for word, file in zip(sys.argv[2::2], sys.argv[3::2], strict=True)]
     rings = [("ring_text", ring("--procs", "2", "--rounds", "1")),
              ("ring_text_with_fault", ring("--procs", "2", "--rounds", "1", "--fault")),
              ("ring_three_by_two", ring("--procs", "3", "--rounds", "2"))]
@@ -68,19 +75,26 @@ def fault(it, row):
     return told(it) if is_well else None
 
 
-failed = 0
-for case, words, text in cases():
+def tried(case, words, text):
+    """Whether the case passes. Prints what was refused."""
     row, _ = answer(program, words, text, "allocation", 0)
+    wrong = refused = 0
     for kind in ("allocation", "thread"):
         given = answers(program, words, text, kind)
         last = given.pop()
         others = [(number, it) for number, it in enumerate(given, 1) if it != row and not fault(it, row)]
         if last != row or told(row):
             others.append((len(given) + 1, last))
-        failed += len(others)
+        wrong += len(others)
         memory, spawn = (sum(fault(it, row) == of for it in given) for of in ("memory", "spawn"))
         print(f"{name} {case}, {kind}: {len(given)} refused, {memory} answers of memory, {spawn} of spawn,"
               f" {given.count(row)} undisturbed, {len(others)} others", flush=True)
+        refused += memory
         for number, it in others[:5]:
             print(f"  {kind} {number}: {it}")
-sys.exit(1 if failed else 0)
+    return refused > 0 and wrong == 0
+
+
+passed = [tried(*case) for case in cases()]
+print(f"{passed.count(True)} passed, {passed.count(False)} failed")
+sys.exit(0 if passed and all(passed) else 1)

@@ -1,7 +1,7 @@
 #!/usr/bin/env python3
 """Refuses each allocation of some tests in turn, and then each thread: each_test.py TESTS PART.., of the program out/NAME_tests
 that `rt test` builds the tests with a PART in their name. Each asks again where it is refused, and so must pass whichever
-allocation or thread is refused.
+allocation or thread is refused. The last line is the count of tests; where nothing was refused at all, none has passed.
 """
 import subprocess
 import sys
@@ -21,13 +21,21 @@ def has_passed(it):
     return it != "no end" and it[2] == 0
 
 
-failed = 0
-for test in tests():
+def tried(test):
+    """How many refusals the test missed, and of how many. Prints them."""
+    wrong = refused = 0
     for kind in ["allocation", "thread"]:
         given = answers(program, [test], b"", kind)
         missed = [(number, it) for number, it in enumerate(given, 1) if not has_passed(it)]
-        failed += len(missed)
+        wrong += len(missed)
+        refused += len(given) - 1
         print(f"{test}: {len(given) - 1} {kind}s refused, {len(missed)} missed", flush=True)
         for number, it in missed[:3]:
             print(f"  {kind} {number}: {it}")
+    return wrong, refused
+
+
+found = [tried(test) for test in tests()]
+failed = sum(wrong > 0 for wrong, _ in found) if any(refused for _, refused in found) else max(len(found), 1)
+print(f"{len(found) - failed if found else 0} passed, {failed} failed")
 sys.exit(1 if failed else 0)

@@ -1,95 +1,63 @@
-//! Many items that go through a lane, or through the bare channels under it: `many_calls lane WORD ITEMS`, where the
-//! word is lane, ruled or bounded; with a 2 behind it, one thread puts and another takes.
+//! Items that go through a lane, each of which is put and then taken, in one thread: `many_calls lane ITEMS`.
 
-ghost use Rattle.std.specs.Prelude.{◌≡◌, false};
-ghost use Rattle.wcp_clock.specs.Notes.{place_of, is_last};
+ghost use Rattle.std.specs.Prelude.{◌≡◌, ◌+◌, IfOk, OnOk};
+ghost use Rattle.wcp_lane.specs.Snapshots.{HasPut};
 
-mod bounded;
-mod lanes;
-mod ruled;
-
-use crate::words::{number_at, word_at};
+use crate::taken::Taken;
+use crate::words::number_at;
 use std::alloc::{AllocError, Global};
 use std::sync::Wait;
-use std::thread::Threads;
 use wcp_clock::{Clock, Item, MAX_PROCS, Note};
+use wcp_lane::{Members, Putter, Taker, lane};
 
-/// How many items each channel has room for.
+/// How many items the lane has room for.
 const ROOM: u32 = 64;
 
-/// Snapshot `number` of process `from`, with a clock of all processes.
-fn snap(from: u32, number: u32) -> Item
-    ensures from { result.from ≡ from }
-    ensures place { place_of result.note ≡ number }
-    ensures unended { is_last result.note ≡ false }
+/// The ends of a lane of process 0.
+fn ends(alloc: Global) -> Result<(Putter<Item>, Taker<Item>), AllocError>
+    ensures { IfOk result (λ ends. HasPut 0 0 ends.0) }
 {
-    Item {
-        from,
-        note: Note::Snap {
-            number,
-            clock: Clock::new(MAX_PROCS as u32),
-        },
+    let Ok((mut putters, taker)) = lane(alloc, ROOM, &[Members::none().with(0)]) else {
+        return Err(AllocError);
+    };
+    let Some(putter) = putters.pop() else {
+        return Err(AllocError);
+    };
+    Ok((putter, taker))
+}
+
+/// Puts snapshot `number`, with a clock of all processes.
+fn put<R: Wait>(rt: &R, putter: &mut Putter<Item>, number: u32) -> Result<(), ()>
+    requires { HasPut 0 number putter.old }
+    ensures { OnOk result (HasPut 0 (number + 1) putter.new) }
+{
+    let clock = Clock::new(MAX_PROCS as u32);
+    let note = Note::Snap { number, clock };
+    match putter.put(rt, Item { from: 0, note }) {
+        Ok(()) => Ok(()),
+        Err(_) => Err(()),
     }
 }
 
-/// What was taken, added up, so that nothing is left out.
-#[derive(Clone, Copy)]
-struct Sum(u64);
-
-impl Sum {
-    fn with(self, item: &Item) -> Sum {
-        match item.note {
-            Note::Snap { number, clock } => {
-                Sum(
-                    self.0
-                        .wrapping_add(u64::from(number))
-                        .wrapping_add(u64::from(clock.len())),
-                )
-            }
-            Note::Close { count } | Note::Lost { count } => Sum(
-                self.0.wrapping_add(u64::from(count)),
-            ),
+/// Puts an item and takes it, so many times.
+fn hop_all<R: Wait>(rt: &R, putter: &mut Putter<Item>, taker: &mut Taker<Item>, items: u32) -> Taken
+    requires { HasPut 0 0 putter.old }
+{
+    let mut taken = Taken::nothing();
+    for number in 0..items {
+        if put(rt, putter, number).is_err() {
+            break;
+        }
+        if let Ok(item) = taker.take(rt) {
+            taken.add(&item.note);
         }
     }
-}
-
-/// Adds up `items` items, or all that come.
-fn sum_of<F: FnMut() -> Option<Item>>(items: u32, mut next: F) -> Sum
-    requires { F.IsAlwaysCallable next }
-{
-    let mut sum = Sum(0);
-    for _ in 0..items {
-        match next() {
-            Some(item) => sum = sum.with(&item),
-            None => break,
-        }
-    }
-    sum
-}
-
-fn hops<R: Threads + Wait + Sync>(
-    rt: &R,
-    alloc: Global,
-    word: &str,
-    items: u32,
-) -> Result<Sum, AllocError> {
-    match word {
-        "lane" => lanes::one_thread(rt, alloc, items),
-        "lane2" => lanes::two_threads(rt, alloc, items),
-        "ruled" => ruled::one_thread(rt, alloc, items),
-        "ruled2" => ruled::two_threads(rt, alloc, items),
-        "bounded" => bounded::one_thread(rt, alloc, items),
-        "bounded2" => bounded::two_threads(rt, alloc, items),
-        _ => Ok(Sum(0)),
-    }
+    taken
 }
 
 /// Sends the items that the words ask for, and prints what was taken.
-pub fn make_calls<R: Threads + Wait + Print + AllocGlobal + Sync>(
-    rt: &R,
-    words: &[String],
-) -> anyhow::Result<()> {
-    let Sum(sum) = hops(rt, rt.alloc(), word_at(words, 0), number_at(words, 1))?;
-    println!(rt; "sum {sum}")?;
-    Ok(())
+pub fn make_calls<R: Wait + Print + AllocGlobal>(rt: &R, words: &[String]) -> anyhow::Result<()> {
+    let (mut putter, mut taker) = ends(rt.alloc())?;
+    let taken = hop_all(rt, &mut putter, &mut taker, number_at(words, 0));
+    Ok(taken.print(rt)?)
 }

@@ -6,6 +6,7 @@ mod lane;
 mod probe;
 mod ring;
 mod run;
+mod taken;
 mod tree;
 mod words;
 
@@ -17,7 +18,7 @@ use std::thread::Threads;
 use std::time::Clock;
 
 /// Makes the calls that the words behind the program's name ask for.
-fn make_calls<R: Threads + Wait + Clock + Files + Print + AllocGlobal + Sync>(
+fn make_calls<R: Threads + Wait + Clock + Files + Print + Eprint + AllocGlobal + Sync>(
     rt: &R,
     words: &[String],
 ) -> Result<()> {

@@ -1,92 +1,96 @@
-//! Watches of sixteen processes: `many_calls tree WORD COUNT`. Each of sixteen threads makes so many snapshots, with a
-//! send behind each. `leaf` takes them by one relay, `tree` by eight leaves under one other, and `bounded` by one
-//! bounded channel. At `silent` the processes of a tree wait so many seconds and close. At `held` each makes 1,000
-//! snapshots, and the relay over the leaves is held up for so many seconds, while all links are full. `flushed` and
-//! `bare` make so many snapshots of one probe in one thread: a live one, or a core that puts into a ring of `rtrb`;
-//! `sends` only sends. These three say how many nanoseconds the calls took.
+//! A watch of sixteen processes, two under each of eight leaves, which are under one other relay: `many_calls tree
+//! SNAPSHOTS`. Each process makes so many snapshots, with a send behind each, and closes. Each process and each relay
+//! runs in a thread of its own.
 
-mod bounded;
-mod live;
-mod one_probe;
-
-use crate::words::{number_at, word_at};
-use live::Work;
-use std::alloc::Global;
-use std::io;
+use crate::taken::Taken;
+use crate::words::number_at;
+use anyhow::bail;
+use std::alloc::{AllocError, Global};
 use std::sync::Wait;
-use std::thread::Threads;
-use std::time::{Clock, Duration};
-use wcp_clock::{Item, Note};
+use std::thread::{Threads, join, map_vec};
+use wcp_lane::Taker;
+use wcp_model::{Parent, Plan, Watched};
+use wcp_tree::{Bundle, LiveProbe, Relay, Watch, watch};
 
-/// How many notes each ring and each lane has room for.
+/// How many notes each ring, each lane and each hold has room for.
 const ROOM: u32 = 64;
 
-/// How many snapshots each process makes while a relay is held up.
-const SNAPSHOTS_HELD: u32 = 1_000;
-
-/// What was taken, so that nothing is left out: how many notes, and the sum of their numbers.
-#[derive(Clone, Copy)]
-struct Taken {
-    notes: u64,
-    sum: u64,
+fn plan_of_eight_leaves(alloc: Global) -> Result<Plan, AllocError> {
+    let mut parents = vec![in alloc; Parent::Root]?;
+    let mut attach = Vec::new(alloc);
+    for leaf in 1..9 {
+        parents.push(Parent::Relay(0))?;
+        attach.push(Some(leaf))?;
+        attach.push(Some(leaf))?;
+    }
+    Ok(Plan::new(16, ROOM, ROOM, parents, attach, Watched::all(16)))
 }
 
-impl Taken {
-    fn nothing() -> Taken {
-        Taken { notes: 0, sum: 0 }
+/// Makes the snapshots and closes.
+fn run_process(rt: &impl Wait, mut probe: LiveProbe, snapshots: u32) {
+    let to = if probe.id() == 0 { 1 } else { 0 };
+    for _ in 0..snapshots {
+        probe.observe(true);
+        probe.flush_in_watch(rt);
+        let _ = probe.stamp(to, ());
     }
+    drop(probe.close_in_watch(rt));
+}
 
-    fn with(self, item: &Item) -> Taken {
-        let number = item.note.place();
-        Taken {
-            notes: self.notes.wrapping_add(1),
-            sum: self.sum.wrapping_add(u64::from(number)),
+/// Takes until the lane is cut, as it is once all relays have ended.
+fn take_all(rt: &impl Wait, mut taker: Taker<Bundle>) -> Taken {
+    let mut taken = Taken::nothing();
+    for _ in rt.forever() {
+        let Ok(bundle) = taker.take(rt) else {
+            break;
+        };
+        for item in bundle.items() {
+            taken.add(&item.note);
         }
     }
+    taken
 }
 
-/// Runs sixteen threads by one of the words, and says what came.
-fn sixteen_threads<R: Threads + Wait + Clock + Sync>(
+/// Runs each process and each relay. `Err` where memory runs out.
+fn run_watch<R: Threads + Wait + Sync>(
     rt: &R,
-    alloc: Global,
-    word: &str,
-    count: u32,
-) -> io::Result<Taken> {
-    let snapshots = Work {
-        pause: Duration::from_secs(0),
-        snapshots: count,
-    };
-    let pause = Duration::from_secs(u64::from(count));
-    let silent = Work {
-        pause,
-        snapshots: 0,
-    };
-    let held = Work {
-        pause,
-        snapshots: SNAPSHOTS_HELD,
-    };
-    match word {
-        "leaf" => live::one_leaf(rt, alloc, snapshots),
-        "tree" => live::eight_leaves(rt, alloc, snapshots),
-        "silent" => live::eight_leaves(rt, alloc, silent),
-        "held" => live::eight_leaves(rt, alloc, held),
-        "bounded" => bounded::one_channel(rt, alloc, count),
-        _ => Ok(Taken::nothing()),
-    }
+    probes: Vec<LiveProbe>,
+    relays: Vec<Relay>,
+    snapshots: u32,
+) -> Result<(), AllocError> {
+    let (probes, relays) = join(
+        rt,
+        || map_vec(
+            rt,
+            probes,
+            &|probe: LiveProbe| run_process(rt, probe, snapshots),
+        ),
+        || map_vec(rt, relays, &|relay: Relay| drop(relay.run(rt))),
+    );
+    probes?;
+    relays?;
+    Ok(())
 }
 
-/// Runs what the words ask for, and prints what came or what it took.
-pub fn make_calls<R: Threads + Wait + Clock + Print + AllocGlobal + Sync>(
+/// Runs the watch that the words ask for, and prints what came.
+pub fn make_calls<R: Threads + Wait + Print + AllocGlobal + Sync>(
     rt: &R,
     words: &[String],
 ) -> anyhow::Result<()> {
-    let word = word_at(words, 0);
-    let count = number_at(words, 1);
-    if let Some(nanos) = one_probe::nanos(rt, rt.alloc(), word, count)? {
-        println!(rt; "nanoseconds {nanos}")?;
-        return Ok(());
+    let plan = plan_of_eight_leaves(rt.alloc())?;
+    if plan.check().is_err() {
+        bail!("no such plan");
     }
-    let taken = sixteen_threads(rt, rt.alloc(), word, count)?;
-    println!(rt; "taken {} sum {}", taken.notes, taken.sum)?;
-    Ok(())
+    let Watch {
+        probes,
+        relays,
+        inbox,
+    } = watch(rt.alloc(), &plan, 0)?;
+    let (ran, taken) = join(
+        rt,
+        || run_watch(rt, probes, relays, number_at(words, 0)),
+        || take_all(rt, inbox.into_taker()),
+    );
+    ran?;
+    Ok(taken.print(rt)?)
 }

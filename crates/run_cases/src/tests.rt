@@ -1,8 +1,6 @@
 mod checking;
-mod losing;
 mod news;
 mod plans;
-mod reading;
 mod settling;
 mod starting;
 mod starving;

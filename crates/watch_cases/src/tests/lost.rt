@@ -10,7 +10,7 @@ use wullaphi::{
 };
 
 /// A process that may be lost. It answers whether its part is done.
-#[derive(Clone, Copy, Debug)]
+#[derive(Clone, Copy)]
 pub enum Member {
     /// It is true, and does its part.
     Whole,
@@ -66,7 +66,7 @@ fn assert_told<R: Threads + Wait + Sync + Abort>(
     told: Result<Report, WatchFault>,
 ) {
     let watched = watch(rt, alloc, members).map(|watched| watched.outcome.report);
-    assert_eq!(rt; watched, told, "{members:?}");
+    assert!(rt; watched == told);
 }
 
 /// The cut of three processes that have sent and received nothing.
@@ -110,6 +110,6 @@ fn a_lost_process_has_a_line(rt: HostRuntime) -> Result<(), Fail> {
         report: Report::Undecided,
     };
     let line = format!(in rt.alloc(); "{lost}")?;
-    assert_eq!(rt; line.as_str(), "process 2 was lost");
+    assert!(rt; line.as_str() == "process 2 was lost");
     Ok(())
 }

@@ -28,7 +28,7 @@ impl Process for True {
 }
 
 /// What the checker's end tells, and what the ends are settled to.
-#[derive(Clone, Copy, Debug, PartialEq, Eq)]
+#[derive(Clone, Copy, PartialEq, Eq)]
 struct Told {
     report: Report,
     lost: Option<u32>,
@@ -177,8 +177,8 @@ fn threads_of_ones_own_tell_what_the_call_tells(rt: HostRuntime) {
         lost: None,
         settled: Ok(outcome),
     };
-    assert_eq!(rt; opened(&rt, rt.alloc(), Some(Member::Whole)), told);
-    assert_eq!(rt; called(&rt, rt.alloc()), outcome);
+    assert!(rt; opened(&rt, rt.alloc(), Some(Member::Whole)) == told);
+    assert!(rt; called(&rt, rt.alloc()) == outcome);
 }
 
 /// Where this member is process 0, it is lost, the report is this one, and the ends lack its own.
@@ -193,7 +193,7 @@ fn assert_lost<R: Threads + Wait + Sync + Abort>(
         lost: Some(0),
         settled: Err(SettleFault::Missing),
     };
-    assert_eq!(rt; opened(rt, alloc, member), told, "{member:?}");
+    assert!(rt; opened(rt, alloc, member) == told);
 }
 
 #[test]
