@@ -44,19 +44,23 @@ fn assert_told_late<R: Threads + Wait + Sync + Clock + Abort>(
         || change_late(rt, &book, cut),
         || join(rt, || first.wait(rt), || second.wait(rt)),
     );
-    assert!(rt; told.0 == cut && told.1 == cut);
-    assert!(rt; book.into_inner().has_ended() == cut.is_none());
+    assert_eq!(rt; told, (cut, cut));
+    assert_eq!(rt; book.into_inner().has_ended(), cut.is_none());
 }
 
 #[test]
-fn threads_that_sleep_are_told_the_cut_or_the_end(rt: HostRuntime) {
+fn threads_that_sleep_are_told_the_cut(rt: HostRuntime) {
     assert_told_late(&rt, rt.alloc(), Some(the_cut()));
+}
+
+#[test]
+fn threads_that_sleep_are_told_of_the_end(rt: HostRuntime) {
     assert_told_late(&rt, rt.alloc(), None);
 }
 
 /// Waits for the news, and compares what they tell.
 fn assert_told(rt: &(impl Abort + Wait), news: News, cut: Option<GlobalCut>) {
-    assert!(rt; news.wait(rt) == cut);
+    assert_eq!(rt; news.wait(rt), cut);
 }
 
 #[test]

@@ -170,6 +170,7 @@ fn a_process_that_is_lost_is_missing(rt: HostRuntime) {
     let ends = run_watch(&rt, rt.alloc(), Some(0));
     assert!(rt; matches!(ends.checker.fault(), Some(CheckFault::Lost(0))));
     assert!(rt; matches!(ends.checker.report(), Report::Undecided));
+    assert!(rt; ends.book.share(0).is_none() && ends.book.share(1).is_some());
     is_not_settled(&rt, ends, SettleFault::Missing);
 }
 

@@ -55,10 +55,13 @@ fn a_leaf_that_sleeps_wakes_where_a_probe_is_dropped(rt: HostRuntime) {
     } = open_under_one_relay(&rt, rt.alloc(), 2, 8, 4);
     let pair = pair_of(&rt, probes);
     let (fault, came) = run_and_drop(&rt, relay, pair, taker);
-    assert!(rt; fault.is_none() && came.is_some_and(|item| is_mark_of_first(&item)));
+    assert!(rt; fault.is_none() && is_mark_of_first(came));
 }
 
 /// Whether this is the mark that process 0 was lost before it put anything.
-fn is_mark_of_first(item: &Item) -> bool {
-    item.from == 0 && matches!(item.note, Note::Lost { count: 0 })
+fn is_mark_of_first(came: Option<Item>) -> bool {
+    match came {
+        Some(item) => item.from == 0 && matches!(item.note, Note::Lost { count: 0 }),
+        None => false,
+    }
 }

@@ -75,7 +75,7 @@ pub fn run_and_take<R: Threads + Wait + Abort + Sync>(
         inbox,
     } = watch;
     let taker = inbox.into_taker();
-    let ((), (faults, arrivals)) = join(
+    let ((), rest) = join(
         rt,
         || run_probes(rt, probes, snapshots, leaving),
         || {
@@ -86,6 +86,7 @@ pub fn run_and_take<R: Threads + Wait + Abort + Sync>(
             )
         },
     );
+    let (faults, arrivals) = rest;
     Ran { faults, arrivals }
 }
 

@@ -181,8 +181,11 @@ fn comes_in_silence<R: Threads + Wait + Abort + Sync>(
 }
 
 /// Whether this is the first snapshot of the one process.
-fn is_first_snap(item: &Item) -> bool {
-    matches!(item.note, Note::Snap { number: 0, .. })
+fn is_first_snap(came: Option<Item>) -> bool {
+    match came {
+        Some(item) => matches!(item.note, Note::Snap { number: 0, .. }),
+        None => false,
+    }
 }
 
 #[test]
@@ -192,7 +195,7 @@ fn an_item_comes_to_the_root_while_all_else_is_silent(rt: HostRuntime) {
         let relays = &parents[..leaf + 1];
         let came = comes_in_silence(&rt, rt.alloc(), relays, leaf as u32);
         assert!(rt;
-            came.is_some_and(|item| is_first_snap(&item)),
+            is_first_snap(came),
             "leaf {leaf}"
         );
     }

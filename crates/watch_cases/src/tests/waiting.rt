@@ -50,7 +50,7 @@ fn cut_of<R: Wait>(
 
 /// Waits for the cut, and compares it.
 fn assert_cut<R: Wait + Abort>(rt: &R, alloc: Global, book: &Mutex<Book>, cut: Option<GlobalCut>) {
-    assert!(rt; cut_of(rt, alloc, book) == Ok(cut));
+    assert_eq!(rt; cut_of(rt, alloc, book), Ok(cut));
 }
 
 /// A plan of two processes.
@@ -71,16 +71,6 @@ fn watch<R: Threads + Wait + Sync + Abort>(
     watch_processes(rt, alloc, &plan, 1, members, book, book)
 }
 
-/// Whether each of these is the cut, if it is one.
-fn all_answer(answers: &[Option<GlobalCut>], cut: Option<GlobalCut>) -> bool {
-    for answer in answers {
-        if *answer != cut {
-            return false;
-        }
-    }
-    true
-}
-
 /// Watches two of this member, and beside them waits for the cut in a thread of its own. What the members answer and
 /// that thread is told is this cut, if it is one, and the report is that of it.
 fn assert_told<R: Threads + Wait + Sync + Abort>(
@@ -95,8 +85,13 @@ fn assert_told<R: Threads + Wait + Sync + Abort>(
         || watch(rt, alloc, member, 2, book).expect(rt, "a watch"),
         || assert_cut(rt, alloc, book, cut),
     );
-    assert!(rt; watched.outcome.report == cut.map_or(Report::Nothing, Report::Found));
-    assert!(rt; all_answer(&watched.answers, cut) && book.lock(rt).has_ended());
+    assert_eq!(rt;
+        watched.outcome.report,
+        cut.map_or(Report::Nothing, Report::Found)
+    );
+    let again = cut;
+    assert_eq!(rt; watched.answers.as_slice(), [cut, again].as_slice());
+    assert!(rt; book.lock(rt).has_ended());
 }
 
 /// The cut of two processes that have sent and received nothing.
@@ -136,7 +131,7 @@ fn a_watch_over_the_same_book_is_waited_for_anew(rt: HostRuntime) {
 fn a_watch_that_does_not_begin_ends_the_book(rt: HostRuntime) {
     let book = Mutex::new(Book::new(2));
     let refused = watch(&rt, rt.alloc(), Member::Idle, 1, &book);
-    assert!(rt; matches!(refused, Err(WatchFault::Count)));
+    assert_eq!(rt; refused.err(), Some(WatchFault::Count));
     assert!(rt; book.lock(&rt).has_ended());
     assert_cut(&rt, rt.alloc(), &book, None);
 }
