@@ -2,18 +2,18 @@
 ghost use Rattle.std.specs.Prelude.{◌≡◌};
 ghost use Rattle.wcp_book.specs.declared.news.News.TheVariants.{Told};
 
+use crate::cut_answer::CutAnswer;
 use std::alloc::{AllocError, Global};
 use std::sync::{Arc, OnceLock, Wait};
-use wcp_model::GlobalCut;
 
-/// What a book and those who wait for its next news share: written once, the cut, or none where the book ended.
-type Written = Arc<OnceLock<Option<GlobalCut>>, Global>;
+/// What a book and those who wait for its next news share: written once.
+type Written = Arc<OnceLock<CutAnswer>, Global>;
 
 /// The next news of a book, for one who waits for it.
 #[derive(Drop)]
 pub enum News {
-    /// It was there before: the cut, or none where the book ended without one.
-    Told(Option<GlobalCut>),
+    /// It was there before.
+    Told(CutAnswer),
     /// It is to come.
     Awaited(Awaited),
 }
@@ -25,18 +25,20 @@ pub struct Awaited {
 }
 
 impl News {
-    /// The cut, once it is told, or none where the book ended without one. The thread sleeps until then.
-    pub fn wait<R: Wait>(self, rt: &R) -> Option<GlobalCut>
-        ensures { (cut : _) → self ≡ Told cut → result ≡ cut }
+    /// The cut, once it is told, or what the watch came to, once the book has ended without one. The thread sleeps
+    /// until then.
+    pub fn wait<R: Wait>(self, rt: &R) -> CutAnswer
+        ensures { (answer : _) → self ≡ Told answer → result ≡ answer }
     {
         match self {
-            News::Told(cut) => cut,
+            News::Told(answer) => answer,
             News::Awaited(awaited) => *awaited.written.wait(rt),
         }
     }
 }
 
-/// The right to tell the next news, once, to all who wait for it. Where it is let go they are told of no cut.
+/// The right to tell the next news, once, to all who wait for it. Where it is let go they are told that no watch has
+/// run.
 pub(crate) struct Teller {
     written: Written,
 }
@@ -56,15 +58,15 @@ impl Teller {
         })
     }
 
-    /// Tells the cut.
-    pub(crate) fn tell(self, cut: GlobalCut) {
-        let _ = self.written.try_set(Some(cut));
+    /// Tells this.
+    pub(crate) fn tell(self, answer: &CutAnswer) {
+        let _ = self.written.try_set(*answer);
     }
 }
 
 impl Drop for Teller {
     fn drop(self) {
         let Teller { written } = self;
-        let _ = written.try_set(None);
+        let _ = written.try_set(CutAnswer::NotRun);
     }
 }

@@ -27,10 +27,11 @@ use wcp_relay::{Bundle, CheckerInbox};
 /// that was lost it posts none, since what that emitted isn't known, and the loop goes on. As the checker finds a cut,
 /// which stays its report, it tells the book of it, and the loop goes on. Where there is no memory for an item the
 /// checker is starved and takes it then, and the loop goes on, so that the relays still have a taker. Once the loop is
-/// over it ends the book.
+/// over it ends the book with its report.
 ///
-/// What is posted and told stands in no clause, but that a cut is told only where the checker has found it; `settle`
-/// compares both, and so do the tests of `run_cases`, which also show the end.
+/// What is posted and told stands in no clause, but that a cut is told only where the checker has found it, and that
+/// the book ends with no other report than the checker's; `settle` compares the shares and the cut, and so do the tests
+/// of `run_cases`, which also show the end.
 pub fn check_loop<R: Wait>(
     rt: &R,
     inbox: CheckerInbox,
@@ -45,7 +46,7 @@ pub fn check_loop<R: Wait>(
     let mut taker = inbox.into_taker();
     let cut = take_all(rt, &mut taker, &mut checker, book).err();
     let lost = lowest_lost(&checker);
-    end_book(rt, book);
+    end_book(rt, book, &checker, checker.report());
     CheckerEnd {
         watch,
         processes: checker.processes(),
@@ -163,9 +164,11 @@ fn tell<R: Wait>(rt: &R, book: &Mutex<Book>, checker: &Checker, cut: GlobalCut)
     book.lock(rt).tell(cut);
 }
 
-/// Ends the book, and lets those go who wait for its news.
-fn end_book<R: Wait>(rt: &R, book: &Mutex<Book>) {
-    book.lock(rt).end();
+/// Ends the book with this report of the checker, and lets those go who wait for its news.
+fn end_book<R: Wait>(rt: &R, book: &Mutex<Book>, checker: &Checker, report: Report)
+    requires { report_of checker.now ≡ report }
+{
+    book.lock(rt).end(report);
 }
 
 /// Whether of every process the close mark or the mark that it was lost was taken.

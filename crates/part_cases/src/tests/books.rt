@@ -1,5 +1,5 @@
-use wcp_book::{Book, BookFault};
-use wcp_model::{GlobalCut, Tally};
+use wcp_book::{Book, BookFault, CutAnswer};
+use wcp_model::{GlobalCut, Report, Tally};
 
 #[test]
 fn what_is_posted_or_told_first_stays(rt: HostRuntime) {
@@ -16,4 +16,31 @@ fn what_is_posted_or_told_first_stays(rt: HostRuntime) {
     book.tell(first);
     book.tell(GlobalCut::new(&[Some(3), Some(2)]));
     assert_eq!(rt; book.copied().found(), Some(first));
+}
+
+#[test]
+fn a_book_in_use_stays_as_it_is(rt: HostRuntime) {
+    let mut book = Book::new(2);
+    assert!(rt; book.claim(1));
+    assert!(rt; book.post(0, 3, 3).is_ok());
+    assert_eq!(rt;
+        (book.claim(2), book.begin(2), book.is_in_use()),
+        (false, false, true)
+    );
+    book.refuse();
+    assert_eq!(rt; (book.totals().emitted, book.answer()), (3, None));
+    book.end(Report::Undecided);
+    book.release();
+    assert_eq!(rt;
+        (book.is_in_use(), book.answer()),
+        (false, Some(CutAnswer::Undecided))
+    );
+    book.refuse();
+    assert_eq!(rt;
+        (book.totals().emitted, book.answer()),
+        (0, Some(CutAnswer::NotRun))
+    );
+    assert!(rt; book.claim(2));
+    book.release();
+    assert_eq!(rt; book.answer(), Some(CutAnswer::NotRun));
 }

@@ -4,8 +4,8 @@ use std::process::Abort;
 use std::sync::{Mutex, Wait};
 use std::thread::{Threads, join, sleep};
 use std::time::{Clock, Duration};
-use wcp_book::{Book, News};
-use wcp_model::GlobalCut;
+use wcp_book::{Book, CutAnswer, News};
+use wcp_model::{GlobalCut, Report};
 
 /// How many milliseconds a thread waits at least, so that it is asleep as it is told.
 const ASLEEP: u64 = 20;
@@ -21,11 +21,13 @@ fn news_of(rt: &impl Abort, alloc: Global, book: &mut Book) -> News {
 }
 
 /// Changes the book in this way, once those who wait for its news are asleep.
-fn change_late<R: Wait + Clock>(rt: &R, book: &Mutex<Book>, cut: Option<GlobalCut>) {
+fn change_late<R: Wait + Clock>(rt: &R, book: &Mutex<Book>, answer: &CutAnswer) {
     sleep(rt, Duration::from_millis(ASLEEP));
-    match cut {
-        Some(cut) => book.lock(rt).tell(cut),
-        None => book.lock(rt).end(),
+    match *answer {
+        CutAnswer::Found(cut) => book.lock(rt).tell(cut),
+        CutAnswer::Nothing => book.lock(rt).end(Report::Nothing),
+        CutAnswer::Undecided => book.lock(rt).end(Report::Undecided),
+        CutAnswer::NotRun => book.lock(rt).refuse(),
     }
 }
 
@@ -33,7 +35,7 @@ fn change_late<R: Wait + Clock>(rt: &R, book: &Mutex<Book>, cut: Option<GlobalCu
 fn assert_told_late<R: Threads + Wait + Sync + Clock + Abort>(
     rt: &R,
     alloc: Global,
-    cut: Option<GlobalCut>,
+    answer: &CutAnswer,
 ) {
     let mut book = Book::new(2);
     let first = news_of(rt, alloc, &mut book);
@@ -41,26 +43,29 @@ fn assert_told_late<R: Threads + Wait + Sync + Clock + Abort>(
     let book = Mutex::new(book);
     let (_, told) = join(
         rt,
-        || change_late(rt, &book, cut),
+        || change_late(rt, &book, answer),
         || join(rt, || first.wait(rt), || second.wait(rt)),
     );
-    assert_eq!(rt; told, (cut, cut));
-    assert_eq!(rt; book.into_inner().has_ended(), cut.is_none());
+    assert_eq!(rt; told, (*answer, *answer));
+    let found = matches!(answer, CutAnswer::Found(_));
+    assert_eq!(rt; book.into_inner().has_ended(), !found);
 }
 
 #[test]
 fn threads_that_sleep_are_told_the_cut(rt: HostRuntime) {
-    assert_told_late(&rt, rt.alloc(), Some(the_cut()));
+    assert_told_late(&rt, rt.alloc(), &CutAnswer::Found(the_cut()));
 }
 
 #[test]
 fn threads_that_sleep_are_told_of_the_end(rt: HostRuntime) {
-    assert_told_late(&rt, rt.alloc(), None);
+    assert_told_late(&rt, rt.alloc(), &CutAnswer::Nothing);
+    assert_told_late(&rt, rt.alloc(), &CutAnswer::Undecided);
+    assert_told_late(&rt, rt.alloc(), &CutAnswer::NotRun);
 }
 
 /// Waits for the news, and compares what they tell.
-fn assert_told(rt: &(impl Abort + Wait), news: News, cut: Option<GlobalCut>) {
-    assert_eq!(rt; news.wait(rt), cut);
+fn assert_told(rt: &(impl Abort + Wait), news: News, answer: CutAnswer) {
+    assert_eq!(rt; news.wait(rt), answer);
 }
 
 #[test]
@@ -69,28 +74,28 @@ fn those_who_wait_go_on_over_a_book_begun_anew(rt: HostRuntime) {
     let early = news_of(&rt, rt.alloc(), &mut book);
     book.begin(3);
     book.tell(the_cut());
-    book.end();
+    book.end(Report::Found(the_cut()));
     book.begin(2);
     let late = news_of(&rt, rt.alloc(), &mut book);
-    book.end();
-    assert_told(&rt, early, Some(the_cut()));
-    assert_told(&rt, late, None);
+    book.end(Report::Undecided);
+    assert_told(&rt, early, CutAnswer::Found(the_cut()));
+    assert_told(&rt, late, CutAnswer::Undecided);
 }
 
 /// Ends a copy of this book.
 fn end_copy(book: &Book) {
-    book.copied().end();
+    book.copied().end(Report::Nothing);
 }
 
 #[test]
-fn a_copy_tells_no_one_and_a_book_that_is_gone_of_no_cut(rt: HostRuntime) {
+fn a_copy_tells_no_one_and_a_book_that_is_gone_of_no_watch(rt: HostRuntime) {
     let mut book = Book::new(2);
     let first = news_of(&rt, rt.alloc(), &mut book);
     end_copy(&book);
     book.tell(the_cut());
-    assert_told(&rt, first, Some(the_cut()));
+    assert_told(&rt, first, CutAnswer::Found(the_cut()));
     book.begin(2);
     let second = news_of(&rt, rt.alloc(), &mut book);
     drop(book);
-    assert_told(&rt, second, None);
+    assert_told(&rt, second, CutAnswer::NotRun);
 }

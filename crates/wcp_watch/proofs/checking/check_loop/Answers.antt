@@ -32,8 +32,8 @@ returns g c =
       starved = checker.starved;
       fault = c.first_fault.ensures
           ∙ ap (λ (starved : Bool). first_fault starved c.err-cut.result lost) c.is_starved.ensures;
-      never_none = never_none checker taker.taken lost c.report.result stands lowest c.report.ensures.lost;
-      any_clocks = λ fed. rw (count, watched, taken) (c.report.ensures.any_clocks fed taker.taken stands);
-      exact = λ fed. rw (count, watched, taken) (c.report.ensures.exact fed taker.taken stands);
-      of_starved = λ starved. rw (count, watched, taken) (c.report.ensures.starved starved taker.taken stands);
+      never_none = never_none checker taker.taken lost c.report-2.result stands lowest c.report-2.ensures.lost;
+      any_clocks = λ fed. rw (count, watched, taken) (c.report-2.ensures.any_clocks fed taker.taken stands);
+      exact = λ fed. rw (count, watched, taken) (c.report-2.ensures.exact fed taker.taken stands);
+      of_starved = λ starved. rw (count, watched, taken) (c.report-2.ensures.starved starved taker.taken stands);
     }

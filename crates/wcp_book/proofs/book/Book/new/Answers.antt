@@ -8,5 +8,5 @@ use Rattle.wcp_book.proofs.book.Book.new.Goals as goal
 pub returns : goal.returns
 returns c =
     ap (λ (shares : List (Option Tally)). let book : BookState =
-    record { shares = shares; found = None; ended = false } in book)
+    record { shares = shares; found = None; ended = None; in_use = false } in book)
     (take-replicate c.args.n 16 None c.requires.within)

@@ -1,4 +1,4 @@
-use Rattle.std.proofs.Common.{arith, Bool, ◌≡◌, ℕ, List, Option, take, set, slice_get, slice_index_or, Some, None, sym}
+use Rattle.std.proofs.Common.{arith, ◌≡◌, List, Option, take, set, slice_get, slice_index_or, Some, None, sym}
 use Rattle.std.proofs.Common.{◌∙◌, ap, refl, subst, All}
 use Rattle.std.proofs.lemmas.List.{length-take-le, length-set, get_or-take}
 use Rattle.std.proofs.lemmas.List.Elements.{All-set}
@@ -10,8 +10,8 @@ use Rattle.wcp_book.specs.Totals.{HasFewSnapshots}
 use Rattle.wcp_book.proofs.Posted.{posted_totals, few_totals, no_share}
 use Rattle.wcp_book.proofs.book.Book.post.Goals as goal
 
-abbrev book_of : List (Option Tally) → Option (List (Option ℕ)) → Bool → BookState
-book_of shares found ended = record { shares = shares; found = found; ended = ended }
+abbrev with_shares : BookState → List (Option Tally) → BookState
+with_shares book shares = record book { shares = shares }
 
 module _ (c : goal.After-self-2-1) where
   abbrev share : Tally
@@ -82,6 +82,10 @@ returns-clause-ok c =
 -- src/book.rt:68:5
 pub returns-clause-posted : goal.returns-clause-posted
 returns-clause-posted c =
-    ap (λ shares. book_of shares c.self.inside.found c.self.inside.ended) (replaced c)
-    ∙ ap
-    (λ (book : BookState). book_of (set book.shares c.args.p (Some (share c))) book.found book.ended) c.self.view_is
+    ap (with_shares (record {
+      shares = take c.self.inside.processes c.self.inside.shares;
+      found = c.self.inside.found;
+      ended = c.self.inside.ended;
+      in_use = c.self.inside.in_use;
+    })) (replaced c)
+    ∙ ap (λ (book : BookState). with_shares book (set book.shares c.args.p (Some (share c)))) c.self.view_is
