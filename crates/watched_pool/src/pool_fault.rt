@@ -12,7 +12,7 @@ pub enum PoolFault {
     /// Memory ran out before a thread was started, or as the answer was put together.
     #[error("memory")]
     Memory,
-    /// The plan of the watch has a fault, or isn't for this pool.
+    /// The watch was refused: its plan has a fault or isn't for this pool, or another watch that runs has its book.
     #[error("plan")]
     Plan,
     /// A thread couldn't be made; all parts were let go.
@@ -51,7 +51,7 @@ impl<T: Drop> From<AllocFailed<T>> for PoolFault {
 impl From<WatchFault> for PoolFault {
     fn from(fault: WatchFault) -> PoolFault {
         match fault {
-            WatchFault::Plan(_) | WatchFault::Count => PoolFault::Plan,
+            WatchFault::Plan(_) | WatchFault::Count | WatchFault::BookInUse => PoolFault::Plan,
             WatchFault::Memory => PoolFault::Memory,
             WatchFault::Spawn => PoolFault::Spawn,
             WatchFault::Lost { process, report } => PoolFault::Lost { process, report },

@@ -1,5 +1,5 @@
 -- What the ends of a watch of processes tell.
-use Rattle.std.proofs.Common.{◌≡◌, ◌≢◌, ◌<◌, ◌≤◌, ℕ, Bool, true, false, Option, Some, None, List, [], ◌∷◌, ◌++◌, length}
+use Rattle.std.proofs.Common.{◌≡◌, ◌<◌, ◌≤◌, ℕ, Bool, true, false, Option, Some, None, List, [], ◌∷◌, ◌++◌, length}
 use Rattle.std.proofs.Common.{map, slice_get, get_or, take, All, IfNone, IfSome, refl, sym, ap, subst, ◌∙◌, arith}
 use Rattle.std.specs.Prelude.{IsSome, IsSomeAnd, is_some}
 use Rattle.std.specs.List.{sum_by}
@@ -13,7 +13,6 @@ use Rattle.wcp_model.specs.PlanFault.{IsCheckedPlan}
 use Rattle.wcp_model.specs.ProbeLog.{Closed, setup, state_of_log}
 use Rattle.wcp_model.specs.Report.{IsDrained, notes_taken}
 use Rattle.wcp_model.specs.declared.outcome.Report.{Report}
-use Rattle.wcp_model.specs.declared.outcome.Report.TheVariants.{Nothing}
 use Rattle.wcp_model.specs.declared.outcome.Tally.{Tally}
 use Rattle.wcp_model.specs.declared.probe_setup.ProbeSetup.{ProbeSetup}
 use Rattle.wcp_book.specs.State.{BookState}
@@ -23,7 +22,9 @@ use Rattle.wcp_relay.specs.LiveProbe.{ClosedSide, IsEndOfProbe, LiveSide, snapsh
 use Rattle.wcp_relay.proofs.Entries.{All-at, mapped_at}
 use Rattle.wcp_relay.proofs.FreshProbes.{probes_fresh}
 use Rattle.wcp_watch.proofs.WatchEnds.{IsEndOfProcess, all_processes, come_from_parts, end_of_process}
+use Rattle.wcp_watch.specs.CheckerEnds.{AreAllEnded, IsLowestLost, first_fault}
 use Rattle.wcp_watch.specs.RunParts.{HaveEnded}
+use Rattle.wcp_watch.specs.declared.checker_end.CheckFault.TheVariants as check_fault
 use Rattle.wcp_watch.specs.Settling.{ComeFromWatch, IsEndOfSomeProbe, IsSettled}
 use Rattle.wcp_watch.specs.declared.running.Ends.{Ends}
 use Rattle.wcp_watch.specs.declared.running.Parts.{Parts}
@@ -48,12 +49,22 @@ some_of None holds = absurd holds
 pub lost_as : (told : WatchFault) {Holds More : ℕ → Report → Type 0}
     → ((p : ℕ) (report : Report) → Holds p report → More p report)
     → IfLost told Holds → IfLost told More
-lost_as (fault.Plan first) then lost = tt
+lost_as (fault.Plan refused) then lost = tt
 lost_as fault.Count then lost = tt
+lost_as fault.BookInUse then lost = tt
 lost_as fault.Memory then lost = tt
 lost_as fault.Spawn then lost = tt
 lost_as (fault.Lost process report) then lost = then process report lost
 lost_as (fault.Settle refused) then lost = tt
+
+-- the fault of a checker's loop is that a process was lost: it wasn't starved, nothing was cut, and it is that process
+of_lost : (starved : Bool) (cut : _) (lost : Option ℕ) (p : ℕ)
+    → first_fault starved cut lost ≡ Some (check_fault.Lost p)
+    → (starved ≡ false) × (cut ≡ None) × (lost ≡ Some p)
+of_lost true cut lost p is = absurd (cc)
+of_lost false (Some cut) lost p is = absurd (cc)
+of_lost false None (Some q) p is = (refl, refl, cc)
+of_lost false None None p is = absurd (cc)
 
 -- what holds of the probe that there is
 closed_of : {closed : Option ClosedSide} {probe : ClosedSide} (Holds : ClosedSide → Type 0) → closed ≡ Some probe
@@ -161,10 +172,18 @@ module _ {P A : Type 0} (Leaves : P → LiveSide → A → Type 0) (done : A →
         done_is = sym of.is_end.done_is ∙ closed;
       }
 
-  pub is_lost : (p : ℕ) (report : Report) → IsSomeAnd (slice_get ends.workers.items p) (λ end. end.probe ≡ None)
-      → All (λ end. IsSome end.probe) (take p ends.workers.items) → report ≢ Nothing
-      → IsLost Leaves done number plan processes p report
-  is_lost p report lost before some =
+  n_is : ends.checker.processes ≡ plan.n
+  n_is = all_processes are.wired (rw are.inbox at ended.checker)
+
+  watched_is : ends.checker.watched ≡ plan.watched
+  watched_is = ended.checker.same_watched ∙ are.watched
+
+  pub is_lost : (p : ℕ) → IsSomeAnd (slice_get ends.workers.items p) (λ end. end.probe ≡ None)
+      → All (λ end. IsSome end.probe) (take p ends.workers.items) → ends.checker.fault ≡ Some (check_fault.Lost p)
+      → IsLost Leaves done number plan processes p ends.checker.report
+  is_lost p lost before faulted =
+      let of = ended.checker in
+      let met = of_lost of.starved ends.checker.cut ends.checker.lost p (sym of.fault ∙ faulted) in
       let (end, at, none) = some_of (slice_get ends.workers.items p) lost in
       let within : p < plan.n = rw count at (slice_get_within ends.workers.items p end at) in
       let (process, process_at) = element_within processes p (omega (arith, within, processes_count)) in
@@ -177,7 +196,12 @@ module _ {P A : Type 0} (Leaves : P → LiveSide → A → Type 0) (done : A →
             let closed = All-at (λ (e : SeatEnd A). IsSome e.probe) (take p ends.workers.items) q one before
             (slice_get-take p ends.workers.items q below ∙ one_at) in
             answered_at q one other true one_at other_at closed;
-        some_report = some;
+        taken = ends.checker.receipt.taken;
+        ended = subst (λ n. AreAllEnded n ends.checker.receipt.taken) n_is (rw met.1 at of.ended);
+        lowest = subst (λ n. IsLowestLost n ends.checker.receipt.taken (Some p)) n_is (rw met.2 at of.lost);
+        any_clocks = rw (n_is, watched_is) at (of.any_clocks met.0);
+        exact = rw (n_is, watched_is) at (of.exact met.0);
+        some_report = rw met.2 at of.never_none;
       }
 
   abbrev IsOfWatch : ClosedSide → Type 0
@@ -245,12 +269,6 @@ module _ {P A : Type 0} (Leaves : P → LiveSide → A → Type 0) (done : A →
         (watched : WatchOutcome A)
         (totals : AreTotals book.shares watched.totals) (answers_are : watched.answers.items ≡ answers) (report_is :
         watched.outcome.report ≡ settled.report) (tallies_are : watched.outcome.tallies ≡ settled.tallies) where
-      n_is : ends.checker.processes ≡ plan.n
-      n_is = all_processes are.wired (rw are.inbox at ended.checker)
-
-      watched_is : ends.checker.watched ≡ plan.watched
-      watched_is = ended.checker.same_watched ∙ are.watched
-
       -- what was taken of a process are all notes of its probe
       taken_at : (p : ℕ) (end : SeatEnd A) (has : HasProbe p end)
           → notes_taken p ends.checker.receipt.taken ≡ has.probe.link.put

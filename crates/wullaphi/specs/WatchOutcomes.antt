@@ -4,13 +4,15 @@ use Rattle.std.specs.List.{sum_by}
 use Rattle.wcp_clock.specs.declared.note.Item.{Item}
 use Rattle.wcp_clock.specs.declared.note.Note.{Note}
 use Rattle.wcp_model.specs.ProbeLog.{setup}
-use Rattle.wcp_model.specs.Report.{IsDrained, IsReportByClocks, notes_taken}
+use Rattle.wcp_model.specs.Report.{ClocksRise, IsDrained, IsReportByClocks, notes_taken}
 use Rattle.wcp_model.specs.declared.plan.Plan.{Plan}
 use Rattle.wcp_model.specs.declared.outcome.Report.{Report}
 use Rattle.wcp_model.specs.declared.outcome.Report.TheVariants.{Nothing}
 use Rattle.wcp_model.specs.declared.outcome.Tally.{Tally}
 use Rattle.wcp_model.specs.declared.probe_setup.ProbeSetup.{ProbeSetup}
+use Rattle.wcp_queue.specs.Checker.{IsReportOfAnyClocks}
 use Rattle.wcp_relay.specs.LiveProbe.{LiveSide, snapshots_in}
+use Rattle.wcp_watch.specs.CheckerEnds.{AreAllEnded, IsLowestLost}
 use Rattle.wullaphi.specs.Lent.{HasLeft, HasRun}
 use Rattle.wullaphi.specs.declared.watch_outcome.WatchOutcome.{WatchOutcome}
 
@@ -44,7 +46,9 @@ pub record HasAnswered {P A : Type 0} (Leaves : P → LiveSide → A → Type 0)
   pub done_is : done answer ≡ is_done
 
 -- Process p is the lowest of these processes that was lost in the watch of this number: by its answer its part isn't
--- done, and that of each process before it is. The report isn't that there is no cut.
+-- done, and that of each process before it is. There are the items that the checker took, of each process up to its
+-- close mark or the mark that it was lost: p is the lowest that was lost by these too, and the report is that of these,
+-- but not that there is no cut.
 pub record IsLost {P A : Type 0} (Leaves : P → LiveSide → A → Type 0) (done : A → Bool) (number : ℕ) (plan : Plan)
     (processes : List P) (p : ℕ) (report : Report) : Type 0 where
   pub process : P
@@ -52,4 +56,9 @@ pub record IsLost {P A : Type 0} (Leaves : P → LiveSide → A → Type 0) (don
   pub lost : HasAnswered Leaves done number (setup plan.n plan.watched plan.flag p) process false
   pub before : (q : ℕ) (other : P) → q < p → slice_get processes q ≡ Some other
       → HasAnswered Leaves done number (setup plan.n plan.watched plan.flag q) other true
+  pub taken : List Item
+  pub ended : AreAllEnded plan.n taken
+  pub lowest : IsLowestLost plan.n taken (Some p)
+  pub any_clocks : IsReportOfAnyClocks plan.n plan.watched taken report
+  pub exact : ClocksRise plan.n taken → IsReportByClocks plan.n plan.watched taken report
   pub some_report : report ≢ Nothing

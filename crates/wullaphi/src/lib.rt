@@ -10,10 +10,12 @@
 //! call: the call of a live probe, where nothing is ever pending. A lent probe can't be dropped or closed by who has
 //! it. Where an impl of `Process` says how its probe stands as it answers, the answer says it too. A `LosableProcess`
 //! says which answers mean that its part is done: then its probe is closed, and else it is dropped. Where the watch
-//! answers, all are done; where it answers that a process was lost, that is the lowest whose answer says that it isn't
-//! done, and the report isn't that there is no cut. That the report is what the checker took no clause says. What its
-//! threads did beside their probes no clause says, nor what `wait_for_cut` is told: tests show that, and that the book
-//! has ended.
+//! answers, all are done. Where it answers that a process was lost, that is the lowest whose answer says that it isn't
+//! done; there are the items that the checker took, by which it is the lowest too, of each process up to its close mark
+//! or the mark that it was lost, and the report is that of these, and never that there is no cut. That these are what
+//! the processes had put no clause says. What its threads did beside their probes no clause says, nor what becomes of
+//! the book, which is under a lock: each call of `Book` says what it tells whoever waits, and tests show that the watch
+//! makes these calls.
 //!
 //! `Watch::open` is for who runs the threads: a plan's fault is answered exactly where it applies, and `parts` hands
 //! out just the probes and relays of the tree that was opened. The types of the parts, and of what each leaves as it
@@ -29,6 +31,7 @@ mod opening;
 mod own_ends;
 mod own_parts;
 mod process;
+mod refused_plan;
 mod seat;
 mod waiting;
 mod watch_fault;
@@ -40,11 +43,12 @@ pub use opening::{Opening, Watch, WatchParts};
 pub use own_ends::{WatchCheckerEnd, WatchEnds, WatchProbeEnd, WatchRelayEnd};
 pub use own_parts::{WatchChecker, WatchProbe, WatchRelay};
 pub use process::{LosableProcess, Process};
+pub use refused_plan::RefusedPlan;
 pub use waiting::wait_for_cut;
 pub use watch_fault::WatchFault;
 pub use watch_outcome::WatchOutcome;
 pub use watching::watch_processes;
-pub use wcp_book::Book;
+pub use wcp_book::{Book, CutAnswer};
 pub use wcp_model::{
     Flag, GlobalCut, Outcome, Parent, Plan, PlanFault, Report, Tallies, Tally, Watched, plain_plan,
 };

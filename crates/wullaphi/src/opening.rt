@@ -1,12 +1,13 @@
 //! A watch whose threads are yours to run: it is opened, and its parts are handed out.
 ghost use Rattle.std.specs.Prelude.{◌≡◌, ◌↔◌, false, map, replicate, All, Err, IfErr, IfOk, None, Some};
-ghost use Rattle.wcp_model.specs.PlanFault.{IsCheckedPlan, IsFirstFault};
-ghost use Rattle.wcp_model.specs.declared.plan.PlanFault.{PlanFault};
+ghost use Rattle.wcp_model.specs.PlanFault.{IsCheckedPlan};
 ghost use Rattle.wullaphi.specs.Opened.{HasOpened, IsProbeOf, IsRelayOf, no_ends};
-ghost use Rattle.wullaphi.specs.Refused.{IsOfOpening};
+ghost use Rattle.wullaphi.specs.Refused.{IsOfOpening, IsRefusalOf};
+ghost use Rattle.wullaphi.specs.declared.refused_plan.RefusedPlan.{RefusedPlan};
 
 use crate::own_ends::WatchEnds;
 use crate::own_parts::{WatchChecker, WatchProbe, WatchRelay};
+use crate::refused_plan::check_plan;
 use crate::watch_fault::WatchFault;
 use std::alloc::{AllocError, Global};
 use std::marker::{Brand, Model};
@@ -73,18 +74,20 @@ impl Watch {
     pub fn open(alloc: Global, plan: &Plan, number: u64) -> Result<Watch, WatchFault>
         ensures plan { IfOk result (λ watch. watch.plan ≡ plan.now) }
         ensures number { IfOk result (λ watch. watch.tree.inbox.watch ≡ number) }
-        ensures first { (first : PlanFault) → (result ≡ Err (WatchFault.Plan first)) ↔ IsFirstFault plan.now first }
+        ensures refused { (refused : RefusedPlan)
+            → (result ≡ Err (WatchFault.Plan refused)) ↔ IsRefusalOf plan.now refused }
         ensures fault { IfErr result IsOfOpening }
     {
-        if let Err(fault) = plan.check() {
-            return Err(WatchFault::Plan(fault));
+        if let Err(refused) = check_plan(plan) {
+            return Err(WatchFault::Plan(refused));
         }
         open_checked(alloc, plan, number)
     }
 
     /// A book for this watch, in which nothing is posted or told.
     pub fn book(&self) -> Book
-        ensures { result ≡ record { shares = replicate self.now.plan.n None; found = None; ended = false } }
+        ensures { result
+            ≡ record { shares = replicate self.now.plan.n None; found = None; ended = None; in_use = false } }
     {
         Book::new(self.processes)
     }

@@ -1,10 +1,10 @@
 use std::alloc::{AllocError, Global};
 use std::sync::{Mutex, Wait};
-use wcp_book::Book;
-use wcp_model::GlobalCut;
+use wcp_book::{Book, CutAnswer};
 
-/// The cut of a watch that is given this book, as soon as it is found, or none once the watch has ended without one.
-/// The thread sleeps until then. `Err` where memory runs out.
+/// What a watch that is given this book tells of its cut: that it was found, as soon as it is, and once the watch has
+/// ended, that there is none, that it isn't known, or that the watch hasn't run. The thread sleeps until then. `Err`
+/// where memory runs out.
 ///
 /// Where the watch hasn't begun the book, this waits for it. A book that was used before still tells of the watch that
 /// has ended: who waits for the next one, and may be earlier than it, begins the book before (`Book::begin`).
@@ -14,7 +14,7 @@ pub fn wait_for_cut<R: Wait>(
     rt: &R,
     alloc: Global,
     book: &Mutex<Book>,
-) -> Result<Option<GlobalCut>, AllocError> {
+) -> Result<CutAnswer, AllocError> {
     let news = book.lock(rt).news(alloc)?;
     Ok(news.wait(rt))
 }

@@ -1,17 +1,21 @@
+use crate::refused_plan::RefusedPlan;
 use std::alloc::{AllocError, AllocFailed};
 use thiserror::Error;
-use wcp_model::{PlanFault, Report};
+use wcp_model::Report;
 use wcp_watch::{SettleFault, StartFault};
 
-/// Why a watch tells nothing. With `Plan`, `Count` and `Spawn` no process has run.
+/// Why a watch tells nothing. With `Plan`, `Count`, `BookInUse` and `Spawn` no process has run.
 #[derive(Clone, Copy, Debug, PartialEq, Eq, Error)]
 pub enum WatchFault {
-    /// The plan has this fault.
+    /// The plan has a fault.
     #[error("plan: {0}")]
-    Plan(PlanFault),
+    Plan(RefusedPlan),
     /// There are more or fewer processes than the plan says.
     #[error("not as many processes as the plan says")]
     Count,
+    /// Another watch that runs has the book.
+    #[error("another watch that runs has the book")]
+    BookInUse,
     /// Memory ran out, before a process ran, as the checker took a snapshot, or as the answers were put together.
     #[error("memory")]
     Memory,
@@ -23,7 +27,7 @@ pub enum WatchFault {
     Lost {
         /// The lowest process that was lost.
         process: u32,
-        /// What the snapshots that the checker took tell: a cut, or that it isn't known whether there is one.
+        /// What the snapshots that the checker took tell: their cut, or that it isn't known whether there is one.
         report: Report,
     },
     /// What the watch left doesn't prove its report.

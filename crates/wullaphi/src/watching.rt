@@ -1,15 +1,16 @@
 //! A whole watch: opened, run, closed, joined and settled.
-ghost use Rattle.std.specs.Prelude.{◌≡◌, ◌≢◌, ◌<◌, ◌≤◌, ◌↔◌, length, true, All, Err, IfErr, IfOk};
+ghost use Rattle.std.specs.Prelude.{◌≡◌, ◌≢◌, ◌<◌, ◌≤◌, ◌↔◌, length, true, All, Err, IfErr, IfOk, Some};
 ghost use Rattle.wcp_clock.specs.Limits.{most_processes};
-ghost use Rattle.wcp_model.specs.PlanFault.{IsCheckedPlan, IsFirstFault};
-ghost use Rattle.wcp_model.specs.declared.plan.PlanFault.{PlanFault};
-ghost use Rattle.wcp_model.specs.declared.outcome.Report.TheVariants.{Nothing};
-ghost use Rattle.wullaphi.specs.Refused.{IfLost, IsOfRun};
+ghost use Rattle.wcp_model.specs.PlanFault.{IsCheckedPlan};
+ghost use Rattle.wcp_watch.specs.declared.checker_end.CheckFault.TheVariants as check_fault;
+ghost use Rattle.wullaphi.specs.Refused.{IfLost, IsOfRun, IsRefusalOf};
+ghost use Rattle.wullaphi.specs.declared.refused_plan.RefusedPlan.{RefusedPlan};
 ghost use Rattle.wcp_watch.specs.RunParts.{AreReady};
 ghost use Rattle.wullaphi.specs.Seats.{ArePartsOf, IsNewSeat};
 ghost use Rattle.wullaphi.specs.WatchOutcomes.{IsLost, IsWatchOutcome};
 
 use crate::process::LosableProcess;
+use crate::refused_plan::check_plan;
 use crate::seat::{Seat, first_lost, seat_all, take_apart};
 use crate::watch_fault::WatchFault;
 use crate::watch_outcome::WatchOutcome;
@@ -17,10 +18,10 @@ use std::alloc::{AllocError, Global};
 use std::sync::{Mutex, Wait};
 use std::thread::Threads;
 use wcp_book::Book;
-use wcp_model::{Outcome, Plan, Report};
+use wcp_model::{Outcome, Plan};
 use wcp_queue::Checker;
 use wcp_tree::{Watch, watch};
-use wcp_watch::{CheckFault, Checking, Ends, Parts, SettleFault, run_parts, settle};
+use wcp_watch::{CheckFault, CheckerEnd, Checking, Ends, Parts, SettleFault, run_parts, settle};
 
 /// Watches these processes, of which there are as many as the plan says: each runs in a thread of its own with the
 /// probe of its number, beside a thread for each relay and one for the checker. All are started or none, and all have
@@ -29,10 +30,11 @@ use wcp_watch::{CheckFault, Checking, Ends, Parts, SettleFault, run_parts, settl
 /// A process may be lost, if it is a `LosableProcess`: the others are watched to their end, and the answer tells the
 /// lowest process that was lost, and what the checker came to by all that it took.
 ///
-/// The book is begun anew. While the watch runs any thread may read in it: the totals, and the cut, as soon as the
-/// checker finds it, which is then the report's. So a process may go on until it reads it, and end then. Whoever waits
-/// for the cut (`wait_for_cut`) is told it then. The book ends once the checker has taken all, and in any case,
-/// whatever the answer, before this returns.
+/// The book is begun anew, and is in use until this returns: another watch that is given it meanwhile is refused. While
+/// the watch runs any thread may read in it: the totals, and the cut, as soon as the checker finds it, which is then
+/// the report's. So a process may go on until it reads it, and end then. Whoever waits for the cut (`wait_for_cut`) is
+/// told it then. The book ends once the checker has taken all, with what it came to; where no process has run it ends
+/// with that before this returns. Only a book that another watch has is left as it is.
 pub fn watch_processes<
     S: Sync,
     A: Send + Drop + 'static,
@@ -48,19 +50,26 @@ pub fn watch_processes<
     book: &Mutex<Book>,
 ) -> Result<WatchOutcome<A>, WatchFault>
     ensures watched { IfOk result (IsWatchOutcome P.leaves number plan.now processes.items) }
-    ensures plan { (first : PlanFault) → (result ≡ Err (WatchFault.Plan first)) ↔ IsFirstFault plan.now first }
+    ensures plan { (refused : RefusedPlan)
+        → (result ≡ Err (WatchFault.Plan refused)) ↔ IsRefusalOf plan.now refused }
     ensures count { (result ≡ Err WatchFault.Count)
         ↔ (IsCheckedPlan plan.now × (length processes.items ≢ plan.now.n)) }
     ensures done { IfOk result (λ told. All (λ answer. P.done answer ≡ true) told.answers.items) }
     ensures lost { IfErr result (λ fault. IfLost fault (IsLost P.leaves P.done number plan.now processes.items)) }
 {
-    let told = watch_checked(rt, alloc, plan, number, processes, shared, book);
-    book.lock(rt).end();
-    told
+    if let Err(refused) = check_plan(plan) {
+        book.lock(rt).refuse();
+        return Err(WatchFault::Plan(refused));
+    }
+    if processes.len() != plan.n as usize {
+        book.lock(rt).refuse();
+        return Err(WatchFault::Count);
+    }
+    watch_claimed(rt, alloc, plan, number, processes, shared, book)
 }
 
-/// Watches these processes, if the plan has no fault and there are as many as it says.
-fn watch_checked<
+/// Watches as many processes as this plan says, unless another watch that runs has the book.
+fn watch_claimed<
     S: Sync,
     A: Send + Drop + 'static,
     P: LosableProcess<Shared = S, Answer = A> + Send + Drop + 'static,
@@ -74,23 +83,22 @@ fn watch_checked<
     shared: &S,
     book: &Mutex<Book>,
 ) -> Result<WatchOutcome<A>, WatchFault>
+    requires checked { IsCheckedPlan plan.now }
+    requires count { length processes.items ≡ plan.now.n }
     ensures watched { IfOk result (IsWatchOutcome P.leaves number plan.now processes.items) }
-    ensures plan { (first : PlanFault) → (result ≡ Err (WatchFault.Plan first)) ↔ IsFirstFault plan.now first }
-    ensures count { (result ≡ Err WatchFault.Count)
-        ↔ (IsCheckedPlan plan.now × (length processes.items ≢ plan.now.n)) }
+    ensures fault { IfErr result IsOfRun }
     ensures done { IfOk result (λ told. All (λ answer. P.done answer ≡ true) told.answers.items) }
     ensures lost { IfErr result (λ fault. IfLost fault (IsLost P.leaves P.done number plan.now processes.items)) }
 {
-    if let Err(fault) = plan.check() {
-        return Err(WatchFault::Plan(fault));
+    if !claim(rt, book, plan.n) {
+        return Err(WatchFault::BookInUse);
     }
-    if processes.len() != plan.n as usize {
-        return Err(WatchFault::Count);
-    }
-    watch_planned(rt, alloc, plan, number, processes, shared, book)
+    let told = watch_planned(rt, alloc, plan, number, processes, shared, book);
+    book.lock(rt).release();
+    told
 }
 
-/// Watches as many processes as this plan says.
+/// Watches as many processes as this plan says, over a book that was claimed for it.
 fn watch_planned<
     S: Sync,
     A: Send + Drop + 'static,
@@ -113,7 +121,6 @@ fn watch_planned<
     ensures lost { IfErr result (λ fault. IfLost fault (IsLost P.leaves P.done number plan.now processes.items)) }
 {
     let parts = open_parts(alloc, plan, number, processes)?;
-    begin_anew(rt, book, plan.n);
     let Ends {
         workers,
         relays,
@@ -123,7 +130,7 @@ fn watch_planned<
         return Err(WatchFault::Memory);
     }
     if let Some(process) = first_lost(&workers) {
-        return Err(fault_of_lost(process, checker.report()));
+        return Err(fault_of_lost(process, &checker));
     }
     let (probes, answers) = take_apart(alloc, workers)?;
     let posted = book.lock(rt).copied();
@@ -139,16 +146,22 @@ fn watch_planned<
     })
 }
 
-/// Why a watch tells nothing where this process was lost, and the checker came to this report. That there is no cut is
-/// never the report of one that took the mark of a lost process: it is that of a checker with a fault.
-fn fault_of_lost(process: u32, report: Report) -> WatchFault
+/// Why a watch tells nothing where this process was lost: that, with the report of a checker which took it to be the
+/// lowest that was lost. Nothing is told of another checker, which has a fault of its own.
+fn fault_of_lost(process: u32, checker: &CheckerEnd) -> WatchFault
     ensures fault { IsOfRun result }
-    ensures some { report ≢ Nothing → result ≡ WatchFault.Lost process report }
-    ensures lost { IfLost result (λ told tells. (told ≡ process) × (tells ≢ Nothing)) }
+    ensures told { checker.now.fault ≡ Some (check_fault.Lost process)
+        → result ≡ WatchFault.Lost process checker.now.report }
+    ensures lost { IfLost result (λ told report. (told ≡ process) × (report ≡ checker.now.report)
+        × (checker.now.fault ≡ Some (check_fault.Lost process))) }
 {
-    match report {
-        Report::Nothing => WatchFault::Settle(SettleFault::Faulted),
-        report => WatchFault::Lost { process, report },
+    if checker.fault() == Some(CheckFault::Lost(process)) {
+        WatchFault::Lost {
+            process,
+            report: checker.report(),
+        }
+    } else {
+        WatchFault::Settle(SettleFault::Faulted)
     }
 }
 
@@ -178,10 +191,10 @@ fn open_parts<P: Drop>(
     })
 }
 
-/// Begins this book anew, for so many processes. Those who wait for its news go on waiting.
-fn begin_anew<R: Wait>(rt: &R, book: &Mutex<Book>, n: u32)
+/// Claims this book for a watch of so many processes. `false` where another that runs has it.
+fn claim<R: Wait>(rt: &R, book: &Mutex<Book>, n: u32) -> bool
     requires some { 0 < n }
     requires within { n ≤ most_processes }
 {
-    book.lock(rt).begin(n);
+    book.lock(rt).claim(n)
 }

@@ -1,11 +1,12 @@
 //! Threads that sleep until the cut of a watch is told, or the watch has ended.
+use super::lost::Member as Lost;
 use std::alloc::{AllocError, Global};
 use std::process::Abort;
-use std::sync::{Mutex, Wait};
+use std::sync::{Mutex, OnceLock, Wait};
 use std::thread::{Threads, join};
 use wullaphi::{
-    Book, GlobalCut, LentProbe, Loan, Plan, Process, Report, WatchFault, WatchOutcome, plain_plan,
-    wait_for_cut, watch_processes,
+    Book, CutAnswer, GlobalCut, LentProbe, Loan, Plan, PlanFault, Process, RefusedPlan, Report,
+    Watch, WatchFault, WatchOutcome, plain_plan, wait_for_cut, watch_processes,
 };
 
 /// A process of a watch whose cut is waited for.
@@ -32,25 +33,24 @@ impl Process for Member {
             return None;
         };
         probe.observe(rt, true);
-        cut_of(rt, alloc, book).unwrap_or(None)
+        match answer_of(rt, alloc, book) {
+            Ok(CutAnswer::Found(cut)) => Some(cut),
+            _ => None,
+        }
     }
 }
 
 /// Waits for the cut. Where memory runs out, asking again does it.
-fn cut_of<R: Wait>(
-    rt: &R,
-    alloc: Global,
-    book: &Mutex<Book>,
-) -> Result<Option<GlobalCut>, AllocError> {
+fn answer_of<R: Wait>(rt: &R, alloc: Global, book: &Mutex<Book>) -> Result<CutAnswer, AllocError> {
     match wait_for_cut(rt, alloc, book) {
         Err(AllocError) => wait_for_cut(rt, alloc, book),
         told => told,
     }
 }
 
-/// Waits for the cut, and compares it.
-fn assert_cut<R: Wait + Abort>(rt: &R, alloc: Global, book: &Mutex<Book>, cut: Option<GlobalCut>) {
-    assert_eq!(rt; cut_of(rt, alloc, book), Ok(cut));
+/// Waits for the cut, and compares what is told.
+fn assert_answer<R: Wait + Abort>(rt: &R, alloc: Global, book: &Mutex<Book>, answer: CutAnswer) {
+    assert_eq!(rt; answer_of(rt, alloc, book), Ok(answer));
 }
 
 /// A plan of two processes.
@@ -58,17 +58,17 @@ fn two(rt: &impl Abort, alloc: Global) -> Plan {
     plain_plan(alloc, 2, 8, 4).expect(rt, "memory")
 }
 
-/// Watches so many of this member as two processes.
+/// Watches so many of this member by this plan.
 fn watch<R: Threads + Wait + Sync + Abort>(
     rt: &R,
     alloc: Global,
+    plan: &Plan,
     member: Member,
     count: usize,
     book: &Mutex<Book>,
 ) -> Result<WatchOutcome<Option<GlobalCut>>, WatchFault> {
-    let plan = two(rt, alloc);
     let members = vec![in alloc; member; count].expect(rt, "memory");
-    watch_processes(rt, alloc, &plan, 1, members, book, book)
+    watch_processes(rt, alloc, plan, 1, members, book, book)
 }
 
 /// Watches two of this member, and beside them waits for the cut in a thread of its own. What the members answer and
@@ -80,10 +80,12 @@ fn assert_told<R: Threads + Wait + Sync + Abort>(
     book: &Mutex<Book>,
     cut: Option<GlobalCut>,
 ) {
-    let (watched, ()) = join(
+    let plan = two(rt, alloc);
+    let answer = cut.map_or(CutAnswer::Nothing, CutAnswer::Found);
+    let ((), watched) = join(
         rt,
-        || watch(rt, alloc, member, 2, book).expect(rt, "a watch"),
-        || assert_cut(rt, alloc, book, cut),
+        || assert_answer(rt, alloc, book, answer),
+        || watch(rt, alloc, &plan, member, 2, book).expect(rt, "a watch"),
     );
     assert_eq!(rt;
         watched.outcome.report,
@@ -115,8 +117,8 @@ fn processes_and_another_thread_learn_of_the_cut(rt: HostRuntime) {
 fn a_watch_over_the_same_book_is_waited_for_anew(rt: HostRuntime) {
     let book = Mutex::new(Book::new(2));
     assert_told(&rt, rt.alloc(), Member::Idle, &book, None);
-    assert_cut(&rt, rt.alloc(), &book, None);
-    book.lock(&rt).begin(2);
+    assert_answer(&rt, rt.alloc(), &book, CutAnswer::Nothing);
+    assert!(rt; book.lock(&rt).begin(2));
     assert_told(
         &rt,
         rt.alloc(),
@@ -126,12 +128,136 @@ fn a_watch_over_the_same_book_is_waited_for_anew(rt: HostRuntime) {
     );
 }
 
-/// A plan of two processes, with one process.
-#[test]
-fn a_watch_that_does_not_begin_ends_the_book(rt: HostRuntime) {
+/// Watches so many idle members by this plan, over a book that has told of a cut: the watch has this fault, and whoever
+/// waits is told that it hasn't run.
+fn assert_not_run<R: Threads + Wait + Sync + Abort>(
+    rt: &R,
+    alloc: Global,
+    plan: &Plan,
+    count: usize,
+    fault: WatchFault,
+) {
     let book = Mutex::new(Book::new(2));
-    let refused = watch(&rt, rt.alloc(), Member::Idle, 1, &book);
-    assert_eq!(rt; refused.err(), Some(WatchFault::Count));
-    assert!(rt; book.lock(&rt).has_ended());
-    assert_cut(&rt, rt.alloc(), &book, None);
+    book.lock(rt).tell(first_cut());
+    let refused = watch(rt, alloc, plan, Member::Idle, count, &book);
+    assert_eq!(rt; refused.err(), Some(fault));
+    assert!(rt; book.lock(rt).has_ended());
+    assert_answer(rt, alloc, &book, CutAnswer::NotRun);
+}
+
+#[test]
+fn a_watch_that_does_not_begin_has_not_run(rt: HostRuntime) {
+    let plan = two(&rt, rt.alloc());
+    assert_not_run(&rt, rt.alloc(), &plan, 1, WatchFault::Count);
+    let refused = RefusedPlan {
+        fault: PlanFault::Cap,
+        n: 2,
+        cap: 0,
+        hold: 4,
+    };
+    let plan = plain_plan(rt.alloc(), 2, 0, 4).expect(&rt, "memory");
+    assert_not_run(&rt, rt.alloc(), &plan, 2, WatchFault::Plan(refused));
+}
+
+/// A process that is lost leaves it open whether there is a cut.
+#[test]
+fn a_watch_that_is_undecided_is_told_so(rt: HostRuntime) {
+    let plan = two(&rt, rt.alloc());
+    let book = Mutex::new(Book::new(2));
+    let members = vec![in rt.alloc(); Lost::Whole, Lost::Absent].expect(&rt, "memory");
+    let watched = watch_processes(&rt, rt.alloc(), &plan, 1, members, &(), &book);
+    let lost = WatchFault::Lost {
+        process: 1,
+        report: Report::Undecided,
+    };
+    assert_eq!(rt; watched.err(), Some(lost));
+    assert_answer(&rt, rt.alloc(), &book, CutAnswer::Undecided);
+}
+
+/// What a process writes as it runs, and waits for before it ends.
+#[derive(Drop)]
+struct Gates {
+    runs: OnceLock<()>,
+    let_go: OnceLock<()>,
+}
+
+/// A process that says that it runs, and goes on until it is let go.
+#[derive(Clone, Copy)]
+struct Held;
+
+impl Process for Held {
+    type Shared = Gates;
+
+    type Answer = ();
+
+    fn run<L: Loan, R: Wait>(self, rt: &R, probe: &mut LentProbe<L>, gates: &Gates) {
+        let _ = gates.runs.try_set(());
+        let () = *gates.let_go.wait(rt);
+        probe.observe(rt, true);
+    }
+}
+
+/// Watches such a process with this book.
+fn watch_held<R: Threads + Wait + Sync + Abort>(
+    rt: &R,
+    alloc: Global,
+    gates: &Gates,
+    book: &Mutex<Book>,
+) -> Result<Report, WatchFault> {
+    let plan = plain_plan(alloc, 1, 8, 4).expect(rt, "memory");
+    let held = vec![in alloc; Held].expect(rt, "memory");
+    let watched = watch_processes(rt, alloc, &plan, 1, held, gates, book)?;
+    Ok(watched.outcome.report)
+}
+
+/// Once the process runs, gives its book to another watch, and then lets the process go. What that watch told, and
+/// whether the book was still in use.
+fn intrude<R: Threads + Wait + Sync + Abort>(
+    rt: &R,
+    alloc: Global,
+    gates: &Gates,
+    book: &Mutex<Book>,
+) -> (Option<WatchFault>, bool) {
+    let () = *gates.runs.wait(rt);
+    let refused = watch(rt, alloc, &two(rt, alloc), Member::Idle, 2, book);
+    let in_use = book.lock(rt).is_in_use();
+    let _ = gates.let_go.try_set(());
+    (refused.err(), in_use)
+}
+
+#[test]
+fn a_book_that_a_running_watch_has_is_refused(rt: HostRuntime) {
+    let alloc = rt.alloc();
+    let book = Mutex::new(Book::new(1));
+    let gates = Gates {
+        runs: OnceLock::new(),
+        let_go: OnceLock::new(),
+    };
+    let (watched, (refused, in_use)) = join(
+        &rt,
+        || watch_held(&rt, alloc, &gates, &book),
+        || intrude(&rt, alloc, &gates, &book),
+    );
+    let cut = GlobalCut::new(&[Some(0)]);
+    assert_eq!(rt; watched, Ok(Report::Found(cut)));
+    assert_eq!(rt; (refused, in_use), (Some(WatchFault::BookInUse), true));
+    assert_answer(&rt, alloc, &book, CutAnswer::Found(cut));
+    assert!(rt; !book.lock(&rt).is_in_use());
+}
+
+/// What is printed of a plan of so many processes, with this capacity and this hold.
+fn assert_line(rt: &(impl Abort + AllocGlobal), n: u32, cap: u32, hold: u32, line: &str) {
+    let plan = plain_plan(rt.alloc(), n, cap, hold).expect(rt, "memory");
+    let refused = Watch::open(rt.alloc(), &plan, 1)
+        .err()
+        .expect(rt, "a fault");
+    let told = format!(in rt.alloc(); "{refused}").expect(rt, "memory");
+    assert_eq!(rt; told.as_str(), line);
+}
+
+#[test]
+fn a_refused_plan_names_the_number_and_its_limits(rt: HostRuntime) {
+    assert_line(&rt, 17, 8, 4, "plan: n 17 is not in 1 to 16");
+    assert_line(&rt, 2, 0, 4, "plan: cap 0 is not in 1 to 1,024");
+    assert_line(&rt, 2, 8, 65, "plan: hold 65 is not in 1 to 64");
 }

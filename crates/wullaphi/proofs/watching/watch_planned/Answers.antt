@@ -1,14 +1,6 @@
-use Rattle.std.proofs.Common.{refl, sym, subst}
-use Rattle.wcp_model.proofs.CheckedPlans.{few_processes, some_process}
+use Rattle.std.proofs.Common.{refl}
 use Rattle.wullaphi.proofs.Ends.{all_done, come, few_ends, is_lost, is_watched, lost_as}
-use Rattle.wullaphi.specs.WatchOutcomes.{IsLost}
 use Rattle.wullaphi.proofs.watching.watch_planned.Goals as goal
-
-pub begin_anew-requires-clause-some : goal.begin_anew-requires-clause-some
-begin_anew-requires-clause-some g c = some_process c.args.plan.now c.requires.checked
-
-pub begin_anew-requires-clause-within : goal.begin_anew-requires-clause-within
-begin_anew-requires-clause-within g c = few_processes c.args.plan.now c.requires.checked
 
 pub first_lost-requires : goal.first_lost-requires
 first_lost-requires g c = record {
@@ -27,12 +19,10 @@ returns-in-Some-clause-lost g c =
     c.in_ok-parts.ensures.parts
     c.in_ok-workers.ensures
     c.in-Some.process
-    report
     (rw c.deref.ensures.value at c.in-Some.ensures.lost)
     (rw c.deref.ensures.value at c.in-Some.ensures.before)
-    is.1 in
-    subst (λ q. IsLost g.P.LosableProcess.leaves g.P.LosableProcess.done c.args.number c.args.plan.now
-    c.args.processes.items q report) (sym is.0) lost)
+    is.2 in
+    rw (is.0, is.1) lost)
     c.fault_of_lost.ensures.lost
 
 pub take_apart-requires : goal.take_apart-requires

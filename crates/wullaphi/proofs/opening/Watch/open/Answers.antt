@@ -2,11 +2,11 @@ use Rattle.std.proofs.Common.{◌≡◌, Err, ap}
 use Rattle.wullaphi.specs.declared.watch_fault.WatchFault.TheVariants as fault
 use Rattle.wullaphi.proofs.opening.Watch.open.Goals as goal
 
-pub returns-in-Err-clause-first : goal.returns-in-Err-clause-first
-returns-in-Err-clause-first c = λ first. (
-  (λ same. (c.in-Err.ensures.err first).0 (cc)),
+pub returns-in-Err-clause-refused : goal.returns-in-Err-clause-refused
+returns-in-Err-clause-refused c = λ refused. (
+  (λ same. (c.in-Err.ensures.err refused).0 (cc)),
   (λ is.
-      let met = (c.in-Err.ensures.err first).1 is in
-      let fault_is : c.in-Err.fault ≡ first = cc in
-      ap (λ f. Err (fault.Plan f)) fault_is),
+      let met = (c.in-Err.ensures.err refused).1 is in
+      let refused_is : c.in-Err.refused ≡ refused = cc in
+      ap (λ f. Err (fault.Plan f)) refused_is),
 )
