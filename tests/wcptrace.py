@@ -200,6 +200,9 @@ UNKNOWN = [
     ["a=x"],
     ["--while", "a=x", "b=x"],
     ["help", "me"],
+    ["--progress=yes"],
+    ["--progress", "--progress"],
+    ["--while", "--progress"],
 ]
 
 # Words that it knows, and that say no conditions.
@@ -291,9 +294,41 @@ ASKED = [
     Row(["--while", "a=x", "--form", "lines"], '{"host":"a","clock":{"a":1},"event":"x"}\n', found("a line 1 x")),
     Row(["--form", "shiviz", "--at", "a=x"], 'a {"a":1}\nx\n', found("a line 2 x")),
     Row(["--form=shiviz-reversed", "--at", "a=x"], 'x\na {"a":1}\n', found("a line 1 x")),
+    # Nothing is told in the first minute.
+    Row(["--progress", "--at", "a=x"], 'a {"a":1}\nx\n', found("a line 2 x")),
+    Row(["--at", "a=x", "--progress"], 'a {"a":1}\nx\n', found("a line 2 x")),
 ]
 
 VERSION = "wcptrace 0.1.0\nrattle-kit-13f logic dac8208d650f15bf\n"
+
+# What is said, once, where a text that is matched against a condition ends in CR.
+CR_NOTE = (
+    "wcptrace: a text ends in CR, as where lines end in CR LF: an expression that ends in $ doesn't match there; "
+    "write \\r?$\n"
+)
+
+
+def noted(answer):
+    """This answer, with the line on texts that end in CR before what else is said."""
+    return Answer(answer.status, answer.output, CR_NOTE + answer.errors)
+
+
+# Logs whose lines end in CR LF.
+WITH_CR = [
+    Row(
+        ["--while", "a=x$"],
+        'a {"a":1}\r\nx\r\na {"a":2}\r\nx\r\n',
+        noted(none("a events 2 matched 0")),
+    ),
+    Row(["--while", "a=x\\r?$"], 'a {"a":1}\r\nx\r\n', noted(found("a line 2 x\r"))),
+    Row(["--from", "a=x", "--until", "a=y$"], 'a {"a":1}\r\nx\r\n', noted(found("a line 2 x\r"))),
+    Row(["--at", "a=x", "--at", "b=x"], 'a {"a":1}\nx\r\n', noted(fault("nohost b"))),
+    # The CR is in no text that is matched: that of a host without a condition, a line with a clock, a JSON object.
+    Row(["--at", "a=x$"], 'b {"b":1}\r\nx\r\na {"a":1}\nx\n', found("a line 4 x")),
+    Row(["--at", "a=x$"], 'a {"a":1}\r\nx\n', found("a line 2 x")),
+    Row(["--at", "a=x$", "--form", "lines"], '{"host":"a","clock":{"a":1},"event":"x"}\r\n', found("a line 1 x")),
+    Row(["--at", "a=x"], 'a {"a":1}\nx\ry\n', found("a line 2 x\ry")),
+]
 
 # The texts of a client of a lock, who is alice.
 CLIENT = [
@@ -432,7 +467,7 @@ def marked(words, texts, marks):
 def helps(word, file):
     """Whether this word gets the help, which names each option."""
     status, output, errors = called(file, [word], b"")
-    names = b"--while", b"--from", b"--until", b"--at", b"--form", b"HOST=REGEX"
+    names = b"--while", b"--from", b"--until", b"--at", b"--form", b"--progress", b"HOST=REGEX"
     return status == 0 and errors == b"" and all(name in output for name in names)
 
 
@@ -451,6 +486,7 @@ def main():
     add(cases, "no conditions", [Row(words, "", USAGE) for words in NO_CONDITIONS])
     add(cases, "no expression", [Row(words, "", fault(f"expression {why}")) for words, why in EXPRESSIONS])
     add(cases, "what words ask for", ASKED)
+    add(cases, "lines that end in CR LF", WITH_CR)
     add(cases, "version", [Row([word], "", Answer(0, VERSION)) for word in ("-V", "--version")])
     for word in "help", "-h", "--help":
         cases.holds(f"the help by {word}", partial(helps, word))

@@ -12,6 +12,7 @@ ghost use Rattle.wcp_detect.specs.Watching.{watches};
 use crate::answer::Answer;
 use crate::fault::DetectFault;
 use crate::judged::Judged;
+use crate::listener::Listener;
 use crate::text::{found_text, none_text};
 use crate::watcher::Watcher;
 use std::alloc::{AllocError, Global};
@@ -28,40 +29,43 @@ const NONE: u8 = 1;
 
 /// Reads a log of this form, event by event, until the earliest moment at which all conditions hold is known, and no
 /// further; or to its end. A fault of a line that comes before the moment is known is answered. A host that logs
-/// nothing is answered where there is no moment.
-pub fn detect<I: Read>(
+/// nothing is answered where there is no moment. The listener is told of each event.
+pub fn detect<I: Read, L: Listener>(
     alloc: Global,
     form: Form,
     conditions: &[Condition],
     input: &mut I,
+    listener: &mut L,
 ) -> Result<Answer, DetectFault>
     requires { HaveHosts conditions.now }
     ensures { Detects form conditions.now (I.remaining input.old) (I.remaining input.new) result }
 {
     let mut watcher = Watcher::new(alloc, conditions)?;
-    watch_events(alloc, form, &mut watcher, input)
+    watch_events(alloc, form, &mut watcher, input, listener)
 }
 
 /// Reads a log of this form until this watcher, which has taken no event yet, knows the moment, or to its end.
-fn watch_events<I: Read>(
+fn watch_events<I: Read, L: Listener>(
     alloc: Global,
     form: Form,
     watcher: &mut Watcher<'_>,
     input: &mut I,
+    listener: &mut L,
 ) -> Result<Answer, DetectFault>
     requires { IsWatching watcher.old.conditions.now [] watcher.old }
     ensures { Detects form watcher.old.conditions.now (I.remaining input.old) (I.remaining input.new) result }
 {
     let mut events = EventReader::new(alloc, form)?;
-    watch_on(alloc, &mut events, watcher, input)
+    watch_on(alloc, &mut events, watcher, input, listener)
 }
 
 /// Reads event by event until this watcher knows the moment, or to the end of the log. No event was read yet.
-fn watch_on<I: Read>(
+fn watch_on<I: Read, L: Listener>(
     alloc: Global,
     events: &mut EventReader,
     watcher: &mut Watcher<'_>,
     input: &mut I,
+    listener: &mut L,
 ) -> Result<Answer, DetectFault>
     requires watching { IsWatching watcher.old.conditions.now [] watcher.old }
     requires read { HasReadEvents events.old.log.form (I.remaining input.old)
@@ -73,6 +77,7 @@ fn watch_on<I: Read>(
         let Some(logged) = events.next_event(input)? else {
             return last_answer(alloc, watcher);
         };
+        listener.hear(&logged.event, &watcher.hosts());
         if watcher.take(logged)? {
             return Ok(found_answer(alloc, watcher)?);
         }

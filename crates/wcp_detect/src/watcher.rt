@@ -10,6 +10,7 @@ ghost use Rattle.wcp_detect.specs.Watching.{lasting_of, watches};
 ghost use Rattle.wcp_detect.specs.Watcher.{CanTake, IsWatching, WatchesNext, IsPlaceOf};
 
 use crate::judged::{Judged, judge_at, judges_of};
+use crate::listener::WatchedHosts;
 use std::alloc::{AllocError, Global};
 use wcp_condition::Condition;
 use wcp_log::Logged;
@@ -36,6 +37,14 @@ impl<'c> Watcher<'c> {
             judges,
             search,
         })
+    }
+
+    /// The hosts that are watched.
+    pub fn hosts(&self) -> WatchedHosts<'_, 'c> {
+        WatchedHosts {
+            conditions: self.conditions,
+            judges: self.judges.as_slice(),
+        }
     }
 
     /// Takes the next event of the log. `true`: the moment is known.

@@ -5,7 +5,7 @@ use Rattle.std.specs.Borrow.{Bor}
 use Rattle.std.specs.Str.{bytes_eq}
 use Rattle.clap.specs.Words.{App, Row, Rule, Text, all_of, first_of, new_app, new_rule}
 use Rattle.clap.specs.Simple.{on_top}
-use Rattle.clap.specs.declared.builder.action.ArgAction.TheVariants.{Append}
+use Rattle.clap.specs.declared.builder.action.ArgAction.TheVariants.{Append, SetTrue}
 use Rattle.wcp_log.specs.declared.turn.Form.{Form}
 use Rattle.wcp_log.specs.declared.turn.Form.TheVariants.{Lines, Shiviz, ShivizReversed}
 
@@ -24,10 +24,17 @@ form_option = record (new_rule (codes "form")) {
   value_names = 1;
 }
 
+-- The flag that asks to be told how far the log was read. The conditions and the form are the same with it.
+abbrev pub progress_option : Rule
+progress_option = record (new_rule (codes "progress")) {
+  long = Some (codes "progress");
+  action = Some SetTrue;
+}
+
 -- The options of the program.
 abbrev pub rules : List Rule
 rules = condition_option (codes "while") ∷ condition_option (codes "from") ∷ condition_option (codes "until")
-    ∷ condition_option (codes "at") ∷ form_option ∷ []
+    ∷ condition_option (codes "at") ∷ form_option ∷ progress_option ∷ []
 
 -- The program's name, and that it has a version.
 abbrev pub named : App

@@ -24,6 +24,10 @@ pub const AT: &str = "The host's condition holds at an event whose text has a ma
 pub const FORM: &str =
     "The form of the log: lines, shiviz or shiviz-reversed; shiviz where none is given";
 
+/// What `--progress` says.
+pub const PROGRESS: &str =
+    "Says on standard error, once a minute, how many events were read and which hosts logged none";
+
 /// The forms, the answer, the exit statuses and the fault lines.
 pub const MORE: &str = "\
 The log is read from standard input, line by line as it comes in. Each host that is named by an

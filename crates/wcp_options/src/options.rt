@@ -1,6 +1,6 @@
 ghost use Rattle.std.specs.Prelude.{◌≡◌, false, map, IfOk};
 ghost use Rattle.clap.specs.Words.{app_of, found_of, kind_of, rows_of, rule_of};
-ghost use Rattle.wcp_options.specs.Options.{program, condition_option, form_option};
+ghost use Rattle.wcp_options.specs.Options.{program, named, condition_option, form_option, progress_option};
 ghost use Rattle.wcp_options.specs.Options.{form_named, form_at, values_at, seen_texts};
 ghost use Rattle.wcp_options.specs.Requests.{IsRequestOf, IsTraceOf, IsRefusalOf, asks_by_word, spelled};
 
@@ -138,15 +138,23 @@ fn request_without_matches<'a>(alloc: Global, error: &Error) -> Result<Request<'
 fn command<'a>(alloc: Global) -> Result<Command<'a>, AllocError>
     ensures { IfOk result (λ command. app_of command ≡ program) }
 {
-    Command::new(alloc, "wcptrace")
-        .about(help::ABOUT)
-        .version(help::VERSION)
-        .after_help(help::MORE)
+    named(alloc)
         .arg(condition_option(alloc, "while", help::WHILE))?
         .arg(condition_option(alloc, "from", help::FROM))?
         .arg(condition_option(alloc, "until", help::UNTIL))?
         .arg(condition_option(alloc, "at", help::AT))?
-        .arg(form_option(alloc))
+        .arg(form_option(alloc))?
+        .arg(progress_option(alloc))
+}
+
+/// The program's name, and what it says of itself.
+fn named<'a>(alloc: Global) -> Command<'a>
+    ensures { app_of result ≡ named }
+{
+    Command::new(alloc, "wcptrace")
+        .about(help::ABOUT)
+        .version(help::VERSION)
+        .after_help(help::MORE)
 }
 
 /// An option that says a condition of a host, at each of its uses.
@@ -170,4 +178,15 @@ fn form_option<'a>(alloc: Global) -> Arg<'a>
         .long("form")
         .value_name("FORM")
         .help(help::FORM)
+}
+
+/// The flag that asks to be told how far the log was read.
+fn progress_option<'a>(alloc: Global) -> Arg<'a>
+    ensures rule { rule_of result ≡ progress_option }
+    ensures local { result.global ≡ false }
+{
+    Arg::new(alloc, "progress")
+        .long("progress")
+        .action(ArgAction::SetTrue)
+        .help(help::PROGRESS)
 }

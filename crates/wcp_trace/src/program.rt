@@ -9,7 +9,7 @@ use std::alloc::Global;
 use std::convert::AsStr;
 use std::io::{Read, Write};
 use wcp_condition::{ConditionWords, read_conditions};
-use wcp_detect::{Answer, detect};
+use wcp_detect::{Answer, Listener, detect};
 use wcp_options::{Options, Request, VERSION, read_options};
 use wcp_output::write_whole;
 
@@ -22,20 +22,22 @@ const REFUSED: u8 = 2;
 /// Runs the program on its words, of which the first is its name, and gives its exit status.
 ///
 /// The input is read line by line as it comes, and no further than the answer wants. The answer is written in one
-/// piece, as soon as it is known. Where there is none, `errors` gets one line that says why.
-pub fn drive<S: AsStr, I: Read, O: Write, E: Write>(
+/// piece, as soon as it is known. Where there is none, `errors` gets one line that says why. The listener is told of
+/// each event of a log.
+pub fn drive<S: AsStr, I: Read, O: Write, E: Write, L: Listener>(
     alloc: Global,
     words: &[S],
     input: &mut I,
     output: &mut O,
     errors: &mut E,
+    listener: &mut L,
 ) -> u8
     ensures status { result ≤ 2 }
     ensures quiet { result ≤ 1 → Keeps (E.contents errors.old) (E.contents errors.new) }
     ensures does { DoesAsked (map S.text words.now) (edge_of (I.remaining input.old) (I.remaining input.new)
         (O.contents output.old) (O.contents output.new)) result }
 {
-    match obey(alloc, words, input, output) {
+    match obey(alloc, words, input, output, listener) {
         Ok(status) => status,
         Err(fault) => refuse(errors, &fault),
     }
@@ -51,30 +53,36 @@ pub fn refuse<E: Write>(errors: &mut E, fault: &Fault) -> u8
 }
 
 /// Does what the words ask for, and gives the status.
-fn obey<S: AsStr, I: Read, O: Write>(
+fn obey<S: AsStr, I: Read, O: Write, L: Listener>(
     alloc: Global,
     words: &[S],
     input: &mut I,
     output: &mut O,
+    listener: &mut L,
 ) -> Result<u8, Fault>
     ensures status { IfOk result (λ status. status ≤ 1) }
     ensures does { DoesAsked (map S.text words.now) (edge_of (I.remaining input.old) (I.remaining input.new)
         (O.contents output.old) (O.contents output.new)) (status_after result) }
 {
     let request = read_options(alloc, words)?;
-    let answer = answer_to(alloc, request, input)?;
+    let answer = answer_to(alloc, request, input, listener)?;
     write_whole(output, answer.text.as_slice())?;
     Ok(answer.status)
 }
 
 /// The answer to a request.
-fn answer_to<I: Read>(alloc: Global, request: Request<'_>, input: &mut I) -> Result<Answer, Fault>
+fn answer_to<I: Read, L: Listener>(
+    alloc: Global,
+    request: Request<'_>,
+    input: &mut I,
+    listener: &mut L,
+) -> Result<Answer, Fault>
     ensures answer { IfOk result (λ answer. AnswersRequest request.entry (I.remaining input.old) (I.remaining input.new)
         answer.text.items answer.status) }
     ensures status { IfOk result (λ answer. answer.status ≤ 1) }
 {
     match request {
-        Request::Trace(options) => answer_to_trace(alloc, &options, input),
+        Request::Trace(options) => answer_to_trace(alloc, &options, input, listener),
         Request::Help(text) => Ok(Answer {
             text: text.into_bytes(),
             status: TOLD,
@@ -89,10 +97,11 @@ fn answer_to<I: Read>(alloc: Global, request: Request<'_>, input: &mut I) -> Res
 }
 
 /// The answer to the log under the conditions that the options say.
-fn answer_to_trace<I: Read>(
+fn answer_to_trace<I: Read, L: Listener>(
     alloc: Global,
     options: &Options<'_>,
     input: &mut I,
+    listener: &mut L,
 ) -> Result<Answer, Fault>
     ensures answer { IfOk result (λ answer. AnswersTrace options.now (I.remaining input.old) (I.remaining input.new)
         answer.text.items answer.status) }
@@ -105,5 +114,5 @@ fn answer_to_trace<I: Read>(
         ats: options.ats.as_slice(),
     };
     let conditions = read_conditions(alloc, &words)?;
-    Ok(detect(alloc, options.form, &conditions, input)?)
+    Ok(detect(alloc, options.form, &conditions, input, listener)?)
 }

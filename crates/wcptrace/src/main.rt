@@ -5,20 +5,25 @@ use std::env;
 use std::io::{ErrorKind, IsTerminal};
 use std::process::ExitCode;
 use std::rt::Env;
-use wcp_progress::{Teller, TellingReader};
+use wcp_progress::{Notes, Teller, TellingReader};
 use wcp_trace::{Fault, drive, refuse};
+
+/// The word that asks to be told how far the log was read.
+const PROGRESS: &str = "--progress";
 
 fn main(rt: HostRuntime) -> ExitCode {
     let status = match words(&rt) {
         Ok(words) => {
             let is_watched = rt.stderr().is_terminal();
             let teller = is_watched.then(|| Teller::new("wcptrace", &rt, rt.stderr()));
+            let tells_progress = is_watched || words.iter().any(|word| word.as_str() == PROGRESS);
             drive(
                 rt.alloc(),
                 words.as_slice(),
                 &mut TellingReader::new(rt.stdin(), teller),
                 &mut rt.stdout(),
                 &mut rt.stderr(),
+                &mut Notes::new("wcptrace", &rt, rt.stderr(), tells_progress),
             )
         }
         Err(fault) => refuse(&mut rt.stderr(), &fault),

@@ -3,7 +3,8 @@ use std::cell::Cell;
 use std::io::{Read, Result};
 use std::test::Fail;
 use std::time::{Clock, Duration};
-use wcp_progress::{Teller, TellingReader};
+use wcp_progress::{Notes, Teller, TellingReader};
+use wcp_trace::drive;
 
 /// A clock on which so many milliseconds pass from one reading to the next.
 #[derive(Drop)]
@@ -45,4 +46,38 @@ fn lines_are_told_once_a_second(rt: HostRuntime) -> std::result::Result<(), Fail
         b"reader: 3 lines read\nreader: 5 lines read\n".as_slice()
     );
     Ok(())
+}
+
+/// Ann logs the first event and the third, ben the fifth, and carl none. Forty seconds pass from each to the next.
+#[test]
+fn silent_hosts_are_told_once_a_minute(rt: HostRuntime) {
+    let clock = Ticks {
+        read: Cell::new(0),
+        step: 40_000,
+    };
+    let words = [
+        "wcptrace", "--at", "ann=x", "--at", "ben=x", "--at", "carl=x",
+    ];
+    let mut log = b"ann {\"ann\":1}\n\nzed {\"zed\":1}\n\nann {\"ann\":2}\n\nzed {\"zed\":2}\n\n\
+        ben {\"ben\":1}\nx\n"
+        .as_slice();
+    let mut output: Vec<u8> = Vec::new(rt.alloc());
+    let mut errors: Vec<u8> = Vec::new(rt.alloc());
+    let mut told: Vec<u8> = Vec::new(rt.alloc());
+    let mut notes = Notes::new("wcptrace", &clock, &mut told, true);
+    let status = drive(
+        rt.alloc(),
+        &words,
+        &mut log,
+        &mut output,
+        &mut errors,
+        &mut notes,
+    );
+    assert_eq!(rt; status, 2);
+    assert_eq!(rt; errors.as_slice(), b"wcptrace: nohost carl\n".as_slice());
+    drop(notes);
+    assert_eq!(rt;
+        told.as_slice(),
+        b"wcptrace: 3 events read, none of ben, none of carl\nwcptrace: 5 events read, none of carl\n".as_slice()
+    );
 }

@@ -26,7 +26,7 @@ pub const FOUND: &str = "0 found\nann line 8 holds the lease\nben line 14 holds 
 /// The status, the line of errors, and what was written.
 pub fn answer(rt: &impl Abort, alloc: Global, input: &mut Source<'_>, output: &mut Sink) -> String {
     let mut errors: Vec<u8> = Vec::new(alloc);
-    let status = drive(alloc, BOTH, input, output, &mut errors);
+    let status = drive(alloc, BOTH, input, output, &mut errors, &mut ());
     told(rt, alloc, status, &errors, &output.taken)
 }
 

@@ -1,0 +1,100 @@
+use std::io::Write;
+use std::time::{Clock, Duration, Instant};
+use wcp_detect::{Listener, WatchedHosts};
+use wcp_log::Event;
+
+/// So many seconds pass before it is told again how far a log was read.
+const SECONDS: u64 = 60;
+
+/// Tells what a user of the program may want to know of a log that is read.
+///
+/// Once, that the text of a watched host's event ends in CR, at which an expression that ends in `$` has no match. And
+/// once a minute, if that is wanted, how many events were read, and which watched hosts logged none of them: a line
+/// each, the first with the first event that comes a minute after the first one of all. Where the clock can't be read
+/// or a line can't be written, nothing is told.
+#[derive(Drop)]
+pub struct Notes<'a, C, E> {
+    program: &'a str,
+    clock: &'a C,
+    errors: E,
+    tells_progress: bool,
+    has_told_cr: bool,
+    events: u64,
+    last: Option<Instant>,
+}
+
+impl<'a, C: Clock, E: Write> Notes<'a, C, E> {
+    /// Tells on `errors`, and how far a log was read only if `tells_progress`.
+    pub fn new(program: &'a str, clock: &'a C, errors: E, tells_progress: bool) -> Notes<'a, C, E> {
+        Notes {
+            program,
+            clock,
+            errors,
+            tells_progress,
+            has_told_cr: false,
+            events: 0,
+            last: None,
+        }
+    }
+
+    /// Tells of the CR at the end of an event's text, if that is the first one.
+    fn tell_cr(&mut self, event: &Event, hosts: &WatchedHosts<'_, '_>) {
+        if self.has_told_cr
+            || !event.text.as_str().ends_with('\r')
+            || !hosts.contain(event.host.as_str())
+        {
+            return;
+        }
+        self.has_told_cr = true;
+        let _ = writeln!(
+            self.errors,
+            "{}: a text ends in CR, as where lines end in CR LF: an expression that ends in $ doesn't match there; \
+             write \\r?$",
+            self.program
+        );
+    }
+
+    /// Whether a minute has passed since it was told last, or since the first event.
+    fn is_due(&mut self) -> bool {
+        let Ok(now) = Instant::now(self.clock) else {
+            return false;
+        };
+        let Some(last) = self.last else {
+            self.last = Some(now);
+            return false;
+        };
+        if now.duration_since(last) < Duration::from_secs(SECONDS) {
+            return false;
+        }
+        self.last = Some(now);
+        true
+    }
+}
+
+impl<C: Clock, E: Write> Listener for Notes<'_, C, E> {
+    fn hear(&mut self, event: &Event, hosts: &WatchedHosts<'_, '_>) {
+        self.events = self.events.saturating_add(1);
+        self.tell_cr(event, hosts);
+        if self.tells_progress && self.is_due() {
+            let _ = write!(self.errors, "{}: {} events read", self.program, self.events);
+            tell_silent(&mut self.errors, event, hosts);
+        }
+    }
+}
+
+/// Ends a line with the hosts that have logged nothing before this event, but for its own.
+fn tell_silent<E: Write>(errors: &mut E, event: &Event, hosts: &WatchedHosts<'_, '_>) {
+    for place in 0..hosts.count() {
+        if let Some(host) = hosts.silent_at(place) {
+            tell_host(errors, event, host);
+        }
+    }
+    let _ = writeln!(errors, "");
+}
+
+/// Names a host in a line, unless the event is its own.
+fn tell_host<E: Write>(errors: &mut E, event: &Event, host: &str) {
+    if host != event.host.as_str() {
+        let _ = write!(errors, ", none of {host}");
+    }
+}
