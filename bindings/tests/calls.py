@@ -1,7 +1,10 @@
 """Every call of the module and every refusal, once each; the last line is 'N passed, M failed'."""
 
+import gc
 import os
 import re
+import struct
+import subprocess
 import sys
 import threading
 
@@ -13,6 +16,48 @@ from wullaphi import Checker, Probe  # noqa: E402
 
 FIRST_REFUSAL = 16
 MOST_BYTES = 2097152
+LOST = 3
+
+# Each is a program of its own, since it has less memory than it asks for. A call that is refused has changed nothing, so the
+# same call is made once more when there is memory again.
+START = """
+import resource
+import sys
+sys.path.insert(0, sys.argv[1])
+import wullaphi
+
+def limit_memory():
+    with open("/proc/self/statm") as sizes:
+        size = int(sizes.read().split()[0]) * resource.getpagesize()
+    resource.setrlimit(resource.RLIMIT_AS, (size, resource.RLIM_INFINITY))
+
+def free_memory():
+    resource.setrlimit(resource.RLIMIT_AS, (resource.RLIM_INFINITY, resource.RLIM_INFINITY))
+"""
+LONG_TEXT = START + """
+text = b"wcp 1\\nprocs 2\\n" + b"p 0 true\\n" * 60000
+limit_memory()
+try:
+    print(wullaphi.single(text).status)
+except MemoryError:
+    free_memory()
+    print("refused, and then", wullaphi.single(text).status)
+"""
+MANY_NOTES = START + """
+probe, checker, notes, refused = wullaphi.Probe(1, 0, 2), wullaphi.Checker(2), [], 0
+for _ in range(100000):
+    notes.append(probe.observe(True))
+    probe.stamp(1)
+limit_memory()
+for note in notes:
+    try:
+        checker.take(note)
+    except MemoryError:
+        free_memory()
+        refused += 1
+        checker.take(note)
+print("refused", refused, "and taken", checker.taken(0))
+"""
 
 passed = 0
 failed = 0
@@ -227,6 +272,87 @@ def damaged_bytes():
             check(checker.report().known == "undecided", "the checker goes on")
 
 
+def large_numbers():
+    """Numbers that C would cut to ones that it takes."""
+    word = 2 ** 32
+    probe, checker = Probe(1, 0, 2), Checker(2)
+    refused(wullaphi.OutOfRange, Probe, 1, word, 2)
+    refused(wullaphi.OutOfRange, Probe, 2 ** 64, 0, 2)
+    refused(wullaphi.OutOfRange, probe.stamp, word + 1)
+    refused(wullaphi.OutOfRange, probe.stamp, 1 - word)
+    refused(wullaphi.OutOfRange, Checker, word + 1)
+    refused(wullaphi.OutOfRange, Checker, word + 1, [0])
+    refused(wullaphi.OutOfRange, Checker, 2, [word])
+    refused(wullaphi.OutOfRange, checker.taken, word)
+    refused(wullaphi.OutOfRange, checker.taken, -word)
+    check(Probe(2 ** 64 - 1, 0, 2).stamp(1) != Probe(0, 0, 2).stamp(1), "the largest number of a watch")
+    check(probe.observe(word) is not None, "what is true holds, also a number that C would cut to 0")
+    check(probe.to_bytes()[48:] == Probe(1, 0, 2).to_bytes()[48:], "no refused send was counted")
+
+
+def lost_marks():
+    """The mark of a lost process, which only what watches it can make."""
+    probe = Probe(1, 0, 2)
+    snapshot = probe.observe(True)
+    closed = probe.close()
+    mark = closed[:12] + struct.pack("=I", LOST) + closed[16:]
+    check(wullaphi.is_last(mark), "a lost process tells nothing more")
+    with Checker(2) as checker:
+        checker.take(snapshot)
+        checker.take(mark)
+        refused(wullaphi.Ended, checker.take, closed)
+        refused(wullaphi.Ended, checker.take, mark)
+    refused(wullaphi.NoNote, wullaphi.is_last, mark[:-1])
+    refused(wullaphi.NoNote, wullaphi.is_last, mark + b"x")
+
+
+def freeing():
+    """A checker is freed when it is ended, left or forgotten, once each; a checker that was never made isn't."""
+    told = []
+    sys.unraisablehook = told.append
+    with Checker(2) as left:
+        pass
+    refused(wullaphi.NoChecker, left.report)
+    with Checker(2) as ended:
+        ended.end()
+    with ended:
+        pass
+    forgotten = Checker(2)
+    memory = forgotten._memory
+    check(bool(memory.held), "the memory of a checker")
+    del left, ended, forgotten
+    refused(TypeError, Checker)
+    refused(wullaphi.OutOfRange, Checker, 17)
+    gc.collect()
+    check(not memory.held, "a checker that is forgotten is freed")
+    check(told == [], f"nothing is raised where a checker is freed: {told}")
+    sys.unraisablehook = sys.__unraisablehook__
+
+
+def in_python(program, **variables):
+    """What a program prints that has the module, and what it says on standard error."""
+    words = [sys.executable, "-c", program, os.path.dirname(wullaphi.__file__)]
+    ran = subprocess.run(words, env={**os.environ, **variables}, capture_output=True, text=True, check=False)
+    return ran.stdout, ran.stderr
+
+
+def memory():
+    refused(MemoryError, wullaphi._answer, 22)
+    printed = in_python(LONG_TEXT)
+    check(printed == ("refused, and then 1\n", ""), f"a text that there is no memory for: {printed}")
+    printed = in_python(MANY_NOTES)
+    check(printed == ("refused 1 and taken 100000\n", ""), f"a note that there is no memory for: {printed}")
+
+
+def library():
+    """The module loads the library that the variable says, and no other."""
+    printed, said = in_python(START, WULLAPHI_LIBRARY="/nowhere/libwullaphi.so")
+    check(printed == "" and said.splitlines()[-1:] and "/nowhere/libwullaphi.so" in said.splitlines()[-1],
+          "a library that isn't there")
+    there = os.path.abspath(wullaphi._library._name)
+    check(in_python(START, WULLAPHI_LIBRARY=there) == ("", ""), "a library that is there")
+
+
 probes()
 settings()
 pending()
@@ -238,5 +364,10 @@ refusal_words()
 long_texts()
 two_threads()
 damaged_bytes()
+large_numbers()
+lost_marks()
+freeing()
+memory()
+library()
 print(f"{passed} passed, {failed} failed")
 sys.exit(failed > 0)
