@@ -194,9 +194,6 @@ fn an_item_comes_to_the_root_while_all_else_is_silent(rt: HostRuntime) {
     for leaf in 0..2 {
         let relays = &parents[..leaf + 1];
         let came = comes_in_silence(&rt, rt.alloc(), relays, leaf as u32);
-        assert!(rt;
-            is_first_snap(came),
-            "leaf {leaf}"
-        );
+        assert!(rt; is_first_snap(came), "leaf {leaf}");
     }
 }
