@@ -214,7 +214,7 @@ class Probe:
         self._stamp = _Stamp()
         self._stamp_at = ctypes.pointer(self._stamp)
         _answer(_library.wcp_probe_init_with(self._at, _number(watch, 0xFFFF_FFFF_FFFF_FFFF), _word(process),
-                                             _word(processes), int(watched), int(flag_of_sends)))
+                                             _word(processes), int(bool(watched)), int(bool(flag_of_sends))))
 
     def observe(self, holds: bool) -> Optional[bytes]:
         """The process looks at its condition. The answer is the note to send to the checker, if there is one."""

@@ -287,6 +287,7 @@ def large_numbers():
     refused(wullaphi.OutOfRange, checker.taken, -word)
     check(Probe(2 ** 64 - 1, 0, 2).stamp(1) != Probe(0, 0, 2).stamp(1), "the largest number of a watch")
     check(probe.observe(word) is not None, "what is true holds, also a number that C would cut to 0")
+    check(Probe(1, 0, 2, watched=word).observe(True) is not None, "a process is watched by any true value")
     check(probe.to_bytes()[48:] == Probe(1, 0, 2).to_bytes()[48:], "no refused send was counted")
 
 
