@@ -1,4 +1,5 @@
 mod checking;
+mod losing;
 mod news;
 mod plans;
 mod settling;

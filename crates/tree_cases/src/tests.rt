@@ -1,7 +1,7 @@
 mod bundles;
+mod comparing;
 mod full_links;
 mod gaps;
-mod lanes;
 mod late;
 mod losing;
 mod one_thread;

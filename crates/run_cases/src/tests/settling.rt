@@ -3,20 +3,15 @@ ghost use Rattle.std.specs.Prelude.{◌≡◌, ◌≢◌, All, IfOk, IfSome, Som
 ghost use Rattle.wcp_watch.specs.Settling.{ComeFromWatch, IsEndOfSomeProbe, IsEndOfSomeRelay};
 
 use super::plans::two_hops;
-use super::watches::{Opened, open};
+use super::watches::{ONE, Opened, found, open};
 use std::alloc::{AllocError, Global};
 use std::process::Abort;
 use std::sync::{Mutex, Wait};
+use std::test::Fail;
 use wcp_book::Book;
-use wcp_model::{GlobalCut, Report, Tallies, Tally};
+use wcp_model::Tallies;
 use wcp_tree::{LiveProbe, ProbeEnd, Relay, RelayEnd, Watch, watch};
 use wcp_watch::{CheckFault, CheckerEnd, SettleFault, Settled, check_loop, settle};
-
-/// The share of a process that emitted one snapshot.
-const ONE: Tally = Tally {
-    emitted: 1,
-    taken: 1,
-};
 
 /// What is left of a watch that ran.
 #[derive(Drop)]
@@ -115,10 +110,12 @@ fn settled(rt: &impl Abort, ends: Ends) -> Settled
 #[test]
 fn two_hops_are_settled_at_the_first_cut(rt: HostRuntime) {
     let ends = run_watch(&rt, rt.alloc(), None);
-    assert!(rt; ends.checker.watch() == 7 && ends.book.has_ended());
+    assert_eq!(rt; (ends.checker.watch(), ends.book.has_ended()), (7, true));
     let settled = settled(&rt, ends);
-    assert!(rt; settled.report == Report::Found(GlobalCut::new(&[Some(0), Some(0)])));
-    assert!(rt; settled.tallies == Tallies::new(&[ONE, ONE]));
+    assert_eq!(rt;
+        (settled.report, settled.tallies),
+        (found(), Tallies::new(&[ONE, ONE]))
+    );
 }
 
 /// The ends but for that of the relay of this number, the first such one. `None` where there is none.
@@ -154,7 +151,7 @@ fn is_not_settled(rt: &impl Abort, ends: Ends, fault: SettleFault)
     requires { ComeFromWatch ends.probes.items ends.relays.items ends.checker }
 {
     let met = settle(ends.probes, ends.relays, ends.checker, ends.book).err();
-    assert!(rt; met == Some(fault));
+    assert_eq!(rt; met, Some(fault));
 }
 
 #[test]
@@ -168,17 +165,16 @@ fn a_relay_without_an_end_is_missing(rt: HostRuntime) {
 #[test]
 fn a_process_that_is_lost_is_missing(rt: HostRuntime) {
     let ends = run_watch(&rt, rt.alloc(), Some(0));
-    assert!(rt; matches!(ends.checker.fault(), Some(CheckFault::Lost(0))));
-    assert!(rt; matches!(ends.checker.report(), Report::Undecided));
-    assert!(rt; ends.book.share(0).is_none() && ends.book.share(1).is_some());
+    assert_eq!(rt; ends.checker.fault(), Some(CheckFault::Lost(0)));
     is_not_settled(&rt, ends, SettleFault::Missing);
 }
 
 #[test]
-fn a_probe_of_another_watch_is_a_stranger(rt: HostRuntime) {
+fn a_probe_of_another_watch_is_a_stranger(rt: HostRuntime) -> Result<(), Fail> {
     let ends = run_watch(&rt, rt.alloc(), None);
     let stranger = end_of_another_watch(&rt, rt.alloc());
     assert!(rt; stranger.watch() != ends.checker.watch());
-    let ends = with_a_stranger(ends, stranger).expect(&rt, "memory");
+    let ends = with_a_stranger(ends, stranger)?;
     is_not_settled(&rt, ends, SettleFault::Stranger);
+    Ok(())
 }

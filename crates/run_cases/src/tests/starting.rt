@@ -137,7 +137,7 @@ fn shared_by(n: u32) -> Shared
 
 /// So many processes had begun.
 fn assert_begun(rt: &impl Abort, shared: &Shared, begun: u32) {
-    assert!(rt; shared.begun.load(SeqCst) == begun);
+    assert_eq!(rt; shared.begun.load(SeqCst), begun);
 }
 
 /// Threads can be made, since those of one process run; of those of sixteen one can't, and then none runs.
@@ -150,8 +150,8 @@ fn nothing_runs_where_a_thread_is_refused(rt: HostRuntime) {
     let few = refusal(&rt, rt.alloc(), few, &of_few);
     let many = refusal(&rt, rt.alloc(), many, &of_many);
     drop(blocks);
-    assert!(rt; few.is_none() && matches!(many, Some(StartFault::Spawn)));
+    assert_eq!(rt; (few, many), (None, Some(StartFault::Spawn)));
     assert_begun(&rt, &of_few, 1);
     assert_begun(&rt, &of_many, 0);
-    assert!(rt; of_many.book.into_inner().totals().taken == 0);
+    assert_eq!(rt; of_many.book.into_inner().totals().taken, 0);
 }

@@ -3,7 +3,7 @@ use super::starting::{Process, processes};
 use std::sync::{Mutex, Wait};
 use std::thread;
 use wcp_book::Book;
-use wcp_model::Report;
+use wcp_model::{GlobalCut, Report};
 use wcp_threads::RunsWith;
 use wcp_tree::ProbeEnd;
 use wcp_watch::run_parts;
@@ -30,6 +30,7 @@ fn processes_that_wait_for_the_cut_end(rt: HostRuntime) {
     let end = run_parts(&rt, rt.alloc(), parts, &book, &book)
         .expect(&rt, "threads")
         .checker;
-    assert!(rt; end.fault().is_none() && matches!(end.report(), Report::Found(_)));
-    assert!(rt; book.into_inner().found().is_some());
+    let cut = GlobalCut::new(&[Some(0); 16]);
+    assert_eq!(rt; (end.fault(), end.report()), (None, Report::Found(cut)));
+    assert_eq!(rt; book.into_inner().found(), Some(cut));
 }

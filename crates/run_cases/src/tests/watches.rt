@@ -8,7 +8,7 @@ use std::alloc::{AllocError, Global};
 use std::process::Abort;
 use std::sync::{Mutex, Wait};
 use wcp_book::Book;
-use wcp_model::Plan;
+use wcp_model::{GlobalCut, Plan, Report, Tally};
 use wcp_queue::Checker;
 use wcp_tree::{CheckerInbox, LiveProbe, ProbeEnd, Relay, Watch, watch};
 use wcp_watch::{CheckerEnd, check_loop};
@@ -63,15 +63,34 @@ fn check(rt: &impl Wait, inbox: CheckerInbox, checker: Checker, book: Book) -> C
     }
 }
 
-/// A watch that runs in one thread: process 0 emits so many snapshots and closes, and then each of the others does so.
-/// Then the first `count` relays run, the highest number first, and meet no fault, and then the checker's loop, which
-/// posts in this book. The other relays are gone.
+/// What a process does in a watch that runs in one thread: it emits so many snapshots, and then it closes or is lost.
+#[derive(Clone, Copy)]
+pub struct Course {
+    pub snapshots: u32,
+    pub closes: bool,
+}
+
+/// It emits one snapshot, and closes.
+pub const ONCE: Course = Course {
+    snapshots: 1,
+    closes: true,
+};
+
+/// The share of a process that emitted one snapshot.
+pub const ONE: Tally = Tally {
+    emitted: 1,
+    taken: 1,
+};
+
+/// A watch that runs in one thread: process 0 and then each of the others runs its course. Then the first `count`
+/// relays run, the highest number first, and meet no fault, and then the checker's loop, which posts in this book. The
+/// other relays are gone.
 pub fn run_in_one_thread(
     rt: &(impl Abort + Wait),
     alloc: Global,
     plan: Plan,
-    first: u32,
-    others: u32,
+    first: Course,
+    others: Course,
     count: usize,
     book: Book,
 ) -> Checked
@@ -84,8 +103,7 @@ pub fn run_in_one_thread(
         inbox,
     } = watch;
     for probe in probes {
-        let snapshots = if probe.id() == 0 { first } else { others };
-        drop(emit_all(rt, probe, snapshots));
+        run_course(rt, probe, first, others);
     }
     run_first(rt, relays, count);
     check(rt, inbox, checker, book)
@@ -101,7 +119,17 @@ fn run_first(rt: &(impl Abort + Wait), mut relays: Vec<Relay>, count: usize) {
 
 /// Runs a relay, which meets no fault.
 pub fn run_whole(rt: &(impl Abort + Wait), relay: Relay) {
-    assert!(rt; relay.run(rt).fault().is_none());
+    assert_eq!(rt; relay.run(rt).fault(), None);
+}
+
+/// The process of this probe runs its course: the first, or that of the others.
+fn run_course(rt: &impl Wait, probe: LiveProbe, first: Course, others: Course) {
+    let course = if probe.id() == 0 { first } else { others };
+    if course.closes {
+        drop(emit_all(rt, probe, course.snapshots));
+    } else {
+        emit_and_drop(rt, probe, course.snapshots);
+    }
 }
 
 /// Emits so many snapshots, with a send behind each, and closes.
@@ -110,12 +138,41 @@ pub fn emit_all(rt: &impl Wait, mut probe: LiveProbe, snapshots: u32) -> ProbeEn
     probe.close_in_watch(rt)
 }
 
+/// Emits so many snapshots, with a send behind each, and is lost.
+fn emit_and_drop(rt: &impl Wait, mut probe: LiveProbe, snapshots: u32) {
+    emit(rt, &mut probe, snapshots);
+}
+
 /// Emits so many snapshots, with a send behind each.
-pub fn emit(rt: &impl Wait, probe: &mut LiveProbe, snapshots: u32) {
+fn emit(rt: &impl Wait, probe: &mut LiveProbe, snapshots: u32) {
     let to = if probe.id() == 0 { 1 } else { 0 };
     for _ in 0..snapshots {
         probe.observe(true);
         probe.flush_in_watch(rt);
         let _ = probe.stamp(to, ());
     }
+}
+
+/// The report of two processes that have sent and received nothing.
+pub fn found() -> Report {
+    Report::Found(GlobalCut::new(&[Some(0), Some(0)]))
+}
+
+/// The loop left this report; its book tells a cut just where that is one, has these shares of processes 0 and 1, and
+/// has ended.
+pub fn assert_left(
+    rt: &impl Abort,
+    left: &Checked,
+    report: Report,
+    first: Option<Tally>,
+    second: Option<Tally>,
+) {
+    let told = match left.book.found() {
+        Some(cut) => Report::Found(cut),
+        None => Report::Undecided,
+    };
+    assert_eq!(rt; left.end.report(), report);
+    assert_eq!(rt; told, report);
+    assert_eq!(rt; (left.book.share(0), left.book.share(1)), (first, second));
+    assert!(rt; left.book.has_ended());
 }

@@ -1,4 +1,5 @@
 //! Probes whose link is full: they sleep at it, or are lost.
+use super::comparing::assert_same;
 use super::threads::{Arrival, take_all};
 use super::watches::{
     Pair, UnderOneRelay, emit_and_send, open_under_one_relay, pair_of, run_relay,
@@ -31,23 +32,25 @@ fn fill_link(rt: &impl Abort, probe: &mut LiveProbe) {
         emit_and_send(rt, probe);
     }
     assert!(rt; probe.observe(true) && !probe.flush());
-    assert!(rt; matches!(probe.stamp(1, ()), Err((Refusal::Backlog, ()))));
+    assert_same(rt, probe.stamp(1, 6).err(), Some((Refusal::Backlog, 6)));
 }
 
-/// Two processes, of which the second one is lost, and the first one has a full link.
+/// Of two processes the second one is lost, and the first one, which is handed out, has a full link.
+fn lose_second_and_fill(rt: &impl Abort, probes: Vec<LiveProbe>) -> LiveProbe {
+    let Pair { mut first, second } = pair_of(rt, probes);
+    drop(second);
+    fill_link(rt, &mut first);
+    first
+}
+
 pub fn full_link(rt: &impl Abort, alloc: Global) -> FullLink {
     let UnderOneRelay {
         probes,
         relay,
         taker,
     } = open_under_one_relay(rt, alloc, 2, 2, 4);
-    let Pair {
-        first: mut probe,
-        ..
-    } = pair_of(rt, probes);
-    fill_link(rt, &mut probe);
     FullLink {
-        probe,
+        probe: lose_second_and_fill(rt, probes),
         relay,
         taker,
     }
@@ -63,13 +66,15 @@ fn run_late<R: Threads + Wait + Clock + Sync>(
     join(rt, || run_relay(rt, relay), || take_all(rt, taker, 2))
 }
 
-/// It fills the link once more after it woke, and sleeps there again before it closes.
-fn fill_again(rt: &(impl Abort + Wait), mut probe: LiveProbe) {
+/// It fills the link once more after it woke, and sleeps there again before it closes: how many snapshots it emitted.
+fn fill_again(rt: &(impl Abort + Wait), mut probe: LiveProbe) -> u32 {
     for _ in 0..8 {
-        assert!(rt; probe.flush_waiting(rt).is_ok() && probe.stamp(1, ()).is_ok());
+        assert!(rt; probe.flush_waiting(rt).is_ok());
+        assert!(rt; probe.stamp(1, ()).is_ok());
         probe.observe(true);
     }
-    assert!(rt; probe.close_waiting(rt).is_ok());
+    let end = probe.close_waiting(rt).ok().expect(rt, "a relay");
+    end.emitted()
 }
 
 #[test]
@@ -80,12 +85,13 @@ fn a_probe_asleep_at_a_full_link_wakes_for_room(rt: HostRuntime) {
         taker,
     } = full_link(&rt, rt.alloc());
     let handle = &rt;
-    let ((), (fault, arrivals)) = join(
+    let (emitted, (fault, arrivals)) = join(
         handle,
         || fill_again(handle, probe),
         || run_late(handle, relay, taker),
     );
-    assert!(rt; fault.is_none() && arrivals[0] == Arrival::Closed(11));
+    assert_same(&rt, (emitted, fault), (11, None));
+    assert_same(&rt, arrivals[0], Arrival::Closed(11));
 }
 
 /// At a full link whose relay is gone a probe is told that its note can't be put, and then that it can't close. It
@@ -93,6 +99,7 @@ fn a_probe_asleep_at_a_full_link_wakes_for_room(rt: HostRuntime) {
 fn assert_told(rt: &(impl Abort + Wait), mut probe: LiveProbe) {
     assert!(rt; probe.flush_waiting(rt).is_err());
     let (_, mut same) = probe.close_waiting(rt).err().expect(rt, "a probe");
+    assert_same(rt, same.id(), 0);
     assert!(rt; !same.flush() && same.stamp(1, ()).is_err());
 }
 

@@ -3,14 +3,29 @@ ghost use Rattle.std.specs.Prelude.{◌≡◌, false, ◌∷◌, [], IfOk, lengt
 ghost use Rattle.std.specs.FinSet as set;
 ghost use Rattle.wcp_relay.specs.declared.feed.Feed.{Feed};
 
-use super::lanes::{lane_of_one, snap};
+use super::comparing::assert_same;
 use super::watches::run_relay;
 use std::alloc::{AllocError, Global};
 use std::process::Abort;
-use wcp_lane::Putter;
+use wcp_clock::{Clock, Note};
+use wcp_lane::{Members, Putter, Taker, lane};
 use wcp_model::Parent;
 use wcp_ring::{RingPutter, Sleeper, ring};
 use wcp_tree::{Bundle, Feed, Relay, RelayFault, leaf_relay};
+
+/// A lane of bundles with one putter, of just process 0.
+fn lane_of_one(rt: &impl Abort, alloc: Global) -> (Putter<Bundle>, Taker<Bundle>)
+    ensures members { result.0.members ≡ set.insert set.empty 0 }
+    ensures none_put { result.0.put ≡ [] }
+{
+    let Ok((mut putters, taker)) = lane(alloc, 8, &[Members::none().with(0)]) else {
+        panic!(rt; "no lane");
+    };
+    let Some(putter) = putters.pop() else {
+        panic!(rt; "no putter");
+    };
+    (putter, taker)
+}
 
 /// The end of a new ring that puts, and the feed of process 0 over it.
 fn feed_of_one(alloc: Global) -> Result<(RingPutter, Vec<Feed>), AllocError>
@@ -46,12 +61,17 @@ fn leaf_of_one(rt: &impl Abort, alloc: Global, putter: Putter<Bundle>) -> Leaf
     }
 }
 
-/// The first note that is put is the second snapshot.
+/// Puts a second snapshot of a process of which no first one was put.
+fn put_second(rt: &impl Abort, ring: &mut RingPutter) {
+    let clock = Clock::new(1);
+    assert!(rt; ring.try_put(Note::Snap { number: 1, clock }).is_ok());
+}
+
 #[test]
 fn a_snapshot_out_of_its_place_is_a_gap(rt: HostRuntime) {
     let (putter, taker) = lane_of_one(&rt, rt.alloc());
     let Leaf { mut ring, relay } = leaf_of_one(&rt, rt.alloc(), putter);
-    assert!(rt; ring.try_put(snap(0, 1).note).is_ok());
-    assert!(rt; matches!(run_relay(&rt, relay), Some(RelayFault::Gap(0))));
+    put_second(&rt, &mut ring);
+    assert_same(&rt, run_relay(&rt, relay), Some(RelayFault::Gap(0)));
     drop(taker);
 }

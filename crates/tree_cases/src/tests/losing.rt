@@ -1,4 +1,5 @@
 //! Processes that are lost: their probes are dropped before they close.
+use super::comparing::assert_same;
 use super::full_links::{FullLink, full_link};
 use super::threads::{Arrival, take_all};
 use super::waiting::comes_before_close;
@@ -24,7 +25,11 @@ fn what_a_lost_process_put_into_a_full_link_comes(rt: HostRuntime) {
     drop(probe);
     run_well(&rt, relay);
     let arrivals = take_all(&rt, taker, 2);
-    assert!(rt; arrivals[0] == Arrival::Lost(2) && arrivals[1] == Arrival::Lost(0));
+    assert_same(
+        &rt,
+        (arrivals[0], arrivals[1]),
+        (Arrival::Lost(2), Arrival::Lost(0)),
+    );
 }
 
 /// Drops the first of two probes once its leaf is asleep: what comes to the root then, if anything does in time. Then
@@ -54,14 +59,13 @@ fn a_leaf_that_sleeps_wakes_where_a_probe_is_dropped(rt: HostRuntime) {
         taker,
     } = open_under_one_relay(&rt, rt.alloc(), 2, 8, 4);
     let pair = pair_of(&rt, probes);
-    let (fault, came) = run_and_drop(&rt, relay, pair, taker);
-    assert!(rt; fault.is_none() && is_mark_of_first(came));
-}
-
-/// Whether this is the mark that process 0 was lost before it put anything.
-fn is_mark_of_first(came: Option<Item>) -> bool {
-    match came {
-        Some(item) => item.from == 0 && matches!(item.note, Note::Lost { count: 0 }),
-        None => false,
-    }
+    let mark = Item {
+        from: 0,
+        note: Note::Lost { count: 0 },
+    };
+    assert_same(
+        &rt,
+        run_and_drop(&rt, relay, pair, taker),
+        (None, Some(mark)),
+    );
 }

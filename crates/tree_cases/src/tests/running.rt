@@ -1,4 +1,5 @@
 //! Watches that run in threads, whole or with a relay that is gone.
+use super::comparing::{assert_same, assert_same_at};
 use super::threads::{Arrival, Leaving, Ran, run_and_take};
 use super::watches::open;
 use std::alloc::Global;
@@ -12,46 +13,80 @@ use wcp_tree::{RelayFault, Watch};
 /// The snapshots of each probe.
 const SNAPSHOTS: u32 = 100;
 
-/// Whether the lane of the first relay was cut, or was not, and no other one met a fault.
-fn are_faults(faults: &[Option<RelayFault>], is_first_cut: bool) -> bool {
-    let mut expected = is_first_cut;
-    for fault in faults {
-        let is_cut = matches!(fault, Some(RelayFault::Cut(_)));
-        if is_cut != expected || fault.is_some() != expected {
-            return false;
-        }
-        expected = false;
+/// How many snapshots a process emitted that left so, where it closed.
+fn emitted_by(leaving: Leaving) -> Option<u32> {
+    match leaving {
+        Leaving::Closed => Some(SNAPSHOTS),
+        Leaving::Lost => None,
     }
-    true
 }
 
-/// The same arrived of each process, and the lane of the first of so many relays was cut, or was not.
-fn assert_ran(rt: &impl Abort, ran: &Ran, relays: usize, is_first_cut: bool, arrival: Arrival) {
-    assert!(rt; ran.faults.len() == relays && are_faults(&ran.faults, is_first_cut));
-    assert!(rt; ran.arrivals == [arrival; MAX_PROCS]);
+/// What arrives of a process that leaves so in a whole watch.
+fn whole_arrival(leaving: Leaving) -> Arrival {
+    match leaving {
+        Leaving::Closed => Arrival::Closed(SNAPSHOTS),
+        Leaving::Lost => Arrival::Lost(SNAPSHOTS),
+    }
+}
+
+/// All processes left so.
+fn assert_emitted(rt: &impl Abort, emitted: &[Option<u32>], leaving: Leaving) {
+    let expected = emitted_by(leaving);
+    for (process, emitted) in emitted.iter().enumerate() {
+        assert_same_at(rt, *emitted, expected, "process", process);
+    }
+}
+
+/// The lane of the first relay was cut, or was not, and no other one met a fault.
+fn assert_faults(rt: &impl Abort, faults: &[Option<RelayFault>], is_first_cut: bool) {
+    for (relay, fault) in faults.iter().enumerate() {
+        let is_cut = matches!(fault, Some(RelayFault::Cut(_)));
+        let expected = is_first_cut && relay == 0;
+        assert_same_at(
+            rt,
+            (is_cut, fault.is_some()),
+            (expected, expected),
+            "relay",
+            relay,
+        );
+    }
+}
+
+/// Of so many processes, which left so, and so many relays: the same arrived of each process. The lane of the first
+/// relay was cut, or was not, and no other one met a fault.
+fn assert_ran(
+    rt: &impl Abort,
+    ran: &Ran,
+    numbers: (usize, usize),
+    leaving: Leaving,
+    is_first_cut: bool,
+    arrival: Arrival,
+) {
+    assert_same(rt, (ran.emitted.len(), ran.faults.len()), numbers);
+    assert_emitted(rt, ran.emitted.as_slice(), leaving);
+    assert_faults(rt, ran.faults.as_slice(), is_first_cut);
+    assert_same(rt, ran.arrivals, [arrival; MAX_PROCS]);
 }
 
 /// Sixteen processes under three levels of relays.
 fn open_three_levels(rt: &impl Abort, alloc: Global) -> Watch {
+    let mut attach = Vec::new(alloc);
+    for p in 0..16 {
+        attach.push(Some(3 + p / 4)).expect(rt, "memory");
+    }
     let [left, right] = [Parent::Relay(1), Parent::Relay(2)];
     let root = Parent::Relay(0);
     let parents = [Parent::Root, root, root, left, left, right, right];
-    let leaves = [Some(3), Some(4), Some(5), Some(6)];
-    let mut attach = leaves.to_vec(alloc).expect(rt, "memory");
-    for _ in 0..3 {
-        attach.extend_from_slice(&leaves).expect(rt, "memory");
-    }
     open(rt, alloc, (16, 2, 3), &parents, &attach)
 }
 
 #[test]
 fn sixteen_probes_under_three_levels_of_relays(rt: HostRuntime) {
-    let watch = open_three_levels(&rt, rt.alloc());
-    let ran = run_and_take(&rt, watch, 16, SNAPSHOTS, Leaving::Closed);
-    assert_ran(&rt, &ran, 7, false, Arrival::Closed(SNAPSHOTS));
-    let watch = open_three_levels(&rt, rt.alloc());
-    let ran = run_and_take(&rt, watch, 16, SNAPSHOTS, Leaving::Lost);
-    assert_ran(&rt, &ran, 7, false, Arrival::Lost(SNAPSHOTS));
+    for leaving in [Leaving::Closed, Leaving::Lost] {
+        let watch = open_three_levels(&rt, rt.alloc());
+        let ran = run_and_take(&rt, watch, 16, SNAPSHOTS, leaving);
+        assert_ran(&rt, &ran, (16, 7), leaving, false, whole_arrival(leaving));
+    }
 }
 
 /// A watch of two processes below the last of these relays, of which the first one is gone.
@@ -73,14 +108,26 @@ fn leave_without_root<R: Threads + Wait + Abort + Sync>(
     for leaving in [Leaving::Closed, Leaving::Lost] {
         let watch = open_without_root(rt, alloc, parents, leaf);
         let ran = run_and_take(rt, watch, 2, SNAPSHOTS, leaving);
-        assert_ran(rt, &ran, leaf as usize, true, Arrival::Open(0));
+        assert_ran(
+            rt,
+            &ran,
+            (2, leaf as usize),
+            leaving,
+            true,
+            Arrival::Open(0),
+        );
     }
 }
 
-/// A leaf finds its parent gone, and the middle one of three relays, whose leaf ends without a fault all the same.
 #[test]
-fn probes_leave_where_a_relay_above_is_gone(rt: HostRuntime) {
+fn probes_leave_where_the_relay_above_is_gone(rt: HostRuntime) {
+    let parents = [Parent::Root, Parent::Relay(0)];
+    leave_without_root(&rt, rt.alloc(), &parents, 1);
+}
+
+/// The middle one of three relays finds its parent gone: the leaf below it ends without a fault all the same.
+#[test]
+fn an_inner_relay_goes_on_taking_where_its_parent_is_gone(rt: HostRuntime) {
     let parents = [Parent::Root, Parent::Relay(0), Parent::Relay(1)];
-    leave_without_root(&rt, rt.alloc(), &parents[..2], 1);
     leave_without_root(&rt, rt.alloc(), &parents, 2);
 }

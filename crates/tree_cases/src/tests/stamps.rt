@@ -1,4 +1,5 @@
 //! Stamps of live probes, which are for one probe of the watches of their number.
+use super::comparing::assert_same;
 use super::watches::{Pair, pair_of};
 use std::alloc::Global;
 use std::process::Abort;
@@ -26,13 +27,13 @@ fn refused(
     expected: Refusal,
 ) -> Stamped<u32> {
     let (refusal, message) = probe.receive(message).err().expect(rt, "a refusal");
-    assert!(rt; refusal == expected);
+    assert_same(rt, refusal, expected);
     message
 }
 
 /// The probe takes the message.
 fn takes(rt: &impl Abort, probe: &mut LiveProbe, message: Stamped<u32>) {
-    assert!(rt; probe.receive(message).is_ok());
+    assert_same(rt, probe.receive(message).ok(), Some(3));
 }
 
 /// A message that was sent after another came is ahead of a watch of the same number to which that one didn't come. A

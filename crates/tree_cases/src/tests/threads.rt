@@ -16,32 +16,38 @@ pub enum Leaving {
     Lost,
 }
 
-/// Emits so many snapshots, with a send behind each, and leaves.
-fn emit_all(rt: &impl Wait, mut probe: LiveProbe, snapshots: u32, leaving: Leaving) {
+/// Emits so many snapshots, with a send behind each, and leaves: how many it emitted, where it closed.
+fn emit_all(
+    rt: &(impl Abort + Wait),
+    mut probe: LiveProbe,
+    snapshots: u32,
+    leaving: Leaving,
+) -> Option<u32> {
     let to = if probe.id() == 0 { 1 } else { 0 };
     for _ in 0..snapshots {
         probe.observe(true);
         probe.flush_in_watch(rt);
-        let _ = probe.stamp(to, ());
+        assert!(rt; probe.stamp(to, ()).is_ok());
     }
-    if matches!(leaving, Leaving::Closed) {
-        drop(probe.close_in_watch(rt));
+    match leaving {
+        Leaving::Closed => Some(probe.close_in_watch(rt).emitted()),
+        Leaving::Lost => None,
     }
 }
 
-/// Runs probes, each in a thread of its own, of which each emits so many snapshots.
+/// Runs probes, each in a thread of its own, of which each emits so many snapshots: how many those emitted that closed.
 fn run_probes<R: Threads + Wait + Abort + Sync>(
     rt: &R,
     probes: Vec<LiveProbe>,
     snapshots: u32,
     leaving: Leaving,
-) {
-    let ran = map_vec(
+) -> Vec<Option<u32>> {
+    map_vec(
         rt,
         probes,
         &|probe: LiveProbe| emit_all(rt, probe, snapshots, leaving),
-    );
-    assert!(rt; ran.is_ok());
+    )
+    .expect(rt, "memory")
 }
 
 /// Runs relays, each in a thread of its own: the faults that they meet.
@@ -55,6 +61,8 @@ pub fn run_relays<R: Threads + Wait + Abort + Sync>(
 /// What became of a watch that ran.
 #[derive(Drop)]
 pub struct Ran {
+    /// How many snapshots each process emitted, where it closed.
+    pub emitted: Vec<Option<u32>>,
     /// The fault of each relay.
     pub faults: Vec<Option<RelayFault>>,
     /// What arrived of each process.
@@ -75,7 +83,7 @@ pub fn run_and_take<R: Threads + Wait + Abort + Sync>(
         inbox,
     } = watch;
     let taker = inbox.into_taker();
-    let ((), rest) = join(
+    let (emitted, rest) = join(
         rt,
         || run_probes(rt, probes, snapshots, leaving),
         || {
@@ -87,11 +95,15 @@ pub fn run_and_take<R: Threads + Wait + Abort + Sync>(
         },
     );
     let (faults, arrivals) = rest;
-    Ran { faults, arrivals }
+    Ran {
+        emitted,
+        faults,
+        arrivals,
+    }
 }
 
 /// What arrived of a process.
-#[derive(Clone, Copy, PartialEq, Eq)]
+#[derive(Clone, Copy, Debug, PartialEq, Eq)]
 pub enum Arrival {
     /// So many snapshots, in their order.
     Open(u32),

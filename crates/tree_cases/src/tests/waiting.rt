@@ -1,4 +1,5 @@
 //! What a relay does as it waits, and how much goes into a lane of a watch.
+use super::comparing::{assert_same, assert_same_at};
 use super::threads::{run_relays, take_all};
 use super::watches::{
     Pair, UnderOneRelay, close, emit_and_send, only_probe, open, open_under_one_relay, pair_of,
@@ -10,7 +11,7 @@ use std::sync::Wait;
 use std::sync::atomic::AtomicBool;
 use std::sync::atomic::Ordering::SeqCst;
 use std::thread::{Threads, join, yield_now};
-use wcp_clock::{Item, Note};
+use wcp_clock::{Clock, Item, Note};
 use wcp_lane::{Origin, Taker};
 use wcp_model::Parent;
 use wcp_tree::{Bundle, LiveProbe, Relay, RelayFault, Watch};
@@ -32,11 +33,15 @@ fn put_five(rt: &impl Abort, pair: Pair) {
     close(rt, first);
 }
 
-/// Whether the first bundle that comes is of so many items, of which the last one ends the process.
-fn comes_first(rt: &impl Wait, taker: &mut Taker<Bundle>, items: usize) -> bool {
-    match taker.take(rt) {
-        Ok(bundle) => bundle.len() == items && bundle.last_item().note.is_last(),
-        Err(_) => false,
+/// These are the three snapshots and the close mark of process 0.
+fn assert_four(rt: &impl Abort, bundle: &Bundle) {
+    assert_same(rt, bundle.len(), 4);
+    for (place, item) in bundle.items().iter().enumerate() {
+        assert_same(
+            rt,
+            (item.from, item.place(), item.last()),
+            (0, place as u64, place == 3),
+        );
     }
 }
 
@@ -50,7 +55,7 @@ fn what_a_process_put_in_a_row_comes_as_one_bundle(rt: HostRuntime) {
     } = open_under_one_relay(&rt, rt.alloc(), 2, 4, 8);
     put_five(&rt, pair_of(&rt, probes));
     run_well(&rt, relay);
-    assert!(rt; comes_first(&rt, &mut taker, 4));
+    assert_four(&rt, &taker.take(&rt).expect(&rt, "a bundle"));
 }
 
 /// The relay and the inbox of a watch whose processes have closed.
@@ -118,8 +123,7 @@ fn run_and_take_late<R: Threads + Wait + Sync>(
 fn an_inbox_has_the_room_of_the_plan(rt: HostRuntime) {
     two_find_room(&rt, rt.alloc());
     let closed = closed_watch(&rt, rt.alloc(), 3);
-    let (fault, early) = run_and_take_late(&rt, closed);
-    assert!(rt; fault.is_none() && !early);
+    assert_same(&rt, run_and_take_late(&rt, closed), (None, false));
 }
 
 /// Takes the next bundle of the lane, and looks for it so many times.
@@ -180,11 +184,14 @@ fn comes_in_silence<R: Threads + Wait + Abort + Sync>(
     first
 }
 
-/// Whether this is the first snapshot of the one process.
-fn is_first_snap(came: Option<Item>) -> bool {
-    match came {
-        Some(item) => matches!(item.note, Note::Snap { number: 0, .. }),
-        None => false,
+/// The first snapshot of the one process, before any event.
+fn first_snap() -> Item {
+    Item {
+        from: 0,
+        note: Note::Snap {
+            number: 0,
+            clock: Clock::new(1),
+        },
     }
 }
 
@@ -194,6 +201,6 @@ fn an_item_comes_to_the_root_while_all_else_is_silent(rt: HostRuntime) {
     for leaf in 0..2 {
         let relays = &parents[..leaf + 1];
         let came = comes_in_silence(&rt, rt.alloc(), relays, leaf as u32);
-        assert!(rt; is_first_snap(came), "leaf {leaf}");
+        assert_same_at(&rt, came, Some(first_snap()), "leaf", leaf);
     }
 }

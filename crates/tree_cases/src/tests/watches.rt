@@ -1,4 +1,5 @@
 //! Watches of plans that are checked, their parts, and the runs of their relays.
+use super::comparing::assert_same;
 use std::alloc::{AllocError, Global};
 use std::process::Abort;
 use std::sync::Wait;
@@ -55,14 +56,21 @@ pub fn open_under_one_relay(
     assert!(rt; plan.check().is_ok());
     let Watch {
         probes,
-        mut relays,
+        relays,
         inbox,
     } = watch(alloc, &plan, 7).expect(rt, "memory");
     UnderOneRelay {
         probes,
-        relay: relays.pop().expect(rt, "a relay"),
+        relay: only_relay(rt, relays),
         taker: inbox.into_taker(),
     }
+}
+
+/// The one of these relays.
+fn only_relay(rt: &impl Abort, mut relays: Vec<Relay>) -> Relay {
+    let relay = relays.pop().expect(rt, "a relay");
+    assert_same(rt, relay.number(), 0);
+    relay
 }
 
 /// The one of these probes.

@@ -1,19 +1,10 @@
-use Rattle.std.proofs.Common.{◌≡◌, sym, ap, subst, rules, arith}
+use Rattle.std.proofs.Common.{◌≡◌, ap, rules, arith}
 use Rattle.std.specs.FinSet as set
 use Rattle.std.proofs.lemmas.Grind.{common_steps}
 use Rattle.wcp_clock.specs.declared.note.Item.{Item}
 use Rattle.wcp_lane.specs.Ends.{PutEnd, new_putter}
 use Rattle.wcp_relay.specs.declared.bundle.Bundle.{Bundle}
-use Rattle.tree_cases.specs.BundleLanes.{HasPut}
-use Rattle.tree_cases.proofs.Pairs.{new_HasPut}
-use Rattle.tree_cases.proofs.tests.lanes.lane_of_one.Goals as goal
-
-pub returns-clause-new : goal.returns-clause-new
-returns-clause-new g c =
-    let name = c.in-Ok.taker.lane in
-    let is : c.in-Some.putter ≡ new_putter name (set.insert set.empty 0) =
-    first_of (search rules, grind (arith, common_steps)) in
-    subst (HasPut 0) (sym is) (new_HasPut name)
+use Rattle.tree_cases.proofs.tests.gaps.lane_of_one.Goals as goal
 
 pub returns-clause-members : goal.returns-clause-members
 returns-clause-members g c =
