@@ -33,10 +33,18 @@ impl Process for Member {
             return None;
         };
         probe.observe(rt, true);
-        match answer_of(rt, alloc, book) {
-            Ok(CutAnswer::Found(cut)) => Some(cut),
-            _ => None,
-        }
+        let Ok(answer) = answer_of(rt, alloc, book) else {
+            return None;
+        };
+        cut_in(&answer)
+    }
+}
+
+/// The cut that was found, if that is the answer.
+fn cut_in(answer: &CutAnswer) -> Option<GlobalCut> {
+    match answer {
+        CutAnswer::Found(cut) => Some(*cut),
+        CutAnswer::Nothing | CutAnswer::Undecided | CutAnswer::NotRun => None,
     }
 }
 
@@ -71,6 +79,16 @@ fn watch<R: Threads + Wait + Sync + Abort>(
     watch_processes(rt, alloc, plan, 1, members, book, book)
 }
 
+/// Watches two of this member.
+fn watch_two<R: Threads + Wait + Sync + Abort>(
+    rt: &R,
+    alloc: Global,
+    member: Member,
+    book: &Mutex<Book>,
+) -> Result<WatchOutcome<Option<GlobalCut>>, WatchFault> {
+    watch(rt, alloc, &two(rt, alloc), member, 2, book)
+}
+
 /// Watches two of this member, and beside them waits for the cut in a thread of its own. What the members answer and
 /// that thread is told is this cut, if it is one, and the report is that of it.
 fn assert_told<R: Threads + Wait + Sync + Abort>(
@@ -80,12 +98,15 @@ fn assert_told<R: Threads + Wait + Sync + Abort>(
     book: &Mutex<Book>,
     cut: Option<GlobalCut>,
 ) {
-    let plan = two(rt, alloc);
-    let answer = cut.map_or(CutAnswer::Nothing, CutAnswer::Found);
-    let ((), watched) = join(
+    let (watched, ()) = join(
         rt,
-        || assert_answer(rt, alloc, book, answer),
-        || watch(rt, alloc, &plan, member, 2, book).expect(rt, "a watch"),
+        || watch_two(rt, alloc, member, book).expect(rt, "a watch"),
+        || assert_answer(
+            rt,
+            alloc,
+            book,
+            cut.map_or(CutAnswer::Nothing, CutAnswer::Found),
+        ),
     );
     assert_eq!(rt;
         watched.outcome.report,
@@ -219,7 +240,7 @@ fn intrude<R: Threads + Wait + Sync + Abort>(
     book: &Mutex<Book>,
 ) -> (Option<WatchFault>, bool) {
     let () = *gates.runs.wait(rt);
-    let refused = watch(rt, alloc, &two(rt, alloc), Member::Idle, 2, book);
+    let refused = watch_two(rt, alloc, Member::Idle, book);
     let in_use = book.lock(rt).is_in_use();
     let _ = gates.let_go.try_set(());
     (refused.err(), in_use)
