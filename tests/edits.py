@@ -1,7 +1,7 @@
 """Whether each must-fail edit can be applied, and whether the gate's are few enough. The last line is the count.
 
-An edit is a file with a line `file: PATH` and pairs of lines `old: TEXT` and `new: TEXT`; each old text stands exactly once in
-the file, as the pairs before it left it."""
+An edit is a file with a line `file: PATH` and pairs of lines `old: TEXT` and `new: TEXT`; each old text stands exactly
+once in the file, as the pairs before it left it."""
 import pathlib
 import sys
 
@@ -36,7 +36,7 @@ def too_many(tried):
         if count > MOST_OF_A_CRATE:
             yield f"{crate} has {count} edits in the gate, and at most {MOST_OF_A_CRATE} may be there"
     if sum(tried.values()) > MOST or len(tried) > MOST_CRATES:
-        yield f"the gate tries {sum(tried.values())} edits of {len(tried)} crates, and at most {MOST} of {MOST_CRATES} may be there"
+        yield f"the gate tries {sum(tried.values())} edits of {len(tried)} crates, and may try {MOST} of {MOST_CRATES}"
 
 
 def main():

@@ -1,8 +1,8 @@
 """Whether docs/headline.md names what the headline rests on.
 
-The script follows `IsHeadline` and its premise `IsCheckedPlan` from definition to definition. The page must name each in a
-section that names its file, must name no definition in another file's section, and must say how many files and lines hold
-them. The last line is the count."""
+The script follows `IsHeadline` and its premise `IsCheckedPlan` from definition to definition. The page must name each
+in a section that names its file, must name no definition in another file's section, and must say how many files and
+lines hold them. The last line is the count."""
 import pathlib
 import re
 import sys
@@ -79,7 +79,7 @@ def miscounted(rests_on, page):
     counts = len(files), sum(file.lines for file in files)
     said = re.search(r"(\d+) files of `crates/wcp_model/specs`,\s+(\d+)\s+lines", page)
     if not said or (int(said[1]), int(said[2])) != counts:
-        yield "the definitions stand in {} files of {}, {} lines, and the page says otherwise".format(counts[0], MODEL, counts[1])
+        yield f"the definitions stand in {counts[0]} files of {MODEL}, {counts[1]} lines, and the page says otherwise"
 
 
 def main():

@@ -1,8 +1,8 @@
 """Runs the commands that the pages show, and compares what they print with what the pages say.
 
-A command is a line of a block of `sh`, or an indented line behind `$`, that begins with a program of this repository. What it
-prints is the block of `text` right behind it, or the indented lines below it. The programs must have been built, as the
-gate does. The last line is the count."""
+A command is a line of a block of `sh`, or an indented line behind `$`, that begins with a program of this repository.
+What it prints is the block of `text` right behind it, or the indented lines below it. The programs must have been
+built, as the gate does. The last line is the count."""
 import concurrent.futures
 import os
 import pathlib
