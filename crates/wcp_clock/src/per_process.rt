@@ -96,13 +96,16 @@ impl<T: Padding> PerProcess<T> {
         self.count
     }
 
-    /// The value of process `p`.
+    /// The value of process `p`. Where there is no such process, that of the places behind the last: `None` in a cut.
     pub fn get(&self, p: u32) -> T
-        requires { p < length self.now }
-        ensures there { slice_get self.now p ≡ Some result }
+        ensures there { p < length self.now → slice_get self.now p ≡ Some result }
         ensures value { result ≡ slice_index_or self.now p T.padding }
     {
-        self.values()[p as usize]
+        if p < self.count {
+            self.values()[p as usize]
+        } else {
+            T::padding()
+        }
     }
 
     pub(crate) fn values(&self) -> &[T]

@@ -1,4 +1,5 @@
-ghost use Rattle.std.specs.Prelude.{◌≡◌, ℕ, ◌<◌, ◌≤◌, ◌↔◌, ◌||◌, true, false, length, nat_lt, slice_index_or, IsTrue};
+ghost use Rattle.std.specs.Prelude.{◌≡◌, ℕ, ◌<◌, ◌≤◌, ◌↔◌, ◌||◌, true, false, length, max, nat_lt, slice_index_or};
+ghost use Rattle.std.specs.Prelude.{IsTrue};
 ghost use Rattle.std.specs.FinSet as set;
 ghost use Rattle.wcp_clock.specs.Limits.{most_processes};
 ghost use Rattle.wcp_clock.specs.ProcessNumbers.{AreProcessNumbers};
@@ -55,13 +56,26 @@ impl ProcessSet {
         all
     }
 
-    /// These numbers and `p`.
+    /// The numbers `a` and `b`. Where one of them isn't below [`MAX_PROCS`], no number at all, which no plan takes.
+    pub fn pair(a: u32, b: u32) -> ProcessSet
+        ensures two { a < most_processes → b < most_processes → result ≡ set.insert (set.insert set.empty a) b }
+        ensures none { most_processes ≤ max a b → result ≡ set.empty }
+    {
+        if a.max(b) as usize >= MAX_PROCS {
+            return ProcessSet::none();
+        }
+        ProcessSet::none().with(a).with(b)
+    }
+
+    /// These numbers and `p`. A `p` that isn't below [`MAX_PROCS`], which no process has, is left out.
     pub fn with(&self, p: u32) -> ProcessSet
-        requires { p < most_processes }
-        ensures { result ≡ set.insert self.now p }
+        ensures more { p < most_processes → result ≡ set.insert self.now p }
+        ensures same { most_processes ≤ p → result ≡ self.now }
     {
         let mut more = *self;
-        more.has[p as usize] = true;
+        if (p as usize) < MAX_PROCS {
+            more.has[p as usize] = true;
+        }
         more
     }
 
