@@ -32,22 +32,11 @@ pub(crate) fn run_ring<R: Threads + Wait + Sync>(
         })?;
     }
     let mut plan = plain_plan(alloc, 3, 8, 4)?;
-    plan.watched = pair(a, b);
+    plan.watched = Watched::pair(a, b);
     let book = Mutex::new(Book::new(3));
     let watched = watch_processes(rt, alloc, &plan, 1, workers, &(), &book)?;
     for answer in watched.answers {
         answer?;
     }
     Ok(watched.outcome.report)
-}
-
-/// Workers `a` and `b` of the three.
-fn pair(a: u32, b: u32) -> Watched {
-    let mut pair = Watched::none();
-    for worker in 0..3 {
-        if worker == a || worker == b {
-            pair = pair.with(worker);
-        }
-    }
-    pair
 }

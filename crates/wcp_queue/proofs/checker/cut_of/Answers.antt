@@ -10,7 +10,8 @@ loop-p-preserved c =
     elim c.match-find_row.branch [
       | in-Some w ↦
           let at : slice_get intervals (row_of members c.loop-p.p) ≡ Some w.get.result =
-          subst (λ row. slice_get intervals row ≡ Some w.get.result) w.in-Some.ensures.row w.get.ensures.there in
+          subst (λ row. slice_get intervals row ≡ Some w.get.result) w.in-Some.ensures.row
+          (w.get.ensures.there (omega (arith, w.in-Some.ensures.within, c.requires.each))) in
           rw w.cut-is (entries_with c.loop-p.cut c.loop-p.p members intervals c.loop-p.invariant w.get.result
           (omega (arith, c.requires.few)) at)
       | in_default w ↦

@@ -53,6 +53,11 @@ loop-preserved-then-last g c =
     let got = if_some _ _ _ c.in-Some-2.is c.in_ok-bundle.ensures.some in
     let more = ended_more c.loop.ended c.loop.taker c.next_bundle.new.taker items c.last_item-end.ensures.0
     c.last_item-end.result old.ended got.0 got.1 c.last_item-end.ensures.1 (sym c.last.ensures ∙ c.if-last.true) in
+    let end = c.last_item-end in
+    let own = follow_owned c.loop.taker.members c.loop.taker.taken items end.ensures.0 end.result got.0
+    end.ensures.1 in
+    let number = old.within end.result.from
+    (ap (λ (s : Numbers). set.contains s end.result.from) old.below ∙ old.work.among end.result.from own) in
     record {
       goes_on = tt;
       ends = tt;
@@ -64,7 +69,7 @@ loop-preserved-then-last g c =
       below = old.below ∙ sym same.1;
       within = old.within;
       ended = subst (λ (s : Numbers). AreEnded s (λ p. items_of p c.next_bundle.new.taker.taken))
-          (sym c.with-ended.ensures) more;
+          (sym (c.with-ended.ensures.more number)) more;
       finished = c.are_among-finished-then-last.ensures.among.0;
     }
 
@@ -94,13 +99,3 @@ returns-clause-work g c =
     inner_passed c.loop.taker c.loop.taker c.loop.outlet c.pass_on-2.new.self c.loop.invariant.work refl
     c.pass_on-2.ensures.same c.pass_on-2.ensures.sound c.pass_on-2.ensures.handed
     (λ none. (if_none _ _ none c.pass_on-2.ensures.empty).0)
-
-pub with-ended-requires : goal.with-ended-requires
-with-ended-requires g c =
-    let old = c.loop.invariant in
-    let end = c.last_item-end in
-    let got = if_some _ _ _ c.in-Some-2.is c.in_ok-bundle.ensures.some in
-    let own = follow_owned c.loop.taker.members c.loop.taker.taken c.in-Some-2.bundle end.ensures.0 end.result got.0
-    end.ensures.1 in
-    old.within end.result.from
-    (ap (λ (s : Numbers). set.contains s end.result.from) old.below ∙ old.work.among end.result.from own)

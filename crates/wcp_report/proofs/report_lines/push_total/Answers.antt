@@ -4,7 +4,7 @@ use Rattle.wcp_report.proofs.report_lines.push_total.Goals as goal
 
 pub loop-p-preserved : goal.loop-p-preserved
 loop-p-preserved c =
-    let here = c.get-tally.ensures.there in
+    let here = c.get-tally.ensures.there (omega arith) in
     let emitted = sum_more (λ tally. tally.emitted) c.args.tallies.now c.loop-p.p c.get-tally.result here in
     let taken = sum_more (λ tally. tally.taken) c.args.tallies.now c.loop-p.p c.get-tally.result here in
     record {

@@ -9,16 +9,14 @@ loop-p-init c =
     subst (λ (s : Numbers). HasAllBelow s 0 (IsBelow c.args.plan.now c.args.relay)) (sym c.none-members.ensures)
     (none_below (IsBelow c.args.plan.now c.args.relay))
 
-pub with-members-requires : goal.with-members-requires
-with-members-requires c = omega (arith, few_processes c.args.plan.now c.requires)
-
 pub loop-p-preserved : goal.loop-p-preserved
 loop-p-preserved c =
     let P = IsBelow c.args.plan.now c.args.relay in
     let Has : Numbers → Type 0 = λ s. HasAllBelow s (c.loop-p.p + 1) P in
     elim c.if-is_below.branch [
       | then-is_below w ↦
-          subst Has (sym (w.members-is ∙ w.with-members.ensures))
+          subst Has (sym (w.members-is
+          ∙ w.with-members.ensures.more (omega (arith, few_processes c.args.plan.now c.requires))))
           (one_more c.loop-p.members c.loop-p.p P c.loop-p.invariant (c.is_below.ensures.0 w.if-is_below.true))
       | else-is_below w ↦
           subst Has (sym w.members-is)
