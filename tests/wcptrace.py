@@ -140,9 +140,7 @@ ANSWERS = [
     # A line of another host between the two of an event: the text is taken for that of a third.
     Row(["--while", "cid=holds"], APART, found("cid line 4 holds")),
     Row(["--while", "cid=never"], APART, fault("line 5: text")),
-    # A CR is part of a text, and not of the JSON around one.
-    Row(["--while", "ann=holds$"], 'ann {"ann":1}\r\nholds\r\n', none("ann events 1 matched 0")),
-    Row(["--while", r"ann=holds\r?$"], 'ann {"ann":1}\r\nholds\r\n', found("ann line 2 holds\r")),
+    # A CR is no part of the JSON around a text.
     Row(
         ["--form", "lines", "--while", "ann=holds$"],
         '{"host":"ann","clock":{"ann":1},"event":"holds"}\r\n',
@@ -315,6 +313,8 @@ def noted(answer):
 
 # Logs whose lines end in CR LF.
 WITH_CR = [
+    Row(["--while", "ann=holds$"], 'ann {"ann":1}\r\nholds\r\n', noted(none("ann events 1 matched 0"))),
+    Row(["--while", r"ann=holds\r?$"], 'ann {"ann":1}\r\nholds\r\n', noted(found("ann line 2 holds\r"))),
     Row(
         ["--while", "a=x$"],
         'a {"a":1}\r\nx\r\na {"a":2}\r\nx\r\n',
