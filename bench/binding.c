@@ -1,4 +1,4 @@
-/* Makes the calls of `many_calls probe` from C, in the same order: `binding WORD CALLS`, where the word is observe,
+/* Makes the calls of `bench_calls probe` from C, in the same order: `binding WORD CALLS`, where the word is observe,
  * stamp, receive or note (a stamp, an observation that emits, and the taking of its note).
  * Build: cc -O2 -o binding bench/binding.c bindings/out/libwullaphi.a */
 #include "../bindings/wullaphi.h"

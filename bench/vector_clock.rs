@@ -1,5 +1,5 @@
 //! Plain vector clocks over `[u32; 16]`, hand-written, as a measure for the probe: the calls of
-//! `many_calls probe`, in the same order: `vector_clock WORD CALLS`, where the word is observe, stamp or receive.
+//! `bench_calls probe`, in the same order: `vector_clock WORD CALLS`, where the word is observe, stamp or receive.
 
 const PROCS: u32 = 16;
 

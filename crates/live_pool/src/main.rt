@@ -3,7 +3,7 @@
 #![tactic(auto)]
 
 use std::process::ExitCode;
-use watched_pool::run_program;
+use example_pool::run_program;
 
 fn main(rt: HostRuntime) -> ExitCode {
     ExitCode::from(run_program(&rt))

@@ -2,7 +2,7 @@
 #![tactic(auto)]
 
 use anyhow::Result;
-use watched_ring::run_program;
+use example_ring::run_program;
 
 fn main(rt: HostRuntime) -> Result<()> {
     run_program(&rt)

@@ -1,6 +1,6 @@
 use Rattle.std.specs.Prelude.{◌≡◌, ℕ, List, Result, Ok, Err}
 use Rattle.std.specs.Io.KnownBytes.{Appends, Keeps}
-use Rattle.wcp_input.specs.Input.{Known}
+use Rattle.wcp_io.specs.Input.{Known}
 use Rattle.wcp_output.specs.Fronts.{AppendsFront}
 use Rattle.wcp_cli.specs.declared.fault.Fault.{Fault}
 use Rattle.wcp_cli.specs.declared.words.Request.{Request}

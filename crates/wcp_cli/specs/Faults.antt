@@ -1,5 +1,5 @@
-use Rattle.wcp_input.specs.declared.fault.ReadTextFault.{ReadTextFault}
-use Rattle.wcp_input.specs.declared.fault.ReadTextFault.TheVariants as input
+use Rattle.wcp_io.specs.declared.fault.ReadTextFault.{ReadTextFault}
+use Rattle.wcp_io.specs.declared.fault.ReadTextFault.TheVariants as input
 use Rattle.wcp_script.specs.declared.fault.ReadFault.{ReadFault}
 use Rattle.wcp_script.specs.declared.fault.ReadFault.TheVariants as read
 use Rattle.wcp_cli.specs.declared.fault.Fault.{Fault}

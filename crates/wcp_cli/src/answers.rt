@@ -11,7 +11,7 @@ use std::alloc::Global;
 use std::io::Read;
 use std::sync::Wait;
 use std::thread::Threads;
-use wcp_input::read_text;
+use wcp_io::read_text;
 use wcp_model::{Outcome, Report};
 use wcp_report::{replay_text, report_text};
 use wcp_run::run;

@@ -4,7 +4,7 @@ ghost use Rattle.wcp_cli.specs.Faults.{fault_of_input, fault_of_read};
 
 use std::alloc::AllocError;
 use thiserror::Error;
-use wcp_input::ReadTextFault;
+use wcp_io::ReadTextFault;
 use wcp_output::WriteFailed;
 use wcp_run::RunFault;
 use wcp_script::{ReadFault, ScriptFault};

@@ -10,14 +10,14 @@ use Rattle.std.proofs.Common.{option_map}
 use Rattle.std.proofs.lemmas.List.{map-append}
 use Rattle.std.proofs.KnownBytes.{prepend_known-nil, Consumes-nil}
 use Rattle.std.specs.Io.KnownBytes.{prepend_known}
-use Rattle.wcp_log.specs.Judgement.{◌>>=◌}
+use Rattle.trace_log.specs.Judgement.{◌>>=◌}
 use Rattle.std.specs.Result.{IsErr, IsErrAnd}
 use Rattle.std.proofs.lemmas.Result.{err_from_is_err_and}
 use Rattle.wcp_lines.specs.declared.fault.InputFault.{InputFault}
 use Rattle.wcp_lines.specs.declared.fault.InputFault.TheVariants as input
-use Rattle.wcp_log.specs.declared.fault.ReadFault.{ReadFault}
-use Rattle.wcp_log.specs.declared.fault.ReadFault.TheVariants as read
-use Rattle.wcp_log.specs.State.{ReadsLine}
+use Rattle.trace_log.specs.declared.fault.ReadFault.{ReadFault}
+use Rattle.trace_log.specs.declared.fault.ReadFault.TheVariants as read
+use Rattle.trace_log.specs.State.{ReadsLine}
 use Rattle.wcp_events.specs.declared.fault.EventFault.{EventFault}
 use Rattle.wcp_events.specs.Faults.{fault_of_input, fault_of_read}
 use Rattle.wcp_events.proofs.Turns.{turn_follows, next_of_long}

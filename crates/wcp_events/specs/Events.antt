@@ -1,12 +1,12 @@
 -- The events that the lines of a log end, and what a whole log says.
 use Rattle.std.specs.Prelude.{◌≡◌, ℕ, List, [], ◌∷◌, ◌++◌, map, Result, Ok, Err}
 use Rattle.std.specs.Option.{option_to_list}
-use Rattle.wcp_log.specs.declared.fault.LogFault.{LogFault}
-use Rattle.wcp_log.specs.declared.turn.Form.{Form}
-use Rattle.wcp_log.specs.Judgement.{◌>>=◌}
-use Rattle.wcp_log.specs.Event.{Event}
-use Rattle.wcp_log.specs.Order.{last_clock, follows}
-use Rattle.wcp_log.specs.Log.{Logged, SoFar, Turn, after, end_of, log_from, next_turn, no_lines}
+use Rattle.trace_log.specs.declared.fault.LogFault.{LogFault}
+use Rattle.trace_log.specs.declared.turn.Form.{Form}
+use Rattle.trace_log.specs.Judgement.{◌>>=◌}
+use Rattle.trace_log.specs.Event.{Event}
+use Rattle.trace_log.specs.Order.{last_clock, follows}
+use Rattle.trace_log.specs.Log.{Logged, SoFar, Turn, after, end_of, log_from, next_turn, no_lines}
 
 -- The event of a turn, if there is one, and then those of later turns.
 abbrev pub event_and_later : Result Turn LogFault → (Turn → List Logged) → List Logged

@@ -1,8 +1,8 @@
 -- The fault of a reader of events where it got no line, or where the log didn't read it.
 use Rattle.wcp_lines.specs.declared.fault.InputFault.{InputFault}
 use Rattle.wcp_lines.specs.declared.fault.InputFault.TheVariants as input
-use Rattle.wcp_log.specs.declared.fault.ReadFault.{ReadFault}
-use Rattle.wcp_log.specs.declared.fault.ReadFault.TheVariants as read
+use Rattle.trace_log.specs.declared.fault.ReadFault.{ReadFault}
+use Rattle.trace_log.specs.declared.fault.ReadFault.TheVariants as read
 use Rattle.wcp_events.specs.declared.fault.EventFault.{EventFault}
 use Rattle.wcp_events.specs.declared.fault.EventFault.TheVariants.{Log, Read, NoMemory}
 

@@ -2,15 +2,15 @@
 use Rattle.std.specs.Prelude.{◌≡◌, ℕ, List, [], ◌∷◌, ◌++◌, Option, Some, None, IfSome, Result, Ok, Err}
 use Rattle.std.specs.Io.KnownBytes.{Consumes, IsAtEnd}
 use Rattle.wcp_lines.specs.Lines.{lines_of}
-use Rattle.wcp_log.specs.declared.fault.LogFault.{LogFault}
-use Rattle.wcp_log.specs.declared.log.Log.{Log}
-use Rattle.wcp_log.specs.declared.turn.Form.{Form}
-use Rattle.wcp_log.specs.declared.turn.Logged.{Logged as OwnLogged}
-use Rattle.wcp_log.specs.Event.{Event}
-use Rattle.wcp_log.specs.Order.{last_clock, follows}
-use Rattle.wcp_log.specs.Log.{Half, stamped, texted, Logged, SoFar, log_from, no_lines}
-use Rattle.wcp_log.specs.State.{HasRead}
-use Rattle.wcp_log.specs.Turns.{seen_logged}
+use Rattle.trace_log.specs.declared.fault.LogFault.{LogFault}
+use Rattle.trace_log.specs.declared.log.Log.{Log}
+use Rattle.trace_log.specs.declared.turn.Form.{Form}
+use Rattle.trace_log.specs.declared.turn.Logged.{Logged as OwnLogged}
+use Rattle.trace_log.specs.Event.{Event}
+use Rattle.trace_log.specs.Order.{last_clock, follows}
+use Rattle.trace_log.specs.Log.{Half, stamped, texted, Logged, SoFar, log_from, no_lines}
+use Rattle.trace_log.specs.State.{HasRead}
+use Rattle.trace_log.specs.Turns.{seen_logged}
 use Rattle.wcp_events.specs.declared.fault.EventFault.{EventFault}
 use Rattle.wcp_events.specs.declared.fault.EventFault.TheVariants as fault
 use Rattle.wcp_events.specs.Events.{logged_from, whole_log, events_of, FollowsIn}

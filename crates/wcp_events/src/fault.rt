@@ -5,7 +5,7 @@ ghost use Rattle.wcp_events.specs.Faults.{fault_of_input, fault_of_read};
 use std::alloc::AllocError;
 use thiserror::Error;
 use wcp_lines::InputFault;
-use wcp_log::{LogFault, ReadFault};
+use trace_log::{LogFault, ReadFault};
 
 /// Why no event was read.
 #[derive(Clone, Copy, Debug, PartialEq, Eq, Error)]

@@ -5,7 +5,7 @@
 //! there; and a fault of the log exactly where the lines of the input have it first (`whole_log` in
 //! `specs/Events.antt`), whatever comes after that line. An event's clock follows that of its host's event before.
 //! A read is answered to have failed only where no byte waits that was read. The lines of an input are those of
-//! `wcp_lines`, and what they say is what `wcp_log` says.
+//! `wcp_lines`, and what they say is what `trace_log` says.
 #![tactic(auto)]
 
 mod fault;

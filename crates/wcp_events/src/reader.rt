@@ -6,7 +6,7 @@ use crate::fault::EventFault;
 use std::alloc::{AllocError, Global};
 use std::io::Read;
 use wcp_lines::LineReader;
-use wcp_log::{Form, Log, Logged};
+use trace_log::{Form, Log, Logged};
 
 /// Reads the events of an input, always the same one.
 #[derive(Drop)]

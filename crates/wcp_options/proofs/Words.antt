@@ -5,7 +5,7 @@ pub use Rattle.clap.specs.Words.{with_rule, App, HasKind, kind_of}
 pub use Rattle.std.proofs.Common.{◌≡◌, ◌∙◌, ◌⊎◌, inl, inr, true, List, [], codes, map, Option, Some, None, option_map}
 pub use Rattle.std.proofs.Common.{Result, Ok, Err, IfOk, refl, sym, subst, ap, ap₂}
 pub use Rattle.std.proofs.lemmas.Result.{IfOk-weaker}
-pub use Rattle.wcp_log.specs.declared.turn.Form.TheVariants.{Shiviz}
+pub use Rattle.trace_log.specs.declared.turn.Form.TheVariants.{Shiviz}
 pub use Rattle.wcp_options.specs.Options.{program, seen_texts, values_at, form_named, form_at}
 pub use Rattle.wcp_options.specs.Requests.{IsRequestOf, Passed, Refused, IsTraceOf, IsRefusalOf}
 pub use Rattle.wcp_options.specs.declared.options.Request.{Request}

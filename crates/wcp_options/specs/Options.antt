@@ -6,8 +6,8 @@ use Rattle.std.specs.Str.{bytes_eq}
 use Rattle.clap.specs.Words.{App, Row, Rule, Text, all_of, first_of, new_app, new_rule}
 use Rattle.clap.specs.Simple.{on_top}
 use Rattle.clap.specs.declared.builder.action.ArgAction.TheVariants.{Append, SetTrue}
-use Rattle.wcp_log.specs.declared.turn.Form.{Form}
-use Rattle.wcp_log.specs.declared.turn.Form.TheVariants.{Lines, Shiviz, ShivizReversed}
+use Rattle.trace_log.specs.declared.turn.Form.{Form}
+use Rattle.trace_log.specs.declared.turn.Form.TheVariants.{Lines, Shiviz, ShivizReversed}
 
 -- An option that takes one value at each use, and may be used again.
 abbrev pub condition_option : Text → Rule

@@ -9,7 +9,7 @@ use clap::error::ErrorKind;
 use clap::{Arg, ArgAction, ArgMatches, Command, Error};
 use std::alloc::{AllocError, Global};
 use std::convert::AsStr;
-use wcp_log::Form;
+use trace_log::Form;
 
 /// What the words ask for.
 #[derive(Debug, Drop)]

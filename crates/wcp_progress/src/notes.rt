@@ -1,7 +1,7 @@
 use std::io::Write;
 use std::time::{Clock, Duration, Instant};
-use wcp_detect::{Listener, WatchedHosts};
-use wcp_log::Event;
+use trace_detect::{Listener, WatchedHosts};
+use trace_log::Event;
 
 /// So many seconds pass before it is told again how far a log was read.
 const SECONDS: u64 = 60;

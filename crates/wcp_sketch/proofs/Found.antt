@@ -9,7 +9,7 @@ use Rattle.wcp_model.specs.declared.workload.Task.{Task}
 use Rattle.wcp_model.specs.Outcome.{IsReportOf}
 use Rattle.wcp_model.specs.WorkloadComputation.{CouldBeRead, IsFitOrder, IsWithin, computation_of}
 use Rattle.wcp_order.proofs.Lengths.{same_length}
-use Rattle.wcp_layout.specs.Halves.{MaySplit}
+use Rattle.draw_layout.specs.Halves.{MaySplit}
 use Rattle.wcp_sketch.specs.Sketches.{cut_of}
 
 -- a cut that was found splits an order

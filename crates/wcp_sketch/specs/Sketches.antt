@@ -9,8 +9,8 @@ use Rattle.wcp_model.specs.declared.flag.Flag.{Flag}
 use Rattle.wcp_model.specs.Cut.{Intervals}
 use Rattle.wcp_model.specs.Outcome.{IsWorkloadOutcome}
 use Rattle.wcp_model.specs.WorkloadComputation.{IsFitOrder}
-use Rattle.wcp_layout.specs.declared.layout.Layout.{Layout}
-use Rattle.wcp_draw.specs.Picture.{IsPicture}
+use Rattle.draw_layout.specs.declared.layout.Layout.{Layout}
+use Rattle.draw_picture.specs.Picture.{IsPicture}
 use Rattle.wcp_script.specs.TextFault.{workloads, Spells}
 use Rattle.wcp_sketch.specs.Names.{IsNamed}
 

@@ -6,7 +6,7 @@
 //! it has an empty name, or another number of names than the workload that the text spells has processes; else there is
 //! a picture, unless memory runs out.
 //!
-//! Tested: how the layout is drawn, as `wcp_draw` says, and that each process has its own name, of a list or by number.
+//! Tested: how the layout is drawn, as `draw_picture` says, and that each process has its own name, of a list or by number.
 #![tactic(auto)]
 
 mod naming;

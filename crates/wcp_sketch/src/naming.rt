@@ -5,7 +5,7 @@ ghost use Rattle.wcp_sketch.specs.Names.{AreParts, IsMisnamed, IsNamed, seen};
 
 use crate::sketch_fault::SketchFault;
 use std::alloc::{AllocError, Global};
-use wcp_draw::Name;
+use draw_picture::Name;
 
 /// The names of `n` processes: those between the commas of a list, or `process 0` and so on where there is no list.
 pub(crate) fn names_of(alloc: Global, list: Option<&str>, n: u32) -> Result<Vec<Name>, SketchFault>

@@ -9,8 +9,8 @@ use crate::naming::names_of;
 use crate::picture::Picture;
 use crate::sketch_fault::SketchFault;
 use std::alloc::{AllocError, Global};
-use wcp_draw::{Name, draw};
-use wcp_layout::lay_out;
+use draw_picture::{Name, draw};
+use draw_layout::lay_out;
 use wcp_model::{GlobalCut, Report, Task, Workload};
 use wcp_script::{read_ordered, single_in_order};
 

@@ -31,7 +31,7 @@ use wcp_relay::{Bundle, CheckerInbox};
 ///
 /// What is posted and told stands in no clause, but that a cut is told only where the checker has found it, and that
 /// the book ends with no other report than the checker's; `settle` compares the shares and the cut, and so do the tests
-/// of `run_cases`, which also show the end.
+/// of `test_watch`, which also show the end.
 pub fn check_loop<R: Wait>(
     rt: &R,
     inbox: CheckerInbox,

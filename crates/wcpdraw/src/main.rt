@@ -5,7 +5,7 @@ use std::env;
 use std::io::ErrorKind;
 use std::process::ExitCode;
 use std::rt::Env;
-use wcp_draw_cli::{Fault, drive, refuse};
+use draw_cli::{Fault, drive, refuse};
 
 fn main(rt: HostRuntime) -> ExitCode {
     let status = match words(&rt) {

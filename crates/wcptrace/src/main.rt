@@ -6,7 +6,7 @@ use std::io::{ErrorKind, IsTerminal};
 use std::process::ExitCode;
 use std::rt::Env;
 use wcp_progress::{Notes, Teller, TellingReader};
-use wcp_trace::{Fault, drive, refuse};
+use trace_cli::{Fault, drive, refuse};
 
 /// The word that asks to be told how far the log was read.
 const PROGRESS: &str = "--progress";

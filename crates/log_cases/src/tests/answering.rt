@@ -1,12 +1,12 @@
 ghost use Rattle.std.specs.Prelude.{◌≡◌, [], ◌∷◌, codes, length, map};
-ghost use Rattle.wcp_moment.specs.Views.{seen_watch};
-ghost use Rattle.wcp_moment.specs.Search.{watched_by};
+ghost use Rattle.trace_moment.specs.Views.{seen_watch};
+ghost use Rattle.trace_moment.specs.Search.{watched_by};
 
 use std::alloc::{AllocError, Global};
 use std::fmt::Write;
 use std::process::Abort;
-use wcp_log::{Form, Log, Logged, ReadFault};
-use wcp_moment::{Lasting, Search, Watched};
+use trace_log::{Form, Log, Logged, ReadFault};
+use trace_moment::{Lasting, Search, Watched};
 
 /// Compares when the moment of alice and bob holding the lock was known, and their events with their lines.
 pub fn assert_answer(

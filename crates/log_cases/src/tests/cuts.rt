@@ -1,7 +1,7 @@
 use crate::tests::reading::read_log;
 use std::alloc::Global;
 use std::process::Abort;
-use wcp_log::Form;
+use trace_log::Form;
 
 const LOG: &[u8] = b"a {\"a\":1}\nx\nb {\"a\":1,\"b\":1}\ny\na {\"a\":3}\nz\n";
 

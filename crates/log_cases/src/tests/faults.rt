@@ -2,7 +2,7 @@ use crate::tests::reading::assert_fault;
 use FaultKind::{Clock, Falls, Order, Own, Text};
 use std::alloc::Global;
 use std::process::Abort;
-use wcp_log::{FaultKind, Form, LogFault};
+use trace_log::{FaultKind, Form, LogFault};
 
 type Row = (&'static [u8], u64, FaultKind);
 

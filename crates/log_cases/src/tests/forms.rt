@@ -1,7 +1,7 @@
 use crate::tests::reading::read_log;
 use std::alloc::Global;
 use std::process::Abort;
-use wcp_log::Form;
+use trace_log::Form;
 
 const LINES: &[u8] = b"{\"host\":\"alice\",\"clock\":{\"alice\":1},\"event\":\"asks\"}\n\
 {\"level\":3,\"event\":\"grants\",\"clock\":{\"alice\":1,\"server\":2},\"host\":\"server\",\"more\":[{\"x\":null}]}\n\

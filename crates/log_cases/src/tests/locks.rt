@@ -1,5 +1,5 @@
 use crate::tests::answering::assert_answer;
-use wcp_moment::Lasting;
+use trace_moment::Lasting;
 
 /// The lease of alice runs out, and bob gets the lock while she still writes.
 const LEASE_RUNS_OUT: &[u8] = b"server {\"server\":1}\nstarts\n\

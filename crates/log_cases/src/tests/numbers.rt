@@ -1,7 +1,7 @@
 use crate::tests::reading::assert_fault;
 use std::alloc::Global;
 use std::process::Abort;
-use wcp_log::{FaultKind, Form, Log, LogFault, MAX_LINE, ReadFault};
+use trace_log::{FaultKind, Form, Log, LogFault, MAX_LINE, ReadFault};
 
 /// Asks whether a clock may have this number.
 fn check_number(rt: &impl Abort, alloc: Global, number: &str, is_whole: bool) {

@@ -1,7 +1,7 @@
 use crate::tests::answering::answer;
 use std::alloc::Global;
 use std::process::Abort;
-use wcp_moment::Lasting;
+use trace_moment::Lasting;
 
 /// Each piece is an event, and its text has its host's number.
 const ALICE: &[&str] = &[

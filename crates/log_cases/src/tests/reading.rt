@@ -1,7 +1,7 @@
 use std::alloc::Global;
 use std::fmt::Write;
 use std::process::Abort;
-use wcp_log::{Event, Form, Log, LogFault, Logged, ReadFault};
+use trace_log::{Event, Form, Log, LogFault, Logged, ReadFault};
 
 /// What a log was read as, event by event, and its fault or its end.
 #[derive(Drop)]

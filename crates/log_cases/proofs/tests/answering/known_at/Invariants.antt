@@ -1,5 +1,5 @@
 use Rattle.std.proofs.Common.{◌≡◌, length}
-use Rattle.wcp_moment.specs.Search.{watched_by}
+use Rattle.trace_moment.specs.Search.{watched_by}
 use Rattle.log_cases.proofs.tests.answering.known_at.Given as goal
 
 abbrev pub invariant-loop-row : goal.invariant-loop-row

@@ -1,0 +1,41 @@
+//! Makes many calls, so that what they cost can be measured: `bench_calls PART WORD..`. The part is `probe`, `ring`,
+//! `lane`, `tree` or `run`; the words behind it are those of the module that is named so.
+#![tactic(auto)]
+
+mod lane;
+mod probe;
+mod ring;
+mod run;
+mod taken;
+mod tree;
+mod words;
+
+use anyhow::{Result, bail};
+use std::env;
+use std::rt::Files;
+use std::sync::Wait;
+use std::thread::Threads;
+use std::time::Clock;
+
+/// Makes the calls that the words behind the program's name ask for.
+fn make_calls<R: Threads + Wait + Clock + Files + Print + Eprint + AllocGlobal + Sync>(
+    rt: &R,
+    words: &[String],
+) -> Result<()> {
+    let [_, part, words @ ..] = words else {
+        bail!("no part");
+    };
+    match part.as_str() {
+        "probe" => probe::make_calls(rt, words),
+        "ring" => ring::make_calls(rt, words),
+        "lane" => lane::make_calls(rt, words),
+        "tree" => tree::make_calls(rt, words),
+        "run" => run::make_calls(rt, words),
+        _ => bail!("no such part"),
+    }
+}
+
+fn main(rt: HostRuntime) -> Result<()> {
+    let words: Vec<String> = env::args(&rt)?.collect(rt.alloc())?;
+    make_calls(&rt, words.as_slice())
+}

@@ -1,0 +1,21 @@
+-- Why there is no answer.
+use Rattle.std.proofs.Common.{◌≡◌, ℕ, Result, Ok, Err, IsErr, refl, sym, true≢false}
+use Rattle.wcp_io.specs.Input.{Known}
+use Rattle.draw_cli.specs.Answers.{IsWhyNoAnswer, IsWhyRefused}
+use Rattle.draw_cli.specs.declared.fault.Fault.{Fault}
+use Rattle.draw_cli.specs.declared.fault.Fault.TheVariants as fault
+use Rattle.draw_cli.specs.declared.words.Request.{Request}
+use Rattle.draw_cli.specs.Edge.{status_after}
+
+pub status_after_err : (r : Result ℕ Fault) → IsErr r → status_after r ≡ 2
+status_after_err (Ok status) bad = absurd (true≢false (sym bad))
+status_after_err (Err fault) is = refl
+
+-- Why a request has no answer is why it is refused.
+pub why_refused : (request : Request) (bytes bytes_after : Known) (given : Fault)
+    → IsWhyNoAnswer request bytes bytes_after given → IsWhyRefused request bytes bytes_after given
+why_refused request bytes bytes_after fault.Memory why = tt
+why_refused request bytes bytes_after fault.Write why = tt
+why_refused request bytes bytes_after fault.Usage why = why
+why_refused request bytes bytes_after (fault.Input given) why = why
+why_refused request bytes bytes_after (fault.Sketch given) why = why

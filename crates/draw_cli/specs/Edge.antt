@@ -1,0 +1,38 @@
+-- What the program does at its edge.
+use Rattle.std.specs.Prelude.{◌≡◌, ℕ, List, Result, Ok, Err}
+use Rattle.std.specs.Io.KnownBytes.{Appends, Keeps}
+use Rattle.wcp_io.specs.Input.{Known}
+use Rattle.wcp_output.specs.Fronts.{AppendsFront}
+use Rattle.draw_cli.specs.declared.fault.Fault.{Fault}
+use Rattle.draw_cli.specs.declared.words.Request.{Request}
+use Rattle.draw_cli.specs.Answers.{AnswersRequest}
+
+-- The input and the output of the program, each before and after.
+pub record Edge : Type 0 where
+  pub input : Known
+  pub input_after : Known
+  pub output : Known
+  pub output_after : Known
+
+-- The edge with these four.
+abbrev pub edge_of : Known → Known → Known → Known → Edge
+edge_of input input_after output output_after = record {
+  input = input;
+  input_after = input_after;
+  output = output;
+  output_after = output_after;
+}
+
+-- The program answers a request, with this status: it writes the answer whole; or, where a write failed, a front of it,
+-- with status 2; or, where there is no answer, nothing, with status 2.
+pub data DoesAsked (request : Request) (edge : Edge) (status : ℕ) : Type 0 where
+  Whole : (printed : List ℕ) → AnswersRequest request edge.input edge.input_after printed status
+      → Appends edge.output edge.output_after printed → DoesAsked request edge status
+  Front : (printed : List ℕ) (wanted : ℕ) → AnswersRequest request edge.input edge.input_after printed wanted
+      → AppendsFront edge.output edge.output_after printed → status ≡ 2 → DoesAsked request edge status
+  Quiet : Keeps edge.output edge.output_after → status ≡ 2 → DoesAsked request edge status
+
+-- The exit status: that of the answer, or 2 where there is none.
+abbrev pub status_after : Result ℕ Fault → ℕ
+status_after (Ok status) = status
+status_after (Err fault) = 2

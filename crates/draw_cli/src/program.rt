@@ -1,0 +1,133 @@
+//! The program, over any reader and writers.
+ghost use Rattle.std.specs.Prelude.{◌≡◌, ◌≤◌, string_bytes, IfOk, IfErr};
+ghost use Rattle.std.specs.Io.KnownBytes.{Keeps};
+ghost use Rattle.draw_cli.specs.Answers.{AnswersPicture, AnswersRequest, status_of};
+ghost use Rattle.draw_cli.specs.Answers.{seen_list, IsWhyNoAnswer, IsWhyNoPicture, IsWhyRefused};
+ghost use Rattle.draw_cli.specs.Edge.{DoesAsked, edge_of, status_after};
+ghost use Rattle.draw_cli.specs.declared.words.Request.{Request};
+
+use crate::fault::Fault;
+use crate::help::VERSION;
+use crate::words::{Request, read_words};
+use std::alloc::Global;
+use std::convert::AsStr;
+use std::io::{Read, Write};
+use wcp_io::read_text;
+use wcp_output::write_whole;
+use wcp_sketch::sketch;
+
+/// The status with a picture that shows a cut, and after help and the version.
+const FOUND: u8 = 0;
+
+/// The status with a picture of a workload that has no cut.
+const NONE: u8 = 1;
+
+/// The status where there is no answer.
+const REFUSED: u8 = 2;
+
+/// What the program prints, and its exit status.
+#[derive(Debug, Drop)]
+struct Answer {
+    text: String,
+    status: u8,
+}
+
+/// Runs the program on its words, of which the first is its name, and gives its exit status.
+///
+/// The input is read to its end. The answer is written in one piece, when all of it is known. Where there is none,
+/// `errors` gets one line that says why.
+pub fn drive<S: AsStr, I: Read, O: Write, E: Write>(
+    alloc: Global,
+    words: &[S],
+    input: &mut I,
+    output: &mut O,
+    errors: &mut E,
+) -> u8
+    ensures status { result ≤ 2 }
+    ensures quiet { result ≤ 1 → Keeps (E.contents errors.old) (E.contents errors.new) }
+    ensures does { (request : Request) × DoesAsked request (edge_of (I.remaining input.old) (I.remaining input.new)
+        (O.contents output.old) (O.contents output.new)) result }
+{
+    let Ok(request) = read_words(alloc, words) else {
+        return refuse(errors, Fault::Memory);
+    };
+    match obey(alloc, request, input, output) {
+        Ok(status) => status,
+        Err(fault) => refuse(errors, fault),
+    }
+}
+
+/// Writes the line that says why there is no answer, and gives the status where there is none. It is that status also
+/// where the line can't be written.
+pub fn refuse<E: Write>(errors: &mut E, fault: Fault) -> u8
+    ensures { result ≡ 2 }
+{
+    let _ = writeln!(errors, "wcpdraw: {fault}");
+    REFUSED
+}
+
+/// Does what a request asks for, and gives the status.
+fn obey<I: Read, O: Write>(
+    alloc: Global,
+    request: Request<'_>,
+    input: &mut I,
+    output: &mut O,
+) -> Result<u8, Fault>
+    ensures status { IfOk result (λ status. status ≤ 1) }
+    ensures does { DoesAsked request.entry (edge_of (I.remaining input.old) (I.remaining input.new)
+        (O.contents output.old) (O.contents output.new)) (status_after result) }
+    ensures fault { IfErr result (IsWhyRefused request.entry (I.remaining input.old) (I.remaining input.new)) }
+{
+    let answer = answer_to(alloc, request, input)?;
+    write_whole(output, answer.text.as_bytes())?;
+    Ok(answer.status)
+}
+
+/// The answer to a request.
+fn answer_to<I: Read>(alloc: Global, request: Request<'_>, input: &mut I) -> Result<Answer, Fault>
+    ensures answer { IfOk result (λ answer. AnswersRequest request.entry (I.remaining input.old) (I.remaining input.new)
+        (string_bytes answer.text) answer.status) }
+    ensures status { IfOk result (λ answer. answer.status ≤ 1) }
+    ensures fault { IfErr result (IsWhyNoAnswer request.entry (I.remaining input.old) (I.remaining input.new)) }
+{
+    match request {
+        Request::Picture(list) => picture_of_input(alloc, list, input),
+        Request::Help(text) => Ok(Answer {
+            text,
+            status: FOUND,
+        }),
+        Request::Version => Ok(Answer {
+            text: String::from_str(alloc, VERSION)?,
+            status: FOUND,
+        }),
+        Request::Unknown => Err(Fault::Usage),
+    }
+}
+
+/// The picture of the workload that the input spells, whose processes have the names of this list.
+fn picture_of_input<I: Read>(
+    alloc: Global,
+    list: Option<&str>,
+    input: &mut I,
+) -> Result<Answer, Fault>
+    ensures answer { IfOk result (λ answer. AnswersPicture (seen_list list.entry) (I.remaining input.old)
+        (I.remaining input.new) (string_bytes answer.text) answer.status) }
+    ensures status { IfOk result (λ answer. answer.status ≤ 1) }
+    ensures fault { IfErr result (IsWhyNoPicture (seen_list list.entry) (I.remaining input.old)
+        (I.remaining input.new)) }
+{
+    let text = read_text(alloc, input)?;
+    let picture = sketch(alloc, list, &text)?;
+    Ok(Answer {
+        text: picture.text,
+        status: status_of(picture.found),
+    })
+}
+
+/// The status with a picture, which shows a cut or none.
+fn status_of(found: bool) -> u8
+    ensures value { result ≡ status_of found }
+    ensures small { result ≤ 1 }
+{
+    if found { FOUND } else { NONE }
+}

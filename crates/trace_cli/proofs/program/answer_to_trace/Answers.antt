@@ -1,0 +1,25 @@
+use Rattle.std.proofs.Common.{◌∙◌, List, ap, subst}
+use Rattle.std.specs.Io.KnownBytes.{prepend_known}
+use Rattle.trace_condition.specs.declared.condition.Condition.{Condition}
+use Rattle.trace_condition.specs.Asked.{conditions_of}
+use Rattle.trace_detect.specs.Detection.{IsAnswer}
+use Rattle.trace_cli.proofs.Saying.{asked_same}
+use Rattle.trace_cli.proofs.program.answer_to_trace.Goals as goal
+
+pub returns-clause-answer : goal.returns-clause-answer
+returns-clause-answer g c =
+    let options = c.args.options.now in
+    let read = c.in_ok-conditions.ensures.read in
+    let detected = c.in_ok-detect.ensures in
+    let answer = c.in_ok-detect.field-0 in
+    let input = g.I.Read.remaining c.args.input.now in
+    let rest = g.I.Read.remaining c.detect.new.input in
+    record {
+      conditions = c.in_ok-conditions.conditions.items;
+      said = ap conditions_of (asked_same options _ _ _ _ c.as_slice.ensures.value c.as_slice-2.ensures.value
+          c.as_slice-3.ensures.value c.as_slice-4.ensures.value) ∙ read.0;
+      were_read = read.1;
+      ahead = detected.0;
+      answer = subst (λ (cs : List Condition). IsAnswer options.form cs input
+          (prepend_known detected.0 rest) answer.text.items answer.status) c.deref.ensures.value detected.1;
+    }

@@ -1,0 +1,44 @@
+-- What the program does at its edge.
+use Rattle.std.specs.Prelude.{◌≡◌, ℕ, List, Result, Ok, Err}
+use Rattle.std.specs.Io.KnownBytes.{Appends, Keeps}
+use Rattle.wcp_output.specs.Fronts.{AppendsFront}
+use Rattle.wcp_options.specs.declared.options.Request.{Request}
+use Rattle.wcp_options.specs.Requests.{IsRequestOf, spelled}
+use Rattle.trace_cli.specs.declared.fault.Fault.{Fault}
+use Rattle.trace_cli.specs.Requested.{AnswersRequest, Known}
+
+-- The input and the output of the program, each before and after.
+pub record Edge : Type 0 where
+  pub input : Known
+  pub input_after : Known
+  pub output : Known
+  pub output_after : Known
+
+-- The edge with these four.
+abbrev pub edge_of : Known → Known → Known → Known → Edge
+edge_of input input_after output output_after = record {
+  input = input;
+  input_after = input_after;
+  output = output;
+  output_after = output_after;
+}
+
+-- The words, of which the first is the program's name, ask for this request: what `clap` finds in them.
+abbrev pub AskFor : List (List ℕ) → Request → Type 0
+AskFor words request = IsRequestOf (spelled words) request
+
+-- The program answers what the words ask for, with this status: it writes the answer whole; or, where a write failed, a
+-- front of it, with status 2; or, where there is no answer, nothing, with status 2.
+pub data DoesAsked (words : List (List ℕ)) (edge : Edge) (status : ℕ) : Type 0 where
+  Whole : (request : Request) (printed : List ℕ) → AskFor words request
+      → AnswersRequest request edge.input edge.input_after printed status
+      → Appends edge.output edge.output_after printed → DoesAsked words edge status
+  Front : (request : Request) (printed : List ℕ) (wanted : ℕ) → AskFor words request
+      → AnswersRequest request edge.input edge.input_after printed wanted
+      → AppendsFront edge.output edge.output_after printed → status ≡ 2 → DoesAsked words edge status
+  Quiet : Keeps edge.output edge.output_after → status ≡ 2 → DoesAsked words edge status
+
+-- The exit status: that of the answer, or 2 where there is none.
+abbrev pub status_after : Result ℕ Fault → ℕ
+status_after (Ok status) = status
+status_after (Err fault) = 2

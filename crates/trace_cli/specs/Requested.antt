@@ -1,0 +1,46 @@
+-- The answer to what the words ask for.
+use Rattle.std.specs.Prelude.{◌≡◌, ℕ, List, [], ◌∷◌, ◌++◌, map, All, Option, Some, codes, string_bytes}
+use Rattle.std.specs.Io.KnownBytes.{Keeps, prepend_known}
+use Rattle.wcp_options.specs.declared.options.Options.{Options}
+use Rattle.wcp_options.specs.declared.options.Request.{Request}
+use Rattle.wcp_options.specs.declared.options.Request.TheVariants.{Trace, Help, Version, Unknown}
+use Rattle.wcp_options.specs.Options.{seen_texts}
+use Rattle.trace_condition.specs.declared.condition.Condition.{Condition}
+use Rattle.trace_condition.specs.Asked.{Asked, conditions_of}
+use Rattle.trace_condition.specs.Conditions.{said_by, IsRead}
+use Rattle.trace_detect.specs.Detection.{IsAnswer}
+
+-- What is known of the bytes that a reader has left, or of those that a writer holds.
+abbrev pub Known : Type 0
+Known = Option (List ℕ)
+
+-- The words HOST=REGEX of the options.
+abbrev pub asked_by : Options → Asked
+asked_by options = record {
+  whiles = seen_texts options.whiles.items;
+  froms = seen_texts options.froms.items;
+  untils = seen_texts options.untils.items;
+  ats = seen_texts options.ats.items;
+}
+
+-- The answer to a log, under the conditions that the options say. Some bytes of the input were read ahead.
+pub record AnswersTrace (options : Options) (input input_after : Known) (printed : List ℕ) (status : ℕ) : Type 0 where
+  pub conditions : List Condition
+  pub said : conditions_of (asked_by options) ≡ Some (map said_by conditions)
+  pub were_read : All IsRead conditions
+  pub ahead : List ℕ
+  pub answer : IsAnswer options.form conditions input (prepend_known ahead input_after) printed status
+
+-- The answer to a request for the version: the program's name and version, and the toolchain that it is proved with,
+-- a line each.
+abbrev pub version_text : List ℕ
+version_text = codes "wcptrace 0.1.0" ++ 10 ∷ codes "rattle-kit-13f logic dac8208d650f15bf" ++ 10 ∷ []
+
+-- The answer to a request. Help, whose text it carries, and the version read nothing.
+abbrev pub AnswersRequest : Request → Known → Known → List ℕ → ℕ → Type 0
+AnswersRequest (Trace options) input input_after printed status = AnswersTrace options input input_after printed status
+AnswersRequest (Help text) input input_after printed status =
+    Keeps input input_after × (printed ≡ string_bytes text) × (status ≡ 0)
+AnswersRequest Version input input_after printed status =
+    Keeps input input_after × (printed ≡ version_text) × (status ≡ 0)
+AnswersRequest Unknown input input_after printed status = ⊥

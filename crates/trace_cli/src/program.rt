@@ -1,0 +1,118 @@
+//! The program, over any reader and writers.
+ghost use Rattle.std.specs.Prelude.{◌≡◌, ◌≤◌, map, IfOk};
+ghost use Rattle.std.specs.Io.KnownBytes.{Keeps};
+ghost use Rattle.trace_cli.specs.Edge.{DoesAsked, edge_of, status_after};
+ghost use Rattle.trace_cli.specs.Requested.{AnswersRequest, AnswersTrace};
+
+use crate::fault::Fault;
+use std::alloc::Global;
+use std::convert::AsStr;
+use std::io::{Read, Write};
+use trace_condition::{ConditionWords, read_conditions};
+use trace_detect::{Answer, Listener, detect};
+use wcp_options::{Options, Request, VERSION, read_options};
+use wcp_output::write_whole;
+
+/// The status after help and the version.
+const TOLD: u8 = 0;
+
+/// The status where there is no answer.
+const REFUSED: u8 = 2;
+
+/// Runs the program on its words, of which the first is its name, and gives its exit status.
+///
+/// The input is read line by line as it comes, and no further than the answer wants. The answer is written in one
+/// piece, as soon as it is known. Where there is none, `errors` gets one line that says why. The listener is told of
+/// each event of a log.
+pub fn drive<S: AsStr, I: Read, O: Write, E: Write, L: Listener>(
+    alloc: Global,
+    words: &[S],
+    input: &mut I,
+    output: &mut O,
+    errors: &mut E,
+    listener: &mut L,
+) -> u8
+    ensures status { result ≤ 2 }
+    ensures quiet { result ≤ 1 → Keeps (E.contents errors.old) (E.contents errors.new) }
+    ensures does { DoesAsked (map S.text words.now) (edge_of (I.remaining input.old) (I.remaining input.new)
+        (O.contents output.old) (O.contents output.new)) result }
+{
+    match obey(alloc, words, input, output, listener) {
+        Ok(status) => status,
+        Err(fault) => refuse(errors, &fault),
+    }
+}
+
+/// Writes the line that says why there is no answer, and gives the status where there is none. It is that status also
+/// where the line can't be written.
+pub fn refuse<E: Write>(errors: &mut E, fault: &Fault) -> u8
+    ensures { result ≡ 2 }
+{
+    let _ = writeln!(errors, "wcptrace: {fault}");
+    REFUSED
+}
+
+/// Does what the words ask for, and gives the status.
+fn obey<S: AsStr, I: Read, O: Write, L: Listener>(
+    alloc: Global,
+    words: &[S],
+    input: &mut I,
+    output: &mut O,
+    listener: &mut L,
+) -> Result<u8, Fault>
+    ensures status { IfOk result (λ status. status ≤ 1) }
+    ensures does { DoesAsked (map S.text words.now) (edge_of (I.remaining input.old) (I.remaining input.new)
+        (O.contents output.old) (O.contents output.new)) (status_after result) }
+{
+    let request = read_options(alloc, words)?;
+    let answer = answer_to(alloc, request, input, listener)?;
+    write_whole(output, answer.text.as_slice())?;
+    Ok(answer.status)
+}
+
+/// The answer to a request.
+fn answer_to<I: Read, L: Listener>(
+    alloc: Global,
+    request: Request<'_>,
+    input: &mut I,
+    listener: &mut L,
+) -> Result<Answer, Fault>
+    ensures answer { IfOk result (λ answer. AnswersRequest request.entry (I.remaining input.old) (I.remaining input.new)
+        answer.text.items answer.status) }
+    ensures status { IfOk result (λ answer. answer.status ≤ 1) }
+{
+    match request {
+        Request::Trace(options) => answer_to_trace(alloc, &options, input, listener),
+        Request::Help(text) => Ok(Answer {
+            text: text.into_bytes(),
+            status: TOLD,
+        }),
+        Request::Version => {
+            let mut text = Vec::new(alloc);
+            text.extend_from_slice(VERSION.as_bytes())?;
+            Ok(Answer { text, status: TOLD })
+        }
+        Request::Unknown => Err(Fault::Usage),
+    }
+}
+
+/// The answer to the log under the conditions that the options say.
+fn answer_to_trace<I: Read, L: Listener>(
+    alloc: Global,
+    options: &Options<'_>,
+    input: &mut I,
+    listener: &mut L,
+) -> Result<Answer, Fault>
+    ensures answer { IfOk result (λ answer. AnswersTrace options.now (I.remaining input.old) (I.remaining input.new)
+        answer.text.items answer.status) }
+    ensures status { IfOk result (λ answer. answer.status ≤ 1) }
+{
+    let words = ConditionWords {
+        whiles: options.whiles.as_slice(),
+        froms: options.froms.as_slice(),
+        untils: options.untils.as_slice(),
+        ats: options.ats.as_slice(),
+    };
+    let conditions = read_conditions(alloc, &words)?;
+    Ok(detect(alloc, options.form, &conditions, input, listener)?)
+}

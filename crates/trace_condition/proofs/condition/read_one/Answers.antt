@@ -1,0 +1,14 @@
+use Rattle.trace_condition.proofs.Words.{ap, seen_rule, seen_saying, ReadsSaying}
+use Rattle.trace_condition.proofs.Handed.{handed_on}
+use Rattle.trace_condition.proofs.Conditions.{can_be_read, until_refused}
+use Rattle.trace_condition.proofs.condition.read_one.Goals as goal
+
+pub returns-in_err-until-in-FromUntil : goal.returns-in_err-until-in-FromUntil
+returns-in_err-until-in-FromUntil c =
+    let from = c.in_ok-from-in-FromUntil.ensures in
+    let read = rw from.0 at (can_be_read c.in_ok-from-in-FromUntil.from from.1) in
+    let fault = c.in_err-until-in-FromUntil.field-0.0 in
+    let refused = until_refused c.args.saying.now.host.now (seen_rule c.args.saying.now.rule) _ _ fault
+    (ap seen_rule c.in-FromUntil.is) read c.in_err-until-in-FromUntil.ensures in
+    handed_on (λ r. ReadsSaying (seen_saying c.args.saying.now) r) c.from_residual-in_err-until-in-FromUntil.result
+    fault c.from_residual-in_err-until-in-FromUntil.ensures refused

@@ -1,0 +1,83 @@
+-- What is detected in an input, and what is answered.
+use Rattle.std.specs.Prelude.{◌≡◌, ℕ, ◌<◌, List, [], take, All, Option, Result, Ok, Err, length, slice_index_or}
+use Rattle.std.specs.Prelude.{string_bytes}
+use Rattle.std.specs.Io.KnownBytes.{prepend_known}
+use Rattle.trace_log.specs.declared.turn.Form.{Form}
+use Rattle.trace_log.specs.Log.{Logged}
+use Rattle.wcp_events.specs.Reading.{Says, SaysWhole, HasFault}
+use Rattle.trace_moment.specs.Moment.{IsEarliest, IsKnown}
+use Rattle.trace_moment.specs.Standing.{HasNoMoment}
+use Rattle.trace_condition.specs.declared.condition.Condition.{Condition}
+use Rattle.trace_condition.specs.Conditions.{host_of}
+use Rattle.trace_detect.specs.declared.answer.Answer.{Answer}
+use Rattle.trace_detect.specs.declared.fault.DetectFault.{DetectFault}
+use Rattle.trace_detect.specs.declared.fault.DetectFault.TheVariants as fault
+use Rattle.trace_detect.specs.Watching.{watches, taken_of, events_at}
+use Rattle.trace_detect.specs.Texts.{found_text, none_text}
+
+-- The host of a condition logs nothing.
+abbrev pub IsSilent : List Logged → Condition → Type 0
+IsSilent logged condition = events_at (host_of condition) logged ≡ []
+
+-- Each host logs something.
+abbrev pub AllLog : List Logged → List Condition → Type 0
+AllLog logged conditions = All (λ condition. IsSilent logged condition → ⊥) conditions
+
+-- The host at this place is the first that logs nothing.
+pub record IsFirstSilent (logged : List Logged) (conditions : List Condition) (place : ℕ) : Type 0 where
+  pub within : place < length conditions
+  pub silent : (condition : Condition) → IsSilent logged (slice_index_or conditions place condition)
+  pub before : AllLog logged (take place conditions)
+
+-- The earliest moment of all events was printed, with status 0; or that there is none, with how often each condition
+-- held, and status 1: then each host logs something.
+pub data IsLastAnswer (conditions : List Condition) (logged : List Logged) (printed : List ℕ) (status : ℕ)
+    : Type 0 where
+  Found : (moment : ℕ → Logged) → IsEarliest (watches conditions) (taken_of conditions logged) moment
+      → printed ≡ found_text conditions moment → status ≡ 0 → IsLastAnswer conditions logged printed status
+  NoMoment : HasNoMoment (watches conditions) (taken_of conditions logged) → AllLog logged conditions
+      → printed ≡ none_text conditions logged → status ≡ 1 → IsLastAnswer conditions logged printed status
+
+-- There is no moment of all events, and this is the first host that logs nothing.
+pub record HasSilentHost (conditions : List Condition) (logged : List Logged) (host : List ℕ) : Type 0 where
+  pub no_moment : HasNoMoment (watches conditions) (taken_of conditions logged)
+  pub place : ℕ
+  pub first : IsFirstSilent logged conditions place
+  pub named : (condition : Condition) → host_of (slice_index_or conditions place condition) ≡ host
+
+-- What is answered at the end of the log.
+abbrev pub AnswersLast : List Condition → List Logged → Result Answer DetectFault → Type 0
+AnswersLast conditions logged (Ok answer) = IsLastAnswer conditions logged answer.text.items answer.status
+AnswersLast conditions logged (Err (fault.NoHost host)) = HasSilentHost conditions logged (string_bytes host)
+AnswersLast conditions logged (Err fault.NoMemory) = Unit {0}
+AnswersLast conditions logged (Err _) = ⊥
+
+-- The answer to an input of which this is left. Either the events of its first lines have an earliest moment that stays
+-- it whatever comes after them, which was printed with status 0; or it is the answer to the whole input.
+pub data IsAnswer (form : Form) (conditions : List Condition) (input left : Option (List ℕ)) (printed : List ℕ)
+    (status : ℕ) : Type 0 where
+  Early : (logged : List Logged) (moment : ℕ → Logged) → Says form input left logged
+      → IsKnown (watches conditions) (taken_of conditions logged) moment
+      → printed ≡ found_text conditions moment → status ≡ 0 → IsAnswer form conditions input left printed status
+  AtEnd : (logged : List Logged) → SaysWhole form input left logged → IsLastAnswer conditions logged printed status
+      → IsAnswer form conditions input left printed status
+
+-- The whole input has no moment, and this is the first host that logs nothing.
+pub record HasNoHost (form : Form) (conditions : List Condition) (input left : Option (List ℕ)) (host : List ℕ)
+    : Type 0 where
+  pub logged : List Logged
+  pub says : SaysWhole form input left logged
+  pub silent : HasSilentHost conditions logged host
+
+-- What detecting answers, by what is left of the input.
+abbrev pub Answers : Form → List Condition → Option (List ℕ) → Option (List ℕ) → Result Answer DetectFault → Type 0
+Answers form conditions input left (Ok answer) = IsAnswer form conditions input left answer.text.items answer.status
+Answers form conditions input left (Err (fault.Log what)) = HasFault form input what
+Answers form conditions input left (Err (fault.NoHost host)) = HasNoHost form conditions input left (string_bytes host)
+Answers form conditions input left (Err fault.Read) = Unit {0}
+Answers form conditions input left (Err fault.NoMemory) = Unit {0}
+
+-- What detecting answers. Some bytes of the input were read ahead, and are left too.
+abbrev pub Detects : Form → List Condition → Option (List ℕ) → Option (List ℕ) → Result Answer DetectFault → Type 0
+Detects form conditions input input_after result =
+    (ahead : List ℕ) × Answers form conditions input (prepend_known ahead input_after) result

@@ -1,0 +1,10 @@
+-- The fault of a detection where no event was read.
+use Rattle.wcp_events.specs.declared.fault.EventFault.{EventFault}
+use Rattle.wcp_events.specs.declared.fault.EventFault.TheVariants as events
+use Rattle.trace_detect.specs.declared.fault.DetectFault.{DetectFault}
+use Rattle.trace_detect.specs.declared.fault.DetectFault.TheVariants.{Log, Read, NoMemory}
+
+abbrev pub fault_of_events : EventFault → DetectFault
+fault_of_events (events.Log fault) = Log fault
+fault_of_events events.Read = Read
+fault_of_events events.NoMemory = NoMemory

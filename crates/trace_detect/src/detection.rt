@@ -1,0 +1,144 @@
+//! Detection while the log comes in.
+ghost use Rattle.std.specs.Prelude.{◌≡◌, true, ◌<◌, [], IfOk, IfSome, MatchOption, length};
+ghost use Rattle.wcp_lines.specs.Reader.{left};
+ghost use Rattle.wcp_events.specs.Reading.{HasReadEvents};
+ghost use Rattle.trace_moment.specs.Search.{is_known, moment_of, watched_by};
+ghost use Rattle.trace_condition.specs.Conditions.{HaveHosts};
+ghost use Rattle.trace_detect.specs.Detection.{AllLog, AnswersLast, Detects, IsFirstSilent};
+ghost use Rattle.trace_detect.specs.Texts.{found_text, none_text};
+ghost use Rattle.trace_detect.specs.Watcher.{AreJudges, IsWatching};
+ghost use Rattle.trace_detect.specs.Watching.{watches};
+
+use crate::answer::Answer;
+use crate::fault::DetectFault;
+use crate::judged::Judged;
+use crate::listener::Listener;
+use crate::text::{found_text, none_text};
+use crate::watcher::Watcher;
+use std::alloc::{AllocError, Global};
+use std::io::Read;
+use trace_condition::Condition;
+use wcp_events::EventReader;
+use trace_log::Form;
+
+/// The status where the moment was found.
+const FOUND: u8 = 0;
+
+/// The status where there is none.
+const NONE: u8 = 1;
+
+/// Reads a log of this form, event by event, until the earliest moment at which all conditions hold is known, and no
+/// further; or to its end. A fault of a line that comes before the moment is known is answered. A host that logs
+/// nothing is answered where there is no moment. The listener is told of each event.
+pub fn detect<I: Read, L: Listener>(
+    alloc: Global,
+    form: Form,
+    conditions: &[Condition],
+    input: &mut I,
+    listener: &mut L,
+) -> Result<Answer, DetectFault>
+    requires { HaveHosts conditions.now }
+    ensures { Detects form conditions.now (I.remaining input.old) (I.remaining input.new) result }
+{
+    let mut watcher = Watcher::new(alloc, conditions)?;
+    watch_events(alloc, form, &mut watcher, input, listener)
+}
+
+/// Reads a log of this form until this watcher, which has taken no event yet, knows the moment, or to its end.
+fn watch_events<I: Read, L: Listener>(
+    alloc: Global,
+    form: Form,
+    watcher: &mut Watcher<'_>,
+    input: &mut I,
+    listener: &mut L,
+) -> Result<Answer, DetectFault>
+    requires { IsWatching watcher.old.conditions.now [] watcher.old }
+    ensures { Detects form watcher.old.conditions.now (I.remaining input.old) (I.remaining input.new) result }
+{
+    let mut events = EventReader::new(alloc, form)?;
+    watch_on(alloc, &mut events, watcher, input, listener)
+}
+
+/// Reads event by event until this watcher knows the moment, or to the end of the log. No event was read yet.
+fn watch_on<I: Read, L: Listener>(
+    alloc: Global,
+    events: &mut EventReader,
+    watcher: &mut Watcher<'_>,
+    input: &mut I,
+    listener: &mut L,
+) -> Result<Answer, DetectFault>
+    requires watching { IsWatching watcher.old.conditions.now [] watcher.old }
+    requires read { HasReadEvents events.old.log.form (I.remaining input.old)
+        (left events.old.lines (I.remaining input.old)) [] events.old.log }
+    ensures { Detects events.old.log.form watcher.old.conditions.now
+        (I.remaining input.old) (I.remaining input.new) result }
+{
+    for _ in 0..u64::MAX {
+        let Some(logged) = events.next_event(input)? else {
+            return last_answer(alloc, watcher);
+        };
+        listener.hear(&logged.event, &watcher.hosts());
+        if watcher.take(logged)? {
+            return Ok(found_answer(alloc, watcher)?);
+        }
+    }
+    Err(DetectFault::Read)
+}
+
+/// The answer where the moment is known.
+fn found_answer(alloc: Global, watcher: &Watcher<'_>) -> Result<Answer, AllocError>
+    requires known { is_known watcher.now.search ≡ true }
+    requires watched { watched_by watcher.now.search ≡ watches watcher.now.conditions.now }
+    ensures text { IfOk result (λ answer. answer.text.items
+        ≡ found_text watcher.now.conditions.now (moment_of watcher.now.search)) }
+    ensures status { IfOk result (λ answer. answer.status ≡ 0) }
+{
+    Ok(Answer {
+        text: found_text(alloc, watcher.conditions, &watcher.search)?,
+        status: FOUND,
+    })
+}
+
+/// The answer at the end of the log.
+fn last_answer(alloc: Global, watcher: &mut Watcher<'_>) -> Result<Answer, DetectFault>
+    requires as_many { length watcher.old.judges.items ≡ length watcher.old.conditions.now }
+    requires watched { watched_by watcher.old.search ≡ watches watcher.old.conditions.now }
+    ensures { (conditions : _) (logged : _) → IsWatching conditions logged watcher.old →
+        AnswersLast conditions logged result }
+{
+    if watcher.search.end() {
+        return Ok(found_answer(alloc, watcher)?);
+    }
+    if let Some(place) = first_silent(&watcher.judges) {
+        let host = String::from_str(alloc, watcher.conditions[place].host.as_str())?;
+        return Err(DetectFault::NoHost(host));
+    }
+    Ok(none_answer(alloc, watcher)?)
+}
+
+/// The answer where there is no moment.
+fn none_answer(alloc: Global, watcher: &Watcher<'_>) -> Result<Answer, AllocError>
+    requires { length watcher.now.judges.items ≡ length watcher.now.conditions.now }
+    ensures text { (logged : _) → AreJudges watcher.now.conditions.now logged watcher.now.judges.items →
+        IfOk result (λ answer. answer.text.items ≡ none_text watcher.now.conditions.now logged) }
+    ensures status { IfOk result (λ answer. answer.status ≡ 1) }
+{
+    Ok(Answer {
+        text: none_text(alloc, watcher.conditions, &watcher.judges)?,
+        status: NONE,
+    })
+}
+
+/// The place of the first host that has no event, if there is one.
+fn first_silent(judges: &[Judged<'_>]) -> Option<usize>
+    ensures within { IfSome result (λ place. place < length judges.now) }
+    ensures first { (conditions : _) (logged : _) → AreJudges conditions logged judges.now →
+        MatchOption result (AllLog logged conditions) (IsFirstSilent logged conditions) }
+{
+    for place in 0..judges.len() {
+        if judges[place].tally.events == 0 {
+            return Some(place);
+        }
+    }
+    None
+}

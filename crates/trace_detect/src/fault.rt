@@ -1,0 +1,45 @@
+ghost use Rattle.std.specs.Prelude.{◌≡◌};
+ghost use Rattle.trace_detect.specs.declared.fault.DetectFault.TheVariants.{NoMemory};
+ghost use Rattle.trace_detect.specs.Faults.{fault_of_events};
+
+use std::alloc::AllocError;
+use thiserror::Error;
+use wcp_events::EventFault;
+use trace_log::LogFault;
+
+/// Why there is no answer.
+#[derive(Debug, Drop, Error)]
+pub enum DetectFault {
+    /// The log has this fault.
+    #[error(transparent)]
+    Log(LogFault),
+    /// This watched host logs no event in the whole log. Of several it's the first in the order of the conditions.
+    #[error("nohost {0}")]
+    NoHost(String),
+    /// A read failed.
+    #[error("read")]
+    Read,
+    /// Memory ran out.
+    #[error("memory")]
+    NoMemory,
+}
+
+impl From<AllocError> for DetectFault {
+    ghost from_gives = { λ _ given. given ≡ NoMemory };
+
+    fn from(_error: AllocError) -> DetectFault {
+        DetectFault::NoMemory
+    }
+}
+
+impl From<EventFault> for DetectFault {
+    ghost from_gives = { λ fault given. given ≡ fault_of_events fault };
+
+    fn from(fault: EventFault) -> DetectFault {
+        match fault {
+            EventFault::Log(fault) => DetectFault::Log(fault),
+            EventFault::Read => DetectFault::Read,
+            EventFault::NoMemory => DetectFault::NoMemory,
+        }
+    }
+}

@@ -1,0 +1,99 @@
+//! The search under the conditions of hosts.
+ghost use Rattle.std.specs.Prelude.{◌≡◌, ◌-◌, ◌^◌, ◌<◌, ◌∷◌, ◌++◌, [], false, IfOk, length, map};
+ghost use Rattle.trace_log.specs.Log.{Logged};
+ghost use Rattle.trace_log.specs.Turns.{seen_logged};
+ghost use Rattle.wcp_events.specs.Events.{FollowsIn};
+ghost use Rattle.trace_moment.specs.Search.{is_known};
+ghost use Rattle.trace_moment.specs.Views.{seen_watch};
+ghost use Rattle.trace_condition.specs.Conditions.{HaveHosts};
+ghost use Rattle.trace_detect.specs.Watching.{lasting_of, watches};
+ghost use Rattle.trace_detect.specs.Watcher.{CanTake, IsWatching, WatchesNext, IsPlaceOf};
+
+use crate::judged::{Judged, judge_at, judges_of};
+use crate::listener::WatchedHosts;
+use std::alloc::{AllocError, Global};
+use trace_condition::Condition;
+use trace_log::Logged;
+use trace_moment::{Lasting, Search, Watched};
+
+/// The search for the earliest moment under conditions, and what is known of their hosts.
+#[derive(Drop)]
+pub(crate) struct Watcher<'c> {
+    pub conditions: &'c [Condition],
+    pub judges: Vec<Judged<'c>>,
+    pub search: Search,
+}
+
+impl<'c> Watcher<'c> {
+    /// Before the first event.
+    pub fn new(alloc: Global, conditions: &'c [Condition]) -> Result<Watcher<'c>, AllocError>
+        requires { HaveHosts conditions.now }
+        ensures { IfOk result (IsWatching conditions.now []) }
+    {
+        let judges = judges_of(alloc, conditions)?;
+        let search = Search::new(alloc, watched_of(alloc, conditions)?)?;
+        Ok(Watcher {
+            conditions,
+            judges,
+            search,
+        })
+    }
+
+    /// The hosts that are watched.
+    pub fn hosts(&self) -> WatchedHosts<'_, 'c> {
+        WatchedHosts {
+            conditions: self.conditions,
+            judges: self.judges.as_slice(),
+        }
+    }
+
+    /// Takes the next event of the log. `true`: the moment is known.
+    pub fn take(&mut self, logged: Logged) -> Result<bool, AllocError>
+        requires { CanTake self.old }
+        ensures { (conditions : _) (before : _) → IsWatching conditions before self.old →
+            FollowsIn before (seen_logged logged).event →
+            WatchesNext conditions before (seen_logged logged) result self.new }
+    {
+        let Some(place) = place_of(self.conditions, logged.event.host.as_str()) else {
+            return Ok(false);
+        };
+        let holds = judge_at(&mut self.judges, place, logged.event.text.as_str());
+        self.search.take(place, logged, holds)
+    }
+}
+
+/// The hosts that conditions watch.
+fn watched_of(alloc: Global, conditions: &[Condition]) -> Result<Vec<Watched>, AllocError>
+    ensures { IfOk result (λ watched. map seen_watch watched.items ≡ watches conditions.now) }
+{
+    let mut watched = Vec::with_capacity(alloc, conditions.len())?;
+    for condition in conditions {
+        let host = condition.host.clone()?;
+        let lasting = lasting_of(condition);
+        watched.push(Watched { host, lasting })?;
+    }
+    Ok(watched)
+}
+
+/// How long the states of a condition last.
+fn lasting_of(condition: &Condition) -> Lasting
+    ensures { result ≡ lasting_of condition.now.rule }
+{
+    if condition.lasts() {
+        Lasting::While
+    } else {
+        Lasting::At
+    }
+}
+
+/// The place of the condition of a host, if it has one.
+fn place_of(conditions: &[Condition], host: &str) -> Option<usize>
+    ensures { IsPlaceOf host.now conditions.now result }
+{
+    for place in 0..conditions.len() {
+        if conditions[place].host.as_str() == host {
+            return Some(place);
+        }
+    }
+    None
+}

@@ -1,0 +1,116 @@
+-- What a log says, line after line: the events, or the first fault.
+use Rattle.std.specs.Prelude.{ℕ, ◌+◌, ◌-◌, ◌^◌, List, [], ◌∷◌, ◌++◌, nat_lt, if◌then◌else◌, Option, Some, None, is_none}
+use Rattle.std.specs.Prelude.{Result, Ok, Err}
+use Rattle.trace_log.specs.declared.fault.FaultKind.{FaultKind}
+use Rattle.trace_log.specs.declared.fault.FaultKind.TheVariants as kind
+use Rattle.trace_log.specs.declared.fault.LogFault.{LogFault}
+use Rattle.trace_log.specs.declared.turn.Form.{Form}
+use Rattle.trace_log.specs.declared.turn.Form.TheVariants.{Lines, Shiviz, ShivizReversed}
+use Rattle.trace_log.specs.Judgement.{◌>>=◌, at_line}
+use Rattle.trace_log.specs.Event.{Event, Stamp, text_in, event_in, stamp_in}
+use Rattle.trace_log.specs.Order.{last_clock, follows}
+
+-- The greatest number of lines.
+abbrev pub most_lines : ℕ
+most_lines = 2 ^ 64 - 1
+
+-- The event of a line in one JSON object, after the events so far.
+abbrev pub event_after : List Event → List ℕ → Result Event FaultKind
+event_after earlier line = do
+  event ← event_in line
+  _ ← follows event.host (last_clock event.host earlier) event.clock
+  Ok event
+
+-- The host and the clock of a line, after the events so far.
+abbrev pub stamp_after : List Event → List ℕ → Result Stamp FaultKind
+stamp_after earlier line = do
+  stamp ← stamp_in line
+  _ ← follows stamp.host (last_clock stamp.host earlier) stamp.clock
+  Ok stamp
+
+-- What the first of an event's two lines says: the host and the clock, or the text, with its line.
+pub data Half : Type 0 where
+  stamped : Stamp → Half
+  texted : ℕ → List ℕ → Half
+
+-- An event, with the line of its text.
+pub record Logged : Type 0 where
+  pub line : ℕ
+  pub event : Event
+
+-- What one line more says: the first half of an event, or an event.
+pub record Turn : Type 0 where
+  pub half : Option Half
+  pub event : Option Logged
+
+abbrev half_turn : Half → Turn
+half_turn half = record { half = Some half; event = None }
+
+abbrev event_turn : ℕ → Event → Turn
+event_turn line event = record { half = None; event = Some (record { line = line; event = event }) }
+
+-- The event of two lines.
+abbrev pub whole : Stamp → List ℕ → Event
+whole stamp text = record { host = stamp.host; clock = stamp.clock; text = text }
+
+-- What the line of this number says after these events, where no half waits.
+abbrev pub first_turn : Form → List Event → ℕ → List ℕ → Result Turn FaultKind
+first_turn Lines earlier at line = do
+  event ← event_after earlier line
+  Ok (event_turn at event)
+first_turn Shiviz earlier at line = do
+  stamp ← stamp_after earlier line
+  Ok (half_turn (stamped stamp))
+first_turn ShivizReversed earlier at line = do
+  text ← text_in line
+  Ok (half_turn (texted at text))
+
+-- What it says where a half waits for it, or none.
+abbrev pub turn_of : Form → Option Half → List Event → ℕ → List ℕ → Result Turn FaultKind
+turn_of form None earlier at line = first_turn form earlier at line
+turn_of form (Some (stamped stamp)) earlier at line = do
+  text ← text_in line
+  Ok (event_turn at (whole stamp text))
+turn_of form (Some (texted before text)) earlier at line = do
+  stamp ← stamp_after earlier line
+  Ok (event_turn before (whole stamp text))
+
+-- What the lines so far said: how many they are, the half that waits for the next line, and the events.
+pub record SoFar : Type 0 where
+  pub lines : ℕ
+  pub half : Option Half
+  pub events : List Event
+
+-- Before the first line.
+abbrev pub no_lines : SoFar
+no_lines = record { lines = 0; half = None; events = [] }
+
+abbrev pub with_event : List Event → Option Logged → List Event
+with_event events None = events
+with_event events (Some logged) = events ++ logged.event ∷ []
+
+-- The lines so far and one more.
+abbrev pub after : SoFar → Turn → SoFar
+after so_far turn = record {
+  lines = so_far.lines + 1;
+  half = turn.half;
+  events = with_event so_far.events turn.event;
+}
+
+-- What one line more says, or its fault: a log has at most the greatest number of lines.
+abbrev pub next_turn : Form → SoFar → List ℕ → Result Turn LogFault
+next_turn form so_far line =
+    if nat_lt so_far.lines most_lines
+    then at_line (so_far.lines + 1) (turn_of form so_far.half so_far.events (so_far.lines + 1) line)
+    else Err (record { line = so_far.lines; kind = kind.Many })
+
+-- What the lines of a log say, from these on.
+unfoldable pub log_from : Form → SoFar → List (List ℕ) → Result SoFar LogFault
+log_from form so_far [] = Ok so_far
+log_from form so_far (line ∷ lines) = do
+  turn ← next_turn form so_far line
+  log_from form (after so_far turn) lines
+
+-- A log may end where no half waits: else the text or the clock is missing.
+abbrev pub end_of : SoFar → Result (Unit {0}) LogFault
+end_of so_far = if is_none so_far.half then Ok tt else Err (record { line = so_far.lines; kind = kind.Text })

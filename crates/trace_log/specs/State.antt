@@ -1,0 +1,43 @@
+-- What a log that is being read keeps of the lines so far, and what reading one line more answers.
+use Rattle.std.specs.Prelude.{◌≡◌, ℕ, ◌-◌, List, Option, Result, Ok, Err, option_map}
+use Rattle.trace_log.specs.declared.fault.LineFault.{LineFault}
+use Rattle.trace_log.specs.declared.fault.LineFault.TheVariants.{Has, NoMemory}
+use Rattle.trace_log.specs.declared.fault.ReadFault.{ReadFault}
+use Rattle.trace_log.specs.declared.fault.ReadFault.TheVariants as fault
+use Rattle.trace_log.specs.declared.turn.Form.{Form}
+use Rattle.trace_log.specs.declared.turn.Logged.{Logged as OwnLogged}
+use Rattle.trace_log.specs.declared.log.Log.{Log}
+use Rattle.trace_log.specs.Log.{Turn, SoFar, after, next_turn, most_lines}
+use Rattle.trace_log.specs.Turns.{seen_half, seen_logged}
+use Rattle.trace_log.specs.Kept.{KeepsLast}
+
+-- A log of this form has read these lines.
+pub record HasRead (form : Form) (so_far : SoFar) (log : Log) : Type 0 where
+  pub form_is : log.form ≡ form
+  pub lines : log.lines ≡ so_far.lines
+  pub waits : option_map seen_half log.half ≡ so_far.half
+  pub keeps : KeepsLast log.clocks so_far.events
+
+-- How many lines more a log can have.
+abbrev pub lines_left : Log → ℕ
+lines_left log = most_lines - log.lines
+
+-- What one line more said was read: the event, if it ended one.
+pub record IsTurn (form : Form) (so_far : SoFar) (line : List ℕ) (logged : Option OwnLogged) (log : Log) : Type 0 where
+  pub turn : Turn
+  pub said : next_turn form so_far line ≡ Ok turn
+  pub event : option_map seen_logged logged ≡ turn.event
+  pub read : HasRead form (after so_far turn) log
+
+-- What reading one line more answers: what it says, or its fault, unless memory ran out. After either of these the log
+-- is as before.
+abbrev pub ReadsLine : Form → SoFar → List ℕ → Result (Option OwnLogged) ReadFault → Log → Type 0
+ReadsLine form so_far line (Ok logged) log = IsTurn form so_far line logged log
+ReadsLine form so_far line (Err (fault.Log what)) log =
+    (next_turn form so_far line ≡ Err what) × HasRead form so_far log
+ReadsLine form so_far line (Err fault.NoMemory) log = HasRead form so_far log
+
+-- The fault of a line, with the line's number.
+abbrev pub fault_at : ℕ → LineFault → ReadFault
+fault_at line (Has kind) = fault.Log (record { line = line; kind = kind })
+fault_at line NoMemory = fault.NoMemory

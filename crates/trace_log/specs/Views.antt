@@ -1,0 +1,28 @@
+-- What the values of the code stand for in a log: a member of a clock, a clock, an event, what stands before an event's
+-- text.
+use Rattle.std.specs.Prelude.{List, map, string_bytes}
+use Rattle.trace_log.specs.declared.event.Member.{Member as OwnMember}
+use Rattle.trace_log.specs.declared.event.Event.{Event as OwnEvent}
+use Rattle.trace_log.specs.declared.stamp.Stamp.{Stamp as OwnStamp}
+use Rattle.trace_log.specs.Clock.{Member}
+use Rattle.trace_log.specs.Event.{Event, Stamp}
+
+-- A member of a clock.
+abbrev pub seen_member : OwnMember → Member
+seen_member member = record { name = string_bytes member.name; number = member.number }
+
+-- A clock, member by member.
+abbrev pub seen_clock : List OwnMember → List Member
+seen_clock members = map seen_member members
+
+-- An event.
+abbrev pub seen_event : OwnEvent → Event
+seen_event event = record {
+  host = string_bytes event.host;
+  clock = seen_clock event.clock.items;
+  text = string_bytes event.text;
+}
+
+-- A host and its clock.
+abbrev pub seen_stamp : OwnStamp → Stamp
+seen_stamp stamp = record { host = string_bytes stamp.host; clock = seen_clock stamp.clock.items }

@@ -1,0 +1,91 @@
+ghost use Rattle.std.specs.Prelude.{◌≡◌};
+ghost use Rattle.trace_log.specs.Judgement.{ask};
+ghost use Rattle.trace_log.specs.declared.fault.LineFault.TheVariants.{Has, NoMemory};
+
+use std::alloc::{AllocError, AllocFailed};
+use thiserror::Error;
+
+/// What is wrong with a line of a log.
+#[derive(Clone, Copy, Debug, PartialEq, Eq, Error)]
+pub enum FaultKind {
+    /// The line has more than 65,536 bytes.
+    #[error("long")]
+    Long,
+    /// No event stands there.
+    #[error("text")]
+    Text,
+    /// The clock isn't a JSON object of whole numbers, or has a name twice.
+    #[error("clock")]
+    Clock,
+    /// The host's own number is missing from the clock, or is 0.
+    #[error("own")]
+    Own,
+    /// The host's own number isn't greater than at its event before.
+    #[error("order")]
+    Order,
+    /// The number of another host is lower than at the event before.
+    #[error("falls")]
+    Falls,
+    /// The log has more lines than can be counted: the last one counted is given.
+    #[error("many")]
+    Many,
+}
+
+/// The fault of a log, and its line, counted from 1.
+#[derive(Clone, Copy, Debug, PartialEq, Eq, Error)]
+#[error("line {line}: {kind}")]
+pub struct LogFault {
+    pub line: u64,
+    pub kind: FaultKind,
+}
+
+/// Why a line of a log wasn't read.
+#[derive(Clone, Copy, Debug, PartialEq, Eq, Error)]
+pub enum ReadFault {
+    /// The log has this fault.
+    #[error(transparent)]
+    Log(LogFault),
+    /// Memory ran out.
+    #[error("memory")]
+    NoMemory,
+}
+
+/// Why a line wasn't read.
+#[derive(Clone, Copy, Debug, PartialEq, Eq)]
+pub(crate) enum LineFault {
+    /// It has this fault.
+    Has(FaultKind),
+    /// Memory ran out.
+    NoMemory,
+}
+
+impl From<FaultKind> for LineFault {
+    ghost from_gives = { λ kind given. given ≡ Has kind };
+
+    fn from(kind: FaultKind) -> LineFault {
+        LineFault::Has(kind)
+    }
+}
+
+impl From<AllocError> for LineFault {
+    ghost from_gives = { λ _ given. given ≡ NoMemory };
+
+    fn from(_error: AllocError) -> LineFault {
+        LineFault::NoMemory
+    }
+}
+
+impl<T: Drop> From<AllocFailed<T>> for LineFault {
+    ghost from_gives = { λ _ given. given ≡ NoMemory };
+
+    fn from(_error: AllocFailed<T>) -> LineFault {
+        LineFault::NoMemory
+    }
+}
+
+/// A question about a line, and the fault where its answer is no.
+pub(crate) fn ask(holds: bool, kind: FaultKind) -> Result<(), FaultKind>
+    ensures { result ≡ ask holds kind }
+{
+    if holds { Ok(()) } else { Err(kind) }
+}

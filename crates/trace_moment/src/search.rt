@@ -1,0 +1,96 @@
+ghost use Rattle.std.specs.Prelude.{◌≡◌, ℕ, [], List, length, map, true, Some, None};
+ghost use Rattle.std.specs.Prelude.{IfOk, MatchBool, IsTrue, option_map, if◌then◌else◌, ◌<◌};
+ghost use Rattle.trace_moment.specs.Queues.{HaveFirstsWhere};
+
+use crate::elimination::{have_firsts, take_next};
+use crate::queue::Queue;
+use crate::watched::Watched;
+use std::alloc::{AllocError, Global};
+use trace_log::Logged;
+
+/// The search for the earliest moment of a log that is read event by event.
+#[derive(Debug, Drop)]
+pub struct Search {
+    queues: Vec<Queue>,
+    floors: Vec<u32>,
+    known: bool,
+    ghost in_step: { length floors.items ≡ length queues.items },
+    ghost named: { HaveFirstsWhere known queues.items },
+}
+
+impl Search {
+    ghost use Rattle.trace_log.specs.Turns.{seen_logged};
+    ghost use Rattle.trace_moment.specs.Moment.{Taken, HaveDistinctHosts, IsEarliest, IsNextAt};
+    ghost use Rattle.trace_moment.specs.Views.{seen_watch};
+    ghost use Rattle.trace_moment.specs.Standing.{HasNoMoment};
+    ghost use Rattle.trace_moment.specs.Search.{watched_by, is_known, moment_of};
+    ghost use Rattle.trace_moment.specs.Search.{HasTaken, TakesNext};
+
+    /// A search of the moments of these hosts, which has taken nothing. `Err` where memory runs out.
+    pub fn new(alloc: Global, watched: Vec<Watched>) -> Result<Search, AllocError>
+        requires some { 0 < length watched.items }
+        requires distinct { HaveDistinctHosts (map seen_watch watched.items) }
+        ensures watched { IfOk result (λ search. watched_by search ≡ map seen_watch watched.items) }
+        ensures taken { IfOk result (λ search. HasTaken [] search) }
+    {
+        let mut queues = Vec::with_capacity(alloc, watched.len())?;
+        let mut floors = Vec::with_capacity(alloc, watched.len())?;
+        for one in watched {
+            queues.push(Queue::new(alloc, one))?;
+            floors.push(0)?;
+        }
+        Ok(Search {
+            queues,
+            floors,
+            known: false,
+        })
+    }
+
+    /// Takes the next event of the watched host at `place`; `holds` says whether its condition holds at it. Answers
+    /// whether the moment is known. Once it is, nothing that is taken changes it, and no memory is wanted. `Err` where
+    /// memory runs out: the event wasn't taken.
+    pub fn take(&mut self, place: usize, logged: Logged, holds: bool) -> Result<bool, AllocError>
+        requires { place < length (watched_by self.old) }
+        ensures taken { (taken : List Taken) → HasTaken taken self.old →
+            IsNextAt (watched_by self.old) place taken (seen_logged logged) →
+            TakesNext taken (record { logged = seen_logged logged; holds = holds }) result self.new }
+        ensures watched { watched_by self.new ≡ watched_by self.old }
+        ensures stays { IsTrue (is_known self.old) → (result ≡ Ok true) × (self.new ≡ self.old) }
+    {
+        if self.known {
+            return Ok(true);
+        }
+        self.known = take_next(&mut self.queues, &mut self.floors, place, logged, holds)?;
+        Ok(self.known)
+    }
+
+    /// Ends the search: the log has no more events, so the last states last for ever. Answers whether the moment is
+    /// known, now or before; where it isn't, there is none.
+    pub fn end(&mut self) -> bool
+        ensures moment { (taken : List Taken) → HasTaken taken self.old → MatchBool result
+            (IsEarliest (watched_by self.new) taken (moment_of self.new))
+            (HasNoMoment (watched_by self.new) taken) }
+        ensures known { result ≡ is_known self.new }
+        ensures watched { watched_by self.new ≡ watched_by self.old }
+    {
+        if !self.known {
+            self.known = have_firsts(&self.queues);
+        }
+        self.known
+    }
+
+    /// The event of the moment at the watched host at this place, where the moment is known.
+    pub fn event(&self, place: usize) -> Option<&Logged>
+        requires { place < length (watched_by self.now) }
+        ensures { option_map (λ logged. seen_logged logged.now) result
+            ≡ (if is_known self.now then Some (moment_of self.now place) else None) }
+    {
+        if !self.known {
+            return None;
+        }
+        match self.queues[place].first() {
+            Some(first) => Some(&first.logged),
+            None => None,
+        }
+    }
+}

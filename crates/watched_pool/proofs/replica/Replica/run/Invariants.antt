@@ -1,9 +1,0 @@
-use Rattle.watched_pool.proofs.Words.{◌≡◌, IsAnswering}
-use Rattle.watched_pool.proofs.replica.Replica.run.Given as goal
-
-abbrev pub invariant-loop : goal.invariant-loop
-invariant-loop g l =
-    record {
-      answering : IsAnswering l.counter l.probe;
-      jobs : l.share.jobs ≡ l.counter;
-    }

@@ -1,9 +1,0 @@
-use Rattle.wcp_lines.specs.Reader.{left}
-use Rattle.wcp_detect.specs.Loop.{IsDetecting}
-use Rattle.wcp_detect.proofs.detection.watch_on.Given as goal
-
-abbrev pub invariant-loop : goal.invariant-loop
-invariant-loop g l =
-    let remaining = g.I.Read.remaining in
-    IsDetecting l.fn.events.log.form l.fn.watcher.conditions.now (remaining l.fn.input)
-    (left l.events.lines (remaining l.input)) l.events.log l.watcher l.counter

@@ -1,6 +1,0 @@
-use Rattle.wcp_detect.proofs.Words.{◌≡◌, take, map, watches}
-use Rattle.wcp_moment.specs.Views.{seen_watch}
-use Rattle.wcp_detect.proofs.watcher.watched_of.Given as goal
-
-abbrev pub invariant-loop-condition : goal.invariant-loop-condition
-invariant-loop-condition l = map seen_watch l.watched.items ≡ watches (take l.condition-index l.conditions)

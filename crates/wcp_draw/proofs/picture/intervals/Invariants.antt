@@ -1,7 +1,0 @@
-use Rattle.std.proofs.Common.{◌≡◌, ◌++◌, codes, string_bytes, take}
-use Rattle.std.specs.List.{flat_map}
-use Rattle.wcp_draw.specs.Picture.{interval_text}
-use Rattle.wcp_draw.proofs.picture.intervals.Given as goal
-
-abbrev pub invariant-loop-p : goal.invariant-loop-p
-invariant-loop-p l = string_bytes l.text ≡ codes "found" ++ flat_map interval_text (take l.p l.cut)

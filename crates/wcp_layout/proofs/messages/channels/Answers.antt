@@ -1,7 +1,0 @@
-use Rattle.std.proofs.lemmas.Grind.{common_steps}
-use Rattle.wcp_layout.proofs.Words.{arith}
-use Rattle.wcp_layout.proofs.Queues.{none_in_transit}
-use Rattle.wcp_layout.proofs.messages.channels.Goals as goal
-
-pub returns : goal.returns
-returns c = grind (arith, common_steps, c.loop.invariant, none_in_transit)

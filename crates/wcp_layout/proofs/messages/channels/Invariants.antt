@@ -1,5 +1,0 @@
-use Rattle.wcp_layout.proofs.Words.{◌≡◌, [], replicate}
-use Rattle.wcp_layout.proofs.messages.channels.Given as goal
-
-abbrev pub invariant-loop : goal.invariant-loop
-invariant-loop l = l.in_transit.items ≡ replicate l.counter []

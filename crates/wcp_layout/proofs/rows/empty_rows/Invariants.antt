@@ -1,5 +1,0 @@
-use Rattle.wcp_layout.proofs.Words.{◌≡◌, [], replicate}
-use Rattle.wcp_layout.proofs.rows.empty_rows.Given as goal
-
-abbrev pub invariant-loop : goal.invariant-loop
-invariant-loop l = l.rows.items ≡ replicate l.counter []

@@ -1,6 +1,0 @@
-use Rattle.std.proofs.Common.{refl}
-use Rattle.wcp_log.proofs.Keeps.{keeps-none}
-use Rattle.wcp_log.proofs.log.Log.new.Goals as goal
-
-pub returns : goal.returns
-returns c = record { form_is = refl; lines = refl; waits = refl; keeps = keeps-none c.new.result c.new.ensures.empty }

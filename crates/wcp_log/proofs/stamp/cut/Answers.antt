@@ -1,5 +1,0 @@
-use Rattle.wcp_log.proofs.Texts.{cut_once}
-use Rattle.wcp_log.proofs.stamp.cut.Goals as goal
-
-pub returns : goal.returns
-returns c = cut_once c.args.text.now c.split_once.result c.split_once.ensures.cases

@@ -1,6 +1,0 @@
-use Rattle.std.proofs.Common.{◌≡◌, ◌<◌, ℕ, true, slice_index}
-use Rattle.wcp_moment.specs.Queues.{queue_at, stands}
-use Rattle.wcp_moment.proofs.elimination.all_stand.Given as goal
-
-abbrev pub invariant-loop-q : goal.invariant-loop-q
-invariant-loop-q l = (p : ℕ) → p < l.q → stands (queue_at l.queues p) (slice_index l.floors p) ≡ true

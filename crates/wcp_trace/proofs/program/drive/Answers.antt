@@ -1,4 +1,0 @@
-use Rattle.wcp_trace.proofs.program.drive.Goals as goal
-
-pub returns-in-Err-clause-does : goal.returns-in-Err-clause-does
-returns-in-Err-clause-does g c = rw c.refuse.ensures c.in-Err.ensures.does
