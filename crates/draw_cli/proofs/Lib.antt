@@ -1,1 +1,4 @@
 mod Refusals
+mod Named
+mod Parts
+pub mod Found

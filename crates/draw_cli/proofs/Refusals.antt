@@ -1,6 +1,7 @@
 -- Why there is no answer.
 use Rattle.std.proofs.Common.{◌≡◌, ℕ, Result, Ok, Err, IsErr, refl, sym, true≢false}
 use Rattle.wcp_io.specs.Input.{Known}
+use Rattle.wcp_io.specs.declared.io_fault.IoFault.TheVariants as io
 use Rattle.draw_cli.specs.Answers.{IsWhyNoAnswer, IsWhyRefused}
 use Rattle.draw_cli.specs.declared.fault.Fault.{Fault}
 use Rattle.draw_cli.specs.declared.fault.Fault.TheVariants as fault
@@ -14,8 +15,9 @@ status_after_err (Err fault) is = refl
 -- Why a request has no answer is why it is refused.
 pub why_refused : (request : Request) (bytes bytes_after : Known) (given : Fault)
     → IsWhyNoAnswer request bytes bytes_after given → IsWhyRefused request bytes bytes_after given
-why_refused request bytes bytes_after fault.Memory why = tt
-why_refused request bytes bytes_after fault.Write why = tt
+why_refused request bytes bytes_after (fault.Io io.Memory) why = tt
+why_refused request bytes bytes_after (fault.Io io.Write) why = tt
+why_refused request bytes bytes_after (fault.Io io.Read) why = why
+why_refused request bytes bytes_after (fault.Io io.TooLarge) why = why
 why_refused request bytes bytes_after fault.Usage why = why
-why_refused request bytes bytes_after (fault.Input given) why = why
 why_refused request bytes bytes_after (fault.Sketch given) why = why

@@ -3,12 +3,11 @@ use Rattle.std.specs.Prelude.{◌≡◌, ◌<◌, ℕ, Bool, List, [], ◌∷◌
 use Rattle.std.specs.Prelude.{if◌then◌else◌}
 use Rattle.std.specs.Borrow.{Bor}
 use Rattle.std.specs.Io.KnownBytes.{Keeps}
-use Rattle.wcp_clock.specs.Limits.{most_bytes}
-use Rattle.wcp_io.specs.Input.{IsInput, Known}
-use Rattle.wcp_io.specs.declared.fault.ReadTextFault.{ReadTextFault}
-use Rattle.wcp_io.specs.declared.fault.ReadTextFault.TheVariants as input
-use Rattle.wcp_sketch.specs.Faults.{IsWhy}
-use Rattle.wcp_sketch.specs.Sketches.{IsSketchOf}
+use Rattle.wcp_io.specs.Input.{IsInput, Known, most_bytes}
+use Rattle.wcp_io.specs.declared.io_fault.IoFault.{IoFault}
+use Rattle.wcp_io.specs.declared.io_fault.IoFault.TheVariants as io
+use Rattle.draw_cli.specs.SketchFaults.{IsWhy}
+use Rattle.draw_cli.specs.Sketches.{IsSketchOf}
 use Rattle.draw_cli.specs.declared.fault.Fault.{Fault}
 use Rattle.draw_cli.specs.declared.fault.Fault.TheVariants as fault
 use Rattle.draw_cli.specs.declared.words.Request.{Request}
@@ -47,29 +46,28 @@ AnswersRequest Version input input_after printed status =
 AnswersRequest Unknown input input_after printed status = ⊥
 
 -- A fault is why the input wasn't read: where that is its size, it has more bytes than a text may.
-abbrev pub IsWhyUnread : Known → ReadTextFault → Type 0
-IsWhyUnread bytes input.Read = Unit {0}
-IsWhyUnread bytes input.TooLarge = IfSome bytes (λ bytes. most_bytes < length bytes)
-IsWhyUnread bytes input.Memory = Unit {0}
+abbrev pub IsWhyUnread : Known → IoFault → Type 0
+IsWhyUnread bytes io.Read = Unit {0}
+IsWhyUnread bytes io.TooLarge = IfSome bytes (λ bytes. most_bytes < length bytes)
+IsWhyUnread bytes io.Write = ⊥
+IsWhyUnread bytes io.Memory = Unit {0}
 
 -- A fault is why there is no picture with these names: the input wasn't read; or it was, whole, and has no picture.
 abbrev pub IsWhyNoPicture : Option (List ℕ) → Known → Known → Fault → Type 0
-IsWhyNoPicture list bytes bytes_after (fault.Input given) = IsWhyUnread bytes given
+IsWhyNoPicture list bytes bytes_after (fault.Io given) = IsWhyUnread bytes given
 IsWhyNoPicture list bytes bytes_after (fault.Sketch given) =
     (text : List ℕ) × IsInput bytes bytes_after text × IsWhy list text given
 IsWhyNoPicture list bytes bytes_after fault.Usage = ⊥
-IsWhyNoPicture list bytes bytes_after fault.Memory = ⊥
-IsWhyNoPicture list bytes bytes_after fault.Write = ⊥
 
 -- A fault is why a request has no answer.
 abbrev pub IsWhyNoAnswer : Request → Known → Known → Fault → Type 0
 IsWhyNoAnswer (Picture list) bytes bytes_after given = IsWhyNoPicture (seen_list list) bytes bytes_after given
 IsWhyNoAnswer (Help text) bytes bytes_after given = ⊥
-IsWhyNoAnswer Version bytes bytes_after given = given ≡ fault.Memory
+IsWhyNoAnswer Version bytes bytes_after given = given ≡ fault.Io io.Memory
 IsWhyNoAnswer Unknown bytes bytes_after given = given ≡ fault.Usage
 
 -- A fault is why a request has no answer; or memory ran out, or a write failed.
 abbrev pub IsWhyRefused : Request → Known → Known → Fault → Type 0
-IsWhyRefused request bytes bytes_after fault.Memory = Unit {0}
-IsWhyRefused request bytes bytes_after fault.Write = Unit {0}
+IsWhyRefused request bytes bytes_after (fault.Io io.Memory) = Unit {0}
+IsWhyRefused request bytes bytes_after (fault.Io io.Write) = Unit {0}
 IsWhyRefused request bytes bytes_after given = IsWhyNoAnswer request bytes bytes_after given

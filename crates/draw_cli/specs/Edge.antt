@@ -1,27 +1,11 @@
 -- What the program does at its edge.
 use Rattle.std.specs.Prelude.{◌≡◌, ℕ, List, Result, Ok, Err}
 use Rattle.std.specs.Io.KnownBytes.{Appends, Keeps}
-use Rattle.wcp_io.specs.Input.{Known}
-use Rattle.wcp_output.specs.Fronts.{AppendsFront}
+use Rattle.wcp_io.specs.Edge.{Edge}
+use Rattle.wcp_io.specs.Fronts.{AppendsFront}
 use Rattle.draw_cli.specs.declared.fault.Fault.{Fault}
 use Rattle.draw_cli.specs.declared.words.Request.{Request}
 use Rattle.draw_cli.specs.Answers.{AnswersRequest}
-
--- The input and the output of the program, each before and after.
-pub record Edge : Type 0 where
-  pub input : Known
-  pub input_after : Known
-  pub output : Known
-  pub output_after : Known
-
--- The edge with these four.
-abbrev pub edge_of : Known → Known → Known → Known → Edge
-edge_of input input_after output output_after = record {
-  input = input;
-  input_after = input_after;
-  output = output;
-  output_after = output_after;
-}
 
 -- The program answers a request, with this status: it writes the answer whole; or, where a write failed, a front of it,
 -- with status 2; or, where there is no answer, nothing, with status 2.

@@ -1,2 +1,5 @@
 pub mod Answers
 pub mod Edge
+pub mod SketchFaults
+pub mod Names
+pub mod Sketches

@@ -1,11 +1,11 @@
 ghost use Rattle.std.specs.Prelude.{◌≡◌};
-ghost use Rattle.draw_cli.specs.declared.fault.Fault.TheVariants.{Input, Memory, Sketch, Write};
+ghost use Rattle.wcp_io.specs.declared.io_fault.IoFault.TheVariants.{Memory};
+ghost use Rattle.draw_cli.specs.declared.fault.Fault.TheVariants.{Io, Sketch};
 
+use crate::sketch_fault::SketchFault;
 use std::alloc::AllocError;
 use thiserror::Error;
-use wcp_io::ReadTextFault;
-use wcp_output::WriteFailed;
-use wcp_sketch::SketchFault;
+use wcp_io::IoFault;
 
 /// Why the program gives no answer. It displays as its line on standard error, without the name of the program.
 #[derive(Clone, Copy, Debug, PartialEq, Eq, Error)]
@@ -13,33 +13,27 @@ pub enum Fault {
     /// The words after the program's name ask for nothing that it knows.
     #[error("usage")]
     Usage,
-    /// The input wasn't read.
+    /// The input wasn't read, the output wasn't written, or memory ran out elsewhere.
     #[error(transparent)]
-    Input(ReadTextFault),
+    Io(IoFault),
     /// The text or the names have a fault.
     #[error(transparent)]
     Sketch(SketchFault),
-    /// Memory ran out elsewhere.
-    #[error("memory")]
-    Memory,
-    /// Writing the output failed.
-    #[error("write")]
-    Write,
 }
 
 impl From<AllocError> for Fault {
-    ghost from_gives = { λ _ given. given ≡ Memory };
+    ghost from_gives = { λ _ given. given ≡ Io Memory };
 
     fn from(_error: AllocError) -> Fault {
-        Fault::Memory
+        Fault::Io(IoFault::Memory)
     }
 }
 
-impl From<ReadTextFault> for Fault {
-    ghost from_gives = { λ fault given. given ≡ Input fault };
+impl From<IoFault> for Fault {
+    ghost from_gives = { λ fault given. given ≡ Io fault };
 
-    fn from(fault: ReadTextFault) -> Fault {
-        Fault::Input(fault)
+    fn from(fault: IoFault) -> Fault {
+        Fault::Io(fault)
     }
 }
 
@@ -48,13 +42,5 @@ impl From<SketchFault> for Fault {
 
     fn from(fault: SketchFault) -> Fault {
         Fault::Sketch(fault)
-    }
-}
-
-impl From<WriteFailed> for Fault {
-    ghost from_gives = { λ _ given. given ≡ Write };
-
-    fn from(_error: WriteFailed) -> Fault {
-        Fault::Write
     }
 }

@@ -3,18 +3,18 @@ ghost use Rattle.std.specs.Prelude.{◌≡◌, ◌≤◌, string_bytes, IfOk, If
 ghost use Rattle.std.specs.Io.KnownBytes.{Keeps};
 ghost use Rattle.draw_cli.specs.Answers.{AnswersPicture, AnswersRequest, status_of};
 ghost use Rattle.draw_cli.specs.Answers.{seen_list, IsWhyNoAnswer, IsWhyNoPicture, IsWhyRefused};
-ghost use Rattle.draw_cli.specs.Edge.{DoesAsked, edge_of, status_after};
+ghost use Rattle.wcp_io.specs.Edge.{edge_of};
+ghost use Rattle.draw_cli.specs.Edge.{DoesAsked, status_after};
 ghost use Rattle.draw_cli.specs.declared.words.Request.{Request};
 
 use crate::fault::Fault;
 use crate::help::VERSION;
+use crate::sketching::sketch;
 use crate::words::{Request, read_words};
 use std::alloc::Global;
 use std::convert::AsStr;
 use std::io::{Read, Write};
-use wcp_io::read_text;
-use wcp_output::write_whole;
-use wcp_sketch::sketch;
+use wcp_io::{IoFault, read_text, write_whole};
 
 /// The status with a picture that shows a cut, and after help and the version.
 const FOUND: u8 = 0;
@@ -49,7 +49,7 @@ pub fn drive<S: AsStr, I: Read, O: Write, E: Write>(
         (O.contents output.old) (O.contents output.new)) result }
 {
     let Ok(request) = read_words(alloc, words) else {
-        return refuse(errors, Fault::Memory);
+        return refuse(errors, Fault::Io(IoFault::Memory));
     };
     match obey(alloc, request, input, output) {
         Ok(status) => status,

@@ -12,8 +12,8 @@ use crate::name::Name;
 use crate::placing::frame_about;
 use crate::process::{push_dots, push_process};
 use crate::shapes::{push_arrow, push_line, push_number};
-use std::alloc::{AllocError, Global};
 use draw_layout::Layout;
+use std::alloc::{AllocError, Global};
 use wcp_model::{Action, GlobalCut, Task};
 
 /// The first lines: the size of the picture, the tip of an arrow, and the ground on which all is drawn.

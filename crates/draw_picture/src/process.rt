@@ -4,8 +4,8 @@ ghost use Rattle.std.specs.Prelude.{◌<◌, length, MatchOption};
 use crate::frame::Frame;
 use crate::name::Name;
 use crate::shapes::{push_axis, push_dot, push_name, push_state};
-use std::alloc::AllocError;
 use draw_layout::Layout;
+use std::alloc::AllocError;
 use wcp_model::GlobalCut;
 
 /// The column in which state `k` begins, where a process has events in these columns.

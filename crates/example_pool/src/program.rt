@@ -23,7 +23,7 @@ pub fn run_program<R: Threads + Wait + Clock + Env + Print + Eprint + AllocGloba
     match run_and_print(rt) {
         Ok(status) => status,
         Err(fault) => {
-            let _ = eprintln!(rt; "live_pool: {fault}");
+            let _ = eprintln!(rt; "example_pool: {fault}");
             2
         }
     }

@@ -1,6 +1,14 @@
+mod answering;
 mod conditions;
+mod cuts;
 mod failures;
+mod faults;
+mod forms;
+mod locks;
+mod numbers;
 mod options;
+mod orders;
 mod progress;
+mod reading;
 mod runs;
 mod streams;

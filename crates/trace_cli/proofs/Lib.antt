@@ -1,2 +1,4 @@
 mod Saying
 mod Statuses
+mod OptionWords
+pub mod Found

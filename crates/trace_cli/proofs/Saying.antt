@@ -1,8 +1,8 @@
 -- The words of the options, and the words that conditions are read from.
 use Rattle.std.proofs.Common.{◌≡◌, List, ℕ, refl}
 use Rattle.std.specs.Borrow.{Bor}
-use Rattle.wcp_options.specs.declared.options.Options.{Options}
-use Rattle.wcp_options.specs.Options.{seen_texts}
+use Rattle.trace_cli.specs.declared.options.Options.{Options}
+use Rattle.trace_cli.specs.Options.{seen_texts}
 use Rattle.trace_cli.specs.Requested.{asked_by}
 
 pub asked_same : (options : Options) (whiles froms untils ats : List (Bor (List ℕ))) → whiles ≡ options.whiles.items

@@ -1,27 +1,12 @@
 -- What the program does at its edge.
 use Rattle.std.specs.Prelude.{◌≡◌, ℕ, List, Result, Ok, Err}
 use Rattle.std.specs.Io.KnownBytes.{Appends, Keeps}
-use Rattle.wcp_output.specs.Fronts.{AppendsFront}
-use Rattle.wcp_options.specs.declared.options.Request.{Request}
-use Rattle.wcp_options.specs.Requests.{IsRequestOf, spelled}
+use Rattle.wcp_io.specs.Edge.{Edge}
+use Rattle.wcp_io.specs.Fronts.{AppendsFront}
+use Rattle.trace_cli.specs.declared.options.Request.{Request}
+use Rattle.trace_cli.specs.Requests.{IsRequestOf, spelled}
 use Rattle.trace_cli.specs.declared.fault.Fault.{Fault}
-use Rattle.trace_cli.specs.Requested.{AnswersRequest, Known}
-
--- The input and the output of the program, each before and after.
-pub record Edge : Type 0 where
-  pub input : Known
-  pub input_after : Known
-  pub output : Known
-  pub output_after : Known
-
--- The edge with these four.
-abbrev pub edge_of : Known → Known → Known → Known → Edge
-edge_of input input_after output output_after = record {
-  input = input;
-  input_after = input_after;
-  output = output;
-  output_after = output_after;
-}
+use Rattle.trace_cli.specs.Requested.{AnswersRequest}
 
 -- The words, of which the first is the program's name, ask for this request: what `clap` finds in them.
 abbrev pub AskFor : List (List ℕ) → Request → Type 0

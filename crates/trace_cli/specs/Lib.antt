@@ -1,2 +1,4 @@
 pub mod Requested
 pub mod Edge
+pub mod Options
+pub mod Requests

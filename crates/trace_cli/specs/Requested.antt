@@ -1,10 +1,10 @@
 -- The answer to what the words ask for.
 use Rattle.std.specs.Prelude.{◌≡◌, ℕ, List, [], ◌∷◌, ◌++◌, map, All, Option, Some, codes, string_bytes}
 use Rattle.std.specs.Io.KnownBytes.{Keeps, prepend_known}
-use Rattle.wcp_options.specs.declared.options.Options.{Options}
-use Rattle.wcp_options.specs.declared.options.Request.{Request}
-use Rattle.wcp_options.specs.declared.options.Request.TheVariants.{Trace, Help, Version, Unknown}
-use Rattle.wcp_options.specs.Options.{seen_texts}
+use Rattle.trace_cli.specs.declared.options.Options.{Options}
+use Rattle.trace_cli.specs.declared.options.Request.{Request}
+use Rattle.trace_cli.specs.declared.options.Request.TheVariants.{Trace, Help, Version, Unknown}
+use Rattle.trace_cli.specs.Options.{seen_texts}
 use Rattle.trace_condition.specs.declared.condition.Condition.{Condition}
 use Rattle.trace_condition.specs.Asked.{Asked, conditions_of}
 use Rattle.trace_condition.specs.Conditions.{said_by, IsRead}

@@ -1,11 +1,12 @@
 ghost use Rattle.std.specs.Prelude.{◌≡◌};
-ghost use Rattle.trace_cli.specs.declared.fault.Fault.TheVariants.{Memory, Write, Conditions, Detection};
+ghost use Rattle.wcp_io.specs.declared.io_fault.IoFault.TheVariants.{Memory};
+ghost use Rattle.trace_cli.specs.declared.fault.Fault.TheVariants.{Conditions, Detection, Io};
 
 use std::alloc::AllocError;
 use thiserror::Error;
 use trace_condition::ConditionFault;
 use trace_detect::DetectFault;
-use wcp_output::WriteFailed;
+use wcp_io::IoFault;
 
 /// Why the program gives no answer. It displays as its line on standard error, without the name of the program.
 #[derive(Debug, Drop, Error)]
@@ -19,19 +20,16 @@ pub enum Fault {
     /// The log has a fault, or a host logs nothing, or the log can't be read.
     #[error(transparent)]
     Detection(DetectFault),
-    /// Memory ran out elsewhere.
-    #[error("memory")]
-    Memory,
-    /// Writing the output failed.
-    #[error("write")]
-    Write,
+    /// The output wasn't written, or memory ran out elsewhere.
+    #[error(transparent)]
+    Io(IoFault),
 }
 
 impl From<AllocError> for Fault {
-    ghost from_gives = { λ _ given. given ≡ Memory };
+    ghost from_gives = { λ _ given. given ≡ Io Memory };
 
     fn from(_error: AllocError) -> Fault {
-        Fault::Memory
+        Fault::Io(IoFault::Memory)
     }
 }
 
@@ -51,10 +49,10 @@ impl From<DetectFault> for Fault {
     }
 }
 
-impl From<WriteFailed> for Fault {
-    ghost from_gives = { λ _ given. given ≡ Write };
+impl From<IoFault> for Fault {
+    ghost from_gives = { λ fault given. given ≡ Io fault };
 
-    fn from(_error: WriteFailed) -> Fault {
-        Fault::Write
+    fn from(fault: IoFault) -> Fault {
+        Fault::Io(fault)
     }
 }

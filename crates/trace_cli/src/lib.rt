@@ -6,13 +6,34 @@
 //! of the events of the lines that were read was printed, and stays it whatever comes after them, or that the whole
 //! input was read and it is the earliest moment of all its events; 1 means that the whole input was read, that there
 //! is no moment, and that each watched host logs something: that was printed, with how often each condition held.
-//! Which lines and events an input has, when a condition holds and what a moment is are said by `wcp_lines`,
-//! `trace_log`, `trace_condition` and `trace_moment`; what words ask for by `wcp_options`. Help and the version read
-//! nothing.
+//! Which lines and events an input has, when a condition holds and what a moment is are said by `wcp_io`,
+//! `trace_log`, `trace_condition` and `trace_moment`. Help and the version read nothing.
+//!
+//! `read_options`, for all words: by one definition over what `clap` is proved to find in them (`IsRequestOf` in
+//! `specs/Requests.antt`) a trace is asked for exactly where no word is refused and the form is known, and its lists
+//! are the values of each option in the order given; help, the version and words that the program doesn't know come
+//! where `clap` answers so, and only there. The word `help` alone counts as `--help`. Where memory runs out nothing is
+//! said, nor of the text of the help.
+//!
+//! A reader that tells has the bytes left that its input has, so what is proved of the program over known bytes holds
+//! over it.
+//!
+//! Tested, and said by no clause: what `clap` finds in plain words, and what is told of a log that is being read, and
+//! when.
 #![tactic(auto)]
 
 mod fault;
+mod help;
+mod notes;
+mod options;
 mod program;
+mod teller;
+mod telling_reader;
 
 pub use fault::Fault;
+pub use help::VERSION;
+pub use notes::Notes;
+pub use options::{Options, Request, read_options};
 pub use program::{drive, refuse};
+pub use teller::Teller;
+pub use telling_reader::TellingReader;

@@ -1,17 +1,19 @@
 //! The program, over any reader and writers.
 ghost use Rattle.std.specs.Prelude.{◌≡◌, ◌≤◌, map, IfOk};
 ghost use Rattle.std.specs.Io.KnownBytes.{Keeps};
-ghost use Rattle.trace_cli.specs.Edge.{DoesAsked, edge_of, status_after};
+ghost use Rattle.wcp_io.specs.Edge.{edge_of};
+ghost use Rattle.trace_cli.specs.Edge.{DoesAsked, status_after};
 ghost use Rattle.trace_cli.specs.Requested.{AnswersRequest, AnswersTrace};
 
 use crate::fault::Fault;
+use crate::help::VERSION;
+use crate::options::{Options, Request, read_options};
 use std::alloc::Global;
 use std::convert::AsStr;
 use std::io::{Read, Write};
 use trace_condition::{ConditionWords, read_conditions};
 use trace_detect::{Answer, Listener, detect};
-use wcp_options::{Options, Request, VERSION, read_options};
-use wcp_output::write_whole;
+use wcp_io::write_whole;
 
 /// The status after help and the version.
 const TOLD: u8 = 0;

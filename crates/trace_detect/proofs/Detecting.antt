@@ -12,8 +12,8 @@ use Rattle.trace_log.specs.declared.log.Log.{Log}
 use Rattle.trace_log.specs.declared.turn.Form.{Form}
 use Rattle.trace_log.specs.declared.turn.Logged.{Logged as OwnLogged}
 use Rattle.trace_log.specs.Turns.{seen_logged}
-use Rattle.wcp_events.specs.declared.fault.EventFault.{EventFault}
-use Rattle.wcp_events.specs.Reading.{HasReadEvents, ReadsEvent, SaysWhole}
+use Rattle.trace_log.specs.declared.event_fault.EventFault.{EventFault}
+use Rattle.trace_log.specs.Reading.{HasReadEvents, ReadsEvent, SaysWhole}
 use Rattle.trace_moment.specs.declared.search.Search.{Search}
 use Rattle.trace_moment.specs.Moment.{IsEarliest, IsKnown}
 use Rattle.trace_moment.specs.Standing.{HasNoMoment}

@@ -2,7 +2,7 @@
 use Rattle.trace_detect.proofs.Words.{◌≡◌, ◌∙◌, ℕ, Bool, true, false, cond, List, [], ◌∷◌, ◌++◌, Option, Some, None, refl}
 use Rattle.trace_detect.proofs.Words.{sym, ap, append_assoc, append-nil, option_to_list, bytes_eq, Member, Logged}
 use Rattle.trace_detect.proofs.Words.{clock_after, Condition, taken_from, taken_after, condition_at}
-use Rattle.wcp_events.specs.Events.{events_of}
+use Rattle.trace_log.specs.LoggedEvents.{events_of}
 use Rattle.trace_moment.specs.Moment.{events_of as events_taken}
 use Rattle.std.proofs.lemmas.Slice.Eq.{bytes_eq-Decides}
 

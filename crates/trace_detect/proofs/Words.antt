@@ -10,7 +10,7 @@ pub use Rattle.std.specs.Str.{bytes_eq}
 pub use Rattle.trace_log.specs.Clock.{Member}
 pub use Rattle.trace_log.specs.Log.{Logged}
 unfoldable pub use Rattle.trace_log.specs.Order.{clock_after}
-pub use Rattle.wcp_events.specs.Events.{FollowsIn}
+pub use Rattle.trace_log.specs.LoggedEvents.{FollowsIn}
 pub use Rattle.trace_moment.specs.Moment.{Taken, Watch, watch_at, MayFollow, IsNextAt, HaveDistinctHosts}
 pub use Rattle.trace_moment.specs.Search.{HasTaken, watched_by, is_known, TakesNext}
 pub use Rattle.trace_condition.specs.declared.condition.Condition.{Condition}

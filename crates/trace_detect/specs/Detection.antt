@@ -4,7 +4,7 @@ use Rattle.std.specs.Prelude.{string_bytes}
 use Rattle.std.specs.Io.KnownBytes.{prepend_known}
 use Rattle.trace_log.specs.declared.turn.Form.{Form}
 use Rattle.trace_log.specs.Log.{Logged}
-use Rattle.wcp_events.specs.Reading.{Says, SaysWhole, HasFault}
+use Rattle.trace_log.specs.Reading.{Says, SaysWhole, HasFault}
 use Rattle.trace_moment.specs.Moment.{IsEarliest, IsKnown}
 use Rattle.trace_moment.specs.Standing.{HasNoMoment}
 use Rattle.trace_condition.specs.declared.condition.Condition.{Condition}

@@ -1,6 +1,6 @@
 -- The fault of a detection where no event was read.
-use Rattle.wcp_events.specs.declared.fault.EventFault.{EventFault}
-use Rattle.wcp_events.specs.declared.fault.EventFault.TheVariants as events
+use Rattle.trace_log.specs.declared.event_fault.EventFault.{EventFault}
+use Rattle.trace_log.specs.declared.event_fault.EventFault.TheVariants as events
 use Rattle.trace_detect.specs.declared.fault.DetectFault.{DetectFault}
 use Rattle.trace_detect.specs.declared.fault.DetectFault.TheVariants.{Log, Read, NoMemory}
 

@@ -3,7 +3,7 @@ use Rattle.std.specs.Prelude.{◌≡◌, ℕ, List, Option, false, length}
 use Rattle.trace_log.specs.declared.log.Log.{Log}
 use Rattle.trace_log.specs.declared.turn.Form.{Form}
 use Rattle.trace_log.specs.Log.{Logged}
-use Rattle.wcp_events.specs.Reading.{HasReadEvents}
+use Rattle.trace_log.specs.Reading.{HasReadEvents}
 use Rattle.trace_moment.specs.Search.{is_known}
 use Rattle.trace_condition.specs.declared.condition.Condition.{Condition}
 use Rattle.trace_detect.specs.declared.watcher.Watcher.{Watcher}

@@ -1,7 +1,7 @@
 //! Detection while the log comes in.
 ghost use Rattle.std.specs.Prelude.{◌≡◌, true, ◌<◌, [], IfOk, IfSome, MatchOption, length};
-ghost use Rattle.wcp_lines.specs.Reader.{left};
-ghost use Rattle.wcp_events.specs.Reading.{HasReadEvents};
+ghost use Rattle.wcp_io.specs.Reader.{left};
+ghost use Rattle.trace_log.specs.Reading.{HasReadEvents};
 ghost use Rattle.trace_moment.specs.Search.{is_known, moment_of, watched_by};
 ghost use Rattle.trace_condition.specs.Conditions.{HaveHosts};
 ghost use Rattle.trace_detect.specs.Detection.{AllLog, AnswersLast, Detects, IsFirstSilent};
@@ -18,8 +18,7 @@ use crate::watcher::Watcher;
 use std::alloc::{AllocError, Global};
 use std::io::Read;
 use trace_condition::Condition;
-use wcp_events::EventReader;
-use trace_log::Form;
+use trace_log::{EventReader, Form};
 
 /// The status where the moment was found.
 const FOUND: u8 = 0;

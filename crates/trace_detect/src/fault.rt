@@ -4,8 +4,7 @@ ghost use Rattle.trace_detect.specs.Faults.{fault_of_events};
 
 use std::alloc::AllocError;
 use thiserror::Error;
-use wcp_events::EventFault;
-use trace_log::LogFault;
+use trace_log::{EventFault, LogFault};
 
 /// Why there is no answer.
 #[derive(Debug, Drop, Error)]

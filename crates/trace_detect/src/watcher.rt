@@ -2,7 +2,7 @@
 ghost use Rattle.std.specs.Prelude.{◌≡◌, ◌-◌, ◌^◌, ◌<◌, ◌∷◌, ◌++◌, [], false, IfOk, length, map};
 ghost use Rattle.trace_log.specs.Log.{Logged};
 ghost use Rattle.trace_log.specs.Turns.{seen_logged};
-ghost use Rattle.wcp_events.specs.Events.{FollowsIn};
+ghost use Rattle.trace_log.specs.LoggedEvents.{FollowsIn};
 ghost use Rattle.trace_moment.specs.Search.{is_known};
 ghost use Rattle.trace_moment.specs.Views.{seen_watch};
 ghost use Rattle.trace_condition.specs.Conditions.{HaveHosts};

@@ -7,3 +7,7 @@ pub mod Handed
 pub mod Falls
 pub mod Keeps
 pub mod Turning
+pub mod EventWords
+mod Turns
+mod LogLines
+mod ReadLines

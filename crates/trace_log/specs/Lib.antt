@@ -7,3 +7,6 @@ pub mod Kept
 pub mod Log
 pub mod Turns
 pub mod State
+pub mod LoggedEvents
+pub mod EventFaults
+pub mod Reading

@@ -1,4 +1,4 @@
-//! The events of a log with vector clocks, read line by line as it comes in.
+//! The events of a log with vector clocks, read as they come from an input that may never end.
 //!
 //! What is proved. `Log::read`: after the lines so far, an event is answered exactly where the next line ends one, and
 //! it is the one that the lines spell: its host, its clock member by member, its text and the number of the text's
@@ -7,10 +7,18 @@
 //! judged after that of its event before. After a fault, or where memory runs out, the log is as before; each line that
 //! was read is one less of those that a log can have. `Log::end`: a fault exactly where the second line of an event is
 //! missing. `number_of`: the number of a host in a clock.
+//!
+//! `EventReader::next_event`: after the events so far, the next event of the input's lines is answered as soon as the
+//! line that ends it was read; none only where the whole input was read and its log may end there; and a fault of the
+//! log exactly where the lines of the input have it first (`whole_log` in `specs/LoggedEvents.antt`), whatever comes
+//! after that line. An event's clock follows that of its host's event before. A read is answered to have failed only
+//! where no byte waits that was read. The lines of an input are those of `wcp_io`.
 #![tactic(auto)]
 
 mod clock;
 mod event;
+mod event_fault;
+mod event_reader;
 mod fault;
 mod line;
 mod log;
@@ -20,6 +28,8 @@ mod stamp;
 mod turn;
 
 pub use event::{Event, Member, number_of};
+pub use event_fault::EventFault;
+pub use event_reader::EventReader;
 pub use fault::{FaultKind, LogFault, ReadFault};
 pub use line::MAX_LINE;
 pub use log::Log;

@@ -1,6 +1,6 @@
 //! The report of a text, as the program `wcpwatch` prints it.
 ghost use Rattle.std.specs.Prelude.{◌≡◌, ◌≢◌, ◌<◌, ◌≤◌, ◌⊎◌, ℕ, List, IfOk, IfErr, length, take, drop};
-ghost use Rattle.wcp_clock.specs.Limits.{most_bytes};
+ghost use Rattle.wcp_io.specs.Input.{most_bytes};
 ghost use Rattle.wcp_model.specs.declared.outcome.Report.{Report as Reported};
 ghost use Rattle.wcp_script.specs.ReadAnswers.{IsFaultOf};
 ghost use Rattle.wcp_script.specs.TextFault.{HasWorkloadFault};
@@ -10,7 +10,7 @@ ghost use Rattle.wcp_c.specs.Singles.{IsAnswered, IsSingleAnswer, status_of, too
 
 use crate::answer::{NO_MEMORY, NO_ROOM};
 use std::alloc::{AllocError, Global};
-use wcp_clock::MAX_BYTES;
+use wcp_io::MAX_BYTES;
 use wcp_model::Report;
 use wcp_report::report_text;
 use wcp_script::{ReadFault, ScriptFault, read_ordered, single_in_order};

@@ -1,27 +1,11 @@
 use Rattle.std.specs.Prelude.{◌≡◌, ℕ, List, Result, Ok, Err}
 use Rattle.std.specs.Io.KnownBytes.{Appends, Keeps}
-use Rattle.wcp_io.specs.Input.{Known}
-use Rattle.wcp_output.specs.Fronts.{AppendsFront}
+use Rattle.wcp_io.specs.Edge.{Edge}
+use Rattle.wcp_io.specs.Fronts.{AppendsFront}
 use Rattle.wcp_cli.specs.declared.fault.Fault.{Fault}
 use Rattle.wcp_cli.specs.declared.words.Request.{Request}
 use Rattle.wcp_cli.specs.RequestAnswers.{IsAnswerTo, Reads}
 use Rattle.wcp_cli.specs.Words.{HasRing, IsSameRequest}
-
--- The input and the output of the program, each before and after.
-pub record Edge : Type 0 where
-  pub input : Known
-  pub input_after : Known
-  pub output : Known
-  pub output_after : Known
-
--- The edge with these four.
-abbrev pub edge_of : Known → Known → Known → Known → Edge
-edge_of input input_after output output_after = record {
-  input = input;
-  input_after = input_after;
-  output = output;
-  output_after = output_after;
-}
 
 -- The program does this request at its edge, with this status: it writes the answer whole; or, where a write failed, a
 -- front of the answer, with status 2; or, where there is no answer, nothing, with status 2.

@@ -1,7 +1,8 @@
 //! The program, over any reader and writers.
 ghost use Rattle.std.specs.Prelude.{◌≡◌, ℕ, ◌≤◌, map, IfOk};
 ghost use Rattle.std.specs.Io.KnownBytes.{Keeps};
-ghost use Rattle.wcp_cli.specs.Edge.{Does, DoesAsked, DoesSome, edge_of, status_after};
+ghost use Rattle.wcp_io.specs.Edge.{edge_of};
+ghost use Rattle.wcp_cli.specs.Edge.{Does, DoesAsked, DoesSome, status_after};
 ghost use Rattle.wcp_cli.specs.Words.{AskFor, HasRing};
 
 use crate::answers::answer_to;
@@ -11,7 +12,7 @@ use std::convert::AsStr;
 use std::io::{Read, Write};
 use std::sync::Wait;
 use std::thread::Threads;
-use wcp_output::write_whole;
+use wcp_io::write_whole;
 
 /// The status where there is no answer.
 const REFUSED: u8 = 2;

@@ -31,14 +31,6 @@ most_path = 8
 abbrev pub most_steps : ℕ
 most_steps = 65536
 
--- The program reads a text of at most 2,097,152 bytes.
-abbrev pub most_bytes : ℕ
-most_bytes = 2097152
-
--- The program takes a text in by at most 4,194,304 reads.
-abbrev pub most_reads : ℕ
-most_reads = 4194304
-
 -- A lane has room for 1 to 65,536 messages.
 abbrev pub most_lane : ℕ
 most_lane = 65536

@@ -13,8 +13,8 @@ mod process_set;
 
 pub use clock::Clock;
 pub use limits::{
-    CLOCK_LIMIT, GATE_TURNS, MAX_BYTES, MAX_CAP, MAX_HOLD, MAX_LANE, MAX_PATH, MAX_PROCS,
-    MAX_READS, MAX_RELAYS, MAX_STEPS,
+    CLOCK_LIMIT, GATE_TURNS, MAX_CAP, MAX_HOLD, MAX_LANE, MAX_PATH, MAX_PROCS, MAX_RELAYS,
+    MAX_STEPS,
 };
 pub use note::{Item, Note};
 pub use per_process::{Padding, PerProcess};

@@ -23,12 +23,6 @@ pub const MAX_PATH: usize = 8;
 /// The most steps of a text.
 pub const MAX_STEPS: usize = 65_536;
 
-/// The most bytes of a text that the program reads.
-pub const MAX_BYTES: usize = 2_097_152;
-
-/// The most reads by which the program takes in a text.
-pub const MAX_READS: u32 = 4_194_304;
-
 /// The most messages that a lane has room for.
 pub const MAX_LANE: u32 = 65_536;
 

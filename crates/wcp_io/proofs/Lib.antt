@@ -1,0 +1,5 @@
+mod Rests
+pub mod Words
+mod Firsts
+mod Found
+mod Given

@@ -1,6 +1,13 @@
 use Rattle.std.specs.Prelude.{ℕ, ◌≤◌, List, Option, length}
 use Rattle.std.specs.Io.KnownBytes.{Consumes, IsAtEnd}
-use Rattle.wcp_clock.specs.Limits.{most_bytes}
+
+-- The most bytes of a text that is read.
+abbrev pub most_bytes : ℕ
+most_bytes = 2097152
+
+-- The most reads that take in a text, those counted too that were interrupted.
+abbrev pub most_reads : ℕ
+most_reads = 4194304
 
 -- What is known of the bytes that a reader has left, or of those that a writer holds.
 abbrev pub Known : Type 0

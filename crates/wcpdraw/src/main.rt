@@ -1,11 +1,12 @@
 //! The program `wcpdraw`.
 #![tactic(auto)]
 
+use draw_cli::{Fault, drive, refuse};
+use std::alloc::AllocError;
 use std::env;
 use std::io::ErrorKind;
 use std::process::ExitCode;
 use std::rt::Env;
-use draw_cli::{Fault, drive, refuse};
 
 fn main(rt: HostRuntime) -> ExitCode {
     let status = match words(&rt) {
@@ -25,7 +26,7 @@ fn main(rt: HostRuntime) -> ExitCode {
 fn words<R: Env + AllocGlobal>(rt: &R) -> Result<Vec<String>, Fault> {
     match env::args(rt) {
         Ok(words) => Ok(words.collect(rt.alloc())?),
-        Err(error) if error.kind() == ErrorKind::OutOfMemory => Err(Fault::Memory),
+        Err(error) if error.kind() == ErrorKind::OutOfMemory => Err(AllocError.into()),
         Err(_) => Err(Fault::Usage),
     }
 }

@@ -1,12 +1,12 @@
 //! The program `wcptrace`.
 #![tactic(auto)]
 
+use std::alloc::AllocError;
 use std::env;
 use std::io::{ErrorKind, IsTerminal};
 use std::process::ExitCode;
 use std::rt::Env;
-use wcp_progress::{Notes, Teller, TellingReader};
-use trace_cli::{Fault, drive, refuse};
+use trace_cli::{Fault, Notes, Teller, TellingReader, drive, refuse};
 
 /// The word that asks to be told how far the log was read.
 const PROGRESS: &str = "--progress";
@@ -35,7 +35,7 @@ fn main(rt: HostRuntime) -> ExitCode {
 fn words<R: Env + AllocGlobal>(rt: &R) -> Result<Vec<String>, Fault> {
     match env::args(rt) {
         Ok(words) => Ok(words.collect(rt.alloc())?),
-        Err(error) if error.kind() == ErrorKind::OutOfMemory => Err(Fault::Memory),
+        Err(error) if error.kind() == ErrorKind::OutOfMemory => Err(AllocError.into()),
         Err(_) => Err(Fault::Usage),
     }
 }

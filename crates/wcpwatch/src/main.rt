@@ -1,6 +1,7 @@
 //! The program `wcpwatch`.
 #![tactic(auto)]
 
+use std::alloc::AllocError;
 use std::env;
 use std::io::ErrorKind;
 use std::process::ExitCode;
@@ -25,7 +26,7 @@ fn main(rt: HostRuntime) -> ExitCode {
 fn words<R: Env + AllocGlobal>(rt: &R) -> Result<Vec<String>, Fault> {
     match env::args(rt) {
         Ok(words) => Ok(words.collect(rt.alloc())?),
-        Err(error) if error.kind() == ErrorKind::OutOfMemory => Err(Fault::Memory),
+        Err(error) if error.kind() == ErrorKind::OutOfMemory => Err(AllocError.into()),
         Err(_) => Err(Fault::Usage),
     }
 }

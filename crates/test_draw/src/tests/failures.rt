@@ -1,9 +1,9 @@
 use super::runs::{Answer, FOUND, TWO, answer_to, assert_drawn, assert_refused, assert_text};
 use super::streams::{Endless, Sink, Source, Trouble};
+use draw_cli::drive;
 use std::alloc::Global;
 use std::io::ErrorKind;
 use std::process::Abort;
-use draw_cli::drive;
 
 /// What the program answers where reads give so many bytes at most, and have this trouble.
 fn troubled(alloc: Global, most: usize, trouble: Trouble) -> Answer {

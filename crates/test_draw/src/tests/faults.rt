@@ -1,9 +1,8 @@
 use super::runs::assert_text;
+use draw_cli::{Fault, SketchFault, refuse};
 use std::alloc::Global;
 use std::process::Abort;
-use draw_cli::{Fault, refuse};
-use wcp_io::ReadTextFault;
-use wcp_sketch::SketchFault;
+use wcp_io::IoFault;
 
 /// The program refuses with this fault by the line of memory.
 fn assert_memory(rt: &impl Abort, alloc: Global, fault: Fault) {
@@ -14,7 +13,6 @@ fn assert_memory(rt: &impl Abort, alloc: Global, fault: Fault) {
 
 #[test]
 fn lines_of_memory(rt: HostRuntime) {
-    assert_memory(&rt, rt.alloc(), Fault::Input(ReadTextFault::Memory));
+    assert_memory(&rt, rt.alloc(), Fault::Io(IoFault::Memory));
     assert_memory(&rt, rt.alloc(), Fault::Sketch(SketchFault::Memory));
-    assert_memory(&rt, rt.alloc(), Fault::Memory);
 }

@@ -1,7 +1,7 @@
+use draw_cli::drive;
 use std::alloc::Global;
 use std::io::Read;
 use std::process::Abort;
-use draw_cli::drive;
 
 /// The words that ask for the picture of two processes.
 pub const TWO: &[&str] = &["wcpdraw", "--names", "ann,ben"];

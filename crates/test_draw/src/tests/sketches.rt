@@ -1,10 +1,10 @@
 //! Each call is asked again where memory runs out: a test passes whichever of its allocations fails.
 
 use super::runs::FOUND;
+use draw_cli::{Picture, SketchFault, sketch};
 use std::alloc::Global;
 use std::process::Abort;
 use wcp_script::{FaultKind, ScriptFault};
-use wcp_sketch::{Picture, SketchFault, sketch};
 
 /// The picture of a text of processes with these names.
 fn picture(alloc: Global, names: Option<&str>, text: &str) -> Result<Picture, SketchFault> {

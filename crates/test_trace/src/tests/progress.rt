@@ -3,8 +3,7 @@ use std::cell::Cell;
 use std::io::{Read, Result};
 use std::test::Fail;
 use std::time::{Clock, Duration};
-use wcp_progress::{Notes, Teller, TellingReader};
-use trace_cli::drive;
+use trace_cli::{Notes, Teller, TellingReader, drive};
 
 /// A clock on which so many milliseconds pass from one reading to the next.
 #[derive(Drop)]

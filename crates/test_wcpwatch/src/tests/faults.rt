@@ -4,6 +4,7 @@ use super::runs::{same_bytes, same_number};
 use std::alloc::AllocError;
 use std::process::Abort;
 use wcp_cli::{Fault, refuse};
+use wcp_io::IoFault;
 use wcp_run::RunFault;
 use wcp_script::{FaultKind, ReadFault, ScriptFault};
 
@@ -15,11 +16,11 @@ const STUCK: ScriptFault = ScriptFault {
 /// Each fault, and its line.
 static LINES: [(Fault, &str); 12] = [
     (Fault::Usage, "wcpwatch: usage\n"),
-    (Fault::Read, "wcpwatch: read\n"),
-    (Fault::TooLarge, "wcpwatch: toolarge\n"),
+    (Fault::Io(IoFault::Read), "wcpwatch: read\n"),
+    (Fault::Io(IoFault::TooLarge), "wcpwatch: toolarge\n"),
     (Fault::Script(STUCK), "wcpwatch: line 3: stuck\n"),
-    (Fault::Memory, "wcpwatch: memory\n"),
-    (Fault::Write, "wcpwatch: write\n"),
+    (Fault::Io(IoFault::Memory), "wcpwatch: memory\n"),
+    (Fault::Io(IoFault::Write), "wcpwatch: write\n"),
     (Fault::Run(RunFault::Memory), "wcpwatch: run memory\n"),
     (Fault::Run(RunFault::Spawn), "wcpwatch: run spawn\n"),
     (Fault::Run(RunFault::Held(0)), "wcpwatch: run held 0\n"),
@@ -53,8 +54,12 @@ fn same_fault(rt: &impl Abort, found: Fault, expected: Fault) {
 
 #[test]
 fn each_cause_is_its_fault(rt: HostRuntime) {
-    same_fault(&rt, Fault::from(AllocError), Fault::Memory);
-    same_fault(&rt, Fault::from(ReadFault::NoMemory), Fault::Memory);
+    same_fault(&rt, Fault::from(AllocError), Fault::Io(IoFault::Memory));
+    same_fault(
+        &rt,
+        Fault::from(ReadFault::NoMemory),
+        Fault::Io(IoFault::Memory),
+    );
     same_fault(
         &rt,
         Fault::from(ReadFault::Script(STUCK)),

@@ -1,7 +1,7 @@
 use Rattle.std.proofs.Common.{subst}
 use Rattle.std.proofs.lemmas.Result.{err_from_is_err_and}
 use Rattle.std.specs.Io.KnownBytes.{Appends}
-use Rattle.wcp_output.specs.Fronts.{AppendsFront}
+use Rattle.wcp_io.specs.Fronts.{AppendsFront}
 use Rattle.draw_cli.specs.Edge.{Front, Whole}
 use Rattle.draw_cli.proofs.Refusals.{status_after_err, why_refused}
 use Rattle.draw_cli.proofs.program.obey.Goals as goal

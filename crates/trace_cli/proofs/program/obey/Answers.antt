@@ -1,6 +1,6 @@
 use Rattle.std.proofs.Common.{subst}
 use Rattle.std.specs.Io.KnownBytes.{Appends}
-use Rattle.wcp_output.specs.Fronts.{AppendsFront}
+use Rattle.wcp_io.specs.Fronts.{AppendsFront}
 use Rattle.trace_cli.specs.Edge.{Front, Whole}
 use Rattle.trace_cli.proofs.Statuses.{status_after_err}
 use Rattle.trace_cli.proofs.program.obey.Goals as goal

@@ -1,6 +1,6 @@
 use Rattle.trace_detect.proofs.Words.{sym, subst, []}
-use Rattle.wcp_lines.specs.Reader.{left}
-use Rattle.wcp_events.specs.Reading.{HasReadEvents}
+use Rattle.wcp_io.specs.Reader.{left}
+use Rattle.trace_log.specs.Reading.{HasReadEvents}
 use Rattle.trace_detect.specs.Detection.{Detects}
 use Rattle.trace_detect.proofs.detection.watch_events.Goals as goal
 

@@ -1,5 +1,5 @@
 use Rattle.trace_detect.proofs.Words.{◌∙◌, sym, ap, watches}
-use Rattle.wcp_lines.specs.Reader.{left}
+use Rattle.wcp_io.specs.Reader.{left}
 use Rattle.trace_detect.proofs.Detecting.{answers_early, answers_last, event_fault, goes_on, hands_on, starts}
 use Rattle.trace_detect.proofs.detection.watch_on.Goals as goal
 

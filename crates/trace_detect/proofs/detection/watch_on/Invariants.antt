@@ -1,4 +1,4 @@
-use Rattle.wcp_lines.specs.Reader.{left}
+use Rattle.wcp_io.specs.Reader.{left}
 use Rattle.trace_detect.specs.Loop.{IsDetecting}
 use Rattle.trace_detect.proofs.detection.watch_on.Given as goal
 

@@ -1,0 +1,42 @@
+use Rattle.std.specs.Prelude.{◌≡◌, ℕ, Bool, List, Option, None, Some, is_some}
+use Rattle.wcp_model.specs.declared.outcome.Outcome.{Outcome}
+use Rattle.wcp_model.specs.declared.outcome.Report.{Report}
+use Rattle.wcp_model.specs.declared.outcome.Report.TheVariants.{Found, Nothing, Undecided}
+use Rattle.wcp_model.specs.declared.workload.Task.{Task}
+use Rattle.wcp_model.specs.declared.plan.Plan.{Plan}
+use Rattle.wcp_clock.specs.ProcessNumbers.{NumberSet}
+use Rattle.wcp_model.specs.declared.flag.Flag.{Flag}
+use Rattle.wcp_model.specs.Cut.{Intervals}
+use Rattle.wcp_model.specs.Outcome.{IsWorkloadOutcome}
+use Rattle.wcp_model.specs.WorkloadComputation.{IsFitOrder}
+use Rattle.draw_layout.specs.declared.layout.Layout.{Layout}
+use Rattle.draw_picture.specs.Picture.{IsPicture}
+use Rattle.wcp_script.specs.TextFault.{workloads, Spells}
+use Rattle.draw_cli.specs.Names.{IsNamed}
+
+-- The cut that a report found, if it found one.
+abbrev pub cut_of : Report → Option Intervals
+cut_of (Found cut) = Some cut
+cut_of Nothing = None
+cut_of Undecided = None
+
+-- A picture of these tasks of n processes, of which some are watched, under what resets their flags: of a layout of a fit
+-- order of them about the cut of their outcome, or about none; and whether there is one.
+pub record IsPictureOf (n : ℕ) (watched : NumberSet) (flag : Flag) (tasks : List Task) (picture : List ℕ) (found : Bool)
+    : Type 0 where
+  pub order : List Task
+  pub fit : IsFitOrder tasks order
+  pub outcome : Outcome
+  pub is_outcome : IsWorkloadOutcome n watched flag tasks outcome
+  pub layout : Layout
+  pub is_picture : IsPicture n order (cut_of outcome.report) layout picture
+  pub found_is : found ≡ is_some (cut_of outcome.report)
+
+-- A picture of a text with these names: of the workload that it spells, for whose processes there are names; and whether
+-- it shows a cut.
+pub record IsSketchOf (list : Option (List ℕ)) (text picture : List ℕ) (found : Bool) : Type 0 where
+  pub plan : Plan
+  pub tasks : List Task
+  pub spells : Spells workloads text plan tasks
+  pub named : IsNamed list plan.n
+  pub is_picture : IsPictureOf plan.n plan.watched plan.flag tasks picture found

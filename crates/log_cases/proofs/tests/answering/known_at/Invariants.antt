@@ -1,6 +1,0 @@
-use Rattle.std.proofs.Common.{◌≡◌, length}
-use Rattle.trace_moment.specs.Search.{watched_by}
-use Rattle.log_cases.proofs.tests.answering.known_at.Given as goal
-
-abbrev pub invariant-loop-row : goal.invariant-loop-row
-invariant-loop-row l = length (watched_by l.search) ≡ 2

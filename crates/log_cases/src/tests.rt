@@ -1,8 +1,0 @@
-mod answering;
-mod cuts;
-mod faults;
-mod forms;
-mod locks;
-mod numbers;
-mod orders;
-mod reading;

@@ -1,0 +1,56 @@
+-- What clap finds at the program's options, and how it answers words.
+use Rattle.trace_cli.proofs.OptionWords.{◌≡◌, ◌⊎◌, inl, inr, true, List, [], map, codes, Option, Some, None, option_map}
+use Rattle.trace_cli.proofs.OptionWords.{Result, Ok, Err, IfOk, refl, sym, ◌∙◌, Text, IsAmong, all_of, fault_of, first_of}
+use Rattle.trace_cli.proofs.OptionWords.{first_value, is_simple, is_simple_and_free, matched_of, raw_values, rows_of}
+use Rattle.trace_cli.proofs.OptionWords.{Shiviz, Request, Trace, Help, Version, Unknown, program, seen_texts, values_at}
+use Rattle.trace_cli.proofs.OptionWords.{form_named, form_at, IsRefusalOf, IsRequestOf, Refused}
+use Rattle.std.specs.Borrow.{Bor}
+use Rattle.std.specs.Option.{MatchOption, option_map_or}
+use Rattle.clap.proofs.OnLiterals.{clap_on_literals}
+use Rattle.clap.proofs.WalkLemmas.{raw_values-rows, first_value-rows}
+use Rattle.clap.specs.declared.parser.matches.Found.{Found}
+use Rattle.clap.specs.declared.error.kind.ErrorKind.{ErrorKind}
+use Rattle.clap.specs.declared.error.kind.ErrorKind.TheVariants as kind
+
+pub program_is_free : is_simple_and_free program ≡ true
+unfolding clap_on_literals
+program_is_free = refl
+
+pub program_is_simple : is_simple program ≡ true
+unfolding clap_on_literals
+program_is_simple = refl
+
+-- The values that `get_strs` gives.
+pub values_as : (found : Found) (name : Text) (values : Option (Bor (List (Bor Text))))
+    → option_map (λ s. map (λ v. v.now) s.now) values ≡ option_map raw_values (matched_of found name)
+    → MatchOption values (values_at name (rows_of found) ≡ []) (λ s. values_at name (rows_of found) ≡ seen_texts s.now)
+values_as found name None is =
+    let none : all_of name (rows_of found) ≡ None = sym (raw_values-rows found name) ∙ sym is in rw none refl
+values_as found name (Some values) is =
+    let some : all_of name (rows_of found) ≡ Some (seen_texts values.now) =
+    sym (raw_values-rows found name) ∙ sym is in rw some refl
+
+-- The form that `get_str` gives the name of.
+pub form_as : (found : Found) (name : Option (Bor Text))
+    → option_map (λ s. s.now) name ≡ first_value found (codes "form")
+    → form_at (rows_of found) ≡ option_map_or (λ s. form_named s.now) name (Some Shiviz)
+form_as found None is =
+    let none : first_of (codes "form") (rows_of found) ≡ None =
+    sym (first_value-rows found (codes "form")) ∙ sym is in rw none refl
+form_as found (Some name) is =
+    let some : first_of (codes "form") (rows_of found) ≡ Some name.now =
+    sym (first_value-rows found (codes "form")) ∙ sym is in rw some refl
+
+not_for_memory : (request : Request) → IsRefusalOf kind.OutOfMemory request → ⊥
+not_for_memory (Trace options) refused = refused
+not_for_memory (Help text) refused = cc
+not_for_memory Version refused = cc
+not_for_memory Unknown refused = refused.2 refl
+
+-- What is asked for by words that clap answers with an error.
+pub refused_as : {E : Type 0} (words : List Text) (why : ErrorKind) (result : Result Request E)
+    → (why ≡ kind.OutOfMemory) ⊎ IsAmong why (fault_of program words) → IfOk result (IsRefusalOf why)
+    → IfOk result (IsRequestOf words)
+refused_as words why (Err error) by refused = tt
+refused_as words why (Ok request) (inl memory) refused = absurd (not_for_memory request (rw memory at refused))
+refused_as words why (Ok request) (inr among) refused = Refused why among refused

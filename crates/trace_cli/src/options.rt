@@ -1,0 +1,192 @@
+ghost use Rattle.std.specs.Prelude.{◌≡◌, false, map, IfOk};
+ghost use Rattle.clap.specs.Words.{app_of, found_of, kind_of, rows_of, rule_of};
+ghost use Rattle.trace_cli.specs.Options.{program, named, condition_option, form_option, progress_option};
+ghost use Rattle.trace_cli.specs.Options.{form_named, form_at, values_at, seen_texts};
+ghost use Rattle.trace_cli.specs.Requests.{IsRequestOf, IsTraceOf, IsRefusalOf, asks_by_word, spelled};
+
+use crate::help;
+use clap::error::ErrorKind;
+use clap::{Arg, ArgAction, ArgMatches, Command, Error};
+use std::alloc::{AllocError, Global};
+use std::convert::AsStr;
+use trace_log::Form;
+
+/// What the words ask for.
+#[derive(Debug, Drop)]
+pub enum Request<'a> {
+    /// To watch a log.
+    Trace(Options<'a>),
+    /// This help text.
+    Help(String),
+    /// The program's version.
+    Version,
+    /// Something that the program doesn't know.
+    Unknown,
+}
+
+/// The values of the options: words HOST=REGEX in the order given for each, and the form of the log.
+#[derive(Debug, Drop)]
+pub struct Options<'a> {
+    pub whiles: Vec<&'a str>,
+    pub froms: Vec<&'a str>,
+    pub untils: Vec<&'a str>,
+    pub ats: Vec<&'a str>,
+    pub form: Form,
+}
+
+/// What the words ask for, of which the first is the program's name.
+pub fn read_options<'a, S: AsStr>(alloc: Global, words: &'a [S]) -> Result<Request<'a>, AllocError>
+    ensures { IfOk result (IsRequestOf (spelled (map S.text words.entry.now))) }
+{
+    if asks_by_word(words) {
+        request_of(alloc, HELP_WORDS)
+    } else {
+        request_of(alloc, words)
+    }
+}
+
+/// The words of a call for help.
+const HELP_WORDS: &[&str] = &["wcptrace", "--help"];
+
+/// Whether the word `help` stands alone after the program's name.
+fn asks_by_word<S: AsStr>(words: &[S]) -> bool
+    ensures { result ≡ asks_by_word (map S.text words.now) }
+{
+    words.len() == 2 && words[1].as_str() == "help"
+}
+
+/// What words ask for by options.
+fn request_of<'a, S: AsStr>(alloc: Global, words: &'a [S]) -> Result<Request<'a>, AllocError>
+    ensures { IfOk result (IsRequestOf (map S.text words.entry.now)) }
+{
+    match command(alloc)?.try_get_matches_from(words) {
+        Ok(matches) => trace_of(alloc, &matches),
+        Err(error) => request_without_matches(alloc, &error),
+    }
+}
+
+/// The trace that the matches ask for, if the form is known.
+fn trace_of<'a>(alloc: Global, matches: &ArgMatches<'a>) -> Result<Request<'a>, AllocError>
+    ensures { IfOk result (IsTraceOf (rows_of (found_of matches.now))) }
+{
+    let Some(form) = form_of(matches) else {
+        return Ok(Request::Unknown);
+    };
+    let whiles = values_of(alloc, matches, "while")?;
+    let froms = values_of(alloc, matches, "from")?;
+    let untils = values_of(alloc, matches, "until")?;
+    let ats = values_of(alloc, matches, "at")?;
+    Ok(Request::Trace(Options {
+        whiles,
+        froms,
+        untils,
+        ats,
+        form,
+    }))
+}
+
+/// The values of an option, in the order given.
+fn values_of<'a>(
+    alloc: Global,
+    matches: &ArgMatches<'a>,
+    name: &str,
+) -> Result<Vec<&'a str>, AllocError>
+    ensures { IfOk result (λ values. seen_texts values.items
+        ≡ values_at name.now (rows_of (found_of matches.now))) }
+{
+    match matches.get_strs(name) {
+        Some(values) => Vec::from_slice(alloc, values),
+        None => Ok(Vec::new(alloc)),
+    }
+}
+
+/// The form of the log, if it's known.
+fn form_of(matches: &ArgMatches<'_>) -> Option<Form>
+    ensures { result ≡ form_at (rows_of (found_of matches.now)) }
+{
+    match matches.get_str("form") {
+        Some(name) => form_named(name),
+        None => Some(Form::Shiviz),
+    }
+}
+
+/// The form with this name.
+fn form_named(name: &str) -> Option<Form>
+    ensures { result ≡ form_named name.now }
+{
+    match name {
+        "lines" => Some(Form::Lines),
+        "shiviz" => Some(Form::Shiviz),
+        "shiviz-reversed" => Some(Form::ShivizReversed),
+        _ => None,
+    }
+}
+
+/// What the words ask for where clap gave no matches but this error.
+fn request_without_matches<'a>(alloc: Global, error: &Error) -> Result<Request<'a>, AllocError>
+    ensures { IfOk result (IsRefusalOf (kind_of error.now)) }
+{
+    match error.kind() {
+        ErrorKind::DisplayHelp => Ok(Request::Help(error.to_string(alloc)?)),
+        ErrorKind::DisplayVersion => Ok(Request::Version),
+        ErrorKind::OutOfMemory => Err(AllocError),
+        _ => Ok(Request::Unknown),
+    }
+}
+
+/// The command line of the program.
+fn command<'a>(alloc: Global) -> Result<Command<'a>, AllocError>
+    ensures { IfOk result (λ command. app_of command ≡ program) }
+{
+    named(alloc)
+        .arg(condition_option(alloc, "while", help::WHILE))?
+        .arg(condition_option(alloc, "from", help::FROM))?
+        .arg(condition_option(alloc, "until", help::UNTIL))?
+        .arg(condition_option(alloc, "at", help::AT))?
+        .arg(form_option(alloc))?
+        .arg(progress_option(alloc))
+}
+
+/// The program's name, and what it says of itself.
+fn named<'a>(alloc: Global) -> Command<'a>
+    ensures { app_of result ≡ named }
+{
+    Command::new(alloc, "wcptrace")
+        .about(help::ABOUT)
+        .version(help::VERSION)
+        .after_help(help::MORE)
+}
+
+/// An option that says a condition of a host, at each of its uses.
+fn condition_option<'a>(alloc: Global, name: &'a str, help: &'a str) -> Arg<'a>
+    ensures rule { rule_of result ≡ condition_option name.entry.now }
+    ensures local { result.global ≡ false }
+{
+    Arg::new(alloc, name)
+        .long(name)
+        .value_name("HOST=REGEX")
+        .action(ArgAction::Append)
+        .help(help)
+}
+
+/// The option of the log's form.
+fn form_option<'a>(alloc: Global) -> Arg<'a>
+    ensures rule { rule_of result ≡ form_option }
+    ensures local { result.global ≡ false }
+{
+    Arg::new(alloc, "form")
+        .long("form")
+        .value_name("FORM")
+        .help(help::FORM)
+}
+
+/// The flag that asks to be told how far the log was read.
+fn progress_option<'a>(alloc: Global) -> Arg<'a>
+    ensures rule { rule_of result ≡ progress_option }
+    ensures local { result.global ≡ false }
+{
+    Arg::new(alloc, "progress")
+        .long("progress")
+        .action(ArgAction::SetTrue)
+        .help(help::PROGRESS)
+}

@@ -1,0 +1,30 @@
+-- The words of the proofs of this crate, from one place.
+pub use Rattle.std.proofs.Common.{◌≡◌, ◌∙◌, ◌+◌, ◌<◌, ℕ, Bool, true, false, cond, List, [], ◌∷◌, ◌++◌, Option, Some}
+pub use Rattle.std.proofs.Common.{None, Result, Ok, Err, length, refl, sym, ap, subst, arith, append_assoc, append-nil}
+pub use Rattle.std.proofs.Common.{length-append}
+pub use Rattle.std.proofs.KnownBytes.{Consumes-trans, Consumes-kept}
+pub use Rattle.std.specs.Io.KnownBytes.{Consumes, IsAtEnd, Keeps}
+pub use Rattle.std.specs.Option.{option_to_list}
+pub use Rattle.std.specs.Prelude.{IfSome, nat_lt, if◌then◌else◌}
+pub use Rattle.wcp_io.specs.Reader.{Gives, IsFirst, Whole, Front, left}
+unfoldable pub use Rattle.wcp_io.specs.Lines.{lines_of}
+pub use Rattle.trace_log.specs.declared.fault.FaultKind.{FaultKind}
+pub use Rattle.trace_log.specs.declared.fault.LogFault.{LogFault}
+pub use Rattle.trace_log.specs.declared.fault.FaultKind.TheVariants.{Long, Many}
+pub use Rattle.trace_log.specs.declared.log.Log.{Log}
+pub use Rattle.trace_log.specs.declared.turn.Form.{Form}
+pub use Rattle.trace_log.specs.declared.turn.Form.TheVariants.{Lines, Shiviz, ShivizReversed}
+pub use Rattle.trace_log.specs.declared.turn.Logged.{Logged as OwnLogged}
+pub use Rattle.trace_log.specs.Clock.{Member}
+pub use Rattle.trace_log.specs.Event.{Event, Stamp, text_in, most_bytes}
+unfoldable pub use Rattle.trace_log.specs.Event.{event_in, stamp_in}
+pub use Rattle.trace_log.specs.Judgement.{◌>>=◌, at_line}
+pub use Rattle.trace_log.specs.Log.{Half, stamped, texted, Logged, SoFar, Turn, after, end_of, event_after, stamp_after}
+pub use Rattle.trace_log.specs.Log.{whole, turn_of, next_turn, no_lines, with_event, most_lines}
+unfoldable pub use Rattle.trace_log.specs.Log.{log_from}
+pub use Rattle.trace_log.specs.Order.{last_clock, follows}
+pub use Rattle.trace_log.specs.State.{HasRead, IsTurn, lines_left}
+pub use Rattle.trace_log.specs.Turns.{seen_logged}
+pub use Rattle.trace_log.specs.LoggedEvents.{event_and_later, whole_log, events_of, FollowsIn}
+unfoldable pub use Rattle.trace_log.specs.LoggedEvents.{logged_from}
+pub use Rattle.trace_log.specs.Reading.{SaysWhole, HasFault, HalfFollows, HasReadEvents, ReadsEvent}

@@ -1,0 +1,240 @@
+-- What has been read of an input, line by line.
+use Rattle.trace_log.proofs.EventWords.{◌≡◌, ◌∙◌, ◌++◌, ℕ, List, [], ◌∷◌, Option, Some, None, Result, Ok, Err, refl, sym}
+use Rattle.trace_log.proofs.EventWords.{ap, subst, arith, append_assoc, append-nil, length-append, Consumes-trans}
+use Rattle.trace_log.proofs.EventWords.{Consumes-kept, Consumes, IsAtEnd, Keeps, option_to_list, IfSome, Gives, IsFirst}
+use Rattle.trace_log.proofs.EventWords.{Whole, Front, lines_of, LogFault, Log, Form, OwnLogged, Event, Logged, SoFar, Turn}
+use Rattle.trace_log.proofs.EventWords.{after, end_of, next_turn, no_lines, with_event, log_from, HasRead, IsTurn}
+use Rattle.trace_log.proofs.EventWords.{seen_logged, whole_log, events_of, logged_from, FollowsIn, SaysWhole, HasFault}
+use Rattle.trace_log.proofs.EventWords.{HasReadEvents, ReadsEvent}
+use Rattle.std.proofs.Common.{option_map}
+use Rattle.std.proofs.lemmas.List.{map-append}
+use Rattle.std.proofs.KnownBytes.{prepend_known-nil, Consumes-nil}
+use Rattle.std.specs.Io.KnownBytes.{prepend_known}
+use Rattle.trace_log.specs.Judgement.{◌>>=◌}
+use Rattle.std.specs.Result.{IsErr, IsErrAnd}
+use Rattle.std.proofs.lemmas.Result.{err_from_is_err_and}
+use Rattle.wcp_io.specs.declared.line_fault.LineFault.{LineFault}
+use Rattle.wcp_io.specs.declared.line_fault.LineFault.TheVariants as input
+use Rattle.trace_log.specs.declared.fault.ReadFault.{ReadFault}
+use Rattle.trace_log.specs.declared.fault.ReadFault.TheVariants as read
+use Rattle.trace_log.specs.State.{ReadsLine}
+use Rattle.trace_log.specs.declared.event_fault.EventFault.{EventFault}
+use Rattle.trace_log.specs.EventFaults.{fault_of_input, fault_of_read}
+use Rattle.trace_log.proofs.Turns.{turn_follows, next_of_long}
+use Rattle.trace_log.proofs.LogLines.{log_more, logged_more, log_line, logged_line, log_stops}
+
+-- Which lines of the input were read.
+abbrev IsFront : Option (List ℕ) → Option (List ℕ) → List (List ℕ) → Type 0
+IsFront input left lines = IfSome input (λ bytes. IfSome left (λ rest. lines_of bytes ≡ lines ++ lines_of rest))
+
+front_of_none : (input : Option (List ℕ)) → IsFront input input []
+front_of_none None = tt
+front_of_none (Some bytes) = refl
+
+-- No line was read.
+pub begins : (form : Form) (input : Option (List ℕ)) (ahead : List ℕ) (log : Log) → ahead ≡ []
+    → HasRead form no_lines log → HasReadEvents form input (prepend_known ahead input) [] log
+unfolding log_from logged_from
+begins form input ahead log none read = rw (none, prepend_known-nil input) (record {
+  says = record {
+    lines = [];
+    taken = [];
+    consumed = Consumes-nil input;
+    first = front_of_none input;
+    so_far = no_lines;
+    said = refl;
+    ended = refl;
+  };
+  read = read;
+  events = refl;
+  half = tt;
+})
+
+-- A line that says something was given whole.
+line_is_whole : (form : Form) (so_far : SoFar) (bytes line rest : List ℕ) (turn : Turn)
+    → next_turn form so_far line ≡ Ok turn → IsFirst bytes line rest → lines_of bytes ≡ line ∷ lines_of rest
+line_is_whole form so_far bytes line rest turn said (Whole is) = is
+line_is_whole form so_far bytes line rest turn said (Front more later is long parts) =
+    let refused = next_of_long form so_far line (omega arith) in absurd (cc)
+
+front_more : (form : Form) (so_far : SoFar) (input left left' : Option (List ℕ)) (taken taken' : List ℕ)
+    (lines : List (List ℕ)) (line : List ℕ) (turn : Turn)
+    → next_turn form so_far line ≡ Ok turn → Consumes input left taken → IsFront input left lines
+    → Consumes left left' taken'
+    → IfSome left (λ bytes. IfSome left' (λ rest. IsFirst bytes line rest)) → IsFront input left' (lines ++ line ∷ [])
+front_more form so_far None left left' taken taken' lines line turn said consumed front consumed' first = tt
+front_more form so_far (Some bytes) None left' taken taken' lines line turn said consumed front consumed' first =
+    absurd consumed
+front_more form so_far (Some bytes) (Some rest) None taken taken' lines line turn said consumed front consumed' first =
+    tt
+front_more form so_far (Some bytes) (Some rest)
+    (Some rest') taken taken' lines line turn said consumed front consumed' first =
+    front ∙ ap (λ l. lines ++ l) (line_is_whole form so_far rest line rest' turn said first)
+    ∙ sym (append_assoc lines (line ∷ []) (lines_of rest'))
+
+events_more : (events : List Event) (logged : List Logged) (event : Option Logged) → events ≡ events_of logged
+    → with_event events event ≡ events_of (logged ++ option_to_list event)
+events_more events logged None same = same ∙ ap events_of (sym (append-nil logged))
+events_more events logged (Some one) same =
+    ap (λ l. l ++ one.event ∷ []) same ∙ sym (map-append (λ one. one.event) logged (one ∷ []))
+
+-- One line more was read, with the event that it ended, if it ended one.
+pub reads_line : (form : Form) (input left left' : Option (List ℕ)) (logged : List Logged) (log log' : Log)
+    (line : List ℕ) (one : Option OwnLogged)
+    → (before : HasReadEvents form input left logged log) → Gives left left' line
+    → IsTurn form before.says.so_far line one log'
+    → HasReadEvents form input left' (logged ++ option_to_list (option_map seen_logged one)) log'
+reads_line form input left left' logged log log' line one before given is =
+    let says = before.says in
+    rw is.event (record {
+      says = record {
+        lines = says.lines ++ line ∷ [];
+        taken = says.taken ++ given.taken;
+        consumed = Consumes-trans input left left' says.taken given.taken says.consumed given.consumed;
+        first = front_more form says.so_far input left left' says.taken given.taken says.lines line is.turn is.said
+            says.consumed says.first given.consumed given.first;
+        so_far = after says.so_far is.turn;
+        said = log_more form no_lines says.lines (line ∷ []) says.so_far says.said
+            ∙ log_line form says.so_far line is.turn is.said;
+        ended = logged_more form no_lines says.lines (line ∷ []) says.so_far says.said
+            ∙ ap (λ l. l ++ logged_from form says.so_far (line ∷ [])) says.ended
+            ∙ ap (λ l. logged ++ l)
+            (logged_line form says.so_far line is.turn is.said ∙ append-nil (option_to_list is.turn.event));
+      };
+      read = is.read;
+      events = events_more says.so_far.events logged is.turn.event before.events;
+      half = (turn_follows form says.so_far line is.turn before.half is.said).half;
+    })
+
+-- The clock of the event that it ended follows.
+pub line_follows : (form : Form) (input left : Option (List ℕ)) (logged : List Logged) (log log' : Log) (line : List ℕ)
+    (one : OwnLogged)
+    → (before : HasReadEvents form input left logged log) → IsTurn form before.says.so_far line (Some one) log'
+    → FollowsIn logged (seen_logged one).event
+line_follows form input left logged log log' line one before is =
+    let follows = (turn_follows form before.says.so_far line is.turn before.half is.said).event in
+    rw (← is.event, before.events) at follows
+
+faulty_more : (form : Form) (lines later : List (List ℕ)) (so_far : SoFar) (line : List ℕ) (fault : LogFault)
+    → log_from form no_lines lines ≡ Ok so_far → next_turn form so_far line ≡ Err fault
+    → whole_log form (lines ++ line ∷ later) ≡ Err fault
+faulty_more form lines later so_far line fault said refused =
+    ap (λ r. r >>= λ so_far. end_of so_far >>= λ _. Ok so_far)
+    (log_more form no_lines lines (line ∷ later) so_far said ∙ log_stops form so_far line later fault refused)
+
+fault_of_bytes : (form : Form) (bytes rest rest' : List ℕ) (lines : List (List ℕ)) (so_far : SoFar) (line : List ℕ)
+    (fault : LogFault) → log_from form no_lines lines ≡ Ok so_far → next_turn form so_far line ≡ Err fault
+    → lines_of bytes ≡ lines ++ lines_of rest → IsFirst rest line rest' → whole_log form (lines_of bytes) ≡ Err fault
+fault_of_bytes form bytes rest rest' lines so_far line fault said refused front (Whole is) =
+    ap (whole_log form) (front ∙ ap (λ l. lines ++ l) is)
+    ∙ faulty_more form lines (lines_of rest') so_far line fault said refused
+fault_of_bytes form bytes rest rest' lines so_far line fault said refused front (Front more later is long parts) =
+    let same = sym (next_of_long form so_far line (omega arith)) ∙ refused in
+    ap (whole_log form) (front ∙ ap (λ l. lines ++ l) is)
+    ∙ faulty_more form lines later so_far (line ++ more) fault said
+    (next_of_long form so_far (line ++ more) (omega (arith, length-append line more)) ∙ same)
+
+fault_of_known : (form : Form) (input left left' : Option (List ℕ)) (taken taken' : List ℕ) (lines : List (List ℕ))
+    (so_far : SoFar) (line : List ℕ) (fault : LogFault) → log_from form no_lines lines ≡ Ok so_far
+    → next_turn form so_far line ≡ Err fault
+    → Consumes input left taken → IsFront input left lines → Consumes left left' taken'
+    → IfSome left (λ bytes. IfSome left' (λ rest. IsFirst bytes line rest))
+    → IfSome input (λ bytes. whole_log form (lines_of bytes) ≡ Err fault)
+fault_of_known form None left left' taken taken' lines so_far line fault said refused consumed front consumed' first =
+    tt
+fault_of_known form (Some bytes) None left' taken taken' lines so_far line fault said refused consumed front consumed'
+    first = absurd consumed
+fault_of_known form (Some bytes) (Some rest) None taken taken' lines so_far line fault said refused consumed front
+    consumed' first = absurd consumed'
+fault_of_known form (Some bytes) (Some rest) (Some rest') taken taken' lines so_far line fault said refused consumed
+    front consumed' first = fault_of_bytes form bytes rest rest' lines so_far line fault said refused front first
+
+-- The line has a fault.
+pub reads_fault : (form : Form) (input left left' : Option (List ℕ)) (logged : List Logged) (log : Log) (line : List ℕ)
+    (fault : LogFault)
+    → (before : HasReadEvents form input left logged log) → Gives left left' line
+    → next_turn form before.says.so_far line ≡ Err fault → HasFault form input fault
+reads_fault form input left left' logged log line fault before given refused =
+    let says = before.says in
+    record {
+      lines = says.lines ++ line ∷ [];
+      is = faulty_more form says.lines [] says.so_far line fault says.said refused;
+      of_input = fault_of_known form input left left' says.taken given.taken says.lines says.so_far line fault says.said
+          refused says.consumed says.first given.consumed given.first;
+    }
+
+all_lines : (input left left' : Option (List ℕ)) (taken : List ℕ) (lines : List (List ℕ)) → Consumes input left taken
+    → IsFront input left lines → Keeps left left' → IsAtEnd left' → IfSome input (λ bytes. lines_of bytes ≡ lines)
+unfolding lines_of
+all_lines None left left' taken lines consumed front kept ended = tt
+all_lines (Some bytes) None left' taken lines consumed front kept ended = absurd consumed
+all_lines (Some bytes) (Some rest) None taken lines consumed front kept ended = absurd kept
+all_lines (Some bytes) (Some rest) (Some rest') taken lines consumed front kept ended =
+    front ∙ ap (λ l. lines ++ lines_of l) (sym kept ∙ ended) ∙ append-nil lines
+
+said_whole : (form : Form) (lines : List (List ℕ)) (so_far : SoFar) → log_from form no_lines lines ≡ Ok so_far
+    → whole_log form lines ≡ (end_of so_far >>= λ _. Ok so_far)
+said_whole form lines so_far said = ap (λ r. r >>= λ so_far. end_of so_far >>= λ _. Ok so_far) said
+
+-- The input has ended, and the log may end there.
+pub reads_end : (form : Form) (input left left' : Option (List ℕ)) (logged : List Logged) (log : Log)
+    → (before : HasReadEvents form input left logged log) → Keeps left left' → IsAtEnd left'
+    → end_of before.says.so_far ≡ Ok tt → SaysWhole form input left' logged
+reads_end form input left left' logged log before kept ended may_end =
+    let says = before.says in
+    record {
+      lines = says.lines;
+      taken = says.taken;
+      consumed = Consumes-kept input left left' says.taken says.consumed kept;
+      at_end = ended;
+      all = all_lines input left left' says.taken says.lines says.consumed says.first kept ended;
+      so_far = says.so_far;
+      said = said_whole form says.lines says.so_far says.said ∙ ap (λ r. r >>= λ _. Ok says.so_far) may_end;
+      ended = says.ended;
+    }
+
+fault_at_end : (form : Form) (input : Option (List ℕ)) (lines : List (List ℕ)) (fault : LogFault)
+    → IfSome input (λ bytes. lines_of bytes ≡ lines) → whole_log form lines ≡ Err fault
+    → IfSome input (λ bytes. whole_log form (lines_of bytes) ≡ Err fault)
+fault_at_end form None lines fault all is = tt
+fault_at_end form (Some bytes) lines fault all is = ap (whole_log form) all ∙ is
+
+-- The input has ended, and the log may not end there.
+pub reads_missing : (form : Form) (input left left' : Option (List ℕ)) (logged : List Logged) (log : Log)
+    (fault : LogFault)
+    → (before : HasReadEvents form input left logged log) → Keeps left left' → IsAtEnd left'
+    → end_of before.says.so_far ≡ Err fault → HasFault form input fault
+reads_missing form input left left' logged log fault before kept ended missing =
+    let says = before.says in
+    let whole : whole_log form says.lines ≡ Err fault =
+    said_whole form says.lines says.so_far says.said ∙ ap (λ r. r >>= λ _. Ok says.so_far) missing in
+    record {
+      lines = says.lines;
+      is = whole;
+      of_input = fault_at_end form input says.lines fault
+          (all_lines input left left' says.taken says.lines says.consumed says.first kept ended) whole;
+    }
+
+-- A fault that was handed on.
+pub hands_on : (form : Form) (input left : Option (List ℕ)) (logged : List Logged)
+    (answer : Result (Option OwnLogged) EventFault) (log : Log) (given : EventFault)
+    → IsErr answer × IsErrAnd answer (λ fault. fault ≡ given) → ReadsEvent form input left logged (Err given) log
+    → ReadsEvent form input left logged answer log
+hands_on form input left logged answer log given back reads =
+    let found = err_from_is_err_and answer back.1 in
+    subst (λ (r : Result (Option OwnLogged) EventFault). ReadsEvent form input left logged r log)
+    (sym (found.1 ∙ ap Err found.2)) reads
+
+pub line_fault : (form : Form) (input left left' : Option (List ℕ)) (logged : List Logged) (log log' : Log)
+    (line : List ℕ) (fault : ReadFault)
+    → (before : HasReadEvents form input left logged log) → Gives left left' line
+    → ReadsLine form before.says.so_far line (Err fault) log'
+    → ReadsEvent form input left' logged (Err (fault_of_read fault)) log'
+line_fault form input left left' logged log log' line (read.Log what) before given reads =
+    reads_fault form input left left' logged log line what before given reads.0
+line_fault form input left left' logged log log' line read.NoMemory before given reads = tt
+
+pub input_fault : (form : Form) (known left : Option (List ℕ)) (logged : List Logged) (log : Log) (fault : LineFault)
+    → ReadsEvent form known left logged (Err (fault_of_input fault)) log
+input_fault form known left logged log input.Read = tt
+input_fault form known left logged log input.NoMemory = tt

@@ -1,0 +1,119 @@
+-- What a line says after the lines so far: its event's clock follows, and a line that is too long says nothing.
+use Rattle.trace_log.proofs.EventWords.{◌≡◌, ◌+◌, ◌<◌, ℕ, Bool, true, false, cond, List, Option, Some, None, Result, Ok}
+use Rattle.trace_log.proofs.EventWords.{Err, length, refl, subst, IfSome, nat_lt, FaultKind, LogFault, Form, Lines, Shiviz}
+use Rattle.trace_log.proofs.EventWords.{ShivizReversed, Event, Stamp, ◌>>=◌, at_line, Member, event_in, stamp_in, text_in}
+use Rattle.trace_log.proofs.EventWords.{most_bytes, whole, if◌then◌else◌, Long, Many, Half, stamped, texted, SoFar, Turn}
+use Rattle.trace_log.proofs.EventWords.{event_after, stamp_after, turn_of, next_turn, with_event, most_lines, last_clock}
+use Rattle.trace_log.proofs.EventWords.{follows, HalfFollows}
+use Rattle.std.proofs.lemmas.Bool.{lt-leb}
+
+bind_gives : {A B E : Type 0} (P : Type 0) (r : Result A E) (f : A → Result B E) (y : B) → (r >>= f) ≡ Ok y
+    → ((x : A) → r ≡ Ok x → f x ≡ Ok y → P) → P
+bind_gives P (Ok x) f y said on = on x refl said
+bind_gives P (Err e) f y said on = absurd (cc)
+
+same_ok : {A E : Type 0} (x y : A) → ◌≡◌ {A = Result A E} (Ok x) (Ok y) → x ≡ y
+same_ok x y same = cc
+
+at_line_ok : {A : Type 0} (line : ℕ) (r : Result A FaultKind) (y : A) → at_line line r ≡ Ok y → r ≡ Ok y
+at_line_ok line (Ok x) y said = cc
+at_line_ok line (Err e) y said = cc
+
+if_ok : {A E : Type 0} (b : Bool) (r : Result A E) (e : E) (y : A) → cond b r (Err e) ≡ Ok y → r ≡ Ok y
+if_ok true r e y said = said
+if_ok false r e y said = cc
+
+abbrev half_turn : Half → Turn
+half_turn half = record { half = Some half; event = None }
+
+abbrev event_turn : ℕ → Event → Turn
+event_turn line event = record { half = None; event = Some (record { line = line; event = event }) }
+
+-- The clock of the turn's event follows, or that of its half.
+pub record TurnFollows (earlier : List Event) (turn : Turn) : Type 0 where
+  pub event : IfSome turn.event
+      (λ one. follows one.event.host (last_clock one.event.host earlier) one.event.clock ≡ Ok tt)
+  pub half : HalfFollows (with_event earlier turn.event) turn.half
+
+-- The clock of a host follows that of its event before.
+abbrev Follows : List Event → List ℕ → List Member → Type 0
+Follows earlier host clock = follows host (last_clock host earlier) clock ≡ Ok tt
+
+event_follows : (earlier : List Event) (line : List ℕ) (event : Event) → event_after earlier line ≡ Ok event
+    → Follows earlier event.host event.clock
+event_follows earlier line event said =
+    bind_gives (Follows earlier event.host event.clock) (event_in line)
+    (λ e. follows e.host (last_clock e.host earlier) e.clock >>= λ _. Ok e) event said (λ e read rest.
+    bind_gives (Follows earlier event.host event.clock) (follows e.host (last_clock e.host earlier) e.clock)
+    (λ _. Ok e) event rest (λ u judged is.
+    subst (λ (one : Event). Follows earlier one.host one.clock) (same_ok e event is) judged))
+
+stamp_follows : (earlier : List Event) (line : List ℕ) (stamp : Stamp) → stamp_after earlier line ≡ Ok stamp
+    → Follows earlier stamp.host stamp.clock
+stamp_follows earlier line stamp said =
+    bind_gives (Follows earlier stamp.host stamp.clock) (stamp_in line)
+    (λ e. follows e.host (last_clock e.host earlier) e.clock >>= λ _. Ok e) stamp said (λ e read rest.
+    bind_gives (Follows earlier stamp.host stamp.clock) (follows e.host (last_clock e.host earlier) e.clock)
+    (λ _. Ok e) stamp rest (λ u judged is.
+    subst (λ (one : Stamp). Follows earlier one.host one.clock) (same_ok e stamp is) judged))
+
+turn_of_follows : (form : Form) (half : Option Half) (earlier : List Event) (at : ℕ) (line : List ℕ) (turn : Turn)
+    → HalfFollows earlier half → turn_of form half earlier at line ≡ Ok turn → TurnFollows earlier turn
+turn_of_follows Lines None earlier at line turn before said =
+    bind_gives (TurnFollows earlier turn) (event_after earlier line) (λ event. Ok (event_turn at event)) turn said
+    (λ event read is.
+    subst (TurnFollows earlier) (same_ok (event_turn at event) turn is)
+    (record { event = event_follows earlier line event read; half = tt }))
+turn_of_follows Shiviz None earlier at line turn before said =
+    bind_gives (TurnFollows earlier turn) (stamp_after earlier line) (λ stamp. Ok (half_turn (stamped stamp))) turn said
+    (λ stamp read is.
+    subst (TurnFollows earlier) (same_ok (half_turn (stamped stamp)) turn is)
+    (record { event = tt; half = stamp_follows earlier line stamp read }))
+turn_of_follows ShivizReversed None earlier at line turn before said =
+    bind_gives (TurnFollows earlier turn) (text_in line) (λ text. Ok (half_turn (texted at text))) turn said
+    (λ text read is.
+    subst (TurnFollows earlier) (same_ok (half_turn (texted at text)) turn is) (record { event = tt; half = tt }))
+turn_of_follows form (Some (stamped stamp)) earlier at line turn before said =
+    bind_gives (TurnFollows earlier turn) (text_in line) (λ text. Ok (event_turn at (whole stamp text))) turn said
+    (λ text read is.
+    subst (TurnFollows earlier) (same_ok (event_turn at (whole stamp text)) turn is)
+    (record { event = before; half = tt }))
+turn_of_follows form (Some (texted first text)) earlier at line turn before said =
+    bind_gives (TurnFollows earlier turn) (stamp_after earlier line)
+    (λ stamp. Ok (event_turn first (whole stamp text))) turn said (λ stamp read is.
+    subst (TurnFollows earlier) (same_ok (event_turn first (whole stamp text)) turn is)
+    (record { event = stamp_follows earlier line stamp read; half = tt }))
+
+pub turn_follows : (form : Form) (so_far : SoFar) (line : List ℕ) (turn : Turn) → HalfFollows so_far.events so_far.half
+    → next_turn form so_far line ≡ Ok turn → TurnFollows so_far.events turn
+turn_follows form so_far line turn before said =
+    turn_of_follows form so_far.half so_far.events (so_far.lines + 1) line turn before
+    (at_line_ok (so_far.lines + 1) (turn_of form so_far.half so_far.events (so_far.lines + 1) line) turn
+    (if_ok (nat_lt so_far.lines most_lines) _ _ turn said))
+
+-- A line that is too long says nothing.
+abbrev long_fault : SoFar → LogFault
+long_fault so_far = if nat_lt so_far.lines most_lines
+    then record { line = so_far.lines + 1; kind = Long } else record { line = so_far.lines; kind = Many }
+
+turn_of_long : (form : Form) (half : Option Half) (earlier : List Event) (at : ℕ) (line : List ℕ)
+    → most_bytes < length line → turn_of form half earlier at line ≡ Err Long
+unfolding event_in stamp_in
+turn_of_long Lines None earlier at line long = rw (lt-leb (length line) most_bytes long) refl
+turn_of_long Shiviz None earlier at line long = rw (lt-leb (length line) most_bytes long) refl
+turn_of_long ShivizReversed None earlier at line long = rw (lt-leb (length line) most_bytes long) refl
+turn_of_long form (Some (stamped stamp)) earlier at line long = rw (lt-leb (length line) most_bytes long) refl
+turn_of_long form (Some (texted first text)) earlier at line long = rw (lt-leb (length line) most_bytes long) refl
+
+long_judged : (few : Bool) (lines : ℕ) (r : Result Turn FaultKind) → r ≡ Err Long
+    → cond few (at_line (lines + 1) r) (Err (record { line = lines; kind = Many }))
+    ≡ Err (cond few (record { line = lines + 1; kind = Long }) (record { line = lines; kind = Many }))
+long_judged true lines r is = rw is refl
+long_judged false lines r is = refl
+
+pub next_of_long : (form : Form) (so_far : SoFar) (line : List ℕ) → most_bytes < length line
+    → next_turn form so_far line ≡ Err (long_fault so_far)
+next_of_long form so_far line long =
+    long_judged (nat_lt so_far.lines most_lines) so_far.lines
+    (turn_of form so_far.half so_far.events (so_far.lines + 1) line)
+    (turn_of_long form so_far.half so_far.events (so_far.lines + 1) line long)

@@ -1,0 +1,48 @@
+ghost use Rattle.std.specs.Prelude.{◌≡◌, List, [], Option, Err, IfOk, ℕ};
+ghost use Rattle.wcp_io.specs.Reader.{left, waiting};
+ghost use Rattle.trace_log.specs.Reading.{HasReadEvents, ReadsEvent};
+
+use crate::event_fault::EventFault;
+use crate::log::Log;
+use crate::turn::{Form, Logged};
+use std::alloc::{AllocError, Global};
+use std::io::Read;
+use wcp_io::LineReader;
+
+/// Reads the events of an input, always the same one.
+#[derive(Drop)]
+pub struct EventReader {
+    lines: LineReader,
+    log: Log,
+}
+
+impl EventReader {
+    /// A reader of a log of this form, before its first line.
+    pub fn new(alloc: Global, form: Form) -> Result<EventReader, AllocError>
+        ensures { IfOk result (λ reader. (input : Option (List ℕ)) →
+            HasReadEvents form input (left reader.lines input) [] reader.log) }
+    {
+        let lines = LineReader::new(alloc)?;
+        let log = Log::new(alloc, form);
+        Ok(EventReader { lines, log })
+    }
+
+    /// Reads the input up to the next event, and `None` where the log ends before one. After an `Err` there is no
+    /// more to be read.
+    pub fn next_event<I: Read>(&mut self, input: &mut I) -> Result<Option<Logged>, EventFault>
+        ensures reads { (form : _) (known : _) (logged : _) →
+            HasReadEvents form known (left self.old.lines (I.remaining input.old)) logged self.old.log →
+            ReadsEvent form known (left self.new.lines (I.remaining input.new)) logged result self.new.log }
+        ensures refused { result ≡ Err EventFault.Read → waiting self.new.lines ≡ [] }
+    {
+        loop {
+            if !self.lines.advance(input)? {
+                self.log.end()?;
+                return Ok(None);
+            }
+            if let Some(logged) = self.log.read(self.lines.line())? {
+                return Ok(Some(logged));
+            }
+        }
+    }
+}

@@ -1,4 +1,0 @@
-pub mod Words
-mod Turns
-mod Lines
-mod ReadLines

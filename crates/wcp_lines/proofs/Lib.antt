@@ -1,4 +1,0 @@
-pub mod Words
-mod Firsts
-mod Found
-mod Given

@@ -1,8 +1,0 @@
-use Rattle.wcp_lines.proofs.Words.{◌≡◌, vec_len, Keeps}
-use Rattle.wcp_lines.proofs.block.read_over.Given as goal
-
-abbrev pub invariant-loop : goal.invariant-loop
-invariant-loop g l = record {
-  kept : Keeps (g.I.Read.remaining l.fn.input) (g.I.Read.remaining l.input);
-  len : vec_len l.bytes ≡ vec_len l.fn.bytes;
-}

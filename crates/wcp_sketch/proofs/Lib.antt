@@ -1,3 +1,0 @@
-mod Named
-mod Parts
-pub mod Found
