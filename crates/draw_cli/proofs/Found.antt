@@ -10,7 +10,7 @@ use Rattle.wcp_model.specs.Outcome.{IsReportOf}
 use Rattle.wcp_model.specs.WorkloadComputation.{CouldBeRead, IsFitOrder, IsWithin, computation_of}
 use Rattle.wcp_order.proofs.Lengths.{same_length}
 use Rattle.draw_layout.specs.Halves.{MaySplit}
-use Rattle.draw_cli.specs.Sketches.{cut_of}
+use Rattle.wcp_model.specs.Verdict.{cut_of}
 
 -- a cut that was found splits an order
 pub may_split : (n : ℕ) (watched : NumberSet) (order : List Task) (report : Report)

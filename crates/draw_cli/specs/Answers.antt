@@ -8,10 +8,10 @@ use Rattle.wcp_io.specs.declared.io_fault.IoFault.{IoFault}
 use Rattle.wcp_io.specs.declared.io_fault.IoFault.TheVariants as io
 use Rattle.draw_cli.specs.SketchFaults.{IsWhy}
 use Rattle.draw_cli.specs.Sketches.{IsSketchOf}
-use Rattle.draw_cli.specs.declared.fault.Fault.{Fault}
-use Rattle.draw_cli.specs.declared.fault.Fault.TheVariants as fault
-use Rattle.draw_cli.specs.declared.words.Request.{Request}
-use Rattle.draw_cli.specs.declared.words.Request.TheVariants.{Picture, Help, Version, Unknown}
+use Rattle.draw_cli.specs.declared.fault.DrawFault.{DrawFault}
+use Rattle.draw_cli.specs.declared.fault.DrawFault.TheVariants as fault
+use Rattle.draw_cli.specs.declared.words.DrawRequest.{DrawRequest}
+use Rattle.draw_cli.specs.declared.words.DrawRequest.TheVariants.{Picture, Help, Version, Unknown}
 
 -- A list of names that is borrowed, where there is one.
 abbrev pub seen_list : Option (Bor (List ℕ)) → Option (List ℕ)
@@ -36,7 +36,7 @@ abbrev pub version_text : List ℕ
 version_text = codes "wcpdraw 0.1.0" ++ 10 ∷ codes "rattle-kit-13f logic dac8208d650f15bf" ++ 10 ∷ []
 
 -- The answer to a request. Help, whose text it carries, and the version read nothing.
-abbrev pub AnswersRequest : Request → Known → Known → List ℕ → ℕ → Type 0
+abbrev pub AnswersRequest : DrawRequest → Known → Known → List ℕ → ℕ → Type 0
 AnswersRequest (Picture list) input input_after printed status =
     AnswersPicture (seen_list list) input input_after printed status
 AnswersRequest (Help text) input input_after printed status =
@@ -53,21 +53,21 @@ IsWhyUnread bytes io.Write = ⊥
 IsWhyUnread bytes io.Memory = Unit {0}
 
 -- A fault is why there is no picture with these names: the input wasn't read; or it was, whole, and has no picture.
-abbrev pub IsWhyNoPicture : Option (List ℕ) → Known → Known → Fault → Type 0
+abbrev pub IsWhyNoPicture : Option (List ℕ) → Known → Known → DrawFault → Type 0
 IsWhyNoPicture list bytes bytes_after (fault.Io given) = IsWhyUnread bytes given
 IsWhyNoPicture list bytes bytes_after (fault.Sketch given) =
     (text : List ℕ) × IsInput bytes bytes_after text × IsWhy list text given
 IsWhyNoPicture list bytes bytes_after fault.Usage = ⊥
 
 -- A fault is why a request has no answer.
-abbrev pub IsWhyNoAnswer : Request → Known → Known → Fault → Type 0
+abbrev pub IsWhyNoAnswer : DrawRequest → Known → Known → DrawFault → Type 0
 IsWhyNoAnswer (Picture list) bytes bytes_after given = IsWhyNoPicture (seen_list list) bytes bytes_after given
 IsWhyNoAnswer (Help text) bytes bytes_after given = ⊥
 IsWhyNoAnswer Version bytes bytes_after given = given ≡ fault.Io io.Memory
 IsWhyNoAnswer Unknown bytes bytes_after given = given ≡ fault.Usage
 
 -- A fault is why a request has no answer; or memory ran out, or a write failed.
-abbrev pub IsWhyRefused : Request → Known → Known → Fault → Type 0
+abbrev pub IsWhyRefused : DrawRequest → Known → Known → DrawFault → Type 0
 IsWhyRefused request bytes bytes_after (fault.Io io.Memory) = Unit {0}
 IsWhyRefused request bytes bytes_after (fault.Io io.Write) = Unit {0}
 IsWhyRefused request bytes bytes_after given = IsWhyNoAnswer request bytes bytes_after given

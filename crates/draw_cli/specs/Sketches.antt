@@ -1,24 +1,16 @@
-use Rattle.std.specs.Prelude.{◌≡◌, ℕ, Bool, List, Option, None, Some, is_some}
+use Rattle.std.specs.Prelude.{◌≡◌, ℕ, Bool, List, Option, is_some}
 use Rattle.wcp_model.specs.declared.outcome.Outcome.{Outcome}
-use Rattle.wcp_model.specs.declared.outcome.Report.{Report}
-use Rattle.wcp_model.specs.declared.outcome.Report.TheVariants.{Found, Nothing, Undecided}
 use Rattle.wcp_model.specs.declared.workload.Task.{Task}
 use Rattle.wcp_model.specs.declared.plan.Plan.{Plan}
 use Rattle.wcp_clock.specs.ProcessNumbers.{NumberSet}
 use Rattle.wcp_model.specs.declared.flag.Flag.{Flag}
-use Rattle.wcp_model.specs.Cut.{Intervals}
 use Rattle.wcp_model.specs.Outcome.{IsWorkloadOutcome}
+use Rattle.wcp_model.specs.Verdict.{cut_of}
 use Rattle.wcp_model.specs.WorkloadComputation.{IsFitOrder}
 use Rattle.draw_layout.specs.declared.layout.Layout.{Layout}
 use Rattle.draw_picture.specs.Picture.{IsPicture}
 use Rattle.wcp_script.specs.TextFault.{workloads, Spells}
 use Rattle.draw_cli.specs.Names.{IsNamed}
-
--- The cut that a report found, if it found one.
-abbrev pub cut_of : Report → Option Intervals
-cut_of (Found cut) = Some cut
-cut_of Nothing = None
-cut_of Undecided = None
 
 -- A picture of these tasks of n processes, of which some are watched, under what resets their flags: of a layout of a fit
 -- order of them about the cut of their outcome, or about none; and whether there is one.

@@ -1,6 +1,6 @@
 ghost use Rattle.std.specs.Prelude.{◌≡◌};
 ghost use Rattle.wcp_io.specs.declared.io_fault.IoFault.TheVariants.{Memory};
-ghost use Rattle.draw_cli.specs.declared.fault.Fault.TheVariants.{Io, Sketch};
+ghost use Rattle.draw_cli.specs.declared.fault.DrawFault.TheVariants.{Io, Sketch};
 
 use crate::sketch_fault::SketchFault;
 use std::alloc::AllocError;
@@ -9,7 +9,7 @@ use wcp_io::IoFault;
 
 /// Why the program gives no answer. It displays as its line on standard error, without the name of the program.
 #[derive(Clone, Copy, Debug, PartialEq, Eq, Error)]
-pub enum Fault {
+pub enum DrawFault {
     /// The words after the program's name ask for nothing that it knows.
     #[error("usage")]
     Usage,
@@ -21,26 +21,26 @@ pub enum Fault {
     Sketch(SketchFault),
 }
 
-impl From<AllocError> for Fault {
+impl From<AllocError> for DrawFault {
     ghost from_gives = { λ _ given. given ≡ Io Memory };
 
-    fn from(_error: AllocError) -> Fault {
-        Fault::Io(IoFault::Memory)
+    fn from(_error: AllocError) -> DrawFault {
+        DrawFault::Io(IoFault::Memory)
     }
 }
 
-impl From<IoFault> for Fault {
+impl From<IoFault> for DrawFault {
     ghost from_gives = { λ fault given. given ≡ Io fault };
 
-    fn from(fault: IoFault) -> Fault {
-        Fault::Io(fault)
+    fn from(fault: IoFault) -> DrawFault {
+        DrawFault::Io(fault)
     }
 }
 
-impl From<SketchFault> for Fault {
+impl From<SketchFault> for DrawFault {
     ghost from_gives = { λ fault given. given ≡ Sketch fault };
 
-    fn from(fault: SketchFault) -> Fault {
-        Fault::Sketch(fault)
+    fn from(fault: SketchFault) -> DrawFault {
+        DrawFault::Sketch(fault)
     }
 }

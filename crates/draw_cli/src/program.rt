@@ -5,12 +5,12 @@ ghost use Rattle.draw_cli.specs.Answers.{AnswersPicture, AnswersRequest, status_
 ghost use Rattle.draw_cli.specs.Answers.{seen_list, IsWhyNoAnswer, IsWhyNoPicture, IsWhyRefused};
 ghost use Rattle.wcp_io.specs.Edge.{edge_of};
 ghost use Rattle.draw_cli.specs.Edge.{DoesAsked, status_after};
-ghost use Rattle.draw_cli.specs.declared.words.Request.{Request};
+ghost use Rattle.draw_cli.specs.declared.words.DrawRequest.{DrawRequest};
 
-use crate::fault::Fault;
+use crate::fault::DrawFault;
 use crate::help::VERSION;
 use crate::sketching::sketch;
-use crate::words::{Request, read_words};
+use crate::words::{DrawRequest, read_words};
 use std::alloc::Global;
 use std::convert::AsStr;
 use std::io::{Read, Write};
@@ -27,7 +27,7 @@ const REFUSED: u8 = 2;
 
 /// What the program prints, and its exit status.
 #[derive(Debug, Drop)]
-struct Answer {
+struct DrawAnswer {
     text: String,
     status: u8,
 }
@@ -45,11 +45,11 @@ pub fn drive<S: AsStr, I: Read, O: Write, E: Write>(
 ) -> u8
     ensures status { result ≤ 2 }
     ensures quiet { result ≤ 1 → Keeps (E.contents errors.old) (E.contents errors.new) }
-    ensures does { (request : Request) × DoesAsked request (edge_of (I.remaining input.old) (I.remaining input.new)
+    ensures does { (request : DrawRequest) × DoesAsked request (edge_of (I.remaining input.old) (I.remaining input.new)
         (O.contents output.old) (O.contents output.new)) result }
 {
     let Ok(request) = read_words(alloc, words) else {
-        return refuse(errors, Fault::Io(IoFault::Memory));
+        return refuse(errors, DrawFault::Io(IoFault::Memory));
     };
     match obey(alloc, request, input, output) {
         Ok(status) => status,
@@ -59,7 +59,7 @@ pub fn drive<S: AsStr, I: Read, O: Write, E: Write>(
 
 /// Writes the line that says why there is no answer, and gives the status where there is none. It is that status also
 /// where the line can't be written.
-pub fn refuse<E: Write>(errors: &mut E, fault: Fault) -> u8
+pub fn refuse<E: Write>(errors: &mut E, fault: DrawFault) -> u8
     ensures { result ≡ 2 }
 {
     let _ = writeln!(errors, "wcpdraw: {fault}");
@@ -69,10 +69,10 @@ pub fn refuse<E: Write>(errors: &mut E, fault: Fault) -> u8
 /// Does what a request asks for, and gives the status.
 fn obey<I: Read, O: Write>(
     alloc: Global,
-    request: Request<'_>,
+    request: DrawRequest<'_>,
     input: &mut I,
     output: &mut O,
-) -> Result<u8, Fault>
+) -> Result<u8, DrawFault>
     ensures status { IfOk result (λ status. status ≤ 1) }
     ensures does { DoesAsked request.entry (edge_of (I.remaining input.old) (I.remaining input.new)
         (O.contents output.old) (O.contents output.new)) (status_after result) }
@@ -84,23 +84,27 @@ fn obey<I: Read, O: Write>(
 }
 
 /// The answer to a request.
-fn answer_to<I: Read>(alloc: Global, request: Request<'_>, input: &mut I) -> Result<Answer, Fault>
+fn answer_to<I: Read>(
+    alloc: Global,
+    request: DrawRequest<'_>,
+    input: &mut I,
+) -> Result<DrawAnswer, DrawFault>
     ensures answer { IfOk result (λ answer. AnswersRequest request.entry (I.remaining input.old) (I.remaining input.new)
         (string_bytes answer.text) answer.status) }
     ensures status { IfOk result (λ answer. answer.status ≤ 1) }
     ensures fault { IfErr result (IsWhyNoAnswer request.entry (I.remaining input.old) (I.remaining input.new)) }
 {
     match request {
-        Request::Picture(list) => picture_of_input(alloc, list, input),
-        Request::Help(text) => Ok(Answer {
+        DrawRequest::Picture(list) => picture_of_input(alloc, list, input),
+        DrawRequest::Help(text) => Ok(DrawAnswer {
             text,
             status: FOUND,
         }),
-        Request::Version => Ok(Answer {
+        DrawRequest::Version => Ok(DrawAnswer {
             text: String::from_str(alloc, VERSION)?,
             status: FOUND,
         }),
-        Request::Unknown => Err(Fault::Usage),
+        DrawRequest::Unknown => Err(DrawFault::Usage),
     }
 }
 
@@ -109,7 +113,7 @@ fn picture_of_input<I: Read>(
     alloc: Global,
     list: Option<&str>,
     input: &mut I,
-) -> Result<Answer, Fault>
+) -> Result<DrawAnswer, DrawFault>
     ensures answer { IfOk result (λ answer. AnswersPicture (seen_list list.entry) (I.remaining input.old)
         (I.remaining input.new) (string_bytes answer.text) answer.status) }
     ensures status { IfOk result (λ answer. answer.status ≤ 1) }
@@ -118,7 +122,7 @@ fn picture_of_input<I: Read>(
 {
     let text = read_text(alloc, input)?;
     let picture = sketch(alloc, list, &text)?;
-    Ok(Answer {
+    Ok(DrawAnswer {
         text: picture.text,
         status: status_of(picture.found),
     })

@@ -3,7 +3,7 @@ ghost use Rattle.std.specs.Prelude.{◌≡◌, length, option_map, string_bytes,
 ghost use Rattle.wcp_model.specs.Watched.{AreSomeWatched};
 ghost use Rattle.wcp_model.specs.WorkloadComputation.{CouldBeRead, IsFitOrder};
 ghost use Rattle.draw_cli.specs.SketchFaults.{IsWhy};
-ghost use Rattle.draw_cli.specs.Sketches.{cut_of, IsPictureOf, IsSketchOf};
+ghost use Rattle.draw_cli.specs.Sketches.{IsPictureOf, IsSketchOf};
 
 use crate::naming::names_of;
 use crate::picture::Picture;
@@ -11,18 +11,8 @@ use crate::sketch_fault::SketchFault;
 use draw_layout::lay_out;
 use draw_picture::{Name, draw};
 use std::alloc::{AllocError, Global};
-use wcp_model::{GlobalCut, Report, Task, Workload};
+use wcp_model::{Task, Workload};
 use wcp_script::{read_ordered, single_in_order};
-
-/// The cut that a report found, if it found one.
-fn cut_of(report: Report) -> Option<GlobalCut>
-    ensures { result ≡ cut_of report }
-{
-    match report {
-        Report::Found(cut) => Some(cut),
-        Report::Nothing | Report::Undecided => None,
-    }
-}
 
 /// The picture of a workload that has this fit order of its tasks. `Err` where memory runs out.
 fn sketch_in_order(
@@ -39,7 +29,7 @@ fn sketch_in_order(
         workload.now.plan.flag workload.now.tasks.items (string_bytes picture.text) picture.found) }
 {
     let outcome = single_in_order(alloc, workload, order)?;
-    let cut = cut_of(outcome.report);
+    let cut = outcome.report.cut();
     let layout = lay_out(alloc, workload.plan.n, order, &cut)?;
     let text = draw(alloc, names, order, &layout, &cut)?;
     Ok(Picture {

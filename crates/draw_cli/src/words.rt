@@ -7,7 +7,7 @@ use std::convert::AsStr;
 
 /// What the words ask for.
 #[derive(Debug, Drop)]
-pub enum Request<'a> {
+pub enum DrawRequest<'a> {
     /// The picture of a workload, whose processes have the names that stand between the commas of
     /// this list, where there is one.
     Picture(Option<&'a str>),
@@ -20,14 +20,17 @@ pub enum Request<'a> {
 }
 
 /// What the words ask for, of which the first is the program's name. `Err` where memory runs out.
-pub fn read_words<'a, S: AsStr>(alloc: Global, words: &'a [S]) -> Result<Request<'a>, AllocError> {
+pub fn read_words<'a, S: AsStr>(
+    alloc: Global,
+    words: &'a [S],
+) -> Result<DrawRequest<'a>, AllocError> {
     match command(alloc)?.try_get_matches_from(words) {
-        Ok(matches) => Ok(Request::Picture(matches.get_str("names"))),
+        Ok(matches) => Ok(DrawRequest::Picture(matches.get_str("names"))),
         Err(error) => match error.kind() {
-            ErrorKind::DisplayHelp => Ok(Request::Help(error.to_string(alloc)?)),
-            ErrorKind::DisplayVersion => Ok(Request::Version),
+            ErrorKind::DisplayHelp => Ok(DrawRequest::Help(error.to_string(alloc)?)),
+            ErrorKind::DisplayVersion => Ok(DrawRequest::Version),
             ErrorKind::OutOfMemory => Err(AllocError),
-            _ => Ok(Request::Unknown),
+            _ => Ok(DrawRequest::Unknown),
         },
     }
 }

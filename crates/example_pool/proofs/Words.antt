@@ -10,7 +10,7 @@ pub use Rattle.example_pool.specs.Logs.{IsDispatching, most_unanswered, IsDispat
 pub use Rattle.example_pool.specs.Members.{IsLogOfPart, IsPool, IsReplica, jobs_of, DidPart, LeavesPart}
 pub use Rattle.example_pool.specs.Pools.{IsLogAt, jobs_at, IsLogTaken, IsPoolReport, IsToldAt, snapshots_at}
 pub use Rattle.example_pool.specs.declared.dispatcher.Pace.{Pace}
-pub use Rattle.example_pool.specs.declared.member.Member.{Member}
+pub use Rattle.example_pool.specs.declared.member.PoolMember.{PoolMember}
 pub use Rattle.wcp_model.specs.declared.probe_setup.ProbeSetup.{ProbeSetup}
 pub use Rattle.wcp_model.specs.ProbeLog.{Call, Closed, after_call, state_of_log, setup, Observed, Sent, Received}
 pub use Rattle.wcp_probe.specs.Seal.{Seal, seal_of}

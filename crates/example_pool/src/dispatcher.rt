@@ -259,7 +259,7 @@ impl Dispatcher {
     ghost use Rattle.std.specs.Prelude.{[]};
     ghost use Rattle.wcp_relay.specs.LiveProbe.{LiveFor};
     ghost use Rattle.example_pool.specs.Members.{LeavesPart};
-    ghost use Rattle.example_pool.specs.declared.member.Member.TheVariants as member;
+    ghost use Rattle.example_pool.specs.declared.member.PoolMember.TheVariants as member;
 
     /// Runs all rounds.
     pub(crate) fn run<L: Loan, R: Wait>(

@@ -22,20 +22,20 @@ pub struct JobSum {
 
 /// The numbers of each job. All replicas read the same ones.
 #[derive(Drop)]
-pub struct Numbers {
+pub struct JobNumbers {
     jobs: Vec<Vec<u32>>,
 }
 
-impl Numbers {
+impl JobNumbers {
     /// The numbers from 0 on, dealt out to so many jobs. `Err` where memory runs out.
-    pub(crate) fn new(alloc: Global, jobs: u32) -> Result<Numbers, AllocError>
+    pub(crate) fn new(alloc: Global, jobs: u32) -> Result<JobNumbers, AllocError>
         ensures { IfOk result (λ numbers. length numbers.jobs.items ≡ jobs) }
     {
         let mut all = Vec::with_capacity(alloc, jobs as usize)?;
         for job in 0..jobs {
             all.push(numbers_from(alloc, job.wrapping_mul(SIZE))?)?;
         }
-        Ok(Numbers { jobs: all })
+        Ok(JobNumbers { jobs: all })
     }
 
     /// Does a job: the sum of its numbers, which wraps at 2^64.

@@ -1,7 +1,7 @@
 ghost use Rattle.std.specs.Prelude.{◌≡◌, ◌+◌, ◌<◌, ◌^◌, ◌%◌};
 
 use crate::dispatcher::Dispatcher;
-use crate::job::{JobSum, Numbers};
+use crate::job::{JobNumbers, JobSum};
 use crate::replica::Replica;
 use std::sync::Wait;
 use thiserror::Error;
@@ -9,7 +9,7 @@ use wullaphi::{LentProbe, Loan, LosableProcess, Refusal};
 
 /// A process of the pool.
 #[derive(Drop)]
-pub enum Member {
+pub enum PoolMember {
     Dispatcher(Dispatcher),
     Replica(Replica),
 }
@@ -50,10 +50,10 @@ impl Share {
 }
 
 /// A member that vanished is lost. One that stopped for another reason is watched to its end.
-impl LosableProcess for Member {
+impl LosableProcess for PoolMember {
     ghost use Rattle.example_pool.specs.Members.{LeavesPart, is_done};
 
-    type Shared = Numbers;
+    type Shared = JobNumbers;
 
     type Answer = Result<Share, Stop>;
 
@@ -65,11 +65,11 @@ impl LosableProcess for Member {
         self,
         rt: &R,
         probe: &mut LentProbe<L>,
-        numbers: &Numbers,
+        numbers: &JobNumbers,
     ) -> Result<Share, Stop> {
         match self {
-            Member::Dispatcher(dispatcher) => dispatcher.run(rt, probe),
-            Member::Replica(replica) => replica.run(rt, probe, numbers),
+            PoolMember::Dispatcher(dispatcher) => dispatcher.run(rt, probe),
+            PoolMember::Replica(replica) => replica.run(rt, probe, numbers),
         }
     }
 

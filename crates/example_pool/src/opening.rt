@@ -4,7 +4,7 @@ ghost use Rattle.wcp_model.specs.Watched.{AreAllWatched};
 ghost use Rattle.wcp_model.specs.declared.flag.Flag.TheVariants as reset_at;
 
 use crate::dispatcher::{Dispatcher, Pace, Partner, Partners, REPLICAS};
-use crate::member::Member;
+use crate::member::PoolMember;
 use crate::replica::Replica;
 use crossbeam_channel::bounded;
 use std::alloc::{AllocError, Global};
@@ -33,7 +33,7 @@ pub(crate) fn open_members(
     pace: Pace,
     rounds: u16,
     vanishing: Option<u32>,
-) -> Result<Vec<Member>, AllocError>
+) -> Result<Vec<PoolMember>, AllocError>
     ensures { IfOk result (λ members. IsPool pace rounds members.items) }
 {
     let mut partners = Vec::with_capacity(alloc, REPLICAS as usize)?;
@@ -46,7 +46,7 @@ pub(crate) fn open_members(
             jobs: to_replica,
             answers: from_replica,
         })?;
-        members.push(Member::Replica(Replica {
+        members.push(PoolMember::Replica(Replica {
             jobs,
             answers,
             rounds,
@@ -58,6 +58,6 @@ pub(crate) fn open_members(
         pace,
         rounds,
     };
-    members.insert(0, Member::Dispatcher(dispatcher))?;
+    members.insert(0, PoolMember::Dispatcher(dispatcher))?;
     Ok(members)
 }

@@ -5,8 +5,8 @@ ghost use Rattle.example_pool.specs.Pools.{IsPoolReport};
 ghost use Rattle.wullaphi.specs.WatchOutcomes.{IsWatchOutcome};
 
 use crate::dispatcher::{Pace, REPLICAS};
-use crate::job::Numbers;
-use crate::member::{Member, Share, Stop};
+use crate::job::JobNumbers;
+use crate::member::{PoolMember, Share, Stop};
 use crate::opening::{open_members, pool_plan};
 use crate::pool_fault::PoolFault;
 use std::alloc::{AllocError, Global};
@@ -47,7 +47,7 @@ pub fn run_pool<R: Threads + Wait + Clock + Sync>(
 {
     let plan = pool_plan(alloc)?;
     let members = open_members(alloc, pace, rounds, vanishing)?;
-    let numbers = Numbers::new(alloc, u32::from(rounds) * REPLICAS)?;
+    let numbers = JobNumbers::new(alloc, u32::from(rounds) * REPLICAS)?;
     let (watched, seen) = watch_and_read(rt, alloc, &plan, WATCH, members, &numbers)?;
     let shares = shares_of(alloc, watched.answers)?;
     Ok(PoolReport {
@@ -64,8 +64,8 @@ fn watch_and_read<R: Threads + Wait + Clock + Sync>(
     alloc: Global,
     plan: &Plan,
     watch: u64,
-    members: Vec<Member>,
-    numbers: &Numbers,
+    members: Vec<PoolMember>,
+    numbers: &JobNumbers,
 ) -> Result<(WatchOutcome<Result<Share, Stop>>, Tally), WatchFault>
     ensures { IfOk result (λ run. IsWatchOutcome LeavesPart watch plan.now members.items run.0) }
 {

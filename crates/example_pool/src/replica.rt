@@ -2,9 +2,9 @@ ghost use Rattle.std.specs.Prelude.{◌≡◌, [], OnOk};
 ghost use Rattle.wcp_relay.specs.LiveProbe.{LiveFor};
 ghost use Rattle.example_pool.specs.Logs.{AnswersJob};
 ghost use Rattle.example_pool.specs.Members.{LeavesPart};
-ghost use Rattle.example_pool.specs.declared.member.Member.TheVariants as member;
+ghost use Rattle.example_pool.specs.declared.member.PoolMember.TheVariants as member;
 
-use crate::job::{Job, JobSum, Numbers};
+use crate::job::{Job, JobNumbers, JobSum};
 use crate::member::{Share, Stop};
 use crossbeam_channel::{Receiver, Sender};
 use std::sync::Wait;
@@ -29,7 +29,7 @@ impl Replica {
         self,
         rt: &R,
         probe: &mut LentProbe<L>,
-        numbers: &Numbers,
+        numbers: &JobNumbers,
     ) -> Result<Share, Stop>
         requires { LiveFor probe.old [] }
         ensures { LeavesPart (member.Replica self) probe.new result }
@@ -51,7 +51,7 @@ fn answer_one<L: Loan, R: Wait>(
     rt: &R,
     probe: &mut LentProbe<L>,
     answers: &Sender<Stamped<JobSum>>,
-    numbers: &Numbers,
+    numbers: &JobNumbers,
     stamped: Stamped<Job>,
     vanishes: bool,
 ) -> Result<JobSum, Stop>

@@ -1,4 +1,4 @@
-use crate::worker::{Token, Worker};
+use crate::worker::{RingWorker, Token};
 use anyhow::Result;
 use crossbeam_channel::bounded;
 use std::alloc::Global;
@@ -22,7 +22,7 @@ pub(crate) fn run_ring<R: Threads + Wait + Sync>(
     let tokens = if two { 2 } else { 1 };
     let mut workers = Vec::with_capacity(alloc, 3)?;
     for (id, inbox, next, outbox) in [(0, at_0, 1, to_1), (1, at_1, 2, to_2), (2, at_2, 0, to_0)] {
-        workers.push(Worker {
+        workers.push(RingWorker {
             lets_in: if id == 0 { tokens } else { 0 },
             token: Token(3 * ROUNDS),
             turns: tokens * ROUNDS,

@@ -9,7 +9,7 @@ pub(crate) struct Token(pub(crate) u32);
 
 /// A worker of the ring. Its condition is that it holds a token.
 #[derive(Drop)]
-pub(crate) struct Worker {
+pub(crate) struct RingWorker {
     /// How often it lets in its token.
     pub(crate) lets_in: u32,
     pub(crate) token: Token,
@@ -21,7 +21,7 @@ pub(crate) struct Worker {
     pub(crate) outbox: Sender<Stamped<Token>>,
 }
 
-impl Process for Worker {
+impl Process for RingWorker {
     type Shared = ();
 
     type Answer = Result<()>;
@@ -41,7 +41,7 @@ impl Process for Worker {
     }
 }
 
-impl Worker {
+impl RingWorker {
     /// Holds a token, and passes it on unless it has no hop left.
     fn hold<L: Loan, R: Wait>(&self, rt: &R, probe: &mut LentProbe<L>, token: Token) -> Result<()> {
         probe.observe(rt, true);

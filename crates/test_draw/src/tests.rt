@@ -2,4 +2,3 @@ mod failures;
 mod faults;
 mod runs;
 mod sketches;
-mod streams;

@@ -11,4 +11,3 @@ mod orders;
 mod progress;
 mod reading;
 mod runs;
-mod streams;

@@ -3,5 +3,4 @@ mod reads;
 mod refused;
 mod rows;
 mod runs;
-mod streams;
 mod writes;

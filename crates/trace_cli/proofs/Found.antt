@@ -2,7 +2,7 @@
 use Rattle.trace_cli.proofs.OptionWords.{◌≡◌, ◌⊎◌, inl, inr, true, List, [], map, codes, Option, Some, None, option_map}
 use Rattle.trace_cli.proofs.OptionWords.{Result, Ok, Err, IfOk, refl, sym, ◌∙◌, Text, IsAmong, all_of, fault_of, first_of}
 use Rattle.trace_cli.proofs.OptionWords.{first_value, is_simple, is_simple_and_free, matched_of, raw_values, rows_of}
-use Rattle.trace_cli.proofs.OptionWords.{Shiviz, Request, Trace, Help, Version, Unknown, program, seen_texts, values_at}
+use Rattle.trace_cli.proofs.OptionWords.{Shiviz, TraceRequest, Trace, Help, Version, Unknown, program, seen_texts, values_at}
 use Rattle.trace_cli.proofs.OptionWords.{form_named, form_at, IsRefusalOf, IsRequestOf, Refused}
 use Rattle.std.specs.Borrow.{Bor}
 use Rattle.std.specs.Option.{MatchOption, option_map_or}
@@ -41,14 +41,14 @@ form_as found (Some name) is =
     let some : first_of (codes "form") (rows_of found) ≡ Some name.now =
     sym (first_value-rows found (codes "form")) ∙ sym is in rw some refl
 
-not_for_memory : (request : Request) → IsRefusalOf kind.OutOfMemory request → ⊥
+not_for_memory : (request : TraceRequest) → IsRefusalOf kind.OutOfMemory request → ⊥
 not_for_memory (Trace options) refused = refused
 not_for_memory (Help text) refused = cc
 not_for_memory Version refused = cc
 not_for_memory Unknown refused = refused.2 refl
 
 -- What is asked for by words that clap answers with an error.
-pub refused_as : {E : Type 0} (words : List Text) (why : ErrorKind) (result : Result Request E)
+pub refused_as : {E : Type 0} (words : List Text) (why : ErrorKind) (result : Result TraceRequest E)
     → (why ≡ kind.OutOfMemory) ⊎ IsAmong why (fault_of program words) → IfOk result (IsRefusalOf why)
     → IfOk result (IsRequestOf words)
 refused_as words why (Err error) by refused = tt

@@ -8,5 +8,5 @@ pub use Rattle.std.proofs.lemmas.Result.{IfOk-weaker}
 pub use Rattle.trace_log.specs.declared.turn.Form.TheVariants.{Shiviz}
 pub use Rattle.trace_cli.specs.Options.{program, seen_texts, values_at, form_named, form_at}
 pub use Rattle.trace_cli.specs.Requests.{IsRequestOf, Passed, Refused, IsTraceOf, IsRefusalOf}
-pub use Rattle.trace_cli.specs.declared.options.Request.{Request}
-pub use Rattle.trace_cli.specs.declared.options.Request.TheVariants.{Trace, Help, Version, Unknown}
+pub use Rattle.trace_cli.specs.declared.options.TraceRequest.{TraceRequest}
+pub use Rattle.trace_cli.specs.declared.options.TraceRequest.TheVariants.{Trace, Help, Version, Unknown}

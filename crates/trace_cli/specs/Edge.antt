@@ -2,28 +2,28 @@
 use Rattle.std.specs.Prelude.{◌≡◌, ℕ, List, Result, Ok, Err}
 use Rattle.std.specs.Io.KnownBytes.{Appends, Keeps}
 use Rattle.wcp_io.specs.Edge.{Edge}
-use Rattle.wcp_io.specs.Fronts.{AppendsFront}
-use Rattle.trace_cli.specs.declared.options.Request.{Request}
+use Rattle.wcp_io.specs.Prefixes.{AppendsPrefix}
+use Rattle.trace_cli.specs.declared.options.TraceRequest.{TraceRequest}
 use Rattle.trace_cli.specs.Requests.{IsRequestOf, spelled}
-use Rattle.trace_cli.specs.declared.fault.Fault.{Fault}
+use Rattle.trace_cli.specs.declared.fault.TraceFault.{TraceFault}
 use Rattle.trace_cli.specs.Requested.{AnswersRequest}
 
 -- The words, of which the first is the program's name, ask for this request: what `clap` finds in them.
-abbrev pub AskFor : List (List ℕ) → Request → Type 0
+abbrev pub AskFor : List (List ℕ) → TraceRequest → Type 0
 AskFor words request = IsRequestOf (spelled words) request
 
 -- The program answers what the words ask for, with this status: it writes the answer whole; or, where a write failed, a
--- front of it, with status 2; or, where there is no answer, nothing, with status 2.
+-- prefix of it, with status 2; or, where there is no answer, nothing, with status 2.
 pub data DoesAsked (words : List (List ℕ)) (edge : Edge) (status : ℕ) : Type 0 where
-  Whole : (request : Request) (printed : List ℕ) → AskFor words request
+  Whole : (request : TraceRequest) (printed : List ℕ) → AskFor words request
       → AnswersRequest request edge.input edge.input_after printed status
       → Appends edge.output edge.output_after printed → DoesAsked words edge status
-  Front : (request : Request) (printed : List ℕ) (wanted : ℕ) → AskFor words request
+  Prefix : (request : TraceRequest) (printed : List ℕ) (wanted : ℕ) → AskFor words request
       → AnswersRequest request edge.input edge.input_after printed wanted
-      → AppendsFront edge.output edge.output_after printed → status ≡ 2 → DoesAsked words edge status
+      → AppendsPrefix edge.output edge.output_after printed → status ≡ 2 → DoesAsked words edge status
   Quiet : Keeps edge.output edge.output_after → status ≡ 2 → DoesAsked words edge status
 
 -- The exit status: that of the answer, or 2 where there is none.
-abbrev pub status_after : Result ℕ Fault → ℕ
+abbrev pub status_after : Result ℕ TraceFault → ℕ
 status_after (Ok status) = status
 status_after (Err fault) = 2

@@ -2,8 +2,8 @@
 use Rattle.std.specs.Prelude.{◌≡◌, ℕ, List, [], ◌∷◌, ◌++◌, map, All, Option, Some, codes, string_bytes}
 use Rattle.std.specs.Io.KnownBytes.{Keeps, prepend_known}
 use Rattle.trace_cli.specs.declared.options.Options.{Options}
-use Rattle.trace_cli.specs.declared.options.Request.{Request}
-use Rattle.trace_cli.specs.declared.options.Request.TheVariants.{Trace, Help, Version, Unknown}
+use Rattle.trace_cli.specs.declared.options.TraceRequest.{TraceRequest}
+use Rattle.trace_cli.specs.declared.options.TraceRequest.TheVariants.{Trace, Help, Version, Unknown}
 use Rattle.trace_cli.specs.Options.{seen_texts}
 use Rattle.trace_condition.specs.declared.condition.Condition.{Condition}
 use Rattle.trace_condition.specs.Asked.{Asked, conditions_of}
@@ -37,7 +37,7 @@ abbrev pub version_text : List ℕ
 version_text = codes "wcptrace 0.1.0" ++ 10 ∷ codes "rattle-kit-13f logic dac8208d650f15bf" ++ 10 ∷ []
 
 -- The answer to a request. Help, whose text it carries, and the version read nothing.
-abbrev pub AnswersRequest : Request → Known → Known → List ℕ → ℕ → Type 0
+abbrev pub AnswersRequest : TraceRequest → Known → Known → List ℕ → ℕ → Type 0
 AnswersRequest (Trace options) input input_after printed status = AnswersTrace options input input_after printed status
 AnswersRequest (Help text) input input_after printed status =
     Keeps input input_after × (printed ≡ string_bytes text) × (status ≡ 0)

@@ -4,8 +4,8 @@ use Rattle.std.specs.Str.{bytes_eq}
 use Rattle.clap.specs.Words.{Row, Text, IsAmong, fault_of, matches_of}
 use Rattle.clap.specs.declared.error.kind.ErrorKind.{ErrorKind}
 use Rattle.clap.specs.declared.error.kind.ErrorKind.TheVariants as kind
-use Rattle.trace_cli.specs.declared.options.Request.{Request}
-use Rattle.trace_cli.specs.declared.options.Request.TheVariants.{Trace, Help, Version, Unknown}
+use Rattle.trace_cli.specs.declared.options.TraceRequest.{TraceRequest}
+use Rattle.trace_cli.specs.declared.options.TraceRequest.TheVariants.{Trace, Help, Version, Unknown}
 use Rattle.trace_cli.specs.declared.options.Options.{Options}
 use Rattle.trace_cli.specs.Options.{program, seen_texts, values_at, form_at}
 
@@ -18,21 +18,21 @@ pub record AreFoundIn (rows : List Row) (options : Options) : Type 0 where
   pub form : form_at rows ≡ Some options.form
 
 -- Where no word is refused: a trace by what was found, or an unknown form.
-abbrev pub IsTraceOf : List Row → Request → Type 0
+abbrev pub IsTraceOf : List Row → TraceRequest → Type 0
 IsTraceOf rows (Trace options) = AreFoundIn rows options
 IsTraceOf rows Unknown = form_at rows ≡ None
 IsTraceOf rows (Help text) = ⊥
 IsTraceOf rows Version = ⊥
 
 -- Where the words are answered by this kind of error: help, the version, or nothing known.
-abbrev pub IsRefusalOf : ErrorKind → Request → Type 0
+abbrev pub IsRefusalOf : ErrorKind → TraceRequest → Type 0
 IsRefusalOf why (Help text) = why ≡ kind.DisplayHelp
 IsRefusalOf why Version = why ≡ kind.DisplayVersion
 IsRefusalOf why Unknown = (why ≢ kind.DisplayHelp) × (why ≢ kind.DisplayVersion) × (why ≢ kind.OutOfMemory)
 IsRefusalOf why (Trace options) = ⊥
 
 -- What words ask for, of which the first is the program's name.
-pub data IsRequestOf (words : List Text) (request : Request) : Type 0 where
+pub data IsRequestOf (words : List Text) (request : TraceRequest) : Type 0 where
   Passed : fault_of program words ≡ [] → IsTraceOf (matches_of program words) request → IsRequestOf words request
   Refused : (why : ErrorKind) → IsAmong why (fault_of program words) → IsRefusalOf why request
       → IsRequestOf words request

@@ -1,6 +1,6 @@
 ghost use Rattle.std.specs.Prelude.{◌≡◌};
 ghost use Rattle.wcp_io.specs.declared.io_fault.IoFault.TheVariants.{Memory};
-ghost use Rattle.trace_cli.specs.declared.fault.Fault.TheVariants.{Conditions, Detection, Io};
+ghost use Rattle.trace_cli.specs.declared.fault.TraceFault.TheVariants.{Conditions, Detection, Io};
 
 use std::alloc::AllocError;
 use thiserror::Error;
@@ -10,7 +10,7 @@ use wcp_io::IoFault;
 
 /// Why the program gives no answer. It displays as its line on standard error, without the name of the program.
 #[derive(Debug, Drop, Error)]
-pub enum Fault {
+pub enum TraceFault {
     /// The words after the program's name ask for nothing that it knows.
     #[error("usage")]
     Usage,
@@ -25,34 +25,34 @@ pub enum Fault {
     Io(IoFault),
 }
 
-impl From<AllocError> for Fault {
+impl From<AllocError> for TraceFault {
     ghost from_gives = { λ _ given. given ≡ Io Memory };
 
-    fn from(_error: AllocError) -> Fault {
-        Fault::Io(IoFault::Memory)
+    fn from(_error: AllocError) -> TraceFault {
+        TraceFault::Io(IoFault::Memory)
     }
 }
 
-impl From<ConditionFault> for Fault {
+impl From<ConditionFault> for TraceFault {
     ghost from_gives = { λ fault given. given ≡ Conditions fault };
 
-    fn from(fault: ConditionFault) -> Fault {
-        Fault::Conditions(fault)
+    fn from(fault: ConditionFault) -> TraceFault {
+        TraceFault::Conditions(fault)
     }
 }
 
-impl From<DetectFault> for Fault {
+impl From<DetectFault> for TraceFault {
     ghost from_gives = { λ fault given. given ≡ Detection fault };
 
-    fn from(fault: DetectFault) -> Fault {
-        Fault::Detection(fault)
+    fn from(fault: DetectFault) -> TraceFault {
+        TraceFault::Detection(fault)
     }
 }
 
-impl From<IoFault> for Fault {
+impl From<IoFault> for TraceFault {
     ghost from_gives = { λ fault given. given ≡ Io fault };
 
-    fn from(fault: IoFault) -> Fault {
-        Fault::Io(fault)
+    fn from(fault: IoFault) -> TraceFault {
+        TraceFault::Io(fault)
     }
 }

@@ -2,7 +2,7 @@
 //!
 //! What is proved. `drive`, over a reader and a writer that tell their bytes: on status 0 or 1 exactly the answer to
 //! what the words ask for was appended to the output, and nothing to the errors; on status 2 nothing was printed, or
-//! a front of the answer where a write failed. Where the words ask to watch a log, 0 means that the earliest moment
+//! a prefix of the answer where a write failed. Where the words ask to watch a log, 0 means that the earliest moment
 //! of the events of the lines that were read was printed, and stays it whatever comes after them, or that the whole
 //! input was read and it is the earliest moment of all its events; 1 means that the whole input was read, that there
 //! is no moment, and that each watched host logs something: that was printed, with how often each condition held.
@@ -30,10 +30,10 @@ mod program;
 mod teller;
 mod telling_reader;
 
-pub use fault::Fault;
+pub use fault::TraceFault;
 pub use help::VERSION;
 pub use notes::Notes;
-pub use options::{Options, Request, read_options};
+pub use options::{Options, TraceRequest, read_options};
 pub use program::{drive, refuse};
-pub use teller::Teller;
+pub use teller::ProgressTeller;
 pub use telling_reader::TellingReader;

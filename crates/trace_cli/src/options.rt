@@ -13,7 +13,7 @@ use trace_log::Form;
 
 /// What the words ask for.
 #[derive(Debug, Drop)]
-pub enum Request<'a> {
+pub enum TraceRequest<'a> {
     /// To watch a log.
     Trace(Options<'a>),
     /// This help text.
@@ -35,7 +35,10 @@ pub struct Options<'a> {
 }
 
 /// What the words ask for, of which the first is the program's name.
-pub fn read_options<'a, S: AsStr>(alloc: Global, words: &'a [S]) -> Result<Request<'a>, AllocError>
+pub fn read_options<'a, S: AsStr>(
+    alloc: Global,
+    words: &'a [S],
+) -> Result<TraceRequest<'a>, AllocError>
     ensures { IfOk result (IsRequestOf (spelled (map S.text words.entry.now))) }
 {
     if asks_by_word(words) {
@@ -56,7 +59,7 @@ fn asks_by_word<S: AsStr>(words: &[S]) -> bool
 }
 
 /// What words ask for by options.
-fn request_of<'a, S: AsStr>(alloc: Global, words: &'a [S]) -> Result<Request<'a>, AllocError>
+fn request_of<'a, S: AsStr>(alloc: Global, words: &'a [S]) -> Result<TraceRequest<'a>, AllocError>
     ensures { IfOk result (IsRequestOf (map S.text words.entry.now)) }
 {
     match command(alloc)?.try_get_matches_from(words) {
@@ -66,17 +69,17 @@ fn request_of<'a, S: AsStr>(alloc: Global, words: &'a [S]) -> Result<Request<'a>
 }
 
 /// The trace that the matches ask for, if the form is known.
-fn trace_of<'a>(alloc: Global, matches: &ArgMatches<'a>) -> Result<Request<'a>, AllocError>
+fn trace_of<'a>(alloc: Global, matches: &ArgMatches<'a>) -> Result<TraceRequest<'a>, AllocError>
     ensures { IfOk result (IsTraceOf (rows_of (found_of matches.now))) }
 {
     let Some(form) = form_of(matches) else {
-        return Ok(Request::Unknown);
+        return Ok(TraceRequest::Unknown);
     };
     let whiles = values_of(alloc, matches, "while")?;
     let froms = values_of(alloc, matches, "from")?;
     let untils = values_of(alloc, matches, "until")?;
     let ats = values_of(alloc, matches, "at")?;
-    Ok(Request::Trace(Options {
+    Ok(TraceRequest::Trace(Options {
         whiles,
         froms,
         untils,
@@ -123,14 +126,14 @@ fn form_named(name: &str) -> Option<Form>
 }
 
 /// What the words ask for where clap gave no matches but this error.
-fn request_without_matches<'a>(alloc: Global, error: &Error) -> Result<Request<'a>, AllocError>
+fn request_without_matches<'a>(alloc: Global, error: &Error) -> Result<TraceRequest<'a>, AllocError>
     ensures { IfOk result (IsRefusalOf (kind_of error.now)) }
 {
     match error.kind() {
-        ErrorKind::DisplayHelp => Ok(Request::Help(error.to_string(alloc)?)),
-        ErrorKind::DisplayVersion => Ok(Request::Version),
+        ErrorKind::DisplayHelp => Ok(TraceRequest::Help(error.to_string(alloc)?)),
+        ErrorKind::DisplayVersion => Ok(TraceRequest::Version),
         ErrorKind::OutOfMemory => Err(AllocError),
-        _ => Ok(Request::Unknown),
+        _ => Ok(TraceRequest::Unknown),
     }
 }
 

@@ -5,14 +5,14 @@ ghost use Rattle.wcp_io.specs.Edge.{edge_of};
 ghost use Rattle.trace_cli.specs.Edge.{DoesAsked, status_after};
 ghost use Rattle.trace_cli.specs.Requested.{AnswersRequest, AnswersTrace};
 
-use crate::fault::Fault;
+use crate::fault::TraceFault;
 use crate::help::VERSION;
-use crate::options::{Options, Request, read_options};
+use crate::options::{Options, TraceRequest, read_options};
 use std::alloc::Global;
 use std::convert::AsStr;
 use std::io::{Read, Write};
 use trace_condition::{ConditionWords, read_conditions};
-use trace_detect::{Answer, Listener, detect};
+use trace_detect::{Listener, TraceAnswer, detect};
 use wcp_io::write_whole;
 
 /// The status after help and the version.
@@ -47,7 +47,7 @@ pub fn drive<S: AsStr, I: Read, O: Write, E: Write, L: Listener>(
 
 /// Writes the line that says why there is no answer, and gives the status where there is none. It is that status also
 /// where the line can't be written.
-pub fn refuse<E: Write>(errors: &mut E, fault: &Fault) -> u8
+pub fn refuse<E: Write>(errors: &mut E, fault: &TraceFault) -> u8
     ensures { result ≡ 2 }
 {
     let _ = writeln!(errors, "wcptrace: {fault}");
@@ -61,7 +61,7 @@ fn obey<S: AsStr, I: Read, O: Write, L: Listener>(
     input: &mut I,
     output: &mut O,
     listener: &mut L,
-) -> Result<u8, Fault>
+) -> Result<u8, TraceFault>
     ensures status { IfOk result (λ status. status ≤ 1) }
     ensures does { DoesAsked (map S.text words.now) (edge_of (I.remaining input.old) (I.remaining input.new)
         (O.contents output.old) (O.contents output.new)) (status_after result) }
@@ -75,26 +75,26 @@ fn obey<S: AsStr, I: Read, O: Write, L: Listener>(
 /// The answer to a request.
 fn answer_to<I: Read, L: Listener>(
     alloc: Global,
-    request: Request<'_>,
+    request: TraceRequest<'_>,
     input: &mut I,
     listener: &mut L,
-) -> Result<Answer, Fault>
+) -> Result<TraceAnswer, TraceFault>
     ensures answer { IfOk result (λ answer. AnswersRequest request.entry (I.remaining input.old) (I.remaining input.new)
         answer.text.items answer.status) }
     ensures status { IfOk result (λ answer. answer.status ≤ 1) }
 {
     match request {
-        Request::Trace(options) => answer_to_trace(alloc, &options, input, listener),
-        Request::Help(text) => Ok(Answer {
+        TraceRequest::Trace(options) => answer_to_trace(alloc, &options, input, listener),
+        TraceRequest::Help(text) => Ok(TraceAnswer {
             text: text.into_bytes(),
             status: TOLD,
         }),
-        Request::Version => {
+        TraceRequest::Version => {
             let mut text = Vec::new(alloc);
             text.extend_from_slice(VERSION.as_bytes())?;
-            Ok(Answer { text, status: TOLD })
+            Ok(TraceAnswer { text, status: TOLD })
         }
-        Request::Unknown => Err(Fault::Usage),
+        TraceRequest::Unknown => Err(TraceFault::Usage),
     }
 }
 
@@ -104,7 +104,7 @@ fn answer_to_trace<I: Read, L: Listener>(
     options: &Options<'_>,
     input: &mut I,
     listener: &mut L,
-) -> Result<Answer, Fault>
+) -> Result<TraceAnswer, TraceFault>
     ensures answer { IfOk result (λ answer. AnswersTrace options.now (I.remaining input.old) (I.remaining input.new)
         answer.text.items answer.status) }
     ensures status { IfOk result (λ answer. answer.status ≤ 1) }

@@ -4,7 +4,7 @@ use std::time::{Clock, Duration, Instant};
 /// Tells how many lines were read: `PROGRAM: N lines read`, a line each, the first a second after the first call of
 /// `tell`, and then at most one a second. Where the clock can't be read or a line can't be written, nothing is told.
 #[derive(Drop)]
-pub struct Teller<'a, C, E> {
+pub struct ProgressTeller<'a, C, E> {
     program: &'a str,
     clock: &'a C,
     errors: E,
@@ -12,10 +12,10 @@ pub struct Teller<'a, C, E> {
     last: Option<Instant>,
 }
 
-impl<'a, C: Clock, E: Write> Teller<'a, C, E> {
+impl<'a, C: Clock, E: Write> ProgressTeller<'a, C, E> {
     /// Tells on `errors`.
-    pub fn new(program: &'a str, clock: &'a C, errors: E) -> Teller<'a, C, E> {
-        Teller {
+    pub fn new(program: &'a str, clock: &'a C, errors: E) -> ProgressTeller<'a, C, E> {
+        ProgressTeller {
             program,
             clock,
             errors,

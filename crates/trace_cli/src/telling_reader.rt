@@ -1,6 +1,6 @@
 ghost use Rattle.std.specs.Prelude.{◌≡◌};
 
-use crate::teller::Teller;
+use crate::teller::ProgressTeller;
 use std::io::{Read, Result, Write};
 use std::time::Clock;
 
@@ -8,12 +8,12 @@ use std::time::Clock;
 #[derive(Drop)]
 pub struct TellingReader<'a, C, I, E> {
     input: I,
-    teller: Option<Teller<'a, C, E>>,
+    teller: Option<ProgressTeller<'a, C, E>>,
 }
 
 impl<'a, C: Clock, I: Read, E: Write> TellingReader<'a, C, I, E> {
     /// A reader of this input.
-    pub fn new(input: I, teller: Option<Teller<'a, C, E>>) -> TellingReader<'a, C, I, E>
+    pub fn new(input: I, teller: Option<ProgressTeller<'a, C, E>>) -> TellingReader<'a, C, I, E>
         ensures { result.input ≡ input }
     {
         TellingReader { input, teller }

@@ -4,7 +4,7 @@ use Rattle.trace_condition.proofs.Words.{◌≡◌, ℕ, ◌<◌, ◌≤◌, ◌
 use Rattle.trace_condition.proofs.Words.{length, get_or, take, drop, Option, Some, None, Result, IfOk, ap, sym, ◌∙◌}
 use Rattle.trace_condition.proofs.Words.{subst, add-one, arith, rules, drop-cons, All, AllByRecursion, list_any, bytes_eq}
 use Rattle.trace_condition.proofs.Words.{length-map, map-append, map_more, take-append-drop, map-map, ConditionFault}
-use Rattle.trace_condition.proofs.Words.{Usage, Expression, NoMemory, FromUntil, ◌>>=◌, Asked, Text, Word, Saying}
+use Rattle.trace_condition.proofs.Words.{Usage, Expression, Memory, FromUntil, ◌>>=◌, Asked, Text, Word, Saying}
 use Rattle.trace_condition.proofs.Words.{are_fit, most_hosts, seen_saying, said_by, IsReadExpression, IsRead, CanBeRead}
 use Rattle.trace_condition.proofs.Words.{RefusesExpression, RefusesSaying, RefusesSayings, ReadsSayings, HaveHosts}
 use Rattle.std.specs.List.{IsDistinct}
@@ -59,7 +59,7 @@ pub fails_at : (sayings : List OwnSaying) (i : ℕ) (d : OwnSaying) (conditions 
     → map said_by conditions ≡ map seen_saying (take i sayings)
     → RefusesSaying (seen_saying (get_or sayings i d)) fault → RefusesSayings (map seen_saying sayings) fault
 fails_at sayings i d conditions Usage within read so_far refuses = refuses
-fails_at sayings i d conditions NoMemory within read so_far refuses = tt
+fails_at sayings i d conditions Memory within read so_far refuses = tt
 fails_at sayings i d conditions (Expression host why) within read so_far refuses = record {
   before = map seen_saying (take i sayings);
   failed = seen_saying (get_or sayings i d);

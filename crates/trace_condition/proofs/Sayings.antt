@@ -2,7 +2,7 @@
 use Rattle.trace_condition.proofs.Words.{◌≡◌, ◌≢◌, ℕ, ◌<◌, ◌≤◌, ◌+◌, ◌==◌, ◌&&◌, Bool, true, false, not, cond, List, []}
 use Rattle.trace_condition.proofs.Words.{◌∷◌, ◌++◌, map, length, get_or, drop, Option, Some, None, option_map, find, refl}
 use Rattle.trace_condition.proofs.Words.{ap, sym, ◌∙◌, add-one, suc, Bor, list_any, bytes_eq, drop-cons, drop_all}
-use Rattle.trace_condition.proofs.Words.{length-map, map-append, map-map, ConditionFault, Usage, Expression, NoMemory}
+use Rattle.trace_condition.proofs.Words.{length-map, map-append, map-map, ConditionFault, Usage, Expression, Memory}
 use Rattle.trace_condition.proofs.Words.{Asked, Text, Word, Saying, all_read, word_in, saying_by, while_rule, from_rule}
 use Rattle.trace_condition.proofs.Words.{at_rule, until_of, are_fit, most_hosts, FromUntil, Fails, seen_word, seen_saying}
 use Rattle.trace_condition.proofs.Words.{host_said}
@@ -94,7 +94,7 @@ module _ (asked : Asked) where
   unfolding conditions_of
   untils_fail Usage fails = rw fails refl
   untils_fail (Expression host why) fails = fails
-  untils_fail NoMemory fails = tt
+  untils_fail Memory fails = tt
 
   module _ (untils : List Word) (read_untils : all_read word_in asked.untils ≡ Some untils) where
     pub whiles_fail : (fault : ConditionFault) → Fails fault (all_read (saying_by while_rule) asked.whiles)
@@ -102,7 +102,7 @@ module _ (asked : Asked) where
     unfolding conditions_of
     whiles_fail Usage fails = rw (read_untils, fails) refl
     whiles_fail (Expression host why) fails = fails
-    whiles_fail NoMemory fails = tt
+    whiles_fail Memory fails = tt
 
     module _ (whiles : List Saying) (read_whiles : all_read (saying_by while_rule) asked.whiles ≡ Some whiles) where
       pub spans_fail : (fault : ConditionFault) → Fails fault (all_read (saying_by (from_rule untils)) asked.froms)
@@ -110,7 +110,7 @@ module _ (asked : Asked) where
       unfolding conditions_of
       spans_fail Usage fails = rw (read_untils, read_whiles, fails) refl
       spans_fail (Expression host why) fails = fails
-      spans_fail NoMemory fails = tt
+      spans_fail Memory fails = tt
 
       module _ (spans : List Saying)
           (read_spans : all_read (saying_by (from_rule untils)) asked.froms ≡ Some spans) where
@@ -119,7 +119,7 @@ module _ (asked : Asked) where
         unfolding conditions_of
         ats_fail Usage fails = rw (read_untils, read_whiles, read_spans, fails) refl
         ats_fail (Expression host why) fails = fails
-        ats_fail NoMemory fails = tt
+        ats_fail Memory fails = tt
 
         pub said : (ats : List Saying) → all_read (saying_by at_rule) asked.ats ≡ Some ats
             → conditions_of asked

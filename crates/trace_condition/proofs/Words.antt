@@ -16,5 +16,5 @@ pub use Rattle.trace_condition.specs.Conditions.{RefusesSaying, RefusesSayings, 
 pub use Rattle.trace_condition.specs.Sayings.{Fails, seen_word, seen_saying, host_said, seen_texts, seen_rule, seen_words}
 pub use Rattle.trace_condition.specs.Sayings.{Gives, kind_rule}
 pub use Rattle.trace_condition.specs.declared.fault.ConditionFault.{ConditionFault}
-pub use Rattle.trace_condition.specs.declared.fault.ConditionFault.TheVariants.{Usage, Expression, NoMemory}
+pub use Rattle.trace_condition.specs.declared.fault.ConditionFault.TheVariants.{Usage, Expression, Memory}
 pub use Rattle.trace_condition.specs.declared.rule.Rule.TheVariants.{FromUntil}

@@ -9,7 +9,7 @@ use Rattle.regex.specs.declared.error.Error.{Error}
 use Rattle.regex.specs.declared.string.regex.Regex.{Regex}
 use Rattle.regex.specs.declared.error.Error.TheVariants.{OutOfMemory}
 use Rattle.trace_condition.specs.declared.fault.ConditionFault.{ConditionFault}
-use Rattle.trace_condition.specs.declared.fault.ConditionFault.TheVariants.{Usage, Expression, NoMemory}
+use Rattle.trace_condition.specs.declared.fault.ConditionFault.TheVariants.{Usage, Expression, Memory}
 use Rattle.trace_condition.specs.declared.rule.Rule.{Rule}
 use Rattle.trace_condition.specs.declared.rule.Rule.TheVariants.{While, FromUntil, At}
 use Rattle.trace_condition.specs.declared.condition.Condition.{Condition}
@@ -63,7 +63,7 @@ abbrev pub RefusesExpression : Text → Text → ConditionFault → Type 0
 RefusesExpression host source Usage = ⊥
 RefusesExpression host source (Expression named why) =
     (string_bytes named ≡ host) × IsDefaultFailure source why × (why ≢ OutOfMemory)
-RefusesExpression host source NoMemory = Unit {0}
+RefusesExpression host source Memory = Unit {0}
 
 -- It was read, or refused.
 abbrev pub ReadsExpression : Text → Text → Result Regex ConditionFault → Type 0
@@ -75,7 +75,7 @@ abbrev pub RefusesSaying : Saying → ConditionFault → Type 0
 RefusesSaying saying Usage = ⊥
 RefusesSaying saying (Expression host why) =
     (string_bytes host ≡ saying.host) × FailsBy why saying.rule × (why ≢ OutOfMemory)
-RefusesSaying saying NoMemory = Unit {0}
+RefusesSaying saying Memory = Unit {0}
 
 -- It was read as this condition, or refused.
 abbrev pub ReadsSaying : Saying → Result Condition ConditionFault → Type 0
@@ -86,7 +86,7 @@ ReadsSaying saying (Err fault) = RefusesSaying saying fault
 abbrev pub RefusesSayings : List Saying → ConditionFault → Type 0
 RefusesSayings sayings Usage = ⊥
 RefusesSayings sayings (Expression host why) = FailsFirst (string_bytes host) why sayings
-RefusesSayings sayings NoMemory = Unit {0}
+RefusesSayings sayings Memory = Unit {0}
 
 -- The words of a command line weren't read, with this fault: they say no conditions, or the first that wasn't read of
 -- what they say has it, or memory ran out.
@@ -94,7 +94,7 @@ abbrev pub RefusesWords : Asked → ConditionFault → Type 0
 RefusesWords asked Usage = conditions_of asked ≡ None
 RefusesWords asked (Expression host why) =
     (sayings : List Saying) × (conditions_of asked ≡ Some sayings) × FailsFirst (string_bytes host) why sayings
-RefusesWords asked NoMemory = Unit {0}
+RefusesWords asked Memory = Unit {0}
 
 module _ {Z : Type 0} where
   -- What is said was read as these conditions, or refused.

@@ -2,7 +2,7 @@
 use Rattle.std.specs.Prelude.{◌≡◌, List, map, Option, Some, None, Result, Ok, Err}
 use Rattle.std.specs.Borrow.{Bor}
 use Rattle.trace_condition.specs.declared.fault.ConditionFault.{ConditionFault}
-use Rattle.trace_condition.specs.declared.fault.ConditionFault.TheVariants.{Usage, Expression, NoMemory}
+use Rattle.trace_condition.specs.declared.fault.ConditionFault.TheVariants.{Usage, Expression, Memory}
 use Rattle.trace_condition.specs.declared.rule.Rule.{Rule}
 use Rattle.trace_condition.specs.declared.word.Word.{Word as OwnWord}
 use Rattle.trace_condition.specs.declared.saying.Saying.{Saying as OwnSaying}
@@ -16,7 +16,7 @@ use Rattle.trace_condition.specs.Rules.{map_rule}
 abbrev pub Fails : {Y : Type 0} → ConditionFault → Option Y → Type 0
 Fails Usage said = said ≡ None
 Fails (Expression host why) said = ⊥
-Fails NoMemory said = Unit {0}
+Fails Memory said = Unit {0}
 
 -- What a function returned, seen by view, is what the words say, unless memory ran out.
 abbrev pub Gives : {X Y : Type 0} → (X → Y) → Result X ConditionFault → Option Y → Type 0

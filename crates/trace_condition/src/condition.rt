@@ -65,7 +65,7 @@ fn expression(alloc: Global, host: &str, source: &str) -> Result<Regex, Conditio
 {
     match Regex::new(alloc, source) {
         Ok(regex) => Ok(regex),
-        Err(regex::Error::OutOfMemory) => Err(ConditionFault::NoMemory),
+        Err(regex::Error::OutOfMemory) => Err(ConditionFault::Memory),
         Err(why) => {
             let host = String::from_str(alloc, host)?;
             Err(ConditionFault::Expression { host, why })

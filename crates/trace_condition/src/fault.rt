@@ -1,5 +1,5 @@
 ghost use Rattle.std.specs.Prelude.{◌≡◌};
-ghost use Rattle.trace_condition.specs.declared.fault.ConditionFault.TheVariants.{NoMemory};
+ghost use Rattle.trace_condition.specs.declared.fault.ConditionFault.TheVariants.{Memory};
 
 use std::alloc::{AllocError, AllocFailed};
 use thiserror::Error;
@@ -16,21 +16,21 @@ pub enum ConditionFault {
     Expression { host: String, why: regex::Error },
     /// Memory ran out.
     #[error("memory")]
-    NoMemory,
+    Memory,
 }
 
 impl From<AllocError> for ConditionFault {
-    ghost from_gives = { λ _ given. given ≡ NoMemory };
+    ghost from_gives = { λ _ given. given ≡ Memory };
 
     fn from(_error: AllocError) -> ConditionFault {
-        ConditionFault::NoMemory
+        ConditionFault::Memory
     }
 }
 
 impl<T: Drop> From<AllocFailed<T>> for ConditionFault {
-    ghost from_gives = { λ _ given. given ≡ NoMemory };
+    ghost from_gives = { λ _ given. given ≡ Memory };
 
     fn from(_error: AllocFailed<T>) -> ConditionFault {
-        ConditionFault::NoMemory
+        ConditionFault::Memory
     }
 }

@@ -2,7 +2,7 @@
 use Rattle.std.proofs.lemmas.Grind.{common_steps}
 use Rattle.trace_detect.proofs.Words.{◌≡◌, ◌∙◌, ◌+◌, ◌-◌, ◌^◌, ◌<◌, ℕ, Bool, true, false, List, [], ◌∷◌, ◌++◌, Option}
 use Rattle.trace_detect.proofs.Words.{Some, Result, Ok, Err, length, length-append, length-map, refl, ap, subst, arith}
-use Rattle.trace_detect.proofs.Words.{Logged, Taken, Watch, HasTaken, watched_by, is_known, Condition, Watcher, taken_of}
+use Rattle.trace_detect.proofs.Words.{Logged, Taken, HostWatch, HasTaken, watched_by, is_known, Condition, Watcher, taken_of}
 use Rattle.trace_detect.proofs.Words.{IsWatching, CanTake, WatchesNext, host_of, slice_index_or}
 use Rattle.std.proofs.lemmas.List.{get_or_default}
 use Rattle.std.specs.Prelude.{MatchBool}
@@ -18,7 +18,7 @@ use Rattle.trace_moment.specs.declared.search.Search.{Search}
 use Rattle.trace_moment.specs.Moment.{IsEarliest, IsKnown}
 use Rattle.trace_moment.specs.Standing.{HasNoMoment}
 use Rattle.trace_moment.specs.Search.{moment_of}
-use Rattle.trace_detect.specs.declared.answer.Answer.{Answer}
+use Rattle.trace_detect.specs.declared.answer.TraceAnswer.{TraceAnswer}
 use Rattle.trace_detect.specs.declared.fault.DetectFault.{DetectFault}
 use Rattle.trace_detect.specs.declared.fault.DetectFault.TheVariants as fault
 use Rattle.trace_detect.specs.Faults.{fault_of_events}
@@ -29,7 +29,7 @@ use Rattle.trace_detect.specs.Detection.{IsFirstSilent, IsLastAnswer}
 use Rattle.trace_detect.proofs.Watches.{none_taken}
 
 -- No moment is known of nothing.
-unknown_where : (known : Bool) (watched : List Watch) (moment : ℕ → Logged) (P : Type 0) → 0 < length watched
+unknown_where : (known : Bool) (watched : List HostWatch) (moment : ℕ → Logged) (P : Type 0) → 0 < length watched
     → MatchBool known (IsKnown watched [] moment) P → known ≡ false
 unknown_where true watched moment P some is =
     let held = ((is [] tt).one.held 0 some) in absurd (omega (arith, held.1))
@@ -78,24 +78,24 @@ answers_early form conditions input left left' log log' watcher watcher' count o
     let logged = before.logged ++ seen_logged one ∷ [] in
     let known = known_moment (taken_of conditions logged) watcher'.search watched.0.taken watched.1 in
     Early logged (moment_of watcher'.search) read.1.says
-    (subst (λ (w : List Watch). IsKnown w (taken_of conditions logged) (moment_of watcher'.search)) watched.0.watched
+    (subst (λ (w : List HostWatch). IsKnown w (taken_of conditions logged) (moment_of watcher'.search)) watched.0.watched
     known)
     (print ∙ ap (λ (cs : List Condition). found_text cs (moment_of watcher'.search)) watched.0.by) status_is
 
 -- The log has ended.
 pub answers_last : (form : Form) (conditions : List Condition) (input left : Option (List ℕ)) (logged : List Logged)
-    (result : Result Answer DetectFault) → SaysWhole form input left logged → AnswersLast conditions logged result
+    (result : Result TraceAnswer DetectFault) → SaysWhole form input left logged → AnswersLast conditions logged result
     → Answers form conditions input left result
 answers_last form conditions input left logged (Ok answer) says last = AtEnd logged says last
 answers_last form conditions input left logged (Err (fault.Log what)) says last = absurd last
 answers_last form conditions input left logged (Err (fault.NoHost host)) says last =
     record { logged = logged; says = says; silent = last }
 answers_last form conditions input left logged (Err fault.Read) says last = absurd last
-answers_last form conditions input left logged (Err fault.NoMemory) says last = tt
+answers_last form conditions input left logged (Err fault.Memory) says last = tt
 
 -- A fault that was handed on.
 pub hands_on : (form : Form) (conditions : List Condition) (input left : Option (List ℕ))
-    (result : Result Answer DetectFault) (given : DetectFault) → IsErr result × IsErrAnd result (λ fault. fault ≡ given)
+    (result : Result TraceAnswer DetectFault) (given : DetectFault) → IsErr result × IsErrAnd result (λ fault. fault ≡ given)
     → Answers form conditions input left (Err given) → Answers form conditions input left result
 hands_on form conditions input left result given back answers = grind (arith, common_steps, err_from_is_err_and)
 
@@ -116,7 +116,7 @@ pub last_found : (conditions : List Condition) (logged : List Logged) (watcher :
     → watched_by new ≡ watched_by watcher.search → printed ≡ found_text watcher.conditions.now (moment_of new)
     → status ≡ 0 → IsLastAnswer conditions logged printed status
 last_found conditions logged watcher new true printed status watching ends is same print status_is =
-    Found (moment_of new) (subst (λ (w : List Watch). IsEarliest w (taken_of conditions logged) (moment_of new))
+    Found (moment_of new) (subst (λ (w : List HostWatch). IsEarliest w (taken_of conditions logged) (moment_of new))
     (same ∙ watching.watched) (ends (taken_of conditions logged) watching.taken))
     (print ∙ ap (λ (cs : List Condition). found_text cs (moment_of new)) watching.by) status_is
 last_found conditions logged watcher new false printed status watching ends is same print status_is = absurd (cc)

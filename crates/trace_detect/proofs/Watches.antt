@@ -4,7 +4,7 @@ use Rattle.trace_detect.proofs.Words.{◌≡◌, ◌∙◌, ◌+◌, ◌-◌, �
 use Rattle.trace_detect.proofs.Words.{List, [], ◌∷◌, ◌++◌, Some, None, Result, Ok, Err, length, length-set, length-map}
 use Rattle.trace_detect.proofs.Words.{refl, sym, ap, subst, arith, append-nil, option_to_list, option_map, get_or-map}
 use Rattle.trace_detect.proofs.Words.{get_or-set_same, get_or-set_other, slice_index_or, inl, inr, bytes_eq, Logged}
-use Rattle.trace_detect.proofs.Words.{FollowsIn, Taken, Watch, watch_at, MayFollow, IsNextAt, HaveDistinctHosts, HasTaken}
+use Rattle.trace_detect.proofs.Words.{FollowsIn, Taken, HostWatch, watch_at, MayFollow, IsNextAt, HaveDistinctHosts, HasTaken}
 use Rattle.trace_detect.proofs.Words.{watched_by, TakesNext, Condition, host_of, rule_of, HaveHosts, holds_at_last}
 use Rattle.trace_detect.proofs.Words.{Judged, Watcher, watch_of, watches, texts_at, condition_at, taken_of, taken_from}
 use Rattle.trace_detect.proofs.Words.{Knows, AreJudges, JudgesOneAt, IsWatching, IsPlace, WatchesNext}
@@ -15,7 +15,7 @@ use Rattle.std.proofs.lemmas.Slice.Eq.{bytes_eq-Decides}
 use Rattle.std.proofs.lemmas.Bool.Decides.{eqb_tells}
 use Rattle.trace_condition.specs.Judging.{HasJudged}
 use Rattle.trace_condition.specs.declared.judge.Judge.{Judge}
-use Rattle.trace_detect.specs.declared.tally.Tally.{Tally}
+use Rattle.trace_detect.specs.declared.tally.HostTally.{HostTally}
 use Rattle.std.proofs.Common.{suc}
 use Rattle.std.specs.declared.alloc.AllocError.{AllocError}
 use Rattle.trace_detect.proofs.Taking.{taken_more, clock_taken}
@@ -35,7 +35,7 @@ each_more R conditions judges n condition judge many within now before p c j bel
 -- The host that a search watches at a place is that of the condition there.
 pub watched_at : (conditions : List Condition) (p : ℕ) (c : Condition) → p < length conditions
     → (watch_at (watches conditions) p).host ≡ host_of (slice_index_or conditions p c)
-watched_at conditions p c within = ap (λ (w : Watch). w.host) (get_or-map watch_of conditions p c _ within)
+watched_at conditions p c within = ap (λ (w : HostWatch). w.host) (get_or-map watch_of conditions p c _ within)
 
 distinct_of : (first : Condition) (others : List Condition) → HaveHosts (first ∷ others)
     → HaveDistinctHosts (watches (first ∷ others))
@@ -152,7 +152,7 @@ takes_place conditions before one place c old new holds
     )
 
 -- A judge before the first event.
-pub knows_none : (conditions : List Condition) (condition : Condition) (judge : Judge) (tally : Tally)
+pub knows_none : (conditions : List Condition) (condition : Condition) (judge : Judge) (tally : HostTally)
     → HasJudged (rule_of condition) [] judge → tally.events ≡ 0 → tally.matched ≡ 0
     → Knows conditions [] condition (record { judge = judge; tally = tally })
 knows_none conditions condition judge tally judged events matched = grind (arith, common_steps, none_taken)

@@ -11,7 +11,7 @@ pub use Rattle.trace_log.specs.Clock.{Member}
 pub use Rattle.trace_log.specs.Log.{Logged}
 unfoldable pub use Rattle.trace_log.specs.Order.{clock_after}
 pub use Rattle.trace_log.specs.LoggedEvents.{FollowsIn}
-pub use Rattle.trace_moment.specs.Moment.{Taken, Watch, watch_at, MayFollow, IsNextAt, HaveDistinctHosts}
+pub use Rattle.trace_moment.specs.Moment.{Taken, HostWatch, watch_at, MayFollow, IsNextAt, HaveDistinctHosts}
 pub use Rattle.trace_moment.specs.Search.{HasTaken, watched_by, is_known, TakesNext}
 pub use Rattle.trace_condition.specs.declared.condition.Condition.{Condition}
 pub use Rattle.trace_condition.specs.Conditions.{host_of, rule_of, HaveHosts}

@@ -9,7 +9,7 @@ use Rattle.trace_moment.specs.Moment.{IsEarliest, IsKnown}
 use Rattle.trace_moment.specs.Standing.{HasNoMoment}
 use Rattle.trace_condition.specs.declared.condition.Condition.{Condition}
 use Rattle.trace_condition.specs.Conditions.{host_of}
-use Rattle.trace_detect.specs.declared.answer.Answer.{Answer}
+use Rattle.trace_detect.specs.declared.answer.TraceAnswer.{TraceAnswer}
 use Rattle.trace_detect.specs.declared.fault.DetectFault.{DetectFault}
 use Rattle.trace_detect.specs.declared.fault.DetectFault.TheVariants as fault
 use Rattle.trace_detect.specs.Watching.{watches, taken_of, events_at}
@@ -46,10 +46,10 @@ pub record HasSilentHost (conditions : List Condition) (logged : List Logged) (h
   pub named : (condition : Condition) → host_of (slice_index_or conditions place condition) ≡ host
 
 -- What is answered at the end of the log.
-abbrev pub AnswersLast : List Condition → List Logged → Result Answer DetectFault → Type 0
+abbrev pub AnswersLast : List Condition → List Logged → Result TraceAnswer DetectFault → Type 0
 AnswersLast conditions logged (Ok answer) = IsLastAnswer conditions logged answer.text.items answer.status
 AnswersLast conditions logged (Err (fault.NoHost host)) = HasSilentHost conditions logged (string_bytes host)
-AnswersLast conditions logged (Err fault.NoMemory) = Unit {0}
+AnswersLast conditions logged (Err fault.Memory) = Unit {0}
 AnswersLast conditions logged (Err _) = ⊥
 
 -- The answer to an input of which this is left. Either the events of its first lines have an earliest moment that stays
@@ -70,14 +70,14 @@ pub record HasNoHost (form : Form) (conditions : List Condition) (input left : O
   pub silent : HasSilentHost conditions logged host
 
 -- What detecting answers, by what is left of the input.
-abbrev pub Answers : Form → List Condition → Option (List ℕ) → Option (List ℕ) → Result Answer DetectFault → Type 0
+abbrev pub Answers : Form → List Condition → Option (List ℕ) → Option (List ℕ) → Result TraceAnswer DetectFault → Type 0
 Answers form conditions input left (Ok answer) = IsAnswer form conditions input left answer.text.items answer.status
 Answers form conditions input left (Err (fault.Log what)) = HasFault form input what
 Answers form conditions input left (Err (fault.NoHost host)) = HasNoHost form conditions input left (string_bytes host)
 Answers form conditions input left (Err fault.Read) = Unit {0}
-Answers form conditions input left (Err fault.NoMemory) = Unit {0}
+Answers form conditions input left (Err fault.Memory) = Unit {0}
 
 -- What detecting answers. Some bytes of the input were read ahead, and are left too.
-abbrev pub Detects : Form → List Condition → Option (List ℕ) → Option (List ℕ) → Result Answer DetectFault → Type 0
+abbrev pub Detects : Form → List Condition → Option (List ℕ) → Option (List ℕ) → Result TraceAnswer DetectFault → Type 0
 Detects form conditions input input_after result =
     (ahead : List ℕ) × Answers form conditions input (prepend_known ahead input_after) result

@@ -5,7 +5,7 @@ use Rattle.std.specs.Str.{bytes_eq}
 use Rattle.trace_log.specs.Log.{Logged}
 use Rattle.trace_moment.specs.declared.watched.Lasting.{Lasting}
 use Rattle.trace_moment.specs.declared.watched.Lasting.TheVariants as lasting
-use Rattle.trace_moment.specs.Moment.{Watch, Taken}
+use Rattle.trace_moment.specs.Moment.{HostWatch, Taken}
 use Rattle.trace_condition.specs.declared.condition.Condition.{Condition}
 use Rattle.trace_condition.specs.declared.rule.Rule.{Rule}
 use Rattle.trace_condition.specs.declared.rule.Rule.TheVariants.{At}
@@ -18,10 +18,10 @@ lasting_of (At expression) = lasting.At
 lasting_of rule = lasting.While
 
 -- The hosts that conditions watch.
-abbrev pub watch_of : Condition → Watch
+abbrev pub watch_of : Condition → HostWatch
 watch_of condition = record { host = host_of condition; lasting = lasting_of condition.rule }
 
-abbrev pub watches : List Condition → List Watch
+abbrev pub watches : List Condition → List HostWatch
 watches conditions = map watch_of conditions
 
 -- The events of a host, and their texts.

@@ -9,7 +9,7 @@ ghost use Rattle.trace_detect.specs.Texts.{found_text, none_text};
 ghost use Rattle.trace_detect.specs.Watcher.{AreJudges, IsWatching};
 ghost use Rattle.trace_detect.specs.Watching.{watches};
 
-use crate::answer::Answer;
+use crate::answer::TraceAnswer;
 use crate::fault::DetectFault;
 use crate::judged::Judged;
 use crate::listener::Listener;
@@ -35,7 +35,7 @@ pub fn detect<I: Read, L: Listener>(
     conditions: &[Condition],
     input: &mut I,
     listener: &mut L,
-) -> Result<Answer, DetectFault>
+) -> Result<TraceAnswer, DetectFault>
     requires { HaveHosts conditions.now }
     ensures { Detects form conditions.now (I.remaining input.old) (I.remaining input.new) result }
 {
@@ -50,7 +50,7 @@ fn watch_events<I: Read, L: Listener>(
     watcher: &mut Watcher<'_>,
     input: &mut I,
     listener: &mut L,
-) -> Result<Answer, DetectFault>
+) -> Result<TraceAnswer, DetectFault>
     requires { IsWatching watcher.old.conditions.now [] watcher.old }
     ensures { Detects form watcher.old.conditions.now (I.remaining input.old) (I.remaining input.new) result }
 {
@@ -65,7 +65,7 @@ fn watch_on<I: Read, L: Listener>(
     watcher: &mut Watcher<'_>,
     input: &mut I,
     listener: &mut L,
-) -> Result<Answer, DetectFault>
+) -> Result<TraceAnswer, DetectFault>
     requires watching { IsWatching watcher.old.conditions.now [] watcher.old }
     requires read { HasReadEvents events.old.log.form (I.remaining input.old)
         (left events.old.lines (I.remaining input.old)) [] events.old.log }
@@ -85,21 +85,21 @@ fn watch_on<I: Read, L: Listener>(
 }
 
 /// The answer where the moment is known.
-fn found_answer(alloc: Global, watcher: &Watcher<'_>) -> Result<Answer, AllocError>
+fn found_answer(alloc: Global, watcher: &Watcher<'_>) -> Result<TraceAnswer, AllocError>
     requires known { is_known watcher.now.search ≡ true }
     requires watched { watched_by watcher.now.search ≡ watches watcher.now.conditions.now }
     ensures text { IfOk result (λ answer. answer.text.items
         ≡ found_text watcher.now.conditions.now (moment_of watcher.now.search)) }
     ensures status { IfOk result (λ answer. answer.status ≡ 0) }
 {
-    Ok(Answer {
+    Ok(TraceAnswer {
         text: found_text(alloc, watcher.conditions, &watcher.search)?,
         status: FOUND,
     })
 }
 
 /// The answer at the end of the log.
-fn last_answer(alloc: Global, watcher: &mut Watcher<'_>) -> Result<Answer, DetectFault>
+fn last_answer(alloc: Global, watcher: &mut Watcher<'_>) -> Result<TraceAnswer, DetectFault>
     requires as_many { length watcher.old.judges.items ≡ length watcher.old.conditions.now }
     requires watched { watched_by watcher.old.search ≡ watches watcher.old.conditions.now }
     ensures { (conditions : _) (logged : _) → IsWatching conditions logged watcher.old →
@@ -116,13 +116,13 @@ fn last_answer(alloc: Global, watcher: &mut Watcher<'_>) -> Result<Answer, Detec
 }
 
 /// The answer where there is no moment.
-fn none_answer(alloc: Global, watcher: &Watcher<'_>) -> Result<Answer, AllocError>
+fn none_answer(alloc: Global, watcher: &Watcher<'_>) -> Result<TraceAnswer, AllocError>
     requires { length watcher.now.judges.items ≡ length watcher.now.conditions.now }
     ensures text { (logged : _) → AreJudges watcher.now.conditions.now logged watcher.now.judges.items →
         IfOk result (λ answer. answer.text.items ≡ none_text watcher.now.conditions.now logged) }
     ensures status { IfOk result (λ answer. answer.status ≡ 1) }
 {
-    Ok(Answer {
+    Ok(TraceAnswer {
         text: none_text(alloc, watcher.conditions, &watcher.judges)?,
         status: NONE,
     })

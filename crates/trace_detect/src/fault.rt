@@ -1,5 +1,5 @@
 ghost use Rattle.std.specs.Prelude.{◌≡◌};
-ghost use Rattle.trace_detect.specs.declared.fault.DetectFault.TheVariants.{NoMemory};
+ghost use Rattle.trace_detect.specs.declared.fault.DetectFault.TheVariants.{Memory};
 ghost use Rattle.trace_detect.specs.Faults.{fault_of_events};
 
 use std::alloc::AllocError;
@@ -20,14 +20,14 @@ pub enum DetectFault {
     Read,
     /// Memory ran out.
     #[error("memory")]
-    NoMemory,
+    Memory,
 }
 
 impl From<AllocError> for DetectFault {
-    ghost from_gives = { λ _ given. given ≡ NoMemory };
+    ghost from_gives = { λ _ given. given ≡ Memory };
 
     fn from(_error: AllocError) -> DetectFault {
-        DetectFault::NoMemory
+        DetectFault::Memory
     }
 }
 
@@ -38,7 +38,7 @@ impl From<EventFault> for DetectFault {
         match fault {
             EventFault::Log(fault) => DetectFault::Log(fault),
             EventFault::Read => DetectFault::Read,
-            EventFault::NoMemory => DetectFault::NoMemory,
+            EventFault::Memory => DetectFault::Memory,
         }
     }
 }

@@ -5,7 +5,7 @@ ghost use Rattle.trace_condition.specs.Holding.{holds_at_last};
 ghost use Rattle.trace_condition.specs.Judging.{HasJudged};
 ghost use Rattle.trace_detect.specs.Watcher.{JudgesNext, AreNew, HasNewJudge, HasRoomAt, JudgesOneAt};
 
-use crate::tally::Tally;
+use crate::tally::HostTally;
 use std::alloc::{AllocError, Global};
 use trace_condition::{Condition, Judge};
 
@@ -13,7 +13,7 @@ use trace_condition::{Condition, Judge};
 #[derive(Drop)]
 pub(crate) struct Judged<'c> {
     pub judge: Judge<'c>,
-    pub tally: Tally,
+    pub tally: HostTally,
 }
 
 impl Judged<'_> {
@@ -51,7 +51,7 @@ fn add_judge<'c>(
     ensures { OnOk result (HasNewJudge condition.now judges.old.items judges.new.items) }
 {
     let judge = condition.judge(alloc)?;
-    let tally = Tally::zero();
+    let tally = HostTally::zero();
     judges.push(Judged { judge, tally })?;
     Ok(())
 }

@@ -10,7 +10,7 @@ mod tally;
 mod text;
 mod watcher;
 
-pub use answer::Answer;
+pub use answer::TraceAnswer;
 pub use detection::detect;
 pub use fault::DetectFault;
 pub use listener::{Listener, WatchedHosts};

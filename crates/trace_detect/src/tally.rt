@@ -3,19 +3,19 @@ ghost use Rattle.std.specs.Prelude.{◌≡◌, ◌+◌, ◌-◌, ◌^◌, ◌<�
 
 /// How many events a host has, and at how many of them its condition holds.
 #[derive(Clone, Copy, Debug)]
-pub(crate) struct Tally {
+pub(crate) struct HostTally {
     pub events: u64,
     pub matched: u64,
     ghost some_of_them: { matched ≤ events },
 }
 
-impl Tally {
+impl HostTally {
     /// Before the first event.
-    pub fn zero() -> Tally
+    pub fn zero() -> HostTally
         ensures events { result.events ≡ 0 }
         ensures matched { result.matched ≡ 0 }
     {
-        Tally {
+        HostTally {
             events: 0,
             matched: 0,
         }

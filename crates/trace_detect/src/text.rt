@@ -8,7 +8,7 @@ ghost use Rattle.trace_detect.specs.Watcher.{AreJudges};
 ghost use Rattle.trace_detect.specs.Watching.{watches};
 
 use crate::judged::Judged;
-use crate::tally::Tally;
+use crate::tally::HostTally;
 use std::alloc::{AllocError, Global};
 use trace_condition::Condition;
 use trace_log::Logged;
@@ -77,7 +77,7 @@ pub(crate) fn none_text(
 }
 
 /// Adds the line of a host and its tally.
-fn push_count(text: &mut String, condition: &Condition, tally: Tally) -> Result<(), AllocError>
+fn push_count(text: &mut String, condition: &Condition, tally: HostTally) -> Result<(), AllocError>
     ensures { OnOk result (string_bytes text.new
         ≡ string_bytes text.old ++ count_line (host_of condition.now) tally.events tally.matched) }
 {

@@ -14,7 +14,7 @@ use crate::listener::WatchedHosts;
 use std::alloc::{AllocError, Global};
 use trace_condition::Condition;
 use trace_log::Logged;
-use trace_moment::{Lasting, Search, Watched};
+use trace_moment::{Lasting, Search, WatchedHost};
 
 /// The search for the earliest moment under conditions, and what is known of their hosts.
 #[derive(Drop)]
@@ -63,14 +63,14 @@ impl<'c> Watcher<'c> {
 }
 
 /// The hosts that conditions watch.
-fn watched_of(alloc: Global, conditions: &[Condition]) -> Result<Vec<Watched>, AllocError>
+fn watched_of(alloc: Global, conditions: &[Condition]) -> Result<Vec<WatchedHost>, AllocError>
     ensures { IfOk result (λ watched. map seen_watch watched.items ≡ watches conditions.now) }
 {
     let mut watched = Vec::with_capacity(alloc, conditions.len())?;
     for condition in conditions {
         let host = condition.host.clone()?;
         let lasting = lasting_of(condition);
-        watched.push(Watched { host, lasting })?;
+        watched.push(WatchedHost { host, lasting })?;
     }
     Ok(watched)
 }

@@ -3,16 +3,16 @@ use Rattle.trace_log.proofs.Words.{◌≡◌, ℕ, ◌+◌, ◌<◌, Bool, true,
 use Rattle.trace_log.proofs.Words.{drop, take, Result, Ok, Err, string_bytes, refl, ap, sym, ◌∙◌, arith, add-one}
 use Rattle.trace_log.proofs.Words.{append_assoc, append-nil, subst, ◌≤◌, map-append, drop_all, Bor, bytes_eq, drop-cons}
 use Rattle.trace_log.proofs.Words.{take-suc, Json, Members, no_members, member, members_view, value_view, LineFault, Has}
-use Rattle.trace_log.proofs.Words.{NoMemory, ◌>>=◌, Fails, Member, member_in, seen_member, seen_clock}
+use Rattle.trace_log.proofs.Words.{Memory, ◌>>=◌, Fails, Member, member_in, seen_member, seen_clock}
 use Rattle.json.specs.declared.value.Value.{Value}
-use Rattle.trace_log.specs.declared.fault.FaultKind.{FaultKind}
+use Rattle.trace_log.specs.declared.fault.LogFaultKind.{LogFaultKind}
 use Rattle.trace_log.specs.declared.event.Member.{Member as OwnMember}
 use Rattle.trace_log.specs.Clock.{clock_of, number_of}
 
-abbrev pub with_front : List Member → Result (List Member) FaultKind → Result (List Member) FaultKind
+abbrev pub with_front : List Member → Result (List Member) LogFaultKind → Result (List Member) LogFaultKind
 with_front front spelled = spelled >>= λ members. Ok (front ++ members)
 
-regroup : (front : List Member) (one : Member) (spelled : Result (List Member) FaultKind)
+regroup : (front : List Member) (one : Member) (spelled : Result (List Member) LogFaultKind)
     → with_front front (spelled >>= λ members. Ok (one ∷ members)) ≡ with_front (front ++ one ∷ []) spelled
 regroup front one (Ok members) = ap (λ (all : List Member). Ok all) (sym (append_assoc front (one ∷ []) members))
 regroup front one (Err fault) = refl
@@ -28,14 +28,14 @@ clock_more front one name value others is = rw is (regroup front one (clock_of o
 pub clock_fails : (fault : LineFault) (front : List Member) (name : List ℕ) (value : Json) (others : Members)
     → Fails fault (member_in name value) → Fails fault (with_front front (clock_of (member name value others)))
 unfolding clock_of
-clock_fails NoMemory front name value others fails = tt
+clock_fails Memory front name value others fails = tt
 clock_fails (Has what) front name value others fails = rw fails refl
 
 pub clock_end : (front : List Member) → with_front front (clock_of no_members) ≡ Ok front
 unfolding clock_of
 clock_end front = ap (λ (all : List Member). Ok all) (append-nil front)
 
-no_front : (spelled : Result (List Member) FaultKind) → with_front [] spelled ≡ spelled
+no_front : (spelled : Result (List Member) LogFaultKind) → with_front [] spelled ≡ spelled
 no_front (Ok members) = refl
 no_front (Err fault) = refl
 
@@ -52,7 +52,7 @@ module _ {A : Type 0} where
 
   -- One member more of the clock in the members from the i-th on.
   pub clock_more_at : (front : List Member) (members : List (Bor (List ℕ) × Value A)) (i : ℕ) (d : Bor (List ℕ)
-      × Value A) (one : Member) (whole : Result (List Member) FaultKind) → i < length members → d ≡ get_or members i d
+      × Value A) (one : Member) (whole : Result (List Member) LogFaultKind) → i < length members → d ≡ get_or members i d
       → with_front front (clock_of (members_view (drop i members))) ≡ whole → member_in d.0.now (value_view d.1)
       ≡ Ok one → with_front (front ++ one ∷ []) (clock_of (members_view (drop (i + 1) members))) ≡ whole
   clock_more_at front members i d one whole within same so_far is =
@@ -61,7 +61,7 @@ module _ {A : Type 0} where
       sym (clock_more front one _ _ _ read) ∙ sym left ∙ so_far
 
   pub clock_fails_at : (fault : LineFault) (front : List Member) (members : List (Bor (List ℕ) × Value A)) (i : ℕ) (d :
-      Bor (List ℕ) × Value A) (whole : Result (List Member) FaultKind) → i < length members → d ≡ get_or members i d
+      Bor (List ℕ) × Value A) (whole : Result (List Member) LogFaultKind) → i < length members → d ≡ get_or members i d
       → with_front front (clock_of (members_view (drop i members))) ≡ whole
       → Fails fault (member_in d.0.now (value_view d.1)) → Fails fault whole
   clock_fails_at fault front members i d whole within same so_far fails =
@@ -71,7 +71,7 @@ module _ {A : Type 0} where
       subst (Fails fault) (sym left ∙ so_far) (clock_fails fault front _ _ _ failed)
 
   pub clock_ends : (front : List Member) (members : List (Bor (List ℕ) × Value A)) (i : ℕ)
-      (whole : Result (List Member) FaultKind) → length members ≤ i
+      (whole : Result (List Member) LogFaultKind) → length members ≤ i
       → with_front front (clock_of (members_view (drop i members))) ≡ whole → whole ≡ Ok front
   clock_ends front members i whole end so_far =
       sym so_far ∙ ap (λ (left : List (Bor (List ℕ) × Value A)). with_front front (clock_of (members_view left)))

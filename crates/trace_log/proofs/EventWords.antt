@@ -6,11 +6,11 @@ pub use Rattle.std.proofs.KnownBytes.{Consumes-trans, Consumes-kept}
 pub use Rattle.std.specs.Io.KnownBytes.{Consumes, IsAtEnd, Keeps}
 pub use Rattle.std.specs.Option.{option_to_list}
 pub use Rattle.std.specs.Prelude.{IfSome, nat_lt, if◌then◌else◌}
-pub use Rattle.wcp_io.specs.Reader.{Gives, IsFirst, Whole, Front, left}
+pub use Rattle.wcp_io.specs.Reader.{Gives, IsFirst, Whole, Prefix, left}
 unfoldable pub use Rattle.wcp_io.specs.Lines.{lines_of}
-pub use Rattle.trace_log.specs.declared.fault.FaultKind.{FaultKind}
+pub use Rattle.trace_log.specs.declared.fault.LogFaultKind.{LogFaultKind}
 pub use Rattle.trace_log.specs.declared.fault.LogFault.{LogFault}
-pub use Rattle.trace_log.specs.declared.fault.FaultKind.TheVariants.{Long, Many}
+pub use Rattle.trace_log.specs.declared.fault.LogFaultKind.TheVariants.{Long, Many}
 pub use Rattle.trace_log.specs.declared.log.Log.{Log}
 pub use Rattle.trace_log.specs.declared.turn.Form.{Form}
 pub use Rattle.trace_log.specs.declared.turn.Form.TheVariants.{Lines, Shiviz, ShivizReversed}

@@ -2,7 +2,7 @@
 use Rattle.trace_log.proofs.EventWords.{◌≡◌, ◌∙◌, ◌++◌, ℕ, List, [], ◌∷◌, Option, Some, None, Result, Ok, Err, refl, sym}
 use Rattle.trace_log.proofs.EventWords.{ap, subst, arith, append_assoc, append-nil, length-append, Consumes-trans}
 use Rattle.trace_log.proofs.EventWords.{Consumes-kept, Consumes, IsAtEnd, Keeps, option_to_list, IfSome, Gives, IsFirst}
-use Rattle.trace_log.proofs.EventWords.{Whole, Front, lines_of, LogFault, Log, Form, OwnLogged, Event, Logged, SoFar, Turn}
+use Rattle.trace_log.proofs.EventWords.{Whole, Prefix, lines_of, LogFault, Log, Form, OwnLogged, Event, Logged, SoFar, Turn}
 use Rattle.trace_log.proofs.EventWords.{after, end_of, next_turn, no_lines, with_event, log_from, HasRead, IsTurn}
 use Rattle.trace_log.proofs.EventWords.{seen_logged, whole_log, events_of, logged_from, FollowsIn, SaysWhole, HasFault}
 use Rattle.trace_log.proofs.EventWords.{HasReadEvents, ReadsEvent}
@@ -13,10 +13,10 @@ use Rattle.std.specs.Io.KnownBytes.{prepend_known}
 use Rattle.trace_log.specs.Judgement.{◌>>=◌}
 use Rattle.std.specs.Result.{IsErr, IsErrAnd}
 use Rattle.std.proofs.lemmas.Result.{err_from_is_err_and}
-use Rattle.wcp_io.specs.declared.line_fault.LineFault.{LineFault}
-use Rattle.wcp_io.specs.declared.line_fault.LineFault.TheVariants as input
-use Rattle.trace_log.specs.declared.fault.ReadFault.{ReadFault}
-use Rattle.trace_log.specs.declared.fault.ReadFault.TheVariants as read
+use Rattle.wcp_io.specs.declared.line_fault.InputFault.{InputFault}
+use Rattle.wcp_io.specs.declared.line_fault.InputFault.TheVariants as input
+use Rattle.trace_log.specs.declared.fault.LogReadFault.{LogReadFault}
+use Rattle.trace_log.specs.declared.fault.LogReadFault.TheVariants as read
 use Rattle.trace_log.specs.State.{ReadsLine}
 use Rattle.trace_log.specs.declared.event_fault.EventFault.{EventFault}
 use Rattle.trace_log.specs.EventFaults.{fault_of_input, fault_of_read}
@@ -27,9 +27,9 @@ use Rattle.trace_log.proofs.LogLines.{log_more, logged_more, log_line, logged_li
 abbrev IsFront : Option (List ℕ) → Option (List ℕ) → List (List ℕ) → Type 0
 IsFront input left lines = IfSome input (λ bytes. IfSome left (λ rest. lines_of bytes ≡ lines ++ lines_of rest))
 
-front_of_none : (input : Option (List ℕ)) → IsFront input input []
-front_of_none None = tt
-front_of_none (Some bytes) = refl
+prefix_of_none : (input : Option (List ℕ)) → IsFront input input []
+prefix_of_none None = tt
+prefix_of_none (Some bytes) = refl
 
 -- No line was read.
 pub begins : (form : Form) (input : Option (List ℕ)) (ahead : List ℕ) (log : Log) → ahead ≡ []
@@ -40,7 +40,7 @@ begins form input ahead log none read = rw (none, prepend_known-nil input) (reco
     lines = [];
     taken = [];
     consumed = Consumes-nil input;
-    first = front_of_none input;
+    first = prefix_of_none input;
     so_far = no_lines;
     said = refl;
     ended = refl;
@@ -54,7 +54,7 @@ begins form input ahead log none read = rw (none, prepend_known-nil input) (reco
 line_is_whole : (form : Form) (so_far : SoFar) (bytes line rest : List ℕ) (turn : Turn)
     → next_turn form so_far line ≡ Ok turn → IsFirst bytes line rest → lines_of bytes ≡ line ∷ lines_of rest
 line_is_whole form so_far bytes line rest turn said (Whole is) = is
-line_is_whole form so_far bytes line rest turn said (Front more later is long parts) =
+line_is_whole form so_far bytes line rest turn said (Prefix more later is long parts) =
     let refused = next_of_long form so_far line (omega arith) in absurd (cc)
 
 front_more : (form : Form) (so_far : SoFar) (input left left' : Option (List ℕ)) (taken taken' : List ℕ)
@@ -128,7 +128,7 @@ fault_of_bytes : (form : Form) (bytes rest rest' : List ℕ) (lines : List (List
 fault_of_bytes form bytes rest rest' lines so_far line fault said refused front (Whole is) =
     ap (whole_log form) (front ∙ ap (λ l. lines ++ l) is)
     ∙ faulty_more form lines (lines_of rest') so_far line fault said refused
-fault_of_bytes form bytes rest rest' lines so_far line fault said refused front (Front more later is long parts) =
+fault_of_bytes form bytes rest rest' lines so_far line fault said refused front (Prefix more later is long parts) =
     let same = sym (next_of_long form so_far line (omega arith)) ∙ refused in
     ap (whole_log form) (front ∙ ap (λ l. lines ++ l) is)
     ∙ faulty_more form lines later so_far (line ++ more) fault said
@@ -226,15 +226,15 @@ hands_on form input left logged answer log given back reads =
     (sym (found.1 ∙ ap Err found.2)) reads
 
 pub line_fault : (form : Form) (input left left' : Option (List ℕ)) (logged : List Logged) (log log' : Log)
-    (line : List ℕ) (fault : ReadFault)
+    (line : List ℕ) (fault : LogReadFault)
     → (before : HasReadEvents form input left logged log) → Gives left left' line
     → ReadsLine form before.says.so_far line (Err fault) log'
     → ReadsEvent form input left' logged (Err (fault_of_read fault)) log'
 line_fault form input left left' logged log log' line (read.Log what) before given reads =
     reads_fault form input left left' logged log line what before given reads.0
-line_fault form input left left' logged log log' line read.NoMemory before given reads = tt
+line_fault form input left left' logged log log' line read.Memory before given reads = tt
 
-pub input_fault : (form : Form) (known left : Option (List ℕ)) (logged : List Logged) (log : Log) (fault : LineFault)
+pub input_fault : (form : Form) (known left : Option (List ℕ)) (logged : List Logged) (log : Log) (fault : InputFault)
     → ReadsEvent form known left logged (Err (fault_of_input fault)) log
 input_fault form known left logged log input.Read = tt
-input_fault form known left logged log input.NoMemory = tt
+input_fault form known left logged log input.Memory = tt

@@ -4,8 +4,8 @@ use Rattle.trace_log.proofs.Words.{arith, Bor, position_or_len, before_first, af
 use Rattle.trace_log.proofs.Words.{false_from_ne_true}
 use Rattle.std.proofs.lemmas.Str.Pattern.{IsSplitOnceResult, split_once_first}
 use Rattle.std.proofs.lemmas.Str.{IsUtf8-from_is_utf8, is_utf8-from_IsUtf8}
-use Rattle.trace_log.specs.declared.fault.FaultKind.TheVariants.{Text}
-use Rattle.trace_log.specs.Event.{cut_in}
+use Rattle.trace_log.specs.declared.fault.LogFaultKind.TheVariants.{Text}
+use Rattle.trace_log.specs.Event.{host_and_rest}
 
 pub utf8_passes : (line : List ℕ) → IsUtf8 line → is_utf8 line ≡ true
 utf8_passes line utf8 = is_utf8-from_IsUtf8 line utf8
@@ -17,8 +17,8 @@ parts_at : (text : List ℕ) (r : Option (Bor (List ℕ) × Bor (List ℕ)))
     → MatchOption r (position_or_len (λ b. eqb b 32) text ≡ length text)
     (λ x. (position_or_len (λ b. eqb b 32) text < length text) × (x.0.now ≡ before_first (λ b. eqb b 32) text)
     × (x.1.now ≡ after_first (λ b. eqb b 32) text))
-    → MatchOption r (cut_in text ≡ Err Text) (λ parts. cut_in text ≡ Ok (parts.0.now, parts.1.now))
-unfolding cut_in
+    → MatchOption r (host_and_rest text ≡ Err Text) (λ parts. host_and_rest text ≡ Ok (parts.0.now, parts.1.now))
+unfolding host_and_rest
 parts_at text None nowhere = grind arith
 parts_at text (Some parts) found =
     let within = found.0 in
@@ -26,7 +26,7 @@ parts_at text (Some parts) found =
     let second = found.2 in
     grind arith
 
--- A text is cut at its first space.
+-- A text is split at its first space.
 pub cut_once : (text : List ℕ) (r : Option (Bor (List ℕ) × Bor (List ℕ))) → IsSplitOnceResult 32 text r
-    → MatchOption r (cut_in text ≡ Err Text) (λ parts. cut_in text ≡ Ok (parts.0.now, parts.1.now))
+    → MatchOption r (host_and_rest text ≡ Err Text) (λ parts. host_and_rest text ≡ Ok (parts.0.now, parts.1.now))
 cut_once text r split = parts_at text r (split_once_first 32 text r split (omega arith))

@@ -1,6 +1,6 @@
 -- What a line says after the lines so far.
 use Rattle.trace_log.proofs.Words.{◌≡◌, ℕ, ◌+◌, ◌<◌, List, Option, Some, None, Ok, Err, option_map, refl, lt-ltb}
-use Rattle.trace_log.proofs.Words.{LineFault, Has, NoMemory, Fails, Event, Stamp, KeepsLast}
+use Rattle.trace_log.proofs.Words.{LineFault, Has, Memory, Fails, Event, Stamp, KeepsLast}
 use Rattle.trace_log.specs.declared.turn.Form.{Form}
 use Rattle.trace_log.specs.declared.turn.Form.TheVariants.{Lines}
 use Rattle.trace_log.specs.declared.turn.Logged.{Logged as OwnLogged}
@@ -17,7 +17,7 @@ event_turn_is form earlier at line event is said = rw (is, said) refl
 
 pub event_turn_fails : (fault : LineFault) (form : Form) (earlier : List Event) (at : ℕ) (line : List ℕ) → form ≡ Lines
     → Fails fault (event_after earlier line) → Fails fault (first_turn form earlier at line)
-event_turn_fails NoMemory form earlier at line is fails = tt
+event_turn_fails Memory form earlier at line is fails = tt
 event_turn_fails (Has what) form earlier at line is fails = rw (is, fails) refl
 
 pub stamp_turn_is : (form : Form) (earlier : List Event) (at before : ℕ) (text line : List ℕ) (stamp : Stamp)
@@ -27,7 +27,7 @@ stamp_turn_is form earlier at before text line stamp said = rw said refl
 
 pub stamp_turn_fails : (fault : LineFault) (form : Form) (earlier : List Event) (at before : ℕ) (text line : List ℕ)
     → Fails fault (stamp_after earlier line) → Fails fault (turn_of form (Some (texted before text)) earlier at line)
-stamp_turn_fails NoMemory form earlier at before text line fails = tt
+stamp_turn_fails Memory form earlier at before text line fails = tt
 stamp_turn_fails (Has what) form earlier at before text line fails = rw fails refl
 
 -- A log that has read a line more.
@@ -56,7 +56,7 @@ pub reads_fault : (fault : LineFault) (form : Form) (so_far : SoFar) (old new : 
     → option_map seen_half new.half ≡ option_map seen_half old.half → KeepsLast new.clocks so_far.events
     → new.form ≡ old.form → new.lines ≡ old.lines
     → ReadsLine form so_far line (Err (fault_at (old.lines + 1) fault)) new
-reads_fault NoMemory form so_far old new line read few fails same_half kept same_form same_lines =
+reads_fault Memory form so_far old new line read few fails same_half kept same_form same_lines =
     record {
       form_is = rw same_form read.form_is;
       lines = rw same_lines read.lines;

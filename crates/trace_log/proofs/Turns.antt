@@ -1,6 +1,6 @@
 -- What a line says after the lines so far: its event's clock follows, and a line that is too long says nothing.
 use Rattle.trace_log.proofs.EventWords.{◌≡◌, ◌+◌, ◌<◌, ℕ, Bool, true, false, cond, List, Option, Some, None, Result, Ok}
-use Rattle.trace_log.proofs.EventWords.{Err, length, refl, subst, IfSome, nat_lt, FaultKind, LogFault, Form, Lines, Shiviz}
+use Rattle.trace_log.proofs.EventWords.{Err, length, refl, subst, IfSome, nat_lt, LogFaultKind, LogFault, Form, Lines, Shiviz}
 use Rattle.trace_log.proofs.EventWords.{ShivizReversed, Event, Stamp, ◌>>=◌, at_line, Member, event_in, stamp_in, text_in}
 use Rattle.trace_log.proofs.EventWords.{most_bytes, whole, if◌then◌else◌, Long, Many, Half, stamped, texted, SoFar, Turn}
 use Rattle.trace_log.proofs.EventWords.{event_after, stamp_after, turn_of, next_turn, with_event, most_lines, last_clock}
@@ -15,7 +15,7 @@ bind_gives P (Err e) f y said on = absurd (cc)
 same_ok : {A E : Type 0} (x y : A) → ◌≡◌ {A = Result A E} (Ok x) (Ok y) → x ≡ y
 same_ok x y same = cc
 
-at_line_ok : {A : Type 0} (line : ℕ) (r : Result A FaultKind) (y : A) → at_line line r ≡ Ok y → r ≡ Ok y
+at_line_ok : {A : Type 0} (line : ℕ) (r : Result A LogFaultKind) (y : A) → at_line line r ≡ Ok y → r ≡ Ok y
 at_line_ok line (Ok x) y said = cc
 at_line_ok line (Err e) y said = cc
 
@@ -105,7 +105,7 @@ turn_of_long ShivizReversed None earlier at line long = rw (lt-leb (length line)
 turn_of_long form (Some (stamped stamp)) earlier at line long = rw (lt-leb (length line) most_bytes long) refl
 turn_of_long form (Some (texted first text)) earlier at line long = rw (lt-leb (length line) most_bytes long) refl
 
-long_judged : (few : Bool) (lines : ℕ) (r : Result Turn FaultKind) → r ≡ Err Long
+long_judged : (few : Bool) (lines : ℕ) (r : Result Turn LogFaultKind) → r ≡ Err Long
     → cond few (at_line (lines + 1) r) (Err (record { line = lines; kind = Many }))
     ≡ Err (cond few (record { line = lines + 1; kind = Long }) (record { line = lines; kind = Many }))
 long_judged true lines r is = rw is refl

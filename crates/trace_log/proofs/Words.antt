@@ -23,4 +23,4 @@ pub use Rattle.trace_log.specs.Kept.{KeepsLast, number_kept}
 pub use Rattle.trace_log.specs.Order.{falls}
 pub use Rattle.trace_log.specs.Views.{seen_member, seen_clock, seen_event, seen_stamp}
 pub use Rattle.trace_log.specs.declared.fault.LineFault.{LineFault}
-pub use Rattle.trace_log.specs.declared.fault.LineFault.TheVariants.{Has, NoMemory}
+pub use Rattle.trace_log.specs.declared.fault.LineFault.TheVariants.{Has, Memory}

@@ -9,8 +9,8 @@ use Rattle.json.specs.Json.{Json, null, boolean, number, string, array, object, 
 use Rattle.json.specs.Json.{no_members, member}
 use Rattle.json.specs.Find.{as_number}
 use Rattle.json.specs.Strict.{keys}
-use Rattle.trace_log.specs.declared.fault.FaultKind.{FaultKind}
-use Rattle.trace_log.specs.declared.fault.FaultKind.TheVariants as kind
+use Rattle.trace_log.specs.declared.fault.LogFaultKind.{LogFaultKind}
+use Rattle.trace_log.specs.declared.fault.LogFaultKind.TheVariants as kind
 use Rattle.trace_log.specs.Judgement.{◌>>=◌}
 
 -- The greatest number of a clock.
@@ -33,13 +33,13 @@ abbrev pub number_in : Json → Option ℕ
 number_in value = option_and_then number_spelled (as_number value)
 
 -- The member of a clock that a member of an object is, if its value is a whole number.
-abbrev pub member_in : List ℕ → Json → Result Member FaultKind
+abbrev pub member_in : List ℕ → Json → Result Member LogFaultKind
 member_in name value = do
   n ← ok_or (number_in value) kind.Clock
   Ok (record { name = name; number = n })
 
 -- The clock that the members of an object are, in their order.
-unfoldable pub clock_of : Members → Result (List Member) FaultKind
+unfoldable pub clock_of : Members → Result (List Member) LogFaultKind
 clock_of no_members = Ok []
 clock_of (member name value others) = do
   one ← member_in name value

@@ -6,8 +6,8 @@ use Rattle.std.specs.Option.{ok_or}
 use Rattle.std.specs.Str.{is_utf8}
 use Rattle.json.specs.Json.{Json, document}
 use Rattle.json.specs.Find.{get, as_str, as_object}
-use Rattle.trace_log.specs.declared.fault.FaultKind.{FaultKind}
-use Rattle.trace_log.specs.declared.fault.FaultKind.TheVariants as kind
+use Rattle.trace_log.specs.declared.fault.LogFaultKind.{LogFaultKind}
+use Rattle.trace_log.specs.declared.fault.LogFaultKind.TheVariants as kind
 use Rattle.trace_log.specs.Judgement.{◌>>=◌, ask}
 use Rattle.trace_log.specs.Clock.{Member, clock_of, number_of, has_distinct_names}
 
@@ -26,7 +26,7 @@ pub record Event : Type 0 where
   pub text : List ℕ
 
 -- The text that a line is: at most 65,536 bytes, in UTF-8.
-abbrev pub text_in : List ℕ → Result (List ℕ) FaultKind
+abbrev pub text_in : List ℕ → Result (List ℕ) LogFaultKind
 text_in line = do
   _ ← ask (nat_le (length line) most_bytes) kind.Long
   _ ← ask (is_utf8 line) kind.Text
@@ -37,18 +37,18 @@ abbrev pub text_at : List ℕ → Json → Option (List ℕ)
 text_at name value = option_and_then as_str (get name value)
 
 -- The clock that a value is, if there is one.
-abbrev pub clock_in : Option Json → Result (List Member) FaultKind
+abbrev pub clock_in : Option Json → Result (List Member) LogFaultKind
 clock_in value = do
   members ← ok_or (option_and_then as_object value) kind.Clock
   clock_of members
 
 -- The host's own number is in the clock, and isn't 0.
-abbrev pub own_in : List ℕ → List Member → Result (Unit {0}) FaultKind
+abbrev pub own_in : List ℕ → List Member → Result (Unit {0}) LogFaultKind
 own_in host clock = ask (nat_lt 0 (number_of host clock)) kind.Own
 
 -- The event in one JSON object, in which no name stands twice: its members `host` and `event` are texts, and its member
 -- `clock` is a clock with the host's own number.
-unfoldable pub event_in_json : Bool → Json → Result Event FaultKind
+unfoldable pub event_in_json : Bool → Json → Result Event LogFaultKind
 event_in_json distinct value = do
   host ← ok_or (text_at (codes "host") value) kind.Text
   text ← ok_or (text_at (codes "event") value) kind.Text
@@ -58,7 +58,7 @@ event_in_json distinct value = do
   Ok (record { host = host; clock = clock; text = text })
 
 -- The event that a line spells.
-unfoldable pub event_in : List ℕ → Result Event FaultKind
+unfoldable pub event_in : List ℕ → Result Event LogFaultKind
 event_in line = do
   text ← text_in line
   value ← ok_or (document text) kind.Text
@@ -70,23 +70,23 @@ pub record Stamp : Type 0 where
   pub clock : List Member
 
 -- What stands before the first space of a text, and what stands after it.
-unfoldable pub cut_in : List ℕ → Result (List ℕ × List ℕ) FaultKind
-cut_in text = do
+unfoldable pub host_and_rest : List ℕ → Result (List ℕ × List ℕ) LogFaultKind
+host_and_rest text = do
   _ ← ask (nat_lt (position_or_len (λ byte. byte == space) text) (length text)) kind.Text
   Ok (before_first (λ byte. byte == space) text, after_first (λ byte. byte == space) text)
 
 -- The clock that a text is: one JSON object, in which no name stands twice.
-unfoldable pub clock_in_text : List ℕ → Result (List Member) FaultKind
+unfoldable pub clock_in_text : List ℕ → Result (List Member) LogFaultKind
 clock_in_text text = do
   value ← ok_or (document text) kind.Clock
   _ ← ask (has_distinct_names value) kind.Clock
   clock_in (Some value)
 
 -- The host and the clock that a line spells, with a space between them.
-unfoldable pub stamp_in : List ℕ → Result Stamp FaultKind
+unfoldable pub stamp_in : List ℕ → Result Stamp LogFaultKind
 stamp_in line = do
   text ← text_in line
-  parts ← cut_in text
+  parts ← host_and_rest text
   clock ← clock_in_text parts.1
   _ ← own_in parts.0 clock
   Ok (record { host = parts.0; clock = clock })

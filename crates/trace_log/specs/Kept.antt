@@ -6,7 +6,7 @@ use Rattle.std.specs.Str.{bytes_eq}
 use Rattle.std.specs.HashMap.{HashMap, get_by, get_by_text}
 use Rattle.std.specs.declared.vec.Vec.{Vec}
 use Rattle.trace_log.specs.declared.event.Member.{Member as OwnMember}
-use Rattle.trace_log.specs.declared.fault.FaultKind.{FaultKind}
+use Rattle.trace_log.specs.declared.fault.LogFaultKind.{LogFaultKind}
 use Rattle.trace_log.specs.declared.fault.LineFault.{LineFault}
 use Rattle.trace_log.specs.Judgement.{Fails}
 use Rattle.trace_log.specs.Clock.{Member}
@@ -25,7 +25,7 @@ module _ {Y Z S : Type 0} where
 
   -- What a function returned is what was judged, and the clock of its event is kept; where it has a fault or memory ran
   -- out, those of the events before.
-  abbrev pub KeepsNext : {X U : Type 0} → (X → U) → (U → Event) → List Event → Result U FaultKind
+  abbrev pub KeepsNext : {X U : Type 0} → (X → U) → (U → Event) → List Event → Result U LogFaultKind
       → Result X LineFault → HashMap (String Y) (Vec OwnMember Z) S → Type 0
   KeepsNext view event earlier judged (Ok found) clocks =
       (judged ≡ Ok (view found)) × KeepsLast clocks (earlier ++ event (view found) ∷ [])

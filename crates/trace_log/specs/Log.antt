@@ -1,8 +1,8 @@
 -- What a log says, line after line: the events, or the first fault.
 use Rattle.std.specs.Prelude.{ℕ, ◌+◌, ◌-◌, ◌^◌, List, [], ◌∷◌, ◌++◌, nat_lt, if◌then◌else◌, Option, Some, None, is_none}
 use Rattle.std.specs.Prelude.{Result, Ok, Err}
-use Rattle.trace_log.specs.declared.fault.FaultKind.{FaultKind}
-use Rattle.trace_log.specs.declared.fault.FaultKind.TheVariants as kind
+use Rattle.trace_log.specs.declared.fault.LogFaultKind.{LogFaultKind}
+use Rattle.trace_log.specs.declared.fault.LogFaultKind.TheVariants as kind
 use Rattle.trace_log.specs.declared.fault.LogFault.{LogFault}
 use Rattle.trace_log.specs.declared.turn.Form.{Form}
 use Rattle.trace_log.specs.declared.turn.Form.TheVariants.{Lines, Shiviz, ShivizReversed}
@@ -15,14 +15,14 @@ abbrev pub most_lines : ℕ
 most_lines = 2 ^ 64 - 1
 
 -- The event of a line in one JSON object, after the events so far.
-abbrev pub event_after : List Event → List ℕ → Result Event FaultKind
+abbrev pub event_after : List Event → List ℕ → Result Event LogFaultKind
 event_after earlier line = do
   event ← event_in line
   _ ← follows event.host (last_clock event.host earlier) event.clock
   Ok event
 
 -- The host and the clock of a line, after the events so far.
-abbrev pub stamp_after : List Event → List ℕ → Result Stamp FaultKind
+abbrev pub stamp_after : List Event → List ℕ → Result Stamp LogFaultKind
 stamp_after earlier line = do
   stamp ← stamp_in line
   _ ← follows stamp.host (last_clock stamp.host earlier) stamp.clock
@@ -54,7 +54,7 @@ abbrev pub whole : Stamp → List ℕ → Event
 whole stamp text = record { host = stamp.host; clock = stamp.clock; text = text }
 
 -- What the line of this number says after these events, where no half waits.
-abbrev pub first_turn : Form → List Event → ℕ → List ℕ → Result Turn FaultKind
+abbrev pub first_turn : Form → List Event → ℕ → List ℕ → Result Turn LogFaultKind
 first_turn Lines earlier at line = do
   event ← event_after earlier line
   Ok (event_turn at event)
@@ -66,7 +66,7 @@ first_turn ShivizReversed earlier at line = do
   Ok (half_turn (texted at text))
 
 -- What it says where a half waits for it, or none.
-abbrev pub turn_of : Form → Option Half → List Event → ℕ → List ℕ → Result Turn FaultKind
+abbrev pub turn_of : Form → Option Half → List Event → ℕ → List ℕ → Result Turn LogFaultKind
 turn_of form None earlier at line = first_turn form earlier at line
 turn_of form (Some (stamped stamp)) earlier at line = do
   text ← text_in line

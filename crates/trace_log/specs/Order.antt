@@ -2,8 +2,8 @@
 use Rattle.std.specs.Prelude.{ℕ, Bool, not, List, [], ◌∷◌, nat_lt, Result, if◌then◌else◌}
 use Rattle.std.specs.List.{list_any}
 use Rattle.std.specs.Str.{bytes_eq}
-use Rattle.trace_log.specs.declared.fault.FaultKind.{FaultKind}
-use Rattle.trace_log.specs.declared.fault.FaultKind.TheVariants as kind
+use Rattle.trace_log.specs.declared.fault.LogFaultKind.{LogFaultKind}
+use Rattle.trace_log.specs.declared.fault.LogFaultKind.TheVariants as kind
 use Rattle.trace_log.specs.Judgement.{◌>>=◌, ask}
 use Rattle.trace_log.specs.Clock.{Member, number_of}
 use Rattle.trace_log.specs.Event.{Event}
@@ -23,7 +23,7 @@ abbrev pub falls : List Member → List Member → Bool
 falls earlier later = list_any (λ one. nat_lt (number_of one.name later) one.number) earlier
 
 -- The host's own number rises, and no other falls.
-abbrev pub follows : List ℕ → List Member → List Member → Result (Unit {0}) FaultKind
+abbrev pub follows : List ℕ → List Member → List Member → Result (Unit {0}) LogFaultKind
 follows host earlier later = do
   _ ← ask (nat_lt (number_of host earlier) (number_of host later)) kind.Order
   ask (not (falls earlier later)) kind.Falls

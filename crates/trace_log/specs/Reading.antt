@@ -64,4 +64,4 @@ ReadsEvent form input left logged (Ok (Some one)) log =
 ReadsEvent form input left logged (Ok None) log = SaysWhole form input left logged
 ReadsEvent form input left logged (Err (fault.Log what)) log = HasFault form input what
 ReadsEvent form input left logged (Err fault.Read) log = Unit {0}
-ReadsEvent form input left logged (Err fault.NoMemory) log = Unit {0}
+ReadsEvent form input left logged (Err fault.Memory) log = Unit {0}

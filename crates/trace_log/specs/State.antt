@@ -1,9 +1,9 @@
 -- What a log that is being read keeps of the lines so far, and what reading one line more answers.
 use Rattle.std.specs.Prelude.{◌≡◌, ℕ, ◌-◌, List, Option, Result, Ok, Err, option_map}
 use Rattle.trace_log.specs.declared.fault.LineFault.{LineFault}
-use Rattle.trace_log.specs.declared.fault.LineFault.TheVariants.{Has, NoMemory}
-use Rattle.trace_log.specs.declared.fault.ReadFault.{ReadFault}
-use Rattle.trace_log.specs.declared.fault.ReadFault.TheVariants as fault
+use Rattle.trace_log.specs.declared.fault.LineFault.TheVariants.{Has, Memory}
+use Rattle.trace_log.specs.declared.fault.LogReadFault.{LogReadFault}
+use Rattle.trace_log.specs.declared.fault.LogReadFault.TheVariants as fault
 use Rattle.trace_log.specs.declared.turn.Form.{Form}
 use Rattle.trace_log.specs.declared.turn.Logged.{Logged as OwnLogged}
 use Rattle.trace_log.specs.declared.log.Log.{Log}
@@ -31,13 +31,13 @@ pub record IsTurn (form : Form) (so_far : SoFar) (line : List ℕ) (logged : Opt
 
 -- What reading one line more answers: what it says, or its fault, unless memory ran out. After either of these the log
 -- is as before.
-abbrev pub ReadsLine : Form → SoFar → List ℕ → Result (Option OwnLogged) ReadFault → Log → Type 0
+abbrev pub ReadsLine : Form → SoFar → List ℕ → Result (Option OwnLogged) LogReadFault → Log → Type 0
 ReadsLine form so_far line (Ok logged) log = IsTurn form so_far line logged log
 ReadsLine form so_far line (Err (fault.Log what)) log =
     (next_turn form so_far line ≡ Err what) × HasRead form so_far log
-ReadsLine form so_far line (Err fault.NoMemory) log = HasRead form so_far log
+ReadsLine form so_far line (Err fault.Memory) log = HasRead form so_far log
 
 -- The fault of a line, with the line's number.
-abbrev pub fault_at : ℕ → LineFault → ReadFault
+abbrev pub fault_at : ℕ → LineFault → LogReadFault
 fault_at line (Has kind) = fault.Log (record { line = line; kind = kind })
-fault_at line NoMemory = fault.NoMemory
+fault_at line Memory = fault.Memory

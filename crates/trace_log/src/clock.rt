@@ -6,7 +6,7 @@ ghost use Rattle.trace_log.specs.Event.{clock_in};
 ghost use Rattle.trace_log.specs.Views.{seen_member, seen_clock};
 
 use crate::event::Member;
-use crate::fault::{FaultKind, LineFault};
+use crate::fault::{LineFault, LogFaultKind};
 use crate::number::number;
 use json::Value;
 use std::alloc::Global;
@@ -18,7 +18,7 @@ pub(crate) fn clock_in(alloc: Global, value: Option<&Value<'_>>) -> Result<Vec<M
 {
     match value {
         Some(Value::Object(members)) => clock_of(alloc, members),
-        _ => Err(LineFault::Has(FaultKind::Clock)),
+        _ => Err(LineFault::Has(LogFaultKind::Clock)),
     }
 }
 
@@ -39,7 +39,7 @@ fn clock_of(alloc: Global, members: &[(&str, Value<'_>)]) -> Result<Vec<Member>,
 fn member_in(alloc: Global, name: &str, value: &Value<'_>) -> Result<Member, LineFault>
     ensures { Gives seen_member result (member_in name.now (value_view value.now)) }
 {
-    let number = number_in(value).ok_or(FaultKind::Clock)?;
+    let number = number_in(value).ok_or(LogFaultKind::Clock)?;
     let name = String::from_str(alloc, name)?;
     Ok(Member { name, number })
 }

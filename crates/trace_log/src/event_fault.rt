@@ -2,10 +2,10 @@ ghost use Rattle.std.specs.Prelude.{◌≡◌};
 ghost use Rattle.trace_log.specs.declared.event_fault.EventFault.TheVariants as fault;
 ghost use Rattle.trace_log.specs.EventFaults.{fault_of_input, fault_of_read};
 
-use crate::fault::{LogFault, ReadFault};
+use crate::fault::{LogFault, LogReadFault};
 use std::alloc::AllocError;
 use thiserror::Error;
-use wcp_io::LineFault;
+use wcp_io::InputFault;
 
 /// Why no event was read.
 #[derive(Clone, Copy, Debug, PartialEq, Eq, Error)]
@@ -18,14 +18,14 @@ pub enum EventFault {
     Read,
     /// Memory ran out.
     #[error("memory")]
-    NoMemory,
+    Memory,
 }
 
 impl From<AllocError> for EventFault {
-    ghost from_gives = { λ _ given. given ≡ fault.NoMemory };
+    ghost from_gives = { λ _ given. given ≡ fault.Memory };
 
     fn from(_error: AllocError) -> EventFault {
-        EventFault::NoMemory
+        EventFault::Memory
     }
 }
 
@@ -37,24 +37,24 @@ impl From<LogFault> for EventFault {
     }
 }
 
-impl From<LineFault> for EventFault {
+impl From<InputFault> for EventFault {
     ghost from_gives = { λ fault given. given ≡ fault_of_input fault };
 
-    fn from(fault: LineFault) -> EventFault {
+    fn from(fault: InputFault) -> EventFault {
         match fault {
-            LineFault::Read => EventFault::Read,
-            LineFault::NoMemory => EventFault::NoMemory,
+            InputFault::Read => EventFault::Read,
+            InputFault::Memory => EventFault::Memory,
         }
     }
 }
 
-impl From<ReadFault> for EventFault {
+impl From<LogReadFault> for EventFault {
     ghost from_gives = { λ fault given. given ≡ fault_of_read fault };
 
-    fn from(fault: ReadFault) -> EventFault {
+    fn from(fault: LogReadFault) -> EventFault {
         match fault {
-            ReadFault::Log(fault) => EventFault::Log(fault),
-            ReadFault::NoMemory => EventFault::NoMemory,
+            LogReadFault::Log(fault) => EventFault::Log(fault),
+            LogReadFault::Memory => EventFault::Memory,
         }
     }
 }

@@ -1,13 +1,13 @@
 ghost use Rattle.std.specs.Prelude.{◌≡◌};
 ghost use Rattle.trace_log.specs.Judgement.{ask};
-ghost use Rattle.trace_log.specs.declared.fault.LineFault.TheVariants.{Has, NoMemory};
+ghost use Rattle.trace_log.specs.declared.fault.LineFault.TheVariants.{Has, Memory};
 
 use std::alloc::{AllocError, AllocFailed};
 use thiserror::Error;
 
 /// What is wrong with a line of a log.
 #[derive(Clone, Copy, Debug, PartialEq, Eq, Error)]
-pub enum FaultKind {
+pub enum LogFaultKind {
     /// The line has more than 65,536 bytes.
     #[error("long")]
     Long,
@@ -36,55 +36,55 @@ pub enum FaultKind {
 #[error("line {line}: {kind}")]
 pub struct LogFault {
     pub line: u64,
-    pub kind: FaultKind,
+    pub kind: LogFaultKind,
 }
 
 /// Why a line of a log wasn't read.
 #[derive(Clone, Copy, Debug, PartialEq, Eq, Error)]
-pub enum ReadFault {
+pub enum LogReadFault {
     /// The log has this fault.
     #[error(transparent)]
     Log(LogFault),
     /// Memory ran out.
     #[error("memory")]
-    NoMemory,
+    Memory,
 }
 
 /// Why a line wasn't read.
 #[derive(Clone, Copy, Debug, PartialEq, Eq)]
 pub(crate) enum LineFault {
     /// It has this fault.
-    Has(FaultKind),
+    Has(LogFaultKind),
     /// Memory ran out.
-    NoMemory,
+    Memory,
 }
 
-impl From<FaultKind> for LineFault {
+impl From<LogFaultKind> for LineFault {
     ghost from_gives = { λ kind given. given ≡ Has kind };
 
-    fn from(kind: FaultKind) -> LineFault {
+    fn from(kind: LogFaultKind) -> LineFault {
         LineFault::Has(kind)
     }
 }
 
 impl From<AllocError> for LineFault {
-    ghost from_gives = { λ _ given. given ≡ NoMemory };
+    ghost from_gives = { λ _ given. given ≡ Memory };
 
     fn from(_error: AllocError) -> LineFault {
-        LineFault::NoMemory
+        LineFault::Memory
     }
 }
 
 impl<T: Drop> From<AllocFailed<T>> for LineFault {
-    ghost from_gives = { λ _ given. given ≡ NoMemory };
+    ghost from_gives = { λ _ given. given ≡ Memory };
 
     fn from(_error: AllocFailed<T>) -> LineFault {
-        LineFault::NoMemory
+        LineFault::Memory
     }
 }
 
 /// A question about a line, and the fault where its answer is no.
-pub(crate) fn ask(holds: bool, kind: FaultKind) -> Result<(), FaultKind>
+pub(crate) fn ask(holds: bool, kind: LogFaultKind) -> Result<(), LogFaultKind>
     ensures { result ≡ ask holds kind }
 {
     if holds { Ok(()) } else { Err(kind) }

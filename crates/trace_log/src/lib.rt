@@ -30,7 +30,7 @@ mod turn;
 pub use event::{Event, Member, number_of};
 pub use event_fault::EventFault;
 pub use event_reader::EventReader;
-pub use fault::{FaultKind, LogFault, ReadFault};
+pub use fault::{LogFault, LogFaultKind, LogReadFault};
 pub use line::MAX_LINE;
 pub use log::Log;
 pub use turn::{Form, Logged};

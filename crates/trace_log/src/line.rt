@@ -1,14 +1,14 @@
 ghost use Rattle.std.specs.Prelude.{◌≡◌, ◌≢◌, Ok, Err, option_map, MatchResult};
 ghost use Rattle.json.specs.Value.{value_view};
-ghost use Rattle.trace_log.specs.declared.fault.FaultKind.TheVariants.{Text};
-ghost use Rattle.trace_log.specs.declared.fault.LineFault.TheVariants.{Has, NoMemory};
+ghost use Rattle.trace_log.specs.declared.fault.LogFaultKind.TheVariants.{Text};
+ghost use Rattle.trace_log.specs.declared.fault.LineFault.TheVariants.{Has, Memory};
 ghost use Rattle.trace_log.specs.Judgement.{Gives};
 ghost use Rattle.trace_log.specs.Event.{text_in, text_at, event_in_json, event_in};
 ghost use Rattle.trace_log.specs.Views.{seen_event};
 
 use crate::clock::clock_in;
 use crate::event::{Event, number_of};
-use crate::fault::{FaultKind, LineFault, ask};
+use crate::fault::{LineFault, LogFaultKind, ask};
 use json::{Error, Scratch, Value};
 use std::alloc::Global;
 
@@ -40,13 +40,13 @@ pub(crate) fn event_in(
 
 /// The text that a line is: at most so many bytes, in UTF-8.
 #[tactic(auto, using(crate::proofs::Texts::utf8_passes, crate::proofs::Texts::not_utf8))]
-pub(crate) fn text_in(line: &[u8]) -> Result<&str, FaultKind>
+pub(crate) fn text_in(line: &[u8]) -> Result<&str, LogFaultKind>
     ensures { MatchResult result (λ text. text_in line.now ≡ Ok text.now) (λ kind. text_in line.now ≡ Err kind) }
 {
-    ask(line.len() <= MAX_LINE, FaultKind::Long)?;
+    ask(line.len() <= MAX_LINE, LogFaultKind::Long)?;
     match str::from_utf8(line) {
         Ok(text) => Ok(text),
-        Err(_) => Err(FaultKind::Text),
+        Err(_) => Err(LogFaultKind::Text),
     }
 }
 
@@ -55,11 +55,11 @@ pub(crate) fn text_in(line: &[u8]) -> Result<&str, FaultKind>
 fn event_in_json(alloc: Global, distinct: bool, value: &Value<'_>) -> Result<Event, LineFault>
     ensures { Gives seen_event result (event_in_json distinct (value_view value.now)) }
 {
-    let host = text_at(value, "host").ok_or(FaultKind::Text)?;
-    let text = text_at(value, "event").ok_or(FaultKind::Text)?;
-    ask(distinct, FaultKind::Clock)?;
+    let host = text_at(value, "host").ok_or(LogFaultKind::Text)?;
+    let text = text_at(value, "event").ok_or(LogFaultKind::Text)?;
+    ask(distinct, LogFaultKind::Clock)?;
     let clock = clock_in(alloc, value.get("clock"))?;
-    ask(number_of(host, &clock) > 0, FaultKind::Own)?;
+    ask(number_of(host, &clock) > 0, LogFaultKind::Own)?;
     let host = String::from_str(alloc, host)?;
     let text = String::from_str(alloc, text)?;
     Ok(Event { host, clock, text })
@@ -74,11 +74,11 @@ fn text_at<'a>(value: &Value<'a>, name: &str) -> Option<&'a str>
 
 /// What it means for a line that it wasn't read as JSON.
 fn fault_of(error: Error) -> LineFault
-    ensures memory { error ≡ Error.OutOfMemory → result ≡ NoMemory }
+    ensures memory { error ≡ Error.OutOfMemory → result ≡ Memory }
     ensures other { error ≢ Error.OutOfMemory → result ≡ Has Text }
 {
     match error {
-        Error::OutOfMemory => LineFault::NoMemory,
-        _ => LineFault::Has(FaultKind::Text),
+        Error::OutOfMemory => LineFault::Memory,
+        _ => LineFault::Has(LogFaultKind::Text),
     }
 }

@@ -2,7 +2,7 @@ ghost use Rattle.std.specs.Prelude.{◌≡◌, ◌+◌, IfOk};
 ghost use Rattle.trace_log.specs.Log.{SoFar, no_lines, end_of};
 ghost use Rattle.trace_log.specs.State.{HasRead, ReadsLine, fault_at, lines_left};
 
-use crate::fault::{FaultKind, LineFault, LogFault, ReadFault};
+use crate::fault::{LineFault, LogFault, LogFaultKind, LogReadFault};
 use crate::order::Clocks;
 use crate::turn::{Form, Half, Logged, turn};
 use json::Scratch;
@@ -37,14 +37,14 @@ impl Log {
 
     /// Reads one line more, given without its LF. The event is answered by the line that ends it. After an `Err` the
     /// log is as before.
-    pub fn read(&mut self, line: &[u8]) -> Result<Option<Logged>, ReadFault>
+    pub fn read(&mut self, line: &[u8]) -> Result<Option<Logged>, LogReadFault>
         ensures reads { (form : _) (so_far : SoFar) → HasRead form so_far self.old →
             ReadsLine form so_far line.now result self.new }
         ensures counts { IfOk result (λ _. lines_left self.old ≡ lines_left self.new + 1) }
     {
         if self.lines == u64::MAX {
-            let kind = FaultKind::Many;
-            return Err(ReadFault::Log(LogFault {
+            let kind = LogFaultKind::Many;
+            return Err(LogReadFault::Log(LogFault {
                 line: u64::MAX,
                 kind,
             }));
@@ -75,7 +75,7 @@ impl Log {
         ensures { (form : _) (so_far : SoFar) → HasRead form so_far self.now → result ≡ end_of so_far }
     {
         if self.half.is_some() {
-            let kind = FaultKind::Text;
+            let kind = LogFaultKind::Text;
             return Err(LogFault {
                 line: self.lines,
                 kind,
@@ -86,11 +86,11 @@ impl Log {
 }
 
 /// The fault of a line, with the line's number.
-fn fault_at(line: u64, fault: LineFault) -> ReadFault
+fn fault_at(line: u64, fault: LineFault) -> LogReadFault
     ensures { result ≡ fault_at line fault }
 {
     match fault {
-        LineFault::Has(kind) => ReadFault::Log(LogFault { line, kind }),
-        LineFault::NoMemory => ReadFault::NoMemory,
+        LineFault::Has(kind) => LogReadFault::Log(LogFault { line, kind }),
+        LineFault::Memory => LogReadFault::Memory,
     }
 }

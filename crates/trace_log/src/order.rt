@@ -9,7 +9,7 @@ ghost use Rattle.trace_log.specs.Views.{seen_clock};
 ghost use Rattle.trace_log.specs.Kept.{kept_clock, number_kept, KeepsLast};
 
 use crate::event::{Member, number_of};
-use crate::fault::{FaultKind, LineFault, ask};
+use crate::fault::{LineFault, LogFaultKind, ask};
 use std::alloc::{AllocError, Global};
 use std::collections::HashMap;
 
@@ -28,10 +28,10 @@ pub(crate) fn judge(
     let earlier = kept_clock(clocks, host);
     ask(
         number_of(host, earlier) < number_of(host, clock),
-        FaultKind::Order,
+        LogFaultKind::Order,
     )?;
     let falls = falls(alloc, earlier, clock)?;
-    ask(!falls, FaultKind::Falls)?;
+    ask(!falls, LogFaultKind::Falls)?;
     Ok(())
 }
 

@@ -1,12 +1,12 @@
 ghost use Rattle.std.specs.Prelude.{◌≡◌, Ok, Err, MatchOption};
-ghost use Rattle.trace_log.specs.declared.fault.FaultKind.TheVariants.{Text};
+ghost use Rattle.trace_log.specs.declared.fault.LogFaultKind.TheVariants.{Text};
 ghost use Rattle.trace_log.specs.Judgement.{Gives};
-ghost use Rattle.trace_log.specs.Event.{cut_in, clock_in_text, stamp_in};
+ghost use Rattle.trace_log.specs.Event.{host_and_rest, clock_in_text, stamp_in};
 ghost use Rattle.trace_log.specs.Views.{seen_clock, seen_stamp};
 
 use crate::clock::clock_in;
 use crate::event::{Member, number_of};
-use crate::fault::{FaultKind, LineFault, ask};
+use crate::fault::{LineFault, LogFaultKind, ask};
 use crate::line::text_in;
 use json::{Error, Scratch, Value};
 use std::alloc::Global;
@@ -28,18 +28,18 @@ pub(crate) fn stamp_in(
     ensures { Gives seen_stamp result (stamp_in line.now) }
 {
     let text = text_in(line)?;
-    let (host, rest) = cut(text).ok_or(FaultKind::Text)?;
+    let (host, rest) = split_host(text).ok_or(LogFaultKind::Text)?;
     let clock = clock_in_text(alloc, scratch, rest)?;
-    ask(number_of(host, &clock) > 0, FaultKind::Own)?;
+    ask(number_of(host, &clock) > 0, LogFaultKind::Own)?;
     let host = String::from_str(alloc, host)?;
     Ok(Stamp { host, clock })
 }
 
 /// What stands before the first space of a text, and what stands after it.
 #[tactic(auto, using(crate::proofs::Texts::cut_once))]
-fn cut(text: &str) -> Option<(&str, &str)>
+fn split_host(text: &str) -> Option<(&str, &str)>
     ensures { MatchOption result
-        (cut_in text.now ≡ Err Text) (λ parts. cut_in text.now ≡ Ok (parts.0.now, parts.1.now)) }
+        (host_and_rest text.now ≡ Err Text) (λ parts. host_and_rest text.now ≡ Ok (parts.0.now, parts.1.now)) }
 {
     text.split_once(' ')
 }
@@ -51,7 +51,7 @@ fn clock_in_text(alloc: Global, scratch: &mut Scratch, text: &str) -> Result<Vec
 {
     match Value::parse_strict(alloc, text, scratch) {
         Ok(value) => clock_in(alloc, Some(&value)),
-        Err(Error::OutOfMemory) => Err(LineFault::NoMemory),
-        Err(_) => Err(LineFault::Has(FaultKind::Clock)),
+        Err(Error::OutOfMemory) => Err(LineFault::Memory),
+        Err(_) => Err(LineFault::Has(LogFaultKind::Clock)),
     }
 }

@@ -36,12 +36,12 @@ pub struct Logged {
 #[derive(Debug, Drop)]
 pub(crate) enum Half {
     Stamped(Stamp),
-    Texted(Text),
+    Texted(EventText),
 }
 
 /// A text that waits for its host and its clock, with its line.
 #[derive(Debug, Drop)]
-pub(crate) struct Text {
+pub(crate) struct EventText {
     pub line: u64,
     pub text: String,
 }
@@ -110,7 +110,7 @@ fn stamp_turn(
     alloc: Global,
     clocks: &mut Clocks,
     scratch: &mut Scratch,
-    before: Text,
+    before: EventText,
     line: &[u8],
 ) -> (Option<Half>, Result<Option<Logged>, LineFault>)
     ensures { (form : _) (earlier : _) (at : ℕ) → KeepsLast clocks.old earlier →
@@ -120,7 +120,7 @@ fn stamp_turn(
     match stamp_kept(alloc, clocks, scratch, line) {
         Ok(stamp) => {
             let Stamp { host, clock } = stamp;
-            let Text { line, text } = before;
+            let EventText { line, text } = before;
             let event = Event { host, clock, text };
             (None, Ok(Some(Logged { line, event })))
         }
@@ -150,7 +150,7 @@ fn first_turn(
             Err(fault) => (None, Err(fault)),
         },
         Form::ShivizReversed => match owned_text(alloc, line) {
-            Ok(text) => (Some(Half::Texted(Text { line: at, text })), Ok(None)),
+            Ok(text) => (Some(Half::Texted(EventText { line: at, text })), Ok(None)),
             Err(fault) => (None, Err(fault)),
         },
     }

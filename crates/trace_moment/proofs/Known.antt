@@ -4,9 +4,9 @@ use Rattle.trace_moment.proofs.Words.{◌≡◌, ◌≢◌, ℕ, ◌+◌, ◌<�
 use Rattle.trace_moment.proofs.Words.{◌++◌, length, set, slice_index, refl, sym, ◌∙◌, ap, subst, arith, inl, inr, ◌⊎◌}
 use Rattle.trace_moment.proofs.Words.{⊎_elim, append-nil, cases_eq, length-set, length-map, Contains}
 use Rattle.trace_moment.proofs.Words.{Contains-append_left, Contains-append_cases, Contains-push, All-head, All}
-use Rattle.trace_moment.proofs.Words.{number_of, Event, Logged, Watch, Taken, own, IsOver, IsMoment, IsEarliest, IsKnown}
-use Rattle.trace_moment.proofs.Words.{Follow, Lasting, While, At, Candidate, Queue, queue_at, watched_by, first_among}
-use Rattle.trace_moment.proofs.Words.{first_of, waiting, front_clock, is_passed_among, stands, lasts_to_floor}
+use Rattle.trace_moment.proofs.Words.{number_of, Event, Logged, HostWatch, Taken, own, IsOver, IsMoment, IsEarliest, IsKnown}
+use Rattle.trace_moment.proofs.Words.{Follow, Lasting, While, At, Candidate, EventQueue, queue_at, watched_by, first_among}
+use Rattle.trace_moment.proofs.Words.{first_of, waiting, prefix_clock, is_passed_among, stands, lasts_to_floor}
 use Rattle.trace_moment.proofs.Words.{LastKnowsAll, HasEnded, GoesOn, AreLeft, AreUnderFloors, ArePassedByNone, AllStand}
 use Rattle.trace_moment.proofs.Words.{OneDoesNotStand, RiseTo}
 use Rattle.trace_moment.specs.Queues.{HaveFirsts}
@@ -17,20 +17,20 @@ use Rattle.trace_moment.proofs.Left.{seen, IsMomentOf-from_moment, IsMoment-from
 use Rattle.trace_moment.proofs.Left.{host-set}
 
 -- The floors once those of the other hosts rose to the front of one.
-module _ (queues : List Queue) (place : ℕ) (queue : Queue) (is : IsSameHost queues place queue)
+module _ (queues : List EventQueue) (place : ℕ) (queue : EventQueue) (is : IsSameHost queues place queue)
     (old new : List ℕ) where
-  abbrev all : List Queue
+  abbrev all : List EventQueue
   all = set queues place queue
 
-  abbrev known_of : ℕ → Queue → ℕ
-  known_of q one = number_of (queue_at (set queues place queue) q).host (front_clock one)
+  abbrev known_of : ℕ → EventQueue → ℕ
+  known_of q one = number_of (queue_at (set queues place queue) q).host (prefix_clock one)
 
   pub AreUnderFloors-raised : AreUnderFloors queues old → RiseTo (set queues place queue) place old new
       → AreUnderFloors (set queues place queue) new
   AreUnderFloors-raised under rise p p_in q q_in apart = grind (arith, cases_eq, length-set, host-set, queue_at-other)
 
   -- And where its front stays.
-  pub AreUnderFloors-same : AreUnderFloors queues old → front_clock queue ≡ front_clock (queue_at queues place)
+  pub AreUnderFloors-same : AreUnderFloors queues old → prefix_clock queue ≡ prefix_clock (queue_at queues place)
       → AreUnderFloors (set queues place queue) old
   AreUnderFloors-same under front p p_in q q_in apart = grind (arith, common_steps)
 
@@ -69,7 +69,7 @@ goes_for_ever : (lasting : Lasting) (taken : List Taken) (one : Candidate) (othe
 goes_for_ever lasting taken one other last goes over = grind (arith, common_steps, goes.lasts, none_after)
 
 -- The first candidate of a host.
-abbrev pub IsFirstAt : List Queue → ℕ → Candidate → Type 0
+abbrev pub IsFirstAt : List EventQueue → ℕ → Candidate → Type 0
 IsFirstAt queues p first = first_of (queue_at queues p) ≡ Some first
 
 first_there : (first : Option Candidate) → is_some first ≡ true → (one : Candidate) × (first ≡ Some one)
@@ -86,18 +86,18 @@ up_to_floor first one floor is = grind arith
 stands_there : (first : Option Candidate) (floor : ℕ) → lasts_to_floor floor first ≡ true → is_some first ≡ true
 stands_there first floor stands = grind arith
 
-moment_first : (queues : List Queue) (p : ℕ) (first : Candidate) → IsFirstAt queues p first
+moment_first : (queues : List EventQueue) (p : ℕ) (first : Candidate) → IsFirstAt queues p first
     → moment_among queues p ≡ first.logged
 moment_first queues p first here = rw here refl
 
 -- No first candidate is over where another begins.
-abbrev pub NoneIsOver : List Queue → List Taken → Type 0
+abbrev pub NoneIsOver : List EventQueue → List Taken → Type 0
 NoneIsOver queues all = (p q : ℕ) → p < length queues → q < length queues → p ≢ q → (first other : Candidate)
     → IsFirstAt queues p first → IsFirstAt queues q other
     → IsOver (queue_at queues p).lasting all first.logged.event other.logged.event → ⊥
 
 -- Then they are the earliest moment.
-module _ (taken more : List Taken) (queues : List Queue) (floors : List ℕ) (last : LastKnowsAll taken)
+module _ (taken more : List Taken) (queues : List EventQueue) (floors : List ℕ) (last : LastKnowsAll taken)
     (follow : Follow taken more) (left : AreLeft taken queues floors) (firsts : HaveFirsts queues)
     (none_over : NoneIsOver queues (taken ++ more)) where
   moment_is : (p : ℕ) → p < length queues → (first : Candidate) × IsFirstAt queues p first ×
@@ -119,7 +119,7 @@ module _ (taken more : List Taken) (queues : List Queue) (floors : List ℕ) (la
           none_over p q p_within q_within apart first other here there (rw (is, at) at over);
     });
     below = λ other is p p_in.
-        let within : p < length queues = omega (arith, length-map {B = Watch} queues seen) in
+        let within : p < length queues = omega (arith, length-map {B = HostWatch} queues seen) in
         let (first, here, at) = moment_is p within in
         let host = (IsMomentOf-from_moment queues (taken ++ more) other is).host p within in
         let after = first_or_after taken more (queue_at queues p) (other p) last follow (left.each p within) host
@@ -127,7 +127,7 @@ module _ (taken more : List Taken) (queues : List Queue) (floors : List ℕ) (la
         rw at (grind arith);
   }
 
-module _ (taken : List Taken) (queues : List Queue) (floors : List ℕ) (last : LastKnowsAll taken)
+module _ (taken : List Taken) (queues : List EventQueue) (floors : List ℕ) (last : LastKnowsAll taken)
     (left : AreLeft taken queues floors) (under : AreUnderFloors queues floors)
     (settled : ArePassedByNone queues floors) where
   -- What another first candidate knows of a host is no more than its floor.
@@ -135,7 +135,7 @@ module _ (taken : List Taken) (queues : List Queue) (floors : List ℕ) (last : 
       → IsFirstAt queues p first → IsFirstAt queues q other
       → number_of first.logged.event.host other.logged.event.clock ≤ slice_index floors p
   under_floor p q p_within q_within apart first other here there =
-      let clock : front_clock (queue_at queues q) ≡ other.logged.event.clock = rw there refl in
+      let clock : prefix_clock (queue_at queues q) ≡ other.logged.event.clock = rw there refl in
       rw ((first_is_candidate taken (queue_at queues p) first (left.each p p_within) here).of_host, ← clock)
       (under q q_within p p_within apart)
 
@@ -178,7 +178,7 @@ module _ (taken : List Taken) (queues : List Queue) (floors : List ℕ) (last : 
       omega arith)) ((left.moments [] tt moment (subst (λ (all : List Taken). IsMoment (watched_by queues) all moment)
       (sym (append-nil taken)) is)).waits p within)
 
-  none_waits : (queue : Queue) (one : Logged) → first_of queue ≡ None → Contains (waiting queue) one → ⊥
+  none_waits : (queue : EventQueue) (one : Logged) → first_of queue ≡ None → Contains (waiting queue) one → ⊥
   none_waits queue one lacks waits = let (k, within, at) = rw (waiting_none queue lacks) at waits in omega arith
 
   -- Where a host has no candidate there is none.

@@ -4,49 +4,49 @@ use Rattle.trace_moment.proofs.Words.{◌≡◌, ◌≢◌, ℕ, ◌<◌, ◌≤
 use Rattle.trace_moment.proofs.Words.{slice_index, refl, sym, ◌∙◌, ap, subst, arith, suc, inl, inr, ◌⊎◌, ⊎_elim}
 use Rattle.trace_moment.proofs.Words.{append_assoc, cases_eq, get_or-set_same, get_or-set_other, length-set, length-map}
 use Rattle.trace_moment.proofs.Words.{Contains, Contains-append_left, Contains-push, All-head, All-tail, number_of}
-use Rattle.trace_moment.proofs.Words.{Logged, Watch, Taken, watch_at, HaveDistinctHosts, IsOver, IsMoment, Lasting, While}
-use Rattle.trace_moment.proofs.Words.{Candidate, Queue, empty_queue, queue_at, watched_by, waiting, is_passed_among}
+use Rattle.trace_moment.proofs.Words.{Logged, HostWatch, Taken, watch_at, HaveDistinctHosts, IsOver, IsMoment, Lasting, While}
+use Rattle.trace_moment.proofs.Words.{Candidate, EventQueue, empty_queue, queue_at, watched_by, waiting, is_passed_among}
 use Rattle.trace_moment.proofs.Words.{is_passed, with_event, LastKnowsAll, HasEnded, IsQueueOf, IsKnownElsewhere, IsAmong}
 use Rattle.trace_moment.proofs.Words.{AreLeft, RiseTo, IsNextAt, IsCandidate, false≢true, Event}
 use Rattle.std.proofs.Math.Seq.{map-set_same}
 use Rattle.std.proofs.lemmas.Bool.{cases_lt}
 use Rattle.trace_moment.proofs.Clocks.{comes_next, first_or_later}
-use Rattle.trace_moment.proofs.OneQueue.{IsQueueOf-other, IsQueueOf-event, waiting_after, front_known}
+use Rattle.trace_moment.proofs.OneQueue.{IsQueueOf-other, IsQueueOf-event, waiting_after, prefix_known}
 
-abbrev pub seen : Queue → Watch
+abbrev pub seen : EventQueue → HostWatch
 seen queue = record { host = queue.host; lasting = queue.lasting }
 
 -- The watched hosts by their queues.
-pub watch_at-queue : (queues : List Queue) (p : ℕ) → p < length queues → watch_at (watched_by queues) p ≡ seen
+pub watch_at-queue : (queues : List EventQueue) (p : ℕ) → p < length queues → watch_at (watched_by queues) p ≡ seen
     (queue_at queues p)
 watch_at-queue queues p within = grind (arith, common_steps)
 
-pub distinct_queues : (queues : List Queue) → HaveDistinctHosts (watched_by queues) → (p q : ℕ) → p < length queues
+pub distinct_queues : (queues : List EventQueue) → HaveDistinctHosts (watched_by queues) → (p q : ℕ) → p < length queues
     → q < length queues → (queue_at queues p).host ≡ (queue_at queues q).host → p ≡ q
 distinct_queues queues distinct p q p_within q_within same =
-    grind (arith, watch_at-queue queues, length-map {B = Watch} queues seen)
+    grind (arith, watch_at-queue queues, length-map {B = HostWatch} queues seen)
 
 -- A moment of the watched hosts, by their queues.
-pub record IsMomentOf (queues : List Queue) (taken : List Taken) (moment : ℕ → Logged) : Type 0 where
+pub record IsMomentOf (queues : List EventQueue) (taken : List Taken) (moment : ℕ → Logged) : Type 0 where
   pub held : (p : ℕ) → p < length queues → Contains taken (record { logged = moment p; holds = true })
   pub host : (p : ℕ) → p < length queues → (moment p).event.host ≡ (queue_at queues p).host
   pub together : (p q : ℕ) → p < length queues → q < length queues → p ≢ q → IsOver (queue_at queues p).lasting taken
       (moment p).event (moment q).event → ⊥
 
-module _ (queues : List Queue) (taken : List Taken) (moment : ℕ → Logged) where
+module _ (queues : List EventQueue) (taken : List Taken) (moment : ℕ → Logged) where
   pub IsMomentOf-from_moment : IsMoment (watched_by queues) taken moment → IsMomentOf queues taken moment
-  IsMomentOf-from_moment is = grind (arith, length-map {B = Watch} queues seen, watch_at-queue queues)
+  IsMomentOf-from_moment is = grind (arith, length-map {B = HostWatch} queues seen, watch_at-queue queues)
 
   pub IsMoment-from_queues : IsMomentOf queues taken moment → IsMoment (watched_by queues) taken moment
-  IsMoment-from_queues is = grind (arith, length-map {B = Watch} queues seen, watch_at-queue queues)
+  IsMoment-from_queues is = grind (arith, length-map {B = HostWatch} queues seen, watch_at-queue queues)
 
 -- A queue in the place of another one of the same host.
-pub record IsSameHost (queues : List Queue) (place : ℕ) (queue : Queue) : Type 0 where
+pub record IsSameHost (queues : List EventQueue) (place : ℕ) (queue : EventQueue) : Type 0 where
   pub within : place < length queues
   pub host : queue.host ≡ (queue_at queues place).host
   pub lasting : queue.lasting ≡ (queue_at queues place).lasting
 
-module _ (queues : List Queue) (place : ℕ) (queue : Queue) (is : IsSameHost queues place queue) where
+module _ (queues : List EventQueue) (place : ℕ) (queue : EventQueue) (is : IsSameHost queues place queue) where
   pub watched_by-set : watched_by (set queues place queue) ≡ watched_by queues
   watched_by-set = map-set_same seen queues place queue (empty_queue [] While) (let host = is.host in let lasting =
       is.lasting in cc)
@@ -61,13 +61,13 @@ module _ (queues : List Queue) (place : ℕ) (queue : Queue) (is : IsSameHost qu
   host-set p = grind (arith, cases_eq, queue_at-itself, queue_at-other)
 
   -- What holds of it and of each other queue holds of each.
-  pub each_queue : (P : ℕ → Queue → Type 0) → P place queue
+  pub each_queue : (P : ℕ → EventQueue → Type 0) → P place queue
       → ((p : ℕ) → p < length queues → p ≢ place → P p (queue_at queues p)) → (p : ℕ)
       → p < length (set queues place queue) → P p (queue_at (set queues place queue) p)
   each_queue P here others p within = grind (arith, queue_at-itself, queue_at-other, length-set, cases_eq)
 
   -- A moment is among what is left with it, where the old queues and what comes after have it so.
-  abbrev pub StillWaits : List Taken → (ℕ → Logged) → ℕ → Queue → Type 0
+  abbrev pub StillWaits : List Taken → (ℕ → Logged) → ℕ → EventQueue → Type 0
   StillWaits more moment p one = Contains (waiting one) (moment p) ⊎ Contains more
       (record { logged = moment p; holds = true })
 
@@ -83,14 +83,14 @@ module _ (queues : List Queue) (place : ℕ) (queue : Queue) (is : IsSameHost qu
   }
 
 -- An event more of the host at a place.
-module _ (taken : List Taken) (next : Taken) (queues : List Queue) (floors : List ℕ) (place : ℕ)
+module _ (taken : List Taken) (next : Taken) (queues : List EventQueue) (floors : List ℕ) (place : ℕ)
     (within : place < length queues) (distinct : HaveDistinctHosts (watched_by queues)) (last : LastKnowsAll taken)
     (at : IsNextAt (watched_by queues) place taken next.logged) where
-  abbrev queue : Queue
+  abbrev queue : EventQueue
   queue = with_event (queue_at queues place) next.logged next.holds
 
   pub of_host : next.logged.event.host ≡ (queue_at queues place).host
-  of_host = at.host ∙ ap (λ (w : Watch). w.host) (watch_at-queue queues place within)
+  of_host = at.host ∙ ap (λ (w : HostWatch). w.host) (watch_at-queue queues place within)
 
   same_host : IsSameHost queues place queue
   same_host = record { within = within; host = refl; lasting = refl }
@@ -102,7 +102,7 @@ module _ (taken : List Taken) (next : Taken) (queues : List Queue) (floors : Lis
       is_place : (p : ℕ) → p < length queues → next ≡ record { logged = moment p; holds = true } → p ≡ place
       is_place p p_within same = grind (arith, distinct_queues, of_host)
 
-      by_cases : (p : ℕ) (one : Queue) → p < length queues → (Contains (waiting (queue_at queues p)) (moment p)
+      by_cases : (p : ℕ) (one : EventQueue) → p < length queues → (Contains (waiting (queue_at queues p)) (moment p)
           → Contains (waiting one) (moment p)) → (next ≡ record { logged = moment p; holds = true }
           → Contains (waiting one) (moment p))
           → StillWaits queues place queue same_host more moment p one
@@ -145,7 +145,7 @@ module _ (taken : List Taken) (next : Taken) (queues : List Queue) (floors : Lis
     }
 
 -- Higher floors: each moment knows what the front of a host knows.
-pub AreLeft-raised : (taken : List Taken) (queues : List Queue) (old new : List ℕ) (place : ℕ)
+pub AreLeft-raised : (taken : List Taken) (queues : List EventQueue) (old new : List ℕ) (place : ℕ)
     → place < length queues → LastKnowsAll taken → RiseTo queues place old new → AreLeft taken queues old
     → AreLeft taken queues new
 AreLeft-raised taken queues old new place within last rise left = record {
@@ -156,7 +156,7 @@ AreLeft-raised taken queues old new place within last rise left = record {
         waits = among.waits;
         knows = λ q q_within some.
             let host = (IsMomentOf-from_moment queues (taken ++ more) moment is).host place within in
-            let known = front_known taken more (queue_at queues place) (moment place) last follow
+            let known = prefix_known taken more (queue_at queues place) (moment place) last follow
             (left.each place within) host (among.waits place within) (queue_at queues q).host in
             let rises = rise.others q q_within in
             let kept_or_raised : (slice_index new q ≡ slice_index old q) ⊎
@@ -175,7 +175,7 @@ passed_parts : (ended : List Candidate) (floor : ℕ) → is_passed_among floor 
 passed_parts ended floor passed = grind arith
 
 -- A queue without its first candidate.
-IsQueueOf-rest : (taken : List Taken) (queue : Queue) (first : Candidate) (others : List Candidate)
+IsQueueOf-rest : (taken : List Taken) (queue : EventQueue) (first : Candidate) (others : List Candidate)
     → IsQueueOf taken (record queue { ended = first ∷ others }) → IsQueueOf taken (record queue { ended = others })
 IsQueueOf-rest taken queue first others is = record {
   candidates = All-tail (IsCandidate taken queue.host) first.logged _ is.candidates;
@@ -192,13 +192,13 @@ over_above : (lasting : Lasting) (taken more : List Taken) (one : Candidate) (ot
 over_above lasting taken more one other is above = grind (arith, common_steps)
 
 -- A candidate that is over is in no moment.
-module _ (taken : List Taken) (queues : List Queue) (floors : List ℕ) (place : ℕ) (within : place < length queues)
+module _ (taken : List Taken) (queues : List EventQueue) (floors : List ℕ) (place : ℕ) (within : place < length queues)
     (first : Candidate) (others : List Candidate) (parts : (queue_at queues place).ended ≡ first ∷ others)
     (less : first.lasts_to < slice_index floors place) (left : AreLeft taken queues floors) where
-  abbrev old : Queue
+  abbrev old : EventQueue
   old = queue_at queues place
 
-  abbrev shorter : Queue
+  abbrev shorter : EventQueue
   shorter = record old { ended = others }
 
   whole : IsQueueOf taken (record old { ended = first ∷ others })
@@ -240,7 +240,7 @@ module _ (taken : List Taken) (queues : List Queue) (floors : List ℕ) (place :
         (left.moments more follow moment before);
   }
 
-pub AreLeft-dropped : (taken : List Taken) (queues : List Queue) (floors : List ℕ) (place : ℕ)
+pub AreLeft-dropped : (taken : List Taken) (queues : List EventQueue) (floors : List ℕ) (place : ℕ)
     → place < length queues → is_passed (queue_at queues place) (slice_index floors place) ≡ true
     → AreLeft taken queues floors
     → AreLeft taken

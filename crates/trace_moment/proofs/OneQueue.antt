@@ -6,7 +6,7 @@ use Rattle.trace_moment.proofs.Words.{inl, inr, ◌⊎◌, ⊎_elim, append-nil,
 use Rattle.trace_moment.proofs.Words.{Contains-push, Contains-push_cases, All, All-contains, All-append, All-push}
 use Rattle.trace_moment.proofs.Words.{AllPairs, all_pairs_push, option_to_list, number_of, Event, Logged, Member}
 use Rattle.trace_moment.proofs.Words.{last_clock, Taken, own, events_of, IsLater, Follow, Lasting, While, At, Candidate}
-use Rattle.trace_moment.proofs.Words.{Queue, first_among, first_of, begin_with, waiting, clock_of, front_clock, begun}
+use Rattle.trace_moment.proofs.Words.{EventQueue, first_among, first_of, begin_with, waiting, clock_of, prefix_clock, begun}
 use Rattle.trace_moment.proofs.Words.{ended_by, ending, going_on, with_event, KnowsNoMore, ComesBefore, LastKnowsAll}
 use Rattle.trace_moment.proofs.Words.{IsCandidate, HasEnded, GoesOn, IsQueueOf}
 use Rattle.std.proofs.lemmas.Bool.{cases_Bool}
@@ -20,11 +20,11 @@ waiting_parts : (lasting : Lasting) (ended : List Candidate) (ongoing now : Opti
 waiting_parts lasting ended ongoing now number alone = grind (arith, map-append, append-nil)
 
 -- The front stays the first candidate's, where there is one.
-front_parts : (lasting : Lasting) (ended : List Candidate) (ongoing now : Option Candidate) (number : ℕ)
+prefix_parts : (lasting : Lasting) (ended : List Candidate) (ongoing now : Option Candidate) (number : ℕ)
     (latest newer : List Member) → (lasting ≡ At → ongoing ≡ None) → is_some (first_among ended ongoing) ≡ true
     → clock_of (first_among (ended ++ map (ended_by number) (option_to_list (ending lasting ongoing now)))
     (going_on lasting now)) newer ≡ clock_of (first_among ended ongoing) latest
-front_parts lasting ended ongoing now number latest newer alone some = grind arith
+prefix_parts lasting ended ongoing now number latest newer alone some = grind arith
 
 first_parts : (ended : List Candidate) (ongoing : Option Candidate) (first : Candidate)
     → first_among ended ongoing ≡ Some first
@@ -87,7 +87,7 @@ module _ (taken : List Taken) (next : Taken) (last : LastKnowsAll taken) (comes 
   IsCandidate-push : (host : List ℕ) (logged : Logged) → IsCandidate taken host logged → IsCandidate longer host logged
   IsCandidate-push host logged is = grind (arith, Contains-append_left)
 
-  module _ (queue : Queue) (is : IsQueueOf taken queue) where
+  module _ (queue : EventQueue) (is : IsQueueOf taken queue) where
     -- The candidate that goes on is one of those that wait.
     ongoing_candidate : (one : Candidate) → queue.ongoing ≡ Some one → IsCandidate taken queue.host one.logged
     ongoing_candidate one goes = All-contains (IsCandidate taken queue.host) (waiting queue) one.logged is.candidates
@@ -122,9 +122,9 @@ module _ (taken : List Taken) (next : Taken) (last : LastKnowsAll taken) (comes 
       number_is : number_of queue.host next.logged.event.clock ≡ own next.logged.event
       number_is = ap (λ host. number_of host next.logged.event.clock) (sym same)
 
-      pub front_clock-event : is_some (first_of queue) ≡ true → front_clock (with_event queue next.logged next.holds)
-          ≡ front_clock queue
-      front_clock-event some = grind arith
+      pub prefix_clock-event : is_some (first_of queue) ≡ true → prefix_clock (with_event queue next.logged next.holds)
+          ≡ prefix_clock queue
+      prefix_clock-event some = grind arith
 
       -- What waits after it: the event too, where the condition holds.
       pub waiting_after : (P : List Logged → Type 0) → (next.holds ≡ true → P (waiting queue ++ next.logged ∷ []))
@@ -182,14 +182,14 @@ module _ (taken : List Taken) (next : Taken) (last : LastKnowsAll taken) (comes 
           )
 
 -- The first candidate's event is the first that waits.
-first_waits_first : (queue : Queue) (first : Candidate) → first_of queue ≡ Some first
+first_waits_first : (queue : EventQueue) (first : Candidate) → first_of queue ≡ Some first
     → (rest : List Logged) × (waiting queue ≡ first.logged ∷ rest)
 first_waits_first queue first is = first_parts queue.ended queue.ongoing first is
 
-pub waiting_none : (queue : Queue) → first_of queue ≡ None → waiting queue ≡ []
+pub waiting_none : (queue : EventQueue) → first_of queue ≡ None → waiting queue ≡ []
 waiting_none queue is = none_parts queue.ended queue.ongoing is
 
-pub first_is_candidate : (taken : List Taken) (queue : Queue) (first : Candidate) → IsQueueOf taken queue
+pub first_is_candidate : (taken : List Taken) (queue : EventQueue) (first : Candidate) → IsQueueOf taken queue
     → first_of queue ≡ Some first → IsCandidate taken queue.host first.logged
 first_is_candidate taken queue first is here = grind arith
 
@@ -201,7 +201,7 @@ first_before first rest one in_order (zero, within, is) = inl is
 first_before first rest one in_order (suc k, within, is) =
     inr (subst (λ (x : Logged). ComesBefore first.event x.event) is (in_order 0 (suc k) one (omega arith) within))
 
-module _ (taken more : List Taken) (queue : Queue) (one : Logged) (last : LastKnowsAll taken)
+module _ (taken more : List Taken) (queue : EventQueue) (one : Logged) (last : LastKnowsAll taken)
     (follow : Follow taken more) (is : IsQueueOf taken queue) (of_host : one.event.host ≡ queue.host)
     (among : Contains (waiting queue) one ⊎ Contains more (record { logged = one; holds = true })) where
   -- An event of the host that can be in a moment is the first candidate, or comes after it.
@@ -217,8 +217,8 @@ module _ (taken more : List Taken) (queue : Queue) (one : Logged) (last : LastKn
       among
 
   -- So it knows what the front knows.
-  pub front_known : KnowsNoMore (front_clock queue) one.event.clock
-  front_known name = by_first (first_of queue) refl
+  pub prefix_known : KnowsNoMore (prefix_clock queue) one.event.clock
+  prefix_known name = by_first (first_of queue) refl
     where
       by_first : (first : Option Candidate) → first_of queue ≡ first
           → number_of name (clock_of first queue.latest) ≤ number_of name one.event.clock

@@ -3,34 +3,34 @@ use Rattle.std.proofs.lemmas.Grind.{common_steps}
 use Rattle.trace_moment.proofs.Words.{◌≡◌, zero, suc, inr, map, IsQueueOf, get_or-map, length-map, ℕ, ◌<◌, Bool, true}
 use Rattle.trace_moment.proofs.Words.{false, Option, is_some, List, [], ◌∷◌, ◌++◌, length, get_or, set, drop, slice_index}
 use Rattle.trace_moment.proofs.Words.{refl, sym, ◌∙◌, ap, subst, arith, get_or_default, length-set, MatchBool}
-use Rattle.trace_moment.proofs.Words.{append_assoc, append-nil, Logged, Watch, Taken, HaveDistinctHosts, IsNextAt}
-use Rattle.trace_moment.proofs.Words.{IsKnown, IsEarliest, While, Queue, empty_queue, queue_at, watched_by, first_of}
-use Rattle.trace_moment.proofs.Words.{front_clock, MayFollow, with_event, is_passed, LastKnowsAll, AreLeft}
+use Rattle.trace_moment.proofs.Words.{append_assoc, append-nil, Logged, HostWatch, Taken, HaveDistinctHosts, IsNextAt}
+use Rattle.trace_moment.proofs.Words.{IsKnown, IsEarliest, While, EventQueue, empty_queue, queue_at, watched_by, first_of}
+use Rattle.trace_moment.proofs.Words.{prefix_clock, MayFollow, with_event, is_passed, LastKnowsAll, AreLeft}
 use Rattle.trace_moment.proofs.Words.{AreUnderFloors, ArePassedByNone, AllStand, OneDoesNotStand, RiseTo}
 use Rattle.std.proofs.Common.{string_bytes}
 use Rattle.std.specs.Borrow.{Bor}
 use Rattle.std.specs.Option.{option_copied}
 use Rattle.trace_log.proofs.Clocks.{no_number_of}
-use Rattle.trace_moment.specs.declared.watched.Watched.{Watched}
+use Rattle.trace_moment.specs.declared.watched.WatchedHost.{WatchedHost}
 use Rattle.trace_moment.specs.Views.{seen_watch}
 use Rattle.trace_moment.specs.Elimination.{AddsEvent}
 use Rattle.trace_moment.specs.Queues.{HaveFirsts, OneHasNone}
 use Rattle.trace_moment.specs.Standing.{moment_among, IsSearching, StandFor, HasNoMoment}
 use Rattle.trace_moment.proofs.Clocks.{comes_next, LastKnowsAll-push, knows-from_falls}
-use Rattle.trace_moment.proofs.OneQueue.{front_clock-event}
+use Rattle.trace_moment.proofs.OneQueue.{prefix_clock-event}
 use Rattle.trace_moment.proofs.Left.{IsSameHost, watched_by-set, of_host, AreLeft-event, AreLeft-raised, AreLeft-dropped}
 use Rattle.trace_moment.proofs.Left.{IsMomentOf-from_moment}
 use Rattle.trace_moment.proofs.Known.{AreUnderFloors-raised, AreUnderFloors-same, IsKnown-stands, NoneIsKnown-waits}
 use Rattle.trace_moment.proofs.Known.{IsEarliest-end, HasNoMoment-end}
 
 -- A candidate that is over was dropped, and the floors rose.
-pub record Drops (queues others : List Queue) (floors new : List ℕ) : Type 0 where
+pub record Drops (queues others : List EventQueue) (floors new : List ℕ) : Type 0 where
   pub left : (taken : List Taken) → LastKnowsAll taken → AreLeft taken queues floors → AreLeft taken others new
   pub under : AreUnderFloors queues floors → AreUnderFloors others new
   pub watched : watched_by others ≡ watched_by queues
 
 -- A queue that was changed keeps its host.
-module _ (queues : List Queue) (place : ℕ) (read changed : Queue) (within : place < length queues) where
+module _ (queues : List EventQueue) (place : ℕ) (read changed : EventQueue) (within : place < length queues) where
   read_is : get_or queues place read ≡ queue_at queues place
   read_is = get_or_default queues place read (empty_queue [] While) within
 
@@ -43,8 +43,8 @@ module _ (queues : List Queue) (place : ℕ) (read changed : Queue) (within : pl
       let host : IsSameHost queues place changed =
       record {
         within = within;
-        host = ap (λ (q : Queue). q.host) dropped;
-        lasting = ap (λ (q : Queue). q.lasting) dropped;
+        host = ap (λ (q : EventQueue). q.host) dropped;
+        lasting = ap (λ (q : EventQueue). q.lasting) dropped;
       } in
       record {
         left = λ taken last left. AreLeft-raised taken (set queues place changed) floors new place
@@ -83,13 +83,13 @@ module _ (queues : List Queue) (place : ℕ) (read changed : Queue) (within : pl
       AddsEvent-behind some = record {
         left = added;
         under = λ left under. AreUnderFloors-same queues place changed changed_same_host floors floors under
-            (ap front_clock with_next ∙ front_clock-event taken next last (comes_next taken next at.follows)
+            (ap prefix_clock with_next ∙ prefix_clock-event taken next last (comes_next taken next at.follows)
             (queue_at queues place) (left.each place within)
             (of_host taken next queues floors place within distinct last at) some);
       }
 
 -- A moment that is known is known after an event more.
-pub IsKnown-next : (watched : List Watch) (taken : List Taken) (next : Taken) (moment : ℕ → Logged)
+pub IsKnown-next : (watched : List HostWatch) (taken : List Taken) (next : Taken) (moment : ℕ → Logged)
     → MayFollow taken next.logged.event → IsKnown watched taken moment → IsKnown watched (taken ++ next ∷ []) moment
 IsKnown-next watched taken next moment follows known more follow = grind (arith, common_steps, append_assoc)
 
@@ -97,7 +97,7 @@ matched : (b : Bool) (A B C D : Type 0) → (A → C) → (B → D) → MatchBoo
 matched b A B C D then else is = grind arith
 
 -- Queues that stand for what was taken, of which the moment is known, stand for an event more.
-pub StandFor-known : (taken : List Taken) (next : Taken) (queues : List Queue) (floors : List ℕ)
+pub StandFor-known : (taken : List Taken) (next : Taken) (queues : List EventQueue) (floors : List ℕ)
     → MayFollow taken next.logged.event → StandFor taken queues floors true
     → StandFor (taken ++ next ∷ []) queues floors true
 StandFor-known taken next queues floors follows stand = record {
@@ -107,7 +107,7 @@ StandFor-known taken next queues floors follows stand = record {
 }
 
 -- An event was added, and candidates that are over were dropped.
-pub StandFor-searching : (taken : List Taken) (next : Taken) (place : ℕ) (queues added others : List Queue)
+pub StandFor-searching : (taken : List Taken) (next : Taken) (place : ℕ) (queues added others : List EventQueue)
     (floors added_floors new : List ℕ) (known : Bool) → StandFor taken queues floors false
     → IsNextAt (watched_by queues) place taken next.logged
     → AddsEvent taken next queues added floors added_floors → watched_by others ≡ watched_by queues
@@ -140,13 +140,13 @@ StandFor-searching taken next place queues added others floors added_floors new 
     now_under = under (adds.under stand.moment.left stand.moment.under)
 
 -- At the end of the log.
-pub end_known : (taken : List Taken) (queues : List Queue) (floors : List ℕ) → StandFor taken queues floors true
+pub end_known : (taken : List Taken) (queues : List EventQueue) (floors : List ℕ) → StandFor taken queues floors true
     → IsEarliest (watched_by queues) taken (moment_among queues)
 end_known taken queues floors stand =
     subst (λ (all : List Taken). IsEarliest (watched_by queues) all (moment_among queues)) (append-nil taken)
     (stand.moment [] tt)
 
-pub end_searching : (taken : List Taken) (queues : List Queue) (floors : List ℕ) (all : Bool)
+pub end_searching : (taken : List Taken) (queues : List EventQueue) (floors : List ℕ) (all : Bool)
     → MatchBool all (HaveFirsts queues) (OneHasNone queues) → StandFor taken queues floors false
     → MatchBool all (IsEarliest (watched_by queues) taken (moment_among queues)) (HasNoMoment (watched_by queues) taken)
 end_searching taken queues floors all firsts stand = matched all _ _ _ _
@@ -160,34 +160,34 @@ pub some_copied : {X : Type 0} (found : Option (Bor X)) → is_some found ≡ tr
 some_copied found some = grind arith
 
 -- The queue of a host before its first event.
-abbrev pub fresh : Watched → Queue
+abbrev pub fresh : WatchedHost → EventQueue
 fresh one = empty_queue (string_bytes one.host) one.lasting
 
-pub watched_fresh : (watched : List Watched) → watched_by (map fresh watched) ≡ map seen_watch watched
+pub watched_fresh : (watched : List WatchedHost) → watched_by (map fresh watched) ≡ map seen_watch watched
 watched_fresh [] = refl
-watched_fresh (one ∷ others) = ap (λ (all : List Watch). seen_watch one ∷ all) (watched_fresh others)
+watched_fresh (one ∷ others) = ap (λ (all : List HostWatch). seen_watch one ∷ all) (watched_fresh others)
 
-floor_fresh : (watched : List Watched) (p : ℕ) → slice_index (map (λ (one : Watched). 0) watched) p ≡ 0
+floor_fresh : (watched : List WatchedHost) (p : ℕ) → slice_index (map (λ (one : WatchedHost). 0) watched) p ≡ 0
 floor_fresh [] p = refl
 floor_fresh (one ∷ others) zero = refl
 floor_fresh (one ∷ others) (suc p) = floor_fresh others p
 
-IsQueueOf-fresh : (one : Watched) → IsQueueOf [] (fresh one)
+IsQueueOf-fresh : (one : WatchedHost) → IsQueueOf [] (fresh one)
 IsQueueOf-fresh one = grind (arith, common_steps, knows-from_falls)
 
 -- Before the first event.
-module _ (first : Watched) (others : List Watched) where
-  abbrev all : List Queue
+module _ (first : WatchedHost) (others : List WatchedHost) where
+  abbrev all : List EventQueue
   all = map fresh (first ∷ others)
 
   abbrev zeros : List ℕ
-  zeros = map (λ (one : Watched). 0) (first ∷ others)
+  zeros = map (λ (one : WatchedHost). 0) (first ∷ others)
 
   at_fresh : (p : ℕ) → p < length (map fresh (first ∷ others)) → queue_at (map fresh (first ∷ others)) p ≡ fresh
       (get_or (first ∷ others) p first)
   at_fresh p within = grind (arith, get_or-map, length-map)
 
-  IsSearching-fresh : IsSearching [] (map fresh (first ∷ others)) (map (λ (one : Watched). 0) (first ∷ others))
+  IsSearching-fresh : IsSearching [] (map fresh (first ∷ others)) (map (λ (one : WatchedHost). 0) (first ∷ others))
   IsSearching-fresh = record {
     none_known = λ moment known. let (k, within, is) = (known [] tt).one.held 0 (omega arith) in omega arith;
     left = record {
@@ -202,9 +202,9 @@ module _ (first : Watched) (others : List Watched) where
     settled = λ p within. rw (at_fresh p within) refl;
   }
 
-pub StandFor-start : (watched : List Watched) (queues : List Queue) (floors : List ℕ) → 0 < length watched
+pub StandFor-start : (watched : List WatchedHost) (queues : List EventQueue) (floors : List ℕ) → 0 < length watched
     → HaveDistinctHosts (map seen_watch watched) → queues ≡ map fresh watched
-    → floors ≡ map (λ (one : Watched). 0) watched → StandFor [] queues floors false
+    → floors ≡ map (λ (one : WatchedHost). 0) watched → StandFor [] queues floors false
 StandFor-start [] queues floors some distinct is_fresh are_zero = absurd (omega arith)
 StandFor-start (first ∷ others) queues floors some distinct is_fresh are_zero = rw (is_fresh, are_zero) (record {
   distinct = subst HaveDistinctHosts (sym (watched_fresh (first ∷ others))) distinct;

@@ -8,7 +8,7 @@ use Rattle.trace_log.specs.Log.{Logged}
 use Rattle.trace_moment.specs.declared.watched.Lasting.{Lasting}
 use Rattle.trace_moment.specs.declared.watched.Lasting.TheVariants.{While, At}
 use Rattle.trace_moment.specs.Moment.{Taken, own, events_of, IsLater, IsMoment, Follow}
-use Rattle.trace_moment.specs.Queues.{Candidate, Queue, queue_at, watched_by, waiting, front_clock, is_passed, stands}
+use Rattle.trace_moment.specs.Queues.{Candidate, EventQueue, queue_at, watched_by, waiting, prefix_clock, is_passed, stands}
 
 -- One clock knows no more than another.
 abbrev pub KnowsNoMore : List Member → List Member → Type 0
@@ -43,7 +43,7 @@ pub record GoesOn (lasting : Lasting) (taken : List Taken) (one : Candidate) : T
   pub last : last_clock one.logged.event.host (events_of taken) ≡ one.logged.event.clock
 
 -- A queue has candidates of its host, in their order.
-pub record IsQueueOf (taken : List Taken) (queue : Queue) : Type 0 where
+pub record IsQueueOf (taken : List Taken) (queue : EventQueue) : Type 0 where
   pub candidates : All (IsCandidate taken queue.host) (waiting queue)
   pub in_order : AllPairs (λ one other. ComesBefore one.event other.event) (waiting queue)
   pub ended : All (HasEnded queue.lasting taken) queue.ended
@@ -51,12 +51,12 @@ pub record IsQueueOf (taken : List Taken) (queue : Queue) : Type 0 where
   pub latest : KnowsNoMore queue.latest (last_clock queue.host (events_of taken))
 
 -- An event of a moment at another host knows of this many events of this one.
-abbrev pub IsKnownElsewhere : List Queue → (ℕ → Logged) → ℕ → ℕ → Type 0
+abbrev pub IsKnownElsewhere : List EventQueue → (ℕ → Logged) → ℕ → ℕ → Type 0
 IsKnownElsewhere queues moment q floor = (p : ℕ) × (p < length queues) × (p ≢ q)
     × (floor ≤ number_of (queue_at queues q).host (moment p).event.clock)
 
 -- A moment has candidates or events that come later, and knows as much as the floors say.
-pub record IsAmong (queues : List Queue) (floors : List ℕ) (more : List Taken) (moment : ℕ → Logged) : Type 0 where
+pub record IsAmong (queues : List EventQueue) (floors : List ℕ) (more : List Taken) (moment : ℕ → Logged) : Type 0 where
   pub waits : (p : ℕ) → p < length queues → Contains (waiting (queue_at queues p)) (moment p)
       ⊎ Contains more (record { logged = moment p; holds = true })
   pub knows : (q : ℕ) → q < length queues → 0 < slice_index floors q →
@@ -64,40 +64,40 @@ pub record IsAmong (queues : List Queue) (floors : List ℕ) (more : List Taken)
 
 -- Elimination leaves these candidates: each moment of what was taken, or of more, is among them and what comes later
 -- (Garg and Waldecker 1994).
-pub record AreLeft (taken : List Taken) (queues : List Queue) (floors : List ℕ) : Type 0 where
+pub record AreLeft (taken : List Taken) (queues : List EventQueue) (floors : List ℕ) : Type 0 where
   pub each : (p : ℕ) → p < length queues → IsQueueOf taken (queue_at queues p)
   pub moments : (more : List Taken) → Follow taken more → (moment : ℕ → Logged) →
       IsMoment (watched_by queues) (taken ++ more) moment → IsAmong queues floors more moment
 
--- The floors are no lower than what the front of p knows of the other hosts.
-abbrev pub IsUnderFloors : List Queue → List ℕ → ℕ → Type 0
+-- The floors are no lower than what the head of p knows of the other hosts.
+abbrev pub IsUnderFloors : List EventQueue → List ℕ → ℕ → Type 0
 IsUnderFloors queues floors p = (q : ℕ) → q < length queues → q ≢ p →
-    number_of (queue_at queues q).host (front_clock (queue_at queues p)) ≤ slice_index floors q
+    number_of (queue_at queues q).host (prefix_clock (queue_at queues p)) ≤ slice_index floors q
 
-abbrev pub AreUnderFloors : List Queue → List ℕ → Type 0
+abbrev pub AreUnderFloors : List EventQueue → List ℕ → Type 0
 AreUnderFloors queues floors = (p : ℕ) → p < length queues → IsUnderFloors queues floors p
 
 -- No first candidate is over.
-abbrev pub ArePassedByNone : List Queue → List ℕ → Type 0
+abbrev pub ArePassedByNone : List EventQueue → List ℕ → Type 0
 ArePassedByNone queues floors = (p : ℕ) → p < length queues →
     is_passed (queue_at queues p) (slice_index floors p) ≡ false
 
--- The floors of the other hosts rise to what the front of p knows of them.
-pub record RiseTo (queues : List Queue) (p : ℕ) (old new : List ℕ) : Type 0 where
+-- The floors of the other hosts rise to what the head of p knows of them.
+pub record RiseTo (queues : List EventQueue) (p : ℕ) (old new : List ℕ) : Type 0 where
   pub itself : slice_index new p ≡ slice_index old p
   pub others : (q : ℕ) → q < length queues → q ≢ p → slice_index new q
-      ≡ max (number_of (queue_at queues q).host (front_clock (queue_at queues p))) (slice_index old q)
+      ≡ max (number_of (queue_at queues q).host (prefix_clock (queue_at queues p))) (slice_index old q)
 
 -- Each host has a first candidate that lasts up to its floor, or one has none.
-abbrev pub AllStand : List Queue → List ℕ → Type 0
+abbrev pub AllStand : List EventQueue → List ℕ → Type 0
 AllStand queues floors = (p : ℕ) → p < length queues → stands (queue_at queues p) (slice_index floors p) ≡ true
 
-abbrev pub OneDoesNotStand : List Queue → List ℕ → Type 0
+abbrev pub OneDoesNotStand : List EventQueue → List ℕ → Type 0
 OneDoesNotStand queues floors = (p : ℕ) × (p < length queues)
     × (stands (queue_at queues p) (slice_index floors p) ≡ false)
 
 -- An event of p was added: elimination leaves of what was taken and this event the new queues under the new floors.
-pub record AddsEvent (taken : List Taken) (next : Taken) (queues new_queues : List Queue) (floors new_floors : List ℕ)
+pub record AddsEvent (taken : List Taken) (next : Taken) (queues new_queues : List EventQueue) (floors new_floors : List ℕ)
     : Type 0 where
   pub left : AreLeft taken queues floors → AreLeft (taken ++ next ∷ []) new_queues new_floors
   pub under : AreLeft taken queues floors → AreUnderFloors queues floors → AreUnderFloors new_queues new_floors

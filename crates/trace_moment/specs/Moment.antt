@@ -9,7 +9,7 @@ use Rattle.trace_moment.specs.declared.watched.Lasting.{Lasting}
 use Rattle.trace_moment.specs.declared.watched.Lasting.TheVariants.{While, At}
 
 -- A watched host, and how long its states last.
-pub record Watch : Type 0 where
+pub record HostWatch : Type 0 where
   pub host : List ℕ
   pub lasting : Lasting
 
@@ -19,11 +19,11 @@ pub record Taken : Type 0 where
   pub holds : Bool
 
 -- The watched host at a place.
-abbrev pub watch_at : List Watch → ℕ → Watch
+abbrev pub watch_at : List HostWatch → ℕ → HostWatch
 watch_at watched p = slice_index_or watched p (record { host = []; lasting = While })
 
 -- No host stands at two places.
-abbrev pub HaveDistinctHosts : List Watch → Type 0
+abbrev pub HaveDistinctHosts : List HostWatch → Type 0
 HaveDistinctHosts watched = (p q : ℕ) → p < length watched → q < length watched →
     (watch_at watched p).host ≡ (watch_at watched q).host → p ≡ q
 
@@ -50,14 +50,14 @@ IsOver At taken e f = HappenedBefore e f
 
 -- A moment names an event of each watched host: at each the host's condition holds, and no state is over where another
 -- begins (Chandy and Lamport 1985; Garg and Waldecker 1994).
-pub record IsMoment (watched : List Watch) (taken : List Taken) (moment : ℕ → Logged) : Type 0 where
+pub record IsMoment (watched : List HostWatch) (taken : List Taken) (moment : ℕ → Logged) : Type 0 where
   pub held : (p : ℕ) → p < length watched → Contains taken (record { logged = moment p; holds = true })
   pub host : (p : ℕ) → p < length watched → (moment p).event.host ≡ (watch_at watched p).host
   pub together : (p q : ℕ) → p < length watched → q < length watched → p ≢ q →
       IsOver (watch_at watched p).lasting taken (moment p).event (moment q).event → ⊥
 
 -- The earliest one lies at or below each of them, at each host.
-pub record IsEarliest (watched : List Watch) (taken : List Taken) (moment : ℕ → Logged) : Type 0 where
+pub record IsEarliest (watched : List HostWatch) (taken : List Taken) (moment : ℕ → Logged) : Type 0 where
   pub one : IsMoment watched taken moment
   pub below : (other : ℕ → Logged) → IsMoment watched taken other → (p : ℕ) → p < length watched →
       own (moment p).event ≤ own (other p).event
@@ -71,7 +71,7 @@ abbrev pub MayFollow : List Taken → Event → Type 0
 MayFollow taken event = follows event.host (last_clock event.host (events_of taken)) event.clock ≡ Ok tt
 
 -- An event is the next one of the watched host at a place.
-pub record IsNextAt (watched : List Watch) (place : ℕ) (taken : List Taken) (logged : Logged) : Type 0 where
+pub record IsNextAt (watched : List HostWatch) (place : ℕ) (taken : List Taken) (logged : Logged) : Type 0 where
   pub host : logged.event.host ≡ (watch_at watched place).host
   pub follows : MayFollow taken logged.event
 
@@ -81,5 +81,5 @@ Follow taken [] = Unit {0}
 Follow taken (next ∷ more) = MayFollow taken next.logged.event × Follow (taken ++ next ∷ []) more
 
 -- A moment is known: it is the earliest, and stays it whatever follows.
-abbrev pub IsKnown : List Watch → List Taken → (ℕ → Logged) → Type 0
+abbrev pub IsKnown : List HostWatch → List Taken → (ℕ → Logged) → Type 0
 IsKnown watched taken moment = (more : List Taken) → Follow taken more → IsEarliest watched (taken ++ more) moment

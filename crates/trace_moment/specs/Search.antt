@@ -3,12 +3,12 @@ use Rattle.std.specs.Prelude.{◌≡◌, ℕ, Bool, List, [], ◌∷◌, ◌++�
 use Rattle.std.specs.declared.alloc.AllocError.{AllocError}
 use Rattle.trace_log.specs.Log.{Logged}
 use Rattle.trace_moment.specs.declared.search.Search.{Search}
-use Rattle.trace_moment.specs.Moment.{Watch, Taken}
+use Rattle.trace_moment.specs.Moment.{HostWatch, Taken}
 use Rattle.trace_moment.specs.Queues as queues
 use Rattle.trace_moment.specs.Standing.{moment_among, StandFor}
 
 -- The hosts that a search watches.
-abbrev pub watched_by : Search → List Watch
+abbrev pub watched_by : Search → List HostWatch
 watched_by search = queues.watched_by search.queues.items
 
 -- Whether it knows the moment.

@@ -7,14 +7,14 @@ ghost use Rattle.trace_moment.specs.Elimination.{AreLeft, AreUnderFloors, ArePas
 ghost use Rattle.trace_moment.specs.Elimination.{AllStand, OneDoesNotStand, LastKnowsAll, AddsEvent};
 ghost use Rattle.trace_moment.specs.Standing.{StandFor};
 
-use crate::queue::Queue;
+use crate::queue::EventQueue;
 use std::alloc::AllocError;
 use trace_log::{Logged, number_of};
 
 /// Takes the next event of the host at `place`, at which its condition holds or not, and eliminates. Answers whether
 /// the first candidates are known to be the moment. `Err` where memory runs out: nothing has changed.
 pub(crate) fn take_next(
-    queues: &mut [Queue],
+    queues: &mut [EventQueue],
     floors: &mut [u32],
     place: usize,
     logged: Logged,
@@ -38,7 +38,7 @@ pub(crate) fn take_next(
 /// Adds the next event of the host at `place`, at which its condition holds or not. `Err` where memory runs out:
 /// nothing has changed.
 fn add(
-    queues: &mut [Queue],
+    queues: &mut [EventQueue],
     floors: &mut [u32],
     place: usize,
     logged: Logged,
@@ -62,13 +62,13 @@ fn add(
     Ok(())
 }
 
-/// Raises the floors of the other hosts to what the front of the host at `place` knows of them.
-fn raise(floors: &mut [u32], queues: &[Queue], place: usize)
+/// Raises the floors of the other hosts to what the head of the host at `place` knows of them.
+fn raise(floors: &mut [u32], queues: &[EventQueue], place: usize)
     requires within { place < length queues.now }
     requires in_step { length floors.old ≡ length queues.now }
     ensures { RiseTo queues.now place floors.old floors.new }
 {
-    let clock = queues[place].front_clock();
+    let clock = queues[place].prefix_clock();
     for q in 0..queues.len() {
         if q != place {
             floors[q] = number_of(queues[q].host(), clock).max(floors[q]);
@@ -77,7 +77,7 @@ fn raise(floors: &mut [u32], queues: &[Queue], place: usize)
 }
 
 /// Drops candidates that are over until no first one is.
-fn eliminate(queues: &mut [Queue], floors: &mut [u32])
+fn eliminate(queues: &mut [EventQueue], floors: &mut [u32])
     requires in_step { length floors.old ≡ length queues.old }
     ensures left { (taken : List Taken) → LastKnowsAll taken → AreLeft taken queues.old floors.old →
         AreLeft taken queues.new floors.new }
@@ -92,7 +92,7 @@ fn eliminate(queues: &mut [Queue], floors: &mut [u32])
 }
 
 /// The first host whose first candidate is over.
-fn first_passed(queues: &[Queue], floors: &[u32]) -> Option<usize>
+fn first_passed(queues: &[EventQueue], floors: &[u32]) -> Option<usize>
     requires { length floors.now ≡ length queues.now }
     ensures none { IfNone result (ArePassedByNone queues.now floors.now) }
     ensures within { IfSome result (λ p. p < length queues.now) }
@@ -107,7 +107,7 @@ fn first_passed(queues: &[Queue], floors: &[u32]) -> Option<usize>
 }
 
 /// Whether each host has a first candidate that lasts up to its floor.
-fn all_stand(queues: &[Queue], floors: &[u32]) -> bool
+fn all_stand(queues: &[EventQueue], floors: &[u32]) -> bool
     requires { length floors.now ≡ length queues.now }
     ensures { MatchBool result (AllStand queues.now floors.now) (OneDoesNotStand queues.now floors.now) }
 {
@@ -120,7 +120,7 @@ fn all_stand(queues: &[Queue], floors: &[u32]) -> bool
 }
 
 /// Whether each host has a first candidate.
-pub(crate) fn have_firsts(queues: &[Queue]) -> bool
+pub(crate) fn have_firsts(queues: &[EventQueue]) -> bool
     ensures { MatchBool result (HaveFirsts queues.now) (OneHasNone queues.now) }
 {
     for q in 0..queues.len() {

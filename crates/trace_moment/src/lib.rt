@@ -18,4 +18,4 @@ mod search;
 mod watched;
 
 pub use search::Search;
-pub use watched::{Lasting, Watched};
+pub use watched::{Lasting, WatchedHost};

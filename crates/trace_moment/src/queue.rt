@@ -1,10 +1,10 @@
 ghost use Rattle.std.specs.Prelude.{◌≡◌, ◌<◌, length, drop, string_bytes, option_copied, OnOk, OnErr};
 ghost use Rattle.trace_log.specs.Turns.{seen_logged};
 ghost use Rattle.trace_log.specs.Views.{seen_clock};
-ghost use Rattle.trace_moment.specs.Queues.{empty_queue, first_of, front_clock, is_passed, stands, with_event};
+ghost use Rattle.trace_moment.specs.Queues.{empty_queue, first_of, prefix_clock, is_passed, stands, with_event};
 
 use crate::candidate::Candidate;
-use crate::watched::{Lasting, Watched};
+use crate::watched::{Lasting, WatchedHost};
 use std::alloc::{AllocError, Global};
 use std::collections::VecDeque;
 use std::marker::Model;
@@ -15,7 +15,7 @@ use trace_log::{Logged, Member, number_of};
 /// A contract sees those whose end was read, the oldest first, the one that still goes on, and the clock of the host's
 /// last event at which its condition didn't hold.
 #[derive(Debug, Drop)]
-pub(crate) struct Queue {
+pub(crate) struct EventQueue {
     host: String,
     lasting: Lasting,
     ended: VecDeque<Candidate>,
@@ -23,10 +23,10 @@ pub(crate) struct Queue {
     latest: Vec<Member>,
 }
 
-impl Model for Queue {
+impl Model for EventQueue {
     ghost use Rattle.std.specs.Prelude.{string_bytes};
     ghost use Rattle.trace_log.specs.Views.{seen_clock};
-    ghost use Rattle.trace_moment.specs.Queues.{Queue as Seen};
+    ghost use Rattle.trace_moment.specs.Queues.{EventQueue as Seen};
 
     ghost Value = { Seen };
 
@@ -39,12 +39,12 @@ impl Model for Queue {
     } };
 }
 
-impl Queue {
+impl EventQueue {
     /// The queue of a host before its first event.
-    pub fn new(alloc: Global, watched: Watched) -> Queue
+    pub fn new(alloc: Global, watched: WatchedHost) -> EventQueue
         ensures { result ≡ empty_queue (string_bytes watched.host) watched.lasting }
     {
-        Queue {
+        EventQueue {
             host: watched.host,
             lasting: watched.lasting,
             ended: VecDeque::new(alloc),
@@ -101,8 +101,8 @@ impl Queue {
 
     /// The clock of the first candidate, else that of the host's last event: each candidate and each later event of
     /// the host knows what it knows.
-    pub fn front_clock(&self) -> &[Member]
-        ensures { seen_clock result.now ≡ front_clock self.now }
+    pub fn prefix_clock(&self) -> &[Member]
+        ensures { seen_clock result.now ≡ prefix_clock self.now }
     {
         match self.first() {
             Some(first) => first.logged.event.clock.as_slice(),

@@ -3,15 +3,15 @@ ghost use Rattle.std.specs.Prelude.{IfOk, MatchBool, IsTrue, option_map, if◌th
 ghost use Rattle.trace_moment.specs.Queues.{HaveFirstsWhere};
 
 use crate::elimination::{have_firsts, take_next};
-use crate::queue::Queue;
-use crate::watched::Watched;
+use crate::queue::EventQueue;
+use crate::watched::WatchedHost;
 use std::alloc::{AllocError, Global};
 use trace_log::Logged;
 
 /// The search for the earliest moment of a log that is read event by event.
 #[derive(Debug, Drop)]
 pub struct Search {
-    queues: Vec<Queue>,
+    queues: Vec<EventQueue>,
     floors: Vec<u32>,
     known: bool,
     ghost in_step: { length floors.items ≡ length queues.items },
@@ -27,7 +27,7 @@ impl Search {
     ghost use Rattle.trace_moment.specs.Search.{HasTaken, TakesNext};
 
     /// A search of the moments of these hosts, which has taken nothing. `Err` where memory runs out.
-    pub fn new(alloc: Global, watched: Vec<Watched>) -> Result<Search, AllocError>
+    pub fn new(alloc: Global, watched: Vec<WatchedHost>) -> Result<Search, AllocError>
         requires some { 0 < length watched.items }
         requires distinct { HaveDistinctHosts (map seen_watch watched.items) }
         ensures watched { IfOk result (λ search. watched_by search ≡ map seen_watch watched.items) }
@@ -36,7 +36,7 @@ impl Search {
         let mut queues = Vec::with_capacity(alloc, watched.len())?;
         let mut floors = Vec::with_capacity(alloc, watched.len())?;
         for one in watched {
-            queues.push(Queue::new(alloc, one))?;
+            queues.push(EventQueue::new(alloc, one))?;
             floors.push(0)?;
         }
         Ok(Search {

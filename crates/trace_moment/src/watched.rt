@@ -9,7 +9,7 @@ pub enum Lasting {
 
 /// A watched host, and how long its states last.
 #[derive(Debug, Drop)]
-pub struct Watched {
+pub struct WatchedHost {
     pub host: String,
     pub lasting: Lasting,
 }

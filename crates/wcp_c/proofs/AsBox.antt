@@ -8,7 +8,7 @@ use Rattle.std_heap.specs.contracts.GlobalAllocator.TheImpl.{ghosts, dict}
 use Rattle.std_heap.proofs.Global.TheLaws as heap
 use Rattle.wcp_queue.specs.contracts.checker.Checker as Checker
 use Rattle.wcp_queue.proofs.checker.Checker.TheLaws as checker
-use Rattle.wcp_c.specs.contracts.parts.Parts as Parts
+use Rattle.wcp_c.specs.contracts.parts.BoxParts as BoxParts
 use Rattle.wcp_c.specs.contracts.held.Held as Held
 
 abbrev pub E : Bx
@@ -19,7 +19,7 @@ E = record {
 }
 
 abbrev pub FromParts : Slot 0
-FromParts = plain (λ _. Parts.the_row Checker.the_row Heap.the_row ghosts)
+FromParts = plain (λ _. BoxParts.the_row Checker.the_row Heap.the_row ghosts)
 
 abbrev pub FromHeld : Slot 0
 FromHeld = plain (λ _. Held.the_row)

@@ -1,21 +1,14 @@
 use Rattle.std.specs.Prelude.{◌≡◌, ◌<◌, ◌≤◌, ◌⊎◌, ℕ, List, [], ◌∷◌, ◌++◌, codes}
 use Rattle.wcp_model.specs.declared.outcome.Outcome.{Outcome}
-use Rattle.wcp_model.specs.declared.outcome.Report.{Report}
-use Rattle.wcp_model.specs.declared.outcome.Report.TheVariants.{Found, Nothing, Undecided}
 use Rattle.wcp_model.specs.declared.plan.Plan.{Plan}
 use Rattle.wcp_model.specs.declared.workload.Task.{Task}
 use Rattle.wcp_model.specs.Outcome.{IsWorkloadOutcome}
+use Rattle.wcp_model.specs.Verdict.{status_of}
 use Rattle.wcp_model.specs.WorkloadComputation.{CouldBeRead}
 use Rattle.wcp_report.specs.ReportText.{outcome_text}
 use Rattle.wcp_script.specs.Lines.{line_feed}
 use Rattle.wcp_script.specs.TextFault.{workloads, Spells}
 use Rattle.wcp_c.specs.Answers.{no_room}
-
--- The status after a report: 0 where a bad moment was found.
-abbrev pub status_of : Report → ℕ
-status_of (Found cut) = 0
-status_of Nothing = 1
-status_of Undecided = 1
 
 -- The answer to the text of a workload: its outcome, printed, with the status of the report.
 pub record IsSingleAnswer (text printed : List ℕ) (status : ℕ) : Type 0 where

@@ -2,7 +2,7 @@
 ghost use Rattle.std.specs.Prelude.{◌≡◌, ◌↔◌, Some, None, IsTrue, IsSome, IfSome, IsNone};
 
 use crate::held::Held;
-use crate::parts::Parts;
+use crate::parts::BoxParts;
 use std::alloc::Global;
 use std::mem;
 use wcp_queue::Checker;
@@ -39,7 +39,7 @@ impl WcpChecker {
         WcpChecker {
             held_word: HELD,
             reserved: 0,
-            held: Held::of_parts(Parts::of(checker)),
+            held: Held::of_parts(BoxParts::of(checker)),
         }
     }
 

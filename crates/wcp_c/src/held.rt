@@ -3,7 +3,7 @@ ghost use Rattle.std.specs.Prelude.{◌≡◌, Option, Some, None};
 ghost use Rattle.wcp_queue.specs.Checker.{CheckerState};
 ghost use Rattle.wcp_c.specs.Held.{held_owns, held_coded};
 
-use crate::parts::Parts;
+use crate::parts::BoxParts;
 use std::alloc::Global;
 use std::marker::Model;
 use std::ptr::null_mut;
@@ -34,10 +34,10 @@ impl Held {
     }
 
     /// The checker with these parts.
-    pub fn of_parts(parts: Parts<Checker, Global>) -> Held
+    pub fn of_parts(parts: BoxParts<Checker, Global>) -> Held
         ensures { result.checker ≡ Some parts.value }
     {
-        let Parts { ptr, alloc } = parts;
+        let BoxParts { ptr, alloc } = parts;
         Held {
             ptr: ptr as *mut u8,
             alloc,
@@ -45,12 +45,12 @@ impl Held {
     }
 
     /// The parts of the checker.
-    pub fn into_parts(self) -> Parts<Checker, Global>
+    pub fn into_parts(self) -> BoxParts<Checker, Global>
         requires { (checker : CheckerState) × (self.checker ≡ Some checker) }
         ensures { self.checker ≡ Some result.value }
     {
         let Held { ptr, alloc } = self;
-        Parts {
+        BoxParts {
             ptr: ptr as *mut Checker,
             alloc,
         }

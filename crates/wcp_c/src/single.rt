@@ -1,25 +1,17 @@
 //! The report of a text, as the program `wcpwatch` prints it.
 ghost use Rattle.std.specs.Prelude.{◌≡◌, ◌≢◌, ◌<◌, ◌≤◌, ◌⊎◌, ℕ, List, IfOk, IfErr, length, take, drop};
 ghost use Rattle.wcp_io.specs.Input.{most_bytes};
-ghost use Rattle.wcp_model.specs.declared.outcome.Report.{Report as Reported};
 ghost use Rattle.wcp_script.specs.ReadAnswers.{IsFaultOf};
 ghost use Rattle.wcp_script.specs.TextFault.{HasWorkloadFault};
 ghost use Rattle.wcp_script.specs.declared.fault.ScriptFault.{ScriptFault as TextFault};
 ghost use Rattle.wcp_c.specs.Answers.{no_memory, no_room};
-ghost use Rattle.wcp_c.specs.Singles.{IsAnswered, IsSingleAnswer, status_of, too_large_line};
+ghost use Rattle.wcp_c.specs.Singles.{IsAnswered, IsSingleAnswer, too_large_line};
 
 use crate::answer::{NO_MEMORY, NO_ROOM};
 use std::alloc::{AllocError, Global};
 use wcp_io::MAX_BYTES;
-use wcp_model::Report;
 use wcp_report::report_text;
 use wcp_script::{ReadFault, ScriptFault, read_ordered, single_in_order};
-
-/// The status where a bad moment was found.
-const FOUND: u32 = 0;
-
-/// The status where there is none.
-const NOT_FOUND: u32 = 1;
 
 /// The status where the text has a fault.
 const FAULT: u32 = 2;
@@ -29,7 +21,7 @@ const TOO_LARGE: &[u8] = b"wcpwatch: toolarge\n";
 
 /// What is printed, and the status.
 #[derive(Drop)]
-struct Answer {
+struct SingleAnswer {
     text: Vec<u8>,
     status: u32,
 }
@@ -65,16 +57,16 @@ pub extern "C" fn wcp_single(alloc: Global, text: &[u8], out: &mut [u8], written
 }
 
 /// The outcome of the workload that the text spells, printed.
-fn answer_to(alloc: Global, text: &[u8]) -> Result<Answer, ReadFault>
+fn answer_to(alloc: Global, text: &[u8]) -> Result<SingleAnswer, ReadFault>
     ensures answer { IfOk result (λ answer. IsSingleAnswer text.now answer.text.items answer.status) }
     ensures fault { IfErr result (IsFaultOf (HasWorkloadFault text.now)) }
     ensures status { IfOk result (λ answer. answer.status ≤ 1) }
 {
     let read = read_ordered(alloc, text)?;
     let outcome = single_in_order(alloc, &read.workload, read.in_order())?;
-    Ok(Answer {
+    Ok(SingleAnswer {
         text: report_text(alloc, &outcome)?,
-        status: status_of(&outcome.report),
+        status: u32::from(outcome.report.exit_status()),
     })
 }
 
@@ -100,15 +92,4 @@ fn put(text: &[u8], status: u32, out: &mut [u8], written: &mut u64) -> u32
     }
     out[..text.len()].copy_from_slice(text);
     status
-}
-
-/// The status after a report.
-fn status_of(report: &Report) -> u32
-    ensures value { result ≡ status_of report.now }
-    ensures small { result ≤ 1 }
-{
-    match report {
-        Report::Found(_) => FOUND,
-        Report::Nothing | Report::Undecided => NOT_FOUND,
-    }
 }

@@ -19,8 +19,8 @@ pub use Rattle.std.specs.Io.KnownBytes.{Keeps, Appends}
 pub use Rattle.std.specs.List.{list_all, flat_map}
 pub use Rattle.std.specs.Str.{bytes_eq}
 pub use Rattle.wcp_io.specs.Input.{Known}
-pub use Rattle.wcp_io.specs.Fronts.{AppendsFront}
-pub use Rattle.wcp_cli.specs.Edge.{status_after, Quiet, Front, Whole}
+pub use Rattle.wcp_io.specs.Prefixes.{AppendsPrefix}
+pub use Rattle.wcp_cli.specs.Edge.{status_after, Quiet, Prefix, Whole}
 pub use Rattle.wcp_cli.specs.RequestAnswers.{Reads, ring_text}
 pub use Rattle.wcp_cli.specs.Words.{program, AskForSingle, AskForHelp, AskForVersion, AskForUnknown, IsAlone, IsReader}
 pub use Rattle.wcp_cli.specs.Words.{IsUnknown, UnknownWord, Further, is_flag, IsSameRequest, AskFor, MayHelp, named}

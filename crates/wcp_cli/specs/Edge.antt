@@ -1,7 +1,7 @@
 use Rattle.std.specs.Prelude.{◌≡◌, ℕ, List, Result, Ok, Err}
 use Rattle.std.specs.Io.KnownBytes.{Appends, Keeps}
 use Rattle.wcp_io.specs.Edge.{Edge}
-use Rattle.wcp_io.specs.Fronts.{AppendsFront}
+use Rattle.wcp_io.specs.Prefixes.{AppendsPrefix}
 use Rattle.wcp_cli.specs.declared.fault.Fault.{Fault}
 use Rattle.wcp_cli.specs.declared.words.Request.{Request}
 use Rattle.wcp_cli.specs.RequestAnswers.{IsAnswerTo, Reads}
@@ -12,8 +12,8 @@ use Rattle.wcp_cli.specs.Words.{HasRing, IsSameRequest}
 pub data Does (request : Request) (edge : Edge) (status : ℕ) : Type 0 where
   Whole : (printed : List ℕ) → IsAnswerTo request edge.input edge.input_after printed status
       → Appends edge.output edge.output_after printed → Does request edge status
-  Front : (printed : List ℕ) (wanted : ℕ) → IsAnswerTo request edge.input edge.input_after printed wanted
-      → AppendsFront edge.output edge.output_after printed → status ≡ 2 → Does request edge status
+  Prefix : (printed : List ℕ) (wanted : ℕ) → IsAnswerTo request edge.input edge.input_after printed wanted
+      → AppendsPrefix edge.output edge.output_after printed → status ≡ 2 → Does request edge status
   Quiet : Reads request edge.input edge.input_after → Keeps edge.output edge.output_after → status ≡ 2
       → Does request edge status
 

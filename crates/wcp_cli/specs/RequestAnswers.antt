@@ -3,13 +3,12 @@ use Rattle.std.specs.List.{flat_map}
 use Rattle.std.specs.Io.KnownBytes.{Keeps}
 use Rattle.wcp_io.specs.Input.{IsInput, Known}
 use Rattle.wcp_model.specs.declared.outcome.Outcome.{Outcome}
-use Rattle.wcp_model.specs.declared.outcome.Report.{Report}
-use Rattle.wcp_model.specs.declared.outcome.Report.TheVariants.{Found, Nothing, Undecided}
 use Rattle.wcp_model.specs.declared.plan.Plan.{Plan}
 use Rattle.wcp_model.specs.declared.step.Reply.{Reply}
 use Rattle.wcp_model.specs.declared.step.Step.{Step}
 use Rattle.wcp_model.specs.declared.workload.Task.{Task}
 use Rattle.wcp_model.specs.Outcome.{IsWorkloadOutcome}
+use Rattle.wcp_model.specs.Verdict.{status_of}
 use Rattle.wcp_model.specs.WorkloadComputation.{CouldBeRead}
 use Rattle.wcp_report.specs.ReplayText.{replay_text}
 use Rattle.wcp_report.specs.ReportText.{outcome_text}
@@ -21,12 +20,6 @@ use Rattle.wcp_script.specs.WorkloadText.{task_line}
 use Rattle.wcp_world.specs.Plays.{IsPlayed}
 use Rattle.wcp_cli.specs.declared.words.Request.{Request}
 use Rattle.wcp_cli.specs.declared.words.Request.TheVariants.{Single, Run, Replay, Ring, Help, Version, Unknown}
-
--- The exit status after a report: 0 where a bad moment was found.
-abbrev pub status_of : Report → ℕ
-status_of (Found cut) = 0
-status_of Nothing = 1
-status_of Undecided = 1
 
 -- The answer to the text of a workload: its outcome, printed, with the status of the report.
 pub record IsOutcomeAnswer (text printed : List ℕ) (status : ℕ) : Type 0 where

@@ -1,7 +1,7 @@
 //! The answer to each request: what is printed, and the exit status.
 ghost use Rattle.std.specs.Prelude.{◌≡◌, ◌≢◌, ◌≤◌, IfOk, IfErr};
 ghost use Rattle.wcp_cli.specs.RequestAnswers.{IsAnswerTo, IsOutcomeAnswer, IsReplayAnswer, Reads, ring_text};
-ghost use Rattle.wcp_cli.specs.RequestAnswers.{status_of, version_text};
+ghost use Rattle.wcp_cli.specs.RequestAnswers.{version_text};
 ghost use Rattle.wcp_cli.specs.Words.{HasRing, IsRing};
 
 use crate::fault::Fault;
@@ -12,7 +12,7 @@ use std::io::Read;
 use std::sync::Wait;
 use std::thread::Threads;
 use wcp_io::read_text;
-use wcp_model::{Outcome, Report};
+use wcp_model::Outcome;
 use wcp_report::{replay_text, report_text};
 use wcp_run::run;
 use wcp_script::{
@@ -23,9 +23,6 @@ use wcp_world::play;
 
 /// The status where a bad moment was found, and after a text that tells of no computation.
 const FOUND: u8 = 0;
-
-/// The status where there is no bad moment, or none is known.
-const NOT_FOUND: u8 = 1;
 
 /// What the program prints, and its exit status.
 #[derive(Debug, Drop)]
@@ -80,7 +77,7 @@ fn outcome_answer(alloc: Global, text: &[u8]) -> Result<Answer, Fault>
     let outcome = single_in_order(alloc, &read.workload, read.in_order())?;
     Ok(Answer {
         text: report_text(alloc, &outcome)?,
-        status: status_of(&outcome.report),
+        status: outcome.report.exit_status(),
     })
 }
 
@@ -94,7 +91,7 @@ fn run_answer<R: AllocGlobal + Threads + Wait + Sync>(rt: &R, text: &[u8]) -> Re
     let outcome = run(rt, alloc, &workload, &Open)?;
     Ok(Answer {
         text: report_text(alloc, &outcome)?,
-        status: status_of(&outcome.report),
+        status: outcome.report.exit_status(),
     })
 }
 
@@ -111,7 +108,7 @@ fn replay_answer(alloc: Global, text: &[u8]) -> Result<Answer, Fault>
     };
     Ok(Answer {
         text: replay_text(alloc, played.replies.as_slice(), &outcome)?,
-        status: status_of(&outcome.report),
+        status: outcome.report.exit_status(),
     })
 }
 
@@ -141,15 +138,4 @@ fn version_answer(alloc: Global) -> Result<Answer, Fault>
         text,
         status: FOUND,
     })
-}
-
-/// The status after a report.
-fn status_of(report: &Report) -> u8
-    ensures value { result ≡ status_of report.now }
-    ensures small { result ≤ 1 }
-{
-    match report {
-        Report::Found(_) => FOUND,
-        Report::Nothing | Report::Undecided => NOT_FOUND,
-    }
 }

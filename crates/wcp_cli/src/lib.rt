@@ -3,7 +3,7 @@
 //! What is proved. `drive`: with no word or `single`, over a reader and a writer that tell their bytes, status 0 or 1
 //! means that the whole input spells a workload that could be read, that exactly the report text of its outcome was
 //! appended to the output, and nothing to the errors; 0 exactly where the report is found. With status 2 nothing was
-//! written, or a front of the report where a write failed. With `run` alone the same holds, word for word, of the
+//! written, or a prefix of the report where a write failed. With `run` alone the same holds, word for word, of the
 //! outcome that a run in threads came to, whatever their schedule. With `replay` alone, on status 0 or 1, exactly the
 //! line of each reply and then the report text were appended, for the schedule that the input spells, of replies and a
 //! report of which the headline holds. A ring's text is printed on status 0, for a number of processes and of rounds in

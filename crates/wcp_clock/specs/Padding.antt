@@ -6,10 +6,10 @@ use Rattle.std.proofs.lemmas.List.{length-take-le, take-append-drop, get_or-take
 use Rattle.std.proofs.lemmas.List.{get_or-replicate}
 
 -- what stands behind the first n cells is filler, so the first n cells give the whole back
-pub padded_front : {X : Type 0} (filler : X) (n size : ℕ) (cells : List X) → n ≤ size → length cells ≡ size →
+pub padded_prefix : {X : Type 0} (filler : X) (n size : ℕ) (cells : List X) → n ≤ size → length cells ≡ size →
     drop n cells ≡ replicate (size - n) filler →
     take n cells ++ replicate (size - length (take n cells)) filler ≡ cells
-padded_front filler n size cells within full rest =
+padded_prefix filler n size cells within full rest =
     let front : length (take n cells) ≡ n = length-take-le n cells (omega arith) in
     rw (front, ← rest) (take-append-drop n cells)
 

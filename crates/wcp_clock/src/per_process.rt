@@ -58,11 +58,11 @@ impl<T: Padding> Model for PerProcess<T> {
 
     ghost use Rattle.std.proofs.Common.{arith};
     ghost use Rattle.std.proofs.lemmas.List.{length-take-le};
-    ghost use Rattle.wcp_clock.specs.Padding.{padded_front};
+    ghost use Rattle.wcp_clock.specs.Padding.{padded_prefix};
 
     ghost inverse_ok = { λ v h i. record {
       count = length-take-le v.count v.values (Prim.omega (arith, h.1, h.2)) i;
-      values = padded_front T.padding v.count most_processes v.values h.1 h.2 h.3 i;
+      values = padded_prefix T.padding v.count most_processes v.values h.1 h.2 h.3 i;
     } };
 }
 

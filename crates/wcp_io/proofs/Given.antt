@@ -2,17 +2,17 @@
 use Rattle.wcp_io.proofs.Words.{◌≡◌, ◌≢◌, ◌∙◌, ◌<◌, ◌≤◌, ℕ, Bool, true, false, List, [], ◌∷◌, ◌++◌, Option, Some}
 use Rattle.wcp_io.proofs.Words.{None, length, refl, sym, ap, subst, arith, append_assoc, inl, inr, Consumes}
 use Rattle.wcp_io.proofs.Words.{prepend_known, Consumes-trans, All-append, line_feed, HasNoFeed, Gives, most_given}
-use Rattle.wcp_io.proofs.Words.{Moves, ToFeed, ToCut, Rest, Whole, Front, IsFirst, IfSome, IsAtEnd, lines_of, nat_eq}
+use Rattle.wcp_io.proofs.Words.{Moves, ToFeed, ToCut, Rest, Whole, Prefix, IsFirst, IfSome, IsAtEnd, lines_of, nat_eq}
 use Rattle.wcp_io.proofs.Words.{append-nil, length-append}
 use Rattle.wcp_io.proofs.Firsts.{first_to_feed, begins_with, last_line, none_left}
 use Rattle.std.proofs.lemmas.Bool.Decides.{eqb_tells}
 use Rattle.std.proofs.lemmas.List.{nil_from_length}
 use Rattle.std.proofs.Common.{true≢false, not}
 
-consumes_front : (known : Option (List ℕ)) (front rest waiting : List ℕ) → waiting ≡ front ++ rest
+consumes_prefix : (known : Option (List ℕ)) (front rest waiting : List ℕ) → waiting ≡ front ++ rest
     → Consumes (prepend_known waiting known) (prepend_known rest known) front
-consumes_front None front rest waiting parts = tt
-consumes_front (Some bytes) front rest waiting parts = ap (λ l. l ++ bytes) parts ∙ append_assoc front rest bytes
+consumes_prefix None front rest waiting parts = tt
+consumes_prefix (Some bytes) front rest waiting parts = ap (λ l. l ++ bytes) parts ∙ append_assoc front rest bytes
 
 taken_first : (known after : Option (List ℕ)) (line taken : List ℕ) → Consumes known after taken
     → ((rest : List ℕ) → IsFirst (taken ++ rest) line rest)
@@ -36,7 +36,7 @@ gives_to_feed known after line clean within consumed = record {
 first_of_cut : (line rest : List ℕ) → HasNoFeed line → length line ≡ most_given → IsFirst (line ++ rest) line rest
 first_of_cut [] rest clean long = absurd (omega arith)
 first_of_cut (byte ∷ line) rest clean long =
-    let begins = begins_with byte line rest clean in Front begins.more begins.later begins.is long refl
+    let begins = begins_with byte line rest clean in Prefix begins.more begins.later begins.is long refl
 
 -- So is as much of it as is given of a long one.
 pub gives_cut : (known after : Option (List ℕ)) (line : List ℕ) → HasNoFeed line → length line ≡ most_given
@@ -71,7 +71,7 @@ gives_whole known input waiting line waiting' line' before clean (ToFeed part pa
     let taken : line ++ ending ≡ line' ++ line_feed ∷ [] =
     sym (append_assoc line part (line_feed ∷ [])) ∙ ap (λ l. l ++ line_feed ∷ []) (sym grown) in
     let now : Consumes (prepend_known waiting input) (prepend_known waiting' input) ending =
-    consumes_front input ending waiting' waiting (parts ∙ sym (append_assoc part (line_feed ∷ []) waiting')) in
+    consumes_prefix input ending waiting' waiting (parts ∙ sym (append_assoc part (line_feed ∷ []) waiting')) in
     gives_to_feed known (prepend_known waiting' input) line'
     (subst HasNoFeed (sym grown) (All-append (λ byte. byte ≢ line_feed) line part clean part_clean))
     (omega arith)
@@ -83,7 +83,7 @@ gives_whole known input waiting line waiting' line' before clean (ToCut part par
     long
     (subst (Consumes known (prepend_known waiting' input)) (sym grown)
     (Consumes-trans known (prepend_known waiting input) (prepend_known waiting' input) line part before
-    (consumes_front input part waiting' waiting parts)))
+    (consumes_prefix input part waiting' waiting parts)))
 
 -- What is known of a line while it isn't whole.
 pub record Begun (known known' : Option (List ℕ)) (line : List ℕ) : Type 0 where
@@ -97,7 +97,7 @@ pub goes_on : (known input : Option (List ℕ)) (waiting line waiting' line' : L
 goes_on known input waiting line waiting' line' before clean (Rest rest_clean short grown none) = record {
   consumed = subst (Consumes known (prepend_known waiting' input)) (sym grown)
       (Consumes-trans known (prepend_known waiting input) (prepend_known waiting' input) line waiting before
-      (consumes_front input waiting waiting' waiting (sym (append-nil waiting) ∙ ap (λ l. waiting ++ l) (sym none))));
+      (consumes_prefix input waiting waiting' waiting (sym (append-nil waiting) ∙ ap (λ l. waiting ++ l) (sym none))));
   no_feed = subst HasNoFeed (sym grown) (All-append (λ byte. byte ≢ line_feed) line waiting clean rest_clean);
   within = short;
 }

@@ -1,4 +1,4 @@
--- A text of which a front was written.
+-- A text of which a prefix was written.
 use Rattle.std.proofs.Common.{◌≡◌, ℕ, ◌+◌, ◌-◌, ◌≤◌, List, length, take, drop, Option, arith, length-drop}
 use Rattle.std.proofs.KnownBytes.{Appends-trans}
 use Rattle.std.proofs.Math.Seq.{take-add}
@@ -9,7 +9,7 @@ use Rattle.std.specs.Io.KnownBytes.{Appends}
 rest-cut : (text : List ℕ) (i : ℕ) → take (length text - i) (drop i text) ≡ drop i text
 rest-cut text i = take_all (length text - i) (drop i text) (omega (arith, length-drop i text))
 
--- A writer that took a front of a text, and then a front of the rest, took a longer front.
+-- A writer that took a prefix of a text, and then a prefix of the rest, took a longer front.
 pub front_more : (a b c : Option (List ℕ)) (text : List ℕ) (i n : ℕ) → Appends a b (take i text)
     → Appends b c (take n (take (length text - i) (drop i text)))
     → Appends a c (take (i + n) text)

@@ -11,5 +11,5 @@ pub use Rattle.std.specs.Prelude.{nat_eq, IfSome}
 pub use Rattle.memchr.specs.Find.{Nowhere, Passes, is_byte}
 pub use Rattle.wcp_io.specs.Lines.{line_feed, put_in_front}
 unfoldable pub use Rattle.wcp_io.specs.Lines.{lines_of}
-pub use Rattle.wcp_io.specs.Reader.{Gives, IsFirst, Whole, Front, left, most_given}
+pub use Rattle.wcp_io.specs.Reader.{Gives, IsFirst, Whole, Prefix, left, most_given}
 pub use Rattle.wcp_io.specs.Parts.{HasNoFeed, Moves, ToFeed, ToCut, Rest}

@@ -1,6 +1,6 @@
 pub mod Input
 pub mod Edge
-pub mod Fronts
+pub mod Prefixes
 pub mod Lines
 pub mod Reader
 pub mod Parts

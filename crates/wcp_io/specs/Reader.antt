@@ -20,7 +20,7 @@ left reader input = prepend_known (waiting reader) input
 -- too long to be given whole.
 pub data IsFirst (bytes line rest : List ℕ) : Type 0 where
   Whole : lines_of bytes ≡ line ∷ lines_of rest → IsFirst bytes line rest
-  Front : (more : List ℕ) (later : List (List ℕ)) → lines_of bytes ≡ (line ++ more) ∷ later
+  Prefix : (more : List ℕ) (later : List (List ℕ)) → lines_of bytes ≡ (line ++ more) ∷ later
       → length line ≡ most_given → bytes ≡ line ++ rest → IsFirst bytes line rest
 
 -- The first line of what was left was given.

@@ -3,7 +3,7 @@ ghost use Rattle.std.specs.Prelude.{◌≡◌, ◌≢◌, ◌+◌, ◌-◌, ◌<
 ghost use Rattle.std.specs.Prelude.{Ok, IfOk, IfErr, OnErr, true, false, vec_len, slice_range};
 ghost use Rattle.std.specs.Io.KnownBytes.{Keeps, Consumes, IsAtEnd, prepend_known};
 
-use crate::line_fault::LineFault;
+use crate::line_fault::InputFault;
 use std::alloc::{AllocError, Global};
 use std::io::{ErrorKind, Read};
 use std::marker::Model;
@@ -60,13 +60,13 @@ impl Block {
     }
 
     /// Reads more bytes, unless some wait. `false`: none waits, and the input is at its end.
-    pub fn fill<I: Read>(&mut self, input: &mut I) -> Result<bool, LineFault>
+    pub fn fill<I: Read>(&mut self, input: &mut I) -> Result<bool, InputFault>
         ensures bytes { Keeps (prepend_known self.old (I.remaining input.old))
             (prepend_known self.new (I.remaining input.new)) }
         ensures some { result ≡ Ok true → self.new ≢ [] }
         ensures none { result ≡ Ok false → self.new ≡ [] }
         ensures ended { result ≡ Ok false → IsAtEnd (I.remaining input.new) }
-        ensures refused { IfErr result (λ fault. fault ≡ LineFault.Read) }
+        ensures refused { IfErr result (λ fault. fault ≡ InputFault.Read) }
         ensures err { OnErr result (self.new ≡ []) }
     {
         if self.start < self.end {
@@ -81,13 +81,13 @@ impl Block {
 }
 
 /// Reads once over the bytes, and again where it was interrupted.
-fn read_over<I: Read>(input: &mut I, bytes: &mut Vec<u8>) -> Result<usize, LineFault>
+fn read_over<I: Read>(input: &mut I, bytes: &mut Vec<u8>) -> Result<usize, InputFault>
     ensures len { vec_len bytes.new ≡ vec_len bytes.old }
     ensures within { IfOk result (λ count. count ≤ vec_len bytes.new) }
     ensures ok { IfOk result (λ count.
         Consumes (I.remaining input.old) (I.remaining input.new) (take count bytes.new.items)) }
     ensures ended { IfOk result (λ count. count ≡ 0 → 0 < vec_len bytes.old → IsAtEnd (I.remaining input.new)) }
-    ensures refused { IfErr result (λ fault. fault ≡ LineFault.Read) }
+    ensures refused { IfErr result (λ fault. fault ≡ InputFault.Read) }
     ensures err { OnErr result (Keeps (I.remaining input.old) (I.remaining input.new)) }
 {
     for _ in 0..u64::MAX {
@@ -95,10 +95,10 @@ fn read_over<I: Read>(input: &mut I, bytes: &mut Vec<u8>) -> Result<usize, LineF
             Ok(count) => return Ok(count),
             Err(error) => {
                 if error.kind() != ErrorKind::Interrupted {
-                    return Err(LineFault::Read);
+                    return Err(InputFault::Read);
                 }
             }
         }
     }
-    Err(LineFault::Read)
+    Err(InputFault::Read)
 }

@@ -3,7 +3,7 @@
 //! What is proved. `read_text`: on `Ok` the text is the whole input of a reader that tells its bytes, which is then at
 //! its end, and no longer than a text may be; an input that tells its bytes is refused as too large only where they
 //! are more than that. `write_whole`: on `Ok` exactly the text was appended to what a writer holds that tells its
-//! bytes; where a write failed, a front of it was.
+//! bytes; where a write failed, a prefix of it was.
 //!
 //! `LineReader::advance`: the line that it gives is the first line of what was left of the input, whose other lines are
 //! those of what is left then, of a reader that tells its bytes; a line is cut where it has more than 65,537 bytes, and
@@ -22,7 +22,7 @@ mod text_reading;
 mod text_writing;
 
 pub use io_fault::IoFault;
-pub use line_fault::LineFault;
+pub use line_fault::InputFault;
 pub use line_reader::{LineReader, MAX_GIVEN};
 pub use text_limits::MAX_BYTES;
 pub use text_reading::read_text;

@@ -1,24 +1,24 @@
 ghost use Rattle.std.specs.Prelude.{◌≡◌};
-ghost use Rattle.wcp_io.specs.declared.line_fault.LineFault.TheVariants.{NoMemory};
+ghost use Rattle.wcp_io.specs.declared.line_fault.InputFault.TheVariants.{Memory};
 
 use std::alloc::AllocError;
 use thiserror::Error;
 
 /// Why no line was read.
 #[derive(Clone, Copy, Debug, PartialEq, Eq, Error)]
-pub enum LineFault {
+pub enum InputFault {
     /// A read failed.
     #[error("read")]
     Read,
     /// Memory ran out.
     #[error("memory")]
-    NoMemory,
+    Memory,
 }
 
-impl From<AllocError> for LineFault {
-    ghost from_gives = { λ _ given. given ≡ NoMemory };
+impl From<AllocError> for InputFault {
+    ghost from_gives = { λ _ given. given ≡ Memory };
 
-    fn from(_error: AllocError) -> LineFault {
-        LineFault::NoMemory
+    fn from(_error: AllocError) -> InputFault {
+        InputFault::Memory
     }
 }

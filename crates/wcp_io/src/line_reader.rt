@@ -6,7 +6,7 @@ ghost use Rattle.wcp_io.specs.Reader.{Gives, left, most_given, waiting};
 ghost use Rattle.wcp_io.specs.Parts.{Moves};
 
 use crate::block::Block;
-use crate::line_fault::LineFault;
+use crate::line_fault::InputFault;
 use memchr::memchr;
 use std::alloc::{AllocError, Global};
 use std::io::Read;
@@ -40,7 +40,7 @@ impl LineReader {
 
     /// Reads the next line of the input, always the same one. `false`: there is none. After an `Err` the part of the
     /// line that was read stands in the place of the line, and the next call goes on behind it.
-    pub fn advance<I: Read>(&mut self, input: &mut I) -> Result<bool, LineFault>
+    pub fn advance<I: Read>(&mut self, input: &mut I) -> Result<bool, InputFault>
         ensures line { result ≡ Ok true → Gives (left self.old (I.remaining input.old))
             (left self.new (I.remaining input.new)) self.new.line.items }
         ensures ended { result ≡ Ok false → IsAtEnd (left self.new (I.remaining input.new)) }
@@ -48,8 +48,8 @@ impl LineReader {
             → Keeps (left self.old (I.remaining input.old)) (left self.new (I.remaining input.new)) }
         ensures err { OnErr result (Consumes (left self.old (I.remaining input.old))
             (left self.new (I.remaining input.new)) self.new.line.items) }
-        ensures refused { result ≡ Err LineFault.Read → waiting self.new ≡ [] }
-        ensures no_memory { result ≡ Err LineFault.NoMemory → waiting self.new ≢ [] }
+        ensures refused { result ≡ Err InputFault.Read → waiting self.new ≡ [] }
+        ensures no_memory { result ≡ Err InputFault.Memory → waiting self.new ≢ [] }
     {
         self.line.clear();
         loop {

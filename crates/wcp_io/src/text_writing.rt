@@ -1,16 +1,16 @@
 //! Writing a text whole.
 ghost use Rattle.std.specs.Prelude.{◌≡◌, IfErr, OnOk, OnErr};
 ghost use Rattle.std.specs.Io.KnownBytes.{Appends};
-ghost use Rattle.wcp_io.specs.Fronts.{AppendsFront};
+ghost use Rattle.wcp_io.specs.Prefixes.{AppendsPrefix};
 
 use crate::io_fault::IoFault;
 use std::io::{ErrorKind, Write};
 
-/// Writes all of a text, and flushes. A write that is interrupted is tried again. Where a write fails, a front of the
+/// Writes all of a text, and flushes. A write that is interrupted is tried again. Where a write fails, a prefix of the
 /// text was written.
 pub fn write_whole<W: Write>(output: &mut W, text: &[u8]) -> Result<(), IoFault>
     ensures ok { OnOk result (Appends (W.contents output.old) (W.contents output.new) text.now) }
-    ensures err { OnErr result (AppendsFront (W.contents output.old) (W.contents output.new) text.now) }
+    ensures err { OnErr result (AppendsPrefix (W.contents output.old) (W.contents output.new) text.now) }
     ensures write { IfErr result (λ fault. fault ≡ IoFault.Write) }
 {
     let mut written = 0;

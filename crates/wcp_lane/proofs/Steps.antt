@@ -70,7 +70,7 @@ module _ {I : Type 0} (origin place : I → ℕ) (is_last : I → Bool) where
       (cases_eq (origin x) q)) in
       rw (← append_assoc before (x ∷ []) xs) (AreInSequence-more numbers q (before ++ x ∷ []) xs more may.1)
 
-  -- where the items of each number of a kind are in sequence, those behind a front may follow it
+  -- where the items of each number of a kind are in sequence, those behind a prefix may follow it
   pub may_follow : (IsOne : ℕ → Type 0) (members : Numbers) (all : List I)
       → ((q : ℕ) → IsOne q → AreInSequence place is_last (items_from origin q all))
       → ((q : ℕ) → IsOne q → (items_from origin q all ≡ [] → ⊥) → sets.contains members q ≡ true)

@@ -3,9 +3,9 @@ use Rattle.wcp_model.proofs.Words.{count_by, Some, refl, eq-eqb, arith, length_p
 use Rattle.wcp_model.proofs.Words.{Any-from_list_any, slice_get_within, slice_get-get_or, get_or_from_slice_get, Step}
 use Rattle.wcp_model.proofs.Words.{Observe, Recv, Close, Computation, IsTrueState, is_send, is_closed, is_step_of}
 use Rattle.wcp_model.proofs.Words.{IsAccepted, common_steps, gets}
-use Rattle.wcp_model.proofs.Growth.{get_front, get_behind, at_grows, message_grows, true_state_of_front}
+use Rattle.wcp_model.proofs.Growth.{get_front, get_behind, at_grows, message_grows, true_state_of_prefix}
 use Rattle.wcp_model.proofs.Predecessors.{local_state}
-use Rattle.wcp_model.proofs.RunningEmissions.{NoneNew, emitted_state_of_front}
+use Rattle.wcp_model.proofs.RunningEmissions.{NoneNew, emitted_state_of_prefix}
 
 -- a close that stands in a computation closes its process
 pub close_closes : (c : Computation) (place p : ℕ) → slice_get c place ≡ Some (Close p) → is_closed c p ≡ true
@@ -26,12 +26,12 @@ none_new_after_close watched flag c e p accepted closed k is =
     let was : IsTrueState c (local_state p k) =
     grind (
       arith,
-      true_state_of_front c e (local_state p k) is.true_state,
+      true_state_of_prefix c e (local_state p k) is.true_state,
       close_last,
       at_grows c e close.0 (Close p) close.2,
       eq-eqb p p refl,
     ) in
-    emitted_state_of_front watched flag c e (local_state p k) was is
+    emitted_state_of_prefix watched flag c e (local_state p k) was is
 
 -- an accepted computation, and one more step of a process that is open; what it receives was sent
 pub accepted_push : (c : Computation) (s : Step) → IsAccepted c

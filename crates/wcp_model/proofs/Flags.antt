@@ -9,8 +9,8 @@ use Rattle.wcp_model.proofs.Decided.{Decided, decided_from, some_below_decided}
 use Rattle.wcp_model.proofs.EventPlaces.{IsEventOf, event_below}
 use Rattle.wcp_model.proofs.Predecessors.{local_state}
 use Rattle.wcp_model.proofs.Reached.{true_state_exists}
-use Rattle.wcp_model.proofs.Growth.{get_front, get_behind, count_front, in_front, at_grows, interval_grows}
-use Rattle.wcp_model.proofs.Growth.{true_state_grows, true_state_of_front}
+use Rattle.wcp_model.proofs.Growth.{get_front, get_behind, count_prefix, in_front, at_grows, interval_grows}
+use Rattle.wcp_model.proofs.Growth.{true_state_grows, true_state_of_prefix}
 
 -- what resets a flag is a communication event of its process, and each send of it resets it
 pub resets_event : (flag : Flag) (p : ℕ) (x : Step) → resets flag p x ≡ true → is_communication_of p x ≡ true
@@ -35,7 +35,7 @@ communications_push c x p one here = grind (arith, sum_by_push)
 pub true_state_cases : (c : Computation) (x : Step) (s : State) → IsTrueState (c ++ x ∷ []) s
     → IsTrueState c s ⊎ ((x ≡ Observe s.process true) × (communications c s.process ≡ s.interval))
 true_state_cases c x s is =
-    grind (arith, common_steps, gets, true_state_of_front, get_behind, slice_get_within, cases_lt is.place (length c))
+    grind (arith, common_steps, gets, true_state_of_prefix, get_behind, slice_get_within, cases_lt is.place (length c))
 
 module _ (flag : Flag) (p first second : ℕ) where
   -- a reset stays, and one between intervals that were there is an old one
@@ -44,7 +44,7 @@ module _ (flag : Flag) (p first second : ℕ) where
 
   pub reset_shrinks : (c e : Computation) → second ≤ communications c p → WasReset flag (c ++ e) p first second
       → WasReset flag c p first second
-  reset_shrinks c e exists is = grind (arith, in_front, count_front, get_front)
+  reset_shrinks c e exists is = grind (arith, in_front, count_prefix, get_front)
 
   -- whether there is one is decided
   abbrev IsResetAt : Computation → ℕ → Type 0
@@ -110,7 +110,7 @@ module _ (watched : NumberSet) (flag : Flag) (c : Computation) (x : Step) (p : �
         gets,
         cases_lt,
         get_front,
-        count_front,
+        count_prefix,
         IsEventOf,
         resets_event,
         event_below,

@@ -48,8 +48,8 @@ pub log_grows : (n : ℕ) (c e : Computation) (p : ℕ) (log more : List Call) �
 log_grows n c e p log more is also = grind (arith, calls_append, calls_grow, filter-append)
 
 -- the front of accepted steps is accepted
-pub accepted_front : (c e : Computation) → IsAccepted (c ++ e) → IsAccepted c
-accepted_front c e accepted = record {
+pub accepted_prefix : (c e : Computation) → IsAccepted (c ++ e) → IsAccepted c
+accepted_prefix c e accepted = record {
   sent_first =
       λ place p message at. omega (
         arith,

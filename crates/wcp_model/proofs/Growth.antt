@@ -19,9 +19,9 @@ get_behind [] y ys = refl
 get_behind (x ∷ xs) y ys = get_behind xs y ys
 
 -- as many elements stand before a place of the front as in the front alone
-pub count_front : {X : Type 0} (test : X → Bool) (xs ys : List X) (i : ℕ) → i ≤ length xs
+pub count_prefix : {X : Type 0} (test : X → Bool) (xs ys : List X) (i : ℕ) → i ≤ length xs
     → count_by test (take i (xs ++ ys)) ≡ count_by test (take i xs)
-count_front test xs ys i le = ap (count_by test) (take-append-le i xs ys le)
+count_prefix test xs ys i le = ap (count_by test) (take-append-le i xs ys le)
 
 -- a place with fewer before it than the front has lies in the front
 pub in_front : {X : Type 0} (test : X → Bool) (xs ys : List X) (i : ℕ)
@@ -38,12 +38,12 @@ at_grows c e place x at = get_front c e place (slice_get_within c place x at) �
 pub interval_grows : (c e : Computation) (p place : ℕ) (x : Step) → slice_get c place ≡ Some x
     → interval_at (c ++ e) p place ≡ interval_at c p place
 interval_grows c e p place x at =
-    count_front (is_communication_of p) c e place (omega (arith, slice_get_within c place x at))
+    count_prefix (is_communication_of p) c e place (omega (arith, slice_get_within c place x at))
 
 -- and so is the number of a message that is sent there
 pub message_grows : (c e : Computation) (place : ℕ) (x : Step) → slice_get c place ≡ Some x
     → message_at (c ++ e) place ≡ message_at c place
-message_grows c e place x at = count_front is_send c e place (omega (arith, slice_get_within c place x at))
+message_grows c e place x at = count_prefix is_send c e place (omega (arith, slice_get_within c place x at))
 
 -- a message stays one in a longer computation
 pub is_message_grows : (c e : Computation) (s t : State) → IsMessage c s t → IsMessage (c ++ e) s t
@@ -70,7 +70,7 @@ before_grows c e s {t = u} (Chain {t = t} h d) = Chain (before_grows c e s h) (d
 -- no direct precedence of a state is new, if the state isn't
 pub direct_shrinks : (c e : Computation) (s t : State) → IsState c t → DirectlyPrecedes (c ++ e) s t
     → DirectlyPrecedes c s t
-direct_shrinks c e s t exists direct = grind (arith, count_front, get_front, in_front)
+direct_shrinks c e s t exists direct = grind (arith, count_prefix, get_front, in_front)
 
 -- nothing new happened before a state that existed
 pub before_shrinks : (c e : Computation) (s : State) {t : State} → IsState c t → HappenedBefore (c ++ e) s t
@@ -104,15 +104,15 @@ pub true_state_grows : (c e : Computation) (s : State) → IsTrueState c s → I
 true_state_grows c e s is = grind (arith, common_steps, gets, interval_grows, at_grows)
 
 -- a state that an observation of the front makes true was true
-pub true_state_of_front : (c e : Computation) (s : State) (is : IsTrueState (c ++ e) s) → is.place < length c
+pub true_state_of_prefix : (c e : Computation) (s : State) (is : IsTrueState (c ++ e) s) → is.place < length c
     → IsTrueState c s
-true_state_of_front c e s is place = grind (arith, count_front, get_front)
+true_state_of_prefix c e s is place = grind (arith, count_prefix, get_front)
 
 -- a state that was over becomes true no more
 pub true_state_shrinks : (c e : Computation) (s : State) → s.interval < communications c s.process
     → IsTrueState (c ++ e) s → IsTrueState c s
 true_state_shrinks c e s over is =
-    true_state_of_front c e s is (in_front (is_communication_of s.process) c e is.place (omega (arith, is.within)))
+    true_state_of_prefix c e s is (in_front (is_communication_of s.process) c e is.place (omega (arith, is.within)))
 
 -- the stamp of a message that the front sends is settled
 pub stamp_shrinks : (n : ℕ) (c e : Computation) (message : ℕ) (stamp : List ℕ) → message < count_by is_send c
@@ -127,7 +127,7 @@ stamp_shrinks n c e message stamp sent is =
       from = is.from;
       to = is.to;
       send = send;
-      number = sym (count_front is_send c e is.sent (omega arith)) ∙ is.number;
+      number = sym (count_prefix is_send c e is.sent (omega arith)) ∙ is.number;
       clock = clock_shrinks n c e (record { process = is.from; interval = k + 1 }) stamp (omega (arith, exists))
           (rw (interval_grows c e is.from is.sent (Send is.from is.to) send) at is.clock);
     }

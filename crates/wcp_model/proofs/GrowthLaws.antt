@@ -4,7 +4,7 @@ use Rattle.wcp_model.proofs.Words.{IsAccepted, Answered, accepted, is_event, com
 use Rattle.wcp_model.specs.Growth.{GrowsInto, GrowthLaw, EarlyFindLaw}
 use Rattle.wcp_model.proofs.AcceptedReplies.{replies_accepted}
 use Rattle.wcp_model.proofs.CutLaws.{interval_of-minimum, minimum_is_satisfying}
-use Rattle.wcp_model.proofs.EmissionFronts.{emissions_grow}
+use Rattle.wcp_model.proofs.EmissionPrefixes.{emissions_grow}
 use Rattle.wcp_model.proofs.Reached.{true_state_exists}
 use Rattle.wcp_model.proofs.Growth.{before_grows, before_shrinks, true_state_grows, true_state_shrinks}
 

@@ -27,11 +27,11 @@ pub mod FirstFault
 pub mod CheckedPlans
 pub mod PlainPlans
 pub mod AcceptedSteps
-pub mod EmissionFronts
+pub mod EmissionPrefixes
 pub mod AcceptedReplies
 pub mod GrowthLaws
 pub mod NotesInTurn
 pub mod RisingClocks
 pub mod SendFlag
-pub mod TakenFronts
+pub mod TakenPrefixes
 pub mod TakenOutcomes

@@ -21,8 +21,8 @@ use Rattle.wcp_model.proofs.Places.{count_before-no, count_before-yes}
 use Rattle.wcp_model.proofs.Predecessors.{local_state, before_from_state}
 use Rattle.wcp_model.proofs.RunningClock.{clock_counts}
 use Rattle.wcp_model.proofs.RunningLog.{log_law_holds}
-use Rattle.wcp_model.proofs.GrowingLogs.{log_grows, stamp_grows, accepted_front}
-use Rattle.wcp_model.proofs.SamePlace.{slice_get-take, slice_get-filter, filter_front, element_within, same_count}
+use Rattle.wcp_model.proofs.GrowingLogs.{log_grows, stamp_grows, accepted_prefix}
+use Rattle.wcp_model.proofs.SamePlace.{slice_get-take, slice_get-filter, filter_prefix, element_within, same_count}
 use Rattle.wcp_model.proofs.StepsOfOrder.{length-steps_from, step_at, message_at_is}
 use Rattle.wcp_model.proofs.TaskLogs.{same_length, call_for, stamp_sent_at, stamp_got_at}
 
@@ -34,7 +34,7 @@ front n order place = take place (computation_of n order)
 abbrev done : List Task → ℕ → ℕ → ℕ
 done order p place = count_by (is_task_of p) (take place order)
 
--- one more element of a front
+-- one more element of a prefix
 take_next : {X : Type 0} (xs : List X) (i : ℕ) (x : X) → slice_get xs i ≡ Some x → take (i + 1) xs ≡ take i xs ++ x ∷ []
 take_next xs i x at = take_more xs i x (slice_get_within xs i x at)
     ∙ ap (λ y. take i xs ++ y ∷ []) (get_or_from_slice_get xs i x x at)
@@ -62,7 +62,7 @@ rank_of : (test : Action → Bool) (order : List Task) (p place : ℕ) → count
 rank_of test order p place = ap (count_by test) actions_before ∙ count_actions test p (take place order)
   where
     actions_before : take (done order p place) (actions_of p order) ≡ actions_of p (take place order)
-    actions_before = grind (arith, filter_front, length-filter, take-map)
+    actions_before = grind (arith, filter_prefix, length-filter, take-map)
 
 -- the stamp of a message knows no event that there isn't
 stamp_below : (n : ℕ) (c : Computation) (message q : ℕ) (stamp : List ℕ) → q < n → IsStampOf n c message stamp
@@ -107,7 +107,7 @@ module _ (n : ℕ) (watched : NumberSet) (flag : Flag) (order : List Task) (with
   AreLogsAt place = (p : ℕ) → p < n → IsLogOf n (front n order place) p (log_at p place)
 
   accepted_at : (place : ℕ) → IsAccepted (front n order place)
-  accepted_at place = accepted_front (front n order place) (drop place (computation_of n order))
+  accepted_at place = accepted_prefix (front n order place) (drop place (computation_of n order))
       (subst IsAccepted (sym (take-append-drop place (computation_of n order))) (order_accepted n order fit))
 
   -- a task has a call in the log of its process, which is then one longer

@@ -39,7 +39,7 @@ emissions_in_turn n watched flag c p notes emitted before after next is =
           p) emitted.clocks before after next (omega arith) (sym emitted.notes_are ∙ is),
     )
 
--- so the note behind a front of the emissions is the next that a checker may take
+-- so the note behind a prefix of the emissions is the next that a checker may take
 pub next_of_emissions : (n : ℕ) (watched : NumberSet) (flag : Flag) (c : Computation) (p : ℕ) (before after : List Note)
     (next : Note) → AreEmissions n watched flag c p (before ++ next ∷ after) → IsNextNote before next
 next_of_emissions n watched flag c p before after next emitted =

@@ -3,7 +3,7 @@ use Rattle.wcp_model.proofs.Words.{◌++◌, length, slice_index, get_or, refl, 
 use Rattle.wcp_model.proofs.Words.{length-append, get_or_append_left, get_or_past, Contains-get_or}
 use Rattle.wcp_model.proofs.Words.{AllPairs-from_increasing, Item, Note, Computation, IsState, snapshots_from}
 use Rattle.wcp_model.proofs.Words.{AreEmissions, notes_taken, snapshot_clocks, clocks_taken, AreRising, ClocksRise}
-use Rattle.wcp_model.proofs.Words.{AreFrontsOfEmissions, IsStateClock}
+use Rattle.wcp_model.proofs.Words.{ArePrefixesOfEmissions, IsStateClock}
 use Rattle.wcp_model.proofs.CutLaws.{happened_before_later}
 use Rattle.wcp_model.proofs.Predecessors.{local_state}
 use Rattle.wcp_model.proofs.RunningEmissions.{emitted_state_exists}
@@ -68,9 +68,9 @@ emissions_rise n watched flag c p notes emitted =
 AreRising-front : (p : ℕ) (clocks more : List (List ℕ)) → AreRising p (clocks ++ more) → AreRising p clocks
 AreRising-front p clocks more rising = grind (arith, length-append clocks more, get_or_append_left clocks more)
 
--- and those of a front of its emissions
+-- and those of a prefix of its emissions
 pub clocks_rise : (n : ℕ) (watched : NumberSet) (flag : Flag) (c : Computation) (items : List Item)
-    → AreFrontsOfEmissions n watched flag c items → ClocksRise n items
+    → ArePrefixesOfEmissions n watched flag c items → ClocksRise n items
 clocks_rise n watched flag c items fronts p within =
     let (rest, emitted) = fronts p within in
     AreRising-front p (clocks_taken p items) (snapshot_clocks rest) (subst (AreRising p) (snapshot_clocks-append

@@ -25,9 +25,9 @@ emitted_state_grows watched flag c e s is =
     grind (arith, true_state_exists, true_state_grows, reset_grows, true_state_shrinks, local_state)
 
 -- and one that was true before was emitted before
-pub emitted_state_of_front : (watched : NumberSet) (flag : Flag) (c e : Computation) (s : State) → IsTrueState c s
+pub emitted_state_of_prefix : (watched : NumberSet) (flag : Flag) (c e : Computation) (s : State) → IsTrueState c s
     → IsEmittedState watched flag (c ++ e) s → IsEmittedState watched flag c s
-emitted_state_of_front watched flag c e s true_before is = record {
+emitted_state_of_prefix watched flag c e s true_before is = record {
   watched_process = is.watched_process;
   true_state = true_before;
   first = λ k below true_state.
@@ -40,7 +40,7 @@ pub emitted_state_cases : (watched : NumberSet) (flag : Flag) (c : Computation) 
     → IsEmittedState watched flag (c ++ x ∷ []) s
     → IsEmittedState watched flag c s ⊎ ((x ≡ step.Observe s.process true) × (communications c s.process ≡ s.interval))
 emitted_state_cases watched flag c x s is = ⊎_elim
-    (λ (old : IsTrueState c s). inl (emitted_state_of_front watched flag c (x ∷ []) s old is))
+    (λ (old : IsTrueState c s). inl (emitted_state_of_prefix watched flag c (x ∷ []) s old is))
     (λ new. inr new)
     (true_state_cases c x s is.true_state)
 

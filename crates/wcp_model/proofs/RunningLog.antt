@@ -21,7 +21,7 @@ use Rattle.wcp_model.proofs.Growth.{true_state_grows, true_state_shrinks}
 use Rattle.wcp_model.proofs.NotesInTurn.{CountsNotes, counts_after, log_counts_notes}
 use Rattle.wcp_model.proofs.RisingClocks.{emitted_clocks}
 use Rattle.wcp_model.proofs.RunningClock.{clock_at_first, clock_after_send, clock_after_receive}
-use Rattle.wcp_model.proofs.RunningEmissions.{emitted_state_cases, emitted_state_of_front, emitted_state_exists}
+use Rattle.wcp_model.proofs.RunningEmissions.{emitted_state_cases, emitted_state_of_prefix, emitted_state_exists}
 use Rattle.wcp_model.proofs.RunningEmissions.{NoneNew, emitted_stays, emitted_close, emitted_snapshot}
 
 -- a step that is no close of the process leaves it as it was
@@ -108,7 +108,7 @@ none_while_up watched flag c p up k is =
           absurd (up.still_up (subst (WasReset flag c p up.since) (sym new.1) reset))
       | inr here ↦
           let same : up.since ≡ k = omega (arith, up.order, new.1) in
-          emitted_state_of_front watched flag c (Observe p true ∷ []) (local_state p k)
+          emitted_state_of_prefix watched flag c (Observe p true ∷ []) (local_state p k)
           (subst (λ i. IsTrueState c (local_state p i)) same up.true_state) is
     ])
     (emitted_state_cases watched flag c (Observe p true) (local_state p k) is)
@@ -333,7 +333,7 @@ own_step n watched flag c e p x s (call ∷ calls) accepted in_range own are cou
     rest (after_call (setup n watched flag p) s call) calls are.1 (counts_after (setup n watched flag p) s call counts)
     (advances n watched flag c e p x s call accepted in_range own are.0 counts h)
 
--- from the state after a front, the log of the rest leads to the state after the whole
+-- from the state after a prefix, the log of the rest leads to the state after the whole
 runs_on : (n : ℕ) (watched : NumberSet) (flag : Flag) (p : ℕ) (e c : Computation) (s : ProbeState) (calls : List Call)
     → IsAccepted (c ++ e) → p < n → AreCallsOf n (c ++ e) (filter (is_step_of p) e) calls → CountsNotes s
     → HasClockAndEmissions n watched flag c p s →

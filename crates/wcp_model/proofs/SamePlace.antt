@@ -73,12 +73,12 @@ element_after P xs earlier more =
     let kept = element_within (filter P xs) earlier (omega (arith, length-filter P xs)) in
     (kept.0, stands_after P xs earlier kept.0 kept.1)
 
--- what passes in a front is a front of what passes
-pub filter_front : {X : Type 0} (P : X → Bool) (place : ℕ) (xs : List X)
+-- what passes in a prefix is a prefix of what passes
+pub filter_prefix : {X : Type 0} (P : X → Bool) (place : ℕ) (xs : List X)
     → filter P (take place xs) ≡ take (length (filter P (take place xs))) (filter P xs)
-filter_front P zero xs = refl
-filter_front P (suc place) [] = refl
-filter_front P (suc place) (x ∷ xs) = grind (arith, filter_front P place xs)
+filter_prefix P zero xs = refl
+filter_prefix P (suc place) [] = refl
+filter_prefix P (suc place) (x ∷ xs) = grind (arith, filter_prefix P place xs)
 
 -- the same element stands in another list behind the same elements that pass
 pub record SamePlace {X : Type 0} (P : X → Bool) (xs ys : List X) (place : ℕ) (x : X) : Type 0 where
@@ -96,8 +96,8 @@ same_place P xs ys place x same found passes =
       other = there.place;
       found = there.found;
       front = cc (
-        filter_front P there.place ys,
-        filter_front P place xs,
+        filter_prefix P there.place ys,
+        filter_prefix P place xs,
         same,
         there.behind,
         length-filter P (take there.place ys),

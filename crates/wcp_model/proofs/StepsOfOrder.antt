@@ -126,7 +126,7 @@ count_closes f processes zero none = refl
 count_closes f [] (suc place) none = refl
 count_closes f (p ∷ rest) (suc place) none = grind (arith, none, count_by_no, count_closes f rest place none)
 
--- what counts at no close counts in a front of the computation as it does in the front of the order
+-- what counts at no close counts in a prefix of the computation as it does in the front of the order
 pub count_of_steps : (f : Step → Bool) (g : Task → Bool) (n : ℕ) (order : List Task) (place : ℕ)
     → ((front : List Task) (task : Task) → f (step_of order front task.p task.action) ≡ g task) → ((p : ℕ)
     → f (step.Close p) ≡ false) → count_by f (take place (computation_of n order)) ≡ count_by g (take place order)

@@ -2,14 +2,14 @@ use Rattle.wcp_model.proofs.Words.{NumberSet, Flag, ◌≡◌, ℕ, ◌<◌, Lis
 use Rattle.wcp_model.proofs.Words.{◌∙◌, subst, append-nil, arith, slice_get_within, Item, Task, Computation}
 use Rattle.wcp_model.proofs.Words.{AreEmissions, IsOutcomeOf, IsWorkloadOutcome, Call, Closed, setup, state_of_log}
 use Rattle.wcp_model.proofs.Words.{notes_taken, clocks_taken, IsDrained, IsReportByClocks, ClocksRise}
-use Rattle.wcp_model.proofs.Words.{AreFrontsOfEmissions, AreLogsOfTasks, computation_of, IsWithin}
+use Rattle.wcp_model.proofs.Words.{ArePrefixesOfEmissions, AreLogsOfTasks, computation_of, IsWithin}
 use Rattle.wcp_model.specs.declared.outcome.Outcome.{Outcome}
 use Rattle.wcp_model.specs.declared.outcome.Tally.{Tally}
 use Rattle.wcp_model.proofs.AcceptedOrder.{order_accepted}
 use Rattle.wcp_model.proofs.LogsOfTasks.{task_log_law_holds}
 use Rattle.wcp_model.proofs.RisingClocks.{clocks_rise}
 use Rattle.wcp_model.proofs.RunningLog.{log_law_holds}
-use Rattle.wcp_model.proofs.TakenFronts.{all_states_taken, report_when_drained}
+use Rattle.wcp_model.proofs.TakenPrefixes.{all_states_taken, report_when_drained}
 use Rattle.wcp_model.proofs.TaskLogs.{log_push}
 
 -- the outcome of these items: their exact report by clocks, where they need only rise, and tallies that count them
@@ -24,7 +24,7 @@ pub record IsOutcomeOfItems (n : ℕ) (watched : NumberSet) (items : List Item) 
 -- where the items are all emissions of a computation, it is the outcome of that
 module _ (n : ℕ) (watched : NumberSet) (flag : Flag) (c : Computation) (items : List Item) (emissions : (p : ℕ) → p < n
     → AreEmissions n watched flag c p (notes_taken p items)) (drained : IsDrained n items) where
-  fronts : AreFrontsOfEmissions n watched flag c items
+  fronts : ArePrefixesOfEmissions n watched flag c items
   fronts p below =
       ([], subst (AreEmissions n watched flag c p) (sym (append-nil (notes_taken p items))) (emissions p below))
 

@@ -51,7 +51,7 @@ pub use Rattle.wcp_model.specs.ProbeLog.{AreCallsOf, IsAccepted, HasClockAndEmis
 pub use Rattle.wcp_model.specs.Replies.{Answered, accepted_by, accepted, is_event, computation, receivers}
 pub use Rattle.wcp_model.specs.Replies.{event_reasons, IsReply, AreReplies}
 pub use Rattle.wcp_model.specs.Report.{notes_taken, snapshot_clocks, clocks_taken, AreRising, ClocksRise}
-pub use Rattle.wcp_model.specs.Report.{AreFrontsOfEmissions, IsDrained, IsNamed, IsNamedCut, IsCutByClocks}
+pub use Rattle.wcp_model.specs.Report.{ArePrefixesOfEmissions, IsDrained, IsNamed, IsNamedCut, IsCutByClocks}
 pub use Rattle.wcp_model.specs.Report.{IsReportOfTaken, IsReportByClocks, IsNextNote, AreInTurn}
 pub use Rattle.wcp_model.specs.StateClock.{IsStateClock, CountsBefore, StatesHaveClocks}
 pub use Rattle.wcp_model.specs.TaskLog.{actions_of, IsCallFor, FollowsActions, stamps_got, AreLogsOfTasks, TaskLogLaw}

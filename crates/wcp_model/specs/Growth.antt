@@ -18,7 +18,7 @@ pub record GrowsInto (n : ℕ) (watched : NumberSet) (flag : Flag) (c d : Comput
       AreEmissions n watched flag d p more →
       (rest : List Note) × (more ≡ notes ++ rest)
 
--- The growth law: where each step of a history has the reply that the definitions give, the computation of each front
+-- The growth law: where each step of a history has the reply that the definitions give, the computation of each prefix
 -- of the history grows into that of the whole.
 abbrev pub GrowthLaw : Type 0
 GrowthLaw = (plan : Plan) (history more : List Answered) → AreReplies plan (history ++ more) →

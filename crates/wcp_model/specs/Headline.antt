@@ -6,7 +6,7 @@ use Rattle.wcp_model.specs.declared.outcome.Report.TheVariants.{Found}
 use Rattle.wcp_model.specs.declared.plan.Plan.{Plan}
 use Rattle.wcp_model.specs.Cut.{Intervals, IsLeastCut}
 use Rattle.wcp_model.specs.Outcome.{IsReportOf}
-use Rattle.wcp_model.specs.Report.{notes_taken, AreFrontsOfEmissions, IsDrained, IsReportOfTaken}
+use Rattle.wcp_model.specs.Report.{notes_taken, ArePrefixesOfEmissions, IsDrained, IsReportOfTaken}
 use Rattle.wcp_model.specs.Replies.{Answered, accepted, items_taken, computation, AreReplies}
 
 -- For every relay tree and every list of probe, relay, checker and close steps, what the checker has taken of each
@@ -20,7 +20,7 @@ use Rattle.wcp_model.specs.Replies.{Answered, accepted, items_taken, computation
 --   each step, answered        the reply that the definitions give from the steps and replies before it (AreReplies)
 --   what the checker has taken the notes of the items in its replies, in order (items_taken, notes_taken)
 --   what a process emitted     the snapshots of its emitted states with their clocks, and its close mark (AreEmissions)
---   a prefix, once, in order   what was taken, followed by some list, is what was emitted (AreFrontsOfEmissions)
+--   a prefix, once, in order   what was taken, followed by some list, is what was emitted (ArePrefixesOfEmissions)
 --   none after its close       behind a close mark nothing was taken
 --   drained                    what was taken of each process ends with its close mark (IsDrained)
 --   the report                 that on the states which the snapshots taken name (IsReportOfTaken)
@@ -28,7 +28,7 @@ use Rattle.wcp_model.specs.Replies.{Answered, accepted, items_taken, computation
 pub record IsHeadline (plan : Plan) (history : List Answered) (report : Report) : Type 0 where
   pub replies : AreReplies plan history
   pub taken_is_prefix : (place : ℕ) →
-      AreFrontsOfEmissions plan.n plan.watched plan.flag (computation (accepted (take place history)))
+      ArePrefixesOfEmissions plan.n plan.watched plan.flag (computation (accepted (take place history)))
       (items_taken (take place history))
   pub none_after_close : (p count : ℕ) (before after : List Note) → p < plan.n →
       notes_taken p (items_taken history) ≡ before ++ note.Close count ∷ after → after ≡ []

@@ -5,6 +5,7 @@ pub mod Flag
 pub mod Cut
 pub mod WorkloadComputation
 pub mod Outcome
+pub mod Verdict
 pub mod StateClock
 pub mod Emission
 pub mod FlagLaws

@@ -41,9 +41,9 @@ pub record IsNextNote (notes : List Note) (next : Note) : Type 0 where
 abbrev pub AreInTurn : List Note → Type 0
 AreInTurn notes = (before after : List Note) (next : Note) → notes ≡ before ++ next ∷ after → IsNextNote before next
 
--- What was taken of each process is a front of its emissions in the computation.
-abbrev pub AreFrontsOfEmissions : ℕ → NumberSet → Flag → Computation → List Item → Type 0
-AreFrontsOfEmissions n watched flag c items = (p : ℕ) → p < n →
+-- What was taken of each process is a prefix of its emissions in the computation.
+abbrev pub ArePrefixesOfEmissions : ℕ → NumberSet → Flag → Computation → List Item → Type 0
+ArePrefixesOfEmissions n watched flag c items = (p : ℕ) → p < n →
     (rest : List Note) × AreEmissions n watched flag c p (notes_taken p items ++ rest)
 
 -- All is drained if the notes taken of each process end with its close mark.

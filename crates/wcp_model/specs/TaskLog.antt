@@ -52,7 +52,7 @@ abbrev pub stamps_got : ℕ → List Action → List Call → List (List ℕ)
 stamps_got p actions log = beside (is_receive_from p) actions (map stamp_of log)
 
 -- Logs are of tasks if each follows what its process does, and for each two processes of which the tasks send from one
--- to the other, the stamps that this gets are a front of those that the first sends.
+-- to the other, the stamps that this gets are a prefix of those that the first sends.
 pub record AreLogsOfTasks (n : ℕ) (watched : NumberSet) (flag : Flag) (tasks : List Task) (logs : ℕ → List Call)
     : Type 0 where
   pub follows : (p : ℕ) → p < n → FollowsActions (actions_of p tasks) (logs p)

@@ -33,7 +33,7 @@ sends p q task = is_task_of p task && is_send_to q task.action
 abbrev pub receives : ℕ → ℕ → Task → Bool
 receives p q task = is_task_of q task && is_receive_from p task.action
 
--- An order of all tasks is fit if it keeps the order of each process, and if no front of it has more receives by q
+-- An order of all tasks is fit if it keeps the order of each process, and if no prefix of it has more receives by q
 -- from p than sends by p to q: the m-th receive stands after the m-th send (Lamport 1978: an order that
 -- happened-before allows).
 pub record IsFitOrder (tasks order : List Task) : Type 0 where

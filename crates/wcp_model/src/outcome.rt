@@ -1,3 +1,6 @@
+ghost use Rattle.std.specs.Prelude.{◌≡◌, ◌≤◌};
+ghost use Rattle.wcp_model.specs.Verdict.{cut_of, status_of};
+
 use wcp_clock::{Padding, PerProcess};
 
 /// A cut: the interval of each watched process, and `None` for another.
@@ -34,6 +37,29 @@ pub enum Report {
     Nothing,
     /// What was taken has no such cut, and not all has been taken.
     Undecided,
+}
+
+impl Report {
+    /// The cut, if one was found.
+    pub fn cut(&self) -> Option<GlobalCut>
+        ensures { result ≡ cut_of self.now }
+    {
+        match self {
+            Report::Found(cut) => Some(*cut),
+            Report::Nothing | Report::Undecided => None,
+        }
+    }
+
+    /// The exit status of a program that tells this: 0 where a cut was found, and else 1.
+    pub fn exit_status(&self) -> u8
+        ensures value { result ≡ status_of self.now }
+        ensures small { result ≤ 1 }
+    {
+        match self {
+            Report::Found(_) => 0,
+            Report::Nothing | Report::Undecided => 1,
+        }
+    }
 }
 
 /// What a detection gave.

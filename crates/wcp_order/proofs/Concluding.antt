@@ -6,7 +6,7 @@ use Rattle.wcp_order.proofs.Words.{IsWithin, IsFitOrder, element_within, count_b
 use Rattle.wcp_order.proofs.Words.{IsProgress, IsBlocked, IsFirstLeft, common_steps, gets}
 use Rattle.wcp_model.proofs.AcceptedOrder.{IsFitOrder-itself}
 use Rattle.wcp_order.proofs.Doable.{can_if_done, done_if_can}
-use Rattle.wcp_order.proofs.Fronts.{begins_itself, no_more_than_all}
+use Rattle.wcp_order.proofs.Prefixes.{begins_itself, no_more_than_all}
 use Rattle.wcp_order.proofs.Lengths.{length_tasks-le}
 use Rattle.wcp_order.proofs.Tasks.{at_place, is_task_of_itself}
 

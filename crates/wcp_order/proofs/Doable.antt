@@ -8,8 +8,8 @@ use Rattle.wcp_order.proofs.Words.{CanBeDone, IsProgress, IsBlocked, IsReady}
 use Rattle.wcp_model.specs.declared.workload.Action.TheVariants as action
 use Rattle.wcp_order.specs.Stuck.CanBeDone.{Observing, Sending, Receiving}
 use Rattle.wcp_order.proofs.Counting.{sent_before}
-use Rattle.wcp_order.proofs.Fronts.{Begins, begins_take, no_more_than_all, among_by_stricter, among_by_test}
-use Rattle.wcp_order.proofs.Fronts.{as_many_pass}
+use Rattle.wcp_order.proofs.Prefixes.{Begins, begins_take, no_more_than_all, among_by_stricter, among_by_test}
+use Rattle.wcp_order.proofs.Prefixes.{as_many_pass}
 use Rattle.wcp_order.proofs.Tasks.{at_place, count_by-take_one, is_task_of_itself, sends_by, receives_by, sends_is}
 
 -- how many tasks of the process stand before a place
@@ -90,9 +90,9 @@ module _ (n : ℕ) (tasks order : List Task) (done in_transit : List ℕ) (withi
       blocked p below task (rw front (slice_get-filter (is_task_of p) tasks i task at (is_task_of_itself task))) ready
 
   -- a task that isn't the first of its process that isn't done is done if all earlier tasks of the process are
-  unless_front : (i p : ℕ) → ((j : ℕ) → IsEarlier tasks p j i → IsAmongDone j)
+  unless_prefix : (i p : ℕ) → ((j : ℕ) → IsEarlier tasks p j i → IsAmongDone j)
       → (rank tasks p i ≡ count_by (is_task_of p) order → ⊥) → rank tasks p i < count_by (is_task_of p) order
-  unless_front i p earlier elsewhere = elim (cases_lt (count_by (is_task_of p) order) (rank tasks p i)) [
+  unless_prefix i p earlier elsewhere = elim (cases_lt (count_by (is_task_of p) order) (rank tasks p i)) [
     | inr most ↦ omega (arith, most, elsewhere)
     | inl more ↦
         let at_most = sum_by-take-le (λ task. cond (is_task_of p task) 1 0) tasks i in
@@ -123,9 +123,9 @@ module _ (n : ℕ) (tasks order : List Task) (done in_transit : List ℕ) (withi
 
   pub done_if_can : {i : ℕ} → CanBeDone tasks i → IsAmongDone i
   done_if_can (Observing i p holds at earlier) task there =
-      grind (arith, at, there, unless_front i p (λ j before. done_if_can (earlier j before)) (no_front i p _ at tt))
+      grind (arith, at, there, unless_prefix i p (λ j before. done_if_can (earlier j before)) (no_front i p _ at tt))
   done_if_can (Sending i p to at earlier) task there =
-      grind (arith, at, there, unless_front i p (λ j before. done_if_can (earlier j before)) (no_front i p _ at tt))
+      grind (arith, at, there, unless_prefix i p (λ j before. done_if_can (earlier j before)) (no_front i p _ at tt))
   done_if_can (Receiving i sent message sent_can earlier) task there =
       let ready = received i sent message (done_if_can sent_can) in
       let elsewhere = λ (here : rank tasks message.to i ≡ count_by (is_task_of message.to) order). no_front i message.to
@@ -134,5 +134,5 @@ module _ (n : ℕ) (tasks order : List Task) (done in_transit : List ℕ) (withi
         arith,
         message.receive,
         there,
-        unless_front i message.to (λ j before. done_if_can (earlier j before)) elsewhere,
+        unless_prefix i message.to (λ j before. done_if_can (earlier j before)) elsewhere,
       )

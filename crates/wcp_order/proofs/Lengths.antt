@@ -3,7 +3,7 @@ use Rattle.wcp_order.proofs.Words.{get_or, ◌≡◌, ℕ, suc, zero, ◌<◌, �
 use Rattle.wcp_order.proofs.Words.{count_by, refl, arith, filter, All, All-filter, filter_passes, length-filter, Task}
 use Rattle.wcp_order.proofs.Words.{is_task_of, IsWithin, same_count}
 use Rattle.std.proofs.lemmas.List.Filters.{length-filter_both}
-use Rattle.wcp_order.proofs.Fronts.{count_by-filter}
+use Rattle.wcp_order.proofs.Prefixes.{count_by-filter}
 
 abbrev is_of_other : ℕ → Task → Bool
 is_of_other n task = not (is_task_of n task)

@@ -3,7 +3,7 @@ mod Advancing
 mod Concluding
 pub mod Counting
 mod Doable
-mod Fronts
+mod Prefixes
 mod Histories
 pub mod Lengths
 pub mod Tasks

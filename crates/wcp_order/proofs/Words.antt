@@ -16,7 +16,7 @@ pub use Rattle.std.specs.List.{All}
 pub use Rattle.wcp_model.proofs.MessagesOfOrder.{sends_yes, receives_yes}
 pub use Rattle.wcp_model.proofs.Places.{count_before-yes, count_before-no, count_before-past, count_before-mono}
 pub use Rattle.wcp_model.proofs.SamePlace.{count_by_yes, count_by_no, same_count, element_after, slice_get-filter}
-pub use Rattle.wcp_model.proofs.SamePlace.{element_within, filter_front}
+pub use Rattle.wcp_model.proofs.SamePlace.{element_within, filter_prefix}
 pub use Rattle.wcp_model.specs.WorkloadComputation.{is_task_of, sends, receives, IsWithin, IsFitOrder}
 pub use Rattle.wcp_model.specs.declared.workload.Action.{Action}
 pub use Rattle.wcp_model.specs.declared.workload.Action.TheVariants.{Observe}

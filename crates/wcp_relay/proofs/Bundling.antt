@@ -14,9 +14,9 @@ pub same_last : {X : Type 0} (xs ys : List X) (x y : X) → xs ++ x ∷ [] ≡ y
 same_last xs ys x y e =
     let both : Some x ≡ Some y = sym (last_or-push None xs x) ∙ ap (last_or None) e ∙ last_or-push None ys y in cc
 
-pub front_and_last : {X : Type 0} (n : ℕ) (cells : List X) (d : X) → 0 < n → n ≤ length cells
+pub prefix_and_last : {X : Type 0} (n : ℕ) (cells : List X) (d : X) → 0 < n → n ≤ length cells
     → take n cells ≡ take (n - 1) cells ++ get_or cells (n - 1) d ∷ []
-front_and_last n cells d some within =
+prefix_and_last n cells d some within =
     let is : suc (n - 1) ≡ n = omega arith in
     subst (λ k. take k cells ≡ take (n - 1) cells ++ get_or cells (n - 1) d ∷ []) is
     (take-suc cells (n - 1) d (omega arith))

@@ -8,7 +8,7 @@ use Rattle.wcp_relay.proofs.Words.{IsAtWork, AreEnded, HasMetGap, HasEnded, IsEn
 use Rattle.wcp_relay.proofs.Words.{Parent, PutEnd, Bundle, AreFromRings, IsFromRings, gap_met}
 use Rattle.wcp_lane.specs.declared.fault.Cut.{Cut}
 use Rattle.wcp_relay.specs.RelayEnds.{IsOutcomeFromRings, first_met}
-use Rattle.wcp_relay.specs.declared.relay_end.Outcome.TheVariants.{Whole}
+use Rattle.wcp_relay.specs.declared.relay_end.RelayOutcome.TheVariants.{Whole}
 use Rattle.wcp_relay.specs.declared.relay_end.Receipts.{Receipts}
 use Rattle.wcp_relay.specs.declared.relay_end.Receipts.TheVariants.{Feeds, Lane}
 use Rattle.wcp_relay.specs.declared.take_fault.TakeFault.{TakeFault}
@@ -51,7 +51,7 @@ faithful_new taken outlet none all =
     let same : (p : ℕ) → items_of p (handed outlet) ≡ taken p = λ p. ap (items_of p) all ∙ sym (none p) in
     record {
       whole = only_none _ outlet.cut (λ _. same);
-      front = λ p. prefix_same (items_of p (handed outlet)) (taken p) (same p);
+      prefix = λ p. prefix_same (items_of p (handed outlet)) (taken p) (same p);
     }
 
 -- the source is a leaf with these feeds
@@ -82,7 +82,7 @@ starts (Inner taker) outlet serves room held put =
           (λ p. ap (items_of p) (nil_from_length taker.taken serves.0)) all;
     }
 
--- a front of what was handed over is what was put
+-- a prefix of what was handed over is what was put
 pub put_front : (outlet : Outlet) (taken : List Item) (p : ℕ) → IsPrefix (items_of p (handed outlet)) taken
     → IsPrefix (items_of p outlet.putter.put) taken
 put_front outlet taken p front =
@@ -116,16 +116,16 @@ leaf_ended (Err met) (Leaf own sleeper) feeds outlet is work closed gap = subst 
     (Err m)) (sym gap.1) (subst (λ fs. HasMetGap gap.0 (fed fs) outlet) is gap.2)
 leaf_ended r (Inner taker) feeds outlet is work closed gap = absurd is
 
--- however a relay ended, its outlet was handed a front of what it took
-pub ended_front : (source : Source) (outlet : Outlet) (r : Result (Unit {0}) TakeFault) → HasEnded source outlet r
+-- however a relay ended, its outlet was handed a prefix of what it took
+pub ended_prefix : (source : Source) (outlet : Outlet) (r : Result (Unit {0}) TakeFault) → HasEnded source outlet r
     → (p : ℕ) → IsPrefix (items_of p (handed outlet)) (source_taken source p)
-ended_front source outlet (Ok all) ended p = ended.1.front p
-ended_front (Leaf feeds sleeper) outlet (Err (fault.Gap q)) ended p =
+ended_prefix source outlet (Ok all) ended p = ended.1.prefix p
+ended_prefix (Leaf feeds sleeper) outlet (Err (fault.Gap q)) ended p =
     subst (IsPrefix (items_of p (handed outlet))) (sym (ended.latest p)) (prefix_more (items_of p (handed outlet))
-    (ended.before p) (items_of p (ended.item ∷ [])) (ended.faithful.front p))
-ended_front (Inner taker) outlet (Err (fault.Cut cut)) ended p = ended.front p
-ended_front (Leaf feeds sleeper) outlet (Err (fault.Cut cut)) ended p = absurd ended
-ended_front (Inner taker) outlet (Err (fault.Gap q)) ended p = absurd ended
+    (ended.before p) (items_of p (ended.item ∷ [])) (ended.faithful.prefix p))
+ended_prefix (Inner taker) outlet (Err (fault.Cut cut)) ended p = ended.prefix p
+ended_prefix (Leaf feeds sleeper) outlet (Err (fault.Cut cut)) ended p = absurd ended
+ended_prefix (Inner taker) outlet (Err (fault.Gap q)) ended p = absurd ended
 
 -- what is left of a source took what it took
 pub end_taken : (source : Source) (left : Receipts) → IsEndOfSource source left → (p : ℕ)

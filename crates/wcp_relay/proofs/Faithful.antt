@@ -34,13 +34,13 @@ faithful_more taken more old new item faithful one passed let_go =
     ∙ ap (λ xs. xs ++ items_of p (item ∷ [])) (if_none _ old.cut step.0 faithful.whole p) ∙ sym (one p) in
     record {
       whole = only_none _ new.cut whole;
-      front = λ p. ⊎_elim
+      prefix = λ p. ⊎_elim
           (λ (none : new.cut ≡ None). prefix_same (items_of p (handed new)) (more p) (whole none p))
           (λ (some : (cut : Cut) × (new.cut ≡ Some cut)).
           let same = subst (λ o. IfSome o (λ cut. handed new ≡ handed old)) some.1 let_go in
           subst (λ xs. IsPrefix (items_of p xs) (more p)) (sym same)
           (subst (IsPrefix (items_of p (handed old))) (sym (one p))
-          (prefix_more (items_of p (handed old)) (taken p) (items_of p (item ∷ [])) (faithful.front p))))
+          (prefix_more (items_of p (handed old)) (taken p) (items_of p (item ∷ [])) (faithful.prefix p))))
           (none_or new.cut);
     }
 
@@ -52,6 +52,6 @@ faithful_same taken more old new faithful one same uncut =
     record {
       whole = only_none _ new.cut
           (λ none p. ap (items_of p) same ∙ if_none _ old.cut (uncut none) faithful.whole p ∙ sym (one p));
-      front = λ p. subst (λ xs. IsPrefix (items_of p xs) (more p)) (sym same)
-          (subst (IsPrefix (items_of p (handed old))) (sym (one p)) (faithful.front p));
+      prefix = λ p. subst (λ xs. IsPrefix (items_of p xs) (more p)) (sym same)
+          (subst (IsPrefix (items_of p (handed old))) (sym (one p)) (faithful.prefix p));
     }

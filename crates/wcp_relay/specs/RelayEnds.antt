@@ -14,8 +14,8 @@ use Rattle.wcp_relay.specs.declared.relay_end.Receipts.TheVariants.{Feeds, Lane}
 use Rattle.wcp_relay.specs.declared.relay_end.RelayFault.{RelayFault}
 use Rattle.wcp_relay.specs.declared.relay_end.RelayFault.TheVariants as fault
 use Rattle.wcp_relay.specs.declared.relay_end.RelayEnd.{RelayEnd}
-use Rattle.wcp_relay.specs.declared.relay_end.Outcome.{Outcome}
-use Rattle.wcp_relay.specs.declared.relay_end.Outcome.TheVariants.{Whole, Faulted}
+use Rattle.wcp_relay.specs.declared.relay_end.RelayOutcome.{RelayOutcome}
+use Rattle.wcp_relay.specs.declared.relay_end.RelayOutcome.TheVariants.{Whole, Faulted}
 use Rattle.wcp_relay.specs.declared.take_fault.TakeFault.{TakeFault}
 use Rattle.wcp_relay.specs.declared.take_fault.TakeFault.TheVariants as take_fault
 use Rattle.wcp_relay.specs.Feeding.{fed, items_of, source_taken, AreFromRings}
@@ -37,7 +37,7 @@ IsReceiptOf (Inner taker) (Lane receipt) =
 IsReceiptOf _ _ = ⊥
 
 -- What is left of a relay is of the same source and of the same putter. Where it met no fault, it has the same parent.
-abbrev pub IsLeftOf : Relay → Outcome → Type 0
+abbrev pub IsLeftOf : Relay → RelayOutcome → Type 0
 IsLeftOf relay (Whole parent taken put) =
     (parent ≡ relay.parent) × IsReceiptOf relay.source taken
     × (put.lane ≡ relay.putter.lane) × (put.members ≡ relay.putter.members)
@@ -53,7 +53,7 @@ abbrev pub taken_in : Receipts → ℕ → List Item
 taken_in (Feeds feeds) p = fed feeds.items p
 taken_in (Lane receipt) p = items_of p receipt.taken
 
-abbrev pub outcome_taken : Outcome → ℕ → List Item
+abbrev pub outcome_taken : RelayOutcome → ℕ → List Item
 outcome_taken (Whole parent taken put) p = taken_in taken p
 outcome_taken (Faulted fault source outlet met) p = source_taken source.value p
 
@@ -61,7 +61,7 @@ abbrev pub relay_taken : RelayEnd → ℕ → List Item
 relay_taken end p = outcome_taken end.outcome p
 
 -- The items of process p that a relay put.
-abbrev pub outcome_put : Outcome → ℕ → List Item
+abbrev pub outcome_put : RelayOutcome → ℕ → List Item
 outcome_put (Whole parent taken put) p = items_of p put.put
 outcome_put (Faulted fault source outlet met) p = items_of p outlet.value.putter.put
 
@@ -81,7 +81,7 @@ whole_end number watch parent taken put =
     record { number = number; watch = watch; outcome = Whole parent taken put }
 
 -- The fault that a relay met.
-abbrev pub outcome_fault : Outcome → Option RelayFault
+abbrev pub outcome_fault : RelayOutcome → Option RelayFault
 outcome_fault (Whole parent taken put) = None
 outcome_fault (Faulted fault source outlet met) = Some fault
 
@@ -96,7 +96,7 @@ first_met None (Err (take_fault.Gap p)) = Some (fault.Gap p)
 first_met None (Err (take_fault.Cut answer)) = Some (fault.Cut answer.cut)
 
 -- A faulted relay tells the fault that came first, of what its outlet and its taking met.
-abbrev pub HasMetFirst : Outcome → Type 0
+abbrev pub HasMetFirst : RelayOutcome → Type 0
 HasMetFirst (Whole parent taken put) = Unit {0}
 HasMetFirst (Faulted fault source outlet met) =
     (first_met outlet.value.cut met.value ≡ Some fault) × HasEnded source.value outlet.value met.value
@@ -105,7 +105,7 @@ abbrev pub IsFirstFault : RelayEnd → Type 0
 IsFirstFault end = HasMetFirst end.outcome
 
 -- What a leaf took came out of its rings, so that it made each mark of a lost process that it put.
-abbrev pub IsOutcomeFromRings : Outcome → Type 0
+abbrev pub IsOutcomeFromRings : RelayOutcome → Type 0
 IsOutcomeFromRings (Whole parent (Feeds feeds) put) = AreFromRings None feeds.items
 IsOutcomeFromRings (Whole parent (Lane receipt) put) = Unit {0}
 IsOutcomeFromRings (Faulted fault source outlet met) = IsFromRings source.value met.value

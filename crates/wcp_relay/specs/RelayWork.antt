@@ -54,10 +54,10 @@ pub record IsSound (outlet : Outlet) : Type 0 where
 abbrev pub IsSameOutlet : Outlet → Outlet → Type 0
 IsSameOutlet old new = (new.putter.lane ≡ old.putter.lane) × (new.putter.members ≡ old.putter.members)
 
--- An outlet was handed what was taken of each process, or a front of it once its lane is cut.
+-- An outlet was handed what was taken of each process, or a prefix of it once its lane is cut.
 pub record IsFaithful (taken : ℕ → List Item) (outlet : Outlet) : Type 0 where
   pub whole : IfNone outlet.cut ((p : ℕ) → items_of p (handed outlet) ≡ taken p)
-  pub front : (p : ℕ) → IsPrefix (items_of p (handed outlet)) (taken p)
+  pub prefix : (p : ℕ) → IsPrefix (items_of p (handed outlet)) (taken p)
 
 -- A leaf has one feed for each of its processes, each in order, and its outlet was handed what they took.
 pub record IsLeafAtWork (feeds : List Feed) (outlet : Outlet) : Type 0 where
@@ -73,7 +73,7 @@ AreSameFeeds old new =
     (processes_of new ≡ processes_of old) × (map (λ feed. feed.taker.ring) new ≡ map (λ feed. feed.taker.ring) old)
 
 -- A relay met a gap of process p: the last item that it took is of p, and isn't the next one after those of p before
--- it, or may not come out of a ring. Its outlet was handed all before it, or a front of that once its lane is cut.
+-- it, or may not come out of a ring. Its outlet was handed all before it, or a prefix of that once its lane is cut.
 pub record HasMetGap (p : ℕ) (taken : ℕ → List Item) (outlet : Outlet) : Type 0 where
   pub before : ℕ → List Item
   pub item : Item
@@ -123,7 +123,7 @@ IsSameSource _ _ = ⊥
 
 -- How a relay ended its taking: a last note of each of its processes was taken, whether or not its outlet was cut
 -- before; or a leaf met a gap; or the lane of any other relay was cut as it took. All else that was taken was handed to
--- the outlet, or a front of it once that is cut.
+-- the outlet, or a prefix of it once that is cut.
 abbrev pub HasEnded : Source → Outlet → Result (Unit {0}) TakeFault → Type 0
 HasEnded source outlet (Ok all) =
     AreEnded outlet.putter.members (source_taken source) × IsFaithful (source_taken source) outlet

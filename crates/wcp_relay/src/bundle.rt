@@ -45,11 +45,11 @@ impl Model for Bundle {
 
     ghost use Rattle.std.proofs.Common.{arith};
     ghost use Rattle.std.proofs.lemmas.List.{length-take-le};
-    ghost use Rattle.wcp_clock.specs.Padding.{padded_front};
+    ghost use Rattle.wcp_clock.specs.Padding.{padded_prefix};
 
     ghost inverse_ok = { λ b h i. record {
       count = length-take-le b.count b.items (Prim.omega (arith, h.1, h.2)) i;
-      items = padded_front filler b.count most_bundle b.items h.1 h.2 h.3 i;
+      items = padded_prefix filler b.count most_bundle b.items h.1 h.2 h.3 i;
     } };
 }
 

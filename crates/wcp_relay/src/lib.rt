@@ -7,7 +7,7 @@
 //! open; a probe always stands for some log, so the clocks of the snapshots that a closed one has put never fall in a
 //! component and rise in its own; `flush_in_watch` and `close_in_watch` wait until the ring has room, and
 //! `flush_waiting` and `close_waiting` do so or answer that its relay is gone, by a value that only a look at the ring
-//! makes, with the probe as it was or with its pending note put. `Relay::run`: for each process what it put is a front
+//! makes, with the probe as it was or with its pending note put. `Relay::run`: for each process what it put is a prefix
 //! of what it took, and of a leaf of that or of that and the one mark that the process was lost, which the leaf made,
 //! since no such mark comes out of a ring; where it met no fault the two are the same list, which ends with a last
 //! note. When a leaf makes such a mark no clause says, but that it does so before any last note. The end of one that

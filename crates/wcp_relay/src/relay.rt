@@ -4,7 +4,7 @@ ghost use Rattle.wcp_relay.specs.Feeding.{Serves, Serves-prop};
 
 use crate::bundle::Bundle;
 use crate::outlet::Outlet;
-use crate::relay_end::{Outcome, RelayEnd, first_fault};
+use crate::relay_end::{RelayEnd, RelayOutcome, first_fault};
 use crate::source::Source;
 use std::snapshot::Snapshot;
 use std::sync::Wait;
@@ -80,7 +80,7 @@ impl Relay {
         ensures number { number_of result ≡ self.number }
         ensures watch { watch_of result ≡ self.watch }
         ensures receipts { AreReceiptsOf self result }
-        ensures front { (p : ℕ) → IsPrefix (relay_put result p) (relay_taken result p) }
+        ensures prefix { (p : ℕ) → IsPrefix (relay_put result p) (relay_taken result p) }
         ensures whole { IfNone (fault_of result) ((p : ℕ) → relay_put result p ≡ relay_taken result p) }
         ensures ended { IfNone (fault_of result) (AreEnded self.putter.members (relay_taken result)) }
         ensures fault { IsFirstFault result }
@@ -104,7 +104,7 @@ impl Relay {
             return RelayEnd {
                 number,
                 watch,
-                outcome: Outcome::Whole {
+                outcome: RelayOutcome::Whole {
                     parent,
                     taken: source.end(),
                     put: outlet.putter.end(),
@@ -114,7 +114,7 @@ impl Relay {
         RelayEnd {
             number,
             watch,
-            outcome: Outcome::Faulted {
+            outcome: RelayOutcome::Faulted {
                 fault,
                 source: Snapshot::of(&source),
                 outlet: Snapshot::of(&outlet),

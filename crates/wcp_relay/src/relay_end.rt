@@ -36,12 +36,12 @@ pub enum Receipts {
 pub struct RelayEnd {
     pub(crate) number: u32,
     pub(crate) watch: u64,
-    pub(crate) outcome: Outcome,
+    pub(crate) outcome: RelayOutcome,
 }
 
 /// What a relay came to.
 #[derive(Drop)]
-pub(crate) enum Outcome {
+pub(crate) enum RelayOutcome {
     /// It passed all on.
     Whole {
         parent: Parent,
@@ -80,8 +80,8 @@ impl RelayEnd {
         ensures { result ≡ fault_of self.now }
     {
         match &self.outcome {
-            Outcome::Whole { .. } => None,
-            Outcome::Faulted { fault, .. } => Some(*fault),
+            RelayOutcome::Whole { .. } => None,
+            RelayOutcome::Faulted { fault, .. } => Some(*fault),
         }
     }
 
@@ -93,8 +93,8 @@ impl RelayEnd {
         ensures fault { IfErr result (λ met. fault_of self ≡ Some met) }
     {
         match self.outcome {
-            Outcome::Whole { parent, taken, put } => Ok((parent, taken, put)),
-            Outcome::Faulted { fault, .. } => Err(fault),
+            RelayOutcome::Whole { parent, taken, put } => Ok((parent, taken, put)),
+            RelayOutcome::Faulted { fault, .. } => Err(fault),
         }
     }
 }

@@ -4,7 +4,7 @@
 //! ring, empty. `try_put` appends the note to what was put, or hands it back and changes nothing, which it never does
 //! where a slot is known to be free. `try_take` appends what it gives to what was taken; it gives the first of the
 //! notes that it has seen in the ring, and nothing only where it knows of none. `end` keeps what was put.
-//! `match_ends`, on the ends of one ring: what was taken is a front of what was put, and it answers `Matched` exactly
+//! `match_ends`, on the ends of one ring: what was taken is a prefix of what was put, and it answers `Matched` exactly
 //! where the two are the same list. What one end knows of the other's calls may be out of date until the ends meet.
 //! `gone` and `linked` change nothing but what is seen. No clause says what they answer, or speaks of waking a thread
 //! that sleeps.

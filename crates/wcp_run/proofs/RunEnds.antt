@@ -14,7 +14,7 @@ use Rattle.wcp_model.specs.Outcome.{IsWorkloadOutcome}
 use Rattle.wcp_model.specs.Report.{notes_taken, snapshot_clocks, clocks_taken}
 use Rattle.wcp_model.proofs.CheckedPlans.{few_processes}
 use Rattle.wcp_worker.proofs.RunOutcomes.{IsWorkloadOutcome-run}
-use Rattle.wcp_watch.specs.declared.settled.Settled.{Settled}
+use Rattle.wcp_model.specs.declared.outcome.Outcome.{Outcome}
 use Rattle.wcp_watch.specs.Settling.{ComeFromWatch, IsEndOfSomeProbe, IsSettled}
 use Rattle.wcp_run.proofs.PlayedWorkers.{HasPlayedAt, played_at, as_many, lanes_left}
 use Rattle.wcp_watch.proofs.CheckedItems.{lost_told}
@@ -79,7 +79,7 @@ module _ {plan : Plan} {tasks : List Task} {ends : Ends WorkerEnd} (run : AreEnd
         (of_process k below).is_end)
         run.ended run.are.relays run.are.inbox run.are.watched
 
-    module _ (matched : AreMatched played.mailboxes.items) {book : BookState} {settled : Settled}
+    module _ (matched : AreMatched played.mailboxes.items) {book : BookState} {settled : Outcome}
         (is : IsSettled played.probes.items ends.checker book settled) where
       have_run : HaveRun plan.n plan.watched plan.flag tasks ends.checker.receipt.taken played.mailboxes.items
       have_run = record {
@@ -132,8 +132,7 @@ module _ {plan : Plan} {tasks : List Task} {ends : Ends WorkerEnd} (run : AreEnd
           let count = snapshots_counted (notes_taken p ends.checker.receipt.taken) in
           ((cc), (cc))
 
-      pub outcome_of_run : IsWorkloadOutcome plan.n plan.watched plan.flag tasks
-          (record { report = settled.report; tallies = settled.tallies })
+      pub outcome_of_run : IsWorkloadOutcome plan.n plan.watched plan.flag tasks settled
       outcome_of_run = IsWorkloadOutcome-run plan.n plan.watched plan.flag tasks ends.checker.receipt.taken
           played.mailboxes.items have_run _ run.within (record {
             exact = λ rising. rw (n_is, watched_is) at is.exact;

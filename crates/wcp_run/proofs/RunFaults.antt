@@ -39,7 +39,7 @@ module _ {R : Type 0} (Holds : R → Type 0) where
       first_behind one first (front ++ behind) (denied 0 one refl)
       (first_past front behind first (λ i other at. denied (suc i) other at) later)
 
-  -- the first of a front is the first of all
+  -- the first of a prefix is the first of all
   first_within : (front behind : List R) (first : R) → IsFirstReason Holds front first
       → IsFirstReason Holds (front ++ behind) first
   first_within front behind first is =

@@ -65,10 +65,7 @@ fn conclude(alloc: Global, ends: Ends<WorkerEnd>, book: Book) -> Result<Outcome,
         return Err(RunFault::Unfinished);
     }
     match settle(probes, relays, checker, book) {
-        Ok(settled) => Ok(Outcome {
-            report: settled.report,
-            tallies: settled.tallies,
-        }),
+        Ok(outcome) => Ok(outcome),
         Err(_) => Err(RunFault::Unfinished),
     }
 }

@@ -1,5 +1,5 @@
 mod Words
-pub mod Cuts
+pub mod Splits
 pub mod Numbers
 pub mod StepLines
 pub mod Questions

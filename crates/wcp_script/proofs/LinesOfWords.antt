@@ -1,4 +1,4 @@
--- Lines of words that are written as a text are cut into these lines and words again.
+-- Lines of words that are written as a text are split into these lines and words again.
 use Rattle.wcp_script.proofs.Words.{◌≡◌, ℕ, ◌^◌, ◌<◌, true, false, eqb, not, ◌&&◌, Bool, List, [], ◌∷◌, ◌++◌, All, Ok}
 use Rattle.wcp_script.proofs.Words.{refl, ◌∙◌, append_assoc, arith, join_with_byte, list_all, AllByRecursion, decimal}
 use Rattle.wcp_script.proofs.Words.{and_parts, ne_eqb, not-true, digits_decimal, get_or_default, All-append, All-cons}
@@ -6,7 +6,7 @@ use Rattle.wcp_script.proofs.Words.{All-nil, slice_split_at, slice_split_none, A
 use Rattle.wcp_script.proofs.Words.{TextLine, Word, line_text, number_in}
 use Rattle.std.specs.Int.{IsInRange}
 use Rattle.wcp_script.specs.Lines.{lines_of, words_of}
-use Rattle.wcp_script.proofs.Cuts.{lines_after}
+use Rattle.wcp_script.proofs.Splits.{lines_after}
 use Rattle.wcp_script.proofs.Numbers.{own, number_spelled-decimal}
 
 -- A word has neither a space nor a LF.
@@ -49,7 +49,7 @@ words_of-joined word (next ∷ words) each =
 
 -- ---- lines
 
--- The line of these words as it is cut out of a text.
+-- The line of these words as it is split off a text.
 abbrev pub worded : List Word → TextLine
 worded words = record { bytes = join_with_byte 32 words; ended = true }
 
@@ -66,7 +66,7 @@ joined_lacks_feed (word ∷ []) each = lacks_feed word each.0
 joined_lacks_feed (word ∷ next ∷ words) each =
     search (arith, lacks_feed word each.0, joined_lacks_feed (next ∷ words) each.1, All-append, All-cons, lacks_feed)
 
--- A text that begins with a line of words is cut behind it.
+-- A text that begins with a line of words is split behind it.
 pub lines_of-line_text : (words : List Word) (rest : List ℕ) → AllByRecursion IsWord words
     → lines_of (line_text words ++ rest) ≡ worded words ∷ lines_of rest
 lines_of-line_text words rest each = grind (arith, joined_lacks_feed, line_text-joined, lines_after, slice_split_at)

@@ -1,4 +1,4 @@
--- How a text stands in lines and a line in words, how they are cut again, and which words are numbers.
+-- How a text stands in lines and a line in words, how they are split again, and which words are numbers.
 use Rattle.std.specs.Prelude.{◌==◌, ◌&&◌, ◌^◌, ℕ, Bool, true, false, List, [], ◌∷◌, ◌++◌, length, nat_lt, Option, Some}
 use Rattle.std.specs.Prelude.{None, if◌then◌else◌}
 use Rattle.std.specs.List.{flat_map, slice_split}
@@ -27,7 +27,7 @@ line_text (word ∷ next ∷ words) = word ++ space ∷ line_text (next ∷ word
 abbrev pub text_of : List (List Word) → List ℕ
 text_of lines = flat_map line_text lines
 
--- A line that was cut out of a text: its bytes, and whether its LF follows them.
+-- A line that was split off a text: its bytes, and whether its LF follows them.
 pub record TextLine : Type 0 where
   pub bytes : List ℕ
   pub ended : Bool
@@ -43,7 +43,7 @@ lines_among (part ∷ next ∷ parts) = record { bytes = part; ended = true } �
 unfoldable pub lines_of : List ℕ → List TextLine
 lines_of text = lines_among (slice_split (λ byte. byte == line_feed) text)
 
--- The words of a line: it's cut at each space, so that two spaces have an empty word between them.
+-- The words of a line: it's split at each space, so that two spaces have an empty word between them.
 unfoldable pub words_of : List ℕ → List (List ℕ)
 words_of line = slice_split (λ byte. byte == space) line
 

@@ -23,14 +23,14 @@ pub(crate) enum Words<'a> {
 }
 
 /// The first line of a text, and what follows it.
-#[tactic(auto, using(crate::proofs::Cuts::lines_after), unfolding(crate::specs::Lines::lines_of))]
+#[tactic(auto, using(crate::proofs::Splits::lines_after), unfolding(crate::specs::Lines::lines_of))]
 pub(crate) fn next_line(text: &[u8]) -> Option<(Line<'_>, &[u8])>
     ensures line { MatchOption result
         (lines_of text.now ≡ [])
         (λ next. lines_of text.now ≡ seen_line next.0 ∷ lines_of next.1.now) }
     ensures shorter { IfSome result (λ next. length next.1.now < length text.now) }
 {
-    match cut(text, b'\n') {
+    match split_once(text, b'\n') {
         Some((bytes, rest)) => Some((Line { bytes, ended: true }, rest)),
         None if text.is_empty() => None,
         None => Some((
@@ -43,21 +43,21 @@ pub(crate) fn next_line(text: &[u8]) -> Option<(Line<'_>, &[u8])>
     }
 }
 
-/// The words of a line, cut at each space.
-#[tactic(auto, using(crate::proofs::Cuts::some_part), unfolding(crate::specs::Lines::words_of))]
+/// The words of a line, split at each space.
+#[tactic(auto, using(crate::proofs::Splits::some_part), unfolding(crate::specs::Lines::words_of))]
 pub(crate) fn words_of(line: &[u8]) -> Words<'_>
     ensures { AreWords (words_of line.now) result }
 {
-    let Some((first, rest)) = cut(line, b' ') else {
+    let Some((first, rest)) = split_once(line, b' ') else {
         return Words::One(line);
     };
-    let Some((second, rest)) = cut(rest, b' ') else {
+    let Some((second, rest)) = split_once(rest, b' ') else {
         return Words::Two(first, rest);
     };
-    let Some((third, rest)) = cut(rest, b' ') else {
+    let Some((third, rest)) = split_once(rest, b' ') else {
         return Words::Three(first, second, rest);
     };
-    match cut(rest, b' ') {
+    match split_once(rest, b' ') {
         None => Words::Four(first, second, third, rest),
         Some(_) => Words::More,
     }
@@ -69,7 +69,7 @@ pub(crate) fn next_word(words: &[u8]) -> (&[u8], Option<&[u8]>)
     ensures words { words_of words.now ≡ result.0.now ∷ words_behind result.1 }
     ensures shorter { IfSome result.1 (λ others. length others.now < length words.now) }
 {
-    match cut(words, b' ') {
+    match split_once(words, b' ') {
         Some((word, others)) => (word, Some(others)),
         None => (words, None),
     }
@@ -80,15 +80,15 @@ pub(crate) fn next_word(words: &[u8]) -> (&[u8], Option<&[u8]>)
 pub(crate) fn first_word(line: &[u8]) -> &[u8]
     ensures { result.now ≡ first_word (words_of line.now) }
 {
-    match cut(line, b' ') {
+    match split_once(line, b' ') {
         Some((first, _)) => first,
         None => line,
     }
 }
 
 /// What stands before the first separator and what stands after it.
-#[tactic(auto, using(crate::proofs::Cuts::split_at_position, crate::proofs::Cuts::split_nowhere))]
-fn cut(bytes: &[u8], separator: u8) -> Option<(&[u8], &[u8])>
+#[tactic(auto, using(crate::proofs::Splits::split_at_position, crate::proofs::Splits::split_nowhere))]
+fn split_once(bytes: &[u8], separator: u8) -> Option<(&[u8], &[u8])>
     ensures parts { MatchOption result
         (slice_split (λ byte. byte == separator) bytes.now ≡ bytes.now ∷ [])
         (λ found. slice_split (λ byte. byte == separator) bytes.now

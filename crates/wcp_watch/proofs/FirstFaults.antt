@@ -8,7 +8,7 @@ use Rattle.std.proofs.Math.Seq.{get_or-append_seam}
 use Rattle.wcp_model.specs.FirstReason.{IsFirstReason}
 use Rattle.wcp_model.proofs.FirstReasons.{first_unique}
 use Rattle.wcp_watch.specs.declared.settle_fault.SettleFault.{SettleFault}
-use Rattle.wcp_watch.specs.declared.settled.Settled.{Settled}
+use Rattle.wcp_model.specs.declared.outcome.Outcome.{Outcome}
 
 -- a fault is handed on
 module _ {X : Type 0} where
@@ -44,7 +44,7 @@ module _ (probes : List ClosedSide) (relays : List RelayEnd) (checker : CheckerE
       })
 
   -- to answer with the first fault is to answer with each first one
-  pub answered : (result : Result Settled SettleFault) (one : SettleFault) → result ≡ Err one
+  pub answered : (result : Result Outcome SettleFault) (one : SettleFault) → result ≡ Err one
       → IsFirstSettleFault probes relays checker book one
       → (first : SettleFault) → (result ≡ Err first) ↔ IsFirstSettleFault probes relays checker book first
   answered result one is holds first = (

@@ -59,7 +59,8 @@ pub use Rattle.wcp_watch.specs.SeatedEnds.{AreSeatedAndWhole, AreShares}
 pub use Rattle.wcp_watch.specs.declared.seated_ends.SeatedEnds.{SeatedEnds}
 pub use Rattle.wcp_watch.specs.Settling.{AreTakenFrom, IsPutMatched, IsRingMatched, feeds_in, feeds_left_by}
 pub use Rattle.wcp_watch.specs.Settling.{IsFirstSettleFault, IsFreeOf, settle_faults, AreLinksMatched, ComeFromWatch}
-pub use Rattle.wcp_watch.specs.Settling.{IsSettled, cut_of, share_of, IsLaneMatched, IsEndOfSomeProbe, IsEndOfSomeRelay}
+pub use Rattle.wcp_model.specs.Verdict.{cut_of}
+pub use Rattle.wcp_watch.specs.Settling.{IsSettled, share_of, IsLaneMatched, IsEndOfSomeProbe, IsEndOfSomeRelay}
 pub use Rattle.wcp_watch.specs.declared.checker_end.CheckerEnd.{CheckerEnd}
 pub use Rattle.wcp_watch.specs.declared.settle_fault.SettleFault.TheVariants.{Stranger, Missing, Faulted, Unfinished}
 pub use Rattle.wcp_clock.specs.ProcessNumbers.{NumberSet}

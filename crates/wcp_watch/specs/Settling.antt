@@ -1,7 +1,6 @@
 -- The settling of a watch: what its ends have in common, and what they tell together.
 use Rattle.std.specs.Prelude.{◌≡◌, ◌≤◌, ℕ, true, false, Option, Some, None, IfNone, List, [], ◌∷◌, length, slice_get}
 use Rattle.std.specs.Prelude.{All}
-use Rattle.wcp_model.specs.Cut.{Intervals}
 use Rattle.std.specs.FinSet as set
 use Rattle.std.specs.List.{sum_by}
 use Rattle.std.specs.Option.{option_flatten}
@@ -9,8 +8,7 @@ use Rattle.wcp_clock.specs.declared.note.Item.{Item}
 use Rattle.wcp_model.specs.FirstReason.{IsFirstReason}
 use Rattle.wcp_model.specs.PlanFault.{IsCheckedPlan}
 use Rattle.wcp_model.specs.Report.{IsDrained, IsReportByClocks, notes_taken}
-use Rattle.wcp_model.specs.declared.outcome.Report.{Report}
-use Rattle.wcp_model.specs.declared.outcome.Report.TheVariants.{Found, Nothing, Undecided}
+use Rattle.wcp_model.specs.Verdict.{cut_of}
 use Rattle.wcp_model.specs.declared.outcome.Tally.{Tally}
 use Rattle.wcp_model.specs.declared.plan.Parent.{Parent}
 use Rattle.wcp_model.specs.declared.plan.Parent.TheVariants as parent
@@ -37,7 +35,7 @@ use Rattle.wcp_watch.specs.Seats.{AreAllThere, AreOfWatch, IsEndAt}
 use Rattle.wcp_watch.specs.declared.checker_end.CheckerEnd.{CheckerEnd}
 use Rattle.wcp_watch.specs.declared.settle_fault.SettleFault.{SettleFault}
 use Rattle.wcp_watch.specs.declared.settle_fault.SettleFault.TheVariants as fault
-use Rattle.wcp_watch.specs.declared.settled.Settled.{Settled}
+use Rattle.wcp_model.specs.declared.outcome.Outcome.{Outcome}
 
 -- This is the end of one of these probes, by its number: it has that probe's end of the ring.
 pub record IsEndOfSomeProbe (probes : List LiveSide) (end : ClosedSide) : Type 0 where
@@ -107,12 +105,6 @@ pub record AreLinksMatched (IsProbe : ℕ → ClosedSide → Type 0) (root : Tak
 abbrev pub share_of : ClosedSide → Tally
 share_of probe = record { emitted = snapshots_in probe.link.put; taken = snapshots_in probe.link.put }
 
--- The cut of a report, if it is one.
-abbrev pub cut_of : Report → Option Intervals
-cut_of (Found cut) = Some cut
-cut_of Nothing = None
-cut_of Undecided = None
-
 -- All rings and lanes were matched, the shares in the book are just those of the n processes, and the cut in it is just
 -- that of the checker's report.
 pub record AreFinished (probes : List ClosedSide) (relays : List RelayEnd) (checker : CheckerEnd)
@@ -146,7 +138,7 @@ IsFirstSettleFault probes relays checker book =
 -- process, just they are in the book, and the book's totals are their sums; and the cut that the book tells is just
 -- that of the report.
 pub record IsSettled (probes : List ClosedSide) (checker : CheckerEnd) (book : BookState)
-    (settled : Settled) : Type 0 where
+    (settled : Outcome) : Type 0 where
   pub all : AreAllThere (λ end. end.id) checker.processes probes
   pub whole : All (λ end. notes_taken end.id checker.receipt.taken ≡ end.link.put) probes
   pub any_clocks : IsReportOfAnyClocks checker.processes checker.watched checker.receipt.taken settled.report

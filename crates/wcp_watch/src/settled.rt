@@ -1,8 +1,4 @@
-use wcp_model::{Report, Tallies};
+use wcp_model::Outcome;
 
 /// What the ends of a run tell.
-#[derive(Clone, Copy, Debug, PartialEq, Eq)]
-pub struct Settled {
-    pub report: Report,
-    pub tallies: Tallies,
-}
+pub type Settled = Outcome;

@@ -9,6 +9,7 @@ use crate::settle_fault::SettleFault;
 use crate::settled::Settled;
 use crate::shares::{is_book_of, tallies};
 use wcp_book::Book;
+use wcp_model::Outcome;
 use wcp_relay::{ProbeEnd, RelayEnd};
 
 /// Proves the report of a run from the ends of its watch: each ring and each lane is matched, on the way
@@ -37,7 +38,7 @@ pub fn settle(
         checker.receipt,
         &mut seated.relays,
     )?;
-    Ok(Settled {
+    Ok(Outcome {
         report: checker.report,
         tallies,
     })

@@ -4,7 +4,8 @@ ghost use Rattle.wcp_clock.specs.Limits.{most_processes};
 ghost use Rattle.wcp_relay.specs.LiveProbe.{ClosedSide, NotesRise};
 ghost use Rattle.wcp_watch.specs.SeatedEnds.{AreShares};
 ghost use Rattle.wcp_watch.specs.Seats.{SitsAt};
-ghost use Rattle.wcp_watch.specs.Settling.{cut_of, share_of};
+ghost use Rattle.wcp_model.specs.Verdict.{cut_of};
+ghost use Rattle.wcp_watch.specs.Settling.{share_of};
 
 use wcp_book::Book;
 use wcp_clock::MAX_PROCS;
@@ -62,7 +63,7 @@ pub(crate) fn is_book_of(tallies: &Tallies, report: Report, book: &Book) -> bool
     ensures { IsTrue result ↔ (((p : ℕ) → option_flatten (slice_get book.now.shares p) ≡ slice_get tallies.now p)
         × (book.now.found ≡ cut_of report)) }
 {
-    are_posted(tallies, book) && is_same(book.found(), found_in(report))
+    are_posted(tallies, book) && is_same(book.found(), report.cut())
 }
 
 /// Whether both are the same cut, or there is none.
@@ -89,16 +90,6 @@ fn are_same(one: &GlobalCut, other: &GlobalCut) -> bool
         }
     }
     true
-}
-
-/// The cut of this report, if it is one.
-fn found_in(report: Report) -> Option<GlobalCut>
-    ensures { result ≡ cut_of report }
-{
-    match report {
-        Report::Found(cut) => Some(cut),
-        Report::Nothing | Report::Undecided => None,
-    }
 }
 
 /// Whether just these shares are in the book.

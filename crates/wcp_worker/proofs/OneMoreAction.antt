@@ -8,7 +8,7 @@ use Rattle.wcp_worker.proofs.Words.{inbox_from, clocks_sent_to, clocks_taken_fro
 use Rattle.wcp_worker.proofs.Words.{HasPlayed}
 use Rattle.wcp_model.proofs.TaskLogs.{FollowsActions-push, stamps_sent-push, stamps_sent-push_other, stamps_got-push}
 use Rattle.wcp_model.proofs.TaskLogs.{stamps_got-push_other}
-use Rattle.wcp_worker.proofs.TakenMore.{both_then, entry_same, entry_front}
+use Rattle.wcp_worker.proofs.TakenMore.{both_then, entry_same, entry_prefix}
 
 same_lanes : (a b c : Mailbox) → HasSameLanes a b → HasSameLanes b c → HasSameLanes a c
 same_lanes a b c first then =
@@ -89,5 +89,5 @@ all_played worker now log probe mailbox done end emitted outboxes more =
           ∙ done.sent q ∙ ap (λ s. stamps_sent s q actions log) made;
       taken = λ q.
           subst (λ stamps. (rest : List (List ℕ)) × (stamps ++ rest ≡ clocks_taken_from mailbox q)) (done.taken q)
-          (entry_front q (inbox_from now.mailbox q) (inbox_from mailbox q) (more q) (done.own.inboxes q));
+          (entry_prefix q (inbox_from now.mailbox q) (inbox_from mailbox q) (more q) (done.own.inboxes q));
     }

@@ -25,15 +25,15 @@ both_then P joins None None None first then = tt
 
 module _ (q : ℕ) where
   pub more_none : (inbox : Inbox) → HasTakenMore q inbox inbox
-  more_none inbox = record { same = (refl, refl); front = λ is. ([], append-nil _) }
+  more_none inbox = record { same = (refl, refl); prefix = λ is. ([], append-nil _) }
 
   pub more_more : (a b c : Inbox) → HasTakenMore q a b → HasTakenMore q b c → HasTakenMore q a c
   more_more a b c first then =
       record {
         same = (then.same.0 ∙ first.same.0, then.same.1 ∙ first.same.1);
-        front = λ is.
-            let one = first.front is in
-            let two = then.front
+        prefix = λ is.
+            let one = first.prefix is in
+            let two = then.prefix
             (subst (λ (members : Numbers). (p : ℕ) → set.contains members p ≡ true → p ≡ q) (sym first.same.1) is) in
             (one.0 ++ two.0, sym (append_assoc _ one.0 two.0) ∙ ap (λ clocks. clocks ++ two.0) one.1 ∙ two.1);
       }
@@ -42,16 +42,16 @@ module _ (q : ℕ) where
   entry_none (Some inbox) = more_none inbox
   entry_none None = tt
 
-  -- an end by which more came keeps its lane, and what came before is a front
+  -- an end by which more came keeps its lane, and what came before is a prefix
   pub entry_same : (a b : Option Inbox) → IfBoth (HasTakenMore q) a b → IfBoth IsSameInbox a b
   entry_same (Some a) (Some b) more = more.same
   entry_same (Some a) None more = more
   entry_same None (Some b) more = more
   entry_same None None more = more
 
-  pub entry_front : (a b : Option Inbox) → IfBoth (HasTakenMore q) a b → IfSome a (IsInboxOf q)
+  pub entry_prefix : (a b : Option Inbox) → IfBoth (HasTakenMore q) a b → IfSome a (IsInboxOf q)
       → IsPrefix (clocks_from q (messages_taken a)) (clocks_from q (messages_taken b))
-  entry_front (Some a) (Some b) more is = more.front is
-  entry_front (Some a) None more is = absurd more
-  entry_front None (Some b) more is = absurd more
-  entry_front None None more is = ([], refl)
+  entry_prefix (Some a) (Some b) more is = more.prefix is
+  entry_prefix (Some a) None more is = absurd more
+  entry_prefix None (Some b) more is = absurd more
+  entry_prefix None None more is = ([], refl)

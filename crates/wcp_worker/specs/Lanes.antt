@@ -32,10 +32,10 @@ IsSameOutbox old new = (new.putter.lane ≡ old.putter.lane) × (new.putter.memb
 abbrev pub IsSameInbox : Inbox → Inbox → Type 0
 IsSameInbox old new = (new.taker.lane ≡ old.taker.lane) × (new.taker.members ≡ old.taker.members)
 
--- By an end more of q has come: what had come before is a front of it.
+-- By an end more of q has come: what had come before is a prefix of it.
 pub record HasTakenMore (q : ℕ) (old new : Inbox) : Type 0 where
   pub same : IsSameInbox old new
-  pub front : IsInboxOf q old → IsPrefix (clocks_from q old.taker.taken) (clocks_from q new.taker.taken)
+  pub prefix : IsInboxOf q old → IsPrefix (clocks_from q old.taker.taken) (clocks_from q new.taker.taken)
 
 -- Both are there and this holds of them, or neither is there.
 abbrev pub IfBoth : {A B : Type 0} → (A → B → Type 0) → Option A → Option B → Type 0

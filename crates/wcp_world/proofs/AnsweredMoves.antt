@@ -347,7 +347,7 @@ module _ (plan : Plan) (steps : List Step) (put : ℕ → List Note) (taken : Li
         entry = entry;
         process = process_of entry;
         rest = notes_along _ (Link item.from ∷ (after.in_order item.from (process_of entry)).way);
-        front = rw (no_drop steps step.Check
+        prefix = rw (no_drop steps step.Check
             (InboxOf Root) item.from refl) at ((after.in_order item.from (process_of entry)).notes);
       }
 

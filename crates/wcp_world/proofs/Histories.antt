@@ -2,12 +2,12 @@ use Rattle.wcp_world.proofs.Words.{◌≡◌, ℕ, ◌+◌, ◌<◌, ◌≤◌, 
 use Rattle.wcp_world.proofs.Words.{take, sym, ap, ◌∙◌, subst, subst₂, ⊎_elim, append-nil, arith, le_refl, cases_lt}
 use Rattle.wcp_world.proofs.Words.{flat_map-append, length_push, take-append-le, take_at, take_all, map_push}
 use Rattle.wcp_world.proofs.Words.{slice_get_within, Plan, Step, Reply, Answered, accepted, items_taken, accepted_by}
-use Rattle.wcp_world.proofs.Words.{taken_by, computation, IsReply, AreReplies, AreFrontsOfEmissions, AreInTurn}
+use Rattle.wcp_world.proofs.Words.{taken_by, computation, IsReply, AreReplies, ArePrefixesOfEmissions, AreInTurn}
 use Rattle.wcp_world.proofs.Words.{ClocksRise, IsReportByClocks, get_push, WorldState, Stands, IsReached, MakesStep}
 use Rattle.wcp_world.proofs.Words.{IsWorldOf, IsTallyOf, AreTalliesOf, HasAnswered, nothing_follows, processes}
 use Rattle.wcp_world.proofs.Words.{StandsForItems, Item, notes_taken}
-use Rattle.wcp_world.proofs.WorldAfterStep.{taken_fronts, handed_in_turn}
-use Rattle.wcp_world.proofs.LostMarks.{front_in_turn, report_without, rises_with}
+use Rattle.wcp_world.proofs.WorldAfterStep.{taken_prefixes, handed_in_turn}
+use Rattle.wcp_world.proofs.LostMarks.{prefix_in_turn, report_without, rises_with}
 use Rattle.wcp_model.proofs.NotesInTurn.{emissions_in_turn}
 use Rattle.wcp_model.specs.declared.outcome.Tally.{Tally}
 use Rattle.wcp_model.specs.declared.outcome.Report.{Report}
@@ -15,7 +15,7 @@ use Rattle.wcp_model.specs.Cut.{IsLeastCut}
 use Rattle.wcp_model.specs.Headline.{IsHeadline}
 use Rattle.wcp_model.proofs.GrowthLaws.{computation_append, early_find_holds}
 use Rattle.wcp_model.proofs.RisingClocks.{clocks_rise}
-use Rattle.wcp_model.proofs.TakenFronts.{report_of_taken, found_is_least, report_when_drained}
+use Rattle.wcp_model.proofs.TakenPrefixes.{report_of_taken, found_is_least, report_when_drained}
 
 -- a history with one more step and its reply
 accepted_push : (history : List Answered) (a : Answered)
@@ -33,18 +33,18 @@ pub replies_push : (plan : Plan) (history : List Answered) (a : Answered) → Ar
 replies_push plan history a are is place b at =
     grind (arith, slice_get_within, take-append-le, take_at, get_push history a b place at)
 
--- after each front of a longer history what was taken is a front of what was emitted
-abbrev pub HasFronts : Plan → List Answered → Type 0
-HasFronts plan history =
-    AreFrontsOfEmissions plan.n plan.watched plan.flag (computation (accepted history)) (items_taken history)
+-- after each front of a longer history what was taken is a prefix of what was emitted
+abbrev pub HasPrefixes : Plan → List Answered → Type 0
+HasPrefixes plan history =
+    ArePrefixesOfEmissions plan.n plan.watched plan.flag (computation (accepted history)) (items_taken history)
 
-fronts_push : (plan : Plan) (history : List Answered) (a : Answered)
-    → ((place : ℕ) → HasFronts plan (take place history)) → HasFronts plan (history ++ a ∷ []) → (place : ℕ)
-    → HasFronts plan (take place (history ++ a ∷ []))
-fronts_push plan history a before now place = ⊎_elim
-    (λ (lt : place < length history + 1). subst (HasFronts plan)
+prefixes_push : (plan : Plan) (history : List Answered) (a : Answered)
+    → ((place : ℕ) → HasPrefixes plan (take place history)) → HasPrefixes plan (history ++ a ∷ []) → (place : ℕ)
+    → HasPrefixes plan (take place (history ++ a ∷ []))
+prefixes_push plan history a before now place = ⊎_elim
+    (λ (lt : place < length history + 1). subst (HasPrefixes plan)
     (sym (take-append-le place history (a ∷ []) (omega (arith, lt)))) (before place))
-    (λ (ge : length history + 1 ≤ place). subst (HasFronts plan)
+    (λ (ge : length history + 1 ≤ place). subst (HasPrefixes plan)
     (sym (take_all place (history ++ a ∷ []) (omega (arith, ge, length_push history a)))) now)
     (cases_lt place (length history + 1))
 
@@ -59,8 +59,8 @@ world_push plan history old new s reply answers is =
     rw (accepted_push history a, taken_push history a) told.1 in
     record {
       replies = replies_push plan history a is.replies told.0;
-      fronts = fronts_push plan history a is.fronts
-          (taken_fronts plan (accepted (history ++ a ∷ [])) (items_taken (history ++ a ∷ [])) new stands);
+      prefixes = prefixes_push plan history a is.prefixes
+          (taken_prefixes plan (accepted (history ++ a ∷ [])) (items_taken (history ++ a ∷ [])) new stands);
       stands = stands;
     }
 
@@ -68,7 +68,7 @@ world_push plan history old new s reply answers is =
 pub fresh_world : (plan : Plan) (w : WorldState) → Stands plan [] [] w → IsWorldOf plan [] w
 fresh_world plan w stands = record {
   replies = λ place a at. cc at;
-  fronts = λ place. subst (HasFronts plan) (sym (take_all place [] (omega arith))) (taken_fronts plan [] [] w stands);
+  prefixes = λ place. subst (HasPrefixes plan) (sym (take_all place [] (omega arith))) (taken_prefixes plan [] [] w stands);
   stands = stands;
 }
 
@@ -107,10 +107,10 @@ pub answered_push : (plan : Plan) (steps : List Step) (replies : List Reply) (ol
     ++ record { step = s; reply = reply } ∷ []) new) → HasAnswered plan (steps ++ s ∷ []) (replies ++ reply ∷ []) new
 answered_push plan steps replies old new s reply has more = grind (arith, map_push, more plan has.history has.is)
 
-fronts_now : (plan : Plan) (history : List Answered) (w : WorldState) → IsWorldOf plan history w
-    → AreFrontsOfEmissions plan.n plan.watched plan.flag (computation (accepted history)) (items_taken history)
-fronts_now plan history w is = subst (λ h. AreFrontsOfEmissions plan.n plan.watched plan.flag (computation (accepted h))
-    (items_taken h)) (take_all (length history) history (le_refl (length history))) (is.fronts (length history))
+prefixes_now : (plan : Plan) (history : List Answered) (w : WorldState) → IsWorldOf plan history w
+    → ArePrefixesOfEmissions plan.n plan.watched plan.flag (computation (accepted history)) (items_taken history)
+prefixes_now plan history w is = subst (λ h. ArePrefixesOfEmissions plan.n plan.watched plan.flag (computation (accepted h))
+    (items_taken h)) (take_all (length history) history (le_refl (length history))) (is.prefixes (length history))
 
 -- the report by clocks of what a world's checker took is that of the headline
 headline_holds : (plan : Plan) (history : List Answered) (w : WorldState) (report : Report) → IsWorldOf plan history w
@@ -118,13 +118,13 @@ headline_holds : (plan : Plan) (history : List Answered) (w : WorldState) (repor
 headline_holds plan history w report is by_clocks =
     let c = computation (accepted history) in
     let items = items_taken history in
-    let fronts = fronts_now plan history w is in
+    let fronts = prefixes_now plan history w is in
     record {
       replies = is.replies;
-      taken_is_prefix = is.fronts;
+      taken_is_prefix = is.prefixes;
       none_after_close = λ p count before after within taken. nothing_follows before after count
           (let (rest, are) = fronts p within in subst AreInTurn taken
-          (front_in_turn (notes_taken p items) rest (emissions_in_turn plan.n plan.watched plan.flag c p _ are)));
+          (prefix_in_turn (notes_taken p items) rest (emissions_in_turn plan.n plan.watched plan.flag c p _ are)));
       of_what_was_taken = report_of_taken plan.n plan.watched plan.flag c items fronts report by_clocks;
       when_drained =
           λ drained. report_when_drained plan.n plan.watched plan.flag c items fronts drained report by_clocks;
@@ -144,7 +144,7 @@ report_holds plan history w report is exact =
     let turn = handed_in_turn plan (accepted history) (items_taken history) w is.stands in
     let rise : ClocksRise plan.n handed =
     rises_with plan.n plan.watched handed turn (subst (ClocksRise plan.n) is.stands.taken_are (clocks_rise plan.n
-    plan.watched plan.flag (computation (accepted history)) (items_taken history) (fronts_now plan history w is))) in
+    plan.watched plan.flag (computation (accepted history)) (items_taken history) (prefixes_now plan history w is))) in
     headline_holds plan history w report is
     (subst (λ items. IsReportByClocks plan.n plan.watched items report) (sym is.stands.taken_are)
     (report_without plan.n plan.watched handed turn report

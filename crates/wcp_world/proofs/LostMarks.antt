@@ -55,16 +55,16 @@ emissions_kept n watched flag c p front rest are =
     front_kept 0 (length are.clocks) (is_closed c p) are.clocks front rest (sym are.notes_are)
 
 -- what a process emits before a close is snapshots alone
-front_counts : (number : ℕ) (clocks : List (List ℕ)) (front rest : List Note)
+prefix_counts : (number : ℕ) (clocks : List (List ℕ)) (front rest : List Note)
     → snapshots_from number clocks ≡ front ++ rest →
     (length front ≡ length (snapshot_clocks front)) × (list_any is_last front ≡ false)
-front_counts number clocks [] rest is = (refl, refl)
-front_counts number [] (x ∷ front) rest is = cc is
-front_counts number (clock ∷ clocks) (x ∷ front) rest is = grind (arith, front_counts (number + 1) clocks front rest)
+prefix_counts number clocks [] rest is = (refl, refl)
+prefix_counts number [] (x ∷ front) rest is = cc is
+prefix_counts number (clock ∷ clocks) (x ∷ front) rest is = grind (arith, prefix_counts (number + 1) clocks front rest)
 
--- a front of notes in turn is in turn
-pub front_in_turn : (front rest : List Note) → AreInTurn (front ++ rest) → AreInTurn front
-front_in_turn front rest turn before after next is = grind (arith, append_assoc)
+-- a prefix of notes in turn is in turn
+pub prefix_in_turn : (front rest : List Note) → AreInTurn (front ++ rest) → AreInTurn front
+prefix_in_turn front rest turn before after next is = grind (arith, append_assoc)
 
 -- and so are the notes put of a lost process with the mark that counts them
 pub mark_in_turn : (n : ℕ) (watched : NumberSet) (flag : Flag) (c : Computation) (p : ℕ) (put rest : List Note)
@@ -73,8 +73,8 @@ pub mark_in_turn : (n : ℕ) (watched : NumberSet) (flag : Flag) (c : Computatio
 mark_in_turn n watched flag c p put rest are without_close =
     let snapshots : snapshots_from 0 are.clocks ≡ put ++ rest = sym (append-nil (snapshots_from 0 are.clocks))
     ∙ rw without_close at (sym are.notes_are) in
-    let counts = front_counts 0 are.clocks put rest snapshots in
-    AreInTurn-push put (note.Lost (length put)) (front_in_turn put rest
+    let counts = prefix_counts 0 are.clocks put rest snapshots in
+    AreInTurn-push put (note.Lost (length put)) (prefix_in_turn put rest
     (emissions_in_turn n watched flag c p (put ++ rest) are)) (record { place = counts.0; still_open = counts.1 })
 
 -- a close mark that ends the notes that are kept stands among all

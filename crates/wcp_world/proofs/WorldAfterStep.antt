@@ -8,7 +8,7 @@ use Rattle.wcp_world.proofs.Words.{computation, accepted_by, taken_by, event_rea
 use Rattle.wcp_world.proofs.Words.{ProcessesState, Performs, WasPut, pending_at, TransportState, IsTransportOf}
 use Rattle.wcp_world.proofs.Words.{IsNextAtRoot, Conveys, Puts, TakesNext, next_of, ReadsNext, is_relayed, put_more}
 use Rattle.wcp_world.proofs.Words.{WorldState, Stands, MakesStep, CheckerState, MayTake, TakesItem, processes}
-use Rattle.wcp_world.proofs.Words.{notes_taken, AreFrontsOfEmissions, Root, Computation, filter, is_dropped, entered}
+use Rattle.wcp_world.proofs.Words.{notes_taken, ArePrefixesOfEmissions, Root, Computation, filter, is_dropped, entered}
 use Rattle.wcp_world.proofs.Words.{Dropped, given, Bool, AreInTurn, if◌then◌else◌, is_closed, IsGivenMark, notes_along}
 use Rattle.wcp_world.proofs.Words.{notes_at, Link, or-false, is_drop_of, not, common_steps, gets}
 use Rattle.wcp_clock.specs.declared.note.Note.TheVariants as note
@@ -24,7 +24,7 @@ use Rattle.wcp_model.proofs.NotesInTurn.{emissions_in_turn}
 use Rattle.wcp_world.specs.Processes.{Loses}
 use Rattle.wcp_world.specs.World.{without_lost}
 use Rattle.wcp_world.proofs.LostMarks.{is_kept, dropped_among, notes_without, emissions_kept, mark_in_turn}
-use Rattle.wcp_world.proofs.LostMarks.{front_in_turn}
+use Rattle.wcp_world.proofs.LostMarks.{prefix_in_turn}
 use Rattle.wcp_world.proofs.Probes.{put_and_pending, put_and_gone, pending_of_lost, neither}
 
 -- what is answered by reasons gives no item, and is a reply's first clause
@@ -282,9 +282,9 @@ module _ (plan : Plan) (steps : List Step) (taken : List Item) (w : WorldState)
   put_kept : (p : ℕ) → p < plan.n → filter is_kept (given steps p (stands.put p)) ≡ stands.put p
   put_kept p within = grind (arith, emissions_kept, are_emissions, filter-append, append-nil)
 
-  -- what was taken of each process is a front of what it emitted
-  pub taken_fronts : AreFrontsOfEmissions plan.n plan.watched plan.flag c taken
-  taken_fronts p within =
+  -- what was taken of each process is a prefix of what it emitted
+  pub taken_prefixes : ArePrefixesOfEmissions plan.n plan.watched plan.flag c taken
+  taken_prefixes p within =
       let order = stands.transport.in_order p within in
       let along = notes_along (notes_at plan w.transport.places p) (Link p ∷ order.way) in
       let rest = unput p (is_dropped c p) refl in
@@ -304,7 +304,7 @@ module _ (plan : Plan) (steps : List Step) (taken : List Item) (w : WorldState)
   given_by_case p true dropped within = let gone = put_and_gone plan.n plan.watched plan.flag c stands.put w.processes
       stands.processes p dropped in mark_in_turn plan.n plan.watched plan.flag c p (stands.put p) gone.0 gone.1 gone.2
   given_by_case p false live within = rw (append-nil (stands.put p))
-      (front_in_turn (stands.put p) _ (emissions_in_turn plan.n plan.watched plan.flag c p _ (are_emissions p within)))
+      (prefix_in_turn (stands.put p) _ (emissions_in_turn plan.n plan.watched plan.flag c p _ (are_emissions p within)))
 
   given_in_turn : (p : ℕ) → p < plan.n → AreInTurn (given steps p (stands.put p))
   given_in_turn p within = rw (← dropped_among steps p) (given_by_case p (is_dropped c p) refl within)
@@ -312,7 +312,7 @@ module _ (plan : Plan) (steps : List Step) (taken : List Item) (w : WorldState)
   -- and so is what the checker was handed of each process
   pub handed_in_turn : (p : ℕ) → p < plan.n → AreInTurn (notes_taken p stands.handed)
   handed_in_turn p within = let order = stands.transport.in_order p within in
-      front_in_turn (notes_taken p stands.handed) _ (subst AreInTurn (sym order.notes) (given_in_turn p within))
+      prefix_in_turn (notes_taken p stands.handed) _ (subst AreInTurn (sym order.notes) (given_in_turn p within))
 
   -- the checker may take the next item of the root inbox
   next_given : (item : Item) (next : IsNextAtRoot plan steps stands.put stands.handed item)

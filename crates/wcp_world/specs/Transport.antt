@@ -151,7 +151,7 @@ pub record IsNextAtRoot (plan : Plan) (steps : List Step) (put : ℕ → List No
   pub entry : IsEntry plan put steps (InboxOf Root) (taken_from steps (InboxOf Root)) item
   pub process : item.from < plan.n
   pub rest : List Note
-  pub front : notes_taken item.from (taken ++ item ∷ []) ++ rest ≡ given steps item.from (put item.from)
+  pub prefix : notes_taken item.from (taken ++ item ∷ []) ++ rest ≡ given steps item.from (put item.from)
 
 abbrev pub ReadsNext : TransportState → Option Item → Type 0
 ReadsNext t next = (plan : Plan) (steps : List Step) (put : ℕ → List Note) (taken : List Item) →

@@ -8,7 +8,7 @@ use Rattle.wcp_model.specs.declared.step.Step.TheVariants as step
 use Rattle.wcp_model.specs.declared.step.Reply.{Reply}
 use Rattle.wcp_model.specs.Replies.{Answered, accepted_by, taken_by, accepted, items_taken, computation, IsReply}
 use Rattle.wcp_model.specs.Replies.{AreReplies}
-use Rattle.wcp_model.specs.Report.{AreFrontsOfEmissions}
+use Rattle.wcp_model.specs.Report.{ArePrefixesOfEmissions}
 use Rattle.wcp_queue.specs.Checker.{CheckerState, processes as processes_of_checker, StandsForItems}
 use Rattle.wcp_world.specs.Processes.{ProcessesState, AreProcessesOf}
 use Rattle.wcp_world.specs.Transport.{TransportState, IsTransportOf}
@@ -52,11 +52,11 @@ MakesStep old s answer new = (plan : Plan) (steps : List Step) (taken : List Ite
     IsReply plan steps s answer × Stands plan (steps ++ accepted_by s answer) (taken ++ taken_by answer) new
 
 -- A world stands for a history: the steps so far, each with its reply, which is that of the definitions; after each
--- of them what was taken of each process is a front of what it emitted.
+-- of them what was taken of each process is a prefix of what it emitted.
 pub record IsWorldOf (plan : Plan) (history : List Answered) (w : WorldState) : Type 0 where
   pub replies : AreReplies plan history
-  pub fronts : (place : ℕ) →
-      AreFrontsOfEmissions plan.n plan.watched plan.flag (computation (accepted (take place history)))
+  pub prefixes : (place : ℕ) →
+      ArePrefixesOfEmissions plan.n plan.watched plan.flag (computation (accepted (take place history)))
       (items_taken (take place history))
   pub stands : Stands plan (accepted history) (items_taken history) w
 

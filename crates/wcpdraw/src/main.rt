@@ -1,7 +1,7 @@
 //! The program `wcpdraw`.
 #![tactic(auto)]
 
-use draw_cli::{Fault, drive, refuse};
+use draw_cli::{DrawFault, drive, refuse};
 use std::alloc::AllocError;
 use std::env;
 use std::io::ErrorKind;
@@ -23,10 +23,10 @@ fn main(rt: HostRuntime) -> ExitCode {
 }
 
 /// The words of the command line, of which the first is the program's name.
-fn words<R: Env + AllocGlobal>(rt: &R) -> Result<Vec<String>, Fault> {
+fn words<R: Env + AllocGlobal>(rt: &R) -> Result<Vec<String>, DrawFault> {
     match env::args(rt) {
         Ok(words) => Ok(words.collect(rt.alloc())?),
         Err(error) if error.kind() == ErrorKind::OutOfMemory => Err(AllocError.into()),
-        Err(_) => Err(Fault::Usage),
+        Err(_) => Err(DrawFault::Usage),
     }
 }

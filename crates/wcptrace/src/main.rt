@@ -6,7 +6,7 @@ use std::env;
 use std::io::{ErrorKind, IsTerminal};
 use std::process::ExitCode;
 use std::rt::Env;
-use trace_cli::{Fault, Notes, Teller, TellingReader, drive, refuse};
+use trace_cli::{Notes, ProgressTeller, TellingReader, TraceFault, drive, refuse};
 
 /// The word that asks to be told how far the log was read.
 const PROGRESS: &str = "--progress";
@@ -15,7 +15,7 @@ fn main(rt: HostRuntime) -> ExitCode {
     let status = match words(&rt) {
         Ok(words) => {
             let is_watched = rt.stderr().is_terminal();
-            let teller = is_watched.then(|| Teller::new("wcptrace", &rt, rt.stderr()));
+            let teller = is_watched.then(|| ProgressTeller::new("wcptrace", &rt, rt.stderr()));
             let tells_progress = is_watched || words.iter().any(|word| word.as_str() == PROGRESS);
             drive(
                 rt.alloc(),
@@ -32,10 +32,10 @@ fn main(rt: HostRuntime) -> ExitCode {
 }
 
 /// The words of the command line, of which the first is the program's name.
-fn words<R: Env + AllocGlobal>(rt: &R) -> Result<Vec<String>, Fault> {
+fn words<R: Env + AllocGlobal>(rt: &R) -> Result<Vec<String>, TraceFault> {
     match env::args(rt) {
         Ok(words) => Ok(words.collect(rt.alloc())?),
         Err(error) if error.kind() == ErrorKind::OutOfMemory => Err(AllocError.into()),
-        Err(_) => Err(Fault::Usage),
+        Err(_) => Err(TraceFault::Usage),
     }
 }

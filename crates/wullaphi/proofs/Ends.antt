@@ -28,7 +28,7 @@ use Rattle.wcp_watch.specs.declared.checker_end.CheckFault.TheVariants as check_
 use Rattle.wcp_watch.specs.Settling.{ComeFromWatch, IsEndOfSomeProbe, IsSettled}
 use Rattle.wcp_watch.specs.declared.running.Ends.{Ends}
 use Rattle.wcp_watch.specs.declared.running.Parts.{Parts}
-use Rattle.wcp_watch.specs.declared.settled.Settled.{Settled}
+use Rattle.wcp_model.specs.declared.outcome.Outcome.{Outcome}
 use Rattle.wullaphi.specs.Lent.{HasLeft, HasRun}
 use Rattle.wullaphi.specs.Refused.{IfLost}
 use Rattle.wullaphi.specs.Seats.{ArePartsOf, IsEndOfSeat}
@@ -265,7 +265,7 @@ module _ {P A : Type 0} (Leaves : P → LiveSide → A → Type 0) (done : A →
         subst (λ (a : A). done a ≡ true) same (sym has.of.is_end.done_is ∙ ap is_some has.same)
 
     module _ (answers : List A) (answered : map (λ (end : SeatEnd A). end.answer) ends.workers.items ≡ answers)
-        {book : BookState} {settled : Settled} (is : IsSettled probes ends.checker book settled)
+        {book : BookState} {settled : Outcome} (is : IsSettled probes ends.checker book settled)
         (watched : WatchOutcome A)
         (totals : AreTotals book.shares watched.totals) (answers_are : watched.answers.items ≡ answers) (report_is :
         watched.outcome.report ≡ settled.report) (tallies_are : watched.outcome.tallies ≡ settled.tallies) where

@@ -22,7 +22,7 @@ use Rattle.wcp_watch.proofs.WatchEnds.{all_processes, come_from_watch, where_non
 use Rattle.wcp_watch.specs.CheckerEnds.{IsEndOfLoop}
 use Rattle.wcp_watch.specs.Settling.{ComeFromWatch, IsSettled}
 use Rattle.wcp_watch.specs.declared.checker_end.CheckerEnd.{CheckerEnd}
-use Rattle.wcp_watch.specs.declared.settled.Settled.{Settled}
+use Rattle.wcp_model.specs.declared.outcome.Outcome.{Outcome}
 use Rattle.wullaphi.specs.Opened.{AreEndsOf, EndsOfWatch, HasOpened, IsCheckerEndOf, IsCheckerOf, IsFreshWatch, IsOpen}
 use Rattle.wullaphi.specs.Opened.{IsProbeEndOf, IsProbeOf, IsRelayEndOf, IsRelayOf, OpenedWatch, no_ends}
 use Rattle.wullaphi.specs.OwnEnds.{AreSettled}
@@ -140,8 +140,8 @@ module _ {opening : Option OpenedWatch} where
       pub come : ComeFromWatch ends.probes ends.relays checker
       come = come_from_watch has.is_open.wired has.is_open.checked has.holds.probes has.holds.relays of_checker
 
-      pub own_settled : {book : BookState} {settled : Settled} → IsSettled ends.probes checker book settled
-          → AreSettled opening ends book (record { report = settled.report; tallies = settled.tallies })
+      pub own_settled : {book : BookState} {outcome : Outcome} → IsSettled ends.probes checker book outcome
+          → AreSettled opening ends book outcome
       own_settled is = record {
         opened = has.opened;
         is = has.is;

@@ -29,4 +29,4 @@ pub record AreSettled (opening : Option OpenedWatch) (ends : EndsOfWatch) (book 
   pub checker : CheckerEnd
   pub is_checker : ends.checker ≡ Some checker
   pub processes : checker.processes ≡ opened.plan.n
-  pub settled : IsSettled ends.probes checker book (record { report = outcome.report; tallies = outcome.tallies })
+  pub settled : IsSettled ends.probes checker book outcome

@@ -17,7 +17,7 @@
 //! the book, which is under a lock: each call of `Book` says what it tells whoever waits, and tests show that the watch
 //! makes these calls.
 //!
-//! `Watch::open` is for who runs the threads: a plan's fault is answered exactly where it applies, and `parts` hands
+//! `OpenWatch::open` is for who runs the threads: a plan's fault is answered exactly where it applies, and `parts` hands
 //! out just the probes and relays of the tree that was opened. The types of the parts, and of what each leaves as it
 //! has run, keep that they are of that watch. So `WatchEnds::settle` has no premise: an answer is the exact report of
 //! what the probes emitted whose ends were added, and a refusal is the first reason that applies, where an end of the
@@ -39,7 +39,7 @@ mod watch_outcome;
 mod watching;
 
 pub use lent_probe::{LentProbe, Loan};
-pub use opening::{Opening, Watch, WatchParts};
+pub use opening::{OpenWatch, Opening, WatchParts};
 pub use own_ends::{WatchCheckerEnd, WatchEnds, WatchProbeEnd, WatchRelayEnd};
 pub use own_parts::{WatchChecker, WatchProbe, WatchRelay};
 pub use process::{LosableProcess, Process};

@@ -35,14 +35,14 @@ impl Opening for Brand {
 ///
 /// A contract sees it as its plan and the tree of links that was opened for it.
 #[derive(Drop)]
-pub struct Watch {
+pub struct OpenWatch {
     plan: Snapshot<Plan>,
     processes: u32,
     tree: Tree,
     checker: Checker,
 }
 
-impl Model for Watch {
+impl Model for OpenWatch {
     ghost use Rattle.std.specs.Coded.{codes};
     ghost use Rattle.wcp_clock.specs.ProcessNumbers.{numbers_code};
     ghost use Rattle.wcp_relay.specs.contracts.parts.Watch as of_tree;
@@ -68,10 +68,10 @@ pub struct WatchParts<W: Opening> {
     pub ends: WatchEnds<W>,
 }
 
-impl Watch {
+impl OpenWatch {
     /// Opens a watch of this plan. The number of the watch tells it from others: a stamp of another one is refused. All
     /// memory of its links is taken here. `Err` tells the first fault of the plan, or that memory ran out.
-    pub fn open(alloc: Global, plan: &Plan, number: u64) -> Result<Watch, WatchFault>
+    pub fn open(alloc: Global, plan: &Plan, number: u64) -> Result<OpenWatch, WatchFault>
         ensures plan { IfOk result (λ watch. watch.plan ≡ plan.now) }
         ensures number { IfOk result (λ watch. watch.tree.inbox.watch ≡ number) }
         ensures refused { (refused : RefusedPlan)
@@ -102,7 +102,7 @@ impl Watch {
         ensures ends { IfOk result (λ parts. parts.ends ≡ no_ends) }
     {
         let ends = WatchEnds::new(alloc, self.tree.probes.len(), self.tree.relays.len())?;
-        let Watch {
+        let OpenWatch {
             plan: _,
             processes: _,
             tree,
@@ -126,7 +126,7 @@ impl Watch {
 }
 
 /// Opens a watch of a plan that has no fault. `Err` where memory runs out.
-fn open_checked(alloc: Global, plan: &Plan, number: u64) -> Result<Watch, WatchFault>
+fn open_checked(alloc: Global, plan: &Plan, number: u64) -> Result<OpenWatch, WatchFault>
     requires { IsCheckedPlan plan.now }
     ensures plan { IfOk result (λ watch. watch.plan ≡ plan.now) }
     ensures number { IfOk result (λ watch. watch.tree.inbox.watch ≡ number) }
@@ -134,7 +134,7 @@ fn open_checked(alloc: Global, plan: &Plan, number: u64) -> Result<Watch, WatchF
 {
     let tree = watch(alloc, plan, number)?;
     let checker = Checker::new(alloc, plan.n, plan.watched)?;
-    Ok(Watch {
+    Ok(OpenWatch {
         plan: Snapshot::of(plan),
         processes: plan.n,
         tree,

@@ -222,10 +222,6 @@ impl<W: Opening> WatchEnds<W> {
         let Some(checker) = checker else {
             return Err(SettleFault::Missing);
         };
-        let settled = settle(probes, relays, checker, book)?;
-        Ok(Outcome {
-            report: settled.report,
-            tallies: settled.tallies,
-        })
+        settle(probes, relays, checker, book)
     }
 }

@@ -18,7 +18,7 @@ use std::alloc::{AllocError, Global};
 use std::sync::{Mutex, Wait};
 use std::thread::Threads;
 use wcp_book::Book;
-use wcp_model::{Outcome, Plan};
+use wcp_model::Plan;
 use wcp_queue::Checker;
 use wcp_tree::{Watch, watch};
 use wcp_watch::{CheckFault, CheckerEnd, Checking, Ends, Parts, SettleFault, run_parts, settle};
@@ -135,12 +135,9 @@ fn watch_planned<
     let (probes, answers) = take_apart(alloc, workers)?;
     let posted = book.lock(rt).copied();
     let totals = posted.totals();
-    let settled = settle(probes, relays, checker, posted)?;
+    let outcome = settle(probes, relays, checker, posted)?;
     Ok(WatchOutcome {
-        outcome: Outcome {
-            report: settled.report,
-            tallies: settled.tallies,
-        },
+        outcome,
         totals,
         answers,
     })

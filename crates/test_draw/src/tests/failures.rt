@@ -1,18 +1,13 @@
 use super::runs::{Answer, FOUND, TWO, answer_to, assert_drawn, assert_refused, assert_text};
-use super::streams::{Endless, Sink, Source, Trouble};
 use draw_cli::drive;
 use std::alloc::Global;
-use std::io::ErrorKind;
+use std::io::{self, ErrorKind};
 use std::process::Abort;
+use test_streams::{Sink, Source, Trouble};
 
 /// What the program answers where reads give so many bytes at most, and have this trouble.
 fn troubled(alloc: Global, most: usize, trouble: Trouble) -> Answer {
-    let mut input = Source {
-        rest: FOUND.as_bytes(),
-        most,
-        trouble,
-        reads: 0,
-    };
+    let mut input = Source::new(FOUND.as_bytes(), most, trouble);
     answer_to(alloc, &mut input)
 }
 
@@ -47,18 +42,13 @@ fn one_byte_a_read_is_the_same(rt: HostRuntime) {
 
 #[test]
 fn a_text_that_never_ends(rt: HostRuntime) {
-    let answer = answer_to(rt.alloc(), &mut Endless);
+    let answer = answer_to(rt.alloc(), &mut io::repeat(b'x'));
     assert_refused(&rt, &answer, b"wcpdraw: toolarge\n");
 }
 
 /// Where this write fails, of writes of 256 bytes, those before it are all that was written.
 fn assert_failing_write(rt: &impl Abort, alloc: Global, write: usize) {
-    let mut output = Sink {
-        taken: Vec::new(alloc),
-        most: 256,
-        trouble: Trouble::At(write, ErrorKind::Other),
-        writes: 0,
-    };
+    let mut output = Sink::new(alloc, 256, Trouble::At(write, ErrorKind::Other));
     let mut errors: Vec<u8> = Vec::new(alloc);
     let status = drive(alloc, TWO, &mut FOUND.as_bytes(), &mut output, &mut errors);
     assert!(rt; status == 2 && output.taken.len() == write.saturating_mul(256));

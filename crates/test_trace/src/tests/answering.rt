@@ -5,8 +5,8 @@ ghost use Rattle.trace_moment.specs.Search.{watched_by};
 use std::alloc::{AllocError, Global};
 use std::fmt::Write;
 use std::process::Abort;
-use trace_log::{Form, Log, Logged, ReadFault};
-use trace_moment::{Lasting, Search, Watched};
+use trace_log::{Form, Log, LogReadFault, Logged};
+use trace_moment::{Lasting, Search, WatchedHost};
 
 /// Compares when the moment of alice and bob holding the lock was known, and their events with their lines.
 pub fn assert_answer(
@@ -39,15 +39,19 @@ fn alice_and_bob(rt: &impl Abort, alloc: Global, lasting: Lasting) -> Search
     Search::new(alloc, watched).expect(rt, "memory")
 }
 
-fn two(rt: &impl Abort, alloc: Global, lasting: Lasting) -> Vec<Watched>
+fn two(rt: &impl Abort, alloc: Global, lasting: Lasting) -> Vec<WatchedHost>
     ensures { map seen_watch result.items
         ≡ record { host = codes "alice"; lasting = lasting } ∷ record { host = codes "bob"; lasting = lasting } ∷ [] }
 {
     let mut watched = Vec::with_capacity(alloc, 2).expect(rt, "memory");
     let host = String::from_str(alloc, "alice").expect(rt, "memory");
-    watched.push(Watched { host, lasting }).expect(rt, "memory");
+    watched
+        .push(WatchedHost { host, lasting })
+        .expect(rt, "memory");
     let host = String::from_str(alloc, "bob").expect(rt, "memory");
-    watched.push(Watched { host, lasting }).expect(rt, "memory");
+    watched
+        .push(WatchedHost { host, lasting })
+        .expect(rt, "memory");
     watched
 }
 
@@ -74,8 +78,8 @@ fn read_on(log: &mut Log, search: &mut Search, row: &[u8]) -> Result<bool, Alloc
 {
     match log.read(row) {
         Ok(Some(logged)) => take(search, logged),
-        Ok(None) | Err(ReadFault::Log(_)) => Ok(false),
-        Err(ReadFault::NoMemory) => Err(AllocError),
+        Ok(None) | Err(LogReadFault::Log(_)) => Ok(false),
+        Err(LogReadFault::Memory) => Err(AllocError),
     }
 }
 

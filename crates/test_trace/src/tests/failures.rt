@@ -1,41 +1,21 @@
 //! Reads and writes that fail, and reads of one byte.
 use super::runs::{ANSWER, FOUND, RUNS_OUT, answer};
-use super::streams::{Sink, Source, Trouble};
 use std::alloc::Global;
 use std::io::ErrorKind;
 use std::process::Abort;
+use test_streams::{Sink, Source, Trouble};
 
 /// The answer where reads give so many bytes at most, and have this trouble.
 fn reading(rt: &impl Abort, alloc: Global, most: usize, trouble: Trouble) -> String {
-    let mut input = Source {
-        rest: RUNS_OUT.as_bytes(),
-        most,
-        trouble,
-        reads: 0,
-    };
-    let mut output = Sink {
-        taken: Vec::new(alloc),
-        most: 8,
-        trouble: Trouble::No,
-        writes: 0,
-    };
+    let mut input = Source::new(RUNS_OUT.as_bytes(), most, trouble);
+    let mut output = Sink::new(alloc, 8, Trouble::No);
     answer(rt, alloc, &mut input, &mut output)
 }
 
 /// The answer where this write fails, of writes of eight bytes.
 fn failing_write(rt: &impl Abort, alloc: Global, write: usize) -> String {
-    let mut input = Source {
-        rest: RUNS_OUT.as_bytes(),
-        most: RUNS_OUT.len(),
-        trouble: Trouble::No,
-        reads: 0,
-    };
-    let mut output = Sink {
-        taken: Vec::new(alloc),
-        most: 8,
-        trouble: Trouble::At(write, ErrorKind::Other),
-        writes: 0,
-    };
+    let mut input = Source::new(RUNS_OUT.as_bytes(), RUNS_OUT.len(), Trouble::No);
+    let mut output = Sink::new(alloc, 8, Trouble::At(write, ErrorKind::Other));
     answer(rt, alloc, &mut input, &mut output)
 }
 

@@ -1,10 +1,10 @@
 use crate::tests::reading::assert_fault;
-use FaultKind::{Clock, Falls, Order, Own, Text};
+use LogFaultKind::{Clock, Falls, Order, Own, Text};
 use std::alloc::Global;
 use std::process::Abort;
-use trace_log::{FaultKind, Form, LogFault};
+use trace_log::{Form, LogFault, LogFaultKind};
 
-type Row = (&'static [u8], u64, FaultKind);
+type Row = (&'static [u8], u64, LogFaultKind);
 
 /// Logs of one JSON object a line, and the fault of each.
 const LINES: &[Row] = &[

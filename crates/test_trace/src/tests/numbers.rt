@@ -1,14 +1,14 @@
 use crate::tests::reading::assert_fault;
 use std::alloc::Global;
 use std::process::Abort;
-use trace_log::{FaultKind, Form, Log, LogFault, MAX_LINE, ReadFault};
+use trace_log::{Form, Log, LogFault, LogFaultKind, LogReadFault, MAX_LINE};
 
 /// Asks whether a clock may have this number.
 fn check_number(rt: &impl Abort, alloc: Global, number: &str, is_whole: bool) {
     let line = format!(in alloc; "a {{\"a\":1,\"b\":{number}}}\nx").expect(rt, "memory");
     let fault = LogFault {
         line: 1,
-        kind: FaultKind::Clock,
+        kind: LogFaultKind::Clock,
     };
     let wanted = if is_whole { None } else { Some(fault) };
     assert_fault(rt, alloc, Form::Shiviz, line.as_bytes(), wanted);
@@ -67,7 +67,7 @@ fn deep_values_are_passed_over(rt: HostRuntime) {
 /// The fault of a line, where it has one.
 fn fault_of(log: &mut Log, line: &[u8]) -> Option<LogFault> {
     match log.read(line) {
-        Err(ReadFault::Log(fault)) => Some(fault),
+        Err(LogReadFault::Log(fault)) => Some(fault),
         _ => None,
     }
 }
@@ -80,7 +80,7 @@ fn a_line_is_no_longer_than_the_most(rt: HostRuntime) {
     line.push(b'x').expect(&rt, "memory");
     let long = LogFault {
         line: 2,
-        kind: FaultKind::Long,
+        kind: LogFaultKind::Long,
     };
     assert!(rt; fault_of(&mut log, &line) == Some(long));
     // the log is as before

@@ -3,7 +3,7 @@ use std::cell::Cell;
 use std::io::{Read, Result};
 use std::test::Fail;
 use std::time::{Clock, Duration};
-use trace_cli::{Notes, Teller, TellingReader, drive};
+use trace_cli::{Notes, ProgressTeller, TellingReader, drive};
 
 /// A clock on which so many milliseconds pass from one reading to the next.
 #[derive(Drop)]
@@ -32,7 +32,7 @@ fn lines_are_told_once_a_second(rt: HostRuntime) -> std::result::Result<(), Fail
         step: 600,
     };
     let mut errors: Vec<u8> = Vec::new(rt.alloc());
-    let teller = Teller::new("reader", &clock, &mut errors);
+    let teller = ProgressTeller::new("reader", &clock, &mut errors);
     let mut input = TellingReader::new(b"1\n2\n3\n4\n5\n".as_slice(), Some(teller));
     let mut line = [0; 2];
     for _ in 0..5 {

@@ -1,7 +1,7 @@
 use std::alloc::Global;
 use std::fmt::Write;
 use std::process::Abort;
-use trace_log::{Event, Form, Log, LogFault, Logged, ReadFault};
+use trace_log::{Event, Form, Log, LogFault, LogReadFault, Logged};
 
 /// What a log was read as, event by event, and its fault or its end.
 #[derive(Drop)]
@@ -30,8 +30,8 @@ fn read_lines(rt: &impl Abort, log: &mut Log, text: &mut String, bytes: &[u8]) -
         match log.read(line) {
             Ok(None) => {}
             Ok(Some(logged)) => push_event(rt, text, &logged),
-            Err(ReadFault::Log(found)) => return Some(found),
-            Err(ReadFault::NoMemory) => panic!(rt; "memory"),
+            Err(LogReadFault::Log(found)) => return Some(found),
+            Err(LogReadFault::Memory) => panic!(rt; "memory"),
         }
     }
     None

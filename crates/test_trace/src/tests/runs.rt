@@ -1,7 +1,7 @@
-use super::streams::{Sink, Source};
 use std::alloc::Global;
 use std::process::Abort;
 use std::str;
+use test_streams::{Sink, Source};
 use trace_cli::drive;
 
 /// The words of the two who want the lease.

@@ -2,11 +2,11 @@
 
 use super::rows::{Row, answered, refused_texts};
 use super::runs::{Answer, answer_of, gives, refused, same_number};
-use super::streams::{Sinks, Source, Trouble};
 use std::io::{self, ErrorKind, Read};
 use std::process::Abort;
 use std::sync::Wait;
 use std::thread::Threads;
+use test_streams::{Sinks, Source, Trouble};
 
 /// What is said where a read fails.
 const UNREAD: &str = "wcpwatch: read\n";
@@ -19,7 +19,7 @@ fn by_bytes<R: AllocGlobal + Threads + Wait + Sync + Abort>(
     answer: Answer,
     place: usize,
 ) {
-    let mut input = Source::of(row.text.as_bytes(), trouble);
+    let mut input = Source::new(row.text.as_bytes(), 1, trouble);
     let mut sinks = Sinks::new(rt.alloc(), Trouble::No, Trouble::No);
     gives(
         rt, row.word, &mut input, &mut sinks, answer, row.name, place,
@@ -64,7 +64,7 @@ fn each_read_may_fail(rt: HostRuntime) {
 
 #[test]
 fn reads_are_tried_so_often(rt: HostRuntime) {
-    let mut input = Source::of(b"", Trouble::Always(ErrorKind::Interrupted));
+    let mut input = Source::new(b"", 1, Trouble::Always(ErrorKind::Interrupted));
     let mut sinks = Sinks::new(rt.alloc(), Trouble::No, Trouble::No);
     gives(
         &rt,
@@ -75,7 +75,7 @@ fn reads_are_tried_so_often(rt: HostRuntime) {
         "interrupted",
         0,
     );
-    same_number(&rt, input.reads, 4_194_304, "interrupted", 0);
+    same_number(&rt, input.reads(), 4_194_304, "interrupted", 0);
 }
 
 /// Gives the program a text that stands in no row.
@@ -96,7 +96,7 @@ const TOO_LARGE: &str = "wcpwatch: toolarge\n";
 /// A text that is a byte too large is refused before another read, which would fail, and so is a text without an end.
 /// The largest text is read.
 fn large_texts<R: AllocGlobal + Threads + Wait + Sync + Abort>(rt: &R, word: &str) {
-    let mut broken = Source::of(b"", Trouble::Always(ErrorKind::Other));
+    let mut broken = Source::new(b"", 1, Trouble::Always(ErrorKind::Other));
     let mut large = io::repeat(b'x').take(2_097_153).chain(&mut broken);
     reads(rt, word, &mut large, TOO_LARGE, "a byte too much");
     reads(rt, word, &mut io::repeat(b'x'), TOO_LARGE, "without an end");

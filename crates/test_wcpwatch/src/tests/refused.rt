@@ -2,9 +2,9 @@
 //! thread needs some for its stack.
 
 use super::runs::{is_given, refused, run};
-use super::streams::{Sinks, Trouble};
 use std::alloc::Global;
 use std::process::Abort;
+use test_streams::{Sinks, Trouble};
 
 /// The largest blocks that are asked for have so many bytes, which is half of an address space.
 const LARGEST: usize = 1 << 46;

@@ -1,11 +1,11 @@
 //! Runs of the program, of which all that it gives is compared.
 
 use super::rows::Row;
-use super::streams::Sinks;
 use std::io::Read;
 use std::process::Abort;
 use std::sync::Wait;
 use std::thread::Threads;
+use test_streams::Sinks;
 use wcp_cli::drive;
 
 /// What the program writes and says, and its status.

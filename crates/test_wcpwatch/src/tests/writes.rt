@@ -2,11 +2,11 @@
 
 use super::rows::{Row, answered, refused_texts};
 use super::runs::{Answer, answer_of, gives, same_number};
-use super::streams::{Sinks, Trouble};
 use std::io::ErrorKind;
 use std::process::Abort;
 use std::sync::Wait;
 use std::thread::Threads;
+use test_streams::{Sinks, Trouble};
 
 /// Runs the program on the row's text with these writers, compares all that it gives, and tells how often it flushed.
 fn agrees<R: AllocGlobal + Threads + Wait + Sync + Abort>(
@@ -20,7 +20,7 @@ fn agrees<R: AllocGlobal + Threads + Wait + Sync + Abort>(
     gives(
         rt, row.word, &mut input, &mut sinks, answer, row.name, place,
     );
-    sinks.output.flushes
+    sinks.output.flushes()
 }
 
 /// The answer where no more than this is taken of the output.
@@ -151,7 +151,7 @@ fn each_write_of_all_errors<R: AllocGlobal + Threads + Wait + Sync + Abort>(rt: 
     }
 }
 
-/// The status stays, and a front of the line was taken.
+/// The status stays, and a prefix of the line was taken.
 #[test]
 fn each_write_of_errors_may_fail(rt: HostRuntime) {
     each_write_of_all_errors(&rt, refused_texts());

@@ -8,8 +8,8 @@ use std::process::Abort;
 use std::sync::{Mutex, Wait};
 use std::thread::{Threads, join};
 use wullaphi::{
-    Book, GlobalCut, LentProbe, Loan, Opening, Outcome, Plan, Process, Report, SettleFault,
-    Tallies, Tally, Watch, WatchChecker, WatchCheckerEnd, WatchEnds, WatchParts, WatchProbe,
+    Book, GlobalCut, LentProbe, Loan, OpenWatch, Opening, Outcome, Plan, Process, Report,
+    SettleFault, Tallies, Tally, WatchChecker, WatchCheckerEnd, WatchEnds, WatchParts, WatchProbe,
     WatchProbeEnd, WatchRelay, WatchRelayEnd, plain_plan, watch_processes,
 };
 
@@ -117,7 +117,7 @@ fn settled<W: Opening, R: Abort>(
 fn watched<W: Opening + Send + Sync, R: Threads + Wait + Sync + Abort>(
     rt: &R,
     alloc: Global,
-    watch: Watch,
+    watch: OpenWatch,
     member: Option<Member>,
 ) -> Told
     requires { W.opened ≡ Some watch }
@@ -144,7 +144,7 @@ fn plan_of_two(rt: &impl Abort, alloc: Global) -> Plan {
 /// Opens a watch of two processes, and runs it here.
 fn opened<R: Threads + Wait + Sync + Abort>(rt: &R, alloc: Global, member: Option<Member>) -> Told {
     let plan = plan_of_two(rt, alloc);
-    let watch = Watch::open(alloc, &plan, 1).expect(rt, "memory");
+    let watch = OpenWatch::open(alloc, &plan, 1).expect(rt, "memory");
     watched::<Brand, R>(rt, alloc, watch, member)
 }
 

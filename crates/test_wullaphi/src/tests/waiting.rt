@@ -5,8 +5,8 @@ use std::process::Abort;
 use std::sync::{Mutex, OnceLock, Wait};
 use std::thread::{Threads, join};
 use wullaphi::{
-    Book, CutAnswer, GlobalCut, LentProbe, Loan, Plan, PlanFault, Process, RefusedPlan, Report,
-    Watch, WatchFault, WatchOutcome, plain_plan, wait_for_cut, watch_processes,
+    Book, CutAnswer, GlobalCut, LentProbe, Loan, OpenWatch, Plan, PlanFault, Process, RefusedPlan,
+    Report, WatchFault, WatchOutcome, plain_plan, wait_for_cut, watch_processes,
 };
 
 /// A process of a watch whose cut is waited for.
@@ -269,7 +269,7 @@ fn a_book_that_a_running_watch_has_is_refused(rt: HostRuntime) {
 /// What is printed of a plan of so many processes, with this capacity and this hold.
 fn assert_line(rt: &(impl Abort + AllocGlobal), n: u32, cap: u32, hold: u32, line: &str) {
     let plan = plain_plan(rt.alloc(), n, cap, hold).expect(rt, "memory");
-    let refused = Watch::open(rt.alloc(), &plan, 1)
+    let refused = OpenWatch::open(rt.alloc(), &plan, 1)
         .err()
         .expect(rt, "a fault");
     let told = format!(in rt.alloc(); "{refused}").expect(rt, "memory");

@@ -1,8 +1,8 @@
 use Rattle.std.proofs.Common.{subst}
 use Rattle.std.proofs.lemmas.Result.{err_from_is_err_and}
 use Rattle.std.specs.Io.KnownBytes.{Appends}
-use Rattle.wcp_io.specs.Fronts.{AppendsFront}
-use Rattle.draw_cli.specs.Edge.{Front, Whole}
+use Rattle.wcp_io.specs.Prefixes.{AppendsPrefix}
+use Rattle.draw_cli.specs.Edge.{Prefix, Whole}
 use Rattle.draw_cli.proofs.Refusals.{status_after_err, why_refused}
 use Rattle.draw_cli.proofs.program.obey.Goals as goal
 
@@ -15,8 +15,8 @@ returns-in_err-answer-clause-fault g c =
 pub returns-in_err-write_whole-clause-does : goal.returns-in_err-write_whole-clause-does
 returns-in_err-write_whole-clause-does g c =
     let answer = c.in_ok-answer.answer in
-    Front _ answer.status c.in_ok-answer.ensures.answer
-    (subst (AppendsFront (g.O.Write.contents c.args.output.now) (g.O.Write.contents c.write_whole.new.output))
+    Prefix _ answer.status c.in_ok-answer.ensures.answer
+    (subst (AppendsPrefix (g.O.Write.contents c.args.output.now) (g.O.Write.contents c.write_whole.new.output))
     c.as_bytes.ensures.value c.in_err-write_whole.ensures.err)
     (status_after_err _ c.from_residual-in_err-write_whole.ensures.0)
 

@@ -12,7 +12,7 @@ lay_out-requires c =
       few_tasks = order_few n tasks order c.requires.read c.requires.fit;
       within = order_within n tasks order c.requires.read c.requires.fit;
       fit = order_fit n tasks order c.requires.read c.requires.fit;
-      cut = rw c.cut_of-cut.ensures
+      cut = rw c.cut-cut.ensures
           (may_split n c.args.workload.now.plan.watched order c.in_ok-outcome.outcome.report report);
     }
 
@@ -27,7 +27,7 @@ draw-requires c =
       few_tasks = order_few n tasks order c.requires.read c.requires.fit;
       within = rw c.requires.names (order_within n tasks order c.requires.read c.requires.fit);
       layout = rw c.requires.names c.in_ok-layout.ensures;
-      members = rw c.requires.names (rw c.cut_of-cut.ensures
+      members = rw c.requires.names (rw c.cut-cut.ensures
           (has_members n c.args.workload.now.plan.watched order c.in_ok-outcome.outcome.report report));
     }
 
@@ -38,6 +38,6 @@ returns c = record {
   outcome = c.in_ok-outcome.outcome;
   is_outcome = c.in_ok-outcome.ensures;
   layout = c.in_ok-layout.layout;
-  is_picture = rw (← c.requires.names) (rw c.cut_of-cut.ensures at c.in_ok-text.ensures);
-  found_is = rw c.cut_of-cut.ensures at c.is_some.ensures;
+  is_picture = rw (← c.requires.names) (rw c.cut-cut.ensures at c.in_ok-text.ensures);
+  found_is = rw c.cut-cut.ensures at c.is_some.ensures;
 }

@@ -1,9 +1,9 @@
 use Rattle.example_pool.proofs.Words.{zero, suc, ◌+◌, ◌∷◌, [], All, length, refl, sym, ap, ◌∙◌, subst, arith}
-use Rattle.example_pool.proofs.Words.{length-append, Member, IsReplica}
+use Rattle.example_pool.proofs.Words.{length-append, PoolMember, IsReplica}
 use Rattle.std.proofs.lemmas.List.Elements.{All-append}
 use Rattle.example_pool.proofs.opening.open_members.Goals as goal
 
-all_one : (P : Member → Type 0) (member : Member) → P member → All P (member ∷ [])
+all_one : (P : PoolMember → Type 0) (member : PoolMember) → P member → All P (member ∷ [])
 all_one P member is zero d below = is
 all_one P member is (suc k) d below = absurd (omega arith)
 

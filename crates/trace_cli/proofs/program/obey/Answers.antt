@@ -1,15 +1,15 @@
 use Rattle.std.proofs.Common.{subst}
 use Rattle.std.specs.Io.KnownBytes.{Appends}
-use Rattle.wcp_io.specs.Fronts.{AppendsFront}
-use Rattle.trace_cli.specs.Edge.{Front, Whole}
+use Rattle.wcp_io.specs.Prefixes.{AppendsPrefix}
+use Rattle.trace_cli.specs.Edge.{Prefix, Whole}
 use Rattle.trace_cli.proofs.Statuses.{status_after_err}
 use Rattle.trace_cli.proofs.program.obey.Goals as goal
 
 pub returns-in_err-write_whole-clause-does : goal.returns-in_err-write_whole-clause-does
 returns-in_err-write_whole-clause-does g c =
     let answer = c.in_ok-answer.answer in
-    Front c.in_ok-request.request answer.text.items answer.status c.in_ok-request.ensures c.in_ok-answer.ensures.answer
-    (subst (AppendsFront (g.O.Write.contents c.args.output.now) (g.O.Write.contents c.write_whole.new.output))
+    Prefix c.in_ok-request.request answer.text.items answer.status c.in_ok-request.ensures c.in_ok-answer.ensures.answer
+    (subst (AppendsPrefix (g.O.Write.contents c.args.output.now) (g.O.Write.contents c.write_whole.new.output))
     c.as_slice.ensures.value c.in_err-write_whole.ensures.err)
     (status_after_err _ c.from_residual-in_err-write_whole.ensures.0)
 

@@ -17,5 +17,5 @@ returns-clause-answer c =
           c.as_slice.ensures.value c.in_ok-played.ensures;
       print = c.in_ok-replay_text.ensures ∙ ap (λ replies. replay_text replies
           (record { report = played.report; tallies = played.tallies })) c.as_slice-2.ensures.value;
-      status_is = c.status_of.ensures.value;
+      status_is = c.exit_status.ensures.value;
     }

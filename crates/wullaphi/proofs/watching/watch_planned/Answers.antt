@@ -51,7 +51,7 @@ returns-clause-watched g c =
     c.in_ok-probes.ensures.probes
     c.in_ok-probes.answers.items
     c.in_ok-probes.ensures.answers
-    c.in_ok-settled.ensures.settled
+    c.in_ok-outcome.ensures.settled
     _
     c.totals-totals.ensures
     refl

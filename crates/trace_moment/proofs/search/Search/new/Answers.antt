@@ -1,6 +1,6 @@
 use Rattle.std.proofs.lemmas.List.{nil_from_length}
 use Rattle.std.specs.Vec.Iter.{into_iter_items}
-use Rattle.trace_moment.specs.declared.watched.Watched.{Watched}
+use Rattle.trace_moment.specs.declared.watched.WatchedHost.{WatchedHost}
 use Rattle.trace_moment.proofs.Words.{◌≡◌, List, [], ◌++◌, map, ◌∙◌, sym, ap, append-nil, arith, watched_by}
 use Rattle.trace_moment.proofs.Steps.{fresh, watched_fresh, StandFor-start}
 use Rattle.trace_moment.proofs.search.Search.new.Goals as goal
@@ -11,7 +11,7 @@ returns-clause-watched c =
     let ended : into_iter_items loop.one-iterator ≡ [] = nil_from_length (into_iter_items loop.one-iterator)
     (omega (arith, c.in-None.ensures.steps.0)) in
     let all : loop.yielded ≡ c.args.watched.items = sym (append-nil loop.yielded)
-    ∙ ap (λ (rest : List Watched). loop.yielded ++ rest) (sym ended) ∙ loop.invariant.whole in
+    ∙ ap (λ (rest : List WatchedHost). loop.yielded ++ rest) (sym ended) ∙ loop.invariant.whole in
     ap watched_by (loop.invariant.queues ∙ ap (map fresh) all) ∙ watched_fresh c.args.watched.items
 
 pub returns-clause-taken : goal.returns-clause-taken
@@ -20,6 +20,6 @@ returns-clause-taken c =
     let ended : into_iter_items loop.one-iterator ≡ [] = nil_from_length (into_iter_items loop.one-iterator)
     (omega (arith, c.in-None.ensures.steps.0)) in
     let all : loop.yielded ≡ c.args.watched.items = sym (append-nil loop.yielded)
-    ∙ ap (λ (rest : List Watched). loop.yielded ++ rest) (sym ended) ∙ loop.invariant.whole in
+    ∙ ap (λ (rest : List WatchedHost). loop.yielded ++ rest) (sym ended) ∙ loop.invariant.whole in
     StandFor-start c.args.watched.items loop.queues.items loop.floors.items c.requires.some c.requires.distinct
-    (loop.invariant.queues ∙ ap (map fresh) all) (loop.invariant.floors ∙ ap (map (λ (one : Watched). 0)) all)
+    (loop.invariant.queues ∙ ap (map fresh) all) (loop.invariant.floors ∙ ap (map (λ (one : WatchedHost). 0)) all)

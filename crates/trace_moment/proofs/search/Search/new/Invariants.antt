@@ -1,6 +1,6 @@
 use Rattle.std.proofs.Common.{◌≡◌, ◌++◌, map}
 use Rattle.std.specs.Vec.Iter.{into_iter_items}
-use Rattle.trace_moment.specs.declared.watched.Watched.{Watched}
+use Rattle.trace_moment.specs.declared.watched.WatchedHost.{WatchedHost}
 use Rattle.trace_moment.proofs.Steps.{fresh}
 use Rattle.trace_moment.proofs.search.Search.new.Given as goal
 
@@ -8,5 +8,5 @@ abbrev pub invariant-loop-one : goal.invariant-loop-one
 invariant-loop-one l = record {
   whole : l.yielded ++ into_iter_items l.one-iterator ≡ l.fn.watched.items;
   queues : l.queues.items ≡ map fresh l.yielded;
-  floors : l.floors.items ≡ map (λ (one : Watched). 0) l.yielded;
+  floors : l.floors.items ≡ map (λ (one : WatchedHost). 0) l.yielded;
 }

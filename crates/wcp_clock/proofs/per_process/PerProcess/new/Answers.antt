@@ -2,11 +2,11 @@ use Rattle.std.proofs.Common.{◌≡◌, ℕ, ◌-◌, ◌≤◌, List, ◌++◌
 use Rattle.std.proofs.lemmas.List.{length-append, length-drop, length-replicate, drop_at, drop-replicate}
 use Rattle.wcp_clock.proofs.per_process.PerProcess.new.Goals as goal
 
--- a front written over filler leaves as many cells, and filler behind it
-written_front : {T : Type 0} (filler : T) (size : ℕ) (front : List T) → length front ≤ size
+-- a prefix written over filler leaves as many cells, and filler behind it
+written_prefix : {T : Type 0} (filler : T) (size : ℕ) (front : List T) → length front ≤ size
     → (length (front ++ drop (length front) (replicate size filler)) ≡ size) × (drop (length front)
     (front ++ drop (length front) (replicate size filler)) ≡ replicate (size - length front) filler)
-written_front filler size front within = (
+written_prefix filler size front within = (
   omega (
     arith,
     length-append front (drop (length front) (replicate size filler)),
@@ -19,6 +19,6 @@ written_front filler size front within = (
 
 pub invariant_of-result : goal.invariant_of-result
 invariant_of-result g c =
-    let written = written_front g.T.Padding.padding 16 c.args.values.now c.requires.within in
+    let written = written_prefix g.T.Padding.padding 16 c.args.values.now c.requires.within in
     rw (c.copy_from_slice.ensures.after, c.padding-padded.ensures)
     (c.requires.some, c.requires.within, written.0, written.1)

@@ -1,6 +1,6 @@
 use Rattle.wcp_relay.proofs.Words.{◌+◌, ◌-◌, ◌<◌, take, get_or, sym, ◌∙◌, subst, arith, length-take-le, length-set}
 use Rattle.wcp_relay.proofs.Words.{take_more_set, drop-set-lt, IsBundle, filler, most_bundle}
-use Rattle.wcp_relay.proofs.Bundling.{front_and_last, may_join, joined, drop_more}
+use Rattle.wcp_relay.proofs.Bundling.{prefix_and_last, may_join, joined, drop_more}
 use Rattle.wcp_relay.proofs.bundle.Bundle.add.Goals as goal
 
 pub invariant_of-self : goal.invariant_of-self
@@ -13,7 +13,7 @@ invariant_of-self c =
     let long = length-take-le n items (omega (arith, old.1, old.2)) in
     let below : n < most_bundle = omega (arith, old.1, c.if-self-eq-MAX_BUNDLE.false) in
     let some : 0 < n = omega (arith, old.0.some, long) in
-    let is = front_and_last n items c.index-self-self.result some (omega (arith, old.1, old.2)) in
+    let is = prefix_and_last n items c.index-self-self.result some (omega (arith, old.1, old.2)) in
     let may = may_join (take n items) (take (n - 1) items) end item is (omega (arith, long, below))
     (c.continues.ensures.0 c.if-not-continues.false) in (
       subst IsBundle (sym (take_more_set items n item (omega (arith, old.2, below))))

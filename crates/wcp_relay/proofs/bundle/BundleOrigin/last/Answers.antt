@@ -1,6 +1,6 @@
 use Rattle.wcp_relay.proofs.Words.{◌≡◌, None, take, get_or, ◌-◌, ◌<◌, sym, ap, ◌∙◌, subst, arith, Option, IfSome}
 use Rattle.wcp_relay.proofs.Words.{last_or, length-take-le, is_last, Item}
-use Rattle.wcp_relay.proofs.Bundling.{last_or-push, front_and_last}
+use Rattle.wcp_relay.proofs.Bundling.{last_or-push, prefix_and_last}
 use Rattle.wcp_relay.proofs.bundle.BundleOrigin.last.Goals as goal
 
 pub returns : goal.returns
@@ -16,6 +16,6 @@ returns c =
       length-take-le n items (omega (arith, c.self.invariant.1, c.self.invariant.2)),
     ) in
     let is = sym c.self.view_is
-    ∙ front_and_last n items c.index-self-self.result some (omega (arith, c.self.invariant.1, c.self.invariant.2)) in
+    ∙ prefix_and_last n items c.index-self-self.result some (omega (arith, c.self.invariant.1, c.self.invariant.2)) in
     subst (λ (o : Option Item). IfSome o (λ (x : Item). c.last.result ≡ is_last x.note))
     (sym (ap (last_or None) is ∙ last_or-push None (take (n - 1) items) end)) c.last.ensures

@@ -1,6 +1,6 @@
 use Rattle.wcp_relay.proofs.Words.{None, sym, ◌∙◌, subst, IsPrefix, Item, PutEnd, Bundle, Outlet, Source, items_of}
 use Rattle.wcp_relay.proofs.Words.{source_taken, taken_in}
-use Rattle.wcp_relay.proofs.Ending.{starts, put_front, ended_front, end_taken, end_from_rings, no_gap}
+use Rattle.wcp_relay.proofs.Ending.{starts, put_front, ended_prefix, end_taken, end_from_rings, no_gap}
 use Rattle.wcp_relay.proofs.relay.Relay.run.Goals as goal
 
 pub run-met-requires : goal.run-met-requires
@@ -8,21 +8,21 @@ run-met-requires g c =
     starts c.args.self.source (record { putter = c.args.self.putter; hold = c.args.self.hold; cut = None })
     c.args.self.serves c.args.self.room c.args.self.nothing_held c.args.self.nothing_put
 
-pub returns-in_default-clause-front : goal.returns-in_default-clause-front
-returns-in_default-clause-front g c p =
+pub returns-in_default-clause-prefix : goal.returns-in_default-clause-prefix
+returns-in_default-clause-prefix g c p =
     let outlet = c.run-met.new.outlet in
     let front = put_front outlet (source_taken c.run-met.new.self p) p
-    (ended_front c.run-met.new.self outlet c.run-met.result c.run-met.ensures.ended p) in
+    (ended_prefix c.run-met.new.self outlet c.run-met.result c.run-met.ensures.ended p) in
     subst (λ (e : PutEnd Bundle Item). IsPrefix (items_of p e.put) (taken_in c.end.result p))
     (sym c.end-in_default.ensures)
     (subst (IsPrefix (items_of p outlet.putter.put))
     (sym (end_taken c.run-met.new.self c.end.result c.end.ensures p)) front)
 
-pub returns-clause-front : goal.returns-clause-front
-returns-clause-front g c p =
+pub returns-clause-prefix : goal.returns-clause-prefix
+returns-clause-prefix g c p =
     let outlet = c.run-met.new.outlet in
     let front = put_front outlet (source_taken c.run-met.new.self p) p
-    (ended_front c.run-met.new.self outlet c.run-met.result c.run-met.ensures.ended p) in
+    (ended_prefix c.run-met.new.self outlet c.run-met.result c.run-met.ensures.ended p) in
     subst (λ (o : Outlet). IsPrefix (items_of p o.putter.put) (source_taken c.of.result.value p)) (sym c.of-2.ensures)
     (subst (λ (s : Source). IsPrefix (items_of p outlet.putter.put) (source_taken s p)) (sym c.of.ensures) front)
 

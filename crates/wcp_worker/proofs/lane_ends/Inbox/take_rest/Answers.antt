@@ -10,5 +10,5 @@ loop-preserved g c q =
     more_more q c.args.self.now c.loop.self c.take.new.self (c.loop.invariant q)
     (record {
       same = c.take.ensures.same;
-      front = λ is. ((seal_of c.in_ok-take.field-0).clock ∷ [], sym (c.in_ok-take.ensures.taken q is));
+      prefix = λ is. ((seal_of c.in_ok-take.field-0).clock ∷ [], sym (c.in_ok-take.ensures.taken q is));
     })

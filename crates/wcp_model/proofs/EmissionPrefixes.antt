@@ -11,7 +11,7 @@ use Rattle.std.proofs.lemmas.List.Prefix.{front_from_reads}
 use Rattle.wcp_model.proofs.AcceptedSteps.{none_new_after_close}
 use Rattle.wcp_model.proofs.Growth.{clock_grows, true_state_shrinks}
 use Rattle.wcp_model.proofs.Predecessors.{local_state}
-use Rattle.wcp_model.proofs.RunningEmissions.{snapshots_append, NoneNew, emitted_state_grows, emitted_state_of_front}
+use Rattle.wcp_model.proofs.RunningEmissions.{snapshots_append, NoneNew, emitted_state_grows, emitted_state_of_prefix}
 use Rattle.wcp_model.proofs.RunningEmissions.{emitted_state_exists}
 use Rattle.wcp_model.proofs.StateClocks.{clock_alone}
 
@@ -39,17 +39,17 @@ at_least_first : (x : ℕ) (xs : List ℕ) (k : ℕ) → Rises (x ∷ xs) → Co
 at_least_first x xs k rises within = grind (arith, first_below x xs k rises, first_or_other x xs k within)
 
 -- a rising list that has the numbers of another, and no others but such as none of these exceeds, begins with the other
-rising_front : (xs ys : List ℕ) → Rises xs → Rises ys → ((k : ℕ) → Contains xs k → Contains ys k)
+rising_prefix : (xs ys : List ℕ) → Rises xs → Rises ys → ((k : ℕ) → Contains xs k → Contains ys k)
     → ((k : ℕ) → Contains ys k → Contains xs k ⊎ ((j : ℕ) → Contains xs j → j ≤ k)) →
     (rest : List ℕ) × (ys ≡ xs ++ rest)
-rising_front [] ys rise rises kept new = (ys, refl)
-rising_front (x ∷ xs) [] rise rises kept new = absurd (omega (arith, (kept x (first_within x xs)).1))
-rising_front (x ∷ xs) (y ∷ ys) rise rises kept new =
+rising_prefix [] ys rise rises kept new = (ys, refl)
+rising_prefix (x ∷ xs) [] rise rises kept new = absurd (omega (arith, (kept x (first_within x xs)).1))
+rising_prefix (x ∷ xs) (y ∷ ys) rise rises kept new =
     let above : y ≤ x = at_least_first y ys x rises (kept x (first_within x xs)) in
     let below : x ≤ y = ⊎_elim (λ (old : Contains (x ∷ xs) y). at_least_first x xs y rise old)
     (λ (late : (j : ℕ) → Contains (x ∷ xs) j → j ≤ y). late x (first_within x xs)) (new y (first_within y ys)) in
     let same : y ≡ x = omega arith in
-    let found : (rest : List ℕ) × (ys ≡ xs ++ rest) = rising_front xs ys (rest_rises x xs rise) (rest_rises y ys rises)
+    let found : (rest : List ℕ) × (ys ≡ xs ++ rest) = rising_prefix xs ys (rest_rises x xs rise) (rest_rises y ys rises)
     (λ k within. grind (
       arith,
       first_below x xs k rise within,
@@ -67,14 +67,14 @@ emitted_state_shrinks : (watched : NumberSet) (flag : Flag) (c e : Computation) 
     → s.interval < communications c s.process
     → IsEmittedState watched flag (c ++ e) s → IsEmittedState watched flag c s
 emitted_state_shrinks watched flag c e s below is =
-    emitted_state_of_front watched flag c e s (true_state_shrinks c e s below is.true_state) is
+    emitted_state_of_prefix watched flag c e s (true_state_shrinks c e s below is.true_state) is
 
 module _ (n : ℕ) (watched : NumberSet) (flag : Flag) (c e : Computation) (p : ℕ) (notes more : List Note)
     (is : AreEmissions n watched flag c p notes) (grown : AreEmissions n watched flag (c ++ e) p more) where
   -- the true states of a computation come first among those of a longer one
-  intervals_front : (rest : List ℕ) × (grown.intervals ≡ is.intervals ++ rest)
-  intervals_front =
-      rising_front is.intervals grown.intervals (AllPairs-from_increasing is.intervals is.states.rising)
+  intervals_prefix : (rest : List ℕ) × (grown.intervals ≡ is.intervals ++ rest)
+  intervals_prefix =
+      rising_prefix is.intervals grown.intervals (AllPairs-from_increasing is.intervals is.states.rising)
       (AllPairs-from_increasing grown.intervals grown.states.rising)
       (λ k within. (grown.states.each k).1
       (emitted_state_grows watched flag c e (local_state p k) ((is.states.each k).0 within)))
@@ -86,17 +86,17 @@ module _ (n : ℕ) (watched : NumberSet) (flag : Flag) (c e : Computation) (p : 
       (cases_lt k (communications c p)))
 
   -- with the same clocks
-  clocks_front : (rest : List (List ℕ)) × (grown.clocks ≡ is.clocks ++ rest)
-  clocks_front =
-      let longer : length grown.intervals ≡ length is.intervals + length intervals_front.0 = ap length intervals_front.1
-      ∙ length-append is.intervals intervals_front.0 in (
+  clocks_prefix : (rest : List (List ℕ)) × (grown.clocks ≡ is.clocks ++ rest)
+  clocks_prefix =
+      let longer : length grown.intervals ≡ length is.intervals + length intervals_prefix.0 = ap length intervals_prefix.1
+      ∙ length-append is.intervals intervals_prefix.0 in (
         drop (length is.clocks) grown.clocks,
         front_from_reads [] grown.clocks is.clocks (omega (arith, is.same_length, grown.same_length, longer))
             (λ i lt.
             let within : i < length is.intervals = omega (arith, is.same_length) in
             let k : ℕ = slice_index is.intervals i in
-            let here : slice_index grown.intervals i ≡ k = ap (λ xs. slice_index xs i) intervals_front.1
-            ∙ get_or_append_left is.intervals intervals_front.0 0 i within in
+            let here : slice_index grown.intervals i ≡ k = ap (λ xs. slice_index xs i) intervals_prefix.1
+            ∙ get_or_append_left is.intervals intervals_prefix.0 0 i within in
             clock_alone n (c ++ e) (local_state p k) (slice_index_or grown.clocks i []) (slice_index_or is.clocks i [])
             (subst (λ l. IsStateClock n (c ++ e) (local_state p l) (slice_index_or grown.clocks i [])) here
             (grown.each i (omega (arith, longer))))
@@ -106,10 +106,10 @@ module _ (n : ℕ) (watched : NumberSet) (flag : Flag) (c e : Computation) (p : 
       )
 
   -- of a process that is closed there are no more
-  none_behind : NoneNew watched flag c e p → length clocks_front.0 ≡ 0
+  none_behind : NoneNew watched flag c e p → length clocks_prefix.0 ≡ 0
   none_behind none =
       let all : (rest : List ℕ) × (is.intervals ≡ grown.intervals ++ rest) =
-      rising_front grown.intervals is.intervals (AllPairs-from_increasing grown.intervals grown.states.rising)
+      rising_prefix grown.intervals is.intervals (AllPairs-from_increasing grown.intervals grown.states.rising)
       (AllPairs-from_increasing is.intervals is.states.rising)
       (λ k within. (is.states.each k).1 (none k ((grown.states.each k).0 within)))
       (λ k within. inl ((grown.states.each k).1
@@ -120,21 +120,21 @@ module _ (n : ℕ) (watched : NumberSet) (flag : Flag) (c e : Computation) (p : 
         grown.same_length,
         ap length all.1,
         length-append grown.intervals all.0,
-        ap length clocks_front.1,
-        length-append is.clocks clocks_front.0,
+        ap length clocks_prefix.1,
+        length-append is.clocks clocks_prefix.0,
       )
 
   -- so the emissions of a computation come first among those of a longer one, if no state of a closed process becomes
   -- true
-  pub emissions_front : (is_closed c p ≡ true → NoneNew watched flag c e p)
+  pub emissions_prefix : (is_closed c p ≡ true → NoneNew watched flag c e p)
       → (rest : List Note) × (more ≡ notes ++ rest)
-  emissions_front none = ⊎_elim
+  emissions_prefix none = ⊎_elim
       (λ (closed : is_closed c p ≡ true).
       ([], grind (arith, append-nil, list_any-append, nil_from_length, none_behind (none closed))))
       (λ (was_open : is_closed c p ≡ false). (
-        snapshots_from (length is.clocks) clocks_front.0
+        snapshots_from (length is.clocks) clocks_prefix.0
             ++ (if is_closed (c ++ e) p then note.Close (length grown.clocks) ∷ [] else []),
-        grind (arith, append-nil, append_assoc, clocks_front, snapshots_append),
+        grind (arith, append-nil, append_assoc, clocks_prefix, snapshots_append),
       ))
       (cases_Bool (is_closed c p))
 
@@ -143,4 +143,4 @@ pub emissions_grow : (n : ℕ) (watched : NumberSet) (flag : Flag) (c e : Comput
     → IsAccepted (c ++ e) → AreEmissions n watched flag c p notes → AreEmissions n watched flag (c ++ e) p more
     → (rest : List Note) × (more ≡ notes ++ rest)
 emissions_grow n watched flag c e p notes more accepted is grown =
-    emissions_front n watched flag c e p notes more is grown (none_new_after_close watched flag c e p accepted)
+    emissions_prefix n watched flag c e p notes more is grown (none_new_after_close watched flag c e p accepted)

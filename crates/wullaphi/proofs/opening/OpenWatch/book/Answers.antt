@@ -1,5 +1,5 @@
 use Rattle.wcp_model.proofs.CheckedPlans.{few_processes, some_process}
-use Rattle.wullaphi.proofs.opening.Watch.book.Goals as goal
+use Rattle.wullaphi.proofs.opening.OpenWatch.book.Goals as goal
 
 pub new-requires-clause-some : goal.new-requires-clause-some
 new-requires-clause-some c =

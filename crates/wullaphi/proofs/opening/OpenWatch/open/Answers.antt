@@ -1,6 +1,6 @@
 use Rattle.std.proofs.Common.{◌≡◌, Err, ap}
 use Rattle.wullaphi.specs.declared.watch_fault.WatchFault.TheVariants as fault
-use Rattle.wullaphi.proofs.opening.Watch.open.Goals as goal
+use Rattle.wullaphi.proofs.opening.OpenWatch.open.Goals as goal
 
 pub returns-in-Err-clause-refused : goal.returns-in-Err-clause-refused
 returns-in-Err-clause-refused c = λ refused. (

@@ -1,6 +1,6 @@
 use Rattle.std.proofs.Common.{Some, refl, sym, ap, ◌∙◌}
 use Rattle.wullaphi.proofs.OwnWatches.{its, none_ended, own_probes, own_relays}
-use Rattle.wullaphi.proofs.opening.Watch.parts.Goals as goal
+use Rattle.wullaphi.proofs.opening.OpenWatch.parts.Goals as goal
 
 pub new-requires : goal.new-requires
 new-requires g c = none_ended (c.requires ∙ ap Some (sym c.self.view_is)) c.self.invariant.is_open

@@ -1,7 +1,7 @@
 -- Lists whose elements that pass a test are the first ones of another list that do.
 use Rattle.wcp_order.proofs.Words.{count_before-mono, ◌≡◌, ℕ, ◌+◌, ◌<◌, ◌≤◌, Bool, true, List, [], ◌∷◌, take, filter}
 use Rattle.wcp_order.proofs.Words.{count_by, Some, refl, sym, arith, slice_get, cases_Bool, length-filter, take-take}
-use Rattle.wcp_order.proofs.Words.{take_all, sum_by-take-le, filter_front, count_by_yes, count_by_no, count_before-yes}
+use Rattle.wcp_order.proofs.Words.{take_all, sum_by-take-le, filter_prefix, count_by_yes, count_by_no, count_before-yes}
 
 -- what passes of the one list is the first of what passes of the other
 abbrev pub Begins : {X : Type 0} → (X → Bool) → List X → List X → Type 0
@@ -13,7 +13,7 @@ module _ {X : Type 0} (P : X → Bool) where
 
   -- so is what passes of its front
   pub begins_take : (xs ys : List X) (k : ℕ) → Begins P ys xs → Begins P (take k ys) xs
-  begins_take xs ys k begins = grind (arith, sum_by-take-le, take-take, filter_front, length-filter)
+  begins_take xs ys k begins = grind (arith, sum_by-take-le, take-take, filter_prefix, length-filter)
 
 module _ {X : Type 0} (P Q : X → Bool) (implies : (x : X) → Q x ≡ true → P x ≡ true) where
   pub count_by-filter : (xs : List X) → count_by Q (filter P xs) ≡ count_by Q xs

@@ -3,7 +3,7 @@ use Rattle.wcp_model.proofs.Words.{List, [], ◌++◌, length, slice_index, get_
 use Rattle.wcp_model.proofs.Words.{arith, length-append, append_assoc, get_or_append_left, get_or_default}
 use Rattle.wcp_model.proofs.Words.{Contains-get_or, Item, Computation, IsTrueState, member, IsLeastCut, IsLeastOf}
 use Rattle.wcp_model.proofs.Words.{IsReportOf, notes_taken, snapshot_clocks, clocks_taken, IsDrained, IsNamed}
-use Rattle.wcp_model.proofs.Words.{IsNamedCut, IsCutByClocks, IsReportOfTaken, IsReportByClocks, AreFrontsOfEmissions}
+use Rattle.wcp_model.proofs.Words.{IsNamedCut, IsCutByClocks, IsReportOfTaken, IsReportByClocks, ArePrefixesOfEmissions}
 use Rattle.wcp_model.proofs.Words.{IsStateClock}
 use Rattle.wcp_model.specs.declared.outcome.Report.{Report}
 use Rattle.wcp_model.specs.declared.outcome.Report.TheVariants.{Found, Nothing, Undecided}
@@ -13,9 +13,9 @@ use Rattle.wcp_model.proofs.Predecessors.{local_state}
 use Rattle.wcp_model.proofs.RisingClocks.{emitted_clocks, rises_above}
 use Rattle.wcp_model.proofs.SendFlag.{IsEmittedLeast, emitted_least}
 
--- What was taken of each process is a front of its emissions.
+-- What was taken of each process is a prefix of its emissions.
 module _ (n : ℕ) (watched : NumberSet) (flag : Flag) (c : Computation) (items : List Item)
-    (fronts : AreFrontsOfEmissions n watched flag c items) where
+    (fronts : ArePrefixesOfEmissions n watched flag c items) where
   -- a taken clock is that of a true state
   record IsOfState (p : ℕ) (clock : List ℕ) (interval : ℕ) : Type 0 where
     pub clock_is : IsStateClock n c (local_state p interval) clock
