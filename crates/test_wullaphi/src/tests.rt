@@ -1,4 +1,5 @@
 mod asked_again;
 mod lost;
 mod opened;
+mod plans;
 mod waiting;

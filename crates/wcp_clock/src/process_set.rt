@@ -1,5 +1,5 @@
 ghost use Rattle.std.specs.Prelude.{◌≡◌, ℕ, ◌<◌, ◌≤◌, ◌↔◌, ◌||◌, true, false, length, max, nat_lt, slice_index_or};
-ghost use Rattle.std.specs.Prelude.{IsTrue};
+ghost use Rattle.std.specs.Prelude.{All, Any, Contains, IsTrue};
 ghost use Rattle.std.specs.FinSet as set;
 ghost use Rattle.wcp_clock.specs.Limits.{most_processes};
 ghost use Rattle.wcp_clock.specs.ProcessNumbers.{AreProcessNumbers};
@@ -65,6 +65,22 @@ impl ProcessSet {
             return ProcessSet::none();
         }
         ProcessSet::none().with(a).with(b)
+    }
+
+    /// The numbers of this list. Where one of them isn't below [`MAX_PROCS`], no number at all, which no plan takes.
+    pub fn these(numbers: &[u32]) -> ProcessSet
+        ensures all { All (λ p. p < most_processes) numbers.now
+            → (p : ℕ) → (set.contains result p ≡ true) ↔ Contains numbers.now p }
+        ensures none { Any (λ p. most_processes ≤ p) numbers.now → result ≡ set.empty }
+    {
+        let mut these = ProcessSet::none();
+        for p in numbers {
+            if *p as usize >= MAX_PROCS {
+                return ProcessSet::none();
+            }
+            these = these.with(*p);
+        }
+        these
     }
 
     /// These numbers and `p`. A `p` that isn't below [`MAX_PROCS`], which no process has, is left out.

@@ -119,7 +119,8 @@ impl<W: Opening> WatchCheckerEnd<W> {
     /// What the snapshots that the checker took tell. Where it was starved, that is a cut that it had found before, or
     /// `Undecided`.
     pub fn report(&self) -> Report
-        ensures { result ≡ self.now.report }
+        ensures value { result ≡ self.now.report }
+        ensures of_watch { HasOpened (IsCheckerEndOf self.now) W.opened }
     {
         self.end.report()
     }

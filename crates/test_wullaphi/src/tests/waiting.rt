@@ -175,6 +175,9 @@ fn a_watch_that_does_not_begin_has_not_run(rt: HostRuntime) {
         n: 2,
         cap: 0,
         hold: 4,
+        relays: 1,
+        attached: 2,
+        place: None,
     };
     let plan = plain_plan(rt.alloc(), 2, 0, 4).expect(&rt, "memory");
     assert_not_run(&rt, rt.alloc(), &plan, 2, WatchFault::Plan(refused));
@@ -264,21 +267,4 @@ fn a_book_that_a_running_watch_has_is_refused(rt: HostRuntime) {
     assert_eq!(rt; (refused, in_use), (Some(WatchFault::BookInUse), true));
     assert_answer(&rt, alloc, &book, CutAnswer::Found(cut));
     assert!(rt; !book.lock(&rt).is_in_use());
-}
-
-/// What is printed of a plan of so many processes, with this capacity and this hold.
-fn assert_line(rt: &(impl Abort + AllocGlobal), n: u32, cap: u32, hold: u32, line: &str) {
-    let plan = plain_plan(rt.alloc(), n, cap, hold).expect(rt, "memory");
-    let refused = OpenWatch::open(rt.alloc(), &plan, 1)
-        .err()
-        .expect(rt, "a fault");
-    let told = format!(in rt.alloc(); "{refused}").expect(rt, "memory");
-    assert_eq!(rt; told.as_str(), line);
-}
-
-#[test]
-fn a_refused_plan_names_the_number_and_its_limits(rt: HostRuntime) {
-    assert_line(&rt, 17, 8, 4, "plan: n 17 is not in 1 to 16");
-    assert_line(&rt, 2, 0, 4, "plan: cap 0 is not in 1 to 1,024");
-    assert_line(&rt, 2, 8, 65, "plan: hold 65 is not in 1 to 64");
 }
