@@ -1,5 +1,7 @@
 -- Sets of numbers, by the marks that say which numbers are in them.
-use Rattle.std.proofs.Common.{◌≡◌, ℕ, ◌<◌, ◌≤◌, ◌+◌, Bool, true, false, ◌||◌, List, length, get_or, set, ap, ◌∙◌, arith}
+use Rattle.std.proofs.Common.{◌≡◌, ℕ, ◌<◌, ◌≤◌, ◌+◌, ◌↔◌, Bool, true, false, ◌||◌, List, length, get_or, set, ap, ◌∙◌, sym}
+use Rattle.std.proofs.Common.{subst, arith, Any, Contains, true≢false}
+use Rattle.std.proofs.lemmas.Grind.{get_or_default_zero}
 use Rattle.std.proofs.lemmas.Bool.Decides.{nat_tests}
 use Rattle.std.proofs.lemmas.List.{get_or-set_same, get_or-set_other, get_or_past}
 use Rattle.std.specs.Cmp.{unsigned_tied, nat_cmp_total}
@@ -65,3 +67,36 @@ set_of-either marks mine theirs each =
 -- a number past the marks isn't in the set
 pub past_is_out : (marks : List Bool) (p : ℕ) → length marks ≤ p → sets.contains (set_of marks) p ≡ false
 past_is_out marks p past = contains-marks marks p ∙ get_or_past marks p false past
+
+-- each of the first k numbers is in the set, and only they are
+pub record AreFirst (numbers : List ℕ) (k : ℕ) (these : sets.FinSet nat_cmp) : Type 0 where
+  pub has : (i : ℕ) → i < k → sets.contains these (get_or numbers i 0) ≡ true
+  pub only : (p : ℕ) → sets.contains these p ≡ true → (i : ℕ) × (i < k) × (get_or numbers i 0 ≡ p)
+  pub below : (i : ℕ) → i < k → get_or numbers i 0 < most_processes
+
+pub first_none : (numbers : List ℕ) → AreFirst numbers 0 sets.empty
+first_none numbers = record {
+  has = λ i below. absurd (omega arith);
+  only = λ p is. absurd (true≢false (sym is ∙ sets.contains-empty nat_cmp p));
+  below = λ i below. absurd (omega arith);
+}
+
+pub first_more : (numbers : List ℕ) (k : ℕ) (these : sets.FinSet nat_cmp) → AreFirst numbers k these
+    → get_or numbers k 0 < most_processes → AreFirst numbers (k + 1) (sets.insert these (get_or numbers k 0))
+first_more numbers k these are within = record {
+  has = λ i below. grind (arith, nat_tests, contains_with, are.has);
+  only = λ p is. grind (arith, nat_tests, contains_with, are.only);
+  below = λ i below. grind (arith, are.below);
+}
+
+pub first_all : (numbers : List ℕ) (k : ℕ) (these : sets.FinSet nat_cmp) → AreFirst numbers k these
+    → k ≡ length numbers → (p : ℕ) → (sets.contains these p ≡ true) ↔ Contains numbers p
+first_all numbers k these are all p = (
+  λ is. let at = are.only p is in (at.0, omega (arith, at.1), get_or_default_zero numbers at.0 p (omega (arith, at.1)) ∙ at.2),
+  λ is. subst (λ q. sets.contains these q ≡ true)
+      (sym (get_or_default_zero numbers is.0 p is.1) ∙ is.2) (are.has is.0 (omega (arith, is.1))),
+)
+
+pub first_within : (numbers : List ℕ) (k : ℕ) (these : sets.FinSet nat_cmp) → AreFirst numbers k these
+    → k ≡ length numbers → ¬ Any (λ p. most_processes ≤ p) numbers
+first_within numbers k these are all any = grind (arith, are.below, get_or_default_zero)
