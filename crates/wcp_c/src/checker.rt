@@ -72,8 +72,8 @@ fn take_note(checker: &mut Checker, note: &WcpNote) -> u32
 #[unsafe(no_mangle)]
 pub extern "C" fn wcp_checker_new(alloc: Global, checker: &mut WcpChecker, processes: u32) -> u32
     ensures in_use { result ≡ in_use ↔ IsSome (checker_in checker.old) }
-    ensures range { result ≡ out_of_range
-        → (0 < processes) × (processes ≤ most_processes) → ⊥ }
+    ensures range { checker_in checker.old ≡ None
+        → (result ≡ out_of_range ↔ ((0 < processes) × (processes ≤ most_processes) → ⊥)) }
     ensures made { result ≡ done → IfSome (checker_in checker.new)
         (λ made. (watched : NumberSet) × AreAllWatched processes watched × IsNewChecker made processes watched) }
     ensures there { result ≡ done → IsSome (checker_in checker.new) }
@@ -104,8 +104,8 @@ pub extern "C" fn wcp_checker_new_with(
     watched: &[u32],
 ) -> u32
     ensures in_use { result ≡ in_use ↔ IsSome (checker_in checker.old) }
-    ensures range { result ≡ out_of_range
-        → (processes ≤ most_processes) × NamesProcesses processes watched.now → ⊥ }
+    ensures range { checker_in checker.old ≡ None
+        → (result ≡ out_of_range ↔ ((processes ≤ most_processes) × NamesProcesses processes watched.now → ⊥)) }
     ensures made { result ≡ done → IfSome (checker_in checker.new)
         (λ made. (members : NumberSet) × IsSetOf watched.now members × IsNewChecker made processes members) }
     ensures there { result ≡ done → IsSome (checker_in checker.new) }
@@ -255,6 +255,7 @@ pub extern "C" fn wcp_checker_taken(
 ) -> u32
     ensures none { result ≡ no_checker ↔ (checker_in checker.old ≡ None) }
     ensures range { IfSome (checker_in checker.old) (λ state. result ≡ done ↔ (p < processes state)) }
+    ensures answers { IsSome (checker_in checker.old) → (result ≡ done) ⊎ (result ≡ out_of_range) }
     ensures count { result ≡ done → IfSome (checker_in checker.old) (λ state. count.new ≡ taken_of state p) }
     ensures same { checker_in checker.new ≡ checker_in checker.old }
     ensures kept { result ≢ done → count.new ≡ count.old }

@@ -5,7 +5,7 @@ ghost use Rattle.wcp_script.specs.ReadAnswers.{IsFaultOf};
 ghost use Rattle.wcp_script.specs.TextFault.{HasWorkloadFault};
 ghost use Rattle.wcp_script.specs.declared.fault.ScriptFault.{ScriptFault as TextFault};
 ghost use Rattle.wcp_c.specs.Answers.{no_memory, no_room};
-ghost use Rattle.wcp_c.specs.Singles.{IsAnswered, IsSingleAnswer, too_large_line};
+ghost use Rattle.wcp_c.specs.Singles.{IsAnswered, IsSingleAnswer, IsWanted, too_large_line};
 
 use crate::answer::{NO_MEMORY, NO_ROOM};
 use std::alloc::{AllocError, Global};
@@ -41,6 +41,7 @@ pub extern "C" fn wcp_single(alloc: Global, text: &[u8], out: &mut [u8], written
     ensures room { result ≤ 2 → written.new ≤ length out.new }
     ensures behind { drop written.new out.new ≡ drop written.new out.old }
     ensures no_room { result ≡ no_room → (length out.old < written.new) × (out.new ≡ out.old) }
+    ensures wanted { result ≡ no_room → length text.now ≤ most_bytes → IsWanted text.now written.new }
     ensures no_memory { result ≡ no_memory → (out.new ≡ out.old) × (written.new ≡ written.old) }
 {
     if text.len() > MAX_BYTES {
