@@ -20,7 +20,7 @@ use crate::note::WcpNote;
 use crate::stamp::{STAMP_MAGIC, WcpStamp};
 use wcp_clock::{CLOCK_LIMIT, Clock, MAX_PROCS, Note};
 use wcp_model::{Flag, ProbeSetup};
-use wcp_probe::{ProbeCore, ProbeParts};
+use wcp_probe::{ProbeCore, ProbeParts, ToldProbe};
 
 /// The first word of a probe.
 const PROBE_MAGIC: u32 = 0x5743_5031;
@@ -103,7 +103,7 @@ impl WcpProbe {
 
     /// The probe that the memory holds. Inlined, so that each call copies only what it needs of it.
     #[inline(always)]
-    fn load(&self) -> Option<ProbeCore>
+    fn load(&self) -> Option<ToldProbe>
         ensures held { IsSome result ↔ HoldsProbe self.now }
         ensures core { IfSome result (λ core. core ≡ core_of self.now) }
     {
@@ -111,7 +111,7 @@ impl WcpProbe {
             return None;
         }
         let clock = Clock::from_padded(&self.clock, self.processes);
-        ProbeCore::from_parts(ProbeParts {
+        ToldProbe::of_parts(ProbeParts {
             watch: self.watch,
             id: self.process,
             watched: self.watched == 1,
@@ -189,7 +189,6 @@ pub extern "C" fn wcp_probe_init_with(
         },
         CLOCK_LIMIT,
     );
-    let parts = core.parts();
     *probe = WcpProbe {
         magic: PROBE_MAGIC,
         processes,
@@ -202,7 +201,7 @@ pub extern "C" fn wcp_probe_init_with(
         emitted: 0,
         reserved: 0,
         watch,
-        clock: parts.clock.padded(),
+        clock: core.clock().padded(),
     };
     DONE
 }
@@ -263,7 +262,7 @@ pub extern "C" fn wcp_probe_stamp(probe: &mut WcpProbe, to: u32, stamp: &mut Wcp
     let Some(mut core) = probe.load() else {
         return NO_PROBE;
     };
-    if let Err((why, ())) = core.stamp(to, ()) {
+    if let Err(why) = core.send(to) {
         return refusal_number(why);
     }
     probe.set_clock(&core.parts().clock);
@@ -303,7 +302,7 @@ pub extern "C" fn wcp_probe_receive(probe: &mut WcpProbe, stamp: &WcpStamp) -> u
     let Some(clock) = stamp.clock() else {
         return NO_STAMP;
     };
-    if let Err(why) = core.receive_told(stamp.watch, stamp.to, &clock) {
+    if let Err(why) = core.receive(stamp.watch, stamp.to, &clock) {
         return refusal_number(why);
     }
     let parts = core.parts();

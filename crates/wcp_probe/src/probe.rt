@@ -128,7 +128,7 @@ impl ProbeCore {
     }
 
     /// The probe that these are the parts of. `None` exactly where they are no probe's.
-    pub fn from_parts(parts: ProbeParts) -> Option<ProbeCore>
+    pub(crate) fn from_parts(parts: ProbeParts) -> Option<ProbeCore>
         ensures probe { IfSome result (λ probe. probe ≡ core_of_parts parts) }
         ensures sound { IsSome result ↔ IsProbe (core_of_parts parts) }
     {
@@ -150,7 +150,7 @@ impl ProbeCore {
     }
 
     /// The parts of the probe.
-    pub fn parts(&self) -> ProbeParts
+    pub(crate) fn parts(&self) -> ProbeParts
         ensures parts { core_of_parts result ≡ self.now }
         ensures sound { IsProbe self.now }
     {
@@ -268,8 +268,8 @@ impl ProbeCore {
     }
 
     /// The process receives a message whose stamp says this: the watch, the receiver, and the sender's
-    /// clock after the send. For stamps that came as bytes; whether a probe made it, nobody knows here.
-    pub fn receive_told(&mut self, watch: u64, to: u32, clock: &Clock) -> Result<(), Refusal>
+    /// clock after the send.
+    pub(crate) fn receive_told(&mut self, watch: u64, to: u32, clock: &Clock) -> Result<(), Refusal>
         ensures first { MatchResult result (λ _. receive_refusal self.old (told_seal watch to clock.now) ≡ None)
             (λ why. receive_refusal self.old (told_seal watch to clock.now) ≡ Some why) }
         ensures accepted { OnOk result (Accepts self.old (Received clock.now) self.new) }
