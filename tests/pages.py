@@ -1,8 +1,10 @@
-"""Runs the commands that the pages show, and compares what they print with what the pages say.
+"""Runs the commands that the pages show, and compares what they print with what the pages say; and looks for the code
+that they show.
 
 A command is a line of a block of `sh`, or an indented line behind `$`, that begins with a program of this repository.
 What it prints is the block of `text` right behind it, or the indented lines below it. The programs must have been
-built, as the gate does. The last line is the count."""
+built, as the gate does. Code is a block of `rust` or `antt`: it stands line by line in a file of a crate, which the
+gate builds; a line of dots, or a comment that begins with dots, stands for any lines. The last line is the count."""
 import concurrent.futures
 import os
 import pathlib
@@ -15,6 +17,8 @@ TOP = pathlib.Path(__file__).resolve().parent.parent
 PROGRAMS = ("wcpwatch", "wcptrace", "wcpdraw")
 FENCED = re.compile(r"^```sh\n(.*?)^```\n(?:\n```text\n(.*?)^```\n)?", re.M | re.S)
 INDENTED = re.compile(r"^    \$ (.*)\n((?:    (?!\$ ).*\n)*)", re.M)
+CODE = re.compile(r"^```(?:rust|antt)\n(.*?)^```\n", re.M | re.S)
+DOTS = re.compile(r"(?://|--)?\s*\.\..*")
 SECONDS = 60
 
 
@@ -56,14 +60,50 @@ def fault(page, line, printed):
     return None
 
 
+def stripped(text):
+    return [line.strip() for line in text.splitlines() if line.strip()]
+
+
+def pieces(block):
+    """The runs of lines of a block between its dots. A comment of its own at the head names a file, and is none of it."""
+    found = [[]]
+    for line in stripped(block):
+        if DOTS.fullmatch(line):
+            found.append([])
+        elif not line.startswith("-- proofs/"):
+            found[-1].append(line)
+    return [piece for piece in found if piece]
+
+
+def stands_in(wanted, lines):
+    """Whether the pieces stand in these lines, one behind another."""
+    at = 0
+    for piece in wanted:
+        ends = [i + len(piece) for i in range(at, len(lines) - len(piece) + 1) if lines[i:i + len(piece)] == piece]
+        if not ends:
+            return False
+        at = ends[0]
+    return True
+
+
+def code_faults(pages):
+    """How many blocks of code the pages have, and those that stand in no file."""
+    files = [stripped(it.read_text()) for it in TOP.glob("crates/*/*/**/*") if it.suffix in (".rt", ".antt")]
+    blocks = [(page, block) for page in pages for block in CODE.findall(page.read_text())]
+    missing = [(page, block) for page, block in blocks if not any(stands_in(pieces(block), file) for file in files)]
+    return len(blocks), [f"{page.relative_to(TOP)}: this code stands in no crate:\n{block}" for page, block in missing]
+
+
 def main():
-    pages = [TOP / "README.md", TOP / "examples" / "README.md", *sorted((TOP / "docs").glob("*.md"))]
+    pages = [TOP / "README.md", TOP / "CONTRIBUTING.md", TOP / "examples" / "README.md", *sorted((TOP / "docs").glob("*.md"))]
     asked = [(page, line, printed) for page in pages for line, printed in commands(page.read_text())]
     with concurrent.futures.ThreadPoolExecutor(os.cpu_count()) as pool:
         faults = [it for it in pool.map(lambda it: fault(*it), asked) if it]
+    blocks, missing = code_faults(pages)
+    faults += missing
     for it in faults:
         print(it)
-    print(f"{len(asked) - len(faults)} passed, {len(faults)} failed")
+    print(f"{len(asked) + blocks - len(faults)} passed, {len(faults)} failed")
     return 1 if faults or not asked else 0
 
 

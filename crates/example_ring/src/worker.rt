@@ -44,15 +44,15 @@ impl Process for RingWorker {
 impl RingWorker {
     /// Holds a token, and passes it on unless it has no hop left.
     fn hold<L: Loan, R: Wait>(&self, rt: &R, probe: &mut LentProbe<L>, token: Token) -> Result<()> {
-        probe.observe(rt, true);
-        if token.0 > 0 {
-            let message = probe
-                .stamp(self.next, Token(token.0 - 1))
-                .map_err(|(refusal, _)| refusal)?;
-            self.outbox
-                .send(rt, message)
-                .map_err(|_| anyhow!("a worker is gone"))?;
+        probe.observe(rt, true); // my condition holds: I have the token
+        if token.0 == 0 {
+            return Ok(());
         }
-        Ok(())
+        let message = probe
+            .stamp(self.next, Token(token.0 - 1))
+            .map_err(|(refusal, _)| refusal)?;
+        self.outbox
+            .send(rt, message)
+            .map_err(|_| anyhow!("a worker is gone"))
     }
 }
