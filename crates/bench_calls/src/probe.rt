@@ -1,6 +1,6 @@
-//! Many calls of probes: `bench_calls probe WORD CALLS`, where the word is observe, stamp, receive or note. Each call is
-//! of one of sixteen probes, in no regular order. A receive is a stamp of one probe and its receive by another; a note
-//! is a stamp, an observation that emits, and the taking of its note.
+//! Many calls of probes: `bench_calls probe WORD CALLS`, where the word is observe, stamp, receive or note. Each call
+//! is of one of sixteen probes, in no regular order. A receive is a stamp of one probe and its receive by another; a
+//! note is a stamp, an observation that emits, and the taking of its note.
 
 use crate::words::{number_at, word_at};
 use std::alloc::{AllocError, Global};

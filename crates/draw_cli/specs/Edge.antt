@@ -7,8 +7,8 @@ use Rattle.draw_cli.specs.declared.fault.DrawFault.{DrawFault}
 use Rattle.draw_cli.specs.declared.words.DrawRequest.{DrawRequest}
 use Rattle.draw_cli.specs.Answers.{AnswersRequest}
 
--- The program answers a request, with this status: it writes the answer whole; or, where a write failed, a prefix of it,
--- with status 2; or, where there is no answer, nothing, with status 2.
+-- The program answers a request, with this status: it writes the answer whole; or, where a write failed, a prefix of
+-- it, with status 2; or, where there is no answer, nothing, with status 2.
 pub data DoesAsked (request : DrawRequest) (edge : Edge) (status : ℕ) : Type 0 where
   Whole : (printed : List ℕ) → AnswersRequest request edge.input edge.input_after printed status
       → Appends edge.output edge.output_after printed → DoesAsked request edge status

@@ -12,8 +12,8 @@ use Rattle.draw_picture.specs.Picture.{IsPicture}
 use Rattle.wcp_script.specs.TextFault.{workloads, Spells}
 use Rattle.draw_cli.specs.Names.{IsNamed}
 
--- A picture of these tasks of n processes, of which some are watched, under what resets their flags: of a layout of a fit
--- order of them about the cut of their outcome, or about none; and whether there is one.
+-- A picture of these tasks of n processes, of which some are watched, under what resets their flags: of a layout of a
+-- fit order of them about the cut of their outcome, or about none; and whether there is one.
 pub record IsPictureOf (n : ℕ) (watched : NumberSet) (flag : Flag) (tasks : List Task) (picture : List ℕ) (found : Bool)
     : Type 0 where
   pub order : List Task
@@ -24,8 +24,8 @@ pub record IsPictureOf (n : ℕ) (watched : NumberSet) (flag : Flag) (tasks : Li
   pub is_picture : IsPicture n order (cut_of outcome.report) layout picture
   pub found_is : found ≡ is_some (cut_of outcome.report)
 
--- A picture of a text with these names: of the workload that it spells, for whose processes there are names; and whether
--- it shows a cut.
+-- A picture of a text with these names: of the workload that it spells, for whose processes there are names; and
+-- whether it shows a cut.
 pub record IsSketchOf (list : Option (List ℕ)) (text picture : List ℕ) (found : Bool) : Type 0 where
   pub plan : Plan
   pub tasks : List Task

@@ -1,12 +1,12 @@
 //! The program `wcpdraw` as a function from words and bytes to bytes and a status.
 //!
 //! What is proved. `drive`, over a reader and a writer that tell their bytes: on status 0 or 1 exactly the answer to
-//! one request was appended to the output, and nothing to the errors; on status 2 nothing was printed, or a prefix of the
-//! answer where a write failed. Where the request is for a picture, the whole input spells a workload, and the answer is
-//! a picture of it, as `sketch` says, with as many names as it has processes or with none given: 0 exactly where it
-//! shows a cut, and 1 where there is none. Help and the version read nothing. `obey`, of each request: these answers; and
-//! which fault is told, of the input, the text or its names. To a request that isn't known nothing is printed, the fault
-//! is that of usage, and the status 2.
+//! one request was appended to the output, and nothing to the errors; on status 2 nothing was printed, or a prefix of
+//! the answer where a write failed. Where the request is for a picture, the whole input spells a workload, and the
+//! answer is a picture of it, as `sketch` says, with as many names as it has processes or with none given: 0 exactly
+//! where it shows a cut, and 1 where there is none. Help and the version read nothing. `obey`, of each request: these
+//! answers; and which fault is told, of the input, the text or its names. To a request that isn't known nothing is
+//! printed, the fault is that of usage, and the status 2.
 //!
 //! `sketch`: a picture is that of the workload that the text spells, in one of its fit orders, of a layout about its
 //! least cut, or about none where no satisfying cut exists. It tells this cut, or that there is none, and whether there

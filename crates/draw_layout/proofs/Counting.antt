@@ -1,5 +1,6 @@
 -- The events before a place.
-use Rattle.draw_layout.proofs.Words.{◌≡◌, ℕ, ◌+◌, ◌<◌, cond, List, [], ◌∷◌, ◌++◌, length, take, count_by, set, slice_get}
+use Rattle.draw_layout.proofs.Words.{◌≡◌, ℕ, ◌+◌, ◌<◌, cond, List, [], ◌∷◌, ◌++◌, length, take, count_by, set}
+use Rattle.draw_layout.proofs.Words.{slice_get}
 use Rattle.draw_layout.proofs.Words.{slice_index, Some, arith, cases_eq, cases_lt, cases_Bool, ne_eqb, eq-eqb}
 use Rattle.draw_layout.proofs.Words.{common_steps, count_before-yes, count_before-no, Task, is_event, is_event_of}
 

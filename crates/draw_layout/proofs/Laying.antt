@@ -3,8 +3,10 @@ use Rattle.draw_layout.proofs.Words.{◌≡◌, ◌≢◌, ℕ, ◌+◌, ◌<◌
 use Rattle.draw_layout.proofs.Words.{slice_get, slice_index, Some, refl, sym, ap, subst, inl, inr, ⊎_elim, arith}
 use Rattle.draw_layout.proofs.Words.{cases_eq, cases_lt, cases_order, and_parts, and_from, false≢true, eqb-true, eq-eqb}
 use Rattle.draw_layout.proofs.Words.{same_Some, length-set, get_or-set_same, get_or-set_other, slice_get_within, Action}
-use Rattle.draw_layout.proofs.Words.{count_before-place, sends, sends_yes, Task, IsFitOrder, AreSendAndReceive, AreSends}
-use Rattle.draw_layout.proofs.Words.{IsDelivery, delivery_later, IsEventAt, is_event, IsOfHalf, StandInColumns, MayStand}
+use Rattle.draw_layout.proofs.Words.{count_before-place, sends, sends_yes, Task, IsFitOrder, AreSendAndReceive}
+use Rattle.draw_layout.proofs.Words.{AreSends}
+use Rattle.draw_layout.proofs.Words.{IsDelivery, delivery_later, IsEventAt, is_event, IsOfHalf, StandInColumns}
+use Rattle.draw_layout.proofs.Words.{MayStand}
 use Rattle.draw_layout.proofs.Words.{IsLaid}
 use Rattle.wcp_model.specs.declared.workload.Action.TheVariants as action
 use Rattle.draw_layout.specs.Columns.{StandsNext}

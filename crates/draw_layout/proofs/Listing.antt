@@ -1,8 +1,10 @@
 -- Rows after one more task.
 use Rattle.std.proofs.lemmas.Grind.{common_steps}
 use Rattle.draw_layout.proofs.Words.{◌≡◌, ◌≢◌, ◌∙◌, ℕ, ◌+◌, ◌-◌, ◌<◌, true, false, List, [], ◌∷◌, ◌++◌, length, take}
-use Rattle.draw_layout.proofs.Words.{count_by, set, slice_get, slice_index, Some, refl, sym, ap, subst, inl, inr, ⊎_elim}
-use Rattle.draw_layout.proofs.Words.{arith, cases_eq, cases_lt, cases_Bool, same_Some, get_or-set_same, get_or-set_other}
+use Rattle.draw_layout.proofs.Words.{count_by, set, slice_get, slice_index, Some, refl, sym, ap, subst, inl, inr}
+use Rattle.draw_layout.proofs.Words.{⊎_elim}
+use Rattle.draw_layout.proofs.Words.{arith, cases_eq, cases_lt, cases_Bool, same_Some, get_or-set_same}
+use Rattle.draw_layout.proofs.Words.{get_or-set_other}
 use Rattle.draw_layout.proofs.Words.{get_or_append_left, get_or_push, length_push, take_all, slice_get_within}
 use Rattle.draw_layout.proofs.Words.{count_before-yes, count_before-no, count_before-mono, Task, is_event, is_event_of}
 use Rattle.draw_layout.proofs.Words.{IsEventAt, replicate, length-replicate, get_or-replicate, get_or, length-set}

@@ -1,9 +1,11 @@
 -- The channels after one more task.
 use Rattle.draw_layout.proofs.Words.{◌≡◌, ℕ, ◌+◌, ◌*◌, ◌<◌, false, List, [], ◌∷◌, ◌++◌, length, set, slice_get}
 use Rattle.draw_layout.proofs.Words.{slice_index, Some, ap, ◌∙◌, inl, inr, arith, get_or, get_or_default}
-use Rattle.draw_layout.proofs.Words.{get_or-set_same, get_or-set_other, cases_eq, cases_lt, length-set, length-replicate}
+use Rattle.draw_layout.proofs.Words.{get_or-set_same, get_or-set_other, cases_eq, cases_lt, length-set}
+use Rattle.draw_layout.proofs.Words.{length-replicate}
 use Rattle.draw_layout.proofs.Words.{get_or-replicate, length_push, mul-add-lt, same_from_place, replicate, sym}
-use Rattle.draw_layout.proofs.Words.{sends_yes, receives_yes, count_before-yes, count_before-no, sends, receives, Action}
+use Rattle.draw_layout.proofs.Words.{sends_yes, receives_yes, count_before-yes, count_before-no, sends, receives}
+use Rattle.draw_layout.proofs.Words.{Action}
 use Rattle.draw_layout.proofs.Words.{Task, at_place, sends_ends, receives_ends, send_is_no_receive, receive_is_no_send}
 use Rattle.draw_layout.proofs.Words.{AreSendAndReceive, AreInTransit, IsQueue, IsNext, IsSendOf, IsWithin, queue_at}
 use Rattle.draw_layout.proofs.Words.{add-one, suc, sent_before, AreSends, element_within, slice_get_within}

@@ -122,7 +122,8 @@ fn push_left_out(text: &mut String, frame: &Frame, columns: &[u32]) -> Result<()
     )
 }
 
-/// All that is drawn: the processes, one below another, the arrows, the dots, the line of the cut, and what is left out.
+/// All that is drawn: the processes, one below another, the arrows, the dots, the line of the cut, and what is left
+/// out.
 fn shapes(
     alloc: Global,
     frame: &Frame,

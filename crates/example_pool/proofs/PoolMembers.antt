@@ -32,6 +32,6 @@ module _ (replicas rounds : ℕ) (pace : Pace) where
       omega (arith, ap (λ (ms : List PoolMember). length ms) pool.all, pool.partners, count) in
       subst (IsMemberAt 0) is (the_dispatcher pool.dispatcher pool.has_pace pool.has_rounds partners)
   member_at members pool count (suc k) one at =
-      let rest : slice_get pool.replicas k ≡ Some one = ap (λ (ms : List PoolMember). slice_get ms (suc k)) (sym pool.all)
-      ∙ at in
+      let rest : slice_get pool.replicas k ≡ Some one =
+      ap (λ (ms : List PoolMember). slice_get ms (suc k)) (sym pool.all) ∙ at in
       a_replica k one (All-at (IsReplica rounds) pool.replicas k one pool.rest rest)

@@ -1,7 +1,8 @@
 -- What a watch of the members of a pool tells.
 use Rattle.example_pool.proofs.Words.{◌≡◌, ℕ, zero, suc, ◌+◌, ◌≤◌, Some, Result, Ok, List, [], ◌∷◌, ◌++◌, length, map}
 use Rattle.example_pool.proofs.Words.{slice_get, refl, sym, ap, subst, ◌∙◌, arith, IsSomeAnd, length-map, Call}
-use Rattle.example_pool.proofs.Words.{ProbeSetup, setup, snapshots_in, mapped_at, Pace, PoolMember, DidPart, IsLogOfPart}
+use Rattle.example_pool.proofs.Words.{ProbeSetup, setup, snapshots_in, mapped_at, Pace, PoolMember, DidPart}
+use Rattle.example_pool.proofs.Words.{IsLogOfPart}
 use Rattle.example_pool.proofs.Words.{IsPool, LeavesPart, IsLogAt, IsLogTaken, IsPoolReport, IsToldAt, jobs_at}
 use Rattle.example_pool.proofs.Words.{snapshots_at}
 use Rattle.wcp_clock.specs.declared.note.Item.{Item}
@@ -31,7 +32,8 @@ counted replicas rounds pace items zero log is taken = refl
 counted replicas rounds pace items (suc k) log is taken =
     ap snapshots_in taken ∙ replica_snapshots (replicas + 1) (suc k) (replicas + 1) rounds log is
 
-module _ (replicas : ℕ) {rounds : ℕ} {pace : Pace} {members : List PoolMember} {watched : WatchOutcome (Result Share Stop)}
+module _ (replicas : ℕ) {rounds : ℕ} {pace : Pace} {members : List PoolMember}
+    {watched : WatchOutcome (Result Share Stop)}
     {number : ℕ} {plan : Plan} (n_is : plan.n ≡ replicas + 1) (all : AreAllWatched (replicas + 1) plan.watched)
     (flag_is : plan.flag ≡ reset_at.Event)
     (pool : IsPool pace rounds members) (is : IsWatchOutcome LeavesPart number plan members watched)

@@ -1,8 +1,10 @@
 -- What clap finds at the program's options, and how it answers words.
 use Rattle.trace_cli.proofs.OptionWords.{◌≡◌, ◌⊎◌, inl, inr, true, List, [], map, codes, Option, Some, None, option_map}
-use Rattle.trace_cli.proofs.OptionWords.{Result, Ok, Err, IfOk, refl, sym, ◌∙◌, Text, IsAmong, all_of, fault_of, first_of}
+use Rattle.trace_cli.proofs.OptionWords.{Result, Ok, Err, IfOk, refl, sym, ◌∙◌, Text, IsAmong, all_of, fault_of}
+use Rattle.trace_cli.proofs.OptionWords.{first_of}
 use Rattle.trace_cli.proofs.OptionWords.{first_value, is_simple, is_simple_and_free, matched_of, raw_values, rows_of}
-use Rattle.trace_cli.proofs.OptionWords.{Shiviz, TraceRequest, Trace, Help, Version, Unknown, program, seen_texts, values_at}
+use Rattle.trace_cli.proofs.OptionWords.{Shiviz, TraceRequest, Trace, Help, Version, Unknown, program, seen_texts}
+use Rattle.trace_cli.proofs.OptionWords.{values_at}
 use Rattle.trace_cli.proofs.OptionWords.{form_named, form_at, IsRefusalOf, IsRequestOf, Refused}
 use Rattle.std.specs.Borrow.{Bor}
 use Rattle.std.specs.Option.{MatchOption, option_map_or}

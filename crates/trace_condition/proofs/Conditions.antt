@@ -2,7 +2,8 @@
 use Rattle.std.proofs.lemmas.Grind.{common_steps}
 use Rattle.trace_condition.proofs.Words.{◌≡◌, ℕ, ◌<◌, ◌≤◌, ◌+◌, ◌&&◌, Bool, true, false, cond, List, [], ◌∷◌, ◌++◌, map}
 use Rattle.trace_condition.proofs.Words.{length, get_or, take, drop, Option, Some, None, Result, IfOk, ap, sym, ◌∙◌}
-use Rattle.trace_condition.proofs.Words.{subst, add-one, arith, rules, drop-cons, All, AllByRecursion, list_any, bytes_eq}
+use Rattle.trace_condition.proofs.Words.{subst, add-one, arith, rules, drop-cons, All, AllByRecursion, list_any}
+use Rattle.trace_condition.proofs.Words.{bytes_eq}
 use Rattle.trace_condition.proofs.Words.{length-map, map-append, map_more, take-append-drop, map-map, ConditionFault}
 use Rattle.trace_condition.proofs.Words.{Usage, Expression, Memory, FromUntil, ◌>>=◌, Asked, Text, Word, Saying}
 use Rattle.trace_condition.proofs.Words.{are_fit, most_hosts, seen_saying, said_by, IsReadExpression, IsRead, CanBeRead}

@@ -1,5 +1,6 @@
 -- Words HOST=EXPRESSION.
-use Rattle.trace_condition.proofs.Words.{◌≡◌, ℕ, ◌<◌, List, length, Option, MatchOption, eqb, arith, Bor, position_or_len}
+use Rattle.trace_condition.proofs.Words.{◌≡◌, ℕ, ◌<◌, List, length, Option, MatchOption, eqb, arith, Bor}
+use Rattle.trace_condition.proofs.Words.{position_or_len}
 use Rattle.trace_condition.proofs.Words.{before_first, after_first}
 use Rattle.std.proofs.lemmas.Str.Pattern.{IsSplitOnceResult, split_once_first}
 

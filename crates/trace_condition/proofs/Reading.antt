@@ -1,6 +1,8 @@
 -- Texts that are read one after another.
-use Rattle.trace_condition.proofs.Words.{◌≡◌, ℕ, ◌<◌, ◌+◌, List, [], ◌∷◌, ◌++◌, length, get_or, take, Option, Some, None}
-use Rattle.trace_condition.proofs.Words.{refl, ap, ◌∙◌, add-one, zero, suc, arith, Bor, take-suc, map-append, ◌>>=◌, Text}
+use Rattle.trace_condition.proofs.Words.{◌≡◌, ℕ, ◌<◌, ◌+◌, List, [], ◌∷◌, ◌++◌, length, get_or, take, Option, Some}
+use Rattle.trace_condition.proofs.Words.{None}
+use Rattle.trace_condition.proofs.Words.{refl, ap, ◌∙◌, add-one, zero, suc, arith, Bor, take-suc, map-append, ◌>>=◌}
+use Rattle.trace_condition.proofs.Words.{Text}
 use Rattle.trace_condition.proofs.Words.{all_read, seen_texts}
 
 module _ {B : Type 0} (read : Text → Option B) where

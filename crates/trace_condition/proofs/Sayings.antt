@@ -1,10 +1,12 @@
 -- What the words of a command line say, and whether no host is said twice.
 use Rattle.trace_condition.proofs.Words.{◌≡◌, ◌≢◌, ℕ, ◌<◌, ◌≤◌, ◌+◌, ◌==◌, ◌&&◌, Bool, true, false, not, cond, List, []}
-use Rattle.trace_condition.proofs.Words.{◌∷◌, ◌++◌, map, length, get_or, drop, Option, Some, None, option_map, find, refl}
+use Rattle.trace_condition.proofs.Words.{◌∷◌, ◌++◌, map, length, get_or, drop, Option, Some, None, option_map, find}
+use Rattle.trace_condition.proofs.Words.{refl}
 use Rattle.trace_condition.proofs.Words.{ap, sym, ◌∙◌, add-one, suc, Bor, list_any, bytes_eq, drop-cons, drop_all}
 use Rattle.trace_condition.proofs.Words.{length-map, map-append, map-map, ConditionFault, Usage, Expression, Memory}
 use Rattle.trace_condition.proofs.Words.{Asked, Text, Word, Saying, all_read, word_in, saying_by, while_rule, from_rule}
-use Rattle.trace_condition.proofs.Words.{at_rule, until_of, are_fit, most_hosts, FromUntil, Fails, seen_word, seen_saying}
+use Rattle.trace_condition.proofs.Words.{at_rule, until_of, are_fit, most_hosts, FromUntil, Fails, seen_word}
+use Rattle.trace_condition.proofs.Words.{seen_saying}
 use Rattle.trace_condition.proofs.Words.{host_said}
 use Rattle.std.proofs.lemmas.Bool.{lt-ltb, le-leb, eq-eqb, ne_eqb}
 use Rattle.trace_condition.specs.declared.word.Word.{Word as OwnWord}

@@ -13,7 +13,8 @@ pub use Rattle.trace_condition.specs.Asked.{from_rule, at_rule, until_of, are_di
 pub use Rattle.trace_condition.specs.Asked.{conditions_of, ◌>>=◌}
 pub use Rattle.trace_condition.specs.Conditions.{said_by, IsReadExpression, IsRead, CanBeRead, RefusesExpression}
 pub use Rattle.trace_condition.specs.Conditions.{RefusesSaying, RefusesSayings, ReadsSayings, HaveHosts, ReadsSaying}
-pub use Rattle.trace_condition.specs.Sayings.{Fails, seen_word, seen_saying, host_said, seen_texts, seen_rule, seen_words}
+pub use Rattle.trace_condition.specs.Sayings.{Fails, seen_word, seen_saying, host_said, seen_texts, seen_rule}
+pub use Rattle.trace_condition.specs.Sayings.{seen_words}
 pub use Rattle.trace_condition.specs.Sayings.{Gives, kind_rule}
 pub use Rattle.trace_condition.specs.declared.fault.ConditionFault.{ConditionFault}
 pub use Rattle.trace_condition.specs.declared.fault.ConditionFault.TheVariants.{Usage, Expression, Memory}

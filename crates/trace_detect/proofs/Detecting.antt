@@ -2,7 +2,8 @@
 use Rattle.std.proofs.lemmas.Grind.{common_steps}
 use Rattle.trace_detect.proofs.Words.{◌≡◌, ◌∙◌, ◌+◌, ◌-◌, ◌^◌, ◌<◌, ℕ, Bool, true, false, List, [], ◌∷◌, ◌++◌, Option}
 use Rattle.trace_detect.proofs.Words.{Some, Result, Ok, Err, length, length-append, length-map, refl, ap, subst, arith}
-use Rattle.trace_detect.proofs.Words.{Logged, Taken, HostWatch, HasTaken, watched_by, is_known, Condition, Watcher, taken_of}
+use Rattle.trace_detect.proofs.Words.{Logged, Taken, HostWatch, HasTaken, watched_by, is_known, Condition, Watcher}
+use Rattle.trace_detect.proofs.Words.{taken_of}
 use Rattle.trace_detect.proofs.Words.{IsWatching, CanTake, WatchesNext, host_of, slice_index_or}
 use Rattle.std.proofs.lemmas.List.{get_or_default}
 use Rattle.std.specs.Prelude.{MatchBool}
@@ -78,8 +79,8 @@ answers_early form conditions input left left' log log' watcher watcher' count o
     let logged = before.logged ++ seen_logged one ∷ [] in
     let known = known_moment (taken_of conditions logged) watcher'.search watched.0.taken watched.1 in
     Early logged (moment_of watcher'.search) read.1.says
-    (subst (λ (w : List HostWatch). IsKnown w (taken_of conditions logged) (moment_of watcher'.search)) watched.0.watched
-    known)
+    (subst (λ (w : List HostWatch). IsKnown w (taken_of conditions logged) (moment_of watcher'.search))
+    watched.0.watched known)
     (print ∙ ap (λ (cs : List Condition). found_text cs (moment_of watcher'.search)) watched.0.by) status_is
 
 -- The log has ended.
@@ -95,7 +96,8 @@ answers_last form conditions input left logged (Err fault.Memory) says last = tt
 
 -- A fault that was handed on.
 pub hands_on : (form : Form) (conditions : List Condition) (input left : Option (List ℕ))
-    (result : Result TraceAnswer DetectFault) (given : DetectFault) → IsErr result × IsErrAnd result (λ fault. fault ≡ given)
+    (result : Result TraceAnswer DetectFault) (given : DetectFault)
+    → IsErr result × IsErrAnd result (λ fault. fault ≡ given)
     → Answers form conditions input left (Err given) → Answers form conditions input left result
 hands_on form conditions input left result given back answers = grind (arith, common_steps, err_from_is_err_and)
 

@@ -1,5 +1,6 @@
 -- What a judge knows of its host's events, with one event of the log more.
-use Rattle.trace_detect.proofs.Words.{◌≡◌, ◌∙◌, ◌+◌, ℕ, Bool, true, false, cond, List, [], ◌∷◌, ◌++◌, Option, Some, None}
+use Rattle.trace_detect.proofs.Words.{◌≡◌, ◌∙◌, ◌+◌, ℕ, Bool, true, false, cond, List, [], ◌∷◌, ◌++◌, Option, Some}
+use Rattle.trace_detect.proofs.Words.{None}
 use Rattle.trace_detect.proofs.Words.{length, map, option_map, refl, sym, ap, subst, append-nil, length-append}
 use Rattle.trace_detect.proofs.Words.{map-append, filter-append, filter, option_to_list, if◌then◌else◌, ◌&&◌, bytes_eq}
 use Rattle.trace_detect.proofs.Words.{Logged, Taken, Condition, host_of, rule_of, holds_at_last, Judged, events_at}

@@ -1,6 +1,7 @@
 -- The first host that logs nothing.
 use Rattle.std.proofs.lemmas.Grind.{common_steps}
-use Rattle.trace_detect.proofs.Words.{◌≡◌, ◌∙◌, ◌+◌, ◌<◌, ◌≤◌, ℕ, List, [], length, take, sym, ap, arith, slice_index_or}
+use Rattle.trace_detect.proofs.Words.{◌≡◌, ◌∙◌, ◌+◌, ◌<◌, ◌≤◌, ℕ, List, [], length, take, sym, ap, arith}
+use Rattle.trace_detect.proofs.Words.{slice_index_or}
 use Rattle.trace_detect.proofs.Words.{Logged, Condition, Judged, host_of, events_at, AreJudges}
 use Rattle.std.proofs.lemmas.List.{take_all}
 use Rattle.std.proofs.lemmas.List.Elements.{All-more}

@@ -1,5 +1,6 @@
 -- What a search takes of one event more, and the clock that the last one taken of a host has.
-use Rattle.trace_detect.proofs.Words.{◌≡◌, ◌∙◌, ℕ, Bool, true, false, cond, List, [], ◌∷◌, ◌++◌, Option, Some, None, refl}
+use Rattle.trace_detect.proofs.Words.{◌≡◌, ◌∙◌, ℕ, Bool, true, false, cond, List, [], ◌∷◌, ◌++◌, Option, Some, None}
+use Rattle.trace_detect.proofs.Words.{refl}
 use Rattle.trace_detect.proofs.Words.{sym, ap, append_assoc, append-nil, option_to_list, bytes_eq, Member, Logged}
 use Rattle.trace_detect.proofs.Words.{clock_after, Condition, taken_from, taken_after, condition_at}
 use Rattle.trace_log.specs.LoggedEvents.{events_of}

@@ -4,7 +4,8 @@ use Rattle.trace_detect.proofs.Words.{◌≡◌, ◌∙◌, ◌+◌, ◌-◌, �
 use Rattle.trace_detect.proofs.Words.{List, [], ◌∷◌, ◌++◌, Some, None, Result, Ok, Err, length, length-set, length-map}
 use Rattle.trace_detect.proofs.Words.{refl, sym, ap, subst, arith, append-nil, option_to_list, option_map, get_or-map}
 use Rattle.trace_detect.proofs.Words.{get_or-set_same, get_or-set_other, slice_index_or, inl, inr, bytes_eq, Logged}
-use Rattle.trace_detect.proofs.Words.{FollowsIn, Taken, HostWatch, watch_at, MayFollow, IsNextAt, HaveDistinctHosts, HasTaken}
+use Rattle.trace_detect.proofs.Words.{FollowsIn, Taken, HostWatch, watch_at, MayFollow, IsNextAt, HaveDistinctHosts}
+use Rattle.trace_detect.proofs.Words.{HasTaken}
 use Rattle.trace_detect.proofs.Words.{watched_by, TakesNext, Condition, host_of, rule_of, HaveHosts, holds_at_last}
 use Rattle.trace_detect.proofs.Words.{Judged, Watcher, watch_of, watches, texts_at, condition_at, taken_of, taken_from}
 use Rattle.trace_detect.proofs.Words.{Knows, AreJudges, JudgesOneAt, IsWatching, IsPlace, WatchesNext}

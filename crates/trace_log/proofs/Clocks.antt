@@ -2,7 +2,8 @@
 use Rattle.trace_log.proofs.Words.{◌≡◌, ℕ, ◌+◌, ◌<◌, Bool, true, false, cond, max, List, [], ◌∷◌, ◌++◌, length, get_or}
 use Rattle.trace_log.proofs.Words.{drop, take, Result, Ok, Err, string_bytes, refl, ap, sym, ◌∙◌, arith, add-one}
 use Rattle.trace_log.proofs.Words.{append_assoc, append-nil, subst, ◌≤◌, map-append, drop_all, Bor, bytes_eq, drop-cons}
-use Rattle.trace_log.proofs.Words.{take-suc, Json, Members, no_members, member, members_view, value_view, LineFault, Has}
+use Rattle.trace_log.proofs.Words.{take-suc, Json, Members, no_members, member, members_view, value_view, LineFault}
+use Rattle.trace_log.proofs.Words.{Has}
 use Rattle.trace_log.proofs.Words.{Memory, ◌>>=◌, Fails, Member, member_in, seen_member, seen_clock}
 use Rattle.json.specs.declared.value.Value.{Value}
 use Rattle.trace_log.specs.declared.fault.LogFaultKind.{LogFaultKind}
@@ -52,7 +53,8 @@ module _ {A : Type 0} where
 
   -- One member more of the clock in the members from the i-th on.
   pub clock_more_at : (front : List Member) (members : List (Bor (List ℕ) × Value A)) (i : ℕ) (d : Bor (List ℕ)
-      × Value A) (one : Member) (whole : Result (List Member) LogFaultKind) → i < length members → d ≡ get_or members i d
+      × Value A) (one : Member) (whole : Result (List Member) LogFaultKind) → i < length members
+      → d ≡ get_or members i d
       → with_front front (clock_of (members_view (drop i members))) ≡ whole → member_in d.0.now (value_view d.1)
       ≡ Ok one → with_front (front ++ one ∷ []) (clock_of (members_view (drop (i + 1) members))) ≡ whole
   clock_more_at front members i d one whole within same so_far is =

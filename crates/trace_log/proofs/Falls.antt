@@ -1,7 +1,9 @@
 -- Whether a number falls, and the clocks that are kept.
 use Rattle.trace_log.proofs.Words.{◌≡◌, ℕ, ◌+◌, ◌<◌, ◌≤◌, Bool, true, false, cond, max, List, [], ◌∷◌, ◌++◌, length}
-use Rattle.trace_log.proofs.Words.{get_or, take, Option, Some, unwrap_or, string_bytes, refl, ap, sym, ◌∙◌, subst, arith}
-use Rattle.trace_log.proofs.Words.{add-one, zero, suc, take-suc, lt-ltb, map-append, take_all, bytes_eq, bytes_eq-Decides}
+use Rattle.trace_log.proofs.Words.{get_or, take, Option, Some, unwrap_or, string_bytes, refl, ap, sym, ◌∙◌, subst}
+use Rattle.trace_log.proofs.Words.{arith}
+use Rattle.trace_log.proofs.Words.{add-one, zero, suc, take-suc, lt-ltb, map-append, take_all, bytes_eq}
+use Rattle.trace_log.proofs.Words.{bytes_eq-Decides}
 use Rattle.trace_log.proofs.Words.{Member, Event, falls, seen_member, seen_clock}
 use Rattle.std.proofs.Math.Dec.{ltb}
 use Rattle.std.proofs.lemmas.List.Folds.{list_any-append}

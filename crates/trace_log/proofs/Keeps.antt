@@ -1,6 +1,7 @@
 -- What is kept of the events so far, with one event more.
 use Rattle.trace_log.proofs.Words.{◌≡◌, Bool, true, false, cond, List, [], ◌∷◌, ◌++◌, Some, String, string_bytes, refl}
-use Rattle.trace_log.proofs.Words.{ap, sym, ◌∙◌, bytes_eq, HashMap, UpdatesBy, get_by_text, hash_map_updates_text, Event}
+use Rattle.trace_log.proofs.Words.{ap, sym, ◌∙◌, bytes_eq, HashMap, UpdatesBy, get_by_text, hash_map_updates_text}
+use Rattle.trace_log.proofs.Words.{Event}
 use Rattle.trace_log.proofs.Words.{seen_clock, KeepsLast}
 use Rattle.std.specs.Option.{option_map_or}
 use Rattle.std.specs.String.{string_eq}

@@ -1,6 +1,7 @@
 -- What more lines say after the first.
 use Rattle.trace_log.proofs.EventWords.{◌≡◌, ◌∙◌, List, [], ◌∷◌, ◌++◌, Result, Ok, Err, refl, sym, ap, append_assoc, ℕ}
-use Rattle.trace_log.proofs.EventWords.{LogFault, Form, ◌>>=◌, Logged, SoFar, Turn, after, next_turn, log_from, logged_from}
+use Rattle.trace_log.proofs.EventWords.{LogFault, Form, ◌>>=◌, Logged, SoFar, Turn, after, next_turn, log_from}
+use Rattle.trace_log.proofs.EventWords.{logged_from}
 use Rattle.trace_log.proofs.EventWords.{event_and_later, option_to_list}
 
 more_of_bind : {A B E : Type 0} (r : Result A E) (f g : A → Result B E) (y : B) (z : Result B E)

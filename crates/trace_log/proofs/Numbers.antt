@@ -1,5 +1,6 @@
 -- Which texts are numbers of a clock.
-use Rattle.trace_log.proofs.Words.{◌≡◌, ◌≢◌, ℕ, ◌<◌, ◌≤◌, true, false, List, [], ◌∷◌, length, get_or, Some, None, Ok, Err}
+use Rattle.trace_log.proofs.Words.{◌≡◌, ◌≢◌, ℕ, ◌<◌, ◌≤◌, true, false, List, [], ◌∷◌, length, get_or, Some, None, Ok}
+use Rattle.trace_log.proofs.Words.{Err}
 use Rattle.trace_log.proofs.Words.{refl, arith, all_ascii_digits, most_number}
 use Rattle.std.proofs.lemmas.Str.Parse.{IsNumeralModel, numerals_by_value, tells_all_ascii_digits, parse_plain}
 use Rattle.std.specs.Str.Parse.{digits_value, ParsesUnsigned}

@@ -1,8 +1,10 @@
 -- What has been read of an input, line by line.
-use Rattle.trace_log.proofs.EventWords.{◌≡◌, ◌∙◌, ◌++◌, ℕ, List, [], ◌∷◌, Option, Some, None, Result, Ok, Err, refl, sym}
+use Rattle.trace_log.proofs.EventWords.{◌≡◌, ◌∙◌, ◌++◌, ℕ, List, [], ◌∷◌, Option, Some, None, Result, Ok, Err, refl}
+use Rattle.trace_log.proofs.EventWords.{sym}
 use Rattle.trace_log.proofs.EventWords.{ap, subst, arith, append_assoc, append-nil, length-append, Consumes-trans}
 use Rattle.trace_log.proofs.EventWords.{Consumes-kept, Consumes, IsAtEnd, Keeps, option_to_list, IfSome, Gives, IsFirst}
-use Rattle.trace_log.proofs.EventWords.{Whole, Prefix, lines_of, LogFault, Log, Form, OwnLogged, Event, Logged, SoFar, Turn}
+use Rattle.trace_log.proofs.EventWords.{Whole, Prefix, lines_of, LogFault, Log, Form, OwnLogged, Event, Logged, SoFar}
+use Rattle.trace_log.proofs.EventWords.{Turn}
 use Rattle.trace_log.proofs.EventWords.{after, end_of, next_turn, no_lines, with_event, log_from, HasRead, IsTurn}
 use Rattle.trace_log.proofs.EventWords.{seen_logged, whole_log, events_of, logged_from, FollowsIn, SaysWhole, HasFault}
 use Rattle.trace_log.proofs.EventWords.{HasReadEvents, ReadsEvent}

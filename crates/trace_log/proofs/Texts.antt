@@ -1,5 +1,6 @@
 -- Which lines are text.
-use Rattle.trace_log.proofs.Words.{◌≡◌, ℕ, ◌<◌, true, false, List, length, Option, Some, None, Ok, Err, MatchOption, eqb}
+use Rattle.trace_log.proofs.Words.{◌≡◌, ℕ, ◌<◌, true, false, List, length, Option, Some, None, Ok, Err, MatchOption}
+use Rattle.trace_log.proofs.Words.{eqb}
 use Rattle.trace_log.proofs.Words.{arith, Bor, position_or_len, before_first, after_first, IsUtf8, is_utf8}
 use Rattle.trace_log.proofs.Words.{false_from_ne_true}
 use Rattle.std.proofs.lemmas.Str.Pattern.{IsSplitOnceResult, split_once_first}

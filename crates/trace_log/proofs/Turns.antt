@@ -1,9 +1,13 @@
 -- What a line says after the lines so far: its event's clock follows, and a line that is too long says nothing.
 use Rattle.trace_log.proofs.EventWords.{◌≡◌, ◌+◌, ◌<◌, ℕ, Bool, true, false, cond, List, Option, Some, None, Result, Ok}
-use Rattle.trace_log.proofs.EventWords.{Err, length, refl, subst, IfSome, nat_lt, LogFaultKind, LogFault, Form, Lines, Shiviz}
-use Rattle.trace_log.proofs.EventWords.{ShivizReversed, Event, Stamp, ◌>>=◌, at_line, Member, event_in, stamp_in, text_in}
-use Rattle.trace_log.proofs.EventWords.{most_bytes, whole, if◌then◌else◌, Long, Many, Half, stamped, texted, SoFar, Turn}
-use Rattle.trace_log.proofs.EventWords.{event_after, stamp_after, turn_of, next_turn, with_event, most_lines, last_clock}
+use Rattle.trace_log.proofs.EventWords.{Err, length, refl, subst, IfSome, nat_lt, LogFaultKind, LogFault, Form, Lines}
+use Rattle.trace_log.proofs.EventWords.{Shiviz}
+use Rattle.trace_log.proofs.EventWords.{ShivizReversed, Event, Stamp, ◌>>=◌, at_line, Member, event_in, stamp_in}
+use Rattle.trace_log.proofs.EventWords.{text_in}
+use Rattle.trace_log.proofs.EventWords.{most_bytes, whole, if◌then◌else◌, Long, Many, Half, stamped, texted, SoFar}
+use Rattle.trace_log.proofs.EventWords.{Turn}
+use Rattle.trace_log.proofs.EventWords.{event_after, stamp_after, turn_of, next_turn, with_event, most_lines}
+use Rattle.trace_log.proofs.EventWords.{last_clock}
 use Rattle.trace_log.proofs.EventWords.{follows, HalfFollows}
 use Rattle.std.proofs.lemmas.Bool.{lt-leb}
 

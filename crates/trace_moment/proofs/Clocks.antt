@@ -2,7 +2,8 @@
 use Rattle.std.proofs.lemmas.Grind.{common_steps}
 use Rattle.trace_moment.proofs.Words.{◌≡◌, ℕ, ◌<◌, ◌≤◌, false, cond, max, Ok, List, [], ◌∷◌, ◌++◌, refl, ◌∙◌, ap, subst}
 use Rattle.trace_moment.proofs.Words.{arith, ◌⊎◌, ⊎_elim, lt-ltb, map-append, Contains, Contains-append_left, bytes_eq}
-use Rattle.trace_moment.proofs.Words.{bytes_eq-Decides, clock_after-push, Member, last_clock, falls, follows, Taken, own}
+use Rattle.trace_moment.proofs.Words.{bytes_eq-Decides, clock_after-push, Member, last_clock, falls, follows, Taken}
+use Rattle.trace_moment.proofs.Words.{own}
 use Rattle.trace_moment.proofs.Words.{events_of, MayFollow, Follow, KnowsNoMore, ComesBefore, LastKnowsAll, ◌≢◌}
 use Rattle.trace_log.specs.Clock.{number_of}
 use Rattle.std.proofs.lemmas.Bool.{cases_Bool}

@@ -1,13 +1,17 @@
 -- Which moments are known: the first candidates are the earliest moment where none of them is over.
 use Rattle.std.proofs.lemmas.Grind.{common_steps}
-use Rattle.trace_moment.proofs.Words.{◌≡◌, ◌≢◌, ℕ, ◌+◌, ◌<◌, ◌≤◌, true, false, is_some, Option, Some, None, List, [], ◌∷◌}
+use Rattle.trace_moment.proofs.Words.{◌≡◌, ◌≢◌, ℕ, ◌+◌, ◌<◌, ◌≤◌, true, false, is_some, Option, Some, None, List, []}
+use Rattle.trace_moment.proofs.Words.{◌∷◌}
 use Rattle.trace_moment.proofs.Words.{◌++◌, length, set, slice_index, refl, sym, ◌∙◌, ap, subst, arith, inl, inr, ◌⊎◌}
 use Rattle.trace_moment.proofs.Words.{⊎_elim, append-nil, cases_eq, length-set, length-map, Contains}
 use Rattle.trace_moment.proofs.Words.{Contains-append_left, Contains-append_cases, Contains-push, All-head, All}
-use Rattle.trace_moment.proofs.Words.{number_of, Event, Logged, HostWatch, Taken, own, IsOver, IsMoment, IsEarliest, IsKnown}
-use Rattle.trace_moment.proofs.Words.{Follow, Lasting, While, At, Candidate, EventQueue, queue_at, watched_by, first_among}
+use Rattle.trace_moment.proofs.Words.{number_of, Event, Logged, HostWatch, Taken, own, IsOver, IsMoment, IsEarliest}
+use Rattle.trace_moment.proofs.Words.{IsKnown}
+use Rattle.trace_moment.proofs.Words.{Follow, Lasting, While, At, Candidate, EventQueue, queue_at, watched_by}
+use Rattle.trace_moment.proofs.Words.{first_among}
 use Rattle.trace_moment.proofs.Words.{first_of, waiting, prefix_clock, is_passed_among, stands, lasts_to_floor}
-use Rattle.trace_moment.proofs.Words.{LastKnowsAll, HasEnded, GoesOn, AreLeft, AreUnderFloors, ArePassedByNone, AllStand}
+use Rattle.trace_moment.proofs.Words.{LastKnowsAll, HasEnded, GoesOn, AreLeft, AreUnderFloors, ArePassedByNone}
+use Rattle.trace_moment.proofs.Words.{AllStand}
 use Rattle.trace_moment.proofs.Words.{OneDoesNotStand, RiseTo}
 use Rattle.trace_moment.specs.Queues.{HaveFirsts}
 use Rattle.trace_moment.specs.Standing.{moment_among, NoneIsKnown, HasNoMoment}

@@ -4,9 +4,12 @@ use Rattle.trace_moment.proofs.Words.{◌≡◌, ◌≢◌, ℕ, ◌<◌, ◌≤
 use Rattle.trace_moment.proofs.Words.{slice_index, refl, sym, ◌∙◌, ap, subst, arith, suc, inl, inr, ◌⊎◌, ⊎_elim}
 use Rattle.trace_moment.proofs.Words.{append_assoc, cases_eq, get_or-set_same, get_or-set_other, length-set, length-map}
 use Rattle.trace_moment.proofs.Words.{Contains, Contains-append_left, Contains-push, All-head, All-tail, number_of}
-use Rattle.trace_moment.proofs.Words.{Logged, HostWatch, Taken, watch_at, HaveDistinctHosts, IsOver, IsMoment, Lasting, While}
-use Rattle.trace_moment.proofs.Words.{Candidate, EventQueue, empty_queue, queue_at, watched_by, waiting, is_passed_among}
-use Rattle.trace_moment.proofs.Words.{is_passed, with_event, LastKnowsAll, HasEnded, IsQueueOf, IsKnownElsewhere, IsAmong}
+use Rattle.trace_moment.proofs.Words.{Logged, HostWatch, Taken, watch_at, HaveDistinctHosts, IsOver, IsMoment, Lasting}
+use Rattle.trace_moment.proofs.Words.{While}
+use Rattle.trace_moment.proofs.Words.{Candidate, EventQueue, empty_queue, queue_at, watched_by, waiting}
+use Rattle.trace_moment.proofs.Words.{is_passed_among}
+use Rattle.trace_moment.proofs.Words.{is_passed, with_event, LastKnowsAll, HasEnded, IsQueueOf, IsKnownElsewhere}
+use Rattle.trace_moment.proofs.Words.{IsAmong}
 use Rattle.trace_moment.proofs.Words.{AreLeft, RiseTo, IsNextAt, IsCandidate, false≢true, Event}
 use Rattle.std.proofs.Math.Seq.{map-set_same}
 use Rattle.std.proofs.lemmas.Bool.{cases_lt}

@@ -6,7 +6,8 @@ use Rattle.trace_moment.proofs.Words.{inl, inr, ◌⊎◌, ⊎_elim, append-nil,
 use Rattle.trace_moment.proofs.Words.{Contains-push, Contains-push_cases, All, All-contains, All-append, All-push}
 use Rattle.trace_moment.proofs.Words.{AllPairs, all_pairs_push, option_to_list, number_of, Event, Logged, Member}
 use Rattle.trace_moment.proofs.Words.{last_clock, Taken, own, events_of, IsLater, Follow, Lasting, While, At, Candidate}
-use Rattle.trace_moment.proofs.Words.{EventQueue, first_among, first_of, begin_with, waiting, clock_of, prefix_clock, begun}
+use Rattle.trace_moment.proofs.Words.{EventQueue, first_among, first_of, begin_with, waiting, clock_of, prefix_clock}
+use Rattle.trace_moment.proofs.Words.{begun}
 use Rattle.trace_moment.proofs.Words.{ended_by, ending, going_on, with_event, KnowsNoMore, ComesBefore, LastKnowsAll}
 use Rattle.trace_moment.proofs.Words.{IsCandidate, HasEnded, GoesOn, IsQueueOf}
 use Rattle.std.proofs.lemmas.Bool.{cases_Bool}

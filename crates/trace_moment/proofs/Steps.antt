@@ -1,10 +1,12 @@
 -- What the steps of a search do to the queues and the floors.
 use Rattle.std.proofs.lemmas.Grind.{common_steps}
 use Rattle.trace_moment.proofs.Words.{◌≡◌, zero, suc, inr, map, IsQueueOf, get_or-map, length-map, ℕ, ◌<◌, Bool, true}
-use Rattle.trace_moment.proofs.Words.{false, Option, is_some, List, [], ◌∷◌, ◌++◌, length, get_or, set, drop, slice_index}
+use Rattle.trace_moment.proofs.Words.{false, Option, is_some, List, [], ◌∷◌, ◌++◌, length, get_or, set, drop}
+use Rattle.trace_moment.proofs.Words.{slice_index}
 use Rattle.trace_moment.proofs.Words.{refl, sym, ◌∙◌, ap, subst, arith, get_or_default, length-set, MatchBool}
 use Rattle.trace_moment.proofs.Words.{append_assoc, append-nil, Logged, HostWatch, Taken, HaveDistinctHosts, IsNextAt}
-use Rattle.trace_moment.proofs.Words.{IsKnown, IsEarliest, While, EventQueue, empty_queue, queue_at, watched_by, first_of}
+use Rattle.trace_moment.proofs.Words.{IsKnown, IsEarliest, While, EventQueue, empty_queue, queue_at, watched_by}
+use Rattle.trace_moment.proofs.Words.{first_of}
 use Rattle.trace_moment.proofs.Words.{prefix_clock, MayFollow, with_event, is_passed, LastKnowsAll, AreLeft}
 use Rattle.trace_moment.proofs.Words.{AreUnderFloors, ArePassedByNone, AllStand, OneDoesNotStand, RiseTo}
 use Rattle.std.proofs.Common.{string_bytes}
@@ -18,7 +20,8 @@ use Rattle.trace_moment.specs.Queues.{HaveFirsts, OneHasNone}
 use Rattle.trace_moment.specs.Standing.{moment_among, IsSearching, StandFor, HasNoMoment}
 use Rattle.trace_moment.proofs.Clocks.{comes_next, LastKnowsAll-push, knows-from_falls}
 use Rattle.trace_moment.proofs.OneQueue.{prefix_clock-event}
-use Rattle.trace_moment.proofs.Left.{IsSameHost, watched_by-set, of_host, AreLeft-event, AreLeft-raised, AreLeft-dropped}
+use Rattle.trace_moment.proofs.Left.{IsSameHost, watched_by-set, of_host, AreLeft-event, AreLeft-raised}
+use Rattle.trace_moment.proofs.Left.{AreLeft-dropped}
 use Rattle.trace_moment.proofs.Left.{IsMomentOf-from_moment}
 use Rattle.trace_moment.proofs.Known.{AreUnderFloors-raised, AreUnderFloors-same, IsKnown-stands, NoneIsKnown-waits}
 use Rattle.trace_moment.proofs.Known.{IsEarliest-end, HasNoMoment-end}

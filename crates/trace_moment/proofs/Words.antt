@@ -21,7 +21,8 @@ pub use Rattle.trace_log.specs.Log.{Logged}
 pub use Rattle.trace_log.specs.Order.{last_clock, falls, follows}
 pub use Rattle.trace_moment.specs.Moment.{HostWatch, Taken, watch_at, HaveDistinctHosts, own, IsLater, IsOver, IsMoment}
 pub use Rattle.trace_moment.specs.Moment.{IsEarliest, events_of, MayFollow, Follow, IsKnown, IsNextAt}
-pub use Rattle.trace_moment.specs.Queues.{Candidate, EventQueue, empty_queue, queue_at, watched_by, first_among, first_of}
+pub use Rattle.trace_moment.specs.Queues.{Candidate, EventQueue, empty_queue, queue_at, watched_by, first_among}
+pub use Rattle.trace_moment.specs.Queues.{first_of}
 pub use Rattle.trace_moment.specs.Queues.{begin_with, waiting, clock_of, prefix_clock, is_passed_among, is_passed}
 pub use Rattle.trace_moment.specs.Queues.{lasts_to_floor, stands, begun, ended_by, ending, going_on, with_event}
 pub use Rattle.trace_moment.specs.Elimination.{KnowsNoMore, ComesBefore, LastKnowsAll, IsCandidate, HasEnded, GoesOn}

@@ -8,7 +8,8 @@ use Rattle.trace_log.specs.Log.{Logged}
 use Rattle.trace_moment.specs.declared.watched.Lasting.{Lasting}
 use Rattle.trace_moment.specs.declared.watched.Lasting.TheVariants.{While, At}
 use Rattle.trace_moment.specs.Moment.{Taken, own, events_of, IsLater, IsMoment, Follow}
-use Rattle.trace_moment.specs.Queues.{Candidate, EventQueue, queue_at, watched_by, waiting, prefix_clock, is_passed, stands}
+use Rattle.trace_moment.specs.Queues.{Candidate, EventQueue, queue_at, watched_by, waiting, prefix_clock, is_passed}
+use Rattle.trace_moment.specs.Queues.{stands}
 
 -- One clock knows no more than another.
 abbrev pub KnowsNoMore : List Member → List Member → Type 0
@@ -97,7 +98,7 @@ OneDoesNotStand queues floors = (p : ℕ) × (p < length queues)
     × (stands (queue_at queues p) (slice_index floors p) ≡ false)
 
 -- An event of p was added: elimination leaves of what was taken and this event the new queues under the new floors.
-pub record AddsEvent (taken : List Taken) (next : Taken) (queues new_queues : List EventQueue) (floors new_floors : List ℕ)
-    : Type 0 where
+pub record AddsEvent (taken : List Taken) (next : Taken) (queues new_queues : List EventQueue)
+    (floors new_floors : List ℕ) : Type 0 where
   pub left : AreLeft taken queues floors → AreLeft (taken ++ next ∷ []) new_queues new_floors
   pub under : AreLeft taken queues floors → AreUnderFloors queues floors → AreUnderFloors new_queues new_floors

@@ -89,8 +89,8 @@ impl Book {
         }
     }
 
-    /// Begins the book anew, for a watch of `n` processes. Those who wait for its news go on waiting. Where a watch that
-    /// runs has the book nothing changes. Whether it was begun.
+    /// Begins the book anew, for a watch of `n` processes. Those who wait for its news go on waiting. Where a watch
+    /// that runs has the book nothing changes. Whether it was begun.
     pub fn begin(&mut self, n: u32) -> bool
         requires some { 0 < n }
         requires within { n ≤ most_processes }
@@ -108,8 +108,8 @@ impl Book {
         true
     }
 
-    /// Takes the book for a watch of `n` processes that is about to run, and begins it anew. Where another that runs has
-    /// it nothing changes. Whether it was free.
+    /// Takes the book for a watch of `n` processes that is about to run, and begins it anew. Where another that runs
+    /// has it nothing changes. Whether it was free.
     pub fn claim(&mut self, n: u32) -> bool
         requires some { 0 < n }
         requires within { n ≤ most_processes }
@@ -135,8 +135,8 @@ impl Book {
         }
     }
 
-    /// Says that a watch which was given this book doesn't run: the book is begun anew and ends with that, which all who
-    /// wait are told. Where a watch that runs has the book nothing changes.
+    /// Says that a watch which was given this book doesn't run: the book is begun anew and ends with that, which all
+    /// who wait are told. Where a watch that runs has the book nothing changes.
     pub fn refuse(&mut self)
         ensures refused { self.old.in_use ≡ false → self.new ≡ record {
           shares = replicate (length self.old.shares) None;

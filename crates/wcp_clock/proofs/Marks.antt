@@ -1,5 +1,6 @@
 -- Sets of numbers, by the marks that say which numbers are in them.
-use Rattle.std.proofs.Common.{◌≡◌, ℕ, ◌<◌, ◌≤◌, ◌+◌, ◌↔◌, Bool, true, false, ◌||◌, List, length, get_or, set, ap, ◌∙◌, sym}
+use Rattle.std.proofs.Common.{◌≡◌, ℕ, ◌<◌, ◌≤◌, ◌+◌, ◌↔◌, Bool, true, false, ◌||◌, List, length, get_or, set, ap, ◌∙◌}
+use Rattle.std.proofs.Common.{sym}
 use Rattle.std.proofs.Common.{subst, arith, Any, Contains, true≢false}
 use Rattle.std.proofs.lemmas.Grind.{get_or_default_zero}
 use Rattle.std.proofs.lemmas.Bool.Decides.{nat_tests}
@@ -92,7 +93,8 @@ first_more numbers k these are within = record {
 pub first_all : (numbers : List ℕ) (k : ℕ) (these : sets.FinSet nat_cmp) → AreFirst numbers k these
     → k ≡ length numbers → (p : ℕ) → (sets.contains these p ≡ true) ↔ Contains numbers p
 first_all numbers k these are all p = (
-  λ is. let at = are.only p is in (at.0, omega (arith, at.1), get_or_default_zero numbers at.0 p (omega (arith, at.1)) ∙ at.2),
+  λ is. let at = are.only p is in
+      (at.0, omega (arith, at.1), get_or_default_zero numbers at.0 p (omega (arith, at.1)) ∙ at.2),
   λ is. subst (λ q. sets.contains these q ≡ true)
       (sym (get_or_default_zero numbers is.0 p is.1) ∙ is.2) (are.has is.0 (omega (arith, is.1))),
 )

@@ -88,8 +88,8 @@ module _ (n : ℕ) (watched : NumberSet) (flag : Flag) (c e : Computation) (p : 
   -- with the same clocks
   clocks_prefix : (rest : List (List ℕ)) × (grown.clocks ≡ is.clocks ++ rest)
   clocks_prefix =
-      let longer : length grown.intervals ≡ length is.intervals + length intervals_prefix.0 = ap length intervals_prefix.1
-      ∙ length-append is.intervals intervals_prefix.0 in (
+      let longer : length grown.intervals ≡ length is.intervals + length intervals_prefix.0 =
+      ap length intervals_prefix.1 ∙ length-append is.intervals intervals_prefix.0 in (
         drop (length is.clocks) grown.clocks,
         front_from_reads [] grown.clocks is.clocks (omega (arith, is.same_length, grown.same_length, longer))
             (λ i lt.

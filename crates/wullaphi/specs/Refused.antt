@@ -33,7 +33,8 @@ HasFaultAt plan plan_fault.Watched p = (plan.n ≤ p) × (set.contains plan.watc
 -- The first place, of the first 16, at which a plan has this fault, if it has it at one.
 abbrev pub IsPlaceOf : Plan → PlanFault → Option ℕ → Type 0
 IsPlaceOf plan given (Some place) =
-    (place < most_processes) × HasFaultAt plan given place × ((before : ℕ) → before < place → ¬ HasFaultAt plan given before)
+    (place < most_processes) × HasFaultAt plan given place
+    × ((before : ℕ) → before < place → ¬ HasFaultAt plan given before)
 IsPlaceOf plan given None = (place : ℕ) → place < most_processes → ¬ HasFaultAt plan given place
 
 -- This is the refusal of that plan: its first fault, its numbers, and where the fault stands.

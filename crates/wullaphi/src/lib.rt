@@ -17,12 +17,12 @@
 //! the book, which is under a lock: each call of `Book` says what it tells whoever waits, and tests show that the watch
 //! makes these calls.
 //!
-//! `OpenWatch::open` is for who runs the threads: a plan's fault is answered exactly where it applies, and `parts` hands
-//! out just the probes and relays of the tree that was opened. The types of the parts, and of what each leaves as it
-//! has run, keep that they are of that watch. So `WatchEnds::settle` has no premise: an answer is the exact report of
-//! what the probes emitted whose ends were added, and a refusal is the first reason that applies, where an end of the
-//! checker that wasn't added counts as missing, and so does that of a probe that was dropped. That the parts run, and
-//! in which threads, is left to the caller.
+//! `OpenWatch::open` is for who runs the threads: a plan's fault is answered exactly where it applies, and `parts`
+//! hands out just the probes and relays of the tree that was opened. The types of the parts, and of what each leaves as
+//! it has run, keep that they are of that watch. So `WatchEnds::settle` has no premise: an answer is the exact report
+//! of what the probes emitted whose ends were added, and a refusal is the first reason that applies, where an end of
+//! the checker that wasn't added counts as missing, and so does that of a probe that was dropped. That the parts run,
+//! and in which threads, is left to the caller.
 #![tactic(auto)]
 
 mod lending;

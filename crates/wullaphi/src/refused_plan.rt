@@ -44,10 +44,16 @@ impl fmt::Display for RefusedPlan {
                 write!(f, "{relays} relays are not in 1 to 15")
             }
             (PlanFault::Parent, Some(relay)) => {
-                write!(f, "the parent of relay {relay} is neither a lower relay nor the root")
+                write!(
+                    f,
+                    "the parent of relay {relay} is neither a lower relay nor the root"
+                )
             }
             (PlanFault::Depth, _) => write!(f, "a path to the root has more than 8 relays"),
-            (PlanFault::Mixed, Some(relay)) => write!(f, "relay {relay} serves a process and a relay"),
+            (PlanFault::Mixed, Some(relay)) => write!(
+                f,
+                "relay {relay} serves a process and a relay"
+            ),
             (PlanFault::Childless, Some(relay)) => write!(f, "relay {relay} serves nothing"),
             (PlanFault::Unattached, _) if attached != n as usize => {
                 write!(f, "attach has {attached} entries, and n is {n}")
@@ -55,7 +61,10 @@ impl fmt::Display for RefusedPlan {
             (PlanFault::Unattached, Some(process)) => {
                 write!(f, "process {process} has none of the {relays} relays")
             }
-            (PlanFault::Watched, Some(process)) => write!(f, "process {process} is watched, and n is {n}"),
+            (PlanFault::Watched, Some(process)) => write!(
+                f,
+                "process {process} is watched, and n is {n}"
+            ),
             (PlanFault::Watched, None) => write!(f, "no process is watched"),
             (fault, _) => write!(f, "{fault}"),
         }

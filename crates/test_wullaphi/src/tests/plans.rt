@@ -78,7 +78,11 @@ fn a_path_is_too_long(rt: HostRuntime) {
         Parent::Relay(7),
     ];
     let plan = tree(&rt, rt.alloc(), &path, &[Some(8), Some(8)]);
-    assert_line(&rt, &plan, "plan: a path to the root has more than 8 relays");
+    assert_line(
+        &rt,
+        &plan,
+        "plan: a path to the root has more than 8 relays",
+    );
 }
 
 #[test]
@@ -100,5 +104,9 @@ fn watched_processes_are_below_n(rt: HostRuntime) {
     let none = "plan: no process is watched";
     assert_line(&rt, &watching(&rt, alloc, Watched::none()), none);
     assert_line(&rt, &watching(&rt, alloc, Watched::pair(0, 16)), none);
-    assert_line(&rt, &watching(&rt, alloc, Watched::these(&[0, 1, 16])), none);
+    assert_line(
+        &rt,
+        &watching(&rt, alloc, Watched::these(&[0, 1, 16])),
+        none,
+    );
 }

@@ -1,5 +1,6 @@
 use Rattle.trace_cli.proofs.OptionWords.{◌≡◌, ◌∙◌, ap, map, sym, subst, List, IfOk-weaker, App, HasKind, Row, app_of}
-use Rattle.trace_cli.proofs.OptionWords.{fault_of, is_simple, is_simple_and_free, kind_of, matches_of, program, IsTraceOf}
+use Rattle.trace_cli.proofs.OptionWords.{fault_of, is_simple, is_simple_and_free, kind_of, matches_of, program}
+use Rattle.trace_cli.proofs.OptionWords.{IsTraceOf}
 use Rattle.trace_cli.proofs.OptionWords.{Passed}
 use Rattle.trace_cli.proofs.Found.{program_is_free, program_is_simple, refused_as}
 use Rattle.trace_cli.proofs.options.request_of.Goals as goal

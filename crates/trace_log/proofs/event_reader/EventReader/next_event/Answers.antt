@@ -1,4 +1,5 @@
-use Rattle.trace_log.proofs.EventWords.{◌≡◌, ◌∙◌, ap, subst, sym, append-nil, List, Logged, Some, None, Ok, false, Gives}
+use Rattle.trace_log.proofs.EventWords.{◌≡◌, ◌∙◌, ap, subst, sym, append-nil, List, Logged, Some, None, Ok, false}
+use Rattle.trace_log.proofs.EventWords.{Gives}
 use Rattle.trace_log.proofs.EventWords.{IsTurn, left, HasReadEvents}
 use Rattle.trace_log.proofs.ReadLines.{hands_on, line_fault, reads_end, reads_line, reads_missing, line_follows}
 use Rattle.trace_log.proofs.event_reader.EventReader.next_event.Goals as goal
