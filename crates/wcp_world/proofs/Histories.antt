@@ -111,7 +111,8 @@ answered_push plan steps replies old new s reply has more = grind (arith, map_pu
 prefixes_now : (plan : Plan) (history : List Answered) (w : WorldState) → IsWorldOf plan history w
     → ArePrefixesOfEmissions plan.n plan.watched plan.flag (computation (accepted history)) (items_taken history)
 prefixes_now plan history w is = subst (λ h. ArePrefixesOfEmissions plan.n plan.watched plan.flag
-    (computation (accepted h)) (items_taken h)) (take_all (length history) history (le_refl (length history))) (is.prefixes (length history))
+    (computation (accepted h)) (items_taken h)) (take_all (length history) history (le_refl (length history)))
+    (is.prefixes (length history))
 
 -- the report by clocks of what a world's checker took is that of the headline
 headline_holds : (plan : Plan) (history : List Answered) (w : WorldState) (report : Report) → IsWorldOf plan history w
