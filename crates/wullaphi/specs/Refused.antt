@@ -1,5 +1,6 @@
 -- Why a watch tells nothing.
-use Rattle.std.specs.Prelude.{◌≡◌, ℕ, ◌<◌, ◌≤◌, true, Option, None, Some, length, slice_get, IsTrue, MatchOption}
+use Rattle.std.specs.Prelude.{◌≡◌, ℕ, ◌<◌, ◌≤◌, true, Option, None, Some, length, slice_get, vec_len, IsTrue}
+use Rattle.std.specs.Prelude.{MatchOption}
 use Rattle.std.specs.FinSet as set
 use Rattle.wcp_clock.specs.Limits.{most_processes}
 use Rattle.wcp_model.specs.PlanFault.{IsFirstFault, ServesRelay}
@@ -43,8 +44,8 @@ pub record IsRefusalOf (plan : Plan) (refused : RefusedPlan) : Type 0 where
   pub n : refused.n ≡ plan.n
   pub cap : refused.cap ≡ plan.cap
   pub hold : refused.hold ≡ plan.hold
-  pub relays : refused.relays ≡ length plan.parents.items
-  pub attached : refused.attached ≡ length plan.attach.items
+  pub relays : refused.relays ≡ vec_len plan.parents
+  pub attached : refused.attached ≡ vec_len plan.attach
   pub place : IsPlaceOf plan refused.fault refused.place
 
 -- What a run whose parts didn't run is refused for.
