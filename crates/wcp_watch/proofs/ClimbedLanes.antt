@@ -5,7 +5,8 @@ use Rattle.wcp_watch.proofs.Words.{Item, Note, notes_taken, is_leaf, parent_of, 
 use Rattle.wcp_watch.proofs.Words.{is_its_leaf, parent_below, TakenEnd, Numbers, Bundle, Serves, fed, given_by}
 use Rattle.wcp_watch.proofs.Words.{items_by, items_of, processes_of, ClosedSide, IsLeftOf, IsReceiptOf, outcome_fault}
 use Rattle.wcp_watch.proofs.Words.{outcome_put, outcome_taken, relay_put, relay_taken, taken_in, IsSource, Feed}
-use Rattle.wcp_watch.proofs.Words.{Receipts, Feeds, Lane, RelayEnd, Outcome, Whole, Source, Leaf, Inner, AreEndsThere}
+use Rattle.wcp_watch.proofs.Words.{Receipts, Feeds, Lane, RelayEnd, RelayOutcome, Whole, Source, Leaf, Inner}
+use Rattle.wcp_watch.proofs.Words.{AreEndsThere}
 use Rattle.wcp_watch.proofs.Words.{AreFirstMatched, SitsAt, AreTakenFrom, IsPutMatched, IsRingMatched, feeds_in}
 use Rattle.wcp_watch.proofs.Words.{feeds_left_by}
 use Rattle.std.specs.FinSet as set
@@ -13,7 +14,7 @@ use Rattle.std.proofs.lemmas.Bool.Decides.{nat_tests}
 use Rattle.wcp_model.specs.declared.plan.Parent.TheVariants as parent
 use Rattle.wcp_relay.specs.Members.{IsBelow, Itself}
 use Rattle.wcp_relay.specs.declared.relay.Relay.{Relay}
-use Rattle.wcp_relay.specs.declared.relay_end.Outcome.TheVariants.{Faulted}
+use Rattle.wcp_relay.specs.declared.relay_end.RelayOutcome.TheVariants.{Faulted}
 use Rattle.wcp_relay.proofs.Parents.{members_pass_up}
 use Rattle.wcp_relay.proofs.Ordering.{given_is_taken}
 use Rattle.wcp_watch.proofs.MatchedLinks.{linked, receipts_of}
@@ -37,7 +38,7 @@ fed_all p notes (feed ∷ feeds) served all = ⊎_elim
     (cases_eq feed.process p)
 
 -- what a lane was matched for
-lane_taken : (root : TakenEnd Bundle Item) (IsRelay : ℕ → RelayEnd → Type 0) (relay : Relay) (end : Outcome) (p : ℕ)
+lane_taken : (root : TakenEnd Bundle Item) (IsRelay : ℕ → RelayEnd → Type 0) (relay : Relay) (end : RelayOutcome) (p : ℕ)
     → outcome_fault end ≡ None
     → IsLeftOf relay end → set.contains relay.putter.members p ≡ true → IsPutMatched root IsRelay end
     → AreTakenFrom root IsRelay relay.parent p (outcome_put end p)
@@ -68,7 +69,7 @@ module _ {count : ℕ} {probe_ends : List (Option ClosedSide)} {root : TakenEnd 
   feed_took leaf at (Leaf old parker) members (Lane receipt) is serves has left rings = absurd left
   feed_took leaf at (Inner taker) members taken is serves has left rings = absurd (cc (at, is.0))
 
-  leaf_took : (leaf : ℕ) → is_leaf there.plan leaf ≡ true → (relay : Relay) (end : Outcome) → outcome_fault end ≡ None
+  leaf_took : (leaf : ℕ) → is_leaf there.plan leaf ≡ true → (relay : Relay) (end : RelayOutcome) → outcome_fault end ≡ None
       → IsLeftOf relay end → IsSource there.plan there.wired.takers leaf relay.source
       → set.contains relay.putter.members p ≡ true
       → All (IsRingMatched (SitsAt probe_ends)) (feeds_left_by end) → outcome_taken end p ≡ emitted

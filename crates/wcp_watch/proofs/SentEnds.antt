@@ -9,7 +9,7 @@ use Rattle.wcp_model.proofs.plan.Parent.TheSendSync.{the_field_send as parent_se
 use Rattle.wcp_relay.proofs.bundle.Bundle.TheSendSync.{the_send as bundle_send}
 use Rattle.wcp_relay.proofs.relay_end.Receipts.TheSendSync.{the_field_send as receipts_send}
 use Rattle.wcp_relay.proofs.relay_end.RelayFault.TheSendSync.{the_field_send as fault_send}
-use Rattle.wcp_relay.specs.contracts.relay_end.Outcome as outcome
+use Rattle.wcp_relay.specs.contracts.relay_end.RelayOutcome as outcome
 use Rattle.wcp_relay.specs.contracts.relay_end.RelayEnd as relay_end
 
 variants_send : EachSend (declared_enum.shape outcome.the_type).variants

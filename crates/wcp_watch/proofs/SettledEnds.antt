@@ -3,7 +3,8 @@ use Rattle.wcp_watch.proofs.Words.{◌≡◌, ◌↔◌, ℕ, ◌<◌, ◌≤◌
 use Rattle.wcp_watch.proofs.Words.{refl, sym, ap, ◌∙◌, ⊎_elim, arith, zero, suc, [], ◌∷◌, slice_get, All, sum_by}
 use Rattle.wcp_watch.proofs.Words.{option_flatten, cases_lt, Contains-get_or, slice_get_past, slice_get_within}
 use Rattle.wcp_watch.proofs.Words.{most_processes, most_relays, Item, ClocksRise, notes_taken, BookState, TakenEnd}
-use Rattle.wcp_watch.proofs.Words.{Bundle, ClosedSide, number_of, watch_of, RelayEnd, Outcome, Whole, few_processes}
+use Rattle.wcp_watch.proofs.Words.{Bundle, ClosedSide, number_of, watch_of, RelayEnd, RelayOutcome, Whole}
+use Rattle.wcp_watch.proofs.Words.{few_processes}
 use Rattle.wcp_watch.proofs.Words.{few_relays, some_process, AreEndsThere, AreFirstMatched, AreAllThere, AreAllSeated}
 use Rattle.wcp_watch.proofs.Words.{AreSeats, IsEndAt, AreLinksMatched, ComeFromWatch, IsFirstSettleFault, IsFreeOf}
 use Rattle.wcp_watch.proofs.Words.{IsSettled, IsPutMatched, cut_of, share_of, Stranger, Missing, Faulted, Unfinished}
@@ -12,7 +13,7 @@ use Rattle.std.proofs.lemmas.List.Sums.{sum_by-cons}
 use Rattle.wcp_model.specs.declared.outcome.Tally.{Tally}
 use Rattle.wcp_model.specs.declared.plan.Parent.TheVariants as parent
 use Rattle.wcp_book.specs.Totals.{emitted_of_share, taken_of_share}
-use Rattle.wcp_relay.specs.declared.relay_end.Outcome.TheVariants as outcome
+use Rattle.wcp_relay.specs.declared.relay_end.RelayOutcome.TheVariants as outcome
 use Rattle.wcp_relay.proofs.LiveProbes.{taken_rise}
 use Rattle.wcp_watch.proofs.CheckedItems.{without_fault}
 use Rattle.wcp_watch.proofs.FirstFaults.{is_first}
@@ -59,7 +60,7 @@ module _ (root : TakenEnd Bundle Item) {IsProbe IsOneProbe : ℕ → ClosedSide 
     {IsRelay IsOneRelay : ℕ → RelayEnd → Type 0}
     (probe_is : (p : ℕ) (end : ClosedSide) → IsOneProbe p end → IsProbe p end)
     (relay_is : (k : ℕ) (end : RelayEnd) → IsOneRelay k end → IsRelay k end) where
-  lane_for_fewer : (end : Outcome) → IsPutMatched root IsRelay end → IsPutMatched root IsOneRelay end
+  lane_for_fewer : (end : RelayOutcome) → IsPutMatched root IsRelay end → IsPutMatched root IsOneRelay end
   lane_for_fewer (Whole parent.Root taken put) matched = matched
   lane_for_fewer (Whole (parent.Relay above) taken put) matched =
       λ p has relay is. matched p has relay (relay_is above relay is)

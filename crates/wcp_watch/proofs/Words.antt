@@ -44,8 +44,8 @@ pub use Rattle.wcp_relay.specs.Relays.{IsSource, inbox_lane}
 pub use Rattle.wcp_relay.specs.Watches.{IsLinked, lane_below, lane_to, IsWired}
 pub use Rattle.wcp_relay.specs.declared.bundle.Bundle.{Bundle}
 pub use Rattle.wcp_relay.specs.declared.feed.Feed.{Feed}
-pub use Rattle.wcp_relay.specs.declared.relay_end.Outcome.{Outcome}
-pub use Rattle.wcp_relay.specs.declared.relay_end.Outcome.TheVariants.{Whole}
+pub use Rattle.wcp_relay.specs.declared.relay_end.RelayOutcome.{RelayOutcome}
+pub use Rattle.wcp_relay.specs.declared.relay_end.RelayOutcome.TheVariants.{Whole}
 pub use Rattle.wcp_relay.specs.declared.relay_end.Receipts.{Receipts}
 pub use Rattle.wcp_relay.specs.declared.relay_end.Receipts.TheVariants.{Feeds, Lane}
 pub use Rattle.wcp_relay.specs.declared.relay_end.RelayEnd.{RelayEnd}

@@ -27,8 +27,8 @@ use Rattle.wcp_relay.specs.declared.relay.Relay.{Relay}
 use Rattle.wcp_relay.specs.declared.relay_end.Receipts.{Receipts}
 use Rattle.wcp_relay.specs.declared.relay_end.Receipts.TheVariants.{Feeds, Lane}
 use Rattle.wcp_relay.specs.declared.relay_end.RelayEnd.{RelayEnd}
-use Rattle.wcp_relay.specs.declared.relay_end.Outcome.{Outcome}
-use Rattle.wcp_relay.specs.declared.relay_end.Outcome.TheVariants.{Whole, Faulted}
+use Rattle.wcp_relay.specs.declared.relay_end.RelayOutcome.{RelayOutcome}
+use Rattle.wcp_relay.specs.declared.relay_end.RelayOutcome.TheVariants.{Whole, Faulted}
 use Rattle.wcp_relay.specs.declared.parts.Watch.{Watch}
 use Rattle.wcp_watch.specs.CheckerEnds.{IsEndOfLoop}
 use Rattle.wcp_watch.specs.Seats.{AreAllThere, AreOfWatch, IsEndAt}
@@ -75,7 +75,7 @@ AreTakenFrom root IsRelay (parent.Relay above) p items =
     (relay : RelayEnd) → IsRelay above relay → relay_taken relay p ≡ items
 
 -- The lane of a relay was matched: what it put of each of its processes was taken from the inbox of its parent.
-abbrev pub IsPutMatched : TakenEnd Bundle Item → (ℕ → RelayEnd → Type 0) → Outcome → Type 0
+abbrev pub IsPutMatched : TakenEnd Bundle Item → (ℕ → RelayEnd → Type 0) → RelayOutcome → Type 0
 IsPutMatched root IsRelay (Whole parent taken put) =
     (p : ℕ) → set.contains put.members p ≡ true → AreTakenFrom root IsRelay parent p (items_of p put.put)
 IsPutMatched root IsRelay (Faulted fault source outlet met) = Unit {0}
@@ -88,7 +88,7 @@ abbrev pub feeds_in : Receipts → List Feed
 feeds_in (Feeds feeds) = feeds.items
 feeds_in (Lane receipt) = []
 
-abbrev pub feeds_left_by : Outcome → List Feed
+abbrev pub feeds_left_by : RelayOutcome → List Feed
 feeds_left_by (Whole parent taken put) = feeds_in taken
 feeds_left_by (Faulted fault source outlet met) = []
 
