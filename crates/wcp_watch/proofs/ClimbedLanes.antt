@@ -38,7 +38,8 @@ fed_all p notes (feed ∷ feeds) served all = ⊎_elim
     (cases_eq feed.process p)
 
 -- what a lane was matched for
-lane_taken : (root : TakenEnd Bundle Item) (IsRelay : ℕ → RelayEnd → Type 0) (relay : Relay) (end : RelayOutcome) (p : ℕ)
+lane_taken : (root : TakenEnd Bundle Item) (IsRelay : ℕ → RelayEnd → Type 0) (relay : Relay) (end : RelayOutcome)
+    (p : ℕ)
     → outcome_fault end ≡ None
     → IsLeftOf relay end → set.contains relay.putter.members p ≡ true → IsPutMatched root IsRelay end
     → AreTakenFrom root IsRelay relay.parent p (outcome_put end p)
@@ -69,7 +70,8 @@ module _ {count : ℕ} {probe_ends : List (Option ClosedSide)} {root : TakenEnd 
   feed_took leaf at (Leaf old parker) members (Lane receipt) is serves has left rings = absurd left
   feed_took leaf at (Inner taker) members taken is serves has left rings = absurd (cc (at, is.0))
 
-  leaf_took : (leaf : ℕ) → is_leaf there.plan leaf ≡ true → (relay : Relay) (end : RelayOutcome) → outcome_fault end ≡ None
+  leaf_took : (leaf : ℕ) → is_leaf there.plan leaf ≡ true → (relay : Relay) (end : RelayOutcome)
+      → outcome_fault end ≡ None
       → IsLeftOf relay end → IsSource there.plan there.wired.takers leaf relay.source
       → set.contains relay.putter.members p ≡ true
       → All (IsRingMatched (SitsAt probe_ends)) (feeds_left_by end) → outcome_taken end p ≡ emitted
