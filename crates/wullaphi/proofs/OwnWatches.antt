@@ -1,6 +1,7 @@
 -- The parts of an opened watch and their ends are its own.
 use Rattle.std.proofs.Common.{◌≡◌, ℕ, false, Option, Some, IfNone, IfSome, List, [], ◌∷◌, ◌++◌, get_or, slice_get, All}
-use Rattle.std.proofs.Common.{refl, sym, ap, subst, ◌∙◌}
+use Rattle.std.proofs.Common.{Result, Ok, Err, refl, sym, ap, subst, ◌∙◌}
+use Rattle.std.specs.Prelude.{IfOk}
 use Rattle.std.proofs.lemmas.List.Elements.{All-append, All-cons, All-nil}
 use Rattle.std.proofs.lemmas.Option.{slice_get-get_or}
 use Rattle.wcp_book.specs.State.{BookState}
@@ -22,6 +23,7 @@ use Rattle.wcp_watch.proofs.WatchEnds.{all_processes, come_from_watch, where_non
 use Rattle.wcp_watch.specs.CheckerEnds.{IsEndOfLoop}
 use Rattle.wcp_watch.specs.Settling.{ComeFromWatch, IsSettled}
 use Rattle.wcp_watch.specs.declared.checker_end.CheckerEnd.{CheckerEnd}
+use Rattle.wcp_watch.specs.declared.settle_fault.SettleFault.{SettleFault}
 use Rattle.wcp_model.specs.declared.outcome.Outcome.{Outcome}
 use Rattle.wullaphi.specs.Opened.{AreEndsOf, EndsOfWatch, HasOpened, IsCheckerEndOf, IsCheckerOf, IsFreshWatch, IsOpen}
 use Rattle.wullaphi.specs.Opened.{IsProbeEndOf, IsProbeOf, IsRelayEndOf, IsRelayOf, OpenedWatch, no_ends}
@@ -151,6 +153,11 @@ module _ {opening : Option OpenedWatch} where
         processes = all_processes has.is_open.wired of_checker;
         settled = is;
       }
+
+      pub own_answer : {book : BookState} (answer : Result Outcome SettleFault)
+          → IfOk answer (IsSettled ends.probes checker book) → IfOk answer (AreSettled opening ends book)
+      own_answer (Ok outcome) is = own_settled is
+      own_answer (Err fault) is = tt
 
   -- the parts of a watch, as it is opened
   module _ {opened : OpenedWatch} (is : opening ≡ Some opened) (is_open : IsOpen opened) where
