@@ -154,10 +154,10 @@ module _ {opening : Option OpenedWatch} where
         settled = is;
       }
 
-      pub own_answer : {book : BookState} (answer : Result Outcome SettleFault)
+      pub own_answer : (book : BookState) (answer : Result Outcome SettleFault)
           → IfOk answer (IsSettled ends.probes checker book) → IfOk answer (AreSettled opening ends book)
-      own_answer (Ok outcome) is = own_settled is
-      own_answer (Err fault) is = tt
+      own_answer book (Ok outcome) is = own_settled is
+      own_answer book (Err fault) is = tt
 
   -- the parts of a watch, as it is opened
   module _ {opened : OpenedWatch} (is : opening ≡ Some opened) (is_open : IsOpen opened) where

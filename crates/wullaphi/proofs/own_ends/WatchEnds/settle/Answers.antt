@@ -10,4 +10,4 @@ settle-requires g c = come c.self.invariant c.in-Some.is
 pub returns-clause-settled : goal.returns-clause-settled
 returns-clause-settled g c =
     subst (λ ends. IfOk c.settle.result (AreSettled g.W.Opening.opened ends c.args.book)) c.self.view_is
-    (own_answer c.self.invariant c.in-Some.is c.settle.result c.settle.ensures.settled)
+    (own_answer c.self.invariant c.in-Some.is c.args.book c.settle.result c.settle.ensures.settled)
