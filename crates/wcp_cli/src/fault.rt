@@ -28,7 +28,7 @@ pub enum Fault {
 }
 
 impl From<AllocError> for Fault {
-    ghost from_gives = { λ _ e. e ≡ Memory };
+    ghost from_gives = { λ _ e. e ≡ Io Memory };
 
     fn from(_error: AllocError) -> Fault {
         Fault::Io(IoFault::Memory)
