@@ -9,6 +9,10 @@ most_bytes = 2097152
 abbrev pub most_reads : ℕ
 most_reads = 4194304
 
+-- The most bytes that are read ahead of the lines, and wait to be taken: one read asks for so many.
+abbrev pub most_waiting : ℕ
+most_waiting = 65536
+
 -- What is known of the bytes that a reader has left, or of those that a writer holds.
 abbrev pub Known : Type 0
 Known = Option (List ℕ)

@@ -2,6 +2,7 @@
 ghost use Rattle.std.specs.Prelude.{◌≡◌, ◌≢◌, ◌+◌, ◌-◌, ◌<◌, ◌≤◌, ◌++◌, ℕ, List, [], length, take, drop};
 ghost use Rattle.std.specs.Prelude.{Ok, IfOk, IfErr, OnErr, true, false, vec_len, slice_range};
 ghost use Rattle.std.specs.Io.KnownBytes.{Keeps, Consumes, IsAtEnd, prepend_known};
+ghost use Rattle.wcp_io.specs.Input.{most_waiting};
 
 use crate::line_fault::InputFault;
 use std::alloc::{AllocError, Global};
@@ -25,7 +26,7 @@ impl Model for Block {
     ghost view = { λ block. slice_range block.bytes.items block.start block.end };
 
     ghost invariant = { λ block. (block.start ≤ block.end) × (block.end ≤ vec_len block.bytes)
-        × (0 < vec_len block.bytes) };
+        × (0 < vec_len block.bytes) × (vec_len block.bytes ≤ most_waiting) };
 }
 
 impl Block {
@@ -63,6 +64,7 @@ impl Block {
     pub fn fill<I: Read>(&mut self, input: &mut I) -> Result<bool, InputFault>
         ensures bytes { Keeps (prepend_known self.old (I.remaining input.old))
             (prepend_known self.new (I.remaining input.new)) }
+        ensures within { length self.new ≤ most_waiting }
         ensures some { result ≡ Ok true → self.new ≢ [] }
         ensures none { result ≡ Ok false → self.new ≡ [] }
         ensures ended { result ≡ Ok false → IsAtEnd (I.remaining input.new) }

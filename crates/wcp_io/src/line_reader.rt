@@ -2,6 +2,7 @@
 ghost use Rattle.std.specs.Prelude.{◌≡◌, ◌≢◌, ◌+◌, ◌<◌, ◌≤◌, ◌++◌, ◌∷◌, [], List, ℕ, true, false, Ok, Err};
 ghost use Rattle.std.specs.Prelude.{IfOk, OnErr, vec_len, length};
 ghost use Rattle.std.specs.Io.KnownBytes.{Consumes, IsAtEnd, Keeps};
+ghost use Rattle.wcp_io.specs.Input.{most_waiting};
 ghost use Rattle.wcp_io.specs.Reader.{Gives, left, most_given, waiting};
 ghost use Rattle.wcp_io.specs.Parts.{Moves};
 
@@ -46,6 +47,7 @@ impl LineReader {
         ensures ended { result ≡ Ok false → IsAtEnd (left self.new (I.remaining input.new)) }
         ensures none { result ≡ Ok false
             → Keeps (left self.old (I.remaining input.old)) (left self.new (I.remaining input.new)) }
+        ensures ahead { length (waiting self.new) ≤ most_waiting }
         ensures err { OnErr result (Consumes (left self.old (I.remaining input.old))
             (left self.new (I.remaining input.new)) self.new.line.items) }
         ensures refused { result ≡ Err InputFault.Read → waiting self.new ≡ [] }
