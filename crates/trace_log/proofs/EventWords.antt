@@ -25,6 +25,6 @@ unfoldable pub use Rattle.trace_log.specs.Log.{log_from}
 pub use Rattle.trace_log.specs.Order.{last_clock, follows}
 pub use Rattle.trace_log.specs.State.{HasRead, IsTurn, lines_left}
 pub use Rattle.trace_log.specs.Turns.{seen_logged}
-pub use Rattle.trace_log.specs.LoggedEvents.{event_and_later, whole_log, events_of, FollowsIn}
+pub use Rattle.trace_log.specs.LoggedEvents.{event_and_later, whole_log, events_of, EndsOneMore, FailAfter, FollowsIn}
 unfoldable pub use Rattle.trace_log.specs.LoggedEvents.{logged_from}
-pub use Rattle.trace_log.specs.Reading.{SaysWhole, HasFault, HalfFollows, HasReadEvents, ReadsEvent}
+pub use Rattle.trace_log.specs.Reading.{SaysWhole, HasFault, HalfFollows, HasReadEvents, ReadsNext, ReadsEvent}

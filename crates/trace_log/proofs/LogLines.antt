@@ -53,3 +53,8 @@ pub log_stops : (form : Form) (first : SoFar) (line : List ℕ) (later : List (L
     → next_turn form first line ≡ Err fault → log_from form first (line ∷ later) ≡ Err fault
 unfolding log_from
 log_stops form first line later fault said = rw said refl
+
+pub logged_stops : (form : Form) (first : SoFar) (line : List ℕ) (later : List (List ℕ)) (fault : LogFault)
+    → next_turn form first line ≡ Err fault → logged_from form first (line ∷ later) ≡ []
+unfolding logged_from
+logged_stops form first line later fault said = rw said refl

@@ -7,7 +7,7 @@ use Rattle.trace_log.proofs.EventWords.{Whole, Prefix, lines_of, LogFault, Log, 
 use Rattle.trace_log.proofs.EventWords.{Turn}
 use Rattle.trace_log.proofs.EventWords.{after, end_of, next_turn, no_lines, with_event, log_from, HasRead, IsTurn}
 use Rattle.trace_log.proofs.EventWords.{seen_logged, whole_log, events_of, logged_from, FollowsIn, SaysWhole, HasFault}
-use Rattle.trace_log.proofs.EventWords.{HasReadEvents, ReadsEvent}
+use Rattle.trace_log.proofs.EventWords.{HasReadEvents, ReadsNext, ReadsEvent, EndsOneMore, FailAfter}
 use Rattle.std.proofs.Common.{option_map}
 use Rattle.std.proofs.lemmas.List.{map-append}
 use Rattle.std.proofs.KnownBytes.{prepend_known-nil, Consumes-nil}
@@ -23,7 +23,7 @@ use Rattle.trace_log.specs.State.{ReadsLine}
 use Rattle.trace_log.specs.declared.event_fault.EventFault.{EventFault}
 use Rattle.trace_log.specs.EventFaults.{fault_of_input, fault_of_read}
 use Rattle.trace_log.proofs.Turns.{turn_follows, next_of_long}
-use Rattle.trace_log.proofs.LogLines.{log_more, logged_more, log_line, logged_line, log_stops}
+use Rattle.trace_log.proofs.LogLines.{log_more, logged_more, log_line, logged_line, log_stops, logged_stops}
 
 -- Which lines of the input were read.
 abbrev IsFront : Option (List ℕ) → Option (List ℕ) → List (List ℕ) → Type 0
@@ -80,36 +80,54 @@ events_more events logged None same = same ∙ ap events_of (sym (append-nil log
 events_more events logged (Some one) same =
     ap (λ l. l ++ one.event ∷ []) same ∙ sym (map-append (λ one. one.event) logged (one ∷ []))
 
--- One line more was read, with the event that it ended, if it ended one.
-pub reads_line : (form : Form) (input left left' : Option (List ℕ)) (logged : List Logged) (log log' : Log)
-    (line : List ℕ) (one : Option OwnLogged)
+-- The events of one line more were read, and no line behind it.
+abbrev ReadsMore : Form → Option (List ℕ) → Option (List ℕ) → List Logged → Option Logged → Log → Type 0
+ReadsMore form input left logged more log =
+    (read : HasReadEvents form input left (logged ++ option_to_list more) log)
+    × EndsOneMore form read.says.lines logged
+
+line_read : (form : Form) (input left left' : Option (List ℕ)) (logged : List Logged) (log log' : Log) (line : List ℕ)
+    (one : Option OwnLogged)
     → (before : HasReadEvents form input left logged log) → Gives left left' line
     → IsTurn form before.says.so_far line one log'
-    → HasReadEvents form input left' (logged ++ option_to_list (option_map seen_logged one)) log'
-reads_line form input left left' logged log log' line one before given is =
+    → ReadsMore form input left' logged (option_map seen_logged one) log'
+line_read form input left left' logged log log' line one before given is =
     let says = before.says in
-    rw is.event (record {
-      says = record {
-        lines = says.lines ++ line ∷ [];
-        taken = says.taken ++ given.taken;
-        consumed = Consumes-trans input left left' says.taken given.taken says.consumed given.consumed;
-        first = front_more form says.so_far input left left' says.taken given.taken says.lines line is.turn is.said
-            says.consumed says.first given.consumed given.first;
-        so_far = after says.so_far is.turn;
-        said = log_more form no_lines says.lines (line ∷ []) says.so_far says.said
-            ∙ log_line form says.so_far line is.turn is.said;
-        ended = logged_more form no_lines says.lines (line ∷ []) says.so_far says.said
-            ∙ ap (λ l. l ++ logged_from form says.so_far (line ∷ [])) says.ended
-            ∙ ap (λ l. logged ++ l)
-            (logged_line form says.so_far line is.turn is.said ∙ append-nil (option_to_list is.turn.event));
-      };
-      read = is.read;
-      events = events_more says.so_far.events logged is.turn.event before.events;
-      half = (turn_follows form says.so_far line is.turn before.half is.said).half;
-    })
+    rw is.event (
+      record {
+        says = record {
+          lines = says.lines ++ line ∷ [];
+          taken = says.taken ++ given.taken;
+          consumed = Consumes-trans input left left' says.taken given.taken says.consumed given.consumed;
+          first = front_more form says.so_far input left left' says.taken given.taken says.lines line is.turn is.said
+              says.consumed says.first given.consumed given.first;
+          so_far = after says.so_far is.turn;
+          said = log_more form no_lines says.lines (line ∷ []) says.so_far says.said
+              ∙ log_line form says.so_far line is.turn is.said;
+          ended = logged_more form no_lines says.lines (line ∷ []) says.so_far says.said
+              ∙ ap (λ l. l ++ logged_from form says.so_far (line ∷ [])) says.ended
+              ∙ ap (λ l. logged ++ l)
+              (logged_line form says.so_far line is.turn is.said ∙ append-nil (option_to_list is.turn.event));
+        };
+        read = is.read;
+        events = events_more says.so_far.events logged is.turn.event before.events;
+        half = (turn_follows form says.so_far line is.turn before.half is.said).half;
+      },
+      record { earlier = says.lines; line = line; parts = refl; ended = says.ended },
+    )
+
+-- One line more was read, which ended no event.
+pub reads_line : (form : Form) (input left left' : Option (List ℕ)) (logged : List Logged) (log log' : Log)
+    (line : List ℕ)
+    → (before : HasReadEvents form input left logged log) → Gives left left' line
+    → IsTurn form before.says.so_far line None log'
+    → HasReadEvents form input left' logged log'
+reads_line form input left left' logged log log' line before given is =
+    subst (λ (l : List Logged). HasReadEvents form input left' l log') (append-nil logged)
+    (line_read form input left left' logged log log' line None before given is).0
 
 -- The clock of the event that it ended follows.
-pub line_follows : (form : Form) (input left : Option (List ℕ)) (logged : List Logged) (log log' : Log) (line : List ℕ)
+line_follows : (form : Form) (input left : Option (List ℕ)) (logged : List Logged) (log log' : Log) (line : List ℕ)
     (one : OwnLogged)
     → (before : HasReadEvents form input left logged log) → IsTurn form before.says.so_far line (Some one) log'
     → FollowsIn logged (seen_logged one).event
@@ -117,52 +135,77 @@ line_follows form input left logged log log' line one before is =
     let follows = (turn_follows form before.says.so_far line is.turn before.half is.said).event in
     rw (← is.event, before.events) at follows
 
-faulty_more : (form : Form) (lines later : List (List ℕ)) (so_far : SoFar) (line : List ℕ) (fault : LogFault)
-    → log_from form no_lines lines ≡ Ok so_far → next_turn form so_far line ≡ Err fault
-    → whole_log form (lines ++ line ∷ later) ≡ Err fault
-faulty_more form lines later so_far line fault said refused =
-    ap (λ r. r >>= λ so_far. end_of so_far >>= λ _. Ok so_far)
-    (log_more form no_lines lines (line ∷ later) so_far said ∙ log_stops form so_far line later fault refused)
+-- One line more was read, which ended this event.
+pub reads_next : (form : Form) (input left left' : Option (List ℕ)) (logged : List Logged) (log log' : Log)
+    (line : List ℕ) (one : OwnLogged)
+    → (before : HasReadEvents form input left logged log) → Gives left left' line
+    → IsTurn form before.says.so_far line (Some one) log'
+    → ReadsNext form input left' logged (seen_logged one) log'
+reads_next form input left left' logged log log' line one before given is =
+    let more = line_read form input left left' logged log log' line (Some one) before given is in
+    record {
+      follows = line_follows form input left logged log log' line one before is;
+      read = more.0;
+      last = more.1;
+    }
 
-fault_of_bytes : (form : Form) (bytes rest rest' : List ℕ) (lines : List (List ℕ)) (so_far : SoFar) (line : List ℕ)
-    (fault : LogFault) → log_from form no_lines lines ≡ Ok so_far → next_turn form so_far line ≡ Err fault
-    → lines_of bytes ≡ lines ++ lines_of rest → IsFirst rest line rest' → whole_log form (lines_of bytes) ≡ Err fault
-fault_of_bytes form bytes rest rest' lines so_far line fault said refused front (Whole is) =
-    ap (whole_log form) (front ∙ ap (λ l. lines ++ l) is)
-    ∙ faulty_more form lines (lines_of rest') so_far line fault said refused
-fault_of_bytes form bytes rest rest' lines so_far line fault said refused front (Prefix more later is long parts) =
+faulty_more : (form : Form) (lines later : List (List ℕ)) (logged : List Logged) (so_far : SoFar) (line : List ℕ)
+    (fault : LogFault)
+    → log_from form no_lines lines ≡ Ok so_far → logged_from form no_lines lines ≡ logged
+    → next_turn form so_far line ≡ Err fault
+    → FailAfter form (lines ++ line ∷ later) logged fault
+faulty_more form lines later logged so_far line fault said ended refused = record {
+  failed = ap (λ r. r >>= λ so_far. end_of so_far >>= λ _. Ok so_far)
+      (log_more form no_lines lines (line ∷ later) so_far said ∙ log_stops form so_far line later fault refused);
+  ended = logged_more form no_lines lines (line ∷ later) so_far said
+      ∙ ap (λ l. logged_from form no_lines lines ++ l) (logged_stops form so_far line later fault refused)
+      ∙ append-nil (logged_from form no_lines lines) ∙ ended;
+}
+
+fault_of_bytes : (form : Form) (bytes rest rest' : List ℕ) (lines : List (List ℕ)) (logged : List Logged)
+    (so_far : SoFar) (line : List ℕ) (fault : LogFault) → log_from form no_lines lines ≡ Ok so_far
+    → logged_from form no_lines lines ≡ logged → next_turn form so_far line ≡ Err fault
+    → lines_of bytes ≡ lines ++ lines_of rest → IsFirst rest line rest'
+    → FailAfter form (lines_of bytes) logged fault
+fault_of_bytes form bytes rest rest' lines logged so_far line fault said ended refused front (Whole is) =
+    subst (λ (l : List (List ℕ)). FailAfter form l logged fault) (sym (front ∙ ap (λ l. lines ++ l) is))
+    (faulty_more form lines (lines_of rest') logged so_far line fault said ended refused)
+fault_of_bytes form bytes rest rest' lines logged so_far line fault said ended refused front
+    (Prefix more later is long parts) =
     let same = sym (next_of_long form so_far line (omega arith)) ∙ refused in
-    ap (whole_log form) (front ∙ ap (λ l. lines ++ l) is)
-    ∙ faulty_more form lines later so_far (line ++ more) fault said
-    (next_of_long form so_far (line ++ more) (omega (arith, length-append line more)) ∙ same)
+    subst (λ (l : List (List ℕ)). FailAfter form l logged fault) (sym (front ∙ ap (λ l. lines ++ l) is))
+    (faulty_more form lines later logged so_far (line ++ more) fault said ended
+    (next_of_long form so_far (line ++ more) (omega (arith, length-append line more)) ∙ same))
 
 fault_of_known : (form : Form) (input left left' : Option (List ℕ)) (taken taken' : List ℕ) (lines : List (List ℕ))
-    (so_far : SoFar) (line : List ℕ) (fault : LogFault) → log_from form no_lines lines ≡ Ok so_far
-    → next_turn form so_far line ≡ Err fault
+    (logged : List Logged) (so_far : SoFar) (line : List ℕ) (fault : LogFault)
+    → log_from form no_lines lines ≡ Ok so_far
+    → logged_from form no_lines lines ≡ logged → next_turn form so_far line ≡ Err fault
     → Consumes input left taken → IsFront input left lines → Consumes left left' taken'
     → IfSome left (λ bytes. IfSome left' (λ rest. IsFirst bytes line rest))
-    → IfSome input (λ bytes. whole_log form (lines_of bytes) ≡ Err fault)
-fault_of_known form None left left' taken taken' lines so_far line fault said refused consumed front consumed' first =
-    tt
-fault_of_known form (Some bytes) None left' taken taken' lines so_far line fault said refused consumed front consumed'
-    first = absurd consumed
-fault_of_known form (Some bytes) (Some rest) None taken taken' lines so_far line fault said refused consumed front
-    consumed' first = absurd consumed'
-fault_of_known form (Some bytes) (Some rest) (Some rest') taken taken' lines so_far line fault said refused consumed
-    front consumed' first = fault_of_bytes form bytes rest rest' lines so_far line fault said refused front first
+    → IfSome input (λ bytes. FailAfter form (lines_of bytes) logged fault)
+fault_of_known form None left left' taken taken' lines logged so_far line fault said ended refused consumed front
+    consumed' first = tt
+fault_of_known form (Some bytes) None left' taken taken' lines logged so_far line fault said ended refused consumed
+    front consumed' first = absurd consumed
+fault_of_known form (Some bytes) (Some rest) None taken taken' lines logged so_far line fault said ended refused
+    consumed front consumed' first = absurd consumed'
+fault_of_known form (Some bytes) (Some rest) (Some rest') taken taken' lines logged so_far line fault said ended refused
+    consumed front consumed' first =
+    fault_of_bytes form bytes rest rest' lines logged so_far line fault said ended refused front first
 
 -- The line has a fault.
 pub reads_fault : (form : Form) (input left left' : Option (List ℕ)) (logged : List Logged) (log : Log) (line : List ℕ)
     (fault : LogFault)
     → (before : HasReadEvents form input left logged log) → Gives left left' line
-    → next_turn form before.says.so_far line ≡ Err fault → HasFault form input fault
+    → next_turn form before.says.so_far line ≡ Err fault → HasFault form input logged fault
 reads_fault form input left left' logged log line fault before given refused =
     let says = before.says in
     record {
       lines = says.lines ++ line ∷ [];
-      is = faulty_more form says.lines [] says.so_far line fault says.said refused;
-      of_input = fault_of_known form input left left' says.taken given.taken says.lines says.so_far line fault says.said
-          refused says.consumed says.first given.consumed given.first;
+      is = faulty_more form says.lines [] logged says.so_far line fault says.said says.ended refused;
+      of_input = fault_of_known form input left left' says.taken given.taken says.lines logged says.so_far line fault
+          says.said says.ended refused says.consumed says.first given.consumed given.first;
     }
 
 all_lines : (input left left' : Option (List ℕ)) (taken : List ℕ) (lines : List (List ℕ)) → Consumes input left taken
@@ -195,25 +238,29 @@ reads_end form input left left' logged log before kept ended may_end =
       ended = says.ended;
     }
 
-fault_at_end : (form : Form) (input : Option (List ℕ)) (lines : List (List ℕ)) (fault : LogFault)
-    → IfSome input (λ bytes. lines_of bytes ≡ lines) → whole_log form lines ≡ Err fault
-    → IfSome input (λ bytes. whole_log form (lines_of bytes) ≡ Err fault)
-fault_at_end form None lines fault all is = tt
-fault_at_end form (Some bytes) lines fault all is = ap (whole_log form) all ∙ is
+fault_at_end : (form : Form) (input : Option (List ℕ)) (lines : List (List ℕ)) (logged : List Logged)
+    (fault : LogFault)
+    → IfSome input (λ bytes. lines_of bytes ≡ lines) → FailAfter form lines logged fault
+    → IfSome input (λ bytes. FailAfter form (lines_of bytes) logged fault)
+fault_at_end form None lines logged fault all is = tt
+fault_at_end form (Some bytes) lines logged fault all is =
+    subst (λ (l : List (List ℕ)). FailAfter form l logged fault) (sym all) is
 
 -- The input has ended, and the log may not end there.
 pub reads_missing : (form : Form) (input left left' : Option (List ℕ)) (logged : List Logged) (log : Log)
     (fault : LogFault)
     → (before : HasReadEvents form input left logged log) → Keeps left left' → IsAtEnd left'
-    → end_of before.says.so_far ≡ Err fault → HasFault form input fault
+    → end_of before.says.so_far ≡ Err fault → HasFault form input logged fault
 reads_missing form input left left' logged log fault before kept ended missing =
     let says = before.says in
-    let whole : whole_log form says.lines ≡ Err fault =
-    said_whole form says.lines says.so_far says.said ∙ ap (λ r. r >>= λ _. Ok says.so_far) missing in
+    let whole : FailAfter form says.lines logged fault = record {
+      failed = said_whole form says.lines says.so_far says.said ∙ ap (λ r. r >>= λ _. Ok says.so_far) missing;
+      ended = says.ended;
+    } in
     record {
       lines = says.lines;
       is = whole;
-      of_input = fault_at_end form input says.lines fault
+      of_input = fault_at_end form input says.lines logged fault
           (all_lines input left left' says.taken says.lines says.consumed says.first kept ended) whole;
     }
 

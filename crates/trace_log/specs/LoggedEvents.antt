@@ -26,6 +26,18 @@ whole_log form lines = do
   _ ← end_of so_far
   Ok so_far
 
+-- Lines end these events, and then they have this fault, or their end has it.
+pub record FailAfter (form : Form) (lines : List (List ℕ)) (logged : List Logged) (fault : LogFault) : Type 0 where
+  pub failed : whole_log form lines ≡ Err fault
+  pub ended : logged_from form no_lines lines ≡ logged
+
+-- The last of these lines ends an event: the lines before it end these events.
+pub record EndsOneMore (form : Form) (lines : List (List ℕ)) (logged : List Logged) : Type 0 where
+  pub earlier : List (List ℕ)
+  pub line : List ℕ
+  pub parts : lines ≡ earlier ++ line ∷ []
+  pub ended : logged_from form no_lines earlier ≡ logged
+
 -- Events without their lines.
 abbrev pub events_of : List Logged → List Event
 events_of logged = map (λ one. one.event) logged

@@ -13,7 +13,7 @@ use Rattle.trace_log.specs.State.{HasRead}
 use Rattle.trace_log.specs.Turns.{seen_logged}
 use Rattle.trace_log.specs.declared.event_fault.EventFault.{EventFault}
 use Rattle.trace_log.specs.declared.event_fault.EventFault.TheVariants as fault
-use Rattle.trace_log.specs.LoggedEvents.{logged_from, whole_log, events_of, FollowsIn}
+use Rattle.trace_log.specs.LoggedEvents.{logged_from, whole_log, events_of, EndsOneMore, FailAfter, FollowsIn}
 
 -- The first lines of an input, after which this is left of it, end these events.
 pub record Says (form : Form) (input left : Option (List ℕ)) (logged : List Logged) : Type 0 where
@@ -36,11 +36,11 @@ pub record SaysWhole (form : Form) (input left : Option (List ℕ)) (logged : Li
   pub said : whole_log form lines ≡ Ok so_far
   pub ended : logged_from form no_lines lines ≡ logged
 
--- The lines of an input have this fault, or their end has it, whatever comes after it.
-pub record HasFault (form : Form) (input : Option (List ℕ)) (fault : LogFault) : Type 0 where
+-- The lines of an input end these events and then have this fault, or their end has it, whatever comes after it.
+pub record HasFault (form : Form) (input : Option (List ℕ)) (logged : List Logged) (fault : LogFault) : Type 0 where
   pub lines : List (List ℕ)
-  pub is : whole_log form lines ≡ Err fault
-  pub of_input : IfSome input (λ bytes. whole_log form (lines_of bytes) ≡ Err fault)
+  pub is : FailAfter form lines logged fault
+  pub of_input : IfSome input (λ bytes. FailAfter form (lines_of bytes) logged fault)
 
 -- The clock that waits for its event's text follows that of the host's event before.
 abbrev pub HalfFollows : List Event → Option Half → Type 0
@@ -55,13 +55,19 @@ pub record HasReadEvents (form : Form) (input left : Option (List ℕ)) (logged 
   pub events : says.so_far.events ≡ events_of logged
   pub half : HalfFollows says.so_far.events says.so_far.half
 
+-- The next event was read, and no line behind the one that ends it.
+pub record ReadsNext (form : Form) (input left : Option (List ℕ)) (logged : List Logged) (one : Logged) (log : Log)
+    : Type 0 where
+  pub follows : FollowsIn logged one.event
+  pub read : HasReadEvents form input left (logged ++ one ∷ []) log
+  pub last : EndsOneMore form read.says.lines logged
+
 -- What reading one event more answers: the next event, or that there is none, or the fault of the input, unless a read
 -- failed or memory ran out.
 abbrev pub ReadsEvent : Form → Option (List ℕ) → Option (List ℕ) → List Logged
     → Result (Option OwnLogged) EventFault → Log → Type 0
-ReadsEvent form input left logged (Ok (Some one)) log =
-    FollowsIn logged (seen_logged one).event × HasReadEvents form input left (logged ++ seen_logged one ∷ []) log
+ReadsEvent form input left logged (Ok (Some one)) log = ReadsNext form input left logged (seen_logged one) log
 ReadsEvent form input left logged (Ok None) log = SaysWhole form input left logged
-ReadsEvent form input left logged (Err (fault.Log what)) log = HasFault form input what
+ReadsEvent form input left logged (Err (fault.Log what)) log = HasFault form input logged what
 ReadsEvent form input left logged (Err fault.Read) log = Unit {0}
 ReadsEvent form input left logged (Err fault.Memory) log = Unit {0}

@@ -1,4 +1,5 @@
-ghost use Rattle.std.specs.Prelude.{◌≡◌, List, [], Option, Err, IfOk, ℕ};
+ghost use Rattle.std.specs.Prelude.{◌≡◌, ◌≤◌, List, [], Option, Err, IfOk, ℕ, length};
+ghost use Rattle.wcp_io.specs.Input.{most_waiting};
 ghost use Rattle.wcp_io.specs.Reader.{left, waiting};
 ghost use Rattle.trace_log.specs.Reading.{HasReadEvents, ReadsEvent};
 
@@ -33,6 +34,7 @@ impl EventReader {
         ensures reads { (form : _) (known : _) (logged : _) →
             HasReadEvents form known (left self.old.lines (I.remaining input.old)) logged self.old.log →
             ReadsEvent form known (left self.new.lines (I.remaining input.new)) logged result self.new.log }
+        ensures ahead { length (waiting self.new.lines) ≤ most_waiting }
         ensures refused { result ≡ Err EventFault.Read → waiting self.new.lines ≡ [] }
     {
         loop {

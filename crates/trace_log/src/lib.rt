@@ -9,10 +9,11 @@
 //! missing. `number_of`: the number of a host in a clock.
 //!
 //! `EventReader::next_event`: after the events so far, the next event of the input's lines is answered as soon as the
-//! line that ends it was read; none only where the whole input was read and its log may end there; and a fault of the
-//! log exactly where the lines of the input have it first (`whole_log` in `specs/LoggedEvents.antt`), whatever comes
-//! after that line. An event's clock follows that of its host's event before. A read is answered to have failed only
-//! where no byte waits that was read. The lines of an input are those of `wcp_io`.
+//! line that ends it was read, and no line behind it is taken; none only where the whole input was read and its log may
+//! end there; and a fault of the log exactly where the lines of the input end the events so far and then have it first
+//! (`whole_log` and `logged_from` in `specs/LoggedEvents.antt`), whatever comes after that line. An event's clock
+//! follows that of its host's event before. A read is answered to have failed only where no byte waits that was read,
+//! and at most 65,536 bytes wait. The lines of an input are those of `wcp_io`.
 #![tactic(auto)]
 
 mod clock;

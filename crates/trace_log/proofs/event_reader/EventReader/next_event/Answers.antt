@@ -1,7 +1,6 @@
-use Rattle.trace_log.proofs.EventWords.{◌≡◌, ◌∙◌, ap, subst, sym, append-nil, List, Logged, Some, None, Ok, false}
-use Rattle.trace_log.proofs.EventWords.{Gives}
-use Rattle.trace_log.proofs.EventWords.{IsTurn, left, HasReadEvents}
-use Rattle.trace_log.proofs.ReadLines.{hands_on, line_fault, reads_end, reads_line, reads_missing, line_follows}
+use Rattle.trace_log.proofs.EventWords.{◌≡◌, ◌∙◌, ap, subst, sym, Ok, false, Gives}
+use Rattle.trace_log.proofs.EventWords.{IsTurn}
+use Rattle.trace_log.proofs.ReadLines.{hands_on, line_fault, reads_end, reads_line, reads_missing, reads_next}
 use Rattle.trace_log.proofs.event_reader.EventReader.next_event.Goals as goal
 
 pub returns-in_err-end-clause-reads : goal.returns-in_err-end-clause-reads
@@ -36,12 +35,9 @@ returns-in-Some-clause-reads g c form known logged given =
     let line = c.in_ok-advance.ensures.line (ap Ok c.if-not-branch.false) in
     let so_far = before.says.so_far in
     let turn = subst (λ one. IsTurn form so_far c.line.result.now one c.read.new.self) c.in-Some.is
-    (c.in_ok-logged.ensures.reads form so_far before.read) in (
-      line_follows form known _ logged c.loop-self.self.log c.read.new.self c.line.result.now c.in-Some.logged before
-          turn,
-      reads_line form known _ _ logged c.loop-self.self.log c.read.new.self c.line.result.now
-          (Some c.in-Some.logged) before (subst (Gives _ _) (sym c.line.ensures) line) turn,
-    )
+    (c.in_ok-logged.ensures.reads form so_far before.read) in
+    reads_next form known _ _ logged c.loop-self.self.log c.read.new.self c.line.result.now c.in-Some.logged before
+    (subst (Gives _ _) (sym c.line.ensures) line) turn
 
 pub loop-self-preserved : goal.loop-self-preserved
 loop-self-preserved g c form known logged given =
@@ -50,7 +46,5 @@ loop-self-preserved g c form known logged given =
     let so_far = before.says.so_far in
     let turn = subst (λ one. IsTurn form so_far c.line.result.now one c.read.new.self) c.in_default.is
     (c.in_ok-logged.ensures.reads form so_far before.read) in
-    subst (λ (l : List Logged). HasReadEvents form known
-    (left c.advance.new.self (g.I.Read.remaining c.advance.new.input)) l c.read.new.self) (append-nil logged)
-    (reads_line form known _ _ logged c.loop-self.self.log c.read.new.self c.line.result.now None before
-    (subst (Gives _ _) (sym c.line.ensures) line) turn)
+    reads_line form known _ _ logged c.loop-self.self.log c.read.new.self c.line.result.now before
+    (subst (Gives _ _) (sym c.line.ensures) line) turn
