@@ -1,9 +1,8 @@
 -- Detection, from the first event to the answer.
 use Rattle.std.proofs.lemmas.Grind.{common_steps}
 use Rattle.trace_detect.proofs.Words.{◌≡◌, ◌∙◌, ◌+◌, ◌-◌, ◌^◌, ◌<◌, ℕ, Bool, true, false, List, [], ◌∷◌, ◌++◌, Option}
-use Rattle.trace_detect.proofs.Words.{Some, Result, Ok, Err, length, length-append, length-map, refl, ap, subst, arith}
-use Rattle.trace_detect.proofs.Words.{Logged, Taken, HostWatch, HasTaken, watched_by, is_known, Condition, Watcher}
-use Rattle.trace_detect.proofs.Words.{taken_of}
+use Rattle.trace_detect.proofs.Words.{Result, Ok, Err, length, length-append, length-map, refl, ap, subst, arith}
+use Rattle.trace_detect.proofs.Words.{Logged, Taken, HostWatch, HasTaken, watched_by, is_known, Condition, Watcher, taken_of}
 use Rattle.trace_detect.proofs.Words.{IsWatching, CanTake, WatchesNext, host_of, slice_index_or}
 use Rattle.std.proofs.lemmas.List.{get_or_default}
 use Rattle.std.specs.Prelude.{MatchBool}
@@ -14,10 +13,11 @@ use Rattle.trace_log.specs.declared.turn.Form.{Form}
 use Rattle.trace_log.specs.declared.turn.Logged.{Logged as OwnLogged}
 use Rattle.trace_log.specs.Turns.{seen_logged}
 use Rattle.trace_log.specs.declared.event_fault.EventFault.{EventFault}
-use Rattle.trace_log.specs.Reading.{HasReadEvents, ReadsEvent, SaysWhole}
+use Rattle.trace_log.specs.declared.event_fault.EventFault.TheVariants as events
+use Rattle.trace_log.specs.Reading.{HasReadEvents, ReadsEvent, ReadsNext, SaysWhole}
 use Rattle.trace_moment.specs.declared.search.Search.{Search}
 use Rattle.trace_moment.specs.Moment.{IsEarliest, IsKnown}
-use Rattle.trace_moment.specs.Standing.{HasNoMoment}
+use Rattle.trace_moment.specs.Standing.{HasNoMoment, NoneIsKnown}
 use Rattle.trace_moment.specs.Search.{moment_of}
 use Rattle.trace_detect.specs.declared.answer.TraceAnswer.{TraceAnswer}
 use Rattle.trace_detect.specs.declared.fault.DetectFault.{DetectFault}
@@ -26,7 +26,7 @@ use Rattle.trace_detect.specs.Faults.{fault_of_events}
 use Rattle.trace_detect.specs.Texts.{found_text}
 use Rattle.trace_detect.specs.Loop.{IsDetecting}
 use Rattle.trace_detect.specs.Detection.{Answers, AnswersLast, AtEnd, Early, Found, HasSilentHost, IsAnswer}
-use Rattle.trace_detect.specs.Detection.{IsFirstSilent, IsLastAnswer}
+use Rattle.trace_detect.specs.Detection.{IsFirstSilent, IsLastAnswer, KnowsNone}
 use Rattle.trace_detect.proofs.Watches.{none_taken}
 
 -- No moment is known of nothing.
@@ -46,6 +46,20 @@ known_moment : (taken : List Taken) (search : Search) → HasTaken taken search 
     → IsKnown (watched_by search) taken (moment_of search)
 known_moment taken one had is = grind (arith, common_steps, had.moment)
 
+-- Where it knows none, none is known.
+knows_none : (conditions : List Condition) (logged : List Logged) (watcher : Watcher)
+    → IsWatching conditions logged watcher → is_known watcher.search ≡ false → KnowsNone conditions logged
+knows_none conditions logged watcher watching is =
+    let searching = rw is at watching.taken.moment in
+    subst (λ (w : List HostWatch). NoneIsKnown w (taken_of conditions logged)) watching.watched searching.none_known
+
+-- No moment is known of the events so far.
+none_so_far : (form : Form) (conditions : List Condition) (input left : Option (List ℕ)) (log : Log) (watcher : Watcher)
+    (count : ℕ) → (before : IsDetecting form conditions input left log watcher count)
+    → KnowsNone conditions before.logged
+none_so_far form conditions input left log watcher count before =
+    knows_none conditions before.logged watcher before.watching before.none_known
+
 pub starts : (form : Form) (conditions : List Condition) (input left : Option (List ℕ)) (log : Log) (watcher : Watcher)
     → HasReadEvents form input left [] log → IsWatching conditions [] watcher
     → IsDetecting form conditions input left log watcher 0
@@ -60,7 +74,7 @@ can_take form conditions input left log watcher count detecting few =
 pub goes_on : (form : Form) (conditions : List Condition) (input left left' : Option (List ℕ)) (log log' : Log)
     (watcher watcher' : Watcher) (count : ℕ) (one : OwnLogged)
     → (before : IsDetecting form conditions input left log watcher count)
-    → ReadsEvent form input left' before.logged (Ok (Some one)) log'
+    → ReadsNext form input left' before.logged (seen_logged one) log'
     → WatchesNext conditions before.logged (seen_logged one) (Ok false) watcher'
     → IsDetecting form conditions input left' log' watcher' (count + 1)
 goes_on form conditions input left left' log log' watcher watcher' count one before read watched =
@@ -70,7 +84,7 @@ goes_on form conditions input left left' log log' watcher watcher' count one bef
 pub answers_early : (form : Form) (conditions : List Condition) (input left left' : Option (List ℕ)) (log log' : Log)
     (watcher watcher' : Watcher) (count : ℕ) (one : OwnLogged) (printed : List ℕ) (status : ℕ)
     → (before : IsDetecting form conditions input left log watcher count)
-    → ReadsEvent form input left' before.logged (Ok (Some one)) log'
+    → ReadsNext form input left' before.logged (seen_logged one) log'
     → WatchesNext conditions before.logged (seen_logged one) (Ok true) watcher'
     → printed ≡ found_text watcher'.conditions.now (moment_of watcher'.search) → status ≡ 0
     → IsAnswer form conditions input left' printed status
@@ -78,21 +92,35 @@ answers_early form conditions input left left' log log' watcher watcher' count o
     print status_is =
     let logged = before.logged ++ seen_logged one ∷ [] in
     let known = known_moment (taken_of conditions logged) watcher'.search watched.0.taken watched.1 in
-    Early logged (moment_of watcher'.search) read.1.says
-    (subst (λ (w : List HostWatch). IsKnown w (taken_of conditions logged) (moment_of watcher'.search))
-    watched.0.watched known)
+    Early (moment_of watcher'.search) (record {
+      before = before.logged;
+      one = seen_logged one;
+      none_before = none_so_far form conditions input left log watcher count before;
+      says = read.read.says;
+      last = read.last;
+      known = subst (λ (w : List HostWatch). IsKnown w (taken_of conditions logged) (moment_of watcher'.search))
+          watched.0.watched known;
+    })
     (print ∙ ap (λ (cs : List Condition). found_text cs (moment_of watcher'.search)) watched.0.by) status_is
 
 -- The log has ended.
-pub answers_last : (form : Form) (conditions : List Condition) (input left : Option (List ℕ)) (logged : List Logged)
-    (result : Result TraceAnswer DetectFault) → SaysWhole form input left logged → AnswersLast conditions logged result
-    → Answers form conditions input left result
-answers_last form conditions input left logged (Ok answer) says last = AtEnd logged says last
-answers_last form conditions input left logged (Err (fault.Log what)) says last = absurd last
-answers_last form conditions input left logged (Err (fault.NoHost host)) says last =
-    record { logged = logged; says = says; silent = last }
-answers_last form conditions input left logged (Err fault.Read) says last = absurd last
-answers_last form conditions input left logged (Err fault.Memory) says last = tt
+answers_end : (form : Form) (conditions : List Condition) (input left : Option (List ℕ)) (logged : List Logged)
+    (result : Result TraceAnswer DetectFault) → SaysWhole form input left logged → KnowsNone conditions logged
+    → AnswersLast conditions logged result → Answers form conditions input left result
+answers_end form conditions input left logged (Ok answer) says none last = AtEnd logged says none last
+answers_end form conditions input left logged (Err (fault.Log what)) says none last = absurd last
+answers_end form conditions input left logged (Err (fault.NoHost host)) says none last =
+    record { logged = logged; says = says; none_known = none; silent = last }
+answers_end form conditions input left logged (Err fault.Read) says none last = absurd last
+answers_end form conditions input left logged (Err fault.Memory) says none last = tt
+
+pub answers_last : (form : Form) (conditions : List Condition) (input left left' : Option (List ℕ)) (log : Log)
+    (watcher : Watcher) (count : ℕ) (result : Result TraceAnswer DetectFault)
+    → (before : IsDetecting form conditions input left log watcher count) → SaysWhole form input left' before.logged
+    → AnswersLast conditions before.logged result → Answers form conditions input left' result
+answers_last form conditions input left left' log watcher count result before says last =
+    answers_end form conditions input left' before.logged result says
+    (none_so_far form conditions input left log watcher count before) last
 
 -- A fault that was handed on.
 pub hands_on : (form : Form) (conditions : List Condition) (input left : Option (List ℕ))
@@ -101,10 +129,23 @@ pub hands_on : (form : Form) (conditions : List Condition) (input left : Option 
     → Answers form conditions input left (Err given) → Answers form conditions input left result
 hands_on form conditions input left result given back answers = grind (arith, common_steps, err_from_is_err_and)
 
-pub event_fault : (form : Form) (conditions : List Condition) (input left : Option (List ℕ)) (logged : List Logged)
-    (log : Log) (why : EventFault) → ReadsEvent form input left logged (Err why) log
+fault_unknown : (form : Form) (conditions : List Condition) (input left : Option (List ℕ)) (logged : List Logged)
+    (log : Log) (why : EventFault) → ReadsEvent form input left logged (Err why) log → KnowsNone conditions logged
     → Answers form conditions input left (Err (fault_of_events why))
-event_fault form conditions input left logged log why reads = grind (arith, common_steps)
+fault_unknown form conditions input left logged log (events.Log what) reads none =
+    record { logged = logged; failed = reads; none_known = none }
+fault_unknown form conditions input left logged log events.Read reads none = tt
+fault_unknown form conditions input left logged log events.Memory reads none = tt
+
+-- The fault of an event that was not read.
+pub event_fault : (form : Form) (conditions : List Condition) (input left left' : Option (List ℕ)) (log log' : Log)
+    (watcher : Watcher) (count : ℕ) (why : EventFault)
+    → (before : IsDetecting form conditions input left log watcher count)
+    → ReadsEvent form input left' before.logged (Err why) log'
+    → Answers form conditions input left' (Err (fault_of_events why))
+event_fault form conditions input left left' log log' watcher count why before reads =
+    fault_unknown form conditions input left' before.logged log' why reads
+    (none_so_far form conditions input left log watcher count before)
 
 -- What a search says at its end.
 abbrev EndsWith : Bool → Search → Search → Type 0

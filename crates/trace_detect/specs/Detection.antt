@@ -1,12 +1,16 @@
 -- What is detected in an input, and what is answered.
-use Rattle.std.specs.Prelude.{◌≡◌, ℕ, ◌<◌, List, [], take, All, Option, Result, Ok, Err, length, slice_index_or}
+use Rattle.std.specs.Prelude.{◌≡◌, ℕ, ◌<◌, ◌≤◌, List, [], ◌∷◌, ◌++◌, take, All, Option, Result, Ok, Err, length}
+use Rattle.std.specs.Prelude.{slice_index_or}
 use Rattle.std.specs.Prelude.{string_bytes}
 use Rattle.std.specs.Io.KnownBytes.{prepend_known}
+use Rattle.wcp_io.specs.Input.{most_waiting}
+use Rattle.trace_log.specs.declared.fault.LogFault.{LogFault}
 use Rattle.trace_log.specs.declared.turn.Form.{Form}
 use Rattle.trace_log.specs.Log.{Logged}
+use Rattle.trace_log.specs.LoggedEvents.{EndsOneMore}
 use Rattle.trace_log.specs.Reading.{Says, SaysWhole, HasFault}
 use Rattle.trace_moment.specs.Moment.{IsEarliest, IsKnown}
-use Rattle.trace_moment.specs.Standing.{HasNoMoment}
+use Rattle.trace_moment.specs.Standing.{HasNoMoment, NoneIsKnown}
 use Rattle.trace_condition.specs.declared.condition.Condition.{Condition}
 use Rattle.trace_condition.specs.Conditions.{host_of}
 use Rattle.trace_detect.specs.declared.answer.TraceAnswer.{TraceAnswer}
@@ -14,6 +18,10 @@ use Rattle.trace_detect.specs.declared.fault.DetectFault.{DetectFault}
 use Rattle.trace_detect.specs.declared.fault.DetectFault.TheVariants as fault
 use Rattle.trace_detect.specs.Watching.{watches, taken_of, events_at}
 use Rattle.trace_detect.specs.Texts.{found_text, none_text}
+
+-- No moment is known of these events. What is known of events stays known, so none is known of fewer of them either.
+abbrev pub KnowsNone : List Condition → List Logged → Type 0
+KnowsNone conditions logged = NoneIsKnown (watches conditions) (taken_of conditions logged)
 
 -- The host of a condition logs nothing.
 abbrev pub IsSilent : List Logged → Condition → Type 0
@@ -52,32 +60,51 @@ AnswersLast conditions logged (Err (fault.NoHost host)) = HasSilentHost conditio
 AnswersLast conditions logged (Err fault.Memory) = Unit {0}
 AnswersLast conditions logged (Err _) = ⊥
 
--- The answer to an input of which this is left. Either the events of its first lines have an earliest moment that stays
--- it whatever comes after them, which was printed with status 0; or it is the answer to the whole input.
+-- The moment is known of the events of the first lines of an input, after which this is left of it: it is the earliest
+-- and stays it whatever comes after them. The last of these lines ends an event, and before it no moment was known.
+pub record IsFirstKnown (form : Form) (conditions : List Condition) (input left : Option (List ℕ)) (moment : ℕ → Logged)
+    : Type 0 where
+  pub before : List Logged
+  pub one : Logged
+  pub none_before : KnowsNone conditions before
+  pub says : Says form input left (before ++ one ∷ [])
+  pub last : EndsOneMore form says.lines before
+  pub known : IsKnown (watches conditions) (taken_of conditions (before ++ one ∷ [])) moment
+
+-- The answer to an input of which this is left. Either a moment was printed with status 0 as soon as it was known; or
+-- it is the answer to the whole input, and no moment was known of it.
 pub data IsAnswer (form : Form) (conditions : List Condition) (input left : Option (List ℕ)) (printed : List ℕ)
     (status : ℕ) : Type 0 where
-  Early : (logged : List Logged) (moment : ℕ → Logged) → Says form input left logged
-      → IsKnown (watches conditions) (taken_of conditions logged) moment
+  Early : (moment : ℕ → Logged) → IsFirstKnown form conditions input left moment
       → printed ≡ found_text conditions moment → status ≡ 0 → IsAnswer form conditions input left printed status
-  AtEnd : (logged : List Logged) → SaysWhole form input left logged → IsLastAnswer conditions logged printed status
-      → IsAnswer form conditions input left printed status
+  AtEnd : (logged : List Logged) → SaysWhole form input left logged → KnowsNone conditions logged
+      → IsLastAnswer conditions logged printed status → IsAnswer form conditions input left printed status
 
--- The whole input has no moment, and this is the first host that logs nothing.
+-- The whole input has no moment, none was known of it, and this is the first host that logs nothing.
 pub record HasNoHost (form : Form) (conditions : List Condition) (input left : Option (List ℕ)) (host : List ℕ)
     : Type 0 where
   pub logged : List Logged
   pub says : SaysWhole form input left logged
+  pub none_known : KnowsNone conditions logged
   pub silent : HasSilentHost conditions logged host
+
+-- The input has this fault, and no moment was known of the events before it.
+pub record FailsUnknown (form : Form) (conditions : List Condition) (input : Option (List ℕ)) (fault : LogFault)
+    : Type 0 where
+  pub logged : List Logged
+  pub failed : HasFault form input logged fault
+  pub none_known : KnowsNone conditions logged
 
 -- What detecting answers, by what is left of the input.
 abbrev pub Answers : Form → List Condition → Option (List ℕ) → Option (List ℕ) → Result TraceAnswer DetectFault → Type 0
 Answers form conditions input left (Ok answer) = IsAnswer form conditions input left answer.text.items answer.status
-Answers form conditions input left (Err (fault.Log what)) = HasFault form input what
+Answers form conditions input left (Err (fault.Log what)) = FailsUnknown form conditions input what
 Answers form conditions input left (Err (fault.NoHost host)) = HasNoHost form conditions input left (string_bytes host)
 Answers form conditions input left (Err fault.Read) = Unit {0}
 Answers form conditions input left (Err fault.Memory) = Unit {0}
 
--- What detecting answers. Some bytes of the input were read ahead, and are left too.
+-- What detecting answers. Some bytes of the input were read ahead, and are left too: no more than one read asks for.
 abbrev pub Detects : Form → List Condition → Option (List ℕ) → Option (List ℕ) → Result TraceAnswer DetectFault → Type 0
 Detects form conditions input input_after result =
-    (ahead : List ℕ) × Answers form conditions input (prepend_known ahead input_after) result
+    (ahead : List ℕ) × (length ahead ≤ most_waiting)
+    × Answers form conditions input (prepend_known ahead input_after) result

@@ -15,9 +15,10 @@ returns-in_err-logged g c =
     let before = c.loop.invariant in
     let reads = c.in_err-logged.ensures.reads form input before.logged before.read in (
       c.next_event.new.self.lines.ahead,
+      c.in_err-logged.ensures.ahead,
       hands_on form c.args.watcher.now.conditions.now input _ _ _ c.from_residual.ensures
-          (event_fault form c.args.watcher.now.conditions.now input _ before.logged c.next_event.new.self.log
-          c.in_err-logged.field-0.0 reads),
+          (event_fault form c.args.watcher.now.conditions.now input _ _ c.loop.events.log c.next_event.new.self.log
+          c.loop.watcher c.loop.counter c.in_err-logged.field-0.0 before reads),
     )
 
 pub returns-in_default : goal.returns-in_default
@@ -28,7 +29,9 @@ returns-in_default g c =
     let before = c.loop.invariant in
     let says = rw c.in_default.is at (c.in_ok-logged.ensures.reads form input before.logged before.read) in (
       c.next_event.new.self.lines.ahead,
-      answers_last form c.args.watcher.now.conditions.now input rest before.logged c.last_answer.result says
+      c.in_ok-logged.ensures.ahead,
+      answers_last form c.args.watcher.now.conditions.now input _ rest c.loop.events.log c.loop.watcher c.loop.counter
+          c.last_answer.result before says
           (c.last_answer.ensures c.args.watcher.now.conditions.now before.logged before.watching),
     )
 
@@ -36,6 +39,7 @@ pub returns-in_err-take : goal.returns-in_err-take
 returns-in_err-take g c =
     let form = c.args.events.now.log.form in (
       c.next_event.new.self.lines.ahead,
+      c.in_ok-logged.ensures.ahead,
       hands_on form c.args.watcher.now.conditions.now
           (g.I.Read.remaining c.args.input.now) _ _ _ c.from_residual-in_err-take.ensures tt,
     )
@@ -47,7 +51,7 @@ found_answer-requires-clause-known g c =
     let rest = left c.next_event.new.self.lines (g.I.Read.remaining c.next_event.new.input) in
     let before = c.loop.invariant in
     let reads = rw c.in-Some.is at (c.in_ok-logged.ensures.reads form input before.logged before.read) in
-    let watched = c.in_ok-take.ensures c.args.watcher.now.conditions.now before.logged before.watching reads.0 in
+    let watched = c.in_ok-take.ensures c.args.watcher.now.conditions.now before.logged before.watching reads.follows in
     watched.1 ∙ c.if-branch.true
 
 pub found_answer-requires-clause-watched : goal.found_answer-requires-clause-watched
@@ -57,7 +61,7 @@ found_answer-requires-clause-watched g c =
     let rest = left c.next_event.new.self.lines (g.I.Read.remaining c.next_event.new.input) in
     let before = c.loop.invariant in
     let reads = rw c.in-Some.is at (c.in_ok-logged.ensures.reads form input before.logged before.read) in
-    let watched = c.in_ok-take.ensures c.args.watcher.now.conditions.now before.logged before.watching reads.0 in
+    let watched = c.in_ok-take.ensures c.args.watcher.now.conditions.now before.logged before.watching reads.follows in
     watched.0.watched ∙ ap watches (sym watched.0.by)
 
 pub returns-then-branch : goal.returns-then-branch
@@ -67,9 +71,10 @@ returns-then-branch g c =
     let rest = left c.next_event.new.self.lines (g.I.Read.remaining c.next_event.new.input) in
     let before = c.loop.invariant in
     let reads = rw c.in-Some.is at (c.in_ok-logged.ensures.reads form input before.logged before.read) in
-    let watched = c.in_ok-take.ensures c.args.watcher.now.conditions.now before.logged before.watching reads.0 in
+    let watched = c.in_ok-take.ensures c.args.watcher.now.conditions.now before.logged before.watching reads.follows in
     let known = rw c.if-branch.true at watched in (
       c.next_event.new.self.lines.ahead,
+      c.in_ok-logged.ensures.ahead,
       answers_early form c.args.watcher.now.conditions.now input _ rest c.loop.events.log
           c.next_event.new.self.log c.loop.watcher c.take.new.self c.loop.counter c.in-Some.logged _ _ before reads
           known c.in_ok-found_answer.ensures.text c.in_ok-found_answer.ensures.status,
@@ -82,7 +87,7 @@ loop-preserved g c =
     let rest = left c.next_event.new.self.lines (g.I.Read.remaining c.next_event.new.input) in
     let before = c.loop.invariant in
     let reads = rw c.in-Some.is at (c.in_ok-logged.ensures.reads form input before.logged before.read) in
-    let watched = c.in_ok-take.ensures c.args.watcher.now.conditions.now before.logged before.watching reads.0 in
+    let watched = c.in_ok-take.ensures c.args.watcher.now.conditions.now before.logged before.watching reads.follows in
     let unknown = rw c.if-branch.false at watched in
     goes_on form c.args.watcher.now.conditions.now input _ rest c.loop.events.log c.next_event.new.self.log
     c.loop.watcher
