@@ -1,6 +1,7 @@
 -- The answer to what the words ask for.
-use Rattle.std.specs.Prelude.{◌≡◌, ℕ, List, [], ◌∷◌, ◌++◌, map, All, Option, Some, codes, string_bytes}
+use Rattle.std.specs.Prelude.{◌≡◌, ℕ, ◌≤◌, List, [], ◌∷◌, ◌++◌, length, map, All, Option, Some, codes, string_bytes}
 use Rattle.std.specs.Io.KnownBytes.{Keeps, prepend_known}
+use Rattle.wcp_io.specs.Input.{most_waiting}
 use Rattle.trace_cli.specs.declared.options.Options.{Options}
 use Rattle.trace_cli.specs.declared.options.TraceRequest.{TraceRequest}
 use Rattle.trace_cli.specs.declared.options.TraceRequest.TheVariants.{Trace, Help, Version, Unknown}
@@ -23,12 +24,14 @@ asked_by options = record {
   ats = seen_texts options.ats.items;
 }
 
--- The answer to a log, under the conditions that the options say. Some bytes of the input were read ahead.
+-- The answer to a log, under the conditions that the options say. Some bytes of the input were read ahead: no more than
+-- one read asks for.
 pub record AnswersTrace (options : Options) (input input_after : Known) (printed : List ℕ) (status : ℕ) : Type 0 where
   pub conditions : List Condition
   pub said : conditions_of (asked_by options) ≡ Some (map said_by conditions)
   pub were_read : All IsRead conditions
   pub ahead : List ℕ
+  pub few : length ahead ≤ most_waiting
   pub answer : IsAnswer options.form conditions input (prepend_known ahead input_after) printed status
 
 -- The answer to a request for the version: the program's name and version, and the toolchain that it is proved with,

@@ -3,10 +3,11 @@
 //! What is proved. `drive`, over a reader and a writer that tell their bytes: on status 0 or 1 exactly the answer to
 //! what the words ask for was appended to the output, and nothing to the errors; on status 2 nothing was printed, or
 //! a prefix of the answer where a write failed. Where the words ask to watch a log, 0 means that the earliest moment
-//! of the events of the lines that were read was printed, and stays it whatever comes after them, or that the whole
-//! input was read and it is the earliest moment of all its events; 1 means that the whole input was read, that there
-//! is no moment, and that each watched host logs something: that was printed, with how often each condition held.
-//! Which lines and events an input has, when a condition holds and what a moment is are said by `wcp_io`,
+//! was printed: at the first event at which it is known, which stays it whatever comes after, and no line was taken
+//! behind the one that ends this event; or that the whole input was read, no moment was known of it, and it is the
+//! earliest of all its events. 1 means that the whole input was read, that there is no moment, and that each watched
+//! host logs something: that was printed, with how often each condition held. At most 65,536 bytes are read ahead of
+//! the lines. Which lines and events an input has, when a condition holds and what a moment is are said by `wcp_io`,
 //! `trace_log`, `trace_condition` and `trace_moment`. Help and the version read nothing.
 //!
 //! `read_options`, for all words: by one definition over what `clap` is proved to find in them (`IsRequestOf` in

@@ -20,6 +20,7 @@ returns-clause-answer g c =
           c.as_slice-3.ensures.value c.as_slice-4.ensures.value) ∙ read.0;
       were_read = read.1;
       ahead = detected.0;
+      few = detected.1;
       answer = subst (λ (cs : List Condition). IsAnswer options.form cs input
-          (prepend_known detected.0 rest) answer.text.items answer.status) c.deref.ensures.value detected.1;
+          (prepend_known detected.0 rest) answer.text.items answer.status) c.deref.ensures.value detected.2;
     }
