@@ -22,9 +22,11 @@ pub record PutEnd (M I : Type 0) : Type 0 where
   pub members : Numbers
   pub put : List I
 
--- The end that takes: its lane, the numbers of all sets of the lane, and the items that it has taken.
+-- The end that takes: its lane, how many messages that has room for, the numbers of all sets of the lane, and the items
+-- that it has taken.
 pub record TakeEnd (M I : Type 0) : Type 0 where
   pub lane : LaneName M
+  pub room : ℕ
   pub members : Numbers
   pub taken : List I
 

@@ -34,6 +34,7 @@ pub fn lane<M: Origin>(
     ensures putters { IfOk result (λ ends. ends.0.items ≡ map (new_putter ends.1.lane) member_sets.now) }
     ensures members { IfOk result (λ ends.
         (p : ℕ) → set.contains ends.1.members p ≡ list_any (λ numbers. set.contains numbers p) member_sets.now) }
+    ensures room { IfOk result (λ ends. ends.1.room ≡ cap) }
     ensures empty { IfOk result (λ ends. ends.1.taken ≡ []) }
 {
     if cap == 0 || cap > MAX_LANE {
@@ -81,6 +82,7 @@ fn open<M: Origin>(
     ensures putters { IfOk result (λ ends. ends.0.items ≡ map (new_putter ends.1.lane) member_sets.now) }
     ensures members { IfOk result (λ ends.
         (p : ℕ) → set.contains ends.1.members p ≡ list_any (λ numbers. set.contains numbers p) member_sets.now) }
+    ensures room { IfOk result (λ ends. ends.1.room ≡ cap) }
     ensures empty { IfOk result (λ ends. ends.1.taken ≡ []) }
 {
     let mut putters = Vec::with_capacity(alloc, member_sets.len())?;

@@ -14,7 +14,7 @@ use std::sync::Wait;
 
 /// The end of a lane that takes.
 ///
-/// A contract sees it as its lane, the numbers of the lane's sets and the items that it has taken.
+/// A contract sees it as its lane and the room of that, the numbers of the lane's sets and the items that it has taken.
 #[derive(Drop)]
 pub struct Taker<M: Origin> {
     pub(crate) receiver: LaneReceiver<M>,
@@ -26,7 +26,7 @@ pub struct Taker<M: Origin> {
 impl<M: Origin> Model for Taker<M> {
     ghost use Rattle.std.specs.Prelude.{◌≡◌};
     ghost use Rattle.std.specs.List.{flat_map};
-    ghost use Rattle.crossbeam_channel.specs.Ends.{receives_on};
+    ghost use Rattle.crossbeam_channel.specs.Ends.{receives_on, ruled_capacity};
     ghost use Rattle.crossbeam_channel.specs.Claims.{IsSeatAt};
     ghost use Rattle.wcp_lane.specs.Passes.{taker, IsRest};
     ghost use Rattle.wcp_lane.specs.Ends.{TakeEnd, lane_of, hand_of, unowned_by, AreCounts};
@@ -39,6 +39,7 @@ impl<M: Origin> Model for Taker<M> {
 
     ghost view = { λ s. record {
       lane = lane_of s.pass;
+      room = ruled_capacity (receives_on s.receiver);
       members = s.members;
       taken = flat_map M.items (hand_of s.pass).taken;
     } };

@@ -38,7 +38,7 @@ pub record AreLinked (plan : Plan) (watch_number : ℕ) (root : LaneName Bundle)
 
 -- A watch is wired as its plan says: the probe of each process and its leaf's feed are the two ends of one ring, each
 -- relay puts on the lane that its parent takes from, and the checker takes from the root's lane, of just the processes
--- of the plan. Nothing was put or taken.
+-- of the plan. Each ring, hold and lane has the room of the plan, and nothing was put or taken.
 pub record IsWired (plan : Plan) (watch_number : ℕ) (watch : Watch) : Type 0 where
   pub takers : List (Option TakeSide)
   pub rings : AreRings plan watch_number plan.n watch.probes.items takers
@@ -47,3 +47,4 @@ pub record IsWired (plan : Plan) (watch_number : ℕ) (watch : Watch) : Type 0 w
   pub relays : watch.inbox.relays ≡ length plan.parents.items
   pub members : (p : ℕ) → (set.contains watch.inbox.taker.members p ≡ true) ↔ (p < plan.n)
   pub none_taken : watch.inbox.taker.taken ≡ []
+  pub room : watch.inbox.taker.room ≡ plan.cap

@@ -29,6 +29,7 @@ pub(crate) fn open_lane(
         → slice_get seats.new.items relay ≡ slice_get seats.old.items relay }
     ensures members { IfOk result (λ taker. AreBelowChildren plan.now owner taker.members) }
     ensures empty { IfOk result (λ taker. taker.taken ≡ []) }
+    ensures room { IfOk result (λ taker. taker.room ≡ plan.now.cap) }
 {
     let member_sets = member_sets(alloc, plan, owner)?;
     match lane(alloc, plan.cap, &member_sets) {

@@ -6,6 +6,7 @@ ghost use Rattle.wcp_ring.specs.Ends.{TakeSide};
 ghost use Rattle.wcp_clock.specs.declared.note.Item.{Item};
 ghost use Rattle.wcp_lane.specs.Ends.{LaneName, PutEnd};
 ghost use Rattle.wcp_clock.specs.Limits.{most_hold};
+ghost use Rattle.wcp_hold.specs.Held.{empty_hold};
 ghost use Rattle.wcp_relay.specs.declared.source.Source.TheVariants as source;
 ghost use Rattle.wcp_relay.specs.Feeding.{Serves};
 ghost use Rattle.wcp_relay.specs.Members.{AreBelow};
@@ -65,6 +66,7 @@ pub fn leaf_relay(
     ensures parent { IfOk result (λ relay. relay.parent ≡ parent) }
     ensures source { IfOk result (λ relay. relay.source ≡ source.Leaf feeds sleeper) }
     ensures putter { IfOk result (λ relay. relay.putter ≡ putter) }
+    ensures hold { IfOk result (λ relay. relay.hold ≡ empty_hold hold) }
 {
     let hold = Hold::new(alloc, hold)?;
     let source = Source::Leaf { feeds, sleeper };

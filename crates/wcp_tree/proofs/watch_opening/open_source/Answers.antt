@@ -14,6 +14,7 @@ returns-clause-source c =
       c.in_ok-taker.ensures.empty,
       below_by_children c.args.plan.now c.requires.checked c.args.relay inner c.in_ok-taker.taker.members
           c.in_ok-taker.ensures.members,
+      c.in_ok-taker.ensures.room,
     )
 
 pub returns-clause-seated : goal.returns-clause-seated

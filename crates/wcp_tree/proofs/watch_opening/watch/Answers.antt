@@ -35,4 +35,5 @@ returns c =
           same
           (all_below_root c.args.plan.now c.requires c.in_ok-taker.taker.members c.in_ok-taker.ensures.members);
       none_taken = ap (λ (t : TakeEnd Bundle Item). t.taken) (sym same) ∙ c.in_ok-taker.ensures.empty;
+      room = ap (λ (t : TakeEnd Bundle Item). t.room) (sym same) ∙ c.in_ok-taker.ensures.room;
     }
