@@ -7,6 +7,7 @@ use Rattle.wcp_relay.proofs.Words.{IsNewFeed, IsInOrder, handed, AreItemsInSeque
 use Rattle.wcp_relay.proofs.Words.{IsAtWork, AreEnded, HasMetGap, HasEnded, IsEndOfSource, taken_in, Option, None, Some}
 use Rattle.wcp_relay.proofs.Words.{Parent, PutEnd, Bundle, AreFromRings, IsFromRings, gap_met}
 use Rattle.wcp_lane.specs.declared.fault.Cut.{Cut}
+use Rattle.wcp_relay.specs.declared.feed.Gap.{Gap}
 use Rattle.wcp_relay.specs.RelayEnds.{IsOutcomeFromRings, first_met}
 use Rattle.wcp_relay.specs.declared.relay_end.RelayOutcome.TheVariants.{Whole}
 use Rattle.wcp_relay.specs.declared.relay_end.Receipts.{Receipts}
@@ -109,7 +110,7 @@ leaf_all_ended feeds outlet work closed p own = all_ended feeds closed work.in_o
 -- a leaf took the close marks of all its processes, or met a gap
 pub leaf_ended : (r : Result (Unit {0}) TakeFault) (source : Source) (feeds : List Feed) (outlet : Outlet)
     → IsLeafOf source feeds → OnOk r (IsLeafAtWork feeds outlet) → OnOk r (All (λ (f : Feed). f.ended ≡ true) feeds)
-    → IfErr r (λ met. (p : ℕ) × (met ≡ fault.Gap p) × HasMetGap p (fed feeds) outlet) → HasEnded source outlet r
+    → IfErr r (λ met. (gap : Gap) × (met ≡ fault.Gap gap) × HasMetGap gap (fed feeds) outlet) → HasEnded source outlet r
 leaf_ended (Ok done) (Leaf own sleeper) feeds outlet is work closed gap = subst (λ fs. AreEnded outlet.putter.members
     (fed fs) × IsFaithful (fed fs) outlet) is (leaf_all_ended feeds outlet work closed, work.faithful)
 leaf_ended (Err met) (Leaf own sleeper) feeds outlet is work closed gap = subst (λ m. HasEnded (Leaf own sleeper) outlet

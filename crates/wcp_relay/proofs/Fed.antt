@@ -88,7 +88,7 @@ pub fed-gap : (feeds : List Feed) (i : ℕ) (new d : Feed) (note : Note) (outlet
     → AreApart (processes_of feeds)
     → new.process ≡ (get_or feeds i d).process → given_by new ≡ given_by (get_or feeds i d) ++ note ∷ []
     → (IsNextOfProcess (given_by (get_or feeds i d)) note → ⊥) → IsFaithful (fed feeds) outlet
-    → HasMetGap (get_or feeds i d).process (fed (set feeds i new)) outlet
+    → HasMetGap (record { process = (get_or feeds i d).process; cut = outlet.cut }) (fed (set feeds i new)) outlet
 fed-gap feeds i new d note outlet below apart same taken not_next faithful =
     let old = get_or feeds i d in
     let item : Item = record { from = old.process; note = note } in
@@ -103,6 +103,7 @@ fed-gap feeds i new d note outlet below apart same taken not_next faithful =
         may_come = may_come;
       });
       faithful = faithful;
+      not_since = refl;
     }
 
 -- what feeds in order took came out of their rings

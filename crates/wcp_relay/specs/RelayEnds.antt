@@ -88,11 +88,12 @@ outcome_fault (Faulted fault source outlet met) = Some fault
 abbrev pub fault_of : RelayEnd → Option RelayFault
 fault_of end = outcome_fault end.outcome
 
--- The fault that came first, if one came: a cut as a relay put comes before what ended its taking.
+-- The fault that came first, if one came: a cut as a relay put, or else what ended its taking. Where it met a gap its
+-- outlet was cut before that or never, by HasMetGap; and of a cut as it put and one as it took the answers are alike.
 abbrev pub first_met : Option Cut → Result (Unit {0}) TakeFault → Option RelayFault
 first_met (Some cut) met = Some (fault.Cut cut)
 first_met None (Ok all) = None
-first_met None (Err (take_fault.Gap p)) = Some (fault.Gap p)
+first_met None (Err (take_fault.Gap gap)) = Some (fault.Gap gap.process)
 first_met None (Err (take_fault.Cut answer)) = Some (fault.Cut answer.cut)
 
 -- A faulted relay tells the fault that came first, of what its outlet and its taking met.

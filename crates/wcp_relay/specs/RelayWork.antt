@@ -13,6 +13,7 @@ use Rattle.wcp_clock.specs.Notes.{place_of, is_last}
 use Rattle.wcp_relay.specs.declared.bundle.Bundle.{Bundle}
 use Rattle.wcp_relay.specs.declared.outlet.Outlet.{Outlet}
 use Rattle.wcp_relay.specs.declared.feed.Feed.{Feed}
+use Rattle.wcp_relay.specs.declared.feed.Gap.{Gap}
 use Rattle.wcp_relay.specs.declared.source.Source.{Source}
 use Rattle.wcp_relay.specs.declared.source.Source.TheVariants.{Leaf, Inner}
 use Rattle.wcp_relay.specs.declared.take_fault.TakeFault.{TakeFault}
@@ -72,15 +73,17 @@ abbrev pub AreSameFeeds : List Feed → List Feed → Type 0
 AreSameFeeds old new =
     (processes_of new ≡ processes_of old) × (map (λ feed. feed.taker.ring) new ≡ map (λ feed. feed.taker.ring) old)
 
--- A relay met a gap of process p: the last item that it took is of p, and isn't the next one after those of p before
--- it, or may not come out of a ring. Its outlet was handed all before it, or a prefix of that once its lane is cut.
-pub record HasMetGap (p : ℕ) (taken : ℕ → List Item) (outlet : Outlet) : Type 0 where
+-- A relay met a gap of a process: the last item that it took is of the process, and isn't the next one after those of
+-- it before, or may not come out of a ring. Its outlet was handed all before it, or a prefix of that once its lane is
+-- cut. It wasn't cut since: it is as it was when the item was taken, which the gap tells.
+pub record HasMetGap (gap : Gap) (taken : ℕ → List Item) (outlet : Outlet) : Type 0 where
   pub before : ℕ → List Item
   pub item : Item
-  pub from : item.from ≡ p
+  pub from : item.from ≡ gap.process
   pub latest : (q : ℕ) → taken q ≡ before q ++ items_of q (item ∷ [])
-  pub out_of_place : IsNextAfter (before p) item → ¬ MayComeFromRing item.note
+  pub out_of_place : IsNextAfter (before gap.process) item → ¬ MayComeFromRing item.note
   pub faithful : IsFaithful before outlet
+  pub not_since : outlet.cut ≡ gap.cut
 
 -- A relay with a lane takes items of its putter's processes, and its outlet was handed what it took.
 pub record IsInnerAtWork (taker : TakeEnd Bundle Item) (outlet : Outlet) : Type 0 where
@@ -90,7 +93,7 @@ pub record IsInnerAtWork (taker : TakeEnd Bundle Item) (outlet : Outlet) : Type 
 
 -- The process of which a leaf met a gap, if its taking ended so.
 abbrev pub gap_met : Result (Unit {0}) TakeFault → Option ℕ
-gap_met (Err (take_fault.Gap p)) = Some p
+gap_met (Err (take_fault.Gap gap)) = Some gap.process
 gap_met _ = None
 
 -- What a leaf took came out of its rings.
@@ -127,6 +130,6 @@ IsSameSource _ _ = ⊥
 abbrev pub HasEnded : Source → Outlet → Result (Unit {0}) TakeFault → Type 0
 HasEnded source outlet (Ok all) =
     AreEnded outlet.putter.members (source_taken source) × IsFaithful (source_taken source) outlet
-HasEnded (Leaf feeds sleeper) outlet (Err (take_fault.Gap p)) = HasMetGap p (fed feeds.items) outlet
+HasEnded (Leaf feeds sleeper) outlet (Err (take_fault.Gap gap)) = HasMetGap gap (fed feeds.items) outlet
 HasEnded (Inner taker) outlet (Err (take_fault.Cut cut)) = IsFaithful (λ p. items_of p taker.taken) outlet
 HasEnded _ _ _ = ⊥

@@ -8,8 +8,10 @@ ghost use Rattle.wcp_relay.specs.Feeding.{given_by, IsInOrder, IsNextAfterNotes,
 ghost use Rattle.wcp_relay.specs.Feeding.{CameFromRing, MayComeFromRing};
 ghost use Rattle.wcp_relay.specs.declared.take_fault.TakeFault.TheVariants as fault;
 
+use crate::outlet::Outlet;
 use crate::take_fault::TakeFault;
 use wcp_clock::{CLOCK_LIMIT, Item, Note};
+use wcp_lane::Cut;
 use wcp_ring::RingTaker;
 
 /// What a leaf relay takes from one process: the end of its ring, and how far it came.
@@ -24,6 +26,23 @@ pub struct Feed {
     /// Whether the process was lost: its last note is a mark that was made here.
     pub lost: bool,
     pub taker: RingTaker,
+}
+
+/// A leaf took a note that wasn't the next one of its process: only the take of a feed makes one.
+#[derive(Clone, Copy, Debug, PartialEq, Eq)]
+pub(crate) struct Gap {
+    process: u32,
+    /// What the leaf's lane had answered by then, if it was cut.
+    cut: Option<Cut>,
+}
+
+impl Gap {
+    /// The number of the process.
+    pub(crate) fn process(&self) -> u32
+        ensures { result ≡ self.now.process }
+    {
+        self.process
+    }
 }
 
 impl Feed {
@@ -45,8 +64,9 @@ impl Feed {
     }
 
     /// The next item of the process: what its ring has or, once the ring is gone and then empty before a last note
-    /// came, the mark that the process was lost. `Err` where a note of the ring is out of place.
-    pub(crate) fn take(&mut self) -> Result<Option<Item>, TakeFault>
+    /// came, the mark that the process was lost. `Err` where a note of the ring is out of place: it tells whether the
+    /// leaf's outlet was cut by then.
+    pub(crate) fn take(&mut self, outlet: &Outlet) -> Result<Option<Item>, TakeFault>
         requires { IsInOrder self.old }
         ensures same { (self.new.process ≡ self.old.process) × (self.new.taker.ring ≡ self.old.taker.ring) }
         ensures some { IfOk result (λ found. IfSome found (λ item.
@@ -55,7 +75,8 @@ impl Feed {
             × IsNextAfterNotes (given_by self.old) item.note)) }
         ensures none { IfOk result (λ found. IfNone found (given_by self.new ≡ given_by self.old)) }
         ensures in_order { IfOk result (λ found. IsInOrder self.new) }
-        ensures gap { IfErr result (λ met. (met ≡ fault.Gap self.old.process)
+        ensures gap { IfErr result (λ met.
+            (met ≡ fault.Gap (record { process = self.old.process; cut = outlet.now.cut }))
             × ((note : Note)
             × (given_by self.new ≡ given_by self.old ++ note ∷ [])
             × ¬ IsNextOfProcess (given_by self.old) note)) }
@@ -70,7 +91,10 @@ impl Feed {
             Err(Empty::ForGood) => return Ok(self.lose()),
         };
         if self.ended || !may_come(&note, self.next) {
-            return Err(TakeFault::Gap(self.process));
+            return Err(TakeFault::Gap(Gap {
+                process: self.process,
+                cut: outlet.cut,
+            }));
         }
         if note.is_last() {
             self.ended = true;

@@ -1,6 +1,7 @@
 ghost use Rattle.std.specs.Prelude.{◌≡◌, ◌<◌, ℕ, true, [], length, All, IfErr, OnOk, IfNone, Err};
 ghost use Rattle.wcp_relay.specs.Feeding.{fed, AreFromRings};
 ghost use Rattle.wcp_relay.specs.RelayWork.{IsLeafAtWork, AreSameFeeds, IsSameOutlet, HasMetGap, gap_met};
+ghost use Rattle.wcp_relay.specs.declared.feed.Gap.{Gap};
 ghost use Rattle.wcp_relay.specs.declared.take_fault.TakeFault.TheVariants as fault;
 
 use crate::bundle::MAX_BUNDLE;
@@ -23,7 +24,7 @@ pub(crate) fn run_leaf<R: Wait>(
     ensures work { OnOk result (IsLeafAtWork feeds.new outlet.new) }
     ensures ended { OnOk result (All (λ feed. feed.ended ≡ true) feeds.new) }
     ensures empty { OnOk result (IfNone outlet.new.cut (outlet.new.hold.items ≡ [])) }
-    ensures gap { IfErr result (λ met. (p : ℕ) × (met ≡ fault.Gap p) × HasMetGap p (fed feeds.new) outlet.new) }
+    ensures gap { IfErr result (λ met. (gap : Gap) × (met ≡ fault.Gap gap) × HasMetGap gap (fed feeds.new) outlet.new) }
     ensures rings { IfErr result (λ met. AreFromRings (gap_met (Err met)) feeds.new) }
 {
     for _ in rt.forever() {
@@ -51,7 +52,7 @@ fn take_round<R: Wait>(rt: &R, feeds: &mut [Feed], outlet: &mut Outlet) -> Resul
     ensures same_feeds { AreSameFeeds feeds.old feeds.new }
     ensures same_outlet { IsSameOutlet outlet.old outlet.new }
     ensures work { OnOk result (IsLeafAtWork feeds.new outlet.new) }
-    ensures gap { IfErr result (λ met. (p : ℕ) × (met ≡ fault.Gap p) × HasMetGap p (fed feeds.new) outlet.new) }
+    ensures gap { IfErr result (λ met. (gap : Gap) × (met ≡ fault.Gap gap) × HasMetGap gap (fed feeds.new) outlet.new) }
     ensures rings { IfErr result (λ met. AreFromRings (gap_met (Err met)) feeds.new) }
 {
     let mut any = false;
@@ -75,13 +76,13 @@ fn take_burst<R: Wait>(
     ensures same_feeds { AreSameFeeds feeds.old feeds.new }
     ensures same_outlet { IsSameOutlet outlet.old outlet.new }
     ensures work { OnOk result (IsLeafAtWork feeds.new outlet.new) }
-    ensures gap { IfErr result (λ met. (p : ℕ) × (met ≡ fault.Gap p) × HasMetGap p (fed feeds.new) outlet.new) }
+    ensures gap { IfErr result (λ met. (gap : Gap) × (met ≡ fault.Gap gap) × HasMetGap gap (fed feeds.new) outlet.new) }
     ensures rings { IfErr result (λ met. AreFromRings (gap_met (Err met)) feeds.new) }
 {
     let mut any = false;
     for _ in 0..MAX_BUNDLE {
         let feed = &mut feeds[place];
-        if let Some(item) = feed.take()? {
+        if let Some(item) = feed.take(outlet)? {
             outlet.accept(rt, item);
             any = true;
         }

@@ -2,8 +2,8 @@
 //!
 //! What is proved. Live probes and relays over rings and lanes. `LiveProbe`, per call: it stands for a log where its
 //! core does and what its end of the ring has put, followed by what is pending, is the emissions of the log; an
-//! accepted call leaves one that stands for the log with that call at its end; `flush` is true exactly where nothing
-//! is pending afterwards, and puts wherever a slot is known to be free; `close` puts the mark, or gives the probe back
+//! accepted call leaves one that stands for the log with that call at its end; `flush` is true exactly where nothing is
+//! pending afterwards, and puts wherever a slot is known to be free; `close` puts the mark, or gives the probe back
 //! open; a probe always stands for some log, so the clocks of the snapshots that a closed one has put never fall in a
 //! component and rise in its own; `flush_in_watch` and `close_in_watch` wait until the ring has room, and
 //! `flush_waiting` and `close_waiting` do so or answer that its relay is gone, by a value that only a look at the ring
@@ -11,13 +11,13 @@
 //! of what it took, and of a leaf of that or of that and the one mark that the process was lost, which the leaf made,
 //! since no such mark comes out of a ring; where it met no fault the two are the same list, which ends with a last
 //! note. When a leaf makes such a mark no clause says, but that it does so before any last note. The end of one that
-//! met a fault is of the same rings or lane, and holds none of them; its fault is the first that came: a cut as it
-//! put, before what ended its taking, a note that isn't the next one of its process or a cut as it took; where nothing
-//! ended its taking early, a last note of each process below it was taken, also behind a cut. `Bundle` is a list of 1
-//! to 8 items of one process: `add` is refused exactly where there are 8, the process is another, the place isn't the
-//! next, or the last item is a last note; each put of a relay is the longest run at the front of what it holds. A
-//! probe that is made stands for the empty log, and `Relay::new` and `CheckerInbox::new` keep all that they are
-//! handed.
+//! met a fault is of the same rings or lane, and holds none of them; its fault is the first that came: a cut as it put,
+//! a note that isn't the next one of its process, behind which it isn't cut any more, or a cut as it took; where
+//! nothing ended its taking early, a last note of each process below it was taken, also behind a cut. `Bundle` is a
+//! list of 1 to 8 items of one process: `add` is refused exactly where there are 8, the process is another, the place
+//! isn't the next, or the last item is a last note; each put of a relay is the longest run at the front of what it
+//! holds. A probe that is made stands for the empty log, and `Relay::new` and `CheckerInbox::new` keep all that they
+//! are handed.
 #![tactic(auto)]
 
 mod bundle;

@@ -108,7 +108,7 @@ pub(crate) fn first_fault(outlet: &Outlet, met: Result<(), TakeFault>) -> Option
     }
     match met {
         Ok(()) => None,
-        Err(TakeFault::Gap(p)) => Some(RelayFault::Gap(p)),
+        Err(TakeFault::Gap(gap)) => Some(RelayFault::Gap(gap.process())),
         Err(TakeFault::Cut(met)) => Some(RelayFault::Cut(met.cut())),
     }
 }

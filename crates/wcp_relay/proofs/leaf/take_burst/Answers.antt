@@ -26,7 +26,7 @@ returns-in_err-item-clause-gap g c =
     let i = c.args.place in
     let d = c.index-feeds-place.result in
     rw p.1 (
-      (get_or feeds i d).process,
+      record { process = (get_or feeds i d).process; cut = c.loop.outlet.cut },
       p.2 ∙ gap.0,
       fed-gap feeds i c.take.new.self d gap.1.0 c.loop.outlet (omega arith) c.loop.invariant.work.apart
           c.in_err-item.ensures.same.0 gap.1.1 gap.1.2 c.loop.invariant.work.faithful,
