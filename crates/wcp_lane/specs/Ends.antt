@@ -16,10 +16,11 @@ use Rattle.wcp_lane.specs.Passes.{Numbers}
 abbrev pub LaneName : Type 0 → Type 0
 LaneName M = TableId × Badge (Key M)
 
--- An end that puts: its lane of messages, the numbers of which it puts, and the items that it has put.
+-- An end that puts: its lane of messages, the numbers of which it puts, the messages that it has put, and their items.
 pub record PutEnd (M I : Type 0) : Type 0 where
   pub lane : LaneName M
   pub members : Numbers
+  pub messages : List M
   pub put : List I
 
 -- The end that takes: its lane, how many messages that has room for, the numbers of all sets of the lane, and the items
@@ -39,7 +40,7 @@ pub record TakenEnd (M I : Type 0) : Type 0 where
 
 -- a putter that has put nothing
 abbrev pub new_putter : {M I : Type 0} → LaneName M → Numbers → PutEnd M I
-new_putter lane members = record { lane = lane; members = members; put = [] }
+new_putter lane members = record { lane = lane; members = members; messages = []; put = [] }
 
 module _ {M : Type 0} where
   abbrev pub lane_of : Pass M (Hand M) → LaneName M

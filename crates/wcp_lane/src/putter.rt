@@ -1,4 +1,4 @@
-ghost use Rattle.std.specs.Prelude.{◌≡◌, ◌++◌, OnOk, IfOk, IfErr, IfSome, IfNone};
+ghost use Rattle.std.specs.Prelude.{◌≡◌, [], ◌∷◌, ◌++◌, OnOk, IfOk, IfErr, IfSome, IfNone};
 ghost use Rattle.wcp_lane.specs.Message.{AllMayFollow};
 ghost use Rattle.wcp_lane.specs.Ends.{PutEnd};
 
@@ -13,7 +13,7 @@ use std::sync::Wait;
 
 /// An end of a lane that puts messages of the processes of a set, its members.
 ///
-/// A contract sees it as its lane, its set and the items that it has put.
+/// A contract sees it as its lane, its set, the messages that it has put and their items.
 #[derive(Drop)]
 pub struct Putter<M: Origin> {
     pub(crate) sender: LaneSender<M>,
@@ -40,6 +40,7 @@ impl<M: Origin> Model for Putter<M> {
     ghost view = { λ s. record {
       lane = lane_of s.pass;
       members = s.members;
+      messages = put_by (hand_of s.pass);
       put = flat_map M.items (put_by (hand_of s.pass));
     } };
 
@@ -62,7 +63,10 @@ impl<M: Origin> Putter<M> {
     pub fn put<R: Wait>(&mut self, rt: &R, message: M) -> Result<(), (Cut, M)>
         requires { AllMayFollow M.origin M.place M.last self.old.members self.old.put (M.items message) }
         ensures same { (self.new.lane ≡ self.old.lane) × (self.new.members ≡ self.old.members) }
-        ensures ok { OnOk result (self.new ≡ record self.old { put = self.old.put ++ M.items message }) }
+        ensures ok { OnOk result (self.new ≡ record self.old {
+          messages = self.old.messages ++ message ∷ [];
+          put = self.old.put ++ M.items message;
+        }) }
         ensures err { IfErr result (λ e. (e.1 ≡ message) × (self.new ≡ self.old)) }
     {
         let span = Span::of(&message);
@@ -81,7 +85,10 @@ impl<M: Origin> Putter<M> {
         requires { AllMayFollow M.origin M.place M.last self.old.members self.old.put (M.items message) }
         ensures same { (self.new.lane ≡ self.old.lane) × (self.new.members ≡ self.old.members) }
         ensures put { IfOk result (λ back. IfNone back
-            (self.new ≡ record self.old { put = self.old.put ++ M.items message })) }
+            (self.new ≡ record self.old {
+              messages = self.old.messages ++ message ∷ [];
+              put = self.old.put ++ M.items message;
+            })) }
         ensures full { IfOk result (λ back. IfSome back (λ full. (full ≡ message) × (self.new ≡ self.old))) }
         ensures err { IfErr result (λ e. (e.1 ≡ message) × (self.new ≡ self.old)) }
     {

@@ -4,7 +4,8 @@ use Rattle.wcp_relay.proofs.Words.{length-append, sym, refl, ap, ◌∙◌, subs
 use Rattle.wcp_relay.proofs.Words.{slice_get, Result, Ok, Err, IsErr, OnOk, IfNone, is_some, cases_eq, append-nil}
 use Rattle.wcp_relay.proofs.Words.{drop_at, All-drop, All-push, Item, IsNext, place_of, is_last, PutEnd, All-front}
 use Rattle.wcp_relay.proofs.Words.{AreInSequence-push, may_follow, Held, Bundle, Outlet, items_of, IsFirstBundle}
-use Rattle.wcp_relay.proofs.Words.{handed, IsNextItem, AreItemsInSequence, IsSound, ItemsMayFollow}
+use Rattle.wcp_relay.proofs.Words.{handed, IsNextItem, AreItemsInSequence, IsSound, ItemsMayFollow, HasPutBundles}
+use Rattle.wcp_relay.proofs.Words.{AreFirstBundles}
 use Rattle.std.specs.FinSet as set
 use Rattle.wcp_relay.proofs.Lists.{items_of-append, items_of-own, items_of-other}
 
@@ -24,7 +25,7 @@ rest_of items bundle first = ap (drop (length bundle)) first.is ∙ drop_at bund
 
 -- the first bundle was put
 pub handed_passed : (o new : Outlet) (bundle : List Item) → IsFirstBundle o.hold.items bundle
-    → new.putter ≡ record o.putter { put = o.putter.put ++ bundle }
+    → new.putter ≡ record o.putter { messages = o.putter.messages ++ bundle ∷ []; put = o.putter.put ++ bundle }
     → new.hold ≡ record o.hold { items = drop (length bundle) o.hold.items }
     → handed new ≡ handed o
 handed_passed o new bundle first putter hold =
@@ -33,7 +34,7 @@ handed_passed o new bundle first putter hold =
     ∙ append_assoc o.putter.put bundle first.rest ∙ ap (λ xs. o.putter.put ++ xs) (sym first.is)
 
 pub sound_passed : (o new : Outlet) (bundle : List Item) → IsSound o → IsFirstBundle o.hold.items bundle
-    → new.putter ≡ record o.putter { put = o.putter.put ++ bundle }
+    → new.putter ≡ record o.putter { messages = o.putter.messages ++ bundle ∷ []; put = o.putter.put ++ bundle }
     → new.hold ≡ record o.hold { items = drop (length bundle) o.hold.items }
     → IsSound new
 sound_passed o new bundle sound first putter hold =
@@ -48,6 +49,32 @@ sound_passed o new bundle sound first putter hold =
       runs = λ p. subst (λ xs. AreItemsInSequence (items_of p xs)) (sym (handed_passed o new bundle first putter hold))
           (sound.runs p);
     }
+
+-- one more bundle is cut off what is left
+first_bundles-push : (items now bundle : List Item) (bundles : List Bundle) (first : IsFirstBundle now bundle)
+    → AreFirstBundles items bundles now → AreFirstBundles items (bundles ++ bundle ∷ []) first.rest
+first_bundles-push items now bundle [] first cut = (
+  record { rest = first.rest; is = cut ∙ first.is; longest = first.longest },
+  refl,
+)
+first_bundles-push items now bundle (b ∷ bundles) first cut =
+    (cut.0, first_bundles-push cut.0.rest now bundle bundles first cut.1)
+
+-- the first bundle was put behind others
+pub bundles_passed : (first old new : Outlet) (bundle : List Item)
+    → HasPutBundles first.hold.items old.hold.items first old
+    → IsFirstBundle old.hold.items bundle
+    → new.putter ≡ record old.putter { messages = old.putter.messages ++ bundle ∷ []; put = old.putter.put ++ bundle }
+    → new.hold ≡ record old.hold { items = drop (length bundle) old.hold.items }
+    → HasPutBundles first.hold.items new.hold.items first new
+bundles_passed first old new bundle has is putter hold = (
+  has.0 ++ bundle ∷ [],
+  ap (λ (e : PutEnd Bundle Item). e.messages) putter ∙ ap (λ bundles. bundles ++ bundle ∷ []) has.1
+      ∙ append_assoc first.putter.messages has.0 (bundle ∷ []),
+  subst (AreFirstBundles first.hold.items (has.0 ++ bundle ∷ []))
+      (sym (ap (λ (h : Held). h.items) hold ∙ rest_of old.hold.items bundle is))
+      (first_bundles-push first.hold.items old.hold.items bundle has.0 is has.2),
+)
 
 pub held_fewer : (old new : Held) (bundle : List Item) → IsFirstBundle old.items bundle → 0 < length bundle
     → new ≡ record old { items = drop (length bundle) old.items } → length new.items < length old.items

@@ -42,6 +42,7 @@ pub use Rattle.wcp_model.specs.declared.plan.Parent.TheVariants.{Root, Relay}
 pub use Rattle.wcp_model.specs.declared.plan.Plan.{Plan}
 pub use Rattle.wcp_ring.specs.Ends.{TakeSide}
 pub use Rattle.wcp_relay.specs.Bundles.{most_bundle, Continues, IsRun, IsBundle, MayJoin, IsFirstBundle, filler}
+pub use Rattle.wcp_relay.specs.Bundles.{AreFirstBundles}
 pub use Rattle.wcp_relay.specs.Feeding.{items_of, fed, given_by, items_by, mark_of_lost, processes_of, IsNextAfterNotes}
 pub use Rattle.wcp_relay.specs.Feeding.{IsNextOfProcess, IsInOrder, EndsWithLast, MayComeFromRing, CameFromRing}
 pub use Rattle.wcp_relay.specs.Feeding.{AreFromRings, is_gap_of, source_taken, Serves, IsNewFeed}
@@ -52,6 +53,7 @@ pub use Rattle.wcp_relay.specs.RelayEnds.{IsEndOfSource, taken_in}
 pub use Rattle.wcp_relay.specs.RelayWork.{handed, IsFaithful, IsNextAfter, HasMetGap, IsSound, IsNextItem, IsSameOutlet}
 pub use Rattle.wcp_relay.specs.RelayWork.{IsLeafAtWork, AreTakenNext, IsInnerAtWork, ItemsMayFollow, AreEnded}
 pub use Rattle.wcp_relay.specs.RelayWork.{AreItemsInSequence, IsAtWork, HasEnded, IsSameTaker, IsFromRings, gap_met}
+pub use Rattle.wcp_relay.specs.RelayWork.{HasPutBundles}
 pub use Rattle.wcp_relay.specs.declared.bundle.Bundle.{Bundle}
 pub use Rattle.wcp_relay.specs.declared.feed.Feed.{Feed}
 pub use Rattle.wcp_relay.specs.declared.outlet.Outlet.{Outlet}

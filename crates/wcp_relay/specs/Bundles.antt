@@ -41,3 +41,9 @@ pub record IsFirstBundle (items bundle : List Item) : Type 0 where
   pub rest : List Item
   pub is : items ≡ bundle ++ rest
   pub longest : IfSome (slice_get rest 0) (λ next. ¬ MayJoin bundle next)
+
+-- These bundles were cut off some items, each the first bundle of what those before it left, and the rest is left.
+abbrev pub AreFirstBundles : List Item → List (List Item) → List Item → Type 0
+AreFirstBundles items [] rest = items ≡ rest
+AreFirstBundles items (bundle ∷ bundles) rest =
+    (first : IsFirstBundle items bundle) × AreFirstBundles first.rest bundles rest

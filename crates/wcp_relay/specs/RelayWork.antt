@@ -20,6 +20,7 @@ use Rattle.wcp_relay.specs.declared.take_fault.TakeFault.{TakeFault}
 use Rattle.wcp_relay.specs.declared.take_fault.TakeFault.TheVariants as take_fault
 use Rattle.wcp_relay.specs.Feeding.{items_of, processes_of, fed, source_taken, IsInOrder, EndsWithLast, MayComeFromRing}
 use Rattle.wcp_relay.specs.Feeding.{AreFromRings}
+use Rattle.wcp_relay.specs.Bundles.{AreFirstBundles}
 
 -- What was handed to an outlet: what it put, and then what it holds.
 abbrev pub handed : Outlet → List Item
@@ -54,6 +55,12 @@ pub record IsSound (outlet : Outlet) : Type 0 where
 -- An outlet keeps its lane and its processes.
 abbrev pub IsSameOutlet : Outlet → Outlet → Type 0
 IsSameOutlet old new = (new.putter.lane ≡ old.putter.lane) × (new.putter.members ≡ old.putter.members)
+
+-- An outlet put what these items begin with, cut into first bundles, and the rest of them is left.
+abbrev pub HasPutBundles : List Item → List Item → Outlet → Outlet → Type 0
+HasPutBundles items rest old new =
+    (bundles : List Bundle) × (new.putter.messages ≡ old.putter.messages ++ bundles)
+    × AreFirstBundles items bundles rest
 
 -- An outlet was handed what was taken of each process, or a prefix of it once its lane is cut.
 pub record IsFaithful (taken : ℕ → List Item) (outlet : Outlet) : Type 0 where

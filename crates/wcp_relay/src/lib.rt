@@ -15,9 +15,9 @@
 //! a note that isn't the next one of its process, behind which it isn't cut any more, or a cut as it took; where
 //! nothing ended its taking early, a last note of each process below it was taken, also behind a cut. `Bundle` is a
 //! list of 1 to 8 items of one process: `add` is refused exactly where there are 8, the process is another, the place
-//! isn't the next, or the last item is a last note; each put of a relay is the longest run at the front of what it
-//! holds. A probe that is made stands for the empty log, and `Relay::new` and `CheckerInbox::new` keep all that they
-//! are handed.
+//! isn't the next, or the last item is a last note; a relay that passes on what it holds puts it as bundles, each the
+//! longest run at the front of what is left; when it does so no clause says. A probe that is made stands for the empty
+//! log, and `Relay::new` and `CheckerInbox::new` keep all that they are handed.
 #![tactic(auto)]
 
 mod bundle;

@@ -21,6 +21,7 @@ pub(crate) struct Outlet {
 
 impl Outlet {
     ghost use Rattle.wcp_relay.specs.RelayWork.{handed, IsFaithful, IsSound, IsNextItem, IsSameOutlet, ItemsMayFollow};
+    ghost use Rattle.wcp_relay.specs.RelayWork.{HasPutBundles};
 
     /// Whether there is nothing to pass on.
     pub(crate) fn is_idle(&self) -> bool
@@ -71,13 +72,15 @@ impl Outlet {
         }
     }
 
-    /// Puts all that it holds on the lane, in bundles, or as much as the lane takes before it is cut.
+    /// Puts all that it holds on the lane, in bundles that are as long as they can be, or as many of them as the lane
+    /// takes before it is cut.
     pub(crate) fn pass_on<R: Wait>(&mut self, rt: &R)
         requires { IsSound self.old }
         ensures same { IsSameOutlet self.old self.new }
         ensures sound { IsSound self.new }
         ensures handed { handed self.new ≡ handed self.old }
         ensures empty { IfNone self.new.cut ((self.old.cut ≡ None) × (self.new.hold.items ≡ [])) }
+        ensures bundles { HasPutBundles self.old.hold.items self.new.hold.items self.old self.new }
         ensures cut { IfSome self.old.cut (λ cut. self.new.cut ≡ Some cut) }
     {
         if self.cut.is_some() {

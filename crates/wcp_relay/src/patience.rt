@@ -1,6 +1,6 @@
 //! How a relay waits for a lane: it gives way to other threads some times, and then it waits inside the
 //! lane. No clause says how long that takes, or that it ends.
-ghost use Rattle.std.specs.Prelude.{◌≡◌, ◌++◌, IfOk, IfErr, OnOk, OnErr, IfSome, IfNone};
+ghost use Rattle.std.specs.Prelude.{◌≡◌, [], ◌∷◌, ◌++◌, IfOk, IfErr, OnOk, OnErr, IfSome, IfNone};
 ghost use Rattle.wcp_relay.specs.RelayWork.{AreTakenNext, IsSameTaker, ItemsMayFollow};
 
 use crate::bundle::Bundle;
@@ -71,7 +71,10 @@ pub(crate) fn put<R: Wait>(
 ) -> Result<(), (Cut, Bundle)>
     requires { ItemsMayFollow putter.old.members putter.old.put bundle }
     ensures same { (putter.new.lane ≡ putter.old.lane) × (putter.new.members ≡ putter.old.members) }
-    ensures ok { OnOk result (putter.new ≡ record putter.old { put = putter.old.put ++ bundle }) }
+    ensures ok { OnOk result (putter.new ≡ record putter.old {
+      messages = putter.old.messages ++ bundle ∷ [];
+      put = putter.old.put ++ bundle;
+    }) }
     ensures err { IfErr result (λ back. (back.1 ≡ bundle) × (putter.new ≡ putter.old)) }
 {
     let mut bundle = bundle;

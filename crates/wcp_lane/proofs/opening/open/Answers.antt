@@ -63,6 +63,7 @@ loop-numbers-preserved g c =
           ++ record {
             lane = ((own.0 ∙ sym seat.0) i, (own.1 ∙ sym seat.1) i);
             members = numbers;
+            messages = put_by (given i);
             put = flat_map g.M.Origin.items (put_by (given i));
           } ∷ [])
           ∙ sym (ap new more ∙ map-append _ (take k member_sets) (numbers ∷ []));

@@ -26,10 +26,12 @@ returns-in-Ok-clause-put g c = λ is snap.
     let first = c.snap.result in
     let second = c.args.second in
     let one : PutEnd Bundle Item = record end { put = end.put ++ first ∷ [] } in
-    let two : PutEnd Bundle Item = record end { put = (end.put ++ first ∷ []) ++ second ∷ [] } in
-    let has : HasPut (n + 1 + 1) two = more_put (n + 1) one second
+    let has = more_put (n + 1) one second
     (more_put n end first c.requires.put c.snap.ensures.from c.snap.ensures.unended) c.requires.from snap in
-    let with : List Item → PutEnd Bundle Item = λ xs. record end { put = xs } in
+    let with : List Item → PutEnd Bundle Item =
+    λ xs. record end { messages = end.messages ++ c.pair.result ∷ []; put = xs } in
+    let two : PutEnd Bundle Item = with ((end.put ++ first ∷ []) ++ second ∷ []) in
+    let both : HasPut (n + 1 + 1) two = record { member = has.member; count = has.count; unended = has.unended } in
     let path : c.put.new.self ≡ two = c.in-Ok.ensures.ok ∙ ap (λ xs. with (end.put ++ xs)) c.pair.ensures
     ∙ ap with (sym (append_assoc end.put (first ∷ []) (second ∷ []))) in
-    subst (λ k. HasPut k c.put.new.self) (omega arith) (subst (HasPut (n + 1 + 1)) (sym path) has)
+    subst (λ k. HasPut k c.put.new.self) (omega arith) (subst (HasPut (n + 1 + 1)) (sym path) both)

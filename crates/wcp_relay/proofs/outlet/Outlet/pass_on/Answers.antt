@@ -1,8 +1,24 @@
-use Rattle.wcp_relay.proofs.Words.{sym, ap, ◌∙◌, refl, rules, drop, Held}
+use Rattle.wcp_relay.proofs.Words.{sym, ap, ◌∙◌, refl, rules, drop, [], append-nil, Held}
 use Rattle.wcp_relay.proofs.LeafWork.{if_some}
 use Rattle.wcp_relay.proofs.Passing.{first_follow, handed_passed, sound_passed, sound_same, held_fewer, is_none}
+use Rattle.wcp_relay.proofs.Passing.{bundles_passed}
 use Rattle.wcp_relay.proofs.Passing.{if_none}
 use Rattle.wcp_relay.proofs.outlet.Outlet.pass_on.Goals as goal
+
+pub loop-bundle-init : goal.loop-bundle-init
+loop-bundle-init g c = record {
+  same = search rules;
+  sound = c.requires;
+  handed = refl;
+  bundles = ([], sym (append-nil c.args.self.now.putter.messages), refl);
+  uncut = is_none _ (sym c.is_some.ensures ∙ c.if-is_some.false);
+}
+
+pub returns-then-is_some-clause-bundles : goal.returns-then-is_some-clause-bundles
+returns-then-is_some-clause-bundles g c = ([], sym (append-nil c.args.self.now.putter.messages), refl)
+
+pub returns-in-Err-clause-bundles : goal.returns-in-Err-clause-bundles
+returns-in-Err-clause-bundles g c = rw c.in-Err.ensures.err.1 c.loop-bundle.invariant.bundles
 
 pub put-requires : goal.put-requires
 put-requires g c =
@@ -34,6 +50,8 @@ loop-bundle-preserved g c =
       sound = sound_passed c.loop-bundle.self _ c.in-Some.bundle old.sound first put rest;
       handed = handed_passed c.loop-bundle.self (record c.loop-bundle.self
           { putter = c.put.new.putter; hold = c.let_go.new.hold }) c.in-Some.bundle first put rest ∙ old.handed;
+      bundles = bundles_passed c.args.self.now c.loop-bundle.self (record c.loop-bundle.self
+          { putter = c.put.new.putter; hold = c.let_go.new.hold }) c.in-Some.bundle old.bundles first put rest;
       uncut = old.uncut;
     }
 

@@ -1,4 +1,4 @@
-use Rattle.wcp_relay.proofs.Words.{◌≡◌, None, handed, IsSound, IsSameOutlet, length}
+use Rattle.wcp_relay.proofs.Words.{◌≡◌, None, handed, IsSound, IsSameOutlet, HasPutBundles, length}
 use Rattle.wcp_relay.proofs.outlet.Outlet.pass_on.Given as goal
 
 abbrev pub invariant-loop-bundle : goal.invariant-loop-bundle
@@ -7,6 +7,7 @@ invariant-loop-bundle g l =
       same : IsSameOutlet l.initial.self l.self;
       sound : IsSound l.self;
       handed : handed l.self ≡ handed l.initial.self;
+      bundles : HasPutBundles l.initial.self.hold.items l.self.hold.items l.initial.self l.self;
       uncut : l.self.cut ≡ None;
     }
 
