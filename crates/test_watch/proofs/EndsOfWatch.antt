@@ -48,6 +48,23 @@ without_one probes all at checker came =
       of_checker = came.of_checker;
     }
 
+-- and so do all but one of a probe
+pub without_probe : (all : List ClosedSide) (relays : List RelayEnd) (at : ℕ) (checker : CheckerEnd)
+    → ComeFromWatch all relays checker
+    → ComeFromWatch (remove all at) relays checker
+without_probe all relays at checker came =
+    let P = λ (end : ClosedSide). end.watch ≡ checker.watch → IsEndOfSomeProbe came.watch.probes.items end in
+    record {
+      plan = came.plan;
+      watch = came.watch;
+      checked = came.checked;
+      wired = came.wired;
+      of_probes = All-append P (take at all) (drop (suc at) all) (All-take P at all came.of_probes)
+          (All-drop P (suc at) all came.of_probes);
+      of_relays = came.of_relays;
+      of_checker = came.of_checker;
+    }
+
 -- and so they do with the end of a probe of another watch
 pub with_stranger : (probes : List ClosedSide) (relays : List RelayEnd) (stranger : ClosedSide) (checker : CheckerEnd)
     → ComeFromWatch probes relays checker → stranger.watch ≢ checker.watch

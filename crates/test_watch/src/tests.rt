@@ -1,4 +1,5 @@
 mod checking;
+mod gates;
 mod losing;
 mod news;
 mod plans;

@@ -128,6 +128,16 @@ fn without_relay(mut ends: Ends, number: u32) -> Option<Ends>
     Some(ends)
 }
 
+/// The ends but for that of the probe of this process, the first such one. `None` where there is none.
+fn without_probe(mut ends: Ends, process: u32) -> Option<Ends>
+    requires { ComeFromWatch ends.probes.items ends.relays.items ends.checker }
+    ensures { IfSome result (λ ends. ComeFromWatch ends.probes.items ends.relays.items ends.checker) }
+{
+    let at = ends.probes.iter().position(|end| end.id() == process)?;
+    drop(ends.probes.remove(at));
+    Some(ends)
+}
+
 /// The ends, and behind them that of a probe of another watch.
 fn with_a_stranger(mut ends: Ends, stranger: ProbeEnd) -> Result<Ends, AllocError>
     requires come { ComeFromWatch ends.probes.items ends.relays.items ends.checker }
@@ -155,18 +165,32 @@ fn is_not_settled(rt: &impl Abort, ends: Ends, fault: SettleFault)
 }
 
 #[test]
-fn a_relay_without_an_end_is_missing(rt: HostRuntime) {
-    let ends = run_watch(&rt, rt.alloc(), None);
-    let ends = without_relay(ends, 0).expect(&rt, "a relay");
-    is_not_settled(&rt, ends, SettleFault::Missing);
+fn each_relay_without_an_end_is_missing(rt: HostRuntime) {
+    for number in 0..2 {
+        let ends = run_watch(&rt, rt.alloc(), None);
+        let ends = without_relay(ends, number).expect(&rt, "a relay");
+        is_not_settled(&rt, ends, SettleFault::Missing);
+    }
+}
+
+#[test]
+fn each_probe_without_an_end_is_missing(rt: HostRuntime) {
+    for process in 0..2 {
+        let ends = run_watch(&rt, rt.alloc(), None);
+        assert_eq!(rt; ends.checker.fault(), None);
+        let ends = without_probe(ends, process).expect(&rt, "a probe");
+        is_not_settled(&rt, ends, SettleFault::Missing);
+    }
 }
 
 /// All loops end where a process is lost before it has put anything, and its probe has no end.
 #[test]
-fn a_process_that_is_lost_is_missing(rt: HostRuntime) {
-    let ends = run_watch(&rt, rt.alloc(), Some(0));
-    assert_eq!(rt; ends.checker.fault(), Some(CheckFault::Lost(0)));
-    is_not_settled(&rt, ends, SettleFault::Missing);
+fn each_process_that_is_lost_is_missing(rt: HostRuntime) {
+    for process in 0..2 {
+        let ends = run_watch(&rt, rt.alloc(), Some(process));
+        assert_eq!(rt; ends.checker.fault(), Some(CheckFault::Lost(process)));
+        is_not_settled(&rt, ends, SettleFault::Missing);
+    }
 }
 
 #[test]

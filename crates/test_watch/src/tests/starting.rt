@@ -1,5 +1,6 @@
-//! A run whose threads can't all be made, since the address space has no room left for their stacks.
-ghost use Rattle.std.specs.Prelude.{◌<◌, ◌≤◌};
+//! Runs that the system refuses memory or threads, since what is left of the address space has no room for the list of
+//! their threads, or for the stacks of all.
+ghost use Rattle.std.specs.Prelude.{◌<◌, ◌≤◌, IfOk};
 ghost use Rattle.wcp_clock.specs.Limits.{most_processes};
 ghost use Rattle.wcp_watch.specs.CheckerEnds.{IsFreshFor};
 
@@ -154,4 +155,57 @@ fn nothing_runs_where_a_thread_is_refused(rt: HostRuntime) {
     assert_begun(&rt, &of_few, 1);
     assert_begun(&rt, &of_many, 0);
     assert_eq!(rt; of_many.book.into_inner().totals().taken, 0);
+}
+
+/// One of a crowd, of which a run can't even list the threads: it is counted if it runs.
+#[derive(Clone, Copy)]
+struct Onlooker {
+    _mark: u8,
+}
+
+impl Part<()> for Onlooker {
+    ghost use Rattle.std.specs.Prelude.{⊤};
+
+    ghost is_ready = { λ onlooker. ⊤ };
+
+    ghost is_end = { λ onlooker end. ⊤ };
+}
+
+impl RunsWith<AtomicU32, ()> for Onlooker {
+    fn run_with<R: Wait>(self, _rt: &R, begun: &AtomicU32) {
+        begun.fetch_add(1, SeqCst);
+    }
+}
+
+/// So many are a crowd: the list of their threads takes more than the smallest block that takes up address space.
+const CROWD: usize = 1 << 20;
+
+/// A crowd in the place of these processes.
+fn crowd_for(alloc: Global, parts: Parts<Process>) -> Result<Parts<Onlooker>, AllocError>
+    requires { IsFreshFor parts.checking.inbox parts.checking.checker }
+    ensures { IfOk result (λ crowd. IsFreshFor crowd.checking.inbox crowd.checking.checker) }
+{
+    let Parts {
+        workers: _,
+        relays,
+        checking,
+    } = parts;
+    Ok(Parts {
+        workers: vec![in alloc; Onlooker { _mark: 0 }; CROWD]?,
+        relays,
+        checking,
+    })
+}
+
+/// Where there is no memory for the list of its threads, a run says so, and none of its parts runs.
+#[test]
+fn nothing_runs_where_its_threads_cannot_be_listed(rt: HostRuntime) {
+    let shared = shared_by(1);
+    let few = processes(&rt, rt.alloc(), 1);
+    let crowd = crowd_for(rt.alloc(), few).expect(&rt, "memory");
+    let blocks = take_up(rt.alloc()).expect(&rt, "memory");
+    let refused = run_parts(&rt, rt.alloc(), crowd, &shared.begun, &shared.book).err();
+    drop(blocks);
+    assert_eq!(rt; refused, Some(StartFault::Memory));
+    assert_begun(&rt, &shared, 0);
 }
