@@ -149,6 +149,20 @@ fn a_watch_over_the_same_book_is_waited_for_anew(rt: HostRuntime) {
     );
 }
 
+/// Nothing of the watch before is left in the book.
+#[test]
+fn a_book_is_begun_anew_for_each_watch(rt: HostRuntime) {
+    let alloc = rt.alloc();
+    let book = Mutex::new(Book::new(2));
+    let eager = watch_two(&rt, alloc, Member::Eager(alloc), &book).expect(&rt, "a watch");
+    let idle = watch_two(&rt, alloc, Member::Idle, &book).expect(&rt, "another watch");
+    assert_eq!(rt;
+        (eager.outcome.report, idle.outcome.report),
+        (Report::Found(first_cut()), Report::Nothing)
+    );
+    assert_answer(&rt, alloc, &book, CutAnswer::Nothing);
+}
+
 /// Watches so many idle members by this plan, over a book that has told of a cut: the watch has this fault, and whoever
 /// waits is told that it hasn't run.
 fn assert_not_run<R: Threads + Wait + Sync + Abort>(
