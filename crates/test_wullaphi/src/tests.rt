@@ -1,4 +1,5 @@
 mod asked_again;
+mod beside;
 mod lost;
 mod opened;
 mod plans;

@@ -15,7 +15,7 @@ use wullaphi::{
 
 /// A process that is true once.
 #[derive(Drop)]
-struct True;
+pub struct True;
 
 impl Process for True {
     type Shared = ();
@@ -137,7 +137,7 @@ fn watched<W: Opening + Send + Sync, R: Threads + Wait + Sync + Abort>(
 }
 
 /// A plan of two processes.
-fn plan_of_two(rt: &impl Abort, alloc: Global) -> Plan {
+pub fn plan_of_two(rt: &impl Abort, alloc: Global) -> Plan {
     plain_plan(alloc, 2, 8, 4).expect(rt, "memory")
 }
 
