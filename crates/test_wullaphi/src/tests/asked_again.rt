@@ -1,11 +1,11 @@
 //! A watch that is asked again where it was refused memory or a thread.
-use std::alloc::Global;
+use std::alloc::{AllocError, Global};
 use std::process::Abort;
 use std::sync::{Mutex, Wait};
 use std::thread::Threads;
 use wullaphi::{
-    Book, LentProbe, Loan, Outcome, Plan, Process, Report, Tallies, Tally, WatchFault,
-    WatchOutcome, plain_plan, watch_processes,
+    Book, LentProbe, Loan, LosableProcess, Outcome, Plan, Process, Report, Tallies, Tally,
+    WatchFault, WatchOutcome, plain_plan, watch_processes,
 };
 
 /// How often a process is true: more than the checker has room for at first.
@@ -90,4 +90,80 @@ fn a_watch_that_was_refused_can_be_asked_again(rt: HostRuntime) {
     let book = Mutex::new(Book::new(2));
     let watched = watch_again(&rt, rt.alloc(), &plan, &book).expect(&rt, "a watch");
     assert_told(&rt, &watched);
+}
+
+/// A process that is true so many times, each time before it sends a message that nobody receives. Then it answers
+/// whether its part is done.
+#[derive(Drop)]
+struct Leaver {
+    times: u32,
+    stays: bool,
+}
+
+impl LosableProcess for Leaver {
+    type Shared = ();
+
+    type Answer = bool;
+
+    ghost done = { λ answer. answer };
+
+    fn run<L: Loan, R: Wait>(self, rt: &R, probe: &mut LentProbe<L>, _shared: &()) -> bool {
+        for _ in 0..self.times {
+            probe.observe(rt, true);
+            let _ = probe.stamp(1, ());
+        }
+        self.stays
+    }
+
+    fn is_done(answer: &bool) -> bool {
+        *answer
+    }
+}
+
+/// Watches one process that is often true and then is lost, and one that never is: why that tells nothing.
+fn fault_of_lost<R: Threads + Wait + Sync>(
+    rt: &R,
+    alloc: Global,
+    plan: &Plan,
+    book: &Mutex<Book>,
+) -> Result<Option<WatchFault>, AllocError> {
+    let lost = Leaver {
+        times: OFTEN,
+        stays: false,
+    };
+    let whole = Leaver {
+        times: 0,
+        stays: true,
+    };
+    let leavers = vec![in alloc; lost, whole]?;
+    Ok(watch_processes(rt, alloc, plan, 1, leavers, &(), book).err())
+}
+
+/// Watches them. Where memory runs out, or no thread can be made, that is the fault, and asking again tells the process
+/// that was lost.
+fn fault_again<R: Threads + Wait + Sync>(
+    rt: &R,
+    alloc: Global,
+    plan: &Plan,
+    book: &Mutex<Book>,
+) -> Result<Option<WatchFault>, AllocError> {
+    match fault_of_lost(rt, alloc, plan, book) {
+        Err(AllocError) | Ok(Some(WatchFault::Memory | WatchFault::Spawn)) => {
+            fault_of_lost(rt, alloc, plan, book)
+        }
+        told => told,
+    }
+}
+
+/// A checker that ran out of memory doesn't tell which process was lost. So want of memory is told first.
+#[test]
+fn a_watch_that_was_refused_tells_no_lost_process(rt: HostRuntime) {
+    let plan = plan_of_two(&rt, rt.alloc());
+    let book = Mutex::new(Book::new(2));
+    let told = fault_again(&rt, rt.alloc(), &plan, &book);
+    let lost = WatchFault::Lost {
+        process: 0,
+        report: Report::Undecided,
+    };
+    assert_eq!(rt; told, Ok(Some(lost)));
 }
