@@ -2,7 +2,8 @@
 use Rattle.std.proofs.lemmas.Grind.{common_steps}
 use Rattle.trace_detect.proofs.Words.{◌≡◌, ◌∙◌, ◌+◌, ◌-◌, ◌^◌, ◌<◌, ℕ, Bool, true, false, List, [], ◌∷◌, ◌++◌, Option}
 use Rattle.trace_detect.proofs.Words.{Result, Ok, Err, length, length-append, length-map, refl, ap, subst, arith}
-use Rattle.trace_detect.proofs.Words.{Logged, Taken, HostWatch, HasTaken, watched_by, is_known, Condition, Watcher, taken_of}
+use Rattle.trace_detect.proofs.Words.{Logged, Taken, HostWatch, HasTaken, watched_by, is_known, Condition, Watcher}
+use Rattle.trace_detect.proofs.Words.{taken_of}
 use Rattle.trace_detect.proofs.Words.{IsWatching, CanTake, WatchesNext, host_of, slice_index_or}
 use Rattle.std.proofs.lemmas.List.{get_or_default}
 use Rattle.std.specs.Prelude.{MatchBool}
