@@ -149,17 +149,26 @@ fn a_watch_over_the_same_book_is_waited_for_anew(rt: HostRuntime) {
     );
 }
 
+/// Watches two of this member: the report.
+fn report_of_two<R: Threads + Wait + Sync + Abort>(
+    rt: &R,
+    alloc: Global,
+    member: Member,
+    book: &Mutex<Book>,
+) -> Report {
+    let watched = watch_two(rt, alloc, member, book).expect(rt, "a watch");
+    watched.outcome.report
+}
+
 /// Nothing of the watch before is left in the book.
 #[test]
 fn a_book_is_begun_anew_for_each_watch(rt: HostRuntime) {
     let alloc = rt.alloc();
     let book = Mutex::new(Book::new(2));
-    let eager = watch_two(&rt, alloc, Member::Eager(alloc), &book).expect(&rt, "a watch");
-    let idle = watch_two(&rt, alloc, Member::Idle, &book).expect(&rt, "another watch");
-    assert_eq!(rt;
-        (eager.outcome.report, idle.outcome.report),
-        (Report::Found(first_cut()), Report::Nothing)
-    );
+    let eager = report_of_two(&rt, alloc, Member::Eager(alloc), &book);
+    assert_eq!(rt; eager, Report::Found(first_cut()));
+    let idle = report_of_two(&rt, alloc, Member::Idle, &book);
+    assert_eq!(rt; idle, Report::Nothing);
     assert_answer(&rt, alloc, &book, CutAnswer::Nothing);
 }
 
