@@ -38,19 +38,20 @@ version_text = codes "wcpdraw 0.2.0" ++ 10 ∷ codes "rattle-kit-13f logic dac82
 
 -- The answer to a request. Help, whose text it carries, and the version read nothing.
 abbrev pub AnswersRequest : DrawRequest → Known → Known → List ℕ → ℕ → Type 0
-AnswersRequest (Picture list) input input_after printed status =
-    AnswersPicture (seen_list list) input input_after printed status
+AnswersRequest (Picture picture) input input_after printed status =
+    AnswersPicture (seen_list picture.names) input input_after printed status
 AnswersRequest (Help text) input input_after printed status =
     Keeps input input_after × (printed ≡ string_bytes text) × (status ≡ 0)
 AnswersRequest Version input input_after printed status =
     Keeps input input_after × (printed ≡ version_text) × (status ≡ 0)
-AnswersRequest Unknown input input_after printed status = ⊥
+AnswersRequest (Unknown why) input input_after printed status = ⊥
 
 -- A fault is why the input wasn't read: where that is its size, it has more bytes than a text may.
 abbrev pub IsWhyUnread : Known → IoFault → Type 0
 IsWhyUnread bytes io.Read = Unit {0}
 IsWhyUnread bytes io.TooLarge = IfSome bytes (λ bytes. most_bytes < length bytes)
 IsWhyUnread bytes io.Write = ⊥
+IsWhyUnread bytes io.Closed = ⊥
 IsWhyUnread bytes io.Memory = Unit {0}
 
 -- A fault is why there is no picture with these names: the input wasn't read; or it was, whole, and has no picture.
@@ -58,17 +59,20 @@ abbrev pub IsWhyNoPicture : Option (List ℕ) → Known → Known → DrawFault 
 IsWhyNoPicture list bytes bytes_after (fault.Io given) = IsWhyUnread bytes given
 IsWhyNoPicture list bytes bytes_after (fault.Sketch given) =
     (text : List ℕ) × IsInput bytes bytes_after text × IsWhy list text given
-IsWhyNoPicture list bytes bytes_after fault.Usage = ⊥
+IsWhyNoPicture list bytes bytes_after (fault.Usage why) = ⊥
+IsWhyNoPicture list bytes bytes_after (fault.File given) = ⊥
 
 -- A fault is why a request has no answer.
 abbrev pub IsWhyNoAnswer : DrawRequest → Known → Known → DrawFault → Type 0
-IsWhyNoAnswer (Picture list) bytes bytes_after given = IsWhyNoPicture (seen_list list) bytes bytes_after given
+IsWhyNoAnswer (Picture picture) bytes bytes_after given =
+    IsWhyNoPicture (seen_list picture.names) bytes bytes_after given
 IsWhyNoAnswer (Help text) bytes bytes_after given = ⊥
 IsWhyNoAnswer Version bytes bytes_after given = given ≡ fault.Io io.Memory
-IsWhyNoAnswer Unknown bytes bytes_after given = given ≡ fault.Usage
+IsWhyNoAnswer (Unknown why) bytes bytes_after given = given ≡ fault.Usage why
 
--- A fault is why a request has no answer; or memory ran out, or a write failed.
+-- A fault is why a request has no answer; or memory ran out, or a write failed, or nobody reads the output any more.
 abbrev pub IsWhyRefused : DrawRequest → Known → Known → DrawFault → Type 0
 IsWhyRefused request bytes bytes_after (fault.Io io.Memory) = Unit {0}
 IsWhyRefused request bytes bytes_after (fault.Io io.Write) = Unit {0}
+IsWhyRefused request bytes bytes_after (fault.Io io.Closed) = Unit {0}
 IsWhyRefused request bytes bytes_after given = IsWhyNoAnswer request bytes bytes_after given

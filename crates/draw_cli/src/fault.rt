@@ -1,18 +1,22 @@
 ghost use Rattle.std.specs.Prelude.{◌≡◌};
 ghost use Rattle.wcp_io.specs.declared.io_fault.IoFault.TheVariants.{Memory};
-ghost use Rattle.draw_cli.specs.declared.fault.DrawFault.TheVariants.{Io, Sketch};
+ghost use Rattle.draw_cli.specs.declared.fault.DrawFault.TheVariants.{File, Io, Sketch};
 
 use crate::sketch_fault::SketchFault;
 use std::alloc::AllocError;
 use thiserror::Error;
 use wcp_io::IoFault;
+use wcp_words::FileFault;
 
 /// Why the program gives no answer. It displays as its line on standard error, without the name of the program.
-#[derive(Clone, Copy, Debug, PartialEq, Eq, Error)]
+#[derive(Debug, Drop, Error)]
 pub enum DrawFault {
-    /// The words after the program's name ask for nothing that it knows.
-    #[error("usage")]
-    Usage,
+    /// The words after the program's name ask for nothing that it knows, as this line says.
+    #[error("usage: {why}")]
+    Usage { why: String },
+    /// The file that the words name isn't read.
+    #[error(transparent)]
+    File(FileFault),
     /// The input wasn't read, the output wasn't written, or memory ran out elsewhere.
     #[error(transparent)]
     Io(IoFault),
@@ -26,6 +30,14 @@ impl From<AllocError> for DrawFault {
 
     fn from(_error: AllocError) -> DrawFault {
         DrawFault::Io(IoFault::Memory)
+    }
+}
+
+impl From<FileFault> for DrawFault {
+    ghost from_gives = { λ fault given. given ≡ File fault };
+
+    fn from(fault: FileFault) -> DrawFault {
+        DrawFault::File(fault)
     }
 }
 

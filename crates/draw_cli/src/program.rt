@@ -1,10 +1,10 @@
 //! The program, over any reader and writers.
-ghost use Rattle.std.specs.Prelude.{◌≡◌, ◌≤◌, string_bytes, IfOk, IfErr};
+ghost use Rattle.std.specs.Prelude.{◌≡◌, ◌⊎◌, ◌≤◌, string_bytes, IfOk, IfErr};
 ghost use Rattle.std.specs.Io.KnownBytes.{Keeps};
 ghost use Rattle.draw_cli.specs.Answers.{AnswersPicture, AnswersRequest, status_of};
 ghost use Rattle.draw_cli.specs.Answers.{seen_list, IsWhyNoAnswer, IsWhyNoPicture, IsWhyRefused};
 ghost use Rattle.wcp_io.specs.Edge.{edge_of};
-ghost use Rattle.draw_cli.specs.Edge.{DoesAsked, status_after};
+ghost use Rattle.draw_cli.specs.Edge.{DoesAsked, closed_pipe, status_after, status_of_fault};
 ghost use Rattle.draw_cli.specs.declared.words.DrawRequest.{DrawRequest};
 
 use crate::fault::DrawFault;
@@ -25,6 +25,9 @@ const NONE: u8 = 1;
 /// The status where there is no answer.
 const REFUSED: u8 = 2;
 
+/// The status where nobody reads the output any more: 128 and the number of SIGPIPE.
+const CLOSED_PIPE: u8 = 141;
+
 /// What the program prints, and its exit status.
 #[derive(Debug, Drop)]
 struct DrawAnswer {
@@ -35,7 +38,7 @@ struct DrawAnswer {
 /// Runs the program on its words, of which the first is its name, and gives its exit status.
 ///
 /// The input is read to its end. The answer is written in one piece, when all of it is known. Where there is none,
-/// `errors` gets one line that says why.
+/// `errors` gets one line that says why; it gets none where nobody reads the output any more.
 pub fn drive<S: AsStr, I: Read, O: Write, E: Write>(
     alloc: Global,
     words: &[S],
@@ -43,25 +46,30 @@ pub fn drive<S: AsStr, I: Read, O: Write, E: Write>(
     output: &mut O,
     errors: &mut E,
 ) -> u8
-    ensures status { result ≤ 2 }
+    ensures status { (result ≤ 2) ⊎ (result ≡ closed_pipe) }
     ensures quiet { result ≤ 1 → Keeps (E.contents errors.old) (E.contents errors.new) }
+    ensures silent { result ≡ closed_pipe → Keeps (E.contents errors.old) (E.contents errors.new) }
     ensures does { (request : DrawRequest) × DoesAsked request (edge_of (I.remaining input.old) (I.remaining input.new)
         (O.contents output.old) (O.contents output.new)) result }
 {
     let Ok(request) = read_words(alloc, words) else {
-        return refuse(errors, DrawFault::Io(IoFault::Memory));
+        return refuse(errors, &DrawFault::Io(IoFault::Memory));
     };
     match obey(alloc, request, input, output) {
         Ok(status) => status,
-        Err(fault) => refuse(errors, fault),
+        Err(fault) => refuse(errors, &fault),
     }
 }
 
-/// Writes the line that says why there is no answer, and gives the status where there is none. It is that status also
-/// where the line can't be written.
-pub fn refuse<E: Write>(errors: &mut E, fault: DrawFault) -> u8
-    ensures { result ≡ 2 }
+/// Writes the line that says why there is no answer, unless nobody reads the output any more, and gives the status. It
+/// is that status also where the line can't be written.
+pub fn refuse<E: Write>(errors: &mut E, fault: &DrawFault) -> u8
+    ensures status { result ≡ status_of_fault fault.now }
+    ensures silent { result ≡ closed_pipe → Keeps (E.contents errors.old) (E.contents errors.new) }
 {
+    if let DrawFault::Io(IoFault::Closed) = fault {
+        return CLOSED_PIPE;
+    }
     let _ = writeln!(errors, "wcpdraw: {fault}");
     REFUSED
 }
@@ -95,7 +103,7 @@ fn answer_to<I: Read>(
     ensures fault { IfErr result (IsWhyNoAnswer request.entry (I.remaining input.old) (I.remaining input.new)) }
 {
     match request {
-        DrawRequest::Picture(list) => picture_of_input(alloc, list, input),
+        DrawRequest::Picture(picture) => picture_of_input(alloc, picture.names, input),
         DrawRequest::Help(text) => Ok(DrawAnswer {
             text,
             status: FOUND,
@@ -104,7 +112,7 @@ fn answer_to<I: Read>(
             text: String::from_str(alloc, VERSION)?,
             status: FOUND,
         }),
-        DrawRequest::Unknown => Err(DrawFault::Usage),
+        DrawRequest::Unknown(why) => Err(DrawFault::Usage { why }),
     }
 }
 

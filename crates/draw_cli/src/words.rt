@@ -4,19 +4,38 @@ use clap::error::ErrorKind;
 use clap::{Arg, ArgAction, Command};
 use std::alloc::{AllocError, Global};
 use std::convert::AsStr;
+use wcp_words::{Source, usage_line};
 
 /// What the words ask for.
 #[derive(Debug, Drop)]
 pub enum DrawRequest<'a> {
-    /// The picture of a workload, whose processes have the names that stand between the commas of
-    /// this list, where there is one.
-    Picture(Option<&'a str>),
+    /// A picture of a workload.
+    Picture(PictureWords<'a>),
     /// This help text.
     Help(String),
     /// The program's version.
     Version,
-    /// Something that the program doesn't know.
-    Unknown,
+    /// Something that the program doesn't know. The line says why.
+    Unknown(String),
+}
+
+/// What the words say of a picture.
+#[derive(Clone, Copy, Debug)]
+pub struct PictureWords<'a> {
+    /// The list between whose commas the names of the processes stand, where there is one.
+    pub names: Option<&'a str>,
+    /// The name of the file that the workload stands in, where one is given.
+    pub file: Option<&'a str>,
+}
+
+impl<'a> DrawRequest<'a> {
+    /// What is read for the answer.
+    pub fn source(&self) -> Source<'a> {
+        match self {
+            DrawRequest::Picture(picture) => Source::named_by(picture.file),
+            _ => Source::Nowhere,
+        }
+    }
 }
 
 /// What the words ask for, of which the first is the program's name. `Err` where memory runs out.
@@ -25,12 +44,15 @@ pub fn read_words<'a, S: AsStr>(
     words: &'a [S],
 ) -> Result<DrawRequest<'a>, AllocError> {
     match command(alloc)?.try_get_matches_from(words) {
-        Ok(matches) => Ok(DrawRequest::Picture(matches.get_str("names"))),
+        Ok(matches) => Ok(DrawRequest::Picture(PictureWords {
+            names: matches.get_str("names"),
+            file: matches.get_str("file"),
+        })),
         Err(error) => match error.kind() {
             ErrorKind::DisplayHelp => Ok(DrawRequest::Help(error.to_string(alloc)?)),
             ErrorKind::DisplayVersion => Ok(DrawRequest::Version),
             ErrorKind::OutOfMemory => Err(AllocError),
-            _ => Ok(DrawRequest::Unknown),
+            _ => Ok(DrawRequest::Unknown(usage_line(alloc, &error)?)),
         },
     }
 }
@@ -45,10 +67,15 @@ fn command<'a>(alloc: Global) -> Result<Command<'a>, AllocError> {
         .long("names")
         .value_name("LIST")
         .help(help::NAMES);
+    let file = Arg::new(alloc, "file")
+        .value_name("FILE")
+        .help(help::FILE);
     Command::new(alloc, "wcpdraw")
+        .before_help(help::EXAMPLES)
         .about(help::ABOUT)
         .version(help::VERSION)
         .after_help(help::MORE)
         .arg(svg)?
-        .arg(names)
+        .arg(names)?
+        .arg(file)
 }

@@ -43,11 +43,17 @@ form_as found (Some name) is =
     let some : first_of (codes "form") (rows_of found) ≡ Some name.now =
     sym (first_value-rows found (codes "form")) ∙ sym is in rw some refl
 
+-- The file that `get_str` gives.
+pub file_as : (found : Found) → (name : Option (Bor Text))
+    → option_map (λ s. s.now) name ≡ first_value found (codes "file")
+    → option_map (λ s. s.now) name ≡ first_of (codes "file") (rows_of found)
+file_as found name is = is ∙ first_value-rows found (codes "file")
+
 not_for_memory : (request : TraceRequest) → IsRefusalOf kind.OutOfMemory request → ⊥
 not_for_memory (Trace options) refused = refused
 not_for_memory (Help text) refused = cc
 not_for_memory Version refused = cc
-not_for_memory Unknown refused = refused.2 refl
+not_for_memory (Unknown line) refused = refused.2 refl
 
 -- What is asked for by words that clap answers with an error.
 pub refused_as : {E : Type 0} (words : List Text) (why : ErrorKind) (result : Result TraceRequest E)

@@ -31,10 +31,16 @@ progress_option = record (new_rule (codes "progress")) {
   action = Some SetTrue;
 }
 
--- The options of the program.
+-- The file that the log stands in: a word without an option.
+abbrev pub file_argument : Rule
+file_argument = record (new_rule (codes "file")) {
+  value_names = 1;
+}
+
+-- The options of the program, and the file.
 abbrev pub rules : List Rule
 rules = condition_option (codes "while") ∷ condition_option (codes "from") ∷ condition_option (codes "until")
-    ∷ condition_option (codes "at") ∷ form_option ∷ progress_option ∷ []
+    ∷ condition_option (codes "at") ∷ form_option ∷ progress_option ∷ file_argument ∷ []
 
 -- The program's name, and that it has a version.
 abbrev pub named : App

@@ -46,4 +46,4 @@ AnswersRequest (Help text) input input_after printed status =
     Keeps input input_after × (printed ≡ string_bytes text) × (status ≡ 0)
 AnswersRequest Version input input_after printed status =
     Keeps input input_after × (printed ≡ version_text) × (status ≡ 0)
-AnswersRequest Unknown input input_after printed status = ⊥
+AnswersRequest (Unknown why) input input_after printed status = ⊥

@@ -1,7 +1,8 @@
 -- What the words of the program ask for.
-use Rattle.std.specs.Prelude.{◌≡◌, ◌≢◌, Bool, false, List, [], ◌∷◌, Some, None, codes, if◌then◌else◌}
+use Rattle.std.specs.Prelude.{◌≡◌, ◌≢◌, Bool, false, List, [], ◌∷◌, Some, None, option_map, codes}
+use Rattle.std.specs.Prelude.{if◌then◌else◌}
 use Rattle.std.specs.Str.{bytes_eq}
-use Rattle.clap.specs.Words.{Row, Text, IsAmong, fault_of, matches_of}
+use Rattle.clap.specs.Words.{Row, Text, IsAmong, fault_of, first_of, matches_of}
 use Rattle.clap.specs.declared.error.kind.ErrorKind.{ErrorKind}
 use Rattle.clap.specs.declared.error.kind.ErrorKind.TheVariants as kind
 use Rattle.trace_cli.specs.declared.options.TraceRequest.{TraceRequest}
@@ -16,11 +17,12 @@ pub record AreFoundIn (rows : List Row) (options : Options) : Type 0 where
   pub untils : seen_texts options.untils.items ≡ values_at (codes "until") rows
   pub ats : seen_texts options.ats.items ≡ values_at (codes "at") rows
   pub form : form_at rows ≡ Some options.form
+  pub file : option_map (λ name. name.now) options.file ≡ first_of (codes "file") rows
 
 -- Where no word is refused: a trace by what was found, or an unknown form.
 abbrev pub IsTraceOf : List Row → TraceRequest → Type 0
 IsTraceOf rows (Trace options) = AreFoundIn rows options
-IsTraceOf rows Unknown = form_at rows ≡ None
+IsTraceOf rows (Unknown why) = form_at rows ≡ None
 IsTraceOf rows (Help text) = ⊥
 IsTraceOf rows Version = ⊥
 
@@ -28,7 +30,7 @@ IsTraceOf rows Version = ⊥
 abbrev pub IsRefusalOf : ErrorKind → TraceRequest → Type 0
 IsRefusalOf why (Help text) = why ≡ kind.DisplayHelp
 IsRefusalOf why Version = why ≡ kind.DisplayVersion
-IsRefusalOf why Unknown = (why ≢ kind.DisplayHelp) × (why ≢ kind.DisplayVersion) × (why ≢ kind.OutOfMemory)
+IsRefusalOf why (Unknown line) = (why ≢ kind.DisplayHelp) × (why ≢ kind.DisplayVersion) × (why ≢ kind.OutOfMemory)
 IsRefusalOf why (Trace options) = ⊥
 
 -- What words ask for, of which the first is the program's name.

@@ -1,19 +1,23 @@
 ghost use Rattle.std.specs.Prelude.{◌≡◌};
 ghost use Rattle.wcp_io.specs.declared.io_fault.IoFault.TheVariants.{Memory};
-ghost use Rattle.trace_cli.specs.declared.fault.TraceFault.TheVariants.{Conditions, Detection, Io};
+ghost use Rattle.trace_cli.specs.declared.fault.TraceFault.TheVariants.{Conditions, Detection, File, Io};
 
 use std::alloc::AllocError;
 use thiserror::Error;
 use trace_condition::ConditionFault;
 use trace_detect::DetectFault;
 use wcp_io::IoFault;
+use wcp_words::FileFault;
 
 /// Why the program gives no answer. It displays as its line on standard error, without the name of the program.
 #[derive(Debug, Drop, Error)]
 pub enum TraceFault {
-    /// The words after the program's name ask for nothing that it knows.
-    #[error("usage")]
-    Usage,
+    /// The words after the program's name ask for nothing that it knows, as this line says.
+    #[error("usage: {why}")]
+    Usage { why: String },
+    /// The file that the words name isn't read.
+    #[error(transparent)]
+    File(FileFault),
     /// The words say no conditions, or an expression isn't one.
     #[error(transparent)]
     Conditions(ConditionFault),
@@ -46,6 +50,14 @@ impl From<DetectFault> for TraceFault {
 
     fn from(fault: DetectFault) -> TraceFault {
         TraceFault::Detection(fault)
+    }
+}
+
+impl From<FileFault> for TraceFault {
+    ghost from_gives = { λ fault given. given ≡ File fault };
+
+    fn from(fault: FileFault) -> TraceFault {
+        TraceFault::File(fault)
     }
 }
 

@@ -1,5 +1,15 @@
 //! What the program says of itself.
 
+/// Calls for the questions that are asked most.
+pub const EXAMPLES: &str = "\
+Examples:
+  wcptrace --while 'ada=holds|writes' --while 'ben=holds|writes' lease.log
+      Did Ada and Ben hold the lease at the same time?
+  wcptrace --from n1=leader --until n1=steps --from n2=leader --until n2=steps two_leaders.log
+      Were n1 and n2 leaders at the same time, each over several events?
+  tail -n +1 -f all.log | wcptrace --form lines --progress --at 'a=^writes' --at 'b=^writes'
+      Do a and b write at the same time? It is answered as soon as the log tells.";
+
 /// What the program does.
 pub const ABOUT: &str =
     "Finds the first moment in a log with vector clocks at which the conditions of all watched hosts held.";
@@ -28,11 +38,14 @@ pub const FORM: &str =
 pub const PROGRESS: &str =
     "Says on standard error, once a minute, how many events were read and which hosts logged none";
 
+/// What the word FILE says.
+pub const FILE: &str = "The log; standard input where none is given, or `-`";
+
 /// The forms, the answer, the exit statuses and the fault lines.
 pub const MORE: &str = "\
-The log is read from standard input, line by line as it comes in. Each host that is named by an
-option is watched, at most 16 of them, each by one condition; other hosts may stand in the log.
-HOST ends at the first `=`. REGEX is a regular expression, which may match anywhere in the text.
+The log is read line by line as it comes in. Each host that is named by an option is watched, at
+most 16 of them, each by one condition; other hosts may stand in the log. HOST ends at the first
+`=`. REGEX is a regular expression, which may match anywhere in the text.
 
   lines            a line for each event: {\"host\":\"alice\",\"clock\":{\"alice\":2},\"event\":\"holds\"}
   shiviz           two lines for each event: alice {\"alice\":2}, and then its text
@@ -46,9 +59,11 @@ The answer is written as soon as it is known:
 
 Exit status: 0 found, 1 none, 2 where no answer can be given, with one line on standard error:
   line L: KIND          line L has a fault: long, text, clock, own, order, falls or many
-  usage                 the words ask for nothing that the program knows
+  usage: WHY            the words ask for nothing that the program knows
+  FILE: WHY             the file can't be opened
   expression HOST: WHY  the expression of this host is none
   nohost HOST           this host logs nothing
   read, write           the input or the output failed
   memory                memory ran out
+Where the other end of the output's pipe is closed, the exit status is 141, without a line.
 ";

@@ -19,10 +19,12 @@
 //! A reader that tells has the bytes left that its input has, so what is proved of the program over known bytes holds
 //! over it.
 //!
-//! Tested, and said by no clause: what `clap` finds in plain words, and what is told of a log that is being read, and
-//! when.
+//! Tested, and said by no clause: what `clap` finds in plain words, the line on words that ask for nothing that the
+//! program knows, that the reader reads the file that they name, that 141 is given exactly where the writer's fault is a
+//! closed pipe, and what is told of a log that is being read, and when.
 #![tactic(auto)]
 
+mod conditions;
 mod fault;
 mod help;
 mod notes;

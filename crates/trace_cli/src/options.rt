@@ -1,6 +1,7 @@
-ghost use Rattle.std.specs.Prelude.{◌≡◌, false, map, IfOk};
-ghost use Rattle.clap.specs.Words.{app_of, found_of, kind_of, rows_of, rule_of};
+ghost use Rattle.std.specs.Prelude.{◌≡◌, false, map, option_map, codes, IfOk};
+ghost use Rattle.clap.specs.Words.{app_of, first_of, found_of, kind_of, rows_of, rule_of};
 ghost use Rattle.trace_cli.specs.Options.{program, named, condition_option, form_option, progress_option};
+ghost use Rattle.trace_cli.specs.Options.{file_argument};
 ghost use Rattle.trace_cli.specs.Options.{form_named, form_at, values_at, seen_texts};
 ghost use Rattle.trace_cli.specs.Requests.{IsRequestOf, IsTraceOf, IsRefusalOf, asks_by_word, spelled};
 
@@ -10,6 +11,7 @@ use clap::{Arg, ArgAction, ArgMatches, Command, Error};
 use std::alloc::{AllocError, Global};
 use std::convert::AsStr;
 use trace_log::Form;
+use wcp_words::{Source, usage_line};
 
 /// What the words ask for.
 #[derive(Debug, Drop)]
@@ -20,11 +22,12 @@ pub enum TraceRequest<'a> {
     Help(String),
     /// The program's version.
     Version,
-    /// Something that the program doesn't know.
-    Unknown,
+    /// Something that the program doesn't know. The line says why.
+    Unknown(String),
 }
 
-/// The values of the options: words HOST=REGEX in the order given for each, and the form of the log.
+/// The values of the options: words HOST=REGEX in the order given for each, the form of the log, and the name of the
+/// file that it stands in, where one is given.
 #[derive(Debug, Drop)]
 pub struct Options<'a> {
     pub whiles: Vec<&'a str>,
@@ -32,6 +35,17 @@ pub struct Options<'a> {
     pub untils: Vec<&'a str>,
     pub ats: Vec<&'a str>,
     pub form: Form,
+    pub file: Option<&'a str>,
+}
+
+impl<'a> TraceRequest<'a> {
+    /// What is read for the answer.
+    pub fn source(&self) -> Source<'a> {
+        match self {
+            TraceRequest::Trace(options) => Source::named_by(options.file),
+            _ => Source::Nowhere,
+        }
+    }
 }
 
 /// What the words ask for, of which the first is the program's name.
@@ -73,7 +87,7 @@ fn trace_of<'a>(alloc: Global, matches: &ArgMatches<'a>) -> Result<TraceRequest<
     ensures { IfOk result (IsTraceOf (rows_of (found_of matches.now))) }
 {
     let Some(form) = form_of(matches) else {
-        return Ok(TraceRequest::Unknown);
+        return Ok(TraceRequest::Unknown(unknown_form(alloc, matches)?));
     };
     let whiles = values_of(alloc, matches, "while")?;
     let froms = values_of(alloc, matches, "from")?;
@@ -85,7 +99,21 @@ fn trace_of<'a>(alloc: Global, matches: &ArgMatches<'a>) -> Result<TraceRequest<
         untils,
         ats,
         form,
+        file: file_of(matches),
     }))
+}
+
+/// The line that says which forms there are.
+fn unknown_form(alloc: Global, matches: &ArgMatches<'_>) -> Result<String, AllocError> {
+    let name = matches.get_str("form").unwrap_or("");
+    format!(in alloc; "there is no form '{name}'; the forms are lines, shiviz and shiviz-reversed")
+}
+
+/// The name of the file, if one is given.
+fn file_of<'a>(matches: &ArgMatches<'a>) -> Option<&'a str>
+    ensures { option_map (λ name. name.now) result ≡ first_of (codes "file") (rows_of (found_of matches.now)) }
+{
+    matches.get_str("file")
 }
 
 /// The values of an option, in the order given.
@@ -133,7 +161,7 @@ fn request_without_matches<'a>(alloc: Global, error: &Error) -> Result<TraceRequ
         ErrorKind::DisplayHelp => Ok(TraceRequest::Help(error.to_string(alloc)?)),
         ErrorKind::DisplayVersion => Ok(TraceRequest::Version),
         ErrorKind::OutOfMemory => Err(AllocError),
-        _ => Ok(TraceRequest::Unknown),
+        _ => Ok(TraceRequest::Unknown(usage_line(alloc, error)?)),
     }
 }
 
@@ -147,7 +175,8 @@ fn command<'a>(alloc: Global) -> Result<Command<'a>, AllocError>
         .arg(condition_option(alloc, "until", help::UNTIL))?
         .arg(condition_option(alloc, "at", help::AT))?
         .arg(form_option(alloc))?
-        .arg(progress_option(alloc))
+        .arg(progress_option(alloc))?
+        .arg(file_argument(alloc))
 }
 
 /// The program's name, and what it says of itself.
@@ -155,6 +184,7 @@ fn named<'a>(alloc: Global) -> Command<'a>
     ensures { app_of result ≡ named }
 {
     Command::new(alloc, "wcptrace")
+        .before_help(help::EXAMPLES)
         .about(help::ABOUT)
         .version(help::VERSION)
         .after_help(help::MORE)
@@ -192,4 +222,14 @@ fn progress_option<'a>(alloc: Global) -> Arg<'a>
         .long("progress")
         .action(ArgAction::SetTrue)
         .help(help::PROGRESS)
+}
+
+/// The file of the log.
+fn file_argument<'a>(alloc: Global) -> Arg<'a>
+    ensures rule { rule_of result ≡ file_argument }
+    ensures local { result.global ≡ false }
+{
+    Arg::new(alloc, "file")
+        .value_name("FILE")
+        .help(help::FILE)
 }

@@ -1,19 +1,20 @@
 //! The program, over any reader and writers.
-ghost use Rattle.std.specs.Prelude.{◌≡◌, ◌≤◌, map, IfOk};
+ghost use Rattle.std.specs.Prelude.{◌≡◌, ◌⊎◌, ◌≤◌, map, IfErr, IfOk};
 ghost use Rattle.std.specs.Io.KnownBytes.{Keeps};
 ghost use Rattle.wcp_io.specs.Edge.{edge_of};
-ghost use Rattle.trace_cli.specs.Edge.{DoesAsked, status_after};
+ghost use Rattle.trace_cli.specs.Edge.{DoesAsked, closed_pipe, refused, status_after, status_of};
 ghost use Rattle.trace_cli.specs.Requested.{AnswersRequest, AnswersTrace};
 
 use crate::fault::TraceFault;
 use crate::help::VERSION;
+use crate::conditions::why_none;
 use crate::options::{Options, TraceRequest, read_options};
-use std::alloc::Global;
+use std::alloc::{AllocError, Global};
 use std::convert::AsStr;
 use std::io::{Read, Write};
-use trace_condition::{ConditionWords, read_conditions};
+use trace_condition::{ConditionFault, ConditionWords, read_conditions};
 use trace_detect::{Listener, TraceAnswer, detect};
-use wcp_io::write_whole;
+use wcp_io::{IoFault, write_whole};
 
 /// The status after help and the version.
 const TOLD: u8 = 0;
@@ -21,11 +22,14 @@ const TOLD: u8 = 0;
 /// The status where there is no answer.
 const REFUSED: u8 = 2;
 
+/// The status where nobody reads the output any more: 128 and the number of SIGPIPE.
+const CLOSED_PIPE: u8 = 141;
+
 /// Runs the program on its words, of which the first is its name, and gives its exit status.
 ///
 /// The input is read line by line as it comes, and no further than the answer wants. The answer is written in one
-/// piece, as soon as it is known. Where there is none, `errors` gets one line that says why. The listener is told of
-/// each event of a log.
+/// piece, as soon as it is known. Where there is none, `errors` gets one line that says why; it gets none where nobody
+/// reads the output any more. The listener is told of each event of a log.
 pub fn drive<S: AsStr, I: Read, O: Write, E: Write, L: Listener>(
     alloc: Global,
     words: &[S],
@@ -34,8 +38,9 @@ pub fn drive<S: AsStr, I: Read, O: Write, E: Write, L: Listener>(
     errors: &mut E,
     listener: &mut L,
 ) -> u8
-    ensures status { result ≤ 2 }
+    ensures status { (result ≤ 2) ⊎ (result ≡ closed_pipe) }
     ensures quiet { result ≤ 1 → Keeps (E.contents errors.old) (E.contents errors.new) }
+    ensures silent { result ≡ closed_pipe → Keeps (E.contents errors.old) (E.contents errors.new) }
     ensures does { DoesAsked (map S.text words.now) (edge_of (I.remaining input.old) (I.remaining input.new)
         (O.contents output.old) (O.contents output.new)) result }
 {
@@ -45,11 +50,15 @@ pub fn drive<S: AsStr, I: Read, O: Write, E: Write, L: Listener>(
     }
 }
 
-/// Writes the line that says why there is no answer, and gives the status where there is none. It is that status also
-/// where the line can't be written.
+/// Writes the line that says why there is no answer, unless nobody reads the output any more, and gives the status. It
+/// is that status also where the line can't be written.
 pub fn refuse<E: Write>(errors: &mut E, fault: &TraceFault) -> u8
-    ensures { result ≡ 2 }
+    ensures status { result ≡ status_of fault.now }
+    ensures silent { result ≡ closed_pipe → Keeps (E.contents errors.old) (E.contents errors.new) }
 {
+    if let TraceFault::Io(IoFault::Closed) = fault {
+        return CLOSED_PIPE;
+    }
     let _ = writeln!(errors, "wcptrace: {fault}");
     REFUSED
 }
@@ -82,9 +91,13 @@ fn answer_to<I: Read, L: Listener>(
     ensures answer { IfOk result (λ answer. AnswersRequest request.entry (I.remaining input.old) (I.remaining input.new)
         answer.text.items answer.status) }
     ensures status { IfOk result (λ answer. answer.status ≤ 1) }
+    ensures fault { IfErr result (λ fault. status_of fault ≡ refused) }
 {
     match request {
-        TraceRequest::Trace(options) => answer_to_trace(alloc, &options, input, listener),
+        TraceRequest::Trace(options) => match answer_to_trace(alloc, &options, input, listener) {
+            Err(TraceFault::Conditions(ConditionFault::Usage)) => Err(no_conditions(alloc, &options)),
+            answered => answered,
+        },
         TraceRequest::Help(text) => Ok(TraceAnswer {
             text: text.into_bytes(),
             status: TOLD,
@@ -94,7 +107,17 @@ fn answer_to<I: Read, L: Listener>(
             text.extend_from_slice(VERSION.as_bytes())?;
             Ok(TraceAnswer { text, status: TOLD })
         }
-        TraceRequest::Unknown => Err(TraceFault::Usage),
+        TraceRequest::Unknown(why) => Err(TraceFault::Usage { why }),
+    }
+}
+
+/// The fault of options that say no conditions.
+fn no_conditions(alloc: Global, options: &Options<'_>) -> TraceFault
+    ensures { status_of result ≡ refused }
+{
+    match why_none(alloc, options) {
+        Ok(why) => TraceFault::Usage { why },
+        Err(AllocError) => TraceFault::Io(IoFault::Memory),
     }
 }
 
@@ -108,6 +131,7 @@ fn answer_to_trace<I: Read, L: Listener>(
     ensures answer { IfOk result (λ answer. AnswersTrace options.now (I.remaining input.old) (I.remaining input.new)
         answer.text.items answer.status) }
     ensures status { IfOk result (λ answer. answer.status ≤ 1) }
+    ensures fault { IfErr result (λ fault. status_of fault ≡ refused) }
 {
     let words = ConditionWords {
         whiles: options.whiles.as_slice(),

@@ -16,6 +16,9 @@ pub enum IoFault {
     /// A write failed, or nothing more could be written.
     #[error("write")]
     Write,
+    /// Nobody reads the output any more, as where the other end of a pipe is closed.
+    #[error("write")]
+    Closed,
     /// Memory ran out.
     #[error("memory")]
     Memory,

@@ -17,6 +17,7 @@ pub fn read_text<R: Read>(alloc: Global, input: &mut R) -> Result<Vec<u8>, IoFau
     ensures too_large { IsErrOf result IoFault.TooLarge
         → IfSome (R.remaining input.old) (λ bytes. most_bytes < length bytes) }
     ensures read { IfErr result (λ fault. fault ≢ IoFault.Write) }
+    ensures no_pipe { IfErr result (λ fault. fault ≢ IoFault.Closed) }
 {
     let mut text = Vec::new(alloc);
     let mut block = [0u8; BLOCK];
@@ -48,6 +49,7 @@ fn push_block(text: &mut Vec<u8>, block: &[u8]) -> Result<(), IoFault>
     ensures within { OnOk result (vec_len text.new ≤ most_bytes) }
     ensures too_large { IsErrOf result IoFault.TooLarge → most_bytes < vec_len text.old + length block.now }
     ensures read { IfErr result (λ fault. fault ≢ IoFault.Write) }
+    ensures no_pipe { IfErr result (λ fault. fault ≢ IoFault.Closed) }
 {
     if MAX_BYTES - text.len() < block.len() {
         return Err(IoFault::TooLarge);

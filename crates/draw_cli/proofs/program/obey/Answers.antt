@@ -25,3 +25,9 @@ returns-clause-does g c =
     Whole _ c.in_ok-answer.ensures.answer
     (subst (Appends (g.O.Write.contents c.args.output.now) (g.O.Write.contents c.write_whole.new.output))
     c.as_bytes.ensures.value c.in_ok-write_whole.ensures.ok)
+
+pub returns-in_err-answer-clause-does : goal.returns-in_err-answer-clause-does
+returns-in_err-answer-clause-does g c =
+    let handed = err_from_is_err_and c.from_residual.result c.from_residual.ensures.1 in
+    rw (handed.1, handed.2)
+    (Quiet (Keeps-refl _) (no_answer_refused c.args.request _ _ c.in_err-answer.field-0.0 c.in_err-answer.ensures.fault))

@@ -13,6 +13,8 @@ returns c =
     ∙ ap₂ with_rule third c.condition_option-4.ensures.rule in
     let fifth = c.in_ok-arg-5.ensures.shape c.form_option.ensures.local
     ∙ ap₂ with_rule fourth c.form_option.ensures.rule in
-    IfOk-weaker c.arg-6.result _ _
-    (λ r adds. adds.shape c.progress_option.ensures.local ∙ ap₂ with_rule fifth c.progress_option.ensures.rule)
-    c.arg-6.ensures
+    let sixth = c.in_ok-arg-6.ensures.shape c.progress_option.ensures.local
+    ∙ ap₂ with_rule fifth c.progress_option.ensures.rule in
+    IfOk-weaker c.arg-7.result _ _
+    (λ r adds. adds.shape c.file_argument.ensures.local ∙ ap₂ with_rule sixth c.file_argument.ensures.rule)
+    c.arg-7.ensures

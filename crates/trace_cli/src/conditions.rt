@@ -1,0 +1,85 @@
+//! Why the words of a call say no conditions.
+use crate::options::Options;
+use std::alloc::{AllocError, Global};
+
+/// The most hosts that have a condition.
+const MAX_HOSTS: usize = 16;
+
+/// Why the options say no conditions, in a line.
+pub(crate) fn why_none(alloc: Global, options: &Options<'_>) -> Result<String, AllocError> {
+    if let Some(line) = bad_word(alloc, options)? {
+        return Ok(line);
+    }
+    let froms = hosts_of(alloc, options.froms.as_slice())?;
+    let untils = hosts_of(alloc, options.untils.as_slice())?;
+    if let Some(host) = missing_in(&froms, &untils) {
+        return format!(in alloc; "--from of {host} has no --until");
+    }
+    if let Some(host) = missing_in(&untils, &froms) {
+        return format!(in alloc; "--until of {host} has no --from");
+    }
+    let mut hosts = hosts_of(alloc, options.whiles.as_slice())?;
+    hosts.extend_from_slice(&froms)?;
+    hosts.append(&mut hosts_of(alloc, options.ats.as_slice())?)?;
+    if let Some(host) = repeated_in(&hosts) {
+        return format!(in alloc; "{host} has more than one condition");
+    }
+    if let Some(host) = repeated_in(&untils) {
+        return format!(in alloc; "--from of {host} has more than one --until");
+    }
+    let count = hosts.len();
+    if count > MAX_HOSTS {
+        return format!(in alloc; "{count} hosts have a condition, and at most {MAX_HOSTS} may");
+    }
+    String::from_str(alloc, "no host has a condition: give --while, --from and --until, or --at")
+}
+
+/// What is wrong with the first word that has no host or no expression, if there is one.
+fn bad_word(alloc: Global, options: &Options<'_>) -> Result<Option<String>, AllocError> {
+    let lists = [
+        ("--while", options.whiles.as_slice()),
+        ("--from", options.froms.as_slice()),
+        ("--until", options.untils.as_slice()),
+        ("--at", options.ats.as_slice()),
+    ];
+    for (option, words) in lists {
+        for word in words {
+            if host_of(word).is_empty() || !word.contains('=') {
+                return Ok(Some(format!(in alloc; "{option} takes HOST=REGEX, and not '{word}'")?));
+            }
+        }
+    }
+    Ok(None)
+}
+
+/// What stands before the first `=`.
+fn host_of<'a>(word: &'a str) -> &'a str {
+    match word.split_once('=') {
+        Some((host, _)) => host,
+        None => word,
+    }
+}
+
+/// The hosts of these words.
+fn hosts_of<'a>(alloc: Global, words: &[&'a str]) -> Result<Vec<&'a str>, AllocError> {
+    let mut hosts = Vec::with_capacity(alloc, words.len())?;
+    for word in words {
+        hosts.push(host_of(word))?;
+    }
+    Ok(hosts)
+}
+
+/// The first of the hosts that isn't among the others.
+fn missing_in<'a>(hosts: &[&'a str], others: &[&'a str]) -> Option<&'a str> {
+    hosts.iter().find(|host| !others.contains(host)).copied()
+}
+
+/// The first of the hosts that stands again behind it.
+fn repeated_in<'a>(hosts: &[&'a str]) -> Option<&'a str> {
+    for (place, host) in hosts.iter().enumerate() {
+        if hosts[place + 1..].contains(host) {
+            return Some(host);
+        }
+    }
+    None
+}

@@ -1,0 +1,54 @@
+use crate::source::Source;
+use either::Either;
+use std::alloc::AllocError;
+use std::fs;
+use std::io::{self, IsTerminal, Read, Write};
+use std::rt::Files;
+use thiserror::Error;
+
+/// Why the file that a call names isn't read.
+#[derive(Debug, Drop, Error)]
+pub enum FileFault {
+    /// It can't be opened.
+    #[error("{name}: {why}")]
+    Open { name: String, why: io::Error },
+    /// Memory ran out.
+    #[error("memory")]
+    Memory,
+}
+
+impl From<AllocError> for FileFault {
+    fn from(_error: AllocError) -> FileFault {
+        FileFault::Memory
+    }
+}
+
+/// Opens what is read: the file, or else standard input.
+pub fn open<R: Files + AllocGlobal, S: Read + Drop>(
+    rt: &R,
+    source: Source<'_>,
+    standard_input: S,
+) -> Result<Either<R::File, S>, FileFault> {
+    let Source::File(name) = source else {
+        return Ok(Either::Right(standard_input));
+    };
+    match fs::open(rt, name) {
+        Ok(file) => Ok(Either::Left(file)),
+        Err(why) => Err(FileFault::Open {
+            name: String::from_str(rt.alloc(), name)?,
+            why,
+        }),
+    }
+}
+
+/// Says in a line that the program reads from a terminal, where it does.
+pub fn tell_terminal<S: IsTerminal, E: Write>(
+    program: &str,
+    source: Source<'_>,
+    standard_input: &S,
+    errors: &mut E,
+) {
+    if source == Source::StandardInput && standard_input.is_terminal() {
+        let _ = writeln!(errors, "{program}: reads from the terminal, until Ctrl-D at the start of a line");
+    }
+}
