@@ -1,7 +1,7 @@
-# Completion of wcpwatch, wcptrace and wcpdraw for bash 4.4 and later. Source it; the package bash-completion isn't needed.
+# Completion of wcpwatch, wcptrace and wcpdraw for bash 4.4 and later. The package bash-completion isn't needed.
 
-# Sets `current`, the word at the cursor, `before`, the words between the program and that one, and `previous`, the last
-# of those. Bash cuts a word at each `=` and `:` that isn't quoted; here its pieces are put together again.
+# Sets `current`, the word at the cursor, `before`, the words between the program and it, and `previous`, the last of
+# these. Bash cuts a word at each `=` and `:` that isn't quoted; here its pieces are put together again.
 _wullaphi_words() {
     local piece is_open=
     before=()
@@ -32,8 +32,8 @@ _wullaphi_offer() {
     mapfile -t COMPREPLY < <(compgen -W "$*" -- "$current")
 }
 
-# Offers those of these values that begin with what stands behind the `=`. Bash replaces the value alone where it cuts a
-# word at `=`, and else the whole word.
+# Offers those of these values that begin with what stands behind the `=`. Where bash cuts words at `=`, it replaces
+# the value alone, and else the whole word.
 _wullaphi_offer_value() {
     local front=${current%%=*}=
     [[ $COMP_WORDBREAKS != *=* ]] || front=
