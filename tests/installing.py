@@ -139,15 +139,16 @@ def write_program(file, text):
 
 
 def scratch_repository(top):
-    """A repository with all that is installed but the programs, which nothing builds."""
-    for name in (*NAMES, "install", "run_program.sh", "crates.txt", "README.md", "CHANGELOG.md",
-                 *(it.name for it in TOP.glob("LICENSE-*"))):
-        top.mkdir(exist_ok=True)
-        shutil.copy(TOP / name, top / name)
+    """A repository with all that is installed but the programs, which nothing can build."""
+    top.mkdir()
+    for file in [TOP / "install", TOP / "run_program.sh", *(TOP / name for name in NAMES), *TOP.glob("[A-Z]*")]:
+        if file.is_file():
+            shutil.copy(file, top / file.name)
     for name in ("man", "completions", "docs", "examples"):
         shutil.copytree(TOP / name, top / name)
     for name in NAMES:
         (top / "crates" / name).mkdir(parents=True)
+    (top / "crates.txt").write_text("".join(f"{name}:\n" for name in NAMES))
     return top
 
 
@@ -156,9 +157,9 @@ def sources():
     found = {f"bin/{name}": (f"crates/{name}/out/{name}", 0o755) for name in NAMES}
     found.update({f"share/man/man1/{name}.1": (f"man/{name}.1", 0o644) for name in NAMES})
     found[f"{COMPLETIONS}/wullaphi.bash"] = ("completions/wullaphi.bash", 0o644)
-    documents = [*TOP.glob("*.md"), *TOP.glob("LICENSE-*"), *TOP.glob("docs/**/*.*"), *TOP.glob("examples/*.*")]
-    for document in documents:
-        if document.is_file() and document.name != "CONTRIBUTING.md":
+    documents = [*TOP.glob("LICENSE-*"), *TOP.glob("docs/**/*.*"), *TOP.glob("examples/*.*")]
+    for document in (TOP / "README.md", TOP / "CHANGELOG.md", *documents):
+        if not document.name.startswith(".") and not document.name.endswith("~"):
             found[f"{DOCUMENTS}/{document.relative_to(TOP)}"] = (str(document.relative_to(TOP)), 0o644)
     return found
 
@@ -200,9 +201,8 @@ def check_files(checks, installer, prefix):
 
 def call(prefix, line, folder, given=None):
     """What bash says to a line that calls the installed programs from this folder."""
-    environment = {**os.environ, "PATH": f"{prefix}/bin:/usr/bin:/bin"}
-    return subprocess.run(["bash", "--norc", "-c", line], cwd=folder, env=environment, input=given, capture_output=True,
-                          timeout=SECONDS, check=False)
+    return subprocess.run(["bash", "--norc", "-c", line], cwd=folder, input=given, capture_output=True,
+                          env={**os.environ, "PATH": f"{prefix}/bin:/usr/bin:/bin"}, timeout=SECONDS, check=False)
 
 
 def check_programs(checks, prefix, room):
@@ -233,7 +233,7 @@ def plain(source):
 def examples(page):
     """Each command that a page shows, and what the page says that it prints."""
     for block in re.findall(r"^\.EX\n(\$ .*?)^\.EE\n", plain(page), re.M | re.S):
-        yield re.fullmatch(r"\$ ((?:.*\\\n)*.*)\n(.*)", block, re.S).groups()
+        yield re.fullmatch(r"\$ ((?:.*\\\n)*.*)\n((?:.*\n)*)", block).groups()
 
 
 def check_examples(checks, prefix, room):
@@ -264,7 +264,8 @@ def listed(name):
 
 
 def check_manuals(checks, prefix):
-    """Each page is a page without faults, and has what the help of its program lists, and no other option."""
+    """Each page has no fault, and has what the help of its program lists, and no option that no help has."""
+    known = "".join((TOP / f"crates/{name}/runs/help").read_text() for name in NAMES)
     for name in NAMES:
         file = prefix / f"share/man/man1/{name}.1"
         page = plain(file.read_text())
@@ -273,9 +274,8 @@ def check_manuals(checks, prefix):
         checks.holds(f"the help of {name} lists --help", "--help" in options)
         for word in commands + options:
             checks.holds(f"{word} stands in the page of {name}", re.search(rf"(?<![\w-]){word}(?![\w-])", page))
-        known = (TOP / f"crates/{name}/runs/help").read_text()
         for option in sorted(set(re.findall(r"(?<![\w-])--[a-z][a-z-]*", page)) - {"--wihle"}):
-            checks.holds(f"{option} of the page stands in the help of {name}", option in known)
+            checks.holds(f"{option} of the page of {name} stands in a help", option in known)
         for reader in (["man", "--warnings", "-l"], ["mandoc", "-T", "lint", "-W", "warning"]):
             if shutil.which(reader[0]):
                 ended = subprocess.run([*reader, file], capture_output=True, text=True, timeout=SECONDS, check=False)
@@ -384,7 +384,8 @@ def check_failures(checks, room, top):
     for name in NAMES:
         write_program(top / "crates" / name / "out" / name, PROGRAM)
     prefix = room / "prefix"
-    checks.equal("a scratch repository: the status", installer(prefix).returncode, 0)
+    ended = installer(prefix)
+    checks.equal("a scratch repository: the status and the errors", (ended.returncode, ended.stderr), (0, ""))
     before = contents(prefix)
     (top / "README.md").write_text("a new page\n")
     (top / "completions" / "wullaphi.bash").unlink()
