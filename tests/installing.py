@@ -264,7 +264,7 @@ def listed(name):
 
 
 def check_manuals(checks, prefix):
-    """Each page has no fault, and has what the help of its program lists, and no option that no help has."""
+    """Each page has no fault, a paragraph for what the help of its program lists, and no option that no help has."""
     known = "".join((TOP / f"crates/{name}/runs/help").read_text() for name in NAMES)
     for name in NAMES:
         file = prefix / f"share/man/man1/{name}.1"
@@ -272,8 +272,10 @@ def check_manuals(checks, prefix):
         checks.equal(f"the names in the page of {name}", re.findall(r"^\.SH NAME\n(\w+) - ", page, re.M), [name])
         commands, options = listed(name)
         checks.holds(f"the help of {name} lists --help", "--help" in options)
+        tags = "\n".join(re.findall(r"^\.TP\n(.*)", page, re.M))
         for word in commands + options:
-            checks.holds(f"{word} stands in the page of {name}", re.search(rf"(?<![\w-]){word}(?![\w-])", page))
+            it = re.search(rf"(?<![\w-]){word}(?![\w-])", tags)
+            checks.holds(f"{word} has its paragraph in the page of {name}", it)
         for option in sorted(set(re.findall(r"(?<![\w-])--[a-z][a-z-]*", page)) - {"--wihle"}):
             checks.holds(f"{option} of the page of {name} stands in a help", option in known)
         for reader in (["man", "--warnings", "-l"], ["mandoc", "-T", "lint", "-W", "warning"]):
@@ -304,7 +306,7 @@ def check_completion(checks, prefix):
 
 
 def check_again(checks, installer, prefix):
-    """A second call mends what is damaged, through no link, and keeps the files of others."""
+    """A second call replaces what is damaged. It replaces a link too, and leaves the file to which this points."""
     wanted = contents(prefix)
     ours = prefix / "bin" / "wcptrace"
     ours.unlink()
@@ -314,21 +316,24 @@ def check_again(checks, installer, prefix):
     (prefix / "share/man/man1/wcpdraw.1").write_text("old\n")
     (prefix / COMPLETIONS / "wcpdraw").unlink()
     checks.equal("a second call: the status", installer(prefix).returncode, 0)
-    checks.holds("it keeps the files of others", other.read_text() == "of another program\n")
+    checks.holds("a second call leaves the files of others", other.read_text() == "of another program\n")
     other.unlink()
-    checks.holds("it mends each file", contents(prefix) == wanted)
+    checks.holds("a second call replaces each file", contents(prefix) == wanted)
 
 
 def check_destdir(checks, installer, room):
-    ended = installer("/usr", DESTDIR=str(room / "a stage"))
-    checks.equal("DESTDIR: the status", ended.returncode, 0)
-    checks.equal("DESTDIR: all below it", [it.name for it in (room / "a stage").iterdir()], ["usr"])
-    checks.holds("DESTDIR: each file", contents(room / "a stage" / "usr") == all_files())
-    for prefix, variables in (("a name/", {}), (room / "stage" / "usr", {}), ("/usr", {"DESTDIR": "in the folder"})):
-        ended = installer(prefix, **variables)
-        folder = room / variables.get("DESTDIR", "") / str(prefix).lstrip("/") if variables else room / prefix
-        checks.equal(f"{prefix} with {variables}: the status", ended.returncode, 0)
-        checks.holds(f"{prefix} with {variables}: each file", contents(folder) == all_files())
+    """The files go below DESTDIR and the prefix, each from the root or from the folder of the call. All prefixes are
+    in the room, so that a fault writes nowhere else."""
+    usr, below = room / "usr", str(room / "usr").lstrip("/")
+    for prefix, stage, folder in (
+            (usr, room / "a stage", room / "a stage" / below),
+            (usr, "in the folder", room / "in the folder" / below),
+            ("usr/", room / "another stage", room / "another stage" / below),
+            ("a name/", "", room / "a name")):
+        ended = installer(prefix, DESTDIR=str(stage))
+        checks.equal(f"'{prefix}' below '{stage}': the status", ended.returncode, 0)
+        checks.holds(f"'{prefix}' below '{stage}': each file", contents(folder) == all_files())
+        checks.holds(f"'{prefix}' below '{stage}': nothing else", not usr.exists())
 
 
 def check_words(checks, installer):
