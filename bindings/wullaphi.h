@@ -1,16 +1,16 @@
 /* Wullaphi for programs in C: the probe of a process, the checker, and the report of a text.
  *
- * Every call answers a number, tests what it is given and refuses what it cannot use: it then has changed
- * nothing, but where its comment says otherwise. What is left to the caller:
+ * Every call answers a number. It tests what it is given and refuses what it cannot use, and has then changed
+ * nothing, except where its comment says otherwise. What is left to the caller:
  *
  *   - a pointer is not NULL, is aligned for its type and has room for what is written there, and what two
- *     pointers of one call name does not overlap;
- *   - one call at a time has a probe or a handle; which thread makes it is all the same;
+ *     pointers of one call point to does not overlap;
+ *   - one call at a time uses a probe or a handle; it does not matter which thread makes the call;
  *   - a handle of a checker starts as WCP_CHECKER_NONE, is changed by calls alone, and is never copied.
  *
- * A probe, a stamp and a note are plain memory: they may be copied, kept and sent, to another machine of the
- * same byte order (one of another order finds no magic word in them). Copies of a probe are the same probe:
- * go on with one of them. A stamp or a note proves nothing of who made it. */
+ * A probe, a stamp and a note are plain memory: they may be copied, kept, and sent to another machine of the
+ * same byte order (a machine of another byte order finds no magic word in them). Copies of a probe are the same
+ * probe: go on with only one of them. A stamp or a note proves nothing about who made it. */
 #ifndef WULLAPHI_H
 #define WULLAPHI_H
 
@@ -45,12 +45,12 @@ extern "C" {
 #define WCP_IN_USE 21       /* the handle holds a checker already */
 #define WCP_NO_MEMORY 22    /* there is no memory; nothing has changed */
 #define WCP_NOT_IN_CUT 23   /* no cut was found, or the process is not watched */
-#define WCP_NO_ROOM 24      /* the text has no room where it is to be put */
+#define WCP_NO_ROOM 24      /* there is too little room for the text to be written */
 
 /* Why a probe refuses a call; where several hold, the first in this order. */
 #define WCP_NO_SUCH 32   /* the receiver is no process of the watch, or is the probe's own */
 #define WCP_CLOSED 33    /* the probe is closed */
-#define WCP_BACKLOG 34   /* a note is pending: take it by wcp_probe_next first */
+#define WCP_BACKLOG 34   /* a note is pending: take it with wcp_probe_next first */
 #define WCP_STRANGER 35  /* the stamp is of another watch */
 #define WCP_NOT_MINE 36  /* the stamp is addressed to another process */
 #define WCP_AHEAD 37     /* the stamp knows of events of this process that it has not made */
@@ -61,11 +61,11 @@ extern "C" {
 #define WCP_ENDED 49       /* the process was closed, or lost */
 #define WCP_OUT_OF_TURN 50 /* a note before it has not come, or it was taken already */
 
-/* What resets the flag of a probe, while which it emits no further note. */
+/* What resets the flag of a probe. While its flag is up the probe emits no further snapshot. */
 #define WCP_FLAG_EVENT 0 /* each send and each receive */
 #define WCP_FLAG_SEND 1  /* each send: fewer notes, and the same reports */
 
-/* The probe of one process: 112 bytes. Its fields are the library's. */
+/* The probe of one process: 112 bytes. Its fields belong to the library. */
 typedef struct wcp_probe {
     uint32_t magic;
     uint32_t processes;
@@ -92,7 +92,7 @@ typedef struct wcp_stamp {
 } wcp_stamp;
 
 /* What a process tells the checker: 88 bytes. Kind 1 is a snapshot, 2 says that the process is closed, and 3
- * that it was lost; `number` counts the snapshots of the process before it. */
+ * that it was lost; `number` counts the snapshots of the process before this note. */
 typedef struct wcp_note {
     uint32_t magic;
     uint32_t processes;
@@ -134,36 +134,38 @@ uint32_t wcp_probe_stamp(wcp_probe *probe, uint32_t to, wcp_stamp *stamp);
  * WCP_CLOSED, WCP_BACKLOG, WCP_STRANGER, WCP_NOT_MINE, WCP_AHEAD or WCP_CLOCK_END. */
 uint32_t wcp_probe_receive(wcp_probe *probe, const wcp_stamp *stamp);
 
-/* Gives the pending note, which then is no longer pending; it is to be sent to the checker, in the order in
- * which the probe gives them. WCP_DONE_WITH_NOTE: here it is. WCP_DONE: none is pending. Else WCP_NO_PROBE. */
+/* Gives the pending note, which is then no longer pending; send it to the checker. The notes of a probe go to the
+ * checker in the order in which the probe gives them. WCP_DONE_WITH_NOTE: here it is. WCP_DONE: none is pending.
+ * Else WCP_NO_PROBE. */
 uint32_t wcp_probe_next(wcp_probe *probe, wcp_note *note);
 
 /* The process ends its part: a last note is pending. WCP_DONE_WITH_NOTE, or WCP_NO_PROBE, WCP_CLOSED or
  * WCP_BACKLOG. */
 uint32_t wcp_probe_close(wcp_probe *probe);
 
-/* Puts into the handle a checker of so many processes, each of them watched. WCP_DONE, or WCP_IN_USE,
+/* Puts a checker of `processes` processes, each of them watched, into the handle. WCP_DONE, or WCP_IN_USE,
  * WCP_OUT_OF_RANGE or WCP_NO_MEMORY.
  *
  * Two mistakes here give a wrong report, and no call refuses them. Each process that the checker watches must have a
  * probe with a condition: one that was made with `watched` 0 never gives a snapshot, whatever its process observes,
  * and the report is then WCP_NOTHING although there may be a cut. And a checker takes the notes of one watch only: a
- * note does not say which watch it is of, so those of another watch, or of an earlier run, are taken like its own. */
+ * note does not say which watch it belongs to, so those of another watch, or of an earlier run, are taken like its
+ * own. */
 uint32_t wcp_checker_new(wcp_checker *checker, uint32_t processes);
 
-/* The same where only the processes with these numbers are watched, one at least; `watched` is not NULL. Name here no
- * process whose probe has no condition. */
+/* The same, but only the processes with these numbers are watched, at least one; `watched` is not NULL. Name no
+ * process here whose probe has no condition. */
 uint32_t wcp_checker_new_with(wcp_checker *checker, uint32_t processes, const uint32_t *watched, size_t count);
 
 /* The checker takes a note, the next of its process; those of different processes may come in any order.
  * WCP_DONE, or WCP_NO_CHECKER, WCP_NO_NOTE, WCP_OTHER_WATCH, WCP_ENDED, WCP_OUT_OF_TURN or WCP_NO_MEMORY. */
 uint32_t wcp_checker_take(wcp_checker *checker, const wcp_note *note);
 
-/* What the notes taken tell: WCP_FOUND, WCP_NOTHING or WCP_UNDECIDED; or WCP_NO_CHECKER. */
+/* What the notes taken so far tell: WCP_FOUND, WCP_NOTHING or WCP_UNDECIDED; or WCP_NO_CHECKER. */
 uint32_t wcp_checker_report(wcp_checker *checker);
 
 /* The interval of process `p` in the cut that was found: how many messages it had sent and received by then.
- * WCP_DONE, or WCP_NO_CHECKER or WCP_NOT_IN_CUT, where *interval stays. */
+ * WCP_DONE, or WCP_NO_CHECKER or WCP_NOT_IN_CUT, which leave *interval as it was. */
 uint32_t wcp_checker_cut(wcp_checker *checker, uint32_t p, uint32_t *interval);
 
 /* How many snapshots of process `p` were taken. WCP_DONE, or WCP_NO_CHECKER or WCP_OUT_OF_RANGE. */
@@ -173,10 +175,10 @@ uint32_t wcp_checker_taken(wcp_checker *checker, uint32_t p, uint64_t *count);
 uint32_t wcp_checker_end(wcp_checker *checker);
 
 /* What `wcpwatch single` answers to a text of `length` bytes: its status, 0 where a bad moment was found, 1 where none
- * was, and 2 where the text has a fault, as one of more than 2,097,152 bytes has, whose line is `wcpwatch: toolarge`.
- * What is printed, for a fault the line that says which, is put into `out`, which has room for `room` bytes and is not
- * NULL, and its length into *written. Where it has no room, WCP_NO_ROOM: nothing is put into `out`, and *written says
- * how much room it wants. Or WCP_NO_MEMORY, where *written stays. */
+ * was, and 2 where the text has a fault. A text of more than 2,097,152 bytes has one; its line is
+ * `wcpwatch: toolarge`. What is printed (for a fault, the line that says which) is put into `out`, which has room for
+ * `room` bytes and is not NULL, and its length into *written. WCP_NO_ROOM: it does not fit; nothing is put into `out`,
+ * and *written says how much room it needs. WCP_NO_MEMORY: nothing is put into `out`, and *written stays as it was. */
 uint32_t wcp_single(const uint8_t *text, size_t length, uint8_t *out, size_t room, uint64_t *written);
 
 #ifdef __cplusplus
