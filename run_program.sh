@@ -1,8 +1,9 @@
 # Runs a program of this repository. `wcpwatch`, `wcptrace` and `wcpdraw` read this file. It wants the words that the call
 # has and, of the program:
 #   name           its name
-#   asks_for       prints what the words ask for: `help`, `version` or `usage`, which are answered without a build;
-#                  `input`, where the program reads its input; or `other`. `usage` only where the program answers so
+#   look_at        looks at the words and sets `asked` to what they ask for: `help`, `version` or `usage`, which are
+#                  answered without a build; `input`, where the program reads its input; or `other`. `usage` comes only
+#                  where the program answers so, and `why` is then how the rest of its line begins
 #   most           how many bytes of input a build without proofs takes
 #   refuse_longer  what is done where there are more: it ends the call, or lets these and one more be handed on
 top=$(dirname -- "$(readlink -f -- "$0")")
@@ -10,8 +11,71 @@ folder=$top/crates/$name
 program=$folder/out/$name
 toolchain='rattle-kit-13f logic dac8208d650f15bf'
 
+# The file that the words name, and its place among them, from 1. It is read in place of standard input.
+file='' place=0 why=''
+
 say() {
     echo "$name: $*" >&2
+}
+
+is_among() {
+    case " $2 " in *" $1 "*) return 0 ;; esac
+    return 1
+}
+
+refuse() {
+    asked=usage why=$1
+}
+
+# Looks at words that are options and at most one file. `valued` and `flags` are the options with a value and without
+# one; those that the words have stand in `seen`.
+look_at_options() {
+    asked=input at=0 seen=
+    while [ $# -gt 0 ]; do
+        at=$((at + 1))
+        case $1 in
+            --) shift; at=$((at + 1)); look_at_files "$@"; return ;;
+            -h* | --help | -V* | --version | --=*) asked=other ;;
+            -?*) look_at_option "$1" "${2--}" ;;
+            *) look_at_files "$1" ;;
+        esac
+        [ "$asked" = input ] || return 0
+        if is_among "$1" "$valued"; then at=$((at + 1)); shift; fi
+        shift
+    done
+}
+
+# Looks at an option, and the word behind it.
+look_at_option() {
+    option=${1%%=*}
+    seen="$seen $option"
+    if ! is_among "$option" "$valued $flags"; then
+        case $1 in
+            --*) refuse "unexpected argument '$option' found" ;;
+            -[a-zA-Z0-9]*) refuse "unexpected argument '${1%"${1#??}"}' found" ;;
+            *) asked=other ;;
+        esac
+    elif [ "$1" != "$option" ]; then
+        is_among "$option" "$valued" || refuse "unexpected value '${1#*=}' for '$option' found"
+    elif is_among "$option" "$valued"; then
+        case $2 in -*) asked=other ;; esac
+    fi
+}
+
+# Looks at words that are no options.
+look_at_files() {
+    for word; do
+        if [ "$place" != 0 ]; then
+            refuse "unexpected argument '$word' found"
+            return
+        fi
+        place=$at
+        case $word in
+            '') asked=other ;;
+            -) ;;
+            *) file=$word ;;
+        esac
+    done
 }
 
 # The program and the crates that it stands on, a line each.
@@ -58,9 +122,9 @@ look_for_toolchain() {
 
 # Answers what needs no build: the help and the version are the stored ones.
 answer_at_once() {
-    case $1 in
-        usage) say usage; exit 2 ;;
-        *) cat "$folder/runs/$1" 2>/dev/null || { say write; exit 2; } ;;
+    case $asked in
+        usage) say "usage${why:+: $why}"; exit 2 ;;
+        *) cat "$folder/runs/$asked" 2>/dev/null || { say write; exit 2; } ;;
     esac
     exit 0
 }
@@ -74,8 +138,12 @@ keep_input() {
 # Makes ready for a build without proofs: keeps the input, where the program reads it, and says what is done.
 prepare() {
     build="building it without proofs for this call, in about a minute (./$name --prove proves it and keeps it)"
-    if [ "$2" != input ]; then
+    if [ "$asked" != input ]; then
         : >"$room/input"
+        say "$1: $build"
+    elif [ -n "$file" ]; then
+        (: <"$file") 2>/dev/null || { say "$file: it can't be opened"; exit 2; }
+        keep_input <"$file"
         say "$1: $build"
     elif [ -f /dev/stdin ]; then
         keep_input
@@ -92,8 +160,16 @@ prepare() {
 answer_unproved() {
     look_for_toolchain
     make_room
-    prepare "$1" "$2"
-    shift 2
+    prepare "$1"
+    shift
+    # The bytes of the file are handed on as the input, so `-` stands in the place of its name.
+    at=0
+    for word; do
+        shift
+        at=$((at + 1))
+        [ $at != "$place" ] || word=-
+        set -- "$@" "$word"
+    done
     (cd "$folder" && rt try --seconds 600 -- "$@") <"$room/input" >"$room/output" 2>"$room/errors"
     status=$(sed -n '$s/^run=ended status=\([0-9]*\) .*proved=no$/\1/p' "$room/errors")
     if [ -z "$status" ]; then
@@ -164,14 +240,14 @@ is_built() {
 
 # Answers at once where that is possible, and else by a build without proofs.
 answer() {
-    asked=$(asks_for "$@")
+    look_at "$@"
     case $asked in
-        help | version | usage) answer_at_once "$asked" ;;
+        help | version | usage) answer_at_once ;;
     esac
     if [ -n "${newer-}" ]; then
-        answer_unproved "$newer is newer than the proved program" "$asked" "$@"
+        answer_unproved "$newer is newer than the proved program" "$@"
     fi
-    answer_unproved "the program isn't proved yet" "$asked" "$@"
+    answer_unproved "the program isn't proved yet" "$@"
 }
 
 case $#:${1-} in

@@ -50,16 +50,21 @@ class Cases:
 
     def finish(self):
         """Waits for all calls, prints those that differ and the count, and ends the script."""
-        passed = failed = 0
-        for case, call, wanted in self.asked:
-            try:
-                found = call.result()
-            except Exception as error:
-                found = error
-            if found == wanted:
-                passed += 1
-                continue
-            failed += 1
-            print(f"{case}: {found!r} and not {wanted!r}"[:2000])
-        print(f"{passed} passed, {failed} failed", flush=True)
-        sys.exit(1 if failed or not passed else 0)
+        finish([self])
+
+
+def finish(all_cases):
+    """Waits for the calls of these cases, prints those that differ and the count, and ends the script."""
+    passed = failed = 0
+    for case, call, wanted in (asked for cases in all_cases for asked in cases.asked):
+        try:
+            found = call.result()
+        except Exception as error:
+            found = error
+        if found == wanted:
+            passed += 1
+            continue
+        failed += 1
+        print(f"{case}: {found!r} and not {wanted!r}"[:2000])
+    print(f"{passed} passed, {failed} failed", flush=True)
+    sys.exit(1 if failed or not passed else 0)

@@ -52,7 +52,7 @@ SHOWN = [
     Shown(["--names", "ann,ben", "--svg"], FOUND, 0, b"<svg ", b">ben</text>"),
     Shown(["--names=-1,+1", "--svg"], FOUND, 0, b"<svg ", b">-1</text>"),
     *(Shown(MARKS, FOUND, 0, b"<svg ", part) for part in MARKED),
-    Shown(["--help"], b"", 0, b"Draws ", b"--names <LIST>"),
+    Shown(["--help"], b"", 0, b"Examples:\n", b"--names <LIST>"),
     Shown(["--version"], b"", 0, b"wcpdraw 0.2.0\n", b"rattle-kit-13f"),
 ]
 
@@ -72,13 +72,16 @@ class Refused:
     fault: str
 
 
+UNKNOWN = "usage: unexpected argument '--png' found; to pass '--png' as a value, use '-- --png'"
+
 REFUSED = [
-    Refused(["--png"], FOUND, "usage"),
-    Refused(["--names"], FOUND, "usage"),
-    Refused(["--names", "-a,b"], FOUND, "usage"),
-    Refused(["example.txt"], FOUND, "usage"),
+    Refused(["--png"], FOUND, UNKNOWN),
+    Refused(["--names"], FOUND, "usage: a value is required for '--names <LIST>' but none was supplied"),
+    Refused(["--names", "-a,b"], FOUND, "usage: unexpected argument '-a' found; to pass '-a' as a value, use '-- -a'"),
+    Refused(["--name", "a,b"], FOUND, "usage: unexpected argument '--name' found; a similar argument exists: '--names'"),
+    Refused(["-", "two.txt"], FOUND, "usage: unexpected argument 'two.txt' found"),
     # the words are looked at before the text
-    Refused(["--png"], b"", "usage"),
+    Refused(["--png"], b"", UNKNOWN),
     Refused(TWO, b"", "line 1: header"),
     Refused(TWO, b"wcp 1\nprocs 2\np 0 true\np 0 send 2\n", "line 4: process"),
     Refused(["--names", "ann"], FOUND, "names"),

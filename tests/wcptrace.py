@@ -48,7 +48,10 @@ def first_lines(log, count):
     return "".join(log.splitlines(keepends=True)[:count])
 
 
-USAGE = fault("usage")
+def usage(why):
+    """Where the words ask for nothing that the program knows, the line that says why."""
+    return fault(f"usage: {why}")
+
 
 # The words of the two who want the lease.
 BOTH = ["--while", "ann=holds", "--while", "ben=holds"]
@@ -159,10 +162,6 @@ EARLY = [
 IN_JSON = ["--form", "lines", "--while", "ann=holds"]
 
 FAULTS = [
-    Row([], "", USAGE),
-    Row(["--while", "ann"], "", USAGE),
-    Row(["--form", "csv", "--while", "ann=x"], "", USAGE),
-    Row(["--while", "ann=x", "--at", "ann=y"], "", USAGE),
     Row(BOTH, "", fault("nohost ann")),
     Row(BOTH, 'ann {"ann":1}\nholds\n', fault("nohost ben")),
     Row(BOTH, 'ann {"ann":1}\n', fault("line 1: text")),
@@ -185,50 +184,67 @@ FAULTS = [
     Row(BOTH, "x" * 200_000, fault("line 1: long")),
 ]
 
-# Words that the program doesn't know.
+# Words that the program doesn't know beside a condition, and why.
 UNKNOWN = [
-    ["--form", "json"],
-    ["--form", ""],
-    ["--form", "lines", "--form", "lines"],
-    ["--while"],
-    ["--while", "--at"],
-    ["--while", "--at=x"],
-    ["--while", "-a=x"],
-    ["--wait", "a=x"],
-    ["a=x"],
-    ["--while", "a=x", "b=x"],
-    ["help", "me"],
-    ["--progress=yes"],
-    ["--progress", "--progress"],
-    ["--while", "--progress"],
+    (["--form", "json"], "there is no form 'json'; the forms are lines, shiviz and shiviz-reversed"),
+    (["--form", ""], "there is no form ''; the forms are lines, shiviz and shiviz-reversed"),
+    (["--form", "lines", "--form", "lines"], "the argument '--form <FORM>' cannot be used multiple times"),
+    (["--while"], "a value is required for '--while <HOST=REGEX>' but none was supplied"),
+    (["--while", "--at"], "a value is required for '--while <HOST=REGEX>' but none was supplied"),
+    (["--while", "--progress"], "a value is required for '--while <HOST=REGEX>' but none was supplied"),
+    (["--wait", "a=x"], "unexpected argument '--wait' found; to pass '--wait' as a value, use '-- --wait'"),
+    (["--wihle", "a=x"], "unexpected argument '--wihle' found; a similar argument exists: '--while'"),
+    (["--whil=a=x"], "unexpected argument '--whil' found; a similar argument exists: '--while'"),
+    (["--zzz"], "unexpected argument '--zzz' found; to pass '--zzz' as a value, use '-- --zzz'"),
+    (["-z"], "unexpected argument '-z' found; to pass '-z' as a value, use '-- -z'"),
+    (["one.log", "two.log"], "unexpected argument 'two.log' found"),
+    (["help", "me"], "unexpected argument 'me' found"),
+    (["--progress=yes"], "unexpected value 'yes' for '--progress' found; no more were expected"),
+    (["--progress", "--progress"], "the argument '--progress' cannot be used multiple times"),
 ]
 
-# Words that it knows, and that say no conditions.
+# Words that say no conditions, and why.
 NO_CONDITIONS = [
-    [],
-    ["--while", "alice"],
-    ["--while", "=holds"],
-    ["--while", "="],
-    ["--while", ""],
-    ["--while", "alice=holds", "--while", "bob"],
-    ["--while", "alice=holds", "--while", "alice=asks"],
-    ["--while", "alice=holds", "--at", "alice=holds"],
-    ["--while", "alice=holds", "--from", "alice=holds", "--until", "alice=gives"],
-    ["--from", "alice=holds", "--until", "alice=gives", "--at", "alice=x"],
-    ["--from", "alice=holds"],
-    ["--until", "alice=gives"],
-    ["--while", "bob=x", "--until", "alice=gives"],
-    ["--from", "alice=holds", "--until", "bob=gives"],
-    ["--from", "alice=holds", "--until", "alice=gives", "--until", "alice=dies"],
-    ["--from", "alice=holds", "--from", "alice=asks", "--until", "alice=gives"],
-    ["--from", "alice=holds", "--from", "alice=asks", "--until", "alice=gives", "--until", "alice=dies"],
-    ["--from", "alice=holds", "--from", "bob=holds", "--until", "alice=gives", "--until", "carol=gives"],
-    ["--from", "alice", "--until", "alice=gives"],
-    ["--from", "alice=holds", "--until", "alice"],
-    ["--while", "alice=holds", "--at", "=x"],
+    ([], "no host has a condition: give --while, --from and --until, or --at"),
+    (["--form", "lines"], "no host has a condition: give --while, --from and --until, or --at"),
+    (["--while", "alice"], "--while takes HOST=REGEX, and not 'alice'"),
+    (["--while", "=holds"], "--while takes HOST=REGEX, and not '=holds'"),
+    (["--while", "="], "--while takes HOST=REGEX, and not '='"),
+    (["--while", ""], "--while takes HOST=REGEX, and not ''"),
+    (["--while", "alice=holds", "--while", "bob"], "--while takes HOST=REGEX, and not 'bob'"),
+    (["--while", "alice=holds", "--while", "alice=asks"], "alice has more than one condition"),
+    (["--while", "alice=holds", "--at", "alice=holds"], "alice has more than one condition"),
+    (
+        ["--while", "alice=holds", "--from", "alice=holds", "--until", "alice=gives"],
+        "alice has more than one condition",
+    ),
+    (["--from", "alice=holds", "--until", "alice=gives", "--at", "alice=x"], "alice has more than one condition"),
+    (["--from", "alice=holds"], "--from of alice has no --until"),
+    (["--until", "alice=gives"], "--until of alice has no --from"),
+    (["--while", "bob=x", "--until", "alice=gives"], "--until of alice has no --from"),
+    (["--from", "alice=holds", "--until", "bob=gives"], "--from of alice has no --until"),
+    (
+        ["--from", "alice=holds", "--until", "alice=gives", "--until", "alice=dies"],
+        "--from of alice has more than one --until",
+    ),
+    (
+        ["--from", "alice=holds", "--from", "alice=asks", "--until", "alice=gives"],
+        "alice has more than one condition",
+    ),
+    (
+        ["--from", "alice=holds", "--from", "alice=asks", "--until", "alice=gives", "--until", "alice=dies"],
+        "alice has more than one condition",
+    ),
+    (
+        ["--from", "alice=holds", "--from", "bob=holds", "--until", "alice=gives", "--until", "carol=gives"],
+        "--from of bob has no --until",
+    ),
+    (["--from", "alice", "--until", "alice=gives"], "--from takes HOST=REGEX, and not 'alice'"),
+    (["--from", "alice=holds", "--until", "alice"], "--until takes HOST=REGEX, and not 'alice'"),
+    (["--while", "alice=holds", "--at", "=x"], "--at takes HOST=REGEX, and not '=x'"),
     # All words are looked at before the first expression is read.
-    ["--while", "alice=(", "--while", "bob"],
-    ["--while", "alice=(", "--until", "bob=x"],
+    (["--while", "alice=(", "--while", "bob"], "--while takes HOST=REGEX, and not 'bob'"),
+    (["--while", "alice=(", "--until", "bob=x"], "--until of bob has no --from"),
 ]
 
 # Words of which an expression is none, and the fault of the first such.
@@ -436,6 +452,9 @@ def cuts():
     return [Row(BOTH, log, cut_answer(log)) for log in logs]
 
 
+SEVENTEEN = usage("17 hosts have a condition, and at most 16 may")
+
+
 def many_hosts():
     """Forty hosts with an event each, of which sixteen are watched, and seventeen, which are too many."""
     log = "".join(f'h{number} {{"h{number}":1}}\nholds\n' for number in range(10, 50))
@@ -443,9 +462,9 @@ def many_hosts():
     rows = []
     for options in ["--while"], ["--at"], ["--from", "--until"]:
         rows.append(Row(watching(options, range(10, 26)), log, sixteen))
-        rows.append(Row(watching(options, range(10, 27)), log, USAGE))
+        rows.append(Row(watching(options, range(10, 27)), log, SEVENTEEN))
     mixed = watching(["--while"], range(10, 18)) + watching(["--from", "--until"], range(18, 27))
-    return [*rows, Row(mixed, log, USAGE)]
+    return [*rows, Row(mixed, log, SEVENTEEN)]
 
 
 def watching(options, numbers):
@@ -481,9 +500,8 @@ def main():
     add(cases, "faults", FAULTS)
     add(cases, "cuts", cuts())
     add(cases, "many hosts", many_hosts())
-    add(cases, "unknown words", [Row(words, "", USAGE) for words in UNKNOWN])
-    add(cases, "unknown words beside a condition", [Row(["--while", "ann=x", *words], "", USAGE) for words in UNKNOWN])
-    add(cases, "no conditions", [Row(words, "", USAGE) for words in NO_CONDITIONS])
+    add(cases, "unknown words", [Row(["--while", "ann=x", *words], "", usage(why)) for words, why in UNKNOWN])
+    add(cases, "no conditions", [Row(words, "", usage(why)) for words, why in NO_CONDITIONS])
     add(cases, "no expression", [Row(words, "", fault(f"expression {why}")) for words, why in EXPRESSIONS])
     add(cases, "what words ask for", ASKED)
     add(cases, "lines that end in CR LF", WITH_CR)

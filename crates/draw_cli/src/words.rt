@@ -67,9 +67,7 @@ fn command<'a>(alloc: Global) -> Result<Command<'a>, AllocError> {
         .long("names")
         .value_name("LIST")
         .help(help::NAMES);
-    let file = Arg::new(alloc, "file")
-        .value_name("FILE")
-        .help(help::FILE);
+    let file = Arg::new(alloc, "file").value_name("FILE").help(help::FILE);
     Command::new(alloc, "wcpdraw")
         .before_help(help::EXAMPLES)
         .about(help::ABOUT)

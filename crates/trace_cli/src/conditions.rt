@@ -31,7 +31,10 @@ pub(crate) fn why_none(alloc: Global, options: &Options<'_>) -> Result<String, A
     if count > MAX_HOSTS {
         return format!(in alloc; "{count} hosts have a condition, and at most {MAX_HOSTS} may");
     }
-    String::from_str(alloc, "no host has a condition: give --while, --from and --until, or --at")
+    String::from_str(
+        alloc,
+        "no host has a condition: give --while, --from and --until, or --at",
+    )
 }
 
 /// What is wrong with the first word that has no host or no expression, if there is one.

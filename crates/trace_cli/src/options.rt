@@ -229,7 +229,5 @@ fn file_argument<'a>(alloc: Global) -> Arg<'a>
     ensures rule { rule_of result ≡ file_argument }
     ensures local { result.global ≡ false }
 {
-    Arg::new(alloc, "file")
-        .value_name("FILE")
-        .help(help::FILE)
+    Arg::new(alloc, "file").value_name("FILE").help(help::FILE)
 }

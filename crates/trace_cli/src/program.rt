@@ -5,9 +5,9 @@ ghost use Rattle.wcp_io.specs.Edge.{edge_of};
 ghost use Rattle.trace_cli.specs.Edge.{DoesAsked, closed_pipe, refused, status_after, status_of};
 ghost use Rattle.trace_cli.specs.Requested.{AnswersRequest, AnswersTrace};
 
+use crate::conditions::why_none;
 use crate::fault::TraceFault;
 use crate::help::VERSION;
-use crate::conditions::why_none;
 use crate::options::{Options, TraceRequest, read_options};
 use std::alloc::{AllocError, Global};
 use std::convert::AsStr;
@@ -95,7 +95,9 @@ fn answer_to<I: Read, L: Listener>(
 {
     match request {
         TraceRequest::Trace(options) => match answer_to_trace(alloc, &options, input, listener) {
-            Err(TraceFault::Conditions(ConditionFault::Usage)) => Err(no_conditions(alloc, &options)),
+            Err(TraceFault::Conditions(ConditionFault::Usage)) => Err(no_conditions(
+                alloc, &options,
+            )),
             answered => answered,
         },
         TraceRequest::Help(text) => Ok(TraceAnswer {

@@ -8,7 +8,7 @@ use Rattle.wcp_cli.specs.RequestAnswers.{IsAnswerTo, Reads}
 use Rattle.wcp_cli.specs.Words.{HasRing, IsSameRequest}
 
 -- The program does this request at its edge, with this status: it writes the answer whole; or, where a write failed, a
--- front of the answer, with status 2; or, where there is no answer, nothing, with status 2.
+-- prefix of the answer, with status 2; or, where there is no answer, nothing, with status 2.
 pub data Does (request : Request) (edge : Edge) (status : ℕ) : Type 0 where
   Whole : (printed : List ℕ) → IsAnswerTo request edge.input edge.input_after printed status
       → Appends edge.output edge.output_after printed → Does request edge status

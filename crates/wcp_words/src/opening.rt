@@ -49,6 +49,9 @@ pub fn tell_terminal<S: IsTerminal, E: Write>(
     errors: &mut E,
 ) {
     if source == Source::StandardInput && standard_input.is_terminal() {
-        let _ = writeln!(errors, "{program}: reads from the terminal, until Ctrl-D at the start of a line");
+        let _ = writeln!(
+            errors,
+            "{program}: reads from the terminal, until Ctrl-D at the start of a line"
+        );
     }
 }

@@ -6,29 +6,40 @@ use std::env;
 use std::io::{ErrorKind, IsTerminal};
 use std::process::ExitCode;
 use std::rt::Env;
-use trace_cli::{Notes, ProgressTeller, TellingReader, TraceFault, drive, refuse};
+use trace_cli::{Notes, ProgressTeller, TellingReader, TraceFault, drive, read_options, refuse};
+use wcp_words::{open, tell_terminal};
+
+/// The program's name, with which its lines on standard error begin.
+const NAME: &str = "wcptrace";
 
 /// The word that asks to be told how far the log was read.
 const PROGRESS: &str = "--progress";
 
 fn main(rt: HostRuntime) -> ExitCode {
-    let status = match words(&rt) {
-        Ok(words) => {
-            let is_watched = rt.stderr().is_terminal();
-            let teller = is_watched.then(|| ProgressTeller::new("wcptrace", &rt, rt.stderr()));
-            let tells_progress = is_watched || words.iter().any(|word| word.as_str() == PROGRESS);
-            drive(
-                rt.alloc(),
-                words.as_slice(),
-                &mut TellingReader::new(rt.stdin(), teller),
-                &mut rt.stdout(),
-                &mut rt.stderr(),
-                &mut Notes::new("wcptrace", &rt, rt.stderr(), tells_progress),
-            )
-        }
+    let status = match run(&rt) {
+        Ok(status) => status,
         Err(fault) => refuse(&mut rt.stderr(), &fault),
     };
     ExitCode::from(status)
+}
+
+/// Runs the program on the words of the command line, and on the log that they name.
+fn run(rt: &HostRuntime) -> Result<u8, TraceFault> {
+    let words = words(rt)?;
+    let source = read_options(rt.alloc(), words.as_slice())?.source();
+    let log = open(rt, source, rt.stdin())?;
+    tell_terminal(NAME, source, &rt.stdin(), &mut rt.stderr());
+    let is_watched = rt.stderr().is_terminal();
+    let teller = is_watched.then(|| ProgressTeller::new(NAME, rt, rt.stderr()));
+    let tells_progress = is_watched || words.iter().any(|word| word.as_str() == PROGRESS);
+    Ok(drive(
+        rt.alloc(),
+        words.as_slice(),
+        &mut TellingReader::new(log, teller),
+        &mut rt.stdout(),
+        &mut rt.stderr(),
+        &mut Notes::new(NAME, rt, rt.stderr(), tells_progress),
+    ))
 }
 
 /// The words of the command line, of which the first is the program's name.
@@ -36,6 +47,8 @@ fn words<R: Env + AllocGlobal>(rt: &R) -> Result<Vec<String>, TraceFault> {
     match env::args(rt) {
         Ok(words) => Ok(words.collect(rt.alloc())?),
         Err(error) if error.kind() == ErrorKind::OutOfMemory => Err(AllocError.into()),
-        Err(_) => Err(TraceFault::Usage),
+        Err(_) => Err(TraceFault::Usage {
+            why: String::from_str(rt.alloc(), "a word isn't UTF-8")?,
+        }),
     }
 }

@@ -61,3 +61,19 @@ fn each_write_may_fail(rt: HostRuntime) {
         assert_failing_write(&rt, rt.alloc(), write);
     }
 }
+
+/// Where this write finds that nobody reads, those before it are all that was written, and nothing is said.
+fn assert_closed_pipe(rt: &impl Abort, alloc: Global, write: usize) {
+    let mut output = Sink::new(alloc, 256, Trouble::At(write, ErrorKind::BrokenPipe));
+    let mut errors: Vec<u8> = Vec::new(alloc);
+    let status = drive(alloc, TWO, &mut FOUND.as_bytes(), &mut output, &mut errors);
+    assert!(rt; status == 141 && output.taken.len() == write.saturating_mul(256));
+    assert!(rt; errors.is_empty());
+}
+
+#[test]
+fn each_write_may_meet_a_closed_pipe(rt: HostRuntime) {
+    for write in 0..6usize {
+        assert_closed_pipe(&rt, rt.alloc(), write);
+    }
+}

@@ -7,7 +7,7 @@ use wcp_io::IoFault;
 /// The program refuses with this fault by the line of memory.
 fn assert_memory(rt: &impl Abort, alloc: Global, fault: DrawFault) {
     let mut errors: Vec<u8> = Vec::new(alloc);
-    assert_eq!(rt; refuse(&mut errors, fault), 2);
+    assert_eq!(rt; refuse(&mut errors, &fault), 2);
     assert_text(rt, &errors, b"wcpdraw: memory\n");
 }
 

@@ -12,10 +12,10 @@ fn reading(rt: &impl Abort, alloc: Global, most: usize, trouble: Trouble) -> Str
     answer(rt, alloc, &mut input, &mut output)
 }
 
-/// The answer where this write fails, of writes of eight bytes.
-fn failing_write(rt: &impl Abort, alloc: Global, write: usize) -> String {
+/// The answer where this write fails so, of writes of eight bytes.
+fn failing_write(rt: &impl Abort, alloc: Global, write: usize, kind: ErrorKind) -> String {
     let mut input = Source::new(RUNS_OUT.as_bytes(), RUNS_OUT.len(), Trouble::No);
-    let mut output = Sink::new(alloc, 8, Trouble::At(write, ErrorKind::Other));
+    let mut output = Sink::new(alloc, 8, Trouble::At(write, kind));
     answer(rt, alloc, &mut input, &mut output)
 }
 
@@ -37,9 +37,9 @@ fn each_read_may_fail(rt: HostRuntime) {
     assert_eq!(rt; told.as_str(), FOUND);
 }
 
-/// Whether the fault is told, and no more than so many writes of the answer came before it.
-fn is_cut(told: &str, writes: usize) -> bool {
-    let Some(answer) = told.strip_prefix("2 wcptrace: write\n") else {
+/// Whether this is told before the answer, of which so many writes came.
+fn is_cut(told: &str, before: &str, writes: usize) -> bool {
+    let Some(answer) = told.strip_prefix(before) else {
         return false;
     };
     ANSWER.starts_with(answer) && answer.len() == writes.saturating_mul(8)
@@ -48,9 +48,18 @@ fn is_cut(told: &str, writes: usize) -> bool {
 #[test]
 fn each_write_may_fail(rt: HostRuntime) {
     for write in 0..8usize {
-        let told = failing_write(&rt, rt.alloc(), write);
-        assert!(rt; is_cut(told.as_str(), write));
+        let told = failing_write(&rt, rt.alloc(), write, ErrorKind::Other);
+        assert!(rt; is_cut(told.as_str(), "2 wcptrace: write\n", write));
     }
-    let told = failing_write(&rt, rt.alloc(), 8);
+    let told = failing_write(&rt, rt.alloc(), 8, ErrorKind::Other);
     assert_eq!(rt; told.as_str(), FOUND);
+}
+
+/// The program ends without a word, and with the status of a closed pipe.
+#[test]
+fn each_write_may_meet_a_closed_pipe(rt: HostRuntime) {
+    for write in 0..8usize {
+        let told = failing_write(&rt, rt.alloc(), write, ErrorKind::BrokenPipe);
+        assert!(rt; is_cut(told.as_str(), "141 ", write));
+    }
 }

@@ -24,17 +24,21 @@ fn what_words_ask_for(rt: HostRuntime) {
         "--form",
         "lines",
         "--while=a=x=y",
+        "a log",
     ];
     let found = asked(&rt, rt.alloc(), &each);
     assert_eq!(rt;
         found.as_str(),
         "Trace(Options { whiles: [\"b=\", \"a=x=y\"], froms: [\"c=x\"], untils: [\"c=y\"], \
-         ats: [\"d=x\"], form: Lines })"
+         ats: [\"d=x\"], form: Lines, file: Some(\"a log\") })"
     );
 }
 
 #[test]
 fn an_option_without_its_value(rt: HostRuntime) {
     let found = asked(&rt, rt.alloc(), &["wcptrace", "--while", "--at"]);
-    assert_eq!(rt; found.as_str(), "Unknown");
+    assert_eq!(rt;
+        found.as_str(),
+        "Unknown(\"a value is required for '--while <HOST=REGEX>' but none was supplied\")"
+    );
 }

@@ -14,13 +14,14 @@ const STUCK: ScriptFault = ScriptFault {
 };
 
 /// Each fault, and its line.
-static LINES: [(Fault, &str); 12] = [
+static LINES: [(Fault, &str); 13] = [
     (Fault::Usage, "wcpwatch: usage\n"),
     (Fault::Io(IoFault::Read), "wcpwatch: read\n"),
     (Fault::Io(IoFault::TooLarge), "wcpwatch: toolarge\n"),
     (Fault::Script(STUCK), "wcpwatch: line 3: stuck\n"),
     (Fault::Io(IoFault::Memory), "wcpwatch: memory\n"),
     (Fault::Io(IoFault::Write), "wcpwatch: write\n"),
+    (Fault::Io(IoFault::Closed), "wcpwatch: write\n"),
     (Fault::Run(RunFault::Memory), "wcpwatch: run memory\n"),
     (Fault::Run(RunFault::Spawn), "wcpwatch: run spawn\n"),
     (Fault::Run(RunFault::Held(0)), "wcpwatch: run held 0\n"),

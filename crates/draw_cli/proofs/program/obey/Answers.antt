@@ -2,8 +2,9 @@ use Rattle.std.proofs.Common.{subst}
 use Rattle.std.proofs.lemmas.Result.{err_from_is_err_and}
 use Rattle.std.specs.Io.KnownBytes.{Appends}
 use Rattle.wcp_io.specs.Prefixes.{AppendsPrefix}
-use Rattle.draw_cli.specs.Edge.{Prefix, Whole}
-use Rattle.draw_cli.proofs.Refusals.{status_after_err, why_refused}
+use Rattle.std.proofs.KnownBytes.{Keeps-refl}
+use Rattle.draw_cli.specs.Edge.{Prefix, Quiet, Whole}
+use Rattle.draw_cli.proofs.Refusals.{no_answer_refused, status_after_err, why_refused}
 use Rattle.draw_cli.proofs.program.obey.Goals as goal
 
 pub returns-in_err-answer-clause-fault : goal.returns-in_err-answer-clause-fault
