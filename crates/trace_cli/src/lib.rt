@@ -1,14 +1,15 @@
 //! The program `wcptrace` as a function from words and bytes to bytes and a status.
 //!
 //! What is proved. `drive`, over a reader and a writer that tell their bytes: on status 0 or 1 exactly the answer to
-//! what the words ask for was appended to the output, and nothing to the errors; on status 2 nothing was printed, or
-//! a prefix of the answer where a write failed. Where the words ask to watch a log, 0 means that the earliest moment
-//! was printed: at the first event at which it is known, which stays it whatever comes after, and no line was taken
-//! behind the one that ends this event; or that the whole input was read, no moment was known of it, and it is the
-//! earliest of all its events. 1 means that the whole input was read, that there is no moment, and that each watched
-//! host logs something: that was printed, with how often each condition held. At most 65,536 bytes are read ahead of
-//! the lines. Which lines and events an input has, when a condition holds and what a moment is are said by `wcp_io`,
-//! `trace_log`, `trace_condition` and `trace_moment`. Help and the version read nothing.
+//! what the words ask for was appended to the output, and nothing to the errors; on status 2 nothing was printed, or a
+//! prefix of the answer where a write failed; on status 141, which comes only where a write failed, a prefix of the
+//! answer was appended, and nothing to the errors. Where the words ask to watch a log, 0 means that the earliest
+//! moment was printed: at the first event at which it is known, which stays it whatever comes after, and no line was
+//! taken behind the one that ends this event; or that the whole input was read, no moment was known of it, and it is
+//! the earliest of all its events. 1 means that the whole input was read, that there is no moment, and that each
+//! watched host logs something: that was printed, with how often each condition held. At most 65,536 bytes are read
+//! ahead of the lines. Which lines and events an input has, when a condition holds and what a moment is are said by
+//! `wcp_io`, `trace_log`, `trace_condition` and `trace_moment`. Help and the version read nothing.
 //!
 //! `read_options`, for all words: by one definition over what `clap` is proved to find in them (`IsRequestOf` in
 //! `specs/Requests.antt`) a trace is asked for exactly where no word is refused and the form is known, and its lists
@@ -20,8 +21,8 @@
 //! over it.
 //!
 //! Tested, and said by no clause: what `clap` finds in plain words, the line on words that ask for nothing that the
-//! program knows, that the reader reads the file that they name, that 141 is given exactly where the writer's fault is a
-//! closed pipe, and what is told of a log that is being read, and when.
+//! program knows, that the reader reads the file that they name, that 141 is given exactly where the writer's fault is
+//! a closed pipe, and what is told of a log that is being read, and when.
 #![tactic(auto)]
 
 mod conditions;
