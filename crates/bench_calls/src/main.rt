@@ -1,11 +1,12 @@
 //! Makes many calls, so that what they cost can be measured: `bench_calls PART WORD..`. The part is `probe`, `ring`,
-//! `lane`, `tree` or `run`; the words behind it are those of the module that is named so.
+//! `lane`, `tree`, `run` or `slow`; the words behind it are those of the module that is named so.
 #![tactic(auto)]
 
 mod lane;
 mod probe;
 mod ring;
 mod run;
+mod slow;
 mod taken;
 mod tree;
 mod words;
@@ -31,6 +32,7 @@ fn make_calls<R: Threads + Wait + Clock + Files + Print + Eprint + AllocGlobal +
         "lane" => lane::make_calls(rt, words),
         "tree" => tree::make_calls(rt, words),
         "run" => run::make_calls(rt, words),
+        "slow" => slow::make_calls(rt, words),
         _ => bail!("no such part"),
     }
 }

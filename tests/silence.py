@@ -1,0 +1,34 @@
+"""Whether threads without work sleep: a run in threads whose workers wait before each step uses little of a processor.
+The last line is the count."""
+import os
+import subprocess
+import time
+
+from programs import TOP, Cases
+
+# The most processor time that a run may use, as a share of the time that it takes.
+MOST = 0.1
+
+# The least time that the run takes, in seconds. Its steps one after another take longer.
+LEAST = 1.0
+
+WORDS = ["slow", "200", os.path.join(TOP, "examples", "token_ring.txt")]
+
+
+def sleeps(file):
+    """Whether the run agrees, takes its time and leaves the processors alone; else what came of it."""
+    began = time.monotonic()
+    with subprocess.Popen([file, *WORDS], stdout=subprocess.PIPE) as running:
+        output = running.stdout.read()
+        _, status, used = os.wait4(running.pid, 0)
+        running.returncode = os.waitstatus_to_exitcode(status)
+    took = time.monotonic() - began
+    share = (used.ru_utime + used.ru_stime) / took
+    found = running.returncode, output, round(took, 2), round(share, 3)
+    return (found[:2] == (0, b"the run agrees\n") and took >= LEAST and share < MOST) or found
+
+
+if __name__ == "__main__":
+    cases = Cases("bench_calls")
+    cases.holds("a run whose workers wait", sleeps)
+    cases.finish()
