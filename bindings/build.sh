@@ -46,10 +46,14 @@ if [ "${1:-}" = --over-proved ] && are_built; then build_over_proved; else (cd c
 mkdir -p bindings/out
 out=$(mktemp -d bindings/out/build.XXXXXX)
 trap 'rm -rf "$out"' EXIT
-cp crates/wcp_c/out/libwcp_c.a "$out/libwullaphi.a"
 # The heap of the C library, in the form in which the proved code calls it.
-(cd "$out" && ar x "$kit/c/liblibc_c.a" && ar q libwullaphi.a heap*.o && ranlib libwullaphi.a)
-"$cc" -shared -o "$out/libwullaphi.so" -Wl,--whole-archive "$out/libwullaphi.a" -Wl,--no-whole-archive \
+(cd "$out" && ar x "$kit/c/liblibc_c.a")
+# One object of all, so that only the calls are seen from outside.
+ld -r -o "$out/wullaphi.o" --whole-archive crates/wcp_c/out/libwcp_c.a --no-whole-archive "$out"/heap*.o
+objcopy --wildcard --keep-global-symbol='wcp_*' "$out/wullaphi.o"
+ar rcs "$out/libwullaphi.a" "$out/wullaphi.o"
+"$cc" -shared -o "$out/libwullaphi.so" "$out/wullaphi.o" -Wl,-soname,libwullaphi.so.0 \
     -Wl,--version-script=bindings/wullaphi.map
-mv "$out/libwullaphi.a" "$out/libwullaphi.so" bindings/out/
+ln -s libwullaphi.so "$out/libwullaphi.so.0"
+mv "$out/libwullaphi.a" "$out/libwullaphi.so" "$out/libwullaphi.so.0" bindings/out/
 echo "bindings/out/libwullaphi.a bindings/out/libwullaphi.so"

@@ -71,7 +71,7 @@ if ! command -v python3 >/dev/null; then
 else
     if mypy --version >/dev/null 2>&1; then
         status=0
-        mypy --strict --cache-dir="$made/mypy" bindings/python/wullaphi.py || status=$?
+        mypy --strict --cache-dir="$made/mypy" bindings/python/wullaphi || status=$?
         count "$status"
     else
         echo "there is no mypy, so the types of the Python module are not checked"

@@ -332,7 +332,7 @@ def freeing():
 
 def in_python(program, **variables):
     """What a program prints that has the module, and what it says on standard error."""
-    words = [sys.executable, "-c", program, os.path.dirname(wullaphi.__file__)]
+    words = [sys.executable, "-c", program, os.path.join(HERE, "..", "python")]
     ran = subprocess.run(words, env={**os.environ, **variables}, capture_output=True, text=True, check=False)
     return ran.stdout, ran.stderr
 

@@ -10,8 +10,20 @@ still bring its notes to the checker in the order in which it gives them, so the
 `observe` or `close` until the note is on its way. Other threads wait while a call runs, except for `single`. In an
 interpreter that was built without its global lock, take a lock of your own for the calls of a checker.
 
-The module loads `libwullaphi.so` from the folder `out` beside its own, or from where the variable `WULLAPHI_LIBRARY`
-says.
+The package loads `libwullaphi.so` from its own folder, where a wheel puts it, and in a clone without an installed
+package from `bindings/out`. Where the variable `WULLAPHI_LIBRARY` is set, it loads the file that this names.
+
+>>> import wullaphi
+>>> ada, ben = wullaphi.Probe(1, 0, 2), wullaphi.Probe(1, 1, 2)
+>>> checker = wullaphi.Checker(2)
+>>> checker.take(ada.observe(True))
+>>> ben.receive(ada.stamp(1))  # the stamp goes with a message
+>>> checker.take(ben.observe(True))
+>>> checker.report()  # what ada saw happened before what ben saw
+Report(known='undecided', cut=None)
+>>> checker.take(ada.observe(True))
+>>> checker.report()
+Report(known='found', cut=(1, 1))
 """
 
 import ctypes
@@ -24,6 +36,8 @@ __all__ = [
     "Backlog", "Stranger", "NotMine", "Ahead", "ClockEnd", "OtherWatch", "Ended", "OutOfTurn",
     "Probe", "Checker", "Report", "Single", "is_last", "single", "MAX_PROCESSES", "NOTE_SIZE", "STAMP_SIZE",
 ]
+
+__version__ = "0.2.0"
 
 MAX_PROCESSES = 16
 
@@ -145,9 +159,16 @@ STAMP_SIZE = ctypes.sizeof(_Stamp)
 NOTE_SIZE = ctypes.sizeof(_Note)
 
 
+def _path() -> str:
+    """Where the library is: in a wheel it lies in the folder of the package, in a clone in `bindings/out`."""
+    here = os.path.dirname(os.path.abspath(__file__))
+    installed = os.path.join(here, "libwullaphi.so")
+    built = os.path.join(here, "..", "..", "out", "libwullaphi.so")
+    return os.environ.get("WULLAPHI_LIBRARY", installed if os.path.exists(installed) else built)
+
+
 def _load(kind: Type[ctypes.CDLL]) -> ctypes.CDLL:
-    beside = os.path.join(os.path.dirname(os.path.abspath(__file__)), "..", "out", "libwullaphi.so")
-    library = kind(os.environ.get("WULLAPHI_LIBRARY", beside))
+    library = kind(_path())
     word, many = ctypes.c_uint32, ctypes.c_uint64
     probe, stamp, note = (ctypes.POINTER(kind) for kind in (_Probe, _Stamp, _Note))
     checker = ctypes.POINTER(_Checker)
@@ -202,6 +223,15 @@ class Probe:
 
     `watched` says whether the process has a condition, and `flag_of_sends` that only sends reset the probe's flag:
     fewer notes, and the same reports.
+
+    >>> ada = Probe(watch=1, process=0, processes=2)
+    >>> len(ada.observe(True)) == NOTE_SIZE  # the note to send to the checker
+    True
+    >>> stamp = ada.stamp(1)  # goes with a message to process 1
+    >>> ada.receive(stamp)
+    Traceback (most recent call last):
+        ...
+    wullaphi.NotMine: The stamp is addressed to another process.
     """
 
     def __init__(self, watch: int, process: int, processes: int, watched: bool = True,
@@ -269,7 +299,12 @@ class Probe:
 
 
 def is_last(note: bytes) -> bool:
-    """Whether this is the last note of its process: that it is closed, or lost."""
+    """Whether this is the last note of its process: that it is closed, or lost.
+
+    >>> probe = Probe(1, 0, 2)
+    >>> is_last(probe.observe(True)), is_last(probe.close())
+    (False, True)
+    """
     if len(note) != NOTE_SIZE:
         raise NoNote()
     kind: int = _Note.from_buffer_copy(note).kind
@@ -278,7 +313,15 @@ def is_last(note: bytes) -> bool:
 
 class Report(NamedTuple):
     """What a checker's notes tell: `known` is "found", "nothing" or "undecided". Where a cut was found, `cut` has the
-    interval of each process, `None` for one that is not watched: how many messages it had sent and received then."""
+    interval of each process, `None` for one that is not watched: how many messages it had sent and received then.
+
+    >>> checker = Checker(3, watched=[1])
+    >>> checker.report()
+    Report(known='undecided', cut=None)
+    >>> checker.take(Probe(1, 1, 3).observe(True))
+    >>> checker.report().cut
+    (None, 0, None)
+    """
 
     known: str
     cut: Optional[Tuple[Optional[int], ...]] = None
@@ -292,6 +335,13 @@ class Checker:
     observes, and the report is then "nothing" although there may be a cut. And a checker takes the notes of one watch
     only: a note doesn't say which watch it is of, so those of another watch, or of an earlier run, are taken like its
     own.
+
+    >>> probes = [Probe(1, process, 2) for process in range(2)]
+    >>> with Checker(2) as checker:  # its memory is freed at the end
+    ...     for probe in probes:
+    ...         checker.take(probe.observe(False) or probe.close())
+    ...     checker.report()
+    Report(known='nothing', cut=None)
     """
 
     def __init__(self, processes: int, watched: Optional[Sequence[int]] = None) -> None:
@@ -348,16 +398,25 @@ class Checker:
 
 
 class Single(NamedTuple):
-    """The status of `wcpwatch single` (0 found, 1 not found, 2 a fault), and what it prints."""
+    """The status of `wcpwatch single` (0 found, 1 not found, 2 a fault), and what it prints.
+
+    >>> single(b"").status
+    2
+    """
 
     status: int
     text: bytes
 
 
 def single(text: bytes) -> Single:
-    """What `wcpwatch single` answers to this text; for a fault, the line that it writes to standard error.
+    r"""What `wcpwatch single` answers to this text; for a fault, the line that it writes to standard error.
 
     A text of more than 2,097,152 bytes has the fault `toolarge`.
+
+    >>> print(single(b"wcp 1\nprocs 1\np 0 true\n").text.decode(), end="")
+    found 0
+    process 0 emitted 1 taken 1
+    total emitted 1 taken 1
     """
     room = 4096
     while True:

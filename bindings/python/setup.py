@@ -1,0 +1,21 @@
+"""The wheel holds the library, so it is for one kind of machine; it is for each Python 3, since ctypes makes the calls."""
+
+import pathlib
+
+from setuptools import Distribution, setup
+from wheel.bdist_wheel import bdist_wheel
+
+
+class WithLibrary(Distribution):
+    def has_ext_modules(self):
+        return True
+
+
+class Wheel(bdist_wheel):
+    def get_tag(self):
+        return "py3", "none", super().get_tag()[2]
+
+
+if not pathlib.Path("wullaphi/libwullaphi.so").exists():
+    raise SystemExit("wullaphi/libwullaphi.so isn't there: `make -C bindings wheel` builds the wheel with it")
+setup(distclass=WithLibrary, cmdclass={"bdist_wheel": Wheel})
