@@ -4,6 +4,12 @@
 set -eu
 cd "$(dirname "$0")/.."
 cc=${CC:-cc}
+# What the tests of the packages need, as Debian calls it.
+tools='cmake g++ make pkg-config python3-pip python3-setuptools python3-venv python3-wheel'
+# shellcheck disable=SC2086
+if [ "$(id -u)" = 0 ] && command -v apt-get >/dev/null && ! dpkg -s $tools >/dev/null 2>&1; then
+    (apt-get -q update && apt-get -q -y install --no-install-recommends $tools) >&2 || true
+fi
 bindings/build.sh "$@"
 made=$(mktemp -d)
 trap 'rm -rf "$made"' EXIT
@@ -66,7 +72,7 @@ run_example "the token in C" "the two threads never had the token at once" "$mad
 run_example "the token in C, kept" "both threads had the token, thread 0 after 1 of its messages, thread 1 after 1" \
     "$made/token" keep
 if ! command -v python3 >/dev/null; then
-    echo "there is no python3, so the Python module is not tested"
+    echo "there is no python3, so the Python package is not tested"
     failed=$((failed + 1))
 else
     if mypy --version >/dev/null 2>&1; then
@@ -74,14 +80,15 @@ else
         mypy --strict --cache-dir="$made/mypy" bindings/python/wullaphi || status=$?
         count "$status"
     else
-        echo "there is no mypy, so the types of the Python module are not checked"
+        echo "there is no mypy, so the types of the Python package are not checked"
     fi
     for source in bindings/tests/*.py; do
         run_test "$(basename "$source" .py) in Python" python3 "$source"
     done
     run_example "the lock in Python" "no two processes ever held the lock at once" python3 bindings/examples/lock.py
-    run_example "the lock in Python, kept" "processes 0 and 1 held the lock at once, 0 after 2 of its messages and 1 after 2
-processes 1 and 2 held the lock at once, 1 after 2 of its messages and 2 after 1" python3 bindings/examples/lock.py keep
+    kept="processes 0 and 1 held the lock at once, 0 after 2 of its messages and 1 after 2
+processes 1 and 2 held the lock at once, 1 after 2 of its messages and 2 after 1"
+    run_example "the lock in Python, kept" "$kept" python3 bindings/examples/lock.py keep
 fi
 echo "$passed passed, $failed failed"
 [ "$failed" = 0 ]

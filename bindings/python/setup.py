@@ -1,4 +1,4 @@
-"""The wheel holds the library, so it is for one kind of machine; it is for each Python 3, since ctypes makes the calls."""
+"""The wheel holds the library, so it is for one kind of machine; ctypes makes the calls, so it fits each Python 3."""
 
 import pathlib
 

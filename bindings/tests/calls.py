@@ -18,8 +18,8 @@ FIRST_REFUSAL = 16
 MOST_BYTES = 2097152
 LOST = 3
 
-# Each is a program of its own, since it limits its memory. A call that is refused has changed nothing, so the same call is
-# made once more when there is memory again.
+# Each is a program of its own, since it limits its memory. A call that is refused has changed nothing, so the same
+# call is made once more when there is memory again.
 START = """
 import resource
 import sys

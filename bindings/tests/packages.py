@@ -1,5 +1,6 @@
 """The packages: the wheel for Python in a fresh virtual environment, and what `make install` puts below a prefix, as
-programs in C and C++ use it through pkg-config and CMake. The library must have been built. The last line is the count."""
+programs in C and C++ use it through pkg-config and CMake. The library must have been built. The last line is the
+count."""
 
 import os
 import pathlib
@@ -110,7 +111,7 @@ class Checks:
         print(f"{what}: {found!r} and not {wanted!r}"[:2000])
 
     def output(self, what, words, **variables):
-        """What a program prints, which must end with status 0. Of the environment it has the path and these variables."""
+        """What a program prints. It must end with status 0. It has no variables but PATH, HOME and these."""
         ran = subprocess.run([str(word) for word in words], cwd=self.room, text=True, timeout=SECONDS, check=False,
                              capture_output=True, env={"PATH": os.environ["PATH"], "HOME": self.room, **variables})
         self.equal(f"{what}: {ran.stderr}the status", ran.returncode, 0)

@@ -1,5 +1,5 @@
-"""Runs the Python that README.md and the pages of docs/ show. What a line prints is the comment behind it. The last line
-is the count."""
+"""Runs the Python that README.md and the pages of docs/ show. What a line prints is the comment behind it. The last
+line is the count."""
 import contextlib
 import io
 import pathlib
