@@ -39,6 +39,7 @@ INSTALLED = {
     "lib/libwullaphi.so": "libwullaphi.so.0",
     "lib/pkgconfig/wullaphi.pc": "644",
     "lib/cmake/wullaphi/wullaphi-config.cmake": "644",
+    "lib/cmake/wullaphi/wullaphi-config-version.cmake": "644",
 }
 
 # Says what it found, and which libraries of this name it has loaded.
@@ -87,7 +88,7 @@ FOUND = "found 0 0\n"
 IN_CMAKE = """\
 cmake_minimum_required(VERSION 3.13)
 project(first C)
-find_package(wullaphi REQUIRED)
+find_package(wullaphi ${wanted} REQUIRED)
 add_executable(shared first.c)
 target_link_libraries(shared wullaphi::wullaphi)
 add_executable(static first.c)
@@ -110,10 +111,18 @@ class Checks:
         self.failed += 1
         print(f"{what}: {found!r} and not {wanted!r}"[:2000])
 
+    def run(self, words, **variables):
+        """Calls a program, which has no variables but PATH, HOME and these."""
+        return subprocess.run([str(word) for word in words], cwd=self.room, text=True, timeout=SECONDS, check=False,
+                              capture_output=True, env={"PATH": os.environ["PATH"], "HOME": self.room, **variables})
+
     def output(self, what, words, **variables):
-        """What a program prints. It must end with status 0. It has no variables but PATH, HOME and these."""
-        ran = subprocess.run([str(word) for word in words], cwd=self.room, text=True, timeout=SECONDS, check=False,
-                             capture_output=True, env={"PATH": os.environ["PATH"], "HOME": self.room, **variables})
+        """What a program prints, which must end with status 0."""
+        try:
+            ran = self.run(words, **variables)
+        except (OSError, subprocess.TimeoutExpired) as error:
+            self.equal(what, str(error), "")
+            return ""
         self.equal(f"{what}: {ran.stderr}the status", ran.returncode, 0)
         return ran.stdout
 
@@ -190,8 +199,7 @@ def check_files(checks, prefix):
     checks.equal("the folders below DESTDIR", [it.name for it in stage.iterdir()], ["opt"])
     described = (stage / "opt" / "a place" / "lib" / "pkgconfig" / "wullaphi.pc").read_text()
     checks.equal("the prefix that pkg-config is told", described.splitlines()[0], "prefix=/opt/a place")
-    ran = subprocess.run(["make", "-C", BINDINGS, "install", "PREFIX=out/below"], capture_output=True, text=True,
-                         timeout=SECONDS, check=False)
+    ran = checks.run(["make", "-C", BINDINGS, "install", "PREFIX=out/below"])
     checks.equal("a prefix that isn't absolute", (ran.returncode, "must begin with /" in ran.stderr), (2, True))
 
 
@@ -229,11 +237,15 @@ def check_compiled(checks, prefix):
 
 
 def check_cmake(checks, prefix):
-    """Programs by CMake, of both targets."""
+    """Programs by CMake, of both targets, and which versions it takes."""
     (checks.room / "first.c").write_text(IN_C)
     (checks.room / "CMakeLists.txt").write_text(IN_CMAKE)
     build = checks.room / "build"
-    checks.output("cmake", ["cmake", "-S", checks.room, "-B", build, f"-DCMAKE_PREFIX_PATH={prefix}"])
+    words = ["cmake", "-S", checks.room, "-B", build, f"-DCMAKE_PREFIX_PATH={prefix}"]
+    for wanted, is_taken in (("0.1", True), (VERSION, True), (f"{VERSION};EXACT", True), (f"{VERSION}.1", False),
+                             ("0.1;EXACT", False), ("1.0", False), ("", True)):
+        ran = checks.run([*words, f"-Dwanted={wanted}"])
+        checks.equal(f"CMake takes version {wanted}", ran.returncode == 0, is_taken)
     checks.output("cmake --build", ["cmake", "--build", build])
     for kind, libraries in (("shared", ["libwullaphi.so.0"]), ("static", [])):
         checks.equal(f"a program by CMake, {kind}", checks.output(kind, [build / kind]), FOUND)
