@@ -1,6 +1,6 @@
 #!/usr/bin/env bash
-# Builds the library, and runs the tests and the examples of its calls from C and from Python. Each test prints its
-# count; the last line is that of all. Words are those of `bindings/build.sh`.
+# Builds the library, and runs the tests and the examples of its calls from C and from Python, and the tests of its
+# packages. Each test prints its count; the last line is that of all. Words are those of `bindings/build.sh`.
 set -eu
 cd "$(dirname "$0")/.."
 cc=${CC:-cc}

@@ -98,7 +98,7 @@ target_link_libraries(static wullaphi::static)
 
 @dataclass
 class Checks:
-    """Calls of programs in a room of their own, how many checks passed, and how many failed."""
+    """Calls programs in a folder of their own, and counts the checks."""
 
     room: pathlib.Path
     passed: int = 0
@@ -176,9 +176,9 @@ def check_environment(checks):
         checks.equal(f"--version with {options}",
                      checks.output("--version", [python, *options, "-m", "wullaphi", "--version"]),
                      f"wullaphi {VERSION}\n")
-    place = checks.output("sysconfig", [python, "-c", "import sysconfig; print(sysconfig.get_path('platlib'))"]).strip()
+    place = checks.output("sysconfig", [python, "-c", "import sysconfig; print(sysconfig.get_path('platlib'))"])
     checks.equal("the program in Python", checks.output("the program in Python", [python, "-c", IN_PYTHON]),
-                 f"(0, 0)\n{place}/wullaphi/libwullaphi.so\n")
+                 f"(0, 0)\n{place.strip()}/wullaphi/libwullaphi.so\n")
 
 
 def installed(prefix):
