@@ -25,7 +25,7 @@ SECONDS = 60
 def is_ours(line):
     """Whether each command of the line is a program of this repository, which reads no input of the terminal."""
     return all(part.strip().startswith(tuple(f"./{name} " for name in PROGRAMS)) for part in line.split("|")) \
-        and ("<" in line or line.startswith("./wcpwatch ring ")) and "--prove" not in line
+        and ("<" in line or " examples/" in line or line.startswith("./wcpwatch ring ")) and "--prove" not in line
 
 
 def commands(page):
@@ -45,7 +45,8 @@ def answer(line):
     with tempfile.TemporaryDirectory() as room:
         for name in (*PROGRAMS, "examples"):
             os.symlink(TOP / name, f"{room}/{name}")
-        ran = subprocess.run(["bash", "-c", line], cwd=room, capture_output=True, text=True, timeout=SECONDS, check=False)
+        ran = subprocess.run(["bash", "-c", line], cwd=room, stdin=subprocess.DEVNULL, capture_output=True, text=True,
+                             timeout=SECONDS, check=False)
         return ran.returncode, ran.stdout, ran.stderr
 
 
