@@ -24,6 +24,7 @@ SECONDS = 60
 
 def is_ours(line):
     """Whether each command of the line is a program of this repository, which reads no input of the terminal."""
+    line = re.sub("'[^']*'", "''", line)
     return all(part.strip().startswith(tuple(f"./{name} " for name in PROGRAMS)) for part in line.split("|")) \
         and ("<" in line or " examples/" in line or line.startswith("./wcpwatch ring ")) and "--prove" not in line
 
