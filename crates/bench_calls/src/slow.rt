@@ -12,6 +12,7 @@ use wcp_script::{read_workload, single};
 use wcp_worker::Gate;
 
 /// A gate that lets each step pass after a while.
+#[derive(Drop)]
 struct Late<'a, C> {
     clock: &'a C,
     pause: Duration,
