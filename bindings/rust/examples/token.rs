@@ -1,9 +1,9 @@
 //! Two threads pass a token, and each has a condition: that it has the token. With the word `keep` the first thread
 //! goes on as if it had the token once it has passed it on. The notes go to a checker in `main`.
 //!
-//! The compiler holds that no stamp is made up and that no token is received without its stamp: only `Probe::stamp`
-//! makes a `Stamped<Token>`, and only `Probe::receive` opens it. It doesn't see a message that goes without a stamp,
-//! over a channel of plain tokens, or order that comes from a lock: those the checker doesn't know of.
+//! The compiler guarantees that no stamp is made up and that no token is received without its stamp: only
+//! `Probe::stamp` makes a `Stamped<Token>`, and only `Probe::receive` opens it. It doesn't notice a token that is sent
+//! without a stamp, over a channel of plain tokens, or order that comes from a lock. The checker sees neither.
 
 use std::error::Error;
 use std::sync::mpsc::{channel, Receiver, Sender};

@@ -32,16 +32,17 @@
 //! **Only stamped messages count.** Order that comes from locks, atomics or messages without a stamp isn't seen:
 //! [`Report::Found`] may then be an impossible moment; [`Report::Nothing`] stays true.
 //!
-//! # What the compiler holds, and what it doesn't
+//! # What the compiler checks
 //!
 //! A message between threads is a [`Stamped`] value. Only a probe makes one, and only the receiver's probe opens it,
-//! once. So no stamp between threads is made up, and none is lost while its value arrives. A probe can't be copied.
+//! once. So a stamp can't be made up, and a message can't be read without being received. A probe can't be copied.
 //!
-//! The compiler doesn't see a message that goes without a stamp, a note that isn't sent to the checker, notes of one
-//! probe that are sent out of order, or one that goes to the checker of another watch. A [`Stamp`] and a [`Note`]
-//! that came as bytes may be forged.
+//! The compiler doesn't notice a message that is sent without a stamp, order that comes from a lock, two probes that
+//! are made for one process, a note that never reaches the checker, notes of one probe that reach it out of order, or
+//! a note that goes to the checker of another watch. Those are the caller's duties, as they are in C. A [`Stamp`] or
+//! a [`Note`] that was made from bytes may be forged.
 //!
-//! The calls are those of the C library, whose proofs don't reach this crate: it is tested.
+//! The crate calls the C library. The library is proved; the crate itself is only tested.
 #![deny(missing_docs, unsafe_op_in_unsafe_fn)]
 #![deny(clippy::undocumented_unsafe_blocks)]
 
