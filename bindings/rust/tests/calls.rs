@@ -340,15 +340,11 @@ fn notes_as_bytes() {
     );
     let last = ada.close().unwrap();
     assert_eq!(Note::from_bytes(last.as_bytes()), Ok(last));
-    let stamp = ada_stamp();
+    let stamp = probe(0).stamp_for(1).unwrap().to_bytes();
     let longer = [&bytes[..], &[0]].concat();
     for bad in [&bytes[1..], &longer, &[0; NOTE_SIZE], &[], &stamp] {
         assert_eq!(refusal(Note::from_bytes(bad)), Refusal::NoNote);
     }
-}
-
-fn ada_stamp() -> [u8; STAMP_SIZE] {
-    probe(0).stamp_for(1).unwrap().to_bytes()
 }
 
 #[test]

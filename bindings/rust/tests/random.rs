@@ -18,7 +18,7 @@ struct Message {
     received: Option<u32>,
 }
 
-/// A message in flight, whose value is its number.
+/// A message in flight, with its number.
 enum Flying {
     Value(Stamped<usize>),
     Bytes(Vec<u8>, usize),
@@ -42,7 +42,7 @@ impl History {
         self.events(process)
     }
 
-    /// Whether no message arrives in a cut that is sent behind it, and the conditions hold in it.
+    /// Whether the conditions hold in a cut, and each message that was received in it was sent in it.
     fn is_bad(&self, cut: &[u32]) -> bool {
         let is_consistent = self.messages.iter().all(|it| match it.received {
             Some(received) => received > cut[it.to] || it.sent <= cut[it.from],
@@ -169,17 +169,16 @@ impl Computation {
         let mut report = checker.report();
         while self.notes.iter().any(|notes| !notes.is_empty()) {
             let p = random.below(self.notes.len());
-            let Some(note) = self.notes[p].pop_front() else {
-                continue;
-            };
-            let note = Note::from_bytes(note.as_bytes()).unwrap();
-            checker.take(&note).unwrap();
-            let next = checker.report();
-            assert!(
-                report == Report::Undecided || report == next,
-                "{report:?} becomes {next:?}"
-            );
-            report = next;
+            if let Some(note) = self.notes[p].pop_front() {
+                let note = Note::from_bytes(note.as_bytes()).unwrap();
+                checker.take(&note).unwrap();
+                let next = checker.report();
+                assert!(
+                    report == Report::Undecided || report == next,
+                    "{report:?} becomes {next:?}"
+                );
+                report = next;
+            }
         }
         report
     }
