@@ -42,7 +42,7 @@ fn number<T>(answer: Result<T, Refusal>) -> u32 {
     }
 }
 
-/// The bytes with some bits of the first words or of all flipped, or with most of them but the first word filled anew.
+/// The bytes with some bits flipped, or one word replaced, or all words but the first filled anew.
 fn damaged<const SIZE: usize>(mut bytes: [u8; SIZE], random: &mut Random) -> [u8; SIZE] {
     match random.below(4) {
         0 => {
@@ -73,7 +73,7 @@ fn receiver() -> Probe {
     Probe::new(5, 1, 3).unwrap()
 }
 
-/// How often calls were accepted and refused; a test in which one of them hardly happens shows little.
+/// How often calls were accepted and refused.
 #[derive(Default)]
 struct Answers {
     accepted: u64,
@@ -88,12 +88,11 @@ impl Answers {
             self.refused += 1;
         }
     }
-}
 
-impl Drop for Answers {
-    fn drop(&mut self) {
-        let least = self.accepted.min(self.refused);
-        assert!(std::thread::panicking() || least > ROUNDS / 50, "{least}");
+    /// A test in which one of the two hardly happens shows little.
+    fn check(self) {
+        let rare = self.accepted.min(self.refused);
+        assert!(rare > ROUNDS / 50, "{rare}");
     }
 }
 
@@ -112,6 +111,7 @@ fn stamps() {
         assert_eq!(probe.into_bytes(), memory.0, "round {round}");
         answers.count(answer);
     }
+    answers.check();
 }
 
 #[test]
@@ -123,7 +123,7 @@ fn probes() {
         // SAFETY: the memory has the size and the alignment of the structs.
         let answer = unsafe { wcp_probe_observe(&mut memory, 1) };
         if answer == 1 {
-            // SAFETY: as above.
+            // SAFETY: the same holds of the note.
             assert_eq!(unsafe { wcp_probe_next(&mut memory, &mut note) }, 1);
         }
         match Probe::from_bytes(&bytes) {
@@ -139,6 +139,7 @@ fn probes() {
         }
         answers.count(answer);
     }
+    answers.check();
 }
 
 /// What a checker of C answers to a note, and what it reports then.
@@ -172,6 +173,7 @@ fn notes() {
         assert_eq!(number, report, "round {round}");
         answers.count(answer);
     }
+    answers.check();
 }
 
 /// Bytes of any length, and of any content.
