@@ -38,9 +38,9 @@ impl Note {
 
     /// The note with these bytes, those of [`as_bytes`](Note::as_bytes).
     ///
-    /// The library looks whether the bytes are laid out as a note, with a checker of one process that it makes and
-    /// ends. **That proves nothing about who made them**: a note can be forged or damaged into another one, and it
-    /// doesn't say which watch it is of.
+    /// The library checks whether the bytes are laid out as a note; only a checker does that, so this call makes one
+    /// of its own. **That proves nothing about who made the bytes**: a note can be forged or damaged into another
+    /// one, and it doesn't say which watch it is of.
     ///
     /// # Errors
     ///
@@ -52,7 +52,7 @@ impl Note {
         };
         match Checker::new(1)?.take(&note) {
             Err(refusal @ (Refusal::NoNote | Refusal::NoMemory)) => Err(refusal),
-            _ => Ok(note),
+            _ => Ok(note), // taken, or refused as a note
         }
     }
 }

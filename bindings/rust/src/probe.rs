@@ -7,14 +7,14 @@ use std::fmt;
 /// The size of a probe in bytes.
 pub const PROBE_SIZE: usize = 112;
 
-/// What a probe is made with.
+/// The options of a probe.
 #[derive(Clone, Copy, Debug, PartialEq, Eq)]
 pub struct Options {
-    /// Whether the process has a condition. One that has none only passes messages on, and its probe never gives a
-    /// snapshot.
+    /// Whether the process has a condition. A process without one only passes messages on, and its probe never gives
+    /// a snapshot.
     pub watched: bool,
-    /// Whether only sends reset the probe's flag, which it puts up when it gives a snapshot, and not each send and
-    /// receive: fewer notes, and the same reports.
+    /// Whether only sends reset the probe's flag, and receives don't: fewer notes, and the same reports. A probe that
+    /// gives a snapshot puts its flag up, and gives no further one while it is up.
     pub flag_of_sends: bool,
 }
 
@@ -209,7 +209,7 @@ impl Probe {
 
     /// The probe that [`into_bytes`](Probe::into_bytes) wrote, or a program in C.
     ///
-    /// The library looks whether the bytes are laid out as a probe. That proves nothing about who made them.
+    /// The library checks whether the bytes are laid out as a probe. That proves nothing about who made them.
     ///
     /// # Errors
     ///

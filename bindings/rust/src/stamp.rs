@@ -32,7 +32,7 @@ impl Stamp {
 
     /// The stamp that [`to_bytes`](Stamp::to_bytes) wrote.
     ///
-    /// The library looks whether the bytes are laid out as a stamp. **That proves nothing about who made them**: a
+    /// The library checks whether the bytes are laid out as a stamp. **That proves nothing about who made them**: a
     /// stamp can be forged or damaged into another one, and a probe that receives it takes over its clock.
     ///
     /// # Errors

@@ -6,7 +6,7 @@ use wullaphi::{MAX_PROCESSES, NOTE_SIZE, PROBE_SIZE, STAMP_SIZE};
 const MOST_BYTES: usize = 2_097_152;
 const WATCH: u64 = 7;
 
-/// Where the header has these fields of a probe and a note.
+/// Where the header lays out these fields of a probe, and the last one of a note.
 const FLAG_UP: usize = 20;
 const PENDING: usize = 28;
 const EMITTED: usize = 32;
