@@ -100,7 +100,8 @@ fi
 if command -v cargo >/dev/null; then
     test_crate
     run_example "the token in Rust" "the two threads never had the token at once" "$made/cargo/release/examples/token"
-    run_example "the token in Rust, kept" "both threads had the token, thread 0 after 1 of its messages, thread 1 after 1" \
+    run_example "the token in Rust, kept" \
+        "both threads had the token, thread 0 after 1 of its messages, thread 1 after 1" \
         "$made/cargo/release/examples/token" keep
 else
     echo "there is no cargo, so the crate in Rust is not tested (Debian: cargo)"
