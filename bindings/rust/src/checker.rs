@@ -48,8 +48,9 @@ pub struct Checker {
     processes: u32,
 }
 
-// SAFETY: what the handle holds is plain data behind one pointer, which no other handle has, and the header lets any
-// thread make a call, one at a time: each call takes `&mut self`, and `drop` has the checker for itself.
+// SAFETY: the handle holds plain data behind one pointer, which no other handle has, and the header allows one call
+// at a time, from any thread. Each method that calls the library takes `&mut self`, and `drop` has the checker for
+// itself.
 unsafe impl Send for Checker {}
 
 // SAFETY: no method that takes `&self` makes a call of the library or reads the handle.

@@ -55,8 +55,8 @@ impl Default for Options {
 /// }
 /// # fn main() {}
 /// ```
-// `Send` and `Sync` hold by themselves, since a probe is plain numbers. The header wants one call at a time on a
-// probe, of any thread: each call of the library takes `&mut self`.
+// A probe is plain numbers, so `Send` and `Sync` are automatic. The header allows one call at a time on a probe, from
+// any thread: each method that calls the library takes `&mut self`.
 pub struct Probe {
     raw: ffi::Probe,
 }
