@@ -1,5 +1,5 @@
 #!/usr/bin/env bash
-# Builds the library, and runs the tests and the examples of its calls from C and from Python, and the tests of its
+# Builds the library, and runs the tests and the examples of its calls from C, Python and Rust, and the tests of its
 # packages. Each test prints its count; the last line is that of all. Words are those of `bindings/build.sh`.
 set -eu
 cd "$(dirname "$0")/.."
@@ -9,6 +9,9 @@ tools='cmake g++ make pkg-config python3-pip python3-setuptools python3-venv pyt
 # shellcheck disable=SC2086
 if [ "$(id -u)" = 0 ] && command -v apt-get >/dev/null && ! dpkg -s $tools >/dev/null 2>&1; then
     (apt-get -q update && apt-get -q -y install --no-install-recommends $tools) >&2 || true
+fi
+if [ "$(id -u)" = 0 ] && command -v apt-get >/dev/null && ! command -v cargo >/dev/null; then
+    (apt-get -q update && apt-get -q -y install --no-install-recommends cargo) >&2 || true
 fi
 bindings/build.sh "$@"
 made=$(mktemp -d)
@@ -53,6 +56,20 @@ run_example() {
     fi
 }
 
+# Runs the tests of the crate, and adds the numbers that cargo prints for each of its programs.
+test_crate() {
+    status=0
+    CARGO_TARGET_DIR="$made/cargo" WULLAPHI_LIB="$PWD/bindings/out" cargo test --offline --release --no-fail-fast \
+        --manifest-path bindings/rust/Cargo.toml >"$made/cargo.log" 2>&1 || status=$?
+    counts=$(awk '/^test result: / {p += $4; f += $6} END {print p + 0, f + 0}' "$made/cargo.log")
+    passed=$((passed + ${counts% *}))
+    echo "the crate in Rust: ${counts% *} passed, ${counts#* } failed"
+    if [ "$status" = 0 ] && [ "${counts% *}" != 0 ]; then return; fi
+    cat "$made/cargo.log"
+    if [ "${counts#* }" = 0 ]; then counts="0 1"; fi
+    failed=$((failed + ${counts#* }))
+}
+
 # The compiler's checks of addresses are in the tests and examples alone: the library has none compiled in.
 compile() {
     "$cc" -std=c99 -D_POSIX_C_SOURCE=200809L -Wall -Wextra -Werror -O1 -g -fsanitize=address,undefined \
@@ -89,6 +106,16 @@ else
     kept="processes 0 and 1 held the lock at once, 0 after 2 of its messages and 1 after 2
 processes 1 and 2 held the lock at once, 1 after 2 of its messages and 2 after 1"
     run_example "the lock in Python, kept" "$kept" python3 bindings/examples/lock.py keep
+fi
+if command -v cargo >/dev/null; then
+    test_crate
+    run_example "the token in Rust" "the two threads never had the token at once" "$made/cargo/release/examples/token"
+    run_example "the token in Rust, kept" \
+        "both threads had the token, thread 0 after 1 of its messages, thread 1 after 1" \
+        "$made/cargo/release/examples/token" keep
+else
+    echo "there is no cargo, so the crate in Rust is not tested (Debian: cargo)"
+    failed=$((failed + 1))
 fi
 echo "$passed passed, $failed failed"
 [ "$failed" = 0 ]

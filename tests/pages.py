@@ -4,7 +4,8 @@ that they show.
 A command is a line of a block of `sh`, or an indented line behind `$`, that begins with a program of this repository.
 What it prints is the block of `text` right behind it, or the indented lines below it. The programs must have been
 built, as the gate does. Code is a block of `rust` or `antt`: it stands line by line in a file of a crate, which the
-gate builds; a line of dots, or a comment that begins with dots, stands for any lines. The last line is the count."""
+gate builds, in `crates/` or `bindings/rust`; a line of dots, or a comment that begins with dots, stands for any
+lines. The last line is the count."""
 import concurrent.futures
 import os
 import pathlib
@@ -91,6 +92,7 @@ def stands_in(wanted, lines):
 def code_faults(pages):
     """How many blocks of code the pages have, and those that stand in no file."""
     files = [stripped(it.read_text()) for it in TOP.glob("crates/*/*/**/*") if it.suffix in (".rt", ".antt")]
+    files += [stripped(it.read_text()) for it in TOP.glob("bindings/rust/*/*.rs")]
     blocks = [(page, block) for page in pages for block in CODE.findall(page.read_text())]
     missing = [(page, block) for page, block in blocks if not any(stands_in(pieces(block), file) for file in files)]
     return len(blocks), [f"{page.relative_to(TOP)}: this code stands in no crate:\n{block}" for page, block in missing]
