@@ -39,12 +39,24 @@ pub struct Options<'a> {
 }
 
 impl<'a> TraceRequest<'a> {
-    /// What is read for the answer.
+    /// What is read for the answer. Nothing is where the words say no condition at all.
     pub fn source(&self) -> Source<'a> {
         match self {
-            TraceRequest::Trace(options) => Source::named_by(options.file),
+            TraceRequest::Trace(options) if options.have_conditions() => {
+                Source::named_by(options.file)
+            }
             _ => Source::Nowhere,
         }
+    }
+}
+
+impl Options<'_> {
+    /// Whether any word says a condition, or a part of one.
+    fn have_conditions(&self) -> bool {
+        !(self.whiles.is_empty()
+            && self.froms.is_empty()
+            && self.untils.is_empty()
+            && self.ats.is_empty())
     }
 }
 
