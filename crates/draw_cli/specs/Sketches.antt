@@ -4,7 +4,7 @@ use Rattle.wcp_model.specs.declared.workload.Task.{Task}
 use Rattle.wcp_model.specs.declared.plan.Plan.{Plan}
 use Rattle.wcp_clock.specs.ProcessNumbers.{NumberSet}
 use Rattle.wcp_model.specs.declared.flag.Flag.{Flag}
-use Rattle.wcp_model.specs.Outcome.{IsWorkloadOutcome}
+use Rattle.wcp_model.specs.WorkloadOutcome.{IsWorkloadOutcome}
 use Rattle.wcp_model.specs.Verdict.{cut_of}
 use Rattle.wcp_model.specs.WorkloadComputation.{IsFitOrder}
 use Rattle.draw_layout.specs.declared.layout.Layout.{Layout}

@@ -8,7 +8,8 @@ use Rattle.wcp_model.specs.ProbeLog.{Call, Closed, state_of_log}
 use Rattle.wcp_model.specs.Watched.{AreAllWatched}
 use Rattle.wcp_model.specs.declared.flag.Flag.TheVariants as reset_at
 use Rattle.wcp_model.specs.declared.probe_setup.ProbeSetup.{ProbeSetup}
-use Rattle.wcp_model.specs.Report.{IsDrained, IsReportByClocks, notes_taken}
+use Rattle.wcp_model.specs.Report.{IsDrained, notes_taken}
+use Rattle.wcp_model.specs.ReportByClocks.{IsReportByClocks}
 use Rattle.wcp_relay.specs.LiveProbe.{snapshots_in}
 use Rattle.example_pool.specs.declared.dispatcher.Pace.{Pace}
 use Rattle.example_pool.specs.declared.pool.PoolReport.{PoolReport}

@@ -2,7 +2,7 @@ use Rattle.std.specs.Prelude.{◌≡◌, ◌<◌, ◌≤◌, ◌⊎◌, ℕ, Lis
 use Rattle.wcp_model.specs.declared.outcome.Outcome.{Outcome}
 use Rattle.wcp_model.specs.declared.plan.Plan.{Plan}
 use Rattle.wcp_model.specs.declared.workload.Task.{Task}
-use Rattle.wcp_model.specs.Outcome.{IsWorkloadOutcome}
+use Rattle.wcp_model.specs.WorkloadOutcome.{IsWorkloadOutcome}
 use Rattle.wcp_model.specs.Verdict.{status_of}
 use Rattle.wcp_model.specs.WorkloadComputation.{CouldBeRead}
 use Rattle.wcp_report.specs.ReportText.{outcome_text}

@@ -9,7 +9,7 @@ ghost use Rattle.wcp_clock.specs.Limits.{most_processes};
 ghost use Rattle.wcp_clock.specs.ProcessNumbers.{NumberSet};
 ghost use Rattle.wcp_clock.specs.declared.note.Item.{Item};
 ghost use Rattle.wcp_model.specs.Watched.{AreAllWatched, AreSomeWatched};
-ghost use Rattle.wcp_model.specs.Report.{ClocksRise, IsReportByClocks};
+ghost use Rattle.wcp_model.specs.ReportByClocks.{ClocksRise, IsReportByClocks};
 ghost use Rattle.wcp_model.specs.declared.outcome.Report.{Report as Reported};
 ghost use Rattle.wcp_model.specs.declared.outcome.Report.TheVariants.{Found};
 ghost use Rattle.wcp_queue.specs.Checker.{CheckerState, processes, taken_of, report_of, StandsForItems, TakesItem};

@@ -32,8 +32,10 @@ pub use Rattle.wcp_clock.specs.declared.note.Item.{Item}
 pub use Rattle.wcp_clock.specs.declared.note.Note.{Note}
 pub use Rattle.wcp_model.specs.Computation.{Computation, IsTrueState, is_communication_of, is_send, communications}
 pub use Rattle.wcp_model.specs.Computation.{interval_at, message_at, IsState}
-pub use Rattle.wcp_model.specs.Cut.{Intervals, NamesWatched, interval_of, lesser, IsAtOrBelow, member, IsConsistent}
-pub use Rattle.wcp_model.specs.Cut.{IsSatisfyingCut, minimum, IsLeastCut, IsLeastOf, MinimumLaw, LeastCutLaw}
+pub use Rattle.wcp_model.specs.Cut.{Intervals, NamesWatched, interval_of, IsAtOrBelow, member, IsConsistent}
+pub use Rattle.wcp_model.specs.CutLaws.{lesser}
+pub use Rattle.wcp_model.specs.Cut.{IsSatisfyingCut, IsLeastCut, IsLeastOf}
+pub use Rattle.wcp_model.specs.CutLaws.{minimum, MinimumLaw, LeastCutLaw}
 pub use Rattle.wcp_model.specs.Emission.{is_close_of, is_closed, snapshots_from, AreEmissions, IsEmittedState}
 pub use Rattle.wcp_model.specs.Emission.{AreEmittedStates}
 pub use Rattle.wcp_model.specs.Flag.{resets, WasReset, IsFlagUp}
@@ -41,7 +43,8 @@ pub use Rattle.wcp_model.specs.FlagLaws.{EventFlagLaw, SendFlagLaw}
 pub use Rattle.wcp_model.specs.declared.flag.Flag.{Flag}
 pub use Rattle.wcp_model.specs.FirstReason.{first_reason, IsFirstReason, FirstReasonLaw}
 pub use Rattle.wcp_model.specs.Order.{IsMessage, DirectlyPrecedes, Next, Message, HappenedBefore, Direct, Chain}
-pub use Rattle.wcp_model.specs.Outcome.{IsReportOf, IsOutcomeOf, IsWorkloadOutcome}
+pub use Rattle.wcp_model.specs.Outcome.{IsReportOf}
+pub use Rattle.wcp_model.specs.WorkloadOutcome.{IsOutcomeOf, IsWorkloadOutcome}
 pub use Rattle.wcp_model.specs.PlanFault.{IsPath, IsCheckedPlan, HasFault, IsFirstFault, tree_faults, plan_faults}
 pub use Rattle.wcp_model.specs.PlanFault.{ServesRelay}
 pub use Rattle.wcp_model.specs.declared.probe_setup.ProbeSetup.{ProbeSetup}
@@ -50,13 +53,18 @@ pub use Rattle.wcp_model.specs.ProbeLog.{is_up_after_receive, setup, state_of_lo
 pub use Rattle.wcp_model.specs.ProbeLog.{AreCallsOf, IsAccepted, HasClockAndEmissions, LogLaw, IsLogOf}
 pub use Rattle.wcp_model.specs.Replies.{Answered, accepted_by, accepted, is_event, computation, receivers}
 pub use Rattle.wcp_model.specs.Replies.{event_reasons, IsReply, AreReplies}
-pub use Rattle.wcp_model.specs.Report.{notes_taken, snapshot_clocks, clocks_taken, AreRising, ClocksRise}
-pub use Rattle.wcp_model.specs.Report.{ArePrefixesOfEmissions, IsDrained, IsNamed, IsNamedCut, IsCutByClocks}
-pub use Rattle.wcp_model.specs.Report.{IsReportOfTaken, IsReportByClocks, IsNextNote, AreInTurn}
-pub use Rattle.wcp_model.specs.StateClock.{IsStateClock, CountsBefore, StatesHaveClocks}
+pub use Rattle.wcp_model.specs.Report.{notes_taken, snapshot_clocks, clocks_taken}
+pub use Rattle.wcp_model.specs.ReportByClocks.{AreRising, ClocksRise}
+pub use Rattle.wcp_model.specs.Report.{ArePrefixesOfEmissions, IsDrained, IsNamed, IsNamedCut}
+pub use Rattle.wcp_model.specs.ReportByClocks.{IsCutByClocks}
+pub use Rattle.wcp_model.specs.Report.{IsReportOfTaken}
+pub use Rattle.wcp_model.specs.ReportByClocks.{IsReportByClocks, IsNextNote, AreInTurn}
+pub use Rattle.wcp_model.specs.StateClock.{IsStateClock, CountsBefore}
+pub use Rattle.wcp_model.specs.ClockLaws.{StatesHaveClocks}
 pub use Rattle.wcp_model.specs.TaskLog.{actions_of, IsCallFor, FollowsActions, stamps_got, AreLogsOfTasks, TaskLogLaw}
 pub use Rattle.wcp_model.specs.TaskLog.{beside, clocks_after, stamp_of, stamps_sent}
-pub use Rattle.wcp_model.specs.Tree.{is_number, plain_attach, IsPlainPlan, is_leaf, leaf_of, parent_of}
+pub use Rattle.wcp_model.specs.Tree.{is_number, is_leaf, leaf_of, parent_of}
+pub use Rattle.wcp_model.specs.PlainPlan.{plain_attach, IsPlainPlan}
 pub use Rattle.wcp_model.specs.Watched.{IsWatched, AreSomeWatched}
 pub use Rattle.wcp_model.specs.WorkloadComputation.{is_task_of, is_send_to, is_receive_from, sends, receives}
 pub use Rattle.wcp_model.specs.WorkloadComputation.{message_number, step_of, steps_from, computation_of, IsWithin}

@@ -1,5 +1,4 @@
-use Rattle.std.specs.Prelude.{◌≡◌, ◌≢◌, ℕ, ◌<◌, ◌≤◌, min, List, [], ◌∷◌, length, slice_index_or, Option, Some, None}
-use Rattle.std.specs.Prelude.{is_some, unwrap_or}
+use Rattle.std.specs.Prelude.{◌≡◌, ◌≢◌, ℕ, ◌<◌, ◌≤◌, List, length, slice_index_or, Option, None, is_some, unwrap_or}
 use Rattle.std.specs.FinSet as set
 use Rattle.wcp_clock.specs.ProcessNumbers.{NumberSet}
 use Rattle.wcp_model.specs.declared.state.State.{State}
@@ -48,26 +47,3 @@ pub record IsLeastOf (n : ℕ) (watched : NumberSet) (IsOne : Intervals → Type
 -- The least cut of a computation is the least of its satisfying cuts (Garg and Waldecker 1994).
 abbrev pub IsLeastCut : ℕ → NumberSet → Computation → Intervals → Type 0
 IsLeastCut n watched c = IsLeastOf n watched (IsSatisfyingCut n watched c)
-
--- The componentwise minimum of two cuts.
-abbrev pub lesser : Option ℕ → Option ℕ → Option ℕ
-lesser (Some k) (Some l) = Some (min k l)
-lesser (Some k) None = None
-lesser None other = None
-
-abbrev pub minimum : Intervals → Intervals → Intervals
-minimum (k ∷ ks) (l ∷ ls) = lesser k l ∷ minimum ks ls
-minimum [] ls = []
-minimum (k ∷ ks) [] = []
-
--- The minimum law: satisfying cuts are closed under the minimum (Garg and Waldecker 1994).
-abbrev pub MinimumLaw : Type 0
-MinimumLaw =
-    (n : ℕ) (watched : NumberSet) (c : Computation) (one other : Intervals) → IsSatisfyingCut n watched c one →
-    IsSatisfyingCut n watched c other → IsSatisfyingCut n watched c (minimum one other)
-
--- Where there is a satisfying cut, there is a least one.
-abbrev pub LeastCutLaw : Type 0
-LeastCutLaw =
-    (n : ℕ) (watched : NumberSet) (c : Computation) (cut : Intervals) → IsSatisfyingCut n watched c cut →
-    (least : Intervals) × IsLeastCut n watched c least

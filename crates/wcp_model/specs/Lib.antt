@@ -3,10 +3,13 @@ pub mod Order
 pub mod Watched
 pub mod Flag
 pub mod Cut
+pub mod CutLaws
 pub mod WorkloadComputation
 pub mod Outcome
+pub mod WorkloadOutcome
 pub mod Verdict
 pub mod StateClock
+pub mod ClockLaws
 pub mod Emission
 pub mod FlagLaws
 pub mod ProbeLog
@@ -14,7 +17,9 @@ pub mod TaskLog
 pub mod FirstReason
 pub mod PlanFault
 pub mod Report
+pub mod ReportByClocks
 pub mod Tree
+pub mod PlainPlan
 pub mod Occupancy
 pub mod Replies
 pub mod Growth

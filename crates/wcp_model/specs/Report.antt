@@ -1,16 +1,13 @@
-use Rattle.std.specs.Prelude.{◌≡◌, ◌≢◌, ◌==◌, ℕ, ◌<◌, ◌≤◌, false, List, [], ◌∷◌, ◌++◌, length, filter, map, slice_index}
-use Rattle.std.specs.Prelude.{slice_index_or, Contains}
-use Rattle.std.specs.List.{list_any}
+use Rattle.std.specs.Prelude.{◌≡◌, ◌==◌, ℕ, ◌<◌, List, [], ◌∷◌, ◌++◌, filter, map, slice_index, Contains}
 use Rattle.wcp_clock.specs.declared.note.Item.{Item}
 use Rattle.wcp_clock.specs.declared.note.Note.{Note}
 use Rattle.wcp_clock.specs.declared.note.Note.TheVariants as note
-use Rattle.wcp_clock.specs.Notes.{is_last, place_of}
 use Rattle.wcp_clock.specs.ProcessNumbers.{NumberSet}
 use Rattle.wcp_model.specs.declared.flag.Flag.{Flag}
 use Rattle.wcp_model.specs.declared.outcome.Report.{Report}
 use Rattle.wcp_model.specs.declared.state.State.{State}
 use Rattle.wcp_model.specs.Computation.{Computation}
-use Rattle.wcp_model.specs.Cut.{Intervals, NamesWatched, interval_of, member, IsSatisfyingCut}
+use Rattle.wcp_model.specs.Cut.{Intervals, member, IsSatisfyingCut}
 use Rattle.wcp_model.specs.Emission.{AreEmissions}
 use Rattle.wcp_model.specs.Outcome.{IsReportOn}
 use Rattle.wcp_model.specs.Watched.{IsWatched}
@@ -30,16 +27,6 @@ snapshot_clocks (note.Lost count ∷ notes) = snapshot_clocks notes
 -- The clocks of the snapshots taken of one process, in order.
 abbrev pub clocks_taken : ℕ → List Item → List (List ℕ)
 clocks_taken p items = snapshot_clocks (notes_taken p items)
-
--- A note is next after these of its process if its place is the number of snapshots among them, and none of them is a
--- last one.
-pub record IsNextNote (notes : List Note) (next : Note) : Type 0 where
-  pub place : place_of next ≡ length (snapshot_clocks notes)
-  pub still_open : list_any is_last notes ≡ false
-
--- The notes of a process are in turn if each is next after those before it: so nothing follows a last note.
-abbrev pub AreInTurn : List Note → Type 0
-AreInTurn notes = (before after : List Note) (next : Note) → notes ≡ before ++ next ∷ after → IsNextNote before next
 
 -- What was taken of each process is a prefix of its emissions in the computation.
 abbrev pub ArePrefixesOfEmissions : ℕ → NumberSet → Flag → Computation → List Item → Type 0
@@ -64,33 +51,6 @@ pub record IsNamedCut (n : ℕ) (watched : NumberSet) (c : Computation) (items :
   pub satisfying : IsSatisfyingCut n watched c cut
   pub named : (p : ℕ) → IsWatched n watched p → IsNamed items (member cut p)
 
--- The same read by clocks alone, each named state counted as true: one taken snapshot of each watched process, where
--- none precedes another; it would if its own component were less than the other's there (Mattern 1989; Garg and
--- Waldecker 1994).
-pub record IsCutByClocks (n : ℕ) (watched : NumberSet) (items : List Item) (cut : Intervals) : Type 0 where
-  pub members : NamesWatched n watched cut
-  pub clock : ℕ → List ℕ
-  pub taken : (p : ℕ) → IsWatched n watched p → Contains (clocks_taken p items) (clock p)
-  pub own : (p : ℕ) → IsWatched n watched p → slice_index (clock p) p ≡ interval_of cut p
-  pub concurrent : (p q : ℕ) → IsWatched n watched p → IsWatched n watched q → p ≢ q →
-      slice_index (clock p) p < slice_index (clock q) p → ⊥
-
 -- The report of what was taken, on the states that it names (Garg and Waldecker 1994: detection of the first cut).
 abbrev pub IsReportOfTaken : ℕ → NumberSet → Computation → List Item → Report → Type 0
 IsReportOfTaken n watched c items = IsReportOn n watched (IsNamedCut n watched c items) (IsDrained n items)
-
--- The report of what was taken, read by clocks alone.
-abbrev pub IsReportByClocks : ℕ → NumberSet → List Item → Report → Type 0
-IsReportByClocks n watched items = IsReportOn n watched (IsCutByClocks n watched items) (IsDrained n items)
-
--- These clocks of process p never fall in a component, and rise in its own (Fidge 1988; Mattern 1989: clocks grow
--- along a process).
-pub record AreRising (p : ℕ) (clocks : List (List ℕ)) : Type 0 where
-  pub never_fall : (i j q : ℕ) → i ≤ j → j < length clocks →
-      slice_index (slice_index_or clocks i []) q ≤ slice_index (slice_index_or clocks j []) q
-  pub rise : (i j : ℕ) → i < j → j < length clocks →
-      slice_index (slice_index_or clocks i []) p < slice_index (slice_index_or clocks j []) p
-
--- The clocks taken of each process never fall in a component, and rise in its own.
-abbrev pub ClocksRise : ℕ → List Item → Type 0
-ClocksRise n items = (p : ℕ) → p < n → AreRising p (clocks_taken p items)

@@ -1,6 +1,6 @@
 use Rattle.std.specs.Prelude.{◌≡◌, ◌≢◌, ℕ, ◌<◌, ◌↔◌, List, length, slice_index}
 use Rattle.wcp_model.specs.declared.state.State.{State}
-use Rattle.wcp_model.specs.Computation.{Computation, IsState}
+use Rattle.wcp_model.specs.Computation.{Computation}
 use Rattle.wcp_model.specs.Order.{HappenedBefore}
 
 -- This many states of process q happened before a state: they are its first ones.
@@ -13,14 +13,3 @@ pub record IsStateClock (n : ℕ) (c : Computation) (s : State) (clock : List �
   pub components : length clock ≡ n
   pub own : slice_index clock s.process ≡ s.interval
   pub others : (q : ℕ) → q < n → q ≢ s.process → CountsBefore c s q (slice_index clock q)
-
--- The clock law: of states of two processes, one happened before the other exactly if its own component is less there.
-abbrev pub ClockLaw : Type 0
-ClockLaw = (n : ℕ) (c : Computation) (s t : State) (a b : List ℕ) → s.process < n → s.process ≢ t.process →
-    IsStateClock n c s a → IsStateClock n c t b →
-    HappenedBefore c s t ↔ (slice_index a s.process < slice_index b s.process)
-
--- Each state has a clock.
-abbrev pub StatesHaveClocks : Type 0
-StatesHaveClocks =
-    (n : ℕ) (c : Computation) (s : State) → s.process < n → IsState c s → (clock : List ℕ) × IsStateClock n c s clock

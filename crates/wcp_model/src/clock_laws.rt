@@ -1,4 +1,4 @@
-ghost use Rattle.wcp_model.specs.StateClock.{ClockLaw, StatesHaveClocks};
+ghost use Rattle.wcp_model.specs.ClockLaws.{ClockLaw, StatesHaveClocks};
 
 /// The clock law: the clocks of two states of different processes tell, by one comparison, whether
 /// the one happened before the other.

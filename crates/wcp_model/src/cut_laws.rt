@@ -1,4 +1,4 @@
-ghost use Rattle.wcp_model.specs.Cut.{LeastCutLaw, MinimumLaw};
+ghost use Rattle.wcp_model.specs.CutLaws.{LeastCutLaw, MinimumLaw};
 
 /// The minimum law: satisfying cuts are closed under the componentwise minimum.
 pub fn minimum_law()

@@ -27,7 +27,8 @@ pub use Rattle.wcp_model.proofs.NotesInTurn.{AreInTurn-none, snapshot_clocks-app
 pub use Rattle.wcp_model.specs.Cut.{Intervals, NamesWatched, interval_of}
 pub use Rattle.wcp_model.specs.Watched.{IsWatched, AreSomeWatched}
 pub use Rattle.wcp_queue.specs.Rows.{members_of, row_of, known_of, rows_of, cut_of}
-pub use Rattle.wcp_model.specs.Report.{clocks_taken, notes_taken, IsNextNote, AreInTurn, IsCutByClocks, ClocksRise}
+pub use Rattle.wcp_model.specs.Report.{clocks_taken, notes_taken}
+pub use Rattle.wcp_model.specs.ReportByClocks.{IsNextNote, AreInTurn, IsCutByClocks, ClocksRise}
 pub use Rattle.wcp_model.specs.Report.{IsDrained}
 pub use Rattle.wcp_queue.specs.Checker.{CheckerState, processes, taken_of, closed_of, lost_of, is_snapshot, IsSearching}
 pub use Rattle.wcp_queue.specs.Checker.{MayTake, StandsForItems, IsSoundChecker}

@@ -13,7 +13,8 @@ use Rattle.wcp_clock.specs.Notes.{is_close, is_lost, place_of}
 use Rattle.wcp_model.specs.Cut.{Intervals, IsLeastOf}
 use Rattle.wcp_model.specs.Watched.{AreSomeWatched}
 use Rattle.wcp_queue.specs.Rows.{members_of, rows_of, cut_of}
-use Rattle.wcp_model.specs.Report.{notes_taken, clocks_taken, AreInTurn, ClocksRise, IsDrained, IsCutByClocks}
+use Rattle.wcp_model.specs.Report.{notes_taken, clocks_taken, IsDrained}
+use Rattle.wcp_model.specs.ReportByClocks.{AreInTurn, ClocksRise, IsCutByClocks}
 use Rattle.wcp_queue.specs.declared.floor.Floor.{Floor}
 use Rattle.wcp_queue.specs.Floor.{HaveHeads}
 use Rattle.wcp_queue.specs.Elimination.{AreStable, AreLeft, IsFoundAmong, waiting_in, tests_each}

@@ -8,7 +8,8 @@ ghost use Rattle.wcp_model.specs.declared.outcome.Report.TheVariants.{Found, Not
 ghost use Rattle.wcp_clock.specs.Notes.{is_close, is_last, is_lost};
 ghost use Rattle.wcp_model.specs.Watched.{AreSomeWatched};
 ghost use Rattle.wcp_queue.specs.Rows.{cut_of, known_of, members_of, row_of};
-ghost use Rattle.wcp_model.specs.Report.{ClocksRise, IsReportByClocks, clocks_taken, notes_taken};
+ghost use Rattle.wcp_model.specs.ReportByClocks.{ClocksRise, IsReportByClocks};
+ghost use Rattle.wcp_model.specs.Report.{clocks_taken, notes_taken};
 
 use crate::elimination::add_candidate;
 use crate::floor::Floor;

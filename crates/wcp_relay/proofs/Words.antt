@@ -35,7 +35,8 @@ pub use Rattle.wcp_model.specs.LaneRule.{AreInSequence, IsNext}
 pub use Rattle.wcp_model.specs.PlanFault.{IsCheckedPlan}
 pub use Rattle.wcp_model.specs.ProbeLog.{Call, Observed, Sent, Received, Closed, ProbeState, after_call, setup}
 pub use Rattle.wcp_model.specs.ProbeLog.{state_of_log}
-pub use Rattle.wcp_model.specs.Report.{AreRising, clocks_taken, notes_taken, snapshot_clocks}
+pub use Rattle.wcp_model.specs.ReportByClocks.{AreRising}
+pub use Rattle.wcp_model.specs.Report.{clocks_taken, notes_taken, snapshot_clocks}
 pub use Rattle.wcp_model.specs.Tree.{parent_of}
 pub use Rattle.wcp_model.specs.declared.plan.Parent.{Parent}
 pub use Rattle.wcp_model.specs.declared.plan.Parent.TheVariants.{Root, Relay}

@@ -7,7 +7,8 @@ use Rattle.wcp_clock.specs.ProcessNumbers.{NumberSet}
 use Rattle.wcp_model.specs.declared.flag.Flag.{Flag}
 use Rattle.wcp_model.specs.declared.probe_setup.ProbeSetup.{ProbeSetup}
 use Rattle.wcp_model.specs.ProbeLog.{Call, Closed, setup, state_of_log}
-use Rattle.wcp_model.specs.Report.{AreRising, snapshot_clocks}
+use Rattle.wcp_model.specs.ReportByClocks.{AreRising}
+use Rattle.wcp_model.specs.Report.{snapshot_clocks}
 use Rattle.wcp_probe.specs.Core.{Core, StandsForLog, IsSameProbe, setup_of}
 use Rattle.wcp_ring.specs.Ends.{PutSide, EndedSide}
 use Rattle.wcp_clock.specs.Notes.{is_snapshot}

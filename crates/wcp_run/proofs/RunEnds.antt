@@ -10,7 +10,7 @@ use Rattle.wcp_clock.specs.declared.note.Note.{Note}
 use Rattle.wcp_clock.specs.declared.note.Note.TheVariants.{Snap, Close, Lost}
 use Rattle.wcp_model.specs.declared.outcome.Tally.{Tally}
 use Rattle.wcp_book.specs.State.{BookState}
-use Rattle.wcp_model.specs.Outcome.{IsWorkloadOutcome}
+use Rattle.wcp_model.specs.WorkloadOutcome.{IsWorkloadOutcome}
 use Rattle.wcp_model.specs.Report.{notes_taken, snapshot_clocks, clocks_taken}
 use Rattle.wcp_model.proofs.CheckedPlans.{few_processes}
 use Rattle.wcp_worker.proofs.RunOutcomes.{IsWorkloadOutcome-run}

@@ -26,7 +26,7 @@ pub use Rattle.std.specs.Prelude.{OnOk, IfOk, IfErr, codes, replicate, slice_get
 pub use Rattle.std.specs.Str.Parse.{digits_value, AllDigits}
 pub use Rattle.wcp_model.proofs.CheckedPlans.{some_process, few_processes, some_watched}
 pub use Rattle.wcp_model.specs.PlanFault.{IsCheckedPlan, IsOutside, HasFault}
-pub use Rattle.wcp_model.specs.Tree.{IsSamePlan}
+pub use Rattle.wcp_model.specs.PlainPlan.{IsSamePlan}
 pub use Rattle.wcp_model.specs.WorkloadComputation.{sends, receives, IsWithin, IsFitOrder, CouldBeRead}
 pub use Rattle.wcp_model.specs.declared.plan.Parent.{Parent}
 pub use Rattle.wcp_model.specs.declared.plan.Parent.TheVariants.{Root, Relay}

@@ -13,7 +13,7 @@ use Rattle.wcp_model.specs.declared.flag.Flag.TheVariants as reset_at
 use Rattle.wcp_model.specs.declared.plan.Parent.{Parent}
 use Rattle.wcp_model.specs.declared.plan.Parent.TheVariants as parent
 use Rattle.wcp_model.specs.declared.plan.Plan.{Plan}
-use Rattle.wcp_model.specs.Tree.{plain_parents, plain_attach}
+use Rattle.wcp_model.specs.PlainPlan.{plain_parents, plain_attach}
 use Rattle.wcp_script.specs.declared.fault.FaultKind.{FaultKind}
 use Rattle.wcp_script.specs.declared.fault.FaultKind.TheVariants as kind
 use Rattle.wcp_script.specs.declared.fault.ScriptFault.{ScriptFault}

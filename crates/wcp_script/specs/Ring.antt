@@ -4,7 +4,7 @@ use Rattle.std.specs.List.{flat_map, range_with_len}
 use Rattle.wcp_model.specs.declared.plan.Plan.{Plan}
 use Rattle.wcp_model.specs.declared.workload.Action.TheVariants.{Observe, Send, Recv}
 use Rattle.wcp_model.specs.declared.workload.Task.{Task}
-use Rattle.wcp_model.specs.Tree.{IsPlainPlan}
+use Rattle.wcp_model.specs.PlainPlan.{IsPlainPlan}
 use Rattle.wcp_script.specs.Capacities.{plain_cap, plain_hold}
 
 -- A ring has at most 1,000 rounds.

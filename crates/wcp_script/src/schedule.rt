@@ -3,7 +3,7 @@ ghost use Rattle.wcp_model.specs.declared.plan.Plan.{Plan};
 ghost use Rattle.wcp_model.specs.declared.step.Step.{Step};
 ghost use Rattle.wcp_clock.specs.Limits.{most_steps};
 ghost use Rattle.wcp_model.specs.PlanFault.{IsCheckedPlan};
-ghost use Rattle.wcp_model.specs.Tree.{IsSamePlan};
+ghost use Rattle.wcp_model.specs.PlainPlan.{IsSamePlan};
 ghost use Rattle.wcp_script.specs.declared.fault.ScriptFault.{ScriptFault};
 ghost use Rattle.wcp_script.specs.TextFault.{schedules, Spells, HasTextFault};
 ghost use Rattle.wcp_script.specs.ReadAnswers.{IsReadAs, IsRefusedFor, IsFaultOf, ReadsSchedule};

@@ -4,7 +4,8 @@ use Rattle.wcp_single.proofs.Words.{append-nil, arith, Item, Call, Observed, Clo
 use Rattle.wcp_single.proofs.Words.{log_counts_notes, log_push, CheckerState, MayTake, TakesItem, processes}
 use Rattle.wcp_single.proofs.Words.{WorkloadProcess, IsRunning, IsFed, IsFedMore, IsCaughtUp, Feeds}
 use Rattle.std.specs.Prelude.{if◌then◌else◌}
-use Rattle.wcp_model.specs.Report.{IsNextNote, notes_taken}
+use Rattle.wcp_model.specs.ReportByClocks.{IsNextNote}
+use Rattle.wcp_model.specs.Report.{notes_taken}
 use Rattle.wcp_clock.specs.declared.note.Note.{Note}
 use Rattle.wcp_clock.specs.declared.note.Note.TheVariants as note
 use Rattle.wcp_clock.specs.Notes.{place_of}

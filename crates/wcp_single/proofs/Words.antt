@@ -17,9 +17,10 @@ pub use Rattle.wcp_model.proofs.NotesInTurn.{log_counts_notes}
 pub use Rattle.wcp_model.proofs.TaskLogs.{actions_of-push, FollowsActions-push, length-stamps_sent, length-stamps_got}
 pub use Rattle.wcp_model.proofs.TaskLogs.{stamps_sent-push, stamps_sent-push_other, stamps_got-push}
 pub use Rattle.wcp_model.proofs.TaskLogs.{stamps_got-push_other, log_push}
-pub use Rattle.wcp_model.specs.Outcome.{IsWorkloadOutcome}
+pub use Rattle.wcp_model.specs.WorkloadOutcome.{IsWorkloadOutcome}
 pub use Rattle.wcp_model.specs.ProbeLog.{Call, setup, state_of_log, Observed, Sent, Received, ProbeState, Closed}
-pub use Rattle.wcp_model.specs.Report.{notes_taken, IsReportByClocks, ClocksRise}
+pub use Rattle.wcp_model.specs.Report.{notes_taken}
+pub use Rattle.wcp_model.specs.ReportByClocks.{IsReportByClocks, ClocksRise}
 pub use Rattle.wcp_model.specs.TaskLog.{actions_of, IsCallFor, FollowsActions, stamp_of, stamps_sent, stamps_got}
 pub use Rattle.wcp_model.specs.TaskLog.{AreLogsOfTasks}
 pub use Rattle.wcp_model.specs.WorkloadComputation.{sends, receives, is_send_to, is_receive_from, HasPartner, IsWithin}

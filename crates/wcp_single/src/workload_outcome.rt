@@ -1,7 +1,7 @@
 //! The outcome of a workload, from what a checker takes of the probes of its processes.
 ghost use Rattle.std.specs.Prelude.{◌<◌, ◌≤◌, length, All, IfOk};
 ghost use Rattle.wcp_clock.specs.Limits.{most_events, most_processes};
-ghost use Rattle.wcp_model.specs.Outcome.{IsWorkloadOutcome};
+ghost use Rattle.wcp_model.specs.WorkloadOutcome.{IsWorkloadOutcome};
 ghost use Rattle.wcp_model.specs.Watched.{AreSomeWatched};
 ghost use Rattle.wcp_model.specs.WorkloadComputation.{CouldBeRead, IsFitOrder, IsWithin};
 

@@ -5,7 +5,7 @@ ghost use Rattle.std.specs.List.{slice_get, slice_index_or};
 ghost use Rattle.wcp_clock.specs.Limits.{most_processes};
 ghost use Rattle.wcp_model.specs.declared.outcome.Tally.{Tally};
 ghost use Rattle.wcp_model.specs.declared.workload.Task.{Task};
-ghost use Rattle.wcp_model.specs.Outcome.{IsWorkloadOutcome};
+ghost use Rattle.wcp_model.specs.WorkloadOutcome.{IsWorkloadOutcome};
 ghost use Rattle.wcp_clock.specs.ProcessNumbers.{NumberSet};
 ghost use Rattle.wcp_model.specs.declared.flag.Flag.{Flag};
 ghost use Rattle.wcp_model.specs.Watched.{AreSomeWatched};

@@ -26,7 +26,8 @@ pub use Rattle.wcp_lane.specs.Ends.{TakenEnd, LaneName, PutEnd, TakeEnd}
 pub use Rattle.wcp_lane.specs.Passes.{Numbers}
 pub use Rattle.wcp_model.proofs.CheckedPlans.{attached_exists, has_leaf, is_its_leaf, parent_below, few_processes}
 pub use Rattle.wcp_model.proofs.CheckedPlans.{few_relays, some_process}
-pub use Rattle.wcp_model.specs.Report.{notes_taken, ClocksRise, clocks_taken, snapshot_clocks, AreInTurn, IsNextNote}
+pub use Rattle.wcp_model.specs.Report.{notes_taken, clocks_taken, snapshot_clocks}
+pub use Rattle.wcp_model.specs.ReportByClocks.{ClocksRise, AreInTurn, IsNextNote}
 pub use Rattle.wcp_model.specs.Report.{IsDrained}
 pub use Rattle.wcp_model.specs.Tree.{is_leaf, parent_of, leaf_of}
 pub use Rattle.wcp_model.specs.declared.plan.Parent.{Parent}

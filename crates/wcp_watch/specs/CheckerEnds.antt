@@ -6,7 +6,8 @@ use Rattle.std.specs.List.{list_any}
 use Rattle.wcp_clock.specs.ProcessNumbers.{NumberSet}
 use Rattle.wcp_clock.specs.Notes.{place_of, is_close, is_last, is_lost}
 use Rattle.wcp_clock.specs.declared.note.Item.{Item}
-use Rattle.wcp_model.specs.Report.{ClocksRise, IsReportByClocks, IsDrained, notes_taken}
+use Rattle.wcp_model.specs.ReportByClocks.{ClocksRise, IsReportByClocks}
+use Rattle.wcp_model.specs.Report.{IsDrained, notes_taken}
 use Rattle.wcp_model.specs.declared.outcome.Report.TheVariants.{Nothing}
 use Rattle.wcp_lane.specs.Ends.{TakeEnd}
 use Rattle.wcp_lane.specs.declared.fault.Cut.{Cut}

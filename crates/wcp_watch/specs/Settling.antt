@@ -7,7 +7,8 @@ use Rattle.std.specs.Option.{option_flatten}
 use Rattle.wcp_clock.specs.declared.note.Item.{Item}
 use Rattle.wcp_model.specs.FirstReason.{IsFirstReason}
 use Rattle.wcp_model.specs.PlanFault.{IsCheckedPlan}
-use Rattle.wcp_model.specs.Report.{IsDrained, IsReportByClocks, notes_taken}
+use Rattle.wcp_model.specs.Report.{IsDrained, notes_taken}
+use Rattle.wcp_model.specs.ReportByClocks.{IsReportByClocks}
 use Rattle.wcp_model.specs.Verdict.{cut_of}
 use Rattle.wcp_model.specs.declared.outcome.Tally.{Tally}
 use Rattle.wcp_model.specs.declared.plan.Parent.{Parent}

@@ -5,7 +5,7 @@ use Rattle.wcp_worker.proofs.Words.{FollowsActions, stamps_sent, stamps_got, Are
 use Rattle.wcp_worker.proofs.Words.{clocks_sent_to, clocks_taken_from, HasRun, HaveRun}
 use Rattle.wcp_clock.specs.declared.note.Item.{Item}
 use Rattle.wcp_model.specs.declared.outcome.Outcome.{Outcome}
-use Rattle.wcp_model.specs.Outcome.{IsWorkloadOutcome}
+use Rattle.wcp_model.specs.WorkloadOutcome.{IsWorkloadOutcome}
 use Rattle.wcp_model.specs.Report.{notes_taken}
 use Rattle.wcp_model.proofs.Choosing.{choice_from_each}
 use Rattle.wcp_model.proofs.SamePlace.{element_within}

@@ -8,7 +8,8 @@ use Rattle.wcp_model.specs.Cut.{Intervals}
 use Rattle.wcp_clock.specs.declared.note.Note.TheVariants as note
 use Rattle.wcp_clock.specs.Notes.{is_last, is_lost}
 use Rattle.wcp_model.specs.Emission.{snapshots_from}
-use Rattle.wcp_model.specs.Report.{snapshot_clocks, clocks_taken, IsDrained, IsCutByClocks}
+use Rattle.wcp_model.specs.Report.{snapshot_clocks, clocks_taken, IsDrained}
+use Rattle.wcp_model.specs.ReportByClocks.{IsCutByClocks}
 use Rattle.wcp_model.specs.declared.outcome.Report.{Report}
 use Rattle.wcp_model.specs.declared.outcome.Report.TheVariants.{Found, Nothing, Undecided}
 use Rattle.wcp_model.proofs.NotesInTurn.{emissions_in_turn, AreInTurn-push}

@@ -44,8 +44,10 @@ pub use Rattle.wcp_model.specs.Replies.{is_event, computation, accepted_by, take
 pub use Rattle.wcp_model.specs.Replies.{IsAcceptance, IsReply, Answered, accepted, items_taken, AreReplies}
 pub use Rattle.wcp_model.specs.Replies.{move_reasons, names_nothing, receivers, is_receive_of, was_received}
 pub use Rattle.wcp_model.specs.Replies.{was_sent_to}
-pub use Rattle.wcp_model.specs.Report.{notes_taken, ArePrefixesOfEmissions, AreInTurn, ClocksRise, IsReportByClocks}
-pub use Rattle.wcp_model.specs.Tree.{leaf_of, parent_of, IsSamePlan, is_number, is_attached, is_leaf}
+pub use Rattle.wcp_model.specs.Report.{notes_taken, ArePrefixesOfEmissions}
+pub use Rattle.wcp_model.specs.ReportByClocks.{AreInTurn, ClocksRise, IsReportByClocks}
+pub use Rattle.wcp_model.specs.Tree.{leaf_of, parent_of, is_number, is_attached, is_leaf}
+pub use Rattle.wcp_model.specs.PlainPlan.{IsSamePlan}
 pub use Rattle.wcp_model.specs.declared.plan.Parent.{Parent}
 pub use Rattle.wcp_model.specs.declared.plan.Parent.TheVariants.{Root, Relay}
 pub use Rattle.wcp_model.specs.declared.plan.Plan.{Plan}

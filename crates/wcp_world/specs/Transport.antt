@@ -13,7 +13,7 @@ use Rattle.wcp_model.specs.declared.step.Why.{Why}
 use Rattle.wcp_model.specs.declared.step.Why.TheVariants.{Empty, Full}
 use Rattle.wcp_model.specs.Emission.{is_dropped}
 use Rattle.wcp_model.specs.PlanFault.{IsCheckedPlan}
-use Rattle.wcp_model.specs.Tree.{IsSamePlan}
+use Rattle.wcp_model.specs.PlainPlan.{IsSamePlan}
 use Rattle.wcp_model.specs.Occupancy.{Place, Pending, Link, HoldOf, InboxOf, next_place, source, puts_into, taken_from}
 use Rattle.wcp_model.specs.Occupancy.{notes_in, room_of, IsEntry}
 use Rattle.wcp_model.specs.Replies.{accepted_by, names_nothing, reasons}

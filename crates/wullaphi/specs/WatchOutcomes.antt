@@ -4,7 +4,8 @@ use Rattle.std.specs.List.{sum_by}
 use Rattle.wcp_clock.specs.declared.note.Item.{Item}
 use Rattle.wcp_clock.specs.declared.note.Note.{Note}
 use Rattle.wcp_model.specs.ProbeLog.{setup}
-use Rattle.wcp_model.specs.Report.{ClocksRise, IsDrained, IsReportByClocks, notes_taken}
+use Rattle.wcp_model.specs.ReportByClocks.{ClocksRise, IsReportByClocks}
+use Rattle.wcp_model.specs.Report.{IsDrained, notes_taken}
 use Rattle.wcp_model.specs.declared.plan.Plan.{Plan}
 use Rattle.wcp_model.specs.declared.outcome.Report.{Report}
 use Rattle.wcp_model.specs.declared.outcome.Report.TheVariants.{Nothing}

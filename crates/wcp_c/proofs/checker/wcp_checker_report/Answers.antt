@@ -1,7 +1,7 @@
 use Rattle.std.proofs.Common.{◌≡◌, List, false, subst}
 use Rattle.wcp_clock.specs.declared.note.Item.{Item}
 use Rattle.wcp_model.specs.declared.outcome.Report.{Report}
-use Rattle.wcp_model.specs.Report.{ClocksRise, IsReportByClocks}
+use Rattle.wcp_model.specs.ReportByClocks.{ClocksRise, IsReportByClocks}
 use Rattle.wcp_queue.specs.Checker.{CheckerState, processes, report_of, StandsForItems, IsReportOfAnyClocks}
 use Rattle.wcp_c.proofs.checker.wcp_checker_report.Goals as goal
 

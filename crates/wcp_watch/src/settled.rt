@@ -1,4 +1,0 @@
-use wcp_model::Outcome;
-
-/// What the ends of a run tell.
-pub type Settled = Outcome;
