@@ -1,8 +1,9 @@
-"""Whether a crate that forges a stamp is refused: what makes a stamp of any clock, or gives a probe one, is private.
+"""Whether a crate that forges a stamp, or the answer of a book, is refused: what makes one is private.
 
-Each program stands on `wcp_probe` in a repository of its own. The honest one runs, and each forger is refused for a
-private item. The last line is the count."""
+Each program stands on the crates of a few lines in a repository of its own. The honest ones run, and each forger is
+refused for a private item. The last line is the count."""
 import concurrent.futures
+import dataclasses
 import pathlib
 import shutil
 import subprocess
@@ -10,44 +11,82 @@ import sys
 import tempfile
 
 TOP = pathlib.Path(__file__).resolve().parent.parent
-BELOW = ("wcp_clock", "wcp_model", "wcp_probe")
 
-PROGRAM = """//! Stamps a message.
+STAMPS = """//! Stamps a message.
 #![tactic(auto)]
 
 use wcp_clock::Clock;
-use wcp_model::{{Flag, ProbeSetup}};
-use wcp_probe::{{ProbeCore, ProbeParts, Stamped}};
+use wcp_model::{Flag, ProbeSetup};
+use wcp_probe::{ProbeCore, ProbeParts, Stamped};
 
-fn main(_rt: HostRuntime) {{
-    let setup = ProbeSetup {{ processes: 2, process: 0, watched: true, flag: Flag::Event }};
+fn main(_rt: HostRuntime) {
+    let setup = ProbeSetup { processes: 2, process: 0, watched: true, flag: Flag::Event };
     let mut probe = ProbeCore::new(1, setup, 8);
     let clock = Clock::new(2);
-    {stamp}
-}}
+    LINE
+}
 """
 
-HONEST = "let _ = probe.stamp(1, clock);"
-FORGERS = {
-    "a stamp of any clock": "let _ = Stamped { watch: 1, from: 1, to: 0, clock, value: () };",
-    "a stamp that is told": "let _ = probe.receive_told(1, 0, &clock);",
-    "a probe of any clock": """let _ = ProbeCore::from_parts(ProbeParts { watch: 1, id: 0, watched: true,
-        flag: Flag::Event, limit: 8, clock, flag_up: false, closed: false, emitted: 0, pending: None });""",
+ANSWERS = """//! Waits for what a book tells.
+#![tactic(auto)]
+
+use wcp_book::{Book, CutAnswer, ToldAnswer};
+
+fn main(rt: HostRuntime) {
+    let mut book = Book::new(2);
+    book.refuse();
+    let _ = book.news(rt.alloc());
+    LINE
 }
+"""
 
 
-def answer(stamp):
-    """What `rt try` says of a program with this line."""
+@dataclasses.dataclass(frozen=True)
+class Programs:
+    """Programs that differ in one line: one that is honest, and forgers."""
+
+    text: str
+    below: tuple[str, ...]
+    honest: str
+    forgers: dict[str, str]
+
+
+KINDS = [
+    Programs(
+        STAMPS,
+        ("wcp_clock", "wcp_model", "wcp_probe"),
+        "let _ = probe.stamp(1, clock);",
+        {
+            "a stamp of any clock": "let _ = Stamped { watch: 1, from: 1, to: 0, clock, value: () };",
+            "a stamp that is told": "let _ = probe.receive_told(1, 0, &clock);",
+            "a probe of any clock": """let _ = ProbeCore::from_parts(ProbeParts { watch: 1, id: 0, watched: true,
+        flag: Flag::Event, limit: 8, clock, flag_up: false, closed: false, emitted: 0, pending: None });""",
+        },
+    ),
+    Programs(
+        ANSWERS,
+        ("wcp_clock", "wcp_model", "wcp_book"),
+        "let _ = book.answer();",
+        {
+            "an answer of one's own": "let _ = ToldAnswer { told: CutAnswer::NotRun };",
+            "an answer that no book told": "let _ = ToldAnswer::of(CutAnswer::NotRun);",
+        },
+    ),
+]
+
+
+def answer(programs, line):
+    """What `rt try` says of the program with this line."""
     with tempfile.TemporaryDirectory() as folder:
         top = pathlib.Path(folder)
-        for crate in BELOW:
+        for crate in programs.below:
             shutil.copytree(TOP / "crates" / crate, top / "crates" / crate, ignore=shutil.ignore_patterns("out"))
         lines = (TOP / "crates.txt").read_text().splitlines()
-        needs = [line for line in lines if line.startswith(tuple(f"{crate}:" for crate in BELOW))]
-        (top / "crates.txt").write_text("\n".join([*needs, f"forger: {' '.join(BELOW)}"]) + "\n")
+        needs = [line for line in lines if line.partition(" ")[0].rstrip(":") in programs.below]
+        (top / "crates.txt").write_text("\n".join([*needs, f"forger: {' '.join(programs.below)}"]) + "\n")
         source = top / "crates" / "forger" / "src" / "main.rt"
         source.parent.mkdir(parents=True)
-        source.write_text(PROGRAM.format(stamp=stamp))
+        source.write_text(programs.text.replace("LINE", line))
         subprocess.run(["git", "init", "-q"], cwd=top, check=True)
         ran = subprocess.run(["rt", "try"], cwd=source.parent.parent, capture_output=True, text=True, check=False)
         return ran.stdout + ran.stderr
@@ -55,14 +94,16 @@ def answer(stamp):
 
 def main():
     with concurrent.futures.ThreadPoolExecutor(2) as pool:
-        honest = pool.submit(answer, HONEST)
-        answers = dict(zip(FORGERS, pool.map(answer, FORGERS.values())))
-    faults = [f"{what}: NOT refused: {said}" for what, said in answers.items() if "error[private-" not in said]
-    if "run=ended status=0" not in honest.result():
-        faults.append(f"the honest program doesn't run: {honest.result()}")
-    for it in faults:
-        print(it)
-    print(f"{len(FORGERS) + 1 - len(faults)} passed, {len(faults)} failed")
+        honest = [pool.submit(answer, programs, programs.honest) for programs in KINDS]
+        forged = {what: pool.submit(answer, programs, line)
+                  for programs in KINDS for what, line in programs.forgers.items()}
+    faults = [f"the honest program doesn't run: {said.result()}"
+              for said in honest if "run=ended status=0" not in said.result()]
+    faults += [f"{what}: NOT refused: {said.result()}"
+               for what, said in forged.items() if "error[private-" not in said.result()]
+    for fault in faults:
+        print(fault)
+    print(f"{len(honest) + len(forged) - len(faults)} passed, {len(faults)} failed")
     return 1 if faults else 0
 
 

@@ -30,7 +30,7 @@ impl<H: Eprint + Clock + Send + Drop> Process for Printing<H> {
 
 /// Says what the watch tells of its cut, as soon as it does.
 fn monitor<R: Wait + Print + AllocGlobal>(rt: &R, book: &Mutex<Book>) -> Result<()> {
-    match wait_for_cut(rt, rt.alloc(), book)? {
+    match wait_for_cut(rt, rt.alloc(), book)?.answer() {
         CutAnswer::Found(cut) => {
             print!(rt; "both could hold at once")?;
             for process in 0..cut.len() {

@@ -10,7 +10,7 @@ ghost use Rattle.wcp_book.specs.declared.news.News.TheVariants.{Told};
 ghost use Rattle.wcp_book.specs.State.{answer_of, answer_of_report, IsAwaited};
 ghost use Rattle.wcp_book.specs.Totals.{AreTotals};
 
-use crate::cut_answer::CutAnswer;
+use crate::cut_answer::{CutAnswer, ToldAnswer};
 use crate::news::{News, Teller};
 use std::alloc::{AllocError, Global};
 use std::marker::Model;
@@ -239,12 +239,13 @@ impl Book {
     /// The next news, for one who waits: that a cut is told, or that the book ends. Where either was before, it is told
     /// at once. `Err` where memory runs out.
     pub fn news(&mut self, alloc: Global) -> Result<News, AllocError>
-        ensures told { (answer : CutAnswer) → answer_of self.old ≡ Some answer → result ≡ Ok (Told answer) }
+        ensures told { (answer : CutAnswer) → answer_of self.old ≡ Some answer
+            → result ≡ Ok (Told (record { told = answer })) }
         ensures awaited { answer_of self.old ≡ None → IfOk result IsAwaited }
         ensures unchanged { self.new ≡ self.old }
     {
         if let Some(answer) = self.answer() {
-            return Ok(News::Told(answer));
+            return Ok(News::Told(ToldAnswer::of(answer)));
         }
         let teller = match self.waited_for.take() {
             Some(teller) => teller,

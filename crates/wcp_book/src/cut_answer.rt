@@ -29,3 +29,25 @@ impl CutAnswer {
         }
     }
 }
+
+/// An answer that a book has told. Only a book makes one, so a body that gives one can't make it up.
+#[derive(Clone, Copy, Debug, PartialEq, Eq)]
+pub struct ToldAnswer {
+    told: CutAnswer,
+}
+
+impl ToldAnswer {
+    /// That a book tells this.
+    pub(crate) fn of(told: CutAnswer) -> ToldAnswer
+        ensures { result.told ≡ told }
+    {
+        ToldAnswer { told }
+    }
+
+    /// What was told.
+    pub fn answer(&self) -> CutAnswer
+        ensures { result ≡ self.now.told }
+    {
+        self.told
+    }
+}

@@ -2,18 +2,18 @@
 ghost use Rattle.std.specs.Prelude.{◌≡◌};
 ghost use Rattle.wcp_book.specs.declared.news.News.TheVariants.{Told};
 
-use crate::cut_answer::CutAnswer;
+use crate::cut_answer::{CutAnswer, ToldAnswer};
 use std::alloc::{AllocError, Global};
 use std::sync::{Arc, OnceLock, Wait};
 
 /// What a book and those who wait for its next news share: written once.
-type Written = Arc<OnceLock<CutAnswer>, Global>;
+type Written = Arc<OnceLock<ToldAnswer>, Global>;
 
 /// The next news of a book, for one who waits for it.
 #[derive(Drop)]
 pub enum News {
     /// It was there before.
-    Told(CutAnswer),
+    Told(ToldAnswer),
     /// It is to come.
     Awaited(Awaited),
 }
@@ -27,7 +27,7 @@ pub struct Awaited {
 impl News {
     /// The cut, once it is told, or what the watch came to, once the book has ended without one. The thread sleeps
     /// until then.
-    pub fn wait<R: Wait>(self, rt: &R) -> CutAnswer
+    pub fn wait<R: Wait>(self, rt: &R) -> ToldAnswer
         ensures { (answer : _) → self ≡ Told answer → result ≡ answer }
     {
         match self {
@@ -60,13 +60,13 @@ impl Teller {
 
     /// Tells this.
     pub(crate) fn tell(self, answer: &CutAnswer) {
-        let _ = self.written.try_set(*answer);
+        let _ = self.written.try_set(ToldAnswer::of(*answer));
     }
 }
 
 impl Drop for Teller {
     fn drop(self) {
         let Teller { written } = self;
-        let _ = written.try_set(CutAnswer::NotRun);
+        let _ = written.try_set(ToldAnswer::of(CutAnswer::NotRun));
     }
 }

@@ -48,7 +48,7 @@ pub use waiting::wait_for_cut;
 pub use watch_fault::WatchFault;
 pub use watch_outcome::WatchOutcome;
 pub use watching::watch_processes;
-pub use wcp_book::{Book, CutAnswer};
+pub use wcp_book::{Book, CutAnswer, ToldAnswer};
 pub use wcp_model::{
     Flag, GlobalCut, Outcome, Parent, Plan, PlanFault, Report, Tallies, Tally, Watched, plain_plan,
 };

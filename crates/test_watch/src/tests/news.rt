@@ -46,7 +46,7 @@ fn assert_told_late<R: Threads + Wait + Sync + Clock + Abort>(
         || change_late(rt, &book, answer),
         || join(rt, || first.wait(rt), || second.wait(rt)),
     );
-    assert_eq!(rt; told, (*answer, *answer));
+    assert_eq!(rt; (told.0.answer(), told.1.answer()), (*answer, *answer));
     let found = matches!(answer, CutAnswer::Found(_));
     assert_eq!(rt; book.into_inner().has_ended(), !found);
 }
@@ -65,7 +65,7 @@ fn threads_that_sleep_are_told_of_the_end(rt: HostRuntime) {
 
 /// Waits for the news, and compares what they tell.
 fn assert_told(rt: &(impl Abort + Wait), news: News, answer: CutAnswer) {
-    assert_eq!(rt; news.wait(rt), answer);
+    assert_eq!(rt; news.wait(rt).answer(), answer);
 }
 
 #[test]

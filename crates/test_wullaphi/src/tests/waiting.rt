@@ -50,10 +50,11 @@ fn cut_in(answer: &CutAnswer) -> Option<GlobalCut> {
 
 /// Waits for the cut. Where memory runs out, asking again does it.
 fn answer_of<R: Wait>(rt: &R, alloc: Global, book: &Mutex<Book>) -> Result<CutAnswer, AllocError> {
-    match wait_for_cut(rt, alloc, book) {
+    let told = match wait_for_cut(rt, alloc, book) {
         Err(AllocError) => wait_for_cut(rt, alloc, book),
         told => told,
-    }
+    };
+    Ok(told?.answer())
 }
 
 /// Waits for the cut, and compares what is told.
