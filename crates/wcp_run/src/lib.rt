@@ -15,8 +15,8 @@ mod workload_run;
 pub use run_fault::RunFault;
 pub use wcp_threads::{EndOf, Part, RunsWith};
 pub use wcp_watch::{
-    CheckFault, CheckerEnd, Checking, Ends, Parts, SettleFault, Settled, StartFault, check_loop,
-    run_parts, settle,
+    CheckFault, CheckerEnd, Checking, Ends, Parts, SettleFault, StartFault, check_loop, run_parts,
+    settle,
 };
 pub use wcp_worker::{Gate, Open};
 pub use workload_run::run;

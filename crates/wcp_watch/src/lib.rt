@@ -25,7 +25,6 @@ mod running;
 mod seated_ends;
 mod seats;
 mod settle_fault;
-mod settled;
 mod settling;
 mod shares;
 
@@ -34,5 +33,4 @@ pub use checking::check_loop;
 pub use checking_part::Checking;
 pub use running::{Ends, Parts, StartFault, run_parts};
 pub use settle_fault::SettleFault;
-pub use settled::Settled;
 pub use settling::settle;

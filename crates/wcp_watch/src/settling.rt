@@ -6,7 +6,6 @@ use crate::checker_end::CheckerEnd;
 use crate::matching::match_links;
 use crate::seated_ends::seat_ends;
 use crate::settle_fault::SettleFault;
-use crate::settled::Settled;
 use crate::shares::{is_book_of, tallies};
 use wcp_book::Book;
 use wcp_model::Outcome;
@@ -21,7 +20,7 @@ pub fn settle(
     relays: Vec<RelayEnd>,
     checker: CheckerEnd,
     book: Book,
-) -> Result<Settled, SettleFault>
+) -> Result<Outcome, SettleFault>
     requires { ComeFromWatch probes.items relays.items checker }
     ensures settled { IfOk result (IsSettled probes.items checker book) }
     ensures first { (first : SettleFault) → (result ≡ Err first)

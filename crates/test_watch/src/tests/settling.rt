@@ -11,7 +11,7 @@ use std::test::Fail;
 use wcp_book::Book;
 use wcp_model::Tallies;
 use wcp_tree::{LiveProbe, ProbeEnd, Relay, RelayEnd, Watch, watch};
-use wcp_watch::{CheckFault, CheckerEnd, SettleFault, Settled, check_loop, settle};
+use wcp_watch::{CheckFault, CheckerEnd, SettleFault, check_loop, settle};
 
 /// What is left of a watch that ran.
 #[derive(Drop)]
@@ -101,7 +101,7 @@ fn run_watch(rt: &(impl Abort + Wait), alloc: Global, lost: Option<u32>) -> Ends
 }
 
 /// What the ends are settled to.
-fn settled(rt: &impl Abort, ends: Ends) -> Settled
+fn settled(rt: &impl Abort, ends: Ends) -> Outcome
     requires { ComeFromWatch ends.probes.items ends.relays.items ends.checker }
 {
     settle(ends.probes, ends.relays, ends.checker, ends.book).expect(rt, "all is there")
