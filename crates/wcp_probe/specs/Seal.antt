@@ -16,6 +16,10 @@ seal_of message = record { watch = message.watch; from = message.from; to = mess
 abbrev pub told_seal : ℕ → ℕ → List ℕ → Seal
 told_seal watch to clock = record { watch = watch; from = 0; to = to; clock = clock }
 
+-- What the stamp of an open message says where it is told without a receiver, by which no probe refuses it.
+abbrev pub open_seal : ℕ → ℕ → List ℕ → Seal
+open_seal watch from clock = record { watch = watch; from = from; to = 0; clock = clock }
+
 abbrev pub value_of : {T : Type 0} → Stamped T → T
 value_of message = message.value
 

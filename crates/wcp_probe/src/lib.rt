@@ -4,9 +4,11 @@
 //! leaves a probe that stands for the log with that call at its end, and what is pending is its last emission; which
 //! refusal comes, the first in its order, and that none comes where none applies; a refusal changes nothing and hands
 //! the value back. `Stamped` has no public constructor: a probe's `stamp` alone makes one. `ToldProbe` says the same of
-//! a probe that is made of parts and of stamps that are told, and neither makes a `Stamped` nor takes one.
+//! a probe that is made of parts and of stamps that are told, and neither makes a `Stamped` nor takes one. It also
+//! stamps open messages, which are for whichever process takes them: one that its sender takes back changes nothing.
 #![tactic(auto)]
 
+mod messages;
 mod parts;
 mod probe;
 mod stamp;
