@@ -9,7 +9,7 @@ use std::process::Abort;
 use std::sync::{Mutex, Wait};
 use std::test::Fail;
 use wcp_book::Book;
-use wcp_model::Tallies;
+use wcp_model::{Outcome, Tallies};
 use wcp_tree::{LiveProbe, ProbeEnd, Relay, RelayEnd, Watch, watch};
 use wcp_watch::{CheckFault, CheckerEnd, SettleFault, check_loop, settle};
 
