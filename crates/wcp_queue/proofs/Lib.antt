@@ -7,3 +7,4 @@ pub mod RaisedFloor
 pub mod FoundCuts
 pub mod StandingForItems
 pub mod SoundCheckers
+pub mod Panels

@@ -3,4 +3,5 @@ pub mod CheckerView
 pub mod Choices
 pub mod Elimination
 pub mod Floor
+pub mod Panel
 pub mod Rows
