@@ -53,7 +53,7 @@ SHOWN = [
     Shown(["--names=-1,+1", "--svg"], FOUND, 0, b"<svg ", b">-1</text>"),
     *(Shown(MARKS, FOUND, 0, b"<svg ", part) for part in MARKED),
     Shown(["--help"], b"", 0, b"Examples:\n", b"--names <LIST>"),
-    Shown(["--version"], b"", 0, b"wcpdraw 0.2.0\n", b"rattle-kit-13f"),
+    Shown(["--version"], b"", 0, b"wcpdraw 0.3.0\n", b"rattle-kit-13f"),
 ]
 
 

@@ -313,7 +313,7 @@ ASKED = [
     Row(["--at", "a=x", "--progress"], 'a {"a":1}\nx\n', found("a line 2 x")),
 ]
 
-VERSION = "wcptrace 0.2.0\nrattle-kit-13f logic dac8208d650f15bf\n"
+VERSION = "wcptrace 0.3.0\nrattle-kit-13f logic dac8208d650f15bf\n"
 
 # What is said, once, where a text that is matched against a condition ends in CR.
 CR_NOTE = (

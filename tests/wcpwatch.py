@@ -584,7 +584,7 @@ PARTS = [
 ]
 
 # The program's name and version, and what it is proved with.
-VERSION_TEXT = "wcpwatch 0.2.0\nrattle-kit-13f logic dac8208d650f15bf\n"
+VERSION_TEXT = "wcpwatch 0.3.0\nrattle-kit-13f logic dac8208d650f15bf\n"
 
 # Words for the ring workloads that the program prints, and these.
 RINGS = [

@@ -34,7 +34,7 @@ pub record AnswersPicture (list : Option (List ℕ)) (input input_after : Known)
 -- The answer to a request for the version: the program's name and version, and the toolchain that it is proved with,
 -- a line each.
 abbrev pub version_text : List ℕ
-version_text = codes "wcpdraw 0.2.0" ++ 10 ∷ codes "rattle-kit-13f logic dac8208d650f15bf" ++ 10 ∷ []
+version_text = codes "wcpdraw 0.3.0" ++ 10 ∷ codes "rattle-kit-13f logic dac8208d650f15bf" ++ 10 ∷ []
 
 -- The answer to a request. Help, whose text it carries, and the version read nothing.
 abbrev pub AnswersRequest : DrawRequest → Known → Known → List ℕ → ℕ → Type 0

@@ -13,7 +13,7 @@ pub const ABOUT: &str =
     "Draws a computation, and the first moment at which the conditions of all its processes could have held.";
 
 /// The program's name and version, and the toolchain that it is proved with.
-pub const VERSION: &str = "wcpdraw 0.2.0\nrattle-kit-13f logic dac8208d650f15bf\n";
+pub const VERSION: &str = "wcpdraw 0.3.0\nrattle-kit-13f logic dac8208d650f15bf\n";
 
 /// What `--svg` says.
 pub const SVG: &str = "Draws an SVG document, as it does where no form is given";

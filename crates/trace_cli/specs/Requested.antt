@@ -37,7 +37,7 @@ pub record AnswersTrace (options : Options) (input input_after : Known) (printed
 -- The answer to a request for the version: the program's name and version, and the toolchain that it is proved with,
 -- a line each.
 abbrev pub version_text : List ℕ
-version_text = codes "wcptrace 0.2.0" ++ 10 ∷ codes "rattle-kit-13f logic dac8208d650f15bf" ++ 10 ∷ []
+version_text = codes "wcptrace 0.3.0" ++ 10 ∷ codes "rattle-kit-13f logic dac8208d650f15bf" ++ 10 ∷ []
 
 -- The answer to a request. Help, whose text it carries, and the version read nothing.
 abbrev pub AnswersRequest : TraceRequest → Known → Known → List ℕ → ℕ → Type 0

@@ -15,7 +15,7 @@ pub const ABOUT: &str =
     "Finds the first moment in a log with vector clocks at which the conditions of all watched hosts held.";
 
 /// The program's name and version, and the toolchain that it is proved with.
-pub const VERSION: &str = "wcptrace 0.2.0\nrattle-kit-13f logic dac8208d650f15bf\n";
+pub const VERSION: &str = "wcptrace 0.3.0\nrattle-kit-13f logic dac8208d650f15bf\n";
 
 /// What `--while` says.
 pub const WHILE: &str =

@@ -51,7 +51,7 @@ ring_text n rounds fault = opening_text n ++ flat_map task_line (ring_tasks n ro
 -- The answer to a request for the version: the program's name and version, and the toolchain that it is proved with,
 -- a line each.
 abbrev pub version_text : List ℕ
-version_text = codes "wcpwatch 0.2.0" ++ line_feed ∷ codes "rattle-kit-13f logic dac8208d650f15bf" ++ line_feed ∷ []
+version_text = codes "wcpwatch 0.3.0" ++ line_feed ∷ codes "rattle-kit-13f logic dac8208d650f15bf" ++ line_feed ∷ []
 
 -- The answer to a request is printed, with its status. `single`, `run` and `replay` answer to their whole input, the
 -- first two alike, and the others read nothing: a ring's answer is its text, the answer to a request for help is the

@@ -5,7 +5,7 @@ pub const ABOUT: &str =
     "Decides whether the conditions of all processes of a computation could have held at the same time.";
 
 /// The program's name and version, and the toolchain that it is proved with.
-pub const VERSION: &str = "wcpwatch 0.2.0\nrattle-kit-13f logic dac8208d650f15bf\n";
+pub const VERSION: &str = "wcpwatch 0.3.0\nrattle-kit-13f logic dac8208d650f15bf\n";
 
 /// What `single` does.
 pub const SINGLE: &str = "Reads a workload and prints its outcome; done where no word is given";
