@@ -1,3 +1,4 @@
+pub mod Candidates
 pub mod Checker
 pub mod CheckerView
 pub mod Choices

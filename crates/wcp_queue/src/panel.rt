@@ -1,11 +1,19 @@
 ghost use Rattle.std.specs.Prelude.{◌≡◌, ◌≢◌, ℕ, ◌<◌, ◌≤◌, true, false, [], ◌∷◌, ◌++◌, List, length, All, IfOk};
+ghost use Rattle.std.specs.Prelude.{IfSome, IsNone};
+ghost use Rattle.std.specs.FinSet as set;
 ghost use Rattle.std.specs.List.{list_any};
 ghost use Rattle.wcp_clock.specs.Limits.{most_processes};
 ghost use Rattle.wcp_clock.specs.Notes.{is_close, is_lost};
 ghost use Rattle.wcp_clock.specs.declared.note.Item.{Item};
+ghost use Rattle.wcp_model.specs.Cut.{Intervals, interval_of};
 ghost use Rattle.wcp_model.specs.Watched.{AreSomeWatched};
+<<<<<<< HEAD
 ghost use Rattle.wcp_model.specs.ReportByClocks.{ClocksRise, IsReportByClocks};
 ghost use Rattle.wcp_model.specs.Report.{clocks_taken, notes_taken};
+=======
+ghost use Rattle.wcp_model.specs.ReportByClocks.{ClocksRise, IsReportByClocks};
+ghost use Rattle.wcp_model.specs.Report.{IsNamed, clocks_taken, notes_taken};
+>>>>>>> helper-q
 ghost use Rattle.wcp_model.specs.declared.outcome.Report.TheVariants.{Nothing};
 
 use crate::checker::Checker;
@@ -44,6 +52,7 @@ impl Model for Panel {
 impl Panel {
     ghost use Rattle.wcp_queue.specs.Checker.{processes, taken_of, closed_of, lost_of, report_of, StandsForItems};
     ghost use Rattle.wcp_queue.specs.Checker.{IsReportOfAnyClocks, IsReportOfStarved};
+    ghost use Rattle.wcp_queue.specs.Candidates.{first_candidate, AreAllBelow, IsCutToCome};
     ghost use Rattle.wcp_queue.specs.Panel.{question_at, watched_by, StandForItems, MayAllTake, EachTakes};
 
     /// A panel of `n` processes that has taken nothing, with a question for each of these sets of
@@ -131,6 +140,26 @@ impl Panel {
             (p : ℕ) → p < processes checker → lost_of checker p ≡ true → result ≢ Nothing }
     {
         self.questions[question].report()
+    }
+
+    /// The interval of the first candidate that a question has of a process that it watches, as
+    /// `Checker::first_candidate`.
+    pub fn first_candidate(&self, question: usize, p: u32) -> Option<u32>
+        requires within { question < length self.now }
+        requires watched { set.contains (question_at self.now question).watched p ≡ true }
+        ensures value { result ≡ first_candidate (question_at self.now question) p }
+        ensures taken { let checker = question_at self.now question in
+            IfSome result (λ first. (items : List Item) → StandsForItems checker items
+            → IsNamed items (record { process = p; interval = first })) }
+        ensures at_or_above { let checker = question_at self.now question in
+            IfSome result (λ first. (items : List Item) (cut : Intervals)
+            → StandsForItems checker items → IsCutToCome checker items cut → first ≤ interval_of cut p) }
+        ensures none { let checker = question_at self.now question in
+            IsNone result → checker.starved ≡ false → (items : List Item) (cut : Intervals)
+            → StandsForItems checker items → IsCutToCome checker items cut
+            → AreAllBelow p items (interval_of cut p) }
+    {
+        self.questions[question].first_candidate(p)
     }
 
     /// Whether a question was starved.
