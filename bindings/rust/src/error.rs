@@ -171,7 +171,8 @@ mod tests {
             let mut words = line.strip_prefix("#define WCP_")?.split_whitespace();
             let name = words.next()?;
             let number: u32 = words.next()?.parse().ok()?;
-            (number >= FIRST_REFUSAL && !matches!(name, "MAX_PROCESSES" | "VERSION")).then(|| (number, camel(name)))
+            (number >= FIRST_REFUSAL && !matches!(name, "MAX_PROCESSES" | "VERSION"))
+                .then(|| (number, camel(name)))
         };
         include_str!("../../wullaphi.h")
             .lines()

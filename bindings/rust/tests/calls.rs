@@ -276,7 +276,8 @@ fn taking() {
     assert_eq!(refusal(checker.take(&second)), Refusal::OutOfTurn);
     checker.take(&first).unwrap();
     assert_eq!(refusal(checker.take(&first)), Refusal::TakenAlready);
-    let of_others = |watch, processes| refusal(Checker::new(watch, processes).unwrap().take(&first));
+    let of_others =
+        |watch, processes| refusal(Checker::new(watch, processes).unwrap().take(&first));
     assert_eq!(of_others(WATCH, 3), Refusal::OtherWatch);
     assert_eq!(of_others(WATCH + 1, 2), Refusal::Stranger);
     checker.take(&third).unwrap();
@@ -352,7 +353,11 @@ fn losing() {
     }
     assert_eq!(checker.report(), Report::Undecided);
     checker.take(&ben.close().unwrap()).unwrap();
-    assert_eq!(checker.report(), Report::Undecided, "never that there is no cut");
+    assert_eq!(
+        checker.report(),
+        Report::Undecided,
+        "never that there is no cut"
+    );
     let mut checker = Checker::new(WATCH, 2).unwrap();
     checker.take(&first).unwrap();
     checker.lose(0).unwrap();
@@ -370,18 +375,33 @@ fn agreement() {
     let mut ada = Probe::new_with(WATCH, 0, 2, quiet).unwrap();
     let last = ada.close().unwrap();
     assert!(!last.is_watched());
-    assert_eq!(refusal(Checker::new(WATCH, 2).unwrap().take(&last)), Refusal::NotAgreed);
-    Checker::new_with(WATCH, 2, &[1]).unwrap().take(&last).unwrap();
+    assert_eq!(
+        refusal(Checker::new(WATCH, 2).unwrap().take(&last)),
+        Refusal::NotAgreed
+    );
+    Checker::new_with(WATCH, 2, &[1])
+        .unwrap()
+        .take(&last)
+        .unwrap();
     let last = probe(0).close().unwrap();
     assert!(last.is_watched());
-    Checker::new_with(WATCH, 2, &[1]).unwrap().take(&last).unwrap();
+    Checker::new_with(WATCH, 2, &[1])
+        .unwrap()
+        .take(&last)
+        .unwrap();
 }
 
 #[test]
 fn notes_as_bytes() {
     let mut ada = Probe::new(WATCH, 2, 3).unwrap();
-    let note = ada.observe_tagged(true, u64::MAX).unwrap().expect("a snapshot");
-    assert_eq!((note.watch(), note.clock(), note.tag()), (WATCH, &[0; 3][..], u64::MAX));
+    let note = ada
+        .observe_tagged(true, u64::MAX)
+        .unwrap()
+        .expect("a snapshot");
+    assert_eq!(
+        (note.watch(), note.clock(), note.tag()),
+        (WATCH, &[0; 3][..], u64::MAX)
+    );
     let bytes: &[u8; NOTE_SIZE] = note.as_bytes();
     let again = Note::from_bytes(bytes).unwrap();
     assert_eq!(
