@@ -52,8 +52,8 @@ trap 'rm -rf "$out"' EXIT
 ld -r -o "$out/wullaphi.o" --whole-archive crates/wcp_c/out/libwcp_c.a --no-whole-archive "$out"/heap*.o
 objcopy --wildcard --keep-global-symbol='wcp_*' "$out/wullaphi.o"
 ar rcs "$out/libwullaphi.a" "$out/wullaphi.o"
-"$cc" -shared -o "$out/libwullaphi.so" "$out/wullaphi.o" -Wl,-soname,libwullaphi.so.0 \
+"$cc" -shared -o "$out/libwullaphi.so" "$out/wullaphi.o" -Wl,-soname,libwullaphi.so.1 \
     -Wl,--version-script=bindings/wullaphi.map
-ln -s libwullaphi.so "$out/libwullaphi.so.0"
-mv "$out/libwullaphi.a" "$out/libwullaphi.so" "$out/libwullaphi.so.0" bindings/out/
+ln -s libwullaphi.so "$out/libwullaphi.so.1"
+mv "$out/libwullaphi.a" "$out/libwullaphi.so" "$out/libwullaphi.so.1" bindings/out/
 echo "bindings/out/libwullaphi.a bindings/out/libwullaphi.so"

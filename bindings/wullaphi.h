@@ -21,8 +21,9 @@
 extern "C" {
 #endif
 
-/* The version of these calls; it is in the magic words of probes, stamps, notes and handles. */
-#define WCP_VERSION 1
+/* The version of this header, 0.3.0: ten thousand times the first number, a hundred times the second, and the third.
+ * wcp_version() answers that of the library. */
+#define WCP_VERSION 300
 
 /* The most processes of a watch. */
 #define WCP_MAX_PROCESSES 16
@@ -51,15 +52,18 @@ extern "C" {
 #define WCP_NO_SUCH 32   /* the receiver is no process of the watch, or is the probe's own */
 #define WCP_CLOSED 33    /* the probe is closed */
 #define WCP_BACKLOG 34   /* a note is pending: take it with wcp_probe_next first */
-#define WCP_STRANGER 35  /* the stamp is of another watch */
+#define WCP_STRANGER 35  /* the stamp is of another watch; so is the note that a checker refuses by this */
 #define WCP_NOT_MINE 36  /* the stamp is addressed to another process */
 #define WCP_AHEAD 37     /* the stamp knows of events of this process that it has not made */
 #define WCP_CLOCK_END 38 /* the process has made as many events as a clock can count: 4,294,967,294 */
 
-/* Why a checker refuses a note; where several hold, the first in this order. */
-#define WCP_OTHER_WATCH 48 /* the note is of a watch of another number of processes */
-#define WCP_ENDED 49       /* the process was closed, or lost */
-#define WCP_OUT_OF_TURN 50 /* a note before it has not come, or it was taken already */
+/* Why a checker refuses a note; where several hold, the first in this order: WCP_OTHER_WATCH, WCP_STRANGER,
+ * WCP_NOT_AGREED, WCP_TAKEN_ALREADY, WCP_ENDED, WCP_OUT_OF_TURN. */
+#define WCP_OTHER_WATCH 48   /* the note is of a watch of another number of processes */
+#define WCP_ENDED 49         /* the process was closed, or lost */
+#define WCP_OUT_OF_TURN 50   /* a note of the process that comes before this one is missing */
+#define WCP_NOT_AGREED 51    /* the checker watches the process, whose probe has no condition (`watched` 0) */
+#define WCP_TAKEN_ALREADY 52 /* the note was taken before: drop it, and go on */
 
 /* What resets the flag of a probe. While its flag is up the probe emits no further snapshot. */
 #define WCP_FLAG_EVENT 0 /* each send and each receive */
@@ -91,15 +95,18 @@ typedef struct wcp_stamp {
     uint32_t clock[WCP_MAX_PROCESSES];
 } wcp_stamp;
 
-/* What a process tells the checker: 88 bytes. Kind 1 is a snapshot, 2 says that the process is closed, and 3
- * that it was lost; `number` counts the snapshots of the process before this note. */
+/* What a process tells the checker: 104 bytes. Kind 1 is a snapshot, 2 says that the process is closed, and 3
+ * that it was lost; `number` counts the snapshots of the process before this note. `watched` is 1 if the process has
+ * a condition, else 0. `tag` is the caller's own. Notes of version 1, of 88 bytes, are refused. */
 typedef struct wcp_note {
     uint32_t magic;
     uint32_t processes;
     uint32_t process;
     uint32_t kind;
     uint32_t number;
-    uint32_t reserved;
+    uint32_t watched;
+    uint64_t watch;
+    uint64_t tag;
     uint32_t clock[WCP_MAX_PROCESSES];
 } wcp_note;
 
@@ -111,6 +118,9 @@ typedef struct wcp_checker {
 } wcp_checker;
 
 #define WCP_CHECKER_NONE {0, 0, NULL}
+
+/* The version of the library, a number like WCP_VERSION. */
+uint32_t wcp_version(void);
 
 /* Makes the probe of process `process` (0 and up) of `processes` (1 to 16) of a watch, whose number tells its
  * stamps from those of other watches. Its process has a condition, and each event resets its flag.
@@ -135,31 +145,34 @@ uint32_t wcp_probe_stamp(wcp_probe *probe, uint32_t to, wcp_stamp *stamp);
 uint32_t wcp_probe_receive(wcp_probe *probe, const wcp_stamp *stamp);
 
 /* Gives the pending note, which is then no longer pending; send it to the checker. The notes of a probe go to the
- * checker in the order in which the probe gives them. WCP_DONE_WITH_NOTE: here it is. WCP_DONE: none is pending.
- * Else WCP_NO_PROBE. */
-uint32_t wcp_probe_next(wcp_probe *probe, wcp_note *note);
+ * checker in the order in which the probe gives them. `tag` goes with the note: any number that leads back to this
+ * moment, as a line of a log, or 0. WCP_DONE_WITH_NOTE: here it is. WCP_DONE: none is pending. Else WCP_NO_PROBE. */
+uint32_t wcp_probe_next(wcp_probe *probe, uint64_t tag, wcp_note *note);
 
 /* The process ends its part: a last note is pending. WCP_DONE_WITH_NOTE, or WCP_NO_PROBE, WCP_CLOSED or
  * WCP_BACKLOG. */
 uint32_t wcp_probe_close(wcp_probe *probe);
 
-/* Puts a checker of `processes` processes, each of them watched, into the handle. WCP_DONE, or WCP_IN_USE,
- * WCP_OUT_OF_RANGE or WCP_NO_MEMORY.
- *
- * Two mistakes here give a wrong report, and no call refuses them. Each process that the checker watches must have a
- * probe with a condition: one that was made with `watched` 0 never gives a snapshot, whatever its process observes,
- * and the report is then WCP_NOTHING although there may be a cut. And a checker takes the notes of one watch only: a
- * note does not say which watch it belongs to, so those of another watch, or of an earlier run, are taken like its
- * own. */
-uint32_t wcp_checker_new(wcp_checker *checker, uint32_t processes);
+/* Puts a checker of the watch with this number, of `processes` processes, each of them watched, into the handle.
+ * Give each run a number of its own: the notes that an earlier run left in a queue are then refused. WCP_DONE, or
+ * WCP_IN_USE, WCP_OUT_OF_RANGE or WCP_NO_MEMORY. */
+uint32_t wcp_checker_new(wcp_checker *checker, uint64_t watch, uint32_t processes);
 
-/* The same, but only the processes with these numbers are watched, at least one; `watched` is not NULL. Name no
- * process here whose probe has no condition. */
-uint32_t wcp_checker_new_with(wcp_checker *checker, uint32_t processes, const uint32_t *watched, size_t count);
+/* The same, but only the processes with these numbers are watched, at least one; `watched` is not NULL. So several
+ * checkers may take the same notes, each for some of the processes that have a condition. */
+uint32_t wcp_checker_new_with(wcp_checker *checker, uint64_t watch, uint32_t processes, const uint32_t *watched,
+                              size_t count);
 
-/* The checker takes a note, the next of its process; those of different processes may come in any order.
- * WCP_DONE, or WCP_NO_CHECKER, WCP_NO_NOTE, WCP_OTHER_WATCH, WCP_ENDED, WCP_OUT_OF_TURN or WCP_NO_MEMORY. */
+/* The checker takes a note, the next of its process; those of different processes may come in any order. WCP_DONE,
+ * or WCP_NO_CHECKER, WCP_NO_NOTE, WCP_OTHER_WATCH, WCP_STRANGER, WCP_NOT_AGREED, WCP_TAKEN_ALREADY, WCP_ENDED,
+ * WCP_OUT_OF_TURN or WCP_NO_MEMORY. */
 uint32_t wcp_checker_take(wcp_checker *checker, const wcp_note *note);
+
+/* Process `p` is gone, and its last note won't come. No more of its notes are taken, and the report is never
+ * WCP_NOTHING: its last moments are unknown. A cut of what it told may still be found. WCP_DONE, or WCP_NO_CHECKER,
+ * WCP_OUT_OF_RANGE or WCP_ENDED; or WCP_OUT_OF_TURN where 4,294,967,296 snapshots of it were taken, which is more
+ * than a probe gives. */
+uint32_t wcp_checker_lose(wcp_checker *checker, uint32_t p);
 
 /* What the notes taken so far tell: WCP_FOUND, WCP_NOTHING or WCP_UNDECIDED; or WCP_NO_CHECKER. */
 uint32_t wcp_checker_report(wcp_checker *checker);
@@ -180,6 +193,50 @@ uint32_t wcp_checker_end(wcp_checker *checker);
  * `room` bytes and is not NULL, and its length into *written. WCP_NO_ROOM: it does not fit; nothing is put into `out`,
  * and *written says how much room it needs. WCP_NO_MEMORY: nothing is put into `out`, and *written stays as it was. */
 uint32_t wcp_single(const uint8_t *text, size_t length, uint8_t *out, size_t room, uint64_t *written);
+
+#if defined(__cplusplus) || (defined(__STDC_VERSION__) && __STDC_VERSION__ >= 199901L)
+#define WCP_INLINE static inline
+#elif defined(__GNUC__)
+#define WCP_INLINE static __inline__
+#else
+#define WCP_INLINE static
+#endif
+
+/* The name of an answer, as "WCP_DONE"; NULL where no call answers this. */
+WCP_INLINE const char *wcp_answer_name(uint32_t answer)
+{
+#define WCP_NAMED(name) case name: return #name;
+    switch (answer) {
+    WCP_NAMED(WCP_DONE)
+    WCP_NAMED(WCP_DONE_WITH_NOTE)
+    WCP_NAMED(WCP_FOUND)
+    WCP_NAMED(WCP_NOTHING)
+    WCP_NAMED(WCP_UNDECIDED)
+    WCP_NAMED(WCP_NO_PROBE)
+    WCP_NAMED(WCP_NO_STAMP)
+    WCP_NAMED(WCP_NO_NOTE)
+    WCP_NAMED(WCP_NO_CHECKER)
+    WCP_NAMED(WCP_OUT_OF_RANGE)
+    WCP_NAMED(WCP_IN_USE)
+    WCP_NAMED(WCP_NO_MEMORY)
+    WCP_NAMED(WCP_NOT_IN_CUT)
+    WCP_NAMED(WCP_NO_ROOM)
+    WCP_NAMED(WCP_NO_SUCH)
+    WCP_NAMED(WCP_CLOSED)
+    WCP_NAMED(WCP_BACKLOG)
+    WCP_NAMED(WCP_STRANGER)
+    WCP_NAMED(WCP_NOT_MINE)
+    WCP_NAMED(WCP_AHEAD)
+    WCP_NAMED(WCP_CLOCK_END)
+    WCP_NAMED(WCP_OTHER_WATCH)
+    WCP_NAMED(WCP_ENDED)
+    WCP_NAMED(WCP_OUT_OF_TURN)
+    WCP_NAMED(WCP_NOT_AGREED)
+    WCP_NAMED(WCP_TAKEN_ALREADY)
+    default: return NULL;
+    }
+#undef WCP_NAMED
+}
 
 #ifdef __cplusplus
 }

@@ -41,7 +41,7 @@ def work(process, locks, notes, keeps):
 def check(notes, answers):
     """Takes all notes, and answers the cut of each two processes that held the lock at once."""
     pairs = list(itertools.combinations(range(PROCESSES), 2))
-    checkers = [wullaphi.Checker(PROCESSES, pair) for pair in pairs]
+    checkers = [wullaphi.Checker(WATCH, PROCESSES, pair) for pair in pairs]
     closed = 0
     while closed < PROCESSES:
         note = notes.get()

@@ -55,7 +55,7 @@ static int take_whole(int pipe, void *data, size_t size)
 static void tell(struct worker *self, wcp_probe *probe)
 {
     wcp_note note;
-    while (wcp_probe_next(probe, &note) == WCP_DONE_WITH_NOTE) {
+    while (wcp_probe_next(probe, 0, &note) == WCP_DONE_WITH_NOTE) {
         send_whole(self->notes, &note, sizeof note);
     }
 }
@@ -127,7 +127,7 @@ int main(int words, char **word)
     int last = 0;
     int p;
     need(pipe(there) == 0 && pipe(back) == 0 && pipe(notes) == 0, "no pipe");
-    need(wcp_checker_new(&checker, 2) == WCP_DONE, "no checker");
+    need(wcp_checker_new(&checker, WATCH, 2) == WCP_DONE, "no checker");
     workers[0] = (struct worker){0, back[0], there[1], notes[1], 1, keeps};
     workers[1] = (struct worker){1, there[0], back[1], notes[1], 0, 0};
     for (p = 0; p < 2; p++) {

@@ -19,7 +19,8 @@ static void sizes(void)
 {
     CHECK(sizeof(wcp_probe) == 112);
     CHECK(sizeof(wcp_stamp) == 88);
-    CHECK(sizeof(wcp_note) == 88);
+    CHECK(sizeof(wcp_note) == 104);
+    CHECK(wcp_version() == WCP_VERSION);
 }
 
 static void init(void)
@@ -44,16 +45,20 @@ static void observe(void)
     wcp_probe probe = probe_of(0, 2);
     wcp_probe quiet;
     wcp_note note;
-    CHECK(wcp_probe_next(&probe, &note) == WCP_DONE);
+    CHECK(wcp_probe_next(&probe, 0, &note) == WCP_DONE);
     CHECK(wcp_probe_observe(&probe, 0) == WCP_DONE);
     CHECK(wcp_probe_observe(&probe, 9) == WCP_DONE_WITH_NOTE);
     CHECK(wcp_probe_observe(&probe, 1) == WCP_DONE);
-    CHECK(wcp_probe_next(&probe, &note) == WCP_DONE_WITH_NOTE);
+    CHECK(wcp_probe_next(&probe, 0xFEDCBA9876543210u, &note) == WCP_DONE_WITH_NOTE);
     CHECK(note.process == 0 && note.processes == 2 && note.kind == 1 && note.number == 0);
+    CHECK(note.watch == 7 && note.watched == 1 && note.tag == 0xFEDCBA9876543210u);
     CHECK(note.clock[0] == 0 && note.clock[1] == 0 && note.clock[15] == 0);
-    CHECK(wcp_probe_next(&probe, &note) == WCP_DONE);
+    CHECK(wcp_probe_next(&probe, 0, &note) == WCP_DONE);
     CHECK(wcp_probe_init_with(&quiet, 7, 1, 2, 0, WCP_FLAG_EVENT) == WCP_DONE);
     CHECK(wcp_probe_observe(&quiet, 1) == WCP_DONE);
+    CHECK(wcp_probe_close(&quiet) == WCP_DONE_WITH_NOTE);
+    CHECK(wcp_probe_next(&quiet, 5, &note) == WCP_DONE_WITH_NOTE);
+    CHECK(note.watch == 7 && note.watched == 0 && note.tag == 5);
 }
 
 static void messages(void)
@@ -65,7 +70,7 @@ static void messages(void)
     wcp_note note;
     CHECK(wcp_probe_observe(&a, 1) == WCP_DONE_WITH_NOTE);
     CHECK(wcp_probe_stamp(&a, 1, &stamp) == WCP_BACKLOG);
-    CHECK(wcp_probe_next(&a, &note) == WCP_DONE_WITH_NOTE);
+    CHECK(wcp_probe_next(&a, 0, &note) == WCP_DONE_WITH_NOTE);
     CHECK(wcp_probe_stamp(&a, 0, &stamp) == WCP_NO_SUCH);
     CHECK(wcp_probe_stamp(&a, 2, &stamp) == WCP_NO_SUCH);
     CHECK(wcp_probe_stamp(&a, 1, &stamp) == WCP_DONE);
@@ -73,12 +78,12 @@ static void messages(void)
     CHECK(stamp.clock[0] == 1 && stamp.clock[1] == 0);
     CHECK(wcp_probe_observe(&b, 1) == WCP_DONE_WITH_NOTE);
     CHECK(wcp_probe_receive(&b, &stamp) == WCP_BACKLOG);
-    CHECK(wcp_probe_next(&b, &note) == WCP_DONE_WITH_NOTE);
+    CHECK(wcp_probe_next(&b, 0, &note) == WCP_DONE_WITH_NOTE);
     CHECK(wcp_probe_receive(&a, &stamp) == WCP_NOT_MINE);
     CHECK(wcp_probe_receive(&b, &stamp) == WCP_DONE);
     CHECK(b.clock[0] == 1 && b.clock[1] == 1);
     CHECK(wcp_probe_observe(&b, 1) == WCP_DONE_WITH_NOTE);
-    CHECK(wcp_probe_next(&b, &note) == WCP_DONE_WITH_NOTE);
+    CHECK(wcp_probe_next(&b, 0, &note) == WCP_DONE_WITH_NOTE);
     CHECK(note.number == 1 && note.clock[0] == 1 && note.clock[1] == 1);
     before = b;
     stamp.watch = 8;
@@ -106,7 +111,7 @@ static void flag_of_sends(void)
     wcp_note note;
     CHECK(wcp_probe_init_with(&b, 7, 1, 2, 1, WCP_FLAG_SEND) == WCP_DONE);
     CHECK(wcp_probe_observe(&b, 1) == WCP_DONE_WITH_NOTE);
-    CHECK(wcp_probe_next(&b, &note) == WCP_DONE_WITH_NOTE);
+    CHECK(wcp_probe_next(&b, 0, &note) == WCP_DONE_WITH_NOTE);
     CHECK(wcp_probe_stamp(&a, 1, &stamp) == WCP_DONE);
     CHECK(wcp_probe_receive(&b, &stamp) == WCP_DONE);
     CHECK(wcp_probe_observe(&b, 1) == WCP_DONE);
@@ -123,15 +128,15 @@ static void closing(void)
     CHECK(wcp_probe_stamp(&b, 0, &stamp) == WCP_DONE);
     CHECK(wcp_probe_observe(&a, 1) == WCP_DONE_WITH_NOTE);
     CHECK(wcp_probe_close(&a) == WCP_BACKLOG);
-    CHECK(wcp_probe_next(&a, &note) == WCP_DONE_WITH_NOTE);
+    CHECK(wcp_probe_next(&a, 0, &note) == WCP_DONE_WITH_NOTE);
     CHECK(wcp_probe_close(&a) == WCP_DONE_WITH_NOTE);
     CHECK(wcp_probe_close(&a) == WCP_CLOSED);
     CHECK(wcp_probe_observe(&a, 1) == WCP_CLOSED);
     CHECK(wcp_probe_stamp(&a, 1, &stamp) == WCP_CLOSED);
     CHECK(wcp_probe_receive(&a, &stamp) == WCP_CLOSED);
-    CHECK(wcp_probe_next(&a, &note) == WCP_DONE_WITH_NOTE);
+    CHECK(wcp_probe_next(&a, 0, &note) == WCP_DONE_WITH_NOTE);
     CHECK(note.kind == 2 && note.number == 1 && note.clock[0] == 0);
-    CHECK(wcp_probe_next(&a, &note) == WCP_DONE);
+    CHECK(wcp_probe_next(&a, 0, &note) == WCP_DONE);
 }
 
 static void clock_end(void)
@@ -162,7 +167,7 @@ static void damaged_probes(void)
     CHECK(wcp_probe_observe(&bad, 1) == WCP_NO_PROBE);
     CHECK(wcp_probe_stamp(&bad, 1, &stamp) == WCP_NO_PROBE);
     CHECK(wcp_probe_receive(&bad, &stamp) == WCP_NO_PROBE);
-    CHECK(wcp_probe_next(&bad, &note) == WCP_NO_PROBE);
+    CHECK(wcp_probe_next(&bad, 0, &note) == WCP_NO_PROBE);
     CHECK(wcp_probe_close(&bad) == WCP_NO_PROBE);
 #define DAMAGED(field, value) bad = good, bad.field = (value), wcp_probe_observe(&bad, 0) == WCP_NO_PROBE
     CHECK((DAMAGED(processes, 0)));
@@ -188,7 +193,7 @@ static wcp_note note_of(uint32_t process, uint32_t kind, uint32_t number, uint32
     wcp_probe probe = probe_of(process, 2);
     wcp_note note;
     CHECK(wcp_probe_observe(&probe, 1) == WCP_DONE_WITH_NOTE);
-    CHECK(wcp_probe_next(&probe, &note) == WCP_DONE_WITH_NOTE);
+    CHECK(wcp_probe_next(&probe, 0, &note) == WCP_DONE_WITH_NOTE);
     note.kind = kind;
     note.number = number;
     if (kind == 1) {
@@ -209,15 +214,15 @@ static void checker(void)
     CHECK(wcp_checker_cut(&checker, 0, &interval) == WCP_NO_CHECKER);
     CHECK(wcp_checker_taken(&checker, 0, &count) == WCP_NO_CHECKER);
     CHECK(wcp_checker_end(&checker) == WCP_NO_CHECKER);
-    CHECK(wcp_checker_new(&checker, 0) == WCP_OUT_OF_RANGE);
-    CHECK(wcp_checker_new(&checker, 17) == WCP_OUT_OF_RANGE);
-    CHECK(wcp_checker_new(&checker, 2) == WCP_DONE);
-    CHECK(wcp_checker_new(&checker, 2) == WCP_IN_USE);
+    CHECK(wcp_checker_new(&checker, 7, 0) == WCP_OUT_OF_RANGE);
+    CHECK(wcp_checker_new(&checker, 7, 17) == WCP_OUT_OF_RANGE);
+    CHECK(wcp_checker_new(&checker, 7, 2) == WCP_DONE);
+    CHECK(wcp_checker_new(&checker, 7, 2) == WCP_IN_USE);
     CHECK(wcp_checker_report(&checker) == WCP_UNDECIDED);
     CHECK(wcp_checker_cut(&checker, 0, &interval) == WCP_NOT_IN_CUT && interval == 77);
     CHECK(wcp_checker_taken(&checker, 2, &count) == WCP_OUT_OF_RANGE && count == 77);
     CHECK(wcp_checker_take(&checker, &note) == WCP_DONE);
-    CHECK(wcp_checker_take(&checker, &note) == WCP_OUT_OF_TURN);
+    CHECK(wcp_checker_take(&checker, &note) == WCP_TAKEN_ALREADY);
     CHECK(wcp_checker_taken(&checker, 0, &count) == WCP_DONE && count == 1);
     note = note_of(0, 1, 2, 3, 0);
     CHECK(wcp_checker_take(&checker, &note) == WCP_OUT_OF_TURN);
@@ -236,7 +241,17 @@ static void checker(void)
     CHECK(wcp_checker_take(&checker, &note) == WCP_NO_NOTE);
     note.kind = 2;
     CHECK(wcp_checker_take(&checker, &note) == WCP_DONE);
+    CHECK(wcp_checker_take(&checker, &note) == WCP_TAKEN_ALREADY);
+    note.number = 0;
     CHECK(wcp_checker_take(&checker, &note) == WCP_ENDED);
+    note = note_of(0, 1, 0, 0, 0);
+    CHECK(wcp_checker_take(&checker, &note) == WCP_TAKEN_ALREADY);
+    note.number = 1;
+    CHECK(wcp_checker_take(&checker, &note) == WCP_ENDED);
+    note.kind = 3;
+    note.clock[0] = note.clock[1] = 0;
+    CHECK(wcp_checker_take(&checker, &note) == WCP_ENDED);
+    CHECK(wcp_checker_lose(&checker, 0) == WCP_ENDED);
     note = note_of(1, 1, 0, 4, 0);
     CHECK(wcp_checker_take(&checker, &note) == WCP_DONE);
     CHECK(wcp_checker_report(&checker) == WCP_FOUND);
@@ -251,7 +266,7 @@ static void nothing_found(void)
 {
     wcp_checker checker = WCP_CHECKER_NONE;
     wcp_note note = note_of(0, 1, 0, 0, 0);
-    CHECK(wcp_checker_new(&checker, 2) == WCP_DONE);
+    CHECK(wcp_checker_new(&checker, 7, 2) == WCP_DONE);
     CHECK(wcp_checker_take(&checker, &note) == WCP_DONE);
     note = note_of(1, 1, 0, 1, 1);
     CHECK(wcp_checker_take(&checker, &note) == WCP_DONE);
@@ -268,13 +283,101 @@ static void lost(void)
 {
     wcp_checker checker = WCP_CHECKER_NONE;
     wcp_note note = note_of(0, 3, 0, 0, 0);
-    CHECK(wcp_checker_new(&checker, 2) == WCP_DONE);
+    CHECK(wcp_checker_new(&checker, 7, 2) == WCP_DONE);
     CHECK(wcp_checker_take(&checker, &note) == WCP_DONE);
+    CHECK(wcp_checker_take(&checker, &note) == WCP_TAKEN_ALREADY);
+    note.number = 1;
+    CHECK(wcp_checker_take(&checker, &note) == WCP_ENDED);
+    note.number = 0;
+    note.kind = 2;
     CHECK(wcp_checker_take(&checker, &note) == WCP_ENDED);
     note = note_of(1, 2, 0, 0, 0);
     CHECK(wcp_checker_take(&checker, &note) == WCP_DONE);
     CHECK(wcp_checker_report(&checker) == WCP_UNDECIDED);
     CHECK(wcp_checker_end(&checker) == WCP_DONE);
+}
+
+static void losing(void)
+{
+    wcp_checker checker = WCP_CHECKER_NONE;
+    wcp_note note = note_of(0, 1, 0, 3, 0);
+    uint32_t interval = 0;
+    CHECK(wcp_checker_lose(&checker, 0) == WCP_NO_CHECKER);
+    CHECK(wcp_checker_new(&checker, 7, 2) == WCP_DONE);
+    CHECK(wcp_checker_lose(&checker, 2) == WCP_OUT_OF_RANGE);
+    CHECK(wcp_checker_take(&checker, &note) == WCP_DONE);
+    CHECK(wcp_checker_lose(&checker, 0) == WCP_DONE);
+    CHECK(wcp_checker_lose(&checker, 0) == WCP_ENDED);
+    CHECK(wcp_checker_take(&checker, &note) == WCP_TAKEN_ALREADY);
+    note = note_of(0, 1, 1, 4, 0);
+    CHECK(wcp_checker_take(&checker, &note) == WCP_ENDED);
+    note = note_of(0, 3, 1, 0, 0);
+    CHECK(wcp_checker_take(&checker, &note) == WCP_TAKEN_ALREADY);
+    note = note_of(1, 1, 0, 5, 0);
+    CHECK(wcp_checker_take(&checker, &note) == WCP_DONE);
+    CHECK(wcp_checker_report(&checker) == WCP_FOUND);
+    CHECK(wcp_checker_cut(&checker, 0, &interval) == WCP_DONE && interval == 3);
+    CHECK(wcp_checker_end(&checker) == WCP_DONE);
+    CHECK(wcp_checker_new(&checker, 7, 2) == WCP_DONE);
+    CHECK(wcp_checker_lose(&checker, 0) == WCP_DONE);
+    note = note_of(1, 2, 0, 0, 0);
+    CHECK(wcp_checker_take(&checker, &note) == WCP_DONE);
+    CHECK(wcp_checker_report(&checker) == WCP_UNDECIDED);
+    CHECK(wcp_checker_end(&checker) == WCP_DONE);
+}
+
+/* Notes of another watch, of a process whose probe has no condition, and of version 1: where several refusals hold, the
+ * first of them. */
+static void strangers(void)
+{
+    static const uint32_t second[1] = {1};
+    wcp_checker checker = WCP_CHECKER_NONE;
+    wcp_note note = note_of(0, 1, 3, 0, 0);
+    CHECK(wcp_checker_new(&checker, 7, 2) == WCP_DONE);
+    CHECK(wcp_checker_take(&checker, &note) == WCP_OUT_OF_TURN);
+    note.watched = 0;
+    CHECK(wcp_checker_take(&checker, &note) == WCP_NOT_AGREED);
+    note.watch = 8;
+    CHECK(wcp_checker_take(&checker, &note) == WCP_STRANGER);
+    note.processes = 3;
+    CHECK(wcp_checker_take(&checker, &note) == WCP_OTHER_WATCH);
+    note.watched = 2;
+    CHECK(wcp_checker_take(&checker, &note) == WCP_NO_NOTE);
+    note = note_of(0, 1, 0, 0, 0);
+    note.watched = 0;
+    CHECK(wcp_checker_take(&checker, &note) == WCP_NOT_AGREED);
+    note.watched = 1;
+    note.watch = (uint64_t)7 << 32;
+    CHECK(wcp_checker_take(&checker, &note) == WCP_STRANGER);
+    note.watch = 7;
+    CHECK(wcp_checker_take(&checker, &note) == WCP_DONE);
+    note.watched = 0;
+    CHECK(wcp_checker_take(&checker, &note) == WCP_NOT_AGREED);
+    note.magic = 0x57434E31;
+    CHECK(wcp_checker_take(&checker, &note) == WCP_NO_NOTE);
+    CHECK(wcp_checker_end(&checker) == WCP_DONE);
+    CHECK(wcp_checker_new_with(&checker, 7, 2, second, 1) == WCP_DONE);
+    note = note_of(0, 2, 0, 0, 0);
+    note.watched = 0;
+    CHECK(wcp_checker_take(&checker, &note) == WCP_DONE);
+    CHECK(wcp_checker_end(&checker) == WCP_DONE);
+    CHECK(wcp_checker_new_with(&checker, 7, 2, second, 1) == WCP_DONE);
+    note.watched = 1;
+    CHECK(wcp_checker_take(&checker, &note) == WCP_DONE);
+    CHECK(wcp_checker_end(&checker) == WCP_DONE);
+}
+
+static void names(void)
+{
+    uint32_t answer;
+    uint32_t named = 0;
+    CHECK(strcmp(wcp_answer_name(WCP_DONE), "WCP_DONE") == 0);
+    CHECK(strcmp(wcp_answer_name(WCP_TAKEN_ALREADY), "WCP_TAKEN_ALREADY") == 0);
+    CHECK(wcp_answer_name(5) == NULL && wcp_answer_name(UINT32_MAX) == NULL);
+    for (answer = 0; answer < 1000; answer++) {
+        named += wcp_answer_name(answer) != NULL;
+    }
+    CHECK(named == 26);
 }
 
 static void some_watched(void)
@@ -284,11 +387,11 @@ static void some_watched(void)
     static const uint32_t third[2] = {1, 2};
     wcp_note note = note_of(1, 1, 0, 5, 0);
     uint32_t interval = 0;
-    CHECK(wcp_checker_new_with(&checker, 2, third, 2) == WCP_OUT_OF_RANGE);
-    CHECK(wcp_checker_new_with(&checker, 2, third, 0) == WCP_OUT_OF_RANGE);
-    CHECK(wcp_checker_new_with(&checker, 17, second, 1) == WCP_OUT_OF_RANGE);
-    CHECK(wcp_checker_new_with(&checker, 2, second, 1) == WCP_DONE);
-    CHECK(wcp_checker_new_with(&checker, 2, second, 1) == WCP_IN_USE);
+    CHECK(wcp_checker_new_with(&checker, 7, 2, third, 2) == WCP_OUT_OF_RANGE);
+    CHECK(wcp_checker_new_with(&checker, 7, 2, third, 0) == WCP_OUT_OF_RANGE);
+    CHECK(wcp_checker_new_with(&checker, 7, 17, second, 1) == WCP_OUT_OF_RANGE);
+    CHECK(wcp_checker_new_with(&checker, 7, 2, second, 1) == WCP_DONE);
+    CHECK(wcp_checker_new_with(&checker, 7, 2, second, 1) == WCP_IN_USE);
     CHECK(wcp_checker_take(&checker, &note) == WCP_DONE);
     CHECK(wcp_checker_report(&checker) == WCP_FOUND);
     CHECK(wcp_checker_cut(&checker, 0, &interval) == WCP_NOT_IN_CUT);
@@ -355,6 +458,9 @@ int main(void)
     checker();
     nothing_found();
     lost();
+    losing();
+    strangers();
+    names();
     some_watched();
     return checks_end();
 }

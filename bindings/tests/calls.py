@@ -13,6 +13,8 @@ sys.path.insert(0, os.path.join(HERE, "..", "python"))
 
 import wullaphi  # noqa: E402
 from wullaphi import Checker, Probe  # noqa: E402
+from wullaphi._library import answer, library  # noqa: E402
+from wullaphi._refusals import BY_NUMBER  # noqa: E402
 
 FIRST_REFUSAL = 16
 MOST_BYTES = 2097152
@@ -44,7 +46,7 @@ except MemoryError:
     print("refused, and then", wullaphi.single(text).status)
 """
 MANY_NOTES = START + """
-probe, checker, notes, refused = wullaphi.Probe(1, 0, 2), wullaphi.Checker(2), [], 0
+probe, checker, notes, refused = wullaphi.Probe(1, 0, 2), wullaphi.Checker(1, 2), [], 0
 for _ in range(100000):
     notes.append(probe.observe(True))
     probe.stamp(1)
@@ -130,7 +132,7 @@ def settings():
 def pending():
     """A note that C code left pending."""
     probe = Probe(1, 0, 2)
-    wullaphi._library.wcp_probe_observe(probe._at, 1)
+    library.wcp_probe_observe(probe._at, 1)
     refused(wullaphi.Backlog, probe.stamp, 1)
     refused(wullaphi.Backlog, probe.close)
     check(probe.next() is not None, "the pending note")
@@ -147,39 +149,55 @@ def clock_end():
 
 
 def checkers():
-    refused(wullaphi.OutOfRange, Checker, 0)
-    refused(wullaphi.OutOfRange, Checker, 17)
-    refused(wullaphi.OutOfRange, Checker, 2, [2])
-    refused(wullaphi.OutOfRange, Checker, 2, [])
+    refused(wullaphi.OutOfRange, Checker, 7, 0)
+    refused(wullaphi.OutOfRange, Checker, 7, 17)
+    refused(wullaphi.OutOfRange, Checker, 7, 2, [2])
+    refused(wullaphi.OutOfRange, Checker, 7, 2, [])
+    refused(wullaphi.OutOfRange, Checker, -1, 2)
+    refused(TypeError, Checker, 7)
     a, b = Probe(7, 0, 2), Probe(7, 1, 2)
     first, stamp = a.observe(True), a.stamp(1)
     second = a.observe(True)
     b.receive(stamp)
     third = b.observe(True)
-    checker = Checker(2)
+    checker = Checker(7, 2)
     check(checker.report() == wullaphi.Report("undecided"), "undecided")
     refused(wullaphi.OutOfTurn, checker.take, second)
     checker.take(first)
-    refused(wullaphi.OutOfTurn, checker.take, first)
+    refused(wullaphi.TakenAlready, checker.take, first)
     refused(wullaphi.NoNote, checker.take, stamp)
     refused(wullaphi.NoNote, checker.take, first + b"x")
-    refused(wullaphi.OtherWatch, Checker(3).take, first)
+    refused(wullaphi.OtherWatch, Checker(7, 3).take, first)
+    refused(wullaphi.Stranger, Checker(8, 2).take, first)
+    refused(wullaphi.Stranger, Checker(7 + 2 ** 32, 2).take, first)
     checker.take(third)
     check(checker.report().known == "undecided", "the first state of a precedes that of b")
     check(checker.taken(0) == 1 and checker.taken(1) == 1, "taken")
     refused(wullaphi.OutOfRange, checker.taken, 2)
     checker.take(second)
     check(checker.report() == wullaphi.Report("found", (1, 1)), "found")
-    checker.take(a.close())
-    refused(wullaphi.Ended, checker.take, first)
+    last = a.close()
+    checker.take(last)
+    for note in (first, second, last):
+        refused(wullaphi.TakenAlready, checker.take, note)
+    refused(wullaphi.Ended, checker.lose, 0)
     checker.end()
     refused(wullaphi.NoChecker, checker.end)
     refused(wullaphi.NoChecker, checker.report)
     refused(wullaphi.NoChecker, checker.take, first)
 
 
+def agreement():
+    quiet = Probe(7, 0, 2, watched=False).close()
+    refused(wullaphi.NotAgreed, Checker(7, 2).take, quiet)
+    for note in (quiet, Probe(7, 0, 2).close()):
+        with Checker(7, 2, [1]) as checker:
+            checker.take(note)
+            check(checker.report().known == "undecided", "a process that the checker doesn't watch")
+
+
 def some_watched():
-    with Checker(3, [1]) as checker:
+    with Checker(7, 3, [1]) as checker:
         note = Probe(7, 1, 3).observe(True)
         checker.take(note)
         check(checker.report() == wullaphi.Report("found", (None, 0, None)), "a cut of one process")
@@ -190,7 +208,7 @@ def nothing():
     notes = [a.observe(True)]
     b.receive(a.stamp(1))
     notes += [b.observe(True), a.close(), b.close()]
-    with Checker(2) as checker:
+    with Checker(7, 2) as checker:
         for note in notes:
             checker.take(note)
         check(checker.report() == wullaphi.Report("nothing"), "nothing")
@@ -222,7 +240,7 @@ def two_threads():
         thread.start()
     for thread in threads:
         thread.join()
-    with Checker(2) as checker:
+    with Checker(9, 2) as checker:
         for process in range(2):
             for note in notes[process]:
                 checker.take(note)
@@ -236,16 +254,16 @@ def refusal_words():
         numbered = {int(number): "".join(word.title() for word in name.split("_"))
                     for name, number in re.findall(r"^#define WCP_([A-Z_]+) ([0-9]+) +/[*]", header.read(), re.M)
                     if int(number) >= FIRST_REFUSAL}
-    names = {number: refusal.__name__ for number, refusal in wullaphi._REFUSALS.items()}
+    names = {number: refusal.__name__ for number, refusal in BY_NUMBER.items()}
     check({**names, 22: "NoMemory", 24: "NoRoom"} == numbered, "each refusal of the header has a class")
     texts = set()
-    for number, refusal in wullaphi._REFUSALS.items():
+    for number, refusal in BY_NUMBER.items():
         try:
-            wullaphi._answer(number)
+            answer(number)
         except refusal as raised:
             texts.add(str(raised))
             check(str(raised) == refusal.__doc__ or refusal is MemoryError, f"the text of {refusal.__name__}")
-    check(len(texts) == len(wullaphi._REFUSALS), "no two refusals have the same text")
+    check(len(texts) == len(BY_NUMBER), "no two refusals have the same text")
     check(str(wullaphi.Refused()) == wullaphi.Refused.__doc__, "the text of a refusal of no kind")
     check(str(wullaphi.OutOfRange("17")) == "17", "a text of the caller's own")
 
@@ -264,7 +282,7 @@ def damaged_bytes():
         check(probe.observe(True) is not None, "the probe goes on")
     for place in range(len(note)):
         damaged = note[:place] + bytes([note[place] ^ 0x80]) + note[place + 1:]
-        with Checker(3) as checker:
+        with Checker(7, 3) as checker:
             try:
                 checker.take(damaged)
             except wullaphi.Refused:
@@ -275,14 +293,18 @@ def damaged_bytes():
 def large_numbers():
     """Numbers that C would cut to ones that it takes."""
     word = 2 ** 32
-    probe, checker = Probe(1, 0, 2), Checker(2)
+    probe, checker = Probe(1, 0, 2), Checker(1, 2)
     refused(wullaphi.OutOfRange, Probe, 1, word, 2)
     refused(wullaphi.OutOfRange, Probe, 2 ** 64, 0, 2)
     refused(wullaphi.OutOfRange, probe.stamp, word + 1)
     refused(wullaphi.OutOfRange, probe.stamp, 1 - word)
-    refused(wullaphi.OutOfRange, Checker, word + 1)
-    refused(wullaphi.OutOfRange, Checker, word + 1, [0])
-    refused(wullaphi.OutOfRange, Checker, 2, [word])
+    refused(wullaphi.OutOfRange, Checker, 2 ** 64, 2)
+    refused(wullaphi.OutOfRange, Checker, 1, word + 1)
+    refused(wullaphi.OutOfRange, Checker, 1, word + 1, [0])
+    refused(wullaphi.OutOfRange, Checker, 1, 2, [word])
+    refused(wullaphi.OutOfRange, checker.lose, word)
+    refused(wullaphi.OutOfRange, probe.observe, True, 2 ** 64)
+    refused(wullaphi.OutOfRange, probe.close, -1)
     refused(wullaphi.OutOfRange, checker.taken, word)
     refused(wullaphi.OutOfRange, checker.taken, -word)
     check(Probe(2 ** 64 - 1, 0, 2).stamp(1) != Probe(0, 0, 2).stamp(1), "the largest number of a watch")
@@ -298,11 +320,21 @@ def lost_marks():
     closed = probe.close()
     mark = closed[:12] + struct.pack("=I", LOST) + closed[16:]
     check(wullaphi.is_last(mark), "a lost process tells nothing more")
-    with Checker(2) as checker:
+    with Checker(1, 2) as checker:
         checker.take(snapshot)
         checker.take(mark)
         refused(wullaphi.Ended, checker.take, closed)
-        refused(wullaphi.Ended, checker.take, mark)
+        refused(wullaphi.TakenAlready, checker.take, mark)
+        refused(wullaphi.Ended, checker.lose, 0)
+    with Checker(1, 2) as checker:
+        checker.take(snapshot)
+        refused(wullaphi.OutOfRange, checker.lose, 2)
+        checker.lose(0)
+        refused(wullaphi.Ended, checker.take, closed)
+        refused(wullaphi.TakenAlready, checker.take, snapshot)
+        refused(wullaphi.TakenAlready, checker.take, mark)
+        checker.take(Probe(1, 1, 2).close())
+        check(checker.report().known == "undecided", "of a lost process nothing is certain")
     refused(wullaphi.NoNote, wullaphi.is_last, mark[:-1])
     refused(wullaphi.NoNote, wullaphi.is_last, mark + b"x")
 
@@ -311,19 +343,19 @@ def freeing():
     """A checker is freed when it is ended, left or forgotten, once each; a checker that was never made isn't."""
     told = []
     sys.unraisablehook = told.append
-    with Checker(2) as left:
+    with Checker(1, 2) as left:
         pass
     refused(wullaphi.NoChecker, left.report)
-    with Checker(2) as ended:
+    with Checker(1, 2) as ended:
         ended.end()
     with ended:
         pass
-    forgotten = Checker(2)
+    forgotten = Checker(1, 2)
     memory = forgotten._memory
     check(bool(memory.held), "the memory of a checker")
     del left, ended, forgotten
     refused(TypeError, Checker)
-    refused(wullaphi.OutOfRange, Checker, 17)
+    refused(wullaphi.OutOfRange, Checker, 1, 2, [2])
     gc.collect()
     check(not memory.held, "a checker that is forgotten is freed")
     check(told == [], f"nothing is raised where a checker is freed: {told}")
@@ -338,19 +370,19 @@ def in_python(program, **variables):
 
 
 def memory():
-    refused(MemoryError, wullaphi._answer, 22)
+    refused(MemoryError, answer, 22)
     printed = in_python(LONG_TEXT)
     check(printed == ("refused, and then 1\n", ""), f"a text that there is no memory for: {printed}")
     printed = in_python(MANY_NOTES)
     check(printed == ("refused 1 and taken 100000\n", ""), f"a note that there is no memory for: {printed}")
 
 
-def library():
+def which_library():
     """The module loads the library that the variable says, and no other."""
     printed, said = in_python(START, WULLAPHI_LIBRARY="/nowhere/libwullaphi.so")
     check(printed == "" and said.splitlines()[-1:] and "/nowhere/libwullaphi.so" in said.splitlines()[-1],
           "a library that isn't there")
-    there = os.path.abspath(wullaphi._library._name)
+    there = os.path.abspath(library._name)
     check(in_python(START, WULLAPHI_LIBRARY=there) == ("", ""), "a library that is there")
 
 
@@ -359,6 +391,7 @@ settings()
 pending()
 clock_end()
 checkers()
+agreement()
 some_watched()
 nothing()
 refusal_words()
@@ -369,6 +402,6 @@ large_numbers()
 lost_marks()
 freeing()
 memory()
-library()
+which_library()
 print(f"{passed} passed, {failed} failed")
 sys.exit(failed > 0)

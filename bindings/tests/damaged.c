@@ -45,10 +45,10 @@ static void use(wcp_probe *probe, const wcp_stamp *stamp, wcp_checker *checker, 
         CHECK(memcmp(probe, &before, sizeof before) == 0);
     }
     CHECK(wcp_probe_observe(probe, 1) <= WCP_CLOCK_END);
-    CHECK(wcp_probe_next(probe, &given) <= WCP_CLOCK_END);
+    CHECK(wcp_probe_next(probe, number(), &given) <= WCP_CLOCK_END);
     CHECK(wcp_probe_stamp(probe, number() % 17, &made) <= WCP_CLOCK_END);
     CHECK(wcp_probe_close(probe) <= WCP_CLOCK_END);
-    CHECK(wcp_checker_take(checker, note) <= WCP_OUT_OF_TURN);
+    CHECK(wcp_checker_take(checker, note) <= WCP_TAKEN_ALREADY);
     answer = wcp_checker_report(checker);
     CHECK(answer >= WCP_FOUND && answer <= WCP_UNDECIDED);
 }
@@ -57,7 +57,7 @@ int main(void)
 {
     wcp_checker checker = WCP_CHECKER_NONE;
     int round;
-    CHECK(wcp_checker_new(&checker, 3) == WCP_DONE);
+    CHECK(wcp_checker_new(&checker, 5, 3) == WCP_DONE);
     for (round = 0; round < ROUNDS; round++) {
         wcp_probe probe;
         wcp_probe sender;
@@ -66,7 +66,7 @@ int main(void)
         CHECK(wcp_probe_init(&probe, 5, 1, 3) == WCP_DONE);
         CHECK(wcp_probe_init(&sender, 5, 0, 3) == WCP_DONE);
         CHECK(wcp_probe_observe(&sender, 1) == WCP_DONE_WITH_NOTE);
-        CHECK(wcp_probe_next(&sender, &note) == WCP_DONE_WITH_NOTE);
+        CHECK(wcp_probe_next(&sender, number(), &note) == WCP_DONE_WITH_NOTE);
         CHECK(wcp_probe_stamp(&sender, 1, &stamp) == WCP_DONE);
         if (round % 2 == 0) {
             damage(&probe, sizeof probe);

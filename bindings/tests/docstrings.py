@@ -19,14 +19,17 @@ def has_example(it):
 
 
 def main():
-    ran = doctest.testmod(wullaphi)
     public = [(name, getattr(wullaphi, name)) for name in wullaphi.__all__]
+    runner = doctest.DocTestRunner()
+    for name, it in [("wullaphi", wullaphi), *public]:
+        for test in doctest.DocTestFinder(recurse=it is not wullaphi).find(it, name, module=False, globs=vars(wullaphi)):
+            runner.run(test)
     bare = [name for name, it in public if callable(it) and not is_refusal(it) and not has_example(it)]
     for name in bare:
         print(f"{name} has no example")
-    failed = ran.failed + len(bare)
-    print(f"{ran.attempted - ran.failed} passed, {failed} failed")
-    return 1 if failed or not ran.attempted else 0
+    failed = runner.failures + len(bare)
+    print(f"{runner.tries - runner.failures} passed, {failed} failed")
+    return 1 if failed or not runner.tries else 0
 
 
 if __name__ == "__main__":

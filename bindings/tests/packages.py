@@ -27,7 +27,7 @@ SECONDS = 120
 
 VERSION = re.search(r"^## (.*)$", (BINDINGS.parent / "CHANGELOG.md").read_text(), re.M)[1]
 WHEEL = f"wullaphi-{VERSION}-py3-none-linux_x86_64.whl"
-IN_PACKAGE = {"__init__.py", "__main__.py", "libwullaphi.so", "py.typed"}
+IN_PACKAGE = {it.name for it in (BINDINGS / "python" / "wullaphi").glob("*.py")} | {"libwullaphi.so", "py.typed"}
 IN_INFO = {"LICENSE-APACHE", "LICENSE-MIT", "METADATA", "RECORD", "WHEEL", "top_level.txt"}
 
 # What is installed below a prefix: the mode of a file, or what a link points to.
@@ -35,8 +35,8 @@ INSTALLED = {
     "include/wullaphi.h": "644",
     "lib/libwullaphi.a": "644",
     f"lib/libwullaphi.so.{VERSION}": "755",
-    "lib/libwullaphi.so.0": f"libwullaphi.so.{VERSION}",
-    "lib/libwullaphi.so": "libwullaphi.so.0",
+    "lib/libwullaphi.so.1": f"libwullaphi.so.{VERSION}",
+    "lib/libwullaphi.so": "libwullaphi.so.1",
     "lib/pkgconfig/wullaphi.pc": "644",
     "lib/cmake/wullaphi/wullaphi-config.cmake": "644",
     "lib/cmake/wullaphi/wullaphi-config-version.cmake": "644",
@@ -46,7 +46,7 @@ INSTALLED = {
 IN_PYTHON = """\
 import wullaphi
 
-checker = wullaphi.Checker(2)
+checker = wullaphi.Checker(1, 2)
 for probe in (wullaphi.Probe(1, 0, 2), wullaphi.Probe(1, 1, 2)):
     checker.take(probe.observe(True))
 print(checker.report().cut)
@@ -64,13 +64,13 @@ int main(void)
     wcp_checker checker = WCP_CHECKER_NONE;
     uint32_t process, interval;
 
-    wcp_checker_new(&checker, 2);
+    wcp_checker_new(&checker, 1, 2);
     for (process = 0; process < 2; process++) {
         wcp_probe probe;
         wcp_note note;
         wcp_probe_init(&probe, 1, process, 2);
         wcp_probe_observe(&probe, 1);
-        wcp_probe_next(&probe, &note);
+        wcp_probe_next(&probe, 0, &note);
         wcp_checker_take(&checker, &note);
     }
     if (wcp_checker_report(&checker) == WCP_FOUND)
@@ -226,7 +226,7 @@ def check_compiled(checks, prefix):
     strict = ["-Wall", "-Wextra", "-Werror", "-pedantic", "-o", program]
     for language, compiler in (("C", [CC, "-std=c99"]), ("C++", [CXX, "-std=c++11", "-x", "c++"])):
         for kind, words, more, libraries in (
-                ("shared", ["--cflags", "--libs"], [f"-Wl,-rpath,{prefix}/lib"], ["libwullaphi.so.0"]),
+                ("shared", ["--cflags", "--libs"], [f"-Wl,-rpath,{prefix}/lib"], ["libwullaphi.so.1"]),
                 ("static", ["--static", "--cflags", "--libs"], ["-static"], [])):
             what = f"a program in {language}, {kind}"
             flags = shlex.split(checks.output(what, ["pkg-config", *words, "wullaphi"], **path))
@@ -247,7 +247,7 @@ def check_cmake(checks, prefix):
         ran = checks.run([*words, f"-Dwanted={wanted}"])
         checks.equal(f"CMake takes version {wanted}", ran.returncode == 0, is_taken)
     checks.output("cmake --build", ["cmake", "--build", build])
-    for kind, libraries in (("shared", ["libwullaphi.so.0"]), ("static", [])):
+    for kind, libraries in (("shared", ["libwullaphi.so.1"]), ("static", [])):
         checks.equal(f"a program by CMake, {kind}", checks.output(kind, [build / kind]), FOUND)
         checks.equal(f"a program by CMake, {kind}: the libraries", needed(checks, build / kind), libraries)
 

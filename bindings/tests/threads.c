@@ -25,7 +25,7 @@ static void expect(struct worker *self, int holds)
 static void pass_on(struct worker *self, wcp_probe *probe)
 {
     wcp_note note;
-    expect(self, wcp_probe_next(probe, &note) == WCP_DONE_WITH_NOTE);
+    expect(self, wcp_probe_next(probe, 0, &note) == WCP_DONE_WITH_NOTE);
     pthread_mutex_lock(&lock);
     expect(self, wcp_checker_take(&checker, &note) == WCP_DONE);
     pthread_mutex_unlock(&lock);
@@ -55,7 +55,7 @@ int main(void)
     uint32_t p;
     uint32_t interval = 9;
     uint64_t count = 0;
-    CHECK(wcp_checker_new(&checker, 2) == WCP_DONE);
+    CHECK(wcp_checker_new(&checker, 3, 2) == WCP_DONE);
     for (p = 0; p < 2; p++) {
         CHECK(pthread_create(&threads[p], NULL, work, &workers[p]) == 0);
     }

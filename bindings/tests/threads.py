@@ -68,7 +68,7 @@ def notes_of(process):
 def one_checker():
     """Each thread takes the notes of a process of its own; the last process tells nothing, so that all are kept."""
     notes = [notes_of(process) for process in range(THREADS)]
-    checker = Checker(THREADS + 1)
+    checker = Checker(9, THREADS + 1)
 
     def take(number):
         for note in notes[number]:

@@ -64,7 +64,7 @@ impl Worker {
 
 /// Takes all notes, and answers after how many messages of each thread both had the token, if they ever had.
 fn check(notes: &Receiver<Note>) -> Result<Option<(u32, u32)>> {
-    let mut checker = Checker::new(2)?;
+    let mut checker = Checker::new(WATCH, 2)?;
     let mut closed = 0;
     while closed < 2 {
         let note = notes.recv()?;

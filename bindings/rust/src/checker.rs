@@ -21,7 +21,7 @@ pub enum Report {
 /// use wullaphi::{Checker, Probe, Report};
 ///
 /// # fn main() -> Result<(), wullaphi::Refusal> {
-/// let mut checker = Checker::new(2)?;
+/// let mut checker = Checker::new(1, 2)?;
 /// for process in 0..2 {
 ///     let mut probe = Probe::new(1, process, 2)?;
 ///     if let Some(note) = probe.observe(true)? {
@@ -33,13 +33,8 @@ pub enum Report {
 /// # }
 /// ```
 ///
-/// Two mistakes here give a wrong report, and no call refuses them:
-///
-/// - Each process that the checker watches must have a probe with a condition. A probe that was made with
-///   [`watched`](crate::Options::watched) `false` never gives a snapshot, whatever its process observes, and the
-///   report is then [`Report::Nothing`] although there may be a cut.
-/// - A checker takes the notes of one watch only. A note doesn't say which watch it is of, so those of another watch,
-///   or of an earlier run, are taken like its own.
+/// It takes the notes of one watch, and of a process that it watches only those of a probe with a condition. Give each
+/// run a number of its own: the notes that an earlier run left in a queue are then refused.
 ///
 /// Dropping the checker frees its memory.
 pub struct Checker {
@@ -57,29 +52,35 @@ unsafe impl Send for Checker {}
 unsafe impl Sync for Checker {}
 
 impl Checker {
-    /// A checker of `processes` processes (1 to [`MAX_PROCESSES`](crate::MAX_PROCESSES)), each of them watched.
+    /// A checker of the watch with the number `watch`, of `processes` processes (1 to
+    /// [`MAX_PROCESSES`](crate::MAX_PROCESSES)), each of them watched.
     ///
     /// # Errors
     ///
     /// [`Refusal::OutOfRange`], [`Refusal::NoMemory`]
-    pub fn new(processes: u32) -> Result<Checker, Refusal> {
+    pub fn new(watch: u64, processes: u32) -> Result<Checker, Refusal> {
         let mut handle = Box::new(ffi::Checker::NONE);
         // SAFETY: the handle is borrowed for this call, and holds none.
-        accepted(unsafe { ffi::wcp_checker_new(&mut handle, processes) })?;
+        accepted(unsafe { ffi::wcp_checker_new(&mut handle, watch, processes) })?;
         Ok(Checker { handle, processes })
     }
 
-    /// A checker of `processes` processes, of which only those with the numbers `watched` are watched, at least one.
-    /// Name no process whose probe has no condition.
+    /// The same, where only the processes with the numbers `watched` are watched, at least one.
     ///
     /// # Errors
     ///
     /// [`Refusal::OutOfRange`], [`Refusal::NoMemory`]
-    pub fn new_with(processes: u32, watched: &[u32]) -> Result<Checker, Refusal> {
+    pub fn new_with(watch: u64, processes: u32, watched: &[u32]) -> Result<Checker, Refusal> {
         let mut handle = Box::new(ffi::Checker::NONE);
         // SAFETY: the handle is borrowed for this call, and holds none; the numbers are those of a slice.
         accepted(unsafe {
-            ffi::wcp_checker_new_with(&mut handle, processes, watched.as_ptr(), watched.len())
+            ffi::wcp_checker_new_with(
+                &mut handle,
+                watch,
+                processes,
+                watched.as_ptr(),
+                watched.len(),
+            )
         })?;
         Ok(Checker { handle, processes })
     }
@@ -88,10 +89,23 @@ impl Checker {
     ///
     /// # Errors
     ///
-    /// [`Refusal::OtherWatch`], [`Refusal::Ended`], [`Refusal::OutOfTurn`], [`Refusal::NoMemory`]
+    /// [`Refusal::OtherWatch`], [`Refusal::Stranger`], [`Refusal::NotAgreed`], [`Refusal::TakenAlready`],
+    /// [`Refusal::Ended`], [`Refusal::OutOfTurn`], [`Refusal::NoMemory`]
     pub fn take(&mut self, note: &Note) -> Result<(), Refusal> {
         // SAFETY: the handle and the note are borrowed for this call.
         accepted(unsafe { ffi::wcp_checker_take(&mut self.handle, &note.raw) })?;
+        Ok(())
+    }
+
+    /// A process is gone, and its last note won't come: no more of its notes are taken, and the report is never
+    /// [`Report::Nothing`]. A cut of what it told may still be found.
+    ///
+    /// # Errors
+    ///
+    /// [`Refusal::OutOfRange`], [`Refusal::Ended`]
+    pub fn lose(&mut self, process: u32) -> Result<(), Refusal> {
+        // SAFETY: the handle is borrowed for this call.
+        accepted(unsafe { ffi::wcp_checker_lose(&mut self.handle, process) })?;
         Ok(())
     }
 

@@ -11,7 +11,7 @@ pub enum Refusal {
     NoProbe,
     /// The bytes are no stamp, or a damaged one.
     NoStamp,
-    /// The bytes are no note, or a damaged one.
+    /// The bytes are no note, or a damaged one, or one of version 1.
     NoNote,
     /// A number names no process, or too few or too many processes.
     OutOfRange,
@@ -26,7 +26,7 @@ pub enum Refusal {
     /// A note is pending: take it by [`Probe::next_note`](crate::Probe::next_note) first. Only a probe that came as
     /// bytes, from a program in C, can have one.
     Backlog,
-    /// The stamp is of another watch.
+    /// The stamp or the note is of another watch.
     Stranger,
     /// The stamp is addressed to another process.
     NotMine,
@@ -38,8 +38,12 @@ pub enum Refusal {
     OtherWatch,
     /// The process was closed, or lost.
     Ended,
-    /// A note before it has not come, or it was taken already.
+    /// A note of the process that comes before this one is missing.
     OutOfTurn,
+    /// The checker watches the process, whose probe has no condition.
+    NotAgreed,
+    /// The note was taken before: drop it, and go on.
+    TakenAlready,
 }
 
 impl Refusal {
@@ -62,6 +66,8 @@ impl Refusal {
             48 => Refusal::OtherWatch,
             49 => Refusal::Ended,
             50 => Refusal::OutOfTurn,
+            51 => Refusal::NotAgreed,
+            52 => Refusal::TakenAlready,
             _ => return None,
         })
     }
@@ -70,20 +76,22 @@ impl Refusal {
         match self {
             Refusal::NoProbe => "the bytes are no probe, or a damaged one",
             Refusal::NoStamp => "the bytes are no stamp, or a damaged one",
-            Refusal::NoNote => "the bytes are no note, or a damaged one",
+            Refusal::NoNote => "the bytes are no note, or a damaged one, or one of version 1",
             Refusal::OutOfRange => "a number names no process, or too few or too many processes",
             Refusal::NoMemory => "there is no memory",
             Refusal::NotInCut => "no cut was found, or the process is not watched",
             Refusal::NoSuch => "the receiver is no process of the watch, or is the probe's own",
             Refusal::Closed => "the probe is closed",
             Refusal::Backlog => "a note is pending: take it first",
-            Refusal::Stranger => "the stamp is of another watch",
+            Refusal::Stranger => "the stamp or the note is of another watch",
             Refusal::NotMine => "the stamp is addressed to another process",
             Refusal::Ahead => "the stamp knows of events of this process that it has not made",
             Refusal::ClockEnd => "the process has made as many events as a clock can count",
             Refusal::OtherWatch => "the note is of a watch of another number of processes",
             Refusal::Ended => "the process was closed, or lost",
-            Refusal::OutOfTurn => "a note before it has not come, or it was taken already",
+            Refusal::OutOfTurn => "a note of the process that comes before this one is missing",
+            Refusal::NotAgreed => "the checker watches the process, whose probe has no condition",
+            Refusal::TakenAlready => "the note was taken before",
         }
     }
 }
@@ -163,7 +171,8 @@ mod tests {
             let mut words = line.strip_prefix("#define WCP_")?.split_whitespace();
             let name = words.next()?;
             let number: u32 = words.next()?.parse().ok()?;
-            (number >= FIRST_REFUSAL && name != "MAX_PROCESSES").then(|| (number, camel(name)))
+            (number >= FIRST_REFUSAL && !matches!(name, "MAX_PROCESSES" | "VERSION"))
+                .then(|| (number, camel(name)))
         };
         include_str!("../../wullaphi.h")
             .lines()
@@ -184,7 +193,7 @@ mod tests {
             }
         }
         assert_eq!(known, (0..1000).filter_map(Refusal::of).count());
-        assert_eq!(known, 16);
+        assert_eq!(known, 18);
     }
 
     #[test]

@@ -56,7 +56,9 @@ pub struct Note {
     pub process: u32,
     pub kind: u32,
     pub number: u32,
-    pub reserved: u32,
+    pub watched: u32,
+    pub watch: u64,
+    pub tag: u64,
     pub clock: [u32; MAX_PROCESSES],
 }
 
@@ -97,9 +99,10 @@ macro_rules! plain {
 
 plain!(Probe, 112);
 plain!(Stamp, 88);
-plain!(Note, 88);
+plain!(Note, 104);
 
 extern "C" {
+    pub fn wcp_version() -> u32;
     pub fn wcp_probe_init_with(
         probe: &mut Probe,
         watch: u64,
@@ -111,16 +114,18 @@ extern "C" {
     pub fn wcp_probe_observe(probe: &mut Probe, holds: u32) -> u32;
     pub fn wcp_probe_stamp(probe: &mut Probe, to: u32, stamp: &mut Stamp) -> u32;
     pub fn wcp_probe_receive(probe: &mut Probe, stamp: &Stamp) -> u32;
-    pub fn wcp_probe_next(probe: &mut Probe, note: &mut Note) -> u32;
+    pub fn wcp_probe_next(probe: &mut Probe, tag: u64, note: &mut Note) -> u32;
     pub fn wcp_probe_close(probe: &mut Probe) -> u32;
-    pub fn wcp_checker_new(checker: &mut Checker, processes: u32) -> u32;
+    pub fn wcp_checker_new(checker: &mut Checker, watch: u64, processes: u32) -> u32;
     pub fn wcp_checker_new_with(
         checker: &mut Checker,
+        watch: u64,
         processes: u32,
         watched: *const u32,
         count: usize,
     ) -> u32;
     pub fn wcp_checker_take(checker: &mut Checker, note: &Note) -> u32;
+    pub fn wcp_checker_lose(checker: &mut Checker, process: u32) -> u32;
     pub fn wcp_checker_report(checker: &mut Checker) -> u32;
     pub fn wcp_checker_cut(checker: &mut Checker, process: u32, interval: &mut u32) -> u32;
     pub fn wcp_checker_taken(checker: &mut Checker, process: u32, count: &mut u64) -> u32;

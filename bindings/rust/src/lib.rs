@@ -10,7 +10,7 @@
 //! use wullaphi::{Checker, Probe, Report};
 //!
 //! # fn main() -> Result<(), wullaphi::Refusal> {
-//! let mut checker = Checker::new(2)?;
+//! let mut checker = Checker::new(1, 2)?;
 //! let mut ada = Probe::new(1, 0, 2)?;
 //! let mut ben = Probe::new(1, 1, 2)?;
 //!
@@ -38,9 +38,9 @@
 //! once. So a stamp can't be made up, and a message can't be read without being received. A probe can't be copied.
 //!
 //! The compiler doesn't notice a message that is sent without a stamp, order that comes from a lock, two probes that
-//! are made for one process, a note that never reaches the checker, notes of one probe that reach it out of order, or
-//! a note that goes to the checker of another watch. Those are the caller's duties, as they are in C. A [`Stamp`] or
-//! a [`Note`] that was made from bytes may be forged.
+//! are made for one process, or a note that never reaches the checker. Those are the caller's duties, as they are in
+//! C. The checker refuses notes that come out of order or twice, those of another watch, and those of a process that it
+//! watches but whose probe has no condition. A [`Stamp`] or a [`Note`] that was made from bytes may be forged.
 //!
 //! The crate calls the C library. The library is proved; the crate itself is only tested.
 #![deny(missing_docs, unsafe_op_in_unsafe_fn)]
@@ -60,6 +60,16 @@ pub use note::{Note, NOTE_SIZE};
 pub use probe::{Options, Probe, PROBE_SIZE};
 pub use single::{single, Single};
 pub use stamp::{Stamp, Stamped, STAMP_SIZE};
+
+/// The version of the C library: ten thousand times the first number, a hundred times the second, and the third.
+///
+/// ```
+/// assert_eq!(wullaphi::library_version(), 300);
+/// ```
+pub fn library_version() -> u32 {
+    // SAFETY: the call only answers a number.
+    unsafe { ffi::wcp_version() }
+}
 
 /// The most processes of a watch.
 pub const MAX_PROCESSES: u32 = ffi::MAX_PROCESSES as u32;

@@ -4,7 +4,7 @@ use crate::ffi;
 use std::fmt;
 
 /// The size of a note in bytes.
-pub const NOTE_SIZE: usize = 88;
+pub const NOTE_SIZE: usize = 104;
 
 /// What a process tells the checker: that its condition holds now, or that the process tells nothing more.
 ///
@@ -16,6 +16,11 @@ pub struct Note {
 }
 
 impl Note {
+    /// The number of the watch.
+    pub fn watch(&self) -> u64 {
+        self.raw.watch
+    }
+
     /// The process that the note is of.
     pub fn process(&self) -> u32 {
         self.raw.process
@@ -31,6 +36,22 @@ impl Note {
         self.raw.kind != ffi::SNAPSHOT
     }
 
+    /// Whether the process has a condition.
+    pub fn is_watched(&self) -> bool {
+        self.raw.watched == 1
+    }
+
+    /// The vector clock of a snapshot: how many events of each process its state knows of. A last note has none.
+    pub fn clock(&self) -> &[u32] {
+        let processes = self.raw.processes as usize;
+        &self.raw.clock[..if self.is_last() { 0 } else { processes }]
+    }
+
+    /// The number that the caller gave with it.
+    pub fn tag(&self) -> u64 {
+        self.raw.tag
+    }
+
     /// The note as bytes, for a machine of the same byte order.
     pub fn as_bytes(&self) -> &[u8; NOTE_SIZE] {
         self.raw.as_bytes()
@@ -39,8 +60,7 @@ impl Note {
     /// The note with these bytes, those of [`as_bytes`](Note::as_bytes).
     ///
     /// The library checks whether the bytes are laid out as a note; only a checker does that, so this call makes one
-    /// of its own. **That proves nothing about who made the bytes**: a note can be forged or damaged into another
-    /// one, and it doesn't say which watch it is of.
+    /// of its own. **That proves nothing about who made the bytes**: a note can be forged or damaged into another one.
     ///
     /// # Errors
     ///
@@ -50,7 +70,7 @@ impl Note {
         let note = Note {
             raw: ffi::Note::from_bytes(bytes),
         };
-        match Checker::new(1)?.take(&note) {
+        match Checker::new(0, 1)?.take(&note) {
             Err(refusal @ (Refusal::NoNote | Refusal::NoMemory)) => Err(refusal),
             _ => Ok(note), // taken, or refused as a note
         }
@@ -63,6 +83,7 @@ impl fmt::Debug for Note {
             .field("process", &self.process())
             .field("number", &self.number())
             .field("is_last", &self.is_last())
+            .field("tag", &self.tag())
             .finish_non_exhaustive()
     }
 }

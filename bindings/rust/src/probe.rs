@@ -98,10 +98,19 @@ impl Probe {
     ///
     /// [`Refusal::Closed`]
     pub fn observe(&mut self, holds: bool) -> Result<Option<Note>, Refusal> {
+        self.observe_tagged(holds, 0)
+    }
+
+    /// The same, where `tag` goes with the note: any number that leads back to this moment, as a line of a log.
+    ///
+    /// # Errors
+    ///
+    /// [`Refusal::Closed`]
+    pub fn observe_tagged(&mut self, holds: bool, tag: u64) -> Result<Option<Note>, Refusal> {
         // SAFETY: the probe is borrowed for this call.
         let answer = unsafe { ffi::wcp_probe_observe(&mut self.raw, holds.into()) };
         if accepted(answer)? == ffi::DONE_WITH_NOTE {
-            return Ok(self.next_note());
+            return Ok(self.next_note(tag));
         }
         Ok(None)
     }
@@ -160,12 +169,12 @@ impl Probe {
         Ok(())
     }
 
-    /// The pending note, if there is one; it then is no longer pending. [`observe`](Probe::observe) and
+    /// The pending note with this tag, if there is one; it then is no longer pending. [`observe`](Probe::observe) and
     /// [`close`](Probe::close) give it already, so only a probe from a program in C can have one.
-    pub fn next_note(&mut self) -> Option<Note> {
+    pub fn next_note(&mut self, tag: u64) -> Option<Note> {
         let mut raw = ffi::Note::default();
         // SAFETY: the probe and the note are borrowed for this call.
-        let answer = unsafe { ffi::wcp_probe_next(&mut self.raw, &mut raw) };
+        let answer = unsafe { ffi::wcp_probe_next(&mut self.raw, tag, &mut raw) };
         (answer == ffi::DONE_WITH_NOTE).then_some(Note { raw })
     }
 
@@ -175,10 +184,19 @@ impl Probe {
     ///
     /// [`Refusal::Closed`], [`Refusal::Backlog`]
     pub fn close(&mut self) -> Result<Note, Refusal> {
+        self.close_tagged(0)
+    }
+
+    /// The same, where `tag` goes with the note.
+    ///
+    /// # Errors
+    ///
+    /// [`Refusal::Closed`], [`Refusal::Backlog`]
+    pub fn close_tagged(&mut self, tag: u64) -> Result<Note, Refusal> {
         // SAFETY: the probe is borrowed for this call.
         let answer = accepted(unsafe { ffi::wcp_probe_close(&mut self.raw) })?;
         Ok(self
-            .next_note()
+            .next_note(tag)
             .unwrap_or_else(|| crate::error::unknown(answer)))
     }
 

@@ -62,7 +62,7 @@ fn observing() {
         (0, 0, false)
     );
     assert_eq!(ada.observe(true), Ok(None));
-    assert_eq!(ada.next_note(), None);
+    assert_eq!(ada.next_note(0), None);
     ada.stamp_for(1).unwrap();
     assert_eq!(snapshot(&mut ada).number(), 1);
 }
@@ -195,7 +195,7 @@ fn closing() {
     assert_eq!(refusal(ada.stamp(1, ())), Refusal::Closed);
     assert_eq!(refusal(ada.receive(message)), Refusal::Closed);
     assert_eq!(refusal(ada.close()), Refusal::Closed);
-    assert_eq!(ada.next_note(), None);
+    assert_eq!(ada.next_note(0), None);
 }
 
 #[test]
@@ -227,7 +227,7 @@ fn pending_notes() {
     assert_eq!(refusal(ada.stamp(1, ())), Refusal::Backlog);
     assert_eq!(refusal(ada.receive(message)), Refusal::Backlog);
     assert_eq!(refusal(ada.close()), Refusal::Backlog);
-    let note = ada.next_note().expect("the pending note");
+    let note = ada.next_note(0).expect("the pending note");
     assert_eq!(
         (note.process(), note.number(), note.is_last()),
         (0, 0, false)
@@ -250,16 +250,16 @@ fn clock_end() {
 #[test]
 fn new_checkers() {
     for processes in [0, 17, u32::MAX] {
-        assert_eq!(refusal(Checker::new(processes)), Refusal::OutOfRange);
+        assert_eq!(refusal(Checker::new(WATCH, processes)), Refusal::OutOfRange);
     }
     let cases: [(u32, &[u32]); 4] = [(2, &[2]), (2, &[]), (17, &[0]), (2, &[0, u32::MAX])];
     for (processes, watched) in cases {
         assert_eq!(
-            refusal(Checker::new_with(processes, watched)),
+            refusal(Checker::new_with(WATCH, processes, watched)),
             Refusal::OutOfRange
         );
     }
-    assert_eq!(Checker::new(16).unwrap().processes(), 16);
+    assert_eq!(Checker::new(WATCH, 16).unwrap().processes(), 16);
 }
 
 #[test]
@@ -270,16 +270,16 @@ fn taking() {
     let second = snapshot(&mut ada);
     ben.receive(message).unwrap();
     let third = snapshot(&mut ben);
-    let mut checker = Checker::new(2).unwrap();
+    let mut checker = Checker::new(WATCH, 2).unwrap();
     assert_eq!(checker.report(), Report::Undecided);
     assert_eq!(refusal(checker.cut(0)), Refusal::NotInCut);
     assert_eq!(refusal(checker.take(&second)), Refusal::OutOfTurn);
     checker.take(&first).unwrap();
-    assert_eq!(refusal(checker.take(&first)), Refusal::OutOfTurn);
-    assert_eq!(
-        refusal(Checker::new(3).unwrap().take(&first)),
-        Refusal::OtherWatch
-    );
+    assert_eq!(refusal(checker.take(&first)), Refusal::TakenAlready);
+    let of_others =
+        |watch, processes| refusal(Checker::new(watch, processes).unwrap().take(&first));
+    assert_eq!(of_others(WATCH, 3), Refusal::OtherWatch);
+    assert_eq!(of_others(WATCH + 1, 2), Refusal::Stranger);
     checker.take(&third).unwrap();
     assert_eq!(
         checker.report(),
@@ -292,14 +292,18 @@ fn taking() {
     assert_eq!(checker.report(), Report::Found(vec![Some(1), Some(1)]));
     assert_eq!((checker.cut(0), checker.cut(1)), (Ok(1), Ok(1)));
     assert_eq!(refusal(checker.cut(2)), Refusal::NotInCut);
-    checker.take(&ada.close().unwrap()).unwrap();
-    assert_eq!(refusal(checker.take(&first)), Refusal::Ended);
+    let last = ada.close().unwrap();
+    checker.take(&last).unwrap();
+    for note in [&first, &second, &last] {
+        assert_eq!(refusal(checker.take(note)), Refusal::TakenAlready);
+    }
+    assert_eq!(refusal(checker.lose(0)), Refusal::Ended);
     assert_eq!(checker.report(), Report::Found(vec![Some(1), Some(1)]));
 }
 
 #[test]
 fn some_watched() {
-    let mut checker = Checker::new_with(3, &[1]).unwrap();
+    let mut checker = Checker::new_with(WATCH, 3, &[1]).unwrap();
     let mut ben = Probe::new(WATCH, 1, 3).unwrap();
     ben.stamp_for(0).unwrap();
     checker.take(&snapshot(&mut ben)).unwrap();
@@ -317,29 +321,100 @@ fn nothing_and_lost() {
     let lost = Note::from_bytes(&with_word(*last.as_bytes(), KIND, LOST)).unwrap();
     assert!(lost.is_last());
     for (ben_ends, report) in [(&last, Report::Nothing), (&lost, Report::Undecided)] {
-        let mut checker = Checker::new(2).unwrap();
+        let mut checker = Checker::new(WATCH, 2).unwrap();
         for note in [&first, &second, &end] {
             checker.take(note).unwrap();
             assert_eq!(checker.report(), Report::Undecided);
         }
         checker.take(ben_ends).unwrap();
         assert_eq!(checker.report(), report);
-        assert_eq!(refusal(checker.take(&last)), Refusal::Ended);
+        assert_eq!(refusal(checker.take(ben_ends)), Refusal::TakenAlready);
+        let other = if ben_ends == &last { &lost } else { &last };
+        assert_eq!(refusal(checker.take(other)), Refusal::Ended);
     }
+}
+
+#[test]
+fn losing() {
+    let (mut ada, mut ben) = (probe(0), probe(1));
+    let (first, last) = (snapshot(&mut ada), ada.close().unwrap());
+    ada = probe(0);
+    let _ = snapshot(&mut ada);
+    ada.stamp_for(1).unwrap();
+    let later = snapshot(&mut ada);
+    let mut checker = Checker::new(WATCH, 2).unwrap();
+    checker.take(&first).unwrap();
+    assert_eq!(refusal(checker.lose(2)), Refusal::OutOfRange);
+    checker.lose(0).unwrap();
+    assert_eq!(refusal(checker.lose(0)), Refusal::Ended);
+    assert_eq!(refusal(checker.take(&first)), Refusal::TakenAlready);
+    for note in [&later, &last] {
+        assert_eq!(refusal(checker.take(note)), Refusal::Ended);
+    }
+    assert_eq!(checker.report(), Report::Undecided);
+    checker.take(&ben.close().unwrap()).unwrap();
+    assert_eq!(
+        checker.report(),
+        Report::Undecided,
+        "never that there is no cut"
+    );
+    let mut checker = Checker::new(WATCH, 2).unwrap();
+    checker.take(&first).unwrap();
+    checker.lose(0).unwrap();
+    checker.take(&snapshot(&mut probe(1))).unwrap();
+    assert_eq!(checker.report(), Report::Found(vec![Some(0), Some(0)]));
+}
+
+/// A process whose probe has no condition.
+#[test]
+fn agreement() {
+    let quiet = Options {
+        watched: false,
+        ..Options::default()
+    };
+    let mut ada = Probe::new_with(WATCH, 0, 2, quiet).unwrap();
+    let last = ada.close().unwrap();
+    assert!(!last.is_watched());
+    assert_eq!(
+        refusal(Checker::new(WATCH, 2).unwrap().take(&last)),
+        Refusal::NotAgreed
+    );
+    Checker::new_with(WATCH, 2, &[1])
+        .unwrap()
+        .take(&last)
+        .unwrap();
+    let last = probe(0).close().unwrap();
+    assert!(last.is_watched());
+    Checker::new_with(WATCH, 2, &[1])
+        .unwrap()
+        .take(&last)
+        .unwrap();
 }
 
 #[test]
 fn notes_as_bytes() {
     let mut ada = Probe::new(WATCH, 2, 3).unwrap();
-    let note = snapshot(&mut ada);
+    let note = ada
+        .observe_tagged(true, u64::MAX)
+        .unwrap()
+        .expect("a snapshot");
+    assert_eq!(
+        (note.watch(), note.clock(), note.tag()),
+        (WATCH, &[0; 3][..], u64::MAX)
+    );
     let bytes: &[u8; NOTE_SIZE] = note.as_bytes();
     let again = Note::from_bytes(bytes).unwrap();
     assert_eq!(
         (&again, again.process(), again.number(), again.is_last()),
         (&note, 2, 0, false)
     );
-    let last = ada.close().unwrap();
+    let last = ada.close_tagged(5).unwrap();
+    assert_eq!((last.clock(), last.tag()), (&[][..], 5));
     assert_eq!(Note::from_bytes(last.as_bytes()), Ok(last));
+    let of_version_1 = [&bytes[..24], &bytes[40..]].concat();
+    assert_eq!(refusal(Note::from_bytes(&of_version_1)), Refusal::NoNote);
+    let with_its_magic = with_word(*bytes, 0, 0x5743_4E31);
+    assert_eq!(refusal(Note::from_bytes(&with_its_magic)), Refusal::NoNote);
     let stamp = probe(0).stamp_for(1).unwrap().to_bytes();
     let longer = [&bytes[..], &[0]].concat();
     for bad in [&bytes[1..], &longer, &[0; NOTE_SIZE], &[], &stamp] {

@@ -15,8 +15,12 @@ struct Memory<const SIZE: usize>([u8; SIZE]);
 extern "C" {
     fn wcp_probe_observe(probe: &mut Memory<PROBE_SIZE>, holds: u32) -> u32;
     fn wcp_probe_receive(probe: &mut Memory<PROBE_SIZE>, stamp: &Memory<STAMP_SIZE>) -> u32;
-    fn wcp_probe_next(probe: &mut Memory<PROBE_SIZE>, note: &mut Memory<NOTE_SIZE>) -> u32;
-    fn wcp_checker_new(checker: &mut Memory<16>, processes: u32) -> u32;
+    fn wcp_probe_next(
+        probe: &mut Memory<PROBE_SIZE>,
+        tag: u64,
+        note: &mut Memory<NOTE_SIZE>,
+    ) -> u32;
+    fn wcp_checker_new(checker: &mut Memory<16>, watch: u64, processes: u32) -> u32;
     fn wcp_checker_take(checker: &mut Memory<16>, note: &Memory<NOTE_SIZE>) -> u32;
     fn wcp_checker_report(checker: &mut Memory<16>) -> u32;
     fn wcp_checker_end(checker: &mut Memory<16>) -> u32;
@@ -38,6 +42,8 @@ fn number<T>(answer: Result<T, Refusal>) -> u32 {
         Err(Refusal::OtherWatch) => 48,
         Err(Refusal::Ended) => 49,
         Err(Refusal::OutOfTurn) => 50,
+        Err(Refusal::NotAgreed) => 51,
+        Err(Refusal::TakenAlready) => 52,
         Err(refusal) => panic!("{refusal:?}"),
     }
 }
@@ -124,7 +130,7 @@ fn probes() {
         let answer = unsafe { wcp_probe_observe(&mut memory, 1) };
         if answer == 1 {
             // SAFETY: the same holds of the note.
-            assert_eq!(unsafe { wcp_probe_next(&mut memory, &mut note) }, 1);
+            assert_eq!(unsafe { wcp_probe_next(&mut memory, 0, &mut note) }, 1);
         }
         match Probe::from_bytes(&bytes) {
             Ok(mut probe) => {
@@ -147,7 +153,7 @@ fn taken_in_c(note: [u8; NOTE_SIZE]) -> (u32, u32) {
     let mut checker = Memory([0; 16]);
     // SAFETY: a handle of zeros holds none, and then a checker; the note has the size and the alignment of the struct.
     unsafe {
-        assert_eq!(wcp_checker_new(&mut checker, 3), 0);
+        assert_eq!(wcp_checker_new(&mut checker, 5, 3), 0);
         let answer = wcp_checker_take(&mut checker, &Memory(note));
         let report = wcp_checker_report(&mut checker);
         assert_eq!(wcp_checker_end(&mut checker), 0);
@@ -162,7 +168,7 @@ fn notes() {
         let note = sender().observe(true).unwrap().expect("a snapshot");
         let note = damaged(*note.as_bytes(), &mut Random::new(round));
         let (answer, report) = taken_in_c(note);
-        let mut checker = Checker::new(3).unwrap();
+        let mut checker = Checker::new(5, 3).unwrap();
         let taken = Note::from_bytes(&note).and_then(|it| checker.take(&it));
         assert_eq!(number(taken), answer, "round {round}");
         let number = match checker.report() {

@@ -68,7 +68,7 @@ fn a_dropped_checker_is_freed() {
     }
     let notes = many_notes(1000);
     let take_all = || {
-        let mut checker = Checker::new(2).unwrap();
+        let mut checker = Checker::new(1, 2).unwrap();
         notes.iter().for_each(|note| checker.take(note).unwrap());
         assert_eq!(checker.taken(0), Ok(1000));
     };
@@ -87,7 +87,7 @@ fn a_refused_note_is_taken_later() {
         return;
     }
     let notes = many_notes(100_000);
-    let mut checker = Checker::new(2).unwrap();
+    let mut checker = Checker::new(1, 2).unwrap();
     let mut refused = 0;
     limit_memory(size("VmSize:"));
     for note in &notes {

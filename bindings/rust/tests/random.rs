@@ -4,7 +4,7 @@ mod common;
 
 use common::Random;
 use std::collections::VecDeque;
-use wullaphi::{Checker, Note, Options, Probe, Report, Stamp, Stamped};
+use wullaphi::{Checker, Note, Options, Probe, Refusal, Report, Stamp, Stamped};
 
 const COMPUTATIONS: u64 = 20_000;
 const MOST_EVENTS: u32 = 6;
@@ -165,13 +165,22 @@ impl Computation {
     /// A checker's report of all notes, which come in any order that keeps those of each process in theirs.
     fn check(&mut self, random: &mut Random) -> Report {
         let watched: Vec<u32> = self.history.watched.iter().map(|p| *p as u32).collect();
-        let mut checker = Checker::new_with(self.probes.len() as u32, &watched).unwrap();
+        let mut checker = Checker::new_with(9, self.probes.len() as u32, &watched).unwrap();
         let mut report = checker.report();
+        let mut taken = vec![Vec::new(); self.probes.len()];
         while self.notes.iter().any(|notes| !notes.is_empty()) {
             let p = random.below(self.notes.len());
+            if random.below(4) == 0 && !taken[p].is_empty() {
+                let again = &taken[p][random.below(taken[p].len())];
+                assert_eq!(checker.take(again), Err(Refusal::TakenAlready));
+            }
+            if let Some(later) = self.notes[p].get(1) {
+                assert_eq!(checker.take(later), Err(Refusal::OutOfTurn));
+            }
             if let Some(note) = self.notes[p].pop_front() {
                 let note = Note::from_bytes(note.as_bytes()).unwrap();
                 checker.take(&note).unwrap();
+                taken[p].push(note);
                 let next = checker.report();
                 assert!(
                     report == Report::Undecided || report == next,

@@ -22,7 +22,7 @@ fn all_types_go_between_threads() {
 /// Each thread brings its notes to the one checker, under a lock.
 #[test]
 fn a_checker_under_a_lock() {
-    let checker = Arc::new(Mutex::new(Checker::new(2).unwrap()));
+    let checker = Arc::new(Mutex::new(Checker::new(3, 2).unwrap()));
     let threads: Vec<_> = (0..2)
         .map(|process| {
             let checker = Arc::clone(&checker);
@@ -60,7 +60,7 @@ fn a_checker_that_is_handed_on() {
             .unwrap();
         back.send(checker).unwrap();
     });
-    let mut checker = Checker::new(2).unwrap();
+    let mut checker = Checker::new(3, 2).unwrap();
     let mut ada = Probe::new(3, 0, 2).unwrap();
     checker.take(&ada.observe(true).unwrap().unwrap()).unwrap();
     there.send((checker, Probe::new(3, 1, 2).unwrap())).unwrap();

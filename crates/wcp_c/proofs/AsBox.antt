@@ -6,20 +6,20 @@ use Rattle.std_alloc.proofs.BoxSteps.Form.{Bx}
 use Rattle.std_heap.specs.contracts.Global as Heap
 use Rattle.std_heap.specs.contracts.GlobalAllocator.TheImpl.{ghosts, dict}
 use Rattle.std_heap.proofs.Global.TheLaws as heap
-use Rattle.wcp_queue.specs.contracts.checker.Checker as Checker
-use Rattle.wcp_queue.proofs.checker.Checker.TheLaws as checker
+use Rattle.wcp_c.specs.contracts.watching.Watching as Watching
+use Rattle.wcp_c.proofs.watching.Watching.TheLaws as watching
 use Rattle.wcp_c.specs.contracts.parts.BoxParts as BoxParts
 use Rattle.wcp_c.specs.contracts.held.Held as Held
 
 abbrev pub E : Bx
 E = record {
-  row = Checker.the_row;
-  laws = checker.the_row_laws;
+  row = Watching.the_row;
+  laws = watching.the_row_laws;
   al = record { row = Heap.the_row; laws = heap.the_row_laws; g = ghosts; d = dict; drops = impl [] tnil dnil };
 }
 
 abbrev pub FromParts : Slot 0
-FromParts = plain (λ _. BoxParts.the_row Checker.the_row Heap.the_row ghosts)
+FromParts = plain (λ _. BoxParts.the_row Watching.the_row Heap.the_row ghosts)
 
 abbrev pub FromHeld : Slot 0
 FromHeld = plain (λ _. Held.the_row)

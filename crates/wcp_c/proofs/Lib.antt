@@ -1,4 +1,5 @@
 pub mod AsBox
+pub mod Losing
 pub mod Members
 pub mod Padded
 pub mod Values

@@ -60,12 +60,22 @@ ended = 49
 abbrev pub out_of_turn : ℕ
 out_of_turn = 50
 
+abbrev pub not_agreed : ℕ
+not_agreed = 51
+
+abbrev pub taken_already : ℕ
+taken_already = 52
+
+-- A stamp or a note is of another watch.
+abbrev pub stranger : ℕ
+stranger = 35
+
 -- The number of a probe's refusal.
 abbrev pub refusal_number : Refusal → ℕ
 refusal_number NoSuch = 32
 refusal_number Closed = 33
 refusal_number Backlog = 34
-refusal_number Stranger = 35
+refusal_number Stranger = stranger
 refusal_number NotMine = 36
 refusal_number Ahead = 37
 refusal_number ClockEnd = 38

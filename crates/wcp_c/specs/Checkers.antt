@@ -1,36 +1,71 @@
-use Rattle.std.specs.Prelude.{◌≡◌, ◌==◌, ◌||◌, ◌⊎◌, ◌<◌, ℕ, false, not, Option, Some, List, [], ◌∷◌, All, length}
-use Rattle.std.specs.Prelude.{nat_eq, slice_get}
+use Rattle.std.specs.Prelude.{◌≡◌, ◌==◌, ◌&&◌, ◌||◌, ◌⊎◌, ◌^◌, ◌<◌, ℕ, Bool, false, not, Option, Some, List, []}
+use Rattle.std.specs.Prelude.{◌∷◌, All, length, nat_eq, nat_le, nat_lt, slice_get}
 use Rattle.std.specs.FinSet as set
 use Rattle.std.specs.List.{list_any}
 use Rattle.wcp_clock.specs.ProcessNumbers.{NumberSet}
 use Rattle.wcp_clock.specs.Notes.{place_of}
+use Rattle.wcp_clock.specs.declared.note.Item.{Item}
+use Rattle.wcp_clock.specs.declared.note.Note.{Note}
+use Rattle.wcp_clock.specs.declared.note.Note.TheVariants.{Snap, Close, Lost}
 use Rattle.wcp_model.specs.FirstReason.{first_reason}
 use Rattle.wcp_model.specs.declared.outcome.Report.{Report}
 use Rattle.wcp_model.specs.declared.outcome.Report.TheVariants.{Found, Nothing, Undecided}
 use Rattle.wcp_queue.specs.Checker.{CheckerState, processes, taken_of, closed_of, lost_of, StandsForItems}
 use Rattle.wcp_c.specs.Answers.{done, in_use, no_memory, out_of_range, other_watch, ended, out_of_turn, found, nothing}
-use Rattle.wcp_c.specs.Answers.{undecided}
-use Rattle.wcp_c.specs.Notes.{item_of}
+use Rattle.wcp_c.specs.Answers.{not_agreed, stranger, taken_already, undecided}
+use Rattle.wcp_c.specs.Notes.{item_of, says_watched}
 use Rattle.wcp_c.specs.declared.handle.WcpChecker.{WcpChecker}
 use Rattle.wcp_c.specs.declared.note.WcpNote.{WcpNote}
+use Rattle.wcp_c.specs.declared.watching.Watching.{Watching}
 
 -- The checker that a handle holds, if any.
-abbrev pub checker_in : WcpChecker → Option CheckerState
+abbrev pub checker_in : WcpChecker → Option Watching
 checker_in handle = handle.held.checker
 
--- Why a checker refuses a note: it is of a watch of another number of processes; the process has ended; or the note is
--- not the next of its process.
-abbrev pub take_refusal : CheckerState → WcpNote → Option ℕ
-take_refusal checker note = first_reason
-    ((not (note.processes == processes checker), other_watch)
-    ∷ (closed_of checker note.process || lost_of checker note.process, ended)
-    ∷ (not (place_of (item_of note).note == taken_of checker note.process), out_of_turn) ∷ [])
+-- Whether the checker has taken a note of process p: a snapshot of this number; the mark with this count that ended it.
+abbrev pub has_taken : CheckerState → ℕ → Note → Bool
+has_taken checker p (Snap number clock) = nat_lt number (taken_of checker p)
+has_taken checker p (Close count) = closed_of checker p && (count == taken_of checker p)
+has_taken checker p (Lost count) = lost_of checker p && (count == taken_of checker p)
+
+-- Whether process p has ended: it was closed, or lost.
+abbrev pub has_ended : CheckerState → ℕ → Bool
+has_ended checker p = closed_of checker p || lost_of checker p
+
+-- Why a checker refuses a note: it is of a watch of another number of processes; it is of another watch; it says that
+-- its process has no condition, and the checker watches that process; it was taken before; the process has ended; or
+-- the note is not the next of its process.
+abbrev pub take_refusal : Watching → WcpNote → Option ℕ
+take_refusal held note = first_reason
+    ((not (note.processes == processes held.checker), other_watch)
+    ∷ (not (note.watch == held.watch), stranger)
+    ∷ (not (says_watched note) && set.contains held.checker.watched note.process, not_agreed)
+    ∷ (has_taken held.checker note.process (item_of note).note, taken_already)
+    ∷ (has_ended held.checker note.process, ended)
+    ∷ (not (place_of (item_of note).note == taken_of held.checker note.process), out_of_turn) ∷ [])
+
+-- The mark that process p is lost, after what was taken of it.
+abbrev pub lost_item : CheckerState → ℕ → Item
+lost_item checker p = record { from = p; note = Lost (taken_of checker p) }
+
+-- Why a process can't be lost: it is no process of the watch; it has ended; or more of its snapshots were taken than a
+-- mark can count.
+abbrev pub lose_refusal : CheckerState → ℕ → Option ℕ
+lose_refusal checker p = first_reason
+    ((nat_le (processes checker) p, out_of_range)
+    ∷ (has_ended checker p, ended)
+    ∷ (nat_le (2 ^ 32) (taken_of checker p), out_of_turn) ∷ [])
 
 -- The number of a report.
 abbrev pub report_number : Report → ℕ
 report_number (Found cut) = found
 report_number Nothing = nothing
 report_number Undecided = undecided
+
+-- The watch stays, and so does the number of its processes.
+pub record IsSameWatch (old new : Watching) : Type 0 where
+  pub watch : new.watch ≡ old.watch
+  pub processes : processes new.checker ≡ processes old.checker
 
 -- What is answered where no refusal comes: the note is taken, or there is no memory.
 abbrev pub IsTaken : ℕ → Type 0
@@ -46,12 +81,14 @@ IsInCut (Found cut) p interval = slice_get cut p ≡ Some (Some interval)
 IsInCut Nothing p interval = ⊥
 IsInCut Undecided p interval = ⊥
 
--- A checker of so many processes, of which these are watched, that has taken nothing and was never short of memory.
-pub record IsNewChecker (checker : CheckerState) (n : ℕ) (members : NumberSet) : Type 0 where
-  pub processes : processes checker ≡ n
-  pub watched : checker.watched ≡ members
-  pub empty : StandsForItems checker []
-  pub not_starved : checker.starved ≡ false
+-- A checker of the watch with this number, of so many processes, of which these are watched, that has taken nothing and
+-- was never short of memory.
+pub record IsNewChecker (held : Watching) (number n : ℕ) (members : NumberSet) : Type 0 where
+  pub watch : held.watch ≡ number
+  pub processes : processes held.checker ≡ n
+  pub watched : held.checker.watched ≡ members
+  pub empty : StandsForItems held.checker []
+  pub not_starved : held.checker.starved ≡ false
 
 -- The numbers name processes, and one at least.
 pub record NamesProcesses (n : ℕ) (numbers : List ℕ) : Type 0 where

@@ -6,7 +6,7 @@ use Rattle.std.specs.Coded.{coded_option}
 use Rattle.std.specs.Box.Ownership.{box_owns}
 use Rattle.std.specs.Global.{Global}
 use Rattle.std_heap.specs.contracts.GlobalAllocator.TheImpl.{ghosts}
-use Rattle.wcp_queue.specs.contracts.checker.Checker.{the_row}
+use Rattle.wcp_c.specs.contracts.watching.Watching.{the_row}
 
 -- What a handle owns: what a box with its checker would own, or nothing.
 abbrev pub held_owns : Global → Ptr → Option the_row.Denot → Fml

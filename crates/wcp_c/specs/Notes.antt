@@ -1,4 +1,4 @@
-use Rattle.std.specs.Prelude.{◌≡◌, ◌==◌, ◌<◌, ◌≤◌, ℕ, List, if◌then◌else◌, All, length, take, drop}
+use Rattle.std.specs.Prelude.{◌≡◌, ◌==◌, ◌<◌, ◌≤◌, ℕ, Bool, List, if◌then◌else◌, All, length, take, drop}
 use Rattle.wcp_clock.specs.Limits.{most_processes}
 use Rattle.wcp_clock.specs.declared.note.Item.{Item}
 use Rattle.wcp_clock.specs.declared.note.Note.{Note}
@@ -7,7 +7,7 @@ use Rattle.wcp_c.specs.declared.note.WcpNote.{WcpNote}
 
 -- The first word of a note in a caller's memory.
 abbrev pub note_magic : ℕ
-note_magic = 1464028721
+note_magic = 1464028722
 
 -- The note, by its kind: 1 says a snapshot, 2 a close mark, and 3 the mark of a lost process.
 abbrev pub note_by : ℕ → ℕ → List ℕ → Note
@@ -18,6 +18,10 @@ note_by kind number clock =
 abbrev pub item_of : WcpNote → Item
 item_of note = record { from = note.process; note = note_by note.kind note.number (take note.processes note.clock) }
 
+-- Whether the note says that its process has a condition.
+abbrev pub says_watched : WcpNote → Bool
+says_watched note = note.watched == 1
+
 -- The memory holds a note of a process; but for a snapshot it has no clock.
 pub record HoldsNote (note : WcpNote) : Type 0 where
   pub magic : note.magic ≡ note_magic
@@ -25,7 +29,7 @@ pub record HoldsNote (note : WcpNote) : Type 0 where
   pub process : note.process < note.processes
   pub some_kind : 1 ≤ note.kind
   pub kind : note.kind ≤ 3
-  pub reserved : note.reserved ≡ 0
+  pub watched : note.watched ≤ 1
   pub behind : All (λ count. count ≡ 0) (drop (if note.kind == 1 then note.processes else 0) note.clock)
 
 -- The note is of a process of so many: the clock of a snapshot has a component for each.

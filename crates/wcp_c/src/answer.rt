@@ -52,8 +52,17 @@ pub const OTHER_WATCH: u32 = 48;
 /// The process has ended.
 pub const ENDED: u32 = 49;
 
-/// The note is not the next of its process.
+/// A note of the same process that comes before this one is missing.
 pub const OUT_OF_TURN: u32 = 50;
+
+/// The note says that its process has no condition, and the checker watches the process.
+pub const NOT_AGREED: u32 = 51;
+
+/// The note was taken before.
+pub const TAKEN_ALREADY: u32 = 52;
+
+/// The stamp or the note is of another watch.
+pub const STRANGER: u32 = 35;
 
 /// The number of a probe's refusal.
 pub fn refusal_number(why: Refusal) -> u32
@@ -63,7 +72,7 @@ pub fn refusal_number(why: Refusal) -> u32
         Refusal::NoSuch => 32,
         Refusal::Closed => 33,
         Refusal::Backlog => 34,
-        Refusal::Stranger => 35,
+        Refusal::Stranger => STRANGER,
         Refusal::NotMine => 36,
         Refusal::Ahead => 37,
         Refusal::ClockEnd => 38,

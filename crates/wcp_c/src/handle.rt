@@ -3,9 +3,9 @@ ghost use Rattle.std.specs.Prelude.{◌≡◌, ◌↔◌, Some, None, IsTrue, Is
 
 use crate::held::Held;
 use crate::parts::BoxParts;
+use crate::watching::Watching;
 use std::alloc::Global;
 use std::mem;
-use wcp_queue::Checker;
 
 /// The first word of a handle that holds a checker.
 const HELD: u32 = 0x5743_4331;
@@ -33,7 +33,7 @@ impl WcpChecker {
     }
 
     /// A handle that holds this checker.
-    pub fn of(checker: Box<Checker>) -> WcpChecker
+    pub fn of(checker: Box<Watching>) -> WcpChecker
         ensures { result.held.checker ≡ Some checker.value }
     {
         WcpChecker {
@@ -44,7 +44,7 @@ impl WcpChecker {
     }
 
     /// Takes the checker out of the handle, if it holds one.
-    pub fn take_out(&mut self, alloc: Global) -> Option<Box<Checker>>
+    pub fn take_out(&mut self, alloc: Global) -> Option<Box<Watching>>
         ensures none { IsNone result → self.old.held.checker ≡ None }
         ensures some { IfSome result (λ checker. self.old.held.checker ≡ Some checker.value) }
         ensures left { self.new.held.checker ≡ None }

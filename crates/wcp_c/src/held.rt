@@ -1,13 +1,13 @@
 //! The checker that a handle holds, if any, behind a pointer that C may keep.
 ghost use Rattle.std.specs.Prelude.{◌≡◌, Option, Some, None};
-ghost use Rattle.wcp_queue.specs.Checker.{CheckerState};
+ghost use Rattle.wcp_c.specs.declared.watching.Watching.{Watching as Watched};
 ghost use Rattle.wcp_c.specs.Held.{held_owns, held_coded};
 
 use crate::parts::BoxParts;
+use crate::watching::Watching;
 use std::alloc::Global;
 use std::marker::Model;
 use std::ptr::null_mut;
-use wcp_queue::Checker;
 
 /// A checker on the heap, or none.
 #[repr(C)]
@@ -15,7 +15,7 @@ use wcp_queue::Checker;
 pub struct Held {
     ptr: *mut u8,
     alloc: Global,
-    pub ghost checker: { Option CheckerState } by { held_coded },
+    pub ghost checker: { Option Watched } by { held_coded },
 }
 
 impl Model for Held {
@@ -34,7 +34,7 @@ impl Held {
     }
 
     /// The checker with these parts.
-    pub fn of_parts(parts: BoxParts<Checker, Global>) -> Held
+    pub fn of_parts(parts: BoxParts<Watching, Global>) -> Held
         ensures { result.checker ≡ Some parts.value }
     {
         let BoxParts { ptr, alloc } = parts;
@@ -45,13 +45,13 @@ impl Held {
     }
 
     /// The parts of the checker.
-    pub fn into_parts(self) -> BoxParts<Checker, Global>
-        requires { (checker : CheckerState) × (self.checker ≡ Some checker) }
+    pub fn into_parts(self) -> BoxParts<Watching, Global>
+        requires { (checker : Watched) × (self.checker ≡ Some checker) }
         ensures { self.checker ≡ Some result.value }
     {
         let Held { ptr, alloc } = self;
         BoxParts {
-            ptr: ptr as *mut Checker,
+            ptr: ptr as *mut Watching,
             alloc,
         }
     }

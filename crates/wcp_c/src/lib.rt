@@ -16,6 +16,9 @@ mod parts;
 mod probe;
 mod single;
 mod stamp;
+mod version;
+mod watched;
+mod watching;
 
 pub use handle::WcpChecker;
 pub use note::WcpNote;

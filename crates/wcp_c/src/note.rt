@@ -1,12 +1,12 @@
 //! A note for the checker, in a caller's memory.
 ghost use Rattle.std.specs.Prelude.{◌≡◌, ◌<◌, ◌≤◌, ◌↔◌, IsSome, IfSome, IsTrue, ◌==◌, if◌then◌else◌, nat_eq};
 ghost use Rattle.wcp_clock.specs.Limits.{most_processes};
-ghost use Rattle.wcp_c.specs.Notes.{HoldsNote, IsNoteOf, item_of};
+ghost use Rattle.wcp_c.specs.Notes.{HoldsNote, IsNoteOf, item_of, says_watched};
 
 use wcp_clock::{Clock, Item, MAX_PROCS, Note};
 
 /// The first word of a note.
-const NOTE_MAGIC: u32 = 0x5743_4E31;
+const NOTE_MAGIC: u32 = 0x5743_4E32;
 
 /// A snapshot.
 const SNAPSHOT: u32 = 1;
@@ -17,7 +17,16 @@ const CLOSE_MARK: u32 = 2;
 /// The mark of a process that was lost.
 const LOST_MARK: u32 = 3;
 
-/// What a process emits, as it is sent to the checker.
+/// Whose note it is: a process of a watch, and whether that process has a condition.
+#[derive(Clone, Copy)]
+pub struct Sender {
+    pub watch: u64,
+    pub processes: u32,
+    pub process: u32,
+    pub watched: bool,
+}
+
+/// What a process emits, as it is sent to the checker, with a tag of the caller's own.
 #[repr(C)]
 #[derive(Clone, Copy)]
 pub struct WcpNote {
@@ -26,19 +35,24 @@ pub struct WcpNote {
     pub process: u32,
     pub kind: u32,
     pub number: u32,
-    pub reserved: u32,
+    pub watched: u32,
+    pub watch: u64,
+    pub tag: u64,
     pub clock: [u32; MAX_PROCS],
 }
 
 impl WcpNote {
-    /// The note of a process of so many.
-    pub fn new(processes: u32, process: u32, note: &Note) -> WcpNote
-        requires few { processes ≤ most_processes }
-        requires process { process < processes }
-        requires clock { IsNoteOf processes note.now }
+    /// The note of this process, with this tag.
+    pub fn new(sender: Sender, note: &Note, tag: u64) -> WcpNote
+        requires few { sender.processes ≤ most_processes }
+        requires process { sender.process < sender.processes }
+        requires clock { IsNoteOf sender.processes note.now }
         ensures holds { HoldsNote result }
-        ensures item { item_of result ≡ record { from = process; note = note.now } }
-        ensures processes { result.processes ≡ processes }
+        ensures item { item_of result ≡ record { from = sender.process; note = note.now } }
+        ensures processes { result.processes ≡ sender.processes }
+        ensures watch { result.watch ≡ sender.watch }
+        ensures watched { says_watched result ≡ sender.watched }
+        ensures tag { result.tag ≡ tag }
     {
         let (kind, number, clock) = match note {
             Note::Snap { number, clock } => (SNAPSHOT, *number, clock.padded()),
@@ -47,11 +61,13 @@ impl WcpNote {
         };
         WcpNote {
             magic: NOTE_MAGIC,
-            processes,
-            process,
+            processes: sender.processes,
+            process: sender.process,
             kind,
             number,
-            reserved: 0,
+            watched: u32::from(sender.watched),
+            watch: sender.watch,
+            tag,
             clock,
         }
     }
@@ -88,7 +104,7 @@ impl WcpNote {
         {
             return false;
         }
-        if self.kind < SNAPSHOT || self.kind > LOST_MARK || self.reserved != 0 {
+        if self.kind < SNAPSHOT || self.kind > LOST_MARK || self.watched > 1 {
             return false;
         }
         self.clock[self.components()..]

@@ -11,12 +11,12 @@ ghost use Rattle.wcp_model.specs.ProbeLog.{Closed as closed_call};
 ghost use Rattle.wcp_probe.specs.Core.{Core, Accepts, IsProbe, IsSameProbe, StandsForLog};
 ghost use Rattle.wcp_probe.specs.Refusals.{observe_refusal, close_refusal, stamp_refusal, receive_refusal};
 ghost use Rattle.wcp_c.specs.Answers.{IsAccepted, IsAnswer, done, done_with_note, no_probe, no_stamp, out_of_range};
-ghost use Rattle.wcp_c.specs.Notes.{HoldsNote, item_of};
+ghost use Rattle.wcp_c.specs.Notes.{HoldsNote, item_of, says_watched};
 ghost use Rattle.wcp_c.specs.Probes.{HoldsProbe, IsFreshProbe, IsLaidOut, core_of, flag_of, pending_of};
 ghost use Rattle.wcp_c.specs.Stamps.{HoldsStamp, seal_of};
 
 use crate::answer::{DONE, DONE_WITH_NOTE, NO_PROBE, NO_STAMP, OUT_OF_RANGE, refusal_number};
-use crate::note::WcpNote;
+use crate::note::{Sender, WcpNote};
 use crate::stamp::{STAMP_MAGIC, WcpStamp};
 use wcp_clock::{CLOCK_LIMIT, Clock, MAX_PROCS, Note};
 use wcp_model::{Flag, ProbeSetup};
@@ -311,9 +311,9 @@ pub extern "C" fn wcp_probe_receive(probe: &mut WcpProbe, stamp: &WcpStamp) -> u
     DONE
 }
 
-/// Gives the pending note, if there is one, to be sent to the checker; it then is no longer pending.
+/// Gives the pending note with this tag, if there is one, to be sent to the checker; it then is no longer pending.
 #[unsafe(no_mangle)]
-pub extern "C" fn wcp_probe_next(probe: &mut WcpProbe, note: &mut WcpNote) -> u32
+pub extern "C" fn wcp_probe_next(probe: &mut WcpProbe, tag: u64, note: &mut WcpNote) -> u32
     ensures held { result ≡ no_probe ↔ (HoldsProbe probe.old → ⊥) }
     ensures accepted { HoldsProbe probe.old → IsAccepted result }
     ensures pending { HoldsProbe probe.old
@@ -323,6 +323,9 @@ pub extern "C" fn wcp_probe_next(probe: &mut WcpProbe, note: &mut WcpNote) -> u3
         → (core_of probe.old).pending ≡ Some (item_of note.new).note }
     ensures from { result ≡ done_with_note → (item_of note.new).from ≡ (core_of probe.old).id }
     ensures processes { result ≡ done_with_note → note.new.processes ≡ length (core_of probe.old).clock }
+    ensures watch { result ≡ done_with_note → note.new.watch ≡ (core_of probe.old).watch }
+    ensures watched { result ≡ done_with_note → says_watched note.new ≡ (core_of probe.old).watched }
+    ensures tag { result ≡ done_with_note → note.new.tag ≡ tag }
     ensures put { result ≡ done_with_note → core_of probe.new ≡ record (core_of probe.old) { pending = None } }
     ensures holds { HoldsProbe probe.old → HoldsProbe probe.new }
     ensures same { result ≢ done_with_note → (probe.new ≡ probe.old) × (note.new ≡ note.old) }
@@ -333,7 +336,13 @@ pub extern "C" fn wcp_probe_next(probe: &mut WcpProbe, note: &mut WcpNote) -> u3
     let Some(pending) = core.pending() else {
         return DONE;
     };
-    *note = WcpNote::new(probe.processes, probe.process, pending);
+    let sender = Sender {
+        watch: probe.watch,
+        processes: probe.processes,
+        process: probe.process,
+        watched: probe.watched == 1,
+    };
+    *note = WcpNote::new(sender, pending, tag);
     core.was_put();
     probe.pending = NOTHING;
     DONE_WITH_NOTE

@@ -2,7 +2,7 @@
 use mathlib.Core.Path.{refl, sym, subst, ◌≡◌}
 use mathlib.Core.List.{List, [], ◌∷◌, ◌++◌}
 use Rattle.std.specs.Prelude.{Option, Some}
-use Rattle.wcp_queue.specs.Checker.{CheckerState}
+use Rattle.wcp_c.specs.declared.watching.Watching.{Watching}
 use seplogic.Ra.Ura.{Ura}
 use mir.Val.{Val}
 use base.Logic.{SProp, ent, id⊢}
@@ -49,12 +49,12 @@ module _ {M : Type 1} {𝓤 : Ura M} (𝓛 : Logic 𝓤) (at_mem : Memory → SP
       let h = z.0.3.0 in
       let To = type_at (F.signature).result tt in
       qed 𝓛 ((‵ ftrue ⊛ ‵ (fsep (H_.the_row.own_val h z.0.4.0) ftrue)) ∷ raw
-      (fact 𝓤 ((checker : CheckerState) × (h.checker ≡ Some checker))) ∷ []) ∵ move ! (1 ∷ []) $
-      heard ! ((checker : CheckerState) × (h.checker ≡ Some checker)) (λ held.
+      (fact 𝓤 ((checker : Watching) × (h.checker ≡ Some checker))) ∷ []) ∵ move ! (1 ∷ []) $
+      heard ! ((checker : Watching) × (h.checker ≡ Some checker)) (λ held.
       let v : D E = record { ptr = h.ptr; alloc = h.alloc; value = held.0 } in
       let made : To.Denot = record { ptr = v.ptr; alloc = v.alloc; value = v.value } in
       split ! $ drop ! $ fsplit ! $
-      rewrite ! 0 (λ (o : Option CheckerState). ‵
+      rewrite ! 0 (λ (o : Option Watching). ‵
       (H_.the_row.own_val (record { ptr = h.ptr; alloc = h.alloc; checker = o }) z.0.4.0)) held.1 refl $
       box_out E ! v z.0.4.0 (λ b o hv e ws fa. box_in E ! v b o v.value e refl $
       use1 𝓛 (‵ (To.own_val made (word E hv b o ∷ []))) (id⊢ 𝓤 _) $ move ! (1 ∷ 2 ∷ []) $ drop ! $ drop ! $

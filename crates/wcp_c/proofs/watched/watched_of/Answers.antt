@@ -1,5 +1,5 @@
 use Rattle.wcp_c.proofs.Members.{some_named}
-use Rattle.wcp_c.proofs.checker.watched_of.Goals as goal
+use Rattle.wcp_c.proofs.watched.watched_of.Goals as goal
 
 pub returns-clause-some : goal.returns-clause-some
 returns-clause-some c =
