@@ -176,6 +176,7 @@ def _load(kind: Type[ctypes.CDLL]) -> ctypes.CDLL:
         "wcp_probe_init_with": [probe, many, word, word, word, word],
         "wcp_probe_observe": [probe, word],
         "wcp_probe_stamp": [probe, word, stamp],
+        "wcp_probe_stamp_open": [probe, stamp],
         "wcp_probe_receive": [probe, stamp],
         "wcp_probe_next": [probe, note],
         "wcp_probe_close": [probe],
@@ -253,10 +254,19 @@ class Probe:
                 return self.next()
             return None
 
-    def stamp(self, to: int) -> bytes:
-        """The process sends a message to process `to`: this goes along with it."""
+    def stamp(self, to: Optional[int] = None) -> bytes:
+        """The process sends a message to process `to`, or an open one to whichever takes it: this goes along with it.
+
+        One process takes an open message, as from a work queue. Where that is its sender, nothing changes.
+
+        >>> ada, ben = Probe(1, 0, 2), Probe(1, 1, 2)
+        >>> ben.receive(ada.stamp())
+        """
         with self._lock:
-            _answer(_library.wcp_probe_stamp(self._at, _word(to), self._stamp_at))
+            if to is None:
+                _answer(_library.wcp_probe_stamp_open(self._at, self._stamp_at))
+            else:
+                _answer(_library.wcp_probe_stamp(self._at, _word(to), self._stamp_at))
             return bytes(self._stamp)
 
     def receive(self, stamp: bytes) -> None:
