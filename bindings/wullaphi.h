@@ -85,12 +85,15 @@ typedef struct wcp_probe {
     uint32_t clock[WCP_MAX_PROCESSES];
 } wcp_probe;
 
+/* The receiver that an open stamp names: whichever process takes the message. */
+#define WCP_ANY_PROCESS 4294967295u
+
 /* What goes along with a message: 88 bytes. */
 typedef struct wcp_stamp {
     uint32_t magic;
     uint32_t processes;
     uint32_t from; /* the sender */
-    uint32_t to;   /* the receiver */
+    uint32_t to;   /* the receiver, or WCP_ANY_PROCESS */
     uint64_t watch;
     uint32_t clock[WCP_MAX_PROCESSES];
 } wcp_stamp;
@@ -140,7 +143,12 @@ uint32_t wcp_probe_observe(wcp_probe *probe, uint32_t holds);
  * WCP_NO_SUCH, WCP_CLOSED, WCP_BACKLOG or WCP_CLOCK_END. */
 uint32_t wcp_probe_stamp(wcp_probe *probe, uint32_t to, wcp_stamp *stamp);
 
-/* The process receives the message that came with `stamp`. WCP_DONE, or WCP_NO_PROBE, WCP_NO_STAMP,
+/* The process sends an open message: whichever process takes it from a work queue receives it. `stamp` is to go along
+ * with it, and one process takes it, once. WCP_DONE, or WCP_NO_PROBE, WCP_CLOSED, WCP_BACKLOG or WCP_CLOCK_END. */
+uint32_t wcp_probe_stamp_open(wcp_probe *probe, wcp_stamp *stamp);
+
+/* The process receives the message that came with `stamp`. Where that is an open message that it sent itself, it is
+ * done and nothing has changed, since nothing happened between two processes. WCP_DONE, or WCP_NO_PROBE, WCP_NO_STAMP,
  * WCP_CLOSED, WCP_BACKLOG, WCP_STRANGER, WCP_NOT_MINE, WCP_AHEAD or WCP_CLOCK_END. */
 uint32_t wcp_probe_receive(wcp_probe *probe, const wcp_stamp *stamp);
 

@@ -103,6 +103,55 @@ static void messages(void)
     CHECK(memcmp(&b, &before, sizeof b) == 0);
 }
 
+/* Messages for whichever process takes them. */
+static void open_messages(void)
+{
+    wcp_probe a = probe_of(0, 3);
+    wcp_probe c = probe_of(2, 3);
+    wcp_probe before;
+    wcp_stamp stamp;
+    wcp_stamp untouched;
+    wcp_note note;
+    memset(&stamp, 0x5A, sizeof stamp);
+    untouched = stamp;
+    CHECK(wcp_probe_stamp(&a, WCP_ANY_PROCESS, &stamp) == WCP_NO_SUCH);
+    CHECK(wcp_probe_observe(&a, 1) == WCP_DONE_WITH_NOTE);
+    CHECK(wcp_probe_stamp_open(&a, &stamp) == WCP_BACKLOG);
+    CHECK(memcmp(&stamp, &untouched, sizeof stamp) == 0);
+    CHECK(wcp_probe_next(&a, 0, &note) == WCP_DONE_WITH_NOTE);
+    CHECK(wcp_probe_stamp_open(&a, &stamp) == WCP_DONE);
+    CHECK(stamp.from == 0 && stamp.to == WCP_ANY_PROCESS && stamp.watch == 7 && stamp.processes == 3);
+    CHECK(stamp.clock[0] == 1 && stamp.clock[1] == 0 && stamp.clock[2] == 0);
+    CHECK(a.clock[0] == 1 && a.flag_up == 0);
+    before = a;
+    CHECK(wcp_probe_receive(&a, &stamp) == WCP_DONE);
+    CHECK(memcmp(&a, &before, sizeof a) == 0);
+    stamp.clock[0] = 2;
+    CHECK(wcp_probe_receive(&a, &stamp) == WCP_AHEAD);
+    stamp.clock[0] = 1;
+    stamp.watch = 8;
+    CHECK(wcp_probe_receive(&c, &stamp) == WCP_STRANGER);
+    stamp.watch = 7;
+    stamp.clock[2] = 1;
+    CHECK(wcp_probe_receive(&c, &stamp) == WCP_AHEAD);
+    stamp.clock[2] = 0;
+    CHECK(wcp_probe_observe(&c, 1) == WCP_DONE_WITH_NOTE);
+    CHECK(wcp_probe_receive(&c, &stamp) == WCP_BACKLOG);
+    CHECK(wcp_probe_next(&c, 0, &note) == WCP_DONE_WITH_NOTE);
+    CHECK(wcp_probe_receive(&c, &stamp) == WCP_DONE);
+    CHECK(c.clock[0] == 1 && c.clock[1] == 0 && c.clock[2] == 1 && c.flag_up == 0);
+    CHECK(wcp_probe_close(&c) == WCP_DONE_WITH_NOTE);
+    CHECK(wcp_probe_receive(&c, &stamp) == WCP_CLOSED);
+    CHECK(wcp_probe_stamp_open(&c, &stamp) == WCP_CLOSED);
+    a.clock[0] = 4294967294u;
+    CHECK(wcp_probe_stamp_open(&a, &stamp) == WCP_CLOCK_END);
+    CHECK(wcp_probe_receive(&a, &stamp) == WCP_DONE);
+    stamp.from = 1;
+    CHECK(wcp_probe_receive(&a, &stamp) == WCP_CLOCK_END);
+    a.magic += 1;
+    CHECK(wcp_probe_stamp_open(&a, &stamp) == WCP_NO_PROBE);
+}
+
 static void flag_of_sends(void)
 {
     wcp_probe a = probe_of(0, 2);
@@ -451,6 +500,7 @@ int main(void)
     init();
     observe();
     messages();
+    open_messages();
     flag_of_sends();
     closing();
     clock_end();

@@ -118,6 +118,39 @@ def probes():
     check(Probe.from_bytes(a.to_bytes()).to_bytes() == a.to_bytes(), "a closed probe from bytes")
 
 
+def open_messages():
+    """Messages for whichever process takes them."""
+    a, b, c = (Probe(7, process, 3) for process in range(3))
+    stamp = a.stamp()
+    before = a.to_bytes()
+    a.receive(stamp)
+    check(a.to_bytes() == before, "a process that takes back its own message has changed nothing")
+    c.receive(stamp)
+    check(c.to_bytes()[48:60] == struct.pack("=3I", 1, 0, 1), "who takes it knows what the sender knew")
+    b.receive(c.stamp())
+    answer = b.stamp()
+    check(len({stamp, answer}) == 2, "each stamp has the clock of its send")
+    refused(wullaphi.Ahead, Probe(7, 2, 3).receive, answer)
+    refused(wullaphi.Stranger, Probe(8, 1, 3).receive, stamp)
+    refused(wullaphi.NoSuch, a.stamp, 0xFFFF_FFFF)
+    a.close()
+    refused(wullaphi.Closed, a.stamp)
+    refused(wullaphi.Closed, a.receive, answer)
+
+
+def work_queue():
+    """Who takes a job knows of what came before it, whoever that is: no cut has both states."""
+    for taker in (1, 2):
+        probes = [Probe(7, process, 3) for process in range(3)]
+        with Checker(7, 3, [0, taker]) as checker:
+            checker.take(probes[0].observe(True))
+            probes[taker].receive(probes[0].stamp())
+            checker.take(probes[taker].observe(True))
+            for probe in probes:
+                checker.take(probe.close())
+            check(checker.report() == wullaphi.Report("nothing"), f"process {taker} takes the job")
+
+
 def settings():
     quiet = Probe(1, 0, 2, watched=False)
     check(quiet.observe(True) is None, "a process that is not watched emits nothing")
@@ -387,6 +420,8 @@ def which_library():
 
 
 probes()
+open_messages()
+work_queue()
 settings()
 pending()
 clock_end()

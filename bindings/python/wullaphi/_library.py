@@ -69,6 +69,7 @@ def load(kind: Type[ctypes.CDLL]) -> ctypes.CDLL:
         "wcp_probe_init_with": [probe, many, word, word, word, word],
         "wcp_probe_observe": [probe, word],
         "wcp_probe_stamp": [probe, word, stamp],
+        "wcp_probe_stamp_open": [probe, stamp],
         "wcp_probe_receive": [probe, stamp],
         "wcp_probe_next": [probe, many, note],
         "wcp_probe_close": [probe],

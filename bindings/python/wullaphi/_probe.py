@@ -69,11 +69,20 @@ class Probe:
                 return self.next(tag)
             return None
 
-    def stamp(self, to: Process) -> bytes:
-        """The process sends a message to process `to`: this goes along with it."""
-        receiver = self.watch._told(to)
+    def stamp(self, to: Optional[Process] = None) -> bytes:
+        """The process sends a message to process `to`, or an open one to whichever takes it: this goes along with it.
+
+        One process takes an open message, as from a work queue. Where that is its sender, nothing changes.
+
+        >>> ada, ben = Probe(1, 0, 2), Probe(1, 1, 2)
+        >>> ben.receive(ada.stamp())
+        """
+        receiver = None if to is None else self.watch._told(to)
         with self._lock:
-            answer(library.wcp_probe_stamp(self._at, receiver, self._stamp_at))
+            if receiver is None:
+                answer(library.wcp_probe_stamp_open(self._at, self._stamp_at))
+            else:
+                answer(library.wcp_probe_stamp(self._at, receiver, self._stamp_at))
             return bytes(self._stamp)
 
     def receive(self, stamp: bytes) -> None:

@@ -17,6 +17,9 @@ pub const NO_PROBE: u32 = 16;
 pub const NO_STAMP: u32 = 17;
 pub const NO_ROOM: u32 = 24;
 
+/// The receiver that an open stamp names: whichever process takes the message.
+pub const ANY_PROCESS: u32 = u32::MAX;
+
 /// The kind of a note that is a snapshot; all others are last notes.
 pub const SNAPSHOT: u32 = 1;
 
@@ -113,6 +116,7 @@ extern "C" {
     ) -> u32;
     pub fn wcp_probe_observe(probe: &mut Probe, holds: u32) -> u32;
     pub fn wcp_probe_stamp(probe: &mut Probe, to: u32, stamp: &mut Stamp) -> u32;
+    pub fn wcp_probe_stamp_open(probe: &mut Probe, stamp: &mut Stamp) -> u32;
     pub fn wcp_probe_receive(probe: &mut Probe, stamp: &Stamp) -> u32;
     pub fn wcp_probe_next(probe: &mut Probe, tag: u64, note: &mut Note) -> u32;
     pub fn wcp_probe_close(probe: &mut Probe) -> u32;

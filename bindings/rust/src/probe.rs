@@ -129,7 +129,20 @@ impl Probe {
         }
     }
 
-    /// The process receives a message, and has what was sent.
+    /// The process sends `value` as an open message: whichever process takes it, as from a work queue, receives it.
+    ///
+    /// # Errors
+    ///
+    /// Each gives the value back: [`Refusal::Closed`], [`Refusal::Backlog`], [`Refusal::ClockEnd`].
+    pub fn stamp_open<T>(&mut self, value: T) -> Result<Stamped<T>, Refused<T>> {
+        match self.stamp_for_any() {
+            Ok(stamp) => Ok(Stamped::new(stamp, value)),
+            Err(refusal) => Err(Refused { refusal, value }),
+        }
+    }
+
+    /// The process receives a message, and has what was sent. Where that is an open message of its own, nothing has
+    /// changed, since nothing happened between two processes.
     ///
     /// # Errors
     ///
@@ -157,7 +170,20 @@ impl Probe {
         Ok(Stamp { raw })
     }
 
-    /// The process receives the message that came with this stamp.
+    /// The process sends an open message, which whichever process takes it receives: the stamp goes along with it, as
+    /// bytes.
+    ///
+    /// # Errors
+    ///
+    /// [`Refusal::Closed`], [`Refusal::Backlog`], [`Refusal::ClockEnd`]
+    pub fn stamp_for_any(&mut self) -> Result<Stamp, Refusal> {
+        let mut raw = ffi::Stamp::default();
+        // SAFETY: the probe and the stamp are borrowed for this call.
+        accepted(unsafe { ffi::wcp_probe_stamp_open(&mut self.raw, &mut raw) })?;
+        Ok(Stamp { raw })
+    }
+
+    /// The process receives the message that came with this stamp, as [`receive`](Probe::receive) does.
     ///
     /// # Errors
     ///

@@ -5,10 +5,12 @@ use std::fmt;
 /// The size of a stamp in bytes.
 pub const STAMP_SIZE: usize = 88;
 
-/// What goes along with a message that leaves this program: the sender's clock, for one receiver.
+/// What goes along with a message that leaves this program: the sender's clock, for one receiver or for whichever
+/// process takes the message.
 ///
-/// [`Probe::stamp_for`](crate::Probe::stamp_for) makes it and [`Probe::receive_stamp`](crate::Probe::receive_stamp)
-/// receives it. Between threads use [`Stamped`], which holds the stamp and the message together.
+/// [`Probe::stamp_for`](crate::Probe::stamp_for) and [`Probe::stamp_for_any`](crate::Probe::stamp_for_any) make it, and
+/// [`Probe::receive_stamp`](crate::Probe::receive_stamp) receives it. Between threads use [`Stamped`], which holds the
+/// stamp and the message together.
 #[derive(Clone, PartialEq, Eq)]
 pub struct Stamp {
     pub(crate) raw: ffi::Stamp,
@@ -20,9 +22,9 @@ impl Stamp {
         self.raw.from
     }
 
-    /// The process that the message is sent to.
-    pub fn receiver(&self) -> u32 {
-        self.raw.to
+    /// The process that the message is sent to. `None`: an open message, which is for whichever process takes it.
+    pub fn receiver(&self) -> Option<u32> {
+        (self.raw.to != ffi::ANY_PROCESS).then_some(self.raw.to)
     }
 
     /// The stamp as bytes, for a machine of the same byte order.
@@ -65,8 +67,8 @@ impl fmt::Debug for Stamp {
 
 /// A message with the stamp that its sender's probe made for its receiver.
 ///
-/// Only [`Probe::stamp`](crate::Probe::stamp) makes one, and only [`Probe::receive`](crate::Probe::receive) opens it.
-/// So the compiler refuses a message whose stamp is made up,
+/// Only [`Probe::stamp`](crate::Probe::stamp) and [`Probe::stamp_open`](crate::Probe::stamp_open) make one, and only
+/// [`Probe::receive`](crate::Probe::receive) opens it. So the compiler refuses a message whose stamp is made up,
 ///
 /// ```compile_fail
 /// let message: wullaphi::Stamped<u32> = wullaphi::Stamped { stamp: todo!(), value: 5 };
@@ -112,8 +114,8 @@ impl<T> Stamped<T> {
         self.stamp.sender()
     }
 
-    /// The process that the message is sent to.
-    pub fn receiver(&self) -> u32 {
+    /// The process that the message is sent to. `None`: an open message, which is for whichever process takes it.
+    pub fn receiver(&self) -> Option<u32> {
         self.stamp.receiver()
     }
 }

@@ -111,10 +111,10 @@ fn options() {
 fn messages() {
     let (mut ada, mut ben) = (probe(0), probe(1));
     let message = ada.stamp(1, String::from("token")).unwrap();
-    assert_eq!((message.sender(), message.receiver()), (0, 1));
+    assert_eq!((message.sender(), message.receiver()), (0, Some(1)));
     assert_eq!(
         format!("{message:?}"),
-        "Stamped { sender: 0, receiver: 1, .. }"
+        "Stamped { sender: 0, receiver: Some(1), .. }"
     );
     assert_eq!(ada.clock(), [1, 0]);
     assert_eq!(ben.receive(message).unwrap(), "token");
@@ -158,13 +158,34 @@ fn refused_messages_come_back() {
 }
 
 #[test]
+fn open_messages() {
+    let mut ada = probe(0);
+    let mut ben = probe(1);
+    let message = ada.stamp_open("job").unwrap();
+    assert_eq!((message.sender(), message.receiver()), (0, None));
+    assert_eq!(ben.receive(message).unwrap(), "job");
+    assert_eq!(ben.clock(), [1, 1]);
+    let own = ben.stamp_open("job").unwrap();
+    assert_eq!(ben.receive(own).unwrap(), "job");
+    assert_eq!(ben.clock(), [1, 2], "only the send is counted");
+    let stamp = ben.stamp_for_any().unwrap();
+    assert_eq!(refusal(probe(1).receive_stamp(&stamp)), Refusal::Ahead);
+    ada.receive_stamp(&stamp).unwrap();
+    assert_eq!(ada.clock(), [2, 3]);
+    let _ = ada.close().unwrap();
+    assert_eq!(refusal(ada.stamp_for_any()), Refusal::Closed);
+    let refused = ada.stamp_open("job").unwrap_err();
+    assert_eq!((refused.refusal, refused.value), (Refusal::Closed, "job"));
+}
+
+#[test]
 fn stamps_as_bytes() {
     let (mut ada, mut ben) = (probe(0), probe(1));
     let bytes: [u8; STAMP_SIZE] = ada.stamp_for(1).unwrap().to_bytes();
     let stamp = Stamp::from_bytes(&bytes).unwrap();
     assert_eq!(
         (stamp.sender(), stamp.receiver(), stamp.to_bytes()),
-        (0, 1, bytes)
+        (0, Some(1), bytes)
     );
     assert_eq!(refusal(ada.receive_stamp(&stamp)), Refusal::NotMine);
     ben.receive_stamp(&stamp).unwrap();

@@ -12,6 +12,7 @@ mod checker;
 mod handle;
 mod held;
 mod note;
+mod open_stamp;
 mod parts;
 mod probe;
 mod single;

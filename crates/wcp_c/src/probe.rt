@@ -9,11 +9,11 @@ ghost use Rattle.wcp_model.specs.declared.flag.Flag.TheVariants.{Event};
 ghost use Rattle.wcp_model.specs.ProbeLog.{Observed, Sent, Received, is_up_after_receive};
 ghost use Rattle.wcp_model.specs.ProbeLog.{Closed as closed_call};
 ghost use Rattle.wcp_probe.specs.Core.{Core, Accepts, IsProbe, IsSameProbe, StandsForLog};
-ghost use Rattle.wcp_probe.specs.Refusals.{observe_refusal, close_refusal, stamp_refusal, receive_refusal};
+ghost use Rattle.wcp_probe.specs.Refusals.{observe_refusal, close_refusal, stamp_refusal};
 ghost use Rattle.wcp_c.specs.Answers.{IsAccepted, IsAnswer, done, done_with_note, no_probe, no_stamp, out_of_range};
 ghost use Rattle.wcp_c.specs.Notes.{HoldsNote, item_of, says_watched};
 ghost use Rattle.wcp_c.specs.Probes.{HoldsProbe, IsFreshProbe, IsLaidOut, core_of, flag_of, pending_of};
-ghost use Rattle.wcp_c.specs.Stamps.{HoldsStamp, seal_of};
+ghost use Rattle.wcp_c.specs.Stamps.{HoldsStamp, seal_of, stamp_magic, is_taken_back, refusal_of_stamp};
 
 use crate::answer::{DONE, DONE_WITH_NOTE, NO_PROBE, NO_STAMP, OUT_OF_RANGE, refusal_number};
 use crate::note::{Sender, WcpNote};
@@ -75,13 +75,34 @@ impl WcpProbe {
 
     /// The probe's clock is this one now.
     #[tactic(auto, using(crate::proofs::Padded::zeros_behind))]
-    fn set_clock(&mut self, clock: &Clock)
+    pub fn set_clock(&mut self, clock: &Clock)
         requires { length clock.now ≡ self.old.processes }
         ensures clock { take self.old.processes self.new.clock ≡ clock.now }
         ensures behind { All (λ count. count ≡ 0) (drop self.old.processes self.new.clock) }
         ensures rest { self.new ≡ record self.old { clock = self.new.clock } }
     {
         self.clock = clock.padded();
+    }
+
+    /// The stamp of a message to process `to` that was just sent.
+    pub fn stamp_to(&self, to: u32) -> WcpStamp
+        ensures { result ≡ record {
+          magic = stamp_magic;
+          processes = self.now.processes;
+          from = self.now.process;
+          to = to;
+          watch = self.now.watch;
+          clock = self.now.clock;
+        } }
+    {
+        WcpStamp {
+            magic: STAMP_MAGIC,
+            processes: self.processes,
+            from: self.process,
+            to,
+            watch: self.watch,
+            clock: self.clock,
+        }
     }
 
     /// The note that is pending, of a probe with this clock.
@@ -103,7 +124,7 @@ impl WcpProbe {
 
     /// The probe that the memory holds. Inlined, so that each call copies only what it needs of it.
     #[inline(always)]
-    fn load(&self) -> Option<ToldProbe>
+    pub fn load(&self) -> Option<ToldProbe>
         ensures held { IsSome result ↔ HoldsProbe self.now }
         ensures core { IfSome result (λ core. core ≡ core_of self.now) }
     {
@@ -267,32 +288,27 @@ pub extern "C" fn wcp_probe_stamp(probe: &mut WcpProbe, to: u32, stamp: &mut Wcp
     }
     probe.set_clock(&core.parts().clock);
     probe.flag_up = 0;
-    *stamp = WcpStamp {
-        magic: STAMP_MAGIC,
-        processes: probe.processes,
-        from: probe.process,
-        to,
-        watch: probe.watch,
-        clock: probe.clock,
-    };
+    *stamp = probe.stamp_to(to);
     DONE
 }
 
-/// The process receives the message that this stamp came with.
+/// The process receives the message that this stamp came with. Where that is an open message of its own, nothing changes.
 #[unsafe(no_mangle)]
 pub extern "C" fn wcp_probe_receive(probe: &mut WcpProbe, stamp: &WcpStamp) -> u32
     ensures held { result ≡ no_probe ↔ (HoldsProbe probe.old → ⊥) }
     ensures stamp { HoldsProbe probe.old → (result ≡ no_stamp ↔ (HoldsStamp stamp.now → ⊥)) }
     ensures first { HoldsProbe probe.old → HoldsStamp stamp.now
-        → IsAnswer (receive_refusal (core_of probe.old) (seal_of stamp.now)) result }
+        → IsAnswer (refusal_of_stamp (core_of probe.old) stamp.now) result }
     ensures alone { result ≢ done_with_note }
-    ensures accepted { result ≡ done
+    ensures own { IsTrue (is_taken_back (core_of probe.old) stamp.now) → probe.new ≡ probe.old }
+    ensures accepted { result ≡ done → is_taken_back (core_of probe.old) stamp.now ≡ false
         → Accepts (core_of probe.old) (Received (seal_of stamp.now).clock) (core_of probe.new) }
     ensures same { result ≡ done → IsSameProbe (core_of probe.old) (core_of probe.new) }
-    ensures rest { result ≡ done → core_of probe.new ≡ record (core_of probe.old) {
-      clock = (core_of probe.new).clock;
-      flag_up = is_up_after_receive (core_of probe.old).flag (core_of probe.old).flag_up;
-    } }
+    ensures rest { result ≡ done → is_taken_back (core_of probe.old) stamp.now ≡ false
+        → core_of probe.new ≡ record (core_of probe.old) {
+          clock = (core_of probe.new).clock;
+          flag_up = is_up_after_receive (core_of probe.old).flag (core_of probe.old).flag_up;
+        } }
     ensures holds { HoldsProbe probe.old → HoldsProbe probe.new }
     ensures refused { result ≢ done → probe.new ≡ probe.old }
 {
@@ -302,13 +318,16 @@ pub extern "C" fn wcp_probe_receive(probe: &mut WcpProbe, stamp: &WcpStamp) -> u
     let Some(clock) = stamp.clock() else {
         return NO_STAMP;
     };
-    if let Err(why) = core.receive(stamp.watch, stamp.to, &clock) {
-        return refusal_number(why);
+    match stamp.receive_by(&mut core, &clock) {
+        Ok(true) => {
+            let parts = core.parts();
+            probe.set_clock(&parts.clock);
+            probe.flag_up = u32::from(parts.flag_up);
+            DONE
+        }
+        Ok(false) => DONE,
+        Err(why) => refusal_number(why),
     }
-    let parts = core.parts();
-    probe.set_clock(&parts.clock);
-    probe.flag_up = u32::from(parts.flag_up);
-    DONE
 }
 
 /// Gives the pending note with this tag, if there is one, to be sent to the checker; it then is no longer pending.
