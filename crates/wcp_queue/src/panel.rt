@@ -7,13 +7,8 @@ ghost use Rattle.wcp_clock.specs.Notes.{is_close, is_lost};
 ghost use Rattle.wcp_clock.specs.declared.note.Item.{Item};
 ghost use Rattle.wcp_model.specs.Cut.{Intervals, interval_of};
 ghost use Rattle.wcp_model.specs.Watched.{AreSomeWatched};
-<<<<<<< HEAD
-ghost use Rattle.wcp_model.specs.ReportByClocks.{ClocksRise, IsReportByClocks};
-ghost use Rattle.wcp_model.specs.Report.{clocks_taken, notes_taken};
-=======
-ghost use Rattle.wcp_model.specs.ReportByClocks.{ClocksRise, IsReportByClocks};
 ghost use Rattle.wcp_model.specs.Report.{IsNamed, clocks_taken, notes_taken};
->>>>>>> helper-q
+ghost use Rattle.wcp_model.specs.ReportByClocks.{ClocksRise, IsReportByClocks};
 ghost use Rattle.wcp_model.specs.declared.outcome.Report.TheVariants.{Nothing};
 
 use crate::checker::Checker;
