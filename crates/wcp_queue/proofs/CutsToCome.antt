@@ -2,7 +2,8 @@
 use Rattle.wcp_queue.proofs.Words.{◌≡◌, ℕ, ◌<◌, ◌≤◌, true, false, Some, None, List, [], ◌++◌, length}
 use Rattle.wcp_queue.proofs.Words.{get_or, slice_index, sym, ◌∙◌, ap, subst, arith, inl, inr, map, map-append}
 use Rattle.wcp_queue.proofs.Words.{get_or_append_left, get_or_default, length-drop, cases_Bool, IfSome, NumberSet, Item}
-use Rattle.wcp_queue.proofs.Words.{Intervals, interval_of, IsWatched, members_of, row_of, known_of, rows_of, clocks_taken}
+use Rattle.wcp_queue.proofs.Words.{Intervals, interval_of, IsWatched, members_of, row_of, known_of, rows_of}
+use Rattle.wcp_queue.proofs.Words.{clocks_taken}
 use Rattle.wcp_queue.proofs.Words.{IsCutByClocks, ClocksRise, GrowTo, IsEliminatedBelow, candidate, Contains-get_or}
 use Rattle.wcp_queue.proofs.Words.{Floor, component, has_head, AreLeft, queue_of, CheckerState, StandsForItems}
 use Rattle.wcp_queue.proofs.Words.{IsSoundChecker, IsFoundAmong, true≢false}

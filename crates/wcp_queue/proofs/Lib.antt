@@ -8,4 +8,5 @@ pub mod FoundCuts
 pub mod StandingForItems
 pub mod SoundCheckers
 pub mod CutsToCome
+pub mod ListedPairs
 pub mod Panels

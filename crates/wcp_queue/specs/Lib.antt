@@ -4,5 +4,6 @@ pub mod CheckerView
 pub mod Choices
 pub mod Elimination
 pub mod Floor
+pub mod Pairs
 pub mod Panel
 pub mod Rows

@@ -20,6 +20,7 @@
 mod checker;
 mod elimination;
 mod floor;
+mod pairs;
 mod panel;
 mod question;
 mod queue;

@@ -12,6 +12,7 @@ ghost use Rattle.wcp_model.specs.ReportByClocks.{ClocksRise, IsReportByClocks};
 ghost use Rattle.wcp_model.specs.declared.outcome.Report.TheVariants.{Nothing};
 
 use crate::checker::Checker;
+use crate::pairs::{number_of_pair, pairs_of};
 use crate::question::take_each;
 use std::alloc::{AllocError, Global};
 use std::marker::Model;
@@ -48,6 +49,7 @@ impl Panel {
     ghost use Rattle.wcp_queue.specs.Checker.{processes, taken_of, closed_of, lost_of, report_of, StandsForItems};
     ghost use Rattle.wcp_queue.specs.Checker.{IsReportOfAnyClocks, IsReportOfStarved};
     ghost use Rattle.wcp_queue.specs.Candidates.{first_candidate, AreAllBelow, IsCutToCome};
+    ghost use Rattle.wcp_queue.specs.Pairs.{pair_number, ArePairs};
     ghost use Rattle.wcp_queue.specs.Panel.{question_at, watched_by, StandForItems, MayAllTake, EachTakes};
 
     /// A panel of `n` processes that has taken nothing, with a question for each of these sets of
@@ -68,6 +70,31 @@ impl Panel {
         Ok(Panel {
             questions: checkers,
         })
+    }
+
+    /// A panel of two or more processes that has taken nothing, with a question for each pair of them,
+    /// in order: (0, 1), (0, 2), .., (1, 2), .. `Err` where memory runs out.
+    pub fn pairs(alloc: Global, n: u32) -> Result<Panel, AllocError>
+        requires several { 1 < n }
+        requires few { n ≤ most_processes }
+        ensures questions { IfOk result (λ panel. ArePairs n (watched_by panel)) }
+        ensures processes { IfOk result (λ panel. All (λ checker. processes checker ≡ n) panel) }
+        ensures empty { IfOk result (λ panel. StandForItems panel []) }
+        ensures not_starved { IfOk result (λ panel. All (λ checker. checker.starved ≡ false) panel) }
+    {
+        let questions = pairs_of(alloc, n)?;
+        Panel::new(alloc, n, &questions)
+    }
+
+    /// The number of the question of a pair of processes, `a` less than `b`, in a panel of all pairs of
+    /// `n` processes.
+    pub fn question_of_pair(n: u32, a: u32, b: u32) -> usize
+        requires few { n ≤ most_processes }
+        requires order { a < b }
+        requires within { b < n }
+        ensures { result ≡ pair_number n a b }
+    {
+        number_of_pair(n, a, b) as usize
     }
 
     /// How many questions there are. They are numbered from 0.

@@ -13,5 +13,6 @@ loop-question-preserved c =
       below = below_more c.args.questions.now now c.args.item.now place _ c.take_or_starve.new.checker (omega arith)
           (get_or_default now place no_question c.index-questions-question.result (omega arith)) old.below old.above
           c.take_or_starve.ensures;
-      above = λ k past. get_or-set_other now place k c.take_or_starve.new.checker _ (omega arith) ∙ old.above k (omega arith);
+      above = λ k past. get_or-set_other now place k c.take_or_starve.new.checker _ (omega arith)
+          ∙ old.above k (omega arith);
     }

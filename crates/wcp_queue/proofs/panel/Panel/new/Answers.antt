@@ -20,7 +20,8 @@ loop-watched-preserved c =
           (omega arith) c.watched-item.is new.watched old.watched;
       processes = All-push (λ (one : CheckerState). processes one ≡ c.args.n) panel checker old.processes new.processes;
       empty = All-push (λ (one : CheckerState). StandsForItems one []) panel checker old.empty new.empty;
-      not_starved = All-push (λ (one : CheckerState). one.starved ≡ false) panel checker old.not_starved new.not_starved;
+      not_starved = All-push (λ (one : CheckerState). one.starved ≡ false) panel checker old.not_starved
+          new.not_starved;
     })
 
 pub invariant_of-result : goal.invariant_of-result
