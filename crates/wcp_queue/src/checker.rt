@@ -11,10 +11,12 @@ ghost use Rattle.wcp_queue.specs.Rows.{cut_of, known_of, members_of, row_of};
 ghost use Rattle.wcp_model.specs.Report.{ClocksRise, IsReportByClocks, clocks_taken, notes_taken};
 
 mod candidates;
+mod parts;
 
 use crate::elimination::add_candidate;
 use crate::floor::Floor;
 use crate::queue::Queues;
+pub use parts::CheckerParts;
 use std::alloc::{AllocError, Global};
 use std::marker::Model;
 use wcp_clock::{Clock, Item, MAX_PROCS, Note, PerProcess};
