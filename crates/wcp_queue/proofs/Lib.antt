@@ -9,4 +9,5 @@ pub mod StandingForItems
 pub mod SoundCheckers
 pub mod CutsToCome
 pub mod ListedPairs
+pub mod SoundParts
 pub mod Panels

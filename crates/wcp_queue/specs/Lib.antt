@@ -6,4 +6,5 @@ pub mod Elimination
 pub mod Floor
 pub mod Pairs
 pub mod Panel
+pub mod Parts
 pub mod Rows

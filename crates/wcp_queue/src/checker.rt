@@ -12,10 +12,12 @@ ghost use Rattle.wcp_model.specs.ReportByClocks.{ClocksRise, IsReportByClocks};
 ghost use Rattle.wcp_model.specs.Report.{clocks_taken, notes_taken};
 
 mod candidates;
+mod parts;
 
 use crate::elimination::add_candidate;
 use crate::floor::Floor;
 use crate::queue::Queues;
+pub use parts::CheckerParts;
 use std::alloc::{AllocError, Global};
 use std::marker::Model;
 use wcp_clock::{Clock, Item, MAX_PROCS, Note, PerProcess};

@@ -78,7 +78,7 @@ fn eliminate(queues: &mut Queues, floor: &mut Floor)
 }
 
 /// The first process that has no head while a snapshot of it waits.
-fn first_to_compare(queues: &Queues, floor: &Floor) -> Option<usize>
+pub fn first_to_compare(queues: &Queues, floor: &Floor) -> Option<usize>
     requires { length queues.now ≤ most_processes }
     ensures none { IfNone result (AreStable queues.now floor.now) }
     ensures within { IfSome result (λ p. p < length queues.now) }

@@ -10,9 +10,9 @@ use wcp_clock::{Clock, MAX_PROCS, PerProcess};
 /// process has a head, its own component is the floor's.
 #[derive(Clone, Copy, Debug)]
 pub struct Floor {
-    components: [u32; MAX_PROCS],
-    heads: [bool; MAX_PROCS],
-    tests: u64,
+    pub(crate) components: [u32; MAX_PROCS],
+    pub(crate) heads: [bool; MAX_PROCS],
+    pub(crate) tests: u64,
 }
 
 impl Floor {

@@ -11,6 +11,8 @@
 //! for each snapshot taken, and 0 for one process.
 //! `first_candidate` is the earliest snapshot of a process that may still be in the cut: no cut that comes as more is
 //! taken has an earlier one.
+//! A checker can be taken apart into plain values and made again of them, equal to what it was; parts that break what
+//! is true of every checker are refused.
 //!
 //! `Panel`, several checkers of the same snapshots, each for watched processes of its own: each takes every item,
 //! whatever becomes of the others, and its report is that of a checker alone. One that has no memory for an item is
@@ -24,6 +26,7 @@ mod pairs;
 mod panel;
 mod question;
 mod queue;
+mod sound;
 
-pub use checker::Checker;
+pub use checker::{Checker, CheckerParts};
 pub use panel::Panel;

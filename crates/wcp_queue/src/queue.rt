@@ -1,5 +1,5 @@
 ghost use Rattle.std.specs.Prelude.{◌≡◌, ◌==◌, ◌+◌, ◌^◌, ◌<◌, ◌↔◌, [], ◌∷◌, ◌++◌, length, drop, replicate, slice_get};
-ghost use Rattle.std.specs.Prelude.{slice_set, IfOk, IsTrue, OnOk, OnErr, Some};
+ghost use Rattle.std.specs.Prelude.{map, slice_set, IfOk, IsTrue, OnOk, OnErr, Some};
 ghost use Rattle.wcp_queue.specs.Elimination.{queue_of, waiting_in};
 
 use circular_buffer::HeapCircularBuffer;
@@ -36,6 +36,24 @@ impl Queue {
         Ok(Queue {
             waiting: HeapCircularBuffer::with_capacity(alloc, FIRST_ROOM)?,
         })
+    }
+
+    /// A queue of these clocks, the oldest first. `Err` where memory runs out.
+    pub fn of(alloc: Global, clocks: &[Clock]) -> Result<Queue, AllocError>
+        ensures { IfOk result (λ queue. queue ≡ clocks.now) }
+    {
+        let mut queue = Queue::new(alloc)?;
+        for clock in clocks {
+            queue.push(clock)?;
+        }
+        Ok(queue)
+    }
+
+    /// The clocks that wait, the oldest first. `Err` where memory runs out.
+    pub fn to_vec(&self, alloc: Global) -> Result<Vec<Clock>, AllocError>
+        ensures { IfOk result (λ clocks. clocks.items ≡ self.now) }
+    {
+        self.waiting.to_vec(alloc)
     }
 
     /// Adds a snapshot at the end; a full queue doubles its room. `Err` where memory runs out.
@@ -106,6 +124,38 @@ impl Queues {
             queues.push(Queue::new(alloc)?)?;
         }
         Ok(Queues { queues, waiting: 0 })
+    }
+
+    /// A queue of each row of clocks, the oldest of it first. `Err` where memory runs out.
+    pub fn of(alloc: Global, rows: &[Vec<Clock>]) -> Result<Queues, AllocError>
+        ensures { IfOk result (λ queues. queues ≡ map (λ row. row.items) rows.now) }
+    {
+        let mut queues = Vec::with_capacity(alloc, rows.len())?;
+        let mut waiting: u64 = 0;
+        for row in rows {
+            queues.push(Queue::of(alloc, row)?)?;
+            let more = row.len() as u64;
+            waiting = waiting.checked_add(more).ok_or(AllocError)?; // no memory holds so many
+        }
+        Ok(Queues { queues, waiting })
+    }
+
+    /// The clocks that wait in each, the oldest first. `Err` where memory runs out.
+    pub fn to_rows(&self, alloc: Global) -> Result<Vec<Vec<Clock>>, AllocError>
+        ensures { IfOk result (λ rows. map (λ row. row.items) rows.items ≡ self.now) }
+    {
+        let mut rows = Vec::with_capacity(alloc, self.queues.len())?;
+        for queue in &self.queues {
+            rows.push(queue.to_vec(alloc)?)?;
+        }
+        Ok(rows)
+    }
+
+    /// How many snapshots wait.
+    pub fn waiting(&self) -> u64
+        ensures { result ≡ waiting_in self.now }
+    {
+        self.waiting
     }
 
     /// How many queues there are.
