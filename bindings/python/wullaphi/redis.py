@@ -1,0 +1,197 @@
+"""Stations over Redis Streams: for processes on many machines, which may be killed and started again.
+
+Each process has a stream of its notes. `open_station` gives its station, which goes on where an earlier one of the
+process ended; `wcpcollect` takes the streams to the checker. It needs the package `redis` (Debian: python3-redis):
+
+    watch = wullaphi.Watch(42, ["api", "worker1"])
+    station = wullaphi.redis.open_station("redis://localhost", watch, "api")
+    with station.step() as pipe:        # one MULTI: all of it is done, or nothing
+        pipe.set("api:state", state)    # what the program keeps
+        pipe.xadd("worker1:inbox", {"stamp": station.stamp("worker1"), "order": order})
+
+Where the connection is lost, or the server was started anew, a call raises `Interrupted`: nobody knows whether the
+step was done, and the server may have lost earlier ones. What the server has counts, so the program calls
+`station.resume()`, reads what it keeps there again, and goes on; or it ends, and is started again.
+"""
+
+import threading
+import uuid
+from typing import Any, List, Optional, Sequence, Tuple
+
+from ._library import RawProbe
+from ._line import Keys, Line, Unreachable, Word, client_of, last_number, names_of, package
+from ._note import Note
+from ._watch import Process, Watch
+from .station import Station
+from .transport import Interrupted, TakenOver, Transport
+
+__all__ = ["open_station", "forget", "RedisTransport", "Spoilt"]
+
+
+class Spoilt(Exception):
+    """What the server holds of the watch doesn't fit together. Give the next run a number of its own."""
+
+
+def open_station(url: str, watch: Watch, process: Process, watched: bool = True, flag_of_sends: bool = False,
+                 batch: int = 1, beat: Optional[float] = 1.0) -> Station:
+    """The station of a process over the server at `url`. An earlier station of the process is `TakenOver`.
+
+    `beat` says after how many seconds each it shows that the process is alive; None: it doesn't. The other words are
+    those of `Station`.
+    """
+    return Station(watch, process, RedisTransport(url, watch, process, watched, beat), watched, flag_of_sends, batch)
+
+
+def forget(url: str, watch: Watch) -> None:
+    """Deletes all that the server holds of a watch, once no station and no collector needs it."""
+    keys = Keys(watch.number)
+    each = [key(process) for key in (keys.notes, keys.probe, keys.owner, keys.beat)
+            for process in range(watch.processes)]
+    client_of(url).delete(keys.names, keys.conditions, *each)
+
+
+class RedisTransport(Transport):
+    """Notes go to a stream of the process, and its probe beside it. `client` is for what the program reads itself."""
+
+    def __init__(self, url: str, watch: Watch, process: Process, watched: bool = True,
+                 beat: Optional[float] = 1.0) -> None:
+        self.client = client_of(url)
+        self._watch = watch
+        self._process = watch.number_of(process)
+        self._is_watched = watched
+        self._keys = Keys(watch.number)
+        self._beat = beat and _Beat(client_of(url), self._keys.beat(self._process), beat)
+        self._line: Optional[Line] = None
+        self._token = b""
+        self._is_newest = False
+        self._commands: List[Tuple[Word, ...]] = []
+        self._writes: Any = None
+
+    def load(self) -> Optional[bytes]:
+        """The probe as the server has it, over a new connection. From here on this is the station of the process."""
+        if self._line:
+            self._line.close()
+        try:
+            line = self._line = Line(self.client)
+            self.run = line.run
+            self._agree(line)
+            probe = self._claim(line)
+        except Unreachable as error:
+            raise Interrupted(str(error)) from error
+        if self._beat:
+            self._beat.begin()
+        return probe
+
+    def _agree(self, line: Line) -> None:
+        """The names of the watch are those that the server has, or it is given them."""
+        names = [str(self._watch.name_of(process)) for process in range(self._watch.processes)]
+        held = names_of(line.ask(("WATCH", self._keys.names), ("HGETALL", self._keys.names))[1])
+        if held is None:
+            told = [word for number, name in enumerate(names) for word in (str(number), name)]
+            _raise_first(line.ask(("MULTI",), ("HSET", self._keys.names, *told), ("EXEC",)))
+            held = names_of(line.ask(("HGETALL", self._keys.names))[0])
+        if held != names:
+            raise Spoilt(f"the processes of watch {self._watch.number} are {held} on the server, and not {names}")
+
+    def _claim(self, line: Line) -> Optional[bytes]:
+        """Makes this the newest station of the process, and reads its probe."""
+        me, keys = self._process, self._keys
+        self._token = uuid.uuid4().hex.encode()
+        replies = line.ask(("MULTI",), ("HSET", keys.conditions, me, int(self._is_watched)),
+                           ("SET", keys.owner(me), self._token), ("EXEC",), ("WATCH", keys.owner(me)),
+                           ("GET", keys.owner(me)), ("GET", keys.probe(me)), ("XINFO", "STREAM", keys.notes(me)))
+        _raise_first(replies[:-1])
+        owner, probe, about = replies[-3:]
+        self._is_newest = owner == self._token
+        self._need_newest()
+        ended = last_number(about)
+        told = _notes_of(probe)
+        if ended != told:
+            raise Spoilt(f"{self._watch.name_of(me)} has {ended} notes in its stream, and {told} by its probe")
+        return bytes(probe) if probe is not None else None
+
+    def begin(self) -> Any:
+        self._need_newest()
+        self._commands = []
+        self._writes = self.client.pipeline(transaction=True)
+        return self._writes
+
+    def put(self, notes: Sequence[Note]) -> None:
+        stream = self._keys.notes(self._process)
+        self._commands += [("XADD", stream, f"{note.number + 1}-0", "note", bytes(note)) for note in notes]
+
+    def save(self, probe: bytes) -> None:
+        self._commands.append(("SET", self._keys.probe(self._process), probe))
+
+    def commit(self) -> None:
+        """Makes one MULTI of it all, which the server refuses if there is a newer station."""
+        assert self._line is not None
+        owner = self._keys.owner(self._process)
+        commands = self._commands + [words for words, _ in self._writes.command_stack]
+        try:
+            replies = self._line.ask(("MULTI",), *commands, ("EXEC",), ("WATCH", owner), ("GET", owner))
+        except Unreachable as error:
+            raise Interrupted(str(error)) from error
+        _raise_first(replies)
+        done, _, newest = replies[-3:]
+        self._is_newest = done is not None and newest == self._token
+        if done is None:
+            self._need_newest()
+        _raise_first(done)
+
+    def check(self) -> None:
+        assert self._line is not None
+        try:
+            self._line.ask(("PING",))
+        except Unreachable as error:
+            raise Interrupted(str(error)) from error
+
+    def close(self) -> None:
+        if self._beat:
+            self._beat.end()
+        if self._line:
+            self._line.close()
+
+    def _need_newest(self) -> None:
+        if not self._is_newest:
+            raise TakenOver(TakenOver.__doc__)
+
+
+class _Beat:
+    """Shows that the process is alive, by a number that rises."""
+
+    def __init__(self, client: Any, key: str, seconds: float) -> None:
+        self._client, self._key, self._seconds = client, key, seconds
+        self._has_ended = threading.Event()
+        self._thread: Optional[threading.Thread] = None
+
+    def begin(self) -> None:
+        if self._thread is None:
+            self._thread = threading.Thread(target=self._run, name="wullaphi beat", daemon=True)
+            self._thread.start()
+
+    def _run(self) -> None:
+        while not self._has_ended.is_set():
+            try:
+                self._client.incr(self._key)
+            except package().RedisError:
+                pass  # the next one may come through
+            self._has_ended.wait(self._seconds)
+
+    def end(self) -> None:
+        self._has_ended.set()
+
+
+def _raise_first(replies: Sequence[Any]) -> None:
+    """Raises the first reply that is an error."""
+    for reply in replies:
+        if isinstance(reply, Exception):
+            raise reply
+
+
+def _notes_of(probe: Optional[bytes]) -> int:
+    """How many notes a saved probe has given."""
+    if probe is None:
+        return 0
+    raw = RawProbe.from_buffer_copy(probe)
+    return int(raw.emitted) + int(raw.closed)
