@@ -30,7 +30,7 @@ class Line:
     def __init__(self, client: Any) -> None:
         self._exceptions = package().exceptions
         self._connection: Any = client.connection_pool.make_connection()
-        self._is_open = True
+        self.is_open = True
         about = text(self.ask(("INFO", "server"), is_first=True)[0])
         self.run = about.partition("run_id:")[2].partition("\r\n")[0]
         if not self.run:
@@ -39,7 +39,7 @@ class Line:
 
     def ask(self, *commands: Tuple[Word, ...], is_first: bool = False) -> List[Any]:
         """Sends these commands at once. The answer has the reply to each; a reply that is an error is an exception."""
-        if not self._is_open or not (is_first or self._connection._sock):
+        if not self.is_open or not (is_first or self._connection._sock):
             self.close()
             raise Unreachable("the connection was lost")
         try:
@@ -60,7 +60,7 @@ class Line:
 
     def close(self) -> None:
         """Ends the connection; each later call is `Unreachable`."""
-        self._is_open = False
+        self.is_open = False
         self._connection.disconnect()
 
 

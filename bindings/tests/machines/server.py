@@ -1,5 +1,6 @@
 """A Redis server of a test's own: on a free port, in a folder of its own, and killed and started again at will. And the
 checks of a test, which are counted."""
+import contextlib
 import os
 import pathlib
 import shutil
@@ -83,6 +84,28 @@ class Server:
     def __exit__(self, *_):
         self.kill()
         shutil.rmtree(self.folder)
+
+
+@contextlib.contextmanager
+def collector(server, *words):
+    """A call of `wcpcollect` that runs. It is over at the end of the block, whatever happens there."""
+    with subprocess.Popen([sys.executable, "-m", "wullaphi.wcpcollect", "--redis", server.url, *map(str, words)],
+                          env={**os.environ, "PYTHONPATH": str(TOP / "bindings" / "python")},
+                          stdout=subprocess.PIPE, stderr=subprocess.PIPE, text=True) as call:
+        try:
+            yield call
+        finally:
+            call.kill()
+
+
+def collected(server, *words):
+    """The status of a call of `wcpcollect`, what it prints, and what it says."""
+    with collector(server, *words) as call:
+        try:
+            output, errors = call.communicate(timeout=SECONDS)
+        except subprocess.TimeoutExpired:
+            return "hung", [], ""
+    return call.returncode, output.splitlines(), errors
 
 
 class Checks:
