@@ -128,6 +128,13 @@ class Station:
         with self._call():
             self._settle(at_once=True)
 
+    def check(self) -> None:
+        """Raises `Interrupted` where the connection was lost: for a process that waits for messages, now and then. Else
+        it would not learn that the server has lost what it did before, and may be waiting for what it has to do again.
+        """
+        with self._call():
+            self._check()
+
     @contextmanager
     def step(self) -> Iterator[Any]:
         """Makes one step of all calls in the block, and of what the program writes by what the block is given, as a
