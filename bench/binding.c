@@ -1,5 +1,7 @@
 /* Makes the calls of `bench_calls probe` from C, in the same order: `binding WORD CALLS`, where the word is observe,
- * stamp, receive or note (a stamp, an observation that emits, and the taking of its note).
+ * stamp, receive or note (a stamp, an observation that emits, and the taking of its note). Two more words make a
+ * checker's calls: take (notes of all processes but the last, so that no cut is found), and report (the same, and what
+ * each note tells).
  * Build: cc -O2 -o binding bench/binding.c bindings/out/libwullaphi.a */
 #include "../bindings/wullaphi.h"
 
@@ -12,6 +14,8 @@
 
 static wcp_probe probes[PROCS];
 static uint32_t state = 1;
+static wcp_checker checker = WCP_CHECKER_NONE;
+static unsigned long refused;
 
 static uint32_t number(void)
 {
@@ -63,7 +67,25 @@ static void note(void)
     pair(&process, &other);
     (void)wcp_probe_stamp(&probes[process], other, &made);
     (void)wcp_probe_observe(&probes[process], 1);
-    (void)wcp_probe_next(&probes[process], &given);
+    (void)wcp_probe_next(&probes[process], 0, &given);
+}
+
+static void take(void)
+{
+    uint32_t process = number() % (PROCS - 1);
+    uint32_t other = PROCS - 1;
+    wcp_stamp made;
+    wcp_note given;
+    (void)wcp_probe_stamp(&probes[process], other, &made);
+    (void)wcp_probe_observe(&probes[process], 1);
+    (void)wcp_probe_next(&probes[process], 0, &given);
+    refused += wcp_checker_take(&checker, &given) != WCP_DONE;
+}
+
+static void report(void)
+{
+    take();
+    refused += wcp_checker_report(&checker) != WCP_UNDECIDED;
 }
 
 int main(int words, char **word)
@@ -71,7 +93,8 @@ int main(int words, char **word)
     static const struct {
         const char *word;
         void (*call)(void);
-    } calls[] = {{"observe", observe}, {"stamp", stamp}, {"receive", receive}, {"note", note}};
+    } calls[] = {{"observe", observe}, {"stamp", stamp}, {"receive", receive}, {"note", note},
+               {"take", take}, {"report", report}};
     unsigned long rounds = words > 2 ? strtoul(word[2], NULL, 10) : 0;
     unsigned long round;
     unsigned long long events = 0;
@@ -83,6 +106,7 @@ int main(int words, char **word)
     for (p = 0; p < PROCS; p++) {
         (void)wcp_probe_init(&probes[p], 0, p, PROCS);
     }
+    (void)wcp_checker_new(&checker, 0, PROCS);
     for (which = 0; which < sizeof calls / sizeof *calls; which++) {
         if (words > 1 && strcmp(word[1], calls[which].word) == 0) {
             start = clock();
@@ -99,6 +123,7 @@ int main(int words, char **word)
         }
         emitted += probes[p].emitted;
     }
-    printf("known %llu emitted %llu\n", events, emitted);
-    return 0;
+    (void)wcp_checker_end(&checker);
+    printf("known %llu emitted %llu refused %lu\n", events, emitted, refused);
+    return refused > 0;
 }

@@ -104,6 +104,8 @@ class Note(bytes):
         told = "is_last=True" if self.is_last else f"clock={self.clock}"
         return f"Note(watch={self.watch}, process={self.process}, number={self.number}, {told}, tag={self.tag})"
 
+    __str__ = __repr__
+
 
 def is_last(note: bytes) -> bool:
     """Whether this is the last note of its process: that it is closed, or lost.

@@ -38,21 +38,21 @@ IsFoundAmong-same n rows others cut same =
     IsFoundAmong-grown n rows others cut (λ p p_within. ([], same p p_within ∙ sym (append-nil (rows p))))
 
 module _ (n : ℕ) (watched : NumberSet) (items : List Item) where
-  abbrev members : List ℕ
+  abbrev pub members : List ℕ
   members = members_of n watched
 
-  abbrev rows : ℕ → List (List ℕ)
+  abbrev pub rows : ℕ → List (List ℕ)
   rows = rows_of members items
 
   -- the clock at a place of the row of a process
-  abbrev clock_at : ℕ → ℕ → List ℕ
+  abbrev pub clock_at : ℕ → ℕ → List ℕ
   clock_at p i = get_or (clocks_taken p items) i []
 
-  length-row : (row : ℕ) → length (rows row) ≡ length (clocks_taken (slice_index members row) items)
+  pub length-row : (row : ℕ) → length (rows row) ≡ length (clocks_taken (slice_index members row) items)
   length-row row = length-map (clocks_taken (slice_index members row) items) (known_of members)
 
   -- a candidate says of the process of a row what its clock says
-  candidate_knows : (row i other : ℕ) → i < length (rows row) → other < length members
+  pub candidate_knows : (row i other : ℕ) → i < length (rows row) → other < length members
       → slice_index (get_or (rows row) i []) other ≡ slice_index (clock_at (slice_index members row) i)
       (slice_index members other)
   candidate_knows row i other below within =
@@ -102,7 +102,7 @@ module _ (n : ℕ) (watched : NumberSet) (items : List Item) where
     }
 
   -- clocks that never fall keep the order of candidates
-  rows_in_order : ClocksRise n items → AreInOrder (length members) rows
+  pub rows_in_order : ClocksRise n items → AreInOrder (length members) rows
   rows_in_order order = record {
     later = λ p q i j k p_within q_within apart i_within j_le k_within before.
         let of_q = slice_index members q in
@@ -118,11 +118,11 @@ module _ (n : ℕ) (watched : NumberSet) (items : List Item) where
   }
 
   -- the choice of a cut by clocks: the place of each of its snapshots
-  record IsPlaceOf (clock : ℕ → List ℕ) (row i : ℕ) : Type 0 where
-    within : i < length (rows row)
-    here : clock_at (slice_index members row) i ≡ clock (slice_index members row)
+  pub record IsPlaceOf (clock : ℕ → List ℕ) (row i : ℕ) : Type 0 where
+    pub within : i < length (rows row)
+    pub here : clock_at (slice_index members row) i ≡ clock (slice_index members row)
 
-  choice_of_cut : (cut : Intervals) (is : IsCutByClocks n watched items cut)
+  pub choice_of_cut : (cut : Intervals) (is : IsCutByClocks n watched items cut)
       → (choice : ℕ → ℕ) × ((row : ℕ) → row < length members → IsPlaceOf is.clock row (choice row))
   choice_of_cut cut is = choice_from_each 0 (IsPlaceOf is.clock) (length members) (λ row below.
       let p = slice_index members row in
@@ -134,7 +134,7 @@ module _ (n : ℕ) (watched : NumberSet) (items : List Item) where
         },
       ))
 
-  is_satisfying : (cut : Intervals) (is : IsCutByClocks n watched items cut) (choice : ℕ → ℕ)
+  pub is_satisfying : (cut : Intervals) (is : IsCutByClocks n watched items cut) (choice : ℕ → ℕ)
       → ((row : ℕ) → row < length members → IsPlaceOf is.clock row (choice row))
       → IsSatisfyingChoice (length members) rows choice
   is_satisfying cut is choice places = record {
@@ -225,20 +225,20 @@ module _ (checker : CheckerState) (sound : IsSoundChecker checker) (items : List
       ∙ (let (count, before, is) = drained p (omega arith) in
       close_mark_taken (notes_taken p items) before count is))))
 
-  abbrev Candidates : List ℕ → ℕ → Option (List ℕ) → Type 0
+  abbrev pub Candidates : List ℕ → ℕ → Option (List ℕ) → Type 0
   Candidates members count found = MatchOption found
       (checker.starved ≡ false → AreLeft count (rows_of members items) checker.queues checker.floor)
       (IsFoundAmong count (rows_of members items))
 
-  abbrev watched_members : List ℕ
+  abbrev pub watched_members : List ℕ
   watched_members = members_of checker.count checker.watched
 
-  candidates : Candidates watched_members (length watched_members) checker.found
+  pub candidates : Candidates watched_members (length watched_members) checker.found
   candidates =
       let same : length checker.queues ≡ length watched_members = sound.rows ∙ ap length sound.members in
       subst₂ (λ members count. Candidates members count checker.found) sound.members same stands.candidates
 
-  found : (intervals : List ℕ) → checker.found ≡ Some intervals
+  pub found : (intervals : List ℕ) → checker.found ≡ Some intervals
       → IsFoundAmong (length watched_members) (rows_of watched_members items) intervals
   found intervals is = subst (Candidates watched_members (length watched_members)) is candidates
 

@@ -7,3 +7,5 @@ pub mod RaisedFloor
 pub mod FoundCuts
 pub mod StandingForItems
 pub mod SoundCheckers
+pub mod CutsToCome
+pub mod Panels

@@ -112,3 +112,8 @@ close_mark_in (Lost lost ∷ notes) some =
 pub close_mark_taken : (notes before : List Note) (count : ℕ) → notes ≡ before ++ Close count ∷ []
     → list_any is_close notes ≡ true
 close_mark_taken notes before count is = grind (arith, list_any-append)
+
+-- the clocks taken of a process from items and from more after them
+pub clocks_taken-append : (items more : List Item) (p : ℕ)
+    → clocks_taken p (items ++ more) ≡ clocks_taken p items ++ clocks_taken p more
+clocks_taken-append items more p = grind (arith, filter-append, map-append, snapshot_clocks-append)

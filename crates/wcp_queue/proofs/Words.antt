@@ -9,8 +9,9 @@ pub use Rattle.std.proofs.lemmas.Grind.{common_steps}
 pub use Rattle.std.proofs.lemmas.List.{length-append, get_or-set_same, get_or-set_other, get_or-replicate}
 pub use Rattle.std.proofs.lemmas.List.{length-replicate, map-append, append-nil, get_or_default, get_or-take}
 pub use Rattle.std.proofs.lemmas.List.{length-take-le, drop-append-le, length-drop, drop-drop, append_assoc}
-pub use Rattle.std.proofs.lemmas.List.{get_or_append_left, length-set, get_or-map, length-map, map_push}
-pub use Rattle.std.proofs.lemmas.List.Elements.{filter-append, Contains-get_or, All-from_get_or}
+pub use Rattle.std.proofs.lemmas.List.{get_or_append_left, length-set, get_or-map, length-map, map_push, same_lists}
+pub use Rattle.std.proofs.lemmas.List.{take-append-le, take_all, take_more}
+pub use Rattle.std.proofs.lemmas.List.Elements.{filter-append, Contains-get_or, All-from_get_or, All-push}
 pub use Rattle.std.proofs.lemmas.List.Folds.{list_any-append, sum_by-replicate}
 pub use Rattle.std.proofs.lemmas.List.Sums.{sum_by-set, sum_by_push, AllPass-from_list_all, list_all-from_AllPass}
 pub use Rattle.std.proofs.lemmas.List.Sums.{sum_by-le}

@@ -1,5 +1,5 @@
 use Rattle.std.specs.Prelude.{◌≡◌, ◌≢◌, ℕ, ◌<◌, ◌≤◌, max, Bool, true, false, List, length, replicate, slice_index}
-use Rattle.std.specs.Prelude.{slice_index_or}
+use Rattle.std.specs.Prelude.{slice_index_or, Option, Some, None, if◌then◌else◌}
 use Rattle.wcp_clock.specs.Limits.{most_processes}
 use Rattle.wcp_queue.specs.declared.floor.Floor.{Floor}
 
@@ -9,6 +9,10 @@ component floor p = slice_index floor.components p
 
 abbrev pub has_head : Floor → ℕ → Bool
 has_head floor p = slice_index_or floor.heads p false
+
+-- The interval of the head of process p, if it has one.
+abbrev pub head_of : Floor → ℕ → Option ℕ
+head_of floor p = if has_head floor p then Some (component floor p) else None
 
 -- The floor before there was a head.
 abbrev pub first_floor : Floor

@@ -10,6 +10,8 @@ ghost use Rattle.wcp_model.specs.Watched.{AreSomeWatched};
 ghost use Rattle.wcp_queue.specs.Rows.{cut_of, known_of, members_of, row_of};
 ghost use Rattle.wcp_model.specs.Report.{ClocksRise, IsReportByClocks, clocks_taken, notes_taken};
 
+mod candidates;
+
 use crate::elimination::add_candidate;
 use crate::floor::Floor;
 use crate::queue::Queues;

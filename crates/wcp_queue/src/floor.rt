@@ -1,7 +1,7 @@
 ghost use Rattle.std.specs.Prelude.{◌≡◌, ◌↔◌, ◌+◌, ◌^◌, ◌<◌, ◌≤◌, ℕ, true, false, nat_lt, slice_index};
 ghost use Rattle.std.specs.Prelude.{IsTrue, if◌then◌else◌};
 ghost use Rattle.wcp_clock.specs.Limits.{most_processes};
-ghost use Rattle.wcp_queue.specs.Floor.{component, has_head, first_floor, HaveHeads, IsCutOfHeads, IsSameBut};
+ghost use Rattle.wcp_queue.specs.Floor.{component, has_head, head_of, first_floor, HaveHeads, IsCutOfHeads, IsSameBut};
 ghost use Rattle.wcp_queue.specs.Floor.{Rises, RisesTo};
 
 use wcp_clock::{Clock, MAX_PROCS, PerProcess};
@@ -33,6 +33,14 @@ impl Floor {
         ensures { result ≡ has_head self.now p }
     {
         self.heads[p]
+    }
+
+    /// The interval of the head of process `p`, if it has one.
+    pub fn head(&self, p: usize) -> Option<u32>
+        requires { p < most_processes }
+        ensures { result ≡ head_of self.now p }
+    {
+        self.heads[p].then_some(self.components[p])
     }
 
     /// How many component tests were made.

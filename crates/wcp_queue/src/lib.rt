@@ -9,11 +9,20 @@
 //! stays. A checker that was starved takes each item without
 //! memory and counts it; its report is the cut found before, or undecided. `tests` is at most the number of processes
 //! for each snapshot taken, and 0 for one process.
+//! `first_candidate` is the earliest snapshot of a process that may still be in the cut: no cut that comes as more is
+//! taken has an earlier one.
+//!
+//! `Panel`, several checkers of the same snapshots, each for watched processes of its own: each takes every item,
+//! whatever becomes of the others, and its report is that of a checker alone. One that has no memory for an item is
+//! starved, and takes it then; it is never starved once it is done searching, nor at a mark that ends a process.
 #![tactic(auto)]
 
 mod checker;
 mod elimination;
 mod floor;
+mod panel;
+mod question;
 mod queue;
 
 pub use checker::Checker;
+pub use panel::Panel;
