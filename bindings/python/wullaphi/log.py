@@ -44,7 +44,7 @@ class HostLog:
     """
 
     def __init__(self, host: str, out: Sink) -> None:
-        self.host = host
+        self.name = host
         self._clock = {host: 0}
         self._lock = threading.RLock()
         self._write = _writer(out)
@@ -75,8 +75,8 @@ class HostLog:
         """
         told = _clock_of(header)
         with self._lock:
-            if told.get(self.host, 0) > self._clock[self.host]:
-                raise Ahead(f"The clock knows of events that {self.host} has not made: is the name used twice?")
+            if told.get(self.name, 0) > self._clock[self.name]:
+                raise Ahead(f"The clock knows of events that {self.name} has not made: is the name used twice?")
             self._log(text, {name: max(told.get(name, 0), self._clock.get(name, 0)) for name in {**self._clock, **told}})
 
     def stamp(self, to: str) -> str:
@@ -98,17 +98,17 @@ class HostLog:
         """Counts an event and writes its line. Where the line is refused nothing is counted; where the writing fails
         the event is counted, and its line may be missing, which makes no later line wrong."""
         with self._lock:
-            if self._clock[self.host] == MOST_EVENTS:
+            if self._clock[self.name] == MOST_EVENTS:
                 raise ClockEnd()
-            counted = {**clock, self.host: self._clock[self.host] + 1}
-            line = f'{{"host":{_compact(self.host)},"clock":{_compact(counted)},"event":{_compact(text)}}}'
+            counted = {**clock, self.name: self._clock[self.name] + 1}
+            line = f'{{"host":{_compact(self.name)},"clock":{_compact(counted)},"event":{_compact(text)}}}'
             if len(line.encode()) > LONGEST:
                 raise ValueError("the line of the event would be longer than 65,536 bytes")
             self._clock = counted
             self._write(line)
 
     def __repr__(self) -> str:
-        return f"HostLog({self.host!r}, clock={self.clock})"
+        return f"HostLog({self.name!r}, clock={self.clock})"
 
 
 class _Handler(logging.Handler):

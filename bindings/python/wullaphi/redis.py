@@ -33,13 +33,14 @@ class Spoilt(Exception):
 
 
 def open_station(url: str, watch: Watch, process: Process, watched: bool = True, flag_of_sends: bool = False,
-                 batch: int = 1, beat: Optional[float] = 1.0) -> Station:
+                 batch: int = 1, lasts: bool = False, beat: Optional[float] = 1.0) -> Station:
     """The station of a process over the server at `url`. An earlier station of the process is `TakenOver`.
 
     `beat` says after how many seconds each it shows that the process is alive; None: it doesn't. The other words are
     those of `Station`.
     """
-    return Station(watch, process, RedisTransport(url, watch, process, watched, beat), watched, flag_of_sends, batch)
+    transport = RedisTransport(url, watch, process, watched, beat)
+    return Station(watch, process, transport, watched, flag_of_sends, batch, lasts)
 
 
 def forget(url: str, watch: Watch) -> None:

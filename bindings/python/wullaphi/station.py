@@ -13,7 +13,7 @@
 
 import threading
 from contextlib import contextmanager
-from typing import Any, Iterator, List
+from typing import Any, Iterator, List, Optional
 
 from ._note import Note
 from ._probe import Probe, from_header, to_header
@@ -43,7 +43,7 @@ class Station:
     """
 
     def __init__(self, watch: Watch, process: Process, transport: Transport, watched: bool = True,
-                 flag_of_sends: bool = False, batch: int = 1) -> None:
+                 flag_of_sends: bool = False, batch: int = 1, lasts: bool = False) -> None:
         if batch < 1:
             raise ValueError("a batch has at least one note")
         self.watch = watch
@@ -51,6 +51,7 @@ class Station:
         self.transport = transport
         self._settings = watched, flag_of_sends
         self._batch = batch
+        self._lasts = lasts
         self._lock = threading.RLock()
         self._in_step = False
         self._broken = True
@@ -74,6 +75,7 @@ class Station:
             if self._probe.process != self.process:
                 raise NoProbe("the probe that was saved is of another process")
             self._notes: List[Note] = []
+            self._holding: Optional[int] = None
             self._broken = False
 
     @property
@@ -90,9 +92,8 @@ class Station:
         """The process looks at its condition. `tag` leads back to this moment, where it is in a cut: any number below
         2 ** 64, as that of a line of a log."""
         with self._call():
-            note = self._probe.observe(holds, tag)
-            if note is not None:
-                self._notes.append(note)
+            self._observe(holds, tag)
+            self._holding = tag if holds and self._lasts else None
             self._settle()
 
     def stamp(self, to: Process) -> str:
@@ -100,6 +101,7 @@ class Station:
         one of the step's own writes, or waits until the step is done."""
         with self._call():
             header = to_header(self._probe.stamp(to))
+            self._observe_again()
             self._settle(at_once=True)
             return f"{header}.{self.transport.run}" if self.transport.run else header
 
@@ -115,6 +117,7 @@ class Station:
                 self._check()
                 raise OtherRun()
             self._probe.receive(from_header(stamp))
+            self._observe_again()
             self._settle()
 
     def close(self, tag: int = 0) -> None:
@@ -154,13 +157,13 @@ class Station:
         with self._call():
             if self._in_step:
                 raise RuntimeError("a step within a step")
-            before, notes = self._probe.to_bytes(), list(self._notes)
+            before, notes, holding = self._probe.to_bytes(), list(self._notes), self._holding
             writes = self.transport.begin()
             self._in_step = True
             try:
                 yield writes
             except BaseException:
-                self._probe, self._notes = Probe.from_bytes(before, self.watch), notes
+                self._probe, self._notes, self._holding = Probe.from_bytes(before, self.watch), notes, holding
                 raise
             finally:
                 self._in_step = False
@@ -172,6 +175,15 @@ class Station:
             if self._broken:
                 raise Interrupted(Interrupted.__doc__)
             yield
+
+    def _observe(self, holds: bool, tag: int) -> None:
+        note = self._probe.observe(holds, tag)
+        if note is not None:
+            self._notes.append(note)
+
+    def _observe_again(self) -> None:
+        if self._holding is not None:
+            self._observe(True, self._holding)
 
     def _settle(self, at_once: bool = False) -> None:
         """Makes a step of what was done, where the time has come."""

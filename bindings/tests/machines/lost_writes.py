@@ -15,6 +15,7 @@ from wullaphi.station import Interrupted
 # The file is cut as often as this in a run, each time by up to so many bytes.
 LOSSES = 6
 MOST_BYTES = 30_000
+LEAST_BYTES = 2_000
 
 
 def poll(collector, seconds=1.0):
@@ -81,8 +82,9 @@ class LosingRing(kills.Ring):
 
     def kill_one(self):
         self.kills["server"] += 1
-        size = self.server.size()
-        self.server.lose(size - self.random.randrange(1, min(size // 2, MOST_BYTES)))
+        while (size := self.server.size()) < 2 * LEAST_BYTES:
+            time.sleep(0.01)
+        self.server.lose(size - self.random.randrange(1, min(size - LEAST_BYTES, MOST_BYTES)))
         # One that had ended may have to do its last step again.
         self.start_again(ended=(None,))
         time.sleep(0.3)
@@ -93,7 +95,6 @@ def check_ring(checks, seed, wanted):
     with Server() as server:
         ring = LosingRing(server, 1, seed % 2 == 1, seed)
         try:
-            time.sleep(1.5)
             found = ring.run(LOSSES)
             again_read = sorted(collected(server, "--watch", 1, "--pairs", "--patience", 10)[1])
         finally:
