@@ -40,6 +40,13 @@ class Streams:
         self._run = "" if self._line is None else self._line.run
         self.names, self.places = [], []
 
+    def may_halve_steps(self) -> bool:
+        """Whether the server starts over a file that ends in the middle of a step. It then drops the half, but leaves the
+        step open in the file, and does the half when it is started once more."""
+        told = [table(it) for it in self.ask(("CONFIG", "GET", "appendonly"), ("CONFIG", "GET", "aof-load-truncated"))
+                if not isinstance(it, Exception)]
+        return len(told) == 2 and all("yes" in it.values() for it in told)
+
     def conditions(self) -> List[Optional[bool]]:
         """Whether each process has a condition; None for one that hasn't come yet. Nothing, before the first has."""
         names, told = self.ask(("HGETALL", self._keys.names), ("HGETALL", self._keys.conditions))

@@ -23,7 +23,7 @@ from ._line import Keys, Line, Unreachable, Word, client_of, last_number, names_
 from ._note import Note
 from ._watch import Process, Watch
 from .station import Station
-from .transport import Interrupted, TakenOver, Transport
+from .transport import Changed, Interrupted, TakenOver, Transport
 
 __all__ = ["open_station", "forget", "RedisTransport", "Spoilt"]
 
@@ -67,6 +67,7 @@ class RedisTransport(Transport):
         self._is_newest = False
         self._commands: List[Tuple[Word, ...]] = []
         self._writes: Any = None
+        self._is_watching = False
 
     def load(self) -> Optional[bytes]:
         """The probe as the server has it, over a new connection. From here on this is the station of the process."""
@@ -111,6 +112,14 @@ class RedisTransport(Transport):
             raise Spoilt(f"{self._watch.name_of(me)} has {ended} notes in its stream, and {told} by its probe")
         return bytes(probe) if probe is not None else None
 
+    def watch(self, *keys: str) -> None:
+        """The step that was begun is done only if nobody changes these keys from now on; else it is `Changed`. Read them
+        after this call, by `client`."""
+        if self._writes is None:
+            raise RuntimeError("keys are watched within a step")
+        self._ask(("WATCH", *keys))
+        self._is_watching = True
+
     def begin(self) -> Any:
         self._need_newest()
         self._commands = []
@@ -126,26 +135,34 @@ class RedisTransport(Transport):
 
     def commit(self) -> None:
         """Makes one MULTI of it all, which the server refuses if there is a newer station."""
-        assert self._line is not None
         owner = self._keys.owner(self._process)
         commands = self._commands + [words for words, _ in self._writes.command_stack]
+        self._writes, self._is_watching = None, False
+        done, _, newest = self._ask(("MULTI",), *commands, ("EXEC",), ("WATCH", owner), ("GET", owner))[-3:]
+        self._is_newest = newest == self._token
+        if done is None:
+            self._need_newest()
+            raise Changed()
+        _raise_first(done)
+
+    def abort(self) -> None:
+        owner = self._keys.owner(self._process)
+        if self._is_watching:
+            self._is_newest = self._ask(("UNWATCH",), ("WATCH", owner), ("GET", owner))[2] == self._token
+        self._writes, self._is_watching = None, False
+
+    def check(self) -> None:
+        self._ask(("PING",))
+
+    def _ask(self, *commands: Tuple[Word, ...]) -> List[Any]:
+        """The replies to these commands; the first that is an error is raised."""
+        assert self._line is not None
         try:
-            replies = self._line.ask(("MULTI",), *commands, ("EXEC",), ("WATCH", owner), ("GET", owner))
+            replies = self._line.ask(*commands)
         except Unreachable as error:
             raise Interrupted(str(error)) from error
         _raise_first(replies)
-        done, _, newest = replies[-3:]
-        self._is_newest = done is not None and newest == self._token
-        if done is None:
-            self._need_newest()
-        _raise_first(done)
-
-    def check(self) -> None:
-        assert self._line is not None
-        try:
-            self._line.ask(("PING",))
-        except Unreachable as error:
-            raise Interrupted(str(error)) from error
+        return replies
 
     def close(self) -> None:
         if self._beat:

@@ -19,9 +19,9 @@ from ._note import Note
 from ._probe import Probe, from_header, to_header
 from ._refusals import NoProbe
 from ._watch import Process, Watch
-from .transport import Direct, Interrupted, OtherRun, OverPipe, TakenOver, Transport, notes_from
+from .transport import Changed, Direct, Interrupted, OtherRun, OverPipe, TakenOver, Transport, notes_from
 
-__all__ = ["Station", "Transport", "Direct", "OverPipe", "notes_from", "Interrupted", "OtherRun", "TakenOver"]
+__all__ = ["Station", "Transport", "Direct", "OverPipe", "notes_from", "Changed", "Interrupted", "OtherRun", "TakenOver"]
 
 
 class Station:
@@ -162,12 +162,13 @@ class Station:
             self._in_step = True
             try:
                 yield writes
+                self._commit()
             except BaseException:
                 self._probe, self._notes, self._holding = Probe.from_bytes(before, self.watch), notes, holding
+                self._abort()
                 raise
             finally:
                 self._in_step = False
-            self._commit()
 
     @contextmanager
     def _call(self) -> Iterator[None]:
@@ -203,17 +204,23 @@ class Station:
             if probe != self._saved:
                 self.transport.save(probe)
             self.transport.commit()
+        except Changed:
+            raise
         except BaseException:
             self._broken = True
             raise
         self._notes, self._saved = [], probe
 
-    def _check(self) -> None:
-        try:
-            self.transport.check()
-        except BaseException:
+    def _abort(self) -> None:
+        if not self._broken:
             self._broken = True
-            raise
+            self.transport.abort()
+            self._broken = False
+
+    def _check(self) -> None:
+        self._broken = True
+        self.transport.check()
+        self._broken = False
 
     def __repr__(self) -> str:
         return f"Station({self.watch!r}, {self.name!r}, clock={self._probe.clock})"

@@ -16,6 +16,10 @@ class TakenOver(Exception):
     """A newer station of this process has taken over, and goes on with its probe. This one is done."""
 
 
+class Changed(Refused):
+    """Something that the step depends on was changed meanwhile, so nothing of the step was done."""
+
+
 class OtherRun(Refused):
     """The stamp was made before the server started anew, or after: the server may have lost the event that it tells
     of. Let the message be sent again."""
@@ -54,6 +58,9 @@ class Transport:
 
     def commit(self) -> None:
         """Ends a step, which is done then."""
+
+    def abort(self) -> None:
+        """Ends a step of which nothing is to be done."""
 
     def check(self) -> None:
         """Raises `Interrupted` if the transport can't go on."""

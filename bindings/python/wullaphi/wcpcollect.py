@@ -68,6 +68,9 @@ class Command:
             try:
                 for event in collector.poll(0.5 if self.follows else 0.0):
                     self._tell_event(event)
+                    if isinstance(event, Anew) and collector.streams.may_halve_steps():
+                        say("it has `aof-load-truncated yes`: if it was killed while it wrote a step, it may do half of "
+                            "it when it is killed once more; set this to no")
                 self._is_away = False
                 if collector.is_done or (not self.follows and before == collector.taken):
                     return None

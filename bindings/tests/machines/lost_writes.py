@@ -15,6 +15,7 @@ from wullaphi.station import Interrupted
 # The file is cut as often as this in a run, each time by up to so many bytes.
 LOSSES = 6
 MOST_BYTES = 30_000
+# What is left at least, so that the ring has begun.
 LEAST_BYTES = 2_000
 
 
@@ -81,9 +82,10 @@ class LosingRing(kills.Ring):
     """The ring, whose server loses what it acknowledged."""
 
     def kill_one(self):
+        size = self.server.size()
+        if size < 2 * LEAST_BYTES:
+            return
         self.kills["server"] += 1
-        while (size := self.server.size()) < 2 * LEAST_BYTES:
-            time.sleep(0.01)
         self.server.lose(size - self.random.randrange(1, min(size - LEAST_BYTES, MOST_BYTES)))
         # One that had ended may have to do its last step again.
         self.start_again(ended=(None,))

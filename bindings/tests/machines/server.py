@@ -25,14 +25,15 @@ def free_port():
 
 
 class Server:
-    """It keeps each write before it answers (`appendfsync always`), so that a kill loses nothing."""
+    """It keeps each write before it answers (`appendfsync always`), so that a kill loses nothing. It doesn't start over a
+    file that ends in the middle of a step (`aof-load-truncated no`)."""
 
     def __init__(self, keeps=True):
         self.folder = tempfile.mkdtemp(prefix="wullaphi-redis-")
         self.port = free_port()
         self.url = f"redis://127.0.0.1:{self.port}"
-        self._words = ["--appendonly", "yes", "--appendfsync", "always", "--auto-aof-rewrite-percentage", "0"] \
-            if keeps else ["--appendonly", "no"]
+        self._words = ["--appendonly", "yes", "--appendfsync", "always", "--aof-load-truncated", "no",
+                       "--auto-aof-rewrite-percentage", "0"] if keeps else ["--appendonly", "no"]
         self.start()
 
     def start(self):
@@ -72,10 +73,12 @@ class Server:
         return self.file().stat().st_size
 
     def lose(self, size):
-        """The server dies, and has lost all that it had acknowledged beyond these bytes of its file, when it starts
-        again."""
+        """The server dies, and when it starts again it has lost all that it had acknowledged beyond these bytes of its
+        file. A step that is cut in two there is taken from the file, as an administrator does it."""
         self.kill()
         os.truncate(self.file(), size)
+        subprocess.run(["redis-check-aof", "--fix", f"{self.folder}/appendonlydir/appendonly.aof.manifest"], input=b"y\n",
+                       capture_output=True, check=True)
         self.start()
 
     def __enter__(self):

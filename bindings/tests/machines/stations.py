@@ -1,5 +1,6 @@
 """Stations: in one process, over a pipe and over a Redis server. What is refused, what a step does, and what is left
 after a lost connection, a lost write, and a newer station of the same process. The last line is the count."""
+import contextlib
 import multiprocessing
 
 from server import Checks, Server
@@ -7,7 +8,7 @@ from server import Checks, Server
 import redis
 import wullaphi
 from wullaphi.redis import Spoilt, forget, open_station
-from wullaphi.station import Direct, Interrupted, OtherRun, OverPipe, Station, TakenOver, notes_from
+from wullaphi.station import Changed, Direct, Interrupted, OtherRun, OverPipe, Station, TakenOver, notes_from
 
 WATCH = wullaphi.Watch(7, ["ada", "ben"])
 
@@ -181,6 +182,38 @@ def check_failures(checks, server):
     forget(server.url, WATCH)
 
 
+def check_watched(checks, server):
+    """A step that depends on a key which somebody changes isn't done, and the station goes on."""
+    client = redis.Redis.from_url(server.url)
+    ada = open_station(server.url, WATCH, "ada", beat=None)
+    before = repr(ada)
+
+    def watched():
+        with ada.step() as pipe:
+            ada.transport.watch("it")
+            client.incr("it")
+            ada.observe(True)
+            ada.stamp("ben")
+            pipe.set("done", "yes")
+
+    checks.raises("changed", Changed, watched)
+    checks.equal("nothing is done", (repr(ada), numbers_in(server)[0], client.get("done")), (before, [], None))
+    checks.raises("outside of a step", RuntimeError, lambda: ada.transport.watch("it"))
+    with contextlib.suppress(KeyError), ada.step() as pipe:
+        ada.transport.watch("it")
+        raise KeyError
+    client.incr("it")
+    with ada.step() as pipe:
+        ada.transport.watch("it")
+        ada.observe(True)
+        pipe.set("done", "yes")
+    checks.equal("not changed", (numbers_in(server)[0], client.get("done")), ([(0, False)], b"yes"))
+    newer = open_station(server.url, WATCH, "ada", beat=None)
+    checks.raises("a newer one", TakenOver, lambda: ada.stamp("ben"))
+    newer.stamp("ben")
+    forget(server.url, WATCH)
+
+
 def check_lost(checks, server):
     """A server that has lost what it acknowledged: a station goes on from what it has."""
     ada = open_station(server.url, WATCH, "ada", beat=None)
@@ -202,7 +235,7 @@ def main():
     for check in (check_plain, check_batches, check_steps, check_pipe):
         check(checks)
     with Server() as server:
-        for check in (check_server, check_failures, check_lost):
+        for check in (check_server, check_failures, check_watched, check_lost):
             check(checks, server)
     checks.finish()
 

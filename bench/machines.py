@@ -1,0 +1,131 @@
+"""Notes a second over a Redis server, whose persistence is off: four workers, each a process, beside plain `XADD` of the
+same bytes. `bench/machines.py [NOTES]`: so many of each worker. For /usr/bin/python3 with Debian's python3-redis."""
+import multiprocessing
+import pathlib
+import statistics
+import sys
+import time
+
+TOP = pathlib.Path(__file__).resolve().parent.parent
+sys.path[:0] = [str(TOP / "bindings" / "python"), str(TOP / "bindings" / "tests" / "machines")]
+
+import redis  # noqa: E402
+import wullaphi  # noqa: E402
+from server import Server  # noqa: E402
+from wullaphi.collect import Collector  # noqa: E402
+from wullaphi.log import HostLog, stream  # noqa: E402
+from wullaphi.redis import open_station  # noqa: E402
+
+WORKERS = 4
+TIMES = 3
+BATCH = 100
+NOTE, PROBE = b"n" * 104, b"p" * 112
+MESSAGE = {"stamp": b"s" * 161, "order": b"o" * 20}
+LINE = '{"host":"worker0","clock":{"worker0":12345},"event":"holds the lock of the store"}'
+
+
+def station_of(url, watch, process):
+    return open_station(url, wullaphi.Watch(watch, WORKERS), process, beat=None)
+
+
+def plain_each(url, process, count, _):
+    client = redis.Redis.from_url(url)
+    for number in range(count):
+        client.xadd(f"plain:{process}", {"note": NOTE}, id=f"{number + 1}-0")
+
+
+def plain_batches(url, process, count, _):
+    client = redis.Redis.from_url(url)
+    for first in range(0, count, BATCH):
+        with client.pipeline(transaction=False) as pipe:
+            for number in range(first, first + BATCH):
+                pipe.xadd(f"plain:{process}", {"note": NOTE}, id=f"{number + 1}-0")
+            pipe.execute()
+
+
+def plain_steps(url, process, count, _):
+    client = redis.Redis.from_url(url)
+    for number in range(count):
+        with client.pipeline(transaction=True) as pipe:
+            pipe.xadd(f"plain:{process}", {"note": NOTE}, id=f"{number + 1}-0")
+            pipe.set(f"probe:{process}", PROBE)
+            pipe.xadd(f"inbox:{process}", MESSAGE)
+            pipe.execute()
+
+
+def station_each(url, process, count, watch):
+    station = station_of(url, watch, process)
+    for _ in range(count):
+        with station.step():
+            station.observe(True)
+            station.stamp((process + 1) % WORKERS)
+
+
+def station_batches(url, process, count, watch):
+    station = station_of(url, watch, process)
+    for _ in range(0, count, BATCH):
+        with station.step():
+            for _ in range(BATCH):
+                station.observe(True)
+                station.stamp((process + 1) % WORKERS)
+
+
+def station_steps(url, process, count, watch):
+    station = station_of(url, watch, process)
+    for _ in range(count):
+        with station.step() as pipe:
+            station.observe(True)
+            pipe.xadd(f"inbox:{process}", {"stamp": station.stamp((process + 1) % WORKERS), "order": b"o" * 20})
+
+
+def plain_lines(url, process, count, _):
+    client = redis.Redis.from_url(url)
+    for _ in range(count):
+        client.xadd("lines", {"line": LINE})
+
+
+def host_log(url, process, count, _):
+    log = HostLog(f"worker{process}", stream(redis.Redis.from_url(url), "lines"))
+    for _ in range(count):
+        log.event("holds the lock of the store")
+
+
+def seconds(run, count, watch):
+    """How long the workers take, over a server of their own."""
+    with Server(keeps=False) as server:
+        workers = [multiprocessing.Process(target=run, args=(server.url, process, count, watch))
+                   for process in range(WORKERS)]
+        start = time.perf_counter()
+        for worker in workers:
+            worker.start()
+        for worker in workers:
+            worker.join()
+        taken = time.perf_counter() - start
+        return taken, collecting(server, count) if run is station_batches else 0.0
+
+
+def collecting(server, count):
+    """How long a new collector takes to read all notes."""
+    collector = Collector(server.url, 1, [["0", "1"]])
+    start = time.perf_counter()
+    while sum(collector.taken.values()) < WORKERS * count:
+        collector.poll(0.1)
+    return time.perf_counter() - start
+
+
+def main(count=5000):
+    print(f"{WORKERS} workers, {count} notes of each, the middle of {TIMES} runs")
+    rates = {}
+    for plain, ours in ((plain_each, station_each), (plain_batches, station_batches), (plain_steps, station_steps),
+                        (plain_lines, host_log)):
+        times = {run: [seconds(run, count, 1) for _ in range(TIMES)] for run in (plain, ours)}
+        for run, found in times.items():
+            rates[run] = statistics.median(it for it, _ in found)
+            print(f"{run.__name__:16} {WORKERS * count / rates[run]:8.0f} a second")
+        if any(it for _, it in times[ours]):
+            print(f"{'collector':16} {WORKERS * count / statistics.median(it for _, it in times[ours]):8.0f} a second")
+        print(f"{'':16} {rates[ours] / rates[plain]:8.2f} times the time", flush=True)
+
+
+if __name__ == "__main__":
+    main(*map(int, sys.argv[1:]))
